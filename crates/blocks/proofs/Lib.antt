@@ -1,0 +1,3 @@
+pub mod BlockLemmas
+mod Kept
+pub mod Moments

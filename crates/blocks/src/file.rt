@@ -1,0 +1,248 @@
+// A disk over a file. It keeps a copy of the blocks, which reads give; each write goes to both.
+ghost use Rattle.std.specs.Prelude.{◌≡◌, ◌≢◌, ◌<◌, ◌≤◌, ◌^◌, ◌*◌, ◌↔◌, ℕ, length, replicate, refl, slice_get, slice_set, Some, IfOk, IfErr, IsOk, IsOkUnless, OnOk, OnErr, IsErrOf};
+ghost use Rattle.std.proofs.Common.{inl};
+ghost use Rattle.std.specs.List.{concat};
+ghost use Rattle.std.specs.IoError.{error_kind};
+ghost use Rattle.std.specs.Io.KnownBytes.{Consumes};
+ghost use Rattle.blocks.specs.Block.{zero_block};
+ghost use Rattle.blocks.specs.Disk.{IsImage, CountsFault, CountsSuccess, IsOldOrNew, Elapses, AddsNone, LeavesOldOrNew};
+ghost use Rattle.blocks.specs.File.{IsReadFrom, IsWrittenAt};
+ghost use Rattle.blocks.specs.Images.{only_last, has_left-image};
+
+use crate::memory::zeroed_blocks;
+use crate::{BLOCK_SIZE, Block, Disk, DiskFault, FileFault, MemDisk};
+use std::fs::{OpenFile, OpenOptions};
+use std::io;
+use std::io::{ErrorKind, Read, Seek, SeekFrom, Write};
+use std::rt::Files;
+
+/// The most blocks of a file that is opened as a disk.
+pub const MAX_BLOCKS: u32 = 8191;
+
+/// A disk over a file `F`, in which block b stands at byte 1024 * b. The file is read once, when
+/// it is opened; reads are answered from a copy in memory, and a write goes to the file first.
+///
+/// Contracts speak of the copy. What the file itself holds after a write of it failed, or after
+/// the system stopped, is the system's affair.
+#[derive(Drop)]
+pub struct FileDisk<F> {
+    copy: MemDisk,
+    file: F,
+    faults: u64,
+    ghost faults_fit: { faults < 2 ^ 64 },
+}
+
+impl<F: Read + Write + Seek + OpenFile + Drop> FileDisk<F> {
+    ghost use Rattle.blocks.specs.FileDisk.{file_of};
+
+    /// The disk that the file at this path holds, opened for reading and writing. It has 1 to
+    /// `MAX_BLOCKS` blocks.
+    ///
+    /// # Errors
+    ///
+    /// The first of these. `Open` where the file can't be opened, as a directory can't; `Length`
+    /// where its length is not a whole number of blocks, from 1 to `MAX_BLOCKS`; `NoMemory` where
+    /// memory for the blocks, or for the system's own use, is refused; `Open` where the file can't
+    /// be read.
+    pub fn open<R: Files<File = F> + AllocGlobal>(
+        rt: &R,
+        path: &str,
+    ) -> Result<FileDisk<F>, FileFault>
+        ensures some { IfOk result (λ disk. 1 ≤ length (⟦<FileDisk<F> as Disk>⟧.image disk)) }
+        ensures at_most { IfOk result (λ disk. length (⟦<FileDisk<F> as Disk>⟧.image disk) ≤ MAX_BLOCKS) }
+        ensures bytes { IfOk result (λ disk. IsReadFrom F.remaining (file_of disk) (⟦<FileDisk<F> as Disk>⟧.image disk)) }
+        ensures writes { IfOk result (λ disk. ⟦<FileDisk<F> as Disk>⟧.write_count disk ≡ 0) }
+        ensures faults { IfOk result (λ disk. ⟦<FileDisk<F> as Disk>⟧.fault_count disk ≡ 0) }
+    {
+        let mut file = OpenOptions::new()
+            .read(true)
+            .write(true)
+            .open(rt, path)
+            .map_err(fault_of)?;
+        let size = blocks_of_length(file.metadata().map_err(fault_of)?.len())?;
+        let mut blocks = zeroed_blocks(rt.alloc(), size)?;
+        read_blocks(&mut file, &mut blocks)?;
+        Ok(FileDisk::over(MemDisk::of(rt.alloc(), blocks, size), file))
+    }
+
+    /// A disk of this many blocks of zeroes, in a new file at this path, which takes the place of
+    /// one that stands there. Memory for the blocks is taken first, so that the old file is kept
+    /// where it is refused.
+    ///
+    /// # Errors
+    ///
+    /// `NoMemory` where memory is refused; `Open` where the file can't be made or given its
+    /// length.
+    pub fn create<R: Files<File = F> + AllocGlobal>(
+        rt: &R,
+        path: &str,
+        size: u32,
+    ) -> Result<FileDisk<F>, FileFault>
+        ensures image { IfOk result (λ disk. ⟦<FileDisk<F> as Disk>⟧.image disk ≡ replicate size zero_block) }
+        ensures writes { IfOk result (λ disk. ⟦<FileDisk<F> as Disk>⟧.write_count disk ≡ 0) }
+        ensures faults { IfOk result (λ disk. ⟦<FileDisk<F> as Disk>⟧.fault_count disk ≡ 0) }
+        ensures err { IfErr result (λ fault. fault ≢ FileFault.Length) }
+    {
+        let copy = MemDisk::new(rt.alloc(), size)?;
+        let file = OpenOptions::new()
+            .read(true)
+            .write(true)
+            .create(true)
+            .truncate(true)
+            .open(rt, path)
+            .map_err(fault_of)?;
+        file.set_len(size as u64 * BLOCK_SIZE as u64)
+            .map_err(fault_of)?;
+        Ok(FileDisk::over(copy, file))
+    }
+}
+
+impl<F> FileDisk<F> {
+    // A disk over a file that holds the blocks of the copy.
+    fn over(copy: MemDisk, file: F) -> FileDisk<F>
+        ensures copy { result.copy ≡ copy }
+        ensures file { result.file ≡ file }
+        ensures faults { result.faults ≡ 0 }
+    {
+        FileDisk {
+            copy,
+            file,
+            faults: 0,
+        }
+    }
+}
+
+// What an error of the system's means: memory that it was refused, or a file that can't be used.
+fn fault_of(error: io::Error) -> FileFault
+    ensures memory { error_kind error ≡ ErrorKind.OutOfMemory → result ≡ FileFault.NoMemory }
+    ensures other { error_kind error ≢ ErrorKind.OutOfMemory → result ≡ FileFault.Open }
+{
+    match error.kind() {
+        ErrorKind::OutOfMemory => FileFault::NoMemory,
+        _ => FileFault::Open,
+    }
+}
+
+// The number of blocks of a file with this many bytes.
+fn blocks_of_length(length: u64) -> Result<u32, FileFault>
+    ensures bytes { IfOk result (λ size. length ≡ size * 1024) }
+    ensures some { IfOk result (λ size. 1 ≤ size) }
+    ensures at_most { IfOk result (λ size. size ≤ MAX_BLOCKS) }
+    ensures refused { OnErr result ((size : ℕ) → 1 ≤ size → size ≤ MAX_BLOCKS → length ≢ size * 1024) }
+    ensures err { IsOkUnless result FileFault.Length }
+{
+    let size = length / BLOCK_SIZE as u64;
+    if length % BLOCK_SIZE as u64 != 0 || size == 0 || size > MAX_BLOCKS as u64 {
+        return Err(FileFault::Length);
+    }
+    Ok(size as u32)
+}
+
+// Reads the blocks, one after another.
+fn read_blocks<F: Read>(file: &mut F, blocks: &mut Vec<Block>) -> Result<(), FileFault>
+    requires { IsImage blocks.old.items }
+    ensures size { length blocks.new.items ≡ length blocks.old.items }
+    ensures image { IsImage blocks.new.items }
+    ensures bytes { OnOk result (Consumes (F.remaining file.old) (F.remaining file.new) (concat blocks.new.items)) }
+    ensures err { IfErr result (λ fault. fault ≢ FileFault.Length) }
+{
+    for block in 0..blocks.len() {
+        let mut bytes = [0u8; BLOCK_SIZE];
+        file.read_exact(&mut bytes).map_err(fault_of)?;
+        blocks[block].put(0, &bytes);
+    }
+    Ok(())
+}
+
+// Writes the bytes of a block at its place.
+fn write_through<F: Write + Seek>(file: &mut F, block: u32, from: &Block) -> io::Result<()>
+    ensures { OnOk result (IsWrittenAt F.stream_position F.contents file.old file.new (block * 1024) from.now) }
+{
+    file.seek(SeekFrom::Start(block as u64 * BLOCK_SIZE as u64))?;
+    file.write_all(from.as_slice())
+}
+
+impl<F: Write + Seek + Drop> Disk for FileDisk<F> {
+    ghost use Rattle.blocks.specs.FileDisk.{file_of};
+
+    ghost image = { λ d. ⟦<MemDisk as Disk>⟧.image d.copy };
+
+    ghost moment = { λ d. ⟦<MemDisk as Disk>⟧.moment d.copy };
+
+    ghost leaves = { λ d. ⟦<MemDisk as Disk>⟧.leaves d.copy };
+
+    ghost write_count = { λ d. ⟦<MemDisk as Disk>⟧.write_count d.copy };
+
+    ghost fault_count = { λ d. d.faults };
+
+    ghost is_image = { λ d. d.copy.is_image };
+
+    ghost leaves_images = { λ d t x left. has_left-image d.copy.past d.copy.blocks.items t x d.copy.were_images d.copy.is_image left };
+
+    ghost counts_fit = { λ d. (d.copy.writes_fit, d.faults_fit) };
+
+    ghost counts_now = { λ d t x le left. inl (only_last d.copy.past d.copy.blocks.items x left) };
+
+    ghost has_now = { λ d. inl refl };
+
+    ghost only_now = { λ d x left. only_last d.copy.past d.copy.blocks.items x left };
+
+    fn size(&self) -> u32 {
+        self.copy.size()
+    }
+
+    fn writes(&self) -> u64 {
+        self.copy.writes()
+    }
+
+    fn faults(&self) -> u64 {
+        self.faults
+    }
+
+    /// Never fails, and leaves the file alone.
+    fn read(&mut self, block: u32, into: &mut Block) -> Result<(), DiskFault>
+        requires { block < length (⟦<FileDisk<F> as Disk>⟧.image self.old) }
+
+        // As of each disk.
+        ensures ok { OnOk result (slice_get (⟦<FileDisk<F> as Disk>⟧.image self.old) block ≡ Some into.new) }
+        ensures fault { IfErr result (λ fault. fault.0 ≡ block) }
+        ensures image { ⟦<FileDisk<F> as Disk>⟧.image self.new ≡ ⟦<FileDisk<F> as Disk>⟧.image self.old }
+        ensures writes { ⟦<FileDisk<F> as Disk>⟧.write_count self.new ≡ ⟦<FileDisk<F> as Disk>⟧.write_count self.old }
+        ensures faults { CountsFault result (⟦<FileDisk<F> as Disk>⟧.fault_count self.old) (⟦<FileDisk<F> as Disk>⟧.fault_count self.new) }
+        ensures time { AddsNone (⟦<FileDisk<F> as Disk>⟧.moment self.old) (⟦<FileDisk<F> as Disk>⟧.moment self.new) (⟦<FileDisk<F> as Disk>⟧.leaves self.old) (⟦<FileDisk<F> as Disk>⟧.leaves self.new) }
+
+        // Of this one.
+        ensures succeeds { IsOk result }
+        ensures file { file_of self.new ≡ file_of self.old }
+    {
+        self.copy.read(block, into)
+    }
+
+    /// Fails where the file can't be written at the block's place. Reads then still give the
+    /// block as it was.
+    fn write(&mut self, block: u32, from: &Block) -> Result<(), DiskFault>
+        requires { block < length (⟦<FileDisk<F> as Disk>⟧.image self.old) }
+
+        // As of each disk.
+        ensures ok { OnOk result (⟦<FileDisk<F> as Disk>⟧.image self.new ≡ slice_set (⟦<FileDisk<F> as Disk>⟧.image self.old) block from.now) }
+        ensures err { OnErr result (IsOldOrNew (⟦<FileDisk<F> as Disk>⟧.image self.old) block from.now (⟦<FileDisk<F> as Disk>⟧.image self.new)) }
+        ensures fault { IfErr result (λ fault. fault.0 ≡ block) }
+        ensures writes { CountsSuccess result (⟦<FileDisk<F> as Disk>⟧.write_count self.old) (⟦<FileDisk<F> as Disk>⟧.write_count self.new) }
+        ensures faults { CountsFault result (⟦<FileDisk<F> as Disk>⟧.fault_count self.old) (⟦<FileDisk<F> as Disk>⟧.fault_count self.new) }
+        ensures time { Elapses (⟦<FileDisk<F> as Disk>⟧.moment self.old) (⟦<FileDisk<F> as Disk>⟧.moment self.new) (⟦<FileDisk<F> as Disk>⟧.leaves self.old) (⟦<FileDisk<F> as Disk>⟧.leaves self.new) }
+        ensures crash { LeavesOldOrNew block from.now (⟦<FileDisk<F> as Disk>⟧.leaves self.old (⟦<FileDisk<F> as Disk>⟧.moment self.old)) (⟦<FileDisk<F> as Disk>⟧.leaves self.new (⟦<FileDisk<F> as Disk>⟧.moment self.new)) }
+
+        // Of this one.
+        ensures file { OnOk result (IsWrittenAt F.stream_position F.contents (file_of self.old) (file_of self.new) (block * 1024) from.now) }
+        ensures keeps { OnErr result (⟦<FileDisk<F> as Disk>⟧.image self.new ≡ ⟦<FileDisk<F> as Disk>⟧.image self.old) }
+    {
+        if write_through(&mut self.file, block, from).is_err() {
+            self.faults = self.faults.saturating_add(1);
+            return Err(DiskFault(block));
+        }
+        self.copy.write(block, from)
+    }
+}
+
+#[cfg(test)]
+mod tests;

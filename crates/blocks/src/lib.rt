@@ -1,0 +1,18 @@
+//! Blocks of 1024 bytes, and the disks that hold them: in memory, over a file, and one of which
+//! a call fails.
+#![tactic(auto)]
+
+mod block;
+mod disk;
+mod errors;
+mod faulty;
+mod file;
+mod memory;
+mod past;
+
+pub use block::{BLOCK_SIZE, Block};
+pub use disk::Disk;
+pub use errors::{DiskFault, FileFault, NoMemory};
+pub use faulty::{FaultyDisk, Kind};
+pub use file::{FileDisk, MAX_BLOCKS};
+pub use memory::MemDisk;

@@ -1,0 +1,90 @@
+-- The table of the blocks that inodes own, as `check` fills it.
+use Rattle.std.specs.Prelude.{◌≡◌, ℕ, ◌+◌, ◌<◌, ◌==◌, Bool, false, if◌then◌else◌, List, [], ◌∷◌, ◌++◌, take, length, slice_index, slice_index_or, Result, MatchResult, Some, None, is_some}
+use Rattle.std.specs.List.{list_any}
+use Rattle.blocks.specs.Disk.{Image, block_at}
+use Rattle.model.specs.declared.types.CheckFault.{CheckFault}
+use Rattle.model.specs.declared.types.Dinode.{Dinode}
+use Rattle.model.specs.declared.types.Pointer.{Pointer}
+use Rattle.model.specs.Fields.{words_of}
+use Rattle.model.specs.Layout.{super_of, first_data_block}
+use Rattle.model.specs.Places.{addresses_in, pointer_of, places_of}
+use Rattle.model.specs.Verdict.{address_fault, first_pointer_fault, inode_fault, places_below, inodes_fault, mark_fault, marks_fault}
+use Rattle.model.specs.Files.{file_at, files_of, file_count}
+use Rattle.layout.specs.Cause.{IsCause}
+use Rattle.layout.specs.declared.owners.Owners.{Owners}
+
+-- the table says of each of its blocks whether it stands among these places
+abbrev pub Records : List Bool → List ℕ → Type 0
+Records owned places = (b : ℕ) → b < length owned → slice_index_or owned b false ≡ list_any (λ a. a == b) places
+
+-- the limits and the bitmap are those of an image
+pub record AreOf (owners : Owners) (y : Image) : Type 0 where
+  pub first : owners.first_data ≡ first_data_block y
+  pub size : owners.size ≡ length y
+  pub bitmap : owners.bitmap ≡ block_at y (super_of y).bmapstart
+
+-- the table of an image, with the places so far
+pub record Stand (owners : Owners) (y : Image) (places : List ℕ) : Type 0 where
+  pub limits : AreOf owners y
+  pub records : Records owners.owned.items places
+
+-- the pointers to data of a file of that size, the first to its block `first`
+abbrev pub data_pointers : ℕ → ℕ → List ℕ → List Pointer
+data_pointers size first [] = []
+data_pointers size first (address ∷ addresses) = pointer_of size first address ∷ data_pointers size (first + 1) addresses
+
+-- the pointers of an inode's 13 addresses: 12 to data, and one to a block of addresses
+abbrev pub own_pointers : Dinode → List Pointer
+own_pointers d = data_pointers d.size 0 (take 12 d.addrs) ++ pointer_of d.size 12 (slice_index d.addrs 12) ∷ []
+
+-- those in that block, if there is one
+abbrev pub entry_pointers : Image → Dinode → List Pointer
+entry_pointers y d =
+    if slice_index d.addrs 12 == 0 then [] else data_pointers d.size 12 (words_of (block_at y (slice_index d.addrs 12)))
+
+-- the address of inode i was judged by the places before it: it joined them, or it has that fault
+abbrev pub JudgesAddress : Image → ℕ → List ℕ → ℕ → Owners → Result (Unit {0}) CheckFault → Type 0
+JudgesAddress y i earlier address new result =
+    MatchResult result
+    (λ _. (address_fault y i earlier address ≡ None) × Stand new y (earlier ++ address ∷ []))
+    (λ fault. address_fault y i earlier address ≡ Some fault)
+
+-- the pointers of inode i were judged by the places before them: their addresses joined the places, or the first fault came
+abbrev pub Judges : Image → ℕ → List ℕ → List Pointer → Owners → Result (Unit {0}) CheckFault → Type 0
+Judges y i earlier pointers new result =
+    MatchResult result
+    (λ _. (first_pointer_fault y i earlier pointers ≡ None) × Stand new y (earlier ++ addresses_in pointers))
+    (λ fault. first_pointer_fault y i earlier pointers ≡ Some fault)
+
+-- the same where a read may fail too; the counts are the disk's faults before and behind
+abbrev pub JudgesOn : Image → ℕ → List ℕ → List Pointer → ℕ → ℕ → Owners → Result (Unit {0}) CheckFault → Type 0
+JudgesOn y i earlier pointers old_faults new_faults new result =
+    MatchResult result
+    (λ _. (first_pointer_fault y i earlier pointers ≡ None) × Stand new y (earlier ++ addresses_in pointers))
+    (λ fault. IsCause (first_pointer_fault y i earlier pointers) old_faults new_faults fault)
+
+-- inode i was judged: without a fault its places joined those of the inodes below it, and the answer says whether it is used
+abbrev pub JudgesInode : Image → ℕ → ℕ → ℕ → Owners → Result Bool CheckFault → Type 0
+JudgesInode y i old_faults new_faults new result =
+    MatchResult result
+    (λ used. (inode_fault y i ≡ None) × Stand new y (places_below y (i + 1)) × (used ≡ is_some (file_at y i)))
+    (λ fault. IsCause (inode_fault y i) old_faults new_faults fault)
+
+-- the limits and the bitmap stay
+pub record SameLimits (old new : Owners) : Type 0 where
+  pub first : new.first_data ≡ old.first_data
+  pub size : new.size ≡ old.size
+
+-- the bit of block b was judged, and all bits
+abbrev pub JudgesMark : Image → ℕ → Result (Unit {0}) CheckFault → Type 0
+JudgesMark y b result = MatchResult result (λ _. mark_fault y b ≡ None) (λ fault. mark_fault y b ≡ Some fault)
+
+abbrev pub JudgesMarks : Image → Result (Unit {0}) CheckFault → Type 0
+JudgesMarks y result = MatchResult result (λ _. marks_fault y ≡ None) (λ fault. marks_fault y ≡ Some fault)
+
+-- all inodes were judged: without a fault their places are those of the image, and the answer is how many are used
+abbrev pub JudgesInodes : Image → ℕ → ℕ → Owners → Result ℕ CheckFault → Type 0
+JudgesInodes y old_faults new_faults new result =
+    MatchResult result
+    (λ files. (inodes_fault y ≡ None) × Stand new y (places_of y) × (files ≡ file_count (files_of y)))
+    (λ fault. IsCause (inodes_fault y) old_faults new_faults fault)

@@ -1,0 +1,141 @@
+// Which blocks are owned, block by block: what tells a block at two places, or at none.
+ghost use Rattle.std.specs.Prelude.{◌≡◌, ◌≢◌, ◌≤◌, ◌<◌, ◌^◌, ◌+◌, ◌∷◌, [], List, ℕ, length, slice_index, replicate, false, OnOk, IfOk};
+ghost use Rattle.blocks.specs.Disk.{Image};
+ghost use Rattle.model.specs.Places.{places_of};
+
+use crate::bitmap::bit;
+use blocks::{Block, NoMemory};
+use model::types::{CheckFault, Dinode, Pointer};
+use std::alloc::Global;
+
+#[derive(Drop)]
+pub struct Owners {
+    /// The first data block.
+    pub first_data: u32,
+    /// Blocks of the image.
+    pub size: u32,
+    pub bitmap: Block,
+    /// For each block, whether an inode owns it.
+    pub owned: Vec<bool>,
+    ghost limit: { size ≤ 8191 },
+    ghost sized: { length owned.items ≡ size },
+}
+
+impl Owners {
+    ghost use Rattle.layout.specs.Owners.{Stand, SameLimits, Judges, JudgesAddress, JudgesMark, JudgesMarks, data_pointers, own_pointers};
+
+    /// A table of the blocks of an image, none of them owned yet.
+    pub fn new(alloc: Global, first_data: u32, size: u32, bitmap: Block) -> Result<Owners, NoMemory>
+        requires { size ≤ 8191 }
+        ensures first { IfOk result (λ owners. owners.first_data ≡ first_data) }
+        ensures size { IfOk result (λ owners. owners.size ≡ size) }
+        ensures bitmap { IfOk result (λ owners. owners.bitmap ≡ bitmap) }
+        ensures owned { IfOk result (λ owners. owners.owned.items ≡ replicate size false) }
+    {
+        Ok(Owners {
+            first_data,
+            size,
+            bitmap,
+            owned: vec![in alloc; false; size as usize]?,
+        })
+    }
+
+    /// Notes that inode i has a block at this address.
+    fn claim_address(&mut self, i: u32, address: u32) -> Result<(), CheckFault>
+        ensures limits { SameLimits self.old self.new }
+        ensures inside { OnOk result ((self.old.first_data ≤ address) × (address < self.old.size)) }
+        ensures judged { (y : Image) (earlier : List ℕ) → Stand self.old y earlier → JudgesAddress y i earlier address self.new result }
+    {
+        if address < self.first_data || address >= self.size {
+            return Err(CheckFault::BadAddress(i));
+        }
+        if self.owned[address as usize] {
+            return Err(CheckFault::TwiceUsed(address));
+        }
+        if !bit(&self.bitmap, address) {
+            return Err(CheckFault::UsedButFree(address));
+        }
+        self.owned[address as usize] = true;
+        Ok(())
+    }
+
+    /// Notes what the addresses of data blocks lead to, the first being that of the file's block
+    /// `first`.
+    pub fn claim_data(
+        &mut self,
+        i: u32,
+        size: u32,
+        first: u32,
+        addresses: &[u32],
+    ) -> Result<(), CheckFault>
+        requires { first + length addresses.now < 2 ^ 22 }
+        ensures limits { SameLimits self.old self.new }
+        ensures judged { (y : Image) (earlier : List ℕ) → Stand self.old y earlier → Judges y i earlier (data_pointers size first addresses.now) self.new result }
+    {
+        for (k, address) in addresses.iter().enumerate() {
+            let place = first + k as u32;
+            let needed = place * 1024 < size;
+            let address = *address;
+            self.claim(i, Pointer { address, needed })?;
+        }
+        Ok(())
+    }
+
+    /// Notes what a pointer of inode i leads to.
+    pub fn claim(&mut self, i: u32, pointer: Pointer) -> Result<(), CheckFault>
+        ensures limits { SameLimits self.old self.new }
+        ensures inside { OnOk result (pointer.address ≢ 0 → (self.old.first_data ≤ pointer.address) × (pointer.address < self.old.size)) }
+        ensures judged { (y : Image) (earlier : List ℕ) → Stand self.old y earlier → Judges y i earlier (pointer ∷ []) self.new result }
+    {
+        if pointer.address != 0 {
+            return self.claim_address(i, pointer.address);
+        }
+        if pointer.needed {
+            return Err(CheckFault::BadAddress(i));
+        }
+        Ok(())
+    }
+
+    /// Notes what the 13 addresses of inode i lead to.
+    pub fn claim_addresses(&mut self, i: u32, inode: &Dinode) -> Result<(), CheckFault>
+        requires { length inode.now.addrs ≡ 13 }
+        ensures limits { SameLimits self.old self.new }
+        ensures inside { OnOk result (slice_index inode.now.addrs 12 ≢ 0 → (self.old.first_data ≤ slice_index inode.now.addrs 12) × (slice_index inode.now.addrs 12 < self.old.size)) }
+        ensures judged { (y : Image) (earlier : List ℕ) → Stand self.old y earlier → Judges y i earlier (own_pointers inode.now) self.new result }
+    {
+        self.claim_data(i, inode.size, 0, &inode.addrs[..12])?;
+        let address = inode.addrs[12];
+        let needed = inode.size > 12 * 1024;
+        self.claim(i, Pointer { address, needed })
+    }
+
+    /// Judges the bit of block b, once all places are noted.
+    #[tactic(auto, unfolding(model::specs::Verdict::mark_fault))]
+    fn check_mark(&self, b: u32) -> Result<(), CheckFault>
+        requires { b < self.now.size }
+        ensures { (y : Image) → Stand self.now y (places_of y) → JudgesMark y b result }
+    {
+        let is_marked = bit(&self.bitmap, b);
+        if b < self.first_data {
+            return if is_marked {
+                Ok(())
+            } else {
+                Err(CheckFault::UsedButFree(b))
+            };
+        }
+        if is_marked && !self.owned[b as usize] {
+            return Err(CheckFault::LostBlock(b));
+        }
+        Ok(())
+    }
+
+    /// Judges the bits of all blocks, once all places are noted.
+    pub fn check_marks(&self) -> Result<(), CheckFault>
+        ensures { (y : Image) → Stand self.now y (places_of y) → JudgesMarks y result }
+    {
+        for b in 0..self.size {
+            self.check_mark(b)?;
+        }
+        Ok(())
+    }
+}

@@ -1,0 +1,57 @@
+// The superblock: the magic number and seven fields of four bytes each.
+ghost use Rattle.std.specs.Prelude.{◌≡◌, ◌≤◌, length};
+ghost use Rattle.model.specs.Fields.{u32_at};
+ghost use Rattle.model.specs.Layout.{super_in};
+ghost use Rattle.model.specs.Codec.{super_block};
+ghost use Rattle.model.specs.declared.types.Form.TheVariants.{One};
+
+use crate::fields::{clear, read_u32, write_words};
+use blocks::Block;
+use model::types::Super;
+
+// The first number of a superblock, as in xv6.
+const MAGIC: u32 = 0x1020_3040;
+
+/// The magic number in a superblock's bytes.
+pub fn magic(bytes: &[u8]) -> u32
+    requires { 4 ≤ length bytes.now }
+    ensures { result ≡ u32_at bytes.now 0 }
+{
+    read_u32(bytes, 0)
+}
+
+/// The fields in a superblock's bytes: the seven numbers behind the magic one, which isn't looked at
+/// (the xv6 book, the chapter "File system").
+#[tactic(auto, unfolding(model::specs::Layout::super_in))]
+pub fn read(bytes: &[u8]) -> Super
+    requires { 32 ≤ length bytes.now }
+    ensures { result ≡ super_in bytes.now }
+{
+    Super {
+        size: read_u32(bytes, 4),
+        nblocks: read_u32(bytes, 8),
+        ninodes: read_u32(bytes, 12),
+        nlog: read_u32(bytes, 16),
+        logstart: read_u32(bytes, 20),
+        inodestart: read_u32(bytes, 24),
+        bmapstart: read_u32(bytes, 28),
+    }
+}
+
+/// Writes a superblock: the magic number, these fields, and zeroes behind them.
+pub fn write(fields: &Super, block: &mut Block)
+    ensures { block.new ≡ super_block One fields.now }
+{
+    let words = [
+        MAGIC,
+        fields.size,
+        fields.nblocks,
+        fields.ninodes,
+        fields.nlog,
+        fields.logstart,
+        fields.inodestart,
+        fields.bmapstart,
+    ];
+    clear(block);
+    write_words(block, 0, &words);
+}

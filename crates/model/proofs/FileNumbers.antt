@@ -1,0 +1,23 @@
+-- The files of an image, by their numbers.
+use Rattle.std.proofs.Common.{◌≡◌, ℕ, ◌<◌, ◌≤◌, length, None, ⊎_elim, arith}
+use Rattle.std.proofs.lemmas.Bool.{cases_lt}
+use Rattle.std.proofs.lemmas.List.{get_or_past}
+use Rattle.std.proofs.lemmas.List.FromFn.{length-map-range_with_len, get_or-map-range_with_len}
+use Rattle.blocks.specs.Disk.{Image}
+use Rattle.model.specs.Layout.{inode_count_of}
+use Rattle.model.specs.Files.{file_in, file_at, files_of}
+
+pub length-files_of : (x : Image) → length (files_of x) ≡ inode_count_of x
+length-files_of x = length-map-range_with_len (file_at x) 0 (inode_count_of x)
+
+pub file_in-files_of : (x : Image) (i : ℕ) → i < inode_count_of x → file_in (files_of x) i ≡ file_at x i
+file_in-files_of x i h = get_or-map-range_with_len (file_at x) 0 (inode_count_of x) i i None h (omega arith)
+
+pub file_in-files_of_past : (x : Image) (i : ℕ) → inode_count_of x ≤ i → file_in (files_of x) i ≡ None
+file_in-files_of_past x i h = get_or_past (files_of x) i None (omega (arith, length-files_of x))
+
+-- number 0 has no file
+pub file_in-files_of_zero : (x : Image) → file_in (files_of x) 0 ≡ None
+file_in-files_of_zero x =
+    ⊎_elim (λ (h : 0 < inode_count_of x). file_in-files_of x 0 h) (λ (h : inode_count_of x ≤ 0). file_in-files_of_past x 0 h)
+    (cases_lt 0 (inode_count_of x))

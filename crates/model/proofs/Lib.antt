@@ -1,0 +1,16 @@
+pub mod Words
+pub mod Steps
+pub mod LogLemmas
+pub mod SuperLemmas
+pub mod VerdictLemmas
+pub mod RunLemmas
+pub mod RecoveryLemmas
+pub mod CountLemmas
+pub mod SoundLemmas
+pub mod Named
+pub mod Frame
+pub mod OutsideLemmas
+pub mod Bits
+pub mod FileNumbers
+pub mod Codecs
+pub mod MadeImage

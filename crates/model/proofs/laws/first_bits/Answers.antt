@@ -1,0 +1,5 @@
+use Rattle.model.proofs.Bits.{has_bit-first_bits}
+use Rattle.model.proofs.laws.first_bits.Goals as goal
+
+pub returns : goal.returns
+returns c = has_bit-first_bits

@@ -1,0 +1,5 @@
+use Rattle.model.proofs.Frame.{frames_contents}
+use Rattle.model.proofs.laws.frames_contents.Goals as goal
+
+pub returns : goal.returns
+returns c = frames_contents

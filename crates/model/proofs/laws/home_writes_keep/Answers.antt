@@ -1,0 +1,5 @@
+use Rattle.model.proofs.RecoveryLemmas.{home_writes_keep}
+use Rattle.model.proofs.laws.home_writes_keep.Goals as goal
+
+pub returns : goal.returns
+returns c = home_writes_keep

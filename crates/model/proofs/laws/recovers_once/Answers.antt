@@ -1,0 +1,5 @@
+use Rattle.model.proofs.RecoveryLemmas.{recovers_once}
+use Rattle.model.proofs.laws.recovers_once.Goals as goal
+
+pub returns : goal.returns
+returns c = recovers_once

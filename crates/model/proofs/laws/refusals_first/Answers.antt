@@ -1,0 +1,5 @@
+use Rattle.model.proofs.RunLemmas.{refusals_first}
+use Rattle.model.proofs.laws.refusals_first.Goals as goal
+
+pub returns : goal.returns
+returns c = refusals_first

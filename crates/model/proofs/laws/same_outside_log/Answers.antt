@@ -1,0 +1,5 @@
+use Rattle.model.proofs.OutsideLemmas.{same_outside_log}
+use Rattle.model.proofs.laws.same_outside_log.Goals as goal
+
+pub returns : goal.returns
+returns c = same_outside_log

@@ -1,0 +1,46 @@
+-- What an image keeps after a stop.
+use Rattle.std.specs.Prelude.{◌≡◌, ◌≢◌, ℕ, ◌+◌, ◌*◌, ◌/◌, ◌<◌, ◌≤◌, if◌then◌else◌, IsTrue, Bool, List, [], ◌∷◌, length, slice_set, Some}
+use Rattle.std.specs.List.{list_any}
+use Rattle.blocks.specs.Disk.{Image, block_at}
+use Rattle.model.specs.declared.types.Entry.{Entry}
+use Rattle.model.specs.Layout.{form_of, inode_of, inode_bytes, inode_count_of, is_marked}
+use Rattle.model.specs.Log.{is_lawful_log, recovered}
+use Rattle.model.specs.Files.{files_of}
+use Rattle.model.specs.Soundness.{IsSound}
+use Rattle.model.specs.Journal.{replay, kept, is_making, is_number}
+
+-- an inode's labels: major, minor and links
+abbrev pub labels_of : Image → ℕ → ℕ × ℕ × ℕ
+labels_of x i = ((inode_of x i).major, (inode_of x i).minor, (inode_of x i).nlink)
+
+-- the labels that a used inode has to have
+abbrev pub due_labels : Image → List Entry → ℕ → ℕ × ℕ × ℕ
+due_labels opening entries i =
+    if list_any (λ (e : Entry). is_making i e.reply) entries then (0, 0, 1) else labels_of opening i
+
+-- what no operation touches is as it was
+pub record IsUntouched (opening x : Image) : Type 0 where
+  pub boot : block_at x 0 ≡ block_at opening 0
+  pub super : block_at x 1 ≡ block_at opening 1
+  pub inode_zero : inode_bytes x 0 ≡ inode_bytes opening 0
+  pub inodes_past : (i : ℕ) → inode_count_of opening ≤ i → i < 16 * (inode_count_of opening / 16 + 1) → inode_bytes x i ≡ inode_bytes opening i
+  pub bits_past : (b : ℕ) → length opening ≤ b → b < 8192 → is_marked x b ≡ is_marked opening b
+
+-- recovery of x gives a sound image with the opening's files after the kept entries
+pub record Keeps (opening : Image) (journal : List Entry) (x : Image) (c : ℕ) : Type 0 where
+  pub log : IsTrue (is_lawful_log x)
+  pub sound : IsSound (recovered x)
+  pub files : replay (form_of opening) (files_of opening) (kept (inode_count_of opening) journal c) ≡ Some (files_of (recovered x))
+  pub untouched : IsUntouched opening (recovered x)
+  pub labels : (i : ℕ) → (inode_of (recovered x) i).kind ≢ 0 → IsTrue (is_number (inode_count_of opening) i) →
+      labels_of (recovered x) i ≡ due_labels opening (kept (inode_count_of opening) journal c) i
+
+-- the image with those of the later writes that got to the disk, each whole, in their order
+abbrev pub image_left : Image → List (ℕ × List ℕ) → List Bool → Image
+image_left x [] keep = x
+image_left x (w ∷ writes) [] = x
+image_left x (w ∷ writes) (k ∷ keep) = image_left (if k then slice_set x w.0 w.1 else x) writes keep
+
+-- an image that a stop may leave of a disk that holds these writes back, those that answered a fault among them
+abbrev pub HeldImages : Image → List (ℕ × List ℕ) → Image → Type 0
+HeldImages x writes y = (keep : List Bool) × (length keep ≡ length writes) × (image_left x writes keep ≡ y)

@@ -1,0 +1,181 @@
+// The superblock and the bitmap of an image.
+ghost use Rattle.std.specs.Prelude.{◌≡◌, ◌≤◌, ◌<◌, length};
+ghost use Rattle.model.specs.Layout.{magic_of, magic_at, has_known_magic, form_of, greatest_size, super_in, super_of, meta_count, planned_super, are_alike, is_inode_count, is_size, is_lawful_super, inode_count_of, first_data_block, is_marked};
+
+use crate::fields::{has_bit, read_u32};
+use blocks::Block;
+use model::types::{Form, Super};
+
+/// The log's first block, its header.
+pub const LOG_START: u32 = 2;
+
+/// The blocks of the log, its header included.
+pub const LOG_BLOCKS: u32 = 31;
+
+/// The first inode block.
+pub const INODE_START: u32 = 33;
+
+/// The inodes in a block.
+pub const INODES_PER_BLOCK: u32 = 16;
+
+/// The bits in a block of the bitmap.
+pub const BITS_PER_BLOCK: u32 = 8192;
+
+/// The first number of a superblock.
+pub fn magic_of(form: Form) -> u32
+    ensures { result ≡ magic_of form }
+{
+    match form {
+        Form::One => 0x1020_3040,
+        Form::Two => 0x1020_3041,
+    }
+}
+
+/// The first number of the image's superblock.
+pub fn magic_at(image: &[Block]) -> u32
+    requires { 2 ≤ length image.now }
+    ensures { result ≡ magic_at image.now }
+{
+    read_u32(image[1].as_slice(), 0)
+}
+
+/// Whether the image is of the form that is made.
+pub fn has_known_magic(image: &[Block]) -> bool
+    requires { 2 ≤ length image.now }
+    ensures { result ≡ has_known_magic image.now }
+{
+    magic_at(image) == magic_of(Form::One)
+}
+
+/// How inodes lead to their blocks in this image.
+pub fn form_of(image: &[Block]) -> Form
+    requires { 2 ≤ length image.now }
+    ensures { result ≡ form_of image.now }
+{
+    if magic_at(image) == magic_of(Form::Two) {
+        Form::Two
+    } else {
+        Form::One
+    }
+}
+
+/// The bytes of the largest file.
+pub fn greatest_size(form: Form) -> u32
+    ensures { result ≡ greatest_size form }
+{
+    match form {
+        Form::One => 274_432,
+        Form::Two => 67_382_272,
+    }
+}
+
+/// The fields in a superblock's bytes, at least 32.
+#[tactic(auto, unfolding(model::specs::Layout::super_in))]
+pub fn super_in(bytes: &[u8]) -> Super
+    requires { 32 ≤ length bytes.now }
+    ensures { result ≡ super_in bytes.now }
+{
+    Super {
+        size: read_u32(bytes, 4),
+        nblocks: read_u32(bytes, 8),
+        ninodes: read_u32(bytes, 12),
+        nlog: read_u32(bytes, 16),
+        logstart: read_u32(bytes, 20),
+        inodestart: read_u32(bytes, 24),
+        bmapstart: read_u32(bytes, 28),
+    }
+}
+
+/// The fields of the superblock.
+pub fn super_of(image: &[Block]) -> Super
+    requires { 2 ≤ length image.now }
+    ensures { result ≡ super_of image.now }
+{
+    super_in(image[1].as_slice())
+}
+
+/// The inode numbers of the image, the free ones and 0 included.
+pub fn inode_count(image: &[Block]) -> u32
+    requires { 2 ≤ length image.now }
+    ensures { result ≡ inode_count_of image.now }
+{
+    super_of(image).ninodes
+}
+
+/// The blocks before the first data block, of an image of `size` blocks.
+pub fn meta_count(size: u32, inode_count: u32) -> u32
+    ensures { result ≡ meta_count size inode_count }
+{
+    let inode_blocks = inode_count / INODES_PER_BLOCK + 1;
+    let bitmap_blocks = size / BITS_PER_BLOCK + 1;
+    LOG_START + LOG_BLOCKS + inode_blocks + bitmap_blocks
+}
+
+/// The number of the first data block.
+pub fn first_data_block(image: &[Block]) -> u32
+    requires { 2 ≤ length image.now }
+    ensures { result ≡ first_data_block image.now }
+{
+    let fields = super_of(image);
+    meta_count(fields.size, fields.ninodes)
+}
+
+/// The superblock that an image of `size` blocks has to have.
+pub fn planned_super(size: u32, inode_count: u32) -> Super
+    ensures { result ≡ planned_super size inode_count }
+{
+    Super {
+        size,
+        nblocks: size.saturating_sub(meta_count(size, inode_count)),
+        ninodes: inode_count,
+        nlog: LOG_BLOCKS,
+        logstart: LOG_START,
+        inodestart: INODE_START,
+        bmapstart: INODE_START + inode_count / INODES_PER_BLOCK + 1,
+    }
+}
+
+/// Whether two superblocks have the same fields.
+pub fn are_alike(one: Super, other: Super) -> bool
+    ensures { result ≡ are_alike one other }
+{
+    one == other
+}
+
+/// Whether an image may have that many inode numbers.
+pub fn is_inode_count(inode_count: u32) -> bool
+    ensures { result ≡ is_inode_count inode_count }
+{
+    (2..=1024).contains(&inode_count)
+}
+
+/// Whether an image may have `size` blocks, where it has that many inode numbers.
+pub fn is_size(size: u32, inode_count: u32) -> bool
+    ensures { result ≡ is_size size inode_count }
+{
+    meta_count(size, inode_count) < size && size <= 8191
+}
+
+/// Whether the superblock is the planned one of an image of that many blocks, within the limits.
+pub fn is_lawful_super(fields: Super, block_count: usize) -> bool
+    ensures { result ≡ is_lawful_super fields block_count }
+{
+    if fields.size as usize != block_count {
+        return false;
+    }
+    if !is_inode_count(fields.ninodes) || !is_size(fields.size, fields.ninodes) {
+        return false;
+    }
+    are_alike(fields, planned_super(fields.size, fields.ninodes))
+}
+
+/// Whether the bitmap says that block `b` is used.
+pub fn is_marked(image: &[Block], b: u32) -> bool
+    requires known { (super_of image.now).bmapstart < length image.now }
+    requires long { 2 ≤ length image.now }
+    requires small { b < 8192 }
+    ensures { result ≡ is_marked image.now b }
+{
+    let bitmap = &image[super_of(image).bmapstart as usize];
+    has_bit(bitmap.as_slice(), b)
+}

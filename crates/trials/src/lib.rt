@@ -1,0 +1,10 @@
+//! Trials of the crates together: the check against the plain program, on images that are hurt byte
+//! by byte, and on disks that fail. The crate has no code but these tests.
+#![tactic(auto)]
+
+#[cfg(test)]
+mod failing;
+#[cfg(test)]
+mod hostile;
+#[cfg(test)]
+mod images;

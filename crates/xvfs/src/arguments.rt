@@ -1,0 +1,19 @@
+// The words that the program was started with.
+use crate::refusal::{InputFault, Refusal};
+use std::env;
+use std::rt::Env;
+
+/// The arguments without the program's name.
+///
+/// # Errors
+///
+/// `InputFault::NoMemory` where memory is refused; `InputFault::Read` where the system doesn't give
+/// them, or one is no UTF-8.
+pub fn given<R: Env + AllocGlobal>(rt: &R) -> Result<Vec<String>, Refusal> {
+    let arguments = env::args(rt).map_err(InputFault::from)?;
+    let words: Vec<String> = arguments
+        .skip(1)
+        .collect(rt.alloc())
+        .map_err(InputFault::from)?;
+    Ok(words)
+}

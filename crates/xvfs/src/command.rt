@@ -1,0 +1,111 @@
+// One command, and the exit status that it ends with.
+ghost use Rattle.std.specs.Prelude.{◌≡◌, ◌≤◌};
+ghost use Rattle.xvfs.specs.Status.{status_of};
+
+use crate::checking::check_file;
+use crate::making::make;
+use crate::output::print;
+use crate::refusal::Refusal;
+use crate::words::{Request, parse};
+use std::convert::AsStr;
+use std::io::Write;
+use std::rt::Files;
+
+/// Why a command wasn't done.
+#[derive(Debug, Drop)]
+pub enum Failure {
+    /// A layer refused.
+    Refused(Refusal),
+    /// The words are no command, or memory for them was refused.
+    Misused(clap::Error),
+}
+
+impl From<Refusal> for Failure {
+    ghost use Rattle.xvfs.specs.declared.command.Failure.TheVariants as failure;
+
+    ghost from_gives = { λ refusal f. f ≡ failure.Refused refusal };
+
+    fn from(refusal: Refusal) -> Failure {
+        Failure::Refused(refusal)
+    }
+}
+
+/// Does the command that these words ask for, the program's name not among them: prints what it
+/// answers to `out`, and why it wasn't done to `err`, as far as that can be written. The exit status:
+/// 0 where it was done, 1 for a refusal, 2 where the words are no command.
+pub fn command<R: Files + AllocGlobal, S: AsStr, O: Write, E: Write>(
+    rt: &R,
+    words: &[S],
+    out: &mut O,
+    err: &mut E,
+) -> u8
+    ensures { result ≤ 2 }
+{
+    let ended = perform(rt, words, out);
+    let status = status_of(&ended);
+    if let Err(failure) = ended {
+        let _unwritten = report(failure, err);
+    }
+    status
+}
+
+/// Says why command lines can't be done. The exit status.
+pub fn refuse<E: Write>(refusal: Refusal, err: &mut E) -> u8
+    ensures { result ≡ 1 }
+{
+    let _unwritten = report(Failure::Refused(refusal), err);
+    1
+}
+
+// The exit status.
+fn status_of(ended: &Result<(), Failure>) -> u8
+    ensures { result ≡ status_of ended.now }
+{
+    match ended {
+        Ok(()) => 0,
+        Err(Failure::Refused(_)) => 1,
+        Err(Failure::Misused(_)) => 2,
+    }
+}
+
+// Writes why a command wasn't done.
+fn report<E: Write>(failure: Failure, err: &mut E) -> Result<(), Refusal> {
+    match failure {
+        Failure::Refused(refusal) => print(err, format_args!("xvfs: {refusal}\n")),
+        Failure::Misused(text) => print(err, text),
+    }
+}
+
+fn perform<R: Files + AllocGlobal, S: AsStr, O: Write>(
+    rt: &R,
+    words: &[S],
+    out: &mut O,
+) -> Result<(), Failure> {
+    match parse(rt.alloc(), words) {
+        Ok(request) => Ok(dispatch(rt, request, out)?),
+        Err(text) => explain(text, out),
+    }
+}
+
+// Help and the version are answers, the other texts are not.
+fn explain<O: Write>(text: clap::Error, out: &mut O) -> Result<(), Failure> {
+    if text.use_stderr() {
+        return Err(Failure::Misused(text));
+    }
+    Ok(print(out, text)?)
+}
+
+fn dispatch<R: Files + AllocGlobal, O: Write>(
+    rt: &R,
+    request: Request<'_>,
+    out: &mut O,
+) -> Result<(), Refusal> {
+    match request {
+        Request::Mkfs {
+            image,
+            size,
+            ninodes,
+        } => make(rt, image, size, ninodes, out),
+        Request::Check { image } => check_file(rt, image, out),
+    }
+}

@@ -1,0 +1,105 @@
+// Command lines from a reader.
+ghost use Rattle.std.specs.Prelude.{◌≡◌, ◌≤◌, ◌<◌, ◌==◌, ◌↔◌, length, map, IfOk, string_bytes};
+ghost use Rattle.std.specs.List.{slice_split};
+ghost use Rattle.std.specs.Result.{IsErrOf};
+ghost use Rattle.std.specs.Str.{IsUtf8};
+
+use crate::command::{command, refuse};
+use crate::refusal::InputFault;
+use std::alloc::{AllocError, Global};
+use std::io::{Read, Write};
+use std::rt::Files;
+
+/// The most bytes of the command lines.
+pub const LIMIT: usize = 65_536;
+
+/// Does the commands of a text: each line is one, its words have one space between them, and empty
+/// lines are none. Ends at the first whose exit status isn't 0, and answers that, else 0. Prints as
+/// `command` does. Status 1, and no command is done, where the text can't be had.
+pub fn commands<R: Files + AllocGlobal, I: Read + Drop, O: Write, E: Write>(
+    rt: &R,
+    input: I,
+    out: &mut O,
+    err: &mut E,
+) -> u8
+    ensures { result ≤ 2 }
+{
+    match read_text(rt.alloc(), input) {
+        Ok(text) => perform_text(rt, text.as_str(), out, err),
+        Err(fault) => refuse(fault.into(), err),
+    }
+}
+
+fn read_text<I: Read + Drop>(alloc: Global, input: I) -> Result<String, InputFault> {
+    let mut bytes = Vec::new(alloc);
+    input.take(LIMIT as u64 + 1).read_to_end(&mut bytes)?;
+    text_of(bytes)
+}
+
+// The text of these bytes.
+fn text_of(bytes: Vec<u8>) -> Result<String, InputFault>
+    ensures ok { IfOk result (λ text. string_bytes text ≡ bytes.items) }
+    ensures large { IsErrOf result InputFault.TooLarge ↔ (LIMIT < length bytes.items) }
+    ensures read { IsErrOf result InputFault.Read ↔ ((length bytes.items ≤ LIMIT) × (¬ (IsUtf8 bytes.items))) }
+{
+    if bytes.len() > LIMIT {
+        return Err(InputFault::TooLarge);
+    }
+    String::from_utf8(bytes).map_err(|_| InputFault::Read)
+}
+
+fn perform_text<R: Files + AllocGlobal, O: Write, E: Write>(
+    rt: &R,
+    text: &str,
+    out: &mut O,
+    err: &mut E,
+) -> u8
+    ensures { result ≤ 2 }
+{
+    match script_of(rt.alloc(), text) {
+        Ok(lines) => perform_lines(rt, lines.as_slice(), out, err),
+        Err(_) => refuse(InputFault::NoMemory.into(), err),
+    }
+}
+
+fn perform_lines<R: Files + AllocGlobal, O: Write, E: Write>(
+    rt: &R,
+    lines: &[Vec<&str>],
+    out: &mut O,
+    err: &mut E,
+) -> u8
+    ensures { result ≤ 2 }
+{
+    for words in lines {
+        let status = command(rt, words.as_slice(), out, err);
+        if status != 0 {
+            return status;
+        }
+    }
+    0
+}
+
+// The words of each line that isn't empty.
+fn script_of<'a>(alloc: Global, text: &'a str) -> Result<Vec<Vec<&'a str>>, AllocError> {
+    let mut script = Vec::new(alloc);
+    for line in lines_of(alloc, text)? {
+        if !line.is_empty() {
+            script.push(words_of(alloc, line)?)?;
+        }
+    }
+    Ok(script)
+}
+
+// The lines of a text. The last may lack its line feed, and is empty otherwise.
+fn lines_of<'a>(alloc: Global, text: &'a str) -> Result<Vec<&'a str>, AllocError>
+    ensures { IfOk result (λ lines. map (λ line. line.now) lines.items ≡ slice_split (λ byte. byte == 10) text.now) }
+{
+    text.split('\n').collect(alloc)
+}
+
+// The words of a line, which has one space between two words.
+fn words_of<'a>(alloc: Global, line: &'a str) -> Result<Vec<&'a str>, AllocError>
+    ensures { IfOk result (λ words. map (λ word. word.now) words.items ≡ slice_split (λ byte. byte == 32) line.now) }
+{
+    line.split(' ').collect(alloc)
+}

@@ -1,0 +1,95 @@
+// The words of a command line.
+use clap::error::ErrorKind;
+use clap::{Arg, ArgMatches, Command, Error, value_parser};
+use std::alloc::{AllocError, Global};
+use std::convert::AsStr;
+
+/// What the words of a command line ask for.
+#[derive(Clone, Copy, Debug, PartialEq, Eq)]
+pub enum Request<'a> {
+    /// A new image.
+    Mkfs {
+        /// The path of its file.
+        image: &'a str,
+        /// Its blocks, of 1024 bytes.
+        size: u32,
+        /// Its inode numbers, the unused number 0 included.
+        ninodes: u32,
+    },
+    /// A check of an image.
+    Check {
+        /// The path of its file.
+        image: &'a str,
+    },
+}
+
+/// What these words, without the program's name, ask for.
+///
+/// # Errors
+///
+/// What clap answers: a mistake in the words, the text of help or of the version, or want of memory.
+pub fn parse<'a, S: AsStr>(alloc: Global, words: &'a [S]) -> Result<Request<'a>, Error> {
+    let mut program = program(alloc)?;
+    let matches = program.try_get_matches_from_mut(words)?;
+    match request_of(&matches) {
+        Some(request) => Ok(request),
+        None => Err(program.error(ErrorKind::MissingSubcommand, "a word is missing")?),
+    }
+}
+
+// What the words ask for, if none of them is missing.
+fn request_of<'a>(matches: &ArgMatches<'a>) -> Option<Request<'a>> {
+    let (name, values) = matches.subcommand()?;
+    let image = values.get_str("IMAGE")?;
+    match name {
+        "mkfs" => Some(Request::Mkfs {
+            image,
+            size: values.get_one("SIZE")?,
+            ninodes: values.get_one("NINODES")?,
+        }),
+        "check" => Some(Request::Check { image }),
+        _ => None,
+    }
+}
+
+fn program<'a>(alloc: Global) -> Result<Command<'a>, AllocError> {
+    Command::new(alloc, "xvfs")
+        .version("0.1.0")
+        .about(
+            "Makes and checks images of the xv6 file system; without words, does the command lines of standard input",
+        )
+        .bin_name("xvfs")?
+        .no_binary_name(true)
+        .subcommand_required(true)
+        .subcommand(mkfs_words(alloc)?)?
+        .subcommand(check_words(alloc)?)
+}
+
+fn mkfs_words<'a>(alloc: Global) -> Result<Command<'a>, AllocError> {
+    let size = Arg::new(alloc, "SIZE")
+        .required(true)
+        .value_parser(value_parser!(u32))
+        .help("Blocks of 1024 bytes, from one more than the blocks before the data up to 8191");
+    let ninodes = Arg::new(alloc, "NINODES")
+        .required(true)
+        .value_parser(value_parser!(u32))
+        .help("Inode numbers, from 2 to 1024, the unused number 0 included");
+    Command::new(alloc, "mkfs")
+        .about("Makes an image in a new file, or in place of an old one")
+        .arg(image_word(
+            alloc,
+            "The path of the image's file, which is made or replaced",
+        ))?
+        .arg(size)?
+        .arg(ninodes)
+}
+
+fn check_words<'a>(alloc: Global) -> Result<Command<'a>, AllocError> {
+    Command::new(alloc, "check")
+        .about("Says whether an image is sound, and counts its logged blocks and its files")
+        .arg(image_word(alloc, "The path of the image's file, which is not changed"))
+}
+
+fn image_word<'a>(alloc: Global, help: &'a str) -> Arg<'a> {
+    Arg::new(alloc, "IMAGE").required(true).help(help)
+}
