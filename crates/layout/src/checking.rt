@@ -119,40 +119,6 @@ fn read_super<D: Disk>(disk: &mut D, block: &mut Block) -> Result<Super, CheckFa
     Ok(sup)
 }
 
-// Whether no number stands twice.
-fn are_distinct(numbers: &[u32]) -> bool
-    ensures { result ≡ are_distinct numbers.now }
-{
-    for k in 0..numbers.len() {
-        let others = &numbers[k + 1..];
-        if others.contains(&numbers[k]) {
-            return false;
-        }
-    }
-    true
-}
-
-// Whether each home lies behind the log and inside the image.
-fn are_in_place(homes: &[u32], size: u32) -> bool
-    ensures { result ≡ are_in_place homes.now size }
-{
-    homes.iter().all(|home| *home >= 33 && *home < size)
-}
-
-// Whether a header has at most 30 blocks, and lawful homes in an image of that many blocks.
-fn is_lawful(header: &Header, size: u32) -> bool
-    ensures { result ≡ (nat_le header.now.n 30 && are_in_place header.now.homes.items size && are_distinct header.now.homes.items) }
-{
-    if header.n > 30 {
-        return false;
-    }
-    let homes = header.homes.as_slice();
-    if !are_in_place(homes, size) {
-        return false;
-    }
-    are_distinct(homes)
-}
-
 // Reads the log's header, and judges it.
 fn read_header<D: Disk>(disk: &mut D, block: &mut Block) -> Result<Header, CheckFault>
     requires long { 33 ≤ length (D.image disk.old) }
@@ -162,7 +128,7 @@ fn read_header<D: Disk>(disk: &mut D, block: &mut Block) -> Result<Header, Check
 {
     disk.read(2, block)?;
     let header = Header::read(block.as_slice());
-    if !is_lawful(&header, disk.size()) {
+    if !header.is_lawful(disk.size()) {
         return Err(CheckFault::BadLog);
     }
     Ok(header)

@@ -1,12 +1,15 @@
 // The log's header: how many blocks are logged, and where they belong.
-ghost use Rattle.std.specs.Prelude.{◌≡◌, ◌≤◌, length, take, drop};
+ghost use Rattle.std.specs.Prelude.{◌≡◌, ◌≤◌, ◌&&◌, nat_le, length, take, drop};
 ghost use Rattle.model.specs.Fields.{words_of};
-ghost use Rattle.model.specs.Log.{logged_in, homes_in};
+ghost use Rattle.model.specs.Log.{logged_in, homes_in, are_in_place, are_distinct};
 ghost use Rattle.model.specs.Codec.{header_block};
 
 use crate::fields::{clear, read_u32, write_u32, write_words};
 use arrayvec::ArrayVec;
 use blocks::Block;
+
+// The first block behind the log.
+const LOG_END: u32 = 33;
 
 /// The most blocks that a log holds.
 pub const LOG_CAPACITY: u32 = 30;
@@ -38,6 +41,21 @@ impl Header {
         }
     }
 
+    /// Whether the log of an image of `size` blocks may have this header: at most 30 blocks are
+    /// logged, and their homes lie behind the log, inside the image, and differ.
+    pub fn is_lawful(&self, size: u32) -> bool
+        ensures { result ≡ (nat_le self.now.n 30 && are_in_place self.now.homes.items size && are_distinct self.now.homes.items) }
+    {
+        if self.n > LOG_CAPACITY {
+            return false;
+        }
+        let homes = self.homes.as_slice();
+        if !are_in_place(homes, size) {
+            return false;
+        }
+        are_distinct(homes)
+    }
+
     /// Writes the header, and zeroes behind it.
     #[tactic(auto, using(model::proofs::Codecs::block_of_words_after))]
     pub fn write(&self, block: &mut Block)
@@ -64,4 +82,24 @@ fn read_homes(bytes: &[u8], count: u32) -> ArrayVec<u32, 30>
         homes.push(read_u32(bytes, 4 + 4 * k as usize));
     }
     homes
+}
+
+// Whether each home lies behind the log and inside an image of that many blocks.
+fn are_in_place(homes: &[u32], size: u32) -> bool
+    ensures { result ≡ are_in_place homes.now size }
+{
+    homes.iter().all(|home| *home >= LOG_END && *home < size)
+}
+
+// Whether no number stands twice.
+fn are_distinct(numbers: &[u32]) -> bool
+    ensures { result ≡ are_distinct numbers.now }
+{
+    for k in 0..numbers.len() {
+        let others = &numbers[k + 1..];
+        if others.contains(&numbers[k]) {
+            return false;
+        }
+    }
+    true
 }

@@ -38,12 +38,26 @@ fn hurt_byte(
     put_block(disk, b, &whole)
 }
 
-// Hurts each byte of a block in four ways.
-fn hurt_block(rt: &impl Abort, alloc: Global, disk: &mut MemDisk, b: u32) -> Result<(), Fail> {
+// Hurts each byte of a half of a block in four ways.
+fn hurt_half(
+    rt: &impl Abort,
+    alloc: Global,
+    disk: &mut MemDisk,
+    b: u32,
+    first: usize,
+) -> Result<(), Fail> {
     let mut image = blocks_of(alloc, disk)?;
-    for at in 0..1024 {
+    for at in 0..512 {
         for value in [0x00, 0x01, 0x7f, 0xff] {
-            hurt_byte(rt, alloc, disk, &mut image, b, at, value)?;
+            hurt_byte(
+                rt,
+                alloc,
+                disk,
+                &mut image,
+                b,
+                first.saturating_add(at),
+                value,
+            )?;
         }
     }
     Ok(())
@@ -52,25 +66,49 @@ fn hurt_block(rt: &impl Abort, alloc: Global, disk: &mut MemDisk, b: u32) -> Res
 #[test]
 fn superblock(rt: HostRuntime) -> Result<(), Fail> {
     let mut disk = with_a_file(rt.alloc())?;
-    hurt_block(&rt, rt.alloc(), &mut disk, 1)
+    hurt_half(&rt, rt.alloc(), &mut disk, 1, 0)
+}
+
+#[test]
+fn behind_the_superblock(rt: HostRuntime) -> Result<(), Fail> {
+    let mut disk = with_a_file(rt.alloc())?;
+    hurt_half(&rt, rt.alloc(), &mut disk, 1, 512)
 }
 
 #[test]
 fn header(rt: HostRuntime) -> Result<(), Fail> {
     let mut disk = with_a_file(rt.alloc())?;
-    hurt_block(&rt, rt.alloc(), &mut disk, 2)
+    hurt_half(&rt, rt.alloc(), &mut disk, 2, 0)
 }
 
 #[test]
-fn inodes(rt: HostRuntime) -> Result<(), Fail> {
+fn behind_the_header(rt: HostRuntime) -> Result<(), Fail> {
     let mut disk = with_a_file(rt.alloc())?;
-    hurt_block(&rt, rt.alloc(), &mut disk, 33)
+    hurt_half(&rt, rt.alloc(), &mut disk, 2, 512)
+}
+
+#[test]
+fn first_inodes(rt: HostRuntime) -> Result<(), Fail> {
+    let mut disk = with_a_file(rt.alloc())?;
+    hurt_half(&rt, rt.alloc(), &mut disk, 33, 0)
+}
+
+#[test]
+fn later_inodes(rt: HostRuntime) -> Result<(), Fail> {
+    let mut disk = with_a_file(rt.alloc())?;
+    hurt_half(&rt, rt.alloc(), &mut disk, 33, 512)
 }
 
 #[test]
 fn bitmap(rt: HostRuntime) -> Result<(), Fail> {
     let mut disk = with_a_file(rt.alloc())?;
-    hurt_block(&rt, rt.alloc(), &mut disk, 36)
+    hurt_half(&rt, rt.alloc(), &mut disk, 36, 0)
+}
+
+#[test]
+fn behind_the_bitmap(rt: HostRuntime) -> Result<(), Fail> {
+    let mut disk = with_a_file(rt.alloc())?;
+    hurt_half(&rt, rt.alloc(), &mut disk, 36, 512)
 }
 
 // The bytes that four numbers of four bytes are on the disk.
@@ -114,8 +152,5 @@ fn logged_inode(rt: HostRuntime) -> Result<(), Fail> {
     let report = check(rt.alloc(), &mut disk)?;
     assert_eq!(rt; report.logged, 1);
     assert_eq!(rt; report.files, 1);
-    for b in [2, 3] {
-        hurt_block(&rt, rt.alloc(), &mut disk, b)?;
-    }
-    Ok(())
+    hurt_half(&rt, rt.alloc(), &mut disk, 3, 0)
 }

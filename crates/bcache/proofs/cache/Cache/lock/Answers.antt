@@ -1,0 +1,7 @@
+use Rattle.std.proofs.Common.{ap}
+use Rattle.model.specs.declared.types.Buffer.{Buffer}
+use Rattle.bcache.proofs.Slots.{cache_kept, slot_at}
+use Rattle.bcache.proofs.cache.Cache.lock.Goals as goal
+
+pub invariant_of-self-2 : goal.invariant_of-self-2
+invariant_of-self-2 c = cache_kept _ c.args.slot _ c.self.invariant c.requires (ap (λ (s : Buffer). s.block) (slot_at _ c.args.slot _ c.self.invariant c.requires c.index_mut-buffer.ensures.value))

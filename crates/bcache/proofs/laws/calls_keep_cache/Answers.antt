@@ -1,0 +1,5 @@
+use Rattle.bcache.proofs.Slots.{calls_keep}
+use Rattle.bcache.proofs.laws.calls_keep_cache.Goals as goal
+
+pub returns : goal.returns
+returns c = calls_keep

@@ -1,0 +1,5 @@
+use Rattle.bcache.proofs.Shown.{current_changed}
+use Rattle.bcache.proofs.laws.changing_sets.Goals as goal
+
+pub returns : goal.returns
+returns c = current_changed

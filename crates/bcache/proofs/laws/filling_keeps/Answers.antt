@@ -1,0 +1,5 @@
+use Rattle.bcache.proofs.Shown.{current_filled}
+use Rattle.bcache.proofs.laws.filling_keeps.Goals as goal
+
+pub returns : goal.returns
+returns c = current_filled

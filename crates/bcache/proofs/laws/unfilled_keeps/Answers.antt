@@ -1,0 +1,5 @@
+use Rattle.bcache.proofs.Shown.{current_unfilled}
+use Rattle.bcache.proofs.laws.unfilled_keeps.Goals as goal
+
+pub returns : goal.returns
+returns c = current_unfilled

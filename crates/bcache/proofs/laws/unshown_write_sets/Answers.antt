@@ -1,0 +1,5 @@
+use Rattle.bcache.proofs.Shown.{current_write}
+use Rattle.bcache.proofs.laws.unshown_write_sets.Goals as goal
+
+pub returns : goal.returns
+returns c = current_write

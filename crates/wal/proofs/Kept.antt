@@ -1,0 +1,161 @@
+-- What recovery gives in each phase of a commit.
+use Rattle.std.proofs.Common.{◌≡◌, ◌≢◌, inl, inr, ℕ, zero, suc, ◌+◌, ◌<◌, ◌≤◌, false, List, [], ◌∷◌, length, set, refl, sym, ◌∙◌, ap, arith, length-set, Option, Some, None}
+use Rattle.std.specs.Prelude.{slice_index}
+use Rattle.std.proofs.lemmas.Bool.{cases_eq, cases_lt}
+use Rattle.std.proofs.lemmas.List.{get_or-set_same, get_or-set_other, ext_get_or, set-set}
+use Rattle.std.proofs.Math.Seq.{drop-length}
+use Rattle.blocks.specs.Block.{zero_block}
+use Rattle.blocks.specs.Disk.{Image, block_at}
+use Rattle.bcache.specs.Buffers.{Buffers}
+use Rattle.wal.specs.Joint.{seen}
+use Rattle.bcache.proofs.Shown.{length-current}
+use Rattle.wal.specs.declared.types.Commit.{Commit}
+use Rattle.wal.specs.declared.types.Commit.TheVariants as commit
+use Rattle.model.specs.Log.{logged_count, recovered}
+use Rattle.wal.specs.Machine.{is_among, AreHomes}
+use Rattle.wal.specs.Joint.{IsHeader}
+use Rattle.wal.specs.Machine.{LogState}
+use Rattle.wal.specs.Joint.{JointAt, Joint, Logs, HasHeader, SameButLog, place_at, bytes_at}
+use Rattle.wal.specs.Kept.{Committed, KeepsCommitted}
+use Rattle.model.specs.Log.{block_from_log, place_among}
+use Rattle.model.proofs.LogLemmas.{recovered_empty, recovered_at, recovered_block-header, length-recovered}
+use Rattle.model.proofs.RecoveryLemmas.{place_below, no_place}
+use Rattle.wal.proofs.Copies.{none_cleared, not_header, home_of_place}
+use Rattle.wal.proofs.Commits.{home_far, header_read, logged-same, homes-same, among_drop}
+
+pub but_log_same : (x y : Image) → x ≡ y → SameButLog x y
+but_log_same x y is = record { size = ap length (sym is); low = λ b lt. ap (λ (z : Image). block_at z b) (sym is); high = λ b le. ap (λ (z : Image). block_at z b) (sym is) }
+
+pub but_log_back : (x y : Image) → SameButLog x y → SameButLog y x
+but_log_back x y s = record { size = sym s.size; low = λ b lt. sym (s.low b lt); high = λ b le. sym (s.high b le) }
+
+pub but_log_then : (x y z : Image) → SameButLog x y → SameButLog y z → SameButLog x z
+but_log_then x y z s t = record { size = t.size ∙ s.size; low = λ b lt. t.low b lt ∙ s.low b lt; high = λ b le. t.high b le ∙ s.high b le }
+
+past_end : (x : Image) (b : ℕ) → length x ≤ b → block_at x b ≡ []
+past_end [] b le = refl
+past_end (v ∷ x) zero le = absurd (omega arith)
+past_end (v ∷ x) (suc b) le = past_end x b (omega arith)
+
+-- with the logged blocks at their homes a block is the current one
+from_log_current : (x cur : Image) (hs : List ℕ) (b : ℕ) (p : Option ℕ) → ((j : ℕ) → p ≡ Some j → block_at x (3 + j) ≡ block_at cur b) → (p ≡ None → block_at x b ≡ block_at cur b) → block_from_log x b p ≡ block_at cur b
+from_log_current x cur hs b (Some j) some none = some j refl
+from_log_current x cur hs b None some none = none refl
+
+-- what recovery gives once the header is written
+pub after_header : (size : ℕ) (x cur : Image) (hs : List ℕ) → length x ≡ size → 33 ≤ size → AreHomes size hs → 0 < length hs → HasHeader x hs → Logs (length hs) x cur hs → length cur ≡ length x
+    → ((b : ℕ) → is_among b hs ≡ false → block_at cur b ≡ block_at x b) → SameButLog (set cur 2 zero_block) (recovered x)
+after_header size x cur hs len big are some head logs same clean = record {
+  size = length-recovered x ∙ sym same ∙ sym (length-set cur 2 zero_block);
+  low = λ b lt. elim (cases_eq b 2) [
+    | inl two ↦
+        ap (block_at (recovered x)) two ∙ recovered_at x 2 there (omega (arith, len, big)) ∙ recovered_block-header x
+        ∙ sym (ap (block_at (set cur 2 zero_block)) two ∙ get_or-set_same cur 2 zero_block [] (omega (arith, same, len, big)))
+    | inr other ↦ at b other (omega (arith, lt, len, big))
+  ];
+  high = λ b le. elim (cases_lt b (length x)) [
+    | inl lt ↦ at b (λ two. omega (arith, two, le)) lt
+    | inr out ↦
+        past_end (recovered x) b (omega (arith, length-recovered x, out)) ∙ sym (past_end (set cur 2 zero_block) b (omega (arith, length-set cur 2 zero_block, same, out)))
+  ];
+}
+  where
+    there : logged_count x ≢ 0
+    there none = omega (arith, none, head.count, some)
+
+    logged_now : (b j : ℕ) → place_among hs b ≡ Some j → block_at x (3 + j) ≡ block_at cur b
+    logged_now b j e = logs j (let below = place_below hs 0 b j e in omega arith) ∙ ap (block_at cur) (home_of_place hs 0 b j (e ∙ ap Some (omega arith)))
+
+    from_log : (b : ℕ) → block_from_log x b (place_among hs b) ≡ block_at cur b
+    from_log b = from_log_current x cur hs b (place_among hs b) (logged_now b) (λ e. sym (clean b (no_place hs 0 b e)))
+
+    at : (b : ℕ) → b ≢ 2 → b < length x → block_at (recovered x) b ≡ block_at (set cur 2 zero_block) b
+    at b other lt =
+        recovered_at x b there lt ∙ sym (not_header x b other) ∙ ap (λ (l : List ℕ). block_from_log x b (place_among l b)) head.each ∙ from_log b
+        ∙ sym (get_or-set_other cur 2 b zero_block [] other)
+
+-- what recovery gives in each phase
+pub committed_at : (k : Commit) (x : Image) (c : Buffers) (l : LogState) → JointAt k x c l → Committed k x (seen x c)
+committed_at commit.Quiet x c l j = recovered_empty x j.phase
+committed_at (commit.Logging n) x c l j = recovered_empty x j.phase.0
+committed_at commit.Heading x c l j = recovered_empty x j.phase.0
+committed_at (commit.Homing n) x c l j = after_header l.size x (seen x c) l.homes j.size j.log.big j.log.places (omega (arith, j.log.idle.1)) j.phase.0 j.phase.1 (length-current x c) (λ b out. j.clean b (among_drop b n l.homes out))
+committed_at commit.Clearing x c l j = after_header l.size x (seen x c) l.homes j.size j.log.big j.log.places j.log.idle.1 j.phase.0 j.phase.1 (length-current x c) (λ b out. j.clean b (among_drop b (length l.homes) l.homes out))
+
+-- a write to a log block
+but_log_write : (x : Image) (n : ℕ) (v : List ℕ) → n < 30 → SameButLog x (set x (3 + n) v)
+but_log_write x n v few = record {
+  size = length-set x (3 + n) v;
+  low = λ b lt. get_or-set_other x (3 + n) b v [] (λ e. omega (arith, e, lt));
+  high = λ b le. get_or-set_other x (3 + n) b v [] (λ e. omega (arith, e, le, few));
+}
+
+-- images that are the same but for a block in the log area stay so with the same block 2
+but_log_two : (x y : Image) (v : List ℕ) → SameButLog x y → 2 < length x → SameButLog (set x 2 v) (set y 2 v)
+but_log_two x y v s big = record {
+  size = length-set y 2 v ∙ s.size ∙ sym (length-set x 2 v);
+  low = λ b lt. elim (cases_eq b 2) [
+    | inl two ↦ ap (block_at (set y 2 v)) two ∙ get_or-set_same y 2 v [] (omega (arith, s.size, big)) ∙ sym (ap (block_at (set x 2 v)) two ∙ get_or-set_same x 2 v [] big)
+    | inr other ↦ get_or-set_other y 2 b v [] other ∙ s.low b lt ∙ sym (get_or-set_other x 2 b v [] other)
+  ];
+  high = λ b le. get_or-set_other y 2 b v [] (λ e. omega (arith, e, le)) ∙ s.high b le ∙ sym (get_or-set_other x 2 b v [] (λ e. omega (arith, e, le)));
+}
+
+-- A write of a commit: outside the log blocks recovery gives the same, but for the header, and then the current image with an empty header.
+pub kept_write : (x : Image) (c : Buffers) (l : LogState) (h : List ℕ) → Joint x c l → l.commit ≢ commit.Quiet → IsHeader h l.homes
+    → KeepsCommitted l.commit x (seen x c) (set x (place_at l.commit l.homes) (bytes_at l.commit l.homes h (seen x c)))
+kept_write x c l h joint busy head = by_phase l.commit joint busy
+  where
+    cur : Image
+    cur = seen x c
+
+    by_phase : (k : Commit) → JointAt k x c l → k ≢ commit.Quiet → KeepsCommitted k x cur (set x (place_at k l.homes) (bytes_at k l.homes h cur))
+    by_phase commit.Quiet j busy = absurd (busy refl)
+    by_phase (commit.Logging n) j busy =
+        let few : n < 30 = omega (arith, j.log.idle.1, j.log.room) in
+        let v = block_at cur (slice_index l.homes n) in
+        let y = set x (3 + n) v in
+        let none : logged_count y ≡ 0 = logged-same x y (get_or-set_other x (3 + n) 2 v [] (λ e. omega (arith, e))) ∙ j.phase.0 in
+        but_log_then (recovered x) x (recovered y) (but_log_same (recovered x) x (recovered_empty x j.phase.0))
+        (but_log_then x y (recovered y) (but_log_write x n v few) (but_log_same y (recovered y) (sym (recovered_empty y none))))
+    by_phase commit.Heading j busy =
+        let y = set x 2 h in
+        let big : 2 < length x = omega (arith, j.size, j.log.big) in
+        let far = λ (i : ℕ) (lt : i < length l.homes). home_far l.size l.homes i j.log.places lt in
+        let whole = after_header l.size y (set cur 2 h) l.homes (length-set x 2 h ∙ j.size) j.log.big j.log.places j.log.idle.1
+        (header_read y h l.homes (get_or-set_same x 2 h [] big) head)
+        (λ i lt. get_or-set_other x 2 (3 + i) h [] (λ e. omega (arith, e)) ∙ j.phase.1 i lt ∙ sym (get_or-set_other cur 2 (slice_index l.homes i) h [] (λ e. omega (arith, e, far i lt))))
+        (length-set cur 2 h ∙ length-current x c ∙ sym (length-set x 2 h))
+        (λ b out. elim (cases_eq b 2) [
+          | inl two ↦ ap (block_at (set cur 2 h)) two ∙ get_or-set_same cur 2 h [] (omega (arith, length-current x c, big)) ∙ sym (ap (block_at y) two ∙ get_or-set_same x 2 h [] big)
+          | inr other ↦ get_or-set_other cur 2 b h [] other ∙ j.clean b out ∙ sym (get_or-set_other x 2 b h [] other)
+        ]) in
+        but_log_then (set cur 2 zero_block) (set (set cur 2 h) 2 zero_block) (recovered y) (but_log_same _ _ (sym (set-set cur 2 h zero_block))) whole
+    by_phase (commit.Homing n) j busy =
+        let g = slice_index l.homes n in
+        let v = block_at cur g in
+        let y = set x g v in
+        let lt : n < length l.homes = j.log.idle.1 in
+        let far : 33 ≤ g = j.log.places.behind n lt in
+        let inside : g < length x = omega (arith, j.log.places.within n lt, j.size) in
+        let two : block_at y 2 ≡ block_at x 2 = get_or-set_other x g 2 v [] (λ e. omega (arith, e, far)) in
+        let whole = after_header l.size y cur l.homes (length-set x g v ∙ j.size) j.log.big j.log.places (omega (arith, lt))
+        (record { count = logged-same x y two ∙ j.phase.0.count; each = homes-same x y two ∙ j.phase.0.each })
+        (λ i le. get_or-set_other x g (3 + i) v [] (λ e. omega (arith, e, far, le, j.log.room)) ∙ j.phase.1 i le)
+        (length-current x c ∙ sym (length-set x g v))
+        (λ b out. elim (cases_eq b g) [
+          | inl same ↦ ap (block_at cur) same ∙ sym (ap (block_at y) same ∙ get_or-set_same x g v [] inside)
+          | inr other ↦ j.clean b (among_drop b n l.homes out) ∙ sym (get_or-set_other x g b v [] other)
+        ]) in
+        but_log_then (recovered x) (set cur 2 zero_block) (recovered y) (but_log_back _ _ (committed_at (commit.Homing n) x c l j)) whole
+    by_phase commit.Clearing j busy =
+        let y = set x 2 zero_block in
+        let big : 2 < length x = omega (arith, j.size, j.log.big) in
+        let same : (b : ℕ) → block_at x b ≡ block_at cur b = λ b. sym (j.clean b (ap (is_among b) (drop-length l.homes))) in
+        let both : SameButLog cur x = record { size = sym (length-current x c); low = λ b lt. same b; high = λ b le. same b } in
+        but_log_then (recovered x) (set cur 2 zero_block) (recovered y) (but_log_back _ _ (committed_at commit.Clearing x c l j))
+        (but_log_then (set cur 2 zero_block) y (recovered y) (but_log_two cur x zero_block both (omega (arith, length-current x c, big))) (but_log_same y (recovered y) (sym (recovered_empty y (none_cleared x big)))))
+
+-- with no operation open and no commit under way, nothing logged: recovery gives the current image
+pub quiet_is_current : (x : Image) (c : Buffers) (l : LogState) → JointAt commit.Quiet x c l → l.homes ≡ [] → recovered x ≡ seen x c
+quiet_is_current x c l j none = recovered_empty x j.phase ∙ ext_get_or [] x (seen x c) (sym (length-current x c)) (λ b lt. sym (j.clean b (ap (is_among b) none)))

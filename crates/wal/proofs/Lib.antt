@@ -1,0 +1,11 @@
+pub mod Copies
+pub mod Groups
+pub mod Recoveries
+pub mod Joins
+pub mod Notes
+pub mod Commits
+pub mod Kept
+pub mod Sources
+pub mod Stepping
+pub mod Uses
+pub mod Opens

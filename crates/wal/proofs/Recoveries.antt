@@ -1,0 +1,76 @@
+-- The steps of a recovery, over plain images.
+use Rattle.std.proofs.Common.{◌≡◌, ◌≢◌, inl, inr, ℕ, ◌+◌, ◌<◌, ◌≤◌, true, ◌&&◌, leb, List, [], length, set, Some, sym, ◌∙◌, ap, subst, arith}
+use Rattle.std.specs.Prelude.{slice_get}
+use Rattle.std.proofs.lemmas.Bool.{leb-true}
+use Rattle.std.proofs.lemmas.Option.{get_or_from_slice_get}
+use Rattle.blocks.specs.Block.{zero_block, IsBlock}
+use Rattle.blocks.specs.Disk.{Image, block_at, IsOldOrNew, LeavesOldOrNew, IsSettled, AddsNone, Elapses, LeavesOnly}
+use Rattle.blocks.proofs.Moments.{started, stays, goes_on, joined}
+use Rattle.model.specs.Log.{logged_in, homes_in, logged_count, homes_of, is_lawful_log, are_in_place, are_distinct, recovered}
+use Rattle.model.proofs.LogLemmas.{both_of, recovered_empty}
+use Rattle.model.proofs.RecoveryLemmas.{few_homes}
+use Rattle.wal.specs.Recovery.{HasCopied, RecoversAs}
+use Rattle.wal.proofs.Copies.{SameBesides, home_at, besides_copied, besides_old_or_new, recovers_besides, copied_more, low_stays, cleared, none_cleared, length-homes_of}
+
+-- the header that was read
+pub header_read : (x : Image) (bytes : List ℕ) → slice_get x 2 ≡ Some bytes → block_at x 2 ≡ bytes
+header_read x bytes read = get_or_from_slice_get x 2 bytes [] read
+
+-- what the tests of a header say of the image
+pub lawful_read : (x : Image) (bytes homes : List ℕ) (n size : ℕ) → slice_get x 2 ≡ Some bytes → n ≡ logged_in bytes → homes ≡ homes_in bytes →
+    size ≡ length x → (leb n 30 && are_in_place homes size && are_distinct homes) ≡ is_lawful_log x
+lawful_read x bytes homes n size read count are same =
+    let whole = header_read x bytes read in
+    ap (λ m. leb m 30 && are_in_place homes size && are_distinct homes) (count ∙ ap logged_in (sym whole))
+    ∙ ap (λ hs. leb (logged_count x) 30 && are_in_place hs size && are_distinct hs) (are ∙ ap homes_in (sym whole))
+    ∙ ap (λ m. leb (logged_count x) 30 && are_in_place (homes_of x) m && are_distinct (homes_of x)) same
+
+pub few_logged : (x : Image) → is_lawful_log x ≡ true → logged_count x ≤ 30
+few_logged x lawful =
+    let two = both_of (leb (logged_count x) 30 && are_in_place (homes_of x) (length x)) (are_distinct (homes_of x)) lawful in
+    leb-true (logged_count x) 30 (both_of (leb (logged_count x) 30) (are_in_place (homes_of x) (length x)) two.0).0
+
+-- a lawful log has as many homes as it says
+pub homes_counted : (x : Image) → is_lawful_log x ≡ true → IsBlock (block_at x 2) → length (homes_of x) ≡ logged_count x
+homes_counted x lawful block = omega (arith, few_logged x lawful, length-homes_of x block)
+
+-- what a crash may leave after a write to a home
+pub copy_besides : (x : Image) (k home : ℕ) (v : List ℕ) (old new : Image → Type 0) → k < length (homes_of x) → home ≡ home_at x k →
+    ((w : Image) → old w → SameBesides x w) → LeavesOldOrNew home v old new → (z : Image) → new z → SameBesides x z
+copy_besides x k home v old new lt is before crash z left =
+    let r = crash z left in
+    besides_old_or_new x r.0 z k v lt (before r.0 r.1) (subst (λ (h : ℕ). IsOldOrNew r.0 h v z) is r.2)
+
+pub copy_step : (x y z : Image) (k home : ℕ) (v : List ℕ) → is_lawful_log x ≡ true → k < length (homes_of x) → home ≡ home_at x k → HasCopied k x y →
+    slice_get y (3 + k) ≡ Some v → z ≡ set y home v → HasCopied (k + 1) x z
+copy_step x y z k home v lawful lt is copied read written =
+    let few = few_homes x in
+    let value : v ≡ block_at x (3 + k)
+    = sym (get_or_from_slice_get y (3 + k) v [] read) ∙ low_stays x y (3 + k) lawful (besides_copied x y k copied) (omega arith) in
+    subst (HasCopied (k + 1) x) (sym (written ∙ ap (λ (h : ℕ). set y h v) is)) (copied_more x y k v lawful lt copied value)
+
+-- the write that clears the header
+pub clear_recovers : (x y z : Image) → 33 ≤ length x → is_lawful_log x ≡ true → logged_count x ≢ 0 → HasCopied (length (homes_of x)) x y →
+    IsOldOrNew y 2 zero_block z → RecoversAs x z
+clear_recovers x y z long lawful some copied (inl is) =
+    ap recovered is ∙ recovers_besides x y lawful (besides_copied x y (length (homes_of x)) copied)
+clear_recovers x y z long lawful some copied (inr is) =
+    ap recovered is ∙ recovered_empty (set y 2 zero_block) (none_cleared y (omega (arith, copied.size))) ∙ cleared x y (omega arith) some copied
+
+-- a recovery from its start until the header's clearing was tried
+module _ {D : Type 0} (image : D → Image) (moment : D → ℕ) (leaves : D → ℕ → Image → Type 0) where
+  pub recovery_ends : ((d : D) → IsSettled (image d) (leaves d (moment d))) → (old read mid new : D) → 33 ≤ length (image old) →
+      is_lawful_log (image old) ≡ true → logged_count (image old) ≢ 0 → image read ≡ image old →
+      AddsNone (moment old) (moment read) (leaves old) (leaves read) →
+      HasCopied (length (homes_of (image old))) (image old) (image mid) →
+      LeavesOnly moment leaves read mid (RecoversAs (image read)) →
+      IsOldOrNew (image mid) 2 zero_block (image new) → Elapses (moment mid) (moment new) (leaves mid) (leaves new) →
+      LeavesOnly moment leaves old new (RecoversAs (image old))
+  recovery_ends settled old read mid new long lawful some same reading copied copying written time =
+      let x = image old in
+      let start = started moment leaves old (RecoversAs x) (λ z crash. ap recovered (settled old z crash)) in
+      let first = stays moment leaves old old read (RecoversAs x) start reading in
+      let second : LeavesOnly moment leaves read mid (RecoversAs x) = subst (λ (z : Image). LeavesOnly moment leaves read mid (RecoversAs z)) same copying in
+      let home = joined moment leaves old read mid (RecoversAs x) first second in
+      goes_on moment leaves old mid new (RecoversAs x) home time
+      (λ z crash. ap recovered (settled new z crash) ∙ clear_recovers x (image mid) (image new) long lawful some copied written)

@@ -1,0 +1,105 @@
+-- What the layers above cite: one lemma for each thing that a step does.
+use Rattle.std.proofs.Common.{◌≡◌, ℕ, ◌+◌, ◌<◌, ◌≤◌, Bool, true, false, cond, List, length, get_or, set, refl, sym, ◌∙◌, ap, subst, arith, Option, Some, None}
+use Rattle.std.specs.Prelude.{IsSome}
+use Rattle.std.proofs.lemmas.Bool.{eq-eqb}
+use Rattle.blocks.specs.Block.{overwritten}
+use Rattle.blocks.specs.Disk.{Image}
+use Rattle.model.specs.declared.types.Buffer.{Buffer}
+use Rattle.bcache.specs.Buffers.{Buffers, buffer, found, locked, taken, changed, pinned, block_or_zero, after_acquire, after_acquire_by, after_lock, after_take, victim}
+use Rattle.model.specs.State.{is_number_in, shows}
+use Rattle.wal.specs.Joint.{seen}
+use Rattle.bcache.proofs.Slots.{buffer_same, some_found, victim_free}
+use Rattle.wal.specs.declared.types.Commit.{Commit}
+use Rattle.wal.specs.declared.types.Commit.TheVariants as commit
+use Rattle.wal.specs.Machine.{is_among}
+use Rattle.model.specs.declared.types.Why.{Why}
+use Rattle.wal.specs.Machine.{LogState, HasRoom, appended, noted, noted_cache, used_by, begin_cause, begun, after_begin, after_begin_by, ended}
+use Rattle.wal.specs.Joint.{JointAt, Joint}
+use Rattle.wal.proofs.Joins.{joint_locked, joint_taken, joint_changed}
+use Rattle.wal.proofs.Notes.{joint_noted, joint_begun, joint_ended}
+use Rattle.wal.proofs.Groups.{room_of, some_open, is_open, quiet_of}
+
+-- a block is logged, and then its bytes are changed: the current image changes in that block alone
+pub joint_used : {x : Image} (c e d : Buffers) (l m : LogState) (p i b : ℕ) (bytes : List ℕ) → Joint x c l → p < 32 → HasRoom (get_or l.used p None) → i < 40 → (buffer c i).block ≡ Some b → (buffer c i).valid ≡ true
+    → m ≡ noted l p b → e ≡ noted_cache l c i b → d ≡ changed e i bytes → Joint x d m × (seen x d ≡ set (seen x c) b bytes)
+joint_used {x} c e d l m p i b bytes j lt room slot block valid is are new =
+    let open_now = room_of (get_or l.used p None) room in
+    let quiet : l.commit ≡ commit.Quiet = quiet_of l.commit l j.log (is_open l l.commit p open_now.0 j.log lt open_now.1) in
+    let before : JointAt commit.Quiet x c l = subst (λ (k : Commit). JointAt k x c l) quiet j in
+    let here : shows b (buffer c i) ≡ true = shows_now (buffer c i) b valid block in
+    let noted_now = joint_noted c e l m p i b before quiet lt room slot here is are in
+    let stays : m.commit ≡ commit.Quiet = ap (λ (n : LogState). n.commit) is ∙ kept_commit (is_among b l.homes) ∙ quiet in
+    let after : JointAt commit.Quiet x e m = subst (λ (k : Commit). JointAt k x e m) stays noted_now.0 in
+    let still : shows b (buffer e i) ≡ true = ap (λ (f : Buffers). shows b (buffer f i)) are ∙ kept_shows (is_among b l.homes) ∙ here in
+    let done = joint_changed e d i b bytes after slot still noted_now.1 new in
+    (subst (λ (k : Commit). JointAt k x d m) (sym stays) done.0, done.1 ∙ ap (λ (z : Image). set z b bytes) noted_now.2)
+  where
+    shows_now : (s : Buffer) (b : ℕ) → s.valid ≡ true → s.block ≡ Some b → shows b s ≡ true
+    shows_now s b valid block = grind (arith, valid, block)
+
+    kept_commit : (t : Bool) → (cond t l (appended l p b)).commit ≡ l.commit
+    kept_commit true = refl
+    kept_commit false = refl
+
+    kept_shows : (t : Bool) → shows b (buffer (cond t c (pinned c i)) i) ≡ shows b (buffer c i)
+    kept_shows true = refl
+    kept_shows false = ap (shows b) (buffer_same c i (record (buffer c i) { pins = (buffer c i).pins + 1 }) (omega (arith, slot, j.cache.size)))
+
+-- a slot is acquired, or nothing changes: the current image stays
+pub joint_acquired : {x : Image} {k : Commit} {l : LogState} (c d : Buffers) (p b : ℕ) → JointAt k x c l → 33 ≤ b → b < l.size → d ≡ after_acquire c p b → JointAt k x d l
+joint_acquired {x} {k} {l} c d p b j low high is = subst (λ (e : Buffers). JointAt k x e l) (sym is) (by_found (found c b) refl)
+  where
+    by_lock : (i : ℕ) (o : Option ℕ) → i < 40 → JointAt k x (after_lock o c p i) l
+    by_lock i None lt = joint_locked c (locked c p i) p i j lt refl
+    by_lock i (Some q) lt = j
+
+    by_take : (o : Option ℕ) → victim c ≡ o → found c b ≡ None → JointAt k x (after_take o c p b) l
+    by_take None e none = j
+    by_take (Some i) e none =
+        let free = victim_free c i j.cache e in
+        joint_taken c (taken c p b i) p b i j free.0 none (omega (arith, free.1)) low high refl
+
+    by_found : (o : Option ℕ) → found c b ≡ o → JointAt k x (after_acquire_by o c p b) l
+    by_found None e = by_take (victim c) refl e
+    by_found (Some i) e = let f = some_found c b i e in by_lock i (buffer c i).holder (omega (arith, f.0, j.cache.size))
+
+pub some_block : (o : Option ℕ) → IsSome o → o ≡ Some (block_or_zero o)
+some_block None some = cc
+some_block (Some b) some = refl
+
+-- a slot's block is one of the file system
+pub block_behind : {k : Commit} {x : Image} {l : LogState} (c : Buffers) (i : ℕ) → JointAt k x c l → IsSome (buffer c i).block → (33 ≤ block_or_zero (buffer c i).block) × (block_or_zero (buffer c i).block < l.size)
+block_behind {k} {x} {l} c i j some = j.behind i (block_or_zero (buffer c i).block) (ap (is_number_in (block_or_zero (buffer c i).block)) (some_block (buffer c i).block some) ∙ eq-eqb (block_or_zero (buffer c i).block) (block_or_zero (buffer c i).block) refl)
+
+-- a slot is logged: its bytes stay
+pub noted_bytes : (l : LogState) (c : Buffers) (i b : ℕ) → i < length c.slots → (buffer (noted_cache l c i b) i).bytes ≡ (buffer c i).bytes
+noted_bytes l c i b lt = by_home (is_among b l.homes)
+  where
+    by_home : (t : Bool) → (buffer (cond t c (pinned c i)) i).bytes ≡ (buffer c i).bytes
+    by_home true = refl
+    by_home false = ap (λ (s : Buffer). s.bytes) (buffer_same c i (record (buffer c i) { pins = (buffer c i).pins + 1 }) lt)
+
+-- the same, from what `log_write` and `put` ensure
+pub joint_put : {x : Image} (c e d : Buffers) (l m : LogState) (p i n : ℕ) (bytes : List ℕ) → Joint x c l → p < 32 → HasRoom (get_or l.used p None) → i < 40 → IsSome (buffer c i).block → (buffer c i).valid ≡ true
+    → m ≡ noted l p (block_or_zero (buffer c i).block) → e ≡ noted_cache l c i (block_or_zero (buffer c i).block) → d ≡ changed e i (overwritten (buffer e i).bytes n bytes)
+    → Joint x d m × (seen x d ≡ set (seen x c) (block_or_zero (buffer c i).block) (overwritten (buffer c i).bytes n bytes))
+joint_put {x} c e d l m p i n bytes j lt room slot some valid is are new =
+    let b = block_or_zero (buffer c i).block in
+    let used = joint_used c e d l m p i b (overwritten (buffer e i).bytes n bytes) j lt room slot (some_block (buffer c i).block some) valid is are new in
+    let same : (buffer e i).bytes ≡ (buffer c i).bytes = ap (λ (f : Buffers). (buffer f i).bytes) are ∙ noted_bytes l c i b (omega (arith, slot, j.cache.size)) in
+    (used.0, used.1 ∙ ap (λ (v : List ℕ). set (seen x c) b (overwritten v n bytes)) same)
+
+-- a beginning that is let in, or sleeps
+pub joint_after_begin : {x : Image} {c : Buffers} (l m : LogState) (p : ℕ) → Joint x c l → p < 32 → used_by l p ≡ None → m ≡ after_begin l p → Joint x c m
+joint_after_begin {x} {c} l m p j lt none is = subst (λ (n : LogState). Joint x c n) (sym is) (by_cause (begin_cause l) refl)
+  where
+    by_cause : (cause : Option Why) → begin_cause l ≡ cause → Joint x c (after_begin_by cause l p)
+    by_cause None free = joint_begun l (begun l p) p j free lt none refl
+    by_cause (Some why) free = j
+
+-- the end of an operation that is open
+pub joint_after_end : {x : Image} {c : Buffers} (l m : LogState) (p : ℕ) → Joint x c l → p < 32 → IsSome (used_by l p) → m ≡ ended l p → Joint x c m
+joint_after_end {x} {c} l m p j lt held is =
+    let had = some_open (used_by l p) held in
+    let quiet : l.commit ≡ commit.Quiet = quiet_of l.commit l j.log (is_open l l.commit p had.0 j.log lt had.1) in
+    joint_ended l m p (subst (λ (k : Commit). JointAt k x c l) quiet j) quiet lt held is

@@ -1,0 +1,63 @@
+use Rattle.std.proofs.Common.{◌≡◌, ◌<◌, ℕ, List, length, get_or, set, refl, sym, ◌∙◌, ap, subst, arith, add-one}
+use Rattle.blocks.specs.Disk.{Image, one_more}
+use Rattle.blocks.proofs.Moments.{started, stays, goes_on, now_stays}
+use Rattle.layout.specs.Making.{counted}
+use Rattle.model.specs.Log.{homes_of, recovered}
+use Rattle.model.proofs.RecoveryLemmas.{few_homes}
+use Rattle.wal.specs.Recovery.{RecoversAs}
+use Rattle.wal.proofs.Copies.{SameBesides, same_besides, copied_none, recovers_besides, home_at}
+use Rattle.wal.proofs.Recoveries.{copy_besides, copy_step}
+use Rattle.wal.proofs.recovery.copy_home.Goals as goal
+
+pub overflow_cast-k : goal.overflow_cast-k
+overflow_cast-k g c = omega (arith, ap length c.requires.homes, few_homes (g.D.Disk.image c.args.disk.now))
+
+pub overflow_add-k : goal.overflow_add-k
+overflow_add-k g c = omega (arith, ap length c.requires.homes, few_homes (g.D.Disk.image c.args.disk.now))
+
+pub read-requires : goal.read-requires
+read-requires g c = omega (arith, c.requires.long, c.loop-k.invariant.copied.size, ap length c.requires.homes, few_homes (g.D.Disk.image c.args.disk.now))
+
+pub loop-k-init : goal.loop-k-init
+loop-k-init g c =
+    let d = g.D.Disk in
+    let old = c.args.disk.now in
+    let x = d.image old in
+    record {
+      copied = copied_none x;
+      besides = λ z now. subst (SameBesides x) (sym (c.requires.settled z now)) (same_besides x);
+      writes = refl;
+      faults = refl;
+      any_moment = started d.moment d.leaves old (RecoversAs x) (λ z now. ap recovered (c.requires.settled z now));
+    }
+
+pub returns-in_err-write-clause-any_moment : goal.returns-in_err-write-clause-any_moment
+returns-in_err-write-clause-any_moment g c =
+    let d = g.D.Disk in
+    let x = d.image c.args.disk.now in
+    let kept = c.loop-k.invariant in
+    let lt : c.loop-k.k < length (homes_of x) = omega (arith, ap length c.requires.homes) in
+    let home : get_or c.args.homes.now c.loop-k.k 0 ≡ home_at x c.loop-k.k = ap (λ (l : List ℕ). get_or l c.loop-k.k 0) c.requires.homes in
+    let before = λ (z : Image) (now : d.leaves c.read.new.self (d.moment c.read.new.self) z). kept.besides z (now_stays d.moment d.leaves c.loop-k.disk c.read.new.self (g.met.D.Disk.counts_now c.read.new.self) c.read.ensures.time z now) in
+    let read = stays d.moment d.leaves c.args.disk.now c.loop-k.disk c.read.new.self (RecoversAs x) kept.any_moment c.read.ensures.time in
+    goes_on d.moment d.leaves c.args.disk.now c.read.new.self c.write.new.self (RecoversAs x) read c.write.ensures.time
+    (λ z now. recovers_besides x z c.requires.lawful (copy_besides x c.loop-k.k _ _ _ _ lt home before c.write.ensures.crash z now))
+
+pub loop-k-preserved : goal.loop-k-preserved
+loop-k-preserved g c =
+    let d = g.D.Disk in
+    let x = d.image c.args.disk.now in
+    let kept = c.loop-k.invariant in
+    let lt : c.loop-k.k < length (homes_of x) = omega (arith, ap length c.requires.homes) in
+    let home : get_or c.args.homes.now c.loop-k.k 0 ≡ home_at x c.loop-k.k = ap (λ (l : List ℕ). get_or l c.loop-k.k 0) c.requires.homes in
+    let before = λ (z : Image) (now : d.leaves c.read.new.self (d.moment c.read.new.self) z). kept.besides z (now_stays d.moment d.leaves c.loop-k.disk c.read.new.self (g.met.D.Disk.counts_now c.read.new.self) c.read.ensures.time z now) in
+    let written : d.image c.write.new.self ≡ set (d.image c.loop-k.disk) (get_or c.args.homes.now c.loop-k.k 0) c.read.new.into = c.in_ok-write.ensures.ok ∙ ap (λ (y : Image). set y (get_or c.args.homes.now c.loop-k.k 0) c.read.new.into) c.in_ok-read.ensures.image in
+    let read = stays d.moment d.leaves c.args.disk.now c.loop-k.disk c.read.new.self (RecoversAs x) kept.any_moment c.read.ensures.time in
+    let besides : (z : Image) → d.leaves c.write.new.self (d.moment c.write.new.self) z → SameBesides x z = copy_besides x c.loop-k.k _ _ _ _ lt home before c.write.ensures.crash in
+    record {
+      copied = copy_step x (d.image c.loop-k.disk) (d.image c.write.new.self) c.loop-k.k _ _ c.requires.lawful lt home kept.copied c.in_ok-read.ensures.ok written;
+      besides = besides;
+      writes = c.in_ok-write.ensures.writes ∙ ap one_more (c.in_ok-read.ensures.writes ∙ kept.writes) ∙ ap (counted (d.write_count c.args.disk.now)) (sym (add-one c.loop-k.k));
+      faults = c.in_ok-write.ensures.faults ∙ c.in_ok-read.ensures.faults ∙ kept.faults;
+      any_moment = goes_on d.moment d.leaves c.args.disk.now c.read.new.self c.write.new.self (RecoversAs x) read c.write.ensures.time (λ z now. recovers_besides x z c.requires.lawful (besides z now));
+    }

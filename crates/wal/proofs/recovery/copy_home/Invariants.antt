@@ -1,0 +1,19 @@
+use Rattle.std.proofs.Common.{◌≡◌}
+use Rattle.blocks.specs.Disk.{Image, LeavesOnly}
+use Rattle.layout.specs.Making.{counted}
+use Rattle.wal.specs.Recovery.{RecoversAs, HasCopied}
+use Rattle.wal.proofs.Copies.{SameBesides}
+use Rattle.wal.proofs.recovery.copy_home.Given as goal
+
+-- the first k blocks are copied, and a crash leaves what is recovered to the same image
+abbrev pub invariant-loop-k : goal.invariant-loop-k
+invariant-loop-k g l =
+    let d = g.D.Disk in
+    let x = d.image l.fn.disk in
+    record {
+      copied : HasCopied l.k x (d.image l.disk);
+      besides : (z : Image) → d.leaves l.disk (d.moment l.disk) z → SameBesides x z;
+      writes : d.write_count l.disk ≡ counted (d.write_count l.fn.disk) l.k;
+      faults : d.fault_count l.disk ≡ d.fault_count l.fn.disk;
+      any_moment : LeavesOnly d.moment d.leaves l.fn.disk l.disk (RecoversAs x);
+    }

@@ -1,0 +1,140 @@
+-- Disk, buffers and log together.
+use Rattle.std.specs.Prelude.{◌≡◌, ◌<◌, ◌≤◌, ◌==◌, ◌+◌, ℕ, true, false, List, [], length, drop, slice_index, if◌then◌else◌, Option, Some, None}
+use Rattle.blocks.specs.Block.{zero_block}
+use Rattle.blocks.specs.Disk.{Image, block_at}
+use Rattle.model.specs.State.{is_of, shows, current}
+use Rattle.model.specs.Log.{logged_in, homes_in, logged_count, homes_of}
+use Rattle.bcache.specs.Buffers.{Buffers, buffer, found, unpinned, IsCache}
+use Rattle.wal.specs.declared.types.Commit.{Commit}
+use Rattle.wal.specs.declared.types.Commit.TheVariants as commit
+use Rattle.wal.specs.Machine.{LogState, is_among, IsLogAt}
+
+-- the current image: the disk's, with each valid buffer in its block's place
+abbrev pub seen : Image → Buffers → Image
+seen x c = current x c.slots
+
+-- where the next write of a commit goes
+abbrev pub place_at : Commit → List ℕ → ℕ
+place_at commit.Quiet hs = 2
+place_at (commit.Logging k) hs = 3 + k
+place_at commit.Heading hs = 2
+place_at (commit.Homing k) hs = slice_index hs k
+place_at commit.Clearing hs = 2
+
+-- what it writes: h is the header with the homes
+abbrev pub bytes_at : Commit → List ℕ → List ℕ → Image → List ℕ
+bytes_at commit.Quiet hs h cur = zero_block
+bytes_at (commit.Logging k) hs h cur = block_at cur (slice_index hs k)
+bytes_at commit.Heading hs h cur = h
+bytes_at (commit.Homing k) hs h cur = block_at cur (slice_index hs k)
+bytes_at commit.Clearing hs h cur = zero_block
+
+-- the log after that write
+abbrev pub written_at : Commit → LogState → LogState
+written_at commit.Quiet l = l
+written_at (commit.Logging k) l = record l { commit = if k + 1 == length l.homes then commit.Heading else commit.Logging (k + 1) }
+written_at commit.Heading l = record l { commit = commit.Homing 0; committed = l.opened }
+written_at (commit.Homing k) l = record l { commit = if k + 1 == length l.homes then commit.Clearing else commit.Homing (k + 1) }
+written_at commit.Clearing l = record l { commit = commit.Quiet; homes = [] }
+
+abbrev pub unpinned_found : Buffers → Option ℕ → Buffers
+unpinned_found c None = c
+unpinned_found c (Some i) = unpinned c i
+
+-- the buffers after it: a home that was written is unpinned
+abbrev pub written_cache : Commit → List ℕ → Buffers → Buffers
+written_cache commit.Quiet hs c = c
+written_cache (commit.Logging k) hs c = c
+written_cache commit.Heading hs c = c
+written_cache (commit.Homing k) hs c = unpinned_found c (found c (slice_index hs k))
+written_cache commit.Clearing hs c = c
+
+-- the homes whose buffers are pinned
+abbrev pub live_at : Commit → List ℕ → List ℕ
+live_at commit.Quiet hs = hs
+live_at (commit.Logging k) hs = hs
+live_at commit.Heading hs = hs
+live_at (commit.Homing k) hs = drop k hs
+live_at commit.Clearing hs = drop (length hs) hs
+
+-- the first k log blocks are the current ones of their homes
+abbrev pub Logs : ℕ → Image → Image → List ℕ → Type 0
+Logs k x cur hs = (j : ℕ) → j < k → block_at x (3 + j) ≡ block_at cur (slice_index hs j)
+
+pub record HasHeader (x : Image) (hs : List ℕ) : Type 0 where
+  pub count : logged_count x ≡ length hs
+  pub each : homes_of x ≡ hs
+
+-- a block that is read as a header with these homes
+pub record IsHeader (bytes hs : List ℕ) : Type 0 where
+  pub count : logged_in bytes ≡ length hs
+  pub each : homes_in bytes ≡ hs
+
+-- what the disk has of the group, in each phase
+abbrev pub Phase : Commit → Image → Image → List ℕ → Type 0
+Phase commit.Quiet x cur hs = logged_count x ≡ 0
+Phase (commit.Logging k) x cur hs = (logged_count x ≡ 0) × Logs k x cur hs
+Phase commit.Heading x cur hs = (logged_count x ≡ 0) × Logs (length hs) x cur hs
+Phase (commit.Homing k) x cur hs = HasHeader x hs × Logs (length hs) x cur hs
+Phase commit.Clearing x cur hs = HasHeader x hs × Logs (length hs) x cur hs
+
+-- the pins of a slot: one where its block is such a home
+abbrev pub pins_of : List ℕ → Option ℕ → ℕ
+pins_of hs None = 0
+pins_of hs (Some b) = if is_among b hs then 1 else 0
+
+-- What is true of disk, buffers and log together, between any two calls.
+pub record JointAt (k : Commit) (x : Image) (c : Buffers) (l : LogState) : Type 0 where
+  pub size : length x ≡ l.size
+  pub cache : IsCache c
+  pub log : IsLogAt k l
+  -- no block of the log, or past the end, is cached
+  pub behind : (i b : ℕ) → is_of b (buffer c i) ≡ true → (33 ≤ b) × (b < l.size)
+  pub pins : (i : ℕ) → (buffer c i).pins ≡ pins_of (live_at k l.homes) (buffer c i).block
+  pub cached : (h : ℕ) → is_among h (live_at k l.homes) ≡ true → (i : ℕ) × (i < 40) × (shows h (buffer c i) ≡ true)
+  -- a block that is not pinned is the disk's
+  pub clean : (b : ℕ) → is_among b (live_at k l.homes) ≡ false → block_at (seen x c) b ≡ block_at x b
+  pub phase : Phase k x (seen x c) l.homes
+
+abbrev pub Joint : Image → Buffers → LogState → Type 0
+Joint x c l = JointAt l.commit x c l
+
+-- one size, and the same blocks but for the 30 logged ones
+pub record SameButLog (x y : Image) : Type 0 where
+  pub size : length y ≡ length x
+  pub low : (b : ℕ) → b < 3 → block_at y b ≡ block_at x b
+  pub high : (b : ℕ) → 33 ≤ b → block_at y b ≡ block_at x b
+
+-- the bytes of a slot that was found
+abbrev pub bytes_found : Buffers → Option ℕ → List ℕ
+bytes_found c None = zero_block
+bytes_found c (Some i) = (buffer c i).bytes
+
+-- what the next write of a commit is made from
+abbrev pub source_at : Commit → List ℕ → List ℕ → Buffers → List ℕ
+source_at commit.Quiet hs h c = zero_block
+source_at (commit.Logging k) hs h c = bytes_found c (found c (slice_index hs k))
+source_at commit.Heading hs h c = h
+source_at (commit.Homing k) hs h c = bytes_found c (found c (slice_index hs k))
+source_at commit.Clearing hs h c = zero_block
+
+-- a slot that was found has a pin
+abbrev pub HasPin : Buffers → Option ℕ → Type 0
+HasPin c None = Unit {0}
+HasPin c (Some i) = 0 < (buffer c i).pins
+
+-- the buffer of the home that is written is pinned
+abbrev pub IsPinned : Commit → List ℕ → Buffers → Type 0
+IsPinned commit.Quiet hs c = Unit {0}
+IsPinned (commit.Logging k) hs c = Unit {0}
+IsPinned commit.Heading hs c = Unit {0}
+IsPinned (commit.Homing k) hs c = HasPin c (found c (slice_index hs k))
+IsPinned commit.Clearing hs c = Unit {0}
+
+-- the place of the next write is one of the homes
+abbrev pub IsWithin : Commit → List ℕ → Type 0
+IsWithin commit.Quiet hs = Unit {0}
+IsWithin (commit.Logging k) hs = k < length hs
+IsWithin commit.Heading hs = Unit {0}
+IsWithin (commit.Homing k) hs = k < length hs
+IsWithin commit.Clearing hs = Unit {0}

@@ -1,0 +1,151 @@
+-- The log as contracts see it, and what each call makes of it.
+use Rattle.std.specs.Prelude.{◌≡◌, ◌<◌, ◌≤◌, ◌==◌, ◌+◌, ◌-◌, ◌*◌, ◌^◌, ℕ, not, min, Bool, true, false, List, [], ◌∷◌, ◌++◌, length, take, replicate, slice_index, slice_index_or, slice_set, if◌then◌else◌, Option, Some, None}
+use Rattle.std.specs.List.{list_any, sum_by}
+use Rattle.model.specs.declared.types.Why.{Why}
+use Rattle.model.specs.State.{unused_reservation}
+use Rattle.model.specs.Waiting.{log_cause}
+use Rattle.bcache.specs.Buffers.{Buffers, pinned}
+use Rattle.wal.specs.declared.types.Commit.{Commit}
+use Rattle.wal.specs.declared.types.Commit.TheVariants as commit
+use Rattle.wal.specs.declared.types.Began.{Began}
+use Rattle.wal.specs.declared.types.Began.TheVariants as began
+use Rattle.wal.specs.declared.types.Ended.{Ended}
+use Rattle.wal.specs.declared.types.Ended.TheVariants as ended_as
+
+pub record LogState : Type 0 where
+  -- the blocks of the image
+  pub size : ℕ
+  -- the homes of the group that is open or being committed
+  pub homes : List ℕ
+  -- for each process with an open operation, how many of these that added
+  pub used : List (Option ℕ)
+  -- the open operations
+  pub outstanding : ℕ
+  -- how many groups were opened, and how many are committed
+  pub opened : ℕ
+  pub committed : ℕ
+  pub commit : Commit
+
+-- a log to which nothing was written
+abbrev pub new_log : ℕ → LogState
+new_log size = record { size = size; homes = []; used = replicate 32 None; outstanding = 0; opened = 0; committed = 0; commit = commit.Quiet }
+
+abbrev pub is_quiet : Commit → Bool
+is_quiet commit.Quiet = true
+is_quiet (commit.Logging k) = false
+is_quiet commit.Heading = false
+is_quiet (commit.Homing k) = false
+is_quiet commit.Clearing = false
+
+-- why a beginning has to sleep
+abbrev pub begin_cause : LogState → Option Why
+begin_cause l = log_cause (not (is_quiet l.commit)) (length l.homes) l.outstanding
+
+-- what the operation that a process has open added
+abbrev pub used_by : LogState → ℕ → Option ℕ
+used_by l pid = slice_index_or l.used pid None
+
+abbrev pub begun : LogState → ℕ → LogState
+begun l pid = record l {
+  used = slice_set l.used pid (Some 0);
+  outstanding = l.outstanding + 1;
+  opened = if l.outstanding == 0 then l.opened + 1 else l.opened;
+}
+
+abbrev pub after_begin_by : Option Why → LogState → ℕ → LogState
+after_begin_by None l pid = begun l pid
+after_begin_by (Some cause) l pid = l
+
+abbrev pub begin_answer_by : Option Why → ℕ → Began
+begin_answer_by None group = began.Began group
+begin_answer_by (Some cause) group = began.Sleeping cause
+
+-- the log and the answer after `begin`
+abbrev pub after_begin : LogState → ℕ → LogState
+after_begin l pid = after_begin_by (begin_cause l) l pid
+
+abbrev pub begin_answer : LogState → ℕ → Began
+begin_answer l pid = begin_answer_by (begin_cause l) (begun l pid).opened
+
+-- an open operation that may add a home
+abbrev pub HasRoom : Option ℕ → Type 0
+HasRoom None = ⊥
+HasRoom (Some u) = u < 10
+
+abbrev pub is_among : ℕ → List ℕ → Bool
+is_among b homes = list_any (λ h. h == b) homes
+
+abbrev pub one_used : Option ℕ → Option ℕ
+one_used None = None
+one_used (Some u) = Some (u + 1)
+
+abbrev pub appended : LogState → ℕ → ℕ → LogState
+appended l pid b = record l { homes = l.homes ++ b ∷ []; used = slice_set l.used pid (one_used (used_by l pid)) }
+
+-- the log and the buffers after `log_write`
+abbrev pub noted : LogState → ℕ → ℕ → LogState
+noted l pid b = if is_among b l.homes then l else appended l pid b
+
+abbrev pub noted_cache : LogState → Buffers → ℕ → ℕ → Buffers
+noted_cache l c i b = if is_among b l.homes then c else pinned c i
+
+-- an operation less
+abbrev pub left_by : LogState → ℕ → LogState
+left_by l pid = record l { used = slice_set l.used pid None; outstanding = l.outstanding - 1 }
+
+-- the group is closed: without homes it is committed at once
+abbrev pub closed : LogState → LogState
+closed l = if length l.homes == 0 then record l { committed = l.opened } else record l { commit = commit.Logging 0 }
+
+-- the log and the answer after `end`
+abbrev pub ended : LogState → ℕ → LogState
+ended l pid = if l.outstanding == 1 then closed (left_by l pid) else left_by l pid
+
+abbrev pub end_answer : LogState → Ended
+end_answer l = if l.outstanding == 1 then (if length l.homes == 0 then ended_as.Left else ended_as.Commit) else ended_as.Left
+
+-- what an open operation may still add
+abbrev pub unused : Option ℕ → ℕ
+unused None = 0
+unused (Some u) = unused_reservation u
+
+abbrev pub ten : Option ℕ → ℕ
+ten None = 0
+ten (Some u) = 10
+
+-- homes behind the log and inside the image, none of them twice
+pub record AreHomes (size : ℕ) (homes : List ℕ) : Type 0 where
+  pub behind : (k : ℕ) → k < length homes → 33 ≤ slice_index homes k
+  pub within : (k : ℕ) → k < length homes → slice_index homes k < size
+  pub once : (k : ℕ) → k < length homes → is_among (slice_index homes k) (take k homes) ≡ false
+
+-- a commit under way has homes, and no operation is open
+abbrev pub Idle : Commit → LogState → Type 0
+Idle commit.Quiet l = Unit {0}
+Idle (commit.Logging k) l = (l.outstanding ≡ 0) × (k < length l.homes)
+Idle commit.Heading l = (l.outstanding ≡ 0) × (0 < length l.homes)
+Idle (commit.Homing k) l = (l.outstanding ≡ 0) × (k < length l.homes)
+Idle commit.Clearing l = (l.outstanding ≡ 0) × (0 < length l.homes)
+
+-- all groups but the open one are committed; that of a commit under way from its header on
+abbrev pub Counts : Commit → LogState → Type 0
+Counts commit.Quiet l = l.committed + min l.outstanding 1 ≡ l.opened
+Counts (commit.Logging k) l = l.committed + 1 ≡ l.opened
+Counts commit.Heading l = l.committed + 1 ≡ l.opened
+Counts (commit.Homing k) l = l.committed ≡ l.opened
+Counts commit.Clearing l = l.committed ≡ l.opened
+
+-- what is true of every log in that phase
+pub record IsLogAt (k : Commit) (l : LogState) : Type 0 where
+  pub big : 33 ≤ l.size
+  pub small : l.size < 2 ^ 32
+  pub places : AreHomes l.size l.homes
+  pub pids : length l.used ≡ 32
+  pub open_ones : 10 * l.outstanding ≡ sum_by ten l.used
+  -- the homes and all unused reservations fit the log
+  pub room : length l.homes + sum_by unused l.used ≤ 30
+  pub idle : Idle k l
+  pub counts : Counts k l
+
+abbrev pub IsLog : LogState → Type 0
+IsLog l = IsLogAt l.commit l

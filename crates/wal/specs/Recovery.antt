@@ -1,0 +1,45 @@
+-- What recovery makes of an image, and why it may refuse.
+use Rattle.std.specs.Prelude.{◌≡◌, ℕ, ◌+◌, ◌==◌, ⊤, nat_lt, if◌then◌else◌, List, length, Result, Ok, Err, Option, Some, None}
+use Rattle.blocks.specs.Disk.{Image, block_at}
+use Rattle.model.specs.Log.{homes_of, place_among, recovered}
+use Rattle.wal.specs.declared.faults.RecoverFault.{RecoverFault}
+use Rattle.wal.specs.declared.faults.RecoverFault.TheVariants.{Disk, BadLog, NoMemory}
+
+-- P holds where the disk failed
+abbrev pub OnDisk : {T : Type 0} → Result T RecoverFault → Type 0 → Type 0
+OnDisk (Err Disk) P = P
+OnDisk (Err BadLog) P = ⊤
+OnDisk (Err NoMemory) P = ⊤
+OnDisk (Ok v) P = ⊤
+
+-- P holds where the log was found unlawful
+abbrev pub OnBadLog : {T : Type 0} → Result T RecoverFault → Type 0 → Type 0
+OnBadLog (Err BadLog) P = P
+OnBadLog (Err Disk) P = ⊤
+OnBadLog (Err NoMemory) P = ⊤
+OnBadLog (Ok v) P = ⊤
+
+-- P holds where memory was refused
+abbrev pub OnNoMemory : {T : Type 0} → Result T RecoverFault → Type 0 → Type 0
+OnNoMemory (Err NoMemory) P = P
+OnNoMemory (Err Disk) P = ⊤
+OnNoMemory (Err BadLog) P = ⊤
+OnNoMemory (Ok v) P = ⊤
+
+-- recovery gives the same image for both
+abbrev pub RecoversAs : Image → Image → Type 0
+RecoversAs x y = recovered y ≡ recovered x
+
+-- the writes of a recovery that copies that many blocks: each of them, and the header
+abbrev pub writes_to_recover : ℕ → ℕ
+writes_to_recover n = if n == 0 then 0 else n + 1
+
+-- block b, or the logged one at its place among the homes, if that is one of the first k
+abbrev pub copied_block : Image → ℕ → ℕ → Option ℕ → List ℕ
+copied_block x k b None = block_at x b
+copied_block x k b (Some j) = if nat_lt j k then block_at x (3 + j) else block_at x b
+
+-- y is x with the first k logged blocks copied to their homes
+pub record HasCopied (k : ℕ) (x y : Image) : Type 0 where
+  pub size : length y ≡ length x
+  pub each : (b : ℕ) → block_at y b ≡ copied_block x k b (place_among (homes_of x) b)

@@ -1,0 +1,507 @@
+// The log: which blocks belong to the open group, and how far its commit is.
+ghost use Rattle.std.specs.Prelude.{◌≡◌, ◌≢◌, ◌<◌, ◌≤◌, ◌+◌, ◌==◌, ◌^◌, false, length, slice_set, Some, None, IsSome, IsTrue, ◌↔◌, IfOk, IfErr, OnOk, OnErr, if◌then◌else◌};
+ghost use Rattle.bcache.specs.Buffers.{buffer, block_or_zero, found};
+ghost use Rattle.blocks.specs.Block.{zero_block};
+ghost use Rattle.blocks.specs.Disk.{Image, one_more, Rose, IsOldOrNew, Elapses, LeavesOldOrNew, CountsFault, CountsSuccess};
+ghost use Rattle.model.specs.Codec.{header_block};
+ghost use Rattle.wal.specs.Joint.{Joint, seen, place_at, bytes_at, source_at, written_at, written_cache, bytes_found, unpinned_found, HasPin, IsPinned, IsWithin};
+ghost use Rattle.wal.specs.Kept.{CrashKeeps};
+ghost use Rattle.wal.specs.Step.{Stepped, Faulted, CommitsTo, IsFault, answer_at};
+ghost use Rattle.wal.specs.Machine.{IsLog, is_quiet, new_log, begin_cause, begin_answer, after_begin, begun, used_by, HasRoom, is_among, one_used, appended, noted, noted_cache, ended, end_answer};
+
+use crate::{Began, Commit, Committed, Ended};
+use arrayvec::ArrayVec;
+use bcache::Cache;
+use blocks::{Block, Disk, DiskFault, NoMemory};
+use layout::Super;
+use layout::header::Header;
+use model::types::Why;
+use std::alloc::Global;
+use std::marker::Model;
+
+// The processes.
+const PROCESSES: usize = 32;
+
+/// The log of a file system, as it stands in memory: the homes of the open group, the operations
+/// that are open, and how far a commit is (the xv6 book, the chapter "File system": "Logging
+/// layer" and "Code: logging"). The homes and all that open operations may still add are at most 30.
+///
+/// No call but `new` takes memory.
+#[derive(Drop)]
+pub struct Log {
+    size: u32,
+    header: Header,
+    used: [Option<u8>; PROCESSES],
+    outstanding: u32,
+    opened: u64,
+    committed: u64,
+    commit: Commit,
+    // The block from which a header is written.
+    made: Block,
+    empty: Block,
+}
+
+impl Model for Log {
+    ghost use Rattle.wal.specs.Machine.{LogState};
+    ghost use Rattle.wal.specs.Fields.{IsWhole};
+
+    ghost Value = { LogState };
+
+    ghost view = { λ l. record { size = l.size; homes = l.header.homes.items; used = l.used; outstanding = l.outstanding; opened = l.opened; committed = l.committed; commit = l.commit } };
+
+    ghost invariant = { λ l. IsWhole l.header l.empty (record { size = l.size; homes = l.header.homes.items; used = l.used; outstanding = l.outstanding; opened = l.opened; committed = l.committed; commit = l.commit }) };
+}
+
+impl Log {
+    /// The log of an image with this superblock, where nothing is logged. It makes the blocks from
+    /// which headers are written.
+    ///
+    /// # Errors
+    ///
+    /// `NoMemory` where the allocator refuses the two blocks.
+    pub fn new(alloc: Global, sup: &Super) -> Result<Log, NoMemory>
+        requires long { 33 ≤ sup.now.size }
+        requires small { sup.now.size ≤ 8191 }
+        ensures { IfOk result (λ log. log ≡ new_log sup.now.size) }
+    {
+        let made = Block::zeroed(alloc)?;
+        let empty = Block::zeroed(alloc)?;
+        Ok(Log {
+            size: sup.size,
+            header: Header {
+                n: 0,
+                homes: ArrayVec::new(),
+            },
+            used: [None; PROCESSES],
+            outstanding: 0,
+            opened: 0,
+            committed: 0,
+            commit: Commit::Quiet,
+            made,
+            empty,
+        })
+    }
+
+    /// Does nothing: it says what is true of every log.
+    pub fn known(&self)
+        ensures { IsLog self.now }
+    {
+        let _ = &self.size;
+    }
+
+    /// The homes of the group that is open or being committed, in the order of logging.
+    pub fn homes(&self) -> &[u32]
+        ensures { result.now ≡ self.now.homes }
+    {
+        self.header.homes.as_slice()
+    }
+
+    /// The blocks of the image.
+    pub fn size(&self) -> u32
+        ensures { result ≡ self.now.size }
+    {
+        self.size
+    }
+
+    /// How many homes the operation that a process has open added; None where it has none open.
+    pub fn used(&self, pid: u32) -> Option<u8>
+        requires { pid < 32 }
+        ensures { result ≡ used_by self.now pid }
+    {
+        self.used[pid as usize]
+    }
+
+    /// Whether a process has an operation open that may add a home.
+    pub fn has_room(&self, pid: u32) -> bool
+        requires { pid < 32 }
+        ensures { IsTrue result ↔ HasRoom (used_by self.now pid) }
+    {
+        match self.used[pid as usize] {
+            Some(count) => count < 10,
+            None => false,
+        }
+    }
+
+    /// The open operations.
+    pub fn outstanding(&self) -> u32
+        ensures { result ≡ self.now.outstanding }
+    {
+        self.outstanding
+    }
+
+    /// How many groups were opened. The newest has this number.
+    pub fn opened(&self) -> u64
+        ensures { result ≡ self.now.opened }
+    {
+        self.opened
+    }
+
+    /// How many groups are committed: all up to that of this number.
+    pub fn committed(&self) -> u64
+        ensures { result ≡ self.now.committed }
+    {
+        self.committed
+    }
+
+    /// Where a commit stands.
+    pub fn commit(&self) -> Commit
+        ensures { result ≡ self.now.commit }
+    {
+        self.commit
+    }
+
+    /// Why an operation would have to sleep before it begins: `Committing` while a commit is under
+    /// way; else `LogFull` where the homes and ten for each open operation and one more would be
+    /// over 30. None where `begin` lets it begin.
+    pub fn may_begin(&self) -> Option<Why>
+        ensures { result ≡ begin_cause self.now }
+    {
+        if !is_quiet(self.commit) {
+            return Some(Why::Committing);
+        }
+        let reserved = self.header.homes.len() as u64 + (self.outstanding as u64 + 1) * 10;
+        if reserved > 30 {
+            return Some(Why::LogFull);
+        }
+        None
+    }
+
+    /// Opens an operation of a process that has none open (`begin_op`), or says why it has to sleep,
+    /// as `may_begin` does. It may add ten homes. Where no other is open, a new group begins with it.
+    pub fn begin(&mut self, pid: u32) -> Began
+        requires pid { pid < 32 }
+        requires none { used_by self.old pid ≡ None }
+        requires opened { self.old.opened + 1 < 2 ^ 64 }
+        ensures answer { result ≡ begin_answer self.old pid }
+        ensures log { self.new ≡ after_begin self.old pid }
+    {
+        match self.may_begin() {
+            Some(cause) => Began::Sleeping(cause),
+            None => Began::Began(self.open(pid)),
+        }
+    }
+
+    // Opens an operation, and answers its group.
+    fn open(&mut self, pid: u32) -> u64
+        requires pid { pid < 32 }
+        requires none { used_by self.old pid ≡ None }
+        requires opened { self.old.opened + 1 < 2 ^ 64 }
+        requires free { begin_cause self.old ≡ None }
+        ensures group { result ≡ (begun self.old pid).opened }
+        ensures log { self.new ≡ begun self.old pid }
+    {
+        self.opened = next_group(self.outstanding, self.opened);
+        self.outstanding += 1;
+        self.used[pid as usize] = Some(0);
+        self.opened
+    }
+
+    /// Adds the block of a slot that the process holds to the open group (`log_write`): where it is
+    /// not among the homes yet, it becomes one and its buffer is pinned until it was written home.
+    /// The operation added fewer than ten. A block that is among the homes adds nothing.
+    pub fn log_write(&mut self, pid: u32, cache: &mut Cache, slot: u32)
+        requires pid { pid < 32 }
+        requires room { HasRoom (used_by self.old pid) }
+        requires slot { slot < 40 }
+        requires held { (buffer cache.old slot).holder ≡ Some pid }
+        requires block { IsSome (buffer cache.old slot).block }
+        requires behind { 33 ≤ block_or_zero (buffer cache.old slot).block }
+        requires within { block_or_zero (buffer cache.old slot).block < self.old.size }
+        requires few { (buffer cache.old slot).pins + 1 < 2 ^ 32 }
+        ensures log { self.new ≡ noted self.old pid (block_or_zero (buffer cache.old slot).block) }
+        ensures cache { cache.new ≡ noted_cache self.old cache.old slot (block_or_zero (buffer cache.old slot).block) }
+    {
+        let Some(block) = cache.block(slot) else {
+            unreachable!();
+        };
+        if !self.note(pid, block) {
+            cache.pin(slot);
+        }
+    }
+
+    // Adds a home, and answers whether it was one already.
+    fn note(&mut self, pid: u32, block: u32) -> bool
+        requires pid { pid < 32 }
+        requires room { HasRoom (used_by self.old pid) }
+        requires behind { 33 ≤ block }
+        requires within { block < self.old.size }
+        ensures answer { result ≡ is_among block self.old.homes }
+        ensures log { self.new ≡ noted self.old pid block }
+    {
+        if has_home(self.header.homes.as_slice(), block) {
+            return true;
+        }
+        self.append(pid, block);
+        false
+    }
+
+    fn append(&mut self, pid: u32, block: u32)
+        requires pid { pid < 32 }
+        requires room { HasRoom (used_by self.old pid) }
+        requires behind { 33 ≤ block }
+        requires within { block < self.old.size }
+        requires other { is_among block self.old.homes ≡ false }
+        ensures { self.new ≡ appended self.old pid block }
+    {
+        self.header.homes.push(block);
+        self.header.n += 1;
+        self.used[pid as usize] = one_more(self.used[pid as usize]);
+    }
+
+    /// Ends the operation that a process has open (`end_op`). Where it was the last one, its group is
+    /// closed: with homes the commit of the group begins, and the answer is `Commit`; without any the
+    /// group is committed at once, as `committed` then says.
+    pub fn end(&mut self, pid: u32) -> Ended
+        requires pid { pid < 32 }
+        requires open { IsSome (used_by self.old pid) }
+        ensures answer { result ≡ end_answer self.old }
+        ensures log { self.new ≡ ended self.old pid }
+    {
+        self.outstanding -= 1;
+        self.used[pid as usize] = None;
+        if self.outstanding > 0 {
+            return Ended::Left;
+        }
+        if self.header.homes.is_empty() {
+            self.committed = self.opened;
+            return Ended::Left;
+        }
+        self.commit = Commit::Logging(0);
+        Ended::Commit
+    }
+}
+
+impl Log {
+    /// Makes the next write of a commit that is under way: the log blocks of the homes from block 3
+    /// on, then the header with the homes in block 2, with which the group is committed
+    /// (`Durable`, with its number), then the homes themselves, each unpinned with its write, and
+    /// last an empty header (`Done`); else `More`. So a commit of n blocks is 2n + 2 writes. Blocks
+    /// are written from their buffers, and nothing is read.
+    ///
+    /// A crash during the step leaves what recovery turns into what was committed before it, or, at
+    /// the header, into the closed group.
+    ///
+    /// `Fault` where the disk failed: buffers and log are as before, and the block is as it was or as
+    /// it was to be.
+    pub fn commit_step<D: Disk>(&mut self, cache: &mut Cache, disk: &mut D) -> Committed
+        requires busy { is_quiet self.old.commit ≡ false }
+        requires joint { Joint (D.image disk.old) cache.old self.old }
+        ensures step { CommitsTo self.old.commit self.old.opened result
+            (Stepped (header_block self.old.homes) (D.image disk.old) cache.old self.old (D.image disk.new) cache.new self.new)
+            (Faulted (header_block self.old.homes) (D.image disk.old) cache.old self.old (D.image disk.new) cache.new self.new) }
+        ensures time { Elapses (D.moment disk.old) (D.moment disk.new) (D.leaves disk.old) (D.leaves disk.new) }
+        ensures crash { LeavesOldOrNew (place_at self.old.commit self.old.homes)
+            (bytes_at self.old.commit self.old.homes (header_block self.old.homes) (seen (D.image disk.old) cache.old))
+            (D.leaves disk.old (D.moment disk.old)) (D.leaves disk.new (D.moment disk.new)) }
+
+        // What a crash now may leave is recovered to what was committed, or to the group.
+        ensures recovers { (z : Image) → D.leaves disk.new (D.moment disk.new) z → CrashKeeps self.old.commit (D.image disk.old) (seen (D.image disk.old) cache.old) z }
+        ensures writes { IsFault result (λ fault. D.write_count disk.new ≡ D.write_count disk.old) (Rose (D.fault_count disk.old) (D.fault_count disk.new)) (D.write_count disk.new ≡ one_more (D.write_count disk.old)) }
+        ensures faults { IsFault result (λ fault. fault.0 ≡ place_at self.old.commit self.old.homes) (Rose (D.fault_count disk.old) (D.fault_count disk.new)) (D.fault_count disk.new ≡ D.fault_count disk.old) }
+    {
+        match self.write_next(cache, disk) {
+            Ok(()) => self.go_on(cache),
+            Err(fault) => Committed::Fault(fault),
+        }
+    }
+
+    // Makes the next write, and no more.
+    fn write_next<D: Disk>(&mut self, cache: &Cache, disk: &mut D) -> Result<(), DiskFault>
+        requires inside { place_at self.old.commit self.old.homes < length (D.image disk.old) }
+        ensures log { self.new ≡ self.old }
+        ensures ok { OnOk result (D.image disk.new ≡ slice_set (D.image disk.old) (place_at self.old.commit self.old.homes) (source_at self.old.commit self.old.homes (header_block self.old.homes) cache.now)) }
+        ensures err { OnErr result (IsOldOrNew (D.image disk.old) (place_at self.old.commit self.old.homes) (source_at self.old.commit self.old.homes (header_block self.old.homes) cache.now) (D.image disk.new)) }
+        ensures fault { IfErr result (λ fault. fault.0 ≡ place_at self.old.commit self.old.homes) }
+        ensures writes { CountsSuccess result (D.write_count disk.old) (D.write_count disk.new) }
+        ensures faults { CountsFault result (D.fault_count disk.old) (D.fault_count disk.new) }
+        ensures time { Elapses (D.moment disk.old) (D.moment disk.new) (D.leaves disk.old) (D.leaves disk.new) }
+        ensures crash { LeavesOldOrNew (place_at self.old.commit self.old.homes) (source_at self.old.commit self.old.homes (header_block self.old.homes) cache.now)
+            (D.leaves disk.old (D.moment disk.old)) (D.leaves disk.new (D.moment disk.new)) }
+    {
+        make_header(self.commit, &self.header, &mut self.made);
+        let homes = self.header.homes.as_slice();
+        let place = place(self.commit, homes);
+        let source = source(self.commit, homes, cache, &self.made, &self.empty);
+        disk.write(place, source)
+    }
+
+    // Goes on after a write that was made.
+    fn go_on(&mut self, cache: &mut Cache) -> Committed
+        requires pinned { IsPinned self.old.commit self.old.homes cache.old }
+        ensures answer { result ≡ answer_at self.old.commit self.old.opened }
+        ensures log { self.new ≡ written_at self.old.commit self.old }
+        ensures cache { cache.new ≡ written_cache self.old.commit self.old.homes cache.old }
+    {
+        self.unpin_home(cache);
+        let answer = self.answer();
+        self.wrote();
+        answer
+    }
+
+    // Unpins the home that was written.
+    fn unpin_home(&self, cache: &mut Cache)
+        requires pinned { IsPinned self.now.commit self.now.homes cache.old }
+        ensures { cache.new ≡ written_cache self.now.commit self.now.homes cache.old }
+    {
+        if let Commit::Homing(k) = self.commit {
+            unpin_block(cache, self.header.homes.as_slice()[k as usize]);
+        }
+    }
+
+    // What a write that was made answers.
+    fn answer(&self) -> Committed
+        ensures { result ≡ answer_at self.now.commit self.now.opened }
+    {
+        match self.commit {
+            Commit::Quiet | Commit::Logging(_) | Commit::Homing(_) => Committed::More,
+            Commit::Heading => Committed::Durable(self.opened),
+            Commit::Clearing => Committed::Done,
+        }
+    }
+
+    // The log after a write.
+    fn wrote(&mut self)
+        ensures { self.new ≡ written_at self.old.commit self.old }
+    {
+        match self.commit {
+            Commit::Quiet => {}
+            Commit::Logging(k) => self.commit = after_log_block(k, self.header.homes.len()),
+            Commit::Heading => {
+                self.committed = self.opened;
+                self.commit = Commit::Homing(0);
+            }
+            Commit::Homing(k) => self.commit = after_home(k, self.header.homes.len()),
+            Commit::Clearing => {
+                self.header.n = 0;
+                self.header.homes.clear();
+                self.commit = Commit::Quiet;
+            }
+        }
+    }
+}
+
+// Makes the header's block, where that is what is written next.
+fn make_header(commit: Commit, header: &Header, made: &mut Block)
+    requires { header.now.n ≡ length header.now.homes.items }
+    ensures { commit ≡ Commit.Heading → made.new ≡ header_block header.now.homes.items }
+{
+    if let Commit::Heading = commit {
+        header.write(made);
+    }
+}
+
+// Where the next write of a commit goes.
+fn place(commit: Commit, homes: &[u32]) -> u32
+    requires within { IsWithin commit homes.now }
+    requires few { length homes.now ≤ 30 }
+    ensures { result ≡ place_at commit homes.now }
+{
+    match commit {
+        Commit::Logging(k) => 3 + k,
+        Commit::Homing(k) => homes[k as usize],
+        Commit::Quiet | Commit::Heading | Commit::Clearing => 2,
+    }
+}
+
+// What it writes.
+fn source<'a>(
+    commit: Commit,
+    homes: &[u32],
+    cache: &'a Cache,
+    made: &'a Block,
+    empty: &'a Block,
+) -> &'a Block
+    requires within { IsWithin commit homes.now }
+    requires made { commit ≡ Commit.Heading → made.now ≡ header_block homes.now }
+    requires empty { empty.now ≡ zero_block }
+    ensures { result.now ≡ source_at commit homes.now (header_block homes.now) cache.now }
+{
+    match commit {
+        Commit::Logging(k) => bytes_for(cache, homes[k as usize], empty),
+        Commit::Homing(k) => bytes_for(cache, homes[k as usize], empty),
+        Commit::Heading => made,
+        Commit::Quiet | Commit::Clearing => empty,
+    }
+}
+
+fn after_log_block(k: u32, count: usize) -> Commit
+    requires inside { k < count }
+    requires few { count ≤ 30 }
+    ensures { result ≡ (if k + 1 == count then Commit.Heading else Commit.Logging (k + 1)) }
+{
+    if k as usize + 1 == count {
+        Commit::Heading
+    } else {
+        Commit::Logging(k + 1)
+    }
+}
+
+fn after_home(k: u32, count: usize) -> Commit
+    requires inside { k < count }
+    requires few { count ≤ 30 }
+    ensures { result ≡ (if k + 1 == count then Commit.Clearing else Commit.Homing (k + 1)) }
+{
+    if k as usize + 1 == count {
+        Commit::Clearing
+    } else {
+        Commit::Homing(k + 1)
+    }
+}
+
+// The buffer's bytes of a home.
+fn bytes_for<'a>(cache: &'a Cache, home: u32, empty: &'a Block) -> &'a Block
+    requires { empty.now ≡ zero_block }
+    ensures { result.now ≡ bytes_found cache.now (found cache.now home) }
+{
+    match cache.find(home) {
+        Some(slot) => cache.data(slot),
+        None => empty,
+    }
+}
+
+fn unpin_block(cache: &mut Cache, home: u32)
+    requires { HasPin cache.old (found cache.old home) }
+    ensures { cache.new ≡ unpinned_found cache.old (found cache.old home) }
+{
+    if let Some(slot) = cache.find(home) {
+        cache.unpin(slot);
+    }
+}
+
+// Whether no commit is under way.
+fn is_quiet(commit: Commit) -> bool
+    ensures { result ≡ is_quiet commit }
+{
+    match commit {
+        Commit::Quiet => true,
+        Commit::Logging(_) | Commit::Heading | Commit::Homing(_) | Commit::Clearing => false,
+    }
+}
+
+// The number of the group that an operation belongs to.
+fn next_group(outstanding: u32, opened: u64) -> u64
+    requires { opened + 1 < 2 ^ 64 }
+    ensures { result ≡ (if outstanding == 0 then opened + 1 else opened) }
+{
+    if outstanding == 0 { opened + 1 } else { opened }
+}
+
+// One home more of an operation.
+fn one_more(used: Option<u8>) -> Option<u8>
+    requires { HasRoom used }
+    ensures { result ≡ one_used used }
+{
+    match used {
+        Some(count) => Some(count + 1),
+        None => None,
+    }
+}
+
+fn has_home(homes: &[u32], block: u32) -> bool
+    ensures { result ≡ is_among block homes.now }
+{
+    homes.iter().any(|home| *home == block)
+}
+
+#[cfg(test)]
+mod tests;

@@ -1,0 +1,108 @@
+// Recovery: what was committed before a crash is copied home.
+ghost use Rattle.std.specs.Prelude.{◌≡◌, ◌≢◌, ◌≤◌, ◌+◌, false, length, IsTrue, IfOk, OnOk, OnErr};
+ghost use Rattle.blocks.specs.Disk.{Rose, IsSettled, AddsNone, LeavesOnly};
+ghost use Rattle.layout.specs.Making.{counted};
+ghost use Rattle.model.specs.Layout.{is_lawful_super};
+ghost use Rattle.model.specs.Log.{is_lawful_log, logged_count, homes_of, recovered};
+ghost use Rattle.wal.specs.Recovery.{OnDisk, OnBadLog, OnNoMemory, RecoversAs, HasCopied, writes_to_recover};
+
+use crate::RecoverFault;
+use blocks::{Block, Disk, DiskFault};
+use layout::Super;
+use layout::header::Header;
+use std::alloc::Global;
+
+// The log's first block, its header.
+const HEADER: u32 = 2;
+
+// The first of the blocks behind the header.
+const LOG: u32 = 3;
+
+// Reads the header of a lawful log in an image of that many blocks.
+fn read_header<D: Disk>(disk: &mut D, size: u32, block: &mut Block) -> Result<Header, RecoverFault>
+    requires size { size ≡ length (D.image disk.old) }
+    requires long { 33 ≤ size }
+    ensures lawful { OnOk result (IsTrue (is_lawful_log (D.image disk.old))) }
+    ensures count { IfOk result (λ header. header.n ≡ logged_count (D.image disk.old)) }
+    ensures homes { IfOk result (λ header. header.homes.items ≡ homes_of (D.image disk.old)) }
+    ensures bad { OnBadLog result (is_lawful_log (D.image disk.old) ≡ false) }
+    ensures bad_faults { OnBadLog result (D.fault_count disk.new ≡ D.fault_count disk.old) }
+    ensures refused { OnNoMemory result (disk.new ≡ disk.old) }
+    ensures disk { OnDisk result (Rose (D.fault_count disk.old) (D.fault_count disk.new)) }
+    ensures image { D.image disk.new ≡ D.image disk.old }
+    ensures writes { D.write_count disk.new ≡ D.write_count disk.old }
+    ensures faults { OnOk result (D.fault_count disk.new ≡ D.fault_count disk.old) }
+    ensures time { AddsNone (D.moment disk.old) (D.moment disk.new) (D.leaves disk.old) (D.leaves disk.new) }
+{
+    disk.read(HEADER, block)?;
+    let header = Header::read(block.as_slice());
+    if !header.is_lawful(size) {
+        return Err(RecoverFault::BadLog);
+    }
+    Ok(header)
+}
+
+// Copies each logged block home.
+fn copy_home<D: Disk>(disk: &mut D, block: &mut Block, homes: &[u32]) -> Result<(), DiskFault>
+    requires long { 33 ≤ length (D.image disk.old) }
+    requires lawful { IsTrue (is_lawful_log (D.image disk.old)) }
+    requires homes { homes.now ≡ homes_of (D.image disk.old) }
+    requires settled { IsSettled (D.image disk.old) (D.leaves disk.old (D.moment disk.old)) }
+    ensures ok { OnOk result (HasCopied (length homes.now) (D.image disk.old) (D.image disk.new)) }
+    ensures writes { OnOk result (D.write_count disk.new ≡ counted (D.write_count disk.old) (length homes.now)) }
+    ensures faults { OnOk result (D.fault_count disk.new ≡ D.fault_count disk.old) }
+    ensures disk { OnErr result (Rose (D.fault_count disk.old) (D.fault_count disk.new)) }
+    ensures any_moment { LeavesOnly D.moment D.leaves disk.old disk.new (RecoversAs (D.image disk.old)) }
+{
+    for (k, home) in homes.iter().enumerate() {
+        disk.read(LOG + k as u32, block)?;
+        disk.write(*home, block)?;
+    }
+    Ok(())
+}
+
+/// Brings what the last commit logged to its end, or shows that nothing is logged: each logged
+/// block is copied to its home, in the order of logging, and then the header is cleared. It answers
+/// how many blocks were copied; where that is 0 it writes nothing. `sup` is the disk's superblock
+/// (the xv6 book, the chapter "File system": "Code: logging").
+///
+/// It may be stopped at any write, and run again: whatever a crash leaves, a later recovery gives
+/// the same image. A second call answers 0.
+///
+/// # Errors
+///
+/// `NoMemory` where the allocator refuses two blocks; nothing was read or written. `BadLog` where
+/// the header is not lawful; nothing was written. `Disk` where the disk failed: recovery is not at
+/// its end, and may be run again.
+pub fn recover<D: Disk>(alloc: Global, disk: &mut D, sup: &Super) -> Result<u32, RecoverFault>
+    requires { IsTrue (is_lawful_super sup.now (length (D.image disk.old))) }
+    ensures lawful { OnOk result (IsTrue (is_lawful_log (D.image disk.old))) }
+    ensures image { OnOk result (D.image disk.new ≡ recovered (D.image disk.old)) }
+    ensures count { IfOk result (λ n. n ≡ logged_count (D.image disk.old)) }
+    ensures writes { IfOk result (λ n. D.write_count disk.new ≡ counted (D.write_count disk.old) (writes_to_recover n)) }
+    ensures faults { OnOk result (D.fault_count disk.new ≡ D.fault_count disk.old) }
+
+    // When each error comes, and how the disk is then.
+    ensures bad { OnBadLog result (is_lawful_log (D.image disk.old) ≡ false) }
+    ensures bad_image { OnBadLog result (D.image disk.new ≡ D.image disk.old) }
+    ensures bad_writes { OnBadLog result (D.write_count disk.new ≡ D.write_count disk.old) }
+    ensures bad_faults { OnBadLog result (D.fault_count disk.new ≡ D.fault_count disk.old) }
+    ensures refused { OnNoMemory result (disk.new ≡ disk.old) }
+    ensures disk { OnDisk result (Rose (D.fault_count disk.old) (D.fault_count disk.new)) }
+
+    // A crash at any moment leaves an image that is recovered to the same one.
+    ensures any_moment { LeavesOnly D.moment D.leaves disk.old disk.new (RecoversAs (D.image disk.old)) }
+{
+    let mut block = Block::zeroed(alloc)?;
+    let empty = Block::zeroed(alloc)?;
+    let header = read_header(disk, sup.size, &mut block)?;
+    if header.n == 0 {
+        return Ok(0);
+    }
+    copy_home(disk, &mut block, header.homes.as_slice())?;
+    disk.write(HEADER, &empty)?;
+    Ok(header.n)
+}
+
+#[cfg(test)]
+mod tests;
