@@ -6,8 +6,8 @@ use std::test::Fail;
 
 #[test]
 fn each_read_of_a_check(rt: HostRuntime) -> Result<(), Fail> {
-    let mut n = 1;
-    for _ in 0..100 {
+    let mut reads = 0;
+    for n in 1..=100u64 {
         let mut disk = FaultyDisk::new(with_a_file(rt.alloc())?, n, Kind::Read);
         let answer = check(rt.alloc(), &mut disk);
         if !disk.fired() {
@@ -19,10 +19,10 @@ fn each_read_of_a_check(rt: HostRuntime) -> Result<(), Fail> {
         }
         assert_eq!(rt; answer, Err(CheckFault::Disk), "read {n}");
         assert_eq!(rt; disk.faults(), 1);
-        n += 1;
+        reads = n;
     }
     // the superblock, the header, the bitmap and two blocks of inodes
-    assert_eq!(rt; n, 6);
+    assert_eq!(rt; reads, 5);
     Ok(())
 }
 

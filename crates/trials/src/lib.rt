@@ -1,7 +1,9 @@
 //! Trials of the crates together: the check against the plain program, on images that are hurt byte
-//! by byte, and on disks that fail. The crate has no code but these tests.
+//! by byte, on files cut short, and on disks that fail. The crate has no code but these tests.
 #![tactic(auto)]
 
+#[cfg(test)]
+mod cut;
 #[cfg(test)]
 mod failing;
 #[cfg(test)]
