@@ -1,0 +1,56 @@
+-- One lane changes, and the others stay.
+use Rattle.std.proofs.Common.{◌≡◌, ◌≢◌, ℕ, zero, suc, ◌<◌, ◌+◌, List, [], ◌∷◌, ◌++◌, length, set, Some, refl, sym, ap, ◌∙◌, subst, arith, append_assoc}
+use native.Mathlib.Decide.{ℕ_discrete}
+use mathlib.Core.Logic.{dite}
+use Rattle.std.specs.Prelude.{Option, slice_get, All, option_to_list}
+use Rattle.model.specs.declared.types.Answer.{Answer}
+use Rattle.ports.specs.declared.lane.Lane.{Lane}
+use Rattle.ports.specs.History.{History, FitWith, AllFit, gives, fresh}
+use Rattle.ports.specs.Lanes.{IsEmptyLane, SameWaiting}
+use Rattle.ports.specs.Queues.{FitsAt, FitsLane}
+
+pub slice_get-set_here : {A : Type 0} (xs : List A) (i : ℕ) (x : A) → i < length xs → slice_get (set xs i x) i ≡ Some x
+slice_get-set_here [] i x h = absurd (omega arith)
+slice_get-set_here (y ∷ ys) zero x h = refl
+slice_get-set_here (y ∷ ys) (suc i) x h = slice_get-set_here ys i x (omega arith)
+
+pub slice_get-set_other : {A : Type 0} (xs : List A) (i j : ℕ) (x : A) → j ≢ i → slice_get (set xs i x) j ≡ slice_get xs j
+slice_get-set_other [] i j x n = refl
+slice_get-set_other (y ∷ ys) zero zero x n = absurd (n refl)
+slice_get-set_other (y ∷ ys) zero (suc j) x n = refl
+slice_get-set_other (y ∷ ys) (suc i) zero x n = refl
+slice_get-set_other (y ∷ ys) (suc i) (suc j) x n = slice_get-set_other ys i j x (λ e. n (ap suc e))
+
+-- a change of one lane that takes each history of it to another
+pub fits_with : (lanes : List Lane) (pid : ℕ) (l n : Lane) (f : History → History) → slice_get lanes pid ≡ Some l → pid < length lanes
+    → ((h : History) → FitsLane l h → FitsLane n (f h)) → FitWith (λ p h. FitsAt (slice_get lanes p) h) (λ p h. FitsAt (slice_get (set lanes pid n) p) h) pid f
+fits_with lanes pid l n f at here moves = record {
+  own = λ h old. subst (λ o. FitsAt o (f h)) (sym (slice_get-set_here lanes pid n here)) (moves h (subst (λ o. FitsAt o h) at old));
+  others = λ p h other old. subst (λ o. FitsAt o h) (sym (slice_get-set_other lanes pid p n other)) old;
+}
+
+-- one that keeps them
+pub all_fit : (lanes : List Lane) (pid : ℕ) (l n : Lane) → slice_get lanes pid ≡ Some l → pid < length lanes
+    → ((h : History) → FitsLane l h → FitsLane n h) → AllFit (λ p h. FitsAt (slice_get lanes p) h) (λ p h. FitsAt (slice_get (set lanes pid n) p) h)
+all_fit lanes pid l n at here moves p h old =
+    let w = fits_with lanes pid l n (λ x. x) at here moves in
+    dite (ℕ_discrete p pid)
+    (λ same. subst (λ q. FitsAt (slice_get (set lanes pid n) q) h) (sym same) (w.own h (subst (λ q. FitsAt (slice_get lanes q) h) same old)))
+    (λ apart. w.others p h apart old)
+
+pub gives_lane : (l n : Lane) (a : Answer) → n.answers.items ≡ l.answers.items ++ a ∷ [] → SameWaiting l n → (h : History) → FitsLane l h → FitsLane n (gives a h)
+gives_lane l n a more same h fits = record {
+  submitted = same.submitted ∙ fits.submitted ∙ ap (λ w. length h.taken + length w) (sym same.waiting);
+  given = (fits.given.0, ap (λ g. g ++ a ∷ []) fits.given.1 ∙ append_assoc fits.given.0 l.answers.items (a ∷ []) ∙ ap (λ m. fits.given.0 ++ m) (sym more));
+}
+
+pub polls_lane : (l n : Lane) (r : Option Answer) → l.answers.items ≡ option_to_list r ++ n.answers.items → SameWaiting l n → (h : History) → FitsLane l h → FitsLane n h
+polls_lane l n r less same h fits = record {
+  submitted = same.submitted ∙ fits.submitted ∙ ap (λ w. length h.taken + length w) (sym same.waiting);
+  given = (fits.given.0 ++ option_to_list r, fits.given.1 ∙ ap (λ m. fits.given.0 ++ m) less ∙ sym (append_assoc fits.given.0 (option_to_list r) n.answers.items));
+}
+
+pub all_fresh : (lanes : List Lane) → All IsEmptyLane lanes → (p : ℕ) → FitsAt (slice_get lanes p) fresh
+all_fresh [] all p = tt
+all_fresh (l ∷ ls) all zero = let z = all 0 l (omega arith) in let w = ap length z.waiting in record { submitted = omega (arith, z.submitted, w); given = ([], sym z.answers) }
+all_fresh (l ∷ ls) all (suc p) = all_fresh ls (λ k d h. all (suc k) d (omega arith)) p

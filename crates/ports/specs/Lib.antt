@@ -1,0 +1,4 @@
+pub mod History
+pub mod PlainHerald
+pub mod Lanes
+pub mod Queues

@@ -1,0 +1,46 @@
+-- A queue intake as contracts see it.
+use Rattle.std.specs.Prelude.{◌≡◌, ◌≢◌, ℕ, ◌+◌, List, [], ◌++◌, Option, Some, None, length, slice_get, nat_lt}
+use Rattle.model.specs.declared.types.Op.{Op}
+use Rattle.model.specs.declared.types.Answer.{Answer}
+use Rattle.ports.specs.History.{Side, History}
+use Rattle.ports.specs.declared.lane.Lane.{Lane}
+use Rattle.ports.specs.declared.queues.QueueIntake.{QueueIntake}
+
+abbrev pub waiting_at : Option Lane → List Op
+waiting_at None = []
+waiting_at (Some l) = l.waiting.items
+
+abbrev pub answers_at : Option Lane → List Answer
+answers_at None = []
+answers_at (Some l) = l.answers.items
+
+-- what a process handed in and the kernel has not taken, first in first out
+abbrev pub waiting : QueueIntake → ℕ → List Op
+waiting q p = waiting_at (slice_get q.lanes.items p)
+
+-- what the kernel gave and a process has not polled, first in first out
+abbrev pub answers : QueueIntake → ℕ → List Answer
+answers q p = answers_at (slice_get q.lanes.items p)
+
+-- how many processes it serves
+abbrev pub queue_count : QueueIntake → ℕ
+queue_count q = length q.lanes.items
+
+abbrev pub queue_side : QueueIntake → ℕ → Side
+queue_side q p = record { ahead = waiting q p; has_room = nat_lt (length (answers q p)) 16 }
+
+-- what was handed in was taken or waits, and the answers that wait are the last that were given
+pub record FitsLane (l : Lane) (h : History) : Type 0 where
+  pub submitted : l.submitted ≡ length h.taken + length l.waiting.items
+  pub given : (before : List Answer) × (h.given ≡ before ++ l.answers.items)
+
+abbrev pub FitsAt : Option Lane → History → Type 0
+FitsAt None h = Unit {0}
+FitsAt (Some l) h = FitsLane l h
+
+abbrev pub QueueFits : QueueIntake → ℕ → History → Type 0
+QueueFits q p h = FitsAt (slice_get q.lanes.items p) h
+
+-- every other process's queues stay
+abbrev pub OthersWait : QueueIntake → QueueIntake → ℕ → Type 0
+OthersWait old new pid = (p : ℕ) → p ≢ pid → (waiting new p ≡ waiting old p) × (answers new p ≡ answers old p)

@@ -1,0 +1,65 @@
+// Whom the kernel tells of its commits, and who tells it of a shutdown.
+ghost use Rattle.std.specs.Prelude.{◌≡◌, ℕ, ◌+◌, Bool, true, false};
+
+/// Hears how many groups are committed, and may tell of a shutdown.
+pub trait Herald: Drop {
+    ghost use Rattle.std.specs.Prelude.{ℕ, Bool};
+
+    /// How many groups it was told are committed.
+    ghost count: { Self → ℕ };
+
+    /// Whether it told of a shutdown.
+    ghost told: { Self → Bool };
+
+    /// Hears that the group of this number is committed: one more than it was told before.
+    fn durable(&mut self, group: u64)
+        requires { group ≡ count self.old + 1 }
+        ensures count { count self.new ≡ group }
+        ensures told { told self.new ≡ told self.old };
+
+    /// Whether a shutdown was asked for. Once true, it stays so.
+    fn is_shut(&mut self) -> bool
+        ensures count { count self.new ≡ count self.old }
+        ensures told { told self.new ≡ result }
+        ensures stays { told self.old ≡ true → result ≡ true };
+}
+
+/// A plain count, which tells of no shutdown.
+#[derive(Debug, Drop)]
+pub struct PlainHerald {
+    count: u64,
+}
+
+impl PlainHerald {
+    ghost use Rattle.ports.specs.PlainHerald.{count_of};
+
+    /// One that was told of no group.
+    pub fn new() -> PlainHerald
+        ensures { count_of result ≡ 0 }
+    {
+        PlainHerald { count: 0 }
+    }
+
+    /// How many groups it was told are committed.
+    pub fn count(&self) -> u64
+        ensures { result ≡ count_of self.now }
+    {
+        self.count
+    }
+}
+
+impl Herald for PlainHerald {
+    ghost use Rattle.ports.specs.PlainHerald.{count_of};
+
+    ghost count = { count_of };
+
+    ghost told = { λ _. false };
+
+    fn durable(&mut self, group: u64) {
+        *self = PlainHerald { count: group };
+    }
+
+    fn is_shut(&mut self) -> bool {
+        false
+    }
+}
