@@ -1,8 +1,8 @@
 -- What a write of a commit keeps of disk, buffers and log together.
-use Rattle.std.proofs.Common.{◌≡◌, ◌≢◌, inl, inr, ℕ, zero, suc, ◌+◌, ◌-◌, ◌<◌, ◌≤◌, ◌==◌, ◌||◌, Bool, true, false, cond, List, [], ◌∷◌, length, get_or, set, take, drop, length-drop, refl, sym, ◌∙◌, ap, subst, arith, Option, Some, None, length-set, add-one}
+use Rattle.std.proofs.Common.{◌≡◌, ◌≢◌, ⊎_elim, inl, inr, ℕ, zero, suc, ◌+◌, ◌-◌, ◌<◌, ◌≤◌, ◌==◌, ◌||◌, ltb, Bool, true, false, cond, List, [], ◌∷◌, length, get_or, set, take, drop, length-drop, refl, sym, ◌∙◌, ap, subst, arith, Option, Some, None, length-set, add-one}
 use Rattle.std.specs.Prelude.{slice_index}
 use Rattle.std.proofs.Math.Seq.{drop-cons, drop-length}
-use Rattle.std.proofs.lemmas.Bool.{cases_eq, cond-true, cond-false, eqb-true, eq-eqb, ne_eqb, both_ways, and_parts, and_right, false_from_ne_true, or_parts, or_from, or_right}
+use Rattle.std.proofs.lemmas.Bool.{cases_eq, cond-true, cond-false, eqb-true, eq-eqb, ne_eqb, both_ways, and_parts, and_right, false_from_ne_true, or_cases, or_parts, or_from, or_right, ltb-true}
 use Rattle.std.proofs.lemmas.List.{get_or-set_same, get_or-set_other, get_or-drop, get_or-take, get_or_default, length-take-le}
 use Rattle.std.proofs.lemmas.List.Folds.{list_any_none, list_any_at}
 use Rattle.blocks.specs.Block.{zero_block}
@@ -16,8 +16,10 @@ use Rattle.bcache.proofs.Shown.{length-current, current_kept, current_same_write
 use Rattle.wal.specs.declared.types.Commit.{Commit}
 use Rattle.wal.specs.declared.types.Commit.TheVariants as commit
 use Rattle.model.specs.Log.{logged_count, homes_of}
+use Rattle.wal.proofs.LawfulLogs.{home_facts}
 use Rattle.wal.specs.Machine.{is_among, AreHomes}
-use Rattle.wal.specs.Joint.{IsHeader}
+use Rattle.wal.specs.Joint.{IsHeader, IsSameOutsideLog}
+use Rattle.model.specs.Agreement.{is_outside_log}
 use Rattle.wal.specs.Machine.{LogState, Idle, Counts, IsLogAt}
 use Rattle.wal.specs.Joint.{JointAt, Joint, Phase, Logs, HasHeader, live_at, pins_of, place_at, bytes_at, written_at, written_cache, unpinned_found, IsWithin}
 use Rattle.wal.proofs.Groups.{no_homes}
@@ -42,7 +44,7 @@ among_drop b (suc k) (h ∷ hs) out = let parts = or_parts (h == b) (is_among b 
 
 -- a home is at 33 at least
 pub home_far : (size : ℕ) (hs : List ℕ) (j : ℕ) → AreHomes size hs → j < length hs → 33 ≤ slice_index hs j
-home_far size hs j are lt = are.behind j lt
+home_far size hs j are lt = (home_facts are).behind j lt
 
 -- no slot shows a low block
 none_low : {k : Commit} {x : Image} {l : LogState} (c : Buffers) (b : ℕ) → JointAt k x c l → b < 33 → (j : ℕ) → shows b (buffer c j) ≡ false
@@ -79,7 +81,7 @@ wrote_low {k} {x} {l} c n m b v j low size is live phase = record {
 pub in_phase : (k n : Commit) (l : LogState) (hs : List ℕ) (done : ℕ) → IsLogAt k l → Idle n (record l { commit = n; homes = hs; committed = done }) → AreHomes l.size hs → length hs ≤ length l.homes → Counts n (record l { commit = n; homes = hs; committed = done }) → IsLogAt n (record l { commit = n; homes = hs; committed = done })
 in_phase k n l hs done is idle are few counts = record { big = is.big; small = is.small; places = are; pids = is.pids; open_ones = is.open_ones; room = omega (arith, is.room, few); idle = idle; counts = counts }
 
-few_homes : {k : Commit} {l : LogState} → IsLogAt k l → length l.homes ≤ 30
+pub few_homes : {k : Commit} {l : LogState} → IsLogAt k l → length l.homes ≤ 30
 few_homes {k} {l} is = omega (arith, is.room)
 
 -- one log block more
@@ -154,7 +156,7 @@ home_once size hs n are lt = list_any_none (λ h. h == slice_index hs n) (drop (
     let m = n + 1 + i in
     let far : m < length hs = grind (arith, length-drop (n + 1) hs, inside) in
     let at : get_or (drop (n + 1) hs) i d ≡ get_or hs m 0 = get_or-drop (n + 1) hs i d ∙ get_or_default hs m d 0 far in
-    let apart : is_among (get_or hs m 0) (take m hs) ≡ false = are.once m far in
+    let apart : is_among (get_or hs m 0) (take m hs) ≡ false = (home_facts are).once m far in
     let equal : get_or (take m hs) n 0 ≡ get_or hs m 0 = get_or-take m hs n 0 (omega arith) ∙ sym same ∙ at in
     both_ways _ apart (list_any_at (λ h. h == get_or hs m 0) (take m hs) n 0 (omega (arith, length-take-le m hs (omega (arith, far)))) (eq-eqb _ _ equal))))
 
@@ -194,7 +196,7 @@ wrote_home x c l n j = by_found (found c h) refl
     among = ap (is_among h) split ∙ ap (λ (t : Bool). t || is_among h rest) (eq-eqb h h refl)
 
     inside : h < length x
-    inside = omega (arith, j.log.places.within n lt, j.size)
+    inside = omega (arith, (home_facts j.log.places).within n lt, j.size)
 
     kept : (b : ℕ) → is_among b rest ≡ true → is_among b (drop n hs) ≡ true
     kept b e = ap (is_among b) split ∙ or_right (h == b) (is_among b rest) e
@@ -244,7 +246,7 @@ wrote_home x c l n j = by_found (found c h) refl
         ]
 
         far : 33 ≤ h
-        far = j.log.places.behind n lt
+        far = (home_facts j.log.places).behind n lt
 
         header : HasHeader y hs
         header = record {
@@ -289,50 +291,48 @@ wrote_next x c l h j busy head = by_phase l.commit j busy
     by_phase (commit.Homing n) j busy = wrote_home x c l n j
     by_phase commit.Clearing j busy = wrote_empty x c l j
 
--- one size, and the same blocks outside the log area
-pub record SameFiles (x y : Image) : Type 0 where
-  pub size : length y ≡ length x
-  pub low : (b : ℕ) → b < 2 → block_at y b ≡ block_at x b
-  pub high : (b : ℕ) → 33 ≤ b → block_at y b ≡ block_at x b
+-- a block outside the log is none of the log's
+pub outside_log : (a b : ℕ) → is_outside_log a ≡ true → 2 ≤ b → b < 33 → a ≢ b
+outside_log a b out far low same = ⊎_elim
+    (λ first. let lt : a < 2 = ltb-true a 2 first in omega (arith, lt, far, same))
+    (λ last. let lt : 32 < a = ltb-true 32 a last in omega (arith, lt, low, same))
+    (or_cases (ltb a 2) (ltb 32 a) out)
 
-files_low : (x : Image) (c : Buffers) (k : Commit) (l : LogState) (b : ℕ) (v : List ℕ) → JointAt k x c l → 2 ≤ b → b < 33 → SameFiles (seen x c) (seen (set x b v) c)
-files_low x c k l b v j far low =
+same_low : (x : Image) (c : Buffers) (k : Commit) (l : LogState) (b : ℕ) (v : List ℕ) → JointAt k x c l → 2 ≤ b → b < 33 → IsSameOutsideLog (seen x c) (seen (set x b v) c)
+same_low x c k l b v j far low =
     let cur = current_write x c b v (none_low c b j low) in
     record {
       size = ap length cur ∙ length-set (seen x c) b v;
-      low = λ a lt. ap (λ (z : Image). block_at z a) cur ∙ get_or-set_other (seen x c) b a v [] (λ e. omega (arith, e, lt, far));
-      high = λ a le. ap (λ (z : Image). block_at z a) cur ∙ get_or-set_other (seen x c) b a v [] (λ e. omega (arith, e, le, low));
+      agree = λ a out. ap (λ (z : Image). block_at z a) cur ∙ get_or-set_other (seen x c) b a v [] (outside_log a b out far low);
     }
 
--- a write of a commit changes nothing of the current image outside the log area
-pub wrote_current : (x : Image) (c : Buffers) (l : LogState) (h : List ℕ) → Joint x c l → SameFiles (seen x c) (seen (set x (place_at l.commit l.homes) (bytes_at l.commit l.homes h (seen x c))) (written_cache l.commit l.homes c))
-wrote_current x c l h j = by_phase l.commit j
+-- a write of a commit changes nothing of the current image outside the log
+pub write_current : (x : Image) (c : Buffers) (l : LogState) (h : List ℕ) → Joint x c l → IsSameOutsideLog (seen x c) (seen (set x (place_at l.commit l.homes) (bytes_at l.commit l.homes h (seen x c))) c)
+write_current x c l h j = by_phase l.commit j
   where
-    by_phase : (k : Commit) → JointAt k x c l → SameFiles (seen x c) (seen (set x (place_at k l.homes) (bytes_at k l.homes h (seen x c))) (written_cache k l.homes c))
-    by_phase commit.Quiet j = files_low x c commit.Quiet l 2 zero_block j (omega arith) (omega arith)
-    by_phase (commit.Logging n) j = files_low x c (commit.Logging n) l (3 + n) (block_at (seen x c) (slice_index l.homes n)) j (omega arith) (omega (arith, j.log.idle.1, j.log.room))
-    by_phase commit.Heading j = files_low x c commit.Heading l 2 h j (omega arith) (omega arith)
-    by_phase commit.Clearing j = files_low x c commit.Clearing l 2 zero_block j (omega arith) (omega arith)
-    by_phase (commit.Homing n) j = by_found (found c g) refl
-      where
-        g : ℕ
-        g = slice_index l.homes n
+    by_phase : (k : Commit) → JointAt k x c l → IsSameOutsideLog (seen x c) (seen (set x (place_at k l.homes) (bytes_at k l.homes h (seen x c))) c)
+    by_phase commit.Quiet j = same_low x c commit.Quiet l 2 zero_block j (omega arith) (omega arith)
+    by_phase (commit.Logging n) j = same_low x c (commit.Logging n) l (3 + n) (block_at (seen x c) (slice_index l.homes n)) j (omega arith) (omega (arith, j.log.idle.1, j.log.room))
+    by_phase commit.Heading j = same_low x c commit.Heading l 2 h j (omega arith) (omega arith)
+    by_phase commit.Clearing j = same_low x c commit.Clearing l 2 zero_block j (omega arith) (omega arith)
+    by_phase (commit.Homing n) j =
+        let g : ℕ = slice_index l.homes n in
+        let among : is_among g (drop n l.homes) ≡ true = ap (is_among g) (drop-cons l.homes n 0 j.log.idle.1) ∙ ap (λ (t : Bool). t || is_among g (drop (suc n) l.homes)) (eq-eqb g g refl) in
+        let at = j.cached g among in
+        let cur : seen (set x g (block_at (seen x c) g)) c ≡ seen x c = current_same_write x c at.0 g (block_at (seen x c) g) j.cache.once at.2 in
+        record { size = ap length cur; agree = λ a out. ap (λ (z : Image). block_at z a) cur }
 
-        y : Image
-        y = set x g (block_at (seen x c) g)
-
-        among : is_among g (drop n l.homes) ≡ true
-        among = ap (is_among g) (drop-cons l.homes n 0 j.log.idle.1) ∙ ap (λ (t : Bool). t || is_among g (drop (suc n) l.homes)) (eq-eqb g g refl)
-
-        by_found : (o : Option ℕ) → found c g ≡ o → SameFiles (seen x c) (seen y (unpinned_found c o))
-        by_found None e = absurd (let at = j.cached g among in both_ways (is_of g (buffer c at.0)) (none_found c g e at.0) (and_parts (buffer c at.0).valid (is_of g (buffer c at.0)) at.2).1)
-        by_found (Some i) e =
-            let is = some_found c g i e in
-            let at = j.cached g among in
-            let same : at.0 ≡ i = j.cache.once.same at.0 i g (and_parts (buffer c at.0).valid (is_of g (buffer c at.0)) at.2).1 is.1 in
-            let here : shows g (buffer c i) ≡ true = ap (λ (m : ℕ). shows g (buffer c m)) (sym same) ∙ at.2 in
-            let cur : seen y (unpinned c i) ≡ seen x c = current_kept y c i (record (buffer c i) { pins = (buffer c i).pins - 1 }) refl refl refl ∙ current_same_write x c i g (block_at (seen x c) g) j.cache.once here in
-            record { size = ap length cur; low = λ b lt. ap (λ (z : Image). block_at z b) cur; high = λ b le. ap (λ (z : Image). block_at z b) cur }
+-- nor does what it unpins
+pub unpinned_current : (k : Commit) (hs : List ℕ) (y : Image) (c : Buffers) → seen y (written_cache k hs c) ≡ seen y c
+unpinned_current commit.Quiet hs y c = refl
+unpinned_current (commit.Logging n) hs y c = refl
+unpinned_current commit.Heading hs y c = refl
+unpinned_current commit.Clearing hs y c = refl
+unpinned_current (commit.Homing n) hs y c = by_found (found c (slice_index hs n))
+  where
+    by_found : (o : Option ℕ) → seen y (unpinned_found c o) ≡ seen y c
+    by_found None = refl
+    by_found (Some i) = current_kept y c i (record (buffer c i) { pins = (buffer c i).pins - 1 }) refl refl refl
 
 -- the log alone after a write
 pub log_logging : (l : LogState) (n : ℕ) (k : Commit) → IsLogAt l.commit l → l.commit ≡ commit.Logging n → k ≡ cond (n + 1 == length l.homes) commit.Heading (commit.Logging (n + 1)) → IsLogAt k (record l { commit = k })

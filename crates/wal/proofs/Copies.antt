@@ -10,7 +10,7 @@ use Rattle.model.specs.Fields.{u32_at, words_of}
 use Rattle.model.specs.Log.{logged_count, homes_of, is_lawful_log, are_distinct, recovered, recovered_block, block_from_log, place_among}
 use Rattle.model.specs.Laws.{is_home}
 use Rattle.model.proofs.LogLemmas.{both_of, recovered_at, recovered_block-header, length-recovered, zero_header}
-use Rattle.model.proofs.RecoveryLemmas.{AgreesBesides, place_below, home_of_log, homes_are_rewritten}
+use Rattle.model.proofs.RecoveryLemmas.{AgreesBesides, place_below, home_of_log, homes_are_rewritten, is_lawful_log-besides}
 use Rattle.model.proofs.Words.{word_below}
 use Rattle.wal.specs.Recovery.{HasCopied, RecoversAs, copied_block}
 
@@ -68,7 +68,13 @@ pub same_besides : (x : Image) → SameBesides x x
 same_besides x = record { size = refl; agree = λ b other. refl }
 
 pub recovers_besides : (x y : Image) → is_lawful_log x ≡ true → SameBesides x y → RecoversAs x y
-recovers_besides x y lawful same = homes_are_rewritten x y lawful same.size same.agree
+recovers_besides x y lawful same = record {
+  image = homes_are_rewritten x y lawful same.size same.agree;
+  lawful = is_lawful_log-besides x y lawful same.size same.agree ∙ sym lawful;
+}
+
+pub recovers_same : (x y : Image) → y ≡ x → RecoversAs x y
+recovers_same x y is = record { image = ap recovered is; lawful = ap is_lawful_log is }
 
 -- the k-th home
 abbrev pub home_at : Image → ℕ → ℕ

@@ -11,6 +11,7 @@ use Rattle.model.specs.declared.types.Why.TheVariants.{LogFull}
 use Rattle.model.specs.Waiting.{log_cause, is_log_full}
 use Rattle.wal.specs.declared.types.Commit.{Commit}
 use Rattle.wal.specs.declared.types.Commit.TheVariants as commit
+use Rattle.wal.proofs.LawfulLogs.{home_facts, are_homes}
 use Rattle.wal.specs.Machine.{LogState, AreHomes, IsLogAt, is_quiet, is_among, begin_cause, used_by, begun, HasRoom, one_used, appended, left_by, unused, ten, new_log}
 
 -- a beginning is let in only while no commit is under way and the log has room
@@ -58,7 +59,7 @@ log_begun l p is fits lt none =
 
 -- the homes after one more
 homes_more : (size : ℕ) (hs : List ℕ) (b : ℕ) → AreHomes size hs → 33 ≤ b → b < size → is_among b hs ≡ false → AreHomes size (hs ++ b ∷ [])
-homes_more size hs b are low high out = record {
+homes_more size hs b known low high out = let are = home_facts known in are_homes size (hs ++ b ∷ []) (record {
   behind = λ k lt. elim (cases_lt k (length hs)) [
     | inl inside ↦ let old = are.behind k inside in grind (arith, common_steps, old)
     | inr last ↦ grind (arith, common_steps, low, lt)
@@ -76,7 +77,7 @@ homes_more size hs b are low high out = record {
         let at : get_or (hs ++ b ∷ []) k 0 ≡ b = grind (arith, common_steps, all) in
         ap₂ (λ (n : ℕ) (l : List ℕ). is_among n l) at (ap (λ (n : ℕ). take n (hs ++ b ∷ [])) all ∙ take-append_seam hs (b ∷ [])) ∙ out
   ];
-}
+})
 
 pub some_open : (o : Option ℕ) → IsSome o → (u : ℕ) × (o ≡ Some u)
 some_open None some = absurd (cc some)
@@ -188,7 +189,7 @@ log_closed l p is lt held last some =
     }
 
 pub no_homes : (size : ℕ) → AreHomes size []
-no_homes size = record { behind = λ k lt. absurd (omega (arith, lt)); within = λ k lt. absurd (omega (arith, lt)); once = λ k lt. absurd (omega (arith, lt)) }
+no_homes size = record { in_place = refl; distinct = refl }
 
 pub log_new : (size : ℕ) (homes : List ℕ) → 33 ≤ size → size < 2 ^ 32 → homes ≡ [] → IsLogAt commit.Quiet (record (new_log size) { homes = homes })
 log_new size homes big small none = subst (λ (hs : List ℕ). IsLogAt commit.Quiet (record (new_log size) { homes = hs })) (sym none) (record {
@@ -209,3 +210,16 @@ log_opened l m p g is same free lt none group =
     subst (λ (n : ℕ). IsLogAt l.commit (record (begun l p) { opened = n })) (sym group)
     (subst (λ (k : Commit). IsLogAt k (begun l p)) (sym quiet.0)
     (log_begun l p (subst (λ (k : Commit). IsLogAt k l) quiet.0 is) quiet.1 lt (ap (λ (n : LogState). used_by n p) same ∙ none)))
+
+-- a home more, as the code has it
+pub log_noted : (l m : LogState) (p b : ℕ) (hs : List ℕ) (o : Option ℕ) → IsLogAt l.commit l → l ≡ m → p < 32 → HasRoom (used_by m p) → 33 ≤ b → b < m.size → is_among b m.homes ≡ false
+    → hs ≡ l.homes ++ b ∷ [] → o ≡ one_used (used_by l p) → IsLogAt l.commit (record l { homes = hs; used = set l.used p o })
+log_noted l m p b hs o is same lt room low high out homes used =
+    let room_now : HasRoom (used_by l p) = subst (λ (n : LogState). HasRoom (used_by n p)) (sym same) room in
+    let had = room_of (used_by l p) room_now in
+    let quiet = quiet_of l.commit l is (is_open l l.commit p had.0 is lt had.1) in
+    let size : l.size ≡ m.size = ap (λ (n : LogState). n.size) same in
+    let after : IsLogAt commit.Quiet (appended l p b) = log_appended l p b (subst (λ (k : Commit). IsLogAt k l) quiet is) lt room_now low (omega (arith, high, size)) (ap (λ (n : LogState). is_among b n.homes) same ∙ out) in
+    subst (λ (gs : List ℕ). IsLogAt l.commit (record l { homes = gs; used = set l.used p o })) (sym homes)
+    (subst (λ (q : Option ℕ). IsLogAt l.commit (record l { homes = l.homes ++ b ∷ []; used = set l.used p q })) (sym used)
+    (subst (λ (k : Commit). IsLogAt k (appended l p b)) (sym quiet) after))

@@ -1,7 +1,7 @@
 -- What recovery gives in each phase of a commit.
-use Rattle.std.proofs.Common.{◌≡◌, ◌≢◌, inl, inr, ℕ, zero, suc, ◌+◌, ◌<◌, ◌≤◌, false, List, [], ◌∷◌, length, set, refl, sym, ◌∙◌, ap, arith, length-set, Option, Some, None}
+use Rattle.std.proofs.Common.{◌≡◌, ◌≢◌, ⊎_elim, inl, inr, ℕ, zero, suc, ◌+◌, ◌<◌, ◌≤◌, ltb, false, List, [], ◌∷◌, length, set, refl, sym, ◌∙◌, ap, subst, arith, length-set, Option, Some, None}
 use Rattle.std.specs.Prelude.{slice_index}
-use Rattle.std.proofs.lemmas.Bool.{cases_eq, cases_lt}
+use Rattle.std.proofs.lemmas.Bool.{cases_eq, cases_lt, ltb-true, or_cases}
 use Rattle.std.proofs.lemmas.List.{get_or-set_same, get_or-set_other, ext_get_or, set-set}
 use Rattle.std.proofs.Math.Seq.{drop-length}
 use Rattle.blocks.specs.Block.{zero_block}
@@ -12,6 +12,7 @@ use Rattle.bcache.proofs.Shown.{length-current}
 use Rattle.wal.specs.declared.types.Commit.{Commit}
 use Rattle.wal.specs.declared.types.Commit.TheVariants as commit
 use Rattle.model.specs.Log.{logged_count, recovered}
+use Rattle.wal.proofs.LawfulLogs.{home_facts}
 use Rattle.wal.specs.Machine.{is_among, AreHomes}
 use Rattle.wal.specs.Joint.{IsHeader}
 use Rattle.wal.specs.Machine.{LogState}
@@ -21,16 +22,29 @@ use Rattle.model.specs.Log.{block_from_log, place_among}
 use Rattle.model.proofs.LogLemmas.{recovered_empty, recovered_at, recovered_block-header, length-recovered}
 use Rattle.model.proofs.RecoveryLemmas.{place_below, no_place}
 use Rattle.wal.proofs.Copies.{none_cleared, not_header, home_of_place}
-use Rattle.wal.proofs.Commits.{home_far, header_read, logged-same, homes-same, among_drop}
+use Rattle.wal.proofs.Commits.{home_far, outside_log, header_read, logged-same, homes-same, among_drop}
 
 pub but_log_same : (x y : Image) → x ≡ y → SameButLog x y
-but_log_same x y is = record { size = ap length (sym is); low = λ b lt. ap (λ (z : Image). block_at z b) (sym is); high = λ b le. ap (λ (z : Image). block_at z b) (sym is) }
+but_log_same x y is = subst (SameButLog x) is (record { outside = record { size = refl; agree = λ b out. refl }; header = refl })
 
 pub but_log_back : (x y : Image) → SameButLog x y → SameButLog y x
-but_log_back x y s = record { size = sym s.size; low = λ b lt. sym (s.low b lt); high = λ b le. sym (s.high b le) }
+but_log_back x y s = record { outside = record { size = sym s.outside.size; agree = λ b out. sym (s.outside.agree b out) }; header = sym s.header }
 
 pub but_log_then : (x y z : Image) → SameButLog x y → SameButLog y z → SameButLog x z
-but_log_then x y z s t = record { size = t.size ∙ s.size; low = λ b lt. t.low b lt ∙ s.low b lt; high = λ b le. t.high b le ∙ s.high b le }
+but_log_then x y z s t = record { outside = record { size = t.outside.size ∙ s.outside.size; agree = λ b out. t.outside.agree b out ∙ s.outside.agree b out }; header = t.header ∙ s.header }
+
+-- the blocks below 3, and those from 33 on
+same_but_log : (x y : Image) → length y ≡ length x → ((b : ℕ) → b < 3 → block_at y b ≡ block_at x b) → ((b : ℕ) → 33 ≤ b → block_at y b ≡ block_at x b) → SameButLog x y
+same_but_log x y size low high = record {
+  outside = record {
+    size = size;
+    agree = λ b out. ⊎_elim
+        (λ first. let lt : b < 2 = ltb-true b 2 first in low b (omega (arith, lt)))
+        (λ last. let lt : 32 < b = ltb-true 32 b last in high b (omega (arith, lt)))
+        (or_cases (ltb b 2) (ltb 32 b) out);
+  };
+  header = low 2 (omega arith);
+}
 
 past_end : (x : Image) (b : ℕ) → length x ≤ b → block_at x b ≡ []
 past_end [] b le = refl
@@ -45,20 +59,18 @@ from_log_current x cur hs b None some none = none refl
 -- what recovery gives once the header is written
 pub after_header : (size : ℕ) (x cur : Image) (hs : List ℕ) → length x ≡ size → 33 ≤ size → AreHomes size hs → 0 < length hs → HasHeader x hs → Logs (length hs) x cur hs → length cur ≡ length x
     → ((b : ℕ) → is_among b hs ≡ false → block_at cur b ≡ block_at x b) → SameButLog (set cur 2 zero_block) (recovered x)
-after_header size x cur hs len big are some head logs same clean = record {
-  size = length-recovered x ∙ sym same ∙ sym (length-set cur 2 zero_block);
-  low = λ b lt. elim (cases_eq b 2) [
-    | inl two ↦
-        ap (block_at (recovered x)) two ∙ recovered_at x 2 there (omega (arith, len, big)) ∙ recovered_block-header x
-        ∙ sym (ap (block_at (set cur 2 zero_block)) two ∙ get_or-set_same cur 2 zero_block [] (omega (arith, same, len, big)))
-    | inr other ↦ at b other (omega (arith, lt, len, big))
-  ];
-  high = λ b le. elim (cases_lt b (length x)) [
-    | inl lt ↦ at b (λ two. omega (arith, two, le)) lt
-    | inr out ↦
-        past_end (recovered x) b (omega (arith, length-recovered x, out)) ∙ sym (past_end (set cur 2 zero_block) b (omega (arith, length-set cur 2 zero_block, same, out)))
-  ];
-}
+after_header size x cur hs len big are some head logs same clean = same_but_log (set cur 2 zero_block) (recovered x) (length-recovered x ∙ sym same ∙ sym (length-set cur 2 zero_block))
+    (λ b lt. elim (cases_eq b 2) [
+      | inl two ↦
+          ap (block_at (recovered x)) two ∙ recovered_at x 2 there (omega (arith, len, big)) ∙ recovered_block-header x
+          ∙ sym (ap (block_at (set cur 2 zero_block)) two ∙ get_or-set_same cur 2 zero_block [] (omega (arith, same, len, big)))
+      | inr other ↦ at b other (omega (arith, lt, len, big))
+    ])
+    (λ b le. elim (cases_lt b (length x)) [
+      | inl lt ↦ at b (λ two. omega (arith, two, le)) lt
+      | inr out ↦
+          past_end (recovered x) b (omega (arith, length-recovered x, out)) ∙ sym (past_end (set cur 2 zero_block) b (omega (arith, length-set cur 2 zero_block, same, out)))
+    ])
   where
     there : logged_count x ≢ 0
     there none = omega (arith, none, head.count, some)
@@ -84,21 +96,20 @@ committed_at commit.Clearing x c l j = after_header l.size x (seen x c) l.homes 
 
 -- a write to a log block
 but_log_write : (x : Image) (n : ℕ) (v : List ℕ) → n < 30 → SameButLog x (set x (3 + n) v)
-but_log_write x n v few = record {
-  size = length-set x (3 + n) v;
-  low = λ b lt. get_or-set_other x (3 + n) b v [] (λ e. omega (arith, e, lt));
-  high = λ b le. get_or-set_other x (3 + n) b v [] (λ e. omega (arith, e, le, few));
-}
+but_log_write x n v few = same_but_log x (set x (3 + n) v) (length-set x (3 + n) v)
+    (λ b lt. get_or-set_other x (3 + n) b v [] (λ e. omega (arith, e, lt)))
+    (λ b le. get_or-set_other x (3 + n) b v [] (λ e. omega (arith, e, le, few)))
 
 -- images that are the same but for a block in the log area stay so with the same block 2
 but_log_two : (x y : Image) (v : List ℕ) → SameButLog x y → 2 < length x → SameButLog (set x 2 v) (set y 2 v)
 but_log_two x y v s big = record {
-  size = length-set y 2 v ∙ s.size ∙ sym (length-set x 2 v);
-  low = λ b lt. elim (cases_eq b 2) [
-    | inl two ↦ ap (block_at (set y 2 v)) two ∙ get_or-set_same y 2 v [] (omega (arith, s.size, big)) ∙ sym (ap (block_at (set x 2 v)) two ∙ get_or-set_same x 2 v [] big)
-    | inr other ↦ get_or-set_other y 2 b v [] other ∙ s.low b lt ∙ sym (get_or-set_other x 2 b v [] other)
-  ];
-  high = λ b le. get_or-set_other y 2 b v [] (λ e. omega (arith, e, le)) ∙ s.high b le ∙ sym (get_or-set_other x 2 b v [] (λ e. omega (arith, e, le)));
+  outside = record {
+    size = length-set y 2 v ∙ s.outside.size ∙ sym (length-set x 2 v);
+    agree = λ b out.
+        let other : b ≢ 2 = outside_log b 2 out (omega arith) (omega arith) in
+        get_or-set_other y 2 b v [] other ∙ s.outside.agree b out ∙ sym (get_or-set_other x 2 b v [] other);
+  };
+  header = get_or-set_same y 2 v [] (omega (arith, s.outside.size, big)) ∙ sym (get_or-set_same x 2 v [] big);
 }
 
 -- A write of a commit: outside the log blocks recovery gives the same, but for the header, and then the current image with an empty header.
@@ -136,8 +147,8 @@ kept_write x c l h joint busy head = by_phase l.commit joint busy
         let v = block_at cur g in
         let y = set x g v in
         let lt : n < length l.homes = j.log.idle.1 in
-        let far : 33 ≤ g = j.log.places.behind n lt in
-        let inside : g < length x = omega (arith, j.log.places.within n lt, j.size) in
+        let far : 33 ≤ g = (home_facts j.log.places).behind n lt in
+        let inside : g < length x = omega (arith, (home_facts j.log.places).within n lt, j.size) in
         let two : block_at y 2 ≡ block_at x 2 = get_or-set_other x g 2 v [] (λ e. omega (arith, e, far)) in
         let whole = after_header l.size y cur l.homes (length-set x g v ∙ j.size) j.log.big j.log.places (omega (arith, lt))
         (record { count = logged-same x y two ∙ j.phase.0.count; each = homes-same x y two ∙ j.phase.0.each })
@@ -152,7 +163,7 @@ kept_write x c l h joint busy head = by_phase l.commit joint busy
         let y = set x 2 zero_block in
         let big : 2 < length x = omega (arith, j.size, j.log.big) in
         let same : (b : ℕ) → block_at x b ≡ block_at cur b = λ b. sym (j.clean b (ap (is_among b) (drop-length l.homes))) in
-        let both : SameButLog cur x = record { size = sym (length-current x c); low = λ b lt. same b; high = λ b le. same b } in
+        let both : SameButLog cur x = record { outside = record { size = sym (length-current x c); agree = λ b out. same b }; header = same 2 } in
         but_log_then (recovered x) (set cur 2 zero_block) (recovered y) (but_log_back _ _ (committed_at commit.Clearing x c l j))
         (but_log_then (set cur 2 zero_block) y (recovered y) (but_log_two cur x zero_block both (omega (arith, length-current x c, big))) (but_log_same y (recovered y) (sym (recovered_empty y (none_cleared x big)))))
 

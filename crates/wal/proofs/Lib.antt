@@ -1,3 +1,4 @@
+pub mod LawfulLogs
 pub mod Copies
 pub mod Groups
 pub mod Recoveries
@@ -9,3 +10,4 @@ pub mod Sources
 pub mod Stepping
 pub mod Uses
 pub mod Opens
+pub mod Volumes

@@ -1,5 +1,5 @@
 -- Disk, buffers and log together at the start, and after a read that failed.
-use Rattle.std.proofs.Common.{◌≡◌, inl, inr, ℕ, ◌^◌, ◌<◌, ◌≤◌, ◌&&◌, false, List, [], length, replicate, refl, sym, ◌∙◌, ap, arith}
+use Rattle.std.proofs.Common.{◌≡◌, inl, inr, ℕ, ◌^◌, ◌<◌, ◌≤◌, ◌&&◌, false, List, [], length, replicate, refl, sym, ◌∙◌, ap, subst, arith}
 use Rattle.std.proofs.lemmas.Bool.{cases_lt, false≢true}
 use Rattle.std.proofs.lemmas.List.{get_or-replicate, get_or_past, length-replicate}
 use Rattle.blocks.specs.Disk.{Image, block_at}
@@ -39,6 +39,12 @@ joint_new x size same big small none = record {
   clean = λ b out. ap (λ (z : Image). block_at z b) (fresh_seen x);
   phase = none;
 }
+
+-- the same, of what is handed in
+pub joint_opened : (x : Image) (c : Buffers) (l : LogState) → c ≡ fresh → l ≡ new_log (length x) → 33 ≤ l.size → l.size < 2 ^ 32 → logged_count x ≡ 0 → Joint x c l
+joint_opened x c l are is big small none =
+    let size : l.size ≡ length x = ap (λ (m : LogState). m.size) is in
+    subst (λ (e : Buffers). Joint x e l) (sym are) (subst (λ (m : LogState). Joint x fresh m) (sym is) (joint_new x (length x) refl (omega (arith, size, big)) (omega (arith, size, small)) none))
 
 -- so it is after a recovery
 pub joint_recovered : (x : Image) (size : ℕ) → length x ≡ size → 33 ≤ size → size < 2 ^ 32 → Joint (recovered x) fresh (new_log size)

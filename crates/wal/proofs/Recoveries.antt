@@ -6,11 +6,12 @@ use Rattle.std.proofs.lemmas.Option.{get_or_from_slice_get}
 use Rattle.blocks.specs.Block.{zero_block, IsBlock}
 use Rattle.blocks.specs.Disk.{Image, block_at, IsOldOrNew, LeavesOldOrNew, IsSettled, AddsNone, Elapses, LeavesOnly}
 use Rattle.blocks.proofs.Moments.{started, stays, goes_on, joined}
-use Rattle.model.specs.Log.{logged_in, homes_in, logged_count, homes_of, is_lawful_log, are_in_place, are_distinct, recovered}
+use Rattle.model.specs.Log.{logged_in, homes_in, logged_count, homes_of, is_lawful_log, are_in_place, are_distinct}
 use Rattle.model.proofs.LogLemmas.{both_of, recovered_empty}
 use Rattle.model.proofs.RecoveryLemmas.{few_homes}
 use Rattle.wal.specs.Recovery.{HasCopied, RecoversAs}
-use Rattle.wal.proofs.Copies.{SameBesides, home_at, besides_copied, besides_old_or_new, recovers_besides, copied_more, low_stays, cleared, none_cleared, length-homes_of}
+use Rattle.wal.proofs.Copies.{SameBesides, home_at, besides_copied, besides_old_or_new, recovers_besides, recovers_same, copied_more, low_stays, cleared, none_cleared, length-homes_of}
+use Rattle.wal.proofs.LawfulLogs.{empty_lawful}
 
 -- the header that was read
 pub header_read : (x : Image) (bytes : List ℕ) → slice_get x 2 ≡ Some bytes → block_at x 2 ≡ bytes
@@ -53,12 +54,26 @@ copy_step x y z k home v lawful lt is copied read written =
 pub clear_recovers : (x y z : Image) → 33 ≤ length x → is_lawful_log x ≡ true → logged_count x ≢ 0 → HasCopied (length (homes_of x)) x y →
     IsOldOrNew y 2 zero_block z → RecoversAs x z
 clear_recovers x y z long lawful some copied (inl is) =
-    ap recovered is ∙ recovers_besides x y lawful (besides_copied x y (length (homes_of x)) copied)
+    subst (RecoversAs x) (sym is) (recovers_besides x y lawful (besides_copied x y (length (homes_of x)) copied))
 clear_recovers x y z long lawful some copied (inr is) =
-    ap recovered is ∙ recovered_empty (set y 2 zero_block) (none_cleared y (omega (arith, copied.size))) ∙ cleared x y (omega arith) some copied
+    let none = none_cleared y (omega (arith, copied.size)) in
+    subst (RecoversAs x) (sym is) (record {
+      image = recovered_empty (set y 2 zero_block) none ∙ cleared x y (omega arith) some copied;
+      lawful = empty_lawful (set y 2 zero_block) none ∙ sym lawful;
+    })
 
 -- a recovery from its start until the header's clearing was tried
 module _ {D : Type 0} (image : D → Image) (moment : D → ℕ) (leaves : D → ℕ → Image → Type 0) where
+  -- up to the copying's end
+  pub recovery_copies : ((d : D) → IsSettled (image d) (leaves d (moment d))) → (old read mid : D) → image read ≡ image old →
+      AddsNone (moment old) (moment read) (leaves old) (leaves read) → LeavesOnly moment leaves read mid (RecoversAs (image read)) →
+      LeavesOnly moment leaves old mid (RecoversAs (image old))
+  recovery_copies settled old read mid same reading copying =
+      let x = image old in
+      let start = started moment leaves old (RecoversAs x) (λ z crash. recovers_same x z (settled old z crash)) in
+      let first = stays moment leaves old old read (RecoversAs x) start reading in
+      joined moment leaves old read mid (RecoversAs x) first (subst (λ (z : Image). LeavesOnly moment leaves read mid (RecoversAs z)) same copying)
+
   pub recovery_ends : ((d : D) → IsSettled (image d) (leaves d (moment d))) → (old read mid new : D) → 33 ≤ length (image old) →
       is_lawful_log (image old) ≡ true → logged_count (image old) ≢ 0 → image read ≡ image old →
       AddsNone (moment old) (moment read) (leaves old) (leaves read) →
@@ -68,9 +83,6 @@ module _ {D : Type 0} (image : D → Image) (moment : D → ℕ) (leaves : D →
       LeavesOnly moment leaves old new (RecoversAs (image old))
   recovery_ends settled old read mid new long lawful some same reading copied copying written time =
       let x = image old in
-      let start = started moment leaves old (RecoversAs x) (λ z crash. ap recovered (settled old z crash)) in
-      let first = stays moment leaves old old read (RecoversAs x) start reading in
-      let second : LeavesOnly moment leaves read mid (RecoversAs x) = subst (λ (z : Image). LeavesOnly moment leaves read mid (RecoversAs z)) same copying in
-      let home = joined moment leaves old read mid (RecoversAs x) first second in
+      let home = recovery_copies settled old read mid same reading copying in
       goes_on moment leaves old mid new (RecoversAs x) home time
-      (λ z crash. ap recovered (settled new z crash) ∙ clear_recovers x (image mid) (image new) long lawful some copied written)
+      (λ z crash. subst (RecoversAs x) (sym (settled new z crash)) (clear_recovers x (image mid) (image new) long lawful some copied written))

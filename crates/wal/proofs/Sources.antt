@@ -15,6 +15,7 @@ use Rattle.bcache.proofs.Slots.{none_found, some_found, block_is}
 use Rattle.bcache.proofs.Shown.{current_at, slot_shows}
 use Rattle.wal.specs.declared.types.Commit.{Commit}
 use Rattle.wal.specs.declared.types.Commit.TheVariants as commit
+use Rattle.wal.proofs.LawfulLogs.{home_facts}
 use Rattle.wal.specs.Machine.{is_among}
 use Rattle.wal.specs.Machine.{LogState, IsLogAt, is_quiet}
 use Rattle.wal.specs.Joint.{JointAt, Joint, live_at, pins_of, place_at, bytes_at, source_at, bytes_found, HasPin, IsPinned, IsHeader}
@@ -46,9 +47,9 @@ source_current x c l h j = by_phase l.commit j
   where
     by_phase : (k : Commit) → JointAt k x c l → source_at k l.homes h c ≡ bytes_at k l.homes h (seen x c)
     by_phase commit.Quiet j = refl
-    by_phase (commit.Logging n) j = live_bytes (commit.Logging n) x c l (slice_index l.homes n) j (list_any_at (λ g. g == slice_index l.homes n) l.homes n 0 j.log.idle.1 (eq-eqb _ _ refl)) (j.log.places.within n j.log.idle.1)
+    by_phase (commit.Logging n) j = live_bytes (commit.Logging n) x c l (slice_index l.homes n) j (list_any_at (λ g. g == slice_index l.homes n) l.homes n 0 j.log.idle.1 (eq-eqb _ _ refl)) ((home_facts j.log.places).within n j.log.idle.1)
     by_phase commit.Heading j = refl
-    by_phase (commit.Homing n) j = live_bytes (commit.Homing n) x c l (slice_index l.homes n) j (home_live l.homes n j.log.idle.1) (j.log.places.within n j.log.idle.1)
+    by_phase (commit.Homing n) j = live_bytes (commit.Homing n) x c l (slice_index l.homes n) j (home_live l.homes n j.log.idle.1) ((home_facts j.log.places).within n j.log.idle.1)
     by_phase commit.Clearing j = refl
 
 pub place_inside : (x : Image) (c : Buffers) (l : LogState) → Joint x c l → place_at l.commit l.homes < length x
@@ -58,7 +59,7 @@ place_inside x c l j = by_phase l.commit j
     by_phase commit.Quiet j = omega (arith, j.size, j.log.big)
     by_phase (commit.Logging n) j = omega (arith, j.size, j.log.big, j.log.idle.1, j.log.room)
     by_phase commit.Heading j = omega (arith, j.size, j.log.big)
-    by_phase (commit.Homing n) j = omega (arith, j.log.places.within n j.log.idle.1, j.size)
+    by_phase (commit.Homing n) j = omega (arith, (home_facts j.log.places).within n j.log.idle.1, j.size)
     by_phase commit.Clearing j = omega (arith, j.size, j.log.big)
 
 pub is_pinned : (x : Image) (c : Buffers) (l : LogState) → Joint x c l → IsPinned l.commit l.homes c
@@ -94,7 +95,7 @@ pub log_header : (k : Commit) (l : LogState) → IsLogAt k l → IsHeader (heade
 log_header k l is =
     let few : length l.homes ≤ 30 = omega (arith, is.room) in
     let words : (i : ℕ) → get_or l.homes i 0 < 2 ^ 32 = λ i. elim (cases_lt i (length l.homes)) [
-      | inl lt ↦ let within = is.places.within i lt in omega (arith, within, is.small)
+      | inl lt ↦ let within = (home_facts is.places).within i lt in omega (arith, within, is.small)
       | inr past ↦ let none = get_or_past l.homes i 0 past in omega arith
     ] in
     record { count = logged_in-header_block l.homes few words; each = homes_in-header_block l.homes few words }

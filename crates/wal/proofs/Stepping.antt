@@ -1,12 +1,12 @@
 -- One step of a commit, from what its parts do.
-use Rattle.std.proofs.Common.{◌≡◌, ◌≢◌, inl, inr, ⊎_elim, ℕ, false, List, set, refl, sym, ◌∙◌, ap, subst}
+use Rattle.std.proofs.Common.{◌≡◌, ◌≢◌, inl, inr, ⊎_elim, ℕ, true, false, List, set, refl, sym, ◌∙◌, ap, subst}
 use Rattle.blocks.specs.Disk.{Image, IsOldOrNew, LeavesOldOrNew, IsSettled}
 use Rattle.bcache.specs.Buffers.{Buffers}
 use Rattle.wal.specs.Joint.{seen}
 use Rattle.wal.specs.declared.types.Commit.{Commit}
 use Rattle.wal.specs.declared.types.Commit.TheVariants as commit
 use Rattle.wal.specs.declared.types.Committed.{Committed}
-use Rattle.model.specs.Log.{recovered}
+use Rattle.model.specs.Log.{is_lawful_log, recovered}
 use Rattle.wal.specs.Joint.{IsHeader}
 use Rattle.wal.specs.Machine.{LogState, is_quiet}
 use Rattle.wal.specs.Joint.{Joint, place_at, bytes_at, source_at, written_at, written_cache}
@@ -15,6 +15,7 @@ use Rattle.wal.specs.Step.{Stepped, Faulted, CommitsTo, answer_at}
 use Rattle.wal.proofs.Commits.{wrote_next}
 use Rattle.wal.proofs.Kept.{kept_write}
 use Rattle.wal.proofs.Sources.{source_current, not_quiet}
+use Rattle.wal.proofs.Uses.{joint_lawful}
 
 pub stepped : (h : List ℕ) (x : Image) (c : Buffers) (l : LogState) (y : Image) (d : Buffers) (m : LogState) → Joint x c l → is_quiet l.commit ≡ false → IsHeader h l.homes
     → y ≡ set x (place_at l.commit l.homes) (source_at l.commit l.homes h c) → d ≡ written_cache l.commit l.homes c → m ≡ written_at l.commit l → Stepped h x c l y d m
@@ -51,6 +52,19 @@ commits_to k g r made failed busy is done = subst (λ (a : Committed). CommitsTo
 pub crash_step : (h : List ℕ) (x : Image) (c : Buffers) (l : LogState) (old new : Image → Type 0) → Joint x c l → LeavesOldOrNew (place_at l.commit l.homes) (source_at l.commit l.homes h c) old new
     → LeavesOldOrNew (place_at l.commit l.homes) (bytes_at l.commit l.homes h (seen x c)) old new
 crash_step h x c l old new j crash = subst (λ (b : List ℕ). LeavesOldOrNew (place_at l.commit l.homes) b old new) (source_current x c l h j) crash
+
+-- the log of what a crash leaves
+pub crash_lawful : (h : List ℕ) (x : Image) (c : Buffers) (l : LogState) (old new : Image → Type 0) → Joint x c l → is_quiet l.commit ≡ false → IsHeader h l.homes → IsSettled x old
+    → LeavesOldOrNew (place_at l.commit l.homes) (source_at l.commit l.homes h c) old new → (z : Image) → new z → is_lawful_log z ≡ true
+crash_lawful h x c l old new j busy head settled crash z left =
+    let before = crash_step h x c l old new j crash z left in
+    let same : before.0 ≡ x = settled before.0 before.1 in
+    let y : Image = set x (place_at l.commit l.homes) (bytes_at l.commit l.homes h (seen x c)) in
+    ⊎_elim
+    (λ stays. ap is_lawful_log (stays ∙ same) ∙ joint_lawful x c l j)
+    (λ written. ap is_lawful_log (written ∙ ap (λ (w : Image). set w (place_at l.commit l.homes) (bytes_at l.commit l.homes h (seen x c))) same)
+    ∙ joint_lawful y (written_cache l.commit l.homes c) (written_at l.commit l) (wrote_next x c l h j (not_quiet l.commit busy) head))
+    before.2
 
 -- what a crash leaves that keeps what is committed
 pub crash_keeps : (h : List ℕ) (x : Image) (c : Buffers) (l : LogState) (old new : Image → Type 0) → Joint x c l → is_quiet l.commit ≡ false → IsHeader h l.homes → IsSettled x old

@@ -15,9 +15,23 @@ use Rattle.wal.specs.Machine.{is_among}
 use Rattle.model.specs.declared.types.Why.{Why}
 use Rattle.wal.specs.Machine.{LogState, HasRoom, appended, noted, noted_cache, used_by, begin_cause, begun, after_begin, after_begin_by, ended}
 use Rattle.wal.specs.Joint.{JointAt, Joint}
+use Rattle.model.specs.Log.{is_lawful_log}
+use Rattle.wal.proofs.LawfulLogs.{empty_lawful, header_lawful}
+use Rattle.wal.proofs.Commits.{few_homes}
 use Rattle.wal.proofs.Joins.{joint_locked, joint_taken, joint_changed}
 use Rattle.wal.proofs.Notes.{joint_noted, joint_begun, joint_ended}
 use Rattle.wal.proofs.Groups.{room_of, some_open, is_open, quiet_of}
+
+-- between any two calls the disk's log is lawful
+pub joint_lawful : (x : Image) (c : Buffers) (l : LogState) → Joint x c l → is_lawful_log x ≡ true
+joint_lawful x c l j = by_phase l.commit j
+  where
+    by_phase : (k : Commit) → JointAt k x c l → is_lawful_log x ≡ true
+    by_phase commit.Quiet j = empty_lawful x j.phase
+    by_phase (commit.Logging n) j = empty_lawful x j.phase.0
+    by_phase commit.Heading j = empty_lawful x j.phase.0
+    by_phase (commit.Homing n) j = header_lawful x l.size l.homes j.size (few_homes j.log) j.log.places j.phase.0
+    by_phase commit.Clearing j = header_lawful x l.size l.homes j.size (few_homes j.log) j.log.places j.phase.0
 
 -- a block is logged, and then its bytes are changed: the current image changes in that block alone
 pub joint_used : {x : Image} (c e d : Buffers) (l m : LogState) (p i b : ℕ) (bytes : List ℕ) → Joint x c l → p < 32 → HasRoom (get_or l.used p None) → i < 40 → (buffer c i).block ≡ Some b → (buffer c i).valid ≡ true

@@ -3,6 +3,7 @@ use Rattle.std.specs.Prelude.{◌≡◌, ◌<◌, ◌≤◌, ◌==◌, ◌+◌, 
 use Rattle.blocks.specs.Block.{zero_block}
 use Rattle.blocks.specs.Disk.{Image, block_at}
 use Rattle.model.specs.State.{is_of, shows, current}
+use Rattle.model.specs.Agreement.{Agrees, is_outside_log}
 use Rattle.model.specs.Log.{logged_in, homes_in, logged_count, homes_of}
 use Rattle.bcache.specs.Buffers.{Buffers, buffer, found, unpinned, IsCache}
 use Rattle.wal.specs.declared.types.Commit.{Commit}
@@ -99,11 +100,15 @@ pub record JointAt (k : Commit) (x : Image) (c : Buffers) (l : LogState) : Type 
 abbrev pub Joint : Image → Buffers → LogState → Type 0
 Joint x c l = JointAt l.commit x c l
 
--- one size, and the same blocks but for the 30 logged ones
-pub record SameButLog (x y : Image) : Type 0 where
+-- one size, and the same blocks outside the log
+pub record IsSameOutsideLog (x y : Image) : Type 0 where
   pub size : length y ≡ length x
-  pub low : (b : ℕ) → b < 3 → block_at y b ≡ block_at x b
-  pub high : (b : ℕ) → 33 ≤ b → block_at y b ≡ block_at x b
+  pub agree : Agrees is_outside_log x y
+
+-- the header is the same too: all but the 30 logged blocks
+pub record SameButLog (x y : Image) : Type 0 where
+  pub outside : IsSameOutsideLog x y
+  pub header : block_at y 2 ≡ block_at x 2
 
 -- the bytes of a slot that was found
 abbrev pub bytes_found : Buffers → Option ℕ → List ℕ

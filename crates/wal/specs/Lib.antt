@@ -4,3 +4,4 @@ pub mod Recovery
 pub mod Joint
 pub mod Kept
 pub mod Step
+pub mod Volume

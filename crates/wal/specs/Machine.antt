@@ -1,7 +1,8 @@
 -- The log as contracts see it, and what each call makes of it.
-use Rattle.std.specs.Prelude.{◌≡◌, ◌<◌, ◌≤◌, ◌==◌, ◌+◌, ◌-◌, ◌*◌, ◌^◌, ℕ, not, min, Bool, true, false, List, [], ◌∷◌, ◌++◌, length, take, replicate, slice_index, slice_index_or, slice_set, if◌then◌else◌, Option, Some, None}
+use Rattle.std.specs.Prelude.{◌≡◌, ◌<◌, ◌≤◌, ◌==◌, ◌+◌, ◌-◌, ◌*◌, ◌^◌, ℕ, not, min, IsTrue, Bool, true, false, List, [], ◌∷◌, ◌++◌, length, replicate, slice_index_or, slice_set, if◌then◌else◌, Option, Some, None}
 use Rattle.std.specs.List.{list_any, sum_by}
 use Rattle.model.specs.declared.types.Why.{Why}
+use Rattle.model.specs.Log.{are_in_place, are_distinct}
 use Rattle.model.specs.State.{unused_reservation}
 use Rattle.model.specs.Waiting.{log_cause}
 use Rattle.bcache.specs.Buffers.{Buffers, pinned}
@@ -115,9 +116,8 @@ ten (Some u) = 10
 
 -- homes behind the log and inside the image, none of them twice
 pub record AreHomes (size : ℕ) (homes : List ℕ) : Type 0 where
-  pub behind : (k : ℕ) → k < length homes → 33 ≤ slice_index homes k
-  pub within : (k : ℕ) → k < length homes → slice_index homes k < size
-  pub once : (k : ℕ) → k < length homes → is_among (slice_index homes k) (take k homes) ≡ false
+  pub in_place : IsTrue (are_in_place homes size)
+  pub distinct : IsTrue (are_distinct homes)
 
 -- a commit under way has homes, and no operation is open
 abbrev pub Idle : Commit → LogState → Type 0

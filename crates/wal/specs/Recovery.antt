@@ -1,7 +1,7 @@
 -- What recovery makes of an image, and why it may refuse.
 use Rattle.std.specs.Prelude.{◌≡◌, ℕ, ◌+◌, ◌==◌, ⊤, nat_lt, if◌then◌else◌, List, length, Result, Ok, Err, Option, Some, None}
 use Rattle.blocks.specs.Disk.{Image, block_at}
-use Rattle.model.specs.Log.{homes_of, place_among, recovered}
+use Rattle.model.specs.Log.{homes_of, is_lawful_log, place_among, recovered}
 use Rattle.wal.specs.declared.faults.RecoverFault.{RecoverFault}
 use Rattle.wal.specs.declared.faults.RecoverFault.TheVariants.{Disk, BadLog, NoMemory}
 
@@ -26,9 +26,10 @@ OnNoMemory (Err Disk) P = ⊤
 OnNoMemory (Err BadLog) P = ⊤
 OnNoMemory (Ok v) P = ⊤
 
--- recovery gives the same image for both
-abbrev pub RecoversAs : Image → Image → Type 0
-RecoversAs x y = recovered y ≡ recovered x
+-- recovery gives the same image for both, and finds the log of both lawful, or of none
+pub record RecoversAs (x y : Image) : Type 0 where
+  pub image : recovered y ≡ recovered x
+  pub lawful : is_lawful_log y ≡ is_lawful_log x
 
 -- the writes of a recovery that copies that many blocks: each of them, and the header
 abbrev pub writes_to_recover : ℕ → ℕ

@@ -2,12 +2,16 @@
 //! of what a crash cut short.
 #![tactic(auto)]
 
+#[cfg(test)]
+mod disks;
 mod faults;
 mod log;
 mod recovery;
 mod types;
+mod volume;
 
 pub use faults::RecoverFault;
 pub use log::Log;
 pub use recovery::recover;
-pub use types::{Began, Commit, Committed, Ended};
+pub use types::{Began, Commit, Committed, Ended, Get};
+pub use volume::Volume;

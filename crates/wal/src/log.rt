@@ -4,6 +4,8 @@ ghost use Rattle.bcache.specs.Buffers.{buffer, block_or_zero, found};
 ghost use Rattle.blocks.specs.Block.{zero_block};
 ghost use Rattle.blocks.specs.Disk.{Image, one_more, Rose, IsOldOrNew, Elapses, LeavesOldOrNew, CountsFault, CountsSuccess};
 ghost use Rattle.model.specs.Codec.{header_block};
+ghost use Rattle.model.specs.Layout.{is_lawful_super};
+ghost use Rattle.model.specs.Log.{is_lawful_log};
 ghost use Rattle.wal.specs.Joint.{Joint, seen, place_at, bytes_at, source_at, written_at, written_cache, bytes_found, unpinned_found, HasPin, IsPinned, IsWithin};
 ghost use Rattle.wal.specs.Kept.{CrashKeeps};
 ghost use Rattle.wal.specs.Step.{Stepped, Faulted, CommitsTo, IsFault, answer_at};
@@ -53,21 +55,29 @@ impl Model for Log {
 }
 
 impl Log {
-    /// The log of an image with this superblock, where nothing is logged. It makes the blocks from
+    /// The log of an image with this lawful superblock, where nothing is logged. It makes the blocks from
     /// which headers are written.
     ///
     /// # Errors
     ///
     /// `NoMemory` where the allocator refuses the two blocks.
     pub fn new(alloc: Global, sup: &Super) -> Result<Log, NoMemory>
-        requires long { 33 ≤ sup.now.size }
-        requires small { sup.now.size ≤ 8191 }
+        requires { IsTrue (is_lawful_super sup.now sup.now.size) }
         ensures { IfOk result (λ log. log ≡ new_log sup.now.size) }
     {
         let made = Block::zeroed(alloc)?;
         let empty = Block::zeroed(alloc)?;
-        Ok(Log {
-            size: sup.size,
+        Ok(Log::over(sup.size, made, empty))
+    }
+
+    // A log to which nothing was written, with the blocks for its headers.
+    fn over(size: u32, made: Block, empty: Block) -> Log
+        requires long { 33 ≤ size }
+        requires empty { empty ≡ zero_block }
+        ensures { result ≡ new_log size }
+    {
+        Log {
+            size,
             header: Header {
                 n: 0,
                 homes: ArrayVec::new(),
@@ -79,7 +89,7 @@ impl Log {
             commit: Commit::Quiet,
             made,
             empty,
-        })
+        }
     }
 
     /// Does nothing: it says what is true of every log.
@@ -296,6 +306,9 @@ impl Log {
 
         // What a crash now may leave is recovered to what was committed, or to the group.
         ensures recovers { (z : Image) → D.leaves disk.new (D.moment disk.new) z → CrashKeeps self.old.commit (D.image disk.old) (seen (D.image disk.old) cache.old) z }
+
+        // And its log is lawful.
+        ensures lawful { (z : Image) → D.leaves disk.new (D.moment disk.new) z → IsTrue (is_lawful_log z) }
         ensures writes { IsFault result (λ fault. D.write_count disk.new ≡ D.write_count disk.old) (Rose (D.fault_count disk.old) (D.fault_count disk.new)) (D.write_count disk.new ≡ one_more (D.write_count disk.old)) }
         ensures faults { IsFault result (λ fault. fault.0 ≡ place_at self.old.commit self.old.homes) (Rose (D.fault_count disk.old) (D.fault_count disk.new)) (D.fault_count disk.new ≡ D.fault_count disk.old) }
     {

@@ -1,6 +1,7 @@
 // Recovery: what was committed before a crash is copied home.
-ghost use Rattle.std.specs.Prelude.{◌≡◌, ◌≢◌, ◌≤◌, ◌+◌, false, length, IsTrue, IfOk, OnOk, OnErr};
-ghost use Rattle.blocks.specs.Disk.{Rose, IsSettled, AddsNone, LeavesOnly};
+ghost use Rattle.std.specs.Prelude.{◌≡◌, ◌≢◌, ◌<◌, ◌≤◌, ◌+◌, false, length, slice_set, IsTrue, IfOk, OnOk, OnErr};
+ghost use Rattle.blocks.specs.Block.{zero_block};
+ghost use Rattle.blocks.specs.Disk.{one_more, Rose, IsOldOrNew, IsSettled, CountsFault, Elapses, AddsNone, LeavesOnly};
 ghost use Rattle.layout.specs.Making.{counted};
 ghost use Rattle.model.specs.Layout.{is_lawful_super};
 ghost use Rattle.model.specs.Log.{is_lawful_log, logged_count, homes_of, recovered};
@@ -42,6 +43,27 @@ fn read_header<D: Disk>(disk: &mut D, size: u32, block: &mut Block) -> Result<He
     Ok(header)
 }
 
+// The log's block for the home at a place, from 0.
+fn log_block(place: usize) -> u32
+    requires { place < 30 }
+    ensures { result ≡ 3 + place }
+{
+    LOG + place as u32
+}
+
+// Empties the header.
+fn clear_header<D: Disk>(disk: &mut D, empty: &Block) -> Result<(), DiskFault>
+    requires inside { 2 < length (D.image disk.old) }
+    requires empty { empty.now ≡ zero_block }
+    ensures ok { OnOk result (D.image disk.new ≡ slice_set (D.image disk.old) 2 zero_block) }
+    ensures err { OnErr result (IsOldOrNew (D.image disk.old) 2 zero_block (D.image disk.new)) }
+    ensures writes { OnOk result (D.write_count disk.new ≡ one_more (D.write_count disk.old)) }
+    ensures faults { CountsFault result (D.fault_count disk.old) (D.fault_count disk.new) }
+    ensures time { Elapses (D.moment disk.old) (D.moment disk.new) (D.leaves disk.old) (D.leaves disk.new) }
+{
+    disk.write(HEADER, empty)
+}
+
 // Copies each logged block home.
 fn copy_home<D: Disk>(disk: &mut D, block: &mut Block, homes: &[u32]) -> Result<(), DiskFault>
     requires long { 33 ≤ length (D.image disk.old) }
@@ -55,7 +77,7 @@ fn copy_home<D: Disk>(disk: &mut D, block: &mut Block, homes: &[u32]) -> Result<
     ensures any_moment { LeavesOnly D.moment D.leaves disk.old disk.new (RecoversAs (D.image disk.old)) }
 {
     for (k, home) in homes.iter().enumerate() {
-        disk.read(LOG + k as u32, block)?;
+        disk.read(log_block(k), block)?;
         disk.write(*home, block)?;
     }
     Ok(())
@@ -78,6 +100,7 @@ pub fn recover<D: Disk>(alloc: Global, disk: &mut D, sup: &Super) -> Result<u32,
     requires { IsTrue (is_lawful_super sup.now (length (D.image disk.old))) }
     ensures lawful { OnOk result (IsTrue (is_lawful_log (D.image disk.old))) }
     ensures image { OnOk result (D.image disk.new ≡ recovered (D.image disk.old)) }
+    ensures none { OnOk result (logged_count (D.image disk.new) ≡ 0) }
     ensures count { IfOk result (λ n. n ≡ logged_count (D.image disk.old)) }
     ensures writes { IfOk result (λ n. D.write_count disk.new ≡ counted (D.write_count disk.old) (writes_to_recover n)) }
     ensures faults { OnOk result (D.fault_count disk.new ≡ D.fault_count disk.old) }
@@ -90,7 +113,8 @@ pub fn recover<D: Disk>(alloc: Global, disk: &mut D, sup: &Super) -> Result<u32,
     ensures refused { OnNoMemory result (disk.new ≡ disk.old) }
     ensures disk { OnDisk result (Rose (D.fault_count disk.old) (D.fault_count disk.new)) }
 
-    // A crash at any moment leaves an image that is recovered to the same one.
+    // A crash at any moment leaves an image that is recovered to the same one, and its log is lawful
+    // where that of the image is.
     ensures any_moment { LeavesOnly D.moment D.leaves disk.old disk.new (RecoversAs (D.image disk.old)) }
 {
     let mut block = Block::zeroed(alloc)?;
@@ -100,7 +124,7 @@ pub fn recover<D: Disk>(alloc: Global, disk: &mut D, sup: &Super) -> Result<u32,
         return Ok(0);
     }
     copy_home(disk, &mut block, header.homes.as_slice())?;
-    disk.write(HEADER, &empty)?;
+    clear_header(disk, &empty)?;
     Ok(header.n)
 }
 

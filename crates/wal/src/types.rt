@@ -48,3 +48,14 @@ pub enum Committed {
     /// The disk failed. Buffers and log are as before the step.
     Fault(DiskFault),
 }
+
+/// What `get` answers.
+#[derive(Clone, Copy, Debug, PartialEq, Eq)]
+pub enum Get {
+    /// The process has the lock of this slot, from 0 to 39, which is valid.
+    Got(u32),
+    /// Nothing was changed, and the caller has to wait.
+    Sleeping(Why),
+    /// The disk failed.
+    Fault(DiskFault),
+}

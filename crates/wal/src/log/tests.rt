@@ -1,19 +1,9 @@
+use crate::disks::SUP;
 use crate::{Began, Ended, Log};
 use bcache::{Acquired, Cache};
-use layout::Super;
 use model::types::Why;
 use std::process::Abort;
 use std::test::Fail;
-
-const SUP: Super = Super {
-    size: 200,
-    nblocks: 164,
-    ninodes: 16,
-    nlog: 31,
-    logstart: 2,
-    inodestart: 33,
-    bmapstart: 35,
-};
 
 fn begin(rt: &impl Abort, log: &mut Log, pid: u32) -> Began {
     let opened = log.opened();

@@ -1,81 +1,11 @@
-ghost use Rattle.std.specs.Prelude.{◌≡◌, length, IsTrue};
-ghost use Rattle.model.specs.Layout.{meta_count, is_lawful_super};
-
-use crate::{RecoverFault, recover};
+use crate::RecoverFault;
+use crate::disks::{assert_same, made, read_block, run, write_block};
 use arrayvec::ArrayVec;
 use blocks::{Block, Disk, FaultyDisk, Kind, MemDisk};
 use layout::header::Header;
-use layout::{Super, mkfs};
 use std::alloc::Global;
 use std::process::Abort;
 use std::test::Fail;
-
-const SUP: Super = Super {
-    size: 200,
-    nblocks: 164,
-    ninodes: 16,
-    nlog: 31,
-    logstart: 2,
-    inodestart: 33,
-    bmapstart: 35,
-};
-
-fn meta_count(size: u32, ninodes: u32) -> u32
-    ensures { result ≡ meta_count size ninodes }
-{
-    2 + 31 + (ninodes / 16 + 1) + (size / 8192 + 1)
-}
-
-fn is_lawful_super(fields: &Super, block_count: u32) -> bool
-    ensures { result ≡ is_lawful_super fields.now block_count }
-{
-    let size = fields.size;
-    let ninodes = fields.ninodes;
-    if size != block_count || !(2..=1024).contains(&ninodes) {
-        return false;
-    }
-    let meta = meta_count(size, ninodes);
-    if size <= meta || size > 8191 {
-        return false;
-    }
-    fields.nblocks == size - meta
-        && fields.nlog == 31
-        && fields.logstart == 2
-        && fields.inodestart == 33
-        && fields.bmapstart == 33 + ninodes / 16 + 1
-}
-
-// A new image of 200 blocks.
-fn made(alloc: Global) -> Result<MemDisk, Fail> {
-    let mut disk = MemDisk::new(alloc, 200)?;
-    mkfs(alloc, &mut disk, 200, 16)?;
-    Ok(disk)
-}
-
-fn run<D: Disk>(rt: &impl Abort, alloc: Global, disk: &mut D) -> Result<u32, RecoverFault> {
-    let size = disk.size();
-    assert!(rt; is_lawful_super(&SUP, size));
-    recover(alloc, disk, &SUP)
-}
-
-fn write_block<D: Disk>(rt: &impl Abort, disk: &mut D, b: u32, block: &Block) -> Result<(), Fail> {
-    let size = disk.size();
-    assert!(rt; b < size);
-    disk.write(b, block)?;
-    Ok(())
-}
-
-fn read_block<D: Disk>(
-    rt: &impl Abort,
-    disk: &mut D,
-    b: u32,
-    block: &mut Block,
-) -> Result<(), Fail> {
-    let size = disk.size();
-    assert!(rt; b < size);
-    disk.read(b, block)?;
-    Ok(())
-}
 
 // A block that begins with these bytes.
 fn block_of(alloc: Global, bytes: &[u8]) -> Result<Block, Fail> {
@@ -114,22 +44,6 @@ fn with_thirty_logged(rt: &impl Abort, alloc: Global) -> Result<MemDisk, Fail> {
     header.write(&mut block);
     write_block(rt, &mut disk, 2, &block)?;
     Ok(disk)
-}
-
-fn assert_same(
-    rt: &impl Abort,
-    alloc: Global,
-    one: &mut MemDisk,
-    other: &mut MemDisk,
-) -> Result<(), Fail> {
-    let mut left = Block::zeroed(alloc)?;
-    let mut right = Block::zeroed(alloc)?;
-    for b in 0..200 {
-        read_block(rt, one, b, &mut left)?;
-        read_block(rt, other, b, &mut right)?;
-        assert_eq!(rt; left.as_slice(), right.as_slice(), "block {b}");
-    }
-    Ok(())
 }
 
 #[test]

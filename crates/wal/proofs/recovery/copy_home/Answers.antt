@@ -1,22 +1,20 @@
 use Rattle.std.proofs.Common.{◌≡◌, ◌<◌, ℕ, List, length, get_or, set, refl, sym, ◌∙◌, ap, subst, arith, add-one}
+use Rattle.std.specs.Prelude.{slice_get}
 use Rattle.blocks.specs.Disk.{Image, one_more}
 use Rattle.blocks.proofs.Moments.{started, stays, goes_on, now_stays}
 use Rattle.layout.specs.Making.{counted}
-use Rattle.model.specs.Log.{homes_of, recovered}
+use Rattle.model.specs.Log.{homes_of}
 use Rattle.model.proofs.RecoveryLemmas.{few_homes}
 use Rattle.wal.specs.Recovery.{RecoversAs}
-use Rattle.wal.proofs.Copies.{SameBesides, same_besides, copied_none, recovers_besides, home_at}
+use Rattle.wal.proofs.Copies.{SameBesides, same_besides, copied_none, recovers_besides, recovers_same, home_at}
 use Rattle.wal.proofs.Recoveries.{copy_besides, copy_step}
 use Rattle.wal.proofs.recovery.copy_home.Goals as goal
 
-pub overflow_cast-k : goal.overflow_cast-k
-overflow_cast-k g c = omega (arith, ap length c.requires.homes, few_homes (g.D.Disk.image c.args.disk.now))
-
-pub overflow_add-k : goal.overflow_add-k
-overflow_add-k g c = omega (arith, ap length c.requires.homes, few_homes (g.D.Disk.image c.args.disk.now))
+pub log_block-requires : goal.log_block-requires
+log_block-requires g c = omega (arith, ap length c.requires.homes, few_homes (g.D.Disk.image c.args.disk.now))
 
 pub read-requires : goal.read-requires
-read-requires g c = omega (arith, c.requires.long, c.loop-k.invariant.copied.size, ap length c.requires.homes, few_homes (g.D.Disk.image c.args.disk.now))
+read-requires g c = omega (arith, c.log_block.ensures, c.requires.long, c.loop-k.invariant.copied.size, ap length c.requires.homes, few_homes (g.D.Disk.image c.args.disk.now))
 
 pub loop-k-init : goal.loop-k-init
 loop-k-init g c =
@@ -28,7 +26,7 @@ loop-k-init g c =
       besides = λ z now. subst (SameBesides x) (sym (c.requires.settled z now)) (same_besides x);
       writes = refl;
       faults = refl;
-      any_moment = started d.moment d.leaves old (RecoversAs x) (λ z now. ap recovered (c.requires.settled z now));
+      any_moment = started d.moment d.leaves old (RecoversAs x) (λ z now. recovers_same x z (c.requires.settled z now));
     }
 
 pub returns-in_err-write-clause-any_moment : goal.returns-in_err-write-clause-any_moment
@@ -55,7 +53,7 @@ loop-k-preserved g c =
     let read = stays d.moment d.leaves c.args.disk.now c.loop-k.disk c.read.new.self (RecoversAs x) kept.any_moment c.read.ensures.time in
     let besides : (z : Image) → d.leaves c.write.new.self (d.moment c.write.new.self) z → SameBesides x z = copy_besides x c.loop-k.k _ _ _ _ lt home before c.write.ensures.crash in
     record {
-      copied = copy_step x (d.image c.loop-k.disk) (d.image c.write.new.self) c.loop-k.k _ _ c.requires.lawful lt home kept.copied c.in_ok-read.ensures.ok written;
+      copied = copy_step x (d.image c.loop-k.disk) (d.image c.write.new.self) c.loop-k.k _ _ c.requires.lawful lt home kept.copied (ap (slice_get (d.image c.loop-k.disk)) (sym c.log_block.ensures) ∙ c.in_ok-read.ensures.ok) written;
       besides = besides;
       writes = c.in_ok-write.ensures.writes ∙ ap one_more (c.in_ok-read.ensures.writes ∙ kept.writes) ∙ ap (counted (d.write_count c.args.disk.now)) (sym (add-one c.loop-k.k));
       faults = c.in_ok-write.ensures.faults ∙ c.in_ok-read.ensures.faults ∙ kept.faults;

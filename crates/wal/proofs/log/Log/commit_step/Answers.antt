@@ -4,7 +4,7 @@ use Rattle.wal.specs.Machine.{LogState}
 use Rattle.wal.specs.Joint.{IsPinned, written_at, written_cache}
 use Rattle.wal.specs.Step.{Faulted, answer_at}
 use Rattle.wal.proofs.Sources.{is_pinned, log_header}
-use Rattle.wal.proofs.Stepping.{stepped, faulted, commits_to, crash_step, crash_keeps}
+use Rattle.wal.proofs.Stepping.{stepped, faulted, commits_to, crash_step, crash_keeps, crash_lawful}
 use Rattle.wal.proofs.log.Log.commit_step.Goals as goal
 
 pub go_on-requires : goal.go_on-requires
@@ -60,4 +60,22 @@ returns-in-Err-clause-recovers g c =
     let new = c.write_next.new.disk in
     let l = c.args.self.now in
     crash_keeps (header_block l.homes) (d.image old) c.args.cache.now l (d.leaves old (d.moment old)) (d.leaves new (d.moment new)) c.requires.joint c.requires.busy
+    (log_header l.commit l c.requires.joint.log) (g.met.D.Disk.only_now old) c.in-Err.ensures.crash
+
+pub returns-in-Ok-clause-lawful : goal.returns-in-Ok-clause-lawful
+returns-in-Ok-clause-lawful g c =
+    let d = g.D.Disk in
+    let old = c.args.disk.now in
+    let new = c.write_next.new.disk in
+    let l = c.args.self.now in
+    crash_lawful (header_block l.homes) (d.image old) c.args.cache.now l (d.leaves old (d.moment old)) (d.leaves new (d.moment new)) c.requires.joint c.requires.busy
+    (log_header l.commit l c.requires.joint.log) (g.met.D.Disk.only_now old) c.in-Ok.ensures.crash
+
+pub returns-in-Err-clause-lawful : goal.returns-in-Err-clause-lawful
+returns-in-Err-clause-lawful g c =
+    let d = g.D.Disk in
+    let old = c.args.disk.now in
+    let new = c.write_next.new.disk in
+    let l = c.args.self.now in
+    crash_lawful (header_block l.homes) (d.image old) c.args.cache.now l (d.leaves old (d.moment old)) (d.leaves new (d.moment new)) c.requires.joint c.requires.busy
     (log_header l.commit l c.requires.joint.log) (g.met.D.Disk.only_now old) c.in-Err.ensures.crash

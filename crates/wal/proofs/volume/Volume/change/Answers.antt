@@ -1,0 +1,33 @@
+use Rattle.std.proofs.Common.{◌≡◌, rules, subst}
+use Rattle.std.specs.Prelude.{slice_set}
+use Rattle.blocks.specs.Block.{overwritten}
+use Rattle.bcache.specs.Buffers.{buffer, block_or_zero}
+use Rattle.wal.specs.Joint.{seen}
+use Rattle.wal.specs.Volume.{Holds}
+use Rattle.wal.proofs.Uses.{joint_put, block_behind}
+use Rattle.wal.proofs.Volumes.{if_joint, joint_here, put_holds}
+use Rattle.wal.proofs.volume.Volume.change.Goals as goal
+
+pub log_write-requires-clause-behind : goal.log_write-requires-clause-behind
+log_write-requires-clause-behind g c = (block_behind _ c.args.slot (joint_here g.D.Disk.image _ _ c.self.view_is c.requires.fault c.self.invariant) (search rules)).0
+
+pub log_write-requires-clause-within : goal.log_write-requires-clause-within
+log_write-requires-clause-within g c = (block_behind _ c.args.slot (joint_here g.D.Disk.image _ _ c.self.view_is c.requires.fault c.self.invariant) (search rules)).1
+
+pub invariant_of-self : goal.invariant_of-self
+invariant_of-self g c = if_joint _ (joint_put _ _ _ _ _ c.args.pid c.args.slot c.args.at c.args.bytes.now (joint_here g.D.Disk.image _ _ c.self.view_is c.requires.fault c.self.invariant) c.requires.pid (search rules) c.requires.slot (search rules) (search rules) c.log_write.ensures.log c.log_write.ensures.cache c.put.ensures).0
+
+pub returns-clause-current : goal.returns-clause-current
+returns-clause-current g c =
+    let x = g.D.Disk.image c.self.inside.disk in
+    let d = c.put.new.self in
+    subst (λ s. seen x d ≡ slice_set (seen (g.D.Disk.image s.device) s.buffers) (block_or_zero (buffer s.buffers c.args.slot).block) (overwritten (buffer s.buffers c.args.slot).bytes c.args.at c.args.bytes.now)) c.self.view_is
+    (joint_put _ _ _ _ _ c.args.pid c.args.slot c.args.at c.args.bytes.now (joint_here g.D.Disk.image _ _ c.self.view_is c.requires.fault c.self.invariant) c.requires.pid (search rules) c.requires.slot (search rules) (search rules) c.log_write.ensures.log c.log_write.ensures.cache c.put.ensures).1
+
+pub returns-clause-holds : goal.returns-clause-holds
+returns-clause-holds g c =
+    let x = g.D.Disk.image c.self.inside.disk in
+    let d = c.put.new.self in
+    let joint = joint_here g.D.Disk.image _ _ c.self.view_is c.requires.fault c.self.invariant in
+    subst (λ s. Holds (seen x d) d c.args.pid (block_or_zero (buffer s.buffers c.args.slot).block) c.args.slot) c.self.view_is
+    (put_holds c.self.inside.cache c.log_write.new.cache d c.self.inside.log c.log_write.new.self c.args.pid c.args.slot _ (joint_put _ _ _ _ _ c.args.pid c.args.slot c.args.at c.args.bytes.now (joint_here g.D.Disk.image _ _ c.self.view_is c.requires.fault c.self.invariant) c.requires.pid (search rules) c.requires.slot (search rules) (search rules) c.log_write.ensures.log c.log_write.ensures.cache c.put.ensures).0 joint.cache c.requires.slot (search rules) (search rules) (search rules) c.log_write.ensures.cache c.put.ensures)

@@ -1,0 +1,58 @@
+use Rattle.std.proofs.Common.{◌≡◌, ◌∙◌, subst, rules, true, false}
+use Rattle.wal.specs.Joint.{seen}
+use Rattle.wal.proofs.Uses.{joint_acquired}
+use Rattle.wal.proofs.Volumes.{acquired_now, filled_holds, holds_now, if_joint, joint_here, seen_acquired}
+use Rattle.wal.proofs.volume.Volume.get.Goals as goal
+
+pub invariant_of-self-in-Got-default-true : goal.invariant_of-self-in-Got-default-true
+invariant_of-self-in-Got-default-true g c = if_joint _ (joint_acquired _ _ c.args.pid c.args.block (joint_here g.D.Disk.image _ _ c.self.view_is c.requires.fault c.self.invariant) c.requires.behind (search rules) c.acquire.ensures.cache)
+
+pub invariant_of-self-in-Got-default-false : goal.invariant_of-self-in-Got-default-false
+invariant_of-self-in-Got-default-false g c = if_joint _ (joint_acquired _ _ c.args.pid c.args.block (joint_here g.D.Disk.image _ _ c.self.view_is c.requires.fault c.self.invariant) c.requires.behind (search rules) c.acquire.ensures.cache)
+
+pub fill-requires-clause-slot : goal.fill-requires-clause-slot
+fill-requires-clause-slot g c =
+    let arm = c.in-Got-default-false in
+    let joint = joint_here g.D.Disk.image _ _ c.self.view_is c.requires.fault c.self.invariant in
+    let has = acquired_now c.self.inside.cache c.acquire.new.self c.args.pid c.args.block arm.slot false arm.valid joint.cache arm.ensures.answer arm.valid-test c.acquire.ensures.cache in
+    has.slot
+
+pub fill-requires-clause-block : goal.fill-requires-clause-block
+fill-requires-clause-block g c =
+    let arm = c.in-Got-default-false in
+    let joint = joint_here g.D.Disk.image _ _ c.self.view_is c.requires.fault c.self.invariant in
+    let has = acquired_now c.self.inside.cache c.acquire.new.self c.args.pid c.args.block arm.slot false arm.valid joint.cache arm.ensures.answer arm.valid-test c.acquire.ensures.cache in
+    has.block
+
+pub fill-requires-clause-valid : goal.fill-requires-clause-valid
+fill-requires-clause-valid g c =
+    let arm = c.in-Got-default-false in
+    let joint = joint_here g.D.Disk.image _ _ c.self.view_is c.requires.fault c.self.invariant in
+    let has = acquired_now c.self.inside.cache c.acquire.new.self c.args.pid c.args.block arm.slot false arm.valid joint.cache arm.ensures.answer arm.valid-test c.acquire.ensures.cache in
+    has.valid
+
+pub returns-in-Got-default-true-clause-got : goal.returns-in-Got-default-true-clause-got
+returns-in-Got-default-true-clause-got g c =
+    let arm = c.in-Got-default-true in
+    let joint = joint_here g.D.Disk.image _ _ c.self.view_is c.requires.fault c.self.invariant in
+    let has = acquired_now c.self.inside.cache c.acquire.new.self c.args.pid c.args.block arm.slot true arm.valid joint.cache arm.ensures.answer arm.valid-test c.acquire.ensures.cache in
+    holds_now c.acquire.new.self c.args.pid c.args.block arm.slot (joint_acquired c.self.inside.cache c.acquire.new.self c.args.pid c.args.block joint c.requires.behind (search rules) c.acquire.ensures.cache) has.slot has.holder has.block has.valid
+
+pub returns-in-Got-default-false-clause-got : goal.returns-in-Got-default-false-clause-got
+returns-in-Got-default-false-clause-got g c =
+    let arm = c.in-Got-default-false in
+    let joint = joint_here g.D.Disk.image _ _ c.self.view_is c.requires.fault c.self.invariant in
+    let has = acquired_now c.self.inside.cache c.acquire.new.self c.args.pid c.args.block arm.slot false arm.valid joint.cache arm.ensures.answer arm.valid-test c.acquire.ensures.cache in
+    filled_holds c.acquire.new.self c.fill.new.self.buffers c.args.pid c.args.block arm.slot c.fill.result (joint_acquired c.self.inside.cache c.acquire.new.self c.args.pid c.args.block joint c.requires.behind (search rules) c.acquire.ensures.cache) has c.fill.ensures.answer c.fill.ensures.buffers c.fill.ensures.image
+
+pub returns-in-Got-default-true-clause-current : goal.returns-in-Got-default-true-clause-current
+returns-in-Got-default-true-clause-current g c =
+    let x = g.D.Disk.image c.self.inside.disk in
+    subst (λ s. seen x c.acquire.new.self ≡ seen (g.D.Disk.image s.device) s.buffers) c.self.view_is
+    (seen_acquired c.self.inside.cache c.acquire.new.self c.args.pid c.args.block (joint_here g.D.Disk.image _ _ c.self.view_is c.requires.fault c.self.invariant) c.acquire.ensures.cache)
+
+pub returns-in-Got-default-false-clause-current : goal.returns-in-Got-default-false-clause-current
+returns-in-Got-default-false-clause-current g c =
+    let x = g.D.Disk.image c.self.inside.disk in
+    subst (λ s. seen (g.D.Disk.image c.fill.new.self.device) c.fill.new.self.buffers ≡ seen (g.D.Disk.image s.device) s.buffers) c.self.view_is
+    (c.fill.ensures.current ∙ seen_acquired c.self.inside.cache c.acquire.new.self c.args.pid c.args.block (joint_here g.D.Disk.image _ _ c.self.view_is c.requires.fault c.self.invariant) c.acquire.ensures.cache)

@@ -1,0 +1,108 @@
+-- A disk with its buffers and its log, and what each call makes of them.
+use Rattle.std.specs.Prelude.{◌≡◌, ◌<◌, ℕ, true, false, List, if◌then◌else◌, Option, Some, None, ⊤}
+use Rattle.blocks.specs.declared.errors.DiskFault.{DiskFault}
+use Rattle.blocks.specs.Block.{overwritten}
+use Rattle.blocks.specs.Disk.{Image, block_at, one_more}
+use Rattle.model.specs.declared.types.Why.{Why}
+use Rattle.model.specs.declared.types.Why.TheVariants as why
+use Rattle.bcache.specs.declared.types.Busy.{Busy}
+use Rattle.bcache.specs.declared.types.Busy.TheVariants as busy
+use Rattle.bcache.specs.declared.types.Acquired.{Acquired}
+use Rattle.bcache.specs.declared.types.Acquired.TheVariants as acquired
+use Rattle.bcache.specs.Buffers.{Buffers, buffer, block_or_zero, acquire_answer, after_acquire, filled, changed, EndsUnfilled}
+use Rattle.wal.specs.declared.types.Committed.{Committed}
+use Rattle.wal.specs.declared.types.Committed.TheVariants as committed
+use Rattle.wal.specs.declared.types.Get.{Get}
+use Rattle.wal.specs.declared.types.Get.TheVariants as get
+use Rattle.wal.specs.Machine.{LogState, noted, noted_cache}
+
+pub record VolumeState (D : Type 0) : Type 0 where
+  pub device : D
+  pub buffers : Buffers
+  pub log : LogState
+  -- the disk's fault, after which nothing is done any more
+  pub fault : Option DiskFault
+
+-- a process has the lock of block b's slot, which shows it as it is in the current image
+pub record Holds (cur : Image) (c : Buffers) (pid b i : ℕ) : Type 0 where
+  pub slot : i < 40
+  pub holder : (buffer c i).holder ≡ Some pid
+  pub block : (buffer c i).block ≡ Some b
+  pub valid : (buffer c i).valid ≡ true
+  pub bytes : (buffer c i).bytes ≡ block_at cur b
+
+-- why a process waits for a buffer
+abbrev pub why_busy : Busy → Why
+why_busy busy.Held = why.BufferHeld
+why_busy busy.NoBuffer = why.NoBuffer
+
+-- what `get` answers where the disk doesn't fail
+abbrev pub get_answer_by : Acquired → Get
+get_answer_by (acquired.Got i valid) = get.Got i
+get_answer_by (acquired.Sleeping busy) = get.Sleeping (why_busy busy)
+
+abbrev pub get_answer : Buffers → ℕ → Get
+get_answer c b = get_answer_by (acquire_answer c b)
+
+-- the buffers then: a slot that wasn't valid has the disk's bytes
+abbrev pub after_get_by : Acquired → Buffers → List ℕ → Buffers
+after_get_by (acquired.Got i valid) c bytes = if valid then c else filled c i bytes
+after_get_by (acquired.Sleeping busy) c bytes = c
+
+abbrev pub after_get : Image → Buffers → ℕ → ℕ → Buffers
+after_get x c pid b = after_get_by (acquire_answer c b) (after_acquire c pid b) (block_at x b)
+
+-- the read of block b failed, for a slot that wasn't valid
+pub record FailsToFill (c d : Buffers) (pid b : ℕ) (fault : DiskFault) : Type 0 where
+  pub slot : ℕ
+  pub block : fault.0 ≡ b
+  pub answer : acquire_answer c b ≡ acquired.Got slot false
+  pub buffers : EndsUnfilled (after_acquire c pid b) slot d
+
+-- P holds of the slot
+abbrev pub OnGot : Get → (ℕ → Type 0) → Type 0
+OnGot (get.Got i) P = P i
+OnGot (get.Sleeping why) P = ⊤
+OnGot (get.Fault fault) P = ⊤
+
+-- P holds where the process has to wait
+abbrev pub OnSleeping : Get → Type 0 → Type 0
+OnSleeping (get.Got i) P = ⊤
+OnSleeping (get.Sleeping why) P = P
+OnSleeping (get.Fault fault) P = ⊤
+
+-- P holds of the fault
+abbrev pub OnFault : Get → (DiskFault → Type 0) → Type 0
+OnFault (get.Got i) P = ⊤
+OnFault (get.Sleeping why) P = ⊤
+OnFault (get.Fault fault) P = P fault
+
+-- P holds where the disk didn't fail
+abbrev pub UnlessFault : Get → Type 0 → Type 0
+UnlessFault (get.Got i) P = P
+UnlessFault (get.Sleeping why) P = P
+UnlessFault (get.Fault fault) P = ⊤
+
+-- the fault of an answer
+abbrev pub fault_of_get : Get → Option DiskFault
+fault_of_get (get.Got i) = None
+fault_of_get (get.Sleeping why) = None
+fault_of_get (get.Fault fault) = Some fault
+
+abbrev pub fault_of_step : Committed → Option DiskFault
+fault_of_step committed.More = None
+fault_of_step (committed.Durable group) = None
+fault_of_step committed.Done = None
+fault_of_step (committed.Fault fault) = Some fault
+
+-- a count of faults after an answer
+abbrev pub faults_after : Option DiskFault → ℕ → ℕ
+faults_after None count = count
+faults_after (Some fault) count = one_more count
+
+-- the block of a slot is logged, and its bytes changed
+abbrev pub after_change : {D : Type 0} → VolumeState D → ℕ → ℕ → ℕ → List ℕ → VolumeState D
+after_change v pid i at bytes = record v {
+  buffers = changed (noted_cache v.log v.buffers i (block_or_zero (buffer v.buffers i).block)) i (overwritten (buffer v.buffers i).bytes at bytes);
+  log = noted v.log pid (block_or_zero (buffer v.buffers i).block);
+}

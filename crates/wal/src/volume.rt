@@ -1,0 +1,281 @@
+// A disk with its buffer cache and its log, as the layers above use them.
+ghost use Rattle.std.specs.Prelude.{◌≡◌, ◌<◌, ◌≤◌, ◌+◌, ◌^◌, ℕ, true, false, length, slice_set, Some, None, IsSome, IsTrue, IfNone};
+ghost use Rattle.blocks.specs.Block.{IsBlock, overwritten};
+ghost use Rattle.blocks.specs.Disk.{Image, block_at, one_more, Rose, Elapses, AddsNone, LeavesOldOrNew};
+ghost use Rattle.model.specs.Codec.{header_block};
+ghost use Rattle.model.specs.Log.{is_lawful_log, logged_count};
+ghost use Rattle.bcache.specs.Buffers.{buffer, block_or_zero, filled, fresh, released, EndsUnfilled};
+ghost use Rattle.wal.specs.Machine.{is_quiet, new_log, begin_cause, begin_answer, after_begin, used_by, HasRoom, ended, end_answer};
+ghost use Rattle.wal.specs.Joint.{Joint, IsSameOutsideLog, seen, place_at, bytes_at};
+ghost use Rattle.wal.specs.Kept.{CrashKeeps};
+ghost use Rattle.wal.specs.Step.{Stepped, Faulted, CommitsTo, IsFault};
+ghost use Rattle.wal.specs.Volume.{Holds, FailsToFill, why_busy, get_answer, after_get, after_change, fault_of_get, fault_of_step, faults_after, OnGot, OnSleeping, OnFault, UnlessFault};
+
+use crate::{Began, Committed, Ended, Get, Log};
+use bcache::{Acquired, Busy, Cache};
+use blocks::{Block, Disk, DiskFault};
+use model::types::Why;
+use std::marker::Model;
+
+/// A disk with its buffer cache and its log (the xv6 book, the chapter "File system": "Buffer cache
+/// layer", "Logging layer"). Contracts speak of the current image: the disk's blocks, with each
+/// valid buffer in its block's place.
+///
+/// After a fault of the disk nothing is promised of the three together, and only the getters and
+/// `into_disk` may be called.
+#[derive(Drop)]
+pub struct Volume<D: Disk> {
+    disk: D,
+    cache: Cache,
+    log: Log,
+    fault: Option<DiskFault>,
+}
+
+impl<D: Disk> Model for Volume<D> {
+    ghost use Rattle.std.specs.Prelude.{IfNone};
+    ghost use Rattle.wal.specs.Joint.{Joint};
+    ghost use Rattle.wal.specs.Volume.{VolumeState};
+
+    ghost Value = { VolumeState D };
+
+    ghost view = { λ v. record { device = v.disk; buffers = v.cache; log = v.log; fault = v.fault } };
+
+    ghost invariant = { λ v. IfNone v.fault (Joint (D.image v.disk) v.cache v.log) };
+}
+
+impl<D: Disk> Volume<D> {
+    /// A disk on which nothing is logged, with a cache whose slots were never taken, and a new log
+    /// for an image of its size.
+    pub fn open(disk: D, cache: Cache, log: Log) -> Volume<D>
+        requires cache { cache ≡ fresh }
+        requires log { log ≡ new_log (length (D.image disk)) }
+        requires none { logged_count (D.image disk) ≡ 0 }
+        ensures volume { result ≡ record { device = disk; buffers = fresh; log = new_log (length (D.image disk)); fault = None } }
+        ensures current { seen (D.image result.device) result.buffers ≡ D.image disk }
+    {
+        log.known();
+        Volume {
+            disk,
+            cache,
+            log,
+            fault: None,
+        }
+    }
+
+    /// Does nothing: where the disk hasn't failed, it says what is true of disk, buffers and log
+    /// together.
+    pub fn known(&self)
+        ensures { IfNone self.now.fault (Joint (D.image self.now.device) self.now.buffers self.now.log) }
+    {
+        let _ = &self.fault;
+    }
+
+    /// The disk.
+    pub fn disk(&self) -> &D
+        ensures { result.now ≡ self.now.device }
+    {
+        &self.disk
+    }
+
+    /// The buffers.
+    pub fn cache(&self) -> &Cache
+        ensures { result.now ≡ self.now.buffers }
+    {
+        &self.cache
+    }
+
+    /// The log.
+    pub fn log(&self) -> &Log
+        ensures { result.now ≡ self.now.log }
+    {
+        &self.log
+    }
+
+    /// The fault of the disk, after which nothing is done any more.
+    pub fn fault(&self) -> Option<DiskFault>
+        ensures { result ≡ self.now.fault }
+    {
+        self.fault
+    }
+
+    /// The disk, without its buffers and its log.
+    pub fn into_disk(self) -> D
+        ensures { result ≡ self.device }
+    {
+        let Volume { disk, .. } = self;
+        disk
+    }
+
+    /// Why an operation would have to sleep before it begins, as the log's `may_begin`.
+    pub fn may_begin(&self) -> Option<Why>
+        requires { self.now.fault ≡ None }
+        ensures { result ≡ begin_cause self.now.log }
+    {
+        self.log.may_begin()
+    }
+
+    /// Opens an operation of a process that has none open, as the log's `begin`.
+    pub fn begin(&mut self, pid: u32) -> Began
+        requires fault { self.old.fault ≡ None }
+        requires pid { pid < 32 }
+        requires none { used_by self.old.log pid ≡ None }
+        requires opened { self.old.log.opened + 1 < 2 ^ 64 }
+        ensures answer { result ≡ begin_answer self.old.log pid }
+        ensures volume { self.new ≡ record self.old { log = after_begin self.old.log pid } }
+    {
+        self.log.begin(pid)
+    }
+
+    /// Ends the operation that a process has open, as the log's `end`.
+    pub fn end(&mut self, pid: u32) -> Ended
+        requires fault { self.old.fault ≡ None }
+        requires pid { pid < 32 }
+        requires open { IsSome (used_by self.old.log pid) }
+        ensures answer { result ≡ end_answer self.old.log }
+        ensures volume { self.new ≡ record self.old { log = ended self.old.log pid } }
+    {
+        self.log.end(pid)
+    }
+
+    /// Gets the lock of a block's slot for a process (`bread`): `Got` with a valid slot, for which
+    /// the block was read where no buffer showed it; `Sleeping` with `BufferHeld` or `NoBuffer`
+    /// where the cache's `acquire` has to wait, and nothing is changed. `Fault` where that read
+    /// failed; the slot then keeps the process's lock.
+    pub fn get(&mut self, pid: u32, block: u32) -> Get
+        requires fault { self.old.fault ≡ None }
+        requires behind { 33 ≤ block }
+        requires within { block < self.old.log.size }
+        ensures answer { UnlessFault result (result ≡ get_answer self.old.buffers block) }
+        ensures buffers { UnlessFault result (self.new.buffers ≡ after_get (D.image self.old.device) self.old.buffers pid block) }
+        ensures got { OnGot result (λ slot. Holds (seen (D.image self.new.device) self.new.buffers) self.new.buffers pid block slot) }
+        ensures sleeping { OnSleeping result (self.new ≡ self.old) }
+        ensures failed { OnFault result (FailsToFill self.old.buffers self.new.buffers pid block) }
+        ensures fault { self.new.fault ≡ fault_of_get result }
+        ensures log { self.new.log ≡ self.old.log }
+        ensures current { seen (D.image self.new.device) self.new.buffers ≡ seen (D.image self.old.device) self.old.buffers }
+        ensures image { D.image self.new.device ≡ D.image self.old.device }
+        ensures writes { D.write_count self.new.device ≡ D.write_count self.old.device }
+        ensures faults { D.fault_count self.new.device ≡ faults_after (fault_of_get result) (D.fault_count self.old.device) }
+        ensures time { AddsNone (D.moment self.old.device) (D.moment self.new.device) (D.leaves self.old.device) (D.leaves self.new.device) }
+    {
+        match self.cache.acquire(pid, block) {
+            Acquired::Sleeping(busy) => Get::Sleeping(why(busy)),
+            Acquired::Got { slot, valid: true } => Get::Got(slot),
+            Acquired::Got { slot, valid: false } => self.fill(block, slot),
+        }
+    }
+
+    // Reads the block of a slot that isn't valid.
+    fn fill(&mut self, block: u32, slot: u32) -> Get
+        requires fault { self.old.fault ≡ None }
+        requires slot { slot < 40 }
+        requires block { (buffer self.old.buffers slot).block ≡ Some block }
+        requires valid { (buffer self.old.buffers slot).valid ≡ false }
+        ensures answer { UnlessFault result (result ≡ Get.Got slot) }
+        ensures buffers { UnlessFault result (self.new.buffers ≡ filled self.old.buffers slot (block_at (D.image self.old.device) block)) }
+        ensures place { OnFault result (λ fault. fault.0 ≡ block) }
+        ensures failed { OnFault result (λ _. EndsUnfilled self.old.buffers slot self.new.buffers) }
+        ensures fault { self.new.fault ≡ fault_of_get result }
+        ensures log { self.new.log ≡ self.old.log }
+        ensures current { seen (D.image self.new.device) self.new.buffers ≡ seen (D.image self.old.device) self.old.buffers }
+        ensures image { D.image self.new.device ≡ D.image self.old.device }
+        ensures writes { D.write_count self.new.device ≡ D.write_count self.old.device }
+        ensures faults { D.fault_count self.new.device ≡ faults_after (fault_of_get result) (D.fault_count self.old.device) }
+        ensures time { AddsNone (D.moment self.old.device) (D.moment self.new.device) (D.leaves self.old.device) (D.leaves self.new.device) }
+    {
+        match self.cache.fill(slot, &mut self.disk) {
+            Ok(()) => Get::Got(slot),
+            Err(fault) => {
+                self.fault = Some(fault);
+                Get::Fault(fault)
+            }
+        }
+    }
+
+    /// The bytes of a slot.
+    pub fn data(&self, slot: u32) -> &Block
+        requires { slot < 40 }
+        ensures bytes { result.now ≡ (buffer self.now.buffers slot).bytes }
+        ensures block { IsBlock result.now }
+    {
+        self.cache.data(slot)
+    }
+
+    /// The holder of a slot gives up its lock (`brelse`), as the cache's `release`.
+    pub fn release(&mut self, pid: u32, slot: u32)
+        requires fault { self.old.fault ≡ None }
+        requires slot { slot < 40 }
+        requires held { (buffer self.old.buffers slot).holder ≡ Some pid }
+        ensures volume { self.new ≡ record self.old { buffers = released self.old.buffers slot } }
+        ensures current { seen (D.image self.new.device) self.new.buffers ≡ seen (D.image self.old.device) self.old.buffers }
+    {
+        self.cache.release(pid, slot);
+    }
+
+    /// Logs the block of a valid slot that a process holds (`log_write`), and writes these bytes in
+    /// the place of its own from the index `at` on: the current image changes in that block alone.
+    /// The process has an operation open that added fewer than ten homes.
+    pub fn change(&mut self, pid: u32, slot: u32, at: usize, bytes: &[u8])
+        requires fault { self.old.fault ≡ None }
+        requires pid { pid < 32 }
+        requires room { HasRoom (used_by self.old.log pid) }
+        requires slot { slot < 40 }
+        requires held { (buffer self.old.buffers slot).holder ≡ Some pid }
+        requires block { IsSome (buffer self.old.buffers slot).block }
+        requires valid { (buffer self.old.buffers slot).valid ≡ true }
+        requires fits { at + length bytes.now ≤ 1024 }
+        ensures volume { self.new ≡ after_change self.old pid slot at bytes.now }
+        ensures current { seen (D.image self.new.device) self.new.buffers ≡ slice_set (seen (D.image self.old.device) self.old.buffers) (block_or_zero (buffer self.old.buffers slot).block) (overwritten (buffer self.old.buffers slot).bytes at bytes.now) }
+        ensures holds { Holds (seen (D.image self.new.device) self.new.buffers) self.new.buffers pid (block_or_zero (buffer self.old.buffers slot).block) slot }
+    {
+        self.log.log_write(pid, &mut self.cache, slot);
+        self.cache.put(pid, slot, at, bytes);
+    }
+
+    /// Makes the next write of a commit that is under way, as the log's `commit_step`. Outside the
+    /// log the current image stays.
+    pub fn commit_step(&mut self) -> Committed
+        requires fault { self.old.fault ≡ None }
+        requires busy { is_quiet self.old.log.commit ≡ false }
+        ensures step { CommitsTo self.old.log.commit self.old.log.opened result
+            (Stepped (header_block self.old.log.homes) (D.image self.old.device) self.old.buffers self.old.log (D.image self.new.device) self.new.buffers self.new.log)
+            (Faulted (header_block self.old.log.homes) (D.image self.old.device) self.old.buffers self.old.log (D.image self.new.device) self.new.buffers self.new.log) }
+        ensures fault { self.new.fault ≡ fault_of_step result }
+        ensures current { IsSameOutsideLog (seen (D.image self.old.device) self.old.buffers) (seen (D.image self.new.device) self.new.buffers) }
+        ensures time { Elapses (D.moment self.old.device) (D.moment self.new.device) (D.leaves self.old.device) (D.leaves self.new.device) }
+        ensures crash { LeavesOldOrNew (place_at self.old.log.commit self.old.log.homes)
+            (bytes_at self.old.log.commit self.old.log.homes (header_block self.old.log.homes) (seen (D.image self.old.device) self.old.buffers))
+            (D.leaves self.old.device (D.moment self.old.device)) (D.leaves self.new.device (D.moment self.new.device)) }
+        ensures recovers { (z : Image) → D.leaves self.new.device (D.moment self.new.device) z → CrashKeeps self.old.log.commit (D.image self.old.device) (seen (D.image self.old.device) self.old.buffers) z }
+        ensures lawful { (z : Image) → D.leaves self.new.device (D.moment self.new.device) z → IsTrue (is_lawful_log z) }
+        ensures writes { IsFault result (λ fault. D.write_count self.new.device ≡ D.write_count self.old.device) (Rose (D.fault_count self.old.device) (D.fault_count self.new.device)) (D.write_count self.new.device ≡ one_more (D.write_count self.old.device)) }
+        ensures faults { IsFault result (λ fault. fault.0 ≡ place_at self.old.log.commit self.old.log.homes) (Rose (D.fault_count self.old.device) (D.fault_count self.new.device)) (D.fault_count self.new.device ≡ D.fault_count self.old.device) }
+    {
+        let answer = self.log.commit_step(&mut self.cache, &mut self.disk);
+        self.fault = fault_of(answer);
+        answer
+    }
+}
+
+// Why a process waits for a buffer.
+fn why(busy: Busy) -> Why
+    ensures { result ≡ why_busy busy }
+{
+    match busy {
+        Busy::Held => Why::BufferHeld,
+        Busy::NoBuffer => Why::NoBuffer,
+    }
+}
+
+// The fault of a step.
+fn fault_of(answer: Committed) -> Option<DiskFault>
+    ensures { result ≡ fault_of_step answer }
+{
+    match answer {
+        Committed::More | Committed::Durable(_) | Committed::Done => None,
+        Committed::Fault(fault) => Some(fault),
+    }
+}
+
+#[cfg(test)]
+mod tests;
