@@ -1,1 +1,2 @@
 pub mod Creations
+pub mod LookLemmas

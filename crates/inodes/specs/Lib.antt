@@ -1,2 +1,3 @@
 pub mod Creation
+pub mod Ialloc
 pub mod Laws

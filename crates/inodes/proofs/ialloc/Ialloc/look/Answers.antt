@@ -1,0 +1,18 @@
+use Rattle.std.proofs.Common.{rules, ◌∙◌}
+use Rattle.inodes.proofs.LookLemmas.{held, held_number, ready_next, creates, sees_taken, none_free}
+use Rattle.inodes.proofs.ialloc.Ialloc.look.Goals as goal
+
+pub claim-requires-clause-holds : goal.claim-requires-clause-holds
+claim-requires-clause-holds g c = held_number _ _ _ _ _ _ _ _ c.requires.ready c.requires.slot c.data.ensures.bytes c.in-Some.ensures
+
+pub returns-in-Some-clause-claimed : goal.returns-in-Some-clause-claimed
+returns-in-Some-clause-claimed g c =
+    creates _ _ _ c.args.self.now _ c.requires.ready.behind (c.data.ensures.bytes ∙ (held _ _ _ _ _ _ c.requires.ready c.requires.slot).bytes) c.data.ensures.block c.in-Some.ensures c.claim.ensures.current
+
+pub returns-in-None-clause-more : goal.returns-in-None-clause-more
+returns-in-None-clause-more g c = ready_next _ _ _ _ _ _ _ _ _ _ c.requires.ready (search rules) c.go_on.ensures.answer c.go_on.ensures.search
+
+pub returns-in-None-clause-taken : goal.returns-in-None-clause-taken
+returns-in-None-clause-taken g c =
+    none_free _ _ _ _ _ c.requires.slot c.go_on.ensures.answer
+    (sees_taken _ _ c.args.self.now (c.data.ensures.bytes ∙ (held _ _ _ _ _ _ c.requires.ready c.requires.slot).bytes) c.in-None.ensures)

@@ -1,0 +1,190 @@
+// A creation's search for a free inode number.
+ghost use Rattle.std.specs.Prelude.{◌≡◌, ◌<◌, ◌≤◌, ◌-◌, Some, None, if◌then◌else◌};
+ghost use Rattle.blocks.specs.Disk.{block_at, AddsNone};
+ghost use Rattle.model.specs.Layout.{inode_block};
+ghost use Rattle.model.specs.Codec.{dinode_bytes};
+ghost use Rattle.wal.specs.Machine.{used_by, HasRoom};
+ghost use Rattle.wal.specs.Joint.{seen};
+ghost use Rattle.wal.specs.Volume.{Holds, faults_after};
+ghost use Rattle.inodes.specs.Creation.{new_inode, with_inode, is_free_in, lowest_free};
+ghost use Rattle.inodes.specs.Ialloc.{IsReady, Gets, Looks, Allocates, OnMore, OnClaimed, OnNoneFree, Creates, SeesTaken, is_last_block, at_next_block, with_new_inode, current_after, fault_in};
+
+use crate::Progress;
+use blocks::{Block, Disk};
+use byteorder::{ByteOrder, LittleEndian};
+use layout::inode;
+use wal::{Get, Volume};
+
+/// The steps in which a creation claims an inode number (`ialloc`; the xv6 book, the chapter "File
+/// system": "Code: Inodes"): it looks at the inode blocks in order, from the one of number 1 on, and
+/// takes the lowest free number of the first block that has one.
+///
+/// A look is two steps: one that gets the block, and one that claims a number in it or goes on.
+#[derive(Clone, Copy, Debug, PartialEq, Eq)]
+pub struct Ialloc {
+    /// The type of the new file, from 1 to 3.
+    pub kind: u16,
+    /// The inode numbers, the unused number 0 included: from 2 to 1024.
+    pub inode_count: u32,
+    /// The inode block that is looked at.
+    pub block: u32,
+    /// The slot that holds it, where it was got.
+    pub slot: Option<u32>,
+}
+
+impl Ialloc {
+    /// A search that begins at the first inode block, for a file of this type.
+    pub fn new(kind: u16, inode_count: u32) -> Ialloc
+        ensures { result ≡ record { kind = kind; inode_count = inode_count; block = 33; slot = None } }
+    {
+        Ialloc {
+            kind,
+            inode_count,
+            block: 33,
+            slot: None,
+        }
+    }
+
+    /// Makes the next step. `Over` with the number that was claimed, and whose inode is now that of
+    /// an empty file with one link; or with None where each number was seen taken. `Sleeping` where
+    /// the block's buffer is held by another process, or none is to be had.
+    pub fn step<D: Disk>(&mut self, volume: &mut Volume<D>, pid: u32) -> Progress<Option<u32>>
+        requires fault { volume.old.fault ≡ None }
+        requires pid { pid < 32 }
+        requires room { HasRoom (used_by volume.old.log pid) }
+        requires ready { IsReady (seen (D.image volume.old.device) volume.old.buffers) volume.old.buffers volume.old.log.size pid self.old }
+        ensures step { Allocates (D.image volume.old.device) (seen (D.image volume.old.device) volume.old.buffers) self.old volume.old pid result self.new volume.new }
+        ensures more { OnMore result (IsReady (seen (D.image volume.new.device) volume.new.buffers) volume.new.buffers volume.new.log.size pid self.new) }
+        ensures current { seen (D.image volume.new.device) volume.new.buffers ≡ current_after (seen (D.image volume.old.device) volume.old.buffers) self.old result }
+
+        // What the files become, and why none is made.
+        ensures claimed { OnClaimed result (Creates (seen (D.image volume.old.device) volume.old.buffers) self.old (seen (D.image volume.new.device) volume.new.buffers)) }
+        ensures taken { OnNoneFree self.old.slot result (SeesTaken (seen (D.image volume.old.device) volume.old.buffers) self.old) }
+
+        ensures fault { volume.new.fault ≡ fault_in result }
+        ensures image { D.image volume.new.device ≡ D.image volume.old.device }
+        ensures writes { D.write_count volume.new.device ≡ D.write_count volume.old.device }
+        ensures faults { D.fault_count volume.new.device ≡ faults_after (fault_in result) (D.fault_count volume.old.device) }
+        ensures time { AddsNone (D.moment volume.old.device) (D.moment volume.new.device) (D.leaves volume.old.device) (D.leaves volume.new.device) }
+    {
+        match self.slot {
+            None => self.get(volume, pid),
+            Some(slot) => self.look(volume, pid, slot),
+        }
+    }
+
+    // Gets the block.
+    fn get<D: Disk>(&mut self, volume: &mut Volume<D>, pid: u32) -> Progress<Option<u32>>
+        requires fault { volume.old.fault ≡ None }
+        requires ready { IsReady (seen (D.image volume.old.device) volume.old.buffers) volume.old.buffers volume.old.log.size pid self.old }
+        requires slot { self.old.slot ≡ None }
+        ensures step { Gets (D.image volume.old.device) (seen (D.image volume.old.device) volume.old.buffers) self.old volume.old pid result self.new volume.new }
+        ensures more { OnMore result (IsReady (seen (D.image volume.new.device) volume.new.buffers) volume.new.buffers volume.new.log.size pid self.new) }
+        ensures current { seen (D.image volume.new.device) volume.new.buffers ≡ seen (D.image volume.old.device) volume.old.buffers }
+        ensures fault { volume.new.fault ≡ fault_in result }
+        ensures image { D.image volume.new.device ≡ D.image volume.old.device }
+        ensures writes { D.write_count volume.new.device ≡ D.write_count volume.old.device }
+        ensures faults { D.fault_count volume.new.device ≡ faults_after (fault_in result) (D.fault_count volume.old.device) }
+        ensures time { AddsNone (D.moment volume.old.device) (D.moment volume.new.device) (D.leaves volume.old.device) (D.leaves volume.new.device) }
+    {
+        match volume.get(pid, self.block) {
+            Get::Got(slot) => {
+                self.slot = Some(slot);
+                Progress::Moved
+            }
+            Get::Sleeping(why) => Progress::Sleeping(why),
+            Get::Fault(fault) => Progress::Fault(fault),
+        }
+    }
+
+    // Claims the lowest free number of the block, if there is one, and releases the block.
+    fn look<D: Disk>(
+        &mut self,
+        volume: &mut Volume<D>,
+        pid: u32,
+        slot: u32,
+    ) -> Progress<Option<u32>>
+        requires fault { volume.old.fault ≡ None }
+        requires pid { pid < 32 }
+        requires room { HasRoom (used_by volume.old.log pid) }
+        requires ready { IsReady (seen (D.image volume.old.device) volume.old.buffers) volume.old.buffers volume.old.log.size pid self.old }
+        requires slot { self.old.slot ≡ Some slot }
+        ensures step { Looks (lowest_free (block_at (seen (D.image volume.old.device) volume.old.buffers) self.old.block) self.old.inode_count self.old.block) (is_last_block self.old) self.old volume.old pid slot result self.new volume.new }
+        ensures more { OnMore result (IsReady (seen (D.image volume.new.device) volume.new.buffers) volume.new.buffers volume.new.log.size pid self.new) }
+        ensures current { seen (D.image volume.new.device) volume.new.buffers ≡ current_after (seen (D.image volume.old.device) volume.old.buffers) self.old result }
+        ensures claimed { OnClaimed result (Creates (seen (D.image volume.old.device) volume.old.buffers) self.old (seen (D.image volume.new.device) volume.new.buffers)) }
+        ensures taken { OnNoneFree self.old.slot result (SeesTaken (seen (D.image volume.old.device) volume.old.buffers) self.old) }
+        ensures device { volume.new.device ≡ volume.old.device }
+        ensures fault { volume.new.fault ≡ fault_in result }
+        ensures none { fault_in result ≡ None }
+    {
+        match lowest_free(volume.data(slot), self.inode_count, self.block) {
+            Some(i) => {
+                claim(volume, pid, slot, i, self.kind);
+                Progress::Over(Some(i))
+            }
+            None => {
+                volume.release(pid, slot);
+                self.go_on()
+            }
+        }
+    }
+
+    // Goes on to the next block, if it has a number that operations may name.
+    fn go_on(&mut self) -> Progress<Option<u32>>
+        requires some { 2 ≤ self.old.inode_count }
+        requires few { self.old.inode_count ≤ 1024 }
+        requires last { self.old.block ≤ inode_block (self.old.inode_count - 1) }
+        ensures answer { result ≡ (if is_last_block self.old then Progress.Over None else Progress.Moved) }
+        ensures search { self.new ≡ (if is_last_block self.old then self.old else at_next_block self.old) }
+    {
+        if self.block == 33 + (self.inode_count - 1) / 16 {
+            return Progress::Over(None);
+        }
+        self.block += 1;
+        self.slot = None;
+        Progress::Moved
+    }
+}
+
+// Writes the inode of a new file at a number of the block that the slot holds, and releases it.
+fn claim<D: Disk>(volume: &mut Volume<D>, pid: u32, slot: u32, i: u32, kind: u16)
+    requires fault { volume.old.fault ≡ None }
+    requires pid { pid < 32 }
+    requires room { HasRoom (used_by volume.old.log pid) }
+    requires holds { Holds (seen (D.image volume.old.device) volume.old.buffers) volume.old.buffers pid (inode_block i) slot }
+    ensures volume { volume.new ≡ with_new_inode volume.old pid slot i kind }
+    ensures current { seen (D.image volume.new.device) volume.new.buffers ≡ with_inode (seen (D.image volume.old.device) volume.old.buffers) i (new_inode kind) }
+{
+    let at = (i % 16 * 64) as usize;
+    volume.change(pid, slot, at, &new_inode_bytes(kind));
+    volume.release(pid, slot);
+}
+
+// Whether an inode block says that a number is free, and operations may name it.
+fn is_free(block: &Block, i: u32, inode_count: u32) -> bool
+    ensures { result ≡ is_free_in block.now inode_count i }
+{
+    0 < i && i < inode_count && inode::read_at(block, i).kind == 0
+}
+
+// The lowest free number in an inode block.
+fn lowest_free(bytes: &Block, inode_count: u32, block: u32) -> Option<u32>
+    requires behind { 33 ≤ block }
+    requires small { block < 8192 }
+    ensures { result ≡ lowest_free bytes.now inode_count block }
+{
+    let first = (block - 33) * 16;
+    (first..first + 16).find(|i| is_free(bytes, *i, inode_count))
+}
+
+// The bytes of the inode of a new file.
+#[tactic(auto, unfolding(model::specs::Codec::dinode_bytes))]
+fn new_inode_bytes(kind: u16) -> [u8; 64]
+    ensures { result ≡ dinode_bytes (new_inode kind) }
+{
+    let mut bytes = [0; 64];
+    LittleEndian::write_u16(&mut bytes, kind);
+    bytes[6] = 1;
+    bytes
+}

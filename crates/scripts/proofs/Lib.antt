@@ -1,0 +1,6 @@
+pub mod FieldLemmas
+pub mod LineLemmas
+pub mod NumberLemmas
+pub mod OperationLemmas
+pub mod ProcessLemmas
+pub mod Walk

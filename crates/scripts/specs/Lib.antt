@@ -1,0 +1,5 @@
+pub mod Field
+pub mod Number
+pub mod Operation
+pub mod Schedule
+pub mod Script
