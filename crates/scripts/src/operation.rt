@@ -31,7 +31,8 @@ fn spaces(line: &[u8]) -> usize
 
 // The fields of a line, which has one space between two of them.
 fn fields_of<'a>(alloc: Global, line: &'a [u8]) -> Result<Vec<&'a [u8]>, AllocError>
-    ensures { IfOk result (λ fields. map (λ field. field.now) fields.items ≡ slice_split (λ byte. byte == 32) line.now) }
+    ensures { IfOk result (λ fields. map (λ field. field.now) fields.items
+        ≡ slice_split (λ byte. byte == 32) line.now) }
 {
     line.split(|byte| *byte == b' ').collect(alloc)
 }

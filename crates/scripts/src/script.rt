@@ -1,6 +1,6 @@
 // Scripts of operations.
 ghost use Rattle.std.specs.Prelude.{◌≡◌, ◌≢◌, ◌+◌, ◌<◌, ◌≤◌, ◌⊎◌, [], All, Any, false, IfErr, IfOk, IsTrue, None, Some, ◌∷◌, ◌++◌, length};
-ghost use Rattle.scripts.specs.Script.{fault_in_lines, fault_of, task_of, tasks_of};
+ghost use Rattle.scripts.specs.Script.{fault_in_lines, fault_of, is_skipped, task_of, tasks_of};
 ghost use Rattle.scripts.specs.Operation.{statement_of};
 
 use crate::field::LineFault;
@@ -64,7 +64,8 @@ impl<T: Drop> From<AllocFailed<T>> for ScriptFault {
 pub fn read_script(alloc: Global, text: &[u8]) -> Result<Vec<Task>, ScriptFault>
     ensures tasks { IfOk result (λ tasks. tasks.items ≡ tasks_of text.now) }
     ensures sound { IfOk result (λ tasks. fault_of text.now ≡ None) }
-    ensures fault { IfErr result (λ fault. (fault ≡ ScriptFault.NoMemory) ⊎ (fault_of text.now ≡ Some fault)) }
+    ensures fault { IfErr result
+        (λ fault. (fault ≡ ScriptFault.NoMemory) ⊎ (fault_of text.now ≡ Some fault)) }
     ensures processes { IfOk result (λ tasks. All (λ task. task.pid < 32) tasks.items) }
 {
     if text.len() > SCRIPT_LIMIT {
@@ -122,7 +123,7 @@ fn add(tasks: &mut Vec<Task>, task: Task) -> Result<bool, ScriptFault>
 
 // An empty line or a comment.
 fn is_skipped(line: &[u8]) -> bool
-    ensures { result ≡ Rattle.scripts.specs.Script.is_skipped line.now }
+    ensures { result ≡ is_skipped line.now }
 {
     match line {
         [] => true,
