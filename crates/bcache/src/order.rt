@@ -1,5 +1,5 @@
 // The order in which slots were released.
-ghost use Rattle.std.specs.Prelude.{◌≡◌, ◌<◌, ◌==◌, ℕ, length, map, position, slice_index, IfSome};
+ghost use Rattle.std.specs.Prelude.{◌≡◌, ◌<◌, ◌≤◌, ◌==◌, ◌∷◌, ℕ, length, map, position, remove, slice_index, IfSome};
 ghost use Rattle.model.specs.State.{references_of};
 ghost use Rattle.model.specs.Order.{IsOrder, first_order, moved_to_front, victim_in};
 
@@ -57,8 +57,7 @@ impl Order {
         let Some(place) = place_of(&self.slots, slot) else {
             unreachable!();
         };
-        self.slots.remove(place);
-        self.slots.insert(0, slot);
+        put_first(&mut self.slots, place, slot);
     }
 
     /// The last slot whose buffer has no references, if there is one. The buffers are those of the
@@ -70,6 +69,16 @@ impl Order {
     {
         last_unused(&self.slots, buffers)
     }
+}
+
+// Takes the slot at a place out, and puts this one at the front.
+fn put_first(slots: &mut ArrayVec<u32, 40>, place: usize, slot: u32)
+    requires inside { place < length slots.old.items }
+    requires few { length slots.old.items ≤ 40 }
+    ensures { slots.new.items ≡ slot ∷ remove slots.old.items place }
+{
+    slots.remove(place);
+    slots.insert(0, slot);
 }
 
 // The last of these slots whose buffer has no references.

@@ -4,7 +4,7 @@ use Rattle.model.specs.declared.types.Answer.{Answer}
 use Rattle.model.specs.declared.types.Entry.{Entry}
 use Rattle.model.specs.declared.types.Op.{Op}
 use Rattle.model.specs.declared.types.Reply.{Reply}
-use Rattle.model.specs.declared.types.Reply.TheVariants.{Made, NoInode}
+use Rattle.model.specs.declared.types.Reply.TheVariants.{Made, NoInode, BadType}
 use Rattle.inodes.specs.declared.ialloc.Ialloc.{Ialloc}
 use Rattle.kernel.specs.declared.types.At.{At}
 use Rattle.kernel.specs.declared.types.At.TheVariants as at
@@ -31,11 +31,19 @@ fresh count = record { processes = replicate count idle; journal = record { list
 abbrev pub at_place : World → ℕ → At → World
 at_place w p place = record w { processes = slice_set w.processes p (record (process w p) { at = place }) }
 
+-- a place in the journal is kept for one operation more
+abbrev pub with_place : World → World
+with_place w = record w { journal = reserved w.journal }
+
 -- a creation was taken for a process, in that group
 abbrev pub creating : World → ℕ → ℕ → Ialloc → World
-creating w p group search = record w {
-  processes = slice_set w.processes p (record { begun = (process w p).begun + 1; at = at.Creating group search });
-  journal = reserved w.journal;
+creating w p group search = record w { processes = slice_set w.processes p (record { begun = (process w p).begun + 1; at = at.Creating group search }) }
+
+-- an operation of a process was refused at once, as one that has a type that no file has
+abbrev pub refused : World → ℕ → Op → World
+refused w p op = record w {
+  processes = slice_set w.processes p (record (process w p) { begun = (process w p).begun + 1 });
+  journal = noted w.journal (record { pid = p; seq = (process w p).begun + 1; op = op; group = 0; reply = Some BadType });
 }
 
 -- its search went on

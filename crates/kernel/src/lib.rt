@@ -8,3 +8,6 @@ mod types;
 pub use journal::Journal;
 pub use processes::Processes;
 pub use types::{At, Process, Step, Turn};
+
+#[cfg(test)]
+mod tests;

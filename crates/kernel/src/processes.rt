@@ -1,6 +1,6 @@
 // The processes and their journal, without volume and ports.
 ghost use Rattle.std.specs.Prelude.{◌≡◌, ◌<◌, ◌^◌, ◌+◌, ◌-◌, true, length, Some, IsSome, IfOk, OnErr};
-ghost use Rattle.kernel.specs.Processes.{World, process, fresh, creating, searching, entry_of, turned, search_at, group_at, reply_at, committing, answer_of, answered, made_reply};
+ghost use Rattle.kernel.specs.Processes.{World, process, fresh, with_place, creating, refused, searching, entry_of, turned, search_at, group_at, reply_at, committing, answer_of, answered, made_reply};
 ghost use Rattle.kernel.specs.Journal.{reserved, noted};
 
 use crate::{At, Journal, Process};
@@ -79,23 +79,62 @@ impl Processes {
         &self.processes[pid as usize].at
     }
 
-    /// Begins a creation in this group, with a place in the journal.
+    /// Keeps a place in the journal for one more operation.
     ///
     /// # Errors
     ///
     /// `NoMemory` where the allocator refuses the place; nothing is changed.
-    pub fn create(&mut self, pid: u32, group: u64, search: Ialloc) -> Result<(), NoMemory>
-        requires pid { pid < length self.old.processes }
-        requires begun { (process self.old pid).begun + 1 < 2 ^ 64 }
-        requires room { self.old.journal.room + 1 < 2 ^ 64 }
-        ensures ok { IfOk result (λ _. self.new ≡ creating self.old pid group search) }
+    pub fn reserve(&mut self) -> Result<(), NoMemory>
+        requires { self.old.journal.room + 1 < 2 ^ 64 }
+        ensures ok { IfOk result (λ _. self.new ≡ with_place self.old) }
         ensures err { OnErr result (self.new ≡ self.old) }
     {
-        self.journal.reserve()?;
+        self.journal.reserve()
+    }
+
+    /// Begins a creation in this group, for which a place in the journal is kept.
+    pub fn create(&mut self, pid: u32, group: u64, search: Ialloc)
+        requires pid { pid < length self.old.processes }
+        requires begun { (process self.old pid).begun + 1 < 2 ^ 64 }
+        ensures { self.new ≡ creating self.old pid group search }
+    {
         let process = &mut self.processes[pid as usize];
         process.begun += 1;
         process.at = At::Creating { group, search };
-        Ok(())
+    }
+
+    /// An operation is refused at once: its entry, of no group, is in the journal, in a place that
+    /// was kept. Its answer.
+    pub fn refuse(&mut self, pid: u32, op: Op) -> Answer
+        requires pid { pid < length self.old.processes }
+        requires begun { (process self.old pid).begun + 1 < 2 ^ 64 }
+        requires room { 0 < self.old.journal.room }
+        ensures answer { result ≡ record { seq = (process self.old pid).begun + 1; reply = Reply.BadType; group = 0 } }
+        ensures processes { self.new ≡ refused self.old pid op }
+    {
+        let process = &mut self.processes[pid as usize];
+        let seq = process.begun + 1;
+        process.begun = seq;
+        self.journal.add(Entry {
+            pid,
+            seq,
+            op,
+            group: 0,
+            reply: Some(Reply::BadType),
+        });
+        Answer {
+            seq,
+            reply: Reply::BadType,
+            group: 0,
+        }
+    }
+
+    /// How many operations were taken for a process.
+    pub fn begun(&self, pid: u32) -> u64
+        requires { pid < length self.now.processes }
+        ensures { result ≡ (process self.now pid).begun }
+    {
+        self.processes[pid as usize].begun
     }
 
     /// The search of a creation went on.

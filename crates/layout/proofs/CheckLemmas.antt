@@ -80,10 +80,6 @@ ground x sup none lawful same =
       bitmap = rw same f.map;
     }
 
-or_none : {A : Type 0} (a : Option A) → or_else a None ≡ a
-or_none None = refl
-or_none (Some a) = refl
-
 -- a cause that comes first
 pub cause_first : (a b : Option CheckFault) (old new : ℕ) (fault : CheckFault) → IsCause a old new fault → IsCause (or_else a b) old new fault
 cause_first a b old new fault (inl here) = inl (rw here refl)

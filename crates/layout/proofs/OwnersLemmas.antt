@@ -1,15 +1,14 @@
 -- Judging pointers one after the other.
-use Rattle.std.proofs.Common.{◌≡◌, ◌≢◌, ℕ, suc, ◌+◌, not, eqb, List, [], ◌∷◌, ◌++◌, length, drop, map, Option, Some, None, Result, Ok, Err, refl, sym, ap, subst, ◌∙◌, take, get_or, ◌<◌, add-zero, inl, arith}
+use Rattle.std.proofs.Common.{◌≡◌, ◌≢◌, ℕ, suc, ◌+◌, List, [], ◌∷◌, ◌++◌, length, drop, Option, Some, None, Result, Ok, Err, refl, sym, ap, subst, ◌∙◌, take, get_or, ◌<◌, add-zero, inl, arith}
 use Rattle.std.proofs.lemmas.Bool.{ne_eqb}
-use Rattle.std.proofs.lemmas.List.{append_assoc, append-nil, map-append, take_more, length-take, take-append-drop}
-use Rattle.std.proofs.lemmas.List.Elements.{filter-append}
-use Rattle.std.specs.List.{filter}
+use Rattle.std.proofs.lemmas.List.{append_assoc, append-nil, take_more, length-take, take-append-drop}
 use Rattle.blocks.specs.Disk.{Image, block_at}
 use Rattle.model.specs.declared.types.CheckFault.{CheckFault}
 use Rattle.model.specs.declared.types.Dinode.{Dinode}
 use Rattle.model.specs.declared.types.Pointer.{Pointer}
 use Rattle.model.specs.Fields.{words_of}
 use Rattle.model.specs.Places.{addresses_in, pointer_of}
+use Rattle.model.proofs.Named.{addresses_in-append}
 use Rattle.model.specs.Verdict.{or_else, address_fault, pointer_fault, first_pointer_fault}
 use Rattle.layout.specs.declared.owners.Owners.{Owners}
 use Rattle.layout.specs.Cause.{IsCause}
@@ -18,11 +17,6 @@ use Rattle.layout.specs.Owners.{Stand, JudgesOn, Judges, JudgesAddress, data_poi
 or_none : {A : Type 0} (a : Option A) → or_else a None ≡ a
 or_none None = refl
 or_none (Some a) = refl
-
-pub addresses-append : (front back : List Pointer) → addresses_in (front ++ back) ≡ addresses_in front ++ addresses_in back
-addresses-append front back =
-    ap (λ l. filter (λ a. not (eqb a 0)) l) (map-append (λ p. p.address) front back)
-    ∙ filter-append (λ a. not (eqb a 0)) (map (λ p. p.address) front) (map (λ p. p.address) back)
 
 -- a pointer to a block is judged by its address
 pub judged : (y : Image) (i : ℕ) (earlier : List ℕ) (p : Pointer) (new : Owners) (result : Result (Unit {0}) CheckFault) →
@@ -46,7 +40,7 @@ first_pointer_fault-append y i earlier [] back = rw (append-nil earlier) refl
 first_pointer_fault-append y i earlier (p ∷ front) back =
     let here = earlier ++ addresses_in (p ∷ []) in
     let joined : here ++ addresses_in front ≡ earlier ++ addresses_in (p ∷ front)
-    = append_assoc earlier (addresses_in (p ∷ [])) (addresses_in front) ∙ ap (λ r. earlier ++ r) (sym (addresses-append (p ∷ []) front)) in
+    = append_assoc earlier (addresses_in (p ∷ [])) (addresses_in front) ∙ ap (λ r. earlier ++ r) (sym (addresses_in-append (p ∷ []) front)) in
     ap (λ r. or_else (pointer_fault y i earlier p) r)
     (first_pointer_fault-append y i here front back
     ∙ ap (λ e. or_else (first_pointer_fault y i here front) (first_pointer_fault y i e back)) joined)
@@ -59,7 +53,7 @@ pub judged_more : (y : Image) (i : ℕ) (earlier : List ℕ) (front back : List 
     Judges y i earlier (front ++ back) new result
 judged_more y i earlier front back new (Ok u) none h =
     let joined : (earlier ++ addresses_in front) ++ addresses_in back ≡ earlier ++ addresses_in (front ++ back)
-    = append_assoc earlier (addresses_in front) (addresses_in back) ∙ ap (λ r. earlier ++ r) (sym (addresses-append front back)) in
+    = append_assoc earlier (addresses_in front) (addresses_in back) ∙ ap (λ r. earlier ++ r) (sym (addresses_in-append front back)) in
     (first_pointer_fault-append y i earlier front back ∙ rw none h.0, subst (Stand new y) joined h.1)
 judged_more y i earlier front back new (Err fault) none h = first_pointer_fault-append y i earlier front back ∙ rw none h
 

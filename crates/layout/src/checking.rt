@@ -1,8 +1,8 @@
 // Whether an image is sound once its log is copied home, in one pass: each block that is needed is
 // read once.
-ghost use Rattle.std.specs.Prelude.{◌≡◌, ◌≤◌, ◌<◌, ◌≢◌, ◌&&◌, ◌++◌, ℕ, List, [], length, nat_le, slice_index, max, ◌⊎◌, ◌-◌, OnOk, IfOk, IfErr, IfSome, MatchResult, None};
+ghost use Rattle.std.specs.Prelude.{◌≡◌, ◌≤◌, ◌<◌, ◌≢◌, ◌↔◌, ◌&&◌, ◌++◌, ℕ, List, [], length, nat_le, slice_index, max, ◌⊎◌, ◌-◌, IsTrue, OnOk, IfOk, IfErr, IfSome, MatchResult, None};
 ghost use Rattle.blocks.specs.Disk.{block_at, CountsFault};
-ghost use Rattle.model.specs.Layout.{super_of, is_lawful_super, meta_count, inode_of, inode_count_of, inode_block, form_of};
+ghost use Rattle.model.specs.Layout.{super_of, is_lawful_super, meta_count, inode_of, inode_count_of, inode_block, form_of, greatest_size};
 ghost use Rattle.model.specs.Log.{homes_of, logged_count, are_distinct, are_in_place, place_among, recovered};
 ghost use Rattle.model.specs.Files.{files_of, file_count};
 ghost use Rattle.model.specs.Readable.{IsReadable};
@@ -11,14 +11,14 @@ ghost use Rattle.layout.specs.Cause.{IsCause, IsLogOf, OnlyReads, source_among};
 ghost use Rattle.layout.specs.Owners.{Stand, SameLimits, own_pointers, entry_pointers, JudgesOn, JudgesInode, JudgesInodes};
 ghost use Rattle.layout.specs.Check.{IsReportOf, IsHeaderOf, IsGround, JudgesContents};
 
+use crate::geometry::meta_count;
 use crate::header::Header;
 use crate::owners::Owners;
+use crate::superblock::MAGIC;
 use crate::{entries, inode, superblock};
 use blocks::{Block, Disk, DiskFault};
 use model::types::{CheckFault, Dinode, Form, Super};
 use std::alloc::Global;
-
-const MAGIC: u32 = 0x1020_3040;
 
 // The bytes of the largest file.
 const GREATEST_SIZE: u32 = 274_432;
@@ -91,13 +91,6 @@ fn is_lawful_super(fields: Super, block_count: u32) -> bool
         && fields.logstart == 2
         && fields.inodestart == 33
         && fields.bmapstart == 33 + ninodes / 16 + 1
-}
-
-// The blocks before the first data block.
-fn meta_count(size: u32, ninodes: u32) -> u32
-    ensures { result ≡ meta_count size ninodes }
-{
-    2 + 31 + (ninodes / 16 + 1) + (size / 8192 + 1)
 }
 
 // Reads the superblock, and judges it.
@@ -181,6 +174,13 @@ fn claim_inode<D: Disk>(
     claim_entries(disk, homes, owners, entries, i, inode)
 }
 
+// Whether a file of that many bytes is larger than any may be.
+fn is_too_large(size: u32) -> bool
+    ensures { IsTrue result ↔ (greatest_size Form.One < size) }
+{
+    size > GREATEST_SIZE
+}
+
 // Judges inode i. True where it is used.
 fn check_inode<D: Disk>(
     disk: &mut D,
@@ -208,7 +208,7 @@ fn check_inode<D: Disk>(
     if inode.kind == 0 {
         return Ok(false);
     }
-    if inode.size > GREATEST_SIZE {
+    if is_too_large(inode.size) {
         return Err(CheckFault::BadSize(i));
     }
     claim_inode(disk, homes, owners, entries, i, inode)?;

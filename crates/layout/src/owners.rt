@@ -1,12 +1,23 @@
 // Which blocks are owned, block by block: what tells a block at two places, or at none.
 ghost use Rattle.std.specs.Prelude.{◌≡◌, ◌≢◌, ◌≤◌, ◌<◌, ◌^◌, ◌+◌, ◌∷◌, [], List, ℕ, length, slice_index, replicate, false, OnOk, IfOk};
 ghost use Rattle.blocks.specs.Disk.{Image};
-ghost use Rattle.model.specs.Places.{places_of};
+ghost use Rattle.model.specs.Places.{places_of, pointer_of};
 
 use crate::bitmap::bit;
 use blocks::{Block, NoMemory};
 use model::types::{CheckFault, Dinode, Pointer};
 use std::alloc::Global;
+
+// An address, which a file of `size` bytes needs where it reaches its block `first`.
+fn pointer(size: u32, first: u32, address: u32) -> Pointer
+    requires { first < 2 ^ 22 }
+    ensures { result ≡ pointer_of size first address }
+{
+    Pointer {
+        address,
+        needed: first * 1024 < size,
+    }
+}
 
 #[derive(Drop)]
 pub struct Owners {
@@ -73,10 +84,7 @@ impl Owners {
         ensures judged { (y : Image) (earlier : List ℕ) → Stand self.old y earlier → Judges y i earlier (data_pointers size first addresses.now) self.new result }
     {
         for (k, address) in addresses.iter().enumerate() {
-            let place = first + k as u32;
-            let needed = place * 1024 < size;
-            let address = *address;
-            self.claim(i, Pointer { address, needed })?;
+            self.claim(i, pointer(size, first + k as u32, *address))?;
         }
         Ok(())
     }
@@ -104,9 +112,7 @@ impl Owners {
         ensures judged { (y : Image) (earlier : List ℕ) → Stand self.old y earlier → Judges y i earlier (own_pointers inode.now) self.new result }
     {
         self.claim_data(i, inode.size, 0, &inode.addrs[..12])?;
-        let address = inode.addrs[12];
-        let needed = inode.size > 12 * 1024;
-        self.claim(i, Pointer { address, needed })
+        self.claim(i, pointer(inode.size, 12, inode.addrs[12]))
     }
 
     /// Judges the bit of block b, once all places are noted.

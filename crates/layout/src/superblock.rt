@@ -2,7 +2,7 @@
 ghost use Rattle.std.specs.Prelude.{◌≡◌, ◌≤◌, length};
 ghost use Rattle.model.specs.Fields.{u32_at};
 ghost use Rattle.model.specs.Layout.{super_in};
-ghost use Rattle.model.specs.Codec.{super_block};
+ghost use Rattle.model.specs.Codec.{super_block, super_words};
 ghost use Rattle.model.specs.declared.types.Form.TheVariants.{One};
 
 use crate::fields::{clear, read_u32, write_words};
@@ -10,7 +10,7 @@ use blocks::Block;
 use model::types::Super;
 
 // The first number of a superblock, as in xv6.
-const MAGIC: u32 = 0x1020_3040;
+pub(crate) const MAGIC: u32 = 0x1020_3040;
 
 /// The magic number in a superblock's bytes.
 pub fn magic(bytes: &[u8]) -> u32
@@ -42,7 +42,16 @@ pub fn read(bytes: &[u8]) -> Super
 pub fn write(fields: &Super, block: &mut Block)
     ensures { block.new ≡ super_block One fields.now }
 {
-    let words = [
+    let words = numbers(fields);
+    clear(block);
+    write_words(block, 0, &words);
+}
+
+// The magic number and these fields, in their order.
+fn numbers(fields: &Super) -> [u32; 8]
+    ensures { result ≡ super_words One fields.now }
+{
+    [
         MAGIC,
         fields.size,
         fields.nblocks,
@@ -51,7 +60,5 @@ pub fn write(fields: &Super, block: &mut Block)
         fields.logstart,
         fields.inodestart,
         fields.bmapstart,
-    ];
-    clear(block);
-    write_words(block, 0, &words);
+    ]
 }

@@ -1,2 +1,4 @@
 pub mod Refusal
 pub mod Status
+pub mod Lines
+pub mod Output

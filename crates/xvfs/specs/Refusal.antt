@@ -1,12 +1,8 @@
 -- How a refusal is told.
-use Rattle.std.specs.Prelude.{ℕ, List, Option, Some, None, codes}
-use Rattle.blocks.specs.declared.errors.FileFault.{FileFault}
+use Rattle.std.specs.Prelude.{ℕ, List, [], ◌++◌, Option, Some, None, codes, decimal}
 use Rattle.blocks.specs.declared.errors.FileFault.TheVariants as file
-use Rattle.layout.specs.declared.geometry.MkfsFault.{MkfsFault}
 use Rattle.layout.specs.declared.geometry.MkfsFault.TheVariants as mkfs
-use Rattle.model.specs.declared.types.CheckFault.{CheckFault}
 use Rattle.model.specs.declared.types.CheckFault.TheVariants as check
-use Rattle.xvfs.specs.declared.refusal.InputFault.{InputFault}
 use Rattle.xvfs.specs.declared.refusal.InputFault.TheVariants as input
 use Rattle.xvfs.specs.declared.refusal.Refusal.{Refusal}
 use Rattle.xvfs.specs.declared.refusal.Refusal.TheVariants.{File, Mkfs, Check, Input, Output}
@@ -76,3 +72,12 @@ argument_of (Check (check.TwiceUsed block)) = Some block
 argument_of (Check (check.UsedButFree block)) = Some block
 argument_of (Check (check.LostBlock block)) = Some block
 argument_of _ = None
+
+abbrev pub argument_text : Option ℕ → List ℕ
+argument_text None = []
+argument_text (Some n) = codes " " ++ decimal n
+
+-- layer, number, name, and what it names, with one space between them
+abbrev pub refusal_text : Refusal → List ℕ
+refusal_text r =
+    layer_of r ++ codes " " ++ decimal (number_of r) ++ codes " " ++ name_of r ++ argument_text (argument_of r)

@@ -1,6 +1,7 @@
 // One command, and the exit status that it ends with.
-ghost use Rattle.std.specs.Prelude.{◌≡◌, ◌≤◌};
+ghost use Rattle.std.specs.Prelude.{◌≡◌, ◌≤◌, Err, OnOk, IfErr};
 ghost use Rattle.xvfs.specs.Status.{status_of};
+ghost use Rattle.xvfs.specs.Output.{Tells};
 
 use crate::checking::check_file;
 use crate::making::make;
@@ -33,13 +34,18 @@ impl From<Refusal> for Failure {
 /// Does the command that these words ask for, the program's name not among them: prints what it
 /// answers to `out`, and why it wasn't done to `err`, as far as that can be written. The exit status:
 /// 0 where it was done, 1 for a refusal, 2 where the words are no command.
+///
+/// Nothing is written to `err` where the status is 0, nor to `out` where it is 2. Else no contract
+/// tells what they get, since each may fail at any byte.
 pub fn command<R: Files + AllocGlobal, S: AsStr, O: Write, E: Write>(
     rt: &R,
     words: &[S],
     out: &mut O,
     err: &mut E,
 ) -> u8
-    ensures { result ≤ 2 }
+    ensures status { result ≤ 2 }
+    ensures silent { result ≡ 0 → err.new ≡ err.old }
+    ensures misused { result ≡ 2 → out.new ≡ out.old }
 {
     let ended = perform(rt, words, out);
     let status = status_of(&ended);
@@ -69,7 +75,9 @@ fn status_of(ended: &Result<(), Failure>) -> u8
 }
 
 // Writes why a command wasn't done.
-fn report<E: Write>(failure: Failure, err: &mut E) -> Result<(), Refusal> {
+fn report<E: Write>(failure: Failure, err: &mut E) -> Result<(), Refusal>
+    ensures { OnOk result (Tells failure (E.contents err.old) (E.contents err.new)) }
+{
     match failure {
         Failure::Refused(refusal) => print(err, format_args!("xvfs: {refusal}\n")),
         Failure::Misused(text) => print(err, text),
@@ -80,7 +88,9 @@ fn perform<R: Files + AllocGlobal, S: AsStr, O: Write>(
     rt: &R,
     words: &[S],
     out: &mut O,
-) -> Result<(), Failure> {
+) -> Result<(), Failure>
+    ensures { IfErr result (λ failure. status_of (Err failure) ≡ 2 → out.new ≡ out.old) }
+{
     match parse(rt.alloc(), words) {
         Ok(request) => Ok(dispatch(rt, request, out)?),
         Err(text) => explain(text, out),
@@ -88,7 +98,9 @@ fn perform<R: Files + AllocGlobal, S: AsStr, O: Write>(
 }
 
 // Help and the version are answers, the other texts are not.
-fn explain<O: Write>(text: clap::Error, out: &mut O) -> Result<(), Failure> {
+fn explain<O: Write>(text: clap::Error, out: &mut O) -> Result<(), Failure>
+    ensures { IfErr result (λ failure. status_of (Err failure) ≡ 2 → out.new ≡ out.old) }
+{
     if text.use_stderr() {
         return Err(Failure::Misused(text));
     }

@@ -1,8 +1,8 @@
 // Command lines from a reader.
-ghost use Rattle.std.specs.Prelude.{◌≡◌, ◌≤◌, ◌<◌, ◌==◌, ◌↔◌, length, map, IfOk, string_bytes};
-ghost use Rattle.std.specs.List.{slice_split};
+ghost use Rattle.std.specs.Prelude.{◌≡◌, ◌≤◌, ◌<◌, ◌↔◌, length, map, IfOk, string_bytes};
 ghost use Rattle.std.specs.Result.{IsErrOf};
 ghost use Rattle.std.specs.Str.{IsUtf8};
+ghost use Rattle.xvfs.specs.Lines.{lines_in, words_in, script_in};
 
 use crate::command::{command, refuse};
 use crate::refusal::InputFault;
@@ -15,14 +15,16 @@ pub const LIMIT: usize = 65_536;
 
 /// Does the commands of a text: each line is one, its words have one space between them, and empty
 /// lines are none. Ends at the first whose exit status isn't 0, and answers that, else 0. Prints as
-/// `command` does. Status 1, and no command is done, where the text can't be had.
+/// `command` does, and so nothing to `err` where the status is 0. Status 1, and no command is done,
+/// where the text can't be had.
 pub fn commands<R: Files + AllocGlobal, I: Read + Drop, O: Write, E: Write>(
     rt: &R,
     input: I,
     out: &mut O,
     err: &mut E,
 ) -> u8
-    ensures { result ≤ 2 }
+    ensures status { result ≤ 2 }
+    ensures silent { result ≡ 0 → err.new ≡ err.old }
 {
     match read_text(rt.alloc(), input) {
         Ok(text) => perform_text(rt, text.as_str(), out, err),
@@ -54,7 +56,8 @@ fn perform_text<R: Files + AllocGlobal, O: Write, E: Write>(
     out: &mut O,
     err: &mut E,
 ) -> u8
-    ensures { result ≤ 2 }
+    ensures status { result ≤ 2 }
+    ensures silent { result ≡ 0 → err.new ≡ err.old }
 {
     match script_of(rt.alloc(), text) {
         Ok(lines) => perform_lines(rt, lines.as_slice(), out, err),
@@ -68,7 +71,8 @@ fn perform_lines<R: Files + AllocGlobal, O: Write, E: Write>(
     out: &mut O,
     err: &mut E,
 ) -> u8
-    ensures { result ≤ 2 }
+    ensures status { result ≤ 2 }
+    ensures silent { result ≡ 0 → err.new ≡ err.old }
 {
     for words in lines {
         let status = command(rt, words.as_slice(), out, err);
@@ -80,9 +84,19 @@ fn perform_lines<R: Files + AllocGlobal, O: Write, E: Write>(
 }
 
 // The words of each line that isn't empty.
-fn script_of<'a>(alloc: Global, text: &'a str) -> Result<Vec<Vec<&'a str>>, AllocError> {
+fn script_of<'a>(alloc: Global, text: &'a str) -> Result<Vec<Vec<&'a str>>, AllocError>
+    ensures { IfOk result (λ script. map (λ words. map (λ word. word.now) words.items) script.items ≡ script_in (lines_in text.now)) }
+{
+    let lines = lines_of(alloc, text)?;
+    words_of_lines(alloc, lines.as_slice())
+}
+
+// The words of each of these lines that isn't empty.
+fn words_of_lines<'a>(alloc: Global, lines: &[&'a str]) -> Result<Vec<Vec<&'a str>>, AllocError>
+    ensures { IfOk result (λ script. map (λ words. map (λ word. word.now) words.items) script.items ≡ script_in (map (λ line. line.now) lines.now)) }
+{
     let mut script = Vec::new(alloc);
-    for line in lines_of(alloc, text)? {
+    for line in lines {
         if !line.is_empty() {
             script.push(words_of(alloc, line)?)?;
         }
@@ -92,14 +106,14 @@ fn script_of<'a>(alloc: Global, text: &'a str) -> Result<Vec<Vec<&'a str>>, Allo
 
 // The lines of a text. The last may lack its line feed, and is empty otherwise.
 fn lines_of<'a>(alloc: Global, text: &'a str) -> Result<Vec<&'a str>, AllocError>
-    ensures { IfOk result (λ lines. map (λ line. line.now) lines.items ≡ slice_split (λ byte. byte == 10) text.now) }
+    ensures { IfOk result (λ lines. map (λ line. line.now) lines.items ≡ lines_in text.now) }
 {
     text.split('\n').collect(alloc)
 }
 
 // The words of a line, which has one space between two words.
 fn words_of<'a>(alloc: Global, line: &'a str) -> Result<Vec<&'a str>, AllocError>
-    ensures { IfOk result (λ words. map (λ word. word.now) words.items ≡ slice_split (λ byte. byte == 32) line.now) }
+    ensures { IfOk result (λ words. map (λ word. word.now) words.items ≡ words_in line.now) }
 {
     line.split(' ').collect(alloc)
 }

@@ -1,8 +1,10 @@
 // The command `mkfs`.
-ghost use Rattle.std.specs.Prelude.{◌≡◌, ◌↔◌, false, IsTrue, IfOk};
+ghost use Rattle.std.specs.Prelude.{◌≡◌, ◌≢◌, ◌↔◌, false, IsTrue, IfOk, OnOk, IfErr, IsOkUnless};
+ghost use Rattle.std.specs.Io.KnownBytes.{Appends};
 ghost use Rattle.std.specs.Result.{IsErrOf};
 ghost use Rattle.model.specs.Layout.{is_inode_count, is_size, planned_super};
 ghost use Rattle.xvfs.specs.declared.refusal.Refusal.TheVariants as refusal;
+ghost use Rattle.xvfs.specs.Output.{numbers_text};
 ghost use Rattle.layout.specs.declared.geometry.MkfsFault.TheVariants as fault;
 
 use crate::output::print;
@@ -26,7 +28,12 @@ pub fn make<R: Files + AllocGlobal, O: Write>(
     size: u32,
     ninodes: u32,
     out: &mut O,
-) -> Result<(), Refusal> {
+) -> Result<(), Refusal>
+    ensures printed { OnOk result (Appends (O.contents out.old) (O.contents out.new) (numbers_text (planned_super size ninodes))) }
+    ensures silent { IfErr result (λ r. r ≢ refusal.Output → out.new ≡ out.old) }
+    ensures inodes { IsErrOf result (refusal.Mkfs fault.InodeRange) ↔ (is_inode_count ninodes ≡ false) }
+    ensures size { IsErrOf result (refusal.Mkfs fault.SizeRange) ↔ (IsTrue (is_inode_count ninodes) × (is_size size ninodes ≡ false)) }
+{
     let fields = make_image(rt, image, size, ninodes)?;
     print_numbers(&fields, out)
 }
@@ -48,7 +55,10 @@ fn make_image<R: Files + AllocGlobal>(
     Ok(fields)
 }
 
-fn print_numbers<O: Write>(fields: &Super, out: &mut O) -> Result<(), Refusal> {
+fn print_numbers<O: Write>(fields: &Super, out: &mut O) -> Result<(), Refusal>
+    ensures ok { OnOk result (Appends (O.contents out.old) (O.contents out.new) (numbers_text fields.now)) }
+    ensures err { IsOkUnless result refusal.Output }
+{
     let mut buffers = (Buffer::new(), Buffer::new(), Buffer::new());
     let size = buffers.0.format(fields.size);
     let ninodes = buffers.1.format(fields.ninodes);

@@ -150,6 +150,11 @@ impl Refusal {
 
 /// Layer, number, name, and the inode or the block, if any, with one space between them.
 impl fmt::Display for Refusal {
+    ghost use Rattle.std.specs.Prelude.{Some};
+    ghost use Rattle.xvfs.specs.Refusal.{refusal_text};
+
+    ghost output = { λ r. Some (refusal_text r) };
+
     fn fmt<W: fmt::Write>(&self, f: &mut fmt::Formatter<W>) -> fmt::Result {
         let mut digits = Buffer::new();
         let number = digits.format(self.number());

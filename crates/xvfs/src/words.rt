@@ -28,6 +28,7 @@ pub enum Request<'a> {
 /// # Errors
 ///
 /// What clap answers: a mistake in the words, the text of help or of the version, or want of memory.
+/// What words it takes is clap's, so there is no clause; the tests compare the answers.
 pub fn parse<'a, S: AsStr>(alloc: Global, words: &'a [S]) -> Result<Request<'a>, Error> {
     let mut program = program(alloc)?;
     let matches = program.try_get_matches_from_mut(words)?;

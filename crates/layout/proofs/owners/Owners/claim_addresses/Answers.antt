@@ -1,7 +1,8 @@
-use Rattle.std.proofs.Common.{◌++◌, [], ◌∷◌, take, get_or}
+use Rattle.std.proofs.Common.{◌++◌, [], ◌∷◌, take, get_or, subst}
 use Rattle.std.proofs.lemmas.Result.{err_from_is_err_and}
+use Rattle.model.specs.declared.types.Pointer.{Pointer}
 use Rattle.model.specs.Places.{addresses_in, pointer_of}
-use Rattle.layout.specs.Owners.{data_pointers}
+use Rattle.layout.specs.Owners.{Judges, data_pointers}
 use Rattle.layout.proofs.OwnersLemmas.{judged_more, fault_early}
 use Rattle.layout.proofs.owners.Owners.claim_addresses.Goals as goal
 
@@ -17,4 +18,5 @@ returns-clause-judged c = λ y earlier h.
     let front = data_pointers d.size 0 (take 12 d.addrs) in
     let before = c.in_ok-claim_data.ensures.judged y earlier h in
     judged_more y c.args.i earlier front (pointer_of d.size 12 (get_or d.addrs 12 0) ∷ []) c.claim.new.self c.claim.result before.0
-    (c.claim.ensures.judged y (earlier ++ addresses_in front) before.1)
+    (subst (λ (p : Pointer). Judges y c.args.i (earlier ++ addresses_in front) (p ∷ []) c.claim.new.self c.claim.result) c.pointer.ensures
+    (c.claim.ensures.judged y (earlier ++ addresses_in front) before.1))
