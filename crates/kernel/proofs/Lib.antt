@@ -1,0 +1,10 @@
+pub mod Holding
+pub mod Tables
+pub mod Logging
+pub mod Events
+pub mod Commits
+pub mod Rooms
+pub mod Ends
+pub mod Allocating
+pub mod Beginnings
+pub mod Openings

@@ -1,2 +1,6 @@
 pub mod Journal
 pub mod Processes
+pub mod Table
+pub mod State
+pub mod Opening
+pub mod Next

@@ -2,12 +2,16 @@
 #![tactic(auto)]
 
 mod journal;
+mod opening;
 mod processes;
+mod queues;
+mod stepping;
 mod types;
 
 pub use journal::Journal;
 pub use processes::Processes;
-pub use types::{At, Process, Step, Turn};
+pub use stepping::Kernel;
+pub use types::{At, OpenFault, Process, Step, Turn};
 
 #[cfg(test)]
 mod tests;

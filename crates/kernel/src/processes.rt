@@ -1,5 +1,5 @@
 // The processes and their journal, without volume and ports.
-ghost use Rattle.std.specs.Prelude.{◌≡◌, ◌<◌, ◌^◌, ◌+◌, ◌-◌, true, length, Some, IsSome, IfOk, OnErr};
+ghost use Rattle.std.specs.Prelude.{◌≡◌, ◌<◌, ◌^◌, ◌+◌, ◌↔◌, [], IsTrue, true, length, Some, IsSome, IfOk, OnErr};
 ghost use Rattle.kernel.specs.Processes.{World, process, fresh, with_place, creating, refused, searching, entry_of, turned, search_at, group_at, reply_at, committing, answer_of, answered, made_reply};
 ghost use Rattle.kernel.specs.Journal.{reserved, noted};
 
@@ -127,6 +127,20 @@ impl Processes {
             reply: Reply::BadType,
             group: 0,
         }
+    }
+
+    /// How many processes there are.
+    pub fn len(&self) -> usize
+        ensures { result ≡ length self.now.processes }
+    {
+        self.processes.len()
+    }
+
+    /// Whether there are none.
+    pub fn is_empty(&self) -> bool
+        ensures { IsTrue result ↔ (self.now.processes ≡ []) }
+    {
+        self.processes.is_empty()
     }
 
     /// How many operations were taken for a process.

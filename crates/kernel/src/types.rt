@@ -1,6 +1,8 @@
 // Plain data of the kernel.
 use inodes::Ialloc;
-use model::types::{Reply, Why};
+use model::types::{CheckFault, Reply, Why};
+use thiserror::Error;
+use wal::RecoverFault;
 
 /// Where the operation of a process stands.
 #[derive(Debug, Drop)]
@@ -52,4 +54,21 @@ pub enum Turn {
     Proc(u32),
     /// The shutdown.
     Shut,
+}
+
+/// Why a kernel can't be opened.
+#[derive(Clone, Copy, Debug, PartialEq, Eq, Error)]
+pub enum OpenFault {
+    /// The image has this fault, or could not be checked.
+    #[error("the image can't be used: {0}")]
+    Check(CheckFault),
+    /// The image could not be recovered.
+    #[error("the image can't be recovered: {0}")]
+    Recover(RecoverFault),
+    /// Memory was refused.
+    #[error("memory was refused")]
+    NoMemory,
+    /// There are not 1 to 32 processes.
+    #[error("a kernel has 1 to 32 processes")]
+    ProcRange,
 }

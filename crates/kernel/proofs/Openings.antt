@@ -1,0 +1,103 @@
+-- What a kernel that is opened has.
+use Rattle.std.proofs.Common.{◌≡◌, ℕ, ◌*◌, ◌<◌, ◌≤◌, Bool, true, false, cond, length, replicate, refl, sym, ◌∙◌, ap, subst, arith, ⊎_elim, None, Err}
+use Rattle.std.specs.Prelude.{IsTrue, count_by, Result}
+use Rattle.std.proofs.lemmas.Bool.{cases_lt, false≢true}
+use Rattle.std.proofs.lemmas.List.{get_or-replicate, get_or_past, length-replicate}
+use Rattle.std.proofs.lemmas.List.Folds.{sum_by-replicate}
+use Rattle.blocks.specs.Disk.{Image, Rose, IsSettled, LeavesOnly}
+use Rattle.blocks.proofs.Moments.{started, stays, joined}
+use Rattle.layout.specs.Cause.{OnlyReads}
+use Rattle.model.specs.Layout.{super_of, is_lawful_super}
+use Rattle.model.specs.Log.{is_lawful_log}
+use Rattle.model.specs.Verdict.{verdict}
+use Rattle.model.specs.declared.types.Super.{Super}
+use Rattle.model.proofs.SoundLemmas.{verdict_sound, facts_of}
+use Rattle.bcache.specs.Buffers.{fresh as fresh_buffers}
+use Rattle.wal.specs.Machine.{new_log, used_by}
+use Rattle.wal.specs.Volume.{VolumeState}
+use Rattle.wal.specs.Recovery.{RecoversAs, OnDisk, OnBadLog}
+use Rattle.wal.specs.declared.faults.RecoverFault.{RecoverFault}
+use Rattle.wal.specs.declared.faults.RecoverFault.TheVariants as recover
+use Rattle.kernel.specs.declared.types.Process.{Process}
+use Rattle.kernel.specs.Opening.{IsRecoverCause}
+use Rattle.kernel.specs.Processes.{World, process, idle, fresh}
+use Rattle.kernel.specs.State.{is_under_way_at}
+use Rattle.kernel.specs.Table.{Stands, IsTable, is_committing_at, is_searching_at}
+
+-- the volume of a kernel that is opened on an image of so many blocks
+abbrev pub opened_volume : {D : Type 0} → D → ℕ → VolumeState D
+opened_volume d size = record { device = d; buffers = fresh_buffers; log = new_log size; fault = None }
+
+-- the superblock that a check without a fault answers is lawful
+pub lawful_super : (x : Image) (sup : Super) → verdict x ≡ None → sup ≡ super_of x → is_lawful_super sup (length x) ≡ true
+lawful_super x sup none is = ap (λ (s : Super). is_lawful_super s (length x)) is ∙ (verdict_sound x none).0.fields
+
+pub super_size : (x : Image) (sup : Super) → verdict x ≡ None → sup ≡ super_of x → sup.size ≡ length x
+super_size x sup none is = ap (λ (s : Super). s.size) is ∙ (facts_of x (verdict_sound x none).0).size
+
+pub lawful_here : (x : Image) (sup : Super) → verdict x ≡ None → sup ≡ super_of x → is_lawful_super sup sup.size ≡ true
+lawful_here x sup none is = ap (is_lawful_super sup) (super_size x sup none is) ∙ lawful_super x sup none is
+
+-- the fault of a recovery after that check
+pub recover_cause : (T : Type 0) (x y : Image) (fault : RecoverFault) (old mid new : ℕ) → verdict x ≡ None → y ≡ x → mid ≡ old → OnDisk {T = T} (Err fault) (Rose mid new) → OnBadLog {T = T} (Err fault) (is_lawful_log y ≡ false)
+    → IsRecoverCause fault old new
+recover_cause T x y recover.Disk old mid new none is same rose bad = subst (λ (n : ℕ). Rose n new) same rose
+recover_cause T x y recover.BadLog old mid new none is same rose bad = false≢true (sym bad ∙ ap is_lawful_log is ∙ (verdict_sound x none).1)
+recover_cause T x y recover.NoMemory old mid new none is same rose bad = tt
+
+module _ {D : Type 0} (image : D → Image) (writes moment : D → ℕ) (leaves : D → ℕ → Image → Type 0) (only_now : (d : D) → IsSettled (image d) (leaves d (moment d))) where
+  -- a crash during a check and a recovery leaves what is recovered to the same image
+  pub opened_leaves : (old mid new : D) → OnlyReads image writes moment leaves old mid → LeavesOnly moment leaves mid new (RecoversAs (image mid)) → LeavesOnly moment leaves old new (RecoversAs (image old))
+  opened_leaves old mid new reads then_on =
+      let P : Image → Type 0 = RecoversAs (image old) in
+      joined moment leaves old mid new P
+      (stays moment leaves old old mid P
+      (started moment leaves old P (λ x left. subst P (sym (only_now old x left)) (record { image = refl; lawful = refl })))
+      (record { later = reads.later; adds = reads.adds; keeps = reads.keeps }))
+      (subst (λ (y : Image). LeavesOnly moment leaves mid new (RecoversAs y)) reads.same then_on)
+
+-- every process is idle
+idle_at : (n p : ℕ) → process (fresh n) p ≡ idle
+idle_at n p = ⊎_elim (λ (low : p < n). get_or-replicate n p idle idle low) (λ (high : n ≤ p). get_or_past (replicate n idle) p idle (omega (arith, length-replicate {A = Process} n idle))) (cases_lt p n)
+
+none_used : (size p : ℕ) → used_by (new_log size) p ≡ None
+none_used size p = ⊎_elim (λ (low : p < 32). get_or-replicate 32 p None None low) (λ (high : 32 ≤ p). get_or_past (replicate 32 None) p None (omega (arith, length-replicate {A = Rattle.std.specs.Prelude.Option ℕ} 32 None))) (cases_lt p 32)
+
+mul_zero : (n : ℕ) → n * 0 ≡ 0
+mul_zero n = omega arith
+
+none_searches : (n : ℕ) → count_by (λ (q : Process). is_searching_at q.at) (replicate n idle) ≡ 0
+none_searches n = sum_by-replicate (λ (q : Process). cond {A = ℕ} (is_searching_at q.at) 1 0) n idle ∙ mul_zero n
+
+pub table_opened : (x : Image) (sup : Super) (n : ℕ) → verdict x ≡ None → sup ≡ super_of x → n ≤ 32 → IsTable fresh_buffers (new_log (length x)) sup.ninodes (fresh n)
+table_opened x sup n none is few =
+    let f = facts_of x (verdict_sound x none).0 in
+    let count : sup.ninodes ≡ (super_of x).ninodes = ap (λ (s : Super). s.ninodes) is in
+    record {
+      few = omega (arith, few, length-replicate {A = Process} n idle);
+      some = omega (arith, f.some, count);
+      limit = omega (arith, f.few, count);
+      within = let room = f.room in let size = f.size in let some = f.some in omega (arith, room, size, count, some);
+      stands = λ p. subst (λ (q : Process). Stands fresh_buffers (new_log (length x)) sup.ninodes p q.at) (sym (idle_at n p)) (none_used (length x) p);
+      sole = λ p q first second. absurd (false≢true (sym (ap (λ (r : Process). is_committing_at r.at) (idle_at n p)) ∙ first));
+      room = sym (none_searches n);
+    }
+
+pub rooms_opened : (n : ℕ) (has_room : ℕ → Bool) → (p : ℕ) → is_under_way_at (process (fresh n) p).at ≡ true → has_room p ≡ true
+rooms_opened n has_room p under = absurd (false≢true (sym (ap (λ (r : Process). is_under_way_at r.at) (idle_at n p)) ∙ under))
+
+-- the volume of a kernel that is opened, with its disk and its size by other names
+pub volume_same : {D : Type 0} (d e : D) (a b : ℕ) → e ≡ d → a ≡ b → opened_volume d a ≡ opened_volume e b
+volume_same d e a b is same = ap (λ f. opened_volume f a) (sym is) ∙ ap (opened_volume e) same
+
+pub opened_table : {D : Type 0} (v : VolumeState D) (d : D) (x : Image) (sup : Super) (size n : ℕ) (w : World) → v ≡ opened_volume d size → size ≡ length x → w ≡ fresh n
+    → verdict x ≡ None → sup ≡ super_of x → n ≤ 32 → IsTable v.buffers v.log sup.ninodes w
+opened_table v d x sup size n w is same new none of few =
+    subst (λ (o : VolumeState _). IsTable o.buffers o.log sup.ninodes w) (sym (is ∙ ap (opened_volume d) same))
+    (subst (λ (o : World). IsTable fresh_buffers (new_log (length x)) sup.ninodes o) (sym new) (table_opened x sup n none of few))
+
+pub opened_count : (n : ℕ) (w : World) → w ≡ fresh n → length w.processes ≡ n
+opened_count n w is = ap (λ (o : World). length o.processes) is ∙ length-replicate {A = Process} n idle
+
+pub opened_rooms : (n : ℕ) (w : World) (has_room : ℕ → Bool) → w ≡ fresh n → (p : ℕ) → is_under_way_at (process w p).at ≡ true → has_room p ≡ true
+opened_rooms n w has_room is p under = rooms_opened n has_room p (ap (λ (o : World). is_under_way_at (process o p).at) (sym is) ∙ under)

@@ -1,0 +1,76 @@
+use Rattle.std.proofs.Common.{rules, inr, ◌≡◌, ◌<◌, None, ◌∙◌, sym, ap, subst, length}
+use Rattle.wal.specs.Machine.{LogState}
+use Rattle.wal.specs.Volume.{VolumeState}
+use Rattle.kernel.specs.declared.types.At.TheVariants as at
+use Rattle.kernel.specs.Processes.{World, process}
+use Rattle.kernel.specs.State.{is_under_way_at}
+use Rattle.kernel.specs.Table.{IsTable}
+use Rattle.kernel.proofs.Commits.{where_none, if_none, if_some}
+use Rattle.kernel.proofs.Allocating.{ready_of, search_moves, search_over, search_sleeps, search_fails}
+use Rattle.kernel.proofs.Rooms.{rooms_busy, as_many}
+use Rattle.kernel.proofs.stepping.Kernel.allocate.Goals as goal
+
+pub step-requires-clause-ready : goal.step-requires-clause-ready
+step-requires-clause-ready g c =
+    let well : c.self.inside.volume.fault ≡ None = search rules in
+    let stands : (process c.self.inside.processes c.args.pid).at ≡ at.Creating c.args.group c.args.search = search rules in
+    ready_of _ _ _ _ c.args.pid c.args.group c.args.search c.self.inside.processes (where_none _ well c.known.ensures) (where_none _ well c.self.invariant.table) stands
+
+pub invariant_of-self : goal.invariant_of-self
+invariant_of-self g c =
+    let well : c.self.inside.volume.fault ≡ None = search rules in
+    let stands : (process c.self.inside.processes c.args.pid).at ≡ at.Creating c.args.group c.args.search = search rules in
+    let lt : c.args.pid < length c.self.inside.processes.processes = search rules in
+    let stays = search_moves (g.D.Disk.image c.self.inside.volume.device) c.self.inside.volume c.step.new.volume _ c.args.pid c.args.group c.args.search c.step.new.self c.self.inside.processes c.search.new.self
+    (where_none _ well c.known.ensures) (where_none _ well c.self.invariant.table) lt stands c.in-Moved.ensures.step c.search.ensures in
+    record {
+      table = if_none _ stays.table;
+      processes = c.self.invariant.processes ∙ sym (as_many c.self.inside.processes c.search.new.self c.args.pid _ (ap (λ (v : World). v.processes) c.search.ensures));
+      room = rooms_busy (g.I.Intake.side c.self.inside.intake) c.self.inside.processes c.search.new.self c.args.pid _ lt (ap (λ (v : World). v.processes) c.search.ensures) (ap is_under_way_at stands) c.self.invariant.room;
+      told = c.self.invariant.told ∙ sym stays.committed;
+    }
+
+pub invariant_of-self-in-Sleeping : goal.invariant_of-self-in-Sleeping
+invariant_of-self-in-Sleeping g c =
+    let well : c.self.inside.volume.fault ≡ None = search rules in
+    let stands : (process c.self.inside.processes c.args.pid).at ≡ at.Creating c.args.group c.args.search = search rules in
+    let lt : c.args.pid < length c.self.inside.processes.processes = search rules in
+    let same = search_sleeps (g.D.Disk.image c.self.inside.volume.device) c.self.inside.volume c.step.new.volume c.self.inside.inode_count c.args.pid c.args.group c.args.search c.step.new.self c.self.inside.processes c.self.inside.processes
+    (where_none _ well c.known.ensures) (where_none _ well c.self.invariant.table) lt stands _ c.in-Sleeping.ensures.step in
+    record {
+      table = subst (λ (v : VolumeState _). Rattle.std.specs.Prelude.IfNone v.fault (IsTable v.buffers v.log c.self.inside.inode_count c.self.inside.processes)) (sym same) c.self.invariant.table;
+      processes = c.self.invariant.processes;
+      room = c.self.invariant.room;
+      told = c.self.invariant.told ∙ sym (ap (λ (v : VolumeState _). v.log.committed) same);
+    }
+
+pub invariant_of-self-in-Over : goal.invariant_of-self-in-Over
+invariant_of-self-in-Over g c =
+    let well : c.self.inside.volume.fault ≡ None = search rules in
+    let stands : (process c.self.inside.processes c.args.pid).at ≡ at.Creating c.args.group c.args.search = search rules in
+    let lt : c.args.pid < length c.self.inside.processes.processes = search rules in
+    let stays = search_over (g.D.Disk.image c.self.inside.volume.device) c.self.inside.volume c.step.new.volume _ c.args.pid c.args.group c.args.search c.step.new.self c.self.inside.processes c.turn.new.self
+    (where_none _ well c.known.ensures) (where_none _ well c.self.invariant.table) lt stands _ _ _ c.in-Over.ensures.step c.turn.ensures in
+    record {
+      table = if_none _ stays.table;
+      processes = c.self.invariant.processes ∙ sym (as_many c.self.inside.processes c.turn.new.self c.args.pid _ (ap (λ (v : World). v.processes) c.turn.ensures));
+      room = rooms_busy (g.I.Intake.side c.self.inside.intake) c.self.inside.processes c.turn.new.self c.args.pid _ lt (ap (λ (v : World). v.processes) c.turn.ensures) (ap is_under_way_at stands) c.self.invariant.room;
+      told = c.self.invariant.told ∙ sym stays.committed;
+    }
+
+pub invariant_of-self-in-Fault : goal.invariant_of-self-in-Fault
+invariant_of-self-in-Fault g c =
+    let well : c.self.inside.volume.fault ≡ None = search rules in
+    let stands : (process c.self.inside.processes c.args.pid).at ≡ at.Creating c.args.group c.args.search = search rules in
+    let lt : c.args.pid < length c.self.inside.processes.processes = search rules in
+    let same = search_fails (g.D.Disk.image c.self.inside.volume.device) c.self.inside.volume c.step.new.volume c.self.inside.inode_count c.args.pid c.args.group c.args.search c.step.new.self c.self.inside.processes c.self.inside.processes
+    (where_none _ well c.known.ensures) (where_none _ well c.self.invariant.table) lt stands _ c.in-Fault.ensures.step in
+    record {
+      table = if_some _ _ _ c.in-Fault.ensures.fault;
+      processes = c.self.invariant.processes;
+      room = c.self.invariant.room;
+      told = c.self.invariant.told ∙ sym (ap (λ (l : LogState). l.committed) same);
+    }
+
+pub returns-in-Over-clause-next : goal.returns-in-Over-clause-next
+returns-in-Over-clause-next g c = (c.step.new.self, inr (c.in-Over.made, search rules, search rules))

@@ -1,0 +1,25 @@
+use Rattle.std.proofs.Common.{rules, ◌≡◌, ◌<◌, None, ◌∙◌, sym, ap, length}
+use Rattle.wal.specs.Volume.{VolumeState}
+use Rattle.kernel.specs.declared.types.At.TheVariants as at
+use Rattle.kernel.specs.Processes.{process, with_place}
+use Rattle.kernel.proofs.Commits.{where_none, if_none}
+use Rattle.kernel.proofs.Beginnings.{table_created, created_processes, others_twice, rooms_begun}
+use Rattle.kernel.proofs.Rooms.{as_many}
+use Rattle.kernel.proofs.stepping.Kernel.create.Goals as goal
+
+pub invariant_of-self-2 : goal.invariant_of-self-2
+invariant_of-self-2 g c =
+    let well : c.self.inside.volume.fault ≡ None = search rules in
+    let lt : c.args.pid < length c.self.inside.processes.processes = search rules in
+    let stands : (process c.self.inside.processes c.args.pid).at ≡ at.Idle = search rules in
+    let kept : c.reserve.new.self ≡ with_place c.self.inside.processes = search rules in
+    let is = created_processes c.args.pid c.open_group-group.result c.new-search.result c.self.inside.processes c.reserve.new.self c.create.new.self kept c.create.ensures in
+    record {
+      table = if_none _ (table_created c.self.inside.volume c.open_group-group.new.volume c.self.inside.inode_count c.args.pid c.args.kind c.open_group-group.result c.new-search.result c.self.inside.processes c.reserve.new.self c.create.new.self
+          (where_none _ well c.self.invariant.table) (where_none _ well c.known.ensures).log lt stands (search rules) c.requires.kind c.open_group-group.ensures.volume c.open_group-group.ensures.group c.new-search.ensures kept c.create.ensures);
+      processes = c.take-taken.ensures.processes ∙ c.room.ensures.processes ∙ c.self.invariant.processes ∙ sym (as_many c.self.inside.processes c.create.new.self c.args.pid _ is);
+      room = rooms_begun (g.I.Intake.side c.self.inside.intake) (g.I.Intake.side c.take-taken.new.self) c.self.inside.processes c.create.new.self c.args.pid _ lt is
+          (others_twice (g.I.Intake.side c.self.inside.intake) (g.I.Intake.side c.room.new.self) (g.I.Intake.side c.take-taken.new.self) c.args.pid c.room.ensures.others c.take-taken.ensures.others)
+          (λ e. c.take-taken.ensures.room ∙ c.room.ensures.room ∙ search rules) c.self.invariant.room;
+      told = c.self.invariant.told ∙ sym (ap (λ (v : VolumeState _). v.log.committed) c.open_group-group.ensures.volume);
+    }

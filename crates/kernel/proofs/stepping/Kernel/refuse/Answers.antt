@@ -1,0 +1,27 @@
+use Rattle.std.proofs.Common.{rules, ◌≡◌, ◌<◌, None, ◌∙◌, sym, ap, length}
+use Rattle.std.proofs.lemmas.Bool.{false≢true}
+use Rattle.kernel.specs.declared.types.At.TheVariants as at
+use Rattle.kernel.specs.Processes.{process, with_place}
+use Rattle.kernel.specs.State.{is_under_way_at}
+use Rattle.kernel.proofs.Commits.{where_none, if_none}
+use Rattle.kernel.proofs.Beginnings.{table_refused, refused_processes, others_twice, rooms_begun}
+use Rattle.kernel.proofs.Rooms.{as_many}
+use Rattle.kernel.proofs.stepping.Kernel.refuse.Goals as goal
+
+pub invariant_of-self-2 : goal.invariant_of-self-2
+invariant_of-self-2 g c =
+    let well : c.self.inside.volume.fault ≡ None = search rules in
+    let lt : c.args.pid < length c.self.inside.processes.processes = search rules in
+    let stands : (process c.self.inside.processes c.args.pid).at ≡ at.Idle = search rules in
+    let kept : c.reserve.new.self ≡ with_place c.self.inside.processes = search rules in
+    let is = refused_processes c.args.pid c.in-Some.op c.self.inside.processes c.reserve.new.self c.refuse-answer.new.self kept c.refuse-answer.ensures.processes in
+    let side = g.I.Intake.side in
+    record {
+      table = if_none _ (table_refused c.self.inside.volume c.self.inside.inode_count c.args.pid c.in-Some.op c.self.inside.processes c.reserve.new.self c.refuse-answer.new.self (where_none _ well c.self.invariant.table) lt stands kept c.refuse-answer.ensures.processes);
+      processes = c.answer.ensures.processes ∙ c.take.ensures.processes ∙ c.room.ensures.processes ∙ c.self.invariant.processes ∙ sym (as_many c.self.inside.processes c.refuse-answer.new.self c.args.pid _ is);
+      room = rooms_begun (side c.self.inside.intake) (side c.answer.new.self) c.self.inside.processes c.refuse-answer.new.self c.args.pid _ lt is
+          (others_twice (side c.self.inside.intake) (side c.take.new.self) (side c.answer.new.self) c.args.pid
+          (others_twice (side c.self.inside.intake) (side c.room.new.self) (side c.take.new.self) c.args.pid c.room.ensures.others c.take.ensures.others) c.answer.ensures.others)
+          (λ e. absurd (false≢true (sym (ap is_under_way_at stands) ∙ e))) c.self.invariant.room;
+      told = c.self.invariant.told;
+    }

@@ -1,0 +1,123 @@
+-- One step of a process: what becomes of volume and processes, by where the process stands and what the step answers.
+use Rattle.std.specs.Prelude.{◌≡◌, ◌⊎◌, ℕ, IsTrue, false, true, Option, Some, None}
+use Rattle.blocks.specs.Disk.{Image}
+use Rattle.blocks.specs.declared.errors.DiskFault.{DiskFault}
+use Rattle.model.specs.declared.types.Op.{Op}
+use Rattle.model.specs.declared.types.Op.TheVariants.{Create}
+use Rattle.model.specs.declared.types.Why.TheVariants as why
+use Rattle.model.specs.Operations.{is_kind}
+use Rattle.model.specs.Codec.{header_block}
+use Rattle.wal.specs.declared.types.Committed.TheVariants as committed
+use Rattle.wal.specs.declared.types.Ended.TheVariants as ended_as
+use Rattle.wal.specs.Machine.{begin_cause, begun, ended, end_answer}
+use Rattle.wal.specs.Joint.{seen}
+use Rattle.wal.specs.Step.{Stepped, Faulted, answer_at}
+use Rattle.wal.specs.Volume.{VolumeState}
+use Rattle.inodes.specs.declared.ialloc.Ialloc.{Ialloc}
+use Rattle.inodes.specs.declared.progress.Progress.TheVariants as progress
+use Rattle.inodes.specs.Ialloc.{Allocates}
+use Rattle.kernel.specs.declared.types.At.{At}
+use Rattle.kernel.specs.declared.types.At.TheVariants as at
+use Rattle.kernel.specs.declared.types.Step.{Step}
+use Rattle.kernel.specs.declared.types.Step.TheVariants as step
+use Rattle.kernel.specs.Processes.{World, process, with_place, creating, searching, turned, refused, committing, answered, made_reply}
+
+-- volume and processes stay
+abbrev pub Same : {D : Type 0} → VolumeState D → World → VolumeState D → World → Type 0
+Same v w u z = (u ≡ v) × (z ≡ w)
+
+-- the search that a creation begins with
+abbrev pub first_search : ℕ → ℕ → Ialloc
+first_search kind inode_count = record { kind = kind; inode_count = inode_count; block = 33; slot = None }
+
+-- a creation that waits begins, or has to wait, or has no memory
+abbrev pub Creates : {D : Type 0} → ℕ → ℕ → VolumeState D → World → ℕ → Step → VolumeState D → World → Type 0
+Creates n kind v w p step.Moved u z =
+    (begin_cause v.log ≡ None) × (u ≡ record v { log = begun v.log p }) × (z ≡ creating (with_place w) p (begun v.log p).opened (first_search kind n))
+Creates n kind v w p (step.Sleeping cause) u z = Same v w u z × ((cause ≡ why.AnswersFull) ⊎ (begin_cause v.log ≡ Some cause))
+Creates n kind v w p step.NoMemory u z = Same v w u z
+Creates n kind v w p step.Answered u z = ⊥
+Creates n kind v w p step.Idle u z = ⊥
+Creates n kind v w p step.ShutDown u z = ⊥
+Creates n kind v w p step.Halted u z = ⊥
+Creates n kind v w p step.NotYet u z = ⊥
+
+-- one that is refused is answered at once
+abbrev pub Refuses : {D : Type 0} → VolumeState D → World → ℕ → Step → VolumeState D → World → Type 0
+Refuses v w p step.Answered u z = (op : Op) × (u ≡ v) × (z ≡ refused (with_place w) p op)
+Refuses v w p (step.Sleeping cause) u z = Same v w u z × (cause ≡ why.AnswersFull)
+Refuses v w p step.NoMemory u z = Same v w u z
+Refuses v w p step.Moved u z = ⊥
+Refuses v w p step.Idle u z = ⊥
+Refuses v w p step.ShutDown u z = ⊥
+Refuses v w p step.Halted u z = ⊥
+Refuses v w p step.NotYet u z = ⊥
+
+-- a step of a creation's search, over a disk with the image x
+abbrev pub Searches : {D : Type 0} → Image → ℕ → Ialloc → VolumeState D → World → ℕ → Step → VolumeState D → World → Type 0
+Searches x group m v w p step.Moved u z = (n : Ialloc) ×
+    ((Allocates x (seen x v.buffers) m v p progress.Moved n u × (z ≡ searching w p group n))
+    ⊎ ((made : Option ℕ) × Allocates x (seen x v.buffers) m v p (progress.Over made) n u × (z ≡ turned w p (Create m.kind) group (made_reply made))))
+Searches x group m v w p (step.Sleeping cause) u z = (n : Ialloc) × Allocates x (seen x v.buffers) m v p (progress.Sleeping cause) n u × (z ≡ w)
+Searches x group m v w p step.Halted u z = (n : Ialloc) × ((fault : DiskFault) × Allocates x (seen x v.buffers) m v p (progress.Fault fault) n u × (z ≡ w))
+Searches x group m v w p step.Answered u z = ⊥
+Searches x group m v w p step.Idle u z = ⊥
+Searches x group m v w p step.NoMemory u z = ⊥
+Searches x group m v w p step.ShutDown u z = ⊥
+Searches x group m v w p step.NotYet u z = ⊥
+
+-- an operation ends: its group is closed with homes, and it commits it, or it is answered
+abbrev pub Ends : {D : Type 0} → VolumeState D → World → ℕ → Step → VolumeState D → World → Type 0
+Ends v w p step.Moved u z = (end_answer v.log ≡ ended_as.Commit) × (u ≡ record v { log = ended v.log p }) × (z ≡ committing w p)
+Ends v w p step.Answered u z = (end_answer v.log ≡ ended_as.Left) × (u ≡ record v { log = ended v.log p }) × (z ≡ answered w p)
+Ends v w p (step.Sleeping cause) u z = ⊥
+Ends v w p step.Idle u z = ⊥
+Ends v w p step.NoMemory u z = ⊥
+Ends v w p step.ShutDown u z = ⊥
+Ends v w p step.Halted u z = ⊥
+Ends v w p step.NotYet u z = ⊥
+
+-- a write of a commit was made, over disks with the images x and y
+abbrev pub Writes : {D : Type 0} → Image → VolumeState D → Image → VolumeState D → Type 0
+Writes x v y u = Stepped (header_block v.log.homes) x v.buffers v.log y u.buffers u.log
+
+abbrev pub Commits : {D : Type 0} → Image → VolumeState D → World → ℕ → Step → Image → VolumeState D → World → Type 0
+Commits x v w p step.Moved y u z =
+    ((answer_at v.log.commit v.log.opened ≡ committed.More) ⊎ ((group : ℕ) × (answer_at v.log.commit v.log.opened ≡ committed.Durable group))) × Writes x v y u × (z ≡ w)
+Commits x v w p step.Answered y u z = (answer_at v.log.commit v.log.opened ≡ committed.Done) × Writes x v y u × (z ≡ answered w p)
+Commits x v w p step.Halted y u z = Faulted (header_block v.log.homes) x v.buffers v.log y u.buffers u.log × (z ≡ w)
+Commits x v w p (step.Sleeping cause) y u z = ⊥
+Commits x v w p step.Idle y u z = ⊥
+Commits x v w p step.NoMemory y u z = ⊥
+Commits x v w p step.ShutDown y u z = ⊥
+Commits x v w p step.NotYet y u z = ⊥
+
+-- no shutdown was told of yet
+abbrev pub heard : World → World
+heard w = record w { is_shut = false }
+
+-- the beginning of what waits for a process
+abbrev pub Begins : {D : Type 0} → ℕ → VolumeState D → World → ℕ → Step → VolumeState D → World → Type 0
+Begins n v w p step.Moved u z = (kind : ℕ) × IsTrue (is_kind kind) × Creates n kind v (heard w) p step.Moved u z
+Begins n v w p step.Answered u z = Refuses v (heard w) p step.Answered u z
+Begins n v w p (step.Sleeping cause) u z = Same v (heard w) u z × ((cause ≡ why.AnswersFull) ⊎ (begin_cause v.log ≡ Some cause))
+Begins n v w p step.Idle u z = Same v (heard w) u z
+Begins n v w p step.NoMemory u z = Same v (heard w) u z
+Begins n v w p step.NotYet u z = Same v (heard w) u z
+Begins n v w p step.ShutDown u z = Same v (record w { is_shut = true }) u z
+Begins n v w p step.Halted u z = ⊥
+
+-- by where the process stands
+abbrev pub NextAt : {D : Type 0} → At → Image → ℕ → VolumeState D → World → ℕ → Step → Image → VolumeState D → World → Type 0
+NextAt at.Idle x n v w p r y u z = Begins n v w p r u z
+NextAt (at.Creating group m) x n v w p r y u z = Searches x group m v w p r u z
+NextAt (at.Ending group reply) x n v w p r y u z = Ends v w p r u z
+NextAt (at.Committing group reply) x n v w p r y u z = Commits x v w p r y u z
+
+-- after a fault nothing is done any more
+abbrev pub NextIf : {D : Type 0} → Option DiskFault → Image → ℕ → VolumeState D → World → ℕ → Step → Image → VolumeState D → World → Type 0
+NextIf None x n v w p r y u z = NextAt (process w p).at x n v w p r y u z
+NextIf (Some fault) x n v w p r y u z = (r ≡ step.Halted) × Same v w u z
+
+abbrev pub Next : {D : Type 0} → Image → ℕ → VolumeState D → World → ℕ → Step → Image → VolumeState D → World → Type 0
+Next x n v w p r y u z = NextIf v.fault x n v w p r y u z

@@ -1,0 +1,67 @@
+-- What is true of processes, buffers and log together, between any two steps.
+use Rattle.std.specs.Prelude.{◌≡◌, ◌<◌, ◌≤◌, ℕ, ◌-◌, IsTrue, IsSome, Bool, true, false, length, count_by, Option, Some, None}
+use Rattle.model.specs.Layout.{inode_block}
+use Rattle.model.specs.Operations.{is_kind}
+use Rattle.bcache.specs.Buffers.{Buffers, buffer}
+use Rattle.wal.specs.Machine.{LogState, used_by, is_quiet}
+use Rattle.inodes.specs.declared.ialloc.Ialloc.{Ialloc}
+use Rattle.kernel.specs.declared.types.At.{At}
+use Rattle.kernel.specs.declared.types.At.TheVariants as at
+use Rattle.kernel.specs.declared.types.Process.{Process}
+use Rattle.kernel.specs.Processes.{World, process}
+
+-- a process has the lock of block b's slot, which is valid
+pub record HasSlot (c : Buffers) (pid b i : ℕ) : Type 0 where
+  pub slot : i < 40
+  pub holder : (buffer c i).holder ≡ Some pid
+  pub block : (buffer c i).block ≡ Some b
+  pub valid : (buffer c i).valid ≡ true
+
+abbrev pub HasSlotAt : Buffers → ℕ → ℕ → Option ℕ → Type 0
+HasSlotAt c pid b None = Unit {0}
+HasSlotAt c pid b (Some i) = HasSlot c pid b i
+
+-- a creation that looks for a free number is open in the log, and added nothing yet
+pub record IsSearching (c : Buffers) (l : LogState) (inode_count pid group : ℕ) (m : Ialloc) : Type 0 where
+  pub used : used_by l pid ≡ Some 0
+  pub newest : group ≡ l.opened
+  pub count : m.inode_count ≡ inode_count
+  pub kind : IsTrue (is_kind m.kind)
+  pub behind : 33 ≤ m.block
+  pub last : m.block ≤ inode_block (inode_count - 1)
+  pub holds : HasSlotAt c pid m.block m.slot
+
+-- what is true of a process, by where it stands
+abbrev pub Stands : Buffers → LogState → ℕ → ℕ → At → Type 0
+Stands c l inode_count pid at.Idle = used_by l pid ≡ None
+Stands c l inode_count pid (at.Creating group m) = IsSearching c l inode_count pid group m
+Stands c l inode_count pid (at.Ending group reply) = IsSome (used_by l pid) × (group ≡ l.opened)
+Stands c l inode_count pid (at.Committing group reply) = (used_by l pid ≡ None) × (is_quiet l.commit ≡ false) × (group ≡ l.opened)
+
+abbrev pub is_committing_at : At → Bool
+is_committing_at at.Idle = false
+is_committing_at (at.Creating group m) = false
+is_committing_at (at.Ending group reply) = false
+is_committing_at (at.Committing group reply) = true
+
+abbrev pub is_ending_at : At → Bool
+is_ending_at at.Idle = false
+is_ending_at (at.Creating group m) = false
+is_ending_at (at.Ending group reply) = true
+is_ending_at (at.Committing group reply) = false
+
+abbrev pub is_searching_at : At → Bool
+is_searching_at at.Idle = false
+is_searching_at (at.Creating group m) = true
+is_searching_at (at.Ending group reply) = false
+is_searching_at (at.Committing group reply) = false
+
+-- where each process stands agrees with buffers and log; one at most commits; each search has its place in the journal
+pub record IsTable (c : Buffers) (l : LogState) (inode_count : ℕ) (w : World) : Type 0 where
+  pub few : length w.processes ≤ 32
+  pub some : 2 ≤ inode_count
+  pub limit : inode_count ≤ 1024
+  pub within : inode_block (inode_count - 1) < l.size
+  pub stands : (p : ℕ) → Stands c l inode_count p (process w p).at
+  pub sole : (p q : ℕ) → is_committing_at (process w p).at ≡ true → is_committing_at (process w q).at ≡ true → p ≡ q
+  pub room : w.journal.room ≡ count_by (λ (q : Process). is_searching_at q.at) w.processes

@@ -1,0 +1,34 @@
+// What processes do to the queues of a kernel.
+ghost use Rattle.std.specs.Prelude.{◌≡◌, ◌<◌, length, ◌∷◌, ◌++◌, [], IfOk, IfErr, OnErr, option_to_list};
+ghost use Rattle.ports.specs.History.{first_in};
+ghost use Rattle.ports.specs.Queues.{waiting, answers};
+
+use crate::stepping::Kernel;
+use blocks::Disk;
+use model::types::{Answer, Op};
+use ports::{Herald, QueueIntake};
+
+impl<D: Disk, H: Herald> Kernel<D, QueueIntake, H> {
+    /// Hands an operation of a process in, as the intake's `submit`.
+    pub fn submit(&mut self, pid: u32, op: Op) -> Result<u64, Op>
+        requires { pid < length self.old.world.processes }
+        ensures ok { IfOk result (λ _. waiting self.new.intake pid ≡ waiting self.old.intake pid ++ op ∷ []) }
+        ensures back { IfErr result (λ other. other ≡ op) }
+        ensures refused { OnErr result (waiting self.new.intake pid ≡ waiting self.old.intake pid) }
+        ensures answers { answers self.new.intake pid ≡ answers self.old.intake pid }
+        ensures same { self.new ≡ record self.old { intake = self.new.intake } }
+    {
+        self.intake.submit(pid, op)
+    }
+
+    /// Takes the oldest answer of a process, as the intake's `poll`.
+    pub fn poll(&mut self, pid: u32) -> Option<Answer>
+        requires { pid < length self.old.world.processes }
+        ensures oldest { result ≡ first_in (answers self.old.intake pid) }
+        ensures answers { answers self.old.intake pid ≡ option_to_list result ++ answers self.new.intake pid }
+        ensures waiting { waiting self.new.intake pid ≡ waiting self.old.intake pid }
+        ensures same { self.new ≡ record self.old { intake = self.new.intake } }
+    {
+        self.intake.poll(pid)
+    }
+}

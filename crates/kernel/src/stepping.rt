@@ -1,0 +1,319 @@
+// The kernel, and one step of a process.
+ghost use Rattle.std.specs.Prelude.{◌≡◌, ◌⊎◌, ◌<◌, ◌^◌, ◌+◌, length, Some, None, IsSome, true};
+ghost use Rattle.wal.specs.Machine.{used_by, begin_cause, begun};
+ghost use Rattle.kernel.specs.State.{waiting_of};
+ghost use Rattle.ports.specs.History.{SameNames, OthersStay, FitWith, gives};
+ghost use Rattle.kernel.specs.Processes.{process, reply_at, answered, answer_of};
+
+use crate::{At, Processes, Step};
+use blocks::Disk;
+use inodes::{Ialloc, Progress};
+use model::types::{Op, Why};
+use ports::{Herald, Intake};
+use std::marker::Model;
+use std::snapshot::Snapshot;
+use wal::{Began, Committed, Ended, Volume};
+
+/// Processes whose operations go on step by step over one volume.
+#[derive(Drop)]
+pub struct Kernel<D: Disk, I: Intake, H: Herald> {
+    pub(crate) volume: Volume<D>,
+    pub(crate) opening: Snapshot<D>,
+    pub(crate) intake: I,
+    pub(crate) herald: H,
+    pub(crate) processes: Processes,
+    pub(crate) inode_count: u32,
+}
+
+impl<D: Disk, I: Intake, H: Herald> Model for Kernel<D, I, H> {
+    ghost use Rattle.kernel.specs.State.{State, Inv};
+
+    ghost Value = { State D I H };
+
+    ghost view = { λ k. record { volume = k.volume; opening = k.opening.value; intake = k.intake; herald = k.herald; world = k.processes; inode_count = k.inode_count } };
+
+    ghost invariant = { λ k. Inv I.process_count I.side H.count (record { volume = k.volume; opening = k.opening.value; intake = k.intake; herald = k.herald; world = k.processes; inode_count = k.inode_count }) };
+}
+
+// What waits for a process.
+#[derive(Clone, Copy, Debug, PartialEq, Eq)]
+enum Waiting {
+    // A creation of a file of this type, which is one that there is.
+    Creation(u16),
+    // A creation of a file of another type.
+    Refused,
+    // What isn't carried out yet.
+    Other,
+}
+
+// What an operation is to the kernel.
+fn waiting_of(op: &Op) -> Waiting
+    ensures { result ≡ waiting_of op.now }
+{
+    match op {
+        Op::Create(kind) => {
+            if 1 <= *kind && *kind <= 3 {
+                Waiting::Creation(*kind)
+            } else {
+                Waiting::Refused
+            }
+        }
+        Op::Write(..) | Op::Read(..) | Op::Trunc(_) | Op::Remove(_) | Op::Stat(_) => Waiting::Other,
+    }
+}
+
+impl<D: Disk, I: Intake, H: Herald> Kernel<D, I, H> {
+    ghost use Rattle.std.specs.Prelude.{◌≡◌, ◌<◌, ◌^◌, ◌+◌, ◌↔◌, ◌≢◌, length, Some, None, IsSome, IsTrue, true};
+    ghost use Rattle.std.specs.Option.{option_map};
+    ghost use Rattle.model.specs.Operations.{is_kind};
+    ghost use Rattle.ports.specs.History.{first_in};
+    ghost use Rattle.kernel.specs.State.{waiting_of, Stays};
+    ghost use Rattle.kernel.specs.declared.types.At.TheVariants as at;
+    ghost use Rattle.kernel.specs.Processes.{process};
+    ghost use Rattle.kernel.specs.Table.{is_committing_at, is_ending_at};
+    ghost use Rattle.kernel.specs.Next.{Creates, Refuses, Searches, Ends, Commits, Begins, Next};
+
+    /// One step of a process.
+    pub fn step(&mut self, pid: u32) -> Step
+        requires pid { pid < length self.old.world.processes }
+        requires begun { (process self.old.world pid).begun + 1 < 2 ^ 64 }
+        requires opened { self.old.volume.log.opened + 1 < 2 ^ 64 }
+        ensures next { Next (D.image self.old.volume.device) self.old.inode_count self.old.volume self.old.world pid result (D.image self.new.volume.device) self.new.volume self.new.world }
+        ensures opening { self.new.opening ≡ self.old.opening }
+        ensures halted { (result ≡ Step.Halted) ↔ IsSome self.new.volume.fault }
+    {
+        if self.volume.fault().is_some() {
+            return Step::Halted;
+        }
+        match self.processes.at(pid) {
+            At::Idle => self.begin(pid),
+            At::Creating { group, search } => {
+                let (group, search) = (*group, *search);
+                self.allocate(pid, group, search)
+            }
+            At::Ending { .. } => self.end(pid),
+            At::Committing { .. } => self.commit(pid),
+        }
+    }
+
+    // Begins the operation that waits for a process, if one does and it may.
+    fn begin(&mut self, pid: u32) -> Step
+        requires pid { pid < length self.old.world.processes }
+        requires begun { (process self.old.world pid).begun + 1 < 2 ^ 64 }
+        requires opened { self.old.volume.log.opened + 1 < 2 ^ 64 }
+        requires fault { self.old.volume.fault ≡ None }
+        requires at { (process self.old.world pid).at ≡ at.Idle }
+        ensures next { Begins self.old.inode_count self.old.volume self.old.world pid result self.new.volume self.new.world }
+        ensures opening { self.new.opening ≡ self.old.opening }
+        ensures halted { (result ≡ Step.Halted) ↔ IsSome self.new.volume.fault }
+    {
+        if self.hears_shutdown() {
+            return Step::ShutDown;
+        }
+        match self.waiting(pid) {
+            None => Step::Idle,
+            Some(Waiting::Other) => Step::NotYet,
+            Some(Waiting::Refused) => self.refuse(pid),
+            Some(Waiting::Creation(kind)) => self.create(pid, kind),
+        }
+    }
+
+    // Whether no operation begins any more.
+    fn hears_shutdown(&mut self) -> bool
+        ensures same { Stays self.old self.new }
+        ensures world { self.new.world ≡ record self.old.world { is_shut = result } }
+    {
+        if !self.processes.is_shut() && self.herald.is_shut() {
+            self.processes.shut();
+        }
+        self.processes.is_shut()
+    }
+
+    // What waits for a process.
+    fn waiting(&mut self, pid: u32) -> Option<Waiting>
+        requires pid { pid < length self.old.world.processes }
+        ensures same { Stays self.old self.new }
+        ensures world { self.new.world ≡ self.old.world }
+        ensures waiting { result ≡ option_map waiting_of (first_in (I.side self.new.intake pid).ahead) }
+    {
+        match self.intake.next(pid) {
+            None => None,
+            Some(op) => Some(waiting_of(op)),
+        }
+    }
+
+    // Begins a creation that waits, where it may.
+    fn create(&mut self, pid: u32, kind: u16) -> Step
+        requires pid { pid < length self.old.world.processes }
+        requires begun { (process self.old.world pid).begun + 1 < 2 ^ 64 }
+        requires opened { self.old.volume.log.opened + 1 < 2 ^ 64 }
+        requires fault { self.old.volume.fault ≡ None }
+        requires at { (process self.old.world pid).at ≡ at.Idle }
+        requires kind { IsTrue (is_kind kind) }
+        ensures next { Creates self.old.inode_count kind self.old.volume self.old.world pid result self.new.volume self.new.world }
+        ensures opening { self.new.opening ≡ self.old.opening }
+        ensures answer { result ≢ Step.Halted }
+        ensures fault { self.new.volume.fault ≡ None }
+    {
+        self.volume.known();
+        if !self.intake.room(pid) {
+            return Step::Sleeping(Why::AnswersFull);
+        }
+        if let Some(cause) = self.volume.may_begin() {
+            return Step::Sleeping(cause);
+        }
+        if self.processes.reserve().is_err() {
+            return Step::NoMemory;
+        }
+        let _taken = self.intake.take(pid);
+        let group = open_group(&mut self.volume, pid);
+        let search = Ialloc::new(kind, self.inode_count);
+        self.processes.create(pid, group, search);
+        Step::Moved
+    }
+
+    // Answers a creation that waits, and has a type that no file has.
+    fn refuse(&mut self, pid: u32) -> Step
+        requires pid { pid < length self.old.world.processes }
+        requires begun { (process self.old.world pid).begun + 1 < 2 ^ 64 }
+        requires fault { self.old.volume.fault ≡ None }
+        requires at { (process self.old.world pid).at ≡ at.Idle }
+        requires waits { IsSome (first_in (I.side self.old.intake pid).ahead) }
+        ensures next { Refuses self.old.volume self.old.world pid result self.new.volume self.new.world }
+        ensures opening { self.new.opening ≡ self.old.opening }
+        ensures answer { result ≢ Step.Halted }
+        ensures fault { self.new.volume.fault ≡ None }
+    {
+        if !self.intake.room(pid) {
+            return Step::Sleeping(Why::AnswersFull);
+        }
+        if self.processes.reserve().is_err() {
+            return Step::NoMemory;
+        }
+        let Some(op) = self.intake.take(pid) else {
+            unreachable!();
+        };
+        let answer = self.processes.refuse(pid, op);
+        self.intake.answer(pid, answer);
+        Step::Answered
+    }
+
+    // Makes the next write of a commit.
+    fn commit(&mut self, pid: u32) -> Step
+        requires pid { pid < length self.old.world.processes }
+        requires fault { self.old.volume.fault ≡ None }
+        requires at { is_committing_at (process self.old.world pid).at ≡ true }
+        ensures next { Commits (D.image self.old.volume.device) self.old.volume self.old.world pid result (D.image self.new.volume.device) self.new.volume self.new.world }
+        ensures opening { self.new.opening ≡ self.old.opening }
+        ensures halted { (result ≡ Step.Halted) ↔ IsSome self.new.volume.fault }
+    {
+        self.volume.known();
+        let answer = self.volume.commit_step();
+        match answer {
+            Committed::More => Step::Moved,
+            Committed::Durable(group) => {
+                self.herald.durable(group);
+                Step::Moved
+            }
+            Committed::Done => {
+                give(&mut self.processes, &mut self.intake, pid);
+                Step::Answered
+            }
+            Committed::Fault(_) => Step::Halted,
+        }
+    }
+
+    // Makes the next step of a creation's search.
+    fn allocate(&mut self, pid: u32, group: u64, mut search: Ialloc) -> Step
+        requires pid { pid < length self.old.world.processes }
+        requires fault { self.old.volume.fault ≡ None }
+        requires at { (process self.old.world pid).at ≡ at.Creating group search }
+        ensures next { Searches (D.image self.old.volume.device) group search self.old.volume self.old.world pid result self.new.volume self.new.world }
+        ensures opening { self.new.opening ≡ self.old.opening }
+        ensures halted { (result ≡ Step.Halted) ↔ IsSome self.new.volume.fault }
+    {
+        self.volume.known();
+        let kind = search.kind;
+        match search.step(&mut self.volume, pid) {
+            Progress::Moved => {
+                self.processes.search(pid, group, search);
+                Step::Moved
+            }
+            Progress::Sleeping(why) => Step::Sleeping(why),
+            Progress::Over(made) => {
+                self.processes.turn(pid, group, kind, made);
+                Step::Moved
+            }
+            Progress::Fault(_) => Step::Halted,
+        }
+    }
+
+    // Ends the operation of a process in the log.
+    fn end(&mut self, pid: u32) -> Step
+        requires pid { pid < length self.old.world.processes }
+        requires fault { self.old.volume.fault ≡ None }
+        requires at { is_ending_at (process self.old.world pid).at ≡ true }
+        ensures next { Ends self.old.volume self.old.world pid result self.new.volume self.new.world }
+        ensures opening { self.new.opening ≡ self.old.opening }
+        ensures halted { (result ≡ Step.Halted) ↔ IsSome self.new.volume.fault }
+    {
+        self.volume.known();
+        let before = self.volume.log().committed();
+        match self.volume.end(pid) {
+            Ended::Commit => {
+                self.processes.commit(pid);
+                Step::Moved
+            }
+            Ended::Left => {
+                tell(&mut self.herald, before, self.volume.log().committed());
+                give(&mut self.processes, &mut self.intake, pid);
+                Step::Answered
+            }
+        }
+    }
+}
+
+// Tells a herald that one group more is committed, if one is.
+fn tell<H: Herald>(herald: &mut H, before: u64, now: u64)
+    requires told { H.count herald.old ≡ before }
+    requires one { (now ≡ before) ⊎ (now ≡ before + 1) }
+    ensures count { H.count herald.new ≡ now }
+    ensures told { H.told herald.new ≡ H.told herald.old }
+{
+    if now > before {
+        herald.durable(now);
+    }
+}
+
+// Gives a process the answer of its operation, which is at its end.
+fn give<I: Intake>(processes: &mut Processes, intake: &mut I, pid: u32)
+    requires pid { pid < length processes.old.processes }
+    requires served { pid < I.process_count intake.old }
+    requires over { IsSome (reply_at (process processes.old pid).at) }
+    requires room { (I.side intake.old pid).has_room ≡ true }
+    ensures processes { processes.new ≡ answered processes.old pid }
+    ensures served { I.process_count intake.new ≡ I.process_count intake.old }
+    ensures names { SameNames (I.name intake.old) (I.name intake.new) }
+    ensures ahead { (I.side intake.new pid).ahead ≡ (I.side intake.old pid).ahead }
+    ensures others { OthersStay (I.side intake.old) (I.side intake.new) pid }
+    ensures fits { FitWith (I.fits intake.old) (I.fits intake.new) pid (gives (answer_of (process processes.old pid))) }
+{
+    let answer = processes.answer(pid);
+    intake.answer(pid, answer);
+}
+
+// Opens an operation of a process, which need not wait. Its group.
+fn open_group<D: Disk>(volume: &mut Volume<D>, pid: u32) -> u64
+    requires fault { volume.old.fault ≡ None }
+    requires pid { pid < 32 }
+    requires none { used_by volume.old.log pid ≡ None }
+    requires opened { volume.old.log.opened + 1 < 2 ^ 64 }
+    requires free { begin_cause volume.old.log ≡ None }
+    ensures group { result ≡ (begun volume.old.log pid).opened }
+    ensures volume { volume.new ≡ record volume.old { log = begun volume.old.log pid } }
+{
+    match volume.begin(pid) {
+        Began::Began(group) => group,
+        Began::Sleeping(_) => unreachable!(),
+    }
+}
