@@ -16,6 +16,14 @@ numbers_text s =
 abbrev pub report_text : ℕ → ℕ → List ℕ
 report_text logged files = codes "sound log " ++ decimal logged ++ codes " files " ++ decimal files ++ codes "\n"
 
+-- how many blocks were copied home
+abbrev pub copied_text : ℕ → List ℕ
+copied_text copied = codes "recovered " ++ decimal copied ++ codes "\n"
+
+-- how many blocks a run wrote, and how many groups are committed
+abbrev pub counts_text : ℕ → ℕ → List ℕ
+counts_text writes committed = codes "writes " ++ decimal writes ++ codes "\ncommitted " ++ decimal committed ++ codes "\n"
+
 -- the line for a refusal
 abbrev pub refusal_line : Refusal → List ℕ
 refusal_line r = codes "xvfs: " ++ refusal_text r ++ codes "\n"

@@ -3,14 +3,25 @@ use Rattle.std.specs.Prelude.{ℕ, List, [], ◌++◌, Option, Some, None, codes
 use Rattle.blocks.specs.declared.errors.FileFault.TheVariants as file
 use Rattle.layout.specs.declared.geometry.MkfsFault.TheVariants as mkfs
 use Rattle.model.specs.declared.types.CheckFault.TheVariants as check
+use Rattle.wal.specs.declared.faults.RecoverFault.TheVariants as recover
+use Rattle.kernel.specs.declared.types.OpenFault.{OpenFault}
+use Rattle.kernel.specs.declared.types.OpenFault.TheVariants as open_fault
+use Rattle.scripts.specs.declared.script.ScriptFault.TheVariants as script
+use Rattle.scripts.specs.declared.schedule.ScheduleFault.TheVariants as schedule
+use Rattle.xvfs.specs.declared.refusal.KernelFault.TheVariants as kernel
 use Rattle.xvfs.specs.declared.refusal.InputFault.TheVariants as input
 use Rattle.xvfs.specs.declared.refusal.Refusal.{Refusal}
-use Rattle.xvfs.specs.declared.refusal.Refusal.TheVariants.{File, Mkfs, Check, Input, Output}
+use Rattle.xvfs.specs.declared.refusal.Refusal.TheVariants.{File, Mkfs, Check, Recover, Open, Script, Schedule, Disk, Input, Output}
 
 abbrev pub layer_of : Refusal → List ℕ
 layer_of (File _) = codes "file"
 layer_of (Mkfs _) = codes "mkfs"
 layer_of (Check _) = codes "check"
+layer_of (Recover _) = codes "recover"
+layer_of (Open _) = codes "open"
+layer_of (Script _) = codes "script"
+layer_of (Schedule _) = codes "schedule"
+layer_of (Disk _) = codes "disk"
 layer_of (Input _) = codes "input"
 layer_of Output = codes "output"
 
@@ -34,6 +45,21 @@ number_of (Check (check.UsedButFree _)) = 8
 number_of (Check (check.LostBlock _)) = 9
 number_of (Check check.Disk) = 10
 number_of (Check check.NoMemory) = 11
+number_of (Recover recover.Disk) = 1
+number_of (Recover recover.BadLog) = 2
+number_of (Recover recover.NoMemory) = 3
+number_of (Open kernel.NoMemory) = 3
+number_of (Open kernel.ProcRange) = 4
+number_of (Script (script.BadLine _)) = 1
+number_of (Script script.TooLarge) = 2
+number_of (Script script.NoMemory) = 3
+number_of (Script script.File) = 4
+number_of (Script (script.NotYet _)) = 5
+number_of (Schedule (schedule.BadWord _)) = 1
+number_of (Schedule schedule.TooLarge) = 2
+number_of (Schedule schedule.NoMemory) = 3
+number_of (Schedule schedule.File) = 4
+number_of (Disk _) = 1
 number_of (Input input.Read) = 1
 number_of (Input input.TooLarge) = 2
 number_of (Input input.NoMemory) = 3
@@ -58,12 +84,27 @@ name_of (Check (check.UsedButFree _)) = codes "UsedButFree"
 name_of (Check (check.LostBlock _)) = codes "LostBlock"
 name_of (Check check.Disk) = codes "Disk"
 name_of (Check check.NoMemory) = codes "NoMemory"
+name_of (Recover recover.Disk) = codes "Disk"
+name_of (Recover recover.BadLog) = codes "BadLog"
+name_of (Recover recover.NoMemory) = codes "NoMemory"
+name_of (Open kernel.NoMemory) = codes "NoMemory"
+name_of (Open kernel.ProcRange) = codes "ProcRange"
+name_of (Script (script.BadLine _)) = codes "BadLine"
+name_of (Script script.TooLarge) = codes "TooLarge"
+name_of (Script script.NoMemory) = codes "NoMemory"
+name_of (Script script.File) = codes "File"
+name_of (Script (script.NotYet _)) = codes "NotYet"
+name_of (Schedule (schedule.BadWord _)) = codes "BadWord"
+name_of (Schedule schedule.TooLarge) = codes "TooLarge"
+name_of (Schedule schedule.NoMemory) = codes "NoMemory"
+name_of (Schedule schedule.File) = codes "File"
+name_of (Disk _) = codes "DiskFault"
 name_of (Input input.Read) = codes "Read"
 name_of (Input input.TooLarge) = codes "TooLarge"
 name_of (Input input.NoMemory) = codes "NoMemory"
 name_of Output = codes "Write"
 
--- the inode or the block that it names
+-- the inode, the block, the line or the word that it names
 abbrev pub argument_of : Refusal → Option ℕ
 argument_of (Check (check.BadType inode)) = Some inode
 argument_of (Check (check.BadSize inode)) = Some inode
@@ -71,6 +112,10 @@ argument_of (Check (check.BadAddress inode)) = Some inode
 argument_of (Check (check.TwiceUsed block)) = Some block
 argument_of (Check (check.UsedButFree block)) = Some block
 argument_of (Check (check.LostBlock block)) = Some block
+argument_of (Script (script.BadLine line)) = Some line
+argument_of (Script (script.NotYet line)) = Some line
+argument_of (Schedule (schedule.BadWord word)) = Some word
+argument_of (Disk fault) = Some fault.0
 argument_of _ = None
 
 abbrev pub argument_text : Option ℕ → List ℕ
@@ -81,3 +126,10 @@ argument_text (Some n) = codes " " ++ decimal n
 abbrev pub refusal_text : Refusal → List ℕ
 refusal_text r =
     layer_of r ++ codes " " ++ decimal (number_of r) ++ codes " " ++ name_of r ++ argument_text (argument_of r)
+
+-- why a kernel isn't opened; a fault of the check or of the recovery inside is told as its own
+abbrev pub open_refusal : OpenFault → Refusal
+open_refusal (open_fault.Check fault) = Check fault
+open_refusal (open_fault.Recover fault) = Recover fault
+open_refusal open_fault.NoMemory = Open kernel.NoMemory
+open_refusal open_fault.ProcRange = Open kernel.ProcRange

@@ -6,7 +6,9 @@ ghost use Rattle.xvfs.specs.Output.{Tells};
 use crate::checking::check_file;
 use crate::making::make;
 use crate::output::print;
+use crate::recovering::recover_file;
 use crate::refusal::Refusal;
+use crate::replaying::replay;
 use crate::words::{Request, parse};
 use std::convert::AsStr;
 use std::io::Write;
@@ -119,5 +121,12 @@ fn dispatch<R: Files + AllocGlobal, O: Write>(
             ninodes,
         } => make(rt, image, size, ninodes, out),
         Request::Check { image } => check_file(rt, image, out),
+        Request::Recover { image } => recover_file(rt, image, out),
+        Request::Replay {
+            image,
+            script,
+            schedule,
+            stop,
+        } => replay(rt, image, script, schedule, stop, out),
     }
 }

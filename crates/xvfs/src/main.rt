@@ -1,13 +1,18 @@
-//! Makes and checks images of the xv6 file system.
+//! Makes, checks, recovers and replays images of the xv6 file system.
 #![tactic(auto)]
 
 mod arguments;
 mod checking;
 mod command;
 mod commands;
+mod events;
+mod inputs;
 mod making;
 mod output;
+mod recovering;
 mod refusal;
+mod replaying;
+mod turns;
 mod words;
 
 use command::{command, refuse};

@@ -2,13 +2,16 @@
 ghost use Rattle.std.specs.Prelude.{◌≡◌};
 ghost use Rattle.xvfs.specs.Refusal.{layer_of, number_of, name_of, argument_of};
 
-use blocks::FileFault;
+use blocks::{DiskFault, FileFault, NoMemory};
 use itoa::Buffer;
+use kernel::OpenFault;
 use layout::{CheckFault, MkfsFault};
-use std::alloc::AllocError;
+use scripts::{ScheduleFault, ScriptFault};
+use std::alloc::{AllocError, AllocFailed};
 use std::io::ErrorKind;
 use std::{fmt, io};
 use thiserror::Error;
+use wal::RecoverFault;
 
 /// Why command lines can't be had from a reader.
 #[derive(Clone, Copy, Debug, PartialEq, Eq, Error)]
@@ -43,6 +46,47 @@ impl From<io::Error> for InputFault {
     }
 }
 
+/// Why a kernel isn't opened over an image that can be used.
+#[derive(Clone, Copy, Debug, PartialEq, Eq, Error)]
+pub enum KernelFault {
+    /// Memory was refused.
+    #[error("memory was refused")]
+    NoMemory,
+    /// There are not 1 to 32 processes.
+    #[error("a kernel has 1 to 32 processes")]
+    ProcRange,
+}
+
+impl From<NoMemory> for KernelFault {
+    ghost use Rattle.xvfs.specs.declared.refusal.KernelFault.TheVariants as fault;
+
+    ghost from_gives = { λ _ e. e ≡ fault.NoMemory };
+
+    fn from(_refused: NoMemory) -> KernelFault {
+        KernelFault::NoMemory
+    }
+}
+
+impl From<AllocError> for KernelFault {
+    ghost use Rattle.xvfs.specs.declared.refusal.KernelFault.TheVariants as fault;
+
+    ghost from_gives = { λ _ e. e ≡ fault.NoMemory };
+
+    fn from(_refused: AllocError) -> KernelFault {
+        KernelFault::NoMemory
+    }
+}
+
+impl<T: Drop> From<AllocFailed<T>> for KernelFault {
+    ghost use Rattle.xvfs.specs.declared.refusal.KernelFault.TheVariants as fault;
+
+    ghost from_gives = { λ _ e. e ≡ fault.NoMemory };
+
+    fn from(_refused: AllocFailed<T>) -> KernelFault {
+        KernelFault::NoMemory
+    }
+}
+
 /// A layer's fault that ends a command.
 #[derive(Clone, Copy, Debug, PartialEq, Eq)]
 pub enum Refusal {
@@ -52,6 +96,16 @@ pub enum Refusal {
     Mkfs(MkfsFault),
     /// The image isn't sound, or can't be checked.
     Check(CheckFault),
+    /// The image can't be recovered.
+    Recover(RecoverFault),
+    /// The kernel can't be opened.
+    Open(KernelFault),
+    /// The script can't be had.
+    Script(ScriptFault),
+    /// The schedule can't be had.
+    Schedule(ScheduleFault),
+    /// The disk failed in a step of the kernel.
+    Disk(DiskFault),
     /// The command lines can't be had.
     Input(InputFault),
     /// The output can't be written.
@@ -67,6 +121,11 @@ impl Refusal {
             Refusal::File(_) => "file",
             Refusal::Mkfs(_) => "mkfs",
             Refusal::Check(_) => "check",
+            Refusal::Recover(_) => "recover",
+            Refusal::Open(_) => "open",
+            Refusal::Script(_) => "script",
+            Refusal::Schedule(_) => "schedule",
+            Refusal::Disk(_) => "disk",
             Refusal::Input(_) => "input",
             Refusal::Output => "output",
         }
@@ -95,6 +154,21 @@ impl Refusal {
             Refusal::Check(CheckFault::LostBlock(_)) => 9,
             Refusal::Check(CheckFault::Disk) => 10,
             Refusal::Check(CheckFault::NoMemory) => 11,
+            Refusal::Recover(RecoverFault::Disk) => 1,
+            Refusal::Recover(RecoverFault::BadLog) => 2,
+            Refusal::Recover(RecoverFault::NoMemory) => 3,
+            Refusal::Open(KernelFault::NoMemory) => 3,
+            Refusal::Open(KernelFault::ProcRange) => 4,
+            Refusal::Script(ScriptFault::BadLine(_)) => 1,
+            Refusal::Script(ScriptFault::TooLarge) => 2,
+            Refusal::Script(ScriptFault::NoMemory) => 3,
+            Refusal::Script(ScriptFault::File) => 4,
+            Refusal::Script(ScriptFault::NotYet(_)) => 5,
+            Refusal::Schedule(ScheduleFault::BadWord(_)) => 1,
+            Refusal::Schedule(ScheduleFault::TooLarge) => 2,
+            Refusal::Schedule(ScheduleFault::NoMemory) => 3,
+            Refusal::Schedule(ScheduleFault::File) => 4,
+            Refusal::Disk(_) => 1,
             Refusal::Input(InputFault::Read) => 1,
             Refusal::Input(InputFault::TooLarge) => 2,
             Refusal::Input(InputFault::NoMemory) => 3,
@@ -125,6 +199,21 @@ impl Refusal {
             Refusal::Check(CheckFault::LostBlock(_)) => "LostBlock",
             Refusal::Check(CheckFault::Disk) => "Disk",
             Refusal::Check(CheckFault::NoMemory) => "NoMemory",
+            Refusal::Recover(RecoverFault::Disk) => "Disk",
+            Refusal::Recover(RecoverFault::BadLog) => "BadLog",
+            Refusal::Recover(RecoverFault::NoMemory) => "NoMemory",
+            Refusal::Open(KernelFault::NoMemory) => "NoMemory",
+            Refusal::Open(KernelFault::ProcRange) => "ProcRange",
+            Refusal::Script(ScriptFault::BadLine(_)) => "BadLine",
+            Refusal::Script(ScriptFault::TooLarge) => "TooLarge",
+            Refusal::Script(ScriptFault::NoMemory) => "NoMemory",
+            Refusal::Script(ScriptFault::File) => "File",
+            Refusal::Script(ScriptFault::NotYet(_)) => "NotYet",
+            Refusal::Schedule(ScheduleFault::BadWord(_)) => "BadWord",
+            Refusal::Schedule(ScheduleFault::TooLarge) => "TooLarge",
+            Refusal::Schedule(ScheduleFault::NoMemory) => "NoMemory",
+            Refusal::Schedule(ScheduleFault::File) => "File",
+            Refusal::Disk(_) => "DiskFault",
             Refusal::Input(InputFault::Read) => "Read",
             Refusal::Input(InputFault::TooLarge) => "TooLarge",
             Refusal::Input(InputFault::NoMemory) => "NoMemory",
@@ -132,7 +221,7 @@ impl Refusal {
         }
     }
 
-    /// The inode or the block that the fault names, if any.
+    /// The inode, the block, the line or the word that the fault names, if any.
     pub fn argument(self) -> Option<u32>
         ensures { result ≡ argument_of self }
     {
@@ -143,12 +232,16 @@ impl Refusal {
             Refusal::Check(CheckFault::TwiceUsed(block)) => Some(block),
             Refusal::Check(CheckFault::UsedButFree(block)) => Some(block),
             Refusal::Check(CheckFault::LostBlock(block)) => Some(block),
+            Refusal::Script(ScriptFault::BadLine(line)) => Some(line),
+            Refusal::Script(ScriptFault::NotYet(line)) => Some(line),
+            Refusal::Schedule(ScheduleFault::BadWord(word)) => Some(word),
+            Refusal::Disk(DiskFault(block)) => Some(block),
             _ => None,
         }
     }
 }
 
-/// Layer, number, name, and the inode or the block, if any, with one space between them.
+/// Layer, number, name, and what the fault names, if anything, with one space between them.
 impl fmt::Display for Refusal {
     ghost use Rattle.std.specs.Prelude.{Some};
     ghost use Rattle.xvfs.specs.Refusal.{refusal_text};
@@ -207,5 +300,71 @@ impl From<InputFault> for Refusal {
 
     fn from(fault: InputFault) -> Refusal {
         Refusal::Input(fault)
+    }
+}
+
+impl From<RecoverFault> for Refusal {
+    ghost use Rattle.xvfs.specs.declared.refusal.Refusal.TheVariants as refusal;
+
+    ghost from_gives = { λ fault r. r ≡ refusal.Recover fault };
+
+    fn from(fault: RecoverFault) -> Refusal {
+        Refusal::Recover(fault)
+    }
+}
+
+/// A fault of the check or of the recovery inside is told as its own layer's.
+impl From<OpenFault> for Refusal {
+    ghost use Rattle.xvfs.specs.Refusal.{open_refusal};
+
+    ghost from_gives = { λ fault r. r ≡ open_refusal fault };
+
+    fn from(fault: OpenFault) -> Refusal {
+        match fault {
+            OpenFault::Check(fault) => Refusal::Check(fault),
+            OpenFault::Recover(fault) => Refusal::Recover(fault),
+            OpenFault::NoMemory => Refusal::Open(KernelFault::NoMemory),
+            OpenFault::ProcRange => Refusal::Open(KernelFault::ProcRange),
+        }
+    }
+}
+
+impl From<KernelFault> for Refusal {
+    ghost use Rattle.xvfs.specs.declared.refusal.Refusal.TheVariants as refusal;
+
+    ghost from_gives = { λ fault r. r ≡ refusal.Open fault };
+
+    fn from(fault: KernelFault) -> Refusal {
+        Refusal::Open(fault)
+    }
+}
+
+impl From<ScriptFault> for Refusal {
+    ghost use Rattle.xvfs.specs.declared.refusal.Refusal.TheVariants as refusal;
+
+    ghost from_gives = { λ fault r. r ≡ refusal.Script fault };
+
+    fn from(fault: ScriptFault) -> Refusal {
+        Refusal::Script(fault)
+    }
+}
+
+impl From<ScheduleFault> for Refusal {
+    ghost use Rattle.xvfs.specs.declared.refusal.Refusal.TheVariants as refusal;
+
+    ghost from_gives = { λ fault r. r ≡ refusal.Schedule fault };
+
+    fn from(fault: ScheduleFault) -> Refusal {
+        Refusal::Schedule(fault)
+    }
+}
+
+impl From<DiskFault> for Refusal {
+    ghost use Rattle.xvfs.specs.declared.refusal.Refusal.TheVariants as refusal;
+
+    ghost from_gives = { λ fault r. r ≡ refusal.Disk fault };
+
+    fn from(fault: DiskFault) -> Refusal {
+        Refusal::Disk(fault)
     }
 }

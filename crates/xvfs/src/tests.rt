@@ -2,6 +2,7 @@
 mod answers;
 mod images;
 mod lines;
+mod replays;
 
 use crate::command::command;
 use std::fs::OpenOptions;

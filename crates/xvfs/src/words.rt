@@ -21,6 +21,22 @@ pub enum Request<'a> {
         /// The path of its file.
         image: &'a str,
     },
+    /// A recovery of an image.
+    Recover {
+        /// The path of its file.
+        image: &'a str,
+    },
+    /// A script's operations over an image.
+    Replay {
+        /// The path of the image's file.
+        image: &'a str,
+        /// The path of the script.
+        script: &'a str,
+        /// The path of the schedule.
+        schedule: &'a str,
+        /// The write, counted from 1 after the opening, before which it stops.
+        stop: Option<u64>,
+    },
 }
 
 /// What these words, without the program's name, ask for.
@@ -49,6 +65,13 @@ fn request_of<'a>(matches: &ArgMatches<'a>) -> Option<Request<'a>> {
             ninodes: values.get_one("NINODES")?,
         }),
         "check" => Some(Request::Check { image }),
+        "recover" => Some(Request::Recover { image }),
+        "replay" => Some(Request::Replay {
+            image,
+            script: values.get_str("SCRIPT")?,
+            schedule: values.get_str("SCHEDULE")?,
+            stop: values.get_one("stop"),
+        }),
         _ => None,
     }
 }
@@ -57,13 +80,15 @@ fn program<'a>(alloc: Global) -> Result<Command<'a>, AllocError> {
     Command::new(alloc, "xvfs")
         .version("0.1.0")
         .about(
-            "Makes and checks images of the xv6 file system; without words, does the command lines of standard input",
+            "Makes, checks, recovers and replays images of the xv6 file system; without words, does the command lines of standard input",
         )
         .bin_name("xvfs")?
         .no_binary_name(true)
         .subcommand_required(true)
         .subcommand(mkfs_words(alloc)?)?
-        .subcommand(check_words(alloc)?)
+        .subcommand(check_words(alloc)?)?
+        .subcommand(recover_words(alloc)?)?
+        .subcommand(replay_words(alloc)?)
 }
 
 fn mkfs_words<'a>(alloc: Global) -> Result<Command<'a>, AllocError> {
@@ -89,6 +114,32 @@ fn check_words<'a>(alloc: Global) -> Result<Command<'a>, AllocError> {
     Command::new(alloc, "check")
         .about("Says whether an image is sound, and counts its logged blocks and its files")
         .arg(image_word(alloc, "The path of the image's file, which is not changed"))
+}
+
+fn recover_words<'a>(alloc: Global) -> Result<Command<'a>, AllocError> {
+    Command::new(alloc, "recover")
+        .about("Checks an image, and copies the blocks of its log home")
+        .arg(image_word(alloc, "The path of the image's file"))
+}
+
+fn replay_words<'a>(alloc: Global) -> Result<Command<'a>, AllocError> {
+    let script = Arg::new(alloc, "SCRIPT").required(true).help(
+        "The path of the script, whose lines are the operations of processes",
+    );
+    let schedule = Arg::new(alloc, "SCHEDULE").required(true).help(
+        "The path of the schedule, whose words are turns of the processes",
+    );
+    let stop = Arg::new(alloc, "stop")
+        .long("stop")
+        .value_name("N")
+        .value_parser(value_parser!(u64).range(1..))
+        .help("Stops before this write, counted from 1 once the image is recovered");
+    Command::new(alloc, "replay")
+        .about("Recovers an image, and makes a script's operations in the turns of a schedule")
+        .arg(image_word(alloc, "The path of the image's file"))?
+        .arg(script)?
+        .arg(schedule)?
+        .arg(stop)
 }
 
 fn image_word<'a>(alloc: Global, help: &'a str) -> Arg<'a> {

@@ -4,14 +4,16 @@ use std::fs;
 use std::test::Fail;
 
 const HELP: &str = "\
-Makes and checks images of the xv6 file system; without words, does the command lines of standard input
+Makes, checks, recovers and replays images of the xv6 file system; without words, does the command lines of standard input
 
 Usage: xvfs <COMMAND>
 
 Commands:
-  mkfs   Makes an image in a new file, or in place of an old one
-  check  Says whether an image is sound, and counts its logged blocks and its files
-  help   Print this message or the help of the given subcommand(s)
+  mkfs     Makes an image in a new file, or in place of an old one
+  check    Says whether an image is sound, and counts its logged blocks and its files
+  recover  Checks an image, and copies the blocks of its log home
+  replay   Recovers an image, and makes a script's operations in the turns of a schedule
+  help     Print this message or the help of the given subcommand(s)
 
 Options:
   -h, --help     Print help
@@ -62,6 +64,11 @@ fn refuses_words(rt: HostRuntime) -> Result<(), Fail> {
         "error: invalid value 'x' for '<NINODES>': invalid digit found in string{more}"
     )?;
     expect(&rt, &["mkfs", path, "200", "x"], 2, "", err.as_str())?;
+    let err = format!(in alloc;
+        "error: invalid value '0' for '--stop <N>': 0 is not in 1..18446744073709551615{more}"
+    )?;
+    let words = ["replay", path, path, path, "--stop", "0"];
+    expect(&rt, &words, 2, "", err.as_str())?;
     let err = format!(in alloc;
         "error: unrecognized subcommand 'fsck'\n\nUsage: xvfs <COMMAND>{more}"
     )?;

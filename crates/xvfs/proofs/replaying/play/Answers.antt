@@ -1,0 +1,18 @@
+use Rattle.std.proofs.Common.{◌∙◌, sym}
+use Rattle.std.proofs.lemmas.List.{drop_all}
+use Rattle.scripts.specs.declared.schedule.Word.TheVariants as word
+use Rattle.xvfs.proofs.Plays.{next_word, one_played, last_played, all_played}
+use Rattle.xvfs.proofs.replaying.play.Goals as goal
+
+pub returns-then-is_last-clause-printed : goal.returns-then-is_last-clause-printed
+returns-then-is_last-clause-printed g c =
+    last_played c.args.stop c.args.words.now c.loop-word.word-index _ _ _ _ c.turn-event.result c.loop-word.invariant (next_word c.args.words.now c.loop-word.word-index (word.Step 0) c.loop-word-test.true)
+    c.turn-event.ensures (sym c.is_last.ensures ∙ c.if-is_last.true) c.in_ok-print.ensures.ok
+
+pub loop-word-preserved : goal.loop-word-preserved
+loop-word-preserved g c =
+    one_played c.args.stop c.args.words.now c.loop-word.word-index _ _ _ _ c.turn-event.result c.loop-word.invariant (next_word c.args.words.now c.loop-word.word-index (word.Step 0) c.loop-word-test.true)
+    c.turn-event.ensures (sym c.is_last.ensures ∙ c.if-is_last.false) c.in_ok-print.ensures.ok
+
+pub returns-clause-printed : goal.returns-clause-printed
+returns-clause-printed g c = all_played c.args.stop c.args.words.now c.loop-word.word-index _ _ c.loop-word.invariant (drop_all c.loop-word.word-index c.args.words.now c.loop-word-test.false)

@@ -1,0 +1,5 @@
+use Rattle.xvfs.proofs.Plays.{PlayedSo}
+use Rattle.xvfs.proofs.replaying.play.Given as goal
+
+abbrev pub invariant-loop-word : goal.invariant-loop-word
+invariant-loop-word g l = PlayedSo l.stop l.words l.word-index (g.O.Write.contents l.initial.out) (g.O.Write.contents l.out)

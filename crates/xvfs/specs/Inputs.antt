@@ -1,0 +1,28 @@
+-- The scripts that can be carried out.
+use Rattle.std.specs.Prelude.{ℕ, Bool, true, false, not, List, Option, Some, None, option_map, find}
+use Rattle.model.specs.declared.types.Op.{Op}
+use Rattle.model.specs.declared.types.Op.TheVariants.{Create, Write, Read, Trunc, Remove, Stat}
+use Rattle.scripts.specs.declared.script.Task.{Task}
+use Rattle.scripts.specs.declared.script.ScriptFault.{ScriptFault}
+use Rattle.scripts.specs.declared.script.ScriptFault.TheVariants.{NotYet}
+use Rattle.scripts.specs.Script.{tasks_of, fault_of}
+
+abbrev pub is_creation : Op → Bool
+is_creation (Create kind) = true
+is_creation (Write inode offset bytes) = false
+is_creation (Read inode offset count) = false
+is_creation (Trunc inode) = false
+is_creation (Remove inode) = false
+is_creation (Stat inode) = false
+
+-- the line of the first operation that is no creation
+abbrev pub first_other : List Task → Option ℕ
+first_other tasks = option_map (λ task. task.line) (find (λ task. not (is_creation task.op)) tasks)
+
+abbrev pub fault_or : Option ScriptFault → Option ScriptFault → Option ScriptFault
+fault_or (Some fault) other = Some fault
+fault_or None other = other
+
+-- why a text is no script of creations: it is none, else the first operation that is no creation
+abbrev pub script_fault : List ℕ → Option ScriptFault
+script_fault text = fault_or (fault_of text) (option_map NotYet (first_other (tasks_of text)))

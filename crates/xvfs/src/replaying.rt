@@ -1,0 +1,120 @@
+// The command `replay`.
+ghost use Rattle.std.specs.Prelude.{◌≡◌, ◌≢◌, ◌-◌, OnOk, IfErr, IsOkUnless, List, Some, None, option_map, unwrap_or};
+ghost use Rattle.std.specs.Io.KnownBytes.{Appends};
+ghost use Rattle.blocks.specs.FaultyDisk.{has_fired};
+ghost use Rattle.scripts.specs.declared.schedule.Word.{Word};
+ghost use Rattle.xvfs.specs.declared.refusal.Refusal.TheVariants as refusal;
+ghost use Rattle.xvfs.specs.Output.{counts_text};
+ghost use Rattle.xvfs.specs.Turns.{PrintsTurns, PrintsRun, OnRefusal, told_fault};
+
+use crate::events::Event;
+use crate::inputs::{schedule_from, script_from};
+use crate::output::print;
+use crate::recovering::recover_disk;
+use crate::refusal::Refusal;
+use crate::turns::{Player, open_player};
+use blocks::{Disk, FaultyDisk, FileDisk};
+use itoa::Buffer;
+use scripts::{Word, processes};
+use std::io::Write;
+use std::rt::Files;
+
+/// Recovers the image in the file at this path, and makes the operations of a script in the turns of
+/// a schedule. Prints a line for each word of the schedule, up to the one in whose turn the disk
+/// failed, and then how many blocks were written since the image was recovered, and how many groups
+/// are committed. With `stop` the write of this number, from 1, is not made, and ends the run.
+///
+/// # Errors
+///
+/// A fault of the script, then of the schedule, then of `FileDisk::open`, of `recover_disk` or of the
+/// kernel's opening, or of the output; `Disk` where a step found that the disk failed, and then all
+/// was printed.
+pub fn replay<R: Files + AllocGlobal, O: Write>(
+    rt: &R,
+    image: &str,
+    script: &str,
+    schedule: &str,
+    stop: Option<u64>,
+    out: &mut O,
+) -> Result<(), Refusal>
+    ensures printed { OnOk result ((words : List Word) × PrintsRun (unwrap_or stop 0) words (O.contents out.old) (O.contents out.new)) }
+    ensures refused { IfErr result (λ r. OnRefusal r ((words : List Word) × PrintsRun (unwrap_or stop 0) words (O.contents out.old) (O.contents out.new)) (out.new ≡ out.old)) }
+{
+    let tasks = script_from(rt, script)?;
+    let processes = processes(tasks.as_slice());
+    let words = schedule_from(rt, schedule, processes)?;
+    let mut disk = FileDisk::open(rt, image)?;
+    recover_disk(rt.alloc(), &mut disk)?;
+    let base = disk.writes();
+    let stop = stop.unwrap_or(0);
+    let player = open_player(rt.alloc(), disk, tasks, processes, stop)?;
+    run(player, words.as_slice(), stop, base, out)
+}
+
+/// Makes the turns of the words over a disk that had counted `base` writes before them, and prints
+/// what they came to. The write of number `stop` isn't made.
+///
+/// # Errors
+///
+/// `Output`; else `Disk` where a step found that the disk failed, and then all was printed.
+pub fn run<D: Disk + Drop, O: Write>(
+    mut player: Player<D>,
+    words: &[Word],
+    stop: u64,
+    base: u64,
+    out: &mut O,
+) -> Result<(), Refusal>
+    ensures printed { OnOk result (PrintsRun stop words.now (O.contents out.old) (O.contents out.new)) }
+    ensures refused { IfErr result (λ r. OnRefusal r (PrintsRun stop words.now (O.contents out.old) (O.contents out.new)) ⊥) }
+{
+    play(&mut player, words, stop, out)?;
+    close(player, base, out)
+}
+
+// Makes the turns of the words, and prints a line for each, up to the last that can be made.
+fn play<D: Disk + Drop, O: Write>(
+    player: &mut Player<D>,
+    words: &[Word],
+    stop: u64,
+    out: &mut O,
+) -> Result<(), Refusal>
+    ensures printed { OnOk result (PrintsTurns stop words.now (O.contents out.old) (O.contents out.new)) }
+    ensures err { IsOkUnless result refusal.Output }
+{
+    for word in words {
+        let event = player.turn(*word, stop);
+        print(out, format_args!("{event}\n"))?;
+        if event.is_last() {
+            return Ok(());
+        }
+    }
+    Ok(())
+}
+
+// Prints what the turns came to.
+fn close<D: Disk + Drop, O: Write>(player: Player<D>, base: u64, out: &mut O) -> Result<(), Refusal>
+    ensures printed { OnOk result (Appends (O.contents out.old) (O.contents out.new) (counts_text (⟦<FaultyDisk<D> as Disk>⟧.write_count player.kernel.volume.device - base) player.kernel.volume.log.committed)) }
+    ensures sound { OnOk result (told_fault (has_fired player.kernel.volume.device) player.kernel.volume.fault ≡ None) }
+    ensures refused { IfErr result (λ r. OnRefusal r (Appends (O.contents out.old) (O.contents out.new) (counts_text (⟦<FaultyDisk<D> as Disk>⟧.write_count player.kernel.volume.device - base) player.kernel.volume.log.committed)) ⊥) }
+    ensures fault { IfErr result (λ r. r ≢ refusal.Output → option_map refusal.Disk (told_fault (has_fired player.kernel.volume.device) player.kernel.volume.fault) ≡ Some r) }
+{
+    let outcome = player.finish(base);
+    print_counts(outcome.writes, outcome.committed, out)?;
+    match outcome.fault {
+        Some(fault) => Err(Refusal::Disk(fault)),
+        None => Ok(()),
+    }
+}
+
+fn print_counts<O: Write>(writes: u64, committed: u64, out: &mut O) -> Result<(), Refusal>
+    ensures ok { OnOk result (Appends (O.contents out.old) (O.contents out.new) (counts_text writes committed)) }
+    ensures err { IsOkUnless result refusal.Output }
+{
+    let mut buffers = (Buffer::new(), Buffer::new());
+    let writes = buffers.0.format(writes);
+    let committed = buffers.1.format(committed);
+    print(
+        out,
+        format_args!("writes {writes}\ncommitted {committed}\n"),
+    )
+}

@@ -1,0 +1,223 @@
+// The turns of a schedule, over a kernel with a script's operations.
+ghost use Rattle.std.specs.Prelude.{◌≡◌, ◌-◌, ◌<◌, nat_lt, length, None, IfOk, IfErr, IsSome, IsTrue};
+ghost use Rattle.blocks.specs.FaultyDisk.{has_fired, inner_of};
+ghost use Rattle.model.specs.Log.{recovered};
+ghost use Rattle.model.specs.Verdict.{verdict};
+ghost use Rattle.ports.specs.History.{first_in};
+ghost use Rattle.ports.specs.Queues.{answers};
+ghost use Rattle.xvfs.specs.Turns.{IsTurnOf, IsTurnOfProcess, event_of, told_fault, IsOpening};
+
+use crate::events::Event;
+use crate::refusal::{KernelFault, Refusal};
+use blocks::{Disk, DiskFault, FaultyDisk, Kind};
+use kernel::{Kernel, Step};
+use model::types::{Answer, Op};
+use ports::{PLACES, PlainHerald, QueueIntake};
+use scripts::{Task, Word};
+use std::alloc::Global;
+
+// More steps than any operation makes.
+const MOST_STEPS: u32 = 2000;
+
+/// A kernel over plain queues and a disk of which one write may be stopped, and the operations of a
+/// script that wait to be handed in.
+#[derive(Drop)]
+pub struct Player<D: Disk> {
+    pub(crate) kernel: Kernel<FaultyDisk<D>, QueueIntake, PlainHerald>,
+    // Those of each process, the next one last.
+    waiting: Vec<Vec<Op>>,
+}
+
+/// What the turns came to.
+#[derive(Clone, Copy, Debug, PartialEq, Eq)]
+pub struct Outcome {
+    /// The blocks written since the image was recovered.
+    pub writes: u64,
+    /// The committed groups.
+    pub committed: u64,
+    /// The disk's fault, but for the one that was asked for.
+    pub fault: Option<DiskFault>,
+}
+
+/// A player of these operations, of so many processes, over a disk whose image was recovered. The
+/// write of number `stop` isn't made, counted from 1; each is where that is 0.
+///
+/// # Errors
+///
+/// A fault of `Kernel::open`; its `NoMemory` also where memory for the operations is refused.
+pub fn open_player<D: Disk + Drop>(
+    alloc: Global,
+    disk: D,
+    tasks: Vec<Task>,
+    processes: u32,
+    stop: u64,
+) -> Result<Player<D>, Refusal>
+    ensures sound { IfOk result (λ player. verdict (D.image disk) ≡ None) }
+    ensures image { IfOk result (λ player. D.image (inner_of player.kernel.volume.device) ≡ recovered (D.image disk)) }
+    ensures none { IfOk result (λ player. player.kernel.volume.log.committed ≡ 0) }
+    ensures refused { IfErr result IsOpening }
+{
+    let waiting = waiting_of(alloc, tasks, processes)?;
+    let intake = QueueIntake::new(alloc, processes).map_err(KernelFault::from)?;
+    let disk = FaultyDisk::new(disk, stop, Kind::WriteOld);
+    match Kernel::open(alloc, disk, intake, PlainHerald::new(), processes) {
+        Ok(kernel) => Ok(Player { kernel, waiting }),
+        Err((fault, _)) => Err(fault.into()),
+    }
+}
+
+// The operations of each process, the next one last.
+fn waiting_of(
+    alloc: Global,
+    tasks: Vec<Task>,
+    processes: u32,
+) -> Result<Vec<Vec<Op>>, KernelFault> {
+    let mut waiting = Vec::new(alloc);
+    for _process in 0..processes {
+        waiting.push(Vec::new(alloc))?;
+    }
+    for task in tasks.into_iter().rev() {
+        if let Some(lane) = waiting.get_mut(task.pid as usize) {
+            lane.push(task.op)?;
+        }
+    }
+    Ok(waiting)
+}
+
+impl<D: Disk + Drop> Player<D> {
+    /// Makes the turn of a word, where the write of number `stop` isn't made.
+    pub fn turn(&mut self, word: Word, stop: u64) -> Event
+        ensures { IsTurnOf stop word result }
+    {
+        match word {
+            Word::Step(pid) => {
+                self.hand_in(pid);
+                let step = self.step(pid);
+                self.event(pid, step, stop)
+            }
+            Word::Steps(pid) => {
+                self.hand_in(pid);
+                let step = self.steps(pid);
+                self.event(pid, step, stop)
+            }
+            Word::Shutdown => {
+                self.kernel.shut();
+                Event::Shut
+            }
+        }
+    }
+
+    /// What the turns came to, on a disk that had counted `base` writes before them.
+    pub fn finish(self, base: u64) -> Outcome
+        ensures writes { result.writes ≡ ⟦<FaultyDisk<D> as Disk>⟧.write_count self.kernel.volume.device - base }
+        ensures committed { result.committed ≡ self.kernel.volume.log.committed }
+        ensures fault { result.fault ≡ told_fault (has_fired self.kernel.volume.device) self.kernel.volume.fault }
+    {
+        let Player { kernel, .. } = self;
+        let committed = kernel.committed();
+        let fault = kernel.fault();
+        let disk = kernel.into_disk();
+        Outcome {
+            writes: disk.writes().saturating_sub(base),
+            committed,
+            fault: if disk.fired() { None } else { fault },
+        }
+    }
+
+    // Hands in the next operations of a process, as many as its queue takes.
+    fn hand_in(&mut self, pid: u32) {
+        for _place in 0..PLACES {
+            let Some(op) = self.next(pid) else {
+                return;
+            };
+            if let Some(op) = self.submit(pid, op) {
+                self.put_back(pid, op);
+                return;
+            }
+        }
+    }
+
+    // Takes the next operation that a process has to hand in.
+    fn next(&mut self, pid: u32) -> Option<Op> {
+        self.waiting.get_mut(pid as usize)?.pop()
+    }
+
+    fn put_back(&mut self, pid: u32, op: Op) {
+        if let Some(lane) = self.waiting.get_mut(pid as usize) {
+            let _ = lane.push(op);
+        }
+    }
+
+    // Whether the kernel has this process, as each that a schedule names.
+    fn has(&self, pid: u32) -> bool
+        ensures { result ≡ nat_lt pid (length self.now.kernel.world.processes) }
+    {
+        (pid as usize) < self.kernel.processes()
+    }
+
+    // Hands an operation in. Gives it back where the queue is full.
+    fn submit(&mut self, pid: u32, op: Op) -> Option<Op> {
+        if self.has(pid) {
+            self.kernel.submit(pid, op).err()
+        } else {
+            Some(op)
+        }
+    }
+
+    // Takes the answer of the step before, if it gave one.
+    fn poll(&mut self, pid: u32) -> Option<Answer>
+        ensures { pid < length self.old.kernel.world.processes → result ≡ first_in (answers self.old.kernel.intake pid) }
+    {
+        if self.has(pid) {
+            self.kernel.poll(pid)
+        } else {
+            None
+        }
+    }
+
+    // Makes a step of a process.
+    fn step(&mut self, pid: u32) -> Step {
+        if !self.has(pid) {
+            return Step::Idle;
+        }
+        // No run gets as far as the limits of these counts.
+        if self.kernel.begun(pid) == u64::MAX || self.kernel.opened() == u64::MAX {
+            return Step::Halted;
+        }
+        self.kernel.step(pid)
+    }
+
+    // Makes steps of a process, until one doesn't move. What the last of them answers.
+    fn steps(&mut self, pid: u32) -> Step {
+        for _step in 0..MOST_STEPS {
+            let step = self.step(pid);
+            if step != Step::Moved {
+                return step;
+            }
+        }
+        Step::Moved
+    }
+
+    // What the turn of a process came to, whose last step answered so.
+    fn event(&mut self, pid: u32, step: Step, stop: u64) -> Event
+        ensures process { IsTurnOfProcess stop pid result }
+        ensures event { pid < length self.old.kernel.world.processes → result ≡ event_of (has_fired self.old.kernel.volume.device) stop pid step (first_in (answers self.old.kernel.intake pid)) }
+    {
+        let fired = self.kernel.disk().fired();
+        event_of(fired, stop, pid, step, self.poll(pid))
+    }
+}
+
+// What a turn of a process came to: the write to be stopped was reached, or its operation was
+// answered, or its last step answered so.
+fn event_of(fired: bool, stop: u64, pid: u32, step: Step, answer: Option<Answer>) -> Event
+    ensures { result ≡ event_of fired stop pid step answer }
+{
+    if fired {
+        return Event::Stopped(stop);
+    }
+    match answer {
+        Some(answer) => Event::Answered(pid, answer),
+        None => Event::Stepped(pid, step),
+    }
+}
