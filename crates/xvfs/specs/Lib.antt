@@ -6,3 +6,4 @@ pub mod Recovering
 pub mod Events
 pub mod Inputs
 pub mod Turns
+pub mod Backlog

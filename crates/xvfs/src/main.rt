@@ -2,6 +2,7 @@
 #![tactic(auto)]
 
 mod arguments;
+mod backlog;
 mod checking;
 mod command;
 mod commands;

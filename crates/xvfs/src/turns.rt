@@ -1,18 +1,20 @@
 // The turns of a schedule, over a kernel with a script's operations.
-ghost use Rattle.std.specs.Prelude.{◌≡◌, ◌-◌, ◌<◌, nat_lt, length, None, IfOk, IfErr, IsSome, IsTrue};
+ghost use Rattle.std.specs.Prelude.{◌≡◌, ◌-◌, ◌<◌, ℕ, All, nat_lt, length, None, IfOk, IfErr, IsSome, IsTrue};
 ghost use Rattle.blocks.specs.FaultyDisk.{has_fired, inner_of};
 ghost use Rattle.model.specs.Log.{recovered};
 ghost use Rattle.model.specs.Verdict.{verdict};
 ghost use Rattle.ports.specs.History.{first_in};
 ghost use Rattle.ports.specs.Queues.{answers};
+ghost use Rattle.xvfs.specs.Backlog.{backlog_at, ops_of};
 ghost use Rattle.xvfs.specs.Turns.{IsTurnOf, IsTurnOfProcess, event_of, told_fault, IsOpening};
 
+use crate::backlog::{Backlog, backlogs_of};
 use crate::events::Event;
 use crate::refusal::{KernelFault, Refusal};
 use blocks::{Disk, DiskFault, FaultyDisk, Kind};
 use kernel::{Kernel, Step};
-use model::types::{Answer, Op};
-use ports::{PLACES, PlainHerald, QueueIntake};
+use model::types::Answer;
+use ports::{PlainHerald, QueueIntake};
 use scripts::{Task, Word};
 use std::alloc::Global;
 
@@ -24,8 +26,8 @@ const MOST_STEPS: u32 = 2000;
 #[derive(Drop)]
 pub struct Player<D: Disk> {
     pub(crate) kernel: Kernel<FaultyDisk<D>, QueueIntake, PlainHerald>,
-    // Those of each process, the next one last.
-    waiting: Vec<Vec<Op>>,
+    // Those of each process.
+    pub(crate) backlogs: Vec<Backlog>,
 }
 
 /// What the turns came to.
@@ -52,36 +54,20 @@ pub fn open_player<D: Disk + Drop>(
     processes: u32,
     stop: u64,
 ) -> Result<Player<D>, Refusal>
+    requires { All (λ task. task.pid < processes) tasks.items }
     ensures sound { IfOk result (λ player. verdict (D.image disk) ≡ None) }
     ensures image { IfOk result (λ player. D.image (inner_of player.kernel.volume.device) ≡ recovered (D.image disk)) }
     ensures none { IfOk result (λ player. player.kernel.volume.log.committed ≡ 0) }
+    ensures backlogs { IfOk result (λ player. (p : ℕ) → p < processes → backlog_at player.backlogs.items p ≡ ops_of p tasks.items) }
     ensures refused { IfErr result IsOpening }
 {
-    let waiting = waiting_of(alloc, tasks, processes)?;
+    let backlogs = backlogs_of(alloc, tasks, processes).map_err(KernelFault::from)?;
     let intake = QueueIntake::new(alloc, processes).map_err(KernelFault::from)?;
     let disk = FaultyDisk::new(disk, stop, Kind::WriteOld);
     match Kernel::open(alloc, disk, intake, PlainHerald::new(), processes) {
-        Ok(kernel) => Ok(Player { kernel, waiting }),
+        Ok(kernel) => Ok(Player { kernel, backlogs }),
         Err((fault, _)) => Err(fault.into()),
     }
-}
-
-// The operations of each process, the next one last.
-fn waiting_of(
-    alloc: Global,
-    tasks: Vec<Task>,
-    processes: u32,
-) -> Result<Vec<Vec<Op>>, KernelFault> {
-    let mut waiting = Vec::new(alloc);
-    for _process in 0..processes {
-        waiting.push(Vec::new(alloc))?;
-    }
-    for task in tasks.into_iter().rev() {
-        if let Some(lane) = waiting.get_mut(task.pid as usize) {
-            lane.push(task.op)?;
-        }
-    }
-    Ok(waiting)
 }
 
 impl<D: Disk + Drop> Player<D> {
@@ -126,25 +112,10 @@ impl<D: Disk + Drop> Player<D> {
 
     // Hands in the next operations of a process, as many as its queue takes.
     fn hand_in(&mut self, pid: u32) {
-        for _place in 0..PLACES {
-            let Some(op) = self.next(pid) else {
-                return;
-            };
-            if let Some(op) = self.submit(pid, op) {
-                self.put_back(pid, op);
-                return;
-            }
-        }
-    }
-
-    // Takes the next operation that a process has to hand in.
-    fn next(&mut self, pid: u32) -> Option<Op> {
-        self.waiting.get_mut(pid as usize)?.pop()
-    }
-
-    fn put_back(&mut self, pid: u32, op: Op) {
-        if let Some(lane) = self.waiting.get_mut(pid as usize) {
-            let _ = lane.push(op);
+        if self.has(pid)
+            && let Some(backlog) = self.backlogs.get_mut(pid as usize)
+        {
+            backlog.hand_in(&mut self.kernel, pid);
         }
     }
 
@@ -153,15 +124,6 @@ impl<D: Disk + Drop> Player<D> {
         ensures { result ≡ nat_lt pid (length self.now.kernel.world.processes) }
     {
         (pid as usize) < self.kernel.processes()
-    }
-
-    // Hands an operation in. Gives it back where the queue is full.
-    fn submit(&mut self, pid: u32, op: Op) -> Option<Op> {
-        if self.has(pid) {
-            self.kernel.submit(pid, op).err()
-        } else {
-            Some(op)
-        }
     }
 
     // Takes the answer of the step before, if it gave one.

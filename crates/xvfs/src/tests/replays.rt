@@ -2,11 +2,13 @@
 use super::{expect, path_of};
 use crate::refusal::Refusal;
 use crate::replaying::run;
-use crate::turns::open_player;
-use blocks::{DiskFault, FaultyDisk, Kind, MemDisk};
+use crate::turns::{Player, open_player};
+use blocks::{Disk, DiskFault, FaultyDisk, Kind, MemDisk};
 use layout::mkfs;
-use scripts::{Word, read_script};
+use scripts::{Word, processes, read_script};
 use std::fs;
+use std::fs::File;
+use std::io::{Read, Seek, SeekFrom};
 use std::process::Abort;
 use std::rt::Files;
 use std::test::Fail;
@@ -165,6 +167,15 @@ fn stops_before_each_write(rt: HostRuntime) -> Result<(), Fail> {
     remove(&rt, &paths)
 }
 
+// The eight bytes of a file from this one on.
+fn bytes_at(rt: &impl Files, path: &str, at: u64) -> Result<[u8; 8], Fail> {
+    let mut file = File::open(rt, path)?;
+    let mut bytes = [0; 8];
+    file.seek(SeekFrom::Start(at))?;
+    file.read_exact(&mut bytes)?;
+    Ok(bytes)
+}
+
 #[test]
 fn writes_what_it_says(rt: HostRuntime) -> Result<(), Fail> {
     let paths = paths_of(&rt, "bytes")?;
@@ -172,12 +183,14 @@ fn writes_what_it_says(rt: HostRuntime) -> Result<(), Fail> {
     let out = "stopped before write 3\nwrites 2\ncommitted 1\n";
     replay(&rt, &paths, "0 create 2", "0!", "3", out)?;
     let image = paths.image.as_str();
-    let before = fs::read(&rt, image)?;
-    assert!(rt; before.as_slice()[2048..].starts_with(&[1, 0, 0, 0, 33, 0, 0, 0]));
+    assert_eq!(rt; bytes_at(&rt, image, 2048)?, [1, 0, 0, 0, 33, 0, 0, 0]);
     expect(&rt, &["recover", image], 0, "recovered 1\n", "")?;
+    assert_eq!(rt; bytes_at(&rt, image, 2048)?, [0; 8]);
+    assert_eq!(rt;
+        bytes_at(&rt, image, 33 * 1024 + 64)?,
+        [2, 0, 0, 0, 0, 0, 1, 0]
+    );
     let after = fs::read(&rt, image)?;
-    assert!(rt; after.as_slice()[2048..].starts_with(&[0; 8]));
-    assert!(rt; after.as_slice()[33 * 1024 + 64..].starts_with(&[2, 0, 0, 0, 0, 0, 1, 0]));
     expect(&rt, &["recover", image], 0, "recovered 0\n", "")?;
     let again = fs::read(&rt, image)?;
     assert!(rt; again.as_slice() == after.as_slice());
@@ -223,17 +236,23 @@ fn refuses_scripts(rt: HostRuntime) -> Result<(), Fail> {
     remove(&rt, &paths)
 }
 
+// One creation over this disk.
+fn creation<D: Disk + Drop>(rt: &(impl AllocGlobal + Abort), disk: D) -> Result<Player<D>, Fail> {
+    let tasks = read_script(rt.alloc(), b"0 create 2\n".as_slice())?;
+    let processes = processes(tasks.as_slice());
+    match open_player(rt.alloc(), disk, tasks, processes, 0) {
+        Ok(player) => Ok(player),
+        Err(_) => rt.abort(),
+    }
+}
+
 // A disk in memory fails at the second write of the run, and halts it.
 #[test]
 fn tells_of_a_failing_disk(rt: HostRuntime) -> Result<(), Fail> {
     let alloc = rt.alloc();
     let mut disk = MemDisk::new(alloc, 200)?;
     mkfs(alloc, &mut disk, 200, 32)?;
-    let disk = FaultyDisk::new(disk, 2, Kind::WriteOld);
-    let tasks = read_script(alloc, b"0 create 2\n".as_slice())?;
-    let Ok(player) = open_player(alloc, disk, tasks, 1, 0) else {
-        rt.abort();
-    };
+    let player = creation(&rt, FaultyDisk::new(disk, 2, Kind::WriteOld))?;
     let mut out = Vec::new(alloc);
     let ended = run(player, &[Word::Steps(0), Word::Step(0)], 0, 200, &mut out);
     assert!(rt; matches!(ended, Err(Refusal::Disk(DiskFault(2)))));
