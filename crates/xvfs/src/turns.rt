@@ -1,5 +1,5 @@
 // The turns of a schedule, over a kernel with a script's operations.
-ghost use Rattle.std.specs.Prelude.{◌≡◌, ◌-◌, ◌<◌, ℕ, All, nat_lt, length, None, IfOk, IfErr, IsSome, IsTrue};
+ghost use Rattle.std.specs.Prelude.{◌≡◌, ◌-◌, ◌<◌, ℕ, All, nat_lt, length, None, IfOk, IfErr};
 ghost use Rattle.blocks.specs.FaultyDisk.{has_fired, inner_of};
 ghost use Rattle.model.specs.Log.{recovered};
 ghost use Rattle.model.specs.Verdict.{verdict};
