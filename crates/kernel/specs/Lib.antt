@@ -4,3 +4,4 @@ pub mod Table
 pub mod State
 pub mod Opening
 pub mod Next
+pub mod Keeps
