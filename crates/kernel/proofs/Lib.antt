@@ -15,3 +15,4 @@ pub mod Recovers
 pub mod Keeping
 pub mod Growing
 pub mod Progressing
+pub mod Turns

@@ -1,5 +1,5 @@
 -- What a kernel that is opened has.
-use Rattle.std.proofs.Common.{◌≡◌, ℕ, ◌*◌, ◌<◌, ◌≤◌, Bool, true, false, cond, [], length, replicate, refl, sym, ◌∙◌, ap, subst, arith, ⊎_elim, None, Err}
+use Rattle.std.proofs.Common.{◌≡◌, ℕ, ◌+◌, ◌*◌, ◌<◌, ◌≤◌, Bool, true, false, cond, [], length, replicate, refl, sym, ◌∙◌, ap, subst, arith, ⊎_elim, None, Err}
 use Rattle.std.specs.Prelude.{IsTrue, count_by, Result}
 use Rattle.std.proofs.lemmas.Bool.{cases_lt, false≢true}
 use Rattle.std.proofs.lemmas.List.{get_or-replicate, get_or_past, length-replicate}
@@ -90,6 +90,10 @@ table_opened x sup n none is few =
       stands = λ p. subst (λ (q : Process). Stands fresh_buffers (new_log (length x)) sup.ninodes p q.at) (sym (idle_at n p)) (none_used (length x) p);
       sole = λ p q first second. absurd (false≢true (sym (ap (λ (r : Process). is_committing_at r.at) (idle_at n p)) ∙ first));
       room = sym (none_searches n);
+      counted = record {
+        begun = λ p. subst (λ (q : Process). q.begun ≤ 0 + cond {A = ℕ} (is_searching_at q.at) 1 0) (sym (idle_at n p)) (omega arith);
+        opened = omega arith;
+      };
     }
 
 pub rooms_opened : (n : ℕ) (has_room : ℕ → Bool) → (p : ℕ) → is_under_way_at (process (fresh n) p).at ≡ true → has_room p ≡ true

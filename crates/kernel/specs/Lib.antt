@@ -5,3 +5,4 @@ pub mod State
 pub mod Opening
 pub mod Next
 pub mod Keeps
+pub mod Runs

@@ -63,13 +63,15 @@ fn waiting_of(op: &Op) -> Waiting
 }
 
 impl<D: Disk, I: Intake, H: Herald> Kernel<D, I, H> {
-    ghost use Rattle.std.specs.Prelude.{◌≡◌, ◌⊎◌, ◌<◌, ◌^◌, ◌+◌, ◌↔◌, ◌≢◌, length, Some, None, IsSome, IsTrue, true, false};
+    ghost use Rattle.std.specs.Prelude.{◌≡◌, ◌⊎◌, ◌<◌, ◌↔◌, ◌≢◌, length, Some, None, IsSome, IsTrue, IfNone, true, false};
     ghost use mathlib.Core.List.{IsPrefix};
     ghost use Rattle.std.specs.Option.{option_map};
     ghost use Rattle.blocks.specs.Disk.{Image, Elapses, LeavesOnly};
     ghost use Rattle.model.specs.Layout.{inode_count_of};
     ghost use Rattle.model.specs.Operations.{is_kind};
-    ghost use Rattle.kernel.specs.Keeps.{KeepsNow, KeepsBetween, Grows, most_of};
+    ghost use Rattle.model.specs.Journal.{kept};
+    ghost use Rattle.wal.specs.Joint.{seen};
+    ghost use Rattle.kernel.specs.Keeps.{HasFilesAfter, cleared, KeepsNow, KeepsBetween, Grows, most_of};
     ghost use Rattle.ports.specs.History.{first_in};
     ghost use Rattle.kernel.specs.State.{waiting_of, Stays};
     ghost use Rattle.kernel.specs.declared.types.At.TheVariants as at;
@@ -81,8 +83,10 @@ impl<D: Disk, I: Intake, H: Herald> Kernel<D, I, H> {
     /// Does nothing: it says what recovery of the disk gives. A stop now leaves a sound image whose
     /// files are the opening ones after the changing operations of the committed groups, in the
     /// order of the journal; after a fault in the write of a header, of those or of one group more.
+    /// While the disk has not failed, the current image has the files after all of the journal.
     pub fn known(&self)
         ensures keeps { (x : Image) → D.leaves self.now.volume.device (D.moment self.now.volume.device) x → KeepsNow self.now.volume (D.image self.now.opening) self.now.world.journal.list x }
+        ensures current { IfNone self.now.volume.fault (HasFilesAfter (D.image self.now.opening) (kept (inode_count_of (D.image self.now.opening)) self.now.world.journal.list self.now.volume.log.opened) (cleared (seen (D.image self.now.volume.device) self.now.volume.buffers))) }
     {
         let _ = &self.volume;
     }
@@ -90,10 +94,10 @@ impl<D: Disk, I: Intake, H: Herald> Kernel<D, I, H> {
     /// One step of a process.
     pub fn step(&mut self, pid: u32) -> Step
         requires pid { pid < length self.old.world.processes }
-        requires begun { (process self.old.world pid).begun + 1 < 2 ^ 64 }
-        requires opened { self.old.volume.log.opened + 1 < 2 ^ 64 }
         ensures next { Next (D.image self.old.volume.device) self.old.inode_count self.old.volume self.old.world pid (I.side self.old.intake pid).ahead (I.side self.new.intake pid) (H.told self.new.herald) result (D.image self.new.volume.device) self.new.volume self.new.world }
         ensures opening { self.new.opening ≡ self.old.opening }
+        ensures inode_count { self.new.inode_count ≡ self.old.inode_count }
+        ensures processes { length self.new.world.processes ≡ length self.old.world.processes }
         ensures halted { (result ≡ Step.Halted) ↔ IsSome self.new.volume.fault }
 
         // What a stop leaves, now and in this step.
@@ -111,10 +115,9 @@ impl<D: Disk, I: Intake, H: Herald> Kernel<D, I, H> {
     // The step, by where the process stands.
     fn go_on(&mut self, pid: u32) -> Step
         requires pid { pid < length self.old.world.processes }
-        requires begun { (process self.old.world pid).begun + 1 < 2 ^ 64 }
-        requires opened { self.old.volume.log.opened + 1 < 2 ^ 64 }
         ensures next { Next (D.image self.old.volume.device) self.old.inode_count self.old.volume self.old.world pid (I.side self.old.intake pid).ahead (I.side self.new.intake pid) (H.told self.new.herald) result (D.image self.new.volume.device) self.new.volume self.new.world }
         ensures opening { self.new.opening ≡ self.old.opening }
+        ensures inode_count { self.new.inode_count ≡ self.old.inode_count }
         ensures halted { (result ≡ Step.Halted) ↔ IsSome self.new.volume.fault }
         ensures time { Elapses (D.moment self.old.volume.device) (D.moment self.new.volume.device) (D.leaves self.old.volume.device) (D.leaves self.new.volume.device) }
     {
@@ -135,12 +138,11 @@ impl<D: Disk, I: Intake, H: Herald> Kernel<D, I, H> {
     // Begins the operation that waits for a process, if one does and it may.
     fn begin(&mut self, pid: u32) -> Step
         requires pid { pid < length self.old.world.processes }
-        requires begun { (process self.old.world pid).begun + 1 < 2 ^ 64 }
-        requires opened { self.old.volume.log.opened + 1 < 2 ^ 64 }
         requires fault { self.old.volume.fault ≡ None }
         requires at { (process self.old.world pid).at ≡ at.Idle }
         ensures next { Begins self.old.inode_count self.old.volume self.old.world pid (I.side self.old.intake pid).ahead (I.side self.new.intake pid) (H.told self.new.herald) result self.new.volume self.new.world }
         ensures opening { self.new.opening ≡ self.old.opening }
+        ensures inode_count { self.new.inode_count ≡ self.old.inode_count }
         ensures device { self.new.volume.device ≡ self.old.volume.device }
         ensures halted { (result ≡ Step.Halted) ↔ IsSome self.new.volume.fault }
     {
@@ -189,8 +191,6 @@ impl<D: Disk, I: Intake, H: Herald> Kernel<D, I, H> {
     // Begins a creation that waits, where it may.
     fn create(&mut self, pid: u32, kind: u16) -> Step
         requires pid { pid < length self.old.world.processes }
-        requires begun { (process self.old.world pid).begun + 1 < 2 ^ 64 }
-        requires opened { self.old.volume.log.opened + 1 < 2 ^ 64 }
         requires fault { self.old.volume.fault ≡ None }
         requires at { (process self.old.world pid).at ≡ at.Idle }
         requires kind { IsTrue (is_kind kind) }
@@ -198,6 +198,7 @@ impl<D: Disk, I: Intake, H: Herald> Kernel<D, I, H> {
         ensures next { Creates self.old.inode_count kind self.old.volume self.old.world pid (I.side self.old.intake pid).ahead (I.side self.new.intake pid) result self.new.volume self.new.world }
         ensures herald { self.new.herald ≡ self.old.herald }
         ensures opening { self.new.opening ≡ self.old.opening }
+        ensures inode_count { self.new.inode_count ≡ self.old.inode_count }
         ensures device { self.new.volume.device ≡ self.old.volume.device }
         ensures answer { result ≢ Step.Halted }
         ensures fault { self.new.volume.fault ≡ None }
@@ -212,6 +213,7 @@ impl<D: Disk, I: Intake, H: Herald> Kernel<D, I, H> {
         if self.processes.reserve().is_err() {
             return Step::NoMemory;
         }
+        self.processes.known();
         let _taken = self.intake.take(pid);
         let group = open_group(&mut self.volume, pid);
         let search = Ialloc::new(kind, self.inode_count);
@@ -222,13 +224,13 @@ impl<D: Disk, I: Intake, H: Herald> Kernel<D, I, H> {
     // Answers a creation that waits, and has a type that no file has.
     fn refuse(&mut self, pid: u32) -> Step
         requires pid { pid < length self.old.world.processes }
-        requires begun { (process self.old.world pid).begun + 1 < 2 ^ 64 }
         requires fault { self.old.volume.fault ≡ None }
         requires at { (process self.old.world pid).at ≡ at.Idle }
         requires waits { option_map waiting_of (first_in (I.side self.old.intake pid).ahead) ≡ Some waiting.Refused }
         ensures next { Refuses self.old.volume self.old.world pid (I.side self.old.intake pid).ahead (I.side self.new.intake pid) result self.new.volume self.new.world }
         ensures herald { self.new.herald ≡ self.old.herald }
         ensures opening { self.new.opening ≡ self.old.opening }
+        ensures inode_count { self.new.inode_count ≡ self.old.inode_count }
         ensures device { self.new.volume.device ≡ self.old.volume.device }
         ensures answer { result ≢ Step.Halted }
         ensures fault { self.new.volume.fault ≡ None }
@@ -239,6 +241,7 @@ impl<D: Disk, I: Intake, H: Herald> Kernel<D, I, H> {
         if self.processes.reserve().is_err() {
             return Step::NoMemory;
         }
+        self.processes.known();
         let Some(op) = self.intake.take(pid) else {
             unreachable!();
         };
@@ -254,6 +257,7 @@ impl<D: Disk, I: Intake, H: Herald> Kernel<D, I, H> {
         requires at { is_committing_at (process self.old.world pid).at ≡ true }
         ensures next { Commits (D.image self.old.volume.device) self.old.volume self.old.world pid result (D.image self.new.volume.device) self.new.volume self.new.world }
         ensures opening { self.new.opening ≡ self.old.opening }
+        ensures inode_count { self.new.inode_count ≡ self.old.inode_count }
         ensures time { Elapses (D.moment self.old.volume.device) (D.moment self.new.volume.device) (D.leaves self.old.volume.device) (D.leaves self.new.volume.device) }
         ensures halted { (result ≡ Step.Halted) ↔ IsSome self.new.volume.fault }
     {
@@ -280,6 +284,7 @@ impl<D: Disk, I: Intake, H: Herald> Kernel<D, I, H> {
         requires at { (process self.old.world pid).at ≡ at.Creating group search }
         ensures next { Searches (D.image self.old.volume.device) group search self.old.volume self.old.world pid result self.new.volume self.new.world }
         ensures opening { self.new.opening ≡ self.old.opening }
+        ensures inode_count { self.new.inode_count ≡ self.old.inode_count }
         ensures time { Elapses (D.moment self.old.volume.device) (D.moment self.new.volume.device) (D.leaves self.old.volume.device) (D.leaves self.new.volume.device) }
         ensures halted { (result ≡ Step.Halted) ↔ IsSome self.new.volume.fault }
     {
@@ -306,6 +311,7 @@ impl<D: Disk, I: Intake, H: Herald> Kernel<D, I, H> {
         requires at { is_ending_at (process self.old.world pid).at ≡ true }
         ensures next { Ends self.old.volume self.old.world pid result self.new.volume self.new.world }
         ensures opening { self.new.opening ≡ self.old.opening }
+        ensures inode_count { self.new.inode_count ≡ self.old.inode_count }
         ensures device { self.new.volume.device ≡ self.old.volume.device }
         ensures halted { (result ≡ Step.Halted) ↔ IsSome self.new.volume.fault }
     {

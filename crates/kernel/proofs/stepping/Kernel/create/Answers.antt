@@ -1,9 +1,10 @@
-use Rattle.std.proofs.Common.{rules, ◌≡◌, ◌<◌, None, ◌∙◌, sym, ap, length}
+use Rattle.std.proofs.Common.{rules, ◌≡◌, ◌<◌, None, ◌∙◌, sym, ap, subst, length}
 use Rattle.wal.specs.Volume.{VolumeState}
 use Rattle.kernel.specs.declared.types.At.TheVariants as at
-use Rattle.kernel.specs.Processes.{process, with_place}
+use Rattle.kernel.specs.Keeps.{KeepsNow}
+use Rattle.kernel.specs.Processes.{World, process, with_place}
 use Rattle.kernel.proofs.Commits.{where_none, if_none}
-use Rattle.kernel.proofs.Beginnings.{table_created, created_processes, others_twice, rooms_begun}
+use Rattle.kernel.proofs.Beginnings.{begins_fit, table_created, created_processes, others_twice, rooms_begun}
 use Rattle.kernel.proofs.Keeping.{recovers_created, kept_of}
 use Rattle.kernel.proofs.Rooms.{as_many}
 use Rattle.kernel.proofs.stepping.Kernel.create.Goals as goal
@@ -62,5 +63,20 @@ invariant_of-self-then-is_err g c = record {
   room = search rules;
   told = search rules;
   recovers = search rules;
-  keeps = search rules;
+  keeps = let same : c.reserve.new.self ≡ c.self.inside.processes = search rules in
+      subst (λ (w : World). KeepsNow c.self.inside.volume (g.D.Disk.image c.self.inside.opening.value) w.journal.list (g.D.Disk.image c.self.inside.volume.device)) (sym same) c.self.invariant.keeps;
 }
+
+pub create-requires-clause-begun : goal.create-requires-clause-begun
+create-requires-clause-begun g c =
+    let well : c.self.inside.volume.fault ≡ None = search rules in
+    let stands : (process c.self.inside.processes c.args.pid).at ≡ at.Idle = search rules in
+    let kept : c.reserve.new.self ≡ with_place c.self.inside.processes = search rules in
+    (begins_fit _ _ _ c.args.pid c.self.inside.processes c.reserve.new.self (where_none _ well c.self.invariant.table) stands kept c.known-2.ensures).0
+
+pub open_group-group-requires-clause-opened : goal.open_group-group-requires-clause-opened
+open_group-group-requires-clause-opened g c =
+    let well : c.self.inside.volume.fault ≡ None = search rules in
+    let stands : (process c.self.inside.processes c.args.pid).at ≡ at.Idle = search rules in
+    let kept : c.reserve.new.self ≡ with_place c.self.inside.processes = search rules in
+    (begins_fit _ _ _ c.args.pid c.self.inside.processes c.reserve.new.self (where_none _ well c.self.invariant.table) stands kept c.known-2.ensures).1

@@ -5,7 +5,7 @@ use Rattle.kernel.specs.Keeps.{KeepsNow}
 use Rattle.kernel.specs.Processes.{World, process, with_place}
 use Rattle.kernel.specs.State.{is_under_way_at}
 use Rattle.kernel.proofs.Commits.{where_none, if_none}
-use Rattle.kernel.proofs.Beginnings.{table_refused, refused_processes, others_twice, rooms_begun}
+use Rattle.kernel.proofs.Beginnings.{begins_fit, table_refused, refused_processes, others_twice, rooms_begun}
 use Rattle.kernel.proofs.Keeping.{recovers_refused, kept_of}
 use Rattle.kernel.proofs.Rooms.{as_many}
 use Rattle.kernel.proofs.stepping.Kernel.refuse.Goals as goal
@@ -46,3 +46,10 @@ invariant_of-self-then-is_err g c = record {
   keeps = let same : c.reserve.new.self ≡ c.self.inside.processes = search rules in
       subst (λ (w : World). KeepsNow c.self.inside.volume (g.D.Disk.image c.self.inside.opening.value) w.journal.list (g.D.Disk.image c.self.inside.volume.device)) (sym same) c.self.invariant.keeps;
 }
+
+pub refuse-answer-requires-clause-begun : goal.refuse-answer-requires-clause-begun
+refuse-answer-requires-clause-begun g c =
+    let well : c.self.inside.volume.fault ≡ None = search rules in
+    let stands : (process c.self.inside.processes c.args.pid).at ≡ at.Idle = search rules in
+    let kept : c.reserve.new.self ≡ with_place c.self.inside.processes = search rules in
+    (begins_fit _ _ _ c.args.pid c.self.inside.processes c.reserve.new.self (where_none _ well c.self.invariant.table) stands kept c.known.ensures).0
