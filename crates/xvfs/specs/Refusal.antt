@@ -1,5 +1,5 @@
 -- How a refusal is told.
-use Rattle.std.specs.Prelude.{ℕ, List, [], ◌++◌, Option, Some, None, codes, decimal}
+use Rattle.std.specs.Prelude.{ℕ, ⊤, List, [], ◌++◌, Option, Some, None, codes, decimal}
 use Rattle.blocks.specs.declared.errors.FileFault.TheVariants as file
 use Rattle.layout.specs.declared.geometry.MkfsFault.TheVariants as mkfs
 use Rattle.model.specs.declared.types.CheckFault.TheVariants as check
@@ -81,3 +81,10 @@ argument_text (Some n) = codes " " ++ decimal n
 abbrev pub refusal_text : Refusal → List ℕ
 refusal_text r =
     layer_of r ++ codes " " ++ decimal (number_of r) ++ codes " " ++ name_of r ++ argument_text (argument_of r)
+
+-- the refusals that a check has: of the file, of the image, or of the output
+abbrev pub IsOfCheck : Refusal → Type 0
+IsOfCheck (File _) = ⊤
+IsOfCheck (Check _) = ⊤
+IsOfCheck Output = ⊤
+IsOfCheck _ = ⊥
