@@ -2,7 +2,7 @@
 use Rattle.std.specs.Option.{option_map}
 use Rattle.std.specs.Prelude.{◌≡◌, ◌⊎◌, ℕ, ◌∷◌, Bool, false, true, List, Option, Some, None}
 use mathlib.Core.List.{IsPrefix}
-use Rattle.blocks.specs.Disk.{Image}
+use Rattle.blocks.specs.Disk.{Image, Rose, one_more}
 use Rattle.blocks.specs.declared.errors.DiskFault.{DiskFault}
 use Rattle.model.specs.declared.types.Op.{Op}
 use Rattle.model.specs.declared.types.Op.TheVariants.{Create}
@@ -138,3 +138,12 @@ NextIf (Some fault) x n v w p before s told r y u z = (r ≡ step.Halted) × Sam
 
 abbrev pub Next : {D : Type 0} → Image → ℕ → VolumeState D → World → ℕ → List Op → Side → Bool → Step → Image → VolumeState D → World → Type 0
 Next x n v w p before s told r y u z = NextIf v.fault x n v w p before s told r y u z
+
+-- a step makes one write at most
+abbrev pub WritesOnce : ℕ → ℕ → Type 0
+WritesOnce old new = (new ≡ old) ⊎ (new ≡ one_more old)
+
+-- a step has a fault exactly where the disk counts one
+abbrev pub CountsItsFault : Option DiskFault → ℕ → ℕ → Type 0
+CountsItsFault None old new = new ≡ old
+CountsItsFault (Some fault) old new = Rose old new

@@ -78,7 +78,7 @@ impl<D: Disk, I: Intake, H: Herald> Kernel<D, I, H> {
     ghost use Rattle.kernel.specs.declared.stepping.Waiting.TheVariants as waiting;
     ghost use Rattle.kernel.specs.Processes.{process};
     ghost use Rattle.kernel.specs.Table.{is_committing_at, is_ending_at};
-    ghost use Rattle.kernel.specs.Next.{Creates, Refuses, Searches, Ends, Commits, Begins, Next};
+    ghost use Rattle.kernel.specs.Next.{Creates, Refuses, Searches, Ends, Commits, Begins, Next, WritesOnce, CountsItsFault};
 
     /// Does nothing: it says what recovery of the disk gives. A stop now leaves a sound image whose
     /// files are the opening ones after the changing operations of the committed groups, in the
@@ -99,6 +99,8 @@ impl<D: Disk, I: Intake, H: Herald> Kernel<D, I, H> {
         ensures inode_count { self.new.inode_count ≡ self.old.inode_count }
         ensures processes { length self.new.world.processes ≡ length self.old.world.processes }
         ensures halted { (result ≡ Step.Halted) ↔ IsSome self.new.volume.fault }
+        ensures writes { WritesOnce (D.write_count self.old.volume.device) (D.write_count self.new.volume.device) }
+        ensures faults { self.old.volume.fault ≡ None → CountsItsFault self.new.volume.fault (D.fault_count self.old.volume.device) (D.fault_count self.new.volume.device) }
 
         // What a stop leaves, now and in this step.
         ensures keeps { (x : Image) → D.leaves self.new.volume.device (D.moment self.new.volume.device) x → KeepsNow self.new.volume (D.image self.new.opening) self.new.world.journal.list x }
@@ -119,6 +121,8 @@ impl<D: Disk, I: Intake, H: Herald> Kernel<D, I, H> {
         ensures opening { self.new.opening ≡ self.old.opening }
         ensures inode_count { self.new.inode_count ≡ self.old.inode_count }
         ensures halted { (result ≡ Step.Halted) ↔ IsSome self.new.volume.fault }
+        ensures writes { WritesOnce (D.write_count self.old.volume.device) (D.write_count self.new.volume.device) }
+        ensures faults { self.old.volume.fault ≡ None → CountsItsFault self.new.volume.fault (D.fault_count self.old.volume.device) (D.fault_count self.new.volume.device) }
         ensures time { Elapses (D.moment self.old.volume.device) (D.moment self.new.volume.device) (D.leaves self.old.volume.device) (D.leaves self.new.volume.device) }
     {
         if self.volume.fault().is_some() {
@@ -260,6 +264,8 @@ impl<D: Disk, I: Intake, H: Herald> Kernel<D, I, H> {
         ensures inode_count { self.new.inode_count ≡ self.old.inode_count }
         ensures time { Elapses (D.moment self.old.volume.device) (D.moment self.new.volume.device) (D.leaves self.old.volume.device) (D.leaves self.new.volume.device) }
         ensures halted { (result ≡ Step.Halted) ↔ IsSome self.new.volume.fault }
+        ensures writes { WritesOnce (D.write_count self.old.volume.device) (D.write_count self.new.volume.device) }
+        ensures faults { CountsItsFault self.new.volume.fault (D.fault_count self.old.volume.device) (D.fault_count self.new.volume.device) }
     {
         self.volume.known();
         let answer = self.volume.commit_step();
@@ -287,6 +293,8 @@ impl<D: Disk, I: Intake, H: Herald> Kernel<D, I, H> {
         ensures inode_count { self.new.inode_count ≡ self.old.inode_count }
         ensures time { Elapses (D.moment self.old.volume.device) (D.moment self.new.volume.device) (D.leaves self.old.volume.device) (D.leaves self.new.volume.device) }
         ensures halted { (result ≡ Step.Halted) ↔ IsSome self.new.volume.fault }
+        ensures writes { WritesOnce (D.write_count self.old.volume.device) (D.write_count self.new.volume.device) }
+        ensures faults { CountsItsFault self.new.volume.fault (D.fault_count self.old.volume.device) (D.fault_count self.new.volume.device) }
     {
         self.volume.known();
         let kind = search.kind;
