@@ -1,5 +1,5 @@
 -- A step of a creation's search keeps the table true.
-use Rattle.std.proofs.Common.{◌≡◌, ℕ, ◌-◌, ◌<◌, Bool, true, false, cond, leb, length, refl, sym, ◌∙◌, ap, subst, arith, Option, Some, None}
+use Rattle.std.proofs.Common.{◌≡◌, ℕ, ◌-◌, ◌<◌, Bool, true, false, leb, length, refl, sym, ◌∙◌, ap, subst, arith, Option, Some, None}
 use Rattle.std.proofs.lemmas.Bool.{leb-true}
 use Rattle.blocks.specs.Disk.{Image, block_at}
 use Rattle.model.specs.declared.types.Op.{Op}
@@ -7,7 +7,7 @@ use Rattle.model.specs.declared.types.Reply.{Reply}
 use Rattle.model.specs.Layout.{inode_block}
 use Rattle.model.proofs.LogLemmas.{both_of}
 use Rattle.bcache.specs.Buffers.{Buffers}
-use Rattle.wal.specs.Machine.{LogState, is_among, noted, appended}
+use Rattle.wal.specs.Machine.{LogState}
 use Rattle.wal.specs.Joint.{Joint, seen}
 use Rattle.wal.specs.Volume.{VolumeState, Holds}
 use Rattle.wal.proofs.Volumes.{holds_now}
@@ -19,6 +19,7 @@ use Rattle.kernel.specs.declared.types.At.{At}
 use Rattle.kernel.specs.declared.types.At.TheVariants as at
 use Rattle.kernel.specs.Processes.{World, process, searching, turned}
 use Rattle.kernel.specs.Table.{HasSlot, HasSlotAt, IsSearching, Stands, IsTable}
+use Rattle.kernel.proofs.Logging.{counts_noted}
 use Rattle.kernel.proofs.Holding.{others_got}
 use Rattle.kernel.proofs.Events.{table_got, table_next, table_none, table_claimed}
 
@@ -43,17 +44,11 @@ ready_of x c l n p group m w j table stands =
       holds = holds_at c p m.block m.slot j s.holds;
     }
 
-committed_noted : (l : LogState) (p b : ℕ) → (noted l p b).committed ≡ l.committed
-committed_noted l p b = by_home (is_among b l.homes)
-  where
-    by_home : (t : Bool) → (cond t l (appended l p b)).committed ≡ l.committed
-    by_home true = refl
-    by_home false = refl
-
--- the table after a step, and as many committed groups as before
+-- the table after a step, and as many groups as before
 pub record Stays {D : Type 0} (v u : VolumeState D) (n : ℕ) (z : World) : Type 0 where
   pub table : IsTable u.buffers u.log n z
   pub committed : u.log.committed ≡ v.log.committed
+  pub opened : u.log.opened ≡ v.log.opened
 
 module _ {D : Type 0} (x : Image) (v u : VolumeState D) (n p group : ℕ) (m new : Ialloc) (w z : World) (j : Joint x v.buffers v.log) (table : IsTable v.buffers v.log n w) (lt : p < length w.processes) (stands : (process w p).at ≡ at.Creating group m) where
   abbrev cur : Image
@@ -68,6 +63,7 @@ module _ {D : Type 0} (x : Image) (v u : VolumeState D) (n p group : ℕ) (m new
         (subst (λ (o : LogState). IsTable u.buffers o n (searching w p group (at_slot m made.0))) (sym made.4)
         (table_got v.buffers u.buffers v.log n p group made.0 m w table j.log lt stands (subst (λ (d : Buffers). Rattle.kernel.proofs.Holding.OthersHold v.buffers d p) (sym made.3) (others_got x v.buffers p m.block j.cache)) (has_slot u.buffers m.block made.0 made.5)));
     committed = ap (λ (o : LogState). o.committed) made.4;
+    opened = ap (λ (o : LogState). o.opened) made.4;
   }
 
   went_on : (s : ℕ) (f : Option ℕ) (last : Bool) → m.slot ≡ Some s → is_last_block m ≡ last → Looks f last m v p s progress.Moved new u → z ≡ searching w p group new → Stays v u n z
@@ -77,18 +73,21 @@ module _ {D : Type 0} (x : Image) (v u : VolumeState D) (n p group : ℕ) (m new
     table = subst (λ (o : World). IsTable u.buffers u.log n o) (sym (goes ∙ ap (λ (o : Ialloc). searching w p group o) made.1))
         (subst (λ (o : VolumeState D). IsTable o.buffers o.log n (searching w p group (at_next_block m))) (sym made.2) (table_next v.buffers v.log n p group s m w table lt stands slot is));
     committed = ap (λ (o : VolumeState D). o.log.committed) made.2;
+    opened = ap (λ (o : VolumeState D). o.log.opened) made.2;
   }
 
   over : (op : Op) (reply : Reply) (s : ℕ) (f out : Option ℕ) (last : Bool) → m.slot ≡ Some s → Looks f last m v p s (progress.Over out) new u → z ≡ turned w p op group reply → Stays v u n z
   over op reply s (Some i) out last slot made goes = record {
     table = subst (λ (o : World). IsTable u.buffers u.log n o) (sym goes)
         (subst (λ (o : VolumeState D). IsTable o.buffers o.log n (turned w p op group reply)) (sym made.2) (table_claimed v.buffers v.log n p group s _ _ m op reply w table j.log j.cache lt stands slot));
-    committed = ap (λ (o : VolumeState D). o.log.committed) made.2 ∙ committed_noted v.log p _;
+    committed = ap (λ (o : VolumeState D). o.log.committed) made.2 ∙ (counts_noted v.log p _).1;
+    opened = ap (λ (o : VolumeState D). o.log.opened) made.2 ∙ (counts_noted v.log p _).0;
   }
   over op reply s None out true slot made goes = record {
     table = subst (λ (o : World). IsTable u.buffers u.log n o) (sym goes)
         (subst (λ (o : VolumeState D). IsTable o.buffers o.log n (turned w p op group reply)) (sym made.2) (table_none v.buffers v.log n p group s m op reply w table lt stands slot));
     committed = ap (λ (o : VolumeState D). o.log.committed) made.2;
+    opened = ap (λ (o : VolumeState D). o.log.opened) made.2;
   }
   over op reply s None out false slot made goes = let no = made.0 in absurd (cc no)
 

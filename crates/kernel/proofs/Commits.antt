@@ -31,6 +31,10 @@ pub if_some : (T : Type 0) (o : Option DiskFault) (fault : DiskFault) → o ≡ 
 if_some T None fault e = absurd (cc e)
 if_some T (Some f) fault e = tt
 
+pub if_well : {S T : Type 0} (o : Option DiskFault) → (S → T) → IfNone o S → IfNone o T
+if_well None f s = f s
+if_well (Some fault) f s = tt
+
 -- where a process commits
 record CommitsAt (a : At) : Type 0 where
   group : ℕ

@@ -1,9 +1,10 @@
 -- Each step keeps the table true.
-use Rattle.std.proofs.Common.{◌≡◌, ℕ, ◌+◌, ◌-◌, ◌<◌, ◌≤◌, Bool, true, false, cond, eqb, List, length, get_or, set, refl, sym, ◌∙◌, ap, subst, arith, Option, Some, None}
+use Rattle.std.proofs.Common.{◌≡◌, ℕ, ◌+◌, ◌-◌, ◌<◌, ◌≤◌, Bool, true, false, cond, eqb, List, [], ◌∷◌, ◌++◌, length, get_or, set, refl, sym, ◌∙◌, ap, subst, arith, Option, Some, None}
 use Rattle.std.specs.Prelude.{IsSome, IsTrue, count_by}
 use Rattle.std.proofs.lemmas.Bool.{eqb-false, false≢true}
-use Rattle.std.proofs.lemmas.List.{get_or-set_same, set-get_or}
+use Rattle.std.proofs.lemmas.List.{get_or-set_same, set-get_or, length-append}
 use Rattle.std.proofs.lemmas.List.Sums.{get_or-le-sum_by}
+use Rattle.model.specs.declared.types.Entry.{Entry}
 use Rattle.model.specs.declared.types.Op.{Op}
 use Rattle.model.specs.declared.types.Reply.{Reply}
 use Rattle.model.specs.Layout.{inode_block}
@@ -20,7 +21,7 @@ use Rattle.inodes.specs.Ialloc.{at_slot, at_next_block, is_last_block}
 use Rattle.kernel.specs.declared.types.At.{At}
 use Rattle.kernel.specs.declared.types.At.TheVariants as at
 use Rattle.kernel.specs.declared.types.Process.{Process}
-use Rattle.kernel.specs.Processes.{World, process, idle, with_place, creating, searching, turned, committing, committing_at, answered}
+use Rattle.kernel.specs.Processes.{World, process, idle, with_place, creating, searching, turned, entry_of, committing, committing_at, answered}
 use Rattle.kernel.specs.Table.{HasSlot, IsSearching, Stands, IsTable, is_committing_at, is_searching_at}
 use Rattle.kernel.proofs.Holding.{OthersHold, others_same, others_released, others_changed, others_noted, others_then, others_written, noted_holder}
 use Rattle.wal.proofs.Volumes.{changed_lock}
@@ -33,6 +34,21 @@ room_kept c l n p w table lt is =
     let one : cond {A = ℕ} (is_searching_at (process w p).at) 1 0 ≤ count_by (λ (q : Process). is_searching_at q.at) w.processes = get_or-le-sum_by (λ (q : Process). cond {A = ℕ} (is_searching_at q.at) 1 0) w.processes p idle lt in
     let here : cond {A = ℕ} (is_searching_at (process w p).at) 1 0 ≡ 1 = ap (λ (b : Bool). cond {A = ℕ} b 1 0) is in
     omega (arith, one, here, table.room)
+
+-- how many operations a process began, by where it stands
+pub begun_at : (c : Buffers) (l : LogState) (n p : ℕ) (a : At) (w : World) → IsTable c l n w → (process w p).at ≡ a → (process w p).begun ≤ length w.journal.list + cond (is_searching_at a) 1 0
+begun_at c l n p a w table is = subst (λ (b : At). (process w p).begun ≤ length w.journal.list + cond (is_searching_at b) 1 0) is (table.counted.begun p)
+
+-- one group more at most
+opened_more : (l : LogState) (p : ℕ) → (begun l p).opened ≤ l.opened + 1
+opened_more l p = by_first (eqb l.outstanding 0)
+  where
+    by_first : (t : Bool) → cond t (l.opened + 1) l.opened ≤ l.opened + 1
+    by_first true = omega arith
+    by_first false = omega arith
+
+one_longer : (es : List Entry) (e : Entry) → length (es ++ e ∷ []) ≡ length es + 1
+one_longer es e = length-append es (e ∷ [])
 
 -- the log is quiet while a search goes on, so nobody commits
 search_alone : (c : Buffers) (l : LogState) (n p q group : ℕ) (m : Ialloc) (w : World) → IsTable c l n w → IsLog l → IsSearching c l n p group m → is_committing_at (process w q).at ≡ true → ⊥
@@ -59,12 +75,15 @@ table_begun c l n p kind w table is lt stands free is_kind = table_goes c c l (b
   };
   alone = λ e q apart committing. absurd (false≢true e);
   room = omega arith;
+  longer = omega arith;
+  begun = let had = begun_at c l n p at.Idle w table stands in omega (arith, had);
+  opened = let more = opened_more l p in omega (arith, more, table.counted.opened);
 })
 
 -- an operation is answered at once: its entry is in the journal, and nothing else happened
 pub table_at_once : (c : Buffers) (l : LogState) (n p : ℕ) (w v : World) (t : Process) → IsTable c l n w → p < length w.processes → (process w p).at ≡ at.Idle → t.at ≡ at.Idle
-    → v.processes ≡ set w.processes p t → v.journal.room ≡ w.journal.room → IsTable c l n v
-table_at_once c l n p w v t table lt stands stays is room = table_goes c c l l n p w v at.Idle t (record {
+    → t.begun ≡ (process w p).begun + 1 → v.processes ≡ set w.processes p t → v.journal.room ≡ w.journal.room → length v.journal.list ≡ length w.journal.list + 1 → IsTable c l n v
+table_at_once c l n p w v t table lt stands stays one is room longer = table_goes c c l l n p w v at.Idle t (record {
   table = table;
   inside = lt;
   from = stands;
@@ -74,6 +93,9 @@ table_at_once c l n p w v t table lt stands stays is room = table_goes c c l l n
   place = subst (λ (a : At). Stands c l n p a) (stands ∙ sym stays) (table.stands p);
   alone = λ e q apart committing. absurd (false≢true (sym (ap is_committing_at stays) ∙ e));
   room = let none = ap (λ (a : At). cond {A = ℕ} (is_searching_at a) 1 0) stays in omega (arith, none, room);
+  longer = omega (arith, longer);
+  begun = let had = begun_at c l n p at.Idle w table stands in omega (arith, had, one, longer);
+  opened = omega (arith, longer, room, table.counted.opened);
 })
 
 -- the search has its block
@@ -91,6 +113,9 @@ table_got c d l n p group i m w table is lt stands others has =
       place = record { used = s.used; newest = s.newest; count = s.count; kind = s.kind; behind = s.behind; last = s.last; holds = has };
       alone = λ e q apart committing. absurd (false≢true e);
       room = refl;
+      longer = omega arith;
+      begun = begun_at c l n p (at.Creating group m) w table stands;
+      opened = table.counted.opened;
     })
 
 -- it goes on to the next block
@@ -111,6 +136,9 @@ table_next c l n p group i m w table lt stands slot more =
       place = record { used = s.used; newest = s.newest; count = s.count; kind = s.kind; behind = omega (arith, s.behind); last = let low = s.last in omega (arith, low, other, same); holds = tt };
       alone = λ e q apart committing. absurd (false≢true e);
       room = refl;
+      longer = omega arith;
+      begun = begun_at c l n p (at.Creating group m) w table stands;
+      opened = table.counted.opened;
     })
 
 -- the turn without a number
@@ -130,6 +158,9 @@ table_none c l n p group i m op reply w table lt stands slot =
       place = (subst IsSome (sym s.used) refl, s.newest);
       alone = λ e q apart committing. absurd (false≢true e);
       room = omega (arith, kept);
+      longer = let more = one_longer w.journal.list (entry_of w p op group reply) in omega (arith, more);
+      begun = let had = begun_at c l n p (at.Creating group m) w table stands in let more = one_longer w.journal.list (entry_of w p op group reply) in omega (arith, had, more);
+      opened = let more = one_longer w.journal.list (entry_of w p op group reply) in omega (arith, kept, more, table.counted.opened);
     })
 
 still_open : (l : LogState) (p b : ℕ) → p < length l.used → used_by l p ≡ Some 0 → IsSome (used_by (noted l p b) p)
@@ -168,7 +199,18 @@ table_claimed c l n p group i b bytes m op reply w table is cache lt stands slot
       place = (still_open l p b (omega (arith, lt, table.few, is.pids)) s.used, s.newest ∙ sym (opened_noted l p b));
       alone = λ e q apart committing. absurd (false≢true e);
       room = omega (arith, kept);
+      longer = let more = one_longer w.journal.list (entry_of w p op group reply) in omega (arith, more);
+      begun = let had = begun_at c l n p (at.Creating group m) w table stands in let more = one_longer w.journal.list (entry_of w p op group reply) in omega (arith, had, more);
+      opened = let more = one_longer w.journal.list (entry_of w p op group reply) in omega (arith, kept, more, table.counted.opened, opened_noted l p b);
     })
+
+ended_opened : (l : LogState) (p : ℕ) → (ended l p).opened ≡ l.opened
+ended_opened l p = by_last (eqb l.outstanding 1) (eqb (length l.homes) 0)
+  where
+    by_last : (s t : Bool) → (cond s (cond t (record (left_by l p) { committed = l.opened }) (record (left_by l p) { commit = commit.Logging 0 })) (left_by l p)).opened ≡ l.opened
+    by_last true true = refl
+    by_last true false = refl
+    by_last false t = refl
 
 -- an operation ends, and others of its group are open, or the group logged nothing
 pub table_left : (c : Buffers) (l : LogState) (n p group : ℕ) (reply : Reply) (w : World) → IsTable c l n w → IsLog l → p < length w.processes → (process w p).at ≡ at.Ending group reply
@@ -186,6 +228,9 @@ table_left c l n p group reply w table is lt stands =
       place = closed_for l p (omega (arith, lt, table.few, is.pids));
       alone = λ e q apart committing. absurd (false≢true e);
       room = refl;
+      longer = omega arith;
+      begun = begun_at c l n p (at.Ending group reply) w table stands;
+      opened = omega (arith, ended_opened l p, table.counted.opened);
     })
   where
     closed_for : (l : LogState) (p : ℕ) → p < length l.used → used_by (ended l p) p ≡ None
@@ -230,6 +275,9 @@ table_commits c l n p group reply w table is lt stands last =
       place = subst (λ (a : At). Stands c (ended l p) n p (committing_at a)) (sym stands) (subst (λ (o : LogState). Stands c o n p (at.Committing group reply)) (sym now) (none, refl, s.1));
       alone = λ e q apart committing. none_commits c l n q w table (quiet_of l.commit l is (open_now l l.commit p has.0 is has.1)) committing;
       room = let none_searches = ap (λ (a : At). cond {A = ℕ} (is_searching_at (committing_at a)) 1 0) stands in omega (arith, none_searches);
+      longer = omega arith;
+      begun = let had = begun_at c l n p (at.Ending group reply) w table stands in let none_searches = ap (λ (a : At). cond {A = ℕ} (is_searching_at (committing_at a)) 1 0) stands in omega (arith, had, none_searches);
+      opened = omega (arith, ended_opened l p, table.counted.opened);
     })
 
 written_same : (k : Commit) (l : LogState) → ((written_at k l).used ≡ l.used) × ((written_at k l).opened ≡ l.opened)
@@ -258,6 +306,9 @@ table_written c l n p group reply w table lt stands busy =
       place = subst (λ (a : At). Stands d m n p a) (sym stands) (ap (λ (us : List (Option ℕ)). get_or us p None) same.0 ∙ s.0, busy, s.2 ∙ sym same.1);
       alone = λ e q apart committing. apart (table.sole q p committing mine);
       room = let none = ap (λ (a : At). cond {A = ℕ} (is_searching_at a) 1 0) stands in omega (arith, none);
+      longer = omega arith;
+      begun = table.counted.begun p;
+      opened = omega (arith, same.1, table.counted.opened);
     })
 
 -- the last write of a commit
@@ -277,4 +328,7 @@ table_done c l n p group reply w table lt stands =
       place = ap (λ (us : List (Option ℕ)). get_or us p None) same.0 ∙ s.0;
       alone = λ e q apart committing. absurd (false≢true e);
       room = refl;
+      longer = omega arith;
+      begun = begun_at c l n p (at.Committing group reply) w table stands;
+      opened = omega (arith, same.1, table.counted.opened);
     })

@@ -8,3 +8,11 @@ pub mod Ends
 pub mod Allocating
 pub mod Beginnings
 pub mod Openings
+pub mod Waits
+pub mod Kept
+pub mod FilesAfter
+pub mod Recovers
+pub mod Keeping
+pub mod Growing
+pub mod Progressing
+pub mod Turns

@@ -93,3 +93,11 @@ logs_written (commit.Logging j) l w c n p table mine = record { size = refl; use
 logs_written commit.Heading l w c n p table mine = record { size = refl; used = λ q apart. refl; newest = λ q u apart has. refl; busy = λ q apart is. absurd (apart (table.sole q p is mine)) }
 logs_written (commit.Homing j) l w c n p table mine = record { size = refl; used = λ q apart. refl; newest = λ q u apart has. refl; busy = λ q apart is. absurd (apart (table.sole q p is mine)) }
 logs_written commit.Clearing l w c n p table mine = record { size = refl; used = λ q apart. refl; newest = λ q u apart has. refl; busy = λ q apart is. absurd (apart (table.sole q p is mine)) }
+
+-- a note changes no count of groups
+pub counts_noted : (l : LogState) (p b : ℕ) → ((noted l p b).opened ≡ l.opened) × ((noted l p b).committed ≡ l.committed)
+counts_noted l p b = by_home (is_among b l.homes)
+  where
+    by_home : (t : Bool) → ((cond t l (appended l p b)).opened ≡ l.opened) × ((cond t l (appended l p b)).committed ≡ l.committed)
+    by_home true = (refl, refl)
+    by_home false = (refl, refl)

@@ -1,5 +1,5 @@
 -- What a kernel that is opened has.
-use Rattle.std.proofs.Common.{◌≡◌, ℕ, ◌*◌, ◌<◌, ◌≤◌, Bool, true, false, cond, length, replicate, refl, sym, ◌∙◌, ap, subst, arith, ⊎_elim, None, Err}
+use Rattle.std.proofs.Common.{◌≡◌, ℕ, ◌+◌, ◌*◌, ◌<◌, ◌≤◌, Bool, true, false, cond, [], length, replicate, refl, sym, ◌∙◌, ap, subst, arith, ⊎_elim, None, Err}
 use Rattle.std.specs.Prelude.{IsTrue, count_by, Result}
 use Rattle.std.proofs.lemmas.Bool.{cases_lt, false≢true}
 use Rattle.std.proofs.lemmas.List.{get_or-replicate, get_or_past, length-replicate}
@@ -7,22 +7,31 @@ use Rattle.std.proofs.lemmas.List.Folds.{sum_by-replicate}
 use Rattle.blocks.specs.Disk.{Image, Rose, IsSettled, LeavesOnly}
 use Rattle.blocks.proofs.Moments.{started, stays, joined}
 use Rattle.layout.specs.Cause.{OnlyReads}
-use Rattle.model.specs.Layout.{super_of, is_lawful_super}
-use Rattle.model.specs.Log.{is_lawful_log}
+use Rattle.model.specs.Layout.{super_of, inode_count_of, is_lawful_super}
+use Rattle.model.specs.Log.{is_lawful_log, logged_count, recovered}
+use Rattle.model.specs.Soundness.{IsSound}
 use Rattle.model.specs.Verdict.{verdict}
 use Rattle.model.specs.declared.types.Super.{Super}
-use Rattle.model.proofs.SoundLemmas.{verdict_sound, facts_of}
+use Rattle.model.proofs.LogLemmas.{recovered_empty}
+use Rattle.model.proofs.RecoveryLemmas.{logged_count-left}
+use Rattle.model.proofs.SuperLemmas.{super_of-recovered}
+use Rattle.model.proofs.SoundLemmas.{verdict_sound, facts_of, long_geometry}
 use Rattle.bcache.specs.Buffers.{fresh as fresh_buffers}
 use Rattle.wal.specs.Machine.{new_log, used_by}
 use Rattle.wal.specs.Volume.{VolumeState}
+use Rattle.wal.proofs.LawfulLogs.{empty_lawful}
+use Rattle.wal.proofs.Opens.{fresh_seen}
 use Rattle.wal.specs.Recovery.{RecoversAs, OnDisk, OnBadLog}
 use Rattle.wal.specs.declared.faults.RecoverFault.{RecoverFault}
 use Rattle.wal.specs.declared.faults.RecoverFault.TheVariants as recover
 use Rattle.kernel.specs.declared.types.Process.{Process}
 use Rattle.kernel.specs.Opening.{IsRecoverCause}
 use Rattle.kernel.specs.Processes.{World, process, idle, fresh}
-use Rattle.kernel.specs.State.{is_under_way_at}
+use Rattle.kernel.specs.Keeps.{HasFilesAfter, cleared, Recovers}
+use Rattle.kernel.specs.State.{HasNumbers, is_under_way_at}
 use Rattle.kernel.specs.Table.{Stands, IsTable, is_committing_at, is_searching_at}
+use Rattle.kernel.proofs.FilesAfter.{after_none}
+use Rattle.kernel.proofs.Recovers.{clear}
 
 -- the volume of a kernel that is opened on an image of so many blocks
 abbrev pub opened_volume : {D : Type 0} → D → ℕ → VolumeState D
@@ -81,6 +90,10 @@ table_opened x sup n none is few =
       stands = λ p. subst (λ (q : Process). Stands fresh_buffers (new_log (length x)) sup.ninodes p q.at) (sym (idle_at n p)) (none_used (length x) p);
       sole = λ p q first second. absurd (false≢true (sym (ap (λ (r : Process). is_committing_at r.at) (idle_at n p)) ∙ first));
       room = sym (none_searches n);
+      counted = record {
+        begun = λ p. subst (λ (q : Process). q.begun ≤ 0 + cond {A = ℕ} (is_searching_at q.at) 1 0) (sym (idle_at n p)) (omega arith);
+        opened = omega arith;
+      };
     }
 
 pub rooms_opened : (n : ℕ) (has_room : ℕ → Bool) → (p : ℕ) → is_under_way_at (process (fresh n) p).at ≡ true → has_room p ≡ true
@@ -101,3 +114,29 @@ opened_count n w is = ap (λ (o : World). length o.processes) is ∙ length-repl
 
 pub opened_rooms : (n : ℕ) (w : World) (has_room : ℕ → Bool) → w ≡ fresh n → (p : ℕ) → is_under_way_at (process w p).at ≡ true → has_room p ≡ true
 opened_rooms n w has_room is p under = rooms_opened n has_room p (ap (λ (o : World). is_under_way_at (process o p).at) (sym is) ∙ under)
+
+-- as many inode numbers as the image that was checked
+pub opened_numbers : (x y : Image) (sup : Super) → verdict x ≡ None → sup ≡ super_of x → y ≡ recovered x → HasNumbers sup.ninodes y
+opened_numbers x y sup none new is =
+    let sound = verdict_sound x none in
+    let long = long_geometry x sound.0 in
+    record { same = ap (λ (s : Super). s.ninodes) (new ∙ sym (super_of-recovered x sound.1 (omega (arith, long)))) ∙ sym (ap inode_count_of is) }
+
+-- nothing was done yet, and nothing is logged
+pub opened_recovers : {D : Type 0} (image : D → Image) (v : VolumeState D) (d : D) (x y : Image) (size n : ℕ) (w : World) → v ≡ opened_volume d size → w ≡ fresh n → verdict x ≡ None → image d ≡ recovered x → y ≡ image d
+    → Recovers y (image v.device) v.buffers v.log w.journal.list
+opened_recovers image v d x y size n w is new none left same =
+    subst (λ (o : World). Recovers y (image v.device) v.buffers v.log o.journal.list) (sym new)
+    (subst (λ (o : VolumeState _). Recovers y (image o.device) o.buffers o.log []) (sym is)
+    (subst (λ (z : Image). Recovers z (image d) fresh_buffers (new_log size) []) (sym same) (record {
+      current = subst (λ (z : Image). HasFilesAfter (image d) [] (cleared z)) (sym (fresh_seen (image d))) (clear (image d) [] (image d) (after_none (image d) sound));
+      lawful = empty_lawful (image d) empty;
+      committed = subst (λ (z : Image). HasFilesAfter (image d) [] z) (sym (recovered_empty (image d) empty)) (after_none (image d) sound);
+      groups = refl;
+    })))
+  where
+    sound : IsSound (image d)
+    sound = subst IsSound (sym left) (verdict_sound x none).2
+
+    empty : logged_count (image d) ≡ 0
+    empty = ap logged_count left ∙ logged_count-left x

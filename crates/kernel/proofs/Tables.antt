@@ -1,5 +1,5 @@
 -- One process goes on, and the table of all of them stays true.
-use Rattle.std.proofs.Common.{◌≡◌, ◌≢◌, ℕ, ◌+◌, ◌<◌, true, false, cond, List, length, get_or, set, ◌⊎◌, inl, inr, refl, sym, ◌∙◌, ap, subst, arith, ⊎_elim, Option, Some, None, length-set}
+use Rattle.std.proofs.Common.{◌≡◌, ◌≢◌, ℕ, ◌+◌, ◌<◌, ◌≤◌, true, false, cond, List, length, get_or, set, ◌⊎◌, inl, inr, refl, sym, ◌∙◌, ap, subst, arith, ⊎_elim, Option, Some, None, length-set}
 use Rattle.std.specs.Prelude.{IsSome, count_by}
 use Rattle.std.proofs.lemmas.Bool.{cases_eq}
 use Rattle.std.proofs.lemmas.List.{get_or-set_same, get_or-set_other}
@@ -62,6 +62,9 @@ pub record Goes (c d : Buffers) (l m : LogState) (n p : ℕ) (w v : World) (a : 
   -- nobody else commits
   pub alone : is_committing_at t.at ≡ true → (q : ℕ) → q ≢ p → is_committing_at (process w q).at ≡ true → ⊥
   pub room : v.journal.room + cond (is_searching_at a) 1 0 ≡ w.journal.room + cond (is_searching_at t.at) 1 0
+  pub longer : length w.journal.list ≤ length v.journal.list
+  pub begun : t.begun ≤ length v.journal.list + cond (is_searching_at t.at) 1 0
+  pub opened : m.opened ≤ length v.journal.list + v.journal.room
 
 module _ (c d : Buffers) (l m : LogState) (n p : ℕ) (w v : World) (a : At) (t : Process) (g : Goes c d l m n p w v a t) where
   now_at : process v p ≡ t
@@ -93,4 +96,13 @@ module _ (c d : Buffers) (l m : LogState) (n p : ℕ) (w v : World) (a : At) (t 
     room = let moved = searching_moved w.processes p t a g.inside g.from in
         let new = ap (λ (ps : List Process). count_by (λ (q : Process). is_searching_at q.at) ps) g.processes in
         omega (arith, moved, new, g.room, g.table.room);
+    counted = record {
+      begun = λ q. ⊎_elim
+          (λ (same : q ≡ p). subst (λ (r : ℕ). (process v r).begun ≤ length v.journal.list + cond (is_searching_at (process v r).at) 1 0) (sym same)
+          (subst (λ (s : Process). s.begun ≤ length v.journal.list + cond (is_searching_at s.at) 1 0) (sym now_at) g.begun))
+          (λ (apart : q ≢ p). subst (λ (s : Process). s.begun ≤ length v.journal.list + cond (is_searching_at s.at) 1 0) (sym (others_at q apart))
+          (let had = g.table.counted.begun q in omega (arith, had, g.longer)))
+          (cases_eq q p);
+      opened = g.opened;
+    };
   }

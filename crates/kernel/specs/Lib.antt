@@ -4,3 +4,5 @@ pub mod Table
 pub mod State
 pub mod Opening
 pub mod Next
+pub mod Keeps
+pub mod Runs

@@ -1,7 +1,9 @@
 -- What a contract sees of a kernel.
 use Rattle.std.specs.Prelude.{◌≡◌, ℕ, Bool, true, false, length, IfNone, if◌then◌else◌}
+use Rattle.blocks.specs.Disk.{Image}
 use Rattle.model.specs.declared.types.Op.{Op}
 use Rattle.model.specs.declared.types.Op.TheVariants.{Create, Write, Read, Trunc, Remove, Stat}
+use Rattle.model.specs.Layout.{inode_count_of}
 use Rattle.model.specs.Operations.{is_kind}
 use Rattle.kernel.specs.declared.stepping.Waiting.{Waiting}
 use Rattle.kernel.specs.declared.stepping.Waiting.TheVariants as waiting
@@ -11,6 +13,7 @@ use Rattle.kernel.specs.declared.types.At.{At}
 use Rattle.kernel.specs.declared.types.At.TheVariants as at
 use Rattle.kernel.specs.Processes.{World, process}
 use Rattle.kernel.specs.Table.{IsTable}
+use Rattle.kernel.specs.Keeps.{KeepsNow, Recovers}
 
 pub record State (D I H : Type 0) : Type 0 where
   pub volume : VolumeState D
@@ -43,11 +46,19 @@ is_under_way_at (at.Creating group search) = true
 is_under_way_at (at.Ending group reply) = true
 is_under_way_at (at.Committing group reply) = true
 
+-- as many inode numbers as the image has
+pub record HasNumbers (n : ℕ) (x : Image) : Type 0 where
+  pub same : n ≡ inode_count_of x
+
 -- What is true of every kernel, between two steps.
-pub record Inv {D I H : Type 0} (process_count : I → ℕ) (side : I → ℕ → Side) (count : H → ℕ) (k : State D I H) : Type 0 where
+pub record Inv {D I H : Type 0} (image : D → Image) (process_count : I → ℕ) (side : I → ℕ → Side) (count : H → ℕ) (k : State D I H) : Type 0 where
+  pub numbers : HasNumbers k.inode_count (image k.opening)
   pub table : IfNone k.volume.fault (IsTable k.volume.buffers k.volume.log k.inode_count k.world)
   pub processes : process_count k.intake ≡ length k.world.processes
   -- a place for the answer of each operation under way is kept
   pub room : (p : ℕ) → is_under_way_at (process k.world p).at ≡ true → (side k.intake p).has_room ≡ true
   -- the herald was told of each commit
   pub told : count k.herald ≡ k.volume.log.committed
+  -- what recovery gives now, and has to go on from
+  pub recovers : IfNone k.volume.fault (Recovers (image k.opening) (image k.volume.device) k.volume.buffers k.volume.log k.world.journal.list)
+  pub keeps : KeepsNow k.volume (image k.opening) k.world.journal.list (image k.volume.device)

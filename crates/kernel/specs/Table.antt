@@ -1,5 +1,5 @@
 -- What is true of processes, buffers and log together, between any two steps.
-use Rattle.std.specs.Prelude.{◌≡◌, ◌<◌, ◌≤◌, ℕ, ◌-◌, IsTrue, IsSome, Bool, true, false, length, count_by, Option, Some, None}
+use Rattle.std.specs.Prelude.{◌≡◌, ◌<◌, ◌≤◌, ℕ, ◌+◌, ◌-◌, if◌then◌else◌, IsTrue, IsSome, Bool, true, false, length, count_by, Option, Some, None}
 use Rattle.model.specs.Layout.{inode_block}
 use Rattle.model.specs.Operations.{is_kind}
 use Rattle.bcache.specs.Buffers.{Buffers, buffer}
@@ -56,6 +56,13 @@ is_searching_at (at.Creating group m) = true
 is_searching_at (at.Ending group reply) = false
 is_searching_at (at.Committing group reply) = false
 
+-- what was counted is in the journal, or will be
+pub record IsCounted (l : LogState) (w : World) : Type 0 where
+  -- each operation of a process has its entry, but for the one that searches
+  pub begun : (p : ℕ) → (process w p).begun ≤ length w.journal.list + (if is_searching_at (process w p).at then 1 else 0)
+  -- each group has an operation
+  pub opened : l.opened ≤ length w.journal.list + w.journal.room
+
 -- where each process stands agrees with buffers and log; one at most commits; each search has its place in the journal
 pub record IsTable (c : Buffers) (l : LogState) (inode_count : ℕ) (w : World) : Type 0 where
   pub few : length w.processes ≤ 32
@@ -65,3 +72,4 @@ pub record IsTable (c : Buffers) (l : LogState) (inode_count : ℕ) (w : World) 
   pub stands : (p : ℕ) → Stands c l inode_count p (process w p).at
   pub sole : (p q : ℕ) → is_committing_at (process w p).at ≡ true → is_committing_at (process w q).at ≡ true → p ≡ q
   pub room : w.journal.room ≡ count_by (λ (q : Process). is_searching_at q.at) w.processes
+  pub counted : IsCounted l w

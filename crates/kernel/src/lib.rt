@@ -5,11 +5,13 @@ mod journal;
 mod opening;
 mod processes;
 mod queues;
+mod runs;
 mod stepping;
 mod types;
 
 pub use journal::Journal;
 pub use processes::Processes;
+pub use runs::run;
 pub use stepping::Kernel;
 pub use types::{At, OpenFault, Process, Step, Turn};
 

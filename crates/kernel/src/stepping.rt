@@ -32,7 +32,7 @@ impl<D: Disk, I: Intake, H: Herald> Model for Kernel<D, I, H> {
 
     ghost view = { λ k. record { volume = k.volume; opening = k.opening.value; intake = k.intake; herald = k.herald; world = k.processes; inode_count = k.inode_count } };
 
-    ghost invariant = { λ k. Inv I.process_count I.side H.count (record { volume = k.volume; opening = k.opening.value; intake = k.intake; herald = k.herald; world = k.processes; inode_count = k.inode_count }) };
+    ghost invariant = { λ k. Inv D.image I.process_count I.side H.count (record { volume = k.volume; opening = k.opening.value; intake = k.intake; herald = k.herald; world = k.processes; inode_count = k.inode_count }) };
 }
 
 // What waits for a process.
@@ -63,24 +63,67 @@ fn waiting_of(op: &Op) -> Waiting
 }
 
 impl<D: Disk, I: Intake, H: Herald> Kernel<D, I, H> {
-    ghost use Rattle.std.specs.Prelude.{◌≡◌, ◌<◌, ◌^◌, ◌+◌, ◌↔◌, ◌≢◌, length, Some, None, IsSome, IsTrue, true};
+    ghost use Rattle.std.specs.Prelude.{◌≡◌, ◌⊎◌, ◌<◌, ◌↔◌, ◌≢◌, length, Some, None, IsSome, IsTrue, IfNone, true, false};
+    ghost use mathlib.Core.List.{IsPrefix};
     ghost use Rattle.std.specs.Option.{option_map};
+    ghost use Rattle.blocks.specs.Disk.{Image, Elapses, LeavesOnly};
+    ghost use Rattle.model.specs.Layout.{inode_count_of};
     ghost use Rattle.model.specs.Operations.{is_kind};
+    ghost use Rattle.model.specs.Journal.{kept};
+    ghost use Rattle.wal.specs.Joint.{seen};
+    ghost use Rattle.kernel.specs.Keeps.{HasFilesAfter, cleared, KeepsNow, KeepsBetween, Grows, most_of};
     ghost use Rattle.ports.specs.History.{first_in};
     ghost use Rattle.kernel.specs.State.{waiting_of, Stays};
     ghost use Rattle.kernel.specs.declared.types.At.TheVariants as at;
+    ghost use Rattle.kernel.specs.declared.stepping.Waiting.TheVariants as waiting;
     ghost use Rattle.kernel.specs.Processes.{process};
     ghost use Rattle.kernel.specs.Table.{is_committing_at, is_ending_at};
-    ghost use Rattle.kernel.specs.Next.{Creates, Refuses, Searches, Ends, Commits, Begins, Next};
+    ghost use Rattle.kernel.specs.Next.{Creates, Refuses, Searches, Ends, Commits, Begins, Next, WritesOnce, CountsItsFault};
+
+    /// Does nothing: it says what recovery of the disk gives. A stop now leaves a sound image whose
+    /// files are the opening ones after the changing operations of the committed groups, in the
+    /// order of the journal; after a fault in the write of a header, of those or of one group more.
+    /// While the disk has not failed, the current image has the files after all of the journal.
+    pub fn known(&self)
+        ensures keeps { (x : Image) → D.leaves self.now.volume.device (D.moment self.now.volume.device) x → KeepsNow self.now.volume (D.image self.now.opening) self.now.world.journal.list x }
+        ensures current { IfNone self.now.volume.fault (HasFilesAfter (D.image self.now.opening) (kept (inode_count_of (D.image self.now.opening)) self.now.world.journal.list self.now.volume.log.opened) (cleared (seen (D.image self.now.volume.device) self.now.volume.buffers))) }
+    {
+        let _ = &self.volume;
+    }
 
     /// One step of a process.
     pub fn step(&mut self, pid: u32) -> Step
         requires pid { pid < length self.old.world.processes }
-        requires begun { (process self.old.world pid).begun + 1 < 2 ^ 64 }
-        requires opened { self.old.volume.log.opened + 1 < 2 ^ 64 }
-        ensures next { Next (D.image self.old.volume.device) self.old.inode_count self.old.volume self.old.world pid result (D.image self.new.volume.device) self.new.volume self.new.world }
+        ensures next { Next (D.image self.old.volume.device) self.old.inode_count self.old.volume self.old.world pid (I.side self.old.intake pid).ahead (I.side self.new.intake pid) (H.told self.new.herald) result (D.image self.new.volume.device) self.new.volume self.new.world }
         ensures opening { self.new.opening ≡ self.old.opening }
+        ensures inode_count { self.new.inode_count ≡ self.old.inode_count }
+        ensures processes { length self.new.world.processes ≡ length self.old.world.processes }
         ensures halted { (result ≡ Step.Halted) ↔ IsSome self.new.volume.fault }
+        ensures writes { WritesOnce (D.write_count self.old.volume.device) (D.write_count self.new.volume.device) }
+        ensures faults { self.old.volume.fault ≡ None → CountsItsFault self.new.volume.fault (D.fault_count self.old.volume.device) (D.fault_count self.new.volume.device) }
+
+        // What a stop leaves, now and in this step.
+        ensures keeps { (x : Image) → D.leaves self.new.volume.device (D.moment self.new.volume.device) x → KeepsNow self.new.volume (D.image self.new.opening) self.new.world.journal.list x }
+        ensures grows { Grows (inode_count_of (D.image self.old.opening)) self.old.volume self.old.world.journal.list self.new.volume self.new.world.journal.list }
+        ensures leaves { LeavesOnly D.moment D.leaves self.old.volume.device self.new.volume.device (KeepsBetween self.old.volume.log.committed (most_of self.new.volume) (D.image self.new.opening) self.new.world.journal.list) }
+    {
+        self.known();
+        self.volume.known();
+        let answer = self.go_on(pid);
+        self.known();
+        answer
+    }
+
+    // The step, by where the process stands.
+    fn go_on(&mut self, pid: u32) -> Step
+        requires pid { pid < length self.old.world.processes }
+        ensures next { Next (D.image self.old.volume.device) self.old.inode_count self.old.volume self.old.world pid (I.side self.old.intake pid).ahead (I.side self.new.intake pid) (H.told self.new.herald) result (D.image self.new.volume.device) self.new.volume self.new.world }
+        ensures opening { self.new.opening ≡ self.old.opening }
+        ensures inode_count { self.new.inode_count ≡ self.old.inode_count }
+        ensures halted { (result ≡ Step.Halted) ↔ IsSome self.new.volume.fault }
+        ensures writes { WritesOnce (D.write_count self.old.volume.device) (D.write_count self.new.volume.device) }
+        ensures faults { self.old.volume.fault ≡ None → CountsItsFault self.new.volume.fault (D.fault_count self.old.volume.device) (D.fault_count self.new.volume.device) }
+        ensures time { Elapses (D.moment self.old.volume.device) (D.moment self.new.volume.device) (D.leaves self.old.volume.device) (D.leaves self.new.volume.device) }
     {
         if self.volume.fault().is_some() {
             return Step::Halted;
@@ -99,12 +142,12 @@ impl<D: Disk, I: Intake, H: Herald> Kernel<D, I, H> {
     // Begins the operation that waits for a process, if one does and it may.
     fn begin(&mut self, pid: u32) -> Step
         requires pid { pid < length self.old.world.processes }
-        requires begun { (process self.old.world pid).begun + 1 < 2 ^ 64 }
-        requires opened { self.old.volume.log.opened + 1 < 2 ^ 64 }
         requires fault { self.old.volume.fault ≡ None }
         requires at { (process self.old.world pid).at ≡ at.Idle }
-        ensures next { Begins self.old.inode_count self.old.volume self.old.world pid result self.new.volume self.new.world }
+        ensures next { Begins self.old.inode_count self.old.volume self.old.world pid (I.side self.old.intake pid).ahead (I.side self.new.intake pid) (H.told self.new.herald) result self.new.volume self.new.world }
         ensures opening { self.new.opening ≡ self.old.opening }
+        ensures inode_count { self.new.inode_count ≡ self.old.inode_count }
+        ensures device { self.new.volume.device ≡ self.old.volume.device }
         ensures halted { (result ≡ Step.Halted) ↔ IsSome self.new.volume.fault }
     {
         if self.hears_shutdown() {
@@ -122,11 +165,18 @@ impl<D: Disk, I: Intake, H: Herald> Kernel<D, I, H> {
     fn hears_shutdown(&mut self) -> bool
         ensures same { Stays self.old self.new }
         ensures world { self.new.world ≡ record self.old.world { is_shut = result } }
+        ensures intake { self.new.intake ≡ self.old.intake }
+        ensures told { result ≡ true → (self.old.world.is_shut ≡ true) ⊎ (H.told self.new.herald ≡ true) }
+        ensures open { result ≡ false → (self.old.world.is_shut ≡ false) × (H.told self.new.herald ≡ false) }
     {
-        if !self.processes.is_shut() && self.herald.is_shut() {
-            self.processes.shut();
+        if self.processes.is_shut() {
+            return true;
         }
-        self.processes.is_shut()
+        if !self.herald.is_shut() {
+            return false;
+        }
+        self.processes.shut();
+        true
     }
 
     // What waits for a process.
@@ -134,24 +184,26 @@ impl<D: Disk, I: Intake, H: Herald> Kernel<D, I, H> {
         requires pid { pid < length self.old.world.processes }
         ensures same { Stays self.old self.new }
         ensures world { self.new.world ≡ self.old.world }
+        ensures herald { self.new.herald ≡ self.old.herald }
+        ensures prefix { IsPrefix (I.side self.old.intake pid).ahead (I.side self.new.intake pid).ahead }
         ensures waiting { result ≡ option_map waiting_of (first_in (I.side self.new.intake pid).ahead) }
     {
-        match self.intake.next(pid) {
-            None => None,
-            Some(op) => Some(waiting_of(op)),
-        }
+        let op = self.intake.next(pid)?;
+        Some(waiting_of(op))
     }
 
     // Begins a creation that waits, where it may.
     fn create(&mut self, pid: u32, kind: u16) -> Step
         requires pid { pid < length self.old.world.processes }
-        requires begun { (process self.old.world pid).begun + 1 < 2 ^ 64 }
-        requires opened { self.old.volume.log.opened + 1 < 2 ^ 64 }
         requires fault { self.old.volume.fault ≡ None }
         requires at { (process self.old.world pid).at ≡ at.Idle }
         requires kind { IsTrue (is_kind kind) }
-        ensures next { Creates self.old.inode_count kind self.old.volume self.old.world pid result self.new.volume self.new.world }
+        requires waits { option_map waiting_of (first_in (I.side self.old.intake pid).ahead) ≡ Some (waiting.Creation kind) }
+        ensures next { Creates self.old.inode_count kind self.old.volume self.old.world pid (I.side self.old.intake pid).ahead (I.side self.new.intake pid) result self.new.volume self.new.world }
+        ensures herald { self.new.herald ≡ self.old.herald }
         ensures opening { self.new.opening ≡ self.old.opening }
+        ensures inode_count { self.new.inode_count ≡ self.old.inode_count }
+        ensures device { self.new.volume.device ≡ self.old.volume.device }
         ensures answer { result ≢ Step.Halted }
         ensures fault { self.new.volume.fault ≡ None }
     {
@@ -165,6 +217,7 @@ impl<D: Disk, I: Intake, H: Herald> Kernel<D, I, H> {
         if self.processes.reserve().is_err() {
             return Step::NoMemory;
         }
+        self.processes.known();
         let _taken = self.intake.take(pid);
         let group = open_group(&mut self.volume, pid);
         let search = Ialloc::new(kind, self.inode_count);
@@ -175,12 +228,14 @@ impl<D: Disk, I: Intake, H: Herald> Kernel<D, I, H> {
     // Answers a creation that waits, and has a type that no file has.
     fn refuse(&mut self, pid: u32) -> Step
         requires pid { pid < length self.old.world.processes }
-        requires begun { (process self.old.world pid).begun + 1 < 2 ^ 64 }
         requires fault { self.old.volume.fault ≡ None }
         requires at { (process self.old.world pid).at ≡ at.Idle }
-        requires waits { IsSome (first_in (I.side self.old.intake pid).ahead) }
-        ensures next { Refuses self.old.volume self.old.world pid result self.new.volume self.new.world }
+        requires waits { option_map waiting_of (first_in (I.side self.old.intake pid).ahead) ≡ Some waiting.Refused }
+        ensures next { Refuses self.old.volume self.old.world pid (I.side self.old.intake pid).ahead (I.side self.new.intake pid) result self.new.volume self.new.world }
+        ensures herald { self.new.herald ≡ self.old.herald }
         ensures opening { self.new.opening ≡ self.old.opening }
+        ensures inode_count { self.new.inode_count ≡ self.old.inode_count }
+        ensures device { self.new.volume.device ≡ self.old.volume.device }
         ensures answer { result ≢ Step.Halted }
         ensures fault { self.new.volume.fault ≡ None }
     {
@@ -190,6 +245,7 @@ impl<D: Disk, I: Intake, H: Herald> Kernel<D, I, H> {
         if self.processes.reserve().is_err() {
             return Step::NoMemory;
         }
+        self.processes.known();
         let Some(op) = self.intake.take(pid) else {
             unreachable!();
         };
@@ -205,7 +261,11 @@ impl<D: Disk, I: Intake, H: Herald> Kernel<D, I, H> {
         requires at { is_committing_at (process self.old.world pid).at ≡ true }
         ensures next { Commits (D.image self.old.volume.device) self.old.volume self.old.world pid result (D.image self.new.volume.device) self.new.volume self.new.world }
         ensures opening { self.new.opening ≡ self.old.opening }
+        ensures inode_count { self.new.inode_count ≡ self.old.inode_count }
+        ensures time { Elapses (D.moment self.old.volume.device) (D.moment self.new.volume.device) (D.leaves self.old.volume.device) (D.leaves self.new.volume.device) }
         ensures halted { (result ≡ Step.Halted) ↔ IsSome self.new.volume.fault }
+        ensures writes { WritesOnce (D.write_count self.old.volume.device) (D.write_count self.new.volume.device) }
+        ensures faults { CountsItsFault self.new.volume.fault (D.fault_count self.old.volume.device) (D.fault_count self.new.volume.device) }
     {
         self.volume.known();
         let answer = self.volume.commit_step();
@@ -230,7 +290,11 @@ impl<D: Disk, I: Intake, H: Herald> Kernel<D, I, H> {
         requires at { (process self.old.world pid).at ≡ at.Creating group search }
         ensures next { Searches (D.image self.old.volume.device) group search self.old.volume self.old.world pid result self.new.volume self.new.world }
         ensures opening { self.new.opening ≡ self.old.opening }
+        ensures inode_count { self.new.inode_count ≡ self.old.inode_count }
+        ensures time { Elapses (D.moment self.old.volume.device) (D.moment self.new.volume.device) (D.leaves self.old.volume.device) (D.leaves self.new.volume.device) }
         ensures halted { (result ≡ Step.Halted) ↔ IsSome self.new.volume.fault }
+        ensures writes { WritesOnce (D.write_count self.old.volume.device) (D.write_count self.new.volume.device) }
+        ensures faults { CountsItsFault self.new.volume.fault (D.fault_count self.old.volume.device) (D.fault_count self.new.volume.device) }
     {
         self.volume.known();
         let kind = search.kind;
@@ -255,6 +319,8 @@ impl<D: Disk, I: Intake, H: Herald> Kernel<D, I, H> {
         requires at { is_ending_at (process self.old.world pid).at ≡ true }
         ensures next { Ends self.old.volume self.old.world pid result self.new.volume self.new.world }
         ensures opening { self.new.opening ≡ self.old.opening }
+        ensures inode_count { self.new.inode_count ≡ self.old.inode_count }
+        ensures device { self.new.volume.device ≡ self.old.volume.device }
         ensures halted { (result ≡ Step.Halted) ↔ IsSome self.new.volume.fault }
     {
         self.volume.known();

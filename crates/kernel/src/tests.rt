@@ -1,4 +1,4 @@
-use crate::{At, Kernel, Processes, Step};
+use crate::{At, Kernel, Processes, Step, Turn, run};
 use blocks::{Block, Disk, DiskFault, FaultyDisk, Kind, MemDisk};
 use inodes::Ialloc;
 use layout::mkfs;
@@ -76,10 +76,6 @@ fn submit(rt: &impl Abort, kernel: &mut Opened, pid: u32, kind: u16) -> Option<u
 fn step(rt: &impl Abort, kernel: &mut Opened, pid: u32) -> Step {
     let processes = kernel.processes();
     assert!(rt; (pid as usize) < processes);
-    let begun = kernel.begun(pid);
-    assert!(rt; begun < u64::MAX);
-    let opened = kernel.opened();
-    assert!(rt; opened < u64::MAX);
     kernel.step(pid)
 }
 
@@ -128,6 +124,25 @@ fn a_creation_is_eight_steps(rt: HostRuntime) -> Result<(), Fail> {
         &block.as_slice()[64..72],
         [2, 0, 0, 0, 0, 0, 1, 0].as_slice()
     );
+    Ok(())
+}
+
+#[test]
+fn a_run_makes_all_its_turns(rt: HostRuntime) -> Result<(), Fail> {
+    let mut kernel = sound(&rt, 1)?;
+    assert_eq!(rt; submit(&rt, &mut kernel, 0, 2), Some(1));
+    let processes = kernel.processes();
+    assert!(rt; 0 < processes);
+    assert_eq!(rt; run(&mut kernel, &[Turn::Proc(0); 8]), 8);
+    assert_eq!(rt; kernel.committed(), 1);
+    assert_eq!(rt; made(&rt, &mut kernel, 0), Some((1, 1)));
+    assert_eq!(rt; submit(&rt, &mut kernel, 0, 2), Some(2));
+    let processes = kernel.processes();
+    assert!(rt; 0 < processes);
+    assert_eq!(rt; run(&mut kernel, &[Turn::Proc(0), Turn::Shut]), 2);
+    assert_eq!(rt; steps(&rt, &mut kernel, 0), Step::Answered);
+    assert_eq!(rt; made(&rt, &mut kernel, 0), Some((2, 2)));
+    assert_eq!(rt; step(&rt, &mut kernel, 0), Step::ShutDown);
     Ok(())
 }
 

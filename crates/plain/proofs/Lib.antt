@@ -1,3 +1,4 @@
 pub mod PlacesLemmas
 pub mod NamesLemmas
 pub mod FilesLemmas
+pub mod ReplayLemmas

@@ -1,7 +1,9 @@
 // Runs of operations, and what of them is kept.
-ghost use Rattle.std.specs.Prelude.{◌≡◌, ◌==◌, ◌&&◌, nat_le, is_some, IfOk};
+ghost use Rattle.std.specs.Prelude.{◌≡◌, ◌==◌, ◌&&◌, nat_le, is_some, IfOk, OnErr, OnOk};
+ghost use Rattle.std.specs.Bool.{OnFalse};
 ghost use Rattle.model.specs.Operations.{where_true};
 ghost use Rattle.model.specs.Journal.{after_answer, answered, is_number, is_at_once, is_changing, is_making, kept, replay};
+ghost use Rattle.plain.specs.Replay.{IsOnTheWay, reached};
 
 use crate::files::Files;
 use crate::operations::{TRANSFER_LIMIT, apply, is_kind};
@@ -74,8 +76,10 @@ pub fn is_kept(inode_count: u32, entry: &Entry, c: u64) -> bool
 
 /// Makes the files those after one entry; false where it has no reply or can't have this one.
 fn replay_one(alloc: Global, form: Form, files: &mut Files, entry: &Entry) -> Result<bool, NoMemory>
-    ensures { IfOk result (λ yes. after_answer form files.old.items entry.now.op entry.now.reply
+    ensures after { IfOk result (λ yes. after_answer form files.old.items entry.now.op entry.now.reply
         ≡ where_true yes files.new.items) }
+    ensures same { IfOk result (λ yes. OnFalse yes (files.new.items ≡ files.old.items)) }
+    ensures err { OnErr result (files.new.items ≡ files.old.items) }
 {
     match &entry.reply {
         Some(reply) => apply(alloc, form, files, &entry.op, reply),
@@ -84,16 +88,18 @@ fn replay_one(alloc: Global, form: Form, files: &mut Files, entry: &Entry) -> Re
 }
 
 /// Makes the files those after the entries, one after the other; false where one of them has no
-/// reply or can't have this one. The files are then those after the entries before it, and so they
-/// are where memory is refused.
+/// reply or can't have this one. The files are then those after the entries before it. Where memory
+/// is refused, they are those after some first ones of the entries.
 pub fn replay(
     alloc: Global,
     form: Form,
     files: &mut Files,
     entries: &[Entry],
 ) -> Result<bool, NoMemory>
-    ensures { IfOk result (λ yes. replay form files.old.items entries.now
+    ensures after { IfOk result (λ yes. replay form files.old.items entries.now
         ≡ where_true yes files.new.items) }
+    ensures stop { OnOk result (files.new.items ≡ reached form files.old.items entries.now) }
+    ensures err { OnErr result (IsOnTheWay form files.old.items entries.now files.new.items) }
 {
     for entry in entries {
         if !replay_one(alloc, form, files, entry)? {
@@ -110,8 +116,10 @@ pub fn replay_answered(
     files: &mut Files,
     entries: &[Entry],
 ) -> Result<bool, NoMemory>
-    ensures { IfOk result (λ yes. replay form files.old.items (answered entries.now)
+    ensures after { IfOk result (λ yes. replay form files.old.items (answered entries.now)
         ≡ where_true yes files.new.items) }
+    ensures stop { OnOk result (files.new.items ≡ reached form files.old.items (answered entries.now)) }
+    ensures err { OnErr result (IsOnTheWay form files.old.items (answered entries.now) files.new.items) }
 {
     for entry in entries {
         if is_answered(entry) && !replay_one(alloc, form, files, entry)? {
@@ -130,8 +138,10 @@ pub fn replay_kept(
     entries: &[Entry],
     c: u64,
 ) -> Result<bool, NoMemory>
-    ensures { IfOk result (λ yes. replay form files.old.items (kept inode_count entries.now c)
+    ensures after { IfOk result (λ yes. replay form files.old.items (kept inode_count entries.now c)
         ≡ where_true yes files.new.items) }
+    ensures stop { OnOk result (files.new.items ≡ reached form files.old.items (kept inode_count entries.now c)) }
+    ensures err { OnErr result (IsOnTheWay form files.old.items (kept inode_count entries.now c) files.new.items) }
 {
     for entry in entries {
         if is_kept(inode_count, entry, c) && !replay_one(alloc, form, files, entry)? {

@@ -1,5 +1,5 @@
 -- How a refusal is told.
-use Rattle.std.specs.Prelude.{ℕ, List, [], ◌++◌, Option, Some, None, codes, decimal}
+use Rattle.std.specs.Prelude.{ℕ, ⊤, List, [], ◌++◌, Option, Some, None, codes, decimal}
 use Rattle.blocks.specs.declared.errors.FileFault.TheVariants as file
 use Rattle.layout.specs.declared.geometry.MkfsFault.TheVariants as mkfs
 use Rattle.model.specs.declared.types.CheckFault.TheVariants as check
@@ -133,3 +133,10 @@ open_refusal (open_fault.Check fault) = Check fault
 open_refusal (open_fault.Recover fault) = Recover fault
 open_refusal open_fault.NoMemory = Open kernel.NoMemory
 open_refusal open_fault.ProcRange = Open kernel.ProcRange
+
+-- the refusals that a check has: of the file, of the image, or of the output
+abbrev pub IsOfCheck : Refusal → Type 0
+IsOfCheck (File _) = ⊤
+IsOfCheck (Check _) = ⊤
+IsOfCheck Output = ⊤
+IsOfCheck _ = ⊥

@@ -2,6 +2,7 @@
 ghost use Rattle.std.specs.Prelude.{◌≡◌, ◌≢◌, ℕ, OnOk, IfErr, IsOkUnless};
 ghost use Rattle.std.specs.Io.KnownBytes.{Appends};
 ghost use Rattle.xvfs.specs.Output.{report_text};
+ghost use Rattle.xvfs.specs.Refusal.{IsOfCheck};
 ghost use Rattle.xvfs.specs.declared.refusal.Refusal.TheVariants as refusal;
 
 use crate::output::print;
@@ -26,6 +27,7 @@ pub fn check_file<R: Files + AllocGlobal, O: Write>(
 ) -> Result<(), Refusal>
     ensures printed { OnOk result ((logged files : ℕ) × Appends (O.contents out.old) (O.contents out.new) (report_text logged files)) }
     ensures silent { IfErr result (λ r. r ≢ refusal.Output → out.new ≡ out.old) }
+    ensures layers { IfErr result IsOfCheck }
 {
     let mut disk = FileDisk::open(rt, image)?;
     let report = check(rt.alloc(), &mut disk)?;

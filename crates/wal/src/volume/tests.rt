@@ -89,26 +89,27 @@ fn first_byte<D: Disk>(
     Ok(block.as_slice().first().copied())
 }
 
-#[test]
-fn a_group_of_one_block_is_four_writes(rt: HostRuntime) -> Result<(), Fail> {
-    let alloc = rt.alloc();
-    let mut volume = open(&rt, alloc, made(alloc)?)?;
+// Processes 0 to 2 open a group, and there is no room for a fourth.
+fn open_group_of_three<D: Disk>(rt: &impl Abort, volume: &mut Volume<D>) {
     for pid in 0..3 {
-        assert_eq!(rt; begin(&rt, &mut volume, pid), Began::Began(1));
+        assert_eq!(rt; begin(rt, volume, pid), Began::Began(1));
     }
-    assert_eq!(rt; begin(&rt, &mut volume, 3), Began::Sleeping(Why::LogFull));
-    change_block(&rt, &mut volume, 0, 40, 7);
-    assert_eq!(rt; volume.log().homes(), [40].as_slice());
-    assert_eq!(rt; end(&rt, &mut volume, 0), Ended::Left);
-    assert_eq!(rt; begin(&rt, &mut volume, 3), Began::Sleeping(Why::LogFull));
-    change_block(&rt, &mut volume, 1, 40, 8);
-    assert_eq!(rt; volume.log().homes(), [40].as_slice());
-    assert_eq!(rt; end(&rt, &mut volume, 1), Ended::Left);
-    assert_eq!(rt; end(&rt, &mut volume, 2), Ended::Commit);
-    assert_eq!(rt;
-        begin(&rt, &mut volume, 3),
-        Began::Sleeping(Why::Committing)
-    );
+    assert_eq!(rt; begin(rt, volume, 3), Began::Sleeping(Why::LogFull));
+}
+
+// They end, the first two after a change of block 40.
+fn close_group_of_three<D: Disk>(rt: &impl Abort, volume: &mut Volume<D>) {
+    for pid in 0..2 {
+        assert_eq!(rt; begin(rt, volume, 3), Began::Sleeping(Why::LogFull));
+        change_block(rt, volume, pid, 40, 7 + pid as u8);
+        assert_eq!(rt; volume.log().homes(), [40].as_slice());
+        assert_eq!(rt; end(rt, volume, pid), Ended::Left);
+    }
+    assert_eq!(rt; end(rt, volume, 2), Ended::Commit);
+    assert_eq!(rt; begin(rt, volume, 3), Began::Sleeping(Why::Committing));
+}
+
+fn commit_one_block<D: Disk>(rt: &impl Abort, volume: &mut Volume<D>) {
     assert_eq!(rt; volume.disk().writes(), 200);
     let steps = [
         Committed::More,
@@ -117,9 +118,18 @@ fn a_group_of_one_block_is_four_writes(rt: HostRuntime) -> Result<(), Fail> {
         Committed::Done,
     ];
     for answer in steps {
-        assert_eq!(rt; commit_step(&rt, &mut volume), answer);
+        assert_eq!(rt; commit_step(rt, volume), answer);
     }
     assert_eq!(rt; volume.disk().writes(), 204);
+}
+
+#[test]
+fn a_group_of_one_block_is_four_writes(rt: HostRuntime) -> Result<(), Fail> {
+    let alloc = rt.alloc();
+    let mut volume = open(&rt, alloc, made(alloc)?)?;
+    open_group_of_three(&rt, &mut volume);
+    close_group_of_three(&rt, &mut volume);
+    commit_one_block(&rt, &mut volume);
     assert_eq!(rt; begin(&rt, &mut volume, 3), Began::Began(2));
     assert_eq!(rt; volume.log().committed(), 1);
     assert_eq!(rt; end(&rt, &mut volume, 3), Ended::Left);

@@ -1,8 +1,8 @@
-use Rattle.std.proofs.Common.{◌≡◌, drop}
-use Rattle.model.specs.Journal.{kept, replay}
+use Rattle.std.specs.Prelude.{◌&&◌, nat_le}
+use Rattle.model.specs.Journal.{is_changing}
+use Rattle.plain.proofs.ReplayLemmas.{Run}
 use Rattle.plain.proofs.journal.replay_kept.Given as goal
 
 abbrev pub invariant-loop-entry : goal.invariant-loop-entry
 invariant-loop-entry l =
-    replay l.form l.files.items (kept l.inode_count (drop l.entry-index l.entries) l.c)
-    ≡ replay l.form l.fn.files.items (kept l.inode_count l.entries l.c)
+    Run (λ e. is_changing l.inode_count e.op && nat_le e.group l.c) l.form l.fn.files.items l.files.items l.entries l.entry-index

@@ -1,4 +1,6 @@
 use Rattle.std.proofs.Common.{rules, inr, ◌≡◌, ◌<◌, None, ◌∙◌, sym, ap, subst, length}
+use Rattle.std.specs.Prelude.{IfNone}
+use Rattle.blocks.specs.Disk.{Image}
 use Rattle.wal.specs.Machine.{LogState}
 use Rattle.wal.specs.Volume.{VolumeState}
 use Rattle.kernel.specs.declared.types.At.TheVariants as at
@@ -7,6 +9,9 @@ use Rattle.kernel.specs.State.{is_under_way_at}
 use Rattle.kernel.specs.Table.{IsTable}
 use Rattle.kernel.proofs.Commits.{where_none, if_none, if_some}
 use Rattle.kernel.proofs.Allocating.{ready_of, search_moves, search_over, search_sleeps, search_fails}
+use Rattle.kernel.specs.Keeps.{KeepsNow, Recovers}
+use Rattle.kernel.proofs.Keeping.{recovers_searched, recovers_turn, kept_of}
+use Rattle.kernel.proofs.Recovers.{keeps_now}
 use Rattle.kernel.proofs.Rooms.{rooms_busy, as_many}
 use Rattle.kernel.proofs.stepping.Kernel.allocate.Goals as goal
 
@@ -23,11 +28,18 @@ invariant_of-self g c =
     let lt : c.args.pid < length c.self.inside.processes.processes = search rules in
     let stays = search_moves (g.D.Disk.image c.self.inside.volume.device) c.self.inside.volume c.step.new.volume _ c.args.pid c.args.group c.args.search c.step.new.self c.self.inside.processes c.search.new.self
     (where_none _ well c.known.ensures) (where_none _ well c.self.invariant.table) lt stands c.in-Moved.ensures.step c.search.ensures in
+    let image = g.D.Disk.image in
+    let opening = image c.self.inside.opening.value in
+    let recovers = recovers_searched image opening c.self.inside.volume c.step.new.volume c.self.inside.processes c.search.new.self (where_none _ well c.self.invariant.recovers)
+    c.args.pid c.args.group c.step.new.self c.step.ensures.image c.in-Moved.ensures.current c.search.ensures stays.opened stays.committed in
     record {
       table = if_none _ stays.table;
       processes = c.self.invariant.processes ∙ sym (as_many c.self.inside.processes c.search.new.self c.args.pid _ (ap (λ (v : World). v.processes) c.search.ensures));
       room = rooms_busy (g.I.Intake.side c.self.inside.intake) c.self.inside.processes c.search.new.self c.args.pid _ lt (ap (λ (v : World). v.processes) c.search.ensures) (ap is_under_way_at stands) c.self.invariant.room;
       told = c.self.invariant.told ∙ sym stays.committed;
+      numbers = c.self.invariant.numbers;
+      recovers = if_none _ recovers;
+      keeps = kept_of image opening c.step.new.volume c.search.new.self.journal.list recovers;
     }
 
 pub invariant_of-self-in-Sleeping : goal.invariant_of-self-in-Sleeping
@@ -37,11 +49,16 @@ invariant_of-self-in-Sleeping g c =
     let lt : c.args.pid < length c.self.inside.processes.processes = search rules in
     let same = search_sleeps (g.D.Disk.image c.self.inside.volume.device) c.self.inside.volume c.step.new.volume c.self.inside.inode_count c.args.pid c.args.group c.args.search c.step.new.self c.self.inside.processes c.self.inside.processes
     (where_none _ well c.known.ensures) (where_none _ well c.self.invariant.table) lt stands _ c.in-Sleeping.ensures.step in
+    let image = g.D.Disk.image in
+    let opening = image c.self.inside.opening.value in
     record {
-      table = subst (λ (v : VolumeState _). Rattle.std.specs.Prelude.IfNone v.fault (IsTable v.buffers v.log c.self.inside.inode_count c.self.inside.processes)) (sym same) c.self.invariant.table;
+      table = subst (λ (v : VolumeState _). IfNone v.fault (IsTable v.buffers v.log c.self.inside.inode_count c.self.inside.processes)) (sym same) c.self.invariant.table;
       processes = c.self.invariant.processes;
       room = c.self.invariant.room;
       told = c.self.invariant.told ∙ sym (ap (λ (v : VolumeState _). v.log.committed) same);
+      numbers = c.self.invariant.numbers;
+      recovers = subst (λ (v : VolumeState _). IfNone v.fault (Recovers opening (image v.device) v.buffers v.log c.self.inside.processes.journal.list)) (sym same) c.self.invariant.recovers;
+      keeps = subst (λ (v : VolumeState _). KeepsNow v opening c.self.inside.processes.journal.list (image v.device)) (sym same) c.self.invariant.keeps;
     }
 
 pub invariant_of-self-in-Over : goal.invariant_of-self-in-Over
@@ -51,11 +68,19 @@ invariant_of-self-in-Over g c =
     let lt : c.args.pid < length c.self.inside.processes.processes = search rules in
     let stays = search_over (g.D.Disk.image c.self.inside.volume.device) c.self.inside.volume c.step.new.volume _ c.args.pid c.args.group c.args.search c.step.new.self c.self.inside.processes c.turn.new.self
     (where_none _ well c.known.ensures) (where_none _ well c.self.invariant.table) lt stands _ _ _ c.in-Over.ensures.step c.turn.ensures in
+    let image = g.D.Disk.image in
+    let opening = image c.self.inside.opening.value in
+    let recovers = recovers_turn image opening c.self.inside.volume c.step.new.volume c.self.inside.processes c.turn.new.self (where_none _ well c.self.invariant.recovers)
+    c.self.inside.inode_count c.args.pid c.args.group c.args.search c.step.new.self c.in-Over.made (where_none _ well c.known.ensures) (where_none _ well c.self.invariant.table) c.self.invariant.numbers.same stands
+    c.in-Over.ensures.step c.in-Over.ensures.claimed c.in-Over.ensures.current c.step.ensures.image stays.opened stays.committed c.turn.ensures in
     record {
       table = if_none _ stays.table;
       processes = c.self.invariant.processes ∙ sym (as_many c.self.inside.processes c.turn.new.self c.args.pid _ (ap (λ (v : World). v.processes) c.turn.ensures));
       room = rooms_busy (g.I.Intake.side c.self.inside.intake) c.self.inside.processes c.turn.new.self c.args.pid _ lt (ap (λ (v : World). v.processes) c.turn.ensures) (ap is_under_way_at stands) c.self.invariant.room;
       told = c.self.invariant.told ∙ sym stays.committed;
+      numbers = c.self.invariant.numbers;
+      recovers = if_none _ recovers;
+      keeps = kept_of image opening c.step.new.volume c.turn.new.self.journal.list recovers;
     }
 
 pub invariant_of-self-in-Fault : goal.invariant_of-self-in-Fault
@@ -65,11 +90,17 @@ invariant_of-self-in-Fault g c =
     let lt : c.args.pid < length c.self.inside.processes.processes = search rules in
     let same = search_fails (g.D.Disk.image c.self.inside.volume.device) c.self.inside.volume c.step.new.volume c.self.inside.inode_count c.args.pid c.args.group c.args.search c.step.new.self c.self.inside.processes c.self.inside.processes
     (where_none _ well c.known.ensures) (where_none _ well c.self.invariant.table) lt stands _ c.in-Fault.ensures.step in
+    let image = g.D.Disk.image in
+    let opening = image c.self.inside.opening.value in
     record {
       table = if_some _ _ _ c.in-Fault.ensures.fault;
       processes = c.self.invariant.processes;
       room = c.self.invariant.room;
       told = c.self.invariant.told ∙ sym (ap (λ (l : LogState). l.committed) same);
+      numbers = c.self.invariant.numbers;
+      recovers = if_some _ _ _ c.in-Fault.ensures.fault;
+      keeps = subst (λ (x : Image). KeepsNow c.step.new.volume opening c.self.inside.processes.journal.list x) (sym c.step.ensures.image)
+          (keeps_now c.step.new.volume c.self.inside.volume.log opening (image c.self.inside.volume.device) c.self.inside.volume.buffers c.self.inside.processes.journal.list (ap (λ (l : LogState). l.committed) same) (where_none _ well c.self.invariant.recovers));
     }
 
 pub returns-in-Over-clause-next : goal.returns-in-Over-clause-next

@@ -1,9 +1,11 @@
-use Rattle.std.proofs.Common.{rules, ◌≡◌, ◌<◌, None, ◌∙◌, sym, ap, length}
+use Rattle.std.proofs.Common.{rules, ◌≡◌, ◌<◌, None, ◌∙◌, sym, ap, subst, length}
 use Rattle.wal.specs.Volume.{VolumeState}
 use Rattle.kernel.specs.declared.types.At.TheVariants as at
-use Rattle.kernel.specs.Processes.{process, with_place}
+use Rattle.kernel.specs.Keeps.{KeepsNow}
+use Rattle.kernel.specs.Processes.{World, process, with_place}
 use Rattle.kernel.proofs.Commits.{where_none, if_none}
-use Rattle.kernel.proofs.Beginnings.{table_created, created_processes, others_twice, rooms_begun}
+use Rattle.kernel.proofs.Beginnings.{begins_fit, table_created, created_processes, others_twice, rooms_begun}
+use Rattle.kernel.proofs.Keeping.{recovers_created, kept_of}
 use Rattle.kernel.proofs.Rooms.{as_many}
 use Rattle.kernel.proofs.stepping.Kernel.create.Goals as goal
 
@@ -14,6 +16,10 @@ invariant_of-self-2 g c =
     let stands : (process c.self.inside.processes c.args.pid).at ≡ at.Idle = search rules in
     let kept : c.reserve.new.self ≡ with_place c.self.inside.processes = search rules in
     let is = created_processes c.args.pid c.open_group-group.result c.new-search.result c.self.inside.processes c.reserve.new.self c.create.new.self kept c.create.ensures in
+    let image = g.D.Disk.image in
+    let opening = image c.self.inside.opening.value in
+    let recovers = recovers_created image opening c.self.inside.volume c.open_group-group.new.volume c.self.inside.processes c.create.new.self (where_none _ well c.self.invariant.recovers)
+    c.args.pid c.open_group-group.result c.new-search.result c.reserve.new.self c.open_group-group.ensures.volume kept c.create.ensures in
     record {
       table = if_none _ (table_created c.self.inside.volume c.open_group-group.new.volume c.self.inside.inode_count c.args.pid c.args.kind c.open_group-group.result c.new-search.result c.self.inside.processes c.reserve.new.self c.create.new.self
           (where_none _ well c.self.invariant.table) (where_none _ well c.known.ensures).log lt stands (search rules) c.requires.kind c.open_group-group.ensures.volume c.open_group-group.ensures.group c.new-search.ensures kept c.create.ensures);
@@ -22,4 +28,55 @@ invariant_of-self-2 g c =
           (others_twice (g.I.Intake.side c.self.inside.intake) (g.I.Intake.side c.room.new.self) (g.I.Intake.side c.take-taken.new.self) c.args.pid c.room.ensures.others c.take-taken.ensures.others)
           (λ e. c.take-taken.ensures.room ∙ c.room.ensures.room ∙ search rules) c.self.invariant.room;
       told = c.self.invariant.told ∙ sym (ap (λ (v : VolumeState _). v.log.committed) c.open_group-group.ensures.volume);
+      numbers = c.self.invariant.numbers;
+      recovers = if_none _ recovers;
+      keeps = kept_of image opening c.open_group-group.new.volume c.create.new.self.journal.list recovers;
     }
+
+pub invariant_of-self : goal.invariant_of-self
+invariant_of-self g c = record {
+  numbers = c.self.invariant.numbers;
+  table = search rules;
+  processes = search rules;
+  room = search rules;
+  told = search rules;
+  recovers = search rules;
+  keeps = search rules;
+}
+
+pub invariant_of-self-in-Some : goal.invariant_of-self-in-Some
+invariant_of-self-in-Some g c = record {
+  numbers = c.self.invariant.numbers;
+  table = search rules;
+  processes = search rules;
+  room = search rules;
+  told = search rules;
+  recovers = search rules;
+  keeps = search rules;
+}
+
+pub invariant_of-self-then-is_err : goal.invariant_of-self-then-is_err
+invariant_of-self-then-is_err g c = record {
+  numbers = c.self.invariant.numbers;
+  table = search rules;
+  processes = search rules;
+  room = search rules;
+  told = search rules;
+  recovers = search rules;
+  keeps = let same : c.reserve.new.self ≡ c.self.inside.processes = search rules in
+      subst (λ (w : World). KeepsNow c.self.inside.volume (g.D.Disk.image c.self.inside.opening.value) w.journal.list (g.D.Disk.image c.self.inside.volume.device)) (sym same) c.self.invariant.keeps;
+}
+
+pub create-requires-clause-begun : goal.create-requires-clause-begun
+create-requires-clause-begun g c =
+    let well : c.self.inside.volume.fault ≡ None = search rules in
+    let stands : (process c.self.inside.processes c.args.pid).at ≡ at.Idle = search rules in
+    let kept : c.reserve.new.self ≡ with_place c.self.inside.processes = search rules in
+    (begins_fit _ _ _ c.args.pid c.self.inside.processes c.reserve.new.self (where_none _ well c.self.invariant.table) stands kept c.known-2.ensures).0
+
+pub open_group-group-requires-clause-opened : goal.open_group-group-requires-clause-opened
+open_group-group-requires-clause-opened g c =
+    let well : c.self.inside.volume.fault ≡ None = search rules in
+    let stands : (process c.self.inside.processes c.args.pid).at ≡ at.Idle = search rules in
+    let kept : c.reserve.new.self ≡ with_place c.self.inside.processes = search rules in
+    (begins_fit _ _ _ c.args.pid c.self.inside.processes c.reserve.new.self (where_none _ well c.self.invariant.table) stands kept c.known-2.ensures).1

@@ -2,6 +2,7 @@ use Rattle.std.proofs.Common.{rules, ◌≡◌, ◌<◌, ◌+◌, ℕ, inl, inr,
 use Rattle.kernel.specs.Processes.{World}
 use Rattle.kernel.proofs.Commits.{where_none, if_none}
 use Rattle.kernel.proofs.Ends.{table_end_commits, table_end_left, committed_before, committed_one_more}
+use Rattle.kernel.proofs.Keeping.{recovers_ended, kept_of}
 use Rattle.kernel.proofs.Rooms.{rooms_answered, rooms_busy, as_many}
 use Rattle.kernel.proofs.stepping.Kernel.end.Goals as goal
 
@@ -11,11 +12,18 @@ invariant_of-self g c =
     let lt : c.args.pid < length c.self.inside.processes.processes = search rules in
     let table = where_none _ well c.self.invariant.table in
     let is = (where_none _ well c.known.ensures).log in
+    let image = g.D.Disk.image in
+    let opening = image c.self.inside.opening.value in
+    let recovers = recovers_ended image opening c.self.inside.volume c.end.new.self c.self.inside.processes c.commit.new.self (where_none _ well c.self.invariant.recovers)
+    c.args.pid (where_none _ well c.known.ensures) (search rules) c.end.ensures.volume (ap (λ (v : World). v.journal.list) c.commit.ensures) in
     record {
       table = if_none _ (table_end_commits c.self.inside.volume c.end.new.self _ c.args.pid _ _ table is lt (search rules) c.end.ensures.volume c.in-Commit.ensures.answer c.commit.ensures);
       processes = c.self.invariant.processes ∙ sym (as_many c.self.inside.processes c.commit.new.self c.args.pid _ (ap (λ (v : World). v.processes) c.commit.ensures));
       room = rooms_busy (g.I.Intake.side c.self.inside.intake) c.self.inside.processes c.commit.new.self c.args.pid _ lt (ap (λ (v : World). v.processes) c.commit.ensures) (search rules) c.self.invariant.room;
       told = c.self.invariant.told ∙ sym (committed_before c.self.inside.volume c.end.new.self _ c.args.pid _ c.self.inside.processes table is lt (search rules) c.end.ensures.volume c.in-Commit.ensures.answer);
+      numbers = c.self.invariant.numbers;
+      recovers = if_none _ recovers;
+      keeps = kept_of image opening c.end.new.self c.commit.new.self.journal.list recovers;
     }
 
 pub tell-requires-clause-one : goal.tell-requires-clause-one
@@ -37,9 +45,16 @@ invariant_of-self-in-Left g c =
     let is = (where_none _ well c.known.ensures).log in
     let now : c.committed.result ≡ c.end.new.self.log.committed = search rules in
     let goes = c.give.ensures.processes in
+    let image = g.D.Disk.image in
+    let opening = image c.self.inside.opening.value in
+    let recovers = recovers_ended image opening c.self.inside.volume c.end.new.self c.self.inside.processes c.give.new.processes (where_none _ well c.self.invariant.recovers)
+    c.args.pid (where_none _ well c.known.ensures) (search rules) c.end.ensures.volume (ap (λ (v : World). v.journal.list) goes) in
     record {
       table = if_none _ (table_end_left c.self.inside.volume c.end.new.self _ c.args.pid _ _ table is lt (search rules) c.end.ensures.volume goes);
       processes = c.give.ensures.served ∙ c.self.invariant.processes ∙ sym (as_many c.self.inside.processes c.give.new.processes c.args.pid _ (ap (λ (v : World). v.processes) goes));
       room = rooms_answered (g.I.Intake.side c.self.inside.intake) (g.I.Intake.side c.give.new.intake) c.self.inside.processes _ c.args.pid lt goes c.give.ensures.others c.self.invariant.room;
       told = c.tell.ensures.count ∙ now;
+      numbers = c.self.invariant.numbers;
+      recovers = if_none _ recovers;
+      keeps = kept_of image opening c.end.new.self c.give.new.processes.journal.list recovers;
     }

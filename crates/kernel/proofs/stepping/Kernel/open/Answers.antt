@@ -1,12 +1,14 @@
 use Rattle.std.proofs.Common.{rules, ◌≡◌, ◌≤◌, ℕ, ◌∙◌, sym, ap, subst, length}
 use Rattle.blocks.specs.Disk.{Image, LeavesOnly}
 use Rattle.model.specs.Layout.{is_lawful_super}
+use Rattle.model.specs.Log.{recovered}
 use Rattle.model.proofs.LogLemmas.{length-recovered}
 use Rattle.wal.specs.Machine.{new_log}
 use Rattle.wal.specs.Recovery.{RecoversAs}
 use Rattle.wal.specs.Volume.{VolumeState}
 use Rattle.kernel.proofs.Commits.{if_none}
-use Rattle.kernel.proofs.Openings.{lawful_super, super_size, lawful_here, recover_cause, opened_leaves, opened_table, opened_count, opened_rooms, volume_same}
+use Rattle.kernel.proofs.Openings.{lawful_super, super_size, lawful_here, recover_cause, opened_leaves, opened_table, opened_count, opened_rooms, opened_numbers, opened_recovers, volume_same}
+use Rattle.kernel.proofs.Keeping.{kept_of}
 use Rattle.kernel.proofs.stepping.Kernel.open.Goals as goal
 
 pub take_memory-requires : goal.take_memory-requires
@@ -35,11 +37,19 @@ invariant_of-result g c =
     let size : length (g.D.Disk.image c.recover.new.disk) ≡ length x = ap (λ (y : Image). length y) c.in_default-recover.ensures.image ∙ length-recovered (g.D.Disk.image c.check.new.disk) ∙ ap (λ (y : Image). length y) c.check.ensures.reads.same in
     let few : c.args.processes ≤ 32 = search rules in
     let new = c.in-Ok-take_memory.ensures.processes in
+    let image = g.D.Disk.image in
+    let opening = image c.of-opening.result.value in
+    let left : image c.recover.new.disk ≡ recovered x = c.in_default-recover.ensures.image ∙ ap recovered c.check.ensures.reads.same in
+    let same : opening ≡ image c.recover.new.disk = ap image c.of-opening.ensures in
+    let recovers = opened_recovers image c.open.result c.recover.new.disk x opening (length (image c.recover.new.disk)) c.args.processes c.in-Ok-take_memory.memory.processes c.open.ensures.volume new c.in-Ok.ensures.ok left same in
     record {
       table = if_none _ (opened_table c.open.result c.recover.new.disk x c.in-Ok.report.sup (length (g.D.Disk.image c.recover.new.disk)) c.args.processes c.in-Ok-take_memory.memory.processes c.open.ensures.volume size new c.in-Ok.ensures.ok c.in-Ok.ensures.report.sup few);
       processes = c.requires.served ∙ sym (opened_count c.args.processes c.in-Ok-take_memory.memory.processes new);
       room = opened_rooms c.args.processes c.in-Ok-take_memory.memory.processes (λ p. (g.I.Intake.side c.args.intake p).has_room) new;
       told = c.requires.told ∙ sym (ap (λ (v : VolumeState _). v.log.committed) c.open.ensures.volume);
+      numbers = opened_numbers x opening c.in-Ok.report.sup c.in-Ok.ensures.ok c.in-Ok.ensures.report.sup (same ∙ left);
+      recovers = if_none _ recovers;
+      keeps = kept_of image opening c.open.result c.in-Ok-take_memory.memory.processes.journal.list recovers;
     }
 
 pub returns-clause-volume : goal.returns-clause-volume

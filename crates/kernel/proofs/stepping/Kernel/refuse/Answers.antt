@@ -1,10 +1,12 @@
-use Rattle.std.proofs.Common.{rules, ◌≡◌, ◌<◌, None, ◌∙◌, sym, ap, length}
+use Rattle.std.proofs.Common.{rules, refl, ◌≡◌, ◌<◌, None, ◌∙◌, sym, ap, subst, length}
 use Rattle.std.proofs.lemmas.Bool.{false≢true}
 use Rattle.kernel.specs.declared.types.At.TheVariants as at
-use Rattle.kernel.specs.Processes.{process, with_place}
+use Rattle.kernel.specs.Keeps.{KeepsNow}
+use Rattle.kernel.specs.Processes.{World, process, with_place}
 use Rattle.kernel.specs.State.{is_under_way_at}
 use Rattle.kernel.proofs.Commits.{where_none, if_none}
-use Rattle.kernel.proofs.Beginnings.{table_refused, refused_processes, others_twice, rooms_begun}
+use Rattle.kernel.proofs.Beginnings.{begins_fit, table_refused, refused_processes, others_twice, rooms_begun}
+use Rattle.kernel.proofs.Keeping.{recovers_refused, kept_of}
 use Rattle.kernel.proofs.Rooms.{as_many}
 use Rattle.kernel.proofs.stepping.Kernel.refuse.Goals as goal
 
@@ -16,6 +18,10 @@ invariant_of-self-2 g c =
     let kept : c.reserve.new.self ≡ with_place c.self.inside.processes = search rules in
     let is = refused_processes c.args.pid c.in-Some.op c.self.inside.processes c.reserve.new.self c.refuse-answer.new.self kept c.refuse-answer.ensures.processes in
     let side = g.I.Intake.side in
+    let image = g.D.Disk.image in
+    let opening = image c.self.inside.opening.value in
+    let recovers = recovers_refused image opening c.self.inside.volume c.self.inside.volume c.self.inside.processes c.refuse-answer.new.self (where_none _ well c.self.invariant.recovers)
+    c.args.pid c.in-Some.op c.reserve.new.self refl kept c.refuse-answer.ensures.processes (search rules) in
     record {
       table = if_none _ (table_refused c.self.inside.volume c.self.inside.inode_count c.args.pid c.in-Some.op c.self.inside.processes c.reserve.new.self c.refuse-answer.new.self (where_none _ well c.self.invariant.table) lt stands kept c.refuse-answer.ensures.processes);
       processes = c.answer.ensures.processes ∙ c.take.ensures.processes ∙ c.room.ensures.processes ∙ c.self.invariant.processes ∙ sym (as_many c.self.inside.processes c.refuse-answer.new.self c.args.pid _ is);
@@ -24,4 +30,26 @@ invariant_of-self-2 g c =
           (others_twice (side c.self.inside.intake) (side c.room.new.self) (side c.take.new.self) c.args.pid c.room.ensures.others c.take.ensures.others) c.answer.ensures.others)
           (λ e. absurd (false≢true (sym (ap is_under_way_at stands) ∙ e))) c.self.invariant.room;
       told = c.self.invariant.told;
+      numbers = c.self.invariant.numbers;
+      recovers = if_none _ recovers;
+      keeps = kept_of image opening c.self.inside.volume c.refuse-answer.new.self.journal.list recovers;
     }
+
+pub invariant_of-self-then-is_err : goal.invariant_of-self-then-is_err
+invariant_of-self-then-is_err g c = record {
+  numbers = c.self.invariant.numbers;
+  table = search rules;
+  processes = search rules;
+  room = search rules;
+  told = search rules;
+  recovers = search rules;
+  keeps = let same : c.reserve.new.self ≡ c.self.inside.processes = search rules in
+      subst (λ (w : World). KeepsNow c.self.inside.volume (g.D.Disk.image c.self.inside.opening.value) w.journal.list (g.D.Disk.image c.self.inside.volume.device)) (sym same) c.self.invariant.keeps;
+}
+
+pub refuse-answer-requires-clause-begun : goal.refuse-answer-requires-clause-begun
+refuse-answer-requires-clause-begun g c =
+    let well : c.self.inside.volume.fault ≡ None = search rules in
+    let stands : (process c.self.inside.processes c.args.pid).at ≡ at.Idle = search rules in
+    let kept : c.reserve.new.self ≡ with_place c.self.inside.processes = search rules in
+    (begins_fit _ _ _ c.args.pid c.self.inside.processes c.reserve.new.self (where_none _ well c.self.invariant.table) stands kept c.known.ensures).0

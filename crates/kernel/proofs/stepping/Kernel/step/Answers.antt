@@ -1,0 +1,23 @@
+use Rattle.std.proofs.Common.{subst, sym}
+use Rattle.blocks.specs.Disk.{Image, LeavesOnly}
+use Rattle.model.specs.Layout.{inode_count_of}
+use Rattle.kernel.specs.Keeps.{KeepsBetween, most_of}
+use Rattle.kernel.proofs.Growing.{leaves_between}
+use Rattle.kernel.proofs.Progressing.{state_goes}
+use Rattle.kernel.proofs.stepping.Kernel.step.Goals as goal
+
+pub returns-clause-grows : goal.returns-clause-grows
+returns-clause-grows g c = (state_goes g.D.Disk.image _ c.args.self.now c.go_on-answer.new.self (inode_count_of (g.D.Disk.image c.args.self.now.opening)) c.args.pid _ _ _ c.go_on-answer.result c.self.view_is c.known-2.ensures c.self.invariant.table c.requires.pid c.go_on-answer.ensures.next).0
+
+pub returns-clause-processes : goal.returns-clause-processes
+returns-clause-processes g c = (state_goes g.D.Disk.image _ c.args.self.now c.go_on-answer.new.self (inode_count_of (g.D.Disk.image c.args.self.now.opening)) c.args.pid _ _ _ c.go_on-answer.result c.self.view_is c.known-2.ensures c.self.invariant.table c.requires.pid c.go_on-answer.ensures.next).1
+
+pub returns-clause-leaves : goal.returns-clause-leaves
+returns-clause-leaves g c =
+    let image = g.D.Disk.image in
+    let k = c.args.self.now in
+    let new = c.go_on-answer.new.self in
+    subst (λ d. LeavesOnly g.D.Disk.moment g.D.Disk.leaves k.volume.device new.volume.device (KeepsBetween k.volume.log.committed (most_of new.volume) (image d) new.world.journal.list)) (sym c.go_on-answer.ensures.opening)
+    (leaves_between (image k.opening) k.volume new.volume k.world.journal.list new.world.journal.list (returns-clause-grows g c) g.D.Disk.moment g.D.Disk.leaves c.known.ensures.keeps
+    (subst (λ d. (x : Image) → g.D.Disk.leaves new.volume.device (g.D.Disk.moment new.volume.device) x → KeepsBetween new.volume.log.committed (most_of new.volume) (image d) new.world.journal.list x) c.go_on-answer.ensures.opening c.known-3.ensures.keeps)
+    c.go_on-answer.ensures.time)

@@ -1,0 +1,21 @@
+use Rattle.std.proofs.Common.{sym, ◌∙◌, ap}
+use Rattle.std.specs.Prelude.{◌&&◌, nat_le}
+use Rattle.model.specs.Journal.{is_changing}
+use Rattle.model.specs.Operations.{where_true}
+use Rattle.plain.proofs.ReplayLemmas.{run_taken, run_passed, run_on_the_way}
+use Rattle.plain.proofs.journal.replay_kept.Goals.{else-is_kept-via-then-is_kept+in_ok-replay_one+else-not-branch, else-is_kept-via-else-is_kept}
+use Rattle.plain.proofs.journal.replay_kept.Goals as goal
+
+pub returns-in_err-replay_one-clause-err : goal.returns-in_err-replay_one-clause-err
+returns-in_err-replay_one-clause-err c =
+    run_on_the_way (λ e. is_changing c.args.inode_count e.op && nat_le e.group c.args.c) c.args.form c.args.files.now.items c.loop-entry.files.items c.replay_one.new.files.items c.args.entries.now c.loop-entry.entry-index c.from_residual.result
+    c.loop-entry.invariant c.in_err-replay_one.ensures.err
+
+pub loop-entry-preserved : goal.loop-entry-preserved
+loop-entry-preserved c =
+    elim c.else-is_kept.branch [
+      | else-is_kept-via-then-is_kept+in_ok-replay_one+else-not-branch w ↦
+          rw w.files-is (run_taken (λ e. is_changing c.args.inode_count e.op && nat_le e.group c.args.c) c.args.form c.args.files.now.items c.loop-entry.files.items w.replay_one.new.files.items c.args.entries.now c.loop-entry.entry-index c.entry-item.result c.loop-entry.invariant c.loop-entry-test.true c.entry-item.is (sym c.is_kept.ensures ∙ w.if-is_kept.true) (w.in_ok-replay_one.ensures.after ∙ ap (λ yes. where_true yes w.replay_one.new.files.items) w.if-not-branch.false))
+      | else-is_kept-via-else-is_kept w ↦
+          rw w.files-is (run_passed (λ e. is_changing c.args.inode_count e.op && nat_le e.group c.args.c) c.args.form c.args.files.now.items c.loop-entry.files.items c.args.entries.now c.loop-entry.entry-index c.entry-item.result c.loop-entry.invariant c.loop-entry-test.true c.entry-item.is (sym c.is_kept.ensures ∙ w.if-is_kept.false))
+    ]
