@@ -16,3 +16,4 @@ pub mod Keeping
 pub mod Growing
 pub mod Progressing
 pub mod Turns
+pub mod Taking

@@ -27,6 +27,8 @@ use Rattle.wal.specs.declared.faults.RecoverFault.TheVariants as recover
 use Rattle.kernel.specs.declared.types.Process.{Process}
 use Rattle.kernel.specs.Opening.{IsRecoverCause}
 use Rattle.kernel.specs.Processes.{World, process, idle, fresh}
+use Rattle.ports.specs.History.{History, fresh as nothing_yet}
+use Rattle.kernel.specs.Histories.{pending_at, owed_at, HasHistory}
 use Rattle.kernel.specs.Keeps.{HasFilesAfter, cleared, Recovers}
 use Rattle.kernel.specs.State.{HasNumbers, is_under_way_at}
 use Rattle.kernel.specs.Table.{Stands, IsTable, is_committing_at, is_searching_at}
@@ -140,3 +142,15 @@ opened_recovers image v d x y size n w is new none left same =
 
     empty : logged_count (image d) ≡ 0
     empty = ap logged_count left ∙ logged_count-left x
+
+-- nothing was taken, and nothing given
+pub opened_histories : (fits : ℕ → History → Type 0) (n : ℕ) (w : World) → w ≡ fresh n → ((p : ℕ) → fits p nothing_yet) → (p : ℕ) → HasHistory fits w p
+opened_histories fits n w is fit p = subst (λ (o : World). HasHistory fits o p) (sym is) (record {
+  history = nothing_yet;
+  is = record {
+    taken = sym (ap (λ (q : Process). pending_at q.at) (idle_at n p));
+    given = ap (λ (q : Process). owed_at q.at q) (idle_at n p);
+    begun = ap (λ (q : Process). q.begun) (idle_at n p);
+  };
+  fit = fit p;
+})

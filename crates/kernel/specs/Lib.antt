@@ -6,3 +6,4 @@ pub mod Opening
 pub mod Next
 pub mod Keeps
 pub mod Runs
+pub mod Histories

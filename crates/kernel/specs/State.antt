@@ -8,12 +8,13 @@ use Rattle.model.specs.Operations.{is_kind}
 use Rattle.kernel.specs.declared.stepping.Waiting.{Waiting}
 use Rattle.kernel.specs.declared.stepping.Waiting.TheVariants as waiting
 use Rattle.wal.specs.Volume.{VolumeState}
-use Rattle.ports.specs.History.{Side}
+use Rattle.ports.specs.History.{Side, History}
 use Rattle.kernel.specs.declared.types.At.{At}
 use Rattle.kernel.specs.declared.types.At.TheVariants as at
 use Rattle.kernel.specs.Processes.{World, process}
 use Rattle.kernel.specs.Table.{IsTable}
 use Rattle.kernel.specs.Keeps.{KeepsNow, Recovers}
+use Rattle.kernel.specs.Histories.{HasHistory}
 
 pub record State (D I H : Type 0) : Type 0 where
   pub volume : VolumeState D
@@ -51,7 +52,7 @@ pub record HasNumbers (n : ℕ) (x : Image) : Type 0 where
   pub same : n ≡ inode_count_of x
 
 -- What is true of every kernel, between two steps.
-pub record Inv {D I H : Type 0} (image : D → Image) (process_count : I → ℕ) (side : I → ℕ → Side) (count : H → ℕ) (k : State D I H) : Type 0 where
+pub record Inv {D I H : Type 0} (image : D → Image) (process_count : I → ℕ) (side : I → ℕ → Side) (fits : I → ℕ → History → Type 0) (count : H → ℕ) (k : State D I H) : Type 0 where
   pub numbers : HasNumbers k.inode_count (image k.opening)
   pub table : IfNone k.volume.fault (IsTable k.volume.buffers k.volume.log k.inode_count k.world)
   pub processes : process_count k.intake ≡ length k.world.processes
@@ -62,3 +63,5 @@ pub record Inv {D I H : Type 0} (image : D → Image) (process_count : I → ℕ
   -- what recovery gives now, and has to go on from
   pub recovers : IfNone k.volume.fault (Recovers (image k.opening) (image k.volume.device) k.volume.buffers k.volume.log k.world.journal.list)
   pub keeps : KeepsNow k.volume (image k.opening) k.world.journal.list (image k.volume.device)
+  -- the intake agrees with what the journal tells of each process
+  pub histories : (p : ℕ) → HasHistory (fits k.intake) k.world p

@@ -1,5 +1,5 @@
 // Opening a kernel, and what may be asked of it between two steps.
-ghost use Rattle.std.specs.Prelude.{◌≡◌, ◌≤◌, ◌<◌, true, length, None, IfOk, IfErr, IsTrue};
+ghost use Rattle.std.specs.Prelude.{◌≡◌, ◌≤◌, ℕ, ◌<◌, true, length, None, IfOk, IfErr, IsTrue};
 ghost use Rattle.blocks.specs.Disk.{LeavesOnly};
 ghost use Rattle.model.specs.Layout.{inode_count_of, is_lawful_super};
 ghost use Rattle.model.specs.Log.{recovered};
@@ -9,6 +9,7 @@ ghost use Rattle.wal.specs.Machine.{new_log};
 ghost use Rattle.wal.specs.Recovery.{RecoversAs};
 ghost use Rattle.kernel.specs.Processes.{fresh, process};
 ghost use Rattle.kernel.specs.Opening.{Refuses};
+ghost use Rattle.ports.specs.History.{fresh as nothing_yet};
 
 use crate::stepping::Kernel;
 use crate::{OpenFault, Processes};
@@ -45,8 +46,8 @@ fn take_memory(alloc: Global, sup: &Super, processes: u32) -> Result<Memory, NoM
 
 impl<D: Disk, I: Intake, H: Herald> Kernel<D, I, H> {
     /// A kernel of so many processes over the image of a disk: checks the image, takes the kernel's
-    /// memory, and recovers the image. The intake serves these processes, and the herald was told of
-    /// no group.
+    /// memory, and recovers the image. The intake serves these processes and nothing was taken of it,
+    /// and the herald was told of no group.
     ///
     /// # Errors
     ///
@@ -62,6 +63,7 @@ impl<D: Disk, I: Intake, H: Herald> Kernel<D, I, H> {
     ) -> Result<Kernel<D, I, H>, (OpenFault, D)>
         requires served { I.process_count intake ≡ processes }
         requires told { H.count herald ≡ 0 }
+        requires fits { (p : ℕ) → I.fits intake p nothing_yet }
         ensures sound { IfOk result (λ k. verdict (D.image disk) ≡ None) }
         ensures opening { IfOk result (λ k. D.image k.opening ≡ recovered (D.image disk)) }
         ensures volume { IfOk result (λ k. k.volume ≡ record { device = k.opening; buffers = fresh_buffers; log = new_log (length (D.image disk)); fault = None }) }

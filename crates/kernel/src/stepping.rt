@@ -32,7 +32,7 @@ impl<D: Disk, I: Intake, H: Herald> Model for Kernel<D, I, H> {
 
     ghost view = { λ k. record { volume = k.volume; opening = k.opening.value; intake = k.intake; herald = k.herald; world = k.processes; inode_count = k.inode_count } };
 
-    ghost invariant = { λ k. Inv D.image I.process_count I.side H.count (record { volume = k.volume; opening = k.opening.value; intake = k.intake; herald = k.herald; world = k.processes; inode_count = k.inode_count }) };
+    ghost invariant = { λ k. Inv D.image I.process_count I.side I.fits H.count (record { volume = k.volume; opening = k.opening.value; intake = k.intake; herald = k.herald; world = k.processes; inode_count = k.inode_count }) };
 }
 
 // What waits for a process.
@@ -63,7 +63,7 @@ fn waiting_of(op: &Op) -> Waiting
 }
 
 impl<D: Disk, I: Intake, H: Herald> Kernel<D, I, H> {
-    ghost use Rattle.std.specs.Prelude.{◌≡◌, ◌⊎◌, ◌<◌, ◌↔◌, ◌≢◌, length, Some, None, IsSome, IsTrue, IfNone, true, false};
+    ghost use Rattle.std.specs.Prelude.{◌≡◌, ◌⊎◌, ◌<◌, ◌↔◌, ℕ, ◌≢◌, length, Some, None, IsSome, IsTrue, IfNone, true, false};
     ghost use mathlib.Core.List.{IsPrefix};
     ghost use Rattle.std.specs.Option.{option_map};
     ghost use Rattle.blocks.specs.Disk.{Image, Elapses, LeavesOnly};
@@ -71,6 +71,7 @@ impl<D: Disk, I: Intake, H: Herald> Kernel<D, I, H> {
     ghost use Rattle.model.specs.Operations.{is_kind};
     ghost use Rattle.model.specs.Journal.{kept};
     ghost use Rattle.wal.specs.Joint.{seen};
+    ghost use Rattle.kernel.specs.Histories.{HasHistory};
     ghost use Rattle.kernel.specs.Keeps.{HasFilesAfter, cleared, KeepsNow, KeepsBetween, Grows, most_of};
     ghost use Rattle.ports.specs.History.{first_in};
     ghost use Rattle.kernel.specs.State.{waiting_of, Stays};
@@ -84,9 +85,11 @@ impl<D: Disk, I: Intake, H: Herald> Kernel<D, I, H> {
     /// files are the opening ones after the changing operations of the committed groups, in the
     /// order of the journal; after a fault in the write of a header, of those or of one group more.
     /// While the disk has not failed, the current image has the files after all of the journal.
+    /// What was taken of a process, and given to it, is what the journal's entries of it say.
     pub fn known(&self)
         ensures keeps { (x : Image) → D.leaves self.now.volume.device (D.moment self.now.volume.device) x → KeepsNow self.now.volume (D.image self.now.opening) self.now.world.journal.list x }
         ensures current { IfNone self.now.volume.fault (HasFilesAfter (D.image self.now.opening) (kept (inode_count_of (D.image self.now.opening)) self.now.world.journal.list self.now.volume.log.opened) (cleared (seen (D.image self.now.volume.device) self.now.volume.buffers))) }
+        ensures histories { (p : ℕ) → HasHistory (I.fits self.now.intake) self.now.world p }
     {
         let _ = &self.volume;
     }

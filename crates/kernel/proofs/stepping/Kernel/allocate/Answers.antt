@@ -1,6 +1,7 @@
-use Rattle.std.proofs.Common.{rules, inr, ◌≡◌, ◌<◌, None, ◌∙◌, sym, ap, subst, length}
+use Rattle.std.proofs.Common.{rules, refl, ℕ, [], ◌∷◌, inr, ◌≡◌, ◌<◌, None, ◌∙◌, sym, ap, subst, length}
 use Rattle.std.specs.Prelude.{IfNone}
 use Rattle.blocks.specs.Disk.{Image}
+use Rattle.wal.specs.Joint.{seen}
 use Rattle.wal.specs.Machine.{LogState}
 use Rattle.wal.specs.Volume.{VolumeState}
 use Rattle.kernel.specs.declared.types.At.TheVariants as at
@@ -12,6 +13,10 @@ use Rattle.kernel.proofs.Allocating.{ready_of, search_moves, search_over, search
 use Rattle.kernel.specs.Keeps.{KeepsNow, Recovers}
 use Rattle.kernel.proofs.Keeping.{recovers_searched, recovers_turn, kept_of}
 use Rattle.kernel.proofs.Recovers.{keeps_now}
+use Rattle.model.specs.declared.types.Op.TheVariants.{Create}
+use Rattle.kernel.specs.declared.types.At.{At}
+use Rattle.kernel.specs.Histories.{pending_at, owed_at}
+use Rattle.kernel.proofs.Taking.{histories_move, histories_turn, fit_same, search_kind}
 use Rattle.kernel.proofs.Rooms.{rooms_busy, as_many}
 use Rattle.kernel.proofs.stepping.Kernel.allocate.Goals as goal
 
@@ -28,6 +33,7 @@ invariant_of-self g c =
     let lt : c.args.pid < length c.self.inside.processes.processes = search rules in
     let stays = search_moves (g.D.Disk.image c.self.inside.volume.device) c.self.inside.volume c.step.new.volume _ c.args.pid c.args.group c.args.search c.step.new.self c.self.inside.processes c.search.new.self
     (where_none _ well c.known.ensures) (where_none _ well c.self.invariant.table) lt stands c.in-Moved.ensures.step c.search.ensures in
+    let fits = g.I.Intake.fits in
     let image = g.D.Disk.image in
     let opening = image c.self.inside.opening.value in
     let recovers = recovers_searched image opening c.self.inside.volume c.step.new.volume c.self.inside.processes c.search.new.self (where_none _ well c.self.invariant.recovers)
@@ -40,6 +46,8 @@ invariant_of-self g c =
       numbers = c.self.invariant.numbers;
       recovers = if_none _ recovers;
       keeps = kept_of image opening c.step.new.volume c.search.new.self.journal.list recovers;
+      histories = histories_move (fits c.self.inside.intake) (fits c.self.inside.intake) c.self.inside.processes c.search.new.self c.args.pid _ lt (ap (λ (v : World). v.processes) c.search.ensures) (ap (λ (v : World). v.journal.list) c.search.ensures)
+          (ap (λ (n : ℕ). Create n ∷ []) (search_kind (image c.self.inside.volume.device) (seen (image c.self.inside.volume.device) c.self.inside.volume.buffers) c.self.inside.volume c.step.new.volume c.args.pid c.args.search c.step.new.self c.in-Moved.ensures.step) ∙ sym (ap pending_at stands)) (sym (ap (λ (a : At). owed_at a (process c.self.inside.processes c.args.pid)) stands)) refl (fit_same (fits c.self.inside.intake)) c.self.invariant.histories;
     }
 
 pub invariant_of-self-in-Sleeping : goal.invariant_of-self-in-Sleeping
@@ -49,6 +57,7 @@ invariant_of-self-in-Sleeping g c =
     let lt : c.args.pid < length c.self.inside.processes.processes = search rules in
     let same = search_sleeps (g.D.Disk.image c.self.inside.volume.device) c.self.inside.volume c.step.new.volume c.self.inside.inode_count c.args.pid c.args.group c.args.search c.step.new.self c.self.inside.processes c.self.inside.processes
     (where_none _ well c.known.ensures) (where_none _ well c.self.invariant.table) lt stands _ c.in-Sleeping.ensures.step in
+    let fits = g.I.Intake.fits in
     let image = g.D.Disk.image in
     let opening = image c.self.inside.opening.value in
     record {
@@ -59,6 +68,7 @@ invariant_of-self-in-Sleeping g c =
       numbers = c.self.invariant.numbers;
       recovers = subst (λ (v : VolumeState _). IfNone v.fault (Recovers opening (image v.device) v.buffers v.log c.self.inside.processes.journal.list)) (sym same) c.self.invariant.recovers;
       keeps = subst (λ (v : VolumeState _). KeepsNow v opening c.self.inside.processes.journal.list (image v.device)) (sym same) c.self.invariant.keeps;
+      histories = c.self.invariant.histories;
     }
 
 pub invariant_of-self-in-Over : goal.invariant_of-self-in-Over
@@ -68,6 +78,7 @@ invariant_of-self-in-Over g c =
     let lt : c.args.pid < length c.self.inside.processes.processes = search rules in
     let stays = search_over (g.D.Disk.image c.self.inside.volume.device) c.self.inside.volume c.step.new.volume _ c.args.pid c.args.group c.args.search c.step.new.self c.self.inside.processes c.turn.new.self
     (where_none _ well c.known.ensures) (where_none _ well c.self.invariant.table) lt stands _ _ _ c.in-Over.ensures.step c.turn.ensures in
+    let fits = g.I.Intake.fits in
     let image = g.D.Disk.image in
     let opening = image c.self.inside.opening.value in
     let recovers = recovers_turn image opening c.self.inside.volume c.step.new.volume c.self.inside.processes c.turn.new.self (where_none _ well c.self.invariant.recovers)
@@ -81,6 +92,8 @@ invariant_of-self-in-Over g c =
       numbers = c.self.invariant.numbers;
       recovers = if_none _ recovers;
       keeps = kept_of image opening c.step.new.volume c.turn.new.self.journal.list recovers;
+      histories = histories_turn (fits c.self.inside.intake) (fits c.self.inside.intake) c.self.inside.processes c.turn.new.self c.args.pid _ lt (ap (λ (v : World). v.processes) c.turn.ensures) _ (Create c.args.search.kind) (ap (λ (v : World). v.journal.list) c.turn.ensures)
+          refl refl (ap pending_at stands) (ap (λ (a : At). owed_at a (process c.self.inside.processes c.args.pid)) stands) refl refl refl (fit_same (fits c.self.inside.intake)) c.self.invariant.histories;
     }
 
 pub invariant_of-self-in-Fault : goal.invariant_of-self-in-Fault
@@ -90,6 +103,7 @@ invariant_of-self-in-Fault g c =
     let lt : c.args.pid < length c.self.inside.processes.processes = search rules in
     let same = search_fails (g.D.Disk.image c.self.inside.volume.device) c.self.inside.volume c.step.new.volume c.self.inside.inode_count c.args.pid c.args.group c.args.search c.step.new.self c.self.inside.processes c.self.inside.processes
     (where_none _ well c.known.ensures) (where_none _ well c.self.invariant.table) lt stands _ c.in-Fault.ensures.step in
+    let fits = g.I.Intake.fits in
     let image = g.D.Disk.image in
     let opening = image c.self.inside.opening.value in
     record {
@@ -101,6 +115,7 @@ invariant_of-self-in-Fault g c =
       recovers = if_some _ _ _ c.in-Fault.ensures.fault;
       keeps = subst (λ (x : Image). KeepsNow c.step.new.volume opening c.self.inside.processes.journal.list x) (sym c.step.ensures.image)
           (keeps_now c.step.new.volume c.self.inside.volume.log opening (image c.self.inside.volume.device) c.self.inside.volume.buffers c.self.inside.processes.journal.list (ap (λ (l : LogState). l.committed) same) (where_none _ well c.self.invariant.recovers));
+      histories = c.self.invariant.histories;
     }
 
 pub returns-in-Over-clause-next : goal.returns-in-Over-clause-next

@@ -1,11 +1,12 @@
-use Rattle.std.proofs.Common.{rules, ◌≡◌, ◌<◌, None, ◌∙◌, sym, ap, subst, length}
+use Rattle.std.proofs.Common.{rules, refl, ◌≡◌, ◌<◌, None, ◌∙◌, sym, ap, subst, length}
 use Rattle.wal.specs.declared.types.Commit.{Commit}
 use Rattle.wal.specs.Machine.{IsLogAt}
-use Rattle.kernel.specs.Processes.{World}
+use Rattle.kernel.specs.Processes.{World, process}
 use Rattle.kernel.proofs.Commits.{where_none, if_none, if_some, table_more, table_last, committed_same}
 use Rattle.kernel.specs.Keeps.{KeepsNow, Recovers}
 use Rattle.kernel.proofs.Recovers.{commit_goes, commit_fails}
 use Rattle.kernel.proofs.Keeping.{kept_of}
+use Rattle.kernel.proofs.Taking.{histories_given, committing_owes}
 use Rattle.kernel.proofs.Rooms.{rooms_answered, as_many}
 use Rattle.kernel.proofs.stepping.Kernel.commit.Goals as goal
 
@@ -26,6 +27,7 @@ invariant_of-self g c =
       numbers = c.self.invariant.numbers;
       recovers = if_none _ recovers;
       keeps = kept_of image opening c.commit_step-answer.new.self c.self.inside.processes.journal.list recovers;
+      histories = c.self.invariant.histories;
     }
 
 pub invariant_of-self-in-Done : goal.invariant_of-self-in-Done
@@ -34,6 +36,7 @@ invariant_of-self-in-Done g c =
     let lt : c.args.pid < length c.self.inside.processes.processes = search rules in
     let table = where_none _ well c.self.invariant.table in
     let is = c.give.ensures.processes in
+    let owes = committing_owes (process c.self.inside.processes c.args.pid).at (process c.self.inside.processes c.args.pid) (search rules) in
     let image = g.D.Disk.image in
     let opening = image c.self.inside.opening.value in
     let recovers = commit_goes opening (image c.self.inside.volume.device) c.self.inside.volume.buffers c.self.inside.volume.log c.self.inside.processes.journal.list (where_none _ well c.self.invariant.recovers)
@@ -48,6 +51,8 @@ invariant_of-self-in-Done g c =
       numbers = c.self.invariant.numbers;
       recovers = if_none _ (subst (λ es. Recovers opening (image c.commit_step-answer.new.self.device) c.commit_step-answer.new.self.buffers c.commit_step-answer.new.self.log es) (sym list) recovers);
       keeps = subst (λ es. KeepsNow c.commit_step-answer.new.self opening es (image c.commit_step-answer.new.self.device)) (sym list) (kept_of image opening c.commit_step-answer.new.self c.self.inside.processes.journal.list recovers);
+      histories = histories_given (g.I.Intake.fits c.self.inside.intake) (g.I.Intake.fits c.give.new.intake) c.self.inside.processes c.give.new.processes c.args.pid _ lt (ap (λ (v : World). v.processes) is) _ (ap (λ (v : World). v.journal.list) is)
+          owes.0 owes.1 refl refl refl c.give.ensures.fits c.self.invariant.histories;
     }
 
 pub invariant_of-self-in-Durable : goal.invariant_of-self-in-Durable
@@ -68,6 +73,7 @@ invariant_of-self-in-Durable g c =
       told = search rules;
       recovers = if_none _ recovers;
       keeps = kept_of image opening c.commit_step-answer.new.self c.self.inside.processes.journal.list recovers;
+      histories = c.self.invariant.histories;
     }
 
 pub invariant_of-self-in-Fault : goal.invariant_of-self-in-Fault
@@ -87,4 +93,5 @@ invariant_of-self-in-Fault g c =
       keeps = commit_fails opening (image c.self.inside.volume.device) c.self.inside.volume.buffers c.self.inside.volume.log c.self.inside.processes.journal.list (where_none _ well c.self.invariant.recovers)
           c.commit_step-answer.new.self _ (image c.commit_step-answer.new.self.device) c.in-Fault.ensures.fault c.in-Fault.ensures.step.log (c.commit_step-answer.ensures.recovers _ left) (c.commit_step-answer.ensures.lawful _ left)
           (λ heading. (subst (λ (k : Commit). IsLogAt k c.self.inside.volume.log) heading is).counts);
+      histories = c.self.invariant.histories;
     }

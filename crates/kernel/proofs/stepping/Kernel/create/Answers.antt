@@ -1,11 +1,16 @@
-use Rattle.std.proofs.Common.{rules, ◌≡◌, ◌<◌, None, ◌∙◌, sym, ap, subst, length}
+use Rattle.std.proofs.Common.{rules, refl, Option, Some, [], ◌∷◌, ◌≡◌, ◌<◌, None, ◌∙◌, sym, ap, subst, length}
 use Rattle.wal.specs.Volume.{VolumeState}
 use Rattle.kernel.specs.declared.types.At.TheVariants as at
 use Rattle.kernel.specs.Keeps.{KeepsNow}
-use Rattle.kernel.specs.Processes.{World, process, with_place}
+use Rattle.kernel.specs.Processes.{World, process, with_place, creating}
 use Rattle.kernel.proofs.Commits.{where_none, if_none}
 use Rattle.kernel.proofs.Beginnings.{begins_fit, table_created, created_processes, others_twice, rooms_begun}
 use Rattle.kernel.proofs.Keeping.{recovers_created, kept_of}
+use Rattle.model.specs.declared.types.Op.{Op}
+use Rattle.model.specs.declared.types.Op.TheVariants.{Create}
+use Rattle.ports.specs.History.{FitWith, takes, first_in}
+use Rattle.inodes.specs.declared.ialloc.Ialloc.{Ialloc}
+use Rattle.kernel.proofs.Taking.{histories_stay, histories_taken, fit_after, first_creation}
 use Rattle.kernel.proofs.Rooms.{as_many}
 use Rattle.kernel.proofs.stepping.Kernel.create.Goals as goal
 
@@ -16,6 +21,8 @@ invariant_of-self-2 g c =
     let stands : (process c.self.inside.processes c.args.pid).at ≡ at.Idle = search rules in
     let kept : c.reserve.new.self ≡ with_place c.self.inside.processes = search rules in
     let is = created_processes c.args.pid c.open_group-group.result c.new-search.result c.self.inside.processes c.reserve.new.self c.create.new.self kept c.create.ensures in
+    let fits = g.I.Intake.fits in
+    let first : c.take-taken.result ≡ Some (Create c.args.kind) = c.take-taken.ensures.shown ∙ ap first_in c.room.ensures.ahead ∙ first_creation _ c.args.kind (search rules) in
     let image = g.D.Disk.image in
     let opening = image c.self.inside.opening.value in
     let recovers = recovers_created image opening c.self.inside.volume c.open_group-group.new.volume c.self.inside.processes c.create.new.self (where_none _ well c.self.invariant.recovers)
@@ -31,6 +38,10 @@ invariant_of-self-2 g c =
       numbers = c.self.invariant.numbers;
       recovers = if_none _ recovers;
       keeps = kept_of image opening c.open_group-group.new.volume c.create.new.self.journal.list recovers;
+      histories = histories_taken (fits c.self.inside.intake) (fits c.take-taken.new.self) c.self.inside.processes c.create.new.self c.args.pid _ lt is c.args.kind
+          (ap (λ (w : World). w.journal.list) (c.create.ensures ∙ ap (λ (w : World). creating w c.args.pid c.open_group-group.result c.new-search.result) kept)) stands (ap (λ (m : Ialloc). Create m.kind ∷ []) c.new-search.ensures) refl refl
+          (fit_after (fits c.self.inside.intake) (fits c.room.new.self) (fits c.take-taken.new.self) c.args.pid (takes (Some (Create c.args.kind))) c.room.ensures.fits
+          (subst (λ (o : Option Op). FitWith (fits c.room.new.self) (fits c.take-taken.new.self) c.args.pid (takes o)) first c.take-taken.ensures.fits)) c.self.invariant.histories;
     }
 
 pub invariant_of-self : goal.invariant_of-self
@@ -42,6 +53,7 @@ invariant_of-self g c = record {
   told = search rules;
   recovers = search rules;
   keeps = search rules;
+  histories = histories_stay (g.I.Intake.fits c.self.inside.intake) (g.I.Intake.fits c.room.new.self) c.self.inside.processes c.self.inside.processes refl refl c.room.ensures.fits c.self.invariant.histories;
 }
 
 pub invariant_of-self-in-Some : goal.invariant_of-self-in-Some
@@ -53,6 +65,7 @@ invariant_of-self-in-Some g c = record {
   told = search rules;
   recovers = search rules;
   keeps = search rules;
+  histories = histories_stay (g.I.Intake.fits c.self.inside.intake) (g.I.Intake.fits c.room.new.self) c.self.inside.processes c.self.inside.processes refl refl c.room.ensures.fits c.self.invariant.histories;
 }
 
 pub invariant_of-self-then-is_err : goal.invariant_of-self-then-is_err
@@ -65,6 +78,8 @@ invariant_of-self-then-is_err g c = record {
   recovers = search rules;
   keeps = let same : c.reserve.new.self ≡ c.self.inside.processes = search rules in
       subst (λ (w : World). KeepsNow c.self.inside.volume (g.D.Disk.image c.self.inside.opening.value) w.journal.list (g.D.Disk.image c.self.inside.volume.device)) (sym same) c.self.invariant.keeps;
+  histories = let same : c.reserve.new.self ≡ c.self.inside.processes = search rules in
+      histories_stay (g.I.Intake.fits c.self.inside.intake) (g.I.Intake.fits c.room.new.self) c.self.inside.processes c.reserve.new.self (ap (λ (w : World). w.processes) same) (ap (λ (w : World). w.journal.list) same) c.room.ensures.fits c.self.invariant.histories;
 }
 
 pub create-requires-clause-begun : goal.create-requires-clause-begun

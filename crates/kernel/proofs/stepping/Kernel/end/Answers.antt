@@ -1,8 +1,9 @@
-use Rattle.std.proofs.Common.{rules, ◌≡◌, ◌<◌, ◌+◌, ℕ, inl, inr, ⊎_elim, None, ◌∙◌, sym, ap, length}
-use Rattle.kernel.specs.Processes.{World}
+use Rattle.std.proofs.Common.{rules, refl, ◌≡◌, ◌<◌, ◌+◌, ℕ, inl, inr, ⊎_elim, None, ◌∙◌, sym, ap, length}
+use Rattle.kernel.specs.Processes.{World, process}
 use Rattle.kernel.proofs.Commits.{where_none, if_none}
 use Rattle.kernel.proofs.Ends.{table_end_commits, table_end_left, committed_before, committed_one_more}
 use Rattle.kernel.proofs.Keeping.{recovers_ended, kept_of}
+use Rattle.kernel.proofs.Taking.{histories_move, histories_given, committing_same, ending_owes, fit_same}
 use Rattle.kernel.proofs.Rooms.{rooms_answered, rooms_busy, as_many}
 use Rattle.kernel.proofs.stepping.Kernel.end.Goals as goal
 
@@ -12,6 +13,8 @@ invariant_of-self g c =
     let lt : c.args.pid < length c.self.inside.processes.processes = search rules in
     let table = where_none _ well c.self.invariant.table in
     let is = (where_none _ well c.known.ensures).log in
+    let fits = g.I.Intake.fits in
+    let owes = committing_same (process c.self.inside.processes c.args.pid) (search rules) in
     let image = g.D.Disk.image in
     let opening = image c.self.inside.opening.value in
     let recovers = recovers_ended image opening c.self.inside.volume c.end.new.self c.self.inside.processes c.commit.new.self (where_none _ well c.self.invariant.recovers)
@@ -24,6 +27,8 @@ invariant_of-self g c =
       numbers = c.self.invariant.numbers;
       recovers = if_none _ recovers;
       keeps = kept_of image opening c.end.new.self c.commit.new.self.journal.list recovers;
+      histories = histories_move (fits c.self.inside.intake) (fits c.self.inside.intake) c.self.inside.processes c.commit.new.self c.args.pid _ lt (ap (λ (v : World). v.processes) c.commit.ensures) (ap (λ (v : World). v.journal.list) c.commit.ensures)
+          owes.0 owes.1 refl (fit_same (fits c.self.inside.intake)) c.self.invariant.histories;
     }
 
 pub tell-requires-clause-one : goal.tell-requires-clause-one
@@ -45,6 +50,8 @@ invariant_of-self-in-Left g c =
     let is = (where_none _ well c.known.ensures).log in
     let now : c.committed.result ≡ c.end.new.self.log.committed = search rules in
     let goes = c.give.ensures.processes in
+    let fits = g.I.Intake.fits in
+    let owes = ending_owes (process c.self.inside.processes c.args.pid).at (process c.self.inside.processes c.args.pid) (search rules) in
     let image = g.D.Disk.image in
     let opening = image c.self.inside.opening.value in
     let recovers = recovers_ended image opening c.self.inside.volume c.end.new.self c.self.inside.processes c.give.new.processes (where_none _ well c.self.invariant.recovers)
@@ -57,4 +64,6 @@ invariant_of-self-in-Left g c =
       numbers = c.self.invariant.numbers;
       recovers = if_none _ recovers;
       keeps = kept_of image opening c.end.new.self c.give.new.processes.journal.list recovers;
+      histories = histories_given (fits c.self.inside.intake) (fits c.give.new.intake) c.self.inside.processes c.give.new.processes c.args.pid _ lt (ap (λ (v : World). v.processes) goes) _ (ap (λ (v : World). v.journal.list) goes)
+          owes.0 owes.1 refl refl refl c.give.ensures.fits c.self.invariant.histories;
     }

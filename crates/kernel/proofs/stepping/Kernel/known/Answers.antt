@@ -1,9 +1,10 @@
-use Rattle.std.proofs.Common.{sym, subst}
+use Rattle.std.proofs.Common.{ℕ, sym, subst}
 use Rattle.std.specs.Prelude.{IfNone}
 use Rattle.blocks.specs.Disk.{Image}
 use Rattle.model.specs.Journal.{kept}
 use Rattle.model.specs.Layout.{inode_count_of}
 use Rattle.wal.specs.Joint.{seen}
+use Rattle.kernel.specs.Histories.{HasHistory}
 use Rattle.kernel.specs.Keeps.{HasFilesAfter, cleared, KeepsNow}
 use Rattle.kernel.specs.State.{State}
 use Rattle.kernel.proofs.Commits.{if_well}
@@ -17,4 +18,5 @@ returns g c =
           (λ x left. subst (λ y. KeepsNow c.self.inside.volume (image c.self.inside.opening.value) c.self.inside.processes.journal.list y) (sym (g.met.D.Disk.only_now c.self.inside.volume.device x left)) c.self.invariant.keeps);
       current = subst (λ (k : State _ _ _). IfNone k.volume.fault (HasFilesAfter (image k.opening) (kept (inode_count_of (image k.opening)) k.world.journal.list k.volume.log.opened) (cleared (seen (image k.volume.device) k.volume.buffers)))) c.self.view_is
           (if_well c.self.inside.volume.fault (λ r. r.current) c.self.invariant.recovers);
+      histories = subst (λ (k : State _ _ _). (p : ℕ) → HasHistory (g.I.Intake.fits k.intake) k.world p) c.self.view_is c.self.invariant.histories;
     }

@@ -1,12 +1,16 @@
-use Rattle.std.proofs.Common.{rules, refl, ◌≡◌, ◌<◌, None, ◌∙◌, sym, ap, subst, length}
+use Rattle.std.proofs.Common.{rules, Option, Some, ◌+◌, refl, ◌≡◌, ◌<◌, None, ◌∙◌, sym, ap, subst, length}
 use Rattle.std.proofs.lemmas.Bool.{false≢true}
 use Rattle.kernel.specs.declared.types.At.TheVariants as at
 use Rattle.kernel.specs.Keeps.{KeepsNow}
-use Rattle.kernel.specs.Processes.{World, process, with_place}
+use Rattle.kernel.specs.Processes.{World, process, with_place, refused}
 use Rattle.kernel.specs.State.{is_under_way_at}
 use Rattle.kernel.proofs.Commits.{where_none, if_none}
 use Rattle.kernel.proofs.Beginnings.{begins_fit, table_refused, refused_processes, others_twice, rooms_begun}
 use Rattle.kernel.proofs.Keeping.{recovers_refused, kept_of}
+use Rattle.model.specs.declared.types.Op.{Op}
+use Rattle.model.specs.declared.types.Reply.TheVariants.{BadType}
+use Rattle.ports.specs.History.{FitWith, takes}
+use Rattle.kernel.proofs.Taking.{histories_stay, histories_at_once, fit_after}
 use Rattle.kernel.proofs.Rooms.{as_many}
 use Rattle.kernel.proofs.stepping.Kernel.refuse.Goals as goal
 
@@ -18,6 +22,8 @@ invariant_of-self-2 g c =
     let kept : c.reserve.new.self ≡ with_place c.self.inside.processes = search rules in
     let is = refused_processes c.args.pid c.in-Some.op c.self.inside.processes c.reserve.new.self c.refuse-answer.new.self kept c.refuse-answer.ensures.processes in
     let side = g.I.Intake.side in
+    let fits = g.I.Intake.fits in
+    let first : c.take.result ≡ Some c.in-Some.op = search rules in
     let image = g.D.Disk.image in
     let opening = image c.self.inside.opening.value in
     let recovers = recovers_refused image opening c.self.inside.volume c.self.inside.volume c.self.inside.processes c.refuse-answer.new.self (where_none _ well c.self.invariant.recovers)
@@ -33,6 +39,11 @@ invariant_of-self-2 g c =
       numbers = c.self.invariant.numbers;
       recovers = if_none _ recovers;
       keeps = kept_of image opening c.self.inside.volume c.refuse-answer.new.self.journal.list recovers;
+      histories = histories_at_once (fits c.self.inside.intake) (fits c.answer.new.self) c.self.inside.processes c.refuse-answer.new.self c.args.pid _ lt is _ c.in-Some.op c.refuse-answer.result (fits c.take.new.self)
+          (ap (λ (w : World). w.journal.list) (c.refuse-answer.ensures.processes ∙ ap (λ (w : World). refused w c.args.pid c.in-Some.op) kept)) refl refl
+          (sym (c.refuse-answer.ensures.answer ∙ ap (λ (w : World). record { seq = (process w c.args.pid).begun + 1; reply = BadType; group = 0 }) kept)) stands stands refl
+          (fit_after (fits c.self.inside.intake) (fits c.room.new.self) (fits c.take.new.self) c.args.pid (takes (Some c.in-Some.op)) c.room.ensures.fits
+          (subst (λ (o : Option Op). FitWith (fits c.room.new.self) (fits c.take.new.self) c.args.pid (takes o)) first c.take.ensures.fits)) c.answer.ensures.fits c.self.invariant.histories;
     }
 
 pub invariant_of-self-then-is_err : goal.invariant_of-self-then-is_err
@@ -45,6 +56,8 @@ invariant_of-self-then-is_err g c = record {
   recovers = search rules;
   keeps = let same : c.reserve.new.self ≡ c.self.inside.processes = search rules in
       subst (λ (w : World). KeepsNow c.self.inside.volume (g.D.Disk.image c.self.inside.opening.value) w.journal.list (g.D.Disk.image c.self.inside.volume.device)) (sym same) c.self.invariant.keeps;
+  histories = let same : c.reserve.new.self ≡ c.self.inside.processes = search rules in
+      histories_stay (g.I.Intake.fits c.self.inside.intake) (g.I.Intake.fits c.room.new.self) c.self.inside.processes c.reserve.new.self (ap (λ (w : World). w.processes) same) (ap (λ (w : World). w.journal.list) same) c.room.ensures.fits c.self.invariant.histories;
 }
 
 pub refuse-answer-requires-clause-begun : goal.refuse-answer-requires-clause-begun
@@ -53,3 +66,15 @@ refuse-answer-requires-clause-begun g c =
     let stands : (process c.self.inside.processes c.args.pid).at ≡ at.Idle = search rules in
     let kept : c.reserve.new.self ≡ with_place c.self.inside.processes = search rules in
     (begins_fit _ _ _ c.args.pid c.self.inside.processes c.reserve.new.self (where_none _ well c.self.invariant.table) stands kept c.known.ensures).0
+
+pub invariant_of-self : goal.invariant_of-self
+invariant_of-self g c = record {
+  numbers = c.self.invariant.numbers;
+  table = search rules;
+  processes = search rules;
+  room = search rules;
+  told = search rules;
+  recovers = search rules;
+  keeps = search rules;
+  histories = histories_stay (g.I.Intake.fits c.self.inside.intake) (g.I.Intake.fits c.room.new.self) c.self.inside.processes c.self.inside.processes refl refl c.room.ensures.fits c.self.invariant.histories;
+}
