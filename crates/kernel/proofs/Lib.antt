@@ -17,3 +17,5 @@ pub mod Growing
 pub mod Progressing
 pub mod Turns
 pub mod Taking
+pub mod Bounds
+pub mod Sharing

@@ -7,3 +7,4 @@ pub mod Next
 pub mod Keeps
 pub mod Runs
 pub mod Histories
+pub mod Bound

@@ -79,6 +79,7 @@ impl<D: Disk, I: Intake, H: Herald> Kernel<D, I, H> {
     ghost use Rattle.kernel.specs.declared.stepping.Waiting.TheVariants as waiting;
     ghost use Rattle.kernel.specs.Processes.{process};
     ghost use Rattle.kernel.specs.Table.{is_committing_at, is_ending_at};
+    ghost use Rattle.kernel.specs.Bound.{TakesOne, GivesNone};
     ghost use Rattle.kernel.specs.Next.{Creates, Refuses, Searches, Ends, Commits, Begins, Next, WritesOnce, CountsItsFault};
 
     /// Does nothing: it says what recovery of the disk gives. A stop now leaves a sound image whose
@@ -104,6 +105,9 @@ impl<D: Disk, I: Intake, H: Herald> Kernel<D, I, H> {
         ensures halted { (result ≡ Step.Halted) ↔ IsSome self.new.volume.fault }
         ensures writes { WritesOnce (D.write_count self.old.volume.device) (D.write_count self.new.volume.device) }
         ensures faults { self.old.volume.fault ≡ None → CountsItsFault self.new.volume.fault (D.fault_count self.old.volume.device) (D.fault_count self.new.volume.device) }
+
+        ensures others { GivesNone self.old.inode_count self.old.volume.log self.old.world pid self.new.volume.log self.new.world }
+        ensures bound { result ≡ Step.Moved → TakesOne self.old.inode_count self.old.volume.log self.old.world pid self.new.volume.log self.new.world }
 
         // What a stop leaves, now and in this step.
         ensures keeps { (x : Image) → D.leaves self.new.volume.device (D.moment self.new.volume.device) x → KeepsNow self.new.volume (D.image self.new.opening) self.new.world.journal.list x }

@@ -1,5 +1,4 @@
-use Rattle.std.proofs.Common.{rules, ap}
-use Rattle.kernel.specs.Processes.{World}
+use Rattle.std.proofs.Common.{rules}
 use Rattle.kernel.proofs.Taking.{histories_stay, fit_same}
 use Rattle.kernel.proofs.stepping.Kernel.hears_shutdown.Goals as goal
 
@@ -12,5 +11,5 @@ invariant_of-self-2 g c = record {
   told = search rules;
   recovers = search rules;
   keeps = search rules;
-  histories = histories_stay (g.I.Intake.fits c.self.inside.intake) (g.I.Intake.fits c.self.inside.intake) c.self.inside.processes c.shut.new.self (ap (λ (w : World). w.processes) c.shut.ensures) (ap (λ (w : World). w.journal.list) c.shut.ensures) (fit_same (g.I.Intake.fits c.self.inside.intake)) c.self.invariant.histories;
+  histories = histories_stay (g.I.Intake.fits c.self.inside.intake) (g.I.Intake.fits c.self.inside.intake) c.self.inside.processes _ (search rules) (search rules) (fit_same (g.I.Intake.fits c.self.inside.intake)) c.self.invariant.histories;
 }

@@ -3,7 +3,10 @@ use Rattle.blocks.specs.Disk.{Image, LeavesOnly}
 use Rattle.model.specs.Layout.{inode_count_of}
 use Rattle.kernel.specs.Keeps.{KeepsBetween, most_of}
 use Rattle.kernel.proofs.Growing.{leaves_between}
+use Rattle.kernel.specs.Next.{Next}
+use Rattle.kernel.proofs.Bounds.{takes_one, moved_well}
 use Rattle.kernel.proofs.Progressing.{state_goes}
+use Rattle.kernel.proofs.Sharing.{gives_none}
 use Rattle.kernel.proofs.stepping.Kernel.step.Goals as goal
 
 pub returns-clause-grows : goal.returns-clause-grows
@@ -21,3 +24,14 @@ returns-clause-leaves g c =
     (leaves_between (image k.opening) k.volume new.volume k.world.journal.list new.world.journal.list (returns-clause-grows g c) g.D.Disk.moment g.D.Disk.leaves c.known.ensures.keeps
     (subst (λ d. (x : Image) → g.D.Disk.leaves new.volume.device (g.D.Disk.moment new.volume.device) x → KeepsBetween new.volume.log.committed (most_of new.volume) (image d) new.world.journal.list x) c.go_on-answer.ensures.opening c.known-3.ensures.keeps)
     c.go_on-answer.ensures.time)
+
+pub returns-clause-bound : goal.returns-clause-bound
+returns-clause-bound g c moved =
+    let image = g.D.Disk.image in
+    let k = c.args.self.now in
+    let new = c.go_on-answer.new.self in
+    let made = subst (λ r. Next (image k.volume.device) k.inode_count k.volume k.world c.args.pid (g.I.Intake.side k.intake c.args.pid).ahead (g.I.Intake.side new.intake c.args.pid) (g.H.Herald.told new.herald) r (image new.volume.device) new.volume new.world) moved c.go_on-answer.ensures.next in
+    takes_one image _ k new c.args.pid _ _ _ c.self.view_is (moved_well image k new c.args.pid _ _ _ made) c.known-2.ensures c.self.invariant.table c.requires.pid made
+
+pub returns-clause-others : goal.returns-clause-others
+returns-clause-others g c = gives_none g.D.Disk.image _ c.args.self.now c.go_on-answer.new.self c.args.pid _ _ _ c.go_on-answer.result c.self.view_is c.known-2.ensures c.self.invariant.table c.go_on-answer.ensures.next
