@@ -1,3 +1,4 @@
 pub mod Plays
 pub mod Refused
 pub mod Backlogs
+pub mod Reading

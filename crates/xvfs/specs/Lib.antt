@@ -6,4 +6,5 @@ pub mod Recovering
 pub mod Events
 pub mod Inputs
 pub mod Turns
+pub mod Requests
 pub mod Backlog
