@@ -2,3 +2,4 @@ pub mod Plays
 pub mod Refused
 pub mod Backlogs
 pub mod Reading
+pub mod CommandLines

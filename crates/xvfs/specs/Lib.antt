@@ -7,4 +7,5 @@ pub mod Events
 pub mod Inputs
 pub mod Turns
 pub mod Requests
+pub mod CommandLine
 pub mod Backlog
