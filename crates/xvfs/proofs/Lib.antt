@@ -1,3 +1,5 @@
 pub mod Plays
 pub mod Refused
 pub mod Backlogs
+pub mod Reading
+pub mod CommandLines

@@ -6,4 +6,6 @@ pub mod Recovering
 pub mod Events
 pub mod Inputs
 pub mod Turns
+pub mod Requests
+pub mod CommandLine
 pub mod Backlog

@@ -1,6 +1,7 @@
 // One command, and the exit status that it ends with.
-ghost use Rattle.std.specs.Prelude.{◌≡◌, ◌≤◌, Err, OnOk, IfErr};
-ghost use Rattle.xvfs.specs.Status.{status_of};
+ghost use Rattle.std.specs.Prelude.{◌≡◌, ◌≤◌, Err, OnOk, IfErr, IsOkUnless};
+ghost use Rattle.xvfs.specs.Requests.{Answers, OnRefused};
+ghost use Rattle.xvfs.specs.Status.{IsMisuse, IsUnprinted, status_of};
 ghost use Rattle.xvfs.specs.Output.{Tells};
 
 use crate::checking::check_file;
@@ -78,7 +79,8 @@ fn status_of(ended: &Result<(), Failure>) -> u8
 
 // Writes why a command wasn't done.
 fn report<E: Write>(failure: Failure, err: &mut E) -> Result<(), Refusal>
-    ensures { OnOk result (Tells failure (E.contents err.old) (E.contents err.new)) }
+    ensures ok { OnOk result (Tells failure (E.contents err.old) (E.contents err.new)) }
+    ensures err { IsOkUnless result Refusal.Output }
 {
     match failure {
         Failure::Refused(refusal) => print(err, format_args!("xvfs: {refusal}\n")),
@@ -101,7 +103,9 @@ fn perform<R: Files + AllocGlobal, S: AsStr, O: Write>(
 
 // Help and the version are answers, the other texts are not.
 fn explain<O: Write>(text: clap::Error, out: &mut O) -> Result<(), Failure>
-    ensures { IfErr result (λ failure. status_of (Err failure) ≡ 2 → out.new ≡ out.old) }
+    ensures ok { OnOk result (¬ (IsMisuse text)) }
+    ensures err { IfErr result (IsUnprinted text) }
+    ensures silent { IfErr result (λ failure. status_of (Err failure) ≡ 2 → out.new ≡ out.old) }
 {
     if text.use_stderr() {
         return Err(Failure::Misused(text));
@@ -109,11 +113,15 @@ fn explain<O: Write>(text: clap::Error, out: &mut O) -> Result<(), Failure>
     Ok(print(out, text)?)
 }
 
+// Does what is asked for, and prints the answer.
 fn dispatch<R: Files + AllocGlobal, O: Write>(
     rt: &R,
     request: Request<'_>,
     out: &mut O,
-) -> Result<(), Refusal> {
+) -> Result<(), Refusal>
+    ensures ok { OnOk result (Answers request.entry (O.contents out.old) (O.contents out.new)) }
+    ensures err { IfErr result (λ r. OnRefused request.entry r (O.contents out.old) (O.contents out.new) (out.new ≡ out.old)) }
+{
     match request {
         Request::Mkfs {
             image,

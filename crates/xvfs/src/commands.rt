@@ -1,5 +1,5 @@
 // Command lines from a reader.
-ghost use Rattle.std.specs.Prelude.{◌≡◌, ◌≤◌, ◌<◌, ◌↔◌, length, map, IfOk, string_bytes};
+ghost use Rattle.std.specs.Prelude.{◌≡◌, ◌≤◌, ◌<◌, ◌↔◌, [], length, map, IfOk, IfSome, string_bytes};
 ghost use Rattle.std.specs.Result.{IsErrOf};
 ghost use Rattle.std.specs.Str.{IsUtf8};
 ghost use Rattle.xvfs.specs.Lines.{lines_in, words_in, script_in};
@@ -24,6 +24,7 @@ pub fn commands<R: Files + AllocGlobal, I: Read + Drop, O: Write, E: Write>(
     err: &mut E,
 ) -> u8
     ensures status { result ≤ 2 }
+    ensures large { IfSome (I.remaining input) (λ bytes. LIMIT < length bytes → (result ≡ 1) × (out.new ≡ out.old)) }
     ensures silent { result ≡ 0 → err.new ≡ err.old }
 {
     match read_text(rt.alloc(), input) {
@@ -32,7 +33,10 @@ pub fn commands<R: Files + AllocGlobal, I: Read + Drop, O: Write, E: Write>(
     }
 }
 
-fn read_text<I: Read + Drop>(alloc: Global, input: I) -> Result<String, InputFault> {
+// The text that a reader gives.
+fn read_text<I: Read + Drop>(alloc: Global, input: I) -> Result<String, InputFault>
+    ensures { IfOk result (λ text. IfSome (I.remaining input) (λ bytes. (length bytes ≤ LIMIT) × (string_bytes text ≡ bytes))) }
+{
     let mut bytes = Vec::new(alloc);
     input.take(LIMIT as u64 + 1).read_to_end(&mut bytes)?;
     text_of(bytes)
@@ -72,6 +76,7 @@ fn perform_lines<R: Files + AllocGlobal, O: Write, E: Write>(
     err: &mut E,
 ) -> u8
     ensures status { result ≤ 2 }
+    ensures none { lines.now ≡ [] → (result ≡ 0) × (out.new ≡ out.old) }
     ensures silent { result ≡ 0 → err.new ≡ err.old }
 {
     for words in lines {

@@ -1,4 +1,8 @@
 // The words of a command line.
+ghost use Rattle.std.specs.Prelude.{◌≡◌, false, codes, IfOk};
+ghost use Rattle.clap.specs.Words.{rule_of};
+ghost use Rattle.xvfs.specs.CommandLine.{HasApp, image_app, mkfs_app, number_rule, replay_app, required_rule, stop_rule, xvfs_app};
+
 use clap::error::ErrorKind;
 use clap::{Arg, ArgMatches, Command, Error, value_parser};
 use std::alloc::{AllocError, Global};
@@ -76,7 +80,9 @@ fn request_of<'a>(matches: &ArgMatches<'a>) -> Option<Request<'a>> {
     }
 }
 
-fn program<'a>(alloc: Global) -> Result<Command<'a>, AllocError> {
+fn program<'a>(alloc: Global) -> Result<Command<'a>, AllocError>
+    ensures { IfOk result (HasApp xvfs_app) }
+{
     Command::new(alloc, "xvfs")
         .version("0.1.0")
         .about(
@@ -91,57 +97,90 @@ fn program<'a>(alloc: Global) -> Result<Command<'a>, AllocError> {
         .subcommand(replay_words(alloc)?)
 }
 
-fn mkfs_words<'a>(alloc: Global) -> Result<Command<'a>, AllocError> {
-    let size = Arg::new(alloc, "SIZE")
-        .required(true)
-        .value_parser(value_parser!(u32))
-        .help("Blocks of 1024 bytes, from one more than the blocks before the data up to 8191");
-    let ninodes = Arg::new(alloc, "NINODES")
-        .required(true)
-        .value_parser(value_parser!(u32))
-        .help("Inode numbers, from 2 to 1024, the unused number 0 included");
+fn mkfs_words<'a>(alloc: Global) -> Result<Command<'a>, AllocError>
+    ensures { IfOk result (HasApp mkfs_app) }
+{
     Command::new(alloc, "mkfs")
         .about("Makes an image in a new file, or in place of an old one")
-        .arg(image_word(
+        .arg(word(
             alloc,
+            "IMAGE",
             "The path of the image's file, which is made or replaced",
         ))?
-        .arg(size)?
-        .arg(ninodes)
+        .arg(number(
+            alloc,
+            "SIZE",
+            "Blocks of 1024 bytes, from one more than the blocks before the data up to 8191",
+        ))?
+        .arg(number(
+            alloc,
+            "NINODES",
+            "Inode numbers, from 2 to 1024, the unused number 0 included",
+        ))
 }
 
-fn check_words<'a>(alloc: Global) -> Result<Command<'a>, AllocError> {
+fn check_words<'a>(alloc: Global) -> Result<Command<'a>, AllocError>
+    ensures { IfOk result (HasApp (image_app (codes "check"))) }
+{
     Command::new(alloc, "check")
         .about("Says whether an image is sound, and counts its logged blocks and its files")
-        .arg(image_word(alloc, "The path of the image's file, which is not changed"))
+        .arg(word(
+            alloc,
+            "IMAGE",
+            "The path of the image's file, which is not changed",
+        ))
 }
 
-fn recover_words<'a>(alloc: Global) -> Result<Command<'a>, AllocError> {
+fn recover_words<'a>(alloc: Global) -> Result<Command<'a>, AllocError>
+    ensures { IfOk result (HasApp (image_app (codes "recover"))) }
+{
     Command::new(alloc, "recover")
         .about("Checks an image, and copies the blocks of its log home")
-        .arg(image_word(alloc, "The path of the image's file"))
+        .arg(word(alloc, "IMAGE", "The path of the image's file"))
 }
 
-fn replay_words<'a>(alloc: Global) -> Result<Command<'a>, AllocError> {
-    let script = Arg::new(alloc, "SCRIPT").required(true).help(
-        "The path of the script, whose lines are the operations of processes",
-    );
-    let schedule = Arg::new(alloc, "SCHEDULE").required(true).help(
-        "The path of the schedule, whose words are turns of the processes",
-    );
-    let stop = Arg::new(alloc, "stop")
+fn replay_words<'a>(alloc: Global) -> Result<Command<'a>, AllocError>
+    ensures { IfOk result (HasApp replay_app) }
+{
+    Command::new(alloc, "replay")
+        .about("Recovers an image, and makes a script's operations in the turns of a schedule")
+        .arg(word(alloc, "IMAGE", "The path of the image's file"))?
+        .arg(word(
+            alloc,
+            "SCRIPT",
+            "The path of the script, whose lines are the operations of processes",
+        ))?
+        .arg(word(
+            alloc,
+            "SCHEDULE",
+            "The path of the schedule, whose words are turns of the processes",
+        ))?
+        .arg(stop_word(alloc))
+}
+
+fn stop_word<'a>(alloc: Global) -> Arg<'a>
+    ensures rule { rule_of result ≡ stop_rule }
+    ensures local { result.global ≡ false }
+{
+    Arg::new(alloc, "stop")
         .long("stop")
         .value_name("N")
         .value_parser(value_parser!(u64).range(1..))
-        .help("Stops before this write, counted from 1 once the image is recovered");
-    Command::new(alloc, "replay")
-        .about("Recovers an image, and makes a script's operations in the turns of a schedule")
-        .arg(image_word(alloc, "The path of the image's file"))?
-        .arg(script)?
-        .arg(schedule)?
-        .arg(stop)
+        .help("Stops before this write, counted from 1 once the image is recovered")
 }
 
-fn image_word<'a>(alloc: Global, help: &'a str) -> Arg<'a> {
-    Arg::new(alloc, "IMAGE").required(true).help(help)
+// A word that has to be there.
+fn word<'a>(alloc: Global, name: &'a str, help: &'a str) -> Arg<'a>
+    ensures rule { rule_of result ≡ required_rule name.entry.now }
+    ensures local { result.global ≡ false }
+{
+    Arg::new(alloc, name).required(true).help(help)
+}
+
+// The same, a number.
+fn number<'a>(alloc: Global, name: &'a str, help: &'a str) -> Arg<'a>
+    ensures rule { rule_of result ≡ number_rule name.entry.now }
+    ensures local { result.global ≡ false }
+{
+    word(alloc, name, help).value_parser(value_parser!(u32))
 }

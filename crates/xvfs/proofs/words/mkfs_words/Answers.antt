@@ -1,0 +1,16 @@
+use Rattle.std.proofs.Common.{◌≡◌, codes, rules}
+use Rattle.std.proofs.lemmas.Result.{IfOk-weaker}
+use Rattle.clap.specs.Words.{new_app, rule_of}
+use Rattle.xvfs.specs.CommandLine.{HasApp, image_app, number_rule, required_rule}
+use Rattle.xvfs.proofs.CommandLines.{one_word}
+use Rattle.xvfs.proofs.words.mkfs_words.Goals as goal
+
+pub returns : goal.returns
+returns c =
+    let image : rule_of c.word.result ≡ required_rule (codes "IMAGE") = search rules in
+    let size : rule_of c.number.result ≡ number_rule (codes "SIZE") = search rules in
+    let ninodes : rule_of c.number-2.result ≡ number_rule (codes "NINODES") = search rules in
+    let start : HasApp (new_app (codes "mkfs")) c.about.result = search rules in
+    let one = one_word _ _ c.about.result c.word.result c.in_ok-arg.field-0 start image c.word.ensures.local c.in_ok-arg.ensures in
+    let two = one_word _ _ c.in_ok-arg.field-0 c.number.result c.in_ok-arg-2.field-0 one size c.number.ensures.local c.in_ok-arg-2.ensures in
+    IfOk-weaker c.arg-3.result _ _ (λ r adds. one_word _ _ c.in_ok-arg-2.field-0 c.number-2.result r two ninodes c.number-2.ensures.local adds) c.arg-3.ensures

@@ -1,0 +1,25 @@
+-- What a request is answered.
+use Rattle.std.specs.Prelude.{◌≢◌, ℕ, List, Option, unwrap_or}
+use Rattle.std.specs.Io.KnownBytes.{Appends}
+use Rattle.model.specs.Layout.{planned_super}
+use Rattle.scripts.specs.declared.schedule.Word.{Word}
+use Rattle.xvfs.specs.declared.words.Request.{Request}
+use Rattle.xvfs.specs.declared.words.Request.TheVariants.{Mkfs, Check, Recover, Replay}
+use Rattle.xvfs.specs.declared.refusal.Refusal.{Refusal}
+use Rattle.xvfs.specs.declared.refusal.Refusal.TheVariants.{Output}
+use Rattle.xvfs.specs.Output.{numbers_text, report_text, copied_text}
+use Rattle.xvfs.specs.Turns.{PrintsRun, OnRefusal}
+
+-- a request was done, and its answer printed
+abbrev pub Answers : Request → Option (List ℕ) → Option (List ℕ) → Type 0
+Answers (Mkfs image size ninodes) old new = Appends old new (numbers_text (planned_super size ninodes))
+Answers (Check image) old new = (logged files : ℕ) × Appends old new (report_text logged files)
+Answers (Recover image) old new = (copied : ℕ) × Appends old new (copied_text copied)
+Answers (Replay image script schedule stop) old new = (words : List Word) × PrintsRun (unwrap_or stop 0) words old new
+
+-- what was printed where a request was refused; `none` says that nothing was
+abbrev pub OnRefused : Request → Refusal → Option (List ℕ) → Option (List ℕ) → Type 0 → Type 0
+OnRefused (Mkfs image size ninodes) r old new none = r ≢ Output → none
+OnRefused (Check image) r old new none = r ≢ Output → none
+OnRefused (Recover image) r old new none = r ≢ Output → none
+OnRefused (Replay image script schedule stop) r old new none = OnRefusal r ((words : List Word) × PrintsRun (unwrap_or stop 0) words old new) none
