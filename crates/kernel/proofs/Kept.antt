@@ -1,16 +1,18 @@
 -- Which entries of a journal are kept, and what replaying one more gives.
-use Rattle.std.proofs.Common.{◌≡◌, ℕ, ◌<◌, ◌≤◌, Bool, true, false, cond, ◌&&◌, leb, List, [], ◌∷◌, ◌++◌, refl, sym, ◌∙◌, ap, arith, Option, Some}
+use Rattle.std.proofs.Common.{◌≡◌, ℕ, ◌<◌, ◌≤◌, Bool, true, false, cond, ◌&&◌, leb, eqb, ⊎_elim, List, [], ◌∷◌, ◌++◌, refl, sym, ◌∙◌, ap, subst, arith, Option, Some}
 use Rattle.std.specs.List.{list_all}
-use Rattle.std.proofs.lemmas.Bool.{leb-true, le-leb, lt-leb, false≢true}
+use Rattle.std.proofs.lemmas.Bool.{cases_lt, leb-true, le-leb, lt-leb, false≢true}
 use Rattle.std.proofs.lemmas.List.Elements.{filter-append}
 use Rattle.std.proofs.lemmas.List.Folds.{list_all-append}
 use Rattle.model.specs.declared.types.Entry.{Entry}
 use Rattle.model.specs.declared.types.Form.{Form}
 use Rattle.model.specs.Files.{Files}
-use Rattle.model.specs.Journal.{kept, is_changing, replay, and_then, after_answer}
+use Rattle.model.specs.Journal.{own, kept, is_changing, replay, and_then, after_answer}
 use Rattle.model.proofs.LogLemmas.{both_of}
 use Rattle.model.proofs.RunLemmas.{replays_in_parts}
-use Rattle.kernel.specs.Keeps.{AreUpTo}
+use Rattle.kernel.specs.Keeps.{AreUpTo, KeepsBeginnings}
+use mathlib.Core.List.{IsPrefix}
+use Rattle.std.proofs.lemmas.List.{append-nil, append_assoc}
 
 -- more entries at the end
 pub kept-append : (n k : ℕ) (es fs : List Entry) → kept n (es ++ fs) k ≡ kept n es k ++ kept n fs k
@@ -67,3 +69,34 @@ kept_not_changing n k e still = rw still refl
 pub replay_more : (form : Form) (files mid new : Files) (es : List Entry) (e : Entry) → replay form files es ≡ Some mid → after_answer form mid e.op e.reply ≡ Some new → replay form files (es ++ e ∷ []) ≡ Some new
 replay_more form files mid new es e first second =
     replays_in_parts form files es (e ∷ []) ∙ ap (λ (o : Option Files). and_then o (λ f. replay form f (e ∷ []))) first ∙ ap (λ (o : Option Files). and_then o (λ f. replay form f [])) second
+
+-- what is kept of any count of groups is a beginning
+pub beginnings_none : (n k : ℕ) → KeepsBeginnings n [] k
+beginnings_none n k c = ([], refl)
+
+pub beginnings_later : (n a b : ℕ) (es : List Entry) → AreUpTo a es → a ≤ b → KeepsBeginnings n es a → KeepsBeginnings n es b
+beginnings_later n a b es all le order c = subst (λ (l : List Entry). IsPrefix (kept n es c) l) (sym (kept_up_to n a b es all le)) (order c)
+
+pub beginnings_still : (n k : ℕ) (es : List Entry) (e : Entry) → is_changing n e.op ≡ false → KeepsBeginnings n es k → KeepsBeginnings n (es ++ e ∷ []) k
+beginnings_still n k es e still order c = subst (λ (l : List Entry). IsPrefix l (kept n (es ++ e ∷ []) k)) (sym (same c)) (subst (λ (l : List Entry). IsPrefix (kept n es c) l) (sym (same k)) (order c))
+  where
+    same : (m : ℕ) → kept n (es ++ e ∷ []) m ≡ kept n es m
+    same m = kept-append n m es (e ∷ []) ∙ ap (λ (fs : List Entry). kept n es m ++ fs) (kept_not_changing n m e still) ∙ append-nil (kept n es m)
+
+pub beginnings_more : (n k : ℕ) (es : List Entry) (e : Entry) → AreUpTo k es → is_changing n e.op ≡ true → e.group ≡ k → KeepsBeginnings n es k → KeepsBeginnings n (es ++ e ∷ []) k
+beginnings_more n k es e all changing group order c = ⊎_elim
+    (λ (before : c < k).
+    let same : kept n (es ++ e ∷ []) c ≡ kept n es c = kept-append n c es (e ∷ []) ∙ ap (λ (fs : List Entry). kept n es c ++ fs) (kept_not_yet n c e (omega (arith, group, before))) ∙ append-nil (kept n es c) in
+    let had = order c in
+    subst (λ (l : List Entry). IsPrefix l (kept n (es ++ e ∷ []) k)) (sym same) (had.0 ++ e ∷ [], sym (append_assoc (kept n es c) had.0 (e ∷ [])) ∙ ap (λ (l : List Entry). l ++ e ∷ []) had.1 ∙ sym (whole k (omega (arith, group)))))
+    (λ (later : k ≤ c).
+    let same : kept n (es ++ e ∷ []) c ≡ kept n (es ++ e ∷ []) k = whole c (omega (arith, group, later)) ∙ ap (λ (l : List Entry). l ++ e ∷ []) (kept_up_to n k c es all later) ∙ sym (whole k (omega (arith, group))) in
+    ([], append-nil (kept n (es ++ e ∷ []) c) ∙ same))
+    (cases_lt c k)
+  where
+    whole : (m : ℕ) → e.group ≤ m → kept n (es ++ e ∷ []) m ≡ kept n es m ++ e ∷ []
+    whole m le = kept-append n m es (e ∷ []) ∙ ap (λ (fs : List Entry). kept n es m ++ fs) (kept_one n m e changing le)
+
+-- so it is of each process's own entries
+pub own_beginning : (p : ℕ) (xs ys : List Entry) → IsPrefix xs ys → IsPrefix (own p xs) (own p ys)
+own_beginning p xs ys is = (own p is.0, sym (filter-append (λ (e : Entry). eqb e.pid p) xs is.0) ∙ ap (own p) is.1)

@@ -33,6 +33,7 @@ use Rattle.kernel.specs.Keeps.{HasFilesAfter, cleared, Recovers}
 use Rattle.kernel.specs.State.{HasNumbers, is_under_way_at}
 use Rattle.kernel.specs.Table.{Stands, IsTable, is_committing_at, is_searching_at}
 use Rattle.kernel.proofs.FilesAfter.{after_none}
+use Rattle.kernel.proofs.Kept.{beginnings_none}
 use Rattle.kernel.proofs.Recovers.{clear}
 
 -- the volume of a kernel that is opened on an image of so many blocks
@@ -135,6 +136,7 @@ opened_recovers image v d x y size n w is new none left same =
       lawful = empty_lawful (image d) empty;
       committed = subst (λ (z : Image). HasFilesAfter (image d) [] z) (sym (recovered_empty (image d) empty)) (after_none (image d) sound);
       groups = refl;
+      order = beginnings_none (inode_count_of (image d)) 0;
     })))
   where
     sound : IsSound (image d)

@@ -27,8 +27,8 @@ use Rattle.wal.specs.Volume.{VolumeState}
 use Rattle.wal.proofs.Commits.{outside_log}
 use Rattle.wal.proofs.Copies.{none_cleared}
 use Rattle.inodes.specs.Creation.{HasCreated}
-use Rattle.kernel.specs.Keeps.{HasFilesAfter, cleared, most_kept, KeepsBetween, KeepsNow, Recovers, AreUpTo}
-use Rattle.kernel.proofs.Kept.{kept-append, kept_up_to, up_to_later, up_to_one_more, kept_one, kept_not_yet, kept_not_changing}
+use Rattle.kernel.specs.Keeps.{HasFilesAfter, cleared, most_kept, KeepsBetween, KeepsNow, Recovers, AreUpTo, KeepsBeginnings}
+use Rattle.kernel.proofs.Kept.{kept-append, kept_up_to, up_to_later, up_to_one_more, kept_one, kept_not_yet, kept_not_changing, beginnings_later, beginnings_still, beginnings_more}
 use Rattle.kernel.proofs.FilesAfter.{after_elsewhere, after_no_inode, after_created}
 
 -- an image that has files is as long as its log
@@ -76,6 +76,7 @@ module _ (opening x : Image) (c : Buffers) (l : LogState) (es : List Entry) (r :
     lawful = r.lawful;
     committed = subst (λ (k : ℕ). HasFilesAfter opening (kept n es k) (recovered x)) (sym same) r.committed;
     groups = up_to_later l.opened m.opened es r.groups le;
+    order = beginnings_later n l.opened m.opened es r.groups le r.order;
   }
 
   -- the buffers go on, and show the same
@@ -85,6 +86,7 @@ module _ (opening x : Image) (c : Buffers) (l : LogState) (es : List Entry) (r :
     lawful = ap is_lawful_log is ∙ r.lawful;
     committed = subst (λ (z : Image). HasFilesAfter opening (kept n es l.committed) (recovered z)) (sym is) r.committed;
     groups = r.groups;
+    order = r.order;
   }
 
   -- an entry that changes nothing
@@ -94,6 +96,7 @@ module _ (opening x : Image) (c : Buffers) (l : LogState) (es : List Entry) (r :
     lawful = r.lawful;
     committed = subst (λ (fs : List Entry). HasFilesAfter opening fs (recovered x)) (sym (same l.committed)) r.committed;
     groups = up_to_one_more l.opened es e r.groups le;
+    order = beginnings_still n l.opened es e still r.order;
   }
     where
       same : (k : ℕ) → kept (inode_count_of opening) (es ++ e ∷ []) k ≡ kept (inode_count_of opening) es k
@@ -110,6 +113,7 @@ module _ (opening x : Image) (c : Buffers) (l : LogState) (es : List Entry) (r :
         (subst (λ (fs : List Entry). HasFilesAfter opening fs (recovered x))
         (sym (kept-append n l.committed es (e ∷ []) ∙ ap (λ (fs : List Entry). kept n es l.committed ++ fs) (kept_not_yet n l.committed e (omega (arith, group, later))) ∙ append-nil (kept n es l.committed))) r.committed);
     groups = up_to_one_more l.opened es e r.groups (omega (arith, group));
+    order = beginnings_more n l.opened es e r.groups changing group r.order;
   }
 
   -- the turn of a creation that found no number
@@ -147,6 +151,7 @@ module _ (opening x : Image) (c : Buffers) (l : LogState) (es : List Entry) (r :
         committed = subst (λ (k : ℕ). HasFilesAfter opening (kept n es k) (recovered x)) (sym committed)
             (subst (λ (z : Image). HasFilesAfter opening (kept n es l.opened) z) (sym current) (unclear opening (kept n es l.opened) (seen x c) empty r.current));
         groups = subst (λ (k : ℕ). AreUpTo k es) (sym opened) r.groups;
+        order = subst (λ (k : ℕ). KeepsBeginnings n es k) (sym opened) r.order;
       }
 
   -- what recovery gives after a write of a commit that got through
@@ -179,6 +184,7 @@ module _ (opening x : Image) (c : Buffers) (l : LogState) (es : List Entry) (r :
         lawful = lawful;
         committed = subst (λ (o : LogState). HasFilesAfter opening (kept n es o.committed) (recovered y)) (sym is) (after_write l.commit y keeps);
         groups = subst (λ (k : ℕ). AreUpTo k es) (sym opened) r.groups;
+        order = subst (λ (k : ℕ). KeepsBeginnings n es k) (sym opened) r.order;
       }
 
   -- a write of a commit that failed

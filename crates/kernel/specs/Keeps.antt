@@ -1,5 +1,6 @@
 -- What a kernel's disk keeps of its journal.
 use Rattle.std.specs.Prelude.{◌≡◌, ◌≢◌, ℕ, ◌+◌, ◌≤◌, nat_le, IsTrue, List, [], ◌++◌, length, slice_set, Option, Some, None}
+use mathlib.Core.List.{IsPrefix}
 use Rattle.std.specs.List.{list_all}
 use Rattle.blocks.specs.Block.{zero_block}
 use Rattle.blocks.specs.Disk.{Image}
@@ -65,6 +66,10 @@ pub record Grows {D : Type 0} (inode_count : ℕ) (v : VolumeState D) (before : 
   pub journal : after ≡ before ++ added
   pub later : kept inode_count added (most_of v) ≡ []
 
+-- what is kept of any count of groups is a beginning of what is kept of all up to that group
+abbrev pub KeepsBeginnings : ℕ → List Entry → ℕ → Type 0
+KeepsBeginnings inode_count entries group = (c : ℕ) → IsPrefix (kept inode_count entries c) (kept inode_count entries group)
+
 -- What disk, buffers and log have of the journal, while the disk has not failed.
 pub record Recovers (opening x : Image) (c : Buffers) (l : LogState) (entries : List Entry) : Type 0 where
   -- the current image has the files after all of the journal
@@ -74,3 +79,5 @@ pub record Recovers (opening x : Image) (c : Buffers) (l : LogState) (entries : 
   pub committed : HasFilesAfter opening (kept (inode_count_of opening) entries l.committed) (recovered x)
   -- no entry is of a group that wasn't opened
   pub groups : AreUpTo l.opened entries
+  -- the groups of the changing entries rise along the journal
+  pub order : KeepsBeginnings (inode_count_of opening) entries l.opened

@@ -69,7 +69,7 @@ impl<D: Disk, I: Intake, H: Herald> Kernel<D, I, H> {
     ghost use Rattle.blocks.specs.Disk.{Image, Elapses, LeavesOnly};
     ghost use Rattle.model.specs.Layout.{inode_count_of};
     ghost use Rattle.model.specs.Operations.{is_kind};
-    ghost use Rattle.model.specs.Journal.{kept};
+    ghost use Rattle.model.specs.Journal.{kept, own};
     ghost use Rattle.wal.specs.Joint.{seen};
     ghost use Rattle.kernel.specs.Histories.{HasHistory};
     ghost use Rattle.kernel.specs.Keeps.{HasFilesAfter, cleared, KeepsNow, KeepsBetween, Grows, most_of};
@@ -86,10 +86,12 @@ impl<D: Disk, I: Intake, H: Herald> Kernel<D, I, H> {
     /// files are the opening ones after the changing operations of the committed groups, in the
     /// order of the journal; after a fault in the write of a header, of those or of one group more.
     /// While the disk has not failed, the current image has the files after all of the journal.
+    /// What any count of groups keeps of a process's changing operations is a beginning of them.
     /// What was taken of a process, and given to it, is what the journal's entries of it say.
     pub fn known(&self)
         ensures keeps { (x : Image) → D.leaves self.now.volume.device (D.moment self.now.volume.device) x → KeepsNow self.now.volume (D.image self.now.opening) self.now.world.journal.list x }
         ensures current { IfNone self.now.volume.fault (HasFilesAfter (D.image self.now.opening) (kept (inode_count_of (D.image self.now.opening)) self.now.world.journal.list self.now.volume.log.opened) (cleared (seen (D.image self.now.volume.device) self.now.volume.buffers))) }
+        ensures beginnings { (p c : ℕ) → IfNone self.now.volume.fault (IsPrefix (own p (kept (inode_count_of (D.image self.now.opening)) self.now.world.journal.list c)) (own p (kept (inode_count_of (D.image self.now.opening)) self.now.world.journal.list self.now.volume.log.opened))) }
         ensures histories { (p : ℕ) → HasHistory (I.fits self.now.intake) self.now.world p }
     {
         let _ = &self.volume;
@@ -111,6 +113,7 @@ impl<D: Disk, I: Intake, H: Herald> Kernel<D, I, H> {
 
         // What a stop leaves, now and in this step.
         ensures keeps { (x : Image) → D.leaves self.new.volume.device (D.moment self.new.volume.device) x → KeepsNow self.new.volume (D.image self.new.opening) self.new.world.journal.list x }
+        ensures time { Elapses (D.moment self.old.volume.device) (D.moment self.new.volume.device) (D.leaves self.old.volume.device) (D.leaves self.new.volume.device) }
         ensures grows { Grows (inode_count_of (D.image self.old.opening)) self.old.volume self.old.world.journal.list self.new.volume self.new.world.journal.list }
         ensures leaves { LeavesOnly D.moment D.leaves self.old.volume.device self.new.volume.device (KeepsBetween self.old.volume.log.committed (most_of self.new.volume) (D.image self.new.opening) self.new.world.journal.list) }
     {
