@@ -1,5 +1,6 @@
 //! Trials of the crates together: the check against the plain program, on images that are hurt byte
-//! by byte, on files cut short, and on disks that fail. The crate has no code but these tests.
+//! by byte, on files cut short, and on disks that fail; and 32 processes of a kernel, stopped before
+//! each of their writes. The crate has no code but these tests.
 #![tactic(auto)]
 
 #[cfg(test)]
@@ -10,3 +11,5 @@ mod failing;
 mod hostile;
 #[cfg(test)]
 mod images;
+#[cfg(test)]
+mod stops;
