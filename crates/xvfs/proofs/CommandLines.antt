@@ -1,10 +1,17 @@
--- A command line with one word or one command more.
-use Rattle.std.proofs.Common.{◌≡◌, ◌∙◌, ap, ap₂, Bool, false, ◌||◌}
+-- The command line, word by word, and what a parse of it says.
+use Rattle.std.proofs.Common.{◌≡◌, ◌∙◌, ℕ, List, [], Bool, true, false, ◌||◌, Option, Some, None, Ok, Err, refl, sym, ap, ap₂, subst, inl, codes}
+use Rattle.std.specs.Prelude.{⊤, MatchOption, option_map, unwrap_or}
 use Rattle.clap.specs.Built.{AddsArg, AddsSubcommand}
-use Rattle.clap.specs.Words.{App, Rule, rule_of, with_rule, with_subcommand}
+use Rattle.clap.specs.Words.{App, FailsBy, HasKind, HasMatchesOf, Row, Rule, fault_of, first_of, first_value, is_simple, is_simple_and_free, rows_of, rule_of, subcommand_of, subcommand_rows_of, with_rule, with_subcommand}
 use Rattle.clap.specs.declared.builder.arg.Arg.{Arg}
 use Rattle.clap.specs.declared.builder.command.Command.{Command}
-use Rattle.xvfs.specs.CommandLine.{HasApp}
+use Rattle.clap.specs.declared.error.Error.{Error}
+use Rattle.clap.specs.declared.parser.matches.ArgMatches.{ArgMatches}
+use Rattle.clap.specs.declared.parser.matches.Found.{Found}
+use Rattle.clap.proofs.OnLiterals.{clap_on_literals}
+use Rattle.clap.proofs.WalkLemmas.{first_value-rows}
+use Rattle.xvfs.specs.declared.words.Request.{Request}
+use Rattle.xvfs.specs.CommandLine.{Asks, AsksBy, HasApp, IsMistakeIn, mistakes_in, xvfs_app}
 
 pub one_word : (app : App) (rule : Rule) (old : Command) (word : Arg) (new : Command) → HasApp app old → rule_of word ≡ rule → word.global ≡ false → AddsArg old word new → HasApp (with_rule app rule) new
 one_word app rule old word new has is local adds =
@@ -13,3 +20,42 @@ one_word app rule old word new has is local adds =
 pub one_command : (app sub : App) (old added new : Command) → HasApp app old → HasApp sub added → AddsSubcommand old added new → HasApp (with_subcommand app sub.top) new
 one_command app sub old added new has own adds =
     (adds.shape own.1 ∙ ap₂ with_subcommand has.0 (ap (λ (a : App). a.top) own.0), adds.globals ∙ ap₂ (λ (a b : Bool). a || b) has.1 own.1)
+
+-- the program's command line is one that clap's definitions read
+simple : is_simple xvfs_app ≡ true
+unfolding clap_on_literals
+simple = refl
+
+free : is_simple_and_free xvfs_app ≡ true
+unfolding clap_on_literals
+free = refl
+
+-- words that a parse took have no mistake
+pub none_mistaken : (app : App) (words : List (List ℕ)) (m : ArgMatches) → app ≡ xvfs_app → (is_simple_and_free app ≡ true → FailsBy (fault_of app words) (Ok m)) → mistakes_in words ≡ []
+none_mistaken app words m is fails = subst (λ (a : App). fault_of a words ≡ []) is (fails (ap is_simple_and_free is ∙ free))
+
+-- words that a parse refused have the error's kind of mistake
+pub mistaken : (app : App) (words : List (List ℕ)) (e : Error) → app ≡ xvfs_app → (is_simple_and_free app ≡ true → FailsBy {T = ArgMatches} (fault_of app words) (Err e)) → IsMistakeIn words e
+mistaken app words e is fails = inl (subst (λ (a : App). HasKind (fault_of a words) e) is (fails (ap is_simple_and_free is ∙ free)))
+
+-- the command that a parse met is the words'
+pub met : (app : App) (words : List (List ℕ)) (m : ArgMatches) (request : Request) → app ≡ xvfs_app → HasMatchesOf app words m → Asks (subcommand_rows_of m) request → Asks (subcommand_of xvfs_app words) request
+met app words m request is matches asks =
+    subst (λ command. Asks command request) ((matches (ap is_simple is ∙ simple)).1 ∙ ap (λ (a : App). subcommand_of a words) is) asks
+
+some_is : {A : Type 0} (x y : A) → Some x ≡ Some y → x ≡ y
+some_is x y same = ap (λ o. unwrap_or o x) same
+
+some_is_not_none : {A : Type 0} (x : A) → Some x ≡ None → ⊥
+some_is_not_none x same = subst (λ o. MatchOption o ⊥ (λ _. ⊤)) same tt
+
+-- a request of the command that was met
+pub asked : {B : Type 0} (f : B → List ℕ × List Row) (sub : Option B) (name : List ℕ) (rows : List Row) (request : Request) → Some name ≡ option_map (λ b. (f b).0) sub → Some rows ≡ option_map (λ p. p.1) (option_map f sub)
+    → AsksBy name rows request → Asks (option_map f sub) request
+asked f None name rows request named has asks = absurd (some_is_not_none name named)
+asked f (Some b) name rows request named has asks =
+    subst (λ n. AsksBy n (f b).1 request) (some_is name (f b).0 named) (subst (λ rs. AsksBy name rs request) (some_is rows (f b).1 has) asks)
+
+-- the first value of a word
+pub value_read : (f : Found) (id text : List ℕ) → Some text ≡ first_value f id → first_of id (rows_of f) ≡ Some text
+value_read f id text gives = sym (gives ∙ first_value-rows f id)

@@ -1,6 +1,10 @@
 -- The command line, as clap is told it.
-use Rattle.std.specs.Prelude.{◌≡◌, ℕ, List, Some, true, false, codes, pos}
-use Rattle.clap.specs.Words.{App, Rule, new_app, new_rule, app_of, with_rule, with_subcommand}
+use Rattle.std.specs.Prelude.{◌≡◌, ◌⊎◌, ℕ, List, [], Option, Some, None, true, false, codes, pos}
+use Rattle.clap.specs.Words.{App, HasKind, Kinds, Row, Rule, new_app, new_rule, app_of, fault_of, first_of, kind_of, subcommand_of, with_rule, with_subcommand}
+use Rattle.clap.specs.declared.error.Error.{Error}
+use Rattle.clap.specs.declared.error.kind.ErrorKind.TheVariants as kind
+use Rattle.xvfs.specs.declared.words.Request.{Request}
+use Rattle.xvfs.specs.declared.words.Request.TheVariants.{Mkfs, Check, Recover, Replay}
 use Rattle.clap.specs.declared.builder.command.Command.{Command}
 use Rattle.clap.specs.declared.builder.command.Command.TheViews.{out-Command}
 use Rattle.clap.specs.declared.builder.value_parser.ValueParser.TheVariants.{Signed, Unsigned}
@@ -44,3 +48,27 @@ xvfs_app =
 -- a command of this shape, whose arguments are its own
 abbrev pub HasApp : App → Command → Type 0
 HasApp app c = (app_of c ≡ app) × ((out-Command c).has_globals ≡ false)
+
+-- the kinds of mistake in these words, and of answers about the program; none where they make a command
+abbrev pub mistakes_in : List (List ℕ) → Kinds
+mistakes_in words = fault_of xvfs_app words
+
+-- a command of this name, with these values, asks for the request
+abbrev pub AsksBy : List ℕ → List Row → Request → Type 0
+AsksBy name rows (Mkfs image size ninodes) = (name ≡ codes "mkfs") × (first_of (codes "IMAGE") rows ≡ Some image.now)
+AsksBy name rows (Check image) = (name ≡ codes "check") × (first_of (codes "IMAGE") rows ≡ Some image.now)
+AsksBy name rows (Recover image) = (name ≡ codes "recover") × (first_of (codes "IMAGE") rows ≡ Some image.now)
+AsksBy name rows (Replay image script schedule stop) =
+    (name ≡ codes "replay") × (first_of (codes "IMAGE") rows ≡ Some image.now) × (first_of (codes "SCRIPT") rows ≡ Some script.now) × (first_of (codes "SCHEDULE") rows ≡ Some schedule.now)
+
+abbrev pub Asks : Option (List ℕ × List Row) → Request → Type 0
+Asks None request = ⊥
+Asks (Some command) request = AsksBy command.0 command.1 request
+
+-- the words make a command, which asks for the request
+abbrev pub AskFor : List (List ℕ) → Request → Type 0
+AskFor words request = (mistakes_in words ≡ []) × Asks (subcommand_of xvfs_app words) request
+
+-- the error is a mistake in the words, or that memory was refused
+abbrev pub IsMistakeIn : List (List ℕ) → Error → Type 0
+IsMistakeIn words e = HasKind (mistakes_in words) e ⊎ (kind_of e ≡ kind.MissingSubcommand)

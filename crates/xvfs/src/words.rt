@@ -1,7 +1,7 @@
 // The words of a command line.
-ghost use Rattle.std.specs.Prelude.{◌≡◌, false, codes, IfOk};
-ghost use Rattle.clap.specs.Words.{rule_of};
-ghost use Rattle.xvfs.specs.CommandLine.{HasApp, image_app, mkfs_app, number_rule, replay_app, required_rule, stop_rule, xvfs_app};
+ghost use Rattle.std.specs.Prelude.{◌≡◌, false, codes, map, IfErr, IfOk, IfSome};
+ghost use Rattle.clap.specs.Words.{rule_of, subcommand_rows_of};
+ghost use Rattle.xvfs.specs.CommandLine.{AskFor, Asks, HasApp, IsMistakeIn, image_app, mkfs_app, number_rule, replay_app, required_rule, stop_rule, xvfs_app};
 
 use clap::error::ErrorKind;
 use clap::{Arg, ArgMatches, Command, Error, value_parser};
@@ -48,8 +48,11 @@ pub enum Request<'a> {
 /// # Errors
 ///
 /// What clap answers: a mistake in the words, the text of help or of the version, or want of memory.
-/// What words it takes is clap's, so there is no clause; the tests compare the answers.
-pub fn parse<'a, S: AsStr>(alloc: Global, words: &'a [S]) -> Result<Request<'a>, Error> {
+/// How it reads words is clap's definition, at this program's command line.
+pub fn parse<'a, S: AsStr>(alloc: Global, words: &'a [S]) -> Result<Request<'a>, Error>
+    ensures ok { IfOk result (AskFor (map S.text words.entry.now)) }
+    ensures err { IfErr result (IsMistakeIn (map S.text words.entry.now)) }
+{
     let mut program = program(alloc)?;
     let matches = program.try_get_matches_from_mut(words)?;
     match request_of(&matches) {
@@ -59,7 +62,9 @@ pub fn parse<'a, S: AsStr>(alloc: Global, words: &'a [S]) -> Result<Request<'a>,
 }
 
 // What the words ask for, if none of them is missing.
-fn request_of<'a>(matches: &ArgMatches<'a>) -> Option<Request<'a>> {
+fn request_of<'a>(matches: &ArgMatches<'a>) -> Option<Request<'a>>
+    ensures { IfSome result (Asks (subcommand_rows_of matches.now)) }
+{
     let (name, values) = matches.subcommand()?;
     let image = values.get_str("IMAGE")?;
     match name {
