@@ -3,3 +3,4 @@ pub mod Refused
 pub mod Backlogs
 pub mod Reading
 pub mod CommandLines
+pub mod Undone

@@ -140,3 +140,23 @@ IsOfCheck (File _) = ⊤
 IsOfCheck (Check _) = ⊤
 IsOfCheck Output = ⊤
 IsOfCheck _ = ⊥
+
+-- those of `mkfs`: of the size or the number of inodes, of the file, or of the output
+abbrev pub IsOfMkfs : Refusal → Type 0
+IsOfMkfs (Mkfs _) = ⊤
+IsOfMkfs (File _) = ⊤
+IsOfMkfs Output = ⊤
+IsOfMkfs _ = ⊥
+
+-- those of `recover`: of the file, of the image, of the recovery, or of the output
+abbrev pub IsOfRecover : Refusal → Type 0
+IsOfRecover (File _) = ⊤
+IsOfRecover (Check _) = ⊤
+IsOfRecover (Recover _) = ⊤
+IsOfRecover Output = ⊤
+IsOfRecover _ = ⊥
+
+-- those of the words and lines that the program is given
+abbrev pub IsOfInput : Refusal → Type 0
+IsOfInput (Input _) = ⊤
+IsOfInput _ = ⊥

@@ -1,13 +1,19 @@
 -- What a request is answered.
-use Rattle.std.specs.Prelude.{◌≢◌, ℕ, List, Option, unwrap_or}
+use Rattle.std.specs.Prelude.{◌≡◌, ◌≢◌, ◌⊎◌, ℕ, List, Option, unwrap_or}
+use Rattle.clap.specs.Words.{IsAmong, kind_of}
+use Rattle.clap.specs.declared.error.Error.{Error}
 use Rattle.std.specs.Io.KnownBytes.{Appends}
 use Rattle.model.specs.Layout.{planned_super}
 use Rattle.scripts.specs.declared.schedule.Word.{Word}
+use Rattle.xvfs.specs.declared.command.Failure.{Failure}
+use Rattle.xvfs.specs.declared.command.Failure.TheVariants.{Refused, Misused}
 use Rattle.xvfs.specs.declared.words.Request.{Request}
 use Rattle.xvfs.specs.declared.words.Request.TheVariants.{Mkfs, Check, Recover, Replay}
 use Rattle.xvfs.specs.declared.refusal.Refusal.{Refusal}
 use Rattle.xvfs.specs.declared.refusal.Refusal.TheVariants.{Output}
 use Rattle.xvfs.specs.Output.{numbers_text, report_text, copied_text}
+use Rattle.xvfs.specs.CommandLine.{AskFor, IsMistakeIn, mistakes_in}
+use Rattle.xvfs.specs.Status.{IsMisuse}
 use Rattle.xvfs.specs.Turns.{PrintsRun, OnRefusal}
 
 -- a request was done, and its answer printed
@@ -23,3 +29,16 @@ OnRefused (Mkfs image size ninodes) r old new none = r ≢ Output → none
 OnRefused (Check image) r old new none = r ≢ Output → none
 OnRefused (Recover image) r old new none = r ≢ Output → none
 OnRefused (Replay image script schedule stop) r old new none = OnRefusal r ((words : List Word) × PrintsRun (unwrap_or stop 0) words old new) none
+
+-- the words ask for help or for the version
+abbrev pub AskForHelp : List (List ℕ) → Type 0
+AskForHelp words = (text : Error) × IsAmong (kind_of text) (mistakes_in words) × (¬ (IsMisuse text))
+
+-- a request of the words was done and answered; what is printed of help is clap's
+abbrev pub IsDone : List (List ℕ) → Option (List ℕ) → Option (List ℕ) → Type 0
+IsDone words old new = ((request : Request) × AskFor words request × Answers request old new) ⊎ AskForHelp words
+
+-- why nothing that the words ask for was done; `none` says that nothing was printed
+abbrev pub IsUndone : List (List ℕ) → Option (List ℕ) → Option (List ℕ) → Type 0 → Failure → Type 0
+IsUndone words old new none (Refused r) = ((request : Request) × AskFor words request × OnRefused request r old new none) ⊎ (AskForHelp words × (r ≡ Output))
+IsUndone words old new none (Misused text) = none × IsMistakeIn words text

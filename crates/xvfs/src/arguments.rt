@@ -1,4 +1,7 @@
 // The words that the program was started with.
+ghost use Rattle.std.specs.Prelude.{IfErr};
+ghost use Rattle.xvfs.specs.Refusal.{IsOfInput};
+
 use crate::refusal::{InputFault, Refusal};
 use std::env;
 use std::rt::Env;
@@ -9,7 +12,9 @@ use std::rt::Env;
 ///
 /// `InputFault::NoMemory` where memory is refused; `InputFault::Read` where the system doesn't give
 /// them, or one is no UTF-8.
-pub fn given<R: Env + AllocGlobal>(rt: &R) -> Result<Vec<String>, Refusal> {
+pub fn given<R: Env + AllocGlobal>(rt: &R) -> Result<Vec<String>, Refusal>
+    ensures { IfErr result IsOfInput }
+{
     let arguments = env::args(rt).map_err(InputFault::from)?;
     let words: Vec<String> = arguments
         .skip(1)

@@ -1,7 +1,9 @@
 // One command, and the exit status that it ends with.
-ghost use Rattle.std.specs.Prelude.{◌≡◌, ◌≤◌, Err, OnOk, IfErr, IsOkUnless};
-ghost use Rattle.xvfs.specs.Requests.{Answers, OnRefused};
+ghost use Rattle.std.specs.Prelude.{◌≡◌, ◌≤◌, map, Err, OnOk, IfErr, IsOkUnless};
+ghost use Rattle.xvfs.specs.Requests.{Answers, IsDone, IsUndone, OnRefused};
 ghost use Rattle.xvfs.specs.Status.{IsMisuse, IsUnprinted, status_of};
+ghost use Rattle.xvfs.specs.declared.command.Failure.TheVariants as failure;
+ghost use Rattle.xvfs.specs.declared.refusal.Refusal.{Refusal as SomeRefusal};
 ghost use Rattle.xvfs.specs.Output.{Tells};
 
 use crate::checking::check_file;
@@ -38,8 +40,10 @@ impl From<Refusal> for Failure {
 /// answers to `out`, and why it wasn't done to `err`, as far as that can be written. The exit status:
 /// 0 where it was done, 1 for a refusal, 2 where the words are no command.
 ///
-/// Nothing is written to `err` where the status is 0, nor to `out` where it is 2. Else no contract
-/// tells what they get, since each may fail at any byte.
+/// With 0 the words make a command, and `out` has its answer; or they ask for help or the version,
+/// whose text is clap's. With 1 they do too, and nothing was printed, but of a replay whose disk failed
+/// and of an output that failed. With 2 nothing is written to `out`, with 0 nothing to `err`. What else
+/// `err` gets no contract tells, since it may fail at any byte.
 pub fn command<R: Files + AllocGlobal, S: AsStr, O: Write, E: Write>(
     rt: &R,
     words: &[S],
@@ -47,6 +51,8 @@ pub fn command<R: Files + AllocGlobal, S: AsStr, O: Write, E: Write>(
     err: &mut E,
 ) -> u8
     ensures status { result ≤ 2 }
+    ensures done { result ≡ 0 → IsDone (map S.text words.now) (O.contents out.old) (O.contents out.new) }
+    ensures refused { result ≡ 1 → (r : SomeRefusal) × IsUndone (map S.text words.now) (O.contents out.old) (O.contents out.new) (out.new ≡ out.old) (failure.Refused r) }
     ensures silent { result ≡ 0 → err.new ≡ err.old }
     ensures misused { result ≡ 2 → out.new ≡ out.old }
 {
@@ -93,7 +99,9 @@ fn perform<R: Files + AllocGlobal, S: AsStr, O: Write>(
     words: &[S],
     out: &mut O,
 ) -> Result<(), Failure>
-    ensures { IfErr result (λ failure. status_of (Err failure) ≡ 2 → out.new ≡ out.old) }
+    ensures ok { OnOk result (IsDone (map S.text words.now) (O.contents out.old) (O.contents out.new)) }
+    ensures err { IfErr result (IsUndone (map S.text words.now) (O.contents out.old) (O.contents out.new) (out.new ≡ out.old)) }
+    ensures silent { IfErr result (λ failure. status_of (Err failure) ≡ 2 → out.new ≡ out.old) }
 {
     match parse(rt.alloc(), words) {
         Ok(request) => Ok(dispatch(rt, request, out)?),

@@ -5,6 +5,7 @@ ghost use Rattle.std.specs.Result.{IsErrOf};
 ghost use Rattle.model.specs.Layout.{is_inode_count, is_size, planned_super};
 ghost use Rattle.xvfs.specs.declared.refusal.Refusal.TheVariants as refusal;
 ghost use Rattle.xvfs.specs.Output.{numbers_text};
+ghost use Rattle.xvfs.specs.Refusal.{IsOfMkfs};
 ghost use Rattle.layout.specs.declared.geometry.MkfsFault.TheVariants as fault;
 
 use crate::output::print;
@@ -31,6 +32,7 @@ pub fn make<R: Files + AllocGlobal, O: Write>(
 ) -> Result<(), Refusal>
     ensures printed { OnOk result (Appends (O.contents out.old) (O.contents out.new) (numbers_text (planned_super size ninodes))) }
     ensures silent { IfErr result (λ r. r ≢ refusal.Output → out.new ≡ out.old) }
+    ensures layers { IfErr result IsOfMkfs }
     ensures inodes { IsErrOf result (refusal.Mkfs fault.InodeRange) ↔ (is_inode_count ninodes ≡ false) }
     ensures size { IsErrOf result (refusal.Mkfs fault.SizeRange) ↔ (IsTrue (is_inode_count ninodes) × (is_size size ninodes ≡ false)) }
 {
@@ -46,6 +48,7 @@ fn make_image<R: Files + AllocGlobal>(
     ninodes: u32,
 ) -> Result<Super, Refusal>
     ensures ok { IfOk result (λ fields. fields ≡ planned_super size ninodes) }
+    ensures layers { IfErr result IsOfMkfs }
     ensures inodes { IsErrOf result (refusal.Mkfs fault.InodeRange) ↔ (is_inode_count ninodes ≡ false) }
     ensures size { IsErrOf result (refusal.Mkfs fault.SizeRange) ↔ (IsTrue (is_inode_count ninodes) × (is_size size ninodes ≡ false)) }
 {

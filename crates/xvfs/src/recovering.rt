@@ -9,6 +9,7 @@ ghost use Rattle.wal.specs.Recovery.{RecoversAs, writes_to_recover};
 ghost use Rattle.xvfs.specs.declared.refusal.Refusal.TheVariants as refusal;
 ghost use Rattle.xvfs.specs.Output.{copied_text};
 ghost use Rattle.xvfs.specs.Recovering.{Refuses};
+ghost use Rattle.xvfs.specs.Refusal.{IsOfRecover};
 
 use crate::output::print;
 use crate::refusal::Refusal;
@@ -33,6 +34,7 @@ pub fn recover_file<R: Files + AllocGlobal, O: Write>(
 ) -> Result<(), Refusal>
     ensures printed { OnOk result ((copied : ℕ) × Appends (O.contents out.old) (O.contents out.new) (copied_text copied)) }
     ensures silent { IfErr result (λ r. r ≢ refusal.Output → out.new ≡ out.old) }
+    ensures layers { IfErr result IsOfRecover }
 {
     let mut disk = FileDisk::open(rt, image)?;
     let copied = recover_disk(rt.alloc(), &mut disk)?;
@@ -53,6 +55,7 @@ pub fn recover_disk<D: Disk>(alloc: Global, disk: &mut D) -> Result<u32, Refusal
     ensures none { OnOk result (logged_count (D.image disk.new) ≡ 0) }
     ensures count { IfOk result (λ copied. copied ≡ logged_count (D.image disk.old)) }
     ensures writes { IfOk result (λ copied. D.write_count disk.new ≡ counted (D.write_count disk.old) (writes_to_recover copied)) }
+    ensures layers { IfErr result IsOfRecover }
     ensures refused { IfErr result (λ r. Refuses D.image D.fault_count disk.old disk.new r) }
     ensures any_moment { LeavesOnly D.moment D.leaves disk.old disk.new (RecoversAs (D.image disk.old)) }
 {
