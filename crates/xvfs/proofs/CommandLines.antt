@@ -1,5 +1,5 @@
 -- The command line, word by word, and what a parse of it says.
-use Rattle.std.proofs.Common.{◌≡◌, ◌∙◌, ℕ, List, [], Bool, true, false, ◌||◌, Option, Some, None, Ok, Err, refl, sym, ap, ap₂, subst, inl, codes}
+use Rattle.std.proofs.Common.{◌≡◌, ◌∙◌, ℕ, List, [], Bool, true, false, ◌||◌, Option, Some, None, Ok, Err, refl, sym, ap, ap₂, subst, inl}
 use Rattle.std.specs.Prelude.{⊤, MatchOption, option_map, unwrap_or}
 use Rattle.clap.specs.Built.{AddsArg, AddsSubcommand}
 use Rattle.clap.specs.Words.{App, FailsBy, HasKind, HasMatchesOf, Row, Rule, fault_of, first_of, first_value, is_simple, is_simple_and_free, rows_of, rule_of, subcommand_of, subcommand_rows_of, with_rule, with_subcommand}

@@ -1,4 +1,4 @@
-use Rattle.std.proofs.Common.{◌≡◌, map, rules}
+use Rattle.std.proofs.Common.{map, rules}
 use Rattle.xvfs.specs.CommandLine.{IsMistakeIn}
 use Rattle.xvfs.proofs.CommandLines.{met, mistaken, none_mistaken}
 use Rattle.xvfs.proofs.words.parse.Goals as goal

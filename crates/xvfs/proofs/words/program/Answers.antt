@@ -1,4 +1,4 @@
-use Rattle.std.proofs.Common.{◌≡◌, codes, rules}
+use Rattle.std.proofs.Common.{codes, rules}
 use Rattle.std.proofs.lemmas.Result.{IfOk-weaker}
 use Rattle.xvfs.specs.CommandLine.{HasApp, bare_app, image_app, mkfs_app, replay_app}
 use Rattle.xvfs.proofs.CommandLines.{one_command}

@@ -1,4 +1,4 @@
-use Rattle.std.proofs.Common.{◌≡◌, codes, rules}
+use Rattle.std.proofs.Common.{codes, rules}
 use Rattle.clap.specs.Words.{found_of, rows_of}
 use Rattle.xvfs.proofs.CommandLines.{asked, value_read}
 use Rattle.xvfs.proofs.words.request_of.Goals as goal
