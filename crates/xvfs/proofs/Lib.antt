@@ -4,3 +4,4 @@ pub mod Backlogs
 pub mod Reading
 pub mod CommandLines
 pub mod Undone
+pub mod Sequences

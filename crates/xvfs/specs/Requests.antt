@@ -1,5 +1,5 @@
 -- What a request is answered.
-use Rattle.std.specs.Prelude.{◌≡◌, ◌≢◌, ◌⊎◌, ℕ, List, Option, unwrap_or}
+use Rattle.std.specs.Prelude.{◌≡◌, ◌≢◌, ◌⊎◌, ℕ, List, [], ◌∷◌, Option, unwrap_or}
 use Rattle.clap.specs.Words.{IsAmong, kind_of}
 use Rattle.clap.specs.declared.error.Error.{Error}
 use Rattle.std.specs.Io.KnownBytes.{Appends}
@@ -42,3 +42,8 @@ IsDone words old new = ((request : Request) × AskFor words request × Answers r
 abbrev pub IsUndone : List (List ℕ) → Option (List ℕ) → Option (List ℕ) → Type 0 → Failure → Type 0
 IsUndone words old new none (Refused r) = ((request : Request) × AskFor words request × OnRefused request r old new none) ⊎ (AskForHelp words × (r ≡ Output))
 IsUndone words old new none (Misused text) = none × IsMistakeIn words text
+
+-- the commands of these lines were done, one after the other
+abbrev pub AreDone : List (List (List ℕ)) → Option (List ℕ) → Option (List ℕ) → Type 0
+AreDone [] old new = new ≡ old
+AreDone (words ∷ rest) old new = (mid : Option (List ℕ)) × IsDone words old mid × AreDone rest mid new

@@ -3,6 +3,7 @@ ghost use Rattle.std.specs.Prelude.{◌≡◌, ◌≤◌, ◌<◌, ◌↔◌, []
 ghost use Rattle.std.specs.Result.{IsErrOf};
 ghost use Rattle.std.specs.Str.{IsUtf8};
 ghost use Rattle.xvfs.specs.Lines.{lines_in, words_in, script_in};
+ghost use Rattle.xvfs.specs.Requests.{AreDone};
 
 use crate::command::{command, refuse};
 use crate::refusal::InputFault;
@@ -15,7 +16,7 @@ pub const LIMIT: usize = 65_536;
 
 /// Does the commands of a text: each line is one, its words have one space between them, and empty
 /// lines are none. Ends at the first whose exit status isn't 0, and answers that, else 0. Prints as
-/// `command` does, and so nothing to `err` where the status is 0. Status 1, and no command is done,
+/// `command` does, and so nothing to `err` where the status is 0; then each line's command was done. Status 1, and no command is done,
 /// where the text can't be had.
 pub fn commands<R: Files + AllocGlobal, I: Read + Drop, O: Write, E: Write>(
     rt: &R,
@@ -25,6 +26,7 @@ pub fn commands<R: Files + AllocGlobal, I: Read + Drop, O: Write, E: Write>(
 ) -> u8
     ensures status { result ≤ 2 }
     ensures large { IfSome (I.remaining input) (λ bytes. LIMIT < length bytes → (result ≡ 1) × (out.new ≡ out.old)) }
+    ensures done { IfSome (I.remaining input) (λ bytes. result ≡ 0 → AreDone (script_in (lines_in bytes)) (O.contents out.old) (O.contents out.new)) }
     ensures silent { result ≡ 0 → err.new ≡ err.old }
 {
     match read_text(rt.alloc(), input) {
@@ -61,6 +63,7 @@ fn perform_text<R: Files + AllocGlobal, O: Write, E: Write>(
     err: &mut E,
 ) -> u8
     ensures status { result ≤ 2 }
+    ensures done { result ≡ 0 → AreDone (script_in (lines_in text.now)) (O.contents out.old) (O.contents out.new) }
     ensures silent { result ≡ 0 → err.new ≡ err.old }
 {
     match script_of(rt.alloc(), text) {
@@ -77,6 +80,7 @@ fn perform_lines<R: Files + AllocGlobal, O: Write, E: Write>(
 ) -> u8
     ensures status { result ≤ 2 }
     ensures none { lines.now ≡ [] → (result ≡ 0) × (out.new ≡ out.old) }
+    ensures done { result ≡ 0 → AreDone (map (λ words. map (λ word. word.now) words.items) lines.now) (O.contents out.old) (O.contents out.new) }
     ensures silent { result ≡ 0 → err.new ≡ err.old }
 {
     for words in lines {

@@ -1,0 +1,20 @@
+use Rattle.std.proofs.Common.{rules, arith, refl, ◌≡◌, ◌<◌, ◌∙◌, ap, sym, subst, length, map}
+use Rattle.std.proofs.lemmas.List.{take_more, map-append}
+use Rattle.xvfs.specs.Requests.{IsDone, AreDone}
+use Rattle.xvfs.proofs.Sequences.{one_more_done}
+use Rattle.xvfs.proofs.commands.perform_lines.Goals as goal
+
+pub loop-words-init : goal.loop-words-init
+loop-words-init g c = record { silent = refl; none = λ e. refl; done = refl }
+
+pub loop-words-preserved : goal.loop-words-preserved
+loop-words-preserved g c =
+    let lt : c.loop-words.words-index < length c.args.lines.now = search rules in
+    record {
+      silent = search rules;
+      none = λ e. let none : length c.args.lines.now ≡ 0 = ap length e in absurd (omega (arith, lt, none));
+      done = subst (λ ls. AreDone ls (g.O.Write.contents c.args.out.now) (g.O.Write.contents c.command-status.new.out))
+          (sym (ap (map _) (take_more c.args.lines.now c.loop-words.words-index _ lt) ∙ map-append _ _ _))
+          (one_more_done _ _ _ _ _ c.loop-words.invariant.done
+          (subst (λ ws. IsDone (map (λ word. word.now) ws) (g.O.Write.contents c.loop-words.out) (g.O.Write.contents c.command-status.new.out)) (c.as_slice.ensures.value ∙ ap (λ v. v.items) c.words-item.is) (c.command-status.ensures.done (search rules))));
+    }
