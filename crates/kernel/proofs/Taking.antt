@@ -1,6 +1,7 @@
 -- Each event keeps the histories of the processes.
 use Rattle.std.proofs.Common.{◌≡◌, ◌≢◌, ℕ, ◌+◌, ◌<◌, Bool, true, false, cond, eqb, List, [], ◌∷◌, ◌++◌, length, map, get_or, set, refl, sym, ◌∙◌, ap, subst, ⊎_elim, Option, Some, None}
 use Rattle.std.specs.Option.{option_map}
+use Rattle.std.specs.Prelude.{Result, Ok, Err, IfOk, OnErr}
 use Rattle.std.proofs.lemmas.Bool.{cases_eq, eq-eqb, ne_eqb, false≢true}
 use Rattle.std.proofs.lemmas.List.{get_or-set_same, get_or-set_other, append-nil, length-append, map-append}
 use Rattle.std.proofs.lemmas.List.Elements.{filter-append}
@@ -231,3 +232,12 @@ search_kind {D} x cur v u p m n made = by_slot m.slot made
     by_slot : (o : Option ℕ) → AllocatesAt o x cur m v p progress.Moved n u → n.kind ≡ m.kind
     by_slot None made = ap (λ (o : Ialloc). o.kind) made.2
     by_slot (Some s) made = by_looks s (lowest_free (block_at cur m.block) m.inode_count m.block) (is_last_block m) made
+
+-- what holds of each answer, and of each refusal
+pub where_ok : {A B : Type 0} (P Q : A → Type 0) (r : Result A B) → ((a : A) → P a → Q a) → IfOk r P → IfOk r Q
+where_ok P Q (Ok a) goes p = goes a p
+where_ok P Q (Err b) goes p = p
+
+pub where_err : {A B : Type 0} (P Q : Type 0) (r : Result A B) → (P → Q) → OnErr r P → OnErr r Q
+where_err P Q (Ok a) goes p = p
+where_err P Q (Err b) goes p = goes p

@@ -1,7 +1,8 @@
 // What processes do to the queues of a kernel.
-ghost use Rattle.std.specs.Prelude.{◌≡◌, ◌<◌, length, ◌∷◌, ◌++◌, [], IfOk, IfErr, OnErr, option_to_list};
+ghost use Rattle.std.specs.Prelude.{◌≡◌, ◌⊎◌, ◌<◌, ◌≤◌, ◌+◌, ◌^◌, length, ◌∷◌, ◌++◌, [], IfOk, IfErr, OnErr, option_to_list};
 ghost use Rattle.ports.specs.History.{first_in};
 ghost use Rattle.ports.specs.Queues.{waiting, answers};
+ghost use Rattle.kernel.specs.Processes.{process};
 
 use crate::stepping::Kernel;
 use blocks::Disk;
@@ -9,10 +10,14 @@ use model::types::{Answer, Op};
 use ports::{Herald, QueueIntake};
 
 impl<D: Disk, H: Herald> Kernel<D, QueueIntake, H> {
-    /// Hands an operation of a process in, as the intake's `submit`.
+    /// Hands an operation of a process in, as the intake's `submit`: behind those that wait, and
+    /// answers how many the process handed in by now. Hands it back where 16 wait, or 2^64 - 1 were
+    /// handed in.
     pub fn submit(&mut self, pid: u32, op: Op) -> Result<u64, Op>
         requires { pid < length self.old.world.processes }
         ensures ok { IfOk result (λ _. waiting self.new.intake pid ≡ waiting self.old.intake pid ++ op ∷ []) }
+        ensures number { IfOk result (λ n. n ≡ (process self.old.world pid).begun + length (waiting self.new.intake pid)) }
+        ensures full { OnErr result ((16 ≤ length (waiting self.old.intake pid)) ⊎ ((process self.old.world pid).begun + length (waiting self.old.intake pid) + 1 ≡ 2 ^ 64)) }
         ensures back { IfErr result (λ other. other ≡ op) }
         ensures refused { OnErr result (waiting self.new.intake pid ≡ waiting self.old.intake pid) }
         ensures answers { answers self.new.intake pid ≡ answers self.old.intake pid }
