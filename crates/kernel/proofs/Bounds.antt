@@ -1,9 +1,8 @@
 -- A step takes one of the steps that its operation has left.
-use Rattle.std.proofs.Common.{◌≡◌, ◌⊎◌, inl, inr, ⊎_elim, ℕ, ◌+◌, ◌-◌, ◌*◌, ◌<◌, ◌≤◌, Bool, true, false, cond, eqb, List, length, get_or, set, refl, sym, ◌∙◌, ap, subst, arith, Option, Some, None}
+use Rattle.std.proofs.Common.{◌≡◌, ◌⊎◌, inl, inr, ⊎_elim, ℕ, ◌+◌, ◌-◌, ◌*◌, ◌<◌, ◌≤◌, Bool, true, false, cond, eqb, List, length, set, refl, sym, ◌∙◌, ap, subst, arith, Option, Some, None}
 use Rattle.std.specs.Prelude.{IfNone}
 use Rattle.std.specs.Option.{option_map}
 use Rattle.std.proofs.lemmas.Bool.{cases_eq, eq-eqb, ne_eqb, eqb-false, false≢true}
-use Rattle.std.proofs.lemmas.List.{get_or-set_same}
 use Rattle.blocks.specs.Disk.{Image, block_at}
 use Rattle.blocks.specs.declared.errors.DiskFault.{DiskFault}
 use Rattle.model.specs.declared.types.Op.{Op}
@@ -32,6 +31,7 @@ use Rattle.kernel.specs.Next.{BeginsWith, NextAt, NextIf, Next}
 use Rattle.kernel.specs.Processes.{World, process, idle, committing_at}
 use Rattle.kernel.specs.State.{State, waiting_of, is_under_way_at}
 use Rattle.kernel.specs.Table.{IsSearching, Stands, IsTable}
+use Rattle.kernel.proofs.Places.{there_now}
 use Rattle.kernel.proofs.Commits.{where_none}
 use Rattle.kernel.proofs.Events.{commits_now}
 
@@ -82,7 +82,7 @@ module _ {D : Type 0} (x y : Image) (n p : ℕ) (v u : VolumeState D) (w z : Wor
   Takes = TakesOne n v.log w p u.log z
 
   now_at : (t : Process) → z.processes ≡ set w.processes p t → process z p ≡ t
-  now_at t is = ap (λ (ps : List Process). get_or ps p idle) is ∙ get_or-set_same w.processes p t idle lt
+  now_at t is = there_now w z p t is lt
 
   -- it stands at a, and goes to t
   takes : (a : At) (t : Process) → (process w p).at ≡ a → process z p ≡ t → (is_under_way_at a ≡ true → steps_left t.at u.log n < steps_left a v.log n) → steps_left t.at u.log n ≤ 2000 → Takes

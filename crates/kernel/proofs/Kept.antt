@@ -65,6 +65,13 @@ kept_not_yet n k e later = by_op (is_changing n e.op)
 pub kept_not_changing : (n k : ℕ) (e : Entry) → is_changing n e.op ≡ false → kept n (e ∷ []) k ≡ []
 kept_not_changing n k e still = rw still refl
 
+-- one entry more
+pub kept_more : (n k : ℕ) (es : List Entry) (e : Entry) → is_changing n e.op ≡ true → e.group ≤ k → kept n (es ++ e ∷ []) k ≡ kept n es k ++ e ∷ []
+kept_more n k es e changing le = kept-append n k es (e ∷ []) ∙ ap (λ (fs : List Entry). kept n es k ++ fs) (kept_one n k e changing le)
+
+pub kept_still : (n k : ℕ) (es : List Entry) (e : Entry) → is_changing n e.op ≡ false → kept n (es ++ e ∷ []) k ≡ kept n es k
+kept_still n k es e still = kept-append n k es (e ∷ []) ∙ ap (λ (fs : List Entry). kept n es k ++ fs) (kept_not_changing n k e still) ∙ append-nil (kept n es k)
+
 -- one entry more is replayed
 pub replay_more : (form : Form) (files mid new : Files) (es : List Entry) (e : Entry) → replay form files es ≡ Some mid → after_answer form mid e.op e.reply ≡ Some new → replay form files (es ++ e ∷ []) ≡ Some new
 replay_more form files mid new es e first second =
@@ -78,10 +85,8 @@ pub beginnings_later : (n a b : ℕ) (es : List Entry) → AreUpTo a es → a �
 beginnings_later n a b es all le order c = subst (λ (l : List Entry). IsPrefix (kept n es c) l) (sym (kept_up_to n a b es all le)) (order c)
 
 pub beginnings_still : (n k : ℕ) (es : List Entry) (e : Entry) → is_changing n e.op ≡ false → KeepsBeginnings n es k → KeepsBeginnings n (es ++ e ∷ []) k
-beginnings_still n k es e still order c = subst (λ (l : List Entry). IsPrefix l (kept n (es ++ e ∷ []) k)) (sym (same c)) (subst (λ (l : List Entry). IsPrefix (kept n es c) l) (sym (same k)) (order c))
-  where
-    same : (m : ℕ) → kept n (es ++ e ∷ []) m ≡ kept n es m
-    same m = kept-append n m es (e ∷ []) ∙ ap (λ (fs : List Entry). kept n es m ++ fs) (kept_not_changing n m e still) ∙ append-nil (kept n es m)
+beginnings_still n k es e still order c =
+    subst (λ (l : List Entry). IsPrefix l (kept n (es ++ e ∷ []) k)) (sym (kept_still n c es e still)) (subst (λ (l : List Entry). IsPrefix (kept n es c) l) (sym (kept_still n k es e still)) (order c))
 
 pub beginnings_more : (n k : ℕ) (es : List Entry) (e : Entry) → AreUpTo k es → is_changing n e.op ≡ true → e.group ≡ k → KeepsBeginnings n es k → KeepsBeginnings n (es ++ e ∷ []) k
 beginnings_more n k es e all changing group order c = ⊎_elim
@@ -95,7 +100,7 @@ beginnings_more n k es e all changing group order c = ⊎_elim
     (cases_lt c k)
   where
     whole : (m : ℕ) → e.group ≤ m → kept n (es ++ e ∷ []) m ≡ kept n es m ++ e ∷ []
-    whole m le = kept-append n m es (e ∷ []) ∙ ap (λ (fs : List Entry). kept n es m ++ fs) (kept_one n m e changing le)
+    whole m le = kept_more n m es e changing le
 
 -- so it is of each process's own entries
 pub own_beginning : (p : ℕ) (xs ys : List Entry) → IsPrefix xs ys → IsPrefix (own p xs) (own p ys)

@@ -1,4 +1,5 @@
 pub mod Holding
+pub mod Places
 pub mod Tables
 pub mod Logging
 pub mod Events
@@ -11,11 +12,14 @@ pub mod Openings
 pub mod Waits
 pub mod Kept
 pub mod FilesAfter
+pub mod Journals
 pub mod Recovers
 pub mod Keeping
+pub mod Looking
 pub mod Growing
 pub mod Progressing
 pub mod Turns
 pub mod Taking
+pub mod Staying
 pub mod Bounds
 pub mod Sharing

@@ -29,11 +29,11 @@ use Rattle.kernel.specs.Opening.{IsRecoverCause}
 use Rattle.kernel.specs.Processes.{World, process, idle, fresh}
 use Rattle.ports.specs.History.{History, fresh as nothing_yet}
 use Rattle.kernel.specs.Histories.{pending_at, owed_at, HasHistory}
-use Rattle.kernel.specs.Keeps.{HasFilesAfter, cleared, Recovers}
+use Rattle.kernel.specs.Keeps.{HasFilesAfter, cleared, IsJournal, Recovers}
 use Rattle.kernel.specs.State.{HasNumbers, is_under_way_at}
 use Rattle.kernel.specs.Table.{Stands, IsTable, is_committing_at, is_searching_at}
 use Rattle.kernel.proofs.FilesAfter.{after_none}
-use Rattle.kernel.proofs.Kept.{beginnings_none}
+use Rattle.kernel.proofs.Journals.{journal_none}
 use Rattle.kernel.proofs.Recovers.{clear}
 
 -- the volume of a kernel that is opened on an image of so many blocks
@@ -135,8 +135,6 @@ opened_recovers image v d x y size n w is new none left same =
       current = subst (λ (z : Image). HasFilesAfter (image d) [] (cleared z)) (sym (fresh_seen (image d))) (clear (image d) [] (image d) (after_none (image d) sound));
       lawful = empty_lawful (image d) empty;
       committed = subst (λ (z : Image). HasFilesAfter (image d) [] z) (sym (recovered_empty (image d) empty)) (after_none (image d) sound);
-      groups = refl;
-      order = beginnings_none (inode_count_of (image d)) 0;
     })))
   where
     sound : IsSound (image d)
@@ -144,6 +142,10 @@ opened_recovers image v d x y size n w is new none left same =
 
     empty : logged_count (image d) ≡ 0
     empty = ap logged_count left ∙ logged_count-left x
+
+pub opened_journal : {D : Type 0} (v : VolumeState D) (d : D) (y : Image) (size n : ℕ) (w : World) → v ≡ opened_volume d size → w ≡ fresh n → IsJournal y v.log.opened w.journal.list
+opened_journal v d y size n w is new =
+    subst (λ (o : World). IsJournal y v.log.opened o.journal.list) (sym new) (subst (λ (o : VolumeState _). IsJournal y o.log.opened []) (sym is) (journal_none y))
 
 -- nothing was taken, and nothing given
 pub opened_histories : (fits : ℕ → History → Type 0) (n : ℕ) (w : World) → w ≡ fresh n → ((p : ℕ) → fits p nothing_yet) → (p : ℕ) → HasHistory fits w p
@@ -153,6 +155,7 @@ opened_histories fits n w is fit p = subst (λ (o : World). HasHistory fits o p)
     taken = sym (ap (λ (q : Process). pending_at q.at) (idle_at n p));
     given = ap (λ (q : Process). owed_at q.at q) (idle_at n p);
     begun = ap (λ (q : Process). q.begun) (idle_at n p);
+    numbered = refl;
   };
   fit = fit p;
 })

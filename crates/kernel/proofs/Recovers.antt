@@ -27,8 +27,8 @@ use Rattle.wal.specs.Volume.{VolumeState}
 use Rattle.wal.proofs.Commits.{outside_log}
 use Rattle.wal.proofs.Copies.{none_cleared}
 use Rattle.inodes.specs.Creation.{HasCreated}
-use Rattle.kernel.specs.Keeps.{HasFilesAfter, cleared, most_kept, KeepsBetween, KeepsNow, Recovers, AreUpTo, KeepsBeginnings}
-use Rattle.kernel.proofs.Kept.{kept-append, kept_up_to, up_to_later, up_to_one_more, kept_one, kept_not_yet, kept_not_changing, beginnings_later, beginnings_still, beginnings_more}
+use Rattle.kernel.specs.Keeps.{HasFilesAfter, cleared, most_kept, KeepsBetween, KeepsNow, Recovers, AreUpTo}
+use Rattle.kernel.proofs.Kept.{kept-append, kept_up_to, kept_not_yet, kept_still, kept_more}
 use Rattle.kernel.proofs.FilesAfter.{after_elsewhere, after_no_inode, after_created}
 
 -- an image that has files is as long as its log
@@ -65,18 +65,35 @@ pub keeps_now : {D : Type 0} (u : VolumeState D) (l : LogState) (opening x : Ima
 keeps_now u l opening x c es same r =
     record { groups = l.committed; low = omega (arith, same); high = let more = least_most u.fault u.log.commit u.log.committed in omega (arith, same, more); keeps = keeps_count opening es x l.committed r.lawful r.committed }
 
+-- no write of a commit opens a group
+pub written_opened : (l m : LogState) → m ≡ written_at l.commit l → m.opened ≡ l.opened
+written_opened l m is = ap (λ (o : LogState). o.opened) is ∙ by_phase l.commit
+  where
+    by_phase : (k : Commit) → (written_at k l).opened ≡ l.opened
+    by_phase commit.Quiet = refl
+    by_phase (commit.Logging j) = refl
+    by_phase commit.Heading = refl
+    by_phase (commit.Homing j) = refl
+    by_phase commit.Clearing = refl
+
 module _ (opening x : Image) (c : Buffers) (l : LogState) (es : List Entry) (r : Recovers opening x c l es) where
   abbrev n : ℕ
   n = inode_count_of opening
 
   -- the log alone goes on
-  pub log_goes : (m : LogState) → l.opened ≤ m.opened → m.committed ≡ l.committed → Recovers opening x c m es
-  log_goes m le same = record {
-    current = subst (λ (fs : List Entry). HasFilesAfter opening fs (cleared (seen x c))) (sym (kept_up_to n l.opened m.opened es r.groups le)) r.current;
+  pub log_goes : (m : LogState) → AreUpTo l.opened es → l.opened ≤ m.opened → m.committed ≡ l.committed → Recovers opening x c m es
+  log_goes m groups le same = record {
+    current = subst (λ (fs : List Entry). HasFilesAfter opening fs (cleared (seen x c))) (sym (kept_up_to n l.opened m.opened es groups le)) r.current;
     lawful = r.lawful;
     committed = subst (λ (k : ℕ). HasFilesAfter opening (kept n es k) (recovered x)) (sym same) r.committed;
-    groups = up_to_later l.opened m.opened es r.groups le;
-    order = beginnings_later n l.opened m.opened es r.groups le r.order;
+  }
+
+  -- with as many groups opened and committed
+  pub log_same : (m : LogState) → m.opened ≡ l.opened → m.committed ≡ l.committed → Recovers opening x c m es
+  log_same m opened same = record {
+    current = subst (λ (k : ℕ). HasFilesAfter opening (kept n es k) (cleared (seen x c))) (sym opened) r.current;
+    lawful = r.lawful;
+    committed = subst (λ (k : ℕ). HasFilesAfter opening (kept n es k) (recovered x)) (sym same) r.committed;
   }
 
   -- the buffers go on, and show the same
@@ -85,35 +102,26 @@ module _ (opening x : Image) (c : Buffers) (l : LogState) (es : List Entry) (r :
     current = subst (λ (z : Image). HasFilesAfter opening (kept n es l.opened) (cleared z)) (sym same) r.current;
     lawful = ap is_lawful_log is ∙ r.lawful;
     committed = subst (λ (z : Image). HasFilesAfter opening (kept n es l.committed) (recovered z)) (sym is) r.committed;
-    groups = r.groups;
-    order = r.order;
   }
 
   -- an entry that changes nothing
-  pub entry_still : (e : Entry) → is_changing n e.op ≡ false → e.group ≤ l.opened → Recovers opening x c l (es ++ e ∷ [])
-  entry_still e still le = record {
-    current = subst (λ (fs : List Entry). HasFilesAfter opening fs (cleared (seen x c))) (sym (same l.opened)) r.current;
+  pub entry_still : (e : Entry) → is_changing n e.op ≡ false → Recovers opening x c l (es ++ e ∷ [])
+  entry_still e still = record {
+    current = subst (λ (fs : List Entry). HasFilesAfter opening fs (cleared (seen x c))) (sym (kept_still n l.opened es e still)) r.current;
     lawful = r.lawful;
-    committed = subst (λ (fs : List Entry). HasFilesAfter opening fs (recovered x)) (sym (same l.committed)) r.committed;
-    groups = up_to_one_more l.opened es e r.groups le;
-    order = beginnings_still n l.opened es e still r.order;
+    committed = subst (λ (fs : List Entry). HasFilesAfter opening fs (recovered x)) (sym (kept_still n l.committed es e still)) r.committed;
   }
-    where
-      same : (k : ℕ) → kept (inode_count_of opening) (es ++ e ∷ []) k ≡ kept (inode_count_of opening) es k
-      same k = kept-append (inode_count_of opening) k es (e ∷ []) ∙ ap (λ (fs : List Entry). kept (inode_count_of opening) es k ++ fs) (kept_not_changing (inode_count_of opening) k e still) ∙ append-nil (kept (inode_count_of opening) es k)
 
   -- an entry of the open group, after which the current image has its files
   entry_adds : (e : Entry) (y : Image) (d : Buffers) → y ≡ x → is_changing n e.op ≡ true → e.group ≡ l.opened → l.committed < l.opened
       → HasFilesAfter opening (kept n es l.opened ++ e ∷ []) (cleared (seen y d)) → Recovers opening y d l (es ++ e ∷ [])
   entry_adds e y d is changing group later h = record {
     current = subst (λ (fs : List Entry). HasFilesAfter opening fs (cleared (seen y d)))
-        (sym (kept-append n l.opened es (e ∷ []) ∙ ap (λ (fs : List Entry). kept n es l.opened ++ fs) (kept_one n l.opened e changing (omega (arith, group))))) h;
+        (sym (kept_more n l.opened es e changing (omega (arith, group)))) h;
     lawful = ap is_lawful_log is ∙ r.lawful;
     committed = subst (λ (z : Image). HasFilesAfter opening (kept n (es ++ e ∷ []) l.committed) (recovered z)) (sym is)
         (subst (λ (fs : List Entry). HasFilesAfter opening fs (recovered x))
         (sym (kept-append n l.committed es (e ∷ []) ∙ ap (λ (fs : List Entry). kept n es l.committed ++ fs) (kept_not_yet n l.committed e (omega (arith, group, later))) ∙ append-nil (kept n es l.committed))) r.committed);
-    groups = up_to_one_more l.opened es e r.groups (omega (arith, group));
-    order = beginnings_more n l.opened es e r.groups changing group r.order;
   }
 
   -- the turn of a creation that found no number
@@ -125,8 +133,12 @@ module _ (opening x : Image) (c : Buffers) (l : LogState) (es : List Entry) (r :
       (after_no_inode opening (kept n es l.opened) e kind (cleared (seen x c)) r.current kinds op reply))
 
   -- as many inode numbers as the opening has
-  pub count_now : inode_count_of (cleared (seen x c)) ≡ n
-  count_now = ap (λ (b : List ℕ). (super_in b).ninodes) r.current.untouched.super
+  pub count_now : inode_count_of (seen x c) ≡ n
+  count_now = ap (λ (b : List ℕ). (super_in b).ninodes) (sym (agree_cleared (seen x c) 1 refl) ∙ r.current.untouched.super)
+
+  -- while nothing is logged, the current image is sound
+  pub sound_now : logged_count (seen x c) ≡ 0 → IsSound (seen x c)
+  sound_now empty = (unclear opening (kept n es l.opened) (seen x c) empty r.current).sound
 
   -- the turn of a creation that made a number
   pub turn_made : (e : Entry) (kind i : ℕ) (y : Image) (d : Buffers) → y ≡ x → logged_count (seen x c) ≡ 0
@@ -135,7 +147,7 @@ module _ (opening x : Image) (c : Buffers) (l : LogState) (es : List Entry) (r :
       → Recovers opening y d l (es ++ e ∷ [])
   turn_made e kind i y d is empty creates kinds number free op reply group later =
       let h = unclear opening (kept n es l.opened) (seen x c) empty r.current in
-      let count : inode_count_of (seen x c) ≡ n = ap (λ (b : List ℕ). (super_in b).ninodes) h.untouched.super in
+      let count = count_now in
       let size : length (seen y d) ≡ length (seen x c) = length-current y d ∙ ap (λ (z : Image). length z) is ∙ sym (length-current x c) in
       entry_adds e y d is (ap (is_changing n) op ∙ kinds) group later
       (clear opening (kept n es l.opened ++ e ∷ []) (seen y d)
@@ -150,8 +162,6 @@ module _ (opening x : Image) (c : Buffers) (l : LogState) (es : List Entry) (r :
         lawful = r.lawful;
         committed = subst (λ (k : ℕ). HasFilesAfter opening (kept n es k) (recovered x)) (sym committed)
             (subst (λ (z : Image). HasFilesAfter opening (kept n es l.opened) z) (sym current) (unclear opening (kept n es l.opened) (seen x c) empty r.current));
-        groups = subst (λ (k : ℕ). AreUpTo k es) (sym opened) r.groups;
-        order = subst (λ (k : ℕ). KeepsBeginnings n es k) (sym opened) r.order;
       }
 
   -- what recovery gives after a write of a commit that got through
@@ -162,17 +172,10 @@ module _ (opening x : Image) (c : Buffers) (l : LogState) (es : List Entry) (r :
   after_write (commit.Homing j) y keeps = elsewhere opening (kept n es l.committed) (recovered x) (recovered y) keeps.outside (logged_count-left y) r.committed
   after_write commit.Clearing y keeps = elsewhere opening (kept n es l.committed) (recovered x) (recovered y) keeps.outside (logged_count-left y) r.committed
 
-  same_opened : (k : Commit) → (written_at k l).opened ≡ l.opened
-  same_opened commit.Quiet = refl
-  same_opened (commit.Logging j) = refl
-  same_opened commit.Heading = refl
-  same_opened (commit.Homing j) = refl
-  same_opened commit.Clearing = refl
-
   -- a write of a commit
   pub commit_goes : (y : Image) (d : Buffers) (m : LogState) → m ≡ written_at l.commit l → KeepsCommitted l.commit x (seen x c) y → IsSameOutsideLog (seen x c) (seen y d) → is_lawful_log y ≡ true → Recovers opening y d m es
   commit_goes y d m is keeps same lawful =
-      let opened : m.opened ≡ l.opened = ap (λ (o : LogState). o.opened) is ∙ same_opened l.commit in
+      let opened : m.opened ≡ l.opened = written_opened l m is in
       let big = long_enough opening (kept n es l.opened) (cleared (seen x c)) r.current in
       let apart : IsSameOutsideLog (cleared (seen x c)) (cleared (seen y d)) = record {
         size = length-set (seen y d) 2 zero_block ∙ same.size ∙ sym (length-set (seen x c) 2 zero_block);
@@ -183,8 +186,6 @@ module _ (opening x : Image) (c : Buffers) (l : LogState) (es : List Entry) (r :
             (elsewhere opening (kept n es l.opened) (cleared (seen x c)) (cleared (seen y d)) apart (none_cleared (seen y d) (omega (arith, big, same.size, length-set (seen x c) 2 zero_block))) r.current);
         lawful = lawful;
         committed = subst (λ (o : LogState). HasFilesAfter opening (kept n es o.committed) (recovered y)) (sym is) (after_write l.commit y keeps);
-        groups = subst (λ (k : ℕ). AreUpTo k es) (sym opened) r.groups;
-        order = subst (λ (k : ℕ). KeepsBeginnings n es k) (sym opened) r.order;
       }
 
   -- a write of a commit that failed

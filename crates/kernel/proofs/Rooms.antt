@@ -1,12 +1,12 @@
 -- The places for answers that an intake keeps.
-use Rattle.std.proofs.Common.{◌≡◌, ◌≢◌, ℕ, ◌<◌, true, List, length, length-set, get_or, set, sym, ◌∙◌, ap, subst, ⊎_elim}
+use Rattle.std.proofs.Common.{◌≡◌, ◌≢◌, ℕ, ◌<◌, true, length, length-set, set, sym, ◌∙◌, ap, subst, ⊎_elim}
 use Rattle.std.proofs.lemmas.Bool.{cases_eq, false≢true}
-use Rattle.std.proofs.lemmas.List.{get_or-set_same, get_or-set_other}
 use Rattle.ports.specs.History.{Side, OthersStay}
 use Rattle.kernel.specs.declared.types.At.TheVariants as at
 use Rattle.kernel.specs.declared.types.Process.{Process}
-use Rattle.kernel.specs.Processes.{World, process, idle, answered}
+use Rattle.kernel.specs.Processes.{World, process, answered}
 use Rattle.kernel.specs.State.{is_under_way_at}
+use Rattle.kernel.proofs.Places.{there_now, others_stay}
 
 -- a process goes elsewhere, and the others' places stay
 pub rooms_go : (old new : ℕ → Side) (w v : World) (p : ℕ) (t : Process) → p < length w.processes → v.processes ≡ set w.processes p t
@@ -15,10 +15,10 @@ pub rooms_go : (old new : ℕ → Side) (w v : World) (p : ℕ) (t : Process) �
     → (q : ℕ) → is_under_way_at (process v q).at ≡ true → (new q).has_room ≡ true
 rooms_go old new w v p t lt is stay own had q under = ⊎_elim
     (λ (same : q ≡ p).
-    let here : process v q ≡ t = ap (λ (ps : List Process). get_or ps q idle) is ∙ ap (λ (r : ℕ). get_or (set w.processes p t) r idle) same ∙ get_or-set_same w.processes p t idle lt in
+    let here : process v q ≡ t = ap (process v) same ∙ there_now w v p t is lt in
     subst (λ (r : ℕ). (new r).has_room ≡ true) (sym same) (own (ap (λ (s : Process). is_under_way_at s.at) (sym here) ∙ under)))
     (λ (apart : q ≢ p).
-    let here : process v q ≡ process w q = ap (λ (ps : List Process). get_or ps q idle) is ∙ get_or-set_other w.processes p q t idle apart in
+    let here : process v q ≡ process w q = others_stay w v p t is q apart in
     stay q apart (had q (ap (λ (s : Process). is_under_way_at s.at) (sym here) ∙ under)))
     (cases_eq q p)
 

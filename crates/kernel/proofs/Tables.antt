@@ -2,7 +2,6 @@
 use Rattle.std.proofs.Common.{◌≡◌, ◌≢◌, ℕ, ◌+◌, ◌<◌, ◌≤◌, true, false, cond, List, length, get_or, set, ◌⊎◌, inl, inr, refl, sym, ◌∙◌, ap, subst, arith, ⊎_elim, Option, Some, None, length-set}
 use Rattle.std.specs.Prelude.{IsSome, count_by}
 use Rattle.std.proofs.lemmas.Bool.{cases_eq}
-use Rattle.std.proofs.lemmas.List.{get_or-set_same, get_or-set_other}
 use Rattle.std.proofs.lemmas.List.Sums.{sum_by-set}
 use Rattle.bcache.specs.Buffers.{Buffers}
 use Rattle.wal.specs.Machine.{LogState, used_by, is_quiet}
@@ -12,6 +11,7 @@ use Rattle.kernel.specs.declared.types.At.TheVariants as at
 use Rattle.kernel.specs.declared.types.Process.{Process}
 use Rattle.kernel.specs.Processes.{World, process, idle}
 use Rattle.kernel.specs.Table.{HasSlotAt, Stands, IsTable, is_committing_at, is_searching_at}
+use Rattle.kernel.proofs.Places.{there_now, others_stay}
 use Rattle.kernel.proofs.Holding.{OthersHold}
 
 -- of a log that went from l to m while process p worked: what the others have in it
@@ -68,10 +68,10 @@ pub record Goes (c d : Buffers) (l m : LogState) (n p : ℕ) (w v : World) (a : 
 
 module _ (c d : Buffers) (l m : LogState) (n p : ℕ) (w v : World) (a : At) (t : Process) (g : Goes c d l m n p w v a t) where
   now_at : process v p ≡ t
-  now_at = ap (λ (ps : List Process). get_or ps p idle) g.processes ∙ get_or-set_same w.processes p t idle g.inside
+  now_at = there_now w v p t g.processes g.inside
 
   others_at : (q : ℕ) → q ≢ p → process v q ≡ process w q
-  others_at q apart = ap (λ (ps : List Process). get_or ps q idle) g.processes ∙ get_or-set_other w.processes p q t idle apart
+  others_at q apart = others_stay w v p t g.processes q apart
 
   committer : (q : ℕ) → is_committing_at (process v q).at ≡ true → ((q ≡ p) × (is_committing_at t.at ≡ true)) ⊎ ((q ≢ p) × (is_committing_at (process w q).at ≡ true))
   committer q is = ⊎_elim

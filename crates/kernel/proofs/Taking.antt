@@ -1,9 +1,11 @@
 -- Each event keeps the histories of the processes.
-use Rattle.std.proofs.Common.{◌≡◌, ◌≢◌, ℕ, ◌+◌, ◌<◌, Bool, true, false, cond, eqb, List, [], ◌∷◌, ◌++◌, length, map, get_or, set, refl, sym, ◌∙◌, ap, subst, ⊎_elim, Option, Some, None}
+use Rattle.std.proofs.Common.{◌≡◌, ◌≢◌, ℕ, ◌+◌, ◌<◌, Bool, true, false, cond, eqb, List, [], ◌∷◌, ◌++◌, length, map, get_or, set, refl, sym, ◌∙◌, ap, subst, arith, ⊎_elim, Option, Some, None}
 use Rattle.std.specs.Option.{option_map}
 use Rattle.std.specs.Prelude.{Result, Ok, Err, IfOk, OnErr}
 use Rattle.std.proofs.lemmas.Bool.{cases_eq, eq-eqb, ne_eqb, false≢true}
-use Rattle.std.proofs.lemmas.List.{get_or-set_same, get_or-set_other, append-nil, length-append, map-append}
+use Rattle.std.specs.List.{range_with_len}
+use Rattle.std.proofs.lemmas.List.{append-nil, length-append, length-map, map-append}
+use Rattle.std.proofs.lemmas.List.FromFn.{map-range_with_len_more}
 use Rattle.std.proofs.lemmas.List.Elements.{filter-append}
 use Rattle.blocks.specs.Disk.{Image, block_at}
 use Rattle.model.specs.declared.types.Answer.{Answer}
@@ -26,6 +28,7 @@ use Rattle.kernel.specs.Histories.{entry_answer, pending_at, owed_at, IsHistory,
 use Rattle.kernel.specs.Processes.{World, process, idle, answer_of, committing_at}
 use Rattle.kernel.specs.State.{waiting_of}
 use Rattle.kernel.specs.Table.{is_ending_at, is_committing_at}
+use Rattle.kernel.proofs.Places.{there_now, others_stay}
 
 -- one entry more is its process's own, and nobody else's
 own_more : (p : ℕ) (es : List Entry) (e : Entry) → e.pid ≡ p → own p (es ++ e ∷ []) ≡ own p es ++ e ∷ []
@@ -33,6 +36,31 @@ own_more p es e mine = filter-append (λ (f : Entry). eqb f.pid p) es (e ∷ [])
 
 own_other : (q : ℕ) (es : List Entry) (e : Entry) → e.pid ≢ q → own q (es ++ e ∷ []) ≡ own q es
 own_other q es e other = filter-append (λ (f : Entry). eqb f.pid q) es (e ∷ []) ∙ ap (λ (t : Bool). own q es ++ cond t (e ∷ []) []) (ne_eqb e.pid q other) ∙ append-nil (own q es)
+
+-- the entries are numbered from 1 on
+abbrev AreNumbered : List Entry → Type 0
+AreNumbered es = map (λ (e : Entry). e.seq) es ≡ range_with_len 1 (length es)
+
+numbers_stay : (es fs : List Entry) → fs ≡ es → AreNumbered es → AreNumbered fs
+numbers_stay es fs same numbered = subst AreNumbered (sym same) numbered
+
+-- one more number at the end
+range_more : (a n : ℕ) → range_with_len a (n + 1) ≡ range_with_len a n ++ (a + n) ∷ []
+range_more a n = sym (map-same (range_with_len a (n + 1))) ∙ map-range_with_len_more (λ (k : ℕ). k) a n (a + n) refl ∙ ap (λ (l : List ℕ). l ++ (a + n) ∷ []) (map-same (range_with_len a n))
+  where
+    map-same : (ns : List ℕ) → map (λ (k : ℕ). k) ns ≡ ns
+    map-same [] = refl
+    map-same (k ∷ ns) = ap (λ (l : List ℕ). k ∷ l) (map-same ns)
+
+-- an entry more that has the next number
+numbers_more : (es fs : List Entry) (e : Entry) → fs ≡ es ++ e ∷ [] → e.seq ≡ length es + 1 → AreNumbered es → AreNumbered fs
+numbers_more es fs e more next numbered = numbers_stay (es ++ e ∷ []) fs more
+    (map-append (λ (f : Entry). f.seq) es (e ∷ []) ∙ ap (λ (l : List ℕ). l ++ e.seq ∷ []) numbered ∙ ap (λ (k : ℕ). range_with_len 1 (length es) ++ k ∷ []) (omega (arith, next))
+    ∙ sym (ap (range_with_len 1) (length-append es (e ∷ [])) ∙ range_more 1 (length es)))
+
+-- the operations of entries are as many as the entries
+taken_count : (es : List Entry) (op : Op) (ops : List Op) → ops ≡ map (λ (e : Entry). e.op) es ++ op ∷ [] → length ops ≡ length es + 1
+taken_count es op ops is = ap (λ (l : List Op). length l) is ∙ length-append (map (λ (e : Entry). e.op) es) (op ∷ []) ∙ ap (λ (k : ℕ). k + 1) (length-map es (λ (e : Entry). e.op))
 
 -- a creation that waits is one of that type
 pub creation_of : (op : Op) (kind : ℕ) → waiting_of op ≡ waiting.Creation kind → op ≡ Create kind
@@ -59,6 +87,7 @@ tells_same w z p h same is = record {
   taken = is.taken ∙ sym (ap (λ (es : List Entry). map (λ (e : Entry). e.op) es ++ pending_at (process z p).at) same.entries ∙ ap (λ (l : List Op). map (λ (e : Entry). e.op) (own p w.journal.list) ++ l) same.pending);
   given = ap (λ (l : List Answer). h.given ++ l) same.owed ∙ is.given ∙ sym (ap (λ (es : List Entry). map entry_answer es) same.entries);
   begun = same.begun ∙ is.begun;
+  numbered = numbers_stay (own p w.journal.list) (own p z.journal.list) same.entries is.numbered;
 }
 
 pub history_stays : (old new : ℕ → History → Type 0) (w z : World) (p : ℕ) → TellsSame w z p → ((h : History) → old p h → new p h) → HasHistory old w p → HasHistory new z p
@@ -77,14 +106,14 @@ histories_stay old new w z same list fit had q =
 
 module _ (old new : ℕ → History → Type 0) (w z : World) (p : ℕ) (t : Process) (lt : p < length w.processes) (is : z.processes ≡ set w.processes p t) where
   now : process z p ≡ t
-  now = ap (λ (ps : List Process). get_or ps p idle) is ∙ get_or-set_same w.processes p t idle lt
+  now = there_now w z p t is lt
 
   -- process p goes elsewhere, and what the journal tells of the others stays
   go : ((q : ℕ) → q ≢ p → own q z.journal.list ≡ own q w.journal.list) → ((q : ℕ) (h : History) → q ≢ p → old q h → new q h) → HasHistory new z p → ((q : ℕ) → HasHistory old w q) → (q : ℕ) → HasHistory new z q
   go entries others here had q = ⊎_elim
       (λ (same : q ≡ p). subst (λ (r : ℕ). HasHistory new z r) (sym same) here)
       (λ (apart : q ≢ p).
-      let stays : process z q ≡ process w q = ap (λ (ps : List Process). get_or ps q idle) is ∙ get_or-set_other w.processes p q t idle apart in
+      let stays : process z q ≡ process w q = others_stay w z p t is q apart in
       history_stays old new w z q (record {
         entries = entries q apart;
         pending = ap (λ (s : Process). pending_at s.at) stays;
@@ -119,14 +148,15 @@ module _ (old new : ℕ → History → Type 0) (w z : World) (p : ℕ) (t : Pro
           given = ap (λ (s : Process). h.history.given ++ owed_at s.at s) now ∙ ap (λ (l : List Answer). h.history.given ++ l) owed
               ∙ sym (ap (λ (a : At). h.history.given ++ owed_at a (process w p)) stands) ∙ h.is.given ∙ sym (ap (λ (es : List Entry). map entry_answer (own p es)) list);
           begun = ap (λ (s : Process). s.begun) now ∙ begun ∙ ap (λ (n : ℕ). n + 1) h.is.begun ∙ sym (length-append h.history.taken (Create kind ∷ []));
+          numbered = numbers_stay (own p w.journal.list) (own p z.journal.list) (ap (own p) list) h.is.numbered;
         };
         fit = fit.own h.history h.fit;
       }) had
 
   -- its entry is in the journal
-  pub histories_turn : (e : Entry) (op : Op) → z.journal.list ≡ w.journal.list ++ e ∷ [] → e.pid ≡ p → e.op ≡ op → pending_at (process w p).at ≡ op ∷ [] → owed_at (process w p).at (process w p) ≡ [] → pending_at t.at ≡ [] → owed_at t.at t ≡ entry_answer e ∷ [] → t.begun ≡ (process w p).begun
+  pub histories_turn : (e : Entry) (op : Op) → z.journal.list ≡ w.journal.list ++ e ∷ [] → e.pid ≡ p → e.op ≡ op → e.seq ≡ (process w p).begun → pending_at (process w p).at ≡ op ∷ [] → owed_at (process w p).at (process w p) ≡ [] → pending_at t.at ≡ [] → owed_at t.at t ≡ entry_answer e ∷ [] → t.begun ≡ (process w p).begun
       → AllFit old new → ((q : ℕ) → HasHistory old w q) → (q : ℕ) → HasHistory new z q
-  histories_turn e op list mine same pending none over owed begun fit had =
+  histories_turn e op list mine same seq pending none over owed begun fit had =
       let h = had p in
       let more : own p z.journal.list ≡ own p w.journal.list ++ e ∷ [] = ap (own p) list ∙ own_more p w.journal.list e mine in
       go (λ q apart. ap (own q) list ∙ own_other q w.journal.list e (λ there. apart (sym there ∙ mine))) (λ q g apart fits. fit q g fits)
@@ -140,6 +170,8 @@ module _ (old new : ℕ → History → Type 0) (w z : World) (p : ℕ) (t : Pro
               ∙ ap (λ (l : List Answer). l ++ entry_answer e ∷ []) (sym (append-nil h.history.given) ∙ ap (λ (l : List Answer). h.history.given ++ l) (sym none) ∙ h.is.given)
               ∙ sym (ap (map entry_answer) more ∙ map-append entry_answer (own p w.journal.list) (e ∷ []));
           begun = ap (λ (s : Process). s.begun) now ∙ begun ∙ h.is.begun;
+          numbered = numbers_more (own p w.journal.list) (own p z.journal.list) e more
+              (seq ∙ h.is.begun ∙ taken_count (own p w.journal.list) op h.history.taken (h.is.taken ∙ ap (λ (l : List Op). map (λ (f : Entry). f.op) (own p w.journal.list) ++ l) pending)) h.is.numbered;
         };
         fit = fit p h.history h.fit;
       }) had
@@ -158,14 +190,15 @@ module _ (old new : ℕ → History → Type 0) (w z : World) (p : ℕ) (t : Pro
           given = ap (λ (s : Process). (h.history.given ++ a ∷ []) ++ owed_at s.at s) now ∙ ap (λ (l : List Answer). (h.history.given ++ a ∷ []) ++ l) paid ∙ append-nil (h.history.given ++ a ∷ [])
               ∙ ap (λ (l : List Answer). h.history.given ++ l) (sym owed) ∙ h.is.given ∙ sym (ap (λ (es : List Entry). map entry_answer (own p es)) list);
           begun = ap (λ (s : Process). s.begun) now ∙ begun ∙ h.is.begun;
+          numbered = numbers_stay (own p w.journal.list) (own p z.journal.list) (ap (own p) list) h.is.numbered;
         };
         fit = fit.own h.history h.fit;
       }) had
 
   -- an operation was taken and answered at once
-  pub histories_at_once : (e : Entry) (op : Op) (a : Answer) (mid : ℕ → History → Type 0) → z.journal.list ≡ w.journal.list ++ e ∷ [] → e.pid ≡ p → e.op ≡ op → entry_answer e ≡ a → (process w p).at ≡ at.Idle → t.at ≡ at.Idle → t.begun ≡ (process w p).begun + 1
+  pub histories_at_once : (e : Entry) (op : Op) (a : Answer) (mid : ℕ → History → Type 0) → z.journal.list ≡ w.journal.list ++ e ∷ [] → e.pid ≡ p → e.op ≡ op → e.seq ≡ (process w p).begun + 1 → entry_answer e ≡ a → (process w p).at ≡ at.Idle → t.at ≡ at.Idle → t.begun ≡ (process w p).begun + 1
       → FitWith old mid p (takes (Some op)) → FitWith mid new p (gives a) → ((q : ℕ) → HasHistory old w q) → (q : ℕ) → HasHistory new z q
-  histories_at_once e op a mid list mine same tells stands stays begun take give had =
+  histories_at_once e op a mid list mine same seq tells stands stays begun take give had =
       let h = had p in
       let more : own p z.journal.list ≡ own p w.journal.list ++ e ∷ [] = ap (own p) list ∙ own_more p w.journal.list e mine in
       go (λ q apart. ap (own q) list ∙ own_other q w.journal.list e (λ there. apart (sym there ∙ mine))) (λ q g apart fits. give.others q g apart (take.others q g apart fits))
@@ -181,6 +214,9 @@ module _ (old new : ℕ → History → Type 0) (w z : World) (p : ℕ) (t : Pro
               ∙ ap (λ (l : List Answer). l ++ entry_answer e ∷ []) (sym (append-nil h.history.given) ∙ ap (λ (b : At). h.history.given ++ owed_at b (process w p)) (sym stands) ∙ h.is.given)
               ∙ sym (ap (map entry_answer) more ∙ map-append entry_answer (own p w.journal.list) (e ∷ []));
           begun = ap (λ (s : Process). s.begun) now ∙ begun ∙ ap (λ (n : ℕ). n + 1) h.is.begun ∙ sym (length-append h.history.taken (op ∷ []));
+          numbered = numbers_more (own p w.journal.list) (own p z.journal.list) e more
+              (seq ∙ ap (λ (k : ℕ). k + 1) (h.is.begun ∙ ap (λ (l : List Op). length l) (h.is.taken ∙ ap (λ (b : At). map (λ (f : Entry). f.op) (own p w.journal.list) ++ pending_at b) stands ∙ append-nil (map (λ (f : Entry). f.op) (own p w.journal.list)))
+              ∙ length-map (own p w.journal.list) (λ (f : Entry). f.op))) h.is.numbered;
         };
         fit = give.own (takes (Some op) h.history) (take.own h.history h.fit);
       }) had

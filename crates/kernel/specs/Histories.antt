@@ -1,5 +1,6 @@
 -- What was taken of a process, and what was given to it, as the journal tells it.
 use Rattle.std.specs.Prelude.{◌≡◌, ℕ, List, [], ◌∷◌, ◌++◌, length, map}
+use Rattle.std.specs.List.{range_with_len}
 use Rattle.model.specs.declared.types.Answer.{Answer}
 use Rattle.model.specs.declared.types.Entry.{Entry}
 use Rattle.model.specs.declared.types.Op.{Op}
@@ -35,6 +36,8 @@ pub record IsHistory (w : World) (p : ℕ) (h : History) : Type 0 where
   pub taken : h.taken ≡ map (λ (e : Entry). e.op) (own p w.journal.list) ++ pending_at (process w p).at
   pub given : h.given ++ owed_at (process w p).at (process w p) ≡ map entry_answer (own p w.journal.list)
   pub begun : (process w p).begun ≡ length h.taken
+  -- they are numbered from 1 on
+  pub numbered : map (λ (e : Entry). e.seq) (own p w.journal.list) ≡ range_with_len 1 (length (own p w.journal.list))
 
 -- an intake agrees with what the journal tells of a process
 pub record HasHistory (fits : ℕ → History → Type 0) (w : World) (p : ℕ) : Type 0 where

@@ -1,5 +1,5 @@
 -- What a kernel's disk keeps of its journal.
-use Rattle.std.specs.Prelude.{◌≡◌, ◌≢◌, ℕ, ◌+◌, ◌≤◌, nat_le, IsTrue, List, [], ◌++◌, length, slice_set, Option, Some, None}
+use Rattle.std.specs.Prelude.{◌≡◌, ◌≢◌, ℕ, ◌+◌, ◌≤◌, nat_le, nat_lt, All, IsTrue, List, [], ◌++◌, length, slice_set, Option, Some, None}
 use mathlib.Core.List.{IsPrefix}
 use Rattle.std.specs.List.{list_all}
 use Rattle.blocks.specs.Block.{zero_block}
@@ -8,7 +8,7 @@ use Rattle.blocks.specs.declared.errors.DiskFault.{DiskFault}
 use Rattle.model.specs.declared.types.Entry.{Entry}
 use Rattle.model.specs.Crash.{IsUntouched, Keeps, labels_of, due_labels}
 use Rattle.model.specs.Files.{files_of}
-use Rattle.model.specs.Journal.{kept, replay, is_number}
+use Rattle.model.specs.Journal.{kept, replay, answered, is_changing, is_number}
 use Rattle.model.specs.Layout.{form_of, inode_of, inode_count_of}
 use Rattle.model.specs.Log.{is_lawful_log, recovered}
 use Rattle.model.specs.Soundness.{IsSound}
@@ -70,6 +70,20 @@ pub record Grows {D : Type 0} (inode_count : ℕ) (v : VolumeState D) (before : 
 abbrev pub KeepsBeginnings : ℕ → List Entry → ℕ → Type 0
 KeepsBeginnings inode_count entries group = (c : ℕ) → IsPrefix (kept inode_count entries c) (kept inode_count entries group)
 
+-- an entry has a group exactly where its operation is a changing one
+abbrev pub HasItsGroup : ℕ → Entry → Type 0
+HasItsGroup inode_count e = nat_lt 0 e.group ≡ is_changing inode_count e.op
+
+-- What is true of every journal, where so many groups were opened.
+pub record IsJournal (opening : Image) (opened : ℕ) (entries : List Entry) : Type 0 where
+  -- no entry is of a group that wasn't opened
+  pub groups : AreUpTo opened entries
+  -- the groups of the changing entries rise along the journal
+  pub order : KeepsBeginnings (inode_count_of opening) entries opened
+  pub changing : All (HasItsGroup (inode_count_of opening)) entries
+  -- all of it can be replayed, and its other entries change nothing
+  pub whole : replay (form_of opening) (files_of opening) (answered entries) ≡ replay (form_of opening) (files_of opening) (kept (inode_count_of opening) entries opened)
+
 -- What disk, buffers and log have of the journal, while the disk has not failed.
 pub record Recovers (opening x : Image) (c : Buffers) (l : LogState) (entries : List Entry) : Type 0 where
   -- the current image has the files after all of the journal
@@ -77,7 +91,3 @@ pub record Recovers (opening x : Image) (c : Buffers) (l : LogState) (entries : 
   pub lawful : IsTrue (is_lawful_log x)
   -- recovery gives the files after the committed groups
   pub committed : HasFilesAfter opening (kept (inode_count_of opening) entries l.committed) (recovered x)
-  -- no entry is of a group that wasn't opened
-  pub groups : AreUpTo l.opened entries
-  -- the groups of the changing entries rise along the journal
-  pub order : KeepsBeginnings (inode_count_of opening) entries l.opened

@@ -2,7 +2,7 @@
 use Rattle.std.specs.Option.{option_map}
 use Rattle.std.specs.Prelude.{◌≡◌, ◌⊎◌, ℕ, ◌∷◌, Bool, false, true, List, Option, Some, None}
 use mathlib.Core.List.{IsPrefix}
-use Rattle.blocks.specs.Disk.{Image, Rose, one_more}
+use Rattle.blocks.specs.Disk.{Image, one_more}
 use Rattle.blocks.specs.declared.errors.DiskFault.{DiskFault}
 use Rattle.model.specs.declared.types.Op.{Op}
 use Rattle.model.specs.declared.types.Op.TheVariants.{Create}
@@ -143,7 +143,7 @@ Next x n v w p before s told r y u z = NextIf v.fault x n v w p before s told r 
 abbrev pub WritesOnce : ℕ → ℕ → Type 0
 WritesOnce old new = (new ≡ old) ⊎ (new ≡ one_more old)
 
--- a step has a fault exactly where the disk counts one
-abbrev pub CountsItsFault : Option DiskFault → ℕ → ℕ → Type 0
-CountsItsFault None old new = new ≡ old
-CountsItsFault (Some fault) old new = Rose old new
+-- a step has a fault exactly where the disk counts one, and then no write
+abbrev pub CountsItsFault : Option DiskFault → ℕ → ℕ → ℕ → ℕ → Type 0
+CountsItsFault None writes written faults failed = failed ≡ faults
+CountsItsFault (Some fault) writes written faults failed = (written ≡ writes) × (failed ≡ one_more faults)

@@ -13,7 +13,7 @@ use Rattle.kernel.specs.declared.types.At.{At}
 use Rattle.kernel.specs.declared.types.At.TheVariants as at
 use Rattle.kernel.specs.Processes.{World, process}
 use Rattle.kernel.specs.Table.{IsTable}
-use Rattle.kernel.specs.Keeps.{KeepsNow, Recovers}
+use Rattle.kernel.specs.Keeps.{KeepsNow, IsJournal, Recovers}
 use Rattle.kernel.specs.Histories.{HasHistory}
 
 pub record State (D I H : Type 0) : Type 0 where
@@ -60,6 +60,7 @@ pub record Inv {D I H : Type 0} (image : D → Image) (process_count : I → ℕ
   pub room : (p : ℕ) → is_under_way_at (process k.world p).at ≡ true → (side k.intake p).has_room ≡ true
   -- the herald was told of each commit
   pub told : count k.herald ≡ k.volume.log.committed
+  pub journal : IsJournal (image k.opening) k.volume.log.opened k.world.journal.list
   -- what recovery gives now, and has to go on from
   pub recovers : IfNone k.volume.fault (Recovers (image k.opening) (image k.volume.device) k.volume.buffers k.volume.log k.world.journal.list)
   pub keeps : KeepsNow k.volume (image k.opening) k.world.journal.list (image k.volume.device)

@@ -1,9 +1,10 @@
 // Runs of turns.
-ghost use Rattle.std.specs.Prelude.{◌≡◌, IsTrue, length};
+ghost use Rattle.std.specs.Prelude.{◌≡◌, IsTrue, length, true};
 ghost use Rattle.std.specs.List.{list_all};
 ghost use Rattle.blocks.specs.Disk.{Image, LeavesOnly};
 ghost use Rattle.model.specs.Layout.{inode_count_of};
 ghost use Rattle.kernel.specs.Keeps.{KeepsNow, KeepsBetween, Grows, most_of};
+ghost use Rattle.kernel.specs.Progress.{KeepsShutdown, StaysShut};
 ghost use Rattle.kernel.specs.Runs.{is_turn_of, Makes, Runs};
 
 use crate::Turn;
@@ -12,7 +13,8 @@ use blocks::Disk;
 use ports::{Herald, Intake};
 
 /// Makes these turns, one after the other, and answers how many it made: all of them. A turn of a
-/// process whose step answers that it sleeps, idles or is halted counts, too.
+/// process whose step answers that it sleeps, idles or is halted counts, too. A kernel that is shut
+/// stays so, and takes no operation.
 ///
 /// A stop at any moment of the run leaves a sound image whose files are the opening ones after the
 /// changing operations of the groups committed by then, in the order of the journal.
@@ -22,6 +24,7 @@ pub fn run<D: Disk, I: Intake, H: Herald>(kernel: &mut Kernel<D, I, H>, turns: &
     ensures runs { Runs D.image I.side H.told turns.now kernel.old kernel.new }
     ensures opening { kernel.new.opening ≡ kernel.old.opening }
     ensures processes { length kernel.new.world.processes ≡ length kernel.old.world.processes }
+    ensures shut { kernel.old.world.is_shut ≡ true → StaysShut kernel.old.world kernel.new.world }
 
     // What a stop leaves, at the end and during the run.
     ensures keeps { (x : Image) → D.leaves kernel.new.volume.device (D.moment kernel.new.volume.device) x → KeepsNow kernel.new.volume (D.image kernel.new.opening) kernel.new.world.journal.list x }
@@ -43,6 +46,7 @@ impl<D: Disk, I: Intake, H: Herald> Kernel<D, I, H> {
         ensures turn { Makes D.image I.side H.told turn self.old self.new }
         ensures opening { self.new.opening ≡ self.old.opening }
         ensures processes { length self.new.world.processes ≡ length self.old.world.processes }
+        ensures shut { KeepsShutdown self.old.world self.new.world }
         ensures grows { Grows (inode_count_of (D.image self.old.opening)) self.old.volume self.old.world.journal.list self.new.volume self.new.world.journal.list }
         ensures leaves { LeavesOnly D.moment D.leaves self.old.volume.device self.new.volume.device (KeepsBetween self.old.volume.log.committed (most_of self.new.volume) (D.image self.new.opening) self.new.world.journal.list) }
     {

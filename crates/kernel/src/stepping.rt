@@ -63,36 +63,43 @@ fn waiting_of(op: &Op) -> Waiting
 }
 
 impl<D: Disk, I: Intake, H: Herald> Kernel<D, I, H> {
-    ghost use Rattle.std.specs.Prelude.{◌≡◌, ◌⊎◌, ◌<◌, ◌↔◌, ℕ, ◌≢◌, length, Some, None, IsSome, IsTrue, IfNone, true, false};
+    ghost use Rattle.std.specs.Prelude.{◌≡◌, ◌⊎◌, ◌<◌, ◌↔◌, ℕ, ◌≢◌, length, map, Some, None, IsSome, IsTrue, IfNone, true, false};
     ghost use mathlib.Core.List.{IsPrefix};
     ghost use Rattle.std.specs.Option.{option_map};
     ghost use Rattle.blocks.specs.Disk.{Image, Elapses, LeavesOnly};
-    ghost use Rattle.model.specs.Layout.{inode_count_of};
+    ghost use Rattle.model.specs.Layout.{form_of, inode_count_of};
     ghost use Rattle.model.specs.Operations.{is_kind};
-    ghost use Rattle.model.specs.Journal.{kept, own};
+    ghost use Rattle.std.specs.List.{filter};
+    ghost use Rattle.model.specs.Files.{files_of};
+    ghost use Rattle.model.specs.Journal.{kept, own, replay, answered as answered_of, is_changing};
     ghost use Rattle.wal.specs.Joint.{seen};
-    ghost use Rattle.kernel.specs.Histories.{HasHistory};
-    ghost use Rattle.kernel.specs.Keeps.{HasFilesAfter, cleared, KeepsNow, KeepsBetween, Grows, most_of};
-    ghost use Rattle.ports.specs.History.{first_in};
+    ghost use Rattle.kernel.specs.Histories.{HasHistory, IsHistory};
+    ghost use Rattle.kernel.specs.Keeps.{HasFilesAfter, cleared, IsJournal, KeepsNow, KeepsBetween, Grows, most_of};
+    ghost use Rattle.ports.specs.History.{History, first_in};
     ghost use Rattle.kernel.specs.State.{waiting_of, Stays};
     ghost use Rattle.kernel.specs.declared.types.At.TheVariants as at;
     ghost use Rattle.kernel.specs.declared.stepping.Waiting.TheVariants as waiting;
     ghost use Rattle.kernel.specs.Processes.{process};
     ghost use Rattle.kernel.specs.Table.{is_committing_at, is_ending_at};
     ghost use Rattle.kernel.specs.Bound.{TakesOne, GivesNone};
+    ghost use Rattle.kernel.specs.Turns.{HasLooked};
+    ghost use Rattle.kernel.specs.Progress.{CountsCommitted, KeepsShutdown};
     ghost use Rattle.kernel.specs.Next.{Creates, Refuses, Searches, Ends, Commits, Begins, Next, WritesOnce, CountsItsFault};
 
     /// Does nothing: it says what recovery of the disk gives. A stop now leaves a sound image whose
     /// files are the opening ones after the changing operations of the committed groups, in the
     /// order of the journal; after a fault in the write of a header, of those or of one group more.
     /// While the disk has not failed, the current image has the files after all of the journal.
-    /// What any count of groups keeps of a process's changing operations is a beginning of them.
-    /// What was taken of a process, and given to it, is what the journal's entries of it say.
+    /// What was taken of a process, and given to it, is what the journal's entries of it say, which
+    /// are numbered from 1 on. What any count of groups keeps of a process's operations is a
+    /// beginning of the changing ones among those that were taken of it.
     pub fn known(&self)
         ensures keeps { (x : Image) → D.leaves self.now.volume.device (D.moment self.now.volume.device) x → KeepsNow self.now.volume (D.image self.now.opening) self.now.world.journal.list x }
         ensures current { IfNone self.now.volume.fault (HasFilesAfter (D.image self.now.opening) (kept (inode_count_of (D.image self.now.opening)) self.now.world.journal.list self.now.volume.log.opened) (cleared (seen (D.image self.now.volume.device) self.now.volume.buffers))) }
-        ensures beginnings { (p c : ℕ) → IfNone self.now.volume.fault (IsPrefix (own p (kept (inode_count_of (D.image self.now.opening)) self.now.world.journal.list c)) (own p (kept (inode_count_of (D.image self.now.opening)) self.now.world.journal.list self.now.volume.log.opened))) }
+        ensures files { IfNone self.now.volume.fault (replay (form_of (D.image self.now.opening)) (files_of (D.image self.now.opening)) (answered_of self.now.world.journal.list) ≡ Some (files_of (cleared (seen (D.image self.now.volume.device) self.now.volume.buffers)))) }
+        ensures journal { IsJournal (D.image self.now.opening) self.now.volume.log.opened self.now.world.journal.list }
         ensures histories { (p : ℕ) → HasHistory (I.fits self.now.intake) self.now.world p }
+        ensures beginnings { (p c : ℕ) (h : History) → IsHistory self.now.world p h → IsPrefix (map (λ e. e.op) (own p (kept (inode_count_of (D.image self.now.opening)) self.now.world.journal.list c))) (filter (is_changing (inode_count_of (D.image self.now.opening))) h.taken) }
     {
         let _ = &self.volume;
     }
@@ -101,12 +108,15 @@ impl<D: Disk, I: Intake, H: Herald> Kernel<D, I, H> {
     pub fn step(&mut self, pid: u32) -> Step
         requires pid { pid < length self.old.world.processes }
         ensures next { Next (D.image self.old.volume.device) self.old.inode_count self.old.volume self.old.world pid (I.side self.old.intake pid).ahead (I.side self.new.intake pid) (H.told self.new.herald) result (D.image self.new.volume.device) self.new.volume self.new.world }
+        ensures looked { self.old.volume.fault ≡ None → HasLooked self.old.inode_count (seen (D.image self.old.volume.device) self.old.volume.buffers) (seen (D.image self.new.volume.device) self.new.volume.buffers) (process self.old.world pid).at (process self.new.world pid).at }
         ensures opening { self.new.opening ≡ self.old.opening }
         ensures inode_count { self.new.inode_count ≡ self.old.inode_count }
         ensures processes { length self.new.world.processes ≡ length self.old.world.processes }
         ensures halted { (result ≡ Step.Halted) ↔ IsSome self.new.volume.fault }
         ensures writes { WritesOnce (D.write_count self.old.volume.device) (D.write_count self.new.volume.device) }
-        ensures faults { self.old.volume.fault ≡ None → CountsItsFault self.new.volume.fault (D.fault_count self.old.volume.device) (D.fault_count self.new.volume.device) }
+        ensures faults { self.old.volume.fault ≡ None → CountsItsFault self.new.volume.fault (D.write_count self.old.volume.device) (D.write_count self.new.volume.device) (D.fault_count self.old.volume.device) (D.fault_count self.new.volume.device) }
+        ensures committed { CountsCommitted result (process self.old.world pid).at self.old.volume.log self.new.volume.log }
+        ensures shut { KeepsShutdown self.old.world self.new.world }
 
         ensures others { GivesNone self.old.inode_count self.old.volume.log self.old.world pid self.new.volume.log self.new.world }
         ensures bound { result ≡ Step.Moved → TakesOne self.old.inode_count self.old.volume.log self.old.world pid self.new.volume.log self.new.world }
@@ -128,11 +138,12 @@ impl<D: Disk, I: Intake, H: Herald> Kernel<D, I, H> {
     fn go_on(&mut self, pid: u32) -> Step
         requires pid { pid < length self.old.world.processes }
         ensures next { Next (D.image self.old.volume.device) self.old.inode_count self.old.volume self.old.world pid (I.side self.old.intake pid).ahead (I.side self.new.intake pid) (H.told self.new.herald) result (D.image self.new.volume.device) self.new.volume self.new.world }
+        ensures looked { self.old.volume.fault ≡ None → HasLooked self.old.inode_count (seen (D.image self.old.volume.device) self.old.volume.buffers) (seen (D.image self.new.volume.device) self.new.volume.buffers) (process self.old.world pid).at (process self.new.world pid).at }
         ensures opening { self.new.opening ≡ self.old.opening }
         ensures inode_count { self.new.inode_count ≡ self.old.inode_count }
         ensures halted { (result ≡ Step.Halted) ↔ IsSome self.new.volume.fault }
         ensures writes { WritesOnce (D.write_count self.old.volume.device) (D.write_count self.new.volume.device) }
-        ensures faults { self.old.volume.fault ≡ None → CountsItsFault self.new.volume.fault (D.fault_count self.old.volume.device) (D.fault_count self.new.volume.device) }
+        ensures faults { self.old.volume.fault ≡ None → CountsItsFault self.new.volume.fault (D.write_count self.old.volume.device) (D.write_count self.new.volume.device) (D.fault_count self.old.volume.device) (D.fault_count self.new.volume.device) }
         ensures time { Elapses (D.moment self.old.volume.device) (D.moment self.new.volume.device) (D.leaves self.old.volume.device) (D.leaves self.new.volume.device) }
     {
         if self.volume.fault().is_some() {
@@ -275,7 +286,7 @@ impl<D: Disk, I: Intake, H: Herald> Kernel<D, I, H> {
         ensures time { Elapses (D.moment self.old.volume.device) (D.moment self.new.volume.device) (D.leaves self.old.volume.device) (D.leaves self.new.volume.device) }
         ensures halted { (result ≡ Step.Halted) ↔ IsSome self.new.volume.fault }
         ensures writes { WritesOnce (D.write_count self.old.volume.device) (D.write_count self.new.volume.device) }
-        ensures faults { CountsItsFault self.new.volume.fault (D.fault_count self.old.volume.device) (D.fault_count self.new.volume.device) }
+        ensures faults { CountsItsFault self.new.volume.fault (D.write_count self.old.volume.device) (D.write_count self.new.volume.device) (D.fault_count self.old.volume.device) (D.fault_count self.new.volume.device) }
     {
         self.volume.known();
         let answer = self.volume.commit_step();
@@ -299,12 +310,13 @@ impl<D: Disk, I: Intake, H: Herald> Kernel<D, I, H> {
         requires fault { self.old.volume.fault ≡ None }
         requires at { (process self.old.world pid).at ≡ at.Creating group search }
         ensures next { Searches (D.image self.old.volume.device) group search self.old.volume self.old.world pid result self.new.volume self.new.world }
+        ensures looked { HasLooked self.old.inode_count (seen (D.image self.old.volume.device) self.old.volume.buffers) (seen (D.image self.new.volume.device) self.new.volume.buffers) (process self.old.world pid).at (process self.new.world pid).at }
         ensures opening { self.new.opening ≡ self.old.opening }
         ensures inode_count { self.new.inode_count ≡ self.old.inode_count }
         ensures time { Elapses (D.moment self.old.volume.device) (D.moment self.new.volume.device) (D.leaves self.old.volume.device) (D.leaves self.new.volume.device) }
         ensures halted { (result ≡ Step.Halted) ↔ IsSome self.new.volume.fault }
         ensures writes { WritesOnce (D.write_count self.old.volume.device) (D.write_count self.new.volume.device) }
-        ensures faults { CountsItsFault self.new.volume.fault (D.fault_count self.old.volume.device) (D.fault_count self.new.volume.device) }
+        ensures faults { CountsItsFault self.new.volume.fault (D.write_count self.old.volume.device) (D.write_count self.new.volume.device) (D.fault_count self.old.volume.device) (D.fault_count self.new.volume.device) }
     {
         self.volume.known();
         let kind = search.kind;

@@ -2,7 +2,7 @@
 ghost use Rattle.std.specs.Prelude.{◌≡◌, ◌≢◌, ◌<◌, ◌≤◌, ◌+◌, ◌==◌, ◌^◌, false, length, slice_set, Some, None, IsSome, IsTrue, ◌↔◌, IfOk, IfErr, OnOk, OnErr, if◌then◌else◌};
 ghost use Rattle.bcache.specs.Buffers.{buffer, block_or_zero, found};
 ghost use Rattle.blocks.specs.Block.{zero_block};
-ghost use Rattle.blocks.specs.Disk.{Image, one_more, Rose, IsOldOrNew, Elapses, LeavesOldOrNew, CountsFault, CountsSuccess};
+ghost use Rattle.blocks.specs.Disk.{Image, one_more, IsOldOrNew, Elapses, LeavesOldOrNew, CountsFault, CountsSuccess};
 ghost use Rattle.model.specs.Codec.{header_block};
 ghost use Rattle.model.specs.Layout.{is_lawful_super};
 ghost use Rattle.model.specs.Log.{is_lawful_log};
@@ -309,8 +309,8 @@ impl Log {
 
         // And its log is lawful.
         ensures lawful { (z : Image) → D.leaves disk.new (D.moment disk.new) z → IsTrue (is_lawful_log z) }
-        ensures writes { IsFault result (λ fault. D.write_count disk.new ≡ D.write_count disk.old) (Rose (D.fault_count disk.old) (D.fault_count disk.new)) (D.write_count disk.new ≡ one_more (D.write_count disk.old)) }
-        ensures faults { IsFault result (λ fault. fault.0 ≡ place_at self.old.commit self.old.homes) (Rose (D.fault_count disk.old) (D.fault_count disk.new)) (D.fault_count disk.new ≡ D.fault_count disk.old) }
+        ensures writes { IsFault result (λ fault. D.write_count disk.new ≡ D.write_count disk.old) (D.fault_count disk.new ≡ one_more (D.fault_count disk.old)) (D.write_count disk.new ≡ one_more (D.write_count disk.old)) }
+        ensures faults { IsFault result (λ fault. fault.0 ≡ place_at self.old.commit self.old.homes) (D.fault_count disk.new ≡ one_more (D.fault_count disk.old)) (D.fault_count disk.new ≡ D.fault_count disk.old) }
     {
         match self.write_next(cache, disk) {
             Ok(()) => self.go_on(cache),

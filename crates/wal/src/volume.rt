@@ -1,7 +1,7 @@
 // A disk with its buffer cache and its log, as the layers above use them.
 ghost use Rattle.std.specs.Prelude.{◌≡◌, ◌<◌, ◌≤◌, ◌+◌, ◌^◌, ℕ, true, false, length, slice_set, Some, None, IsSome, IsTrue, IfNone};
 ghost use Rattle.blocks.specs.Block.{IsBlock, overwritten};
-ghost use Rattle.blocks.specs.Disk.{Image, block_at, one_more, Rose, Elapses, AddsNone, LeavesOldOrNew};
+ghost use Rattle.blocks.specs.Disk.{Image, block_at, one_more, Elapses, AddsNone, LeavesOldOrNew};
 ghost use Rattle.model.specs.Codec.{header_block};
 ghost use Rattle.model.specs.Log.{is_lawful_log, logged_count};
 ghost use Rattle.bcache.specs.Buffers.{buffer, block_or_zero, filled, fresh, released, EndsUnfilled};
@@ -248,8 +248,8 @@ impl<D: Disk> Volume<D> {
             (D.leaves self.old.device (D.moment self.old.device)) (D.leaves self.new.device (D.moment self.new.device)) }
         ensures recovers { (z : Image) → D.leaves self.new.device (D.moment self.new.device) z → CrashKeeps self.old.log.commit (D.image self.old.device) (seen (D.image self.old.device) self.old.buffers) z }
         ensures lawful { (z : Image) → D.leaves self.new.device (D.moment self.new.device) z → IsTrue (is_lawful_log z) }
-        ensures writes { IsFault result (λ fault. D.write_count self.new.device ≡ D.write_count self.old.device) (Rose (D.fault_count self.old.device) (D.fault_count self.new.device)) (D.write_count self.new.device ≡ one_more (D.write_count self.old.device)) }
-        ensures faults { IsFault result (λ fault. fault.0 ≡ place_at self.old.log.commit self.old.log.homes) (Rose (D.fault_count self.old.device) (D.fault_count self.new.device)) (D.fault_count self.new.device ≡ D.fault_count self.old.device) }
+        ensures writes { IsFault result (λ fault. D.write_count self.new.device ≡ D.write_count self.old.device) (D.fault_count self.new.device ≡ one_more (D.fault_count self.old.device)) (D.write_count self.new.device ≡ one_more (D.write_count self.old.device)) }
+        ensures faults { IsFault result (λ fault. fault.0 ≡ place_at self.old.log.commit self.old.log.homes) (D.fault_count self.new.device ≡ one_more (D.fault_count self.old.device)) (D.fault_count self.new.device ≡ D.fault_count self.old.device) }
     {
         let answer = self.log.commit_step(&mut self.cache, &mut self.disk);
         self.fault = fault_of(answer);

@@ -1,16 +1,8 @@
 use Rattle.std.proofs.Common.{rules, refl}
-use Rattle.ports.specs.Queues.{QueueFits}
-use Rattle.kernel.proofs.Taking.{histories_stay}
+use Rattle.ports.specs.Queues.{QueueFits, queue_count, queue_side}
+use Rattle.kernel.proofs.Staying.{stays_true}
 use Rattle.kernel.proofs.queues.Kernel+D+QueueIntake+H.poll.Goals as goal
 
 pub invariant_of-self : goal.invariant_of-self
-invariant_of-self g c = record {
-  numbers = c.self.invariant.numbers;
-  table = search rules;
-  processes = search rules;
-  room = search rules;
-  told = search rules;
-  recovers = search rules;
-  keeps = search rules;
-  histories = histories_stay (QueueFits c.self.inside.intake) (QueueFits c.poll.new.self) c.self.inside.processes c.self.inside.processes refl refl c.poll.ensures.fits c.self.invariant.histories;
-}
+invariant_of-self g c =
+    stays_true g.D.Disk.image queue_count queue_side QueueFits g.H.Herald.count _ c.poll.new.self c.self.inside.herald c.self.inside.processes.is_shut c.self.invariant c.poll.ensures.processes (search rules) c.poll.ensures.fits refl

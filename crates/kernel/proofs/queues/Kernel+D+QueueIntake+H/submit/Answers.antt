@@ -1,21 +1,14 @@
 use Rattle.std.proofs.Common.{rules, arith, refl, ◌≡◌, ⊎_elim, inl, inr, length, ap, subst}
-use Rattle.ports.specs.Queues.{QueueFits, waiting}
+use Rattle.ports.specs.Queues.{QueueFits, waiting, queue_count, queue_side}
 use Rattle.kernel.specs.Processes.{process}
 use Rattle.kernel.specs.State.{State}
-use Rattle.kernel.proofs.Taking.{histories_stay, where_ok, where_err}
+use Rattle.kernel.proofs.Taking.{where_ok, where_err}
+use Rattle.kernel.proofs.Staying.{stays_true}
 use Rattle.kernel.proofs.queues.Kernel+D+QueueIntake+H.submit.Goals as goal
 
 pub invariant_of-self : goal.invariant_of-self
-invariant_of-self g c = record {
-  numbers = c.self.invariant.numbers;
-  table = search rules;
-  processes = search rules;
-  room = search rules;
-  told = search rules;
-  recovers = search rules;
-  keeps = search rules;
-  histories = histories_stay (QueueFits c.self.inside.intake) (QueueFits c.submit.new.self) c.self.inside.processes c.self.inside.processes refl refl c.submit.ensures.fits c.self.invariant.histories;
-}
+invariant_of-self g c =
+    stays_true g.D.Disk.image queue_count queue_side QueueFits g.H.Herald.count _ c.submit.new.self c.self.inside.herald c.self.inside.processes.is_shut c.self.invariant c.submit.ensures.processes (search rules) c.submit.ensures.fits refl
 
 pub returns-clause-number : goal.returns-clause-number
 returns-clause-number g c =

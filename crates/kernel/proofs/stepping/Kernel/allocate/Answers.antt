@@ -5,13 +5,16 @@ use Rattle.wal.specs.Joint.{seen}
 use Rattle.wal.specs.Machine.{LogState}
 use Rattle.wal.specs.Volume.{VolumeState}
 use Rattle.kernel.specs.declared.types.At.TheVariants as at
-use Rattle.kernel.specs.Processes.{World, process}
-use Rattle.kernel.specs.State.{is_under_way_at}
+use Rattle.kernel.specs.Processes.{World, process, made_reply}
+use Rattle.kernel.specs.State.{State, is_under_way_at}
+use Rattle.kernel.specs.Turns.{HasLooked}
+use Rattle.kernel.proofs.Looking.{looks_as, searches_now, ends_now, looked_on, looked_over, looked_at_none}
 use Rattle.kernel.specs.Table.{IsTable}
 use Rattle.kernel.proofs.Commits.{where_none, if_none, if_some}
 use Rattle.kernel.proofs.Allocating.{ready_of, search_moves, search_over, search_sleeps, search_fails}
-use Rattle.kernel.specs.Keeps.{KeepsNow, Recovers}
-use Rattle.kernel.proofs.Keeping.{recovers_searched, recovers_turn, kept_of}
+use Rattle.kernel.specs.Keeps.{IsJournal, KeepsNow, Recovers}
+use Rattle.kernel.proofs.Journals.{journal_same}
+use Rattle.kernel.proofs.Keeping.{recovers_searched, recovers_turn, journal_turned, kept_of}
 use Rattle.kernel.proofs.Recovers.{keeps_now}
 use Rattle.model.specs.declared.types.Op.TheVariants.{Create}
 use Rattle.kernel.specs.declared.types.At.{At}
@@ -44,6 +47,7 @@ invariant_of-self g c =
       room = rooms_busy (g.I.Intake.side c.self.inside.intake) c.self.inside.processes c.search.new.self c.args.pid _ lt (ap (λ (v : World). v.processes) c.search.ensures) (ap is_under_way_at stands) c.self.invariant.room;
       told = c.self.invariant.told ∙ sym stays.committed;
       numbers = c.self.invariant.numbers;
+      journal = journal_same opening c.self.inside.volume.log.opened c.self.inside.processes.journal.list c.self.invariant.journal c.step.new.volume.log.opened c.search.new.self.journal.list stays.opened (ap (λ (v : World). v.journal.list) c.search.ensures);
       recovers = if_none _ recovers;
       keeps = kept_of image opening c.step.new.volume c.search.new.self.journal.list recovers;
       histories = histories_move (fits c.self.inside.intake) (fits c.self.inside.intake) c.self.inside.processes c.search.new.self c.args.pid _ lt (ap (λ (v : World). v.processes) c.search.ensures) (ap (λ (v : World). v.journal.list) c.search.ensures)
@@ -66,6 +70,7 @@ invariant_of-self-in-Sleeping g c =
       room = c.self.invariant.room;
       told = c.self.invariant.told ∙ sym (ap (λ (v : VolumeState _). v.log.committed) same);
       numbers = c.self.invariant.numbers;
+      journal = subst (λ (v : VolumeState _). IsJournal opening v.log.opened c.self.inside.processes.journal.list) (sym same) c.self.invariant.journal;
       recovers = subst (λ (v : VolumeState _). IfNone v.fault (Recovers opening (image v.device) v.buffers v.log c.self.inside.processes.journal.list)) (sym same) c.self.invariant.recovers;
       keeps = subst (λ (v : VolumeState _). KeepsNow v opening c.self.inside.processes.journal.list (image v.device)) (sym same) c.self.invariant.keeps;
       histories = c.self.invariant.histories;
@@ -90,10 +95,12 @@ invariant_of-self-in-Over g c =
       room = rooms_busy (g.I.Intake.side c.self.inside.intake) c.self.inside.processes c.turn.new.self c.args.pid _ lt (ap (λ (v : World). v.processes) c.turn.ensures) (ap is_under_way_at stands) c.self.invariant.room;
       told = c.self.invariant.told ∙ sym stays.committed;
       numbers = c.self.invariant.numbers;
+      journal = journal_turned opening (image c.self.inside.volume.device) c.self.inside.volume.buffers c.self.inside.volume.log c.step.new.volume.log.opened c.self.inside.inode_count c.args.pid c.args.group c.args.search c.in-Over.made c.self.inside.processes c.turn.new.self
+          c.self.invariant.journal (where_none _ well c.known.ensures) (where_none _ well c.self.invariant.table) stands stays.opened c.turn.ensures;
       recovers = if_none _ recovers;
       keeps = kept_of image opening c.step.new.volume c.turn.new.self.journal.list recovers;
       histories = histories_turn (fits c.self.inside.intake) (fits c.self.inside.intake) c.self.inside.processes c.turn.new.self c.args.pid _ lt (ap (λ (v : World). v.processes) c.turn.ensures) _ (Create c.args.search.kind) (ap (λ (v : World). v.journal.list) c.turn.ensures)
-          refl refl (ap pending_at stands) (ap (λ (a : At). owed_at a (process c.self.inside.processes c.args.pid)) stands) refl refl refl (fit_same (fits c.self.inside.intake)) c.self.invariant.histories;
+          refl refl refl (ap pending_at stands) (ap (λ (a : At). owed_at a (process c.self.inside.processes c.args.pid)) stands) refl refl refl (fit_same (fits c.self.inside.intake)) c.self.invariant.histories;
     }
 
 pub invariant_of-self-in-Fault : goal.invariant_of-self-in-Fault
@@ -112,6 +119,7 @@ invariant_of-self-in-Fault g c =
       room = c.self.invariant.room;
       told = c.self.invariant.told ∙ sym (ap (λ (l : LogState). l.committed) same);
       numbers = c.self.invariant.numbers;
+      journal = subst (λ (l : LogState). IsJournal opening l.opened c.self.inside.processes.journal.list) (sym same) c.self.invariant.journal;
       recovers = if_some _ _ _ c.in-Fault.ensures.fault;
       keeps = subst (λ (x : Image). KeepsNow c.step.new.volume opening c.self.inside.processes.journal.list x) (sym c.step.ensures.image)
           (keeps_now c.step.new.volume c.self.inside.volume.log opening (image c.self.inside.volume.device) c.self.inside.volume.buffers c.self.inside.processes.journal.list (ap (λ (l : LogState). l.committed) same) (where_none _ well c.self.invariant.recovers));
@@ -120,3 +128,54 @@ invariant_of-self-in-Fault g c =
 
 pub returns-in-Over-clause-next : goal.returns-in-Over-clause-next
 returns-in-Over-clause-next g c = (c.step.new.self, inr (c.in-Over.made, search rules, search rules))
+
+-- what the look of a step came to, seen from outside of the kernel
+pub returns-in-Moved-clause-looked : goal.returns-in-Moved-clause-looked
+returns-in-Moved-clause-looked g c =
+    let well : c.self.inside.volume.fault ≡ None = search rules in
+    let stands : (process c.self.inside.processes c.args.pid).at ≡ at.Creating c.args.group c.args.search = search rules in
+    let lt : c.args.pid < length c.self.inside.processes.processes = search rules in
+    let image = g.D.Disk.image in
+    let now = seen (image c.step.new.volume.device) c.step.new.volume.buffers in
+    subst (λ (k : State _ _ _). HasLooked k.inode_count (seen (image k.volume.device) k.volume.buffers) now (process k.world c.args.pid).at (process c.search.new.self c.args.pid).at) c.self.view_is
+    (looks_as c.self.inside.inode_count (seen (image c.self.inside.volume.device) c.self.inside.volume.buffers) now c.self.inside.processes c.search.new.self c.args.pid (at.Creating c.args.group c.args.search) (at.Creating c.args.group c.step.new.self)
+    stands (searches_now c.self.inside.processes c.search.new.self c.args.pid c.args.group c.step.new.self lt c.search.ensures)
+    (looked_on image (image c.self.inside.opening.value) c.self.inside.volume c.step.new.volume c.self.inside.processes c.self.inside.inode_count c.args.pid c.args.group c.args.search c.step.new.self
+    (where_none _ well c.self.invariant.recovers) (where_none _ well c.known.ensures) (where_none _ well c.self.invariant.table) c.self.invariant.numbers.same stands c.step.new.self c.in-Moved.ensures.taken c.in-Moved.ensures.current))
+
+pub returns-in-Sleeping-clause-looked : goal.returns-in-Sleeping-clause-looked
+returns-in-Sleeping-clause-looked g c =
+    let well : c.self.inside.volume.fault ≡ None = search rules in
+    let stands : (process c.self.inside.processes c.args.pid).at ≡ at.Creating c.args.group c.args.search = search rules in
+    let image = g.D.Disk.image in
+    let now = seen (image c.step.new.volume.device) c.step.new.volume.buffers in
+    let after = (process c.self.inside.processes c.args.pid).at in
+    subst (λ (k : State _ _ _). HasLooked k.inode_count (seen (image k.volume.device) k.volume.buffers) now (process k.world c.args.pid).at after) c.self.view_is
+    (looks_as c.self.inside.inode_count (seen (image c.self.inside.volume.device) c.self.inside.volume.buffers) now c.self.inside.processes c.self.inside.processes c.args.pid (at.Creating c.args.group c.args.search) after stands refl
+    (looked_at_none image (image c.self.inside.opening.value) c.self.inside.volume c.step.new.volume c.self.inside.processes c.self.inside.inode_count c.args.pid c.args.group c.args.search c.step.new.self
+    (where_none _ well c.self.invariant.recovers) (where_none _ well c.known.ensures) (where_none _ well c.self.invariant.table) c.self.invariant.numbers.same stands _ after tt c.in-Sleeping.ensures.step))
+
+pub returns-in-Over-clause-looked : goal.returns-in-Over-clause-looked
+returns-in-Over-clause-looked g c =
+    let well : c.self.inside.volume.fault ≡ None = search rules in
+    let stands : (process c.self.inside.processes c.args.pid).at ≡ at.Creating c.args.group c.args.search = search rules in
+    let lt : c.args.pid < length c.self.inside.processes.processes = search rules in
+    let image = g.D.Disk.image in
+    let now = seen (image c.step.new.volume.device) c.step.new.volume.buffers in
+    subst (λ (k : State _ _ _). HasLooked k.inode_count (seen (image k.volume.device) k.volume.buffers) now (process k.world c.args.pid).at (process c.turn.new.self c.args.pid).at) c.self.view_is
+    (looks_as c.self.inside.inode_count (seen (image c.self.inside.volume.device) c.self.inside.volume.buffers) now c.self.inside.processes c.turn.new.self c.args.pid (at.Creating c.args.group c.args.search) (at.Ending c.args.group (made_reply c.in-Over.made))
+    stands (ends_now c.self.inside.processes c.turn.new.self c.args.pid c.args.group (Create c.args.search.kind) (made_reply c.in-Over.made) lt c.turn.ensures)
+    (looked_over image (image c.self.inside.opening.value) c.self.inside.volume c.step.new.volume c.self.inside.processes c.self.inside.inode_count c.args.pid c.args.group c.args.search c.step.new.self
+    (where_none _ well c.self.invariant.recovers) (where_none _ well c.known.ensures) (where_none _ well c.self.invariant.table) c.self.invariant.numbers.same stands c.in-Over.made c.in-Over.ensures.step c.in-Over.ensures.claimed c.in-Over.ensures.taken c.in-Over.ensures.current))
+
+pub returns-in-Fault-clause-looked : goal.returns-in-Fault-clause-looked
+returns-in-Fault-clause-looked g c =
+    let well : c.self.inside.volume.fault ≡ None = search rules in
+    let stands : (process c.self.inside.processes c.args.pid).at ≡ at.Creating c.args.group c.args.search = search rules in
+    let image = g.D.Disk.image in
+    let now = seen (image c.step.new.volume.device) c.step.new.volume.buffers in
+    let after = (process c.self.inside.processes c.args.pid).at in
+    subst (λ (k : State _ _ _). HasLooked k.inode_count (seen (image k.volume.device) k.volume.buffers) now (process k.world c.args.pid).at after) c.self.view_is
+    (looks_as c.self.inside.inode_count (seen (image c.self.inside.volume.device) c.self.inside.volume.buffers) now c.self.inside.processes c.self.inside.processes c.args.pid (at.Creating c.args.group c.args.search) after stands refl
+    (looked_at_none image (image c.self.inside.opening.value) c.self.inside.volume c.step.new.volume c.self.inside.processes c.self.inside.inode_count c.args.pid c.args.group c.args.search c.step.new.self
+    (where_none _ well c.self.invariant.recovers) (where_none _ well c.known.ensures) (where_none _ well c.self.invariant.table) c.self.invariant.numbers.same stands _ after tt c.in-Fault.ensures.step))

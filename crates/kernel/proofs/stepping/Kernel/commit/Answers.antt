@@ -1,10 +1,11 @@
 use Rattle.std.proofs.Common.{rules, refl, ◌≡◌, ◌<◌, None, ◌∙◌, sym, ap, subst, length}
 use Rattle.wal.specs.declared.types.Commit.{Commit}
-use Rattle.wal.specs.Machine.{IsLogAt}
+use Rattle.wal.specs.Machine.{LogState, IsLogAt}
 use Rattle.kernel.specs.Processes.{World, process}
 use Rattle.kernel.proofs.Commits.{where_none, if_none, if_some, table_more, table_last, committed_same}
-use Rattle.kernel.specs.Keeps.{KeepsNow, Recovers}
-use Rattle.kernel.proofs.Recovers.{commit_goes, commit_fails}
+use Rattle.kernel.specs.Keeps.{IsJournal, KeepsNow, Recovers}
+use Rattle.kernel.proofs.Journals.{journal_same}
+use Rattle.kernel.proofs.Recovers.{commit_goes, commit_fails, written_opened}
 use Rattle.kernel.proofs.Keeping.{kept_of}
 use Rattle.kernel.proofs.Taking.{histories_given, committing_owes}
 use Rattle.kernel.proofs.Rooms.{rooms_answered, as_many}
@@ -25,6 +26,7 @@ invariant_of-self g c =
       room = c.self.invariant.room;
       told = c.self.invariant.told ∙ sym (committed_same _ _ _ _ _ _ _ _ c.args.pid _ table (search rules) (search rules) c.in-More.ensures.step.1 (λ k e. let same = sym c.in-More.ensures.step.0 ∙ e in absurd (cc same)));
       numbers = c.self.invariant.numbers;
+      journal = journal_same opening c.self.inside.volume.log.opened c.self.inside.processes.journal.list c.self.invariant.journal c.commit_step-answer.new.self.log.opened c.self.inside.processes.journal.list (written_opened c.self.inside.volume.log c.commit_step-answer.new.self.log c.in-More.ensures.step.1.log) refl;
       recovers = if_none _ recovers;
       keeps = kept_of image opening c.commit_step-answer.new.self c.self.inside.processes.journal.list recovers;
       histories = c.self.invariant.histories;
@@ -49,6 +51,7 @@ invariant_of-self-in-Done g c =
       room = rooms_answered (g.I.Intake.side c.self.inside.intake) (g.I.Intake.side c.give.new.intake) c.self.inside.processes _ c.args.pid lt is c.give.ensures.others c.self.invariant.room;
       told = c.self.invariant.told ∙ sym (committed_same _ _ _ _ _ _ _ _ c.args.pid _ table lt (search rules) c.in-Done.ensures.step.1 (λ k e. let same = sym c.in-Done.ensures.step.0 ∙ e in absurd (cc same)));
       numbers = c.self.invariant.numbers;
+      journal = journal_same opening c.self.inside.volume.log.opened c.self.inside.processes.journal.list c.self.invariant.journal c.commit_step-answer.new.self.log.opened c.give.new.processes.journal.list (written_opened c.self.inside.volume.log c.commit_step-answer.new.self.log c.in-Done.ensures.step.1.log) list;
       recovers = if_none _ (subst (λ es. Recovers opening (image c.commit_step-answer.new.self.device) c.commit_step-answer.new.self.buffers c.commit_step-answer.new.self.log es) (sym list) recovers);
       keeps = subst (λ es. KeepsNow c.commit_step-answer.new.self opening es (image c.commit_step-answer.new.self.device)) (sym list) (kept_of image opening c.commit_step-answer.new.self c.self.inside.processes.journal.list recovers);
       histories = histories_given (g.I.Intake.fits c.self.inside.intake) (g.I.Intake.fits c.give.new.intake) c.self.inside.processes c.give.new.processes c.args.pid _ lt (ap (λ (v : World). v.processes) is) _ (ap (λ (v : World). v.journal.list) is)
@@ -71,6 +74,7 @@ invariant_of-self-in-Durable g c =
       processes = c.self.invariant.processes;
       room = c.self.invariant.room;
       told = search rules;
+      journal = journal_same opening c.self.inside.volume.log.opened c.self.inside.processes.journal.list c.self.invariant.journal c.commit_step-answer.new.self.log.opened c.self.inside.processes.journal.list (written_opened c.self.inside.volume.log c.commit_step-answer.new.self.log made.log) refl;
       recovers = if_none _ recovers;
       keeps = kept_of image opening c.commit_step-answer.new.self c.self.inside.processes.journal.list recovers;
       histories = c.self.invariant.histories;
@@ -89,6 +93,7 @@ invariant_of-self-in-Fault g c =
       processes = c.self.invariant.processes;
       room = c.self.invariant.room;
       told = search rules;
+      journal = subst (λ (l : LogState). IsJournal opening l.opened c.self.inside.processes.journal.list) (sym c.in-Fault.ensures.step.log) c.self.invariant.journal;
       recovers = if_some _ _ _ c.in-Fault.ensures.fault;
       keeps = commit_fails opening (image c.self.inside.volume.device) c.self.inside.volume.buffers c.self.inside.volume.log c.self.inside.processes.journal.list (where_none _ well c.self.invariant.recovers)
           c.commit_step-answer.new.self _ (image c.commit_step-answer.new.self.device) c.in-Fault.ensures.fault c.in-Fault.ensures.step.log (c.commit_step-answer.ensures.recovers _ left) (c.commit_step-answer.ensures.lawful _ left)

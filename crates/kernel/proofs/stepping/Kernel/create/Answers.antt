@@ -1,17 +1,19 @@
 use Rattle.std.proofs.Common.{rules, refl, Option, Some, [], ◌∷◌, ◌≡◌, ◌<◌, None, ◌∙◌, sym, ap, subst, length}
 use Rattle.wal.specs.Volume.{VolumeState}
 use Rattle.kernel.specs.declared.types.At.TheVariants as at
-use Rattle.kernel.specs.Keeps.{KeepsNow}
+use Rattle.kernel.specs.Keeps.{IsJournal}
 use Rattle.kernel.specs.Processes.{World, process, with_place, creating}
 use Rattle.kernel.proofs.Commits.{where_none, if_none}
 use Rattle.kernel.proofs.Beginnings.{begins_fit, table_created, created_processes, others_twice, rooms_begun}
-use Rattle.kernel.proofs.Keeping.{recovers_created, kept_of}
+use Rattle.kernel.proofs.Keeping.{recovers_created, journal_created, kept_of}
 use Rattle.model.specs.declared.types.Op.{Op}
 use Rattle.model.specs.declared.types.Op.TheVariants.{Create}
 use Rattle.ports.specs.History.{FitWith, takes, first_in}
 use Rattle.inodes.specs.declared.ialloc.Ialloc.{Ialloc}
-use Rattle.kernel.proofs.Taking.{histories_stay, histories_taken, fit_after, first_creation}
+use Rattle.kernel.proofs.Taking.{histories_taken, fit_after, first_creation}
 use Rattle.kernel.proofs.Rooms.{as_many}
+use Rattle.kernel.specs.State.{Inv}
+use Rattle.kernel.proofs.Staying.{stays_true}
 use Rattle.kernel.proofs.stepping.Kernel.create.Goals as goal
 
 pub invariant_of-self-2 : goal.invariant_of-self-2
@@ -26,7 +28,7 @@ invariant_of-self-2 g c =
     let image = g.D.Disk.image in
     let opening = image c.self.inside.opening.value in
     let recovers = recovers_created image opening c.self.inside.volume c.open_group-group.new.volume c.self.inside.processes c.create.new.self (where_none _ well c.self.invariant.recovers)
-    c.args.pid c.open_group-group.result c.new-search.result c.reserve.new.self c.open_group-group.ensures.volume kept c.create.ensures in
+    c.args.pid c.open_group-group.result c.new-search.result c.reserve.new.self c.self.invariant.journal.groups c.open_group-group.ensures.volume kept c.create.ensures in
     record {
       table = if_none _ (table_created c.self.inside.volume c.open_group-group.new.volume c.self.inside.inode_count c.args.pid c.args.kind c.open_group-group.result c.new-search.result c.self.inside.processes c.reserve.new.self c.create.new.self
           (where_none _ well c.self.invariant.table) (where_none _ well c.known.ensures).log lt stands (search rules) c.requires.kind c.open_group-group.ensures.volume c.open_group-group.ensures.group c.new-search.ensures kept c.create.ensures);
@@ -36,6 +38,8 @@ invariant_of-self-2 g c =
           (λ e. c.take-taken.ensures.room ∙ c.room.ensures.room ∙ search rules) c.self.invariant.room;
       told = c.self.invariant.told ∙ sym (ap (λ (v : VolumeState _). v.log.committed) c.open_group-group.ensures.volume);
       numbers = c.self.invariant.numbers;
+      journal = subst (λ (v : VolumeState _). IsJournal opening v.log.opened c.create.new.self.journal.list) (sym c.open_group-group.ensures.volume)
+          (journal_created opening c.self.inside.volume.log c.self.inside.processes c.create.new.self c.self.invariant.journal c.args.pid c.open_group-group.result c.new-search.result c.reserve.new.self kept c.create.ensures);
       recovers = if_none _ recovers;
       keeps = kept_of image opening c.open_group-group.new.volume c.create.new.self.journal.list recovers;
       histories = histories_taken (fits c.self.inside.intake) (fits c.take-taken.new.self) c.self.inside.processes c.create.new.self c.args.pid _ lt is c.args.kind
@@ -45,42 +49,18 @@ invariant_of-self-2 g c =
     }
 
 pub invariant_of-self : goal.invariant_of-self
-invariant_of-self g c = record {
-  numbers = c.self.invariant.numbers;
-  table = search rules;
-  processes = search rules;
-  room = search rules;
-  told = search rules;
-  recovers = search rules;
-  keeps = search rules;
-  histories = histories_stay (g.I.Intake.fits c.self.inside.intake) (g.I.Intake.fits c.room.new.self) c.self.inside.processes c.self.inside.processes refl refl c.room.ensures.fits c.self.invariant.histories;
-}
+invariant_of-self g c =
+    stays_true g.D.Disk.image g.I.Intake.process_count g.I.Intake.side g.I.Intake.fits g.H.Herald.count _ c.room.new.self c.self.inside.herald c.self.inside.processes.is_shut c.self.invariant c.room.ensures.processes (search rules) c.room.ensures.fits refl
 
 pub invariant_of-self-in-Some : goal.invariant_of-self-in-Some
-invariant_of-self-in-Some g c = record {
-  numbers = c.self.invariant.numbers;
-  table = search rules;
-  processes = search rules;
-  room = search rules;
-  told = search rules;
-  recovers = search rules;
-  keeps = search rules;
-  histories = histories_stay (g.I.Intake.fits c.self.inside.intake) (g.I.Intake.fits c.room.new.self) c.self.inside.processes c.self.inside.processes refl refl c.room.ensures.fits c.self.invariant.histories;
-}
+invariant_of-self-in-Some g c =
+    stays_true g.D.Disk.image g.I.Intake.process_count g.I.Intake.side g.I.Intake.fits g.H.Herald.count _ c.room.new.self c.self.inside.herald c.self.inside.processes.is_shut c.self.invariant c.room.ensures.processes (search rules) c.room.ensures.fits refl
 
 pub invariant_of-self-then-is_err : goal.invariant_of-self-then-is_err
-invariant_of-self-then-is_err g c = record {
-  numbers = c.self.invariant.numbers;
-  table = search rules;
-  processes = search rules;
-  room = search rules;
-  told = search rules;
-  recovers = search rules;
-  keeps = let same : c.reserve.new.self ≡ c.self.inside.processes = search rules in
-      subst (λ (w : World). KeepsNow c.self.inside.volume (g.D.Disk.image c.self.inside.opening.value) w.journal.list (g.D.Disk.image c.self.inside.volume.device)) (sym same) c.self.invariant.keeps;
-  histories = let same : c.reserve.new.self ≡ c.self.inside.processes = search rules in
-      histories_stay (g.I.Intake.fits c.self.inside.intake) (g.I.Intake.fits c.room.new.self) c.self.inside.processes c.reserve.new.self (ap (λ (w : World). w.processes) same) (ap (λ (w : World). w.journal.list) same) c.room.ensures.fits c.self.invariant.histories;
-}
+invariant_of-self-then-is_err g c =
+    let same : c.reserve.new.self ≡ c.self.inside.processes = search rules in
+    subst (λ (w : World). Inv g.D.Disk.image g.I.Intake.process_count g.I.Intake.side g.I.Intake.fits g.H.Herald.count (record { volume = c.self.inside.volume; opening = c.self.inside.opening.value; intake = c.room.new.self; herald = c.self.inside.herald; world = w; inode_count = c.self.inside.inode_count })) (sym same)
+    (stays_true g.D.Disk.image g.I.Intake.process_count g.I.Intake.side g.I.Intake.fits g.H.Herald.count _ c.room.new.self c.self.inside.herald c.self.inside.processes.is_shut c.self.invariant c.room.ensures.processes (search rules) c.room.ensures.fits refl)
 
 pub create-requires-clause-begun : goal.create-requires-clause-begun
 create-requires-clause-begun g c =

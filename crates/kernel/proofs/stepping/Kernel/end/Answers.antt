@@ -1,8 +1,10 @@
-use Rattle.std.proofs.Common.{rules, refl, ◌≡◌, ◌<◌, ◌+◌, ℕ, inl, inr, ⊎_elim, None, ◌∙◌, sym, ap, length}
+use Rattle.std.proofs.Common.{rules, refl, ◌≡◌, ◌<◌, ◌+◌, ℕ, inl, inr, ⊎_elim, None, ◌∙◌, sym, ap, subst, length}
 use Rattle.kernel.specs.Processes.{World, process}
 use Rattle.kernel.proofs.Commits.{where_none, if_none}
 use Rattle.kernel.proofs.Ends.{table_end_commits, table_end_left, committed_before, committed_one_more}
-use Rattle.kernel.proofs.Keeping.{recovers_ended, kept_of}
+use Rattle.wal.specs.Volume.{VolumeState}
+use Rattle.kernel.specs.Keeps.{IsJournal}
+use Rattle.kernel.proofs.Keeping.{recovers_ended, journal_ended, kept_of}
 use Rattle.kernel.proofs.Taking.{histories_move, histories_given, committing_same, ending_owes, fit_same}
 use Rattle.kernel.proofs.Rooms.{rooms_answered, rooms_busy, as_many}
 use Rattle.kernel.proofs.stepping.Kernel.end.Goals as goal
@@ -25,6 +27,8 @@ invariant_of-self g c =
       room = rooms_busy (g.I.Intake.side c.self.inside.intake) c.self.inside.processes c.commit.new.self c.args.pid _ lt (ap (λ (v : World). v.processes) c.commit.ensures) (search rules) c.self.invariant.room;
       told = c.self.invariant.told ∙ sym (committed_before c.self.inside.volume c.end.new.self _ c.args.pid _ c.self.inside.processes table is lt (search rules) c.end.ensures.volume c.in-Commit.ensures.answer);
       numbers = c.self.invariant.numbers;
+      journal = subst (λ (v : VolumeState _). IsJournal opening v.log.opened c.commit.new.self.journal.list) (sym c.end.ensures.volume)
+          (journal_ended opening c.self.inside.volume.log c.self.inside.processes c.commit.new.self c.self.invariant.journal c.args.pid (ap (λ (v : World). v.journal.list) c.commit.ensures));
       recovers = if_none _ recovers;
       keeps = kept_of image opening c.end.new.self c.commit.new.self.journal.list recovers;
       histories = histories_move (fits c.self.inside.intake) (fits c.self.inside.intake) c.self.inside.processes c.commit.new.self c.args.pid _ lt (ap (λ (v : World). v.processes) c.commit.ensures) (ap (λ (v : World). v.journal.list) c.commit.ensures)
@@ -62,6 +66,8 @@ invariant_of-self-in-Left g c =
       room = rooms_answered (g.I.Intake.side c.self.inside.intake) (g.I.Intake.side c.give.new.intake) c.self.inside.processes _ c.args.pid lt goes c.give.ensures.others c.self.invariant.room;
       told = c.tell.ensures.count ∙ now;
       numbers = c.self.invariant.numbers;
+      journal = subst (λ (v : VolumeState _). IsJournal opening v.log.opened c.give.new.processes.journal.list) (sym c.end.ensures.volume)
+          (journal_ended opening c.self.inside.volume.log c.self.inside.processes c.give.new.processes c.self.invariant.journal c.args.pid (ap (λ (v : World). v.journal.list) goes));
       recovers = if_none _ recovers;
       keeps = kept_of image opening c.end.new.self c.give.new.processes.journal.list recovers;
       histories = histories_given (fits c.self.inside.intake) (fits c.give.new.intake) c.self.inside.processes c.give.new.processes c.args.pid _ lt (ap (λ (v : World). v.processes) goes) _ (ap (λ (v : World). v.journal.list) goes)

@@ -1,15 +1,19 @@
-use Rattle.std.proofs.Common.{ℕ, sym, subst}
-use Rattle.std.specs.Prelude.{IfNone}
+use Rattle.std.proofs.Common.{ℕ, sym, subst, ◌≡◌, ◌∙◌, Some}
+use Rattle.std.specs.Prelude.{IfNone, map}
+use Rattle.std.specs.List.{filter}
 use Rattle.blocks.specs.Disk.{Image}
 use mathlib.Core.List.{IsPrefix}
-use Rattle.model.specs.Journal.{kept, own}
-use Rattle.model.specs.Layout.{inode_count_of}
+use Rattle.model.specs.declared.types.Entry.{Entry}
+use Rattle.model.specs.Files.{files_of}
+use Rattle.model.specs.Journal.{kept, own, replay, answered, is_changing}
+use Rattle.model.specs.Layout.{form_of, inode_count_of}
 use Rattle.wal.specs.Joint.{seen}
-use Rattle.kernel.specs.Histories.{HasHistory}
-use Rattle.kernel.specs.Keeps.{HasFilesAfter, cleared, KeepsNow}
+use Rattle.ports.specs.History.{History}
+use Rattle.kernel.specs.Histories.{HasHistory, IsHistory}
+use Rattle.kernel.specs.Keeps.{HasFilesAfter, cleared, IsJournal, KeepsNow}
 use Rattle.kernel.specs.State.{State}
 use Rattle.kernel.proofs.Commits.{if_well}
-use Rattle.kernel.proofs.Kept.{own_beginning}
+use Rattle.kernel.proofs.Journals.{kept_of_taken}
 use Rattle.kernel.proofs.stepping.Kernel.known.Goals as goal
 
 pub returns : goal.returns
@@ -20,7 +24,10 @@ returns g c =
           (λ x left. subst (λ y. KeepsNow c.self.inside.volume (image c.self.inside.opening.value) c.self.inside.processes.journal.list y) (sym (g.met.D.Disk.only_now c.self.inside.volume.device x left)) c.self.invariant.keeps);
       current = subst (λ (k : State _ _ _). IfNone k.volume.fault (HasFilesAfter (image k.opening) (kept (inode_count_of (image k.opening)) k.world.journal.list k.volume.log.opened) (cleared (seen (image k.volume.device) k.volume.buffers)))) c.self.view_is
           (if_well c.self.inside.volume.fault (λ r. r.current) c.self.invariant.recovers);
-      beginnings = λ p groups. subst (λ (k : State _ _ _). IfNone k.volume.fault (IsPrefix (own p (kept (inode_count_of (image k.opening)) k.world.journal.list groups)) (own p (kept (inode_count_of (image k.opening)) k.world.journal.list k.volume.log.opened)))) c.self.view_is
-          (if_well c.self.inside.volume.fault (λ r. own_beginning p _ _ (r.order groups)) c.self.invariant.recovers);
+      files = subst (λ (k : State _ _ _). IfNone k.volume.fault (replay (form_of (image k.opening)) (files_of (image k.opening)) (answered k.world.journal.list) ≡ Some (files_of (cleared (seen (image k.volume.device) k.volume.buffers))))) c.self.view_is
+          (if_well c.self.inside.volume.fault (λ r. c.self.invariant.journal.whole ∙ r.current.files) c.self.invariant.recovers);
+      journal = subst (λ (k : State _ _ _). IsJournal (image k.opening) k.volume.log.opened k.world.journal.list) c.self.view_is c.self.invariant.journal;
       histories = subst (λ (k : State _ _ _). (p : ℕ) → HasHistory (g.I.Intake.fits k.intake) k.world p) c.self.view_is c.self.invariant.histories;
+      beginnings = subst (λ (k : State _ _ _). (p groups : ℕ) (h : History) → IsHistory k.world p h → IsPrefix (map (λ (e : Entry). e.op) (own p (kept (inode_count_of (image k.opening)) k.world.journal.list groups))) (filter (is_changing (inode_count_of (image k.opening))) h.taken)) c.self.view_is
+          (λ p groups h is. kept_of_taken _ _ p groups _ h.taken _ c.self.invariant.journal is.taken);
     }

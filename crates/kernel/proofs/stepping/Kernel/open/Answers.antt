@@ -7,7 +7,7 @@ use Rattle.wal.specs.Machine.{new_log}
 use Rattle.wal.specs.Recovery.{RecoversAs}
 use Rattle.wal.specs.Volume.{VolumeState}
 use Rattle.kernel.proofs.Commits.{if_none}
-use Rattle.kernel.proofs.Openings.{lawful_super, super_size, lawful_here, recover_cause, opened_leaves, opened_table, opened_count, opened_rooms, opened_numbers, opened_recovers, opened_histories, volume_same}
+use Rattle.kernel.proofs.Openings.{lawful_super, super_size, lawful_here, recover_cause, opened_leaves, opened_table, opened_count, opened_rooms, opened_numbers, opened_recovers, opened_journal, opened_histories, volume_same}
 use Rattle.kernel.proofs.Keeping.{kept_of}
 use Rattle.kernel.proofs.stepping.Kernel.open.Goals as goal
 
@@ -48,6 +48,7 @@ invariant_of-result g c =
       room = opened_rooms c.args.processes c.in-Ok-take_memory.memory.processes (λ p. (g.I.Intake.side c.args.intake p).has_room) new;
       told = c.requires.told ∙ sym (ap (λ (v : VolumeState _). v.log.committed) c.open.ensures.volume);
       numbers = opened_numbers x opening c.in-Ok.report.sup c.in-Ok.ensures.ok c.in-Ok.ensures.report.sup (same ∙ left);
+      journal = opened_journal c.open.result c.recover.new.disk opening (length (image c.recover.new.disk)) c.args.processes c.in-Ok-take_memory.memory.processes c.open.ensures.volume new;
       recovers = if_none _ recovers;
       keeps = kept_of image opening c.open.result c.in-Ok-take_memory.memory.processes.journal.list recovers;
       histories = opened_histories (g.I.Intake.fits c.args.intake) c.args.processes c.in-Ok-take_memory.memory.processes new c.requires.fits;

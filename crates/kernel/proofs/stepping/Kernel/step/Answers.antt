@@ -5,15 +5,25 @@ use Rattle.kernel.specs.Keeps.{KeepsBetween, most_of}
 use Rattle.kernel.proofs.Growing.{leaves_between}
 use Rattle.kernel.specs.Next.{Next}
 use Rattle.kernel.proofs.Bounds.{takes_one, moved_well}
-use Rattle.kernel.proofs.Progressing.{state_goes}
+use Rattle.kernel.proofs.Progressing.{GoesOn, state_goes}
 use Rattle.kernel.proofs.Sharing.{gives_none}
 use Rattle.kernel.proofs.stepping.Kernel.step.Goals as goal
 
+-- what each step keeps
+goes : (g : _) (c : goal.After-known-3 g) → GoesOn (inode_count_of (g.D.Disk.image c.args.self.now.opening)) c.args.pid c.args.self.now.volume c.args.self.now.world c.go_on-answer.result c.go_on-answer.new.self.volume c.go_on-answer.new.self.world
+goes g c = state_goes g.D.Disk.image _ c.args.self.now c.go_on-answer.new.self (inode_count_of (g.D.Disk.image c.args.self.now.opening)) c.args.pid _ _ _ c.go_on-answer.result c.self.view_is c.known-2.ensures c.self.invariant.table c.requires.pid c.go_on-answer.ensures.next
+
 pub returns-clause-grows : goal.returns-clause-grows
-returns-clause-grows g c = (state_goes g.D.Disk.image _ c.args.self.now c.go_on-answer.new.self (inode_count_of (g.D.Disk.image c.args.self.now.opening)) c.args.pid _ _ _ c.go_on-answer.result c.self.view_is c.known-2.ensures c.self.invariant.table c.requires.pid c.go_on-answer.ensures.next).0
+returns-clause-grows g c = (goes g c).grows
 
 pub returns-clause-processes : goal.returns-clause-processes
-returns-clause-processes g c = (state_goes g.D.Disk.image _ c.args.self.now c.go_on-answer.new.self (inode_count_of (g.D.Disk.image c.args.self.now.opening)) c.args.pid _ _ _ c.go_on-answer.result c.self.view_is c.known-2.ensures c.self.invariant.table c.requires.pid c.go_on-answer.ensures.next).1
+returns-clause-processes g c = (goes g c).many
+
+pub returns-clause-committed : goal.returns-clause-committed
+returns-clause-committed g c = (goes g c).committed
+
+pub returns-clause-shut : goal.returns-clause-shut
+returns-clause-shut g c = (goes g c).shut
 
 pub returns-clause-leaves : goal.returns-clause-leaves
 returns-clause-leaves g c =
