@@ -1,8 +1,9 @@
 // The command `replay`.
-ghost use Rattle.std.specs.Prelude.{◌≡◌, ◌≢◌, ◌-◌, OnOk, IfErr, IsOkUnless, List, Some, None, option_map, unwrap_or};
+ghost use Rattle.std.specs.Prelude.{◌≡◌, ◌≢◌, ◌-◌, All, OnOk, IfErr, IsOkUnless, List, Some, None, length, option_map, unwrap_or};
 ghost use Rattle.std.specs.Io.KnownBytes.{Appends};
 ghost use Rattle.blocks.specs.FaultyDisk.{has_fired};
 ghost use Rattle.scripts.specs.declared.schedule.Word.{Word};
+ghost use Rattle.scripts.specs.Schedule.{IsWordOf};
 ghost use Rattle.xvfs.specs.declared.refusal.Refusal.TheVariants as refusal;
 ghost use Rattle.xvfs.specs.Output.{counts_text};
 ghost use Rattle.xvfs.specs.Turns.{PrintsTurns, PrintsRun, OnRefusal, told_fault};
@@ -64,6 +65,7 @@ pub fn run<D: Disk + Drop, O: Write>(
     base: u64,
     out: &mut O,
 ) -> Result<(), Refusal>
+    requires { All (IsWordOf (length player.kernel.world.processes)) words.now }
     ensures printed { OnOk result (PrintsRun stop words.now (O.contents out.old) (O.contents out.new)) }
     ensures refused { IfErr result (λ r. OnRefusal r (PrintsRun stop words.now (O.contents out.old) (O.contents out.new)) ⊥) }
 {
@@ -78,6 +80,7 @@ fn play<D: Disk + Drop, O: Write>(
     stop: u64,
     out: &mut O,
 ) -> Result<(), Refusal>
+    requires { All (IsWordOf (length player.old.kernel.world.processes)) words.now }
     ensures printed { OnOk result (PrintsTurns stop words.now (O.contents out.old) (O.contents out.new)) }
     ensures err { IsOkUnless result refusal.Output }
 {
