@@ -1,5 +1,7 @@
--- What a turn makes of a player: of its kernel, and of the operations that wait to be handed in.
-use Rattle.std.specs.Prelude.{◌≡◌, ◌≢◌, ◌⊎◌, ℕ, zero, suc, ◌<◌, false, List, ◌++◌, option_to_list}
+-- What turns make of a player: of its kernel, and of the operations that wait to be handed in.
+use Rattle.std.specs.Prelude.{◌≡◌, ◌≢◌, ◌⊎◌, ℕ, zero, suc, ◌-◌, ◌<◌, false, List, [], ◌∷◌, ◌++◌, flat_map, Option, Some, None, option_to_list}
+use Rattle.std.specs.Io.KnownBytes.{Appends}
+use Rattle.blocks.specs.declared.errors.DiskFault.{DiskFault}
 use Rattle.blocks.specs.Disk.{Image}
 use Rattle.blocks.specs.FaultyDisk.{has_fired}
 use Rattle.blocks.specs.declared.faulty.FaultyDisk.{FaultyDisk}
@@ -19,7 +21,11 @@ use Rattle.xvfs.specs.declared.events.Event.{Event}
 use Rattle.xvfs.specs.declared.events.Event.TheVariants.{Shut}
 use Rattle.xvfs.specs.declared.turns.Player.{Player}
 use Rattle.xvfs.specs.Backlog.{backlog_at, HasHandedIn}
-use Rattle.xvfs.specs.Turns.{event_of}
+use Rattle.xvfs.specs.declared.refusal.Refusal.{Refusal}
+use Rattle.xvfs.specs.declared.refusal.Refusal.TheVariants.{File, Mkfs, Check, Recover, Open, Script, Schedule, Disk, Input, Output}
+use Rattle.xvfs.specs.Events.{event_line, is_last}
+use Rattle.xvfs.specs.Output.{counts_text}
+use Rattle.xvfs.specs.Turns.{IfLast, event_of, told_fault}
 
 -- a kernel over plain queues
 abbrev pub Plain : Type 0 → Type 0
@@ -73,3 +79,38 @@ abbrev pub MakesTurn : {D : Type 0} → (FaultyDisk D → Image) → ℕ → Wor
 MakesTurn image stop (word.Step p) event old new = MakesTurnOf (MakesStep image p) stop p event old new
 MakesTurn image stop (word.Steps p) event old new = MakesTurnOf (MakesSteps image 2000 p) stop p event old new
 MakesTurn image stop word.Shutdown event old new = (event ≡ Shut) × (new.kernel ≡ with_shutdown old.kernel) × (new.backlogs ≡ old.backlogs)
+
+-- the turns of these words, one for each up to the last that is made, make new of old, and come to these events
+abbrev pub MakesTurns : {D : Type 0} → (FaultyDisk D → Image) → ℕ → List Word → List Event → Player D → Player D → Type 0
+MakesTurns image stop [] events old new = (events ≡ []) × (new ≡ old)
+MakesTurns image stop (first ∷ words) [] old new = ⊥
+MakesTurns {D} image stop (first ∷ words) (event ∷ events) old new =
+    (mid : Player D) × MakesTurn image stop first event old mid × IfLast (is_last event) ((events ≡ []) × (new ≡ mid)) (MakesTurns image stop words events mid new)
+
+-- the turns of these words make new of old, and a line was printed for each
+pub record PlaysTo {D : Type 0} (image : FaultyDisk D → Image) (stop : ℕ) (words : List Word) (old new : Player D) (text printed : Option (List ℕ)) : Type 0 where
+  pub events : List Event
+  pub makes : MakesTurns image stop words events old new
+  pub lines : Appends text printed (flat_map event_line events)
+
+-- The turns of these words were made, and a line was printed for each; behind them the counts of the kernel that they made, over a disk that had counted `base`
+-- writes before. This fault is told of its disk.
+pub record RunsTo {D : Type 0} (image : FaultyDisk D → Image) (count : FaultyDisk D → ℕ) (stop base : ℕ) (words : List Word) (player : Player D) (fault : Option DiskFault) (text printed : Option (List ℕ)) : Type 0 where
+  pub events : List Event
+  pub last : Player D
+  pub makes : MakesTurns image stop words events player last
+  pub tells : told_fault (has_fired last.kernel.volume.device) last.kernel.volume.fault ≡ fault
+  pub lines : Appends text printed (flat_map event_line events ++ counts_text (count last.kernel.volume.device - base) last.kernel.volume.log.committed)
+
+-- the disk's fault that a refusal tells
+abbrev pub fault_in : Refusal → Option DiskFault
+fault_in (Disk fault) = Some fault
+fault_in (File _) = None
+fault_in (Mkfs _) = None
+fault_in (Check _) = None
+fault_in (Recover _) = None
+fault_in (Open _) = None
+fault_in (Script _) = None
+fault_in (Schedule _) = None
+fault_in (Input _) = None
+fault_in Output = None

@@ -1,7 +1,8 @@
 // The script and the schedule of a replay, from their files.
-ghost use Rattle.std.specs.Prelude.{◌≡◌, ◌≢◌, ◌⊎◌, ◌<◌, ℕ, List, take, All, IfOk, IfErr, IfSome, None, Some};
+ghost use Rattle.std.specs.Prelude.{◌≡◌, ◌≢◌, ◌⊎◌, ◌<◌, ℕ, List, take, All, IfOk, IfErr, IfSome, IsTrue, None, Some};
+ghost use Rattle.std.specs.List.{list_all};
 ghost use Rattle.std.specs.IoError.{error_kind};
-ghost use Rattle.scripts.specs.Schedule.{IsWordOf, fault_of};
+ghost use Rattle.scripts.specs.Schedule.{fault_of, is_word_of};
 ghost use Rattle.scripts.specs.Script.{tasks_of};
 ghost use Rattle.xvfs.specs.Inputs.{IsScheduleOf, IsUnread, is_creation, first_other, script_fault};
 
@@ -56,7 +57,7 @@ pub fn schedule_from<R: Files + AllocGlobal>(
     processes: u32,
 ) -> Result<Vec<Word>, ScheduleFault>
     ensures words { IfOk result (λ words. (text : List ℕ) × IsScheduleOf processes text words.items) }
-    ensures processes { IfOk result (λ words. All (IsWordOf processes) words.items) }
+    ensures processes { IfOk result (λ words. IsTrue (list_all (is_word_of processes) words.items)) }
     ensures fault { IfErr result (λ fault. IsUnread fault ⊎ ((text : List ℕ) × (fault_of processes text ≡ Some fault))) }
 {
     let text = bytes_from(rt, path, SCHEDULE_LIMIT).map_err(schedule_unread)?;

@@ -1,11 +1,11 @@
 // The turns of a schedule, over a kernel with a script's operations.
-ghost use Rattle.std.specs.Prelude.{◌≡◌, ◌-◌, ◌<◌, ℕ, All, length, None, IfOk, IfErr};
+ghost use Rattle.std.specs.Prelude.{◌≡◌, ◌-◌, ◌<◌, ℕ, All, IsTrue, length, None, IfOk, IfErr};
 ghost use Rattle.blocks.specs.FaultyDisk.{has_fired, inner_of};
 ghost use Rattle.model.specs.Log.{recovered};
 ghost use Rattle.model.specs.Verdict.{verdict};
 ghost use Rattle.ports.specs.History.{first_in};
 ghost use Rattle.ports.specs.Queues.{answers};
-ghost use Rattle.scripts.specs.Schedule.{IsWordOf};
+ghost use Rattle.scripts.specs.Schedule.{is_word_of};
 ghost use Rattle.xvfs.specs.Backlog.{backlog_at, ops_of};
 ghost use Rattle.xvfs.specs.Stepping.{MakesStep, MakesSteps, HandsIn, Polls, MakesTurn};
 ghost use Rattle.xvfs.specs.Turns.{IsTurnOf, IsTurnOfProcess, event_of, told_fault, IsOpening};
@@ -76,7 +76,7 @@ pub fn open_player<D: Disk + Drop>(
 impl<D: Disk + Drop> Player<D> {
     /// Makes the turn of a word, where the write of number `stop` isn't made.
     pub fn turn(&mut self, word: Word, stop: u64) -> Event
-        requires { IsWordOf (length self.old.kernel.world.processes) word }
+        requires { IsTrue (is_word_of (length self.old.kernel.world.processes) word) }
         ensures turn { IsTurnOf stop word result }
         ensures makes { MakesTurn ⟦<FaultyDisk<D> as Disk>⟧.image stop word result self.old self.new }
         ensures processes { length self.new.kernel.world.processes ≡ length self.old.kernel.world.processes }
