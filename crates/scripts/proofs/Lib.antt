@@ -3,4 +3,5 @@ pub mod LineLemmas
 pub mod NumberLemmas
 pub mod OperationLemmas
 pub mod ProcessLemmas
+pub mod ScheduleLemmas
 pub mod Walk

@@ -1,5 +1,5 @@
 -- The words of a schedule, and its fault.
-use Rattle.std.specs.Prelude.{ℕ, ◌+◌, ◌-◌, List, length, take, slice_index, filter, Option, Some, None, is_none, option_map, Bool, ◌==◌, ◌||◌, not, nat_lt, codes, if◌then◌else◌}
+use Rattle.std.specs.Prelude.{ℕ, ◌+◌, ◌-◌, List, length, take, slice_index, filter, Option, Some, None, is_none, option_map, Bool, true, ◌==◌, ◌||◌, not, nat_lt, codes, if◌then◌else◌}
 use Rattle.std.specs.List.{filter_map, position, slice_split}
 use Rattle.std.specs.Str.{bytes_eq}
 use Rattle.scripts.specs.declared.schedule.ScheduleFault.{ScheduleFault}
@@ -50,3 +50,9 @@ fault_in_words processes text = fault_at (position (is_bad processes) (words_of 
 abbrev pub fault_of : ℕ → List ℕ → Option ScheduleFault
 fault_of processes text =
     if nat_lt 1048576 (length text) then Some TooLarge else fault_in_words processes text
+
+-- a turn of one of so many processes, or the shutdown
+abbrev pub is_word_of : ℕ → Word → Bool
+is_word_of processes (Step pid) = nat_lt pid processes
+is_word_of processes (Steps pid) = nat_lt pid processes
+is_word_of processes Shutdown = true

@@ -1,6 +1,7 @@
 // Schedules of turns.
-ghost use Rattle.std.specs.Prelude.{◌≡◌, ◌≤◌, ◌⊎◌, length, IfErr, IfOk, None, Some};
-ghost use Rattle.scripts.specs.Schedule.{fault_in_words, fault_of, process_of, schedule_of, word_of};
+ghost use Rattle.std.specs.Prelude.{◌≡◌, ◌≤◌, ◌⊎◌, length, IfErr, IfOk, IsTrue, None, Some};
+ghost use Rattle.std.specs.List.{list_all};
+ghost use Rattle.scripts.specs.Schedule.{fault_in_words, fault_of, is_word_of, process_of, schedule_of, word_of};
 
 use crate::number::number;
 use std::alloc::{AllocFailed, Global};
@@ -55,6 +56,7 @@ impl<T: Drop> From<AllocFailed<T>> for ScheduleFault {
 pub fn read_schedule(alloc: Global, text: &[u8], processes: u32) -> Result<Vec<Word>, ScheduleFault>
     ensures words { IfOk result (λ words. words.items ≡ schedule_of processes text.now) }
     ensures sound { IfOk result (λ words. fault_of processes text.now ≡ None) }
+    ensures processes { IfOk result (λ words. IsTrue (list_all (is_word_of processes) words.items)) }
     ensures fault { IfErr result
         (λ fault. (fault ≡ ScheduleFault.NoMemory) ⊎ (fault_of processes text.now ≡ Some fault)) }
 {

@@ -5,3 +5,4 @@ pub mod Reading
 pub mod CommandLines
 pub mod Undone
 pub mod Sequences
+pub mod Steps

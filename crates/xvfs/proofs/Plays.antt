@@ -1,64 +1,118 @@
 -- The turns of a schedule's first words, with a line for each.
-use Rattle.std.proofs.Common.{◌≡◌, ℕ, ◌+◌, ◌<◌, true, false, List, [], ◌∷◌, ◌++◌, length, drop, refl, sym, ◌∙◌, ap, subst, append_assoc, append-nil, drop-cons, add-one, get_or, Option}
+use Rattle.std.proofs.Common.{◌≡◌, ℕ, ◌+◌, ◌-◌, ◌<◌, Bool, true, false, List, [], ◌∷◌, ◌++◌, length, drop, refl, sym, ◌∙◌, ap, subst, append_assoc, append-nil, drop-cons, add-one, get_or, Option, Some, None}
 use Rattle.std.specs.Prelude.{flat_map}
 use Rattle.std.specs.Io.KnownBytes.{Appends}
 use Rattle.std.proofs.lemmas.List.{flat_map_more}
 use Rattle.std.proofs.KnownBytes.{Appends-nil, Appends-trans}
+use Rattle.blocks.specs.Disk.{Image}
+use Rattle.blocks.specs.FaultyDisk.{has_fired}
+use Rattle.blocks.specs.declared.errors.DiskFault.{DiskFault}
+use Rattle.blocks.specs.declared.faulty.FaultyDisk.{FaultyDisk}
+use Rattle.model.specs.declared.types.Answer.{Answer}
+use Rattle.ports.specs.History.{first_in}
+use Rattle.ports.specs.Queues.{answers}
 use Rattle.scripts.specs.declared.schedule.Word.{Word}
+use Rattle.scripts.specs.declared.schedule.Word.TheVariants as word
+use Rattle.kernel.specs.declared.types.Step.{Step}
 use Rattle.xvfs.specs.declared.events.Event.{Event}
+use Rattle.xvfs.specs.declared.turns.Player.{Player}
 use Rattle.xvfs.specs.Events.{event_line, is_last}
-use Rattle.xvfs.specs.Turns.{IsTurnOf, IfLast, Plays, PrintsTurns, PrintsRun}
 use Rattle.xvfs.specs.Output.{counts_text}
+use Rattle.xvfs.specs.Stepping.{Plain, MakesTurnOf, MakesTurn, MakesTurns, PlaysTo, RunsTo}
+use Rattle.xvfs.specs.Turns.{IsTurnOfProcess, IsTurnOf, IfLast, Plays, PrintsRun, event_of, told_fault}
 
--- the first k words had their turns, and none was the last
-pub record PlayedSo (stop : ℕ) (words : List Word) (k : ℕ) (old new : Option (List ℕ)) : Type 0 where
+-- the first k words had their turns, which made now of old, and none was the last
+pub record PlayedSo {D : Type 0} (image : FaultyDisk D → Image) (stop : ℕ) (words : List Word) (k : ℕ) (old now : Player D) (text printed : Option (List ℕ)) : Type 0 where
   pub events : List Event
-  pub printed : Appends old new (flat_map event_line events)
-  pub joins : (rest : List Event) → Plays stop (drop k words) rest → Plays stop words (events ++ rest)
+  pub lines : Appends text printed (flat_map event_line events)
+  pub joins : (rest : List Event) (new : Player D) → MakesTurns image stop (drop k words) rest now new → MakesTurns image stop words (events ++ rest) old new
 
-pub none_played : (stop : ℕ) (words : List Word) (text : Option (List ℕ)) → PlayedSo stop words 0 text text
-none_played stop words text = record { events = []; printed = Appends-nil text; joins = λ rest plays. plays }
+pub none_played : {D : Type 0} (image : FaultyDisk D → Image) (stop : ℕ) (words : List Word) (player : Player D) (text : Option (List ℕ)) → PlayedSo image stop words 0 player player text text
+none_played image stop words player text = record { events = []; lines = Appends-nil text; joins = λ rest new makes. makes }
 
 -- the next word
 pub next_word : (words : List Word) (k : ℕ) (default : Word) → k < length words → drop k words ≡ get_or words k default ∷ drop (k + 1) words
 next_word words k default within = drop-cons words k default within ∙ ap (λ n. get_or words k default ∷ drop n words) (sym (add-one k))
 
 -- one line more
-more_printed : (old mid new : Option (List ℕ)) (events : List Event) (event : Event) → Appends old mid (flat_map event_line events) → Appends mid new (event_line event) → Appends old new (flat_map event_line (events ++ event ∷ []))
-more_printed old mid new events event before line = subst (Appends old new) (flat_map_more event_line [] events event) (Appends-trans old mid new _ _ before line)
+more_printed : (text mid printed : Option (List ℕ)) (events : List Event) (event : Event) → Appends text mid (flat_map event_line events) → Appends mid printed (event_line event) → Appends text printed (flat_map event_line (events ++ event ∷ []))
+more_printed text mid printed events event before line = subst (Appends text printed) (flat_map_more event_line [] events event) (Appends-trans text mid printed _ _ before line)
 
 -- one turn more
-pub one_played : (stop : ℕ) (words : List Word) (k : ℕ) (old mid new : Option (List ℕ)) (word : Word) (event : Event) → PlayedSo stop words k old mid → drop k words ≡ word ∷ drop (k + 1) words
-    → IsTurnOf stop word event → is_last event ≡ false → Appends mid new (event_line event) → PlayedSo stop words (k + 1) old new
-one_played stop words k old mid new word event so next turn more line = record {
+pub one_played : {D : Type 0} (image : FaultyDisk D → Image) (stop : ℕ) (words : List Word) (k : ℕ) (old now next : Player D) (text mid printed : Option (List ℕ)) (word : Word) (event : Event) → PlayedSo image stop words k old now text mid → drop k words ≡ word ∷ drop (k + 1) words
+    → MakesTurn image stop word event now next → is_last event ≡ false → Appends mid printed (event_line event) → PlayedSo image stop words (k + 1) old next text printed
+one_played image stop words k old now next text mid printed word event so left turn more line = record {
   events = so.events ++ event ∷ [];
-  printed = more_printed old mid new so.events event so.printed line;
-  joins = λ rest plays.
-      let here : Plays stop (word ∷ drop (k + 1) words) (event ∷ rest) = (turn, subst (λ b. IfLast b (rest ≡ []) (Plays stop (drop (k + 1) words) rest)) (sym more) plays) in
-      subst (Plays stop words) (sym (append_assoc so.events (event ∷ []) rest)) (so.joins (event ∷ rest) (subst (λ left. Plays stop left (event ∷ rest)) (sym next) here));
+  lines = more_printed text mid printed so.events event so.lines line;
+  joins = λ rest new makes.
+      let here : MakesTurns image stop (word ∷ drop (k + 1) words) (event ∷ rest) now new =
+      (next, turn, subst (λ b. IfLast b ((rest ≡ []) × (new ≡ next)) (MakesTurns image stop (drop (k + 1) words) rest next new)) (sym more) makes) in
+      subst (λ events. MakesTurns image stop words events old new) (sym (append_assoc so.events (event ∷ []) rest)) (so.joins (event ∷ rest) new (subst (λ ws. MakesTurns image stop ws (event ∷ rest) now new) (sym left) here));
 }
 
 -- the last turn
-pub last_played : (stop : ℕ) (words : List Word) (k : ℕ) (old mid new : Option (List ℕ)) (word : Word) (event : Event) → PlayedSo stop words k old mid → drop k words ≡ word ∷ drop (k + 1) words
-    → IsTurnOf stop word event → is_last event ≡ true → Appends mid new (event_line event) → PrintsTurns stop words old new
-last_played stop words k old mid new word event so next turn last line =
+pub last_played : {D : Type 0} (image : FaultyDisk D → Image) (stop : ℕ) (words : List Word) (k : ℕ) (old now next : Player D) (text mid printed : Option (List ℕ)) (word : Word) (event : Event) → PlayedSo image stop words k old now text mid → drop k words ≡ word ∷ drop (k + 1) words
+    → MakesTurn image stop word event now next → is_last event ≡ true → Appends mid printed (event_line event) → PlaysTo image stop words old next text printed
+last_played image stop words k old now next text mid printed word event so left turn last line =
     let none : List Event = [] in
-    let ends : none ≡ [] = refl in
-    let here : Plays stop (word ∷ drop (k + 1) words) (event ∷ []) = (turn, subst (λ b. IfLast b (none ≡ []) (Plays stop (drop (k + 1) words) [])) (sym last) ends) in
-    (so.events ++ event ∷ [], so.joins (event ∷ []) (subst (λ left. Plays stop left (event ∷ [])) (sym next) here), more_printed old mid new so.events event so.printed line)
+    let ends : (none ≡ []) × (next ≡ next) = (refl, refl) in
+    let here : MakesTurns image stop (word ∷ drop (k + 1) words) (event ∷ []) now next =
+    (next, turn, subst (λ b. IfLast b ((none ≡ []) × (next ≡ next)) (MakesTurns image stop (drop (k + 1) words) [] next next)) (sym last) ends) in
+    record {
+      events = so.events ++ event ∷ [];
+      makes = so.joins (event ∷ []) next (subst (λ ws. MakesTurns image stop ws (event ∷ []) now next) (sym left) here);
+      lines = more_printed text mid printed so.events event so.lines line;
+    }
 
 -- all words had their turns
-pub all_played : (stop : ℕ) (words : List Word) (k : ℕ) (old new : Option (List ℕ)) → PlayedSo stop words k old new → drop k words ≡ [] → PrintsTurns stop words old new
-all_played stop words k old new so none =
+pub all_played : {D : Type 0} (image : FaultyDisk D → Image) (stop : ℕ) (words : List Word) (k : ℕ) (old now : Player D) (text printed : Option (List ℕ)) → PlayedSo image stop words k old now text printed → drop k words ≡ [] → PlaysTo image stop words old now text printed
+all_played image stop words k old now text printed so none =
     let nothing : List Event = [] in
-    let ends : nothing ≡ [] = refl in
-    (so.events, subst (Plays stop words) (append-nil so.events) (so.joins [] (subst (λ left. Plays stop left []) (sym none) ends)), so.printed)
+    let ends : (nothing ≡ []) × (now ≡ now) = (refl, refl) in
+    record {
+      events = so.events;
+      makes = subst (λ events. MakesTurns image stop words events old now) (append-nil so.events) (so.joins [] now (subst (λ ws. MakesTurns image stop ws [] now now) (sym none) ends));
+      lines = so.lines;
+    }
 
 -- the counts behind the turns
-pub counts_printed : (stop : ℕ) (words : List Word) (old mid new : Option (List ℕ)) (writes committed : ℕ) → PrintsTurns stop words old mid → Appends mid new (counts_text writes committed) → PrintsRun stop words old new
-counts_printed stop words old mid new writes committed turns counts =
-    (turns.0, turns.1, (writes, (committed, Appends-trans old mid new _ _ turns.2 counts)))
+pub counts_printed : {D : Type 0} (image : FaultyDisk D → Image) (count : FaultyDisk D → ℕ) (stop base : ℕ) (words : List Word) (old new : Player D) (fault : Option DiskFault) (text mid printed : Option (List ℕ)) → PlaysTo image stop words old new text mid
+    → told_fault (has_fired new.kernel.volume.device) new.kernel.volume.fault ≡ fault → Appends mid printed (counts_text (count new.kernel.volume.device - base) new.kernel.volume.log.committed) → RunsTo image count stop base words old fault text printed
+counts_printed image count stop base words old new fault text mid printed plays told counts = record {
+  events = plays.events;
+  last = new;
+  makes = plays.makes;
+  tells = told;
+  lines = Appends-trans text mid printed _ _ plays.lines counts;
+}
 
--- some schedule was printed
-pub some_words : (s t : ℕ) (words : List Word) (old new : Option (List ℕ)) → s ≡ t → PrintsRun s words old new → (of : List Word) × PrintsRun t of old new
-some_words s t words old new same run = (words, subst (λ stop. PrintsRun stop words old new) same run)
+is_event_of : (fired : Bool) (stop p : ℕ) (answer : Step) (polled : Option Answer) → IsTurnOfProcess stop p (event_of fired stop p answer polled)
+is_event_of true stop p answer polled = refl
+is_event_of false stop p answer None = refl
+is_event_of false stop p answer (Some polled) = refl
+
+turn_is_of : {D : Type 0} (makes : Step → Plain (FaultyDisk D) → Plain (FaultyDisk D) → Type 0) (stop p : ℕ) (event : Event) (old new : Player D) → MakesTurnOf makes stop p event old new → IsTurnOfProcess stop p event
+turn_is_of makes stop p event old new turn =
+    subst (IsTurnOfProcess stop p) (sym turn.tells) (is_event_of (has_fired turn.stepped.volume.device) stop p turn.answer (first_in (answers turn.stepped.intake p)))
+
+-- the event of a turn is of its word's process
+pub turn_is : {D : Type 0} (image : FaultyDisk D → Image) (stop : ℕ) (word : Word) (event : Event) (old new : Player D) → MakesTurn image stop word event old new → IsTurnOf stop word event
+turn_is image stop (word.Step p) event old new turn = turn_is_of _ stop p event old new turn
+turn_is image stop (word.Steps p) event old new turn = turn_is_of _ stop p event old new turn
+turn_is image stop word.Shutdown event old new turn = turn.0
+
+if_last : (b : Bool) (P Q R S : Type 0) → (P → R) → (Q → S) → IfLast b P Q → IfLast b R S
+if_last true P Q R S f h last = f last
+if_last false P Q R S f h more = h more
+
+plays_of : {D : Type 0} (image : FaultyDisk D → Image) (stop : ℕ) (words : List Word) (events : List Event) (old new : Player D) → MakesTurns image stop words events old new → Plays stop words events
+plays_of image stop [] events old new makes = makes.0
+plays_of image stop (first ∷ words) [] old new makes = makes
+plays_of image stop (first ∷ words) (event ∷ events) old new makes =
+    (turn_is image stop first event old makes.0 makes.1, if_last (is_last event) _ _ _ _ (λ ends. ends.0) (λ more. plays_of image stop words events makes.0 new more) makes.2)
+
+-- a run prints the turns of some schedule
+pub some_words : {D : Type 0} (image : FaultyDisk D → Image) (count : FaultyDisk D → ℕ) (s t base : ℕ) (words : List Word) (player : Player D) (fault : Option DiskFault) (text printed : Option (List ℕ)) → s ≡ t → RunsTo image count s base words player fault text printed → (of : List Word) × PrintsRun t of text printed
+some_words image count s t base words player fault text printed same run =
+    let plays = plays_of image s words run.events player run.last run.makes in
+    (words, subst (λ stop. PrintsRun stop words text printed) same (run.events, plays, (count run.last.kernel.volume.device - base, (run.last.kernel.volume.log.committed, run.lines))))

@@ -1,11 +1,16 @@
--- The scripts that can be carried out.
-use Rattle.std.specs.Prelude.{ℕ, Bool, true, false, not, List, Option, Some, None, option_map, find}
+-- The scripts that can be carried out, and the schedules.
+use Rattle.std.specs.Prelude.{◌≡◌, ⊤, ℕ, Bool, true, false, not, List, Option, Some, None, option_map, find}
 use Rattle.model.specs.declared.types.Op.{Op}
 use Rattle.model.specs.declared.types.Op.TheVariants.{Create, Write, Read, Trunc, Remove, Stat}
 use Rattle.scripts.specs.declared.script.Task.{Task}
 use Rattle.scripts.specs.declared.script.ScriptFault.{ScriptFault}
 use Rattle.scripts.specs.declared.script.ScriptFault.TheVariants.{NotYet}
 use Rattle.scripts.specs.Script.{tasks_of, fault_of}
+use Rattle.scripts.specs.declared.schedule.ScheduleFault.{ScheduleFault}
+use Rattle.scripts.specs.declared.schedule.ScheduleFault.TheVariants as schedule_fault
+use Rattle.scripts.specs.declared.schedule.Word.{Word}
+use Rattle.scripts.specs.Schedule.{schedule_of}
+use Rattle.scripts.specs.Schedule.{fault_of as fault_of_schedule}
 
 abbrev pub is_creation : Op → Bool
 is_creation (Create kind) = true
@@ -26,3 +31,14 @@ fault_or None other = other
 -- why a text is no script of creations: it is none, else the first operation that is no creation
 abbrev pub script_fault : List ℕ → Option ScriptFault
 script_fault text = fault_or (fault_of text) (option_map NotYet (first_other (tasks_of text)))
+
+-- these are the words of a text, each of which is one, for so many processes
+abbrev pub IsScheduleOf : ℕ → List ℕ → List Word → Type 0
+IsScheduleOf processes text words = (fault_of_schedule processes text ≡ None) × (words ≡ schedule_of processes text)
+
+-- a schedule's file gave no bytes
+abbrev pub IsUnread : ScheduleFault → Type 0
+IsUnread schedule_fault.NoMemory = ⊤
+IsUnread schedule_fault.File = ⊤
+IsUnread schedule_fault.TooLarge = ⊥
+IsUnread (schedule_fault.BadWord _) = ⊥

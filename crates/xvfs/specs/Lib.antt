@@ -9,3 +9,4 @@ pub mod Turns
 pub mod Requests
 pub mod CommandLine
 pub mod Backlog
+pub mod Stepping

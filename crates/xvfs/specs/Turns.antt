@@ -45,10 +45,6 @@ Plays stop [] events = events ≡ []
 Plays stop (first ∷ words) [] = ⊥
 Plays stop (first ∷ words) (event ∷ events) = IsTurnOf stop first event × IfLast (is_last event) (events ≡ []) (Plays stop words events)
 
--- a line was printed for each turn
-abbrev pub PrintsTurns : ℕ → List Word → Option (List ℕ) → Option (List ℕ) → Type 0
-PrintsTurns stop words old new = (events : List Event) × Plays stop words events × Appends old new (flat_map event_line events)
-
 -- a line was printed for each turn, and the counts behind them
 abbrev pub PrintsRun : ℕ → List Word → Option (List ℕ) → Option (List ℕ) → Type 0
 PrintsRun stop words old new =

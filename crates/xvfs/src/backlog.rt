@@ -1,7 +1,7 @@
 // The operations that wait to be handed in.
-ghost use Rattle.std.specs.Prelude.{◌≡◌, ◌<◌, ◌∷◌, [], ◌++◌, All, length, None, IfOk, OnOk, option_to_list, ℕ};
-ghost use Rattle.ports.specs.Queues.{waiting};
-ghost use Rattle.xvfs.specs.Backlog.{backlog_of, backlog_at, ops_of};
+ghost use Rattle.std.specs.Prelude.{◌≡◌, ◌<◌, ◌∷◌, [], ◌++◌, All, length, None, IfOk, IfNone, OnOk, option_to_list, ℕ};
+ghost use Rattle.ports.specs.Queues.{waiting, answers};
+ghost use Rattle.xvfs.specs.Backlog.{backlog_of, backlog_at, ops_of, HasHandedIn};
 
 use blocks::Disk;
 use kernel::Kernel;
@@ -47,6 +47,8 @@ impl Backlog {
     pub fn hand_in<D: Disk, H: Herald>(&mut self, kernel: &mut Kernel<D, QueueIntake, H>, pid: u32)
         requires { pid < length kernel.old.world.processes }
         ensures order { waiting kernel.new.intake pid ++ backlog_of self.new ≡ waiting kernel.old.intake pid ++ backlog_of self.old }
+        ensures all { HasHandedIn pid kernel.new (backlog_of self.new) }
+        ensures unpolled { answers kernel.new.intake pid ≡ answers kernel.old.intake pid }
         ensures same { kernel.new ≡ record kernel.old { intake = kernel.new.intake } }
     {
         for _place in 0..PLACES {
@@ -63,6 +65,7 @@ impl Backlog {
     // Takes the first operation.
     fn next(&mut self) -> Option<Op>
         ensures first { backlog_of self.old ≡ option_to_list result ++ backlog_of self.new }
+        ensures none { IfNone result (backlog_of self.new ≡ []) }
         ensures held { self.new.held ≡ None }
     {
         match self.held.take() {

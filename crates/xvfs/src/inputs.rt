@@ -1,8 +1,10 @@
 // The script and the schedule of a replay, from their files.
-ghost use Rattle.std.specs.Prelude.{◌≡◌, ◌≢◌, ◌⊎◌, ◌<◌, All, IfOk, IfErr, None, Some};
+ghost use Rattle.std.specs.Prelude.{◌≡◌, ◌≢◌, ◌⊎◌, ◌<◌, ℕ, List, take, All, IfOk, IfErr, IfSome, IsTrue, None, Some};
+ghost use Rattle.std.specs.List.{list_all};
 ghost use Rattle.std.specs.IoError.{error_kind};
+ghost use Rattle.scripts.specs.Schedule.{fault_of, is_word_of};
 ghost use Rattle.scripts.specs.Script.{tasks_of};
-ghost use Rattle.xvfs.specs.Inputs.{is_creation, first_other, script_fault};
+ghost use Rattle.xvfs.specs.Inputs.{IsScheduleOf, IsUnread, is_creation, first_other, script_fault};
 
 use model::types::Op;
 use scripts::{
@@ -53,17 +55,28 @@ pub fn schedule_from<R: Files + AllocGlobal>(
     rt: &R,
     path: &str,
     processes: u32,
-) -> Result<Vec<Word>, ScheduleFault> {
+) -> Result<Vec<Word>, ScheduleFault>
+    ensures words { IfOk result (λ words. (text : List ℕ) × IsScheduleOf processes text words.items) }
+    ensures processes { IfOk result (λ words. IsTrue (list_all (is_word_of processes) words.items)) }
+    ensures fault { IfErr result (λ fault. IsUnread fault ⊎ ((text : List ℕ) × (fault_of processes text ≡ Some fault))) }
+{
     let text = bytes_from(rt, path, SCHEDULE_LIMIT).map_err(schedule_unread)?;
     read_schedule(rt.alloc(), text.as_slice(), processes)
 }
 
-// The bytes of a file, and of one with more than `limit` one byte more.
+// The bytes of a file, and of one with more than `limit` one byte more. No contract of std says
+// which bytes a path's file has.
 fn bytes_from<R: Files + AllocGlobal>(rt: &R, path: &str, limit: usize) -> io::Result<Vec<u8>> {
     let file = File::open(rt, path)?;
-    let mut bytes = Vec::new(rt.alloc());
-    file.take((limit as u64).saturating_add(1))
-        .read_to_end(&mut bytes)?;
+    first_bytes(rt.alloc(), file, (limit as u64).saturating_add(1))
+}
+
+// The first bytes of a reader, at most so many.
+fn first_bytes<I: Read + Drop>(alloc: Global, input: I, most: u64) -> io::Result<Vec<u8>>
+    ensures { IfOk result (λ bytes. IfSome (I.remaining input) (λ all. bytes.items ≡ take most all)) }
+{
+    let mut bytes = Vec::new(alloc);
+    input.take(most).read_to_end(&mut bytes)?;
     Ok(bytes)
 }
 

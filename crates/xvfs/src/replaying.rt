@@ -1,11 +1,14 @@
 // The command `replay`.
-ghost use Rattle.std.specs.Prelude.{◌≡◌, ◌≢◌, ◌-◌, OnOk, IfErr, IsOkUnless, List, Some, None, option_map, unwrap_or};
+ghost use Rattle.std.specs.Prelude.{◌≡◌, ◌≢◌, ◌-◌, OnOk, IsTrue, IfErr, IsOkUnless, List, Some, None, length, option_map, unwrap_or};
 ghost use Rattle.std.specs.Io.KnownBytes.{Appends};
+ghost use Rattle.std.specs.List.{list_all};
 ghost use Rattle.blocks.specs.FaultyDisk.{has_fired};
 ghost use Rattle.scripts.specs.declared.schedule.Word.{Word};
+ghost use Rattle.scripts.specs.Schedule.{is_word_of};
 ghost use Rattle.xvfs.specs.declared.refusal.Refusal.TheVariants as refusal;
 ghost use Rattle.xvfs.specs.Output.{counts_text};
-ghost use Rattle.xvfs.specs.Turns.{PrintsTurns, PrintsRun, OnRefusal, told_fault};
+ghost use Rattle.xvfs.specs.Stepping.{PlaysTo, RunsTo, fault_in};
+ghost use Rattle.xvfs.specs.Turns.{PrintsRun, OnRefusal, told_fault};
 
 use crate::events::Event;
 use crate::inputs::{schedule_from, script_from};
@@ -64,8 +67,9 @@ pub fn run<D: Disk + Drop, O: Write>(
     base: u64,
     out: &mut O,
 ) -> Result<(), Refusal>
-    ensures printed { OnOk result (PrintsRun stop words.now (O.contents out.old) (O.contents out.new)) }
-    ensures refused { IfErr result (λ r. OnRefusal r (PrintsRun stop words.now (O.contents out.old) (O.contents out.new)) ⊥) }
+    requires { IsTrue (list_all (is_word_of (length player.kernel.world.processes)) words.now) }
+    ensures printed { OnOk result (RunsTo ⟦<FaultyDisk<D> as Disk>⟧.image ⟦<FaultyDisk<D> as Disk>⟧.write_count stop base words.now player None (O.contents out.old) (O.contents out.new)) }
+    ensures refused { IfErr result (λ r. OnRefusal r (RunsTo ⟦<FaultyDisk<D> as Disk>⟧.image ⟦<FaultyDisk<D> as Disk>⟧.write_count stop base words.now player (fault_in r) (O.contents out.old) (O.contents out.new)) ⊥) }
 {
     play(&mut player, words, stop, out)?;
     close(player, base, out)
@@ -78,7 +82,8 @@ fn play<D: Disk + Drop, O: Write>(
     stop: u64,
     out: &mut O,
 ) -> Result<(), Refusal>
-    ensures printed { OnOk result (PrintsTurns stop words.now (O.contents out.old) (O.contents out.new)) }
+    requires { IsTrue (list_all (is_word_of (length player.old.kernel.world.processes)) words.now) }
+    ensures printed { OnOk result (PlaysTo ⟦<FaultyDisk<D> as Disk>⟧.image stop words.now player.old player.new (O.contents out.old) (O.contents out.new)) }
     ensures err { IsOkUnless result refusal.Output }
 {
     for word in words {

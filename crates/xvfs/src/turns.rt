@@ -1,11 +1,13 @@
 // The turns of a schedule, over a kernel with a script's operations.
-ghost use Rattle.std.specs.Prelude.{◌≡◌, ◌-◌, ◌<◌, ℕ, All, nat_lt, length, None, IfOk, IfErr};
+ghost use Rattle.std.specs.Prelude.{◌≡◌, ◌-◌, ◌<◌, ℕ, All, IsTrue, length, None, IfOk, IfErr};
 ghost use Rattle.blocks.specs.FaultyDisk.{has_fired, inner_of};
 ghost use Rattle.model.specs.Log.{recovered};
 ghost use Rattle.model.specs.Verdict.{verdict};
 ghost use Rattle.ports.specs.History.{first_in};
 ghost use Rattle.ports.specs.Queues.{answers};
+ghost use Rattle.scripts.specs.Schedule.{is_word_of};
 ghost use Rattle.xvfs.specs.Backlog.{backlog_at, ops_of};
+ghost use Rattle.xvfs.specs.Stepping.{MakesStep, MakesSteps, HandsIn, Polls, MakesTurn};
 ghost use Rattle.xvfs.specs.Turns.{IsTurnOf, IsTurnOfProcess, event_of, told_fault, IsOpening};
 
 use crate::backlog::{Backlog, backlogs_of};
@@ -58,6 +60,7 @@ pub fn open_player<D: Disk + Drop>(
     ensures sound { IfOk result (λ player. verdict (D.image disk) ≡ None) }
     ensures image { IfOk result (λ player. D.image (inner_of player.kernel.volume.device) ≡ recovered (D.image disk)) }
     ensures none { IfOk result (λ player. player.kernel.volume.log.committed ≡ 0) }
+    ensures processes { IfOk result (λ player. length player.kernel.world.processes ≡ processes) }
     ensures backlogs { IfOk result (λ player. (p : ℕ) → p < processes → backlog_at player.backlogs.items p ≡ ops_of p tasks.items) }
     ensures refused { IfErr result IsOpening }
 {
@@ -73,7 +76,10 @@ pub fn open_player<D: Disk + Drop>(
 impl<D: Disk + Drop> Player<D> {
     /// Makes the turn of a word, where the write of number `stop` isn't made.
     pub fn turn(&mut self, word: Word, stop: u64) -> Event
-        ensures { IsTurnOf stop word result }
+        requires { IsTrue (is_word_of (length self.old.kernel.world.processes) word) }
+        ensures turn { IsTurnOf stop word result }
+        ensures makes { MakesTurn ⟦<FaultyDisk<D> as Disk>⟧.image stop word result self.old self.new }
+        ensures processes { length self.new.kernel.world.processes ≡ length self.old.kernel.world.processes }
     {
         match word {
             Word::Step(pid) => {
@@ -111,42 +117,32 @@ impl<D: Disk + Drop> Player<D> {
     }
 
     // Hands in the next operations of a process, as many as its queue takes.
-    fn hand_in(&mut self, pid: u32) {
-        if self.has(pid)
-            && let Some(backlog) = self.backlogs.get_mut(pid as usize)
-        {
+    fn hand_in(&mut self, pid: u32)
+        requires { pid < length self.old.kernel.world.processes }
+        ensures { HandsIn pid self.old.kernel self.old.backlogs.items self.new.kernel self.new.backlogs.items }
+    {
+        if let Some(backlog) = self.backlogs.get_mut(pid as usize) {
             backlog.hand_in(&mut self.kernel, pid);
         }
     }
 
-    // Whether the kernel has this process, as each that a schedule names.
-    fn has(&self, pid: u32) -> bool
-        ensures { result ≡ nat_lt pid (length self.now.kernel.world.processes) }
-    {
-        (pid as usize) < self.kernel.processes()
-    }
-
-    // Takes the answer of the step before, if it gave one.
-    fn poll(&mut self, pid: u32) -> Option<Answer>
-        ensures { pid < length self.old.kernel.world.processes → result ≡ first_in (answers self.old.kernel.intake pid) }
-    {
-        if self.has(pid) {
-            self.kernel.poll(pid)
-        } else {
-            None
-        }
-    }
-
     // Makes a step of a process.
-    fn step(&mut self, pid: u32) -> Step {
-        if !self.has(pid) {
-            return Step::Idle;
-        }
+    fn step(&mut self, pid: u32) -> Step
+        requires { pid < length self.old.kernel.world.processes }
+        ensures makes { MakesStep ⟦<FaultyDisk<D> as Disk>⟧.image pid result self.old.kernel self.new.kernel }
+        ensures processes { length self.new.kernel.world.processes ≡ length self.old.kernel.world.processes }
+        ensures backlogs { self.new.backlogs ≡ self.old.backlogs }
+    {
         self.kernel.step(pid)
     }
 
     // Makes steps of a process, until one doesn't move. What the last of them answers.
-    fn steps(&mut self, pid: u32) -> Step {
+    fn steps(&mut self, pid: u32) -> Step
+        requires { pid < length self.old.kernel.world.processes }
+        ensures makes { MakesSteps ⟦<FaultyDisk<D> as Disk>⟧.image 2000 pid result self.old.kernel self.new.kernel }
+        ensures processes { length self.new.kernel.world.processes ≡ length self.old.kernel.world.processes }
+        ensures backlogs { self.new.backlogs ≡ self.old.backlogs }
+    {
         for _step in 0..MOST_STEPS {
             let step = self.step(pid);
             if step != Step::Moved {
@@ -158,11 +154,15 @@ impl<D: Disk + Drop> Player<D> {
 
     // What the turn of a process came to, whose last step answered so.
     fn event(&mut self, pid: u32, step: Step, stop: u64) -> Event
+        requires { pid < length self.old.kernel.world.processes }
         ensures process { IsTurnOfProcess stop pid result }
-        ensures event { pid < length self.old.kernel.world.processes → result ≡ event_of (has_fired self.old.kernel.volume.device) stop pid step (first_in (answers self.old.kernel.intake pid)) }
+        ensures event { result ≡ event_of (has_fired self.old.kernel.volume.device) stop pid step (first_in (answers self.old.kernel.intake pid)) }
+        ensures polls { Polls pid self.old.kernel self.new.kernel }
+        ensures backlogs { self.new.backlogs ≡ self.old.backlogs }
     {
         let fired = self.kernel.disk().fired();
-        event_of(fired, stop, pid, step, self.poll(pid))
+        let answer = self.kernel.poll(pid);
+        event_of(fired, stop, pid, step, answer)
     }
 }
 
