@@ -1,7 +1,7 @@
 // What processes do to the queues of a kernel.
 ghost use Rattle.std.specs.Prelude.{◌≡◌, ◌⊎◌, ◌<◌, ◌≤◌, ◌+◌, ◌^◌, length, ◌∷◌, ◌++◌, [], IfOk, IfErr, OnErr, option_to_list};
 ghost use Rattle.ports.specs.History.{first_in};
-ghost use Rattle.ports.specs.Queues.{waiting, answers};
+ghost use Rattle.ports.specs.Queues.{waiting, answers, OthersWait};
 ghost use Rattle.kernel.specs.Processes.{process};
 
 use crate::stepping::Kernel;
@@ -21,6 +21,7 @@ impl<D: Disk, H: Herald> Kernel<D, QueueIntake, H> {
         ensures back { IfErr result (λ other. other ≡ op) }
         ensures refused { OnErr result (waiting self.new.intake pid ≡ waiting self.old.intake pid) }
         ensures answers { answers self.new.intake pid ≡ answers self.old.intake pid }
+        ensures others { OthersWait self.old.intake self.new.intake pid }
         ensures same { self.new ≡ record self.old { intake = self.new.intake } }
     {
         self.intake.submit(pid, op)
@@ -32,6 +33,7 @@ impl<D: Disk, H: Herald> Kernel<D, QueueIntake, H> {
         ensures oldest { result ≡ first_in (answers self.old.intake pid) }
         ensures answers { answers self.old.intake pid ≡ option_to_list result ++ answers self.new.intake pid }
         ensures waiting { waiting self.new.intake pid ≡ waiting self.old.intake pid }
+        ensures others { OthersWait self.old.intake self.new.intake pid }
         ensures same { self.new ≡ record self.old { intake = self.new.intake } }
     {
         self.intake.poll(pid)

@@ -75,7 +75,7 @@ impl<D: Disk, I: Intake, H: Herald> Kernel<D, I, H> {
     ghost use Rattle.wal.specs.Joint.{seen};
     ghost use Rattle.kernel.specs.Histories.{HasHistory, IsHistory};
     ghost use Rattle.kernel.specs.Keeps.{HasFilesAfter, cleared, IsJournal, KeepsNow, KeepsBetween, Grows, most_of};
-    ghost use Rattle.ports.specs.History.{History, first_in};
+    ghost use Rattle.ports.specs.History.{History, OthersStay, SameNames, first_in};
     ghost use Rattle.kernel.specs.State.{waiting_of, Stays};
     ghost use Rattle.kernel.specs.declared.types.At.TheVariants as at;
     ghost use Rattle.kernel.specs.declared.stepping.Waiting.TheVariants as waiting;
@@ -108,6 +108,8 @@ impl<D: Disk, I: Intake, H: Herald> Kernel<D, I, H> {
     pub fn step(&mut self, pid: u32) -> Step
         requires pid { pid < length self.old.world.processes }
         ensures next { Next (D.image self.old.volume.device) self.old.inode_count self.old.volume self.old.world pid (I.side self.old.intake pid).ahead (I.side self.new.intake pid) (H.told self.new.herald) result (D.image self.new.volume.device) self.new.volume self.new.world }
+        ensures sides { OthersStay (I.side self.old.intake) (I.side self.new.intake) pid }
+        ensures names { SameNames (I.name self.old.intake) (I.name self.new.intake) }
         ensures looked { self.old.volume.fault ≡ None → HasLooked self.old.inode_count (seen (D.image self.old.volume.device) self.old.volume.buffers) (seen (D.image self.new.volume.device) self.new.volume.buffers) (process self.old.world pid).at (process self.new.world pid).at }
         ensures opening { self.new.opening ≡ self.old.opening }
         ensures inode_count { self.new.inode_count ≡ self.old.inode_count }
@@ -138,6 +140,8 @@ impl<D: Disk, I: Intake, H: Herald> Kernel<D, I, H> {
     fn go_on(&mut self, pid: u32) -> Step
         requires pid { pid < length self.old.world.processes }
         ensures next { Next (D.image self.old.volume.device) self.old.inode_count self.old.volume self.old.world pid (I.side self.old.intake pid).ahead (I.side self.new.intake pid) (H.told self.new.herald) result (D.image self.new.volume.device) self.new.volume self.new.world }
+        ensures sides { OthersStay (I.side self.old.intake) (I.side self.new.intake) pid }
+        ensures names { SameNames (I.name self.old.intake) (I.name self.new.intake) }
         ensures looked { self.old.volume.fault ≡ None → HasLooked self.old.inode_count (seen (D.image self.old.volume.device) self.old.volume.buffers) (seen (D.image self.new.volume.device) self.new.volume.buffers) (process self.old.world pid).at (process self.new.world pid).at }
         ensures opening { self.new.opening ≡ self.old.opening }
         ensures inode_count { self.new.inode_count ≡ self.old.inode_count }
@@ -166,6 +170,8 @@ impl<D: Disk, I: Intake, H: Herald> Kernel<D, I, H> {
         requires fault { self.old.volume.fault ≡ None }
         requires at { (process self.old.world pid).at ≡ at.Idle }
         ensures next { Begins self.old.inode_count self.old.volume self.old.world pid (I.side self.old.intake pid).ahead (I.side self.new.intake pid) (H.told self.new.herald) result self.new.volume self.new.world }
+        ensures sides { OthersStay (I.side self.old.intake) (I.side self.new.intake) pid }
+        ensures names { SameNames (I.name self.old.intake) (I.name self.new.intake) }
         ensures opening { self.new.opening ≡ self.old.opening }
         ensures inode_count { self.new.inode_count ≡ self.old.inode_count }
         ensures device { self.new.volume.device ≡ self.old.volume.device }
@@ -204,6 +210,8 @@ impl<D: Disk, I: Intake, H: Herald> Kernel<D, I, H> {
     fn waiting(&mut self, pid: u32) -> Option<Waiting>
         requires pid { pid < length self.old.world.processes }
         ensures same { Stays self.old self.new }
+        ensures sides { OthersStay (I.side self.old.intake) (I.side self.new.intake) pid }
+        ensures names { SameNames (I.name self.old.intake) (I.name self.new.intake) }
         ensures world { self.new.world ≡ self.old.world }
         ensures herald { self.new.herald ≡ self.old.herald }
         ensures prefix { IsPrefix (I.side self.old.intake pid).ahead (I.side self.new.intake pid).ahead }
@@ -221,6 +229,8 @@ impl<D: Disk, I: Intake, H: Herald> Kernel<D, I, H> {
         requires kind { IsTrue (is_kind kind) }
         requires waits { option_map waiting_of (first_in (I.side self.old.intake pid).ahead) ≡ Some (waiting.Creation kind) }
         ensures next { Creates self.old.inode_count kind self.old.volume self.old.world pid (I.side self.old.intake pid).ahead (I.side self.new.intake pid) result self.new.volume self.new.world }
+        ensures sides { OthersStay (I.side self.old.intake) (I.side self.new.intake) pid }
+        ensures names { SameNames (I.name self.old.intake) (I.name self.new.intake) }
         ensures herald { self.new.herald ≡ self.old.herald }
         ensures opening { self.new.opening ≡ self.old.opening }
         ensures inode_count { self.new.inode_count ≡ self.old.inode_count }
@@ -253,6 +263,8 @@ impl<D: Disk, I: Intake, H: Herald> Kernel<D, I, H> {
         requires at { (process self.old.world pid).at ≡ at.Idle }
         requires waits { option_map waiting_of (first_in (I.side self.old.intake pid).ahead) ≡ Some waiting.Refused }
         ensures next { Refuses self.old.volume self.old.world pid (I.side self.old.intake pid).ahead (I.side self.new.intake pid) result self.new.volume self.new.world }
+        ensures sides { OthersStay (I.side self.old.intake) (I.side self.new.intake) pid }
+        ensures names { SameNames (I.name self.old.intake) (I.name self.new.intake) }
         ensures herald { self.new.herald ≡ self.old.herald }
         ensures opening { self.new.opening ≡ self.old.opening }
         ensures inode_count { self.new.inode_count ≡ self.old.inode_count }
@@ -281,6 +293,8 @@ impl<D: Disk, I: Intake, H: Herald> Kernel<D, I, H> {
         requires fault { self.old.volume.fault ≡ None }
         requires at { is_committing_at (process self.old.world pid).at ≡ true }
         ensures next { Commits (D.image self.old.volume.device) self.old.volume self.old.world pid result (D.image self.new.volume.device) self.new.volume self.new.world }
+        ensures sides { OthersStay (I.side self.old.intake) (I.side self.new.intake) pid }
+        ensures names { SameNames (I.name self.old.intake) (I.name self.new.intake) }
         ensures opening { self.new.opening ≡ self.old.opening }
         ensures inode_count { self.new.inode_count ≡ self.old.inode_count }
         ensures time { Elapses (D.moment self.old.volume.device) (D.moment self.new.volume.device) (D.leaves self.old.volume.device) (D.leaves self.new.volume.device) }
@@ -310,6 +324,8 @@ impl<D: Disk, I: Intake, H: Herald> Kernel<D, I, H> {
         requires fault { self.old.volume.fault ≡ None }
         requires at { (process self.old.world pid).at ≡ at.Creating group search }
         ensures next { Searches (D.image self.old.volume.device) group search self.old.volume self.old.world pid result self.new.volume self.new.world }
+        ensures sides { OthersStay (I.side self.old.intake) (I.side self.new.intake) pid }
+        ensures names { SameNames (I.name self.old.intake) (I.name self.new.intake) }
         ensures looked { HasLooked self.old.inode_count (seen (D.image self.old.volume.device) self.old.volume.buffers) (seen (D.image self.new.volume.device) self.new.volume.buffers) (process self.old.world pid).at (process self.new.world pid).at }
         ensures opening { self.new.opening ≡ self.old.opening }
         ensures inode_count { self.new.inode_count ≡ self.old.inode_count }
@@ -340,6 +356,8 @@ impl<D: Disk, I: Intake, H: Herald> Kernel<D, I, H> {
         requires fault { self.old.volume.fault ≡ None }
         requires at { is_ending_at (process self.old.world pid).at ≡ true }
         ensures next { Ends self.old.volume self.old.world pid result self.new.volume self.new.world }
+        ensures sides { OthersStay (I.side self.old.intake) (I.side self.new.intake) pid }
+        ensures names { SameNames (I.name self.old.intake) (I.name self.new.intake) }
         ensures opening { self.new.opening ≡ self.old.opening }
         ensures inode_count { self.new.inode_count ≡ self.old.inode_count }
         ensures device { self.new.volume.device ≡ self.old.volume.device }

@@ -1,13 +1,13 @@
 -- One lane changes, and the others stay.
-use Rattle.std.proofs.Common.{◌≡◌, ◌≢◌, ℕ, zero, suc, ◌<◌, ◌+◌, List, [], ◌∷◌, ◌++◌, length, set, Some, refl, sym, ap, ◌∙◌, subst, arith, append_assoc}
+use Rattle.std.proofs.Common.{◌≡◌, ◌≢◌, ℕ, zero, suc, ◌<◌, ◌+◌, ◌-◌, ◌^◌, min, List, [], ◌∷◌, ◌++◌, length, set, Some, None, append-nil, length-append, refl, sym, ap, ◌∙◌, subst, arith, append_assoc}
 use native.Mathlib.Decide.{ℕ_discrete}
 use mathlib.Core.Logic.{dite}
 use Rattle.std.specs.Prelude.{Option, slice_get, All, option_to_list}
 use Rattle.model.specs.declared.types.Answer.{Answer}
 use Rattle.ports.specs.declared.lane.Lane.{Lane}
 use Rattle.ports.specs.History.{History, FitWith, AllFit, gives, fresh}
-use Rattle.ports.specs.Lanes.{IsEmptyLane, SameWaiting}
-use Rattle.ports.specs.Queues.{FitsAt, FitsLane}
+use Rattle.ports.specs.Lanes.{IsEmptyLane, SameWaiting, polled_after}
+use Rattle.ports.specs.Queues.{FitsAt, FitsLane, polled_at}
 
 pub slice_get-set_here : {A : Type 0} (xs : List A) (i : ℕ) (x : A) → i < length xs → slice_get (set xs i x) i ≡ Some x
 slice_get-set_here [] i x h = absurd (omega arith)
@@ -29,6 +29,12 @@ fits_with lanes pid l n f at here moves = record {
   others = λ p h other old. subst (λ o. FitsAt o h) (sym (slice_get-set_other lanes pid p n other)) old;
 }
 
+-- one that polls nothing
+pub polled_stay : (lanes : List Lane) (pid : ℕ) (l n : Lane) → slice_get lanes pid ≡ Some l → pid < length lanes → n.polled ≡ l.polled → (p : ℕ) → polled_at (slice_get (set lanes pid n) p) ≡ polled_at (slice_get lanes p)
+polled_stay lanes pid l n at here same p = dite (ℕ_discrete p pid)
+    (λ mine. ap (λ q. polled_at (slice_get (set lanes pid n) q)) mine ∙ ap polled_at (slice_get-set_here lanes pid n here) ∙ same ∙ ap polled_at (sym at) ∙ ap (λ q. polled_at (slice_get lanes q)) (sym mine))
+    (λ apart. ap polled_at (slice_get-set_other lanes pid p n apart))
+
 -- one that keeps them
 pub all_fit : (lanes : List Lane) (pid : ℕ) (l n : Lane) → slice_get lanes pid ≡ Some l → pid < length lanes
     → ((h : History) → FitsLane l h → FitsLane n h) → AllFit (λ p h. FitsAt (slice_get lanes p) h) (λ p h. FitsAt (slice_get (set lanes pid n) p) h)
@@ -38,19 +44,24 @@ all_fit lanes pid l n at here moves p h old =
     (λ same. subst (λ q. FitsAt (slice_get (set lanes pid n) q) h) (sym same) (w.own h (subst (λ q. FitsAt (slice_get lanes q) h) same old)))
     (λ apart. w.others p h apart old)
 
-pub gives_lane : (l n : Lane) (a : Answer) → n.answers.items ≡ l.answers.items ++ a ∷ [] → SameWaiting l n → (h : History) → FitsLane l h → FitsLane n (gives a h)
-gives_lane l n a more same h fits = record {
+pub gives_lane : (l n : Lane) (a : Answer) → n.answers.items ≡ l.answers.items ++ a ∷ [] → n.polled ≡ l.polled → SameWaiting l n → (h : History) → FitsLane l h → FitsLane n (gives a h)
+gives_lane l n a more polls same h fits = record {
   submitted = same.submitted ∙ fits.submitted ∙ ap (λ w. length h.taken + length w) (sym same.waiting);
-  given = (fits.given.0, ap (λ g. g ++ a ∷ []) fits.given.1 ∙ append_assoc fits.given.0 l.answers.items (a ∷ []) ∙ ap (λ m. fits.given.0 ++ m) (sym more));
+  given = (fits.given.0, ap (λ g. g ++ a ∷ []) fits.given.1 ∙ append_assoc fits.given.0 l.answers.items (a ∷ []) ∙ ap (λ m. fits.given.0 ++ m) (sym more), polls ∙ fits.given.2);
 }
 
-pub polls_lane : (l n : Lane) (r : Option Answer) → l.answers.items ≡ option_to_list r ++ n.answers.items → SameWaiting l n → (h : History) → FitsLane l h → FitsLane n h
-polls_lane l n r less same h fits = record {
+-- the count of those that were polled
+polls_more : (before : List Answer) (r : Option Answer) (old : ℕ) → old ≡ min (length before) (2 ^ 64 - 1) → polled_after r old ≡ min (length (before ++ option_to_list r)) (2 ^ 64 - 1)
+polls_more before None old is = is ∙ ap (λ (l : List Answer). min (length l) (2 ^ 64 - 1)) (sym (append-nil before))
+polls_more before (Some a) old is = let more = length-append before (a ∷ []) in omega (arith, is, more)
+
+pub polls_lane : (l n : Lane) (r : Option Answer) → l.answers.items ≡ option_to_list r ++ n.answers.items → n.polled ≡ polled_after r l.polled → SameWaiting l n → (h : History) → FitsLane l h → FitsLane n h
+polls_lane l n r less polls same h fits = record {
   submitted = same.submitted ∙ fits.submitted ∙ ap (λ w. length h.taken + length w) (sym same.waiting);
-  given = (fits.given.0 ++ option_to_list r, fits.given.1 ∙ ap (λ m. fits.given.0 ++ m) less ∙ sym (append_assoc fits.given.0 (option_to_list r) n.answers.items));
+  given = (fits.given.0 ++ option_to_list r, fits.given.1 ∙ ap (λ m. fits.given.0 ++ m) less ∙ sym (append_assoc fits.given.0 (option_to_list r) n.answers.items), polls ∙ polls_more fits.given.0 r l.polled fits.given.2);
 }
 
 pub all_fresh : (lanes : List Lane) → All IsEmptyLane lanes → (p : ℕ) → FitsAt (slice_get lanes p) fresh
 all_fresh [] all p = tt
-all_fresh (l ∷ ls) all zero = let z = all 0 l (omega arith) in let w = ap length z.waiting in record { submitted = omega (arith, z.submitted, w); given = ([], sym z.answers) }
+all_fresh (l ∷ ls) all zero = let z = all 0 l (omega arith) in let w = ap length z.waiting in record { submitted = omega (arith, z.submitted, w); given = ([], sym z.answers, z.polled) }
 all_fresh (l ∷ ls) all (suc p) = all_fresh ls (λ k d h. all (suc k) d (omega arith)) p

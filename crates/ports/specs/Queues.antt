@@ -1,5 +1,5 @@
 -- A queue intake as contracts see it.
-use Rattle.std.specs.Prelude.{◌≡◌, ◌≢◌, ℕ, ◌+◌, List, [], ◌++◌, Option, Some, None, length, slice_get, nat_lt}
+use Rattle.std.specs.Prelude.{◌≡◌, ◌≢◌, ℕ, ◌+◌, ◌-◌, ◌^◌, min, List, [], ◌++◌, Option, Some, None, length, slice_get, nat_lt}
 use Rattle.model.specs.declared.types.Op.{Op}
 use Rattle.model.specs.declared.types.Answer.{Answer}
 use Rattle.ports.specs.History.{Side, History}
@@ -22,6 +22,14 @@ waiting q p = waiting_at (slice_get q.lanes.items p)
 abbrev pub answers : QueueIntake → ℕ → List Answer
 answers q p = answers_at (slice_get q.lanes.items p)
 
+abbrev pub polled_at : Option Lane → ℕ
+polled_at None = 0
+polled_at (Some l) = l.polled
+
+-- how many answers a process has polled, up to the greatest number
+abbrev pub polled : QueueIntake → ℕ → ℕ
+polled q p = polled_at (slice_get q.lanes.items p)
+
 -- how many processes it serves
 abbrev pub queue_count : QueueIntake → ℕ
 queue_count q = length q.lanes.items
@@ -29,10 +37,10 @@ queue_count q = length q.lanes.items
 abbrev pub queue_side : QueueIntake → ℕ → Side
 queue_side q p = record { ahead = waiting q p; has_room = nat_lt (length (answers q p)) 16 }
 
--- what was handed in was taken or waits, and the answers that wait are the last that were given
+-- what was handed in was taken or waits, and the answers that wait are those that were given and not polled
 pub record FitsLane (l : Lane) (h : History) : Type 0 where
   pub submitted : l.submitted ≡ length h.taken + length l.waiting.items
-  pub given : (before : List Answer) × (h.given ≡ before ++ l.answers.items)
+  pub given : (before : List Answer) × (h.given ≡ before ++ l.answers.items) × (l.polled ≡ min (length before) (2 ^ 64 - 1))
 
 abbrev pub FitsAt : Option Lane → History → Type 0
 FitsAt None h = Unit {0}
@@ -43,4 +51,4 @@ QueueFits q p h = FitsAt (slice_get q.lanes.items p) h
 
 -- every other process's queues stay
 abbrev pub OthersWait : QueueIntake → QueueIntake → ℕ → Type 0
-OthersWait old new pid = (p : ℕ) → p ≢ pid → (waiting new p ≡ waiting old p) × (answers new p ≡ answers old p)
+OthersWait old new pid = (p : ℕ) → p ≢ pid → (waiting new p ≡ waiting old p) × (answers new p ≡ answers old p) × (polled new p ≡ polled old p)

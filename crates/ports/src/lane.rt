@@ -7,12 +7,14 @@ use model::types::{Answer, Op};
 use std::alloc::{AllocError, Global};
 use std::collections::VecDeque;
 
-// Two queues of 16 places, and how many operations were ever put into the first.
+// Two queues of 16 places, how many operations were ever put into the first, and how many answers
+// were taken out of the second (counted up to the greatest number).
 #[derive(Drop)]
 pub struct Lane {
     pub(crate) waiting: VecDeque<Op>,
     pub(crate) answers: VecDeque<Answer>,
     pub(crate) submitted: u64,
+    pub(crate) polled: u64,
     ghost waiting_room: { 16 ≤ deque_capacity waiting },
     ghost answer_room: { 16 ≤ deque_capacity answers },
 }
@@ -21,7 +23,7 @@ impl Lane {
     ghost use Rattle.std.specs.Prelude.{◌≡◌, ◌<◌, ◌+◌, ◌⊎◌, ◌∷◌, [], ◌++◌, ◌^◌, length, IfOk, IfErr, OnErr, option_to_list};
     ghost use Rattle.std.specs.Option.{option_copied};
     ghost use Rattle.ports.specs.History.{first_in};
-    ghost use Rattle.ports.specs.Lanes.{IsEmptyLane, SameAnswers, SameWaiting};
+    ghost use Rattle.ports.specs.Lanes.{IsEmptyLane, SameAnswers, SameWaiting, polled_after};
 
     pub fn new(alloc: Global) -> Result<Lane, AllocError>
         ensures { IfOk result IsEmptyLane }
@@ -32,6 +34,7 @@ impl Lane {
             waiting,
             answers,
             submitted: 0,
+            polled: 0,
         })
     }
 
@@ -58,15 +61,19 @@ impl Lane {
     pub fn poll(&mut self) -> Option<Answer>
         ensures oldest { result ≡ first_in self.old.answers.items }
         ensures answers { self.old.answers.items ≡ option_to_list result ++ self.new.answers.items }
+        ensures polled { self.new.polled ≡ polled_after result self.old.polled }
         ensures waiting { SameWaiting self.old self.new }
     {
-        self.answers.pop_front()
+        let answer = self.answers.pop_front()?;
+        self.polled = self.polled.saturating_add(1);
+        Some(answer)
     }
 
     // Puts an answer behind the others.
     pub fn answer(&mut self, answer: Answer)
         requires { length self.old.answers.items < 16 }
         ensures answers { self.new.answers.items ≡ self.old.answers.items ++ answer ∷ [] }
+        ensures polled { self.new.polled ≡ self.old.polled }
         ensures waiting { SameWaiting self.old self.new }
     {
         self.answers.push_back_reserved(answer);

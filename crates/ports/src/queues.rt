@@ -19,7 +19,8 @@ pub struct QueueIntake {
 }
 
 impl QueueIntake {
-    ghost use Rattle.ports.specs.Queues.{waiting, answers, queue_count, queue_side, QueueFits, OthersWait};
+    ghost use Rattle.ports.specs.Lanes.{polled_after};
+    ghost use Rattle.ports.specs.Queues.{waiting, answers, polled, queue_count, queue_side, QueueFits, OthersWait};
 
     /// Empty queues for so many processes. No later call takes memory.
     ///
@@ -55,6 +56,7 @@ impl QueueIntake {
         ensures refused { OnErr result (waiting self.new pid ≡ waiting self.old pid) }
         ensures full { OnErr result ((16 ≤ length (waiting self.old pid)) ⊎ ((h : History) → QueueFits self.old pid h → length h.taken + length (waiting self.old pid) + 1 ≡ 2 ^ 64)) }
         ensures answers { answers self.new pid ≡ answers self.old pid }
+        ensures polled { polled self.new pid ≡ polled self.old pid }
         ensures others { OthersWait self.old self.new pid }
         ensures processes { queue_count self.new ≡ queue_count self.old }
         ensures room { RoomStays (queue_side self.old) (queue_side self.new) }
@@ -68,6 +70,7 @@ impl QueueIntake {
         requires { pid < queue_count self.old }
         ensures oldest { result ≡ first_in (answers self.old pid) }
         ensures answers { answers self.old pid ≡ option_to_list result ++ answers self.new pid }
+        ensures polled { polled self.new pid ≡ polled_after result (polled self.old pid) }
         ensures waiting { waiting self.new pid ≡ waiting self.old pid }
         ensures others { OthersWait self.old self.new pid }
         ensures processes { queue_count self.new ≡ queue_count self.old }
@@ -79,11 +82,12 @@ impl QueueIntake {
 }
 
 impl Intake for QueueIntake {
-    ghost use Rattle.ports.specs.Queues.{queue_count, queue_side, QueueFits};
+    ghost use Rattle.ports.specs.Queues.{queue_count, queue_side, polled, QueueFits};
 
-    type Name = ();
+    // How many answers a process has polled: the kernel polls none.
+    type Name = u64;
 
-    ghost name = { λ q p. tt };
+    ghost name = { polled };
 
     ghost process_count = { queue_count };
 
