@@ -6,3 +6,4 @@ pub mod CommandLines
 pub mod Undone
 pub mod Sequences
 pub mod Steps
+pub mod Naming

@@ -86,10 +86,10 @@ counts_printed image count stop base words old new fault text mid printed plays 
   lines = Appends-trans text mid printed _ _ plays.lines counts;
 }
 
-is_event_of : (fired : Bool) (stop p : ℕ) (answer : Step) (polled : Option Answer) → IsTurnOfProcess stop p (event_of fired stop p answer polled)
-is_event_of true stop p answer polled = refl
-is_event_of false stop p answer None = refl
-is_event_of false stop p answer (Some polled) = refl
+is_event_of : (fired : Bool) (stop p : ℕ) (r : Step) (polled : Option Answer) → IsTurnOfProcess stop p (event_of fired stop p r polled)
+is_event_of true stop p r polled = refl
+is_event_of false stop p r None = refl
+is_event_of false stop p r (Some polled) = refl
 
 turn_is_of : {D : Type 0} (makes : Step → Plain (FaultyDisk D) → Plain (FaultyDisk D) → Type 0) (stop p : ℕ) (event : Event) (old new : Player D) → MakesTurnOf makes stop p event old new → IsTurnOfProcess stop p event
 turn_is_of makes stop p event old new turn =

@@ -49,8 +49,8 @@ pub record MakesSteps {D : Type 0} (image : D → Image) (most p : ℕ) (r : Ste
   pub moves : Moves image p moved k mid
   pub ends : ((r ≢ step.Moved) × (moved < most) × MakesStep image p r mid m) ⊎ ((r ≡ step.Moved) × (moved ≡ most) × (m ≡ mid))
 
--- Operations of process p went from the front of its backlog to the end of its queue, until none was left, or the queue was full, or no number was left. Nothing
--- else changed.
+-- Operations of process p went from the front of its backlog to the end of its queue, until none was left, or the queue was full, or no number was left. No other
+-- backlog changed, and nothing of the kernel but its queues.
 pub record HandsIn {D : Type 0} (p : ℕ) (k : Plain D) (b : List Backlog) (m : Plain D) (c : List Backlog) : Type 0 where
   pub order : waiting m.intake p ++ backlog_at c p ≡ waiting k.intake p ++ backlog_at b p
   pub all : HasHandedIn p m (backlog_at c p)
@@ -58,7 +58,7 @@ pub record HandsIn {D : Type 0} (p : ℕ) (k : Plain D) (b : List Backlog) (m : 
   pub others : (q : ℕ) → q ≢ p → backlog_at c q ≡ backlog_at b q
   pub same : m ≡ record k { intake = m.intake }
 
--- the oldest answer of process p was taken, if there was one, and nothing else changed
+-- the oldest answer of process p was taken, if there was one, and nothing of the kernel changed but its queues
 pub record Polls {D : Type 0} (p : ℕ) (k m : Plain D) : Type 0 where
   pub oldest : answers k.intake p ≡ option_to_list (first_in (answers k.intake p)) ++ answers m.intake p
   pub untaken : waiting m.intake p ≡ waiting k.intake p

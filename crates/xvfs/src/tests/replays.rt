@@ -253,8 +253,9 @@ fn tells_of_a_failing_disk(rt: HostRuntime) -> Result<(), Fail> {
     let mut disk = MemDisk::new(alloc, 200)?;
     mkfs(alloc, &mut disk, 200, 32)?;
     let player = creation(&rt, FaultyDisk::new(disk, 2, Kind::WriteOld))?;
-    let served = player.kernel.processes();
-    assert!(rt; 0 < served);
+    if player.kernel.processes() == 0 {
+        rt.abort();
+    }
     let mut out = Vec::new(alloc);
     let ended = run(player, &[Word::Steps(0), Word::Step(0)], 0, 200, &mut out);
     assert!(rt; matches!(ended, Err(Refusal::Disk(DiskFault(2)))));
