@@ -104,7 +104,14 @@ impl<D: Disk, I: Intake, H: Herald> Kernel<D, I, H> {
         let _ = &self.volume;
     }
 
-    /// One step of a process.
+    /// One step of a process: the next of its operation, or the beginning of the one that waits. The
+    /// steps of an operation are what xv6 does between `begin_op` and `end_op`, commit included (the
+    /// xv6 book, the chapter "File system": "Code: logging"), one block at a time.
+    ///
+    /// After a fault of the disk it is `Halted`, and nothing is done. A process with no operation
+    /// under way answers, in this order: `ShutDown`, `Idle`, `NotYet`, `Sleeping(AnswersFull)`,
+    /// `Sleeping` with the log's cause, `NoMemory`; else the operation is taken, and the step is
+    /// `Moved`, or `Answered` where it is refused at once. No other step takes memory.
     pub fn step(&mut self, pid: u32) -> Step
         requires pid { pid < length self.old.world.processes }
         ensures next { Next (D.image self.old.volume.device) self.old.inode_count self.old.volume self.old.world pid (I.side self.old.intake pid).ahead (I.side self.new.intake pid) (H.told self.new.herald) result (D.image self.new.volume.device) self.new.volume self.new.world }
