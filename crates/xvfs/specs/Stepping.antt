@@ -38,7 +38,7 @@ pub record MakesStep {D : Type 0} (image : D → Image) (p : ℕ) (r : Step) (k 
   pub inode_count : m.inode_count ≡ k.inode_count
 
 -- n steps of process p, each of which moves, make m of k
-abbrev pub Moves : {D : Type 0} → (D → Image) → ℕ → ℕ → Plain D → Plain D → Type 0
+unfoldable pub Moves : {D : Type 0} → (D → Image) → ℕ → ℕ → Plain D → Plain D → Type 0
 Moves image p zero k m = m ≡ k
 Moves {D} image p (suc n) k m = (mid : Plain D) × MakesStep image p step.Moved k mid × Moves image p n mid m
 

@@ -7,7 +7,7 @@ ghost use Rattle.ports.specs.History.{first_in};
 ghost use Rattle.ports.specs.Queues.{answers};
 ghost use Rattle.scripts.specs.Schedule.{is_word_of};
 ghost use Rattle.xvfs.specs.Backlog.{backlog_at, ops_of};
-ghost use Rattle.xvfs.specs.Stepping.{MakesStep, MakesSteps, HandsIn, Polls, MakesTurn};
+ghost use Rattle.xvfs.specs.Stepping.{MakesStep, MakesSteps, HandsIn, Polls, MakesTurnOf, MakesTurn};
 ghost use Rattle.xvfs.specs.Turns.{IsTurnOf, IsTurnOfProcess, event_of, told_fault, IsOpening};
 
 use crate::backlog::{Backlog, backlogs_of};
@@ -82,21 +82,39 @@ impl<D: Disk + Drop> Player<D> {
         ensures processes { length self.new.kernel.world.processes ≡ length self.old.kernel.world.processes }
     {
         match word {
-            Word::Step(pid) => {
-                self.hand_in(pid);
-                let step = self.step(pid);
-                self.event(pid, step, stop)
-            }
-            Word::Steps(pid) => {
-                self.hand_in(pid);
-                let step = self.steps(pid);
-                self.event(pid, step, stop)
-            }
+            Word::Step(pid) => self.make_step(pid, stop),
+            Word::Steps(pid) => self.make_steps(pid, stop),
             Word::Shutdown => {
                 self.kernel.shut();
                 Event::Shut
             }
         }
+    }
+
+    // Makes the turn of a process that has one step.
+    #[tactic(auto, using(crate::proofs::Steps::one_turn))]
+    fn make_step(&mut self, pid: u32, stop: u64) -> Event
+        requires { pid < length self.old.kernel.world.processes }
+        ensures turn { IsTurnOfProcess stop pid result }
+        ensures makes { MakesTurnOf (MakesStep ⟦<FaultyDisk<D> as Disk>⟧.image pid) stop pid result self.old self.new }
+        ensures processes { length self.new.kernel.world.processes ≡ length self.old.kernel.world.processes }
+    {
+        self.hand_in(pid);
+        let step = self.step(pid);
+        self.event(pid, step, stop)
+    }
+
+    // Makes the turn of a process that has steps until one doesn't move.
+    #[tactic(auto, using(crate::proofs::Steps::one_turn))]
+    fn make_steps(&mut self, pid: u32, stop: u64) -> Event
+        requires { pid < length self.old.kernel.world.processes }
+        ensures turn { IsTurnOfProcess stop pid result }
+        ensures makes { MakesTurnOf (MakesSteps ⟦<FaultyDisk<D> as Disk>⟧.image 2000 pid) stop pid result self.old self.new }
+        ensures processes { length self.new.kernel.world.processes ≡ length self.old.kernel.world.processes }
+    {
+        self.hand_in(pid);
+        let step = self.steps(pid);
+        self.event(pid, step, stop)
     }
 
     /// What the turns came to, on a disk that had counted `base` writes before them.
@@ -137,6 +155,7 @@ impl<D: Disk + Drop> Player<D> {
     }
 
     // Makes steps of a process, until one doesn't move. What the last of them answers.
+    #[tactic(auto, using(crate::proofs::Steps::none_moved, crate::proofs::Steps::one_moved))]
     fn steps(&mut self, pid: u32) -> Step
         requires { pid < length self.old.kernel.world.processes }
         ensures makes { MakesSteps ⟦<FaultyDisk<D> as Disk>⟧.image 2000 pid result self.old.kernel self.new.kernel }
