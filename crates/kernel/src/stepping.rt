@@ -114,6 +114,8 @@ impl<D: Disk, I: Intake, H: Herald> Kernel<D, I, H> {
         ensures next { Next (D.image self.old.volume.device) self.old.inode_count self.old.volume self.old.world pid (I.side self.old.intake pid).ahead (I.side self.new.intake pid) (H.told self.new.herald) result (D.image self.new.volume.device) self.new.volume self.new.world }
         ensures sides { OthersStay (I.side self.old.intake) (I.side self.new.intake) pid }
         ensures names { SameNames (I.name self.old.intake) (I.name self.new.intake) }
+        ensures waits { result ≢ Step.Moved → result ≢ Step.Answered → IsPrefix (I.side self.old.intake pid).ahead (I.side self.new.intake pid).ahead }
+        ensures ahead { is_under_way_at (process self.old.world pid).at ≡ true → (I.side self.new.intake pid).ahead ≡ (I.side self.old.intake pid).ahead }
         ensures looked { self.old.volume.fault ≡ None → HasLooked self.old.inode_count (seen (D.image self.old.volume.device) self.old.volume.buffers) (seen (D.image self.new.volume.device) self.new.volume.buffers) (process self.old.world pid).at (process self.new.world pid).at }
         ensures opening { self.new.opening ≡ self.old.opening }
         ensures inode_count { self.new.inode_count ≡ self.old.inode_count }
@@ -121,6 +123,10 @@ impl<D: Disk, I: Intake, H: Herald> Kernel<D, I, H> {
         ensures halted { (result ≡ Step.Halted) ↔ IsSome self.new.volume.fault }
         ensures writes { WritesOnce (D.write_count self.old.volume.device) (D.write_count self.new.volume.device) }
         ensures faults { self.old.volume.fault ≡ None → CountsItsFault self.new.volume.fault (D.write_count self.old.volume.device) (D.write_count self.new.volume.device) (D.fault_count self.old.volume.device) (D.fault_count self.new.volume.device) }
+        ensures image { is_committing_at (process self.old.world pid).at ≡ false → D.image self.new.volume.device ≡ D.image self.old.volume.device }
+        ensures unwritten { is_committing_at (process self.old.world pid).at ≡ false → D.write_count self.new.volume.device ≡ D.write_count self.old.volume.device }
+        ensures written { is_committing_at (process self.old.world pid).at ≡ true → result ≢ Step.Halted → D.write_count self.new.volume.device ≡ one_more (D.write_count self.old.volume.device) }
+        ensures block { self.old.volume.fault ≡ None → IfSome self.new.volume.fault (λ fault. fault.0 ≡ block_at_step (process self.old.world pid).at self.old.volume.log) }
         ensures committed { CountsCommitted result (process self.old.world pid).at self.old.volume.log self.new.volume.log }
         ensures shut { KeepsShutdown self.old.world self.new.world }
 
@@ -132,12 +138,6 @@ impl<D: Disk, I: Intake, H: Herald> Kernel<D, I, H> {
         ensures time { Elapses (D.moment self.old.volume.device) (D.moment self.new.volume.device) (D.leaves self.old.volume.device) (D.leaves self.new.volume.device) }
         ensures grows { Grows (inode_count_of (D.image self.old.opening)) self.old.volume self.old.world.journal.list self.new.volume self.new.world.journal.list }
         ensures leaves { LeavesOnly D.moment D.leaves self.old.volume.device self.new.volume.device (KeepsBetween self.old.volume.log.committed (most_of self.new.volume) (D.image self.new.opening) self.new.world.journal.list) }
-        ensures waits { result ≢ Step.Moved → result ≢ Step.Answered → IsPrefix (I.side self.old.intake pid).ahead (I.side self.new.intake pid).ahead }
-        ensures ahead { is_under_way_at (process self.old.world pid).at ≡ true → (I.side self.new.intake pid).ahead ≡ (I.side self.old.intake pid).ahead }
-        ensures image { is_committing_at (process self.old.world pid).at ≡ false → D.image self.new.volume.device ≡ D.image self.old.volume.device }
-        ensures unwritten { is_committing_at (process self.old.world pid).at ≡ false → D.write_count self.new.volume.device ≡ D.write_count self.old.volume.device }
-        ensures written { is_committing_at (process self.old.world pid).at ≡ true → result ≢ Step.Halted → D.write_count self.new.volume.device ≡ one_more (D.write_count self.old.volume.device) }
-        ensures block { self.old.volume.fault ≡ None → IfSome self.new.volume.fault (λ fault. fault.0 ≡ block_at_step (process self.old.world pid).at self.old.volume.log) }
     {
         self.known();
         self.volume.known();
