@@ -130,3 +130,16 @@ module _ {D : Type 0} (x : Image) (v u : VolumeState D) (n p group : ℕ) (m new
       by_slot : (o : Option ℕ) → AllocatesAt o x cur m v p (progress.Fault fault) new u → u.log ≡ v.log
       by_slot None made = made.2
       by_slot (Some s) made = by_looks s (lowest_free (block_at cur m.block) m.inode_count m.block) (is_last_block m) made
+
+  -- it is that of the block that was looked for
+  pub search_fails_at : (fault : Rattle.blocks.specs.declared.errors.DiskFault.DiskFault) → Allocates x cur m v p (progress.Fault fault) new u → fault.0 ≡ m.block
+  search_fails_at fault made = by_slot m.slot made
+    where
+      by_looks : (s : ℕ) (f : Option ℕ) (last : Bool) → Looks f last m v p s (progress.Fault fault) new u → fault.0 ≡ m.block
+      by_looks s (Some i) last made = let no = made.0 in absurd (cc no)
+      by_looks s None true made = let no = made.0 in absurd (cc no)
+      by_looks s None false made = let no = made.0 in absurd (cc no)
+
+      by_slot : (o : Option ℕ) → AllocatesAt o x cur m v p (progress.Fault fault) new u → fault.0 ≡ m.block
+      by_slot None made = made.0.block
+      by_slot (Some s) made = by_looks s (lowest_free (block_at cur m.block) m.inode_count m.block) (is_last_block m) made

@@ -1,5 +1,5 @@
 -- What a kernel that is opened has.
-use Rattle.std.proofs.Common.{◌≡◌, ℕ, ◌+◌, ◌*◌, ◌<◌, ◌≤◌, Bool, true, false, cond, [], length, replicate, refl, sym, ◌∙◌, ap, subst, arith, ⊎_elim, None, Err}
+use Rattle.std.proofs.Common.{◌≡◌, ℕ, ◌+◌, ◌*◌, ◌<◌, ◌≤◌, Bool, true, false, cond, eqb, List, [], length, replicate, refl, sym, ◌∙◌, ap, subst, arith, ⊎_elim, None, Err}
 use Rattle.std.specs.Prelude.{IsTrue, count_by, Result}
 use Rattle.std.proofs.lemmas.Bool.{cases_lt, false≢true}
 use Rattle.std.proofs.lemmas.List.{get_or-replicate, get_or_past, length-replicate}
@@ -7,15 +7,19 @@ use Rattle.std.proofs.lemmas.List.Folds.{sum_by-replicate}
 use Rattle.blocks.specs.Disk.{Image, Rose, IsSettled, LeavesOnly}
 use Rattle.blocks.proofs.Moments.{started, stays, joined}
 use Rattle.layout.specs.Cause.{OnlyReads}
-use Rattle.model.specs.Layout.{super_of, inode_count_of, is_lawful_super}
+use Rattle.model.specs.Layout.{super_of, inode_count_of, is_lawful_super, magic_of}
 use Rattle.model.specs.Log.{is_lawful_log, logged_count, recovered}
 use Rattle.model.specs.Soundness.{IsSound}
+use Rattle.model.specs.Fields.{u32_at}
+use Rattle.model.specs.Crash.{Keeps}
+use Rattle.model.specs.declared.types.Entry.{Entry}
+use Rattle.model.specs.declared.types.Form.TheVariants.{One}
 use Rattle.model.specs.Verdict.{verdict}
 use Rattle.model.specs.declared.types.Super.{Super}
-use Rattle.model.proofs.LogLemmas.{recovered_empty}
+use Rattle.model.proofs.LogLemmas.{recovered_empty, recovered_low, length-recovered}
 use Rattle.model.proofs.RecoveryLemmas.{logged_count-left}
 use Rattle.model.proofs.SuperLemmas.{super_of-recovered}
-use Rattle.model.proofs.SoundLemmas.{verdict_sound, facts_of, long_geometry}
+use Rattle.model.proofs.SoundLemmas.{verdict_sound, sound_verdict, facts_of, long_geometry}
 use Rattle.bcache.specs.Buffers.{fresh as fresh_buffers}
 use Rattle.wal.specs.Machine.{new_log, used_by}
 use Rattle.wal.specs.Volume.{VolumeState}
@@ -49,6 +53,22 @@ super_size x sup none is = ap (λ (s : Super). s.size) is ∙ (facts_of x (verdi
 
 pub lawful_here : (x : Image) (sup : Super) → verdict x ≡ None → sup ≡ super_of x → is_lawful_super sup sup.size ≡ true
 lawful_here x sup none is = ap (is_lawful_super sup) (super_size x sup none is) ∙ lawful_super x sup none is
+
+-- an image that keeps some count of groups has no fault, and so can be opened again
+pub opens_again : (opening x : Image) (journal : List Entry) (c : ℕ) → Keeps opening journal x c → verdict x ≡ None
+opens_again opening x journal c k =
+    let long = long_geometry (recovered x) k.sound.geometry in
+    let size = length-recovered x in
+    let one = recovered_low x 1 k.log (omega arith) (omega arith) (omega (arith, long, size)) in
+    sound_verdict x (
+      record {
+        magic = ap (λ b. eqb (u32_at b 0) (magic_of One)) (sym one) ∙ k.sound.geometry.magic;
+        fields = ap (λ s. is_lawful_super s (length x)) (sym (super_of-recovered x k.log (omega (arith, long, size))))
+            ∙ ap (is_lawful_super (super_of (recovered x))) (sym size) ∙ k.sound.geometry.fields;
+      },
+      k.log,
+      k.sound,
+    )
 
 -- the fault of a recovery after that check
 pub recover_cause : (T : Type 0) (x y : Image) (fault : RecoverFault) (old mid new : ℕ) → verdict x ≡ None → y ≡ x → mid ≡ old → OnDisk {T = T} (Err fault) (Rose mid new) → OnBadLog {T = T} (Err fault) (is_lawful_log y ≡ false)

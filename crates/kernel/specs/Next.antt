@@ -10,8 +10,8 @@ use Rattle.model.specs.declared.types.Why.TheVariants as why
 use Rattle.model.specs.Codec.{header_block}
 use Rattle.wal.specs.declared.types.Committed.TheVariants as committed
 use Rattle.wal.specs.declared.types.Ended.TheVariants as ended_as
-use Rattle.wal.specs.Machine.{begin_cause, begun, ended, end_answer}
-use Rattle.wal.specs.Joint.{seen}
+use Rattle.wal.specs.Machine.{LogState, begin_cause, begun, ended, end_answer}
+use Rattle.wal.specs.Joint.{seen, place_at}
 use Rattle.wal.specs.Step.{Stepped, Faulted, answer_at}
 use Rattle.wal.specs.Volume.{VolumeState}
 use Rattle.ports.specs.History.{Side, first_in}
@@ -147,3 +147,10 @@ WritesOnce old new = (new ≡ old) ⊎ (new ≡ one_more old)
 abbrev pub CountsItsFault : Option DiskFault → ℕ → ℕ → ℕ → ℕ → Type 0
 CountsItsFault None writes written faults failed = failed ≡ faults
 CountsItsFault (Some fault) writes written faults failed = (written ≡ writes) × (failed ≡ one_more faults)
+
+-- the block that a step reads or writes; 0 where it does neither
+abbrev pub block_at_step : At → LogState → ℕ
+block_at_step at.Idle l = 0
+block_at_step (at.Creating group m) l = m.block
+block_at_step (at.Ending group reply) l = 0
+block_at_step (at.Committing group reply) l = place_at l.commit l.homes

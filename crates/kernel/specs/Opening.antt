@@ -20,3 +20,10 @@ Refuses image faults d e processes (Check fault) = (1 ≤ processes) × (process
 Refuses image faults d e processes (Recover fault) = (1 ≤ processes) × (processes ≤ 32) × (verdict (image d) ≡ None) × IsRecoverCause fault (faults d) (faults e)
 Refuses image faults d e processes NoMemory = (1 ≤ processes) × (processes ≤ 32) × (verdict (image d) ≡ None) × (image e ≡ image d)
 Refuses image faults d e processes ProcRange = ((processes < 1) ⊎ (32 < processes)) × (e ≡ d)
+
+-- the faults at which blocks may have been written
+abbrev pub MayWrite : OpenFault → Type 0
+MayWrite (Check fault) = ⊥
+MayWrite (Recover fault) = Unit {0}
+MayWrite NoMemory = ⊥
+MayWrite ProcRange = ⊥

@@ -1,14 +1,15 @@
 // Opening a kernel, and what may be asked of it between two steps.
-ghost use Rattle.std.specs.Prelude.{◌≡◌, ◌≤◌, ℕ, ◌<◌, true, length, None, IfOk, IfErr, IsTrue};
+ghost use Rattle.std.specs.Prelude.{◌≡◌, ◌⊎◌, ◌≤◌, ℕ, ◌<◌, true, length, None, IfOk, IfErr, IsTrue};
 ghost use Rattle.blocks.specs.Disk.{LeavesOnly};
 ghost use Rattle.model.specs.Layout.{inode_count_of, is_lawful_super};
-ghost use Rattle.model.specs.Log.{recovered};
+ghost use Rattle.model.specs.Log.{recovered, logged_count};
 ghost use Rattle.model.specs.Verdict.{verdict};
 ghost use Rattle.bcache.specs.Buffers.{fresh as fresh_buffers};
 ghost use Rattle.wal.specs.Machine.{new_log};
-ghost use Rattle.wal.specs.Recovery.{RecoversAs};
+ghost use Rattle.wal.specs.Recovery.{RecoversAs, writes_to_recover};
 ghost use Rattle.kernel.specs.Processes.{fresh, process};
-ghost use Rattle.kernel.specs.Opening.{Refuses};
+ghost use Rattle.kernel.specs.Opening.{Refuses, MayWrite};
+ghost use Rattle.layout.specs.Making.{counted};
 ghost use Rattle.ports.specs.History.{fresh as nothing_yet};
 
 use crate::stepping::Kernel;
@@ -72,6 +73,9 @@ impl<D: Disk, I: Intake, H: Herald> Kernel<D, I, H> {
         ensures intake { IfOk result (λ k. k.intake ≡ intake) }
         ensures herald { IfOk result (λ k. k.herald ≡ herald) }
         ensures few { IfOk result (λ k. (1 ≤ processes) × (processes ≤ 32)) }
+        ensures writes { IfOk result (λ k. D.write_count k.opening ≡ counted (D.write_count disk) (writes_to_recover (logged_count (D.image disk)))) }
+        ensures faults { IfOk result (λ k. D.fault_count k.opening ≡ D.fault_count disk) }
+        ensures unwritten { IfErr result (λ e. MayWrite e.0 ⊎ (D.write_count e.1 ≡ D.write_count disk)) }
         ensures refused { IfErr result (λ e. Refuses D.image D.fault_count disk e.1 processes e.0) }
         ensures leaves { IfOk result (λ k. LeavesOnly D.moment D.leaves disk k.opening (RecoversAs (D.image disk))) }
         ensures back { IfErr result (λ e. LeavesOnly D.moment D.leaves disk e.1 (RecoversAs (D.image disk))) }

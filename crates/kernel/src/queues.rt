@@ -17,6 +17,7 @@ impl<D: Disk, H: Herald> Kernel<D, QueueIntake, H> {
         requires { pid < length self.old.world.processes }
         ensures ok { IfOk result (λ _. waiting self.new.intake pid ≡ waiting self.old.intake pid ++ op ∷ []) }
         ensures number { IfOk result (λ n. n ≡ (process self.old.world pid).begun + length (waiting self.new.intake pid)) }
+        ensures room { IfOk result (λ _. length (waiting self.old.intake pid) < 16) }
         ensures full { OnErr result ((16 ≤ length (waiting self.old.intake pid)) ⊎ ((process self.old.world pid).begun + length (waiting self.old.intake pid) + 1 ≡ 2 ^ 64)) }
         ensures back { IfErr result (λ other. other ≡ op) }
         ensures refused { OnErr result (waiting self.new.intake pid ≡ waiting self.old.intake pid) }

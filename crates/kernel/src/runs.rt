@@ -21,7 +21,7 @@ use ports::{Herald, Intake};
 pub fn run<D: Disk, I: Intake, H: Herald>(kernel: &mut Kernel<D, I, H>, turns: &[Turn]) -> u64
     requires turns { IsTrue (list_all (is_turn_of (length kernel.old.world.processes)) turns.now) }
     ensures made { result ≡ length turns.now }
-    ensures runs { Runs D.image I.side H.told turns.now kernel.old kernel.new }
+    ensures runs { Runs D.image D.moment D.leaves I.side I.name H.told turns.now kernel.old kernel.new }
     ensures opening { kernel.new.opening ≡ kernel.old.opening }
     ensures processes { length kernel.new.world.processes ≡ length kernel.old.world.processes }
     ensures shut { kernel.old.world.is_shut ≡ true → StaysShut kernel.old.world kernel.new.world }
@@ -43,7 +43,7 @@ impl<D: Disk, I: Intake, H: Herald> Kernel<D, I, H> {
     // Makes one turn.
     fn make(&mut self, turn: Turn)
         requires { IsTrue (is_turn_of (length self.old.world.processes) turn) }
-        ensures turn { Makes D.image I.side H.told turn self.old self.new }
+        ensures turn { Makes D.image D.moment D.leaves I.side I.name H.told turn self.old self.new }
         ensures opening { self.new.opening ≡ self.old.opening }
         ensures processes { length self.new.world.processes ≡ length self.old.world.processes }
         ensures shut { KeepsShutdown self.old.world self.new.world }

@@ -63,20 +63,21 @@ fn waiting_of(op: &Op) -> Waiting
 }
 
 impl<D: Disk, I: Intake, H: Herald> Kernel<D, I, H> {
-    ghost use Rattle.std.specs.Prelude.{◌≡◌, ◌⊎◌, ◌<◌, ◌↔◌, ℕ, ◌≢◌, length, map, Some, None, IsSome, IsTrue, IfNone, true, false};
+    ghost use Rattle.std.specs.Prelude.{◌≡◌, ◌⊎◌, ◌<◌, ◌↔◌, ℕ, ◌≢◌, length, map, Some, None, IsSome, IfSome, IsTrue, IfNone, true, false};
     ghost use mathlib.Core.List.{IsPrefix};
     ghost use Rattle.std.specs.Option.{option_map};
-    ghost use Rattle.blocks.specs.Disk.{Image, Elapses, LeavesOnly};
+    ghost use Rattle.blocks.specs.Disk.{Image, Elapses, LeavesOnly, one_more};
     ghost use Rattle.model.specs.Layout.{form_of, inode_count_of};
     ghost use Rattle.model.specs.Operations.{is_kind};
     ghost use Rattle.std.specs.List.{filter};
     ghost use Rattle.model.specs.Files.{files_of};
     ghost use Rattle.model.specs.Journal.{kept, own, replay, answered as answered_of, is_changing};
-    ghost use Rattle.wal.specs.Joint.{seen};
+    ghost use Rattle.wal.specs.Joint.{seen, place_at};
+    ghost use Rattle.model.specs.Verdict.{verdict};
     ghost use Rattle.kernel.specs.Histories.{HasHistory, IsHistory};
     ghost use Rattle.kernel.specs.Keeps.{HasFilesAfter, cleared, IsJournal, KeepsNow, KeepsBetween, Grows, most_of};
     ghost use Rattle.ports.specs.History.{History, OthersStay, SameNames, first_in};
-    ghost use Rattle.kernel.specs.State.{waiting_of, Stays};
+    ghost use Rattle.kernel.specs.State.{waiting_of, Stays, is_under_way_at};
     ghost use Rattle.kernel.specs.declared.types.At.TheVariants as at;
     ghost use Rattle.kernel.specs.declared.stepping.Waiting.TheVariants as waiting;
     ghost use Rattle.kernel.specs.Processes.{process};
@@ -84,7 +85,7 @@ impl<D: Disk, I: Intake, H: Herald> Kernel<D, I, H> {
     ghost use Rattle.kernel.specs.Bound.{TakesOne, GivesNone};
     ghost use Rattle.kernel.specs.Turns.{HasLooked};
     ghost use Rattle.kernel.specs.Progress.{CountsCommitted, KeepsShutdown};
-    ghost use Rattle.kernel.specs.Next.{Creates, Refuses, Searches, Ends, Commits, Begins, Next, WritesOnce, CountsItsFault};
+    ghost use Rattle.kernel.specs.Next.{block_at_step, Creates, Refuses, Searches, Ends, Commits, Begins, Next, WritesOnce, CountsItsFault};
 
     /// Does nothing: it says what recovery of the disk gives. A stop now leaves a sound image whose
     /// files are the opening ones after the changing operations of the committed groups, in the
@@ -94,6 +95,9 @@ impl<D: Disk, I: Intake, H: Herald> Kernel<D, I, H> {
     /// are numbered from 1 on. What any count of groups keeps of a process's operations is a
     /// beginning of the changing ones among those that were taken of it.
     pub fn known(&self)
+        ensures told { H.count self.now.herald ≡ self.now.volume.log.committed }
+        ensures served { I.process_count self.now.intake ≡ length self.now.world.processes }
+        ensures reopens { (x : Image) → D.leaves self.now.volume.device (D.moment self.now.volume.device) x → verdict x ≡ None }
         ensures keeps { (x : Image) → D.leaves self.now.volume.device (D.moment self.now.volume.device) x → KeepsNow self.now.volume (D.image self.now.opening) self.now.world.journal.list x }
         ensures current { IfNone self.now.volume.fault (HasFilesAfter (D.image self.now.opening) (kept (inode_count_of (D.image self.now.opening)) self.now.world.journal.list self.now.volume.log.opened) (cleared (seen (D.image self.now.volume.device) self.now.volume.buffers))) }
         ensures files { IfNone self.now.volume.fault (replay (form_of (D.image self.now.opening)) (files_of (D.image self.now.opening)) (answered_of self.now.world.journal.list) ≡ Some (files_of (cleared (seen (D.image self.now.volume.device) self.now.volume.buffers)))) }
@@ -117,6 +121,8 @@ impl<D: Disk, I: Intake, H: Herald> Kernel<D, I, H> {
         ensures next { Next (D.image self.old.volume.device) self.old.inode_count self.old.volume self.old.world pid (I.side self.old.intake pid).ahead (I.side self.new.intake pid) (H.told self.new.herald) result (D.image self.new.volume.device) self.new.volume self.new.world }
         ensures sides { OthersStay (I.side self.old.intake) (I.side self.new.intake) pid }
         ensures names { SameNames (I.name self.old.intake) (I.name self.new.intake) }
+        ensures waits { result ≢ Step.Moved → result ≢ Step.Answered → IsPrefix (I.side self.old.intake pid).ahead (I.side self.new.intake pid).ahead }
+        ensures ahead { is_under_way_at (process self.old.world pid).at ≡ true → (I.side self.new.intake pid).ahead ≡ (I.side self.old.intake pid).ahead }
         ensures looked { self.old.volume.fault ≡ None → HasLooked self.old.inode_count (seen (D.image self.old.volume.device) self.old.volume.buffers) (seen (D.image self.new.volume.device) self.new.volume.buffers) (process self.old.world pid).at (process self.new.world pid).at }
         ensures opening { self.new.opening ≡ self.old.opening }
         ensures inode_count { self.new.inode_count ≡ self.old.inode_count }
@@ -124,6 +130,10 @@ impl<D: Disk, I: Intake, H: Herald> Kernel<D, I, H> {
         ensures halted { (result ≡ Step.Halted) ↔ IsSome self.new.volume.fault }
         ensures writes { WritesOnce (D.write_count self.old.volume.device) (D.write_count self.new.volume.device) }
         ensures faults { self.old.volume.fault ≡ None → CountsItsFault self.new.volume.fault (D.write_count self.old.volume.device) (D.write_count self.new.volume.device) (D.fault_count self.old.volume.device) (D.fault_count self.new.volume.device) }
+        ensures image { is_committing_at (process self.old.world pid).at ≡ false → D.image self.new.volume.device ≡ D.image self.old.volume.device }
+        ensures unwritten { is_committing_at (process self.old.world pid).at ≡ false → D.write_count self.new.volume.device ≡ D.write_count self.old.volume.device }
+        ensures written { is_committing_at (process self.old.world pid).at ≡ true → result ≢ Step.Halted → D.write_count self.new.volume.device ≡ one_more (D.write_count self.old.volume.device) }
+        ensures block { self.old.volume.fault ≡ None → IfSome self.new.volume.fault (λ fault. fault.0 ≡ block_at_step (process self.old.world pid).at self.old.volume.log) }
         ensures committed { CountsCommitted result (process self.old.world pid).at self.old.volume.log self.new.volume.log }
         ensures shut { KeepsShutdown self.old.world self.new.world }
 
@@ -156,6 +166,12 @@ impl<D: Disk, I: Intake, H: Herald> Kernel<D, I, H> {
         ensures writes { WritesOnce (D.write_count self.old.volume.device) (D.write_count self.new.volume.device) }
         ensures faults { self.old.volume.fault ≡ None → CountsItsFault self.new.volume.fault (D.write_count self.old.volume.device) (D.write_count self.new.volume.device) (D.fault_count self.old.volume.device) (D.fault_count self.new.volume.device) }
         ensures time { Elapses (D.moment self.old.volume.device) (D.moment self.new.volume.device) (D.leaves self.old.volume.device) (D.leaves self.new.volume.device) }
+        ensures waits { result ≢ Step.Moved → result ≢ Step.Answered → IsPrefix (I.side self.old.intake pid).ahead (I.side self.new.intake pid).ahead }
+        ensures ahead { is_under_way_at (process self.old.world pid).at ≡ true → (I.side self.new.intake pid).ahead ≡ (I.side self.old.intake pid).ahead }
+        ensures image { is_committing_at (process self.old.world pid).at ≡ false → D.image self.new.volume.device ≡ D.image self.old.volume.device }
+        ensures unwritten { is_committing_at (process self.old.world pid).at ≡ false → D.write_count self.new.volume.device ≡ D.write_count self.old.volume.device }
+        ensures written { is_committing_at (process self.old.world pid).at ≡ true → result ≢ Step.Halted → D.write_count self.new.volume.device ≡ one_more (D.write_count self.old.volume.device) }
+        ensures block { self.old.volume.fault ≡ None → IfSome self.new.volume.fault (λ fault. fault.0 ≡ block_at_step (process self.old.world pid).at self.old.volume.log) }
     {
         if self.volume.fault().is_some() {
             return Step::Halted;
@@ -183,6 +199,7 @@ impl<D: Disk, I: Intake, H: Herald> Kernel<D, I, H> {
         ensures inode_count { self.new.inode_count ≡ self.old.inode_count }
         ensures device { self.new.volume.device ≡ self.old.volume.device }
         ensures halted { (result ≡ Step.Halted) ↔ IsSome self.new.volume.fault }
+        ensures waits { result ≢ Step.Moved → result ≢ Step.Answered → IsPrefix (I.side self.old.intake pid).ahead (I.side self.new.intake pid).ahead }
     {
         if self.hears_shutdown() {
             return Step::ShutDown;
@@ -244,6 +261,7 @@ impl<D: Disk, I: Intake, H: Herald> Kernel<D, I, H> {
         ensures device { self.new.volume.device ≡ self.old.volume.device }
         ensures answer { result ≢ Step.Halted }
         ensures fault { self.new.volume.fault ≡ None }
+        ensures ahead { result ≢ Step.Moved → (I.side self.new.intake pid).ahead ≡ (I.side self.old.intake pid).ahead }
     {
         self.volume.known();
         if !self.intake.room(pid) {
@@ -278,6 +296,7 @@ impl<D: Disk, I: Intake, H: Herald> Kernel<D, I, H> {
         ensures device { self.new.volume.device ≡ self.old.volume.device }
         ensures answer { result ≢ Step.Halted }
         ensures fault { self.new.volume.fault ≡ None }
+        ensures ahead { result ≢ Step.Answered → (I.side self.new.intake pid).ahead ≡ (I.side self.old.intake pid).ahead }
     {
         if !self.intake.room(pid) {
             return Step::Sleeping(Why::AnswersFull);
@@ -308,6 +327,9 @@ impl<D: Disk, I: Intake, H: Herald> Kernel<D, I, H> {
         ensures halted { (result ≡ Step.Halted) ↔ IsSome self.new.volume.fault }
         ensures writes { WritesOnce (D.write_count self.old.volume.device) (D.write_count self.new.volume.device) }
         ensures faults { CountsItsFault self.new.volume.fault (D.write_count self.old.volume.device) (D.write_count self.new.volume.device) (D.fault_count self.old.volume.device) (D.fault_count self.new.volume.device) }
+        ensures ahead { (I.side self.new.intake pid).ahead ≡ (I.side self.old.intake pid).ahead }
+        ensures written { result ≢ Step.Halted → D.write_count self.new.volume.device ≡ one_more (D.write_count self.old.volume.device) }
+        ensures block { IfSome self.new.volume.fault (λ fault. fault.0 ≡ place_at self.old.volume.log.commit self.old.volume.log.homes) }
     {
         self.volume.known();
         let answer = self.volume.commit_step();
@@ -340,6 +362,10 @@ impl<D: Disk, I: Intake, H: Herald> Kernel<D, I, H> {
         ensures halted { (result ≡ Step.Halted) ↔ IsSome self.new.volume.fault }
         ensures writes { WritesOnce (D.write_count self.old.volume.device) (D.write_count self.new.volume.device) }
         ensures faults { CountsItsFault self.new.volume.fault (D.write_count self.old.volume.device) (D.write_count self.new.volume.device) (D.fault_count self.old.volume.device) (D.fault_count self.new.volume.device) }
+        ensures ahead { (I.side self.new.intake pid).ahead ≡ (I.side self.old.intake pid).ahead }
+        ensures image { D.image self.new.volume.device ≡ D.image self.old.volume.device }
+        ensures unwritten { D.write_count self.new.volume.device ≡ D.write_count self.old.volume.device }
+        ensures block { IfSome self.new.volume.fault (λ fault. fault.0 ≡ search.block) }
     {
         self.volume.known();
         let kind = search.kind;
@@ -369,6 +395,7 @@ impl<D: Disk, I: Intake, H: Herald> Kernel<D, I, H> {
         ensures inode_count { self.new.inode_count ≡ self.old.inode_count }
         ensures device { self.new.volume.device ≡ self.old.volume.device }
         ensures halted { (result ≡ Step.Halted) ↔ IsSome self.new.volume.fault }
+        ensures ahead { (I.side self.new.intake pid).ahead ≡ (I.side self.old.intake pid).ahead }
     {
         self.volume.known();
         let before = self.volume.log().committed();

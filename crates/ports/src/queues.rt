@@ -52,6 +52,7 @@ impl QueueIntake {
         requires { pid < queue_count self.old }
         ensures ok { IfOk result (λ _. waiting self.new pid ≡ waiting self.old pid ++ op ∷ []) }
         ensures number { IfOk result (λ n. (h : History) → QueueFits self.old pid h → n ≡ length h.taken + length (waiting self.new pid)) }
+        ensures places { IfOk result (λ _. length (waiting self.old pid) < 16) }
         ensures back { IfErr result (λ other. other ≡ op) }
         ensures refused { OnErr result (waiting self.new pid ≡ waiting self.old pid) }
         ensures full { OnErr result ((16 ≤ length (waiting self.old pid)) ⊎ ((h : History) → QueueFits self.old pid h → length h.taken + length (waiting self.old pid) + 1 ≡ 2 ^ 64)) }

@@ -20,7 +20,7 @@ loop-turn-preserved g c =
     let opening = c.make.ensures.opening ∙ kept.opening in
     let grows = subst (λ o. Grows (inode_count_of (d.image o)) now.volume now.world.journal.list new.volume new.world.journal.list) kept.opening c.make.ensures.grows in
     record {
-      runs = subst (λ (ts : List Turn). Runs d.image g.I.Intake.side g.H.Herald.told ts old new) (sym (take_more c.args.turns.now c.loop-turn.turn-index _ lt)) (runs_more d.image g.I.Intake.side g.H.Herald.told _ _ old now new kept.runs c.make.ensures.turn);
+      runs = subst (λ (ts : List Turn). Runs d.image d.moment d.leaves g.I.Intake.side g.I.Intake.name g.H.Herald.told ts old new) (sym (take_more c.args.turns.now c.loop-turn.turn-index _ lt)) (runs_more d.image d.moment d.leaves g.I.Intake.side g.I.Intake.name g.H.Herald.told _ _ old now new kept.runs c.make.ensures.turn);
       opening = opening;
       processes = c.make.ensures.processes ∙ kept.processes;
       shut = shut_more old.world now.world new.world c.make.ensures.shut kept.shut;

@@ -13,7 +13,7 @@ invariant-loop-turn g l =
     let old = l.fn.kernel in
     let now = l.kernel in
     record {
-      runs : Runs d.image g.I.Intake.side g.H.Herald.told (take l.turn-index l.fn.turns) old now;
+      runs : Runs d.image d.moment d.leaves g.I.Intake.side g.I.Intake.name g.H.Herald.told (take l.turn-index l.fn.turns) old now;
       opening : now.opening ≡ old.opening;
       processes : length now.world.processes ≡ length old.world.processes;
       shut : old.world.is_shut ≡ true → StaysShut old.world now.world;

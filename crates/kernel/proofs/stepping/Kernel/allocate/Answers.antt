@@ -1,6 +1,8 @@
 use Rattle.std.proofs.Common.{rules, refl, ℕ, [], ◌∷◌, inr, ◌≡◌, ◌<◌, None, ◌∙◌, sym, ap, subst, length}
 use Rattle.std.specs.Prelude.{IfNone}
 use Rattle.blocks.specs.Disk.{Image}
+use Rattle.std.specs.Prelude.{IfSome, Option}
+use Rattle.blocks.specs.declared.errors.DiskFault.{DiskFault}
 use Rattle.wal.specs.Joint.{seen}
 use Rattle.wal.specs.Machine.{LogState}
 use Rattle.wal.specs.Volume.{VolumeState}
@@ -11,7 +13,7 @@ use Rattle.kernel.specs.Turns.{HasLooked}
 use Rattle.kernel.proofs.Looking.{looks_as, searches_now, ends_now, looked_on, looked_over, looked_at_none}
 use Rattle.kernel.specs.Table.{IsTable}
 use Rattle.kernel.proofs.Commits.{where_none, if_none, if_some}
-use Rattle.kernel.proofs.Allocating.{ready_of, search_moves, search_over, search_sleeps, search_fails}
+use Rattle.kernel.proofs.Allocating.{ready_of, search_moves, search_over, search_sleeps, search_fails, search_fails_at}
 use Rattle.kernel.specs.Keeps.{IsJournal, KeepsNow, Recovers}
 use Rattle.kernel.proofs.Journals.{journal_same}
 use Rattle.kernel.proofs.Keeping.{recovers_searched, recovers_turn, journal_turned, kept_of}
@@ -179,3 +181,12 @@ returns-in-Fault-clause-looked g c =
     (looks_as c.self.inside.inode_count (seen (image c.self.inside.volume.device) c.self.inside.volume.buffers) now c.self.inside.processes c.self.inside.processes c.args.pid (at.Creating c.args.group c.args.search) after stands refl
     (looked_at_none image (image c.self.inside.opening.value) c.self.inside.volume c.step.new.volume c.self.inside.processes c.self.inside.inode_count c.args.pid c.args.group c.args.search c.step.new.self
     (where_none _ well c.self.invariant.recovers) (where_none _ well c.known.ensures) (where_none _ well c.self.invariant.table) c.self.invariant.numbers.same stands _ after tt c.in-Fault.ensures.step))
+
+pub returns-in-Fault-clause-block : goal.returns-in-Fault-clause-block
+returns-in-Fault-clause-block g c =
+    let well : c.self.inside.volume.fault ≡ None = search rules in
+    let stands : (process c.self.inside.processes c.args.pid).at ≡ at.Creating c.args.group c.args.search = search rules in
+    let lt : c.args.pid < length c.self.inside.processes.processes = search rules in
+    subst (λ (o : Option DiskFault). IfSome o (λ fault. fault.0 ≡ c.args.search.block)) (sym c.in-Fault.ensures.fault)
+    (search_fails_at (g.D.Disk.image c.self.inside.volume.device) c.self.inside.volume c.step.new.volume c.self.inside.inode_count c.args.pid c.args.group c.args.search c.step.new.self c.self.inside.processes c.self.inside.processes
+    (where_none _ well c.known.ensures) (where_none _ well c.self.invariant.table) lt stands _ c.in-Fault.ensures.step)

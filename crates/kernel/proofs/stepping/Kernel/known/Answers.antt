@@ -1,4 +1,4 @@
-use Rattle.std.proofs.Common.{ℕ, sym, subst, ◌≡◌, ◌∙◌, Some}
+use Rattle.std.proofs.Common.{length, ℕ, sym, subst, ◌≡◌, ◌∙◌, Some}
 use Rattle.std.specs.Prelude.{IfNone, map}
 use Rattle.std.specs.List.{filter}
 use Rattle.blocks.specs.Disk.{Image}
@@ -13,6 +13,7 @@ use Rattle.kernel.specs.Histories.{HasHistory, IsHistory}
 use Rattle.kernel.specs.Keeps.{HasFilesAfter, cleared, IsJournal, KeepsNow}
 use Rattle.kernel.specs.State.{State}
 use Rattle.kernel.proofs.Commits.{if_well}
+use Rattle.kernel.proofs.Openings.{opens_again}
 use Rattle.kernel.proofs.Journals.{kept_of_taken}
 use Rattle.kernel.proofs.stepping.Kernel.known.Goals as goal
 
@@ -20,6 +21,10 @@ pub returns : goal.returns
 returns g c =
     let image = g.D.Disk.image in
     record {
+      told = subst (λ (k : State _ _ _). g.H.Herald.count k.herald ≡ k.volume.log.committed) c.self.view_is c.self.invariant.told;
+      served = subst (λ (k : State _ _ _). g.I.Intake.process_count k.intake ≡ length k.world.processes) c.self.view_is c.self.invariant.processes;
+      reopens = λ x left. opens_again _ x _ _ (subst (λ (k : State _ _ _). (x : Image) → g.D.Disk.leaves k.volume.device (g.D.Disk.moment k.volume.device) x → KeepsNow k.volume (image k.opening) k.world.journal.list x) c.self.view_is
+          (λ x left. subst (λ y. KeepsNow c.self.inside.volume (image c.self.inside.opening.value) c.self.inside.processes.journal.list y) (sym (g.met.D.Disk.only_now c.self.inside.volume.device x left)) c.self.invariant.keeps) x left).keeps;
       keeps = subst (λ (k : State _ _ _). (x : Image) → g.D.Disk.leaves k.volume.device (g.D.Disk.moment k.volume.device) x → KeepsNow k.volume (image k.opening) k.world.journal.list x) c.self.view_is
           (λ x left. subst (λ y. KeepsNow c.self.inside.volume (image c.self.inside.opening.value) c.self.inside.processes.journal.list y) (sym (g.met.D.Disk.only_now c.self.inside.volume.device x left)) c.self.invariant.keeps);
       current = subst (λ (k : State _ _ _). IfNone k.volume.fault (HasFilesAfter (image k.opening) (kept (inode_count_of (image k.opening)) k.world.journal.list k.volume.log.opened) (cleared (seen (image k.volume.device) k.volume.buffers)))) c.self.view_is
