@@ -18,10 +18,10 @@ use Rattle.inodes.specs.Ialloc.{IsReady, HoldsAt, Gets, Looks, AllocatesAt, Allo
 use Rattle.kernel.specs.declared.types.At.{At}
 use Rattle.kernel.specs.declared.types.At.TheVariants as at
 use Rattle.kernel.specs.Processes.{World, process, searching, turned}
-use Rattle.kernel.specs.Table.{HasSlot, HasSlotAt, IsSearching, Stands, IsTable}
+use Rattle.kernel.specs.Table.{HasSlot, HasSlotAt, IsSearching, Stands, IsTable, slot_at}
 use Rattle.kernel.proofs.Logging.{counts_noted}
-use Rattle.kernel.proofs.Holding.{others_got}
-use Rattle.kernel.proofs.Events.{table_got, table_next, table_none, table_claimed}
+use Rattle.kernel.proofs.Holding.{HeldAs, others_got, held_got}
+use Rattle.kernel.proofs.Events.{holds_none, table_got, table_next, table_none, table_claimed}
 
 -- what a process has got, it holds as the current image shows it
 holds_at : {x : Image} {l : LogState} (c : Buffers) (p b : ℕ) (o : Option ℕ) → Joint x c l → HasSlotAt c p b o → HoldsAt (seen x c) c p b o
@@ -57,11 +57,12 @@ module _ {D : Type 0} (x : Image) (v u : VolumeState D) (n p group : ℕ) (m new
   has_slot : (c : Buffers) (b i : ℕ) → Holds cur c p b i → HasSlot c p b i
   has_slot c b i has = record { slot = has.slot; holder = has.holder; block = has.block; valid = has.valid }
 
-  got : Gets x cur m v p progress.Moved new u → z ≡ searching w p group new → Stays v u n z
-  got made goes = record {
+  got : m.slot ≡ None → Gets x cur m v p progress.Moved new u → z ≡ searching w p group new → Stays v u n z
+  got none made goes = record {
     table = subst (λ (o : World). IsTable u.buffers u.log n o) (sym (goes ∙ ap (λ (o : Ialloc). searching w p group o) made.2))
         (subst (λ (o : LogState). IsTable u.buffers o n (searching w p group (at_slot m made.0))) (sym made.4)
-        (table_got v.buffers u.buffers v.log n p group made.0 m w table j.log lt stands (subst (λ (d : Buffers). Rattle.kernel.proofs.Holding.OthersHold v.buffers d p) (sym made.3) (others_got x v.buffers p m.block j.cache)) (has_slot u.buffers m.block made.0 made.5)));
+        (table_got v.buffers u.buffers v.log n p group made.0 m w table j.log lt stands (subst (λ (d : Buffers). Rattle.kernel.proofs.Holding.OthersHold v.buffers d p) (sym made.3) (others_got x v.buffers p m.block j.cache))
+        (subst (λ (d : Buffers). HeldAs v.buffers d p (Some made.0)) (sym made.3) (held_got x v.buffers p m.block made.0 j.cache made.1 (holds_none v.buffers v.log n p w table (ap slot_at stands ∙ none)))) (has_slot u.buffers m.block made.0 made.5)));
     committed = ap (λ (o : LogState). o.committed) made.4;
     opened = ap (λ (o : LogState). o.opened) made.4;
   }
@@ -71,7 +72,7 @@ module _ {D : Type 0} (x : Image) (v u : VolumeState D) (n p group : ℕ) (m new
   went_on s None true slot is made goes = let no = made.0 in absurd (cc no)
   went_on s None false slot is made goes = record {
     table = subst (λ (o : World). IsTable u.buffers u.log n o) (sym (goes ∙ ap (λ (o : Ialloc). searching w p group o) made.1))
-        (subst (λ (o : VolumeState D). IsTable o.buffers o.log n (searching w p group (at_next_block m))) (sym made.2) (table_next v.buffers v.log n p group s m w table lt stands slot is));
+        (subst (λ (o : VolumeState D). IsTable o.buffers o.log n (searching w p group (at_next_block m))) (sym made.2) (table_next v.buffers v.log n p group s m w table j.cache lt stands slot is));
     committed = ap (λ (o : VolumeState D). o.log.committed) made.2;
     opened = ap (λ (o : VolumeState D). o.log.opened) made.2;
   }
@@ -85,7 +86,7 @@ module _ {D : Type 0} (x : Image) (v u : VolumeState D) (n p group : ℕ) (m new
   }
   over op reply s None out true slot made goes = record {
     table = subst (λ (o : World). IsTable u.buffers u.log n o) (sym goes)
-        (subst (λ (o : VolumeState D). IsTable o.buffers o.log n (turned w p op group reply)) (sym made.2) (table_none v.buffers v.log n p group s m op reply w table lt stands slot));
+        (subst (λ (o : VolumeState D). IsTable o.buffers o.log n (turned w p op group reply)) (sym made.2) (table_none v.buffers v.log n p group s m op reply w table j.cache lt stands slot));
     committed = ap (λ (o : VolumeState D). o.log.committed) made.2;
     opened = ap (λ (o : VolumeState D). o.log.opened) made.2;
   }
@@ -95,7 +96,7 @@ module _ {D : Type 0} (x : Image) (v u : VolumeState D) (n p group : ℕ) (m new
   search_moves made goes = by_slot m.slot refl made
     where
       by_slot : (o : Option ℕ) → m.slot ≡ o → AllocatesAt o x cur m v p progress.Moved new u → Stays v u n z
-      by_slot None is made = got made goes
+      by_slot None is made = got is made goes
       by_slot (Some s) is made = went_on s (lowest_free (block_at cur m.block) m.inode_count m.block) (is_last_block m) is refl made goes
 
   pub search_over : (op : Op) (reply : Reply) (out : Option ℕ) → Allocates x cur m v p (progress.Over out) new u → z ≡ turned w p op group reply → Stays v u n z

@@ -85,10 +85,10 @@ module _ {D : Type 0} (x y : Image) (n p : ℕ) (v u : VolumeState D) (w z : Wor
   now_at t is = there_now w z p t is lt
 
   -- it stands at a, and goes to t
-  takes : (a : At) (t : Process) → (process w p).at ≡ a → process z p ≡ t → (is_under_way_at a ≡ true → steps_left t.at u.log n < steps_left a v.log n) → steps_left t.at u.log n ≤ 2000 → Takes
+  takes : (a : At) (t : Process) → (process w p).at ≡ a → process z p ≡ t → (is_under_way_at a ≡ true → steps_left t.at u.log n < steps_left a v.log n) → steps_left t.at u.log n < 2000 → Takes
   takes a t is to falls few = record {
     falls = λ under. subst (λ (q : Process). steps_left q.at u.log n < steps_left (process w p).at v.log n) (sym to) (subst (λ (b : At). steps_left t.at u.log n < steps_left b v.log n) (sym is) (falls (ap is_under_way_at (sym is) ∙ under)));
-    few = subst (λ (q : Process). steps_left q.at u.log n ≤ 2000) (sym to) few;
+    few = subst (λ (q : Process). steps_left q.at u.log n < 2000) (sym to) few;
   }
 
   with_first : (o : Option Waiting) (ahead : List Op) → (process w p).at ≡ at.Idle → BeginsWith o n v w p ahead s step.Moved u z → Takes

@@ -1,5 +1,5 @@
 -- Each step keeps the table true.
-use Rattle.std.proofs.Common.{◌≡◌, ℕ, ◌+◌, ◌-◌, ◌<◌, ◌≤◌, Bool, true, false, cond, eqb, List, [], ◌∷◌, ◌++◌, length, get_or, set, refl, sym, ◌∙◌, ap, subst, arith, Option, Some, None}
+use Rattle.std.proofs.Common.{◌≡◌, ℕ, ◌+◌, ◌-◌, ◌<◌, ◌≤◌, Bool, true, false, cond, eqb, List, [], ◌∷◌, ◌++◌, length, length-set, get_or, set, refl, sym, ◌∙◌, ap, subst, arith, Option, Some, None}
 use Rattle.std.specs.Prelude.{IsSome, IsTrue, count_by}
 use Rattle.std.proofs.lemmas.Bool.{eqb-false, false≢true}
 use Rattle.std.proofs.lemmas.List.{get_or-set_same, set-get_or, length-append}
@@ -22,8 +22,8 @@ use Rattle.kernel.specs.declared.types.At.{At}
 use Rattle.kernel.specs.declared.types.At.TheVariants as at
 use Rattle.kernel.specs.declared.types.Process.{Process}
 use Rattle.kernel.specs.Processes.{World, process, idle, with_place, creating, searching, turned, entry_of, committing, committing_at, answered}
-use Rattle.kernel.specs.Table.{HasSlot, IsSearching, Stands, IsTable, is_committing_at, is_searching_at}
-use Rattle.kernel.proofs.Holding.{OthersHold, others_same, others_released, others_changed, others_noted, others_then, others_written, noted_holder}
+use Rattle.kernel.specs.Table.{HasSlot, IsSearching, Stands, IsTable, is_committing_at, is_searching_at, slot_at}
+use Rattle.kernel.proofs.Holding.{HeldAs, held_same, held_released, locks_then, locks_noted, slots_noted, locks_changed, locks_written, OthersHold, others_same, others_released, others_changed, others_noted, others_then, others_written, noted_holder}
 use Rattle.wal.proofs.Volumes.{changed_lock}
 use Rattle.kernel.proofs.Tables.{table_goes}
 use Rattle.kernel.proofs.Logging.{none_commits, open_now, logs_same, logs_begun, logs_noted, logs_ended, logs_written}
@@ -54,6 +54,17 @@ one_longer es e = length-append es (e ∷ [])
 search_alone : (c : Buffers) (l : LogState) (n p q group : ℕ) (m : Ialloc) (w : World) → IsTable c l n w → IsLog l → IsSearching c l n p group m → is_committing_at (process w q).at ≡ true → ⊥
 search_alone c l n p q group m w table is s = none_commits c l n q w table (quiet_of l.commit l is (open_now l l.commit p 0 is s.used))
 
+-- a process without a slot holds none
+pub holds_none : (c : Buffers) (l : LogState) (n p : ℕ) (w : World) → IsTable c l n w → slot_at (process w p).at ≡ None → (i : ℕ) → (buffer c i).holder ≡ Some p → ⊥
+holds_none c l n p w table none i held = let some = sym none ∙ table.holders i p held in absurd (cc some)
+
+held_none : (c : Buffers) (p : ℕ) (o : Option ℕ) (l : LogState) (n : ℕ) (w : World) → IsTable c l n w → slot_at (process w p).at ≡ None → HeldAs c c p o
+held_none c p o l n w table none = held_same c c p o (λ i. refl) (holds_none c l n p w table none)
+
+-- and one with a slot no other
+only_slot : (c : Buffers) (l : LogState) (n p group i j : ℕ) (m : Ialloc) (w : World) → IsTable c l n w → (process w p).at ≡ at.Creating group m → m.slot ≡ Some i → (buffer c j).holder ≡ Some p → i ≡ j
+only_slot c l n p group i j m w table stands slot held = let same : Some i ≡ Some j = sym (ap slot_at stands ∙ slot) ∙ table.holders j p held in cc same
+
 -- a creation begins
 pub table_begun : (c : Buffers) (l : LogState) (n p kind : ℕ) (w : World) → IsTable c l n w → IsLog l → p < length w.processes → (process w p).at ≡ at.Idle → begin_cause l ≡ None → IsTrue (is_kind kind)
     → IsTable c (begun l p) n (creating (with_place w) p (begun l p).opened (record { kind = kind; inode_count = n; block = 33; slot = None }))
@@ -63,6 +74,7 @@ table_begun c l n p kind w table is lt stands free is_kind = table_goes c c l (b
   from = stands;
   holds = others_same c p;
   logs = logs_begun l w c n p table is free;
+  held = held_none c p None l n w table (ap slot_at stands);
   processes = refl;
   place = record {
     used = get_or-set_same l.used p (Some 0) None (omega (arith, lt, table.few, is.pids));
@@ -89,6 +101,7 @@ table_at_once c l n p w v t table lt stands stays one is room longer = table_goe
   from = stands;
   holds = others_same c p;
   logs = logs_same l w c n p table;
+  held = held_none c p (slot_at t.at) l n w table (ap slot_at stands);
   processes = is;
   place = subst (λ (a : At). Stands c l n p a) (stands ∙ sym stays) (table.stands p);
   alone = λ e q apart committing. absurd (false≢true (sym (ap is_committing_at stays) ∙ e));
@@ -100,8 +113,8 @@ table_at_once c l n p w v t table lt stands stays one is room longer = table_goe
 
 -- the search has its block
 pub table_got : (c d : Buffers) (l : LogState) (n p group i : ℕ) (m : Ialloc) (w : World) → IsTable c l n w → IsLog l → p < length w.processes → (process w p).at ≡ at.Creating group m
-    → OthersHold c d p → HasSlot d p m.block i → IsTable d l n (searching w p group (at_slot m i))
-table_got c d l n p group i m w table is lt stands others has =
+    → OthersHold c d p → HeldAs c d p (Some i) → HasSlot d p m.block i → IsTable d l n (searching w p group (at_slot m i))
+table_got c d l n p group i m w table is lt stands others held has =
     let s : IsSearching c l n p group m = subst (λ (a : At). Stands c l n p a) stands (table.stands p) in
     table_goes c d l l n p w _ (at.Creating group m) (record (process w p) { at = at.Creating group (at_slot m i) }) (record {
       table = table;
@@ -109,6 +122,7 @@ table_got c d l n p group i m w table is lt stands others has =
       from = stands;
       holds = others;
       logs = logs_same l w c n p table;
+      held = held;
       processes = refl;
       place = record { used = s.used; newest = s.newest; count = s.count; kind = s.kind; behind = s.behind; last = s.last; holds = has };
       alone = λ e q apart committing. absurd (false≢true e);
@@ -119,9 +133,9 @@ table_got c d l n p group i m w table is lt stands others has =
     })
 
 -- it goes on to the next block
-pub table_next : (c : Buffers) (l : LogState) (n p group i : ℕ) (m : Ialloc) (w : World) → IsTable c l n w → p < length w.processes → (process w p).at ≡ at.Creating group m
+pub table_next : (c : Buffers) (l : LogState) (n p group i : ℕ) (m : Ialloc) (w : World) → IsTable c l n w → IsCache c → p < length w.processes → (process w p).at ≡ at.Creating group m
     → m.slot ≡ Some i → is_last_block m ≡ false → IsTable (released c i) l n (searching w p group (at_next_block m))
-table_next c l n p group i m w table lt stands slot more =
+table_next c l n p group i m w table cache lt stands slot more =
     let s : IsSearching c l n p group m = subst (λ (a : At). Stands c l n p a) stands (table.stands p) in
     let has : HasSlot c p m.block i = subst (λ (o : Option ℕ). Rattle.kernel.specs.Table.HasSlotAt c p m.block o) slot s.holds in
     let other = eqb-false m.block (inode_block (m.inode_count - 1)) more in
@@ -132,6 +146,7 @@ table_next c l n p group i m w table lt stands slot more =
       from = stands;
       holds = others_released c p i has.holder;
       logs = logs_same l w c n p table;
+      held = held_released c c p i (λ j. refl) (omega (arith, has.slot, cache.size)) (λ j now. only_slot c l n p group i j m w table stands slot now);
       processes = refl;
       place = record { used = s.used; newest = s.newest; count = s.count; kind = s.kind; behind = omega (arith, s.behind); last = let low = s.last in omega (arith, low, other, same); holds = tt };
       alone = λ e q apart committing. absurd (false≢true e);
@@ -142,9 +157,9 @@ table_next c l n p group i m w table lt stands slot more =
     })
 
 -- the turn without a number
-pub table_none : (c : Buffers) (l : LogState) (n p group i : ℕ) (m : Ialloc) (op : Op) (reply : Reply) (w : World) → IsTable c l n w → p < length w.processes → (process w p).at ≡ at.Creating group m
+pub table_none : (c : Buffers) (l : LogState) (n p group i : ℕ) (m : Ialloc) (op : Op) (reply : Reply) (w : World) → IsTable c l n w → IsCache c → p < length w.processes → (process w p).at ≡ at.Creating group m
     → m.slot ≡ Some i → IsTable (released c i) l n (turned w p op group reply)
-table_none c l n p group i m op reply w table lt stands slot =
+table_none c l n p group i m op reply w table cache lt stands slot =
     let s : IsSearching c l n p group m = subst (λ (a : At). Stands c l n p a) stands (table.stands p) in
     let has : HasSlot c p m.block i = subst (λ (o : Option ℕ). Rattle.kernel.specs.Table.HasSlotAt c p m.block o) slot s.holds in
     let kept = room_kept c l n p w table lt (ap is_searching_at stands) in
@@ -154,6 +169,7 @@ table_none c l n p group i m op reply w table lt stands slot =
       from = stands;
       holds = others_released c p i has.holder;
       logs = logs_same l w c n p table;
+      held = held_released c c p i (λ j. refl) (omega (arith, has.slot, cache.size)) (λ j now. only_slot c l n p group i j m w table stands slot now);
       processes = refl;
       place = (subst IsSome (sym s.used) refl, s.newest);
       alone = λ e q apart committing. absurd (false≢true e);
@@ -186,6 +202,7 @@ table_claimed c l n p group i b bytes m op reply w table is cache lt stands slot
     let kept = room_kept c l n p w table lt (ap is_searching_at stands) in
     let e = noted_cache l c i b in
     let inside : i < length c.slots = omega (arith, has.slot, cache.size) in
+    let noted_inside : i < length e.slots = let size = slots_noted l c i b in omega (arith, inside, size) in
     let logged : (buffer e i).holder ≡ Some p = noted_holder l c p i b inside has.holder in
     let written : (buffer (changed e i bytes) i).holder ≡ Some p = (changed_lock l c i b bytes inside).holder ∙ has.holder in
     table_goes c (released (changed e i bytes) i) l (noted l p b) n p w _ (at.Creating group m) (record (process w p) { at = at.Ending group reply }) (record {
@@ -195,6 +212,7 @@ table_claimed c l n p group i b bytes m op reply w table is cache lt stands slot
       holds = others_then c e (released (changed e i bytes) i) p (others_noted l c p i b has.holder)
           (others_then e (changed e i bytes) (released (changed e i bytes) i) p (others_changed e p i bytes logged) (others_released (changed e i bytes) p i written));
       logs = logs_noted l w c n p b table;
+      held = held_released c (changed e i bytes) p i (locks_then c e (changed e i bytes) (locks_noted l c i b inside) (locks_changed e i bytes noted_inside)) (let size = length-set e.slots i (record (buffer e i) { bytes = bytes }) in omega (arith, noted_inside, size)) (λ j now. only_slot c l n p group i j m w table stands slot now);
       processes = refl;
       place = (still_open l p b (omega (arith, lt, table.few, is.pids)) s.used, s.newest ∙ sym (opened_noted l p b));
       alone = λ e q apart committing. absurd (false≢true e);
@@ -224,6 +242,7 @@ table_left c l n p group reply w table is lt stands =
       from = stands;
       holds = others_same c p;
       logs = logs_ended l w c n p has.0 table is has.1;
+      held = held_none c p None l n w table (ap slot_at stands);
       processes = refl;
       place = closed_for l p (omega (arith, lt, table.few, is.pids));
       alone = λ e q apart committing. absurd (false≢true e);
@@ -271,6 +290,7 @@ table_commits c l n p group reply w table is lt stands last =
       from = stands;
       holds = others_same c p;
       logs = logs_ended l w c n p has.0 table is has.1;
+      held = held_none c p (slot_at (committing_at (process w p).at)) l n w table (ap slot_at stands);
       processes = refl;
       place = subst (λ (a : At). Stands c (ended l p) n p (committing_at a)) (sym stands) (subst (λ (o : LogState). Stands c o n p (at.Committing group reply)) (sym now) (none, refl, s.1));
       alone = λ e q apart committing. none_commits c l n q w table (quiet_of l.commit l is (open_now l l.commit p has.0 is has.1)) committing;
@@ -302,6 +322,7 @@ table_written c l n p group reply w table lt stands busy =
       from = stands;
       holds = others_written l.commit l.homes c p;
       logs = logs_written l.commit l w c n p table mine;
+      held = held_same c d p (slot_at (process w p).at) (locks_written l.commit l.homes c) (holds_none c l n p w table (ap slot_at stands));
       processes = sym (set-get_or w.processes p idle);
       place = subst (λ (a : At). Stands d m n p a) (sym stands) (ap (λ (us : List (Option ℕ)). get_or us p None) same.0 ∙ s.0, busy, s.2 ∙ sym same.1);
       alone = λ e q apart committing. apart (table.sole q p committing mine);
@@ -324,6 +345,7 @@ table_done c l n p group reply w table lt stands =
       from = stands;
       holds = others_written l.commit l.homes c p;
       logs = logs_written l.commit l w c n p table mine;
+      held = held_same c (written_cache l.commit l.homes c) p None (locks_written l.commit l.homes c) (holds_none c l n p w table (ap slot_at stands));
       processes = refl;
       place = ap (λ (us : List (Option ℕ)). get_or us p None) same.0 ∙ s.0;
       alone = λ e q apart committing. absurd (false≢true e);

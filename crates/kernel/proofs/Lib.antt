@@ -23,3 +23,4 @@ pub mod Taking
 pub mod Staying
 pub mod Bounds
 pub mod Sharing
+pub mod Locks

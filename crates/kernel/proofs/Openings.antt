@@ -1,6 +1,6 @@
 -- What a kernel that is opened has.
-use Rattle.std.proofs.Common.{◌≡◌, ℕ, ◌+◌, ◌*◌, ◌<◌, ◌≤◌, Bool, true, false, cond, eqb, List, [], length, replicate, refl, sym, ◌∙◌, ap, subst, arith, ⊎_elim, None, Err}
-use Rattle.std.specs.Prelude.{IsTrue, count_by, Result}
+use Rattle.std.proofs.Common.{get_or, ◌≡◌, ℕ, ◌+◌, ◌*◌, ◌<◌, ◌≤◌, Bool, true, false, cond, eqb, List, [], length, replicate, refl, sym, ◌∙◌, ap, subst, arith, ⊎_elim, None, Err}
+use Rattle.std.specs.Prelude.{count_by}
 use Rattle.std.proofs.lemmas.Bool.{cases_lt, false≢true}
 use Rattle.std.proofs.lemmas.List.{get_or-replicate, get_or_past, length-replicate}
 use Rattle.std.proofs.lemmas.List.Folds.{sum_by-replicate}
@@ -20,6 +20,8 @@ use Rattle.model.proofs.LogLemmas.{recovered_empty, recovered_low, length-recove
 use Rattle.model.proofs.RecoveryLemmas.{logged_count-left}
 use Rattle.model.proofs.SuperLemmas.{super_of-recovered}
 use Rattle.model.proofs.SoundLemmas.{verdict_sound, sound_verdict, facts_of, long_geometry}
+use Rattle.model.specs.declared.types.Buffer.{Buffer}
+use Rattle.bcache.specs.Buffers.{buffer, empty_buffer}
 use Rattle.bcache.specs.Buffers.{fresh as fresh_buffers}
 use Rattle.wal.specs.Machine.{new_log, used_by}
 use Rattle.wal.specs.Volume.{VolumeState}
@@ -88,12 +90,20 @@ module _ {D : Type 0} (image : D → Image) (writes moment : D → ℕ) (leaves 
       (record { later = reads.later; adds = reads.adds; keeps = reads.keeps }))
       (subst (λ (y : Image). LeavesOnly moment leaves mid new (RecoversAs y)) reads.same then_on)
 
+-- a list of the same everywhere
+same_at : {A : Type 0} (n p : ℕ) (a : A) → get_or (replicate n a) p a ≡ a
+same_at {A} n p a = ⊎_elim (λ (low : p < n). get_or-replicate n p a a low) (λ (high : n ≤ p). get_or_past (replicate n a) p a (omega (arith, length-replicate {A = A} n a))) (cases_lt p n)
+
 -- every process is idle
 idle_at : (n p : ℕ) → process (fresh n) p ≡ idle
-idle_at n p = ⊎_elim (λ (low : p < n). get_or-replicate n p idle idle low) (λ (high : n ≤ p). get_or_past (replicate n idle) p idle (omega (arith, length-replicate {A = Process} n idle))) (cases_lt p n)
+idle_at n p = same_at n p idle
 
 none_used : (size p : ℕ) → used_by (new_log size) p ≡ None
-none_used size p = ⊎_elim (λ (low : p < 32). get_or-replicate 32 p None None low) (λ (high : 32 ≤ p). get_or_past (replicate 32 None) p None (omega (arith, length-replicate {A = Rattle.std.specs.Prelude.Option ℕ} 32 None))) (cases_lt p 32)
+none_used size p = same_at 32 p None
+
+-- and no buffer is locked
+none_held : (i : ℕ) → (buffer fresh_buffers i).holder ≡ None
+none_held i = ap (λ (s : Buffer). s.holder) (same_at 40 i empty_buffer)
 
 mul_zero : (n : ℕ) → n * 0 ≡ 0
 mul_zero n = omega arith
@@ -111,6 +121,7 @@ table_opened x sup n none is few =
       limit = omega (arith, f.few, count);
       within = let room = f.room in let size = f.size in let some = f.some in omega (arith, room, size, count, some);
       stands = λ p. subst (λ (q : Process). Stands fresh_buffers (new_log (length x)) sup.ninodes p q.at) (sym (idle_at n p)) (none_used (length x) p);
+      holders = λ i p held. let some = sym (none_held i) ∙ held in absurd (cc some);
       sole = λ p q first second. absurd (false≢true (sym (ap (λ (r : Process). is_committing_at r.at) (idle_at n p)) ∙ first));
       room = sym (none_searches n);
       counted = record {

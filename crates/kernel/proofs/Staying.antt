@@ -12,7 +12,7 @@ use Rattle.kernel.proofs.Taking.{histories_stay}
 
 -- the table says nothing of a shutdown
 table_shut : (c : Buffers) (l : LogState) (n : ℕ) (w : World) (b : Bool) → IsTable c l n w → IsTable c l n (record w { is_shut = b })
-table_shut c l n w b t = record { few = t.few; some = t.some; limit = t.limit; within = t.within; stands = t.stands; sole = t.sole; room = t.room; counted = record { begun = t.counted.begun; opened = t.counted.opened } }
+table_shut c l n w b t = record { few = t.few; some = t.some; limit = t.limit; within = t.within; stands = t.stands; holders = t.holders; sole = t.sole; room = t.room; counted = record { begun = t.counted.begun; opened = t.counted.opened } }
 
 module _ {D I H : Type 0} (image : D → Image) (process_count : I → ℕ) (side : I → ℕ → Side) (fits : I → ℕ → History → Type 0) (count : H → ℕ) where
   pub stays_true : (k : State D I H) (i : I) (h : H) (b : Bool) → Inv image process_count side fits count k → process_count i ≡ process_count k.intake

@@ -3,16 +3,16 @@ use Rattle.std.proofs.Common.{◌≡◌, ◌≢◌, ℕ, ◌+◌, ◌<◌, ◌�
 use Rattle.std.specs.Prelude.{IsSome, count_by}
 use Rattle.std.proofs.lemmas.Bool.{cases_eq}
 use Rattle.std.proofs.lemmas.List.Sums.{sum_by-set}
-use Rattle.bcache.specs.Buffers.{Buffers}
+use Rattle.bcache.specs.Buffers.{Buffers, buffer}
 use Rattle.wal.specs.Machine.{LogState, used_by, is_quiet}
 use Rattle.wal.proofs.Groups.{some_open}
 use Rattle.kernel.specs.declared.types.At.{At}
 use Rattle.kernel.specs.declared.types.At.TheVariants as at
 use Rattle.kernel.specs.declared.types.Process.{Process}
 use Rattle.kernel.specs.Processes.{World, process, idle}
-use Rattle.kernel.specs.Table.{HasSlotAt, Stands, IsTable, is_committing_at, is_searching_at}
+use Rattle.kernel.specs.Table.{HasSlotAt, Stands, IsTable, is_committing_at, is_searching_at, slot_at}
 use Rattle.kernel.proofs.Places.{there_now, others_stay}
-use Rattle.kernel.proofs.Holding.{OthersHold}
+use Rattle.kernel.proofs.Holding.{OthersHold, HeldAs}
 
 -- of a log that went from l to m while process p worked: what the others have in it
 pub record OthersLogged (l m : LogState) (w : World) (p : ℕ) : Type 0 where
@@ -57,6 +57,7 @@ pub record Goes (c d : Buffers) (l m : LogState) (n p : ℕ) (w v : World) (a : 
   pub from : (process w p).at ≡ a
   pub holds : OthersHold c d p
   pub logs : OthersLogged l m w p
+  pub held : HeldAs c d p (slot_at t.at)
   pub processes : v.processes ≡ set w.processes p t
   pub place : Stands d m n p t.at
   -- nobody else commits
@@ -88,6 +89,10 @@ module _ (c d : Buffers) (l m : LogState) (n p : ℕ) (w v : World) (a : At) (t 
     stands = λ q. ⊎_elim
         (λ (same : q ≡ p). subst (λ (r : ℕ). Stands d m n r (process v r).at) (sym same) (subst (λ (s : Process). Stands d m n p s.at) (sym now_at) g.place))
         (λ (apart : q ≢ p). subst (λ (s : Process). Stands d m n q s.at) (sym (others_at q apart)) (stands_other c d l m n p q w (process w q).at g.holds g.logs apart refl (g.table.stands q)))
+        (cases_eq q p);
+    holders = λ i q now. ⊎_elim
+        (λ (same : q ≡ p). subst (λ (r : ℕ). slot_at (process v r).at ≡ Some i) (sym same) (ap (λ (s : Process). slot_at s.at) now_at ∙ g.held.own i (subst (λ (r : ℕ). (buffer d i).holder ≡ Some r) same now)))
+        (λ (apart : q ≢ p). ap (λ (s : Process). slot_at s.at) (others_at q apart) ∙ g.table.holders i q (g.held.others i q apart now))
         (cases_eq q p);
     sole = λ q r first second. ⊎_elim
         (λ one. ⊎_elim (λ two. one.0 ∙ sym two.0) (λ two. absurd (g.alone one.1 r two.0 two.1)) (committer r second))

@@ -29,10 +29,10 @@ steps_left (at.Creating group m) l n = 63 + 2 * (inode_block (n - 1) - m.block) 
 steps_left (at.Ending group reply) l n = 63
 steps_left (at.Committing group reply) l n = writes_left l.commit (length l.homes)
 
--- a step that moved process p took one of them, or began an operation that has 2,000 at most
+-- a step that moved process p took one of them, or began an operation that has fewer than 2,000 left
 pub record TakesOne (n : ℕ) (l : LogState) (w : World) (p : ℕ) (m : LogState) (z : World) : Type 0 where
   pub falls : is_under_way_at (process w p).at ≡ true → steps_left (process z p).at m n < steps_left (process w p).at l n
-  pub few : steps_left (process z p).at m n ≤ 2000
+  pub few : steps_left (process z p).at m n < 2000
 
 -- a step of process p gives no other process more of them
 abbrev pub GivesNone : ℕ → LogState → World → ℕ → LogState → World → Type 0

@@ -1,5 +1,5 @@
 -- What is true of processes, buffers and log together, between any two steps.
-use Rattle.std.specs.Prelude.{◌≡◌, ◌<◌, ◌≤◌, ℕ, ◌+◌, ◌-◌, if◌then◌else◌, IsTrue, IsSome, Bool, true, false, length, count_by, Option, Some, None}
+use Rattle.std.specs.Prelude.{◌≡◌, ◌≢◌, ◌<◌, ◌≤◌, ℕ, ◌+◌, ◌-◌, if◌then◌else◌, IsTrue, IsSome, Bool, true, false, length, count_by, Option, Some, None}
 use Rattle.model.specs.Layout.{inode_block}
 use Rattle.model.specs.Operations.{is_kind}
 use Rattle.bcache.specs.Buffers.{Buffers, buffer}
@@ -44,6 +44,13 @@ is_committing_at (at.Creating group m) = false
 is_committing_at (at.Ending group reply) = false
 is_committing_at (at.Committing group reply) = true
 
+-- the slot that the process's search has got
+abbrev pub slot_at : At → Option ℕ
+slot_at at.Idle = None
+slot_at (at.Creating group m) = m.slot
+slot_at (at.Ending group reply) = None
+slot_at (at.Committing group reply) = None
+
 abbrev pub is_ending_at : At → Bool
 is_ending_at at.Idle = false
 is_ending_at (at.Creating group m) = false
@@ -63,6 +70,22 @@ pub record IsCounted (l : LogState) (w : World) : Type 0 where
   -- each group has an operation
   pub opened : l.opened ≤ length w.journal.list + w.journal.room
 
+-- block b's buffer is locked by another process than p, whose search has got it
+pub record IsHeldByAnother (c : Buffers) (w : World) (p b : ℕ) : Type 0 where
+  pub slot : ℕ
+  pub other : ℕ
+  pub apart : other ≢ p
+  pub block : (buffer c slot).block ≡ Some b
+  pub holder : (buffer c slot).holder ≡ Some other
+  pub search : slot_at (process w other).at ≡ Some slot
+
+-- a process waits for a buffer where its search looks for the block of one that another holds
+abbrev pub WaitsForBuffer : Buffers → World → ℕ → At → Type 0
+WaitsForBuffer c w p at.Idle = ⊥
+WaitsForBuffer c w p (at.Creating group m) = IsHeldByAnother c w p m.block
+WaitsForBuffer c w p (at.Ending group reply) = ⊥
+WaitsForBuffer c w p (at.Committing group reply) = ⊥
+
 -- where each process stands agrees with buffers and log; one at most commits; each search has its place in the journal
 pub record IsTable (c : Buffers) (l : LogState) (inode_count : ℕ) (w : World) : Type 0 where
   pub few : length w.processes ≤ 32
@@ -70,6 +93,8 @@ pub record IsTable (c : Buffers) (l : LogState) (inode_count : ℕ) (w : World) 
   pub limit : inode_count ≤ 1024
   pub within : inode_block (inode_count - 1) < l.size
   pub stands : (p : ℕ) → Stands c l inode_count p (process w p).at
+  -- who holds a buffer's lock is a process whose search has got it
+  pub holders : (i p : ℕ) → (buffer c i).holder ≡ Some p → slot_at (process w p).at ≡ Some i
   pub sole : (p q : ℕ) → is_committing_at (process w p).at ≡ true → is_committing_at (process w q).at ≡ true → p ≡ q
   pub room : w.journal.room ≡ count_by (λ (q : Process). is_searching_at q.at) w.processes
   pub counted : IsCounted l w

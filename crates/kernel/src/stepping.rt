@@ -81,7 +81,7 @@ impl<D: Disk, I: Intake, H: Herald> Kernel<D, I, H> {
     ghost use Rattle.kernel.specs.declared.types.At.TheVariants as at;
     ghost use Rattle.kernel.specs.declared.stepping.Waiting.TheVariants as waiting;
     ghost use Rattle.kernel.specs.Processes.{process};
-    ghost use Rattle.kernel.specs.Table.{is_committing_at, is_ending_at};
+    ghost use Rattle.kernel.specs.Table.{is_committing_at, is_ending_at, WaitsForBuffer};
     ghost use Rattle.kernel.specs.Bound.{TakesOne, GivesNone};
     ghost use Rattle.kernel.specs.Turns.{HasLooked};
     ghost use Rattle.kernel.specs.Progress.{CountsCommitted, KeepsShutdown};
@@ -123,6 +123,7 @@ impl<D: Disk, I: Intake, H: Herald> Kernel<D, I, H> {
         ensures names { SameNames (I.name self.old.intake) (I.name self.new.intake) }
         ensures waits { result ≢ Step.Moved → result ≢ Step.Answered → IsPrefix (I.side self.old.intake pid).ahead (I.side self.new.intake pid).ahead }
         ensures ahead { is_under_way_at (process self.old.world pid).at ≡ true → (I.side self.new.intake pid).ahead ≡ (I.side self.old.intake pid).ahead }
+        ensures held { result ≡ Step.Sleeping Why.BufferHeld → WaitsForBuffer self.old.volume.buffers self.old.world pid (process self.old.world pid).at }
         ensures looked { self.old.volume.fault ≡ None → HasLooked self.old.inode_count (seen (D.image self.old.volume.device) self.old.volume.buffers) (seen (D.image self.new.volume.device) self.new.volume.buffers) (process self.old.world pid).at (process self.new.world pid).at }
         ensures opening { self.new.opening ≡ self.old.opening }
         ensures inode_count { self.new.inode_count ≡ self.old.inode_count }

@@ -7,6 +7,7 @@ use Rattle.kernel.specs.Next.{Next}
 use Rattle.kernel.proofs.Bounds.{takes_one, moved_well}
 use Rattle.kernel.proofs.Progressing.{GoesOn, state_goes}
 use Rattle.kernel.proofs.Sharing.{gives_none}
+use Rattle.kernel.proofs.Locks.{waits_for}
 use Rattle.kernel.proofs.stepping.Kernel.step.Goals as goal
 
 -- what each step keeps
@@ -45,3 +46,11 @@ returns-clause-bound g c moved =
 
 pub returns-clause-others : goal.returns-clause-others
 returns-clause-others g c = gives_none g.D.Disk.image _ c.args.self.now c.go_on-answer.new.self c.args.pid _ _ _ c.go_on-answer.result c.self.view_is c.known-2.ensures c.self.invariant.table c.go_on-answer.ensures.next
+
+pub returns-clause-held : goal.returns-clause-held
+returns-clause-held g c asleep =
+    let image = g.D.Disk.image in
+    let k = c.args.self.now in
+    let new = c.go_on-answer.new.self in
+    waits_for image _ k new c.args.pid _ _ _ c.self.view_is c.self.invariant.table
+    (subst (λ r. Next (image k.volume.device) k.inode_count k.volume k.world c.args.pid (g.I.Intake.side k.intake c.args.pid).ahead (g.I.Intake.side new.intake c.args.pid) (g.H.Herald.told new.herald) r (image new.volume.device) new.volume new.world) asleep c.go_on-answer.ensures.next)
