@@ -55,7 +55,8 @@ pub fn replay<R: Files + AllocGlobal, O: Write>(
 }
 
 /// Makes the turns of the words over a disk that had counted `base` writes before them, and prints
-/// what they came to. The write of number `stop` isn't made.
+/// what they came to. The write of number `stop` isn't made. The processes that the words name are
+/// the player's.
 ///
 /// # Errors
 ///

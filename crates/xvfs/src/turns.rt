@@ -74,7 +74,8 @@ pub fn open_player<D: Disk + Drop>(
 }
 
 impl<D: Disk + Drop> Player<D> {
-    /// Makes the turn of a word, where the write of number `stop` isn't made.
+    /// Makes the turn of a word, where the write of number `stop` isn't made. The process that the
+    /// word names is one of the kernel's.
     pub fn turn(&mut self, word: Word, stop: u64) -> Event
         requires { IsTrue (is_word_of (length self.old.kernel.world.processes) word) }
         ensures turn { IsTurnOf stop word result }
