@@ -5,7 +5,7 @@ use Rattle.std.proofs.lemmas.List.{get_or-set_other, get_or_past}
 use Rattle.bcache.specs.Buffers.{Buffers}
 use Rattle.wal.specs.declared.types.Commit.{Commit}
 use Rattle.wal.specs.declared.types.Commit.TheVariants as commit
-use Rattle.wal.specs.Machine.{LogState, used_by, is_quiet, is_among, begin_cause, begun, noted, appended, one_used, ended, closed, left_by, IsLogAt, IsLog}
+use Rattle.wal.specs.Machine.{LogState, used_by, is_quiet, is_among, begin_cause, begun, noted, appended, one_used, ended, closed, left_by, IsLogAt, IsLog, Counts}
 use Rattle.wal.specs.Joint.{written_at}
 use Rattle.wal.proofs.Groups.{let_in, is_open, quiet_of}
 use Rattle.kernel.specs.declared.types.At.{At}
@@ -101,3 +101,14 @@ counts_noted l p b = by_home (is_among b l.homes)
     by_home : (t : Bool) → ((cond t l (appended l p b)).opened ≡ l.opened) × ((cond t l (appended l p b)).committed ≡ l.committed)
     by_home true = (refl, refl)
     by_home false = (refl, refl)
+
+-- where no operation is open and no commit under way, all groups are committed
+pub settled : (l : LogState) → IsLogAt l.commit l → l.outstanding ≡ 0 → is_quiet l.commit ≡ true → l.committed ≡ l.opened
+settled l is none quiet = by_phase l.commit is.counts quiet
+  where
+    by_phase : (k : Commit) → Counts k l → is_quiet k ≡ true → l.committed ≡ l.opened
+    by_phase commit.Quiet counts quiet = omega (arith, counts, none)
+    by_phase (commit.Logging j) counts quiet = absurd (false≢true quiet)
+    by_phase commit.Heading counts quiet = absurd (false≢true quiet)
+    by_phase (commit.Homing j) counts quiet = absurd (false≢true quiet)
+    by_phase commit.Clearing counts quiet = absurd (false≢true quiet)

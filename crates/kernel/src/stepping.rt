@@ -72,6 +72,7 @@ impl<D: Disk, I: Intake, H: Herald> Kernel<D, I, H> {
     ghost use Rattle.std.specs.List.{filter};
     ghost use Rattle.model.specs.Files.{files_of};
     ghost use Rattle.model.specs.Journal.{kept, own, replay, answered as answered_of, is_changing};
+    ghost use Rattle.wal.specs.Machine.{is_quiet};
     ghost use Rattle.wal.specs.Joint.{seen, place_at};
     ghost use Rattle.model.specs.Verdict.{verdict};
     ghost use Rattle.kernel.specs.Histories.{HasHistory, IsHistory};
@@ -102,10 +103,11 @@ impl<D: Disk, I: Intake, H: Herald> Kernel<D, I, H> {
         ensures current { IfNone self.now.volume.fault (HasFilesAfter (D.image self.now.opening) (kept (inode_count_of (D.image self.now.opening)) self.now.world.journal.list self.now.volume.log.opened) (cleared (seen (D.image self.now.volume.device) self.now.volume.buffers))) }
         ensures files { IfNone self.now.volume.fault (replay (form_of (D.image self.now.opening)) (files_of (D.image self.now.opening)) (answered_of self.now.world.journal.list) ≡ Some (files_of (cleared (seen (D.image self.now.volume.device) self.now.volume.buffers)))) }
         ensures journal { IsJournal (D.image self.now.opening) self.now.volume.log.opened self.now.world.journal.list }
+        ensures settled { IfNone self.now.volume.fault (self.now.volume.log.outstanding ≡ 0 → is_quiet self.now.volume.log.commit ≡ true → self.now.volume.log.committed ≡ self.now.volume.log.opened) }
         ensures histories { (p : ℕ) → HasHistory (I.fits self.now.intake) self.now.world p }
         ensures beginnings { (p c : ℕ) (h : History) → IsHistory self.now.world p h → IsPrefix (map (λ e. e.op) (own p (kept (inode_count_of (D.image self.now.opening)) self.now.world.journal.list c))) (filter (is_changing (inode_count_of (D.image self.now.opening))) h.taken) }
     {
-        let _ = &self.volume;
+        self.volume.known();
     }
 
     /// One step of a process: the next of its operation, or the beginning of the one that waits. The

@@ -1,4 +1,4 @@
-use Rattle.std.proofs.Common.{length, ℕ, sym, subst, ◌≡◌, ◌∙◌, Some}
+use Rattle.std.proofs.Common.{true, length, ℕ, sym, subst, ◌≡◌, ◌∙◌, Some}
 use Rattle.std.specs.Prelude.{IfNone, map}
 use Rattle.std.specs.List.{filter}
 use Rattle.blocks.specs.Disk.{Image}
@@ -12,7 +12,9 @@ use Rattle.ports.specs.History.{History}
 use Rattle.kernel.specs.Histories.{HasHistory, IsHistory}
 use Rattle.kernel.specs.Keeps.{HasFilesAfter, cleared, IsJournal, KeepsNow}
 use Rattle.kernel.specs.State.{State}
+use Rattle.wal.specs.Machine.{is_quiet}
 use Rattle.kernel.proofs.Commits.{if_well}
+use Rattle.kernel.proofs.Logging.{settled}
 use Rattle.kernel.proofs.Openings.{opens_again}
 use Rattle.kernel.proofs.Journals.{kept_of_taken}
 use Rattle.kernel.proofs.stepping.Kernel.known.Goals as goal
@@ -32,6 +34,8 @@ returns g c =
       files = subst (λ (k : State _ _ _). IfNone k.volume.fault (replay (form_of (image k.opening)) (files_of (image k.opening)) (answered k.world.journal.list) ≡ Some (files_of (cleared (seen (image k.volume.device) k.volume.buffers))))) c.self.view_is
           (if_well c.self.inside.volume.fault (λ r. c.self.invariant.journal.whole ∙ r.current.files) c.self.invariant.recovers);
       journal = subst (λ (k : State _ _ _). IsJournal (image k.opening) k.volume.log.opened k.world.journal.list) c.self.view_is c.self.invariant.journal;
+      settled = subst (λ (k : State _ _ _). IfNone k.volume.fault (k.volume.log.outstanding ≡ 0 → is_quiet k.volume.log.commit ≡ true → k.volume.log.committed ≡ k.volume.log.opened)) c.self.view_is
+          (if_well c.self.inside.volume.fault (λ j none quiet. settled c.self.inside.volume.log j.log none quiet) c.known.ensures);
       histories = subst (λ (k : State _ _ _). (p : ℕ) → HasHistory (g.I.Intake.fits k.intake) k.world p) c.self.view_is c.self.invariant.histories;
       beginnings = subst (λ (k : State _ _ _). (p groups : ℕ) (h : History) → IsHistory k.world p h → IsPrefix (map (λ (e : Entry). e.op) (own p (kept (inode_count_of (image k.opening)) k.world.journal.list groups))) (filter (is_changing (inode_count_of (image k.opening))) h.taken)) c.self.view_is
           (λ p groups h is. kept_of_taken _ _ p groups _ h.taken _ c.self.invariant.journal is.taken);
