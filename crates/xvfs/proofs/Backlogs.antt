@@ -1,8 +1,10 @@
 -- An operation more in a process's backlog.
-use Rattle.std.proofs.Common.{◌≡◌, ℕ, ◌<◌, Bool, true, false, List, [], ◌∷◌, ◌++◌, length, set, Some, sym, ap, ◌∙◌, ⊎_elim, append-nil}
+use Rattle.std.proofs.Common.{◌≡◌, ℕ, ◌<◌, Bool, true, false, List, [], ◌∷◌, ◌++◌, length, set, Some, refl, sym, ap, ◌∙◌, ⊎_elim, append-nil}
 use Rattle.std.specs.Prelude.{slice_get, if◌then◌else◌, ◌==◌}
 use Rattle.std.proofs.lemmas.Bool.Decides.{eqb_tells}
 use Rattle.std.proofs.lemmas.List.{flat_map_more}
+use Rattle.ports.specs.Queues.{OthersWait}
+use Rattle.ports.specs.declared.queues.QueueIntake.{QueueIntake}
 use Rattle.ports.proofs.LaneLemmas.{slice_get-set_here, slice_get-set_other}
 use Rattle.model.specs.declared.types.Op.{Op}
 use Rattle.scripts.specs.declared.script.Task.{Task}
@@ -30,3 +32,13 @@ one_added backlogs b new tasks task p within here added before =
     let stays : backlog_at (set backlogs task.pid new) p ≡ backlog_at backlogs p = ap backlog_in (slice_get-set_other backlogs task.pid p new (λ e. other.1 (sym e))) in
     stays ∙ before ∙ sym (append-nil (ops_of p tasks)) ∙ ap (λ ops. ops_of p tasks ++ ops) (sym (none_if (task.pid == p) task.op other.0)) ∙ more_ops p tasks task)
     (eqb_tells task.pid p)
+
+-- the other processes' queues stay, in no call, and in one call more
+pub waits_none : (a : QueueIntake) (p : ℕ) → OthersWait a a p
+waits_none a p q apart = (refl, refl, refl)
+
+pub waits_then : (a b c : QueueIntake) (p : ℕ) → OthersWait a b p → OthersWait b c p → OthersWait a c p
+waits_then a b c p first second q apart =
+    let one = first q apart in
+    let two = second q apart in
+    (two.0 ∙ one.0, two.1 ∙ one.1, two.2 ∙ one.2)

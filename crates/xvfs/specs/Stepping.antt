@@ -5,8 +5,8 @@ use Rattle.blocks.specs.declared.errors.DiskFault.{DiskFault}
 use Rattle.blocks.specs.Disk.{Image}
 use Rattle.blocks.specs.FaultyDisk.{has_fired}
 use Rattle.blocks.specs.declared.faulty.FaultyDisk.{FaultyDisk}
-use Rattle.ports.specs.History.{first_in}
-use Rattle.ports.specs.Queues.{waiting, answers, queue_side}
+use Rattle.ports.specs.History.{OthersStay, SameNames, first_in}
+use Rattle.ports.specs.Queues.{waiting, answers, polled, queue_side, OthersWait}
 use Rattle.ports.specs.declared.herald.PlainHerald.{PlainHerald}
 use Rattle.ports.specs.declared.queues.QueueIntake.{QueueIntake}
 use Rattle.scripts.specs.declared.schedule.Word.{Word}
@@ -36,6 +36,9 @@ pub record MakesStep {D : Type 0} (image : D → Image) (p : ℕ) (r : Step) (k 
   pub next : Next (image k.volume.device) k.inode_count k.volume k.world p (waiting k.intake p) (queue_side m.intake p) false r (image m.volume.device) m.volume m.world
   pub opening : m.opening ≡ k.opening
   pub inode_count : m.inode_count ≡ k.inode_count
+  -- the other processes' queues stay, and no answer is polled
+  pub others : OthersStay (queue_side k.intake) (queue_side m.intake) p
+  pub unpolled : SameNames (polled k.intake) (polled m.intake)
 
 -- n steps of process p, each of which moves, make m of k
 unfoldable pub Moves : {D : Type 0} → (D → Image) → ℕ → ℕ → Plain D → Plain D → Type 0
@@ -50,18 +53,20 @@ pub record MakesSteps {D : Type 0} (image : D → Image) (most p : ℕ) (r : Ste
   pub ends : ((r ≢ step.Moved) × (moved < most) × MakesStep image p r mid m) ⊎ ((r ≡ step.Moved) × (moved ≡ most) × (m ≡ mid))
 
 -- Operations of process p went from the front of its backlog to the end of its queue, until none was left, or the queue was full, or no number was left. No other
--- backlog changed, and nothing of the kernel but its queues.
+-- process's backlog or queue changed, and nothing else of the kernel.
 pub record HandsIn {D : Type 0} (p : ℕ) (k : Plain D) (b : List Backlog) (m : Plain D) (c : List Backlog) : Type 0 where
   pub order : waiting m.intake p ++ backlog_at c p ≡ waiting k.intake p ++ backlog_at b p
   pub all : HasHandedIn p m (backlog_at c p)
   pub unpolled : answers m.intake p ≡ answers k.intake p
   pub others : (q : ℕ) → q ≢ p → backlog_at c q ≡ backlog_at b q
+  pub queues : OthersWait k.intake m.intake p
   pub same : m ≡ record k { intake = m.intake }
 
--- the oldest answer of process p was taken, if there was one, and nothing of the kernel changed but its queues
+-- the oldest answer of process p was taken, if there was one, and nothing else of the kernel changed
 pub record Polls {D : Type 0} (p : ℕ) (k m : Plain D) : Type 0 where
   pub oldest : answers k.intake p ≡ option_to_list (first_in (answers k.intake p)) ++ answers m.intake p
   pub untaken : waiting m.intake p ≡ waiting k.intake p
+  pub queues : OthersWait k.intake m.intake p
   pub same : m ≡ record k { intake = m.intake }
 
 -- The turn of process p: its operations are handed in, its steps are made, and the event tells what they came to.

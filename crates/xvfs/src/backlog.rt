@@ -1,6 +1,6 @@
 // The operations that wait to be handed in.
 ghost use Rattle.std.specs.Prelude.{◌≡◌, ◌<◌, ◌∷◌, [], ◌++◌, All, length, None, IfOk, IfNone, OnOk, option_to_list, ℕ};
-ghost use Rattle.ports.specs.Queues.{waiting, answers};
+ghost use Rattle.ports.specs.Queues.{waiting, answers, OthersWait};
 ghost use Rattle.xvfs.specs.Backlog.{backlog_of, backlog_at, ops_of, HasHandedIn};
 
 use blocks::Disk;
@@ -44,11 +44,13 @@ impl Backlog {
 
     /// Hands in the next operations of a process of a kernel, as many as its queue takes. What waits
     /// there and what is still to be handed in stays the same list.
+    #[tactic(auto, using(crate::proofs::Backlogs::waits_none, crate::proofs::Backlogs::waits_then))]
     pub fn hand_in<D: Disk, H: Herald>(&mut self, kernel: &mut Kernel<D, QueueIntake, H>, pid: u32)
         requires { pid < length kernel.old.world.processes }
         ensures order { waiting kernel.new.intake pid ++ backlog_of self.new ≡ waiting kernel.old.intake pid ++ backlog_of self.old }
         ensures all { HasHandedIn pid kernel.new (backlog_of self.new) }
         ensures unpolled { answers kernel.new.intake pid ≡ answers kernel.old.intake pid }
+        ensures others { OthersWait kernel.old.intake kernel.new.intake pid }
         ensures same { kernel.new ≡ record kernel.old { intake = kernel.new.intake } }
     {
         for _place in 0..PLACES {

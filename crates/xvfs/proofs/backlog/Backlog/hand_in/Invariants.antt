@@ -1,5 +1,5 @@
 use Rattle.std.proofs.Common.{◌≡◌, ◌≤◌, ◌++◌, length}
-use Rattle.ports.specs.Queues.{waiting, answers}
+use Rattle.ports.specs.Queues.{waiting, answers, OthersWait}
 use Rattle.xvfs.specs.Backlog.{backlog_of}
 use Rattle.xvfs.proofs.backlog.Backlog.hand_in.Given as goal
 
@@ -8,5 +8,6 @@ invariant-loop-place g l = record {
   order : waiting l.kernel.intake l.pid ++ backlog_of l.self ≡ waiting l.initial.kernel.intake l.pid ++ backlog_of l.initial.self;
   count : l._place ≤ length (waiting l.kernel.intake l.pid);
   unpolled : answers l.kernel.intake l.pid ≡ answers l.initial.kernel.intake l.pid;
+  others : OthersWait l.initial.kernel.intake l.kernel.intake l.pid;
   same : l.kernel ≡ record l.initial.kernel { intake = l.kernel.intake };
 }
