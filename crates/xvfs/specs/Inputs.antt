@@ -5,6 +5,7 @@ use Rattle.model.specs.declared.types.Op.TheVariants.{Create, Write, Read, Trunc
 use Rattle.scripts.specs.declared.script.Task.{Task}
 use Rattle.scripts.specs.declared.script.ScriptFault.{ScriptFault}
 use Rattle.scripts.specs.declared.script.ScriptFault.TheVariants.{NotYet}
+use Rattle.scripts.specs.declared.script.ScriptFault.TheVariants as script_is
 use Rattle.scripts.specs.Script.{tasks_of, fault_of}
 use Rattle.scripts.specs.declared.schedule.ScheduleFault.{ScheduleFault}
 use Rattle.scripts.specs.declared.schedule.ScheduleFault.TheVariants as schedule_fault
@@ -31,6 +32,18 @@ fault_or None other = other
 -- why a text is no script of creations: it is none, else the first operation that is no creation
 abbrev pub script_fault : List ℕ → Option ScriptFault
 script_fault text = fault_or (fault_of text) (option_map NotYet (first_other (tasks_of text)))
+
+-- these are the operations of a text, which is a script of creations
+abbrev pub IsScriptOf : List ℕ → List Task → Type 0
+IsScriptOf text tasks = (script_fault text ≡ None) × (tasks ≡ tasks_of text)
+
+-- a script's file gave no bytes
+abbrev pub IsUnreadScript : ScriptFault → Type 0
+IsUnreadScript script_is.NoMemory = ⊤
+IsUnreadScript script_is.File = ⊤
+IsUnreadScript script_is.TooLarge = ⊥
+IsUnreadScript (script_is.BadLine line) = ⊥
+IsUnreadScript (script_is.NotYet line) = ⊥
 
 -- these are the words of a text, each of which is one, for so many processes
 abbrev pub IsScheduleOf : ℕ → List ℕ → List Word → Type 0

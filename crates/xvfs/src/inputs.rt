@@ -4,7 +4,7 @@ ghost use Rattle.std.specs.List.{list_all};
 ghost use Rattle.std.specs.IoError.{error_kind};
 ghost use Rattle.scripts.specs.Schedule.{fault_of, is_word_of};
 ghost use Rattle.scripts.specs.Script.{tasks_of};
-ghost use Rattle.xvfs.specs.Inputs.{IsScheduleOf, IsUnread, is_creation, first_other, script_fault};
+ghost use Rattle.xvfs.specs.Inputs.{IsScheduleOf, IsScriptOf, IsUnread, IsUnreadScript, is_creation, first_other, script_fault};
 
 use model::types::Op;
 use scripts::{
@@ -24,6 +24,8 @@ use std::rt::Files;
 /// `File` where the file can't be read; else a fault of `read_script`; else `NotYet` with the first
 /// line whose operation is no creation.
 pub fn script_from<R: Files + AllocGlobal>(rt: &R, path: &str) -> Result<Vec<Task>, ScriptFault>
+    ensures tasks { IfOk result (λ tasks. (text : List ℕ) × IsScriptOf text tasks.items) }
+    ensures fault { IfErr result (λ fault. IsUnreadScript fault ⊎ ((text : List ℕ) × (script_fault text ≡ Some fault))) }
     ensures processes { IfOk result (λ tasks. All (λ task. task.pid < 32) tasks.items) }
     ensures creations { IfOk result (λ tasks. first_other tasks.items ≡ None) }
 {
