@@ -156,6 +156,18 @@ IsOfRecover (Recover _) = ⊤
 IsOfRecover Output = ⊤
 IsOfRecover _ = ⊥
 
+-- those of `replay`: of its three files, of the image, of the recovery, of the kernel's opening, of the disk, or of the output
+abbrev pub IsOfReplay : Refusal → Type 0
+IsOfReplay (Script _) = ⊤
+IsOfReplay (Schedule _) = ⊤
+IsOfReplay (File _) = ⊤
+IsOfReplay (Check _) = ⊤
+IsOfReplay (Recover _) = ⊤
+IsOfReplay (Open _) = ⊤
+IsOfReplay (Disk _) = ⊤
+IsOfReplay Output = ⊤
+IsOfReplay _ = ⊥
+
 -- those of the words and lines that the program is given
 abbrev pub IsOfInput : Refusal → Type 0
 IsOfInput (Input _) = ⊤

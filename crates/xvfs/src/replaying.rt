@@ -7,6 +7,7 @@ ghost use Rattle.scripts.specs.declared.schedule.Word.{Word};
 ghost use Rattle.scripts.specs.Schedule.{is_word_of};
 ghost use Rattle.xvfs.specs.declared.refusal.Refusal.TheVariants as refusal;
 ghost use Rattle.xvfs.specs.Output.{counts_text};
+ghost use Rattle.xvfs.specs.Refusal.{IsOfReplay};
 ghost use Rattle.xvfs.specs.Stepping.{PlaysTo, RunsTo, fault_in};
 ghost use Rattle.xvfs.specs.Turns.{PrintsRun, OnRefusal, told_fault};
 
@@ -41,6 +42,7 @@ pub fn replay<R: Files + AllocGlobal, O: Write>(
     out: &mut O,
 ) -> Result<(), Refusal>
     ensures printed { OnOk result ((words : List Word) × PrintsRun (unwrap_or stop 0) words (O.contents out.old) (O.contents out.new)) }
+    ensures layers { IfErr result IsOfReplay }
     ensures refused { IfErr result (λ r. OnRefusal r ((words : List Word) × PrintsRun (unwrap_or stop 0) words (O.contents out.old) (O.contents out.new)) (out.new ≡ out.old)) }
 {
     let tasks = script_from(rt, script)?;
