@@ -222,7 +222,8 @@ table_claimed c l n p group i b bytes m op reply w table is cache lt stands slot
       opened = let more = one_longer w.journal.list (entry_of w p op group reply) in omega (arith, kept, more, table.counted.opened, opened_noted l p b);
     })
 
-ended_opened : (l : LogState) (p : ℕ) → (ended l p).opened ≡ l.opened
+-- the end of an operation opens no group
+pub ended_opened : (l : LogState) (p : ℕ) → (ended l p).opened ≡ l.opened
 ended_opened l p = by_last (eqb l.outstanding 1) (eqb (length l.homes) 0)
   where
     by_last : (s t : Bool) → (cond s (cond t (record (left_by l p) { committed = l.opened }) (record (left_by l p) { commit = commit.Logging 0 })) (left_by l p)).opened ≡ l.opened
@@ -300,7 +301,7 @@ table_commits c l n p group reply w table is lt stands last =
       opened = omega (arith, ended_opened l p, table.counted.opened);
     })
 
-written_same : (k : Commit) (l : LogState) → ((written_at k l).used ≡ l.used) × ((written_at k l).opened ≡ l.opened)
+pub written_same : (k : Commit) (l : LogState) → ((written_at k l).used ≡ l.used) × ((written_at k l).opened ≡ l.opened)
 written_same commit.Quiet l = (refl, refl)
 written_same (commit.Logging j) l = (refl, refl)
 written_same commit.Heading l = (refl, refl)

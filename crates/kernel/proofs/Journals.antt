@@ -34,9 +34,6 @@ journal_none opening = record {
 answered_more : (es : List Entry) (e : Entry) → is_some e.reply ≡ true → answered (es ++ e ∷ []) ≡ answered es ++ e ∷ []
 answered_more es e has = filter-append (λ (f : Entry). is_some f.reply) es (e ∷ []) ∙ ap (λ t. answered es ++ cond t (e ∷ []) []) has
 
-replay_one_more : (form : Form) (files : Files) (es : List Entry) (e : Entry) → replay form files (es ++ e ∷ []) ≡ and_then (replay form files es) (λ f. replay form f (e ∷ []))
-replay_one_more form files es e = replays_in_parts form files es (e ∷ [])
-
 -- an entry that changes no file leaves what was replayed
 still_after : (form : Form) (o : Option Files) (e : Entry) → ((f : Files) → after_answer form f e.op e.reply ≡ Some f) → and_then o (λ f. replay form f (e ∷ [])) ≡ o
 still_after form None e still = refl
@@ -73,7 +70,7 @@ module _ (opening : Image) (k : ℕ) (es : List Entry) (j : IsJournal opening k 
     groups = up_to_one_more k es e j.groups (omega (arith, none));
     order = beginnings_still numbers k es e not j.order;
     changing = changing_more e (ap (λ (g : ℕ). ltb 0 g) none ∙ sym not);
-    whole = ap (replay (form_of opening) (files_of opening)) (answered_more es e has) ∙ replay_one_more (form_of opening) (files_of opening) (answered es) e
+    whole = ap (replay (form_of opening) (files_of opening)) (answered_more es e has) ∙ replays_in_parts (form_of opening) (files_of opening) (answered es) (e ∷ [])
         ∙ still_after (form_of opening) (replay (form_of opening) (files_of opening) (answered es)) e still ∙ j.whole ∙ ap (replay (form_of opening) (files_of opening)) (sym (kept_still numbers k es e not));
   }
 
@@ -83,9 +80,9 @@ module _ (opening : Image) (k : ℕ) (es : List Entry) (j : IsJournal opening k 
     groups = up_to_one_more k es e j.groups (omega (arith, group));
     order = beginnings_more numbers k es e j.groups changing group j.order;
     changing = changing_more e (lt-ltb 0 e.group (omega (arith, group, some)) ∙ sym changing);
-    whole = ap (replay (form_of opening) (files_of opening)) (answered_more es e has) ∙ replay_one_more (form_of opening) (files_of opening) (answered es) e
+    whole = ap (replay (form_of opening) (files_of opening)) (answered_more es e has) ∙ replays_in_parts (form_of opening) (files_of opening) (answered es) (e ∷ [])
         ∙ ap (λ (o : Option Files). and_then o (λ f. replay (form_of opening) f (e ∷ []))) j.whole
-        ∙ sym (ap (replay (form_of opening) (files_of opening)) (kept_more numbers k es e changing (omega (arith, group))) ∙ replay_one_more (form_of opening) (files_of opening) (kept numbers es k) e);
+        ∙ sym (ap (replay (form_of opening) (files_of opening)) (kept_more numbers k es e changing (omega (arith, group))) ∙ replays_in_parts (form_of opening) (files_of opening) (kept numbers es k) (e ∷ []));
   }
 
 -- what is kept of all groups are the operations of the process that may change a file

@@ -35,6 +35,7 @@ use Rattle.kernel.specs.Keeps.{AreUpTo, IsJournal, KeepsNow, Recovers}
 use Rattle.kernel.specs.Processes.{World, process, with_place, creating, refused, searching, turned, made_reply}
 use Rattle.kernel.specs.State.{waiting_of}
 use Rattle.kernel.specs.Table.{IsSearching, Stands, IsTable}
+use Rattle.kernel.proofs.Events.{ended_opened}
 use Rattle.kernel.proofs.Logging.{open_now}
 use Rattle.kernel.proofs.Journals.{journal_later, journal_same, journal_still, journal_more, refusal_still}
 use Rattle.kernel.proofs.Recovers.{keeps_now, log_goes, log_same, buffers_go, entry_still, turn_none, turn_made, closes_empty}
@@ -109,15 +110,6 @@ list_created p group search w y z kept goes = ap (λ (o : World). o.journal.list
 
 list_refused : (p : ℕ) (op : Op) (w y z : World) → y ≡ with_place w → z ≡ refused y p op → z.journal.list ≡ (refused (with_place w) p op).journal.list
 list_refused p op w y z kept goes = ap (λ (o : World). o.journal.list) (goes ∙ ap (λ (o : World). refused o p op) kept)
-
--- the end of an operation opens no group
-ended_opened : (l : LogState) (p : ℕ) → (ended l p).opened ≡ l.opened
-ended_opened l p = by_last (eqb l.outstanding 1) (eqb (length l.homes) 0)
-  where
-    by_last : (s t : Bool) → (cond s (cond t (record (left_by l p) { committed = l.opened }) (record (left_by l p) { commit = commit.Logging 0 })) (left_by l p)).opened ≡ l.opened
-    by_last true true = refl
-    by_last true false = refl
-    by_last false t = refl
 
 module _ (opening : Image) (l : LogState) (w z : World) (j : IsJournal opening l.opened w.journal.list) where
   pub journal_created : (p group : ℕ) (search : Ialloc) (y : World) → y ≡ with_place w → z ≡ creating y p group search → IsJournal opening (begun l p).opened z.journal.list

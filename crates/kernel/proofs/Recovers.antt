@@ -29,6 +29,7 @@ use Rattle.wal.proofs.Copies.{none_cleared}
 use Rattle.inodes.specs.Creation.{HasCreated}
 use Rattle.kernel.specs.Keeps.{HasFilesAfter, cleared, most_kept, KeepsBetween, KeepsNow, Recovers, AreUpTo}
 use Rattle.kernel.proofs.Kept.{kept-append, kept_up_to, kept_not_yet, kept_still, kept_more}
+use Rattle.kernel.proofs.Events.{written_same}
 use Rattle.kernel.proofs.FilesAfter.{after_elsewhere, after_no_inode, after_created}
 
 -- an image that has files is as long as its log
@@ -67,14 +68,7 @@ keeps_now u l opening x c es same r =
 
 -- no write of a commit opens a group
 pub written_opened : (l m : LogState) → m ≡ written_at l.commit l → m.opened ≡ l.opened
-written_opened l m is = ap (λ (o : LogState). o.opened) is ∙ by_phase l.commit
-  where
-    by_phase : (k : Commit) → (written_at k l).opened ≡ l.opened
-    by_phase commit.Quiet = refl
-    by_phase (commit.Logging j) = refl
-    by_phase commit.Heading = refl
-    by_phase (commit.Homing j) = refl
-    by_phase commit.Clearing = refl
+written_opened l m is = ap (λ (o : LogState). o.opened) is ∙ (written_same l.commit l).1
 
 module _ (opening x : Image) (c : Buffers) (l : LogState) (es : List Entry) (r : Recovers opening x c l es) where
   abbrev n : ℕ

@@ -4,7 +4,7 @@ use Rattle.std.specs.Option.{option_map}
 use Rattle.std.specs.Prelude.{Result, Ok, Err, IfOk, OnErr}
 use Rattle.std.proofs.lemmas.Bool.{cases_eq, eq-eqb, ne_eqb, false≢true}
 use Rattle.std.specs.List.{range_with_len}
-use Rattle.std.proofs.lemmas.List.{append-nil, length-append, length-map, map-append}
+use Rattle.std.proofs.lemmas.List.{append-nil, length-append, length-map, map-append, map-id}
 use Rattle.std.proofs.lemmas.List.FromFn.{map-range_with_len_more}
 use Rattle.std.proofs.lemmas.List.Elements.{filter-append}
 use Rattle.blocks.specs.Disk.{Image, block_at}
@@ -46,11 +46,7 @@ numbers_stay es fs same numbered = subst AreNumbered (sym same) numbered
 
 -- one more number at the end
 range_more : (a n : ℕ) → range_with_len a (n + 1) ≡ range_with_len a n ++ (a + n) ∷ []
-range_more a n = sym (map-same (range_with_len a (n + 1))) ∙ map-range_with_len_more (λ (k : ℕ). k) a n (a + n) refl ∙ ap (λ (l : List ℕ). l ++ (a + n) ∷ []) (map-same (range_with_len a n))
-  where
-    map-same : (ns : List ℕ) → map (λ (k : ℕ). k) ns ≡ ns
-    map-same [] = refl
-    map-same (k ∷ ns) = ap (λ (l : List ℕ). k ∷ l) (map-same ns)
+range_more a n = sym (map-id (range_with_len a (n + 1))) ∙ map-range_with_len_more (λ (k : ℕ). k) a n (a + n) refl ∙ ap (λ (l : List ℕ). l ++ (a + n) ∷ []) (map-id (range_with_len a n))
 
 -- an entry more that has the next number
 numbers_more : (es fs : List Entry) (e : Entry) → fs ≡ es ++ e ∷ [] → e.seq ≡ length es + 1 → AreNumbered es → AreNumbered fs
