@@ -1,3 +1,4 @@
 pub mod BlockLemmas
 mod Kept
 pub mod Moments
+mod TrapLemmas

@@ -1,5 +1,5 @@
 -- What the calls of a disk do to its image, its counts, and what a crash may leave.
-use Rattle.std.specs.Prelude.{◌≡◌, ◌⊎◌, ◌-◌, ◌^◌, ℕ, ◌+◌, ◌<◌, ◌≤◌, min, List, [], length, slice_index_or, slice_set, Result, MatchResult}
+use Rattle.std.specs.Prelude.{◌≡◌, ◌⊎◌, ◌-◌, ◌^◌, ℕ, zero, suc, ◌+◌, ◌<◌, ◌≤◌, min, List, [], length, slice_index_or, slice_set, Result, MatchResult}
 use Rattle.blocks.specs.Block.{IsBlock}
 
 -- the blocks of a disk, each as its bytes
@@ -17,6 +17,11 @@ IsImage x = (b : ℕ) → b < length x → IsBlock (block_at x b)
 -- a count after one more, which stays at the limit
 abbrev pub one_more : ℕ → ℕ
 one_more n = min (n + 1) (2 ^ 64 - 1)
+
+-- a count after that many more
+abbrev pub counted : ℕ → ℕ → ℕ
+counted old zero = old
+counted old (suc n) = one_more (counted old n)
 
 -- a count that never passes the limit is greater than before, or stands at the limit
 abbrev pub Rose : ℕ → ℕ → Type 0

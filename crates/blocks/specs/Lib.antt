@@ -1,7 +1,9 @@
 pub mod Block
 pub mod Disk
+pub mod Calls
 pub mod Past
 pub mod Images
+pub mod Trap
 pub mod FaultyDisk
 pub mod File
 pub mod FileDisk

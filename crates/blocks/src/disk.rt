@@ -11,6 +11,12 @@ use crate::{Block, DiskFault};
 /// Besides the blocks that reads give, contracts see what a crash may leave. A write that is cut
 /// off leaves its block as it was or as handed in, whole.
 pub trait Disk {
+    /// What tells a disk from others. No value of it is made.
+    type Name;
+
+    /// Which disk it is. Every call keeps it.
+    ghost name: { Self → Self.Name };
+
     /// The blocks that reads give.
     ghost image: { Self → Image };
 
@@ -48,6 +54,7 @@ pub trait Disk {
         requires { block < length (image self.old) }
         ensures ok { OnOk result (slice_get (image self.old) block ≡ Some into.new) }
         ensures fault { IfErr result (λ fault. fault.0 ≡ block) }
+        ensures name { name self.new ≡ name self.old }
         ensures image { image self.new ≡ image self.old }
         ensures writes { write_count self.new ≡ write_count self.old }
         ensures faults { CountsFault result (fault_count self.old) (fault_count self.new) }
@@ -64,6 +71,7 @@ pub trait Disk {
         ensures ok { OnOk result (image self.new ≡ slice_set (image self.old) block from.now) }
         ensures err { OnErr result (IsOldOrNew (image self.old) block from.now (image self.new)) }
         ensures fault { IfErr result (λ fault. fault.0 ≡ block) }
+        ensures name { name self.new ≡ name self.old }
         ensures writes { CountsSuccess result (write_count self.old) (write_count self.new) }
         ensures faults { CountsFault result (fault_count self.old) (fault_count self.new) }
         ensures time { Elapses (moment self.old) (moment self.new) (leaves self.old) (leaves self.new) }

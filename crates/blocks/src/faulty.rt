@@ -1,6 +1,8 @@
 // A disk of which one call fails.
-ghost use Rattle.std.specs.Prelude.{◌≡◌, ◌≢◌, ◌<◌, ◌≤◌, ◌^◌, ◌-◌, ◌⊎◌, ◌↔◌, length, slice_get, slice_set, Some, IsTrue, IsErr, IfErr, OnOk, OnErr};
+ghost use Rattle.std.specs.Prelude.{◌≡◌, ◌≢◌, ◌<◌, ◌≤◌, ◌^◌, ◌-◌, ◌⊎◌, ◌↔◌, ◌||◌, length, slice_get, slice_set, Some, IsTrue, IsErr, IfErr, OnOk, OnErr};
 ghost use Rattle.blocks.specs.Disk.{one_more, CountsFault, CountsSuccess, IsOldOrNew, Elapses, AddsNone, LeavesOldOrNew};
+ghost use Rattle.blocks.specs.Calls.{WritesOne};
+ghost use Rattle.blocks.specs.Trap.{KeepsCounts, is_due, is_write, left_after};
 
 use crate::{Block, Disk, DiskFault};
 
@@ -15,28 +17,55 @@ pub enum Kind {
     WriteNew,
 }
 
+impl Kind {
+    // Whether it counts writes.
+    fn is_write(self) -> bool
+        ensures { result ≡ is_write self }
+    {
+        match self {
+            Kind::Read => false,
+            Kind::WriteOld | Kind::WriteNew => true,
+        }
+    }
+}
+
+/// Which call of a `FaultyDisk` fails, and what its counts were when it was made.
+#[derive(Clone, Copy, Debug, PartialEq, Eq)]
+pub struct Trap {
+    /// Which calls are counted.
+    pub kind: Kind,
+    /// The number of the call that fails, from 1; none does where this is 0.
+    pub nth: u64,
+    /// The writes that the disk had counted.
+    pub writes: u64,
+    /// The faults that it had counted.
+    pub faults: u64,
+}
+
 /// A disk over another, of which one call fails: the nth read, or the nth write. It shows the
 /// layers above how they take a fault in any place.
 #[derive(Drop)]
 pub struct FaultyDisk<D> {
     inner: D,
-    kind: Kind,
+    trap: Trap,
     left: u64,
     fired: bool,
     writes: u64,
     faults: u64,
+    ghost counts: { KeepsCounts trap left fired writes faults },
     ghost writes_fit: { writes < 2 ^ 64 },
     ghost faults_fit: { faults < 2 ^ 64 },
 }
 
 impl<D: Disk> FaultyDisk<D> {
-    ghost use Rattle.blocks.specs.FaultyDisk.{inner_of, kind_of, left_of, has_fired};
+    ghost use Rattle.blocks.specs.FaultyDisk.{inner_of, trap_of, kind_of, left_of, has_fired, SameCounts};
+    ghost use Rattle.blocks.specs.declared.faulty.Kind.TheVariants.{WriteOld};
 
     /// The nth call of the kind fails, counted from 1 and from here on; none does where `n` is 0.
     /// The counts of writes and faults go on from those of the disk below.
     pub fn new(inner: D, n: u64, kind: Kind) -> FaultyDisk<D>
         ensures inner { inner_of result ≡ inner }
-        ensures kind { kind_of result ≡ kind }
+        ensures trap { trap_of result ≡ record { kind = kind; nth = n; writes = D.write_count inner; faults = D.fault_count inner } }
         ensures left { left_of result ≡ n }
         ensures fired { IsTrue (has_fired result) → ⊥ }
         ensures writes { ⟦<FaultyDisk<D> as Disk>⟧.write_count result ≡ D.write_count inner }
@@ -46,7 +75,12 @@ impl<D: Disk> FaultyDisk<D> {
         let faults = inner.faults();
         FaultyDisk {
             inner,
-            kind,
+            trap: Trap {
+                kind,
+                nth: n,
+                writes,
+                faults,
+            },
             left: n,
             fired: false,
             writes,
@@ -69,31 +103,38 @@ impl<D: Disk> FaultyDisk<D> {
         inner
     }
 
-    // Counts a call of the kind. Whether it is the one that fails.
-    fn is_due(&mut self) -> bool
-        ensures inner { self.new.inner ≡ self.old.inner }
-        ensures kind { self.new.kind ≡ self.old.kind }
-        ensures due { IsTrue result ↔ (self.old.left ≡ 1) }
-        ensures left { self.new.left ≡ self.old.left - 1 }
-        ensures fired { IsTrue self.new.fired ↔ (IsTrue self.old.fired ⊎ (self.old.left ≡ 1)) }
-        ensures writes { self.new.writes ≡ self.old.writes }
-        ensures faults { self.new.faults ≡ self.old.faults }
+    // Passes a write on, unless it is the one that fails and leaves the block as it was.
+    fn pass_write(&mut self, is_due: bool, block: u32, from: &Block) -> Result<(), DiskFault>
+        requires { block < length (D.image (inner_of self.old)) }
+        ensures kept { IsTrue is_due → kind_of self.old ≡ WriteOld → (inner_of self.new ≡ inner_of self.old) × IsErr result }
+        ensures passed { (IsTrue is_due × (kind_of self.old ≡ WriteOld)) ⊎ WritesOne D.Disk block from.now result (inner_of self.old) (inner_of self.new) }
+        ensures fault { IfErr result (λ fault. fault.0 ≡ block) }
+        ensures same { SameCounts self.old self.new }
     {
-        if self.left == 0 {
-            return false;
+        if is_due && self.trap.kind == Kind::WriteOld {
+            return Err(DiskFault(block));
         }
-        self.left -= 1;
-        if self.left > 0 {
-            return false;
-        }
-        self.fired = true;
-        true
+        self.inner.write(block, from)
+    }
+
+    /// Does nothing: it says what is true of every such disk: how its counts stand to the call
+    /// that fails.
+    pub fn known(&self)
+        ensures { KeepsCounts (trap_of self.now) (left_of self.now) (has_fired self.now)
+            (⟦<FaultyDisk<D> as Disk>⟧.write_count self.now) (⟦<FaultyDisk<D> as Disk>⟧.fault_count self.now) }
+    {
+        let _ = &self.fired;
     }
 }
 
 impl<D: Disk> Disk for FaultyDisk<D> {
-    ghost use Rattle.blocks.specs.FaultyDisk.{inner_of, kind_of, left_of, has_fired, IsReadDue, IsWriteDue};
+    ghost use Rattle.blocks.specs.FaultyDisk.{inner_of, trap_of, kind_of, left_of, has_fired, IsReadDue, IsWriteDue};
     ghost use Rattle.blocks.specs.declared.faulty.Kind.TheVariants.{Read, WriteOld, WriteNew};
+
+    // The disk below, and the call that fails.
+    type Name = (D::Name, Trap);
+
+    ghost name = { λ d. (D.name d.inner, d.trap) };
 
     ghost image = { λ d. D.image d.inner };
 
@@ -137,6 +178,7 @@ impl<D: Disk> Disk for FaultyDisk<D> {
         // As of each disk.
         ensures ok { OnOk result (slice_get (D.image (inner_of self.old)) block ≡ Some into.new) }
         ensures fault { IfErr result (λ fault. fault.0 ≡ block) }
+        ensures name { ⟦<FaultyDisk<D> as Disk>⟧.name self.new ≡ ⟦<FaultyDisk<D> as Disk>⟧.name self.old }
         ensures image { D.image (inner_of self.new) ≡ D.image (inner_of self.old) }
         ensures writes { ⟦<FaultyDisk<D> as Disk>⟧.write_count self.new ≡ ⟦<FaultyDisk<D> as Disk>⟧.write_count self.old }
         ensures faults { CountsFault result (⟦<FaultyDisk<D> as Disk>⟧.fault_count self.old) (⟦<FaultyDisk<D> as Disk>⟧.fault_count self.new) }
@@ -146,16 +188,20 @@ impl<D: Disk> Disk for FaultyDisk<D> {
         ensures due { IsReadDue self.old → IsErr result }
         ensures due_keeps { IsReadDue self.old → inner_of self.new ≡ inner_of self.old }
         ensures passed_on { ¬ IsReadDue self.old → CountsFault result (D.fault_count (inner_of self.old)) (D.fault_count (inner_of self.new)) }
-        ensures kind { kind_of self.new ≡ kind_of self.old }
+        ensures unwritten { D.write_count (inner_of self.new) ≡ D.write_count (inner_of self.old) }
         ensures left { kind_of self.old ≡ Read → left_of self.new ≡ left_of self.old - 1 }
         ensures left_stays { kind_of self.old ≢ Read → left_of self.new ≡ left_of self.old }
         ensures fired { IsTrue (has_fired self.new) ↔ (IsTrue (has_fired self.old) ⊎ IsReadDue self.old) }
     {
-        if self.kind == Kind::Read && self.is_due() {
-            self.faults = self.faults.saturating_add(1);
-            return Err(DiskFault(block));
-        }
-        let done = self.inner.read(block, into);
+        let is_counted = !self.trap.kind.is_write();
+        let is_due = is_due(is_counted, self.left);
+        let done = if is_due {
+            Err(DiskFault(block))
+        } else {
+            self.inner.read(block, into)
+        };
+        self.left = left_after(is_counted, self.left);
+        self.fired = either(self.fired, is_due);
         if done.is_err() {
             self.faults = self.faults.saturating_add(1);
         }
@@ -171,6 +217,7 @@ impl<D: Disk> Disk for FaultyDisk<D> {
         ensures ok { OnOk result (D.image (inner_of self.new) ≡ slice_set (D.image (inner_of self.old)) block from.now) }
         ensures err { OnErr result (IsOldOrNew (D.image (inner_of self.old)) block from.now (D.image (inner_of self.new))) }
         ensures fault { IfErr result (λ fault. fault.0 ≡ block) }
+        ensures name { ⟦<FaultyDisk<D> as Disk>⟧.name self.new ≡ ⟦<FaultyDisk<D> as Disk>⟧.name self.old }
         ensures writes { CountsSuccess result (⟦<FaultyDisk<D> as Disk>⟧.write_count self.old) (⟦<FaultyDisk<D> as Disk>⟧.write_count self.new) }
         ensures faults { CountsFault result (⟦<FaultyDisk<D> as Disk>⟧.fault_count self.old) (⟦<FaultyDisk<D> as Disk>⟧.fault_count self.new) }
         ensures time { Elapses (D.moment (inner_of self.old)) (D.moment (inner_of self.new)) (D.leaves (inner_of self.old)) (D.leaves (inner_of self.new)) }
@@ -180,26 +227,50 @@ impl<D: Disk> Disk for FaultyDisk<D> {
         ensures due { IsWriteDue self.old → IsErr result }
         ensures due_old { IsWriteDue self.old → kind_of self.old ≡ WriteOld → inner_of self.new ≡ inner_of self.old }
         ensures due_new { IsWriteDue self.old → kind_of self.old ≡ WriteNew →
-            (D.image (inner_of self.new) ≡ slice_set (D.image (inner_of self.old)) block from.now) ⊎
+            ((D.image (inner_of self.new) ≡ slice_set (D.image (inner_of self.old)) block from.now) ×
+            (D.write_count (inner_of self.new) ≡ one_more (D.write_count (inner_of self.old)))) ⊎
             (D.fault_count (inner_of self.new) ≡ one_more (D.fault_count (inner_of self.old))) }
         ensures passed_on { ¬ IsWriteDue self.old → CountsFault result (D.fault_count (inner_of self.old)) (D.fault_count (inner_of self.new)) }
-        ensures kind { kind_of self.new ≡ kind_of self.old }
+        ensures written_once { ¬ IsWriteDue self.old → CountsSuccess result (D.write_count (inner_of self.old)) (D.write_count (inner_of self.new)) }
         ensures left { kind_of self.old ≢ Read → left_of self.new ≡ left_of self.old - 1 }
         ensures left_stays { kind_of self.old ≡ Read → left_of self.new ≡ left_of self.old }
         ensures fired { IsTrue (has_fired self.new) ↔ (IsTrue (has_fired self.old) ⊎ IsWriteDue self.old) }
     {
-        let is_due = self.kind != Kind::Read && self.is_due();
-        if is_due && self.kind == Kind::WriteOld {
-            self.faults = self.faults.saturating_add(1);
-            return Err(DiskFault(block));
-        }
-        let done = self.inner.write(block, from);
+        let is_counted = self.trap.kind.is_write();
+        let is_due = is_due(is_counted, self.left);
+        let done = self.pass_write(is_due, block, from);
+        self.left = left_after(is_counted, self.left);
+        self.fired = either(self.fired, is_due);
         if is_due || done.is_err() {
             self.faults = self.faults.saturating_add(1);
             return Err(DiskFault(block));
         }
         self.writes = self.writes.saturating_add(1);
         Ok(())
+    }
+}
+
+// Whether a call is the one that fails, with so many up to that.
+fn is_due(is_counted: bool, left: u64) -> bool
+    ensures { result ≡ is_due is_counted left }
+{
+    is_counted && left == 1
+}
+
+fn either(one: bool, other: bool) -> bool
+    ensures { result ≡ (one || other) }
+{
+    one || other
+}
+
+// The calls up to the one that fails, after one that is counted or isn't.
+fn left_after(is_counted: bool, left: u64) -> u64
+    ensures { result ≡ left_after is_counted left }
+{
+    if is_counted {
+        left.saturating_sub(1)
+    } else {
+        left
     }
 }
 

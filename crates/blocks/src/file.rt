@@ -9,8 +9,8 @@ ghost use Rattle.blocks.specs.Disk.{IsImage, CountsFault, CountsSuccess, IsOldOr
 ghost use Rattle.blocks.specs.File.{IsReadFrom, IsWrittenAt};
 ghost use Rattle.blocks.specs.Images.{only_last, has_left-image};
 
-use crate::memory::zeroed_blocks;
-use crate::{BLOCK_SIZE, Block, Disk, DiskFault, FileFault, MemDisk};
+use crate::{BLOCK_SIZE, Block, Disk, DiskFault, FileFault, MemDisk, NoMemory};
+use std::alloc::Global;
 use std::fs::{OpenFile, OpenOptions};
 use std::io;
 use std::io::{ErrorKind, Read, Seek, SeekFrom, Write};
@@ -60,8 +60,7 @@ impl<F: Read + Write + Seek + OpenFile + Drop> FileDisk<F> {
             .open(rt, path)
             .map_err(fault_of)?;
         let size = blocks_of_length(file.metadata().map_err(fault_of)?.len())?;
-        let mut blocks = zeroed_blocks(rt.alloc(), size)?;
-        read_blocks(&mut file, &mut blocks)?;
+        let blocks = read_blocks(rt.alloc(), &mut file, size)?;
         Ok(FileDisk::over(MemDisk::of(rt.alloc(), blocks, size), file))
     }
 
@@ -138,20 +137,33 @@ fn blocks_of_length(length: u64) -> Result<u32, FileFault>
     Ok(size as u32)
 }
 
-// Reads the blocks, one after another.
-fn read_blocks<F: Read>(file: &mut F, blocks: &mut Vec<Block>) -> Result<(), FileFault>
-    requires { IsImage blocks.old.items }
-    ensures size { length blocks.new.items ≡ length blocks.old.items }
-    ensures image { IsImage blocks.new.items }
-    ensures bytes { OnOk result (Consumes (F.remaining file.old) (F.remaining file.new) (concat blocks.new.items)) }
+// Reads so many blocks, all with one read.
+fn read_blocks<F: Read>(alloc: Global, file: &mut F, size: u32) -> Result<Vec<Block>, FileFault>
+    ensures size { IfOk result (λ blocks. length blocks.items ≡ size) }
+    ensures image { IfOk result (λ blocks. IsImage blocks.items) }
+    ensures bytes { IfOk result (λ blocks. Consumes (F.remaining file.old) (F.remaining file.new) (concat blocks.items)) }
     ensures err { IfErr result (λ fault. fault ≢ FileFault.Length) }
 {
-    for block in 0..blocks.len() {
-        let mut bytes = [0u8; BLOCK_SIZE];
-        file.read_exact(&mut bytes).map_err(fault_of)?;
-        blocks[block].put(0, &bytes);
+    let mut bytes = vec![in alloc; 0; size as usize * BLOCK_SIZE].map_err(NoMemory::from)?;
+    file.read_exact(&mut bytes).map_err(fault_of)?;
+    Ok(blocks_of(alloc, bytes.as_slice(), size)?)
+}
+
+// The blocks that these bytes make, one after another.
+fn blocks_of(alloc: Global, bytes: &[u8], size: u32) -> Result<Vec<Block>, NoMemory>
+    requires { length bytes.now ≡ size * 1024 }
+    ensures size { IfOk result (λ blocks. length blocks.items ≡ size) }
+    ensures image { IfOk result (λ blocks. IsImage blocks.items) }
+    ensures bytes { IfOk result (λ blocks. concat blocks.items ≡ bytes.now) }
+{
+    let mut blocks = Vec::new(alloc);
+    for number in 0..size {
+        let at = number as usize * BLOCK_SIZE;
+        let mut block = Block::zeroed(alloc)?;
+        block.put(0, &bytes[at..at + BLOCK_SIZE]);
+        blocks.push(block)?;
     }
-    Ok(())
+    Ok(blocks)
 }
 
 // Writes the bytes of a block at its place.
@@ -164,6 +176,10 @@ fn write_through<F: Write + Seek>(file: &mut F, block: u32, from: &Block) -> io:
 
 impl<F: Write + Seek + Drop> Disk for FileDisk<F> {
     ghost use Rattle.blocks.specs.FileDisk.{file_of};
+
+    type Name = ();
+
+    ghost name = { λ d. tt };
 
     ghost image = { λ d. ⟦<MemDisk as Disk>⟧.image d.copy };
 
@@ -206,6 +222,7 @@ impl<F: Write + Seek + Drop> Disk for FileDisk<F> {
         // As of each disk.
         ensures ok { OnOk result (slice_get (⟦<FileDisk<F> as Disk>⟧.image self.old) block ≡ Some into.new) }
         ensures fault { IfErr result (λ fault. fault.0 ≡ block) }
+        ensures name { ⟦<FileDisk<F> as Disk>⟧.name self.new ≡ ⟦<FileDisk<F> as Disk>⟧.name self.old }
         ensures image { ⟦<FileDisk<F> as Disk>⟧.image self.new ≡ ⟦<FileDisk<F> as Disk>⟧.image self.old }
         ensures writes { ⟦<FileDisk<F> as Disk>⟧.write_count self.new ≡ ⟦<FileDisk<F> as Disk>⟧.write_count self.old }
         ensures faults { CountsFault result (⟦<FileDisk<F> as Disk>⟧.fault_count self.old) (⟦<FileDisk<F> as Disk>⟧.fault_count self.new) }
@@ -227,6 +244,7 @@ impl<F: Write + Seek + Drop> Disk for FileDisk<F> {
         ensures ok { OnOk result (⟦<FileDisk<F> as Disk>⟧.image self.new ≡ slice_set (⟦<FileDisk<F> as Disk>⟧.image self.old) block from.now) }
         ensures err { OnErr result (IsOldOrNew (⟦<FileDisk<F> as Disk>⟧.image self.old) block from.now (⟦<FileDisk<F> as Disk>⟧.image self.new)) }
         ensures fault { IfErr result (λ fault. fault.0 ≡ block) }
+        ensures name { ⟦<FileDisk<F> as Disk>⟧.name self.new ≡ ⟦<FileDisk<F> as Disk>⟧.name self.old }
         ensures writes { CountsSuccess result (⟦<FileDisk<F> as Disk>⟧.write_count self.old) (⟦<FileDisk<F> as Disk>⟧.write_count self.new) }
         ensures faults { CountsFault result (⟦<FileDisk<F> as Disk>⟧.fault_count self.old) (⟦<FileDisk<F> as Disk>⟧.fault_count self.new) }
         ensures time { Elapses (⟦<FileDisk<F> as Disk>⟧.moment self.old) (⟦<FileDisk<F> as Disk>⟧.moment self.new) (⟦<FileDisk<F> as Disk>⟧.leaves self.old) (⟦<FileDisk<F> as Disk>⟧.leaves self.new) }

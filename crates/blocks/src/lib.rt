@@ -13,6 +13,6 @@ mod past;
 pub use block::{BLOCK_SIZE, Block};
 pub use disk::Disk;
 pub use errors::{DiskFault, FileFault, NoMemory};
-pub use faulty::{FaultyDisk, Kind};
+pub use faulty::{FaultyDisk, Kind, Trap};
 pub use file::{FileDisk, MAX_BLOCKS};
 pub use memory::MemDisk;

@@ -56,7 +56,7 @@ impl MemDisk {
 }
 
 // This many blocks of zeroes.
-pub(crate) fn zeroed_blocks(alloc: Global, size: u32) -> Result<Vec<Block>, NoMemory>
+fn zeroed_blocks(alloc: Global, size: u32) -> Result<Vec<Block>, NoMemory>
     ensures zeroes { IfOk result (λ blocks. blocks.items ≡ replicate size zero_block) }
     ensures blocks { IfOk result (λ blocks. IsImage blocks.items) }
 {
@@ -68,6 +68,10 @@ pub(crate) fn zeroed_blocks(alloc: Global, size: u32) -> Result<Vec<Block>, NoMe
 }
 
 impl Disk for MemDisk {
+    type Name = ();
+
+    ghost name = { λ d. tt };
+
     ghost image = { λ d. d.blocks.items };
 
     ghost moment = { λ d. length d.past };
