@@ -7,8 +7,8 @@ use Rattle.std.proofs.lemmas.Bool.Decides.{nat_tests}
 use Rattle.std.proofs.lemmas.List.Quantifiers.{position-Some}
 use Rattle.std.proofs.lemmas.List.Sums.{fails_before_first}
 use Rattle.model.specs.Soundness.{count_of}
-use Rattle.model.specs.Order.{IsOrder, first_order, moved_to_front, victim_in, later_or}
-use Rattle.model.proofs.CountLemmas.{count_of-get_or}
+use Rattle.bcache.specs.Order.{IsOrder, first_order, moved_to_front, victim_in, later_or}
+use Rattle.model.specs.Lemmas.Counts.{count_of-get_or}
 
 -- where no element passes a test, none does
 pub none_passes : {X : Type 0} (p : X → Bool) (xs : List X) (j : ℕ) (d : X) → position p xs ≡ None → j < length xs → p (get_or xs j d) ≡ false

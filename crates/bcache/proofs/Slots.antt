@@ -4,9 +4,9 @@ use Rattle.std.proofs.Math.ListN as listn
 use Rattle.std.proofs.lemmas.Bool.{cases_eq, cases_lt, cases_Bool, cond-true, cond-false, eqb-true, both_ways, false≢true}
 use Rattle.std.proofs.lemmas.List.{get_or-set_same, get_or-set_other, get_or_default, get_or_past, length-replicate}
 use Rattle.std.proofs.lemmas.List.Quantifiers.{position-Some}
-use Rattle.model.specs.declared.types.Buffer.{Buffer}
-use Rattle.model.specs.State.{is_number_in, is_of, references_of}
-use Rattle.model.specs.Order.{IsOrder, first_order, moved_to_front}
+use Rattle.bcache.specs.declared.types.Buffer.{Buffer}
+use Rattle.bcache.specs.Current.{is_number_in, is_of, references_of}
+use Rattle.bcache.specs.Order.{IsOrder, first_order, moved_to_front}
 use Rattle.bcache.specs.Buffers.{Buffers, empty_buffer, buffer, with_buffer, found, victim, taken, released, after_lock, after_take, after_acquire, after_acquire_by, fresh, IsOnce, IsCache}
 use Rattle.bcache.specs.Laws.{KeepsCopy, ReferencedIsKept, CallsKeepCache}
 use Rattle.bcache.proofs.OrderLemmas.{none_passes, order_moved, order_first, slot_below, victim_unused, victim_below}

@@ -1,9 +1,9 @@
 -- Laws of the cache, and of the current image.
 use Rattle.std.specs.Prelude.{◌≡◌, ◌≢◌, ◌<◌, ℕ, IsTrue, Some, false, List, length, slice_set}
 use Rattle.blocks.specs.Disk.{Image, block_at}
-use Rattle.model.specs.declared.types.Buffer.{Buffer}
-use Rattle.model.specs.State.{references_of, shows, current}
-use Rattle.model.specs.Order.{buffer_count}
+use Rattle.bcache.specs.declared.types.Buffer.{Buffer}
+use Rattle.bcache.specs.Current.{references_of, shows, current}
+use Rattle.bcache.specs.Order.{buffer_count}
 use Rattle.bcache.specs.Buffers.{Buffers, buffer, IsCache, locked, taken, filled, changed, released, pinned, unpinned, after_acquire, fresh}
 
 -- the same block with the same bytes, and as many pins

@@ -1,7 +1,7 @@
 // The blocks of a new image.
 ghost use Rattle.std.specs.Prelude.{◌≡◌, ◌≤◌, IfOk};
 ghost use Rattle.blocks.specs.Block.{zero_block};
-ghost use Rattle.model.specs.declared.types.Form.TheVariants.{One};
+ghost use Rattle.model.specs.declared.types.image.Form.TheVariants.{One};
 ghost use Rattle.model.specs.Layout.{meta_count, planned_super};
 ghost use Rattle.model.specs.Codec.{super_block, first_bits, made_block};
 
