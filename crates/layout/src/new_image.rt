@@ -60,7 +60,7 @@ impl NewImage {
 }
 
 // A bitmap whose first `count` bits are set.
-#[tactic(auto, using(model::proofs::Codecs::first_bits_none, model::proofs::Codecs::first_bits_more))]
+#[tactic(auto, using(model::specs::Lemmas::Codecs::first_bits_none, model::specs::Lemmas::Codecs::first_bits_more))]
 fn marked(alloc: Global, count: u32) -> Result<Block, NoMemory>
     requires { count ≤ 8192 }
     ensures { IfOk result (λ block. block ≡ first_bits count) }
