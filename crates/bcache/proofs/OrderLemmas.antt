@@ -2,13 +2,13 @@
 use Rattle.std.proofs.Common.{◌≡◌, ◌≢◌, inl, inr, ℕ, zero, suc, ◌+◌, ◌-◌, ◌<◌, ◌≤◌, ◌==◌, not, Bool, true, false, cond, eqb, ltb, List, [], ◌∷◌, length, map, get_or, refl, sym, ◌∙◌, ap, subst, zero-add, arith, Option, Some, None}
 use Rattle.std.specs.Prelude.{position, IfSome}
 use Rattle.std.specs.List.{filter, range_with_len, remove, position_or_len}
-use Rattle.std.proofs.lemmas.Bool.{cases_eq, cases_lt, cases_Bool, eqb-true, eq-eqb, ne_eqb, lt-ltb, le-ltb}
+use Rattle.std.proofs.lemmas.Bool.{cases_eq, cases_lt, cases_Bool, eqb-true, eq-eqb, ne_eqb, lt-ltb, le-ltb, both_ways}
 use Rattle.std.proofs.lemmas.Bool.Decides.{nat_tests}
 use Rattle.std.proofs.lemmas.List.Quantifiers.{position-Some}
 use Rattle.std.proofs.lemmas.List.Sums.{fails_before_first}
 use Rattle.model.specs.Soundness.{count_of}
-use Rattle.model.specs.Order.{IsOrder, first_order, moved_to_front, victim_in, later_or}
-use Rattle.model.proofs.CountLemmas.{count_of-get_or}
+use Rattle.bcache.specs.Order.{IsOrder, first_order, moved_to_front, victim_in, later_or}
+use Rattle.model.specs.Lemmas.Counts.{count_of-get_or}
 
 -- where no element passes a test, none does
 pub none_passes : {X : Type 0} (p : X → Bool) (xs : List X) (j : ℕ) (d : X) → position p xs ≡ None → j < length xs → p (get_or xs j d) ≡ false
@@ -201,6 +201,43 @@ victim_is references order = victim_walked references order None ∙ by (victim_
     by : (v : Option ℕ) → or_last v None ≡ v
     by None = refl
     by (Some slot) = refl
+
+-- where there is none, each slot of the order has references
+pub victim_none : (references order : List ℕ) → victim_in references order ≡ None → (k : ℕ) → k < length order → get_or references (get_or order k 0) 0 ≢ 0
+victim_none references [] none k lt = absurd (omega arith)
+victim_none references (s ∷ order) none k lt = let f = parts (victim_in references order) refl (eqb (get_or references s 0) 0) refl none in by (victim_none references order f.0) f.1 k lt
+  where
+    parts : (v : Option ℕ) → victim_in references order ≡ v → (free : Bool) → eqb (get_or references s 0) 0 ≡ free → later_or v free s ≡ None → (victim_in references order ≡ None) × (eqb (get_or references s 0) 0 ≡ false)
+    parts (Some later) was free test is = absurd (cc is)
+    parts None was true test is = absurd (cc is)
+    parts None was false test is = (was, test)
+
+    by : ((j : ℕ) → j < length order → get_or references (get_or order j 0) 0 ≢ 0) → eqb (get_or references s 0) 0 ≡ false → (j : ℕ) → j < suc (length order) → get_or references (get_or (s ∷ order) j 0) 0 ≢ 0
+    by rest test zero inside = λ e. both_ways _ test (eq-eqb _ _ e)
+    by rest test (suc j) inside = rest j (omega (arith, inside))
+
+-- a slot stands there, and each behind it has references
+pub record IsLast (references order : List ℕ) (slot : ℕ) : Type 0 where
+  pub place : ℕ
+  pub at : get_or order place 0 ≡ slot
+  pub behind : (k : ℕ) → place < k → k < length order → get_or references (get_or order k 0) 0 ≢ 0
+
+pub victim_last : (references order : List ℕ) (slot : ℕ) → victim_in references order ≡ Some slot → IsLast references order slot
+victim_last references [] slot e = absurd (cc e)
+victim_last references (s ∷ order) slot e = by (victim_last references order slot) (victim_in references order) refl (eqb (get_or references s 0) 0) e
+  where
+    later : (f : IsLast references order slot) (k : ℕ) → suc f.place < k → k < suc (length order) → get_or references (get_or (s ∷ order) k 0) 0 ≢ 0
+    later f zero past lt = absurd (omega arith)
+    later f (suc k) past lt = f.behind k (omega (arith, past)) (omega (arith, lt))
+
+    first : victim_in references order ≡ None → (k : ℕ) → 0 < k → k < suc (length order) → get_or references (get_or (s ∷ order) k 0) 0 ≢ 0
+    first none zero past lt = absurd (omega arith)
+    first none (suc k) past lt = victim_none references order none k (omega (arith, lt))
+
+    by : (victim_in references order ≡ Some slot → IsLast references order slot) → (v : Option ℕ) → victim_in references order ≡ v → (free : Bool) → later_or v free s ≡ Some slot → IsLast references (s ∷ order) slot
+    by rest (Some found) was free is = let f = rest (was ∙ is) in record { place = suc f.place; at = f.at; behind = later f }
+    by rest None was true is = record { place = 0; at = cc is; behind = first was }
+    by rest None was false is = absurd (cc is)
 
 -- it has no references
 pub victim_unused : (references order : List ℕ) (slot : ℕ) → victim_in references order ≡ Some slot → get_or references slot 0 ≡ 0

@@ -5,8 +5,8 @@ use Rattle.std.specs.List.{filter}
 use Rattle.std.proofs.lemmas.List.{get_or-set_same, get_or-set_other, ext_get_or}
 use Rattle.std.proofs.lemmas.List.FromFn.{length-map-range_with_len, get_or-map-range_with_len}
 use Rattle.blocks.specs.Disk.{Image, block_at}
-use Rattle.model.specs.declared.types.Buffer.{Buffer}
-use Rattle.model.specs.State.{is_number_in, is_of, shows, bytes_or, current}
+use Rattle.bcache.specs.declared.types.Buffer.{Buffer}
+use Rattle.bcache.specs.Current.{is_number_in, is_of, shows, bytes_or, current}
 use Rattle.bcache.specs.Buffers.{Buffers, empty_buffer, buffer, with_buffer, filled, changed, IsOnce, IsCache}
 use Rattle.bcache.specs.Laws.{UnfilledKeeps, CountsKeepCurrent}
 use Rattle.bcache.proofs.Slots.{buffer_same, buffer_other, block_is, is_number_some}

@@ -1,15 +1,18 @@
 -- What stays true of every cache, and of its slots.
-use Rattle.std.proofs.Common.{◌≡◌, ◌≢◌, inl, inr, ℕ, zero, suc, ◌+◌, ◌-◌, ◌<◌, ◌≤◌, ◌==◌, true, false, List, map, replicate, length, get_or, set, refl, sym, ◌∙◌, ap, subst, arith, Option, Some, None, length-set}
+use Rattle.std.proofs.Common.{◌≡◌, ◌≢◌, inl, inr, ℕ, zero, suc, ◌+◌, ◌-◌, ◌<◌, ◌≤◌, ◌==◌, Bool, true, false, List, map, replicate, length, get_or, set, refl, sym, ◌∙◌, ap, subst, arith, Option, Some, None, length-set}
 use Rattle.std.proofs.Math.ListN as listn
+use Rattle.std.specs.Prelude.{position}
 use Rattle.std.proofs.lemmas.Bool.{cases_eq, cases_lt, cases_Bool, cond-true, cond-false, eqb-true, both_ways, false≢true}
 use Rattle.std.proofs.lemmas.List.{get_or-set_same, get_or-set_other, get_or_default, get_or_past, length-replicate}
 use Rattle.std.proofs.lemmas.List.Quantifiers.{position-Some}
-use Rattle.model.specs.declared.types.Buffer.{Buffer}
-use Rattle.model.specs.State.{is_number_in, is_of, references_of}
-use Rattle.model.specs.Order.{IsOrder, first_order, moved_to_front}
-use Rattle.bcache.specs.Buffers.{Buffers, empty_buffer, buffer, with_buffer, found, victim, taken, released, after_lock, after_take, after_acquire, after_acquire_by, fresh, IsOnce, IsCache}
-use Rattle.bcache.specs.Laws.{KeepsCopy, ReferencedIsKept, CallsKeepCache}
-use Rattle.bcache.proofs.OrderLemmas.{none_passes, order_moved, order_first, slot_below, victim_unused, victim_below}
+use Rattle.bcache.specs.declared.types.Buffer.{Buffer}
+use Rattle.bcache.specs.Current.{is_number_in, is_of, references_of}
+use Rattle.bcache.specs.Order.{IsOrder, first_order, moved_to_front}
+use Rattle.bcache.specs.declared.types.Busy.TheVariants as busy
+use Rattle.bcache.specs.declared.types.Acquired.TheVariants as acquired
+use Rattle.bcache.specs.Buffers.{Buffers, empty_buffer, buffer, with_buffer, found, victim, taken, released, after_lock, after_take, after_acquire, after_acquire_by, lock_answer, take_answer, answer_by, fresh, IsOnce, IsCache}
+use Rattle.bcache.specs.Laws.{AreAllInUse, NoBufferIsFull, IsLastUnused, TakesLastUnused, KeepsCopy, ReferencedIsKept, CallsKeepCache}
+use Rattle.bcache.proofs.OrderLemmas.{none_passes, order_moved, order_first, slot_below, has_place, victim_none, victim_last, victim_unused, victim_below}
 
 -- a slot after a change of one
 pub buffer_same : (c : Buffers) (i : ℕ) (t : Buffer) → i < length c.slots → buffer (with_buffer c i t) i ≡ t
@@ -146,12 +149,67 @@ fresh_from ss o n made low high order =
     ap (λ (ts : List Buffer). let c : Buffers = record { slots = ts; order = o } in c) (made ∙ ap (λ (m : ℕ). replicate m empty_buffer) all)
     ∙ ap (λ (p : List ℕ). let c : Buffers = record { slots = replicate 40 empty_buffer; order = p } in c) order
 
+references_at : (c : Buffers) (i : ℕ) → references_of (buffer c i) ≡ get_or (map references_of c.slots) i 0
+references_at c i = sym (listn.get_or-map references_of c.slots i empty_buffer)
+
 -- the victim is a slot without references
 pub victim_free : (c : Buffers) (i : ℕ) → IsCache c → victim c ≡ Some i → (i < 40) × (references_of (buffer c i) ≡ 0)
 victim_free c i is e = (
   victim_below (map references_of c.slots) c.order i 40 (λ k lt. slot_below c.order k is.order (omega (arith, is.order.all))) e,
-  sym (listn.get_or-map references_of c.slots i empty_buffer) ∙ victim_unused (map references_of c.slots) c.order i e,
+  references_at c i ∙ victim_unused (map references_of c.slots) c.order i e,
 )
+
+-- where there is none, each slot has references
+victim_none_in_use : (c : Buffers) → IsCache c → victim c ≡ None → AreAllInUse c
+victim_none_in_use c is none i lt = by (position (λ s. s == i) c.order) refl
+  where
+    by : (at : Option ℕ) → position (λ s. s == i) c.order ≡ at → references_of (buffer c i) ≢ 0
+    by None e = absurd (has_place c.order i is.order lt e)
+    by (Some k) e =
+        let f = position-Some (λ s. s == i) c.order k 0 e in
+        let here : get_or c.order k 0 ≡ i = eqb-true _ _ f.1 in
+        λ free. victim_none (map references_of c.slots) c.order none k f.0 (ap (λ (j : ℕ). get_or (map references_of c.slots) j 0) here ∙ sym (references_at c i) ∙ free)
+
+in_use_no_victim : (c : Buffers) → IsCache c → AreAllInUse c → (v : Option ℕ) → victim c ≡ v → victim c ≡ None
+in_use_no_victim c is used None e = e
+in_use_no_victim c is used (Some i) e = let f = victim_free c i is e in absurd (used i f.0 f.1)
+
+pub no_buffer_full : NoBufferIsFull
+no_buffer_full c b is = (λ answer. full (found c b) refl answer, λ in_use. ap (λ (at : Option ℕ). answer_by at c) in_use.0 ∙ ap take_answer (in_use_no_victim c is in_use.1 (victim c) refl))
+  where
+    lock : (holder : Option ℕ) (i : ℕ) (valid : Bool) → lock_answer holder i valid ≢ acquired.Sleeping busy.NoBuffer
+    lock None i valid e = cc e
+    lock (Some pid) i valid e = cc e
+
+    take : (v : Option ℕ) → victim c ≡ v → take_answer v ≡ acquired.Sleeping busy.NoBuffer → victim c ≡ None
+    take None e answer = e
+    take (Some i) e answer = absurd (cc answer)
+
+    full : (at : Option ℕ) → found c b ≡ at → answer_by at c ≡ acquired.Sleeping busy.NoBuffer → (found c b ≡ None) × AreAllInUse c
+    full None e answer = (e, victim_none_in_use c is (take (victim c) refl answer))
+    full (Some i) e answer = absurd (lock (buffer c i).holder i (buffer c i).valid answer)
+
+pub last_unused_taken : TakesLastUnused
+last_unused_taken c pid b i valid is none answer = (last, ap (λ (at : Option ℕ). after_acquire_by at c pid b) none ∙ ap (λ (v : Option ℕ). after_take v c pid b) one)
+  where
+    take : (v : Option ℕ) → victim c ≡ v → take_answer v ≡ acquired.Got i valid → victim c ≡ Some i
+    take None e got = absurd (cc got)
+    take (Some j) e got = let same : j ≡ i = cc got in e ∙ ap (λ (k : ℕ). Some k) same
+
+    one : victim c ≡ Some i
+    one = take (victim c) refl (sym (ap (λ (at : Option ℕ). answer_by at c) none) ∙ answer)
+
+    last : IsLastUnused c i
+    last =
+        let free = victim_free c i is one in
+        let f = victim_last (map references_of c.slots) c.order i one in
+        record {
+          slot = free.0;
+          unused = free.1;
+          place = f.place;
+          at = f.at;
+          behind = λ k past lt none. f.behind k past (omega (arith, lt, is.order.all)) (sym (references_at c (get_or c.order k 0)) ∙ none);
+        }
 
 pub cache_acquired : (c : Buffers) (pid b : ℕ) → IsCache c → IsCache (after_acquire c pid b)
 cache_acquired c pid b is = by (found c b) refl

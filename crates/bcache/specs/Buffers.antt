@@ -1,9 +1,9 @@
 -- The buffers of the cache as contracts see them, and what each call makes of them.
 use Rattle.std.specs.Prelude.{◌≡◌, ◌+◌, ◌-◌, ℕ, Bool, true, false, List, length, map, slice_index_or, slice_set, replicate, position, Option, Some, None}
 use Rattle.blocks.specs.Block.{zero_block}
-use Rattle.model.specs.declared.types.Buffer.{Buffer}
-use Rattle.model.specs.State.{references_of, is_of}
-use Rattle.model.specs.Order.{buffer_count, first_order, IsOrder, order_after_release, victim_in}
+use Rattle.bcache.specs.declared.types.Buffer.{Buffer}
+use Rattle.bcache.specs.Current.{references_of, is_of}
+use Rattle.bcache.specs.Order.{buffer_count, first_order, IsOrder, order_after_release, victim_in}
 use Rattle.bcache.specs.declared.types.Busy.TheVariants as busy
 use Rattle.bcache.specs.declared.types.Acquired.{Acquired}
 use Rattle.bcache.specs.declared.types.Acquired.TheVariants as acquired

@@ -1,10 +1,12 @@
 -- Laws of the cache, and of the current image.
-use Rattle.std.specs.Prelude.{◌≡◌, ◌≢◌, ◌<◌, ℕ, IsTrue, Some, false, List, length, slice_set}
+use Rattle.std.specs.Prelude.{◌≡◌, ◌≢◌, ◌↔◌, ◌<◌, ℕ, IsTrue, Some, None, Bool, false, List, length, slice_index, slice_set}
 use Rattle.blocks.specs.Disk.{Image, block_at}
-use Rattle.model.specs.declared.types.Buffer.{Buffer}
-use Rattle.model.specs.State.{references_of, shows, current}
-use Rattle.model.specs.Order.{buffer_count}
-use Rattle.bcache.specs.Buffers.{Buffers, buffer, IsCache, locked, taken, filled, changed, released, pinned, unpinned, after_acquire, fresh}
+use Rattle.bcache.specs.declared.types.Buffer.{Buffer}
+use Rattle.bcache.specs.Current.{references_of, shows, current}
+use Rattle.bcache.specs.Order.{buffer_count}
+use Rattle.bcache.specs.declared.types.Busy.TheVariants as busy
+use Rattle.bcache.specs.declared.types.Acquired.TheVariants as acquired
+use Rattle.bcache.specs.Buffers.{Buffers, buffer, IsCache, found, acquire_answer, locked, taken, filled, changed, released, pinned, unpinned, after_acquire, fresh}
 
 -- the same block with the same bytes, and as many pins
 pub record KeepsCopy (old new : Buffer) : Type 0 where
@@ -17,6 +19,28 @@ pub record KeepsCopy (old new : Buffer) : Type 0 where
 abbrev pub ReferencedIsKept : Type 0
 ReferencedIsKept = (c : Buffers) (pid b i : ℕ) → IsCache c → references_of (buffer c i) ≢ 0 →
     KeepsCopy (buffer c i) (buffer (after_acquire c pid b) i)
+
+-- each of the 40 slots has references
+abbrev pub AreAllInUse : Buffers → Type 0
+AreAllInUse c = (i : ℕ) → i < buffer_count → references_of (buffer c i) ≢ 0
+
+-- no buffer is left exactly where the block has none and all slots have references
+abbrev pub NoBufferIsFull : Type 0
+NoBufferIsFull = (c : Buffers) (b : ℕ) → IsCache c →
+    (acquire_answer c b ≡ acquired.Sleeping busy.NoBuffer) ↔ ((found c b ≡ None) × AreAllInUse c)
+
+-- a slot without references, and each behind it in the order has some
+pub record IsLastUnused (c : Buffers) (i : ℕ) : Type 0 where
+  pub slot : i < buffer_count
+  pub unused : references_of (buffer c i) ≡ 0
+  pub place : ℕ
+  pub at : slice_index c.order place ≡ i
+  pub behind : (k : ℕ) → place < k → k < buffer_count → references_of (buffer c (slice_index c.order k)) ≢ 0
+
+-- the slot that a block without one gets
+abbrev pub TakesLastUnused : Type 0
+TakesLastUnused = (c : Buffers) (pid b i : ℕ) (valid : Bool) → IsCache c → found c b ≡ None →
+    acquire_answer c b ≡ acquired.Got i valid → IsLastUnused c i × (after_acquire c pid b ≡ taken c pid b i)
 
 -- a read of a slot's block changes nothing of the current image
 abbrev pub FillingKeeps : Type 0

@@ -1,2 +1,4 @@
+pub mod Order
+pub mod Current
 pub mod Buffers
 pub mod Laws

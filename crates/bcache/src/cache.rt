@@ -4,14 +4,13 @@ ghost use Rattle.std.specs.Borrow.{Lends, sem};
 ghost use Rattle.blocks.specs.Block.{IsBlock, overwritten};
 ghost use Rattle.blocks.specs.Disk.{CountsFault, AddsNone, block_at};
 ghost use Rattle.blocks.specs.contracts.block.Block.{the_row as block_row};
-ghost use Rattle.model.specs.State.{is_of};
+ghost use Rattle.bcache.specs.Current.{is_of};
 ghost use Rattle.bcache.specs.Buffers.{IsCache, buffer, found, victim, acquire_answer, after_acquire, taken, filled, changed, released, pinned, unpinned, lock_answer, after_lock, take_answer, after_take, block_or_zero, EndsUnfilled, fresh, empty_buffer};
 ghost use Rattle.bcache.specs.contracts.cache.Cache.{the_row};
 
 use crate::order::Order;
-use crate::{Acquired, Busy};
+use crate::{Acquired, Buffer, Busy};
 use blocks::{Block, Disk, DiskFault, NoMemory};
-use model::types::Buffer;
 use std::alloc::Global;
 use std::marker::Model;
 

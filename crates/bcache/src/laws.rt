@@ -1,9 +1,20 @@
 //! Laws of the cache and of the current image, each the contract of a function that does nothing.
-ghost use Rattle.bcache.specs.Laws.{ReferencedIsKept, FillingKeeps, UnfilledKeeps, ChangingSets, RecyclingKeeps, ShownWriteKeeps, UnshownWriteSets, CountsKeepCurrent, CallsKeepCache, FreshIsCache};
+ghost use Rattle.bcache.specs.Laws.{ReferencedIsKept, NoBufferIsFull, TakesLastUnused, FillingKeeps, UnfilledKeeps, ChangingSets, RecyclingKeeps, ShownWriteKeeps, UnshownWriteSets, CountsKeepCurrent, CallsKeepCache, FreshIsCache};
 
 /// A slot with references keeps its block, its bytes and its pins, whatever block is acquired.
 pub fn referenced_is_kept()
     ensures { ReferencedIsKept }
+{}
+
+/// No buffer is left exactly where the block has none and all 40 slots have references.
+pub fn no_buffer_is_full()
+    ensures { NoBufferIsFull }
+{}
+
+/// The slot that a block without one gets has no references, and each behind it in the recency
+/// order has some.
+pub fn takes_last_unused()
+    ensures { TakesLastUnused }
 {}
 
 /// The read of a slot's block changes nothing of the current image.

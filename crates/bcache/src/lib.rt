@@ -9,7 +9,7 @@ mod order;
 mod types;
 
 pub use cache::Cache;
-pub use types::{Acquired, Busy};
+pub use types::{Acquired, Buffer, Busy};
 
 #[cfg(test)]
 mod tests;

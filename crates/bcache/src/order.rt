@@ -1,10 +1,10 @@
 // The order in which slots were released.
 ghost use Rattle.std.specs.Prelude.{◌≡◌, ◌<◌, ◌≤◌, ◌==◌, ◌∷◌, ℕ, length, map, position, remove, slice_index, IfSome};
-ghost use Rattle.model.specs.State.{references_of};
-ghost use Rattle.model.specs.Order.{IsOrder, first_order, moved_to_front, victim_in};
+ghost use Rattle.bcache.specs.Current.{references_of};
+ghost use Rattle.bcache.specs.Order.{IsOrder, first_order, moved_to_front, victim_in};
 
+use crate::Buffer;
 use arrayvec::ArrayVec;
-use model::types::Buffer;
 use std::marker::Model;
 
 /// The recency order of the 40 slots: contracts see the list of their numbers, the one released
@@ -17,7 +17,7 @@ pub struct Order {
 
 impl Model for Order {
     ghost use Rattle.std.specs.Prelude.{List, ℕ};
-    ghost use Rattle.model.specs.Order.{IsOrder};
+    ghost use Rattle.bcache.specs.Order.{IsOrder};
 
     ghost Value = { List ℕ };
 

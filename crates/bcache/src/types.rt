@@ -1,3 +1,19 @@
+use blocks::Block;
+
+/// One of the buffers of the cache (the xv6 book, the chapter "File system": "Buffer cache layer").
+#[derive(Drop)]
+pub struct Buffer {
+    /// The block that it is for; None where it was never taken.
+    pub block: Option<u32>,
+    /// Whether its bytes are those of the block.
+    pub valid: bool,
+    pub bytes: Block,
+    /// The process that has its lock, and one reference with it.
+    pub holder: Option<u32>,
+    /// The references that pins added.
+    pub pins: u32,
+}
+
 /// Why a process has to wait for a buffer.
 #[derive(Clone, Copy, Debug, PartialEq, Eq)]
 pub enum Busy {

@@ -6,12 +6,12 @@ use Rattle.std.proofs.lemmas.Bool.{ne_eqb, cases_eq, leb-true, ltb-true, eqb-tru
 use Rattle.std.proofs.lemmas.List.{get_or-set_same, get_or-set_other, length-set, ext_get_or}
 use Rattle.std.proofs.lemmas.List.Elements.{All-from_recursion}
 use Rattle.blocks.specs.Disk.{Image, block_at}
-use Rattle.model.specs.declared.types.Dinode.{Dinode}
-use Rattle.model.specs.declared.types.File.{File}
-use Rattle.model.specs.declared.types.Form.{Form}
-use Rattle.model.specs.declared.types.Form.TheVariants.{One}
-use Rattle.model.specs.declared.types.Pointer.{Pointer}
-use Rattle.model.specs.declared.types.Super.{Super}
+use Rattle.model.specs.declared.types.image.Dinode.{Dinode}
+use Rattle.model.specs.declared.types.image.File.{File}
+use Rattle.model.specs.declared.types.image.Form.{Form}
+use Rattle.model.specs.declared.types.image.Form.TheVariants.{One}
+use Rattle.model.specs.declared.types.image.Pointer.{Pointer}
+use Rattle.model.specs.declared.types.image.Super.{Super}
 use Rattle.model.specs.Fields.{u32_at, has_bit}
 use Rattle.model.specs.Layout.{super_in, super_of, form_of, magic_of, magic_at, meta_count, depths, is_lawful_super, inode_count_of, first_data_block, inode_of, inode_in, inode_bytes, inode_bytes_in, inode_block, is_marked}
 use Rattle.model.specs.Codec.{with_inode_bytes, IsDinode}
@@ -23,14 +23,14 @@ use Rattle.model.specs.Names.{names_of}
 use Rattle.model.specs.Files.{file_of, file_at, files_of, bytes_in}
 use Rattle.model.specs.Soundness.{IsSound, IsLawfulInode, IsFilled, count_of, place_count}
 use Rattle.model.specs.Agreement.{AgreesFor}
-use Rattle.model.proofs.Codecs.{inode_in-with_inode_bytes, inode_bytes_in-with_inode_bytes_other}
-use Rattle.model.proofs.CountLemmas.{All-range, All-range_at}
-use Rattle.model.proofs.FileNumbers.{length-files_of, file_in-files_of}
-use Rattle.model.proofs.Frame.{Agrees-set, form_agree, pointers_free, pointers_used, pointers_agree, file_agree}
-use Rattle.model.proofs.LogLemmas.{both_of}
-use Rattle.model.proofs.Named.{pointers_named}
-use Rattle.model.proofs.OutsideLemmas.{flat_map_range_same}
-use Rattle.model.proofs.SoundLemmas.{IsInData, inode_in_data, facts_of}
+use Rattle.model.specs.Lemmas.Codecs.{inode_in-with_inode_bytes, inode_bytes_in-with_inode_bytes_other}
+use Rattle.model.specs.Lemmas.Counts.{All-range, All-range_at}
+use Rattle.model.specs.Lemmas.FileNumbers.{length-files_of, file_in-files_of}
+use Rattle.model.specs.Lemmas.Frames.{Agrees-set, form_agree, pointers_free, pointers_used, pointers_agree, file_agree}
+use Rattle.model.specs.Lemmas.Log.{both_of}
+use Rattle.model.specs.Lemmas.Names.{pointers_named}
+use Rattle.model.specs.Lemmas.OutsideLog.{flat_map_range_same}
+use Rattle.model.specs.Lemmas.Soundness.{IsInData, inode_in_data, facts_of}
 use Rattle.inodes.specs.Creation.{new_inode, HasCreated}
 use Rattle.inodes.specs.Laws.{CreatesFile}
 

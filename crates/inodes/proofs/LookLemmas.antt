@@ -6,7 +6,7 @@ use Rattle.blocks.specs.Block.{IsBlock}
 use Rattle.blocks.specs.Disk.{Image, block_at}
 use Rattle.model.specs.Layout.{inode_in, inode_bytes_in, inode_block, inode_of, inode_count_of}
 use Rattle.model.specs.Journal.{is_number}
-use Rattle.model.proofs.LogLemmas.{both_of}
+use Rattle.model.specs.Lemmas.Log.{both_of}
 use Rattle.bcache.specs.Buffers.{Buffers, buffer}
 use Rattle.wal.specs.Volume.{Holds}
 use Rattle.inodes.specs.declared.ialloc.Ialloc.{Ialloc}

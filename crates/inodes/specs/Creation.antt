@@ -2,7 +2,7 @@
 use Rattle.std.specs.Prelude.{◌≡◌, ◌≢◌, ℕ, ◌-◌, ◌*◌, ◌==◌, ◌&&◌, Bool, List, [], replicate, slice_set, find, Option, Some}
 use Rattle.std.specs.List.{range_with_len}
 use Rattle.blocks.specs.Disk.{Image, block_at}
-use Rattle.model.specs.declared.types.Dinode.{Dinode}
+use Rattle.model.specs.declared.types.image.Dinode.{Dinode}
 use Rattle.model.specs.Layout.{inode_in, inode_bytes_in, inode_block, inode_of}
 use Rattle.model.specs.Codec.{with_inode_bytes}
 use Rattle.model.specs.Crash.{IsUntouched, labels_of}

@@ -2,9 +2,8 @@
 use Rattle.std.specs.Prelude.{◌≡◌, ◌<◌, ◌≤◌, ℕ, ◌+◌, ◌-◌, ◌*◌, ◌%◌, ◌==◌, Bool, true, false, IsTrue, Option, Some, None}
 use Rattle.blocks.specs.Disk.{Image, block_at}
 use Rattle.blocks.specs.declared.errors.DiskFault.{DiskFault}
-use Rattle.model.specs.Layout.{inode_block, inode_count_of}
+use Rattle.model.specs.Layout.{inode_block, inode_count_of, HasNoFreeInode}
 use Rattle.model.specs.Operations.{is_kind}
-use Rattle.model.specs.Short.{HasNoFreeInode}
 use Rattle.model.specs.Soundness.{IsSound}
 use Rattle.model.specs.Codec.{dinode_bytes}
 use Rattle.bcache.specs.Buffers.{Buffers, released}

@@ -2,10 +2,10 @@
 use Rattle.std.proofs.Common.{◌≡◌, ℕ, ◌-◌, ◌<◌, Bool, true, false, leb, length, refl, sym, ◌∙◌, ap, subst, arith, Option, Some, None}
 use Rattle.std.proofs.lemmas.Bool.{leb-true}
 use Rattle.blocks.specs.Disk.{Image, block_at}
-use Rattle.model.specs.declared.types.Op.{Op}
-use Rattle.model.specs.declared.types.Reply.{Reply}
+use Rattle.model.specs.declared.types.operations.Op.{Op}
+use Rattle.model.specs.declared.types.operations.Reply.{Reply}
 use Rattle.model.specs.Layout.{inode_block}
-use Rattle.model.proofs.LogLemmas.{both_of}
+use Rattle.model.specs.Lemmas.Log.{both_of}
 use Rattle.bcache.specs.Buffers.{Buffers}
 use Rattle.wal.specs.Machine.{LogState}
 use Rattle.wal.specs.Joint.{Joint, seen}
@@ -107,7 +107,7 @@ module _ {D : Type 0} (x : Image) (v u : VolumeState D) (n p group : ℕ) (m new
       by_slot (Some s) is made = over op reply s (lowest_free (block_at cur m.block) m.inode_count m.block) out (is_last_block m) is made goes
 
   -- who sleeps changed nothing
-  pub search_sleeps : (why : Rattle.model.specs.declared.types.Why.Why) → Allocates x cur m v p (progress.Sleeping why) new u → u ≡ v
+  pub search_sleeps : (why : Rattle.model.specs.declared.types.operations.Why.Why) → Allocates x cur m v p (progress.Sleeping why) new u → u ≡ v
   search_sleeps why made = by_slot m.slot made
     where
       by_looks : (s : ℕ) (f : Option ℕ) (last : Bool) → Looks f last m v p s (progress.Sleeping why) new u → u ≡ v

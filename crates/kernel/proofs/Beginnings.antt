@@ -2,7 +2,7 @@
 use Rattle.std.proofs.Common.{◌≡◌, ℕ, ◌+◌, ◌^◌, ◌<◌, true, length, set, refl, sym, ◌∙◌, ap, subst, arith, None}
 use Rattle.std.specs.Prelude.{IsTrue}
 use Rattle.std.proofs.lemmas.List.{length-append}
-use Rattle.model.specs.declared.types.Op.{Op}
+use Rattle.model.specs.declared.types.operations.Op.{Op}
 use Rattle.model.specs.Operations.{is_kind}
 use Rattle.bcache.specs.Buffers.{Buffers}
 use Rattle.wal.specs.Machine.{LogState, IsLog, begin_cause, begun}

@@ -5,7 +5,7 @@ use Rattle.std.specs.Option.{option_map}
 use Rattle.std.proofs.lemmas.Bool.{cases_eq, eq-eqb, ne_eqb, eqb-false, false≢true}
 use Rattle.blocks.specs.Disk.{Image, block_at}
 use Rattle.blocks.specs.declared.errors.DiskFault.{DiskFault}
-use Rattle.model.specs.declared.types.Op.{Op}
+use Rattle.model.specs.declared.types.operations.Op.{Op}
 use Rattle.model.specs.Layout.{inode_block}
 use Rattle.ports.specs.History.{Side, first_in}
 use Rattle.wal.specs.declared.types.Commit.{Commit}

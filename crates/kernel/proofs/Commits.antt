@@ -4,7 +4,7 @@ use Rattle.std.specs.Prelude.{IfNone}
 use Rattle.std.proofs.lemmas.Bool.{false≢true}
 use Rattle.blocks.specs.Disk.{Image}
 use Rattle.blocks.specs.declared.errors.DiskFault.{DiskFault}
-use Rattle.model.specs.declared.types.Reply.{Reply}
+use Rattle.model.specs.declared.types.operations.Reply.{Reply}
 use Rattle.bcache.specs.Buffers.{Buffers}
 use Rattle.wal.specs.declared.types.Commit.{Commit}
 use Rattle.wal.specs.declared.types.Commit.TheVariants as commit

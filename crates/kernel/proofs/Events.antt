@@ -4,9 +4,9 @@ use Rattle.std.specs.Prelude.{IsSome, IsTrue, count_by}
 use Rattle.std.proofs.lemmas.Bool.{eqb-false, false≢true}
 use Rattle.std.proofs.lemmas.List.{get_or-set_same, set-get_or, length-append}
 use Rattle.std.proofs.lemmas.List.Sums.{get_or-le-sum_by}
-use Rattle.model.specs.declared.types.Entry.{Entry}
-use Rattle.model.specs.declared.types.Op.{Op}
-use Rattle.model.specs.declared.types.Reply.{Reply}
+use Rattle.model.specs.declared.types.operations.Entry.{Entry}
+use Rattle.model.specs.declared.types.operations.Op.{Op}
+use Rattle.model.specs.declared.types.operations.Reply.{Reply}
 use Rattle.model.specs.Layout.{inode_block}
 use Rattle.model.specs.Operations.{is_kind}
 use Rattle.bcache.specs.Buffers.{Buffers, buffer, released, changed, IsCache}

@@ -5,12 +5,12 @@ use Rattle.std.specs.List.{list_any}
 use Rattle.std.proofs.lemmas.Bool.{cases_eq, eq-eqb, ne_eqb, ltb-true, lt-ltb}
 use Rattle.std.proofs.lemmas.List.Folds.{list_any-append}
 use Rattle.blocks.specs.Disk.{Image, block_at}
-use Rattle.model.specs.declared.types.Dinode.{Dinode}
-use Rattle.model.specs.declared.types.Entry.{Entry}
-use Rattle.model.specs.declared.types.Form.{Form}
-use Rattle.model.specs.declared.types.Op.TheVariants.{Create}
-use Rattle.model.specs.declared.types.Reply.TheVariants.{Made, NoInode}
-use Rattle.model.specs.declared.types.Super.{Super}
+use Rattle.model.specs.declared.types.image.Dinode.{Dinode}
+use Rattle.model.specs.declared.types.operations.Entry.{Entry}
+use Rattle.model.specs.declared.types.image.Form.{Form}
+use Rattle.model.specs.declared.types.operations.Op.TheVariants.{Create}
+use Rattle.model.specs.declared.types.operations.Reply.TheVariants.{Made, NoInode}
+use Rattle.model.specs.declared.types.image.Super.{Super}
 use Rattle.model.specs.Agreement.{Agrees, is_outside_log}
 use Rattle.model.specs.Crash.{labels_of, due_labels}
 use Rattle.model.specs.Fields.{has_bit}
@@ -20,10 +20,10 @@ use Rattle.model.specs.Layout.{form_of, super_in, super_of, inode_of, inode_in, 
 use Rattle.model.specs.Log.{logged_count}
 use Rattle.model.specs.Operations.{is_kind, after}
 use Rattle.model.specs.Soundness.{IsSound}
-use Rattle.model.proofs.FileNumbers.{length-files_of, file_in-files_of}
-use Rattle.model.proofs.LogLemmas.{both_of}
-use Rattle.model.proofs.OutsideLemmas.{behind_log, same_outside_log}
-use Rattle.model.proofs.SoundLemmas.{facts_of}
+use Rattle.model.specs.Lemmas.FileNumbers.{length-files_of, file_in-files_of}
+use Rattle.model.specs.Lemmas.Log.{both_of}
+use Rattle.model.specs.Lemmas.OutsideLog.{behind_log, same_outside_log}
+use Rattle.model.specs.Lemmas.Soundness.{facts_of}
 use Rattle.inodes.specs.Creation.{HasCreated}
 use Rattle.kernel.specs.Keeps.{HasFilesAfter}
 use Rattle.kernel.proofs.Kept.{replay_more}

@@ -1,8 +1,8 @@
 -- What a process holds, it holds while others work.
 use Rattle.std.proofs.Common.{◌≡◌, ◌≢◌, ℕ, ◌+◌, ◌-◌, ◌<◌, Bool, true, false, cond, List, length, length-set, refl, sym, ◌∙◌, ap, subst, arith, ⊎_elim, Option, Some, None}
 use Rattle.blocks.specs.Disk.{Image, block_at}
-use Rattle.model.specs.declared.types.Buffer.{Buffer}
-use Rattle.model.specs.State.{references_of, holder_count}
+use Rattle.bcache.specs.declared.types.Buffer.{Buffer}
+use Rattle.bcache.specs.Current.{references_of, holder_count}
 use Rattle.bcache.specs.Buffers.{Buffers, buffer, with_buffer, found, victim, filled, changed, released, pinned, unpinned, locked, taken, after_acquire, after_acquire_by, after_lock, after_take, acquire_answer, answer_by, lock_answer, take_answer, IsCache}
 use Rattle.bcache.specs.declared.types.Acquired.{Acquired}
 use Rattle.bcache.specs.declared.types.Acquired.TheVariants as acquired

@@ -7,17 +7,17 @@ use Rattle.std.proofs.lemmas.Bool.{lt-ltb}
 use Rattle.std.proofs.lemmas.List.{append_assoc, map-append}
 use Rattle.std.proofs.lemmas.List.Elements.{All-nil, All-cons, All-append, filter-append}
 use Rattle.blocks.specs.Disk.{Image}
-use Rattle.model.specs.declared.types.Entry.{Entry}
-use Rattle.model.specs.declared.types.Form.{Form}
-use Rattle.model.specs.declared.types.Op.{Op}
-use Rattle.model.specs.declared.types.Op.TheVariants.{Create}
-use Rattle.model.specs.declared.types.Reply.TheVariants.{BadType}
+use Rattle.model.specs.declared.types.operations.Entry.{Entry}
+use Rattle.model.specs.declared.types.image.Form.{Form}
+use Rattle.model.specs.declared.types.operations.Op.{Op}
+use Rattle.model.specs.declared.types.operations.Op.TheVariants.{Create}
+use Rattle.model.specs.declared.types.operations.Reply.TheVariants.{BadType}
 use Rattle.model.specs.Files.{Files, files_of}
 use Rattle.model.specs.Journal.{answered, own, kept, is_changing, replay, and_then, after_answer}
 use Rattle.model.specs.Layout.{form_of, inode_count_of}
 use Rattle.model.specs.Operations.{is_kind, after}
-use Rattle.model.proofs.LogLemmas.{both_of}
-use Rattle.model.proofs.RunLemmas.{replays_in_parts}
+use Rattle.model.specs.Lemmas.Log.{both_of}
+use Rattle.model.specs.Lemmas.Runs.{replays_in_parts}
 use Rattle.kernel.specs.Keeps.{AreUpTo, HasItsGroup, IsJournal}
 use Rattle.kernel.proofs.Kept.{kept_up_to, kept_more, kept_still, up_to_later, up_to_one_more, beginnings_none, beginnings_later, beginnings_still, beginnings_more, own_beginning}
 

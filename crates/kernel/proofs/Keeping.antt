@@ -3,16 +3,16 @@ use Rattle.std.proofs.Common.{◌≡◌, ◌⊎◌, inl, inr, ℕ, ◌+◌, ◌<
 use Rattle.std.specs.Prelude.{IsSome}
 use Rattle.std.proofs.lemmas.Bool.{cases_eq, eq-eqb, ne_eqb, false_from_ne_true}
 use Rattle.blocks.specs.Disk.{Image, block_at}
-use Rattle.model.specs.declared.types.Entry.{Entry}
-use Rattle.model.specs.declared.types.Op.{Op}
-use Rattle.model.specs.declared.types.Op.TheVariants.{Create, Write, Read, Trunc, Remove, Stat}
-use Rattle.model.specs.declared.types.Reply.TheVariants.{BadType}
+use Rattle.model.specs.declared.types.operations.Entry.{Entry}
+use Rattle.model.specs.declared.types.operations.Op.{Op}
+use Rattle.model.specs.declared.types.operations.Op.TheVariants.{Create, Write, Read, Trunc, Remove, Stat}
+use Rattle.model.specs.declared.types.operations.Reply.TheVariants.{BadType}
 use Rattle.model.specs.Files.{Files}
 use Rattle.model.specs.Journal.{is_changing, is_number}
 use Rattle.model.specs.Layout.{form_of, inode_count_of, inode_of, inode_in, inode_bytes_in}
 use Rattle.model.specs.Log.{logged_count}
 use Rattle.model.specs.Operations.{is_kind, after}
-use Rattle.model.proofs.RecoveryLemmas.{home_behind}
+use Rattle.model.specs.Lemmas.Recovery.{home_behind}
 use Rattle.bcache.specs.Buffers.{Buffers}
 use Rattle.wal.specs.declared.types.Commit.{Commit}
 use Rattle.wal.specs.declared.types.Commit.TheVariants as commit

@@ -4,12 +4,12 @@ use Rattle.std.specs.List.{list_all}
 use Rattle.std.proofs.lemmas.Bool.{cases_lt, leb-true, le-leb, lt-leb, false≢true}
 use Rattle.std.proofs.lemmas.List.Elements.{filter-append}
 use Rattle.std.proofs.lemmas.List.Folds.{list_all-append}
-use Rattle.model.specs.declared.types.Entry.{Entry}
-use Rattle.model.specs.declared.types.Form.{Form}
+use Rattle.model.specs.declared.types.operations.Entry.{Entry}
+use Rattle.model.specs.declared.types.image.Form.{Form}
 use Rattle.model.specs.Files.{Files}
 use Rattle.model.specs.Journal.{own, kept, is_changing, replay, and_then, after_answer}
-use Rattle.model.proofs.LogLemmas.{both_of}
-use Rattle.model.proofs.RunLemmas.{replays_in_parts}
+use Rattle.model.specs.Lemmas.Log.{both_of}
+use Rattle.model.specs.Lemmas.Runs.{replays_in_parts}
 use Rattle.kernel.specs.Keeps.{AreUpTo, KeepsBeginnings}
 use mathlib.Core.List.{IsPrefix}
 use Rattle.std.proofs.lemmas.List.{append-nil, append_assoc}

@@ -4,9 +4,9 @@ use Rattle.std.specs.Prelude.{IfNone, List, not}
 use Rattle.std.specs.Option.{option_map}
 use Rattle.blocks.specs.Disk.{Image, block_at}
 use Rattle.blocks.specs.declared.errors.DiskFault.{DiskFault}
-use Rattle.model.specs.declared.types.Op.{Op}
-use Rattle.model.specs.declared.types.Why.TheVariants as why
-use Rattle.model.specs.Waiting.{is_log_full}
+use Rattle.model.specs.declared.types.operations.Op.{Op}
+use Rattle.model.specs.declared.types.operations.Why.TheVariants as why
+use Rattle.model.specs.Reservations.{is_log_full}
 use Rattle.bcache.specs.Buffers.{Buffers, buffer, found, victim, answer_by, lock_answer, take_answer}
 use Rattle.bcache.proofs.Slots.{some_found, block_is}
 use Rattle.ports.specs.History.{Side, first_in}

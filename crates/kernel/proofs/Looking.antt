@@ -3,10 +3,9 @@ use Rattle.std.proofs.Common.{◌≡◌, ℕ, ◌-◌, ◌<◌, length, Bool, tr
 use Rattle.std.specs.Prelude.{IsSome}
 use Rattle.std.proofs.lemmas.Bool.{eqb-true}
 use Rattle.blocks.specs.Disk.{Image, block_at}
-use Rattle.model.specs.declared.types.Op.{Op}
-use Rattle.model.specs.declared.types.Reply.{Reply}
-use Rattle.model.specs.Layout.{inode_block, inode_count_of}
-use Rattle.model.specs.Short.{HasNoFreeInode}
+use Rattle.model.specs.declared.types.operations.Op.{Op}
+use Rattle.model.specs.declared.types.operations.Reply.{Reply}
+use Rattle.model.specs.Layout.{inode_block, inode_count_of, HasNoFreeInode}
 use Rattle.model.specs.Soundness.{IsSound}
 use Rattle.wal.specs.declared.types.Commit.{Commit}
 use Rattle.wal.specs.Joint.{JointAt, Joint, seen}

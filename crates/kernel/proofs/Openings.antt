@@ -12,17 +12,16 @@ use Rattle.model.specs.Log.{is_lawful_log, logged_count, recovered}
 use Rattle.model.specs.Soundness.{IsSound}
 use Rattle.model.specs.Fields.{u32_at}
 use Rattle.model.specs.Crash.{Keeps}
-use Rattle.model.specs.declared.types.Entry.{Entry}
-use Rattle.model.specs.declared.types.Form.TheVariants.{One}
+use Rattle.model.specs.declared.types.operations.Entry.{Entry}
+use Rattle.model.specs.declared.types.image.Form.TheVariants.{One}
 use Rattle.model.specs.Verdict.{verdict}
-use Rattle.model.specs.declared.types.Super.{Super}
-use Rattle.model.proofs.LogLemmas.{recovered_empty, recovered_low, length-recovered}
-use Rattle.model.proofs.RecoveryLemmas.{logged_count-left}
-use Rattle.model.proofs.SuperLemmas.{super_of-recovered}
-use Rattle.model.proofs.SoundLemmas.{verdict_sound, sound_verdict, facts_of, long_geometry}
-use Rattle.model.specs.declared.types.Buffer.{Buffer}
-use Rattle.bcache.specs.Buffers.{buffer, empty_buffer}
-use Rattle.bcache.specs.Buffers.{fresh as fresh_buffers}
+use Rattle.model.specs.declared.types.image.Super.{Super}
+use Rattle.model.specs.Lemmas.Log.{recovered_empty, recovered_low, length-recovered}
+use Rattle.model.specs.Lemmas.Recovery.{logged_count-left}
+use Rattle.model.specs.Lemmas.Super.{super_of-recovered}
+use Rattle.model.specs.Lemmas.Soundness.{verdict_sound, sound_verdict, facts_of, long_geometry}
+use Rattle.bcache.specs.declared.types.Buffer.{Buffer}
+use Rattle.bcache.specs.Buffers.{buffer, empty_buffer, fresh as fresh_buffers}
 use Rattle.wal.specs.Machine.{new_log, used_by}
 use Rattle.wal.specs.Volume.{VolumeState}
 use Rattle.wal.proofs.LawfulLogs.{empty_lawful}

@@ -6,11 +6,11 @@ use Rattle.std.proofs.lemmas.Bool.{cases_eq, false≢true}
 use Rattle.blocks.specs.Disk.{Image}
 use Rattle.blocks.specs.declared.errors.DiskFault.{DiskFault}
 use Rattle.model.specs.Journal.{kept}
-use Rattle.model.specs.declared.types.Entry.{Entry}
-use Rattle.model.specs.declared.types.Op.{Op}
-use Rattle.model.specs.declared.types.Op.TheVariants.{Create}
-use Rattle.model.specs.declared.types.Reply.{Reply}
-use Rattle.model.specs.declared.types.Reply.TheVariants.{BadType}
+use Rattle.model.specs.declared.types.operations.Entry.{Entry}
+use Rattle.model.specs.declared.types.operations.Op.{Op}
+use Rattle.model.specs.declared.types.operations.Op.TheVariants.{Create}
+use Rattle.model.specs.declared.types.operations.Reply.{Reply}
+use Rattle.model.specs.declared.types.operations.Reply.TheVariants.{BadType}
 use Rattle.ports.specs.History.{Side, first_in}
 use Rattle.wal.specs.declared.types.Commit.{Commit}
 use Rattle.wal.specs.declared.types.Commit.TheVariants as commit

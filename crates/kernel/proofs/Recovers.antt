@@ -4,9 +4,9 @@ use Rattle.std.proofs.lemmas.List.{length-set, get_or-set_other, append-nil}
 use Rattle.blocks.specs.Block.{zero_block}
 use Rattle.blocks.specs.Disk.{Image}
 use Rattle.blocks.specs.declared.errors.DiskFault.{DiskFault}
-use Rattle.model.specs.declared.types.Entry.{Entry}
-use Rattle.model.specs.declared.types.Op.TheVariants.{Create}
-use Rattle.model.specs.declared.types.Reply.TheVariants.{Made, NoInode}
+use Rattle.model.specs.declared.types.operations.Entry.{Entry}
+use Rattle.model.specs.declared.types.operations.Op.TheVariants.{Create}
+use Rattle.model.specs.declared.types.operations.Reply.TheVariants.{Made, NoInode}
 use Rattle.model.specs.Agreement.{Agrees, is_outside_log}
 use Rattle.model.specs.Crash.{Keeps}
 use Rattle.model.specs.Journal.{kept, is_changing, is_number}
@@ -14,8 +14,8 @@ use Rattle.model.specs.Layout.{inode_count_of, inode_of, super_in}
 use Rattle.model.specs.Log.{logged_count, is_lawful_log, recovered}
 use Rattle.model.specs.Operations.{is_kind}
 use Rattle.model.specs.Soundness.{IsSound}
-use Rattle.model.proofs.RecoveryLemmas.{logged_count-left}
-use Rattle.model.proofs.SoundLemmas.{long_geometry}
+use Rattle.model.specs.Lemmas.Recovery.{logged_count-left}
+use Rattle.model.specs.Lemmas.Soundness.{long_geometry}
 use Rattle.bcache.specs.Buffers.{Buffers}
 use Rattle.bcache.proofs.Shown.{length-current}
 use Rattle.wal.specs.declared.types.Commit.{Commit}

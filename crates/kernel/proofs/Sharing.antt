@@ -5,7 +5,7 @@ use Rattle.std.specs.Option.{option_map}
 use Rattle.std.proofs.lemmas.List.{get_or-set_other}
 use Rattle.blocks.specs.Disk.{Image}
 use Rattle.blocks.specs.declared.errors.DiskFault.{DiskFault}
-use Rattle.model.specs.declared.types.Op.{Op}
+use Rattle.model.specs.declared.types.operations.Op.{Op}
 use Rattle.ports.specs.History.{Side, first_in}
 use Rattle.wal.specs.declared.types.Commit.TheVariants as commit
 use Rattle.wal.specs.Machine.{LogState}
@@ -112,7 +112,7 @@ module _ {D : Type 0} (x y : Image) (n p : ℕ) (v u : VolumeState D) (w z : Wor
         by_answer step.ShutDown made = absurd made
         by_answer step.NotYet made = absurd made
 
-    ends : (group : ℕ) (reply : Rattle.model.specs.declared.types.Reply.Reply) (r : Step) → (process w p).at ≡ at.Ending group reply → Ends v w p r u z → Gives
+    ends : (group : ℕ) (reply : Rattle.model.specs.declared.types.operations.Reply.Reply) (r : Step) → (process w p).at ≡ at.Ending group reply → Ends v w p r u z → Gives
     ends group reply r stands made = by_answer r made
       where
         log : (q : ℕ) → q ≢ p → is_committing_at (process w q).at ≡ true → u.log ≡ v.log

@@ -2,7 +2,7 @@
 use Rattle.std.proofs.Common.{◌≡◌, inr, ℕ, Bool, false, List, sym, ◌∙◌, ap, subst, Option}
 use Rattle.std.specs.Option.{option_map}
 use mathlib.Core.List.{IsPrefix}
-use Rattle.model.specs.declared.types.Op.{Op}
+use Rattle.model.specs.declared.types.operations.Op.{Op}
 use Rattle.ports.specs.History.{Side, first_in}
 use Rattle.wal.specs.Volume.{VolumeState}
 use Rattle.kernel.specs.declared.stepping.Waiting.{Waiting}

@@ -1,6 +1,6 @@
 -- The journal as contracts see it.
 use Rattle.std.specs.Prelude.{ℕ, ◌+◌, ◌-◌, ◌++◌, ◌∷◌, [], List}
-use Rattle.model.specs.declared.types.Entry.{Entry}
+use Rattle.model.specs.declared.types.operations.Entry.{Entry}
 
 -- the entries, the oldest first, and the places that are kept for more
 pub record Entries : Type 0 where

@@ -5,7 +5,7 @@ use Rattle.std.specs.List.{list_all}
 use Rattle.blocks.specs.Block.{zero_block}
 use Rattle.blocks.specs.Disk.{Image}
 use Rattle.blocks.specs.declared.errors.DiskFault.{DiskFault}
-use Rattle.model.specs.declared.types.Entry.{Entry}
+use Rattle.model.specs.declared.types.operations.Entry.{Entry}
 use Rattle.model.specs.Crash.{IsUntouched, Keeps, labels_of, due_labels}
 use Rattle.model.specs.Files.{files_of}
 use Rattle.model.specs.Journal.{kept, replay, answered, is_changing, is_number}

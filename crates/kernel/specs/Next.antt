@@ -4,9 +4,9 @@ use Rattle.std.specs.Prelude.{◌≡◌, ◌⊎◌, ℕ, ◌∷◌, Bool, false,
 use mathlib.Core.List.{IsPrefix}
 use Rattle.blocks.specs.Disk.{Image, one_more}
 use Rattle.blocks.specs.declared.errors.DiskFault.{DiskFault}
-use Rattle.model.specs.declared.types.Op.{Op}
-use Rattle.model.specs.declared.types.Op.TheVariants.{Create}
-use Rattle.model.specs.declared.types.Why.TheVariants as why
+use Rattle.model.specs.declared.types.operations.Op.{Op}
+use Rattle.model.specs.declared.types.operations.Op.TheVariants.{Create}
+use Rattle.model.specs.declared.types.operations.Why.TheVariants as why
 use Rattle.model.specs.Codec.{header_block}
 use Rattle.wal.specs.declared.types.Committed.TheVariants as committed
 use Rattle.wal.specs.declared.types.Ended.TheVariants as ended_as

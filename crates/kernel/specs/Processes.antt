@@ -1,10 +1,10 @@
 -- The processes as contracts see them, and what each step makes of them.
 use Rattle.std.specs.Prelude.{ℕ, ◌+◌, Bool, false, List, [], replicate, slice_index_or, slice_set, Option, Some, None}
-use Rattle.model.specs.declared.types.Answer.{Answer}
-use Rattle.model.specs.declared.types.Entry.{Entry}
-use Rattle.model.specs.declared.types.Op.{Op}
-use Rattle.model.specs.declared.types.Reply.{Reply}
-use Rattle.model.specs.declared.types.Reply.TheVariants.{Made, NoInode, BadType}
+use Rattle.model.specs.declared.types.operations.Answer.{Answer}
+use Rattle.model.specs.declared.types.operations.Entry.{Entry}
+use Rattle.model.specs.declared.types.operations.Op.{Op}
+use Rattle.model.specs.declared.types.operations.Reply.{Reply}
+use Rattle.model.specs.declared.types.operations.Reply.TheVariants.{Made, NoInode, BadType}
 use Rattle.inodes.specs.declared.ialloc.Ialloc.{Ialloc}
 use Rattle.kernel.specs.declared.types.At.{At}
 use Rattle.kernel.specs.declared.types.At.TheVariants as at

@@ -1,8 +1,8 @@
 -- What a contract sees of a kernel.
 use Rattle.std.specs.Prelude.{◌≡◌, ℕ, Bool, true, false, length, IfNone, if◌then◌else◌}
 use Rattle.blocks.specs.Disk.{Image}
-use Rattle.model.specs.declared.types.Op.{Op}
-use Rattle.model.specs.declared.types.Op.TheVariants.{Create, Write, Read, Trunc, Remove, Stat}
+use Rattle.model.specs.declared.types.operations.Op.{Op}
+use Rattle.model.specs.declared.types.operations.Op.TheVariants.{Create, Write, Read, Trunc, Remove, Stat}
 use Rattle.model.specs.Layout.{inode_count_of}
 use Rattle.model.specs.Operations.{is_kind}
 use Rattle.kernel.specs.declared.stepping.Waiting.{Waiting}

@@ -1,10 +1,9 @@
 -- The turn of a creation: what its look at an inode block comes to.
 use Rattle.std.specs.Prelude.{◌≡◌, ℕ, ◌-◌, Option, Some, None}
 use Rattle.blocks.specs.Disk.{Image}
-use Rattle.model.specs.declared.types.Reply.{Reply}
-use Rattle.model.specs.declared.types.Reply.TheVariants.{Made, NoInode, Wrote, Bytes, Done, StatOf, NoFile, BadOffset, TooBig, TooLong, BadType}
-use Rattle.model.specs.Layout.{inode_block, inode_of}
-use Rattle.model.specs.Short.{HasNoFreeInode}
+use Rattle.model.specs.declared.types.operations.Reply.{Reply}
+use Rattle.model.specs.declared.types.operations.Reply.TheVariants.{Made, NoInode, Wrote, Bytes, Done, StatOf, NoFile, BadOffset, TooBig, TooLong, BadType}
+use Rattle.model.specs.Layout.{inode_block, inode_of, HasNoFreeInode}
 use Rattle.inodes.specs.declared.ialloc.Ialloc.{Ialloc}
 use Rattle.inodes.specs.Creation.{HasCreated}
 use Rattle.kernel.specs.declared.types.At.{At}

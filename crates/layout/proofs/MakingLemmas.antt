@@ -5,7 +5,7 @@ use Rattle.std.proofs.lemmas.List.{length-set, get_or-set_same, get_or-set_other
 use Rattle.std.proofs.lemmas.List.FromFn.{fill_by_all}
 use Rattle.blocks.specs.Disk.{Image, block_at, one_more, LeavesOnly, Elapses, IsOldOrNew}
 use Rattle.blocks.proofs.Moments.{joined, goes_on}
-use Rattle.model.specs.declared.types.Form.TheVariants.{One}
+use Rattle.model.specs.declared.types.image.Form.TheVariants.{One}
 use Rattle.model.specs.Codec.{made_block, made_image}
 use Rattle.layout.specs.Making.{counted, KeepsSuper, MakesSuperLast, HasMade}
 

@@ -2,8 +2,8 @@
 use Rattle.std.specs.Prelude.{◌≡◌, ◌⊎◌, ◌≤◌, ◌+◌, ℕ, List, length, Option, Some, None}
 use Rattle.blocks.specs.Disk.{Image, Rose}
 use Rattle.model.specs.Log.{homes_of, place_among}
-use Rattle.model.specs.declared.types.CheckFault.{CheckFault}
-use Rattle.model.specs.declared.types.CheckFault.TheVariants.{Disk, NoMemory}
+use Rattle.model.specs.declared.types.fault.CheckFault.{CheckFault}
+use Rattle.model.specs.declared.types.fault.CheckFault.TheVariants.{Disk, NoMemory}
 
 -- a fault of the image, of a disk whose count of faults rose, or of memory
 abbrev pub IsCause : Option CheckFault → ℕ → ℕ → CheckFault → Type 0

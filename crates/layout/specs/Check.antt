@@ -2,9 +2,9 @@
 use Rattle.std.specs.Prelude.{◌≡◌, ◌≤◌, ◌<◌, ◌+◌, ◌/◌, ℕ, true, length, Result, MatchResult, None}
 use Rattle.blocks.specs.Disk.{Image}
 use Rattle.model.specs.Layout.{super_of, form_of, meta_count}
-use Rattle.model.specs.declared.types.CheckFault.{CheckFault}
-use Rattle.model.specs.declared.types.Super.{Super}
-use Rattle.model.specs.declared.types.Form.TheVariants.{One}
+use Rattle.model.specs.declared.types.fault.CheckFault.{CheckFault}
+use Rattle.model.specs.declared.types.image.Super.{Super}
+use Rattle.model.specs.declared.types.image.Form.TheVariants.{One}
 use Rattle.model.specs.Verdict.{or_else, inodes_fault, marks_fault}
 use Rattle.layout.specs.Cause.{IsCause}
 use Rattle.model.specs.Log.{logged_count, homes_of, is_lawful_log, recovered}

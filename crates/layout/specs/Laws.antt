@@ -1,10 +1,10 @@
 -- What was written is read again, and a new image is sound.
 use Rattle.std.specs.Prelude.{◌≡◌, ◌≢◌, ℕ, ◌*◌, ◌%◌, ◌^◌, ◌<◌, ◌≤◌, true, false, IsTrue, List, length, replicate, None, slice_index, slice_set}
 use Rattle.blocks.specs.Disk.{Image}
-use Rattle.model.specs.declared.types.Form.{Form}
-use Rattle.model.specs.declared.types.Form.TheVariants.{One}
-use Rattle.model.specs.declared.types.Super.{Super}
-use Rattle.model.specs.declared.types.Dinode.{Dinode}
+use Rattle.model.specs.declared.types.image.Form.{Form}
+use Rattle.model.specs.declared.types.image.Form.TheVariants.{One}
+use Rattle.model.specs.declared.types.image.Super.{Super}
+use Rattle.model.specs.declared.types.image.Dinode.{Dinode}
 use Rattle.model.specs.Fields.{u32_at, words_of, has_bit}
 use Rattle.model.specs.Layout.{magic_of, super_in, inode_in, inode_bytes_in, is_inode_count, is_size}
 use Rattle.model.specs.Log.{logged_in, homes_in}

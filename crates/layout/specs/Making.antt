@@ -1,7 +1,7 @@
 -- How a new image gets onto a disk.
 use Rattle.std.specs.Prelude.{◌≡◌, ◌≢◌, ◌⊎◌, ℕ, zero, suc, ◌<◌, ⊤, length, Result, Ok, Err}
 use Rattle.blocks.specs.Disk.{Image, block_at, one_more}
-use Rattle.model.specs.declared.types.Form.TheVariants.{One}
+use Rattle.model.specs.declared.types.image.Form.TheVariants.{One}
 use Rattle.model.specs.Codec.{made_block, made_image}
 use Rattle.layout.specs.declared.geometry.MkfsFault.{MkfsFault}
 use Rattle.layout.specs.declared.geometry.MkfsFault.TheVariants.{SizeRange, InodeRange, Disk, NoMemory}

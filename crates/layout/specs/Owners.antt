@@ -2,9 +2,9 @@
 use Rattle.std.specs.Prelude.{◌≡◌, ℕ, ◌+◌, ◌<◌, ◌==◌, Bool, false, if◌then◌else◌, List, [], ◌∷◌, ◌++◌, take, length, slice_index, slice_index_or, Result, MatchResult, Some, None, is_some}
 use Rattle.std.specs.List.{list_any}
 use Rattle.blocks.specs.Disk.{Image, block_at}
-use Rattle.model.specs.declared.types.CheckFault.{CheckFault}
-use Rattle.model.specs.declared.types.Dinode.{Dinode}
-use Rattle.model.specs.declared.types.Pointer.{Pointer}
+use Rattle.model.specs.declared.types.fault.CheckFault.{CheckFault}
+use Rattle.model.specs.declared.types.image.Dinode.{Dinode}
+use Rattle.model.specs.declared.types.image.Pointer.{Pointer}
 use Rattle.model.specs.Fields.{words_of}
 use Rattle.model.specs.Layout.{super_of, first_data_block}
 use Rattle.model.specs.Places.{addresses_in, pointer_of, places_of}

@@ -35,7 +35,7 @@ pub struct Report {
 }
 
 // The place of block `b` among the homes.
-#[tactic(auto, using(model::proofs::Steps::position_from_zero))]
+#[tactic(auto, using(model::specs::Lemmas::Steps::position_from_zero))]
 fn place_among(homes: &[u32], b: u32) -> Option<usize>
     ensures place { result ≡ place_among homes.now b }
     ensures below { IfSome result (λ place. place < length homes.now) }

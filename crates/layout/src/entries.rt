@@ -8,7 +8,7 @@ use blocks::Block;
 
 /// Entry `e` of a block of addresses: the number of a block, or 0 for none (the xv6 book, the
 /// chapter "File system": "Code: Inode content").
-#[tactic(auto, using(model::proofs::Words::word_at))]
+#[tactic(auto, using(model::specs::Lemmas::Words::word_at))]
 pub fn entry(block: &Block, e: u32) -> u32
     requires { e < 256 }
     ensures { result ≡ slice_index (words_of block.now) e }
@@ -25,7 +25,7 @@ pub fn set_entry(block: &mut Block, e: u32, address: u32)
 }
 
 /// All 256 entries of a block of addresses.
-#[tactic(auto, using(model::proofs::Words::block_words, std::proofs::lemmas::List::Edits::fill_by_more))]
+#[tactic(auto, using(model::specs::Lemmas::Words::block_words, std::proofs::lemmas::List::Edits::fill_by_more))]
 pub fn read_all(block: &Block) -> [u32; 256]
     ensures value { result ≡ words_of block.now }
     ensures len { length result ≡ 256 }

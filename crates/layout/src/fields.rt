@@ -51,7 +51,7 @@ pub(crate) fn write_u32(block: &mut Block, at: usize, n: u32)
 }
 
 // Writes numbers of four bytes each, one after the other from a place on.
-#[tactic(auto, using(model::proofs::Codecs::overwritten_more_words))]
+#[tactic(auto, using(model::specs::Lemmas::Codecs::overwritten_more_words))]
 pub(crate) fn write_words(block: &mut Block, at: usize, words: &[u32])
     requires { at + 4 * length words.now ≤ 1024 }
     ensures { block.new ≡ overwritten block.old at (bytes_of_words words.now) }

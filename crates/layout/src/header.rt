@@ -57,7 +57,7 @@ impl Header {
     }
 
     /// Writes the header, and zeroes behind it.
-    #[tactic(auto, using(model::proofs::Codecs::block_of_words_after))]
+    #[tactic(auto, using(model::specs::Lemmas::Codecs::block_of_words_after))]
     pub fn write(&self, block: &mut Block)
         requires { self.now.n ≡ length self.now.homes.items }
         ensures { block.new ≡ header_block self.now.homes.items }
@@ -70,7 +70,7 @@ impl Header {
 }
 
 // The first `count` homes in a header's bytes.
-#[tactic(auto, using(model::proofs::Words::header_words_more))]
+#[tactic(auto, using(model::specs::Lemmas::Words::header_words_more))]
 fn read_homes(bytes: &[u8], count: u32) -> ArrayVec<u32, 30>
     requires long { 124 ≤ length bytes.now }
     requires few { count ≤ 30 }

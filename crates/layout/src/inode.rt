@@ -9,7 +9,7 @@ use blocks::Block;
 use model::types::Dinode;
 
 // The 13 addresses in an inode's bytes.
-#[tactic(auto, using(model::proofs::Words::thirteen_words, std::proofs::lemmas::List::Edits::fill_by_more))]
+#[tactic(auto, using(model::specs::Lemmas::Words::thirteen_words, std::proofs::lemmas::List::Edits::fill_by_more))]
 fn addresses(bytes: &[u8]) -> [u32; 13]
     requires { length bytes.now ≡ 64 }
     ensures value { result ≡ words_of (drop 12 bytes.now) }
@@ -49,7 +49,7 @@ pub fn read_at(block: &Block, i: u32) -> Dinode
 }
 
 /// Writes the inode of a number into the block that holds it.
-#[tactic(auto, using(model::proofs::Codecs::dinode_written))]
+#[tactic(auto, using(model::specs::Lemmas::Codecs::dinode_written))]
 pub fn write_at(block: &mut Block, i: u32, inode: &Dinode)
     ensures { block.new ≡ with_inode_bytes block.old i inode.now }
 {

@@ -2,7 +2,7 @@
 ghost use Rattle.std.specs.Prelude.{◌≡◌, ◌≢◌, ◌↔◌, ◌≤◌, ◌<◌, ◌-◌, ◌&&◌, ◌==◌, false, length, slice_set, IsTrue, IsOk, OnOk, OnErr, IfErr};
 ghost use Rattle.std.specs.Result.{IsErrOf};
 ghost use Rattle.blocks.specs.Disk.{one_more, Rose, LeavesOnly};
-ghost use Rattle.model.specs.declared.types.Form.TheVariants.{One};
+ghost use Rattle.model.specs.declared.types.image.Form.TheVariants.{One};
 ghost use Rattle.model.specs.Layout.{is_inode_count, is_size};
 ghost use Rattle.model.specs.Codec.{made_block, made_image};
 ghost use Rattle.layout.specs.Making.{counted, OnRefusal, OnDisk, KeepsSuper, MakesSuperLast, HasMade};

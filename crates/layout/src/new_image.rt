@@ -1,7 +1,7 @@
 // The blocks of a new image.
 ghost use Rattle.std.specs.Prelude.{◌≡◌, ◌≤◌, IfOk};
 ghost use Rattle.blocks.specs.Block.{zero_block};
-ghost use Rattle.model.specs.declared.types.Form.TheVariants.{One};
+ghost use Rattle.model.specs.declared.types.image.Form.TheVariants.{One};
 ghost use Rattle.model.specs.Layout.{meta_count, planned_super};
 ghost use Rattle.model.specs.Codec.{super_block, first_bits, made_block};
 
@@ -60,7 +60,7 @@ impl NewImage {
 }
 
 // A bitmap whose first `count` bits are set.
-#[tactic(auto, using(model::proofs::Codecs::first_bits_none, model::proofs::Codecs::first_bits_more))]
+#[tactic(auto, using(model::specs::Lemmas::Codecs::first_bits_none, model::specs::Lemmas::Codecs::first_bits_more))]
 fn marked(alloc: Global, count: u32) -> Result<Block, NoMemory>
     requires { count ≤ 8192 }
     ensures { IfOk result (λ block. block ≡ first_bits count) }

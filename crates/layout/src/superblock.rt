@@ -3,7 +3,7 @@ ghost use Rattle.std.specs.Prelude.{◌≡◌, ◌≤◌, length};
 ghost use Rattle.model.specs.Fields.{u32_at};
 ghost use Rattle.model.specs.Layout.{super_in};
 ghost use Rattle.model.specs.Codec.{super_block, super_words};
-ghost use Rattle.model.specs.declared.types.Form.TheVariants.{One};
+ghost use Rattle.model.specs.declared.types.image.Form.TheVariants.{One};
 
 use crate::fields::{clear, read_u32, write_words};
 use blocks::Block;

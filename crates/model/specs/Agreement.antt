@@ -2,8 +2,8 @@
 use Rattle.std.specs.Prelude.{◌≡◌, ◌≢◌, ℕ, ◌||◌, nat_lt, IsTrue, Bool, List}
 use Rattle.std.specs.List.{list_all}
 use Rattle.blocks.specs.Disk.{Image, block_at}
-use Rattle.model.specs.declared.types.Dinode.{Dinode}
-use Rattle.model.specs.declared.types.Pointer.{Pointer}
+use Rattle.model.specs.declared.types.image.Dinode.{Dinode}
+use Rattle.model.specs.declared.types.image.Pointer.{Pointer}
 use Rattle.model.specs.Places.{pointers_in, address_in, addresses_in}
 use Rattle.model.specs.Names.{names_of}
 use Rattle.model.specs.Files.{joined, bytes_in, file_of}

@@ -6,9 +6,9 @@ use mir.Syntax.{w8}
 use Rattle.byteorder.specs.Endian.{little_bytes}
 use Rattle.blocks.specs.Block.{zero_block, overwritten}
 use Rattle.blocks.specs.Disk.{Image}
-use Rattle.model.specs.declared.types.Dinode.{Dinode}
-use Rattle.model.specs.declared.types.Form.{Form}
-use Rattle.model.specs.declared.types.Super.{Super}
+use Rattle.model.specs.declared.types.image.Dinode.{Dinode}
+use Rattle.model.specs.declared.types.image.Form.{Form}
+use Rattle.model.specs.declared.types.image.Super.{Super}
 use Rattle.model.specs.Layout.{magic_of, meta_count, planned_super}
 
 -- numbers of four bytes each, one after the other

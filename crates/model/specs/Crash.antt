@@ -1,8 +1,8 @@
 -- What an image keeps after a stop.
-use Rattle.std.specs.Prelude.{◌≡◌, ◌≢◌, ℕ, ◌+◌, ◌*◌, ◌/◌, ◌<◌, ◌≤◌, if◌then◌else◌, IsTrue, Bool, List, [], ◌∷◌, length, slice_set, Some}
+use Rattle.std.specs.Prelude.{◌≡◌, ◌≢◌, ℕ, ◌+◌, ◌*◌, ◌/◌, ◌<◌, ◌≤◌, if◌then◌else◌, IsTrue, List, length, Some}
 use Rattle.std.specs.List.{list_any}
 use Rattle.blocks.specs.Disk.{Image, block_at}
-use Rattle.model.specs.declared.types.Entry.{Entry}
+use Rattle.model.specs.declared.types.operations.Entry.{Entry}
 use Rattle.model.specs.Layout.{form_of, inode_of, inode_bytes, inode_count_of, is_marked}
 use Rattle.model.specs.Log.{is_lawful_log, recovered}
 use Rattle.model.specs.Files.{files_of}
@@ -34,13 +34,3 @@ pub record Keeps (opening : Image) (journal : List Entry) (x : Image) (c : ℕ) 
   pub untouched : IsUntouched opening (recovered x)
   pub labels : (i : ℕ) → (inode_of (recovered x) i).kind ≢ 0 → IsTrue (is_number (inode_count_of opening) i) →
       labels_of (recovered x) i ≡ due_labels opening (kept (inode_count_of opening) journal c) i
-
--- the image with those of the later writes that got to the disk, each whole, in their order
-abbrev pub image_left : Image → List (ℕ × List ℕ) → List Bool → Image
-image_left x [] keep = x
-image_left x (w ∷ writes) [] = x
-image_left x (w ∷ writes) (k ∷ keep) = image_left (if k then slice_set x w.0 w.1 else x) writes keep
-
--- an image that a stop may leave of a disk that holds these writes back, those that answered a fault among them
-abbrev pub HeldImages : Image → List (ℕ × List ℕ) → Image → Type 0
-HeldImages x writes y = (keep : List Bool) × (length keep ≡ length writes) × (image_left x writes keep ≡ y)

@@ -2,8 +2,8 @@
 use Rattle.std.specs.Prelude.{ℕ, ◌+◌, ◌/◌, ◌==◌, if◌then◌else◌, is_some, List, [], take, map, Option, Some, None, slice_index_or, count_by}
 use Rattle.std.specs.List.{flat_map, range_with_len}
 use Rattle.blocks.specs.Disk.{Image, block_at}
-use Rattle.model.specs.declared.types.Dinode.{Dinode}
-use Rattle.model.specs.declared.types.File.{File}
+use Rattle.model.specs.declared.types.image.Dinode.{Dinode}
+use Rattle.model.specs.declared.types.image.File.{File}
 use Rattle.model.specs.Layout.{inode_of, inode_count_of}
 use Rattle.model.specs.Places.{address_in}
 

@@ -1,12 +1,12 @@
 -- Runs of operations: the journal and what of it is kept.
 use Rattle.std.specs.Prelude.{ℕ, ◌==◌, ◌&&◌, ◌||◌, not, nat_lt, nat_le, is_some, Bool, false, List, [], ◌∷◌, length, Option, Some, None}
 use Rattle.std.specs.List.{filter}
-use Rattle.model.specs.declared.types.Form.{Form}
-use Rattle.model.specs.declared.types.Op.{Op}
-use Rattle.model.specs.declared.types.Op.TheVariants.{Create, Write, Read, Trunc, Remove, Stat}
-use Rattle.model.specs.declared.types.Reply.{Reply}
-use Rattle.model.specs.declared.types.Reply.TheVariants.{Made}
-use Rattle.model.specs.declared.types.Entry.{Entry}
+use Rattle.model.specs.declared.types.image.Form.{Form}
+use Rattle.model.specs.declared.types.operations.Op.{Op}
+use Rattle.model.specs.declared.types.operations.Op.TheVariants.{Create, Write, Read, Trunc, Remove, Stat}
+use Rattle.model.specs.declared.types.operations.Reply.{Reply}
+use Rattle.model.specs.declared.types.operations.Reply.TheVariants.{Made}
+use Rattle.model.specs.declared.types.operations.Entry.{Entry}
 use Rattle.model.specs.Files.{Files}
 use Rattle.model.specs.Operations.{after, is_kind, transfer_limit}
 

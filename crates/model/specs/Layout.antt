@@ -1,10 +1,10 @@
 -- The superblock, the inodes and the bitmap of an image.
-use Rattle.std.specs.Prelude.{ℕ, ◌+◌, ◌-◌, ◌*◌, ◌/◌, ◌%◌, ◌^◌, ◌==◌, ◌&&◌, nat_le, nat_lt, if◌then◌else◌, Bool, List, [], ◌∷◌, ◌++◌, drop, replicate, slice_range}
+use Rattle.std.specs.Prelude.{◌≡◌, ◌≢◌, ℕ, ◌<◌, ◌+◌, ◌-◌, ◌*◌, ◌/◌, ◌%◌, ◌^◌, ◌==◌, ◌&&◌, nat_le, nat_lt, if◌then◌else◌, Bool, List, [], ◌∷◌, ◌++◌, drop, replicate, slice_range}
 use Rattle.blocks.specs.Disk.{Image, block_at}
-use Rattle.model.specs.declared.types.Form.{Form}
-use Rattle.model.specs.declared.types.Form.TheVariants.{One, Two}
-use Rattle.model.specs.declared.types.Super.{Super}
-use Rattle.model.specs.declared.types.Dinode.{Dinode}
+use Rattle.model.specs.declared.types.image.Form.{Form}
+use Rattle.model.specs.declared.types.image.Form.TheVariants.{One, Two}
+use Rattle.model.specs.declared.types.image.Super.{Super}
+use Rattle.model.specs.declared.types.image.Dinode.{Dinode}
 use Rattle.model.specs.Fields.{u16_at, u32_at, words_of, has_bit}
 
 -- the first number of the superblock
@@ -125,3 +125,8 @@ inode_of x i = inode_in (inode_bytes x i)
 -- whether the bitmap says that a block is used
 abbrev pub is_marked : Image → ℕ → Bool
 is_marked x b = has_bit (block_at x (super_of x).bmapstart) b
+
+-- no number in an inode block is free
+abbrev pub HasNoFreeInode : Image → ℕ → Type 0
+HasNoFreeInode now block =
+    (i : ℕ) → 0 < i → i < inode_count_of now → inode_block i ≡ block → (inode_of now i).kind ≢ 0

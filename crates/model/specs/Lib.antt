@@ -11,9 +11,7 @@ pub mod Operations
 pub mod Journal
 pub mod Crash
 pub mod Codec
-pub mod Order
-pub mod State
-pub mod Waiting
-pub mod Short
+pub mod Reservations
 pub mod Agreement
 pub mod Laws
+pub mod Lemmas

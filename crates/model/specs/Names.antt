@@ -1,11 +1,10 @@
 -- The blocks that an inode names, without their use.
-use Rattle.std.specs.Prelude.{◌≢◌, ℕ, zero, suc, ◌*◌, ◌<◌, ◌==◌, if◌then◌else◌, List, [], ◌∷◌, ◌++◌}
+use Rattle.std.specs.Prelude.{ℕ, zero, suc, ◌==◌, if◌then◌else◌, List, [], ◌∷◌, ◌++◌}
 use Rattle.std.specs.List.{flat_map}
 use Rattle.blocks.specs.Disk.{Image, block_at}
-use Rattle.model.specs.declared.types.Dinode.{Dinode}
+use Rattle.model.specs.declared.types.image.Dinode.{Dinode}
 use Rattle.model.specs.Fields.{words_of}
 use Rattle.model.specs.Layout.{depths, form_of}
-use Rattle.model.specs.Places.{address_in}
 
 -- all blocks from an address on: itself, and what stands behind it
 abbrev pub names_under : Image → ℕ → ℕ → List ℕ
@@ -20,7 +19,3 @@ names_along x (depth ∷ depths) (address ∷ addresses) = names_under x depth a
 
 unfoldable pub names_of : Image → Dinode → List ℕ
 names_of x d = if d.kind == 0 then [] else names_along x (depths (form_of x)) d.addrs
-
--- each block that the size needs is there
-abbrev pub IsWhole : Image → Dinode → Type 0
-IsWhole x d = (k : ℕ) → k * 1024 < d.size → address_in x d k ≢ 0

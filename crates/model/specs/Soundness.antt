@@ -1,9 +1,9 @@
 -- A sound image.
 use Rattle.std.specs.Prelude.{◌≡◌, ℕ, ◌==◌, ◌||◌, ◌≢◌, ◌<◌, ◌≤◌, nat_lt, ◌+◌, if◌then◌else◌, IsTrue, All, List, [], ◌∷◌, length}
 use Rattle.blocks.specs.Disk.{Image}
-use Rattle.model.specs.declared.types.Dinode.{Dinode}
-use Rattle.model.specs.declared.types.Form.{Form}
-use Rattle.model.specs.declared.types.Pointer.{Pointer}
+use Rattle.model.specs.declared.types.image.Dinode.{Dinode}
+use Rattle.model.specs.declared.types.image.Form.{Form}
+use Rattle.model.specs.declared.types.image.Pointer.{Pointer}
 use Rattle.model.specs.Layout.{form_of, has_known_magic, super_of, is_lawful_super, first_data_block, inode_of, greatest_size, is_marked}
 use Rattle.model.specs.Log.{logged_count}
 use Rattle.model.specs.Places.{pointers_of, numbers_of, places_of}

@@ -2,9 +2,9 @@
 use Rattle.std.specs.Prelude.{ℕ, ◌-◌, ◌==◌, ◌&&◌, ◌||◌, not, nat_lt, if◌then◌else◌, List, [], ◌∷◌, ◌++◌, length, Option, Some, None}
 use Rattle.std.specs.List.{list_any, flat_map, range_with_len}
 use Rattle.blocks.specs.Disk.{Image}
-use Rattle.model.specs.declared.types.CheckFault.{CheckFault}
-use Rattle.model.specs.declared.types.CheckFault.TheVariants.{BadMagic, BadGeometry, BadLog, BadType, BadSize, BadAddress, TwiceUsed, UsedButFree, LostBlock}
-use Rattle.model.specs.declared.types.Pointer.{Pointer}
+use Rattle.model.specs.declared.types.fault.CheckFault.{CheckFault}
+use Rattle.model.specs.declared.types.fault.CheckFault.TheVariants.{BadMagic, BadGeometry, BadLog, BadType, BadSize, BadAddress, TwiceUsed, UsedButFree, LostBlock}
+use Rattle.model.specs.declared.types.image.Pointer.{Pointer}
 use Rattle.model.specs.Layout.{form_of, has_known_magic, super_of, is_lawful_super, first_data_block, inode_of, greatest_size, is_marked}
 use Rattle.model.specs.Log.{is_lawful_log, recovered}
 use Rattle.model.specs.Places.{pointers_of, numbers_of, places_of, addresses_in}

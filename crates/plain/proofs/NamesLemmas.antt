@@ -7,7 +7,7 @@ use Rattle.std.proofs.lemmas.List.{at_drop_more, at_drop_all, append_assoc, drop
 use Rattle.blocks.specs.Disk.{Image, block_at}
 use Rattle.model.specs.Fields.{u32_at, words_of}
 use Rattle.model.specs.Names.{names_under, names_along}
-use Rattle.model.proofs.Words.{word_at, word_below, four_times_words}
+use Rattle.model.specs.Lemmas.Words.{word_at, word_below, four_times_words}
 
 -- the blocks that the addresses of a block name, from the k-th on
 unfoldable pub named_from : Image → ℕ → List ℕ → ℕ → List ℕ

@@ -3,13 +3,13 @@ use Rattle.std.proofs.Common.{◌≡◌, ◌≢◌, ℕ, zero, suc, ◌+◌, ◌
 use Rattle.std.proofs.lemmas.Bool.{ne_eqb}
 use Rattle.std.proofs.Math.Numerals.{sub-one}
 use Rattle.std.proofs.lemmas.List.{at_drop_more, at_drop_all, append_assoc, drop_more, drop_all}
-use Rattle.model.specs.declared.types.Pointer.{Pointer}
+use Rattle.model.specs.declared.types.image.Pointer.{Pointer}
 use Rattle.blocks.specs.Block.{IsBlock}
 use Rattle.blocks.specs.Disk.{Image, block_at}
 use Rattle.model.specs.Fields.{u32_at, words_of}
 use Rattle.model.specs.Layout.{reach}
 use Rattle.model.specs.Places.{pointer_of, pointers_under, pointers_behind, pointers_along}
-use Rattle.model.proofs.Words.{word_at, word_below, four_times_words}
+use Rattle.model.specs.Lemmas.Words.{word_at, word_below, four_times_words}
 
 -- the bytes of a block are 1024
 pub whole_block : (bytes block : List ℕ) → bytes ≡ block → IsBlock block → length bytes ≡ 1024

@@ -4,11 +4,11 @@ use Rattle.std.specs.Prelude.{OnErr}
 use Rattle.std.specs.List.{filter}
 use Rattle.std.proofs.lemmas.List.{append-nil, take-append-drop, take_more}
 use Rattle.std.proofs.lemmas.List.Elements.{filter-append, filter_more}
-use Rattle.model.specs.declared.types.Entry.{Entry}
-use Rattle.model.specs.declared.types.Form.{Form}
+use Rattle.model.specs.declared.types.operations.Entry.{Entry}
+use Rattle.model.specs.declared.types.image.Form.{Form}
 use Rattle.model.specs.Files.{Files}
 use Rattle.model.specs.Journal.{after_answer, replay}
-use Rattle.model.proofs.RunLemmas.{replays_in_parts}
+use Rattle.model.specs.Lemmas.Runs.{replays_in_parts}
 use Rattle.plain.specs.Replay.{IsOnTheWay, reached}
 
 pub replay_more : (form : Form) (old files new : Files) (before : List Entry) (e : Entry) →

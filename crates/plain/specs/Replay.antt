@@ -1,7 +1,7 @@
 -- How far a run of operations comes.
 use Rattle.std.specs.Prelude.{◌≡◌, List, [], ◌∷◌, ◌++◌, Option, None, Some}
-use Rattle.model.specs.declared.types.Entry.{Entry}
-use Rattle.model.specs.declared.types.Form.{Form}
+use Rattle.model.specs.declared.types.operations.Entry.{Entry}
+use Rattle.model.specs.declared.types.image.Form.{Form}
 use Rattle.model.specs.Files.{Files}
 use Rattle.model.specs.Journal.{after_answer, replay}
 

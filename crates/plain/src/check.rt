@@ -111,7 +111,7 @@ pub fn inode_fault(alloc: Global, image: &[Block], i: u32) -> Result<Option<Chec
 }
 
 /// The first fault of the inodes, in the order of their numbers.
-#[tactic(auto, using(model::proofs::VerdictLemmas::first_here, model::proofs::VerdictLemmas::first_later, model::proofs::VerdictLemmas::first_none))]
+#[tactic(auto, using(model::specs::Lemmas::Verdict::first_here, model::specs::Lemmas::Verdict::first_later, model::specs::Lemmas::Verdict::first_none))]
 pub fn inodes_fault(alloc: Global, image: &[Block]) -> Result<Option<CheckFault>, NoMemory>
     requires { IsReadable image.now }
     ensures { IfOk result (λ fault. fault ≡ inodes_fault image.now) }
@@ -147,7 +147,7 @@ fn mark_fault(image: &[Block], places: &[u32], b: u32) -> Option<CheckFault>
 }
 
 /// The first fault of the bitmap, in the order of the blocks.
-#[tactic(auto, using(model::proofs::VerdictLemmas::first_here, model::proofs::VerdictLemmas::first_later, model::proofs::VerdictLemmas::first_none))]
+#[tactic(auto, using(model::specs::Lemmas::Verdict::first_here, model::specs::Lemmas::Verdict::first_later, model::specs::Lemmas::Verdict::first_none))]
 pub fn marks_fault(alloc: Global, image: &[Block]) -> Result<Option<CheckFault>, NoMemory>
     requires { IsReadable image.now }
     ensures { IfOk result (λ fault. fault ≡ marks_fault image.now) }
@@ -163,7 +163,7 @@ pub fn marks_fault(alloc: Global, image: &[Block]) -> Result<Option<CheckFault>,
 
 /// The first fault of an image: of its superblock, of its log, and then of what recovery leaves.
 /// None where it has no fault.
-#[tactic(auto, using(model::proofs::SuperLemmas::readable_recovered), unfolding(model::specs::Verdict::verdict))]
+#[tactic(auto, using(model::specs::Lemmas::Super::readable_recovered), unfolding(model::specs::Verdict::verdict))]
 pub fn verdict(alloc: Global, image: &[Block]) -> Result<Option<CheckFault>, NoMemory>
     ensures { IfOk result (λ fault. fault ≡ verdict image.now) }
 {

@@ -46,7 +46,7 @@ pub fn bytes_at(image: &[Block], b: u32) -> &[u8]
 
 /// The number at a place among those of four bytes each that block `b` holds; 0 where there is
 /// none.
-#[tactic(auto, using(model::proofs::Words::word_at, model::proofs::Words::word_past))]
+#[tactic(auto, using(model::specs::Lemmas::Words::word_at, model::specs::Lemmas::Words::word_past))]
 pub fn word_in(image: &[Block], b: u32, place: u32) -> u32
     ensures { result ≡ slice_index (words_of (block_at image.now b)) place }
 {

@@ -86,7 +86,7 @@ pub fn data_at(image: &[Block], address: u32) -> &[u8]
 }
 
 /// The first `count` blocks of an inode's file, joined.
-#[tactic(auto, using(model::proofs::Steps::flat_mapped_more), unfolding(model::specs::Files::joined))]
+#[tactic(auto, using(model::specs::Lemmas::Steps::flat_mapped_more), unfolding(model::specs::Files::joined))]
 pub fn joined(
     alloc: Global,
     image: &[Block],
@@ -142,7 +142,7 @@ pub fn file_at(alloc: Global, image: &[Block], i: u32) -> Result<Option<File>, N
 }
 
 /// The files of an image, one place for each inode number.
-#[tactic(auto, using(model::proofs::Steps::mapped_more))]
+#[tactic(auto, using(model::specs::Lemmas::Steps::mapped_more))]
 pub fn files_of(alloc: Global, image: &[Block]) -> Result<Files, NoMemory>
     requires known { inode_block (inode_count_of image.now) < length image.now }
     requires long { 2 ≤ length image.now }

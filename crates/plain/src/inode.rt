@@ -30,7 +30,7 @@ pub fn inode_bytes(image: &[Block], i: u32) -> &[u8]
 }
 
 /// The 13 addresses in an inode's bytes.
-#[tactic(auto, using(model::proofs::Words::thirteen_words, std::proofs::lemmas::List::Edits::fill_by_more))]
+#[tactic(auto, using(model::specs::Lemmas::Words::thirteen_words, std::proofs::lemmas::List::Edits::fill_by_more))]
 fn addresses_of(bytes: &[u8]) -> [u32; 13]
     requires { length bytes.now ≡ 64 }
     ensures value { result ≡ words_of (drop 12 bytes.now) }

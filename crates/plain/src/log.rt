@@ -19,7 +19,7 @@ pub fn logged_count(image: &[Block]) -> u32
 }
 
 /// The numbers of the blocks where the logged ones belong, in the order of logging: at most 30.
-#[tactic(auto, using(model::proofs::Words::header_words_more))]
+#[tactic(auto, using(model::specs::Lemmas::Words::header_words_more))]
 pub fn homes_of(alloc: Global, image: &[Block]) -> Result<Vec<u32>, NoMemory>
     requires { 3 ≤ length image.now }
     ensures value { IfOk result (λ homes. homes.items ≡ homes_of image.now) }

@@ -146,7 +146,7 @@ pub fn addresses_in(alloc: Global, pointers: &[Pointer]) -> Result<Vec<u32>, NoM
 }
 
 /// The places of the inodes from 1 on and below `end`.
-#[tactic(auto, using(model::proofs::Steps::flat_mapped_next))]
+#[tactic(auto, using(model::specs::Lemmas::Steps::flat_mapped_next))]
 pub fn places_below(alloc: Global, image: &[Block], end: u32) -> Result<Vec<u32>, NoMemory>
     requires known { inode_block end < length image.now }
     requires some { 1 ≤ end }

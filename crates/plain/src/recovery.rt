@@ -8,7 +8,7 @@ use blocks::{Block, NoMemory};
 use std::alloc::Global;
 
 /// The place of block `b` among the homes, the first from 0 on.
-#[tactic(auto, using(model::proofs::Steps::position_from_zero))]
+#[tactic(auto, using(model::specs::Lemmas::Steps::position_from_zero))]
 pub fn place_among(homes: &[u32], b: usize) -> Option<usize>
     ensures place { result ≡ place_among homes.now b }
     ensures below { IfSome result (λ k. k < length homes.now) }
@@ -65,7 +65,7 @@ pub fn copied(alloc: Global, image: &[Block]) -> Result<Vec<Block>, NoMemory>
 }
 
 /// The image that recovery leaves.
-#[tactic(auto, using(model::proofs::Steps::mapped_more), unfolding(model::specs::Log::recovered))]
+#[tactic(auto, using(model::specs::Lemmas::Steps::mapped_more), unfolding(model::specs::Log::recovered))]
 pub fn recovered(alloc: Global, image: &[Block]) -> Result<Vec<Block>, NoMemory>
     requires { 33 ≤ length image.now }
     ensures { IfOk result (λ blocks. blocks.items ≡ recovered image.now) }

@@ -16,7 +16,7 @@ use std::alloc::Global;
 /// # Errors
 ///
 /// The image's first fault, or `NoMemory` where memory is refused.
-#[tactic(auto, using(model::proofs::SuperLemmas::readable_where_sound, model::proofs::SuperLemmas::long_where_sound))]
+#[tactic(auto, using(model::specs::Lemmas::Super::readable_where_sound, model::specs::Lemmas::Super::long_where_sound))]
 pub fn files_after_recovery(alloc: Global, image: &[Block]) -> Result<Files, CheckFault>
     ensures files { IfOk result (λ files. files.items ≡ files_of (recovered image.now)) }
     ensures sound { OnOk result (verdict image.now ≡ None) }

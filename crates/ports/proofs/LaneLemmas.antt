@@ -3,7 +3,7 @@ use Rattle.std.proofs.Common.{◌≡◌, ◌≢◌, ℕ, zero, suc, ◌<◌, ◌
 use native.Mathlib.Decide.{ℕ_discrete}
 use mathlib.Core.Logic.{dite}
 use Rattle.std.specs.Prelude.{Option, slice_get, All, option_to_list}
-use Rattle.model.specs.declared.types.Answer.{Answer}
+use Rattle.model.specs.declared.types.operations.Answer.{Answer}
 use Rattle.ports.specs.declared.lane.Lane.{Lane}
 use Rattle.ports.specs.History.{History, FitWith, AllFit, gives, fresh}
 use Rattle.ports.specs.Lanes.{IsEmptyLane, SameWaiting, polled_after}

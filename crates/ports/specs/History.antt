@@ -1,7 +1,7 @@
 -- What a kernel took of a process and gave to it, and what an intake says of it.
 use Rattle.std.specs.Prelude.{◌≡◌, ◌≢◌, ℕ, Bool, true, List, [], ◌∷◌, ◌++◌, Option, Some, None}
-use Rattle.model.specs.declared.types.Op.{Op}
-use Rattle.model.specs.declared.types.Answer.{Answer}
+use Rattle.model.specs.declared.types.operations.Op.{Op}
+use Rattle.model.specs.declared.types.operations.Answer.{Answer}
 
 -- One process's side of an intake: the operations that are known to wait, the next first, and whether a place for one answer is kept.
 pub record Side : Type 0 where

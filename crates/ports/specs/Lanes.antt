@@ -1,6 +1,6 @@
 -- A process's two queues.
 use Rattle.std.specs.Prelude.{◌≡◌, ℕ, ◌+◌, ◌-◌, ◌^◌, min, [], Option, Some, None}
-use Rattle.model.specs.declared.types.Answer.{Answer}
+use Rattle.model.specs.declared.types.operations.Answer.{Answer}
 use Rattle.ports.specs.declared.lane.Lane.{Lane}
 
 -- nothing waits, and nothing was ever put in

@@ -1,7 +1,7 @@
 -- A queue intake as contracts see it.
 use Rattle.std.specs.Prelude.{◌≡◌, ◌≢◌, ℕ, ◌+◌, ◌-◌, ◌^◌, min, List, [], ◌++◌, Option, Some, None, length, slice_get, nat_lt}
-use Rattle.model.specs.declared.types.Op.{Op}
-use Rattle.model.specs.declared.types.Answer.{Answer}
+use Rattle.model.specs.declared.types.operations.Op.{Op}
+use Rattle.model.specs.declared.types.operations.Answer.{Answer}
 use Rattle.ports.specs.History.{Side, History}
 use Rattle.ports.specs.declared.lane.Lane.{Lane}
 use Rattle.ports.specs.declared.queues.QueueIntake.{QueueIntake}

@@ -4,7 +4,7 @@ use Rattle.std.proofs.lemmas.Bool.{cases_Bool}
 use Rattle.std.proofs.lemmas.Bool.Decides.{nat_tests}
 use Rattle.std.proofs.lemmas.List.Elements.{All-cons}
 use Rattle.std.specs.List.{cons_option, enumerate_from, filter_map}
-use Rattle.model.specs.declared.types.Op.{Op}
+use Rattle.model.specs.declared.types.operations.Op.{Op}
 use Rattle.scripts.proofs.LineLemmas.{task_at-skipped}
 use Rattle.scripts.specs.declared.script.Task.{Task}
 use Rattle.scripts.specs.Number.{if_at_most, number_of, number_up_to}

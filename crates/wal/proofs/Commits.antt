@@ -7,25 +7,21 @@ use Rattle.std.proofs.lemmas.List.{get_or-set_same, get_or-set_other, get_or-dro
 use Rattle.std.proofs.lemmas.List.Folds.{list_any_none, list_any_at}
 use Rattle.blocks.specs.Block.{zero_block}
 use Rattle.blocks.specs.Disk.{Image, block_at}
-use Rattle.model.specs.declared.types.Buffer.{Buffer}
+use Rattle.bcache.specs.declared.types.Buffer.{Buffer}
 use Rattle.bcache.specs.Buffers.{Buffers, buffer, found, unpinned}
-use Rattle.model.specs.State.{is_number_in, is_of, shows}
-use Rattle.wal.specs.Joint.{seen}
+use Rattle.bcache.specs.Current.{is_number_in, is_of, shows}
+use Rattle.wal.specs.Joint.{seen, IsHeader, IsSameOutsideLog, JointAt, Joint, Phase, Logs, HasHeader, live_at, pins_of, place_at, bytes_at, written_at, written_cache, unpinned_found, IsWithin}
 use Rattle.bcache.proofs.Slots.{each_buffer, none_found, some_found, block_is, cache_kept}
 use Rattle.bcache.proofs.Shown.{length-current, current_kept, current_same_write, current_write}
 use Rattle.wal.specs.declared.types.Commit.{Commit}
 use Rattle.wal.specs.declared.types.Commit.TheVariants as commit
-use Rattle.model.specs.Log.{logged_count, homes_of}
+use Rattle.model.specs.Log.{logged_count, homes_of, logged_in, homes_in}
 use Rattle.wal.proofs.LawfulLogs.{home_facts}
-use Rattle.wal.specs.Machine.{is_among, AreHomes}
-use Rattle.wal.specs.Joint.{IsHeader, IsSameOutsideLog}
+use Rattle.wal.specs.Machine.{is_among, AreHomes, LogState, Idle, Counts, IsLogAt}
 use Rattle.model.specs.Agreement.{is_outside_log}
-use Rattle.wal.specs.Machine.{LogState, Idle, Counts, IsLogAt}
-use Rattle.wal.specs.Joint.{JointAt, Joint, Phase, Logs, HasHeader, live_at, pins_of, place_at, bytes_at, written_at, written_cache, unpinned_found, IsWithin}
 use Rattle.wal.proofs.Groups.{no_homes}
 use Rattle.model.specs.Fields.{u32_at}
-use Rattle.model.specs.Log.{logged_in, homes_in}
-use Rattle.model.proofs.LogLemmas.{zero_header}
+use Rattle.model.specs.Lemmas.Log.{zero_header}
 
 -- images with the same header
 pub logged-same : (x y : Image) → block_at y 2 ≡ block_at x 2 → logged_count y ≡ logged_count x

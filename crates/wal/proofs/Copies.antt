@@ -9,9 +9,9 @@ use Rattle.blocks.specs.Disk.{Image, block_at, IsOldOrNew}
 use Rattle.model.specs.Fields.{u32_at, words_of}
 use Rattle.model.specs.Log.{logged_count, homes_of, is_lawful_log, are_distinct, recovered, recovered_block, block_from_log, place_among}
 use Rattle.model.specs.Laws.{is_home}
-use Rattle.model.proofs.LogLemmas.{both_of, recovered_at, recovered_block-header, length-recovered, zero_header}
-use Rattle.model.proofs.RecoveryLemmas.{AgreesBesides, place_below, home_of_log, homes_are_rewritten, is_lawful_log-besides}
-use Rattle.model.proofs.Words.{word_below}
+use Rattle.model.specs.Lemmas.Log.{both_of, recovered_at, recovered_block-header, length-recovered, zero_header}
+use Rattle.model.specs.Lemmas.Recovery.{AgreesBesides, place_below, home_of_log, homes_are_rewritten, is_lawful_log-besides}
+use Rattle.model.specs.Lemmas.Words.{word_below}
 use Rattle.wal.specs.Recovery.{HasCopied, RecoversAs, copied_block}
 
 -- the k-th of different homes stands at place k

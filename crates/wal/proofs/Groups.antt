@@ -7,8 +7,8 @@ use Rattle.std.proofs.lemmas.Grind.{common_steps}
 use Rattle.std.proofs.lemmas.List.Sums.{sum_by-set, get_or-le-sum_by, sum_by-le-sum_by}
 use Rattle.std.proofs.lemmas.List.{take-append-le}
 use Rattle.std.proofs.Math.Seq.{take-append_seam}
-use Rattle.model.specs.declared.types.Why.TheVariants.{LogFull}
-use Rattle.model.specs.Waiting.{log_cause, is_log_full}
+use Rattle.model.specs.declared.types.operations.Why.TheVariants.{LogFull}
+use Rattle.model.specs.Reservations.{log_cause, is_log_full}
 use Rattle.wal.specs.declared.types.Commit.{Commit}
 use Rattle.wal.specs.declared.types.Commit.TheVariants as commit
 use Rattle.wal.proofs.LawfulLogs.{home_facts, are_homes}

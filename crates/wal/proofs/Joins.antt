@@ -3,17 +3,15 @@ use Rattle.std.proofs.Common.{◌≡◌, ℕ, ◌<◌, ◌≤◌, true, false, L
 use Rattle.std.proofs.lemmas.Bool.{cond-true, cond-false, eqb-true, both_ways, and_parts, and_from, false_from_ne_true}
 use Rattle.std.proofs.lemmas.List.{get_or-set_other}
 use Rattle.blocks.specs.Disk.{Image, block_at}
-use Rattle.model.specs.declared.types.Buffer.{Buffer}
+use Rattle.bcache.specs.declared.types.Buffer.{Buffer}
 use Rattle.bcache.specs.Buffers.{Buffers, buffer, with_buffer, found, locked, taken, filled, changed, released, IsCache}
-use Rattle.model.specs.State.{is_number_in, is_of, shows}
-use Rattle.wal.specs.Joint.{seen}
+use Rattle.bcache.specs.Current.{is_number_in, is_of, shows}
+use Rattle.wal.specs.Joint.{seen, JointAt, Phase, live_at, pins_of}
 use Rattle.bcache.proofs.Slots.{each_buffer, none_found, block_is, cache_kept, cache_taken, cache_released}
 use Rattle.bcache.proofs.Shown.{current_at, slot_shows, current_kept, current_hidden, current_filled, current_changed}
 use Rattle.wal.specs.declared.types.Commit.{Commit}
 use Rattle.wal.specs.declared.types.Commit.TheVariants as commit
-use Rattle.wal.specs.Machine.{is_among}
-use Rattle.wal.specs.Machine.{LogState}
-use Rattle.wal.specs.Joint.{JointAt, Phase, live_at, pins_of}
+use Rattle.wal.specs.Machine.{is_among, LogState}
 
 -- other buffers that give the same current image
 pub joint_cache : {k : Commit} {x : Image} {l : LogState} (c d : Buffers) → JointAt k x c l → IsCache d

@@ -19,8 +19,8 @@ use Rattle.wal.specs.Machine.{LogState}
 use Rattle.wal.specs.Joint.{JointAt, Joint, Logs, HasHeader, SameButLog, place_at, bytes_at}
 use Rattle.wal.specs.Kept.{Committed, KeepsCommitted}
 use Rattle.model.specs.Log.{block_from_log, place_among}
-use Rattle.model.proofs.LogLemmas.{recovered_empty, recovered_at, recovered_block-header, length-recovered}
-use Rattle.model.proofs.RecoveryLemmas.{place_below, no_place}
+use Rattle.model.specs.Lemmas.Log.{recovered_empty, recovered_at, recovered_block-header, length-recovered}
+use Rattle.model.specs.Lemmas.Recovery.{place_below, no_place}
 use Rattle.wal.proofs.Copies.{none_cleared, not_header, home_of_place}
 use Rattle.wal.proofs.Commits.{home_far, outside_log, header_read, logged-same, homes-same, among_drop}
 

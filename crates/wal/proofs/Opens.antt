@@ -3,11 +3,11 @@ use Rattle.std.proofs.Common.{◌≡◌, inl, inr, ℕ, ◌^◌, ◌<◌, ◌≤
 use Rattle.std.proofs.lemmas.Bool.{cases_lt, false≢true}
 use Rattle.std.proofs.lemmas.List.{get_or-replicate, get_or_past, length-replicate}
 use Rattle.blocks.specs.Disk.{Image, block_at}
-use Rattle.model.specs.declared.types.Buffer.{Buffer}
+use Rattle.bcache.specs.declared.types.Buffer.{Buffer}
 use Rattle.model.specs.Log.{logged_count, recovered}
-use Rattle.model.specs.State.{is_of}
-use Rattle.model.proofs.LogLemmas.{length-recovered}
-use Rattle.model.proofs.RecoveryLemmas.{logged_count-left}
+use Rattle.bcache.specs.Current.{is_of}
+use Rattle.model.specs.Lemmas.Log.{length-recovered}
+use Rattle.model.specs.Lemmas.Recovery.{logged_count-left}
 use Rattle.bcache.specs.Buffers.{Buffers, buffer, changed, empty_buffer, fresh}
 use Rattle.bcache.proofs.Slots.{cache_fresh}
 use Rattle.bcache.proofs.Shown.{not_shown, is_current, current_unfilled}

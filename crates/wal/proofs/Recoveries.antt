@@ -7,8 +7,8 @@ use Rattle.blocks.specs.Block.{zero_block, IsBlock}
 use Rattle.blocks.specs.Disk.{Image, block_at, IsOldOrNew, LeavesOldOrNew, IsSettled, AddsNone, Elapses, LeavesOnly}
 use Rattle.blocks.proofs.Moments.{started, stays, goes_on, joined}
 use Rattle.model.specs.Log.{logged_in, homes_in, logged_count, homes_of, is_lawful_log, are_in_place, are_distinct}
-use Rattle.model.proofs.LogLemmas.{both_of, recovered_empty}
-use Rattle.model.proofs.RecoveryLemmas.{few_homes}
+use Rattle.model.specs.Lemmas.Log.{both_of, recovered_empty}
+use Rattle.model.specs.Lemmas.Recovery.{few_homes}
 use Rattle.wal.specs.Recovery.{HasCopied, RecoversAs}
 use Rattle.wal.proofs.Copies.{SameBesides, home_at, besides_copied, besides_old_or_new, recovers_besides, recovers_same, copied_more, low_stays, cleared, none_cleared, length-homes_of}
 use Rattle.wal.proofs.LawfulLogs.{empty_lawful}

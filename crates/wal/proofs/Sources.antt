@@ -6,19 +6,17 @@ use Rattle.std.proofs.lemmas.Bool.{both_ways, and_parts, eq-eqb, cond-true, case
 use Rattle.std.proofs.lemmas.List.Folds.{list_any_at}
 use Rattle.std.proofs.lemmas.List.{get_or_past}
 use Rattle.model.specs.Codec.{header_block}
-use Rattle.model.proofs.Codecs.{logged_in-header_block, homes_in-header_block}
+use Rattle.model.specs.Lemmas.Codecs.{logged_in-header_block, homes_in-header_block}
 use Rattle.blocks.specs.Disk.{Image, block_at}
 use Rattle.bcache.specs.Buffers.{Buffers, buffer, found}
-use Rattle.model.specs.State.{is_of, shows}
-use Rattle.wal.specs.Joint.{seen}
+use Rattle.bcache.specs.Current.{is_of, shows}
+use Rattle.wal.specs.Joint.{seen, JointAt, Joint, live_at, pins_of, place_at, bytes_at, source_at, bytes_found, HasPin, IsPinned, IsHeader}
 use Rattle.bcache.proofs.Slots.{none_found, some_found, block_is}
 use Rattle.bcache.proofs.Shown.{current_at, slot_shows}
 use Rattle.wal.specs.declared.types.Commit.{Commit}
 use Rattle.wal.specs.declared.types.Commit.TheVariants as commit
 use Rattle.wal.proofs.LawfulLogs.{home_facts}
-use Rattle.wal.specs.Machine.{is_among}
-use Rattle.wal.specs.Machine.{LogState, IsLogAt, is_quiet}
-use Rattle.wal.specs.Joint.{JointAt, Joint, live_at, pins_of, place_at, bytes_at, source_at, bytes_found, HasPin, IsPinned, IsHeader}
+use Rattle.wal.specs.Machine.{is_among, LogState, IsLogAt, is_quiet}
 
 -- the slot of a live home
 home_slot : (k : Commit) (x : Image) (c : Buffers) (l : LogState) (h : ℕ) → JointAt k x c l → is_among h (live_at k l.homes) ≡ true → (i : ℕ) × (found c h ≡ Some i) × (shows h (buffer c i) ≡ true)

@@ -4,17 +4,15 @@ use Rattle.std.specs.Prelude.{IsSome}
 use Rattle.std.proofs.lemmas.Bool.{eq-eqb}
 use Rattle.blocks.specs.Block.{overwritten}
 use Rattle.blocks.specs.Disk.{Image}
-use Rattle.model.specs.declared.types.Buffer.{Buffer}
+use Rattle.bcache.specs.declared.types.Buffer.{Buffer}
 use Rattle.bcache.specs.Buffers.{Buffers, buffer, found, locked, taken, changed, pinned, block_or_zero, after_acquire, after_acquire_by, after_lock, after_take, victim}
-use Rattle.model.specs.State.{is_number_in, shows}
-use Rattle.wal.specs.Joint.{seen}
+use Rattle.bcache.specs.Current.{is_number_in, shows}
+use Rattle.wal.specs.Joint.{seen, JointAt, Joint}
 use Rattle.bcache.proofs.Slots.{buffer_same, some_found, victim_free}
 use Rattle.wal.specs.declared.types.Commit.{Commit}
 use Rattle.wal.specs.declared.types.Commit.TheVariants as commit
-use Rattle.wal.specs.Machine.{is_among}
-use Rattle.model.specs.declared.types.Why.{Why}
-use Rattle.wal.specs.Machine.{LogState, HasRoom, appended, noted, noted_cache, used_by, begin_cause, begun, after_begin, after_begin_by, ended}
-use Rattle.wal.specs.Joint.{JointAt, Joint}
+use Rattle.wal.specs.Machine.{is_among, LogState, HasRoom, appended, noted, noted_cache, used_by, begin_cause, begun, after_begin, after_begin_by, ended}
+use Rattle.model.specs.declared.types.operations.Why.{Why}
 use Rattle.model.specs.Log.{is_lawful_log}
 use Rattle.wal.proofs.LawfulLogs.{empty_lawful, header_lawful}
 use Rattle.wal.proofs.Commits.{few_homes}

@@ -4,8 +4,8 @@ use Rattle.std.specs.Prelude.{IfNone, IsSome}
 use Rattle.std.proofs.lemmas.Bool.{and_from, eq-eqb}
 use Rattle.blocks.specs.declared.errors.DiskFault.{DiskFault}
 use Rattle.blocks.specs.Disk.{Image, block_at}
-use Rattle.model.specs.declared.types.Buffer.{Buffer}
-use Rattle.model.specs.State.{is_number_in, is_of, shows}
+use Rattle.bcache.specs.declared.types.Buffer.{Buffer}
+use Rattle.bcache.specs.Current.{is_number_in, is_of, shows}
 use Rattle.bcache.specs.declared.types.Acquired.TheVariants as acquired
 use Rattle.bcache.specs.Buffers.{Buffers, buffer, found, victim, locked, taken, pinned, filled, changed, EndsUnfilled, IsCache, block_or_zero, lock_answer, take_answer, answer_by, acquire_answer, after_lock, after_take, after_acquire_by, after_acquire}
 use Rattle.bcache.proofs.Slots.{buffer_same, some_found, victim_free, block_is}

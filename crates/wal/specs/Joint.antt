@@ -2,7 +2,7 @@
 use Rattle.std.specs.Prelude.{◌≡◌, ◌<◌, ◌≤◌, ◌==◌, ◌+◌, ℕ, true, false, List, [], length, drop, slice_index, if◌then◌else◌, Option, Some, None}
 use Rattle.blocks.specs.Block.{zero_block}
 use Rattle.blocks.specs.Disk.{Image, block_at}
-use Rattle.model.specs.State.{is_of, shows, current}
+use Rattle.bcache.specs.Current.{is_of, shows, current}
 use Rattle.model.specs.Agreement.{Agrees, is_outside_log}
 use Rattle.model.specs.Log.{logged_in, homes_in, logged_count, homes_of}
 use Rattle.bcache.specs.Buffers.{Buffers, buffer, found, unpinned, IsCache}

@@ -1,10 +1,9 @@
 -- The log as contracts see it, and what each call makes of it.
 use Rattle.std.specs.Prelude.{◌≡◌, ◌<◌, ◌≤◌, ◌==◌, ◌+◌, ◌-◌, ◌*◌, ◌^◌, ℕ, not, min, IsTrue, Bool, true, false, List, [], ◌∷◌, ◌++◌, length, replicate, slice_index_or, slice_set, if◌then◌else◌, Option, Some, None}
 use Rattle.std.specs.List.{list_any, sum_by}
-use Rattle.model.specs.declared.types.Why.{Why}
+use Rattle.model.specs.declared.types.operations.Why.{Why}
 use Rattle.model.specs.Log.{are_in_place, are_distinct}
-use Rattle.model.specs.State.{unused_reservation}
-use Rattle.model.specs.Waiting.{log_cause}
+use Rattle.model.specs.Reservations.{unused_reservation, log_cause}
 use Rattle.bcache.specs.Buffers.{Buffers, pinned}
 use Rattle.wal.specs.declared.types.Commit.{Commit}
 use Rattle.wal.specs.declared.types.Commit.TheVariants as commit

@@ -3,8 +3,8 @@ use Rattle.std.specs.Prelude.{◌≡◌, ◌<◌, ℕ, true, false, List, if◌t
 use Rattle.blocks.specs.declared.errors.DiskFault.{DiskFault}
 use Rattle.blocks.specs.Block.{overwritten}
 use Rattle.blocks.specs.Disk.{Image, block_at, one_more}
-use Rattle.model.specs.declared.types.Why.{Why}
-use Rattle.model.specs.declared.types.Why.TheVariants as why
+use Rattle.model.specs.declared.types.operations.Why.{Why}
+use Rattle.model.specs.declared.types.operations.Why.TheVariants as why
 use Rattle.bcache.specs.declared.types.Busy.{Busy}
 use Rattle.bcache.specs.declared.types.Busy.TheVariants as busy
 use Rattle.bcache.specs.declared.types.Acquired.{Acquired}

@@ -6,7 +6,7 @@ use Rattle.std.proofs.lemmas.List.{flat_map_more}
 use Rattle.ports.specs.Queues.{OthersWait}
 use Rattle.ports.specs.declared.queues.QueueIntake.{QueueIntake}
 use Rattle.ports.proofs.LaneLemmas.{slice_get-set_here, slice_get-set_other}
-use Rattle.model.specs.declared.types.Op.{Op}
+use Rattle.model.specs.declared.types.operations.Op.{Op}
 use Rattle.scripts.specs.declared.script.Task.{Task}
 use Rattle.xvfs.specs.declared.backlog.Backlog.{Backlog}
 use Rattle.xvfs.specs.Backlog.{backlog_of, backlog_in, backlog_at, op_if, ops_of}

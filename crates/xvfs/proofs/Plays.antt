@@ -8,7 +8,7 @@ use Rattle.blocks.specs.Disk.{Image}
 use Rattle.blocks.specs.FaultyDisk.{has_fired}
 use Rattle.blocks.specs.declared.errors.DiskFault.{DiskFault}
 use Rattle.blocks.specs.declared.faulty.FaultyDisk.{FaultyDisk}
-use Rattle.model.specs.declared.types.Answer.{Answer}
+use Rattle.model.specs.declared.types.operations.Answer.{Answer}
 use Rattle.ports.specs.History.{first_in}
 use Rattle.ports.specs.Queues.{answers}
 use Rattle.scripts.specs.declared.schedule.Word.{Word}

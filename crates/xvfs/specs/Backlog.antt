@@ -1,6 +1,6 @@
 -- The operations that wait to be handed in.
 use Rattle.std.specs.Prelude.{◌≡◌, ◌⊎◌, ◌≤◌, ◌+◌, ◌^◌, ℕ, ◌==◌, List, [], ◌∷◌, ◌++◌, length, Option, Some, None, option_to_list, flat_map, slice_get, if◌then◌else◌}
-use Rattle.model.specs.declared.types.Op.{Op}
+use Rattle.model.specs.declared.types.operations.Op.{Op}
 use Rattle.ports.specs.Queues.{waiting}
 use Rattle.ports.specs.declared.queues.QueueIntake.{QueueIntake}
 use Rattle.kernel.specs.Processes.{process}

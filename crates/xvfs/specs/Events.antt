@@ -1,11 +1,11 @@
 -- The lines of a replay's turns.
 use Rattle.std.specs.Prelude.{ℕ, ◌/◌, ◌%◌, Bool, true, false, List, ◌++◌, ◌==◌, length, codes, decimal, flat_map, if◌then◌else◌}
 use Rattle.std.specs.Fmt.{radix_digits}
-use Rattle.model.specs.declared.types.Answer.{Answer}
-use Rattle.model.specs.declared.types.Reply.{Reply}
-use Rattle.model.specs.declared.types.Reply.TheVariants.{Made, NoInode, Wrote, Bytes, Done, StatOf, NoFile, BadOffset, TooBig, TooLong, BadType}
-use Rattle.model.specs.declared.types.Why.{Why}
-use Rattle.model.specs.declared.types.Why.TheVariants as why
+use Rattle.model.specs.declared.types.operations.Answer.{Answer}
+use Rattle.model.specs.declared.types.operations.Reply.{Reply}
+use Rattle.model.specs.declared.types.operations.Reply.TheVariants.{Made, NoInode, Wrote, Bytes, Done, StatOf, NoFile, BadOffset, TooBig, TooLong, BadType}
+use Rattle.model.specs.declared.types.operations.Why.{Why}
+use Rattle.model.specs.declared.types.operations.Why.TheVariants as why
 use Rattle.kernel.specs.declared.types.Step.{Step}
 use Rattle.kernel.specs.declared.types.Step.TheVariants as step
 use Rattle.xvfs.specs.declared.events.Event.{Event}

@@ -1,7 +1,7 @@
 -- The scripts that can be carried out, and the schedules.
 use Rattle.std.specs.Prelude.{◌≡◌, ⊤, ℕ, Bool, true, false, not, List, Option, Some, None, option_map, find}
-use Rattle.model.specs.declared.types.Op.{Op}
-use Rattle.model.specs.declared.types.Op.TheVariants.{Create, Write, Read, Trunc, Remove, Stat}
+use Rattle.model.specs.declared.types.operations.Op.{Op}
+use Rattle.model.specs.declared.types.operations.Op.TheVariants.{Create, Write, Read, Trunc, Remove, Stat}
 use Rattle.scripts.specs.declared.script.Task.{Task}
 use Rattle.scripts.specs.declared.script.ScriptFault.{ScriptFault}
 use Rattle.scripts.specs.declared.script.ScriptFault.TheVariants.{NotYet}

@@ -1,7 +1,7 @@
 -- What the commands print.
 use Rattle.std.specs.Prelude.{ℕ, ⊤, List, ◌++◌, Option, codes, decimal}
 use Rattle.std.specs.Io.KnownBytes.{Appends}
-use Rattle.model.specs.declared.types.Super.{Super}
+use Rattle.model.specs.declared.types.image.Super.{Super}
 use Rattle.xvfs.specs.declared.command.Failure.{Failure}
 use Rattle.xvfs.specs.declared.command.Failure.TheVariants.{Refused, Misused}
 use Rattle.xvfs.specs.declared.refusal.Refusal.{Refusal}

@@ -2,7 +2,7 @@
 use Rattle.std.specs.Prelude.{ℕ, ⊤, List, [], ◌++◌, Option, Some, None, codes, decimal}
 use Rattle.blocks.specs.declared.errors.FileFault.TheVariants as file
 use Rattle.layout.specs.declared.geometry.MkfsFault.TheVariants as mkfs
-use Rattle.model.specs.declared.types.CheckFault.TheVariants as check
+use Rattle.model.specs.declared.types.fault.CheckFault.TheVariants as check
 use Rattle.wal.specs.declared.faults.RecoverFault.TheVariants as recover
 use Rattle.kernel.specs.declared.types.OpenFault.{OpenFault}
 use Rattle.kernel.specs.declared.types.OpenFault.TheVariants as open_fault

@@ -4,7 +4,7 @@ use Rattle.std.specs.Io.KnownBytes.{Appends}
 use Rattle.blocks.specs.declared.errors.DiskFault.{DiskFault}
 use Rattle.scripts.specs.declared.schedule.Word.{Word}
 use Rattle.scripts.specs.declared.schedule.Word.TheVariants as word
-use Rattle.model.specs.declared.types.Answer.{Answer}
+use Rattle.model.specs.declared.types.operations.Answer.{Answer}
 use Rattle.kernel.specs.declared.types.Step.{Step}
 use Rattle.xvfs.specs.declared.events.Event.{Event}
 use Rattle.xvfs.specs.declared.events.Event.TheVariants.{Stepped, Answered, Shut, Stopped}

@@ -1,6 +1,6 @@
 use Rattle.std.proofs.Common.{ℕ, List, map, ap, sym, ◌∙◌}
 use Rattle.std.proofs.Math.ListN.{drop_of_length-le}
-use Rattle.model.specs.State.{references_of}
+use Rattle.bcache.specs.Current.{references_of}
 use Rattle.bcache.proofs.OrderLemmas.{last_unused, victim_is}
 use Rattle.bcache.proofs.order.last_unused.Goals as goal
 

@@ -1,5 +1,5 @@
 use Rattle.std.proofs.Common.{◌≡◌, None, drop, map}
-use Rattle.model.specs.State.{references_of}
+use Rattle.bcache.specs.Current.{references_of}
 use Rattle.bcache.proofs.OrderLemmas.{last_unused}
 use Rattle.bcache.proofs.order.last_unused.Given as goal
 

@@ -1,4 +1,4 @@
-use Rattle.model.proofs.RunLemmas.{at_once_is_not_changing}
+use Rattle.model.specs.Lemmas.Runs.{at_once_is_not_changing}
 use Rattle.model.proofs.laws.at_once_is_not_changing.Goals as goal
 
 pub returns : goal.returns

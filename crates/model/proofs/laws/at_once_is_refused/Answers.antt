@@ -1,4 +1,4 @@
-use Rattle.model.proofs.RunLemmas.{at_once_is_refused}
+use Rattle.model.specs.Lemmas.Runs.{at_once_is_refused}
 use Rattle.model.proofs.laws.at_once_is_refused.Goals as goal
 
 pub returns : goal.returns

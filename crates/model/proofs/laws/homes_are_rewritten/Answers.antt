@@ -1,4 +1,4 @@
-use Rattle.model.proofs.RecoveryLemmas.{homes_are_rewritten}
+use Rattle.model.specs.Lemmas.Recovery.{homes_are_rewritten}
 use Rattle.model.proofs.laws.homes_are_rewritten.Goals as goal
 
 pub returns : goal.returns

@@ -1,4 +1,4 @@
-use Rattle.model.proofs.OutsideLemmas.{same_outside_log}
+use Rattle.model.specs.Lemmas.OutsideLog.{same_outside_log}
 use Rattle.model.proofs.laws.same_outside_log.Goals as goal
 
 pub returns : goal.returns

@@ -1,4 +1,4 @@
-use Rattle.model.proofs.SoundLemmas.{verdict_is_sound}
+use Rattle.model.specs.Lemmas.Soundness.{verdict_is_sound}
 use Rattle.model.proofs.laws.verdict_is_sound.Goals as goal
 
 pub returns : goal.returns

@@ -1,7 +1,7 @@
 use Rattle.std.proofs.Common.{◌∙◌, sym, arith}
 use Rattle.model.specs.Verdict.{inode_fault}
 use Rattle.model.specs.Layout.{inode_count_of}
-use Rattle.model.proofs.VerdictLemmas.{first_here}
+use Rattle.model.specs.Lemmas.Verdict.{first_here}
 use Rattle.plain.proofs.check.inodes_fault.Goals as goal
 
 pub returns-in-Some : goal.returns-in-Some

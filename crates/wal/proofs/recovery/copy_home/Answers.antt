@@ -4,7 +4,7 @@ use Rattle.blocks.specs.Disk.{Image, one_more}
 use Rattle.blocks.proofs.Moments.{started, stays, goes_on, now_stays}
 use Rattle.layout.specs.Making.{counted}
 use Rattle.model.specs.Log.{homes_of}
-use Rattle.model.proofs.RecoveryLemmas.{few_homes}
+use Rattle.model.specs.Lemmas.Recovery.{few_homes}
 use Rattle.wal.specs.Recovery.{RecoversAs}
 use Rattle.wal.proofs.Copies.{SameBesides, same_besides, copied_none, recovers_besides, recovers_same, home_at}
 use Rattle.wal.proofs.Recoveries.{copy_besides, copy_step}

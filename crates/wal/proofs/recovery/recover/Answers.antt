@@ -4,8 +4,8 @@ use Rattle.blocks.specs.Block.{zero_block}
 use Rattle.blocks.specs.Disk.{Image, IsOldOrNew, one_more}
 use Rattle.layout.specs.Making.{counted}
 use Rattle.model.specs.Log.{homes_of, logged_count}
-use Rattle.model.proofs.LogLemmas.{recovered_empty}
-use Rattle.model.proofs.SuperLemmas.{super_facts}
+use Rattle.model.specs.Lemmas.Log.{recovered_empty}
+use Rattle.model.specs.Lemmas.Super.{super_facts}
 use Rattle.wal.specs.Recovery.{HasCopied}
 use Rattle.wal.proofs.Copies.{cleared, none_cleared}
 use Rattle.wal.proofs.Recoveries.{homes_counted, recovery_copies, recovery_ends}

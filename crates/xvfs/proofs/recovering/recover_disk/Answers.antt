@@ -4,7 +4,7 @@ use Rattle.blocks.specs.Disk.{Image, Rose}
 use Rattle.model.specs.Layout.{is_lawful_super}
 use Rattle.model.specs.Log.{is_lawful_log}
 use Rattle.model.specs.Verdict.{verdict}
-use Rattle.model.proofs.SoundLemmas.{verdict_sound}
+use Rattle.model.specs.Lemmas.Soundness.{verdict_sound}
 use Rattle.wal.specs.Recovery.{OnDisk, OnBadLog, OnNoMemory}
 use Rattle.wal.specs.declared.faults.RecoverFault.{RecoverFault}
 use Rattle.wal.specs.declared.faults.RecoverFault.TheVariants as recover

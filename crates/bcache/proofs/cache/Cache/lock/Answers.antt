@@ -1,5 +1,5 @@
 use Rattle.std.proofs.Common.{ap}
-use Rattle.model.specs.declared.types.Buffer.{Buffer}
+use Rattle.bcache.specs.declared.types.Buffer.{Buffer}
 use Rattle.bcache.proofs.Slots.{cache_kept, slot_at}
 use Rattle.bcache.proofs.cache.Cache.lock.Goals as goal
 

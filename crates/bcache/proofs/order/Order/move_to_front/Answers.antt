@@ -1,6 +1,6 @@
 use Rattle.std.proofs.Common.{◌≡◌, ◌==◌, ℕ, List, ap, sym, ◌∙◌}
 use Rattle.std.specs.Prelude.{position}
-use Rattle.model.specs.Order.{moved_to_front}
+use Rattle.bcache.specs.Order.{moved_to_front}
 use Rattle.bcache.proofs.OrderLemmas.{order_moved_by, moved_is, has_place}
 use Rattle.bcache.proofs.order.Order.move_to_front.Goals as goal
 

@@ -1,7 +1,7 @@
 use Rattle.std.proofs.Common.{◌≡◌, ℕ, ◌+◌, ◌-◌, List, ◌++◌, ◌∷◌, [], map, ap, sym, ◌∙◌, subst, arith}
 use Rattle.std.specs.List.{range_with_len}
 use Rattle.std.proofs.lemmas.List.FromFn.{map-range_with_len_more}
-use Rattle.model.specs.Order.{IsOrder}
+use Rattle.bcache.specs.Order.{IsOrder}
 use Rattle.bcache.proofs.OrderLemmas.{first_made, order_first}
 use Rattle.bcache.proofs.order.Order.new.Goals as goal
 

@@ -1,5 +1,5 @@
 use Rattle.std.proofs.Common.{◌<◌, ℕ, length, get_or, map, ap, arith}
-use Rattle.model.specs.State.{references_of}
+use Rattle.bcache.specs.Current.{references_of}
 use Rattle.bcache.proofs.OrderLemmas.{slot_below, victim_within}
 use Rattle.bcache.proofs.order.Order.victim.Goals as goal
 

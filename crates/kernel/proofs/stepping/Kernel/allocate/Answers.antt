@@ -18,7 +18,7 @@ use Rattle.kernel.specs.Keeps.{IsJournal, KeepsNow, Recovers}
 use Rattle.kernel.proofs.Journals.{journal_same}
 use Rattle.kernel.proofs.Keeping.{recovers_searched, recovers_turn, journal_turned, kept_of}
 use Rattle.kernel.proofs.Recovers.{keeps_now}
-use Rattle.model.specs.declared.types.Op.TheVariants.{Create}
+use Rattle.model.specs.declared.types.operations.Op.TheVariants.{Create}
 use Rattle.kernel.specs.declared.types.At.{At}
 use Rattle.kernel.specs.Histories.{pending_at, owed_at}
 use Rattle.kernel.proofs.Taking.{histories_move, histories_turn, fit_same, search_kind}

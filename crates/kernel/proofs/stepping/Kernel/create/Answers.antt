@@ -6,8 +6,8 @@ use Rattle.kernel.specs.Processes.{World, process, with_place, creating}
 use Rattle.kernel.proofs.Commits.{where_none, if_none}
 use Rattle.kernel.proofs.Beginnings.{begins_fit, table_created, created_processes, others_twice, rooms_begun}
 use Rattle.kernel.proofs.Keeping.{recovers_created, journal_created, kept_of}
-use Rattle.model.specs.declared.types.Op.{Op}
-use Rattle.model.specs.declared.types.Op.TheVariants.{Create}
+use Rattle.model.specs.declared.types.operations.Op.{Op}
+use Rattle.model.specs.declared.types.operations.Op.TheVariants.{Create}
 use Rattle.ports.specs.History.{FitWith, takes, first_in}
 use Rattle.inodes.specs.declared.ialloc.Ialloc.{Ialloc}
 use Rattle.kernel.proofs.Taking.{histories_taken, fit_after, first_creation}

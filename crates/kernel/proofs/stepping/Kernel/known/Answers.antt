@@ -3,7 +3,7 @@ use Rattle.std.specs.Prelude.{IfNone, map}
 use Rattle.std.specs.List.{filter}
 use Rattle.blocks.specs.Disk.{Image}
 use mathlib.Core.List.{IsPrefix}
-use Rattle.model.specs.declared.types.Entry.{Entry}
+use Rattle.model.specs.declared.types.operations.Entry.{Entry}
 use Rattle.model.specs.Files.{files_of}
 use Rattle.model.specs.Journal.{kept, own, replay, answered, is_changing}
 use Rattle.model.specs.Layout.{form_of, inode_count_of}

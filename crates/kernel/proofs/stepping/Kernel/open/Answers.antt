@@ -2,7 +2,7 @@ use Rattle.std.proofs.Common.{rules, ◌≡◌, ◌≤◌, ℕ, ◌∙◌, sym, 
 use Rattle.blocks.specs.Disk.{Image, LeavesOnly}
 use Rattle.model.specs.Layout.{is_lawful_super}
 use Rattle.model.specs.Log.{recovered}
-use Rattle.model.proofs.LogLemmas.{length-recovered}
+use Rattle.model.specs.Lemmas.Log.{length-recovered}
 use Rattle.wal.specs.Machine.{new_log}
 use Rattle.wal.specs.Recovery.{RecoversAs}
 use Rattle.wal.specs.Volume.{VolumeState}

@@ -6,8 +6,8 @@ use Rattle.kernel.specs.State.{is_under_way_at, Inv}
 use Rattle.kernel.proofs.Commits.{where_none, if_none}
 use Rattle.kernel.proofs.Beginnings.{begins_fit, table_refused, refused_processes, others_twice, rooms_begun}
 use Rattle.kernel.proofs.Keeping.{recovers_refused, journal_refused, kept_of}
-use Rattle.model.specs.declared.types.Op.{Op}
-use Rattle.model.specs.declared.types.Reply.TheVariants.{BadType}
+use Rattle.model.specs.declared.types.operations.Op.{Op}
+use Rattle.model.specs.declared.types.operations.Reply.TheVariants.{BadType}
 use Rattle.ports.specs.History.{FitWith, takes}
 use Rattle.kernel.proofs.Taking.{histories_at_once, fit_after}
 use Rattle.kernel.proofs.Rooms.{as_many}

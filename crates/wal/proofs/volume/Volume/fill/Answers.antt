@@ -1,5 +1,5 @@
 use Rattle.std.proofs.Common.{◌≡◌, ◌∙◌, ap, subst}
-use Rattle.model.specs.declared.types.Buffer.{Buffer}
+use Rattle.bcache.specs.declared.types.Buffer.{Buffer}
 use Rattle.blocks.specs.Disk.{block_at}
 use Rattle.bcache.specs.Buffers.{block_or_zero, filled}
 use Rattle.wal.specs.Joint.{seen}

@@ -4,11 +4,11 @@ use Rattle.std.specs.Prelude.{All}
 use Rattle.std.specs.List.{flat_map, list_all, range_with_len, AllByRecursion}
 use Rattle.std.proofs.lemmas.Bool.{ne_eqb, cases_eq, lt-ltb, le-ltb}
 use Rattle.blocks.specs.Disk.{Image, block_at}
-use Rattle.model.specs.declared.types.Form.{Form}
-use Rattle.model.specs.declared.types.Form.TheVariants.{One}
-use Rattle.model.specs.declared.types.Dinode.{Dinode}
-use Rattle.model.specs.declared.types.Pointer.{Pointer}
-use Rattle.model.specs.declared.types.Super.{Super}
+use Rattle.model.specs.declared.types.image.Form.{Form}
+use Rattle.model.specs.declared.types.image.Form.TheVariants.{One}
+use Rattle.model.specs.declared.types.image.Dinode.{Dinode}
+use Rattle.model.specs.declared.types.image.Pointer.{Pointer}
+use Rattle.model.specs.declared.types.image.Super.{Super}
 use Rattle.model.specs.Fields.{u32_at, has_bit}
 use Rattle.model.specs.Layout.{super_in, super_of, form_of, magic_of, is_lawful_super, inode_count_of, first_data_block, meta_count, inode_of, inode_in, inode_bytes_in, inode_block, is_marked}
 use Rattle.model.specs.Log.{logged_count, recovered}
@@ -17,11 +17,11 @@ use Rattle.model.specs.Files.{file_of, file_at, files_of}
 use Rattle.model.specs.Soundness.{IsSound, IsLawfulInode, IsFilled, count_of, place_count}
 use Rattle.model.specs.Agreement.{Agrees, AgreesFor, is_outside_log}
 use Rattle.model.specs.Laws.{SameOutsideLog, SameWhenRecovered}
-use Rattle.model.proofs.LogLemmas.{length-recovered}
-use Rattle.model.proofs.RecoveryLemmas.{logged_count-left}
-use Rattle.model.proofs.CountLemmas.{All-range, All-range_at}
-use Rattle.model.proofs.Frame.{form_agree, pointers_agree, file_agree}
-use Rattle.model.proofs.SoundLemmas.{IsInData, inode_in_data, facts_of}
+use Rattle.model.specs.Lemmas.Log.{length-recovered}
+use Rattle.model.specs.Lemmas.Recovery.{logged_count-left}
+use Rattle.model.specs.Lemmas.Counts.{All-range, All-range_at}
+use Rattle.model.specs.Lemmas.Frames.{form_agree, pointers_agree, file_agree}
+use Rattle.model.specs.Lemmas.Soundness.{IsInData, inode_in_data, facts_of}
 
 -- functions that agree on a row of numbers
 pub map_range_same : {X : Type 0} (f g : ℕ → X) (a n : ℕ) → ((i : ℕ) → a ≤ i → i < a + n → g i ≡ f i) →

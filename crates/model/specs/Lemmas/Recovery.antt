@@ -11,7 +11,7 @@ use Rattle.model.specs.Fields.{u32_at, words_of}
 use Rattle.model.specs.Log.{logged_in, logged_count, homes_of, homes_in, is_lawful_log, are_in_place, are_distinct, recovered, recovered_block, block_from_log, place_among}
 use Rattle.model.specs.Agreement.{Agrees}
 use Rattle.model.specs.Laws.{RecoversOnce, HomeWritesKeep, HomesAreRewritten, is_home}
-use Rattle.model.proofs.LogLemmas.{both_of, lawful_homes, recovered_empty, logged_count-recovered, recovered_at, length-recovered}
+use Rattle.model.specs.Lemmas.Log.{both_of, lawful_homes, recovered_empty, logged_count-recovered, recovered_at, length-recovered}
 
 -- no bytes are the number 0
 pub u32_at-nil : u32_at [] 0 ≡ 0

@@ -5,8 +5,8 @@ use Rattle.std.proofs.lemmas.Bool.{ne_eqb, cases_eq, cases_lt, lt-ltb, le-ltb, e
 use Rattle.std.proofs.lemmas.List.{get_or_past, get_or-set_other}
 use Rattle.std.proofs.lemmas.List.Folds.{list_all-append}
 use Rattle.blocks.specs.Disk.{Image, block_at}
-use Rattle.model.specs.declared.types.Dinode.{Dinode}
-use Rattle.model.specs.declared.types.Pointer.{Pointer}
+use Rattle.model.specs.declared.types.image.Dinode.{Dinode}
+use Rattle.model.specs.declared.types.image.Pointer.{Pointer}
 use Rattle.model.specs.Fields.{words_of}
 use Rattle.model.specs.Layout.{reach, depths, form_of}
 use Rattle.model.specs.Places.{pointer_of, pointers_under, pointers_behind, pointers_along, pointers_in, addresses_in, address_under, address_along, address_in}
@@ -15,9 +15,9 @@ use Rattle.model.specs.Files.{data_at, joined, bytes_in, file_of, blocks_for}
 use Rattle.model.specs.Soundness.{count_of}
 use Rattle.model.specs.Agreement.{all_pass, Agrees, AgreesFor}
 use Rattle.model.specs.Laws.{FramesContents}
-use Rattle.model.proofs.LogLemmas.{both_of}
-use Rattle.model.proofs.CountLemmas.{all_other}
-use Rattle.model.proofs.Named.{addresses_in-append, pointers_named}
+use Rattle.model.specs.Lemmas.Log.{both_of}
+use Rattle.model.specs.Lemmas.Counts.{all_other}
+use Rattle.model.specs.Lemmas.Names.{addresses_in-append, pointers_named}
 
 -- it is enough to look inside the images
 pub Agrees-from_inside : (test : ℕ → Bool) (x y : Image) → length y ≡ length x →

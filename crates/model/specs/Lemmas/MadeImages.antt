@@ -8,18 +8,18 @@ use Rattle.std.proofs.lemmas.List.FromFn.{length-range_with_len, get_or-range_wi
 use Rattle.blocks.specs.Block.{IsBlock, zero_block}
 use Rattle.blocks.specs.Disk.{IsImage, block_at}
 use Rattle.blocks.proofs.BlockLemmas.{is_block-zero_block}
-use Rattle.model.specs.declared.types.Form.TheVariants.{One}
-use Rattle.model.specs.declared.types.Super.{Super}
-use Rattle.model.specs.declared.types.File.{File}
+use Rattle.model.specs.declared.types.image.Form.TheVariants.{One}
+use Rattle.model.specs.declared.types.image.Super.{Super}
+use Rattle.model.specs.declared.types.image.File.{File}
 use Rattle.model.specs.Fields.{u16_at, u32_at, has_bit}
 use Rattle.model.specs.Layout.{magic_of, magic_at, form_of, super_in, super_of, meta_count, planned_super, is_inode_count, is_size, is_lawful_super, inode_count_of, first_data_block, inode_in, inode_of, inode_block, inode_bytes_in, is_marked}
 use Rattle.model.specs.Places.{pointers_in, pointers_of, addresses_in, places_of}
 use Rattle.model.specs.Soundness.{IsSound, IsLawfulInode, IsFilled, place_count}
 use Rattle.model.specs.Files.{file_of, file_at, files_of, file_count}
 use Rattle.model.specs.Codec.{super_block, first_bits, made_block, made_image}
-use Rattle.model.proofs.LogLemmas.{both_of, zero_header}
-use Rattle.model.proofs.Bits.{has_bit-first_bits, is_block-first_bits}
-use Rattle.model.proofs.Codecs.{is_block-super_block, magic-super_block, super_in-super_block}
+use Rattle.model.specs.Lemmas.Log.{both_of, zero_header}
+use Rattle.model.specs.Lemmas.Bits.{has_bit-first_bits, is_block-first_bits}
+use Rattle.model.specs.Lemmas.Codecs.{is_block-super_block, magic-super_block, super_in-super_block}
 
 -- a size and a number of inodes within the limits, as numbers
 pub record IsWithin (size n : ℕ) : Type 0 where

@@ -6,10 +6,10 @@ use Rattle.std.proofs.lemmas.Bool.{ne_eqb, eq-eqb, cases_eq, cases_lt, cases_Boo
 use Rattle.std.proofs.lemmas.List.{append_assoc, append-nil}
 use Rattle.std.proofs.lemmas.List.Elements.{All-from_recursion, recursion_from_All}
 use Rattle.blocks.specs.Disk.{Image}
-use Rattle.model.specs.declared.types.Form.TheVariants.{One}
-use Rattle.model.specs.declared.types.Pointer.{Pointer}
-use Rattle.model.specs.declared.types.CheckFault.{CheckFault}
-use Rattle.model.specs.declared.types.CheckFault.TheVariants.{BadMagic, BadGeometry, BadLog, BadType, BadSize, BadAddress, TwiceUsed, UsedButFree, LostBlock}
+use Rattle.model.specs.declared.types.image.Form.TheVariants.{One}
+use Rattle.model.specs.declared.types.image.Pointer.{Pointer}
+use Rattle.model.specs.declared.types.fault.CheckFault.{CheckFault}
+use Rattle.model.specs.declared.types.fault.CheckFault.TheVariants.{BadMagic, BadGeometry, BadLog, BadType, BadSize, BadAddress, TwiceUsed, UsedButFree, LostBlock}
 use Rattle.model.specs.Fields.{u32_at}
 use Rattle.model.specs.Layout.{first_data_block, is_marked, inode_of, inode_count_of, greatest_size, form_of, has_known_magic, super_of, is_lawful_super, magic_of}
 use Rattle.model.specs.Log.{recovered, is_lawful_log, logged_count}
@@ -17,12 +17,12 @@ use Rattle.model.specs.Places.{addresses_in, pointers_of, places_of}
 use Rattle.model.specs.Soundness.{count_of, place_count, IsFilled, IsSound, IsLawfulInode, IsLawfulGeometry}
 use Rattle.model.specs.Verdict.{first_of, or_else, inode_fault, inodes_fault, mark_fault, marks_fault, places_below, verdict, geometry_fault, log_fault, pointer_fault, address_fault, first_pointer_fault}
 use Rattle.model.specs.Laws.{VerdictIsSound}
-use Rattle.model.proofs.Steps.{flat_mapped_next}
-use Rattle.model.proofs.SuperLemmas.{guard_none, or_else_none, super_of-recovered, super_facts, SuperFacts}
-use Rattle.model.proofs.LogLemmas.{recovered_low, length-recovered}
-use Rattle.model.proofs.RecoveryLemmas.{logged_count-left}
-use Rattle.model.proofs.Frame.{pointers_free}
-use Rattle.model.proofs.CountLemmas.{count_of-append, count_of-one, count_of-get_or, count_of-All, list_any-uncounted, list_any-counted, count_front, AllByRecursion-append, AllByRecursion-flat, All-range, All-range_at}
+use Rattle.model.specs.Lemmas.Steps.{flat_mapped_next}
+use Rattle.model.specs.Lemmas.Super.{guard_none, or_else_none, super_of-recovered, super_facts, SuperFacts}
+use Rattle.model.specs.Lemmas.Log.{recovered_low, length-recovered}
+use Rattle.model.specs.Lemmas.Recovery.{logged_count-left}
+use Rattle.model.specs.Lemmas.Frames.{pointers_free}
+use Rattle.model.specs.Lemmas.Counts.{count_of-append, count_of-one, count_of-get_or, count_of-All, list_any-uncounted, list_any-counted, count_front, AllByRecursion-append, AllByRecursion-flat, All-range, All-range_at}
 
 -- a data block that the bitmap has
 abbrev pub IsInData : Image → ℕ → Type 0

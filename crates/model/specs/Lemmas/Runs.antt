@@ -3,13 +3,13 @@ use Rattle.std.proofs.Common.{◌≡◌, ℕ, Bool, true, false, cond, not, ◌&
 use Rattle.std.specs.Prelude.{IsSome, is_none}
 use Rattle.std.proofs.lemmas.Bool.{and_cases, ltb-false, le-leb, le-ltb, lt-ltb, lt-leb, cases_lt, not-true, and_parts, ltb-true}
 use Rattle.std.proofs.lemmas.List.{length-set, get_or_past, get_or-set_other}
-use Rattle.model.specs.declared.types.Entry.{Entry}
-use Rattle.model.specs.declared.types.Form.{Form}
-use Rattle.model.specs.declared.types.File.{File}
-use Rattle.model.specs.declared.types.Op.{Op}
-use Rattle.model.specs.declared.types.Op.TheVariants.{Create, Write, Read, Trunc, Remove, Stat}
-use Rattle.model.specs.declared.types.Reply.{Reply}
-use Rattle.model.specs.declared.types.Reply.TheVariants.{Made, NoInode, Wrote, Bytes, Done, StatOf, NoFile, BadOffset, TooBig, TooLong, BadType}
+use Rattle.model.specs.declared.types.operations.Entry.{Entry}
+use Rattle.model.specs.declared.types.image.Form.{Form}
+use Rattle.model.specs.declared.types.image.File.{File}
+use Rattle.model.specs.declared.types.operations.Op.{Op}
+use Rattle.model.specs.declared.types.operations.Op.TheVariants.{Create, Write, Read, Trunc, Remove, Stat}
+use Rattle.model.specs.declared.types.operations.Reply.{Reply}
+use Rattle.model.specs.declared.types.operations.Reply.TheVariants.{Made, NoInode, Wrote, Bytes, Done, StatOf, NoFile, BadOffset, TooBig, TooLong, BadType}
 use Rattle.model.specs.Files.{Files, file_in}
 use Rattle.model.specs.Layout.{greatest_size}
 use Rattle.model.specs.Operations.{after, after_refusal, after_done, after_create, after_at, after_on, refusal_of, write_refusal, no_file_refusal, is_refusal, where_true, is_kind, transfer_limit}

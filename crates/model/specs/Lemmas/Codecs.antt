@@ -11,14 +11,14 @@ use Rattle.byteorder.specs.Numbers.{little_number-reads_back}
 use Rattle.blocks.specs.Block.{IsBlock, overwritten, zero_block}
 use Rattle.blocks.proofs.BlockLemmas.{length-zero_block, is_block-zero_block}
 use Rattle.model.specs.Fields.{u16_at, u32_at, words_of}
-use Rattle.model.specs.declared.types.Form.{Form}
-use Rattle.model.specs.declared.types.Form.TheVariants.{One, Two}
-use Rattle.model.specs.declared.types.Super.{Super}
-use Rattle.model.specs.declared.types.Dinode.{Dinode}
+use Rattle.model.specs.declared.types.image.Form.{Form}
+use Rattle.model.specs.declared.types.image.Form.TheVariants.{One, Two}
+use Rattle.model.specs.declared.types.image.Super.{Super}
+use Rattle.model.specs.declared.types.image.Dinode.{Dinode}
 use Rattle.model.specs.Layout.{magic_of, super_in, inode_in, inode_bytes_in}
 use Rattle.model.specs.Log.{logged_in, homes_in}
 use Rattle.model.specs.Codec.{bytes_of_words, block_of_words, super_words, super_block, header_block, dinode_bytes, IsDinode, with_inode_bytes, with_entry, with_bit, first_bits}
-use Rattle.model.proofs.Words.{word_at, word_below, four_times_words}
+use Rattle.model.specs.Lemmas.Words.{word_at, word_below, four_times_words}
 
 -- ---- bytes in the place of others
 

@@ -1,14 +1,14 @@
 -- What a lawful superblock gives.
 use Rattle.std.proofs.Common.{◌≡◌, ℕ, ◌+◌, ◌/◌, ◌<◌, ◌≤◌, Bool, true, false, cond, not, ◌&&◌, eqb, leb, ltb, length, Option, Some, None, refl, ap, arith}
 use Rattle.std.proofs.lemmas.Bool.{leb-true, ltb-true, eqb-true}
-use Rattle.model.specs.declared.types.Super.{Super}
-use Rattle.model.specs.declared.types.CheckFault.TheVariants.{BadMagic, BadGeometry, BadLog}
+use Rattle.model.specs.declared.types.image.Super.{Super}
+use Rattle.model.specs.declared.types.fault.CheckFault.TheVariants.{BadMagic, BadGeometry, BadLog}
 use Rattle.blocks.specs.Disk.{Image}
 use Rattle.model.specs.Layout.{super_in, super_of, meta_count, is_lawful_super, is_inode_count, is_size, are_alike, planned_super, has_known_magic}
 use Rattle.model.specs.Log.{is_lawful_log, recovered}
 use Rattle.model.specs.Readable.{IsReadable}
 use Rattle.model.specs.Verdict.{geometry_fault, log_fault, or_else, verdict}
-use Rattle.model.proofs.LogLemmas.{both_of, length-recovered, recovered_low}
+use Rattle.model.specs.Lemmas.Log.{both_of, length-recovered, recovered_low}
 
 pub guard_none : {A : Type 0} (b : Bool) (e : A) (r : Option A) → cond b (Some e) r ≡ None → (b ≡ false) × (r ≡ None)
 guard_none true e r h = absurd (cc h)

@@ -1,0 +1,87 @@
+// Operations on files, and what becomes of them.
+use crate::content::Content;
+
+/// An operation on files, by inode number.
+#[derive(Debug, Drop)]
+pub enum Op {
+    /// Makes a file of this type.
+    Create(u16),
+    /// Writes the bytes from an offset on.
+    Write(u32, u32, Content),
+    /// Reads at most that many bytes from an offset on.
+    Read(u32, u32, u32),
+    /// Gives up all bytes.
+    Trunc(u32),
+    /// Gives up the bytes and the number.
+    Remove(u32),
+    /// Asks for type and length.
+    Stat(u32),
+}
+
+/// What an operation answers: a result, or one of the refusals behind `StatOf`.
+#[derive(Debug, Drop)]
+pub enum Reply {
+    /// The new file's number.
+    Made(u32),
+    /// Each number was seen taken.
+    NoInode,
+    /// So many bytes were written; fewer than asked where no block was free.
+    Wrote(u32),
+    /// The bytes read, cut at the file's end.
+    Bytes(Content),
+    /// A truncation or a removal was done.
+    Done,
+    /// Type, and length in bytes.
+    StatOf(u16, u32),
+    /// There is no file of that number.
+    NoFile,
+    /// The offset lies behind the file's end.
+    BadOffset,
+    /// The write would end behind the greatest size.
+    TooBig,
+    /// More than 3072 bytes at once.
+    TooLong,
+    /// No file has that type.
+    BadType,
+}
+
+/// What the journal keeps of an operation that had its turn.
+#[derive(Debug, Drop)]
+pub struct Entry {
+    pub pid: u32,
+    /// The number of the operation among its process's, from 1.
+    pub seq: u64,
+    pub op: Op,
+    /// The group that it belongs to, from 1; 0 for an operation that is not changing.
+    pub group: u64,
+    /// None until it is decided.
+    pub reply: Option<Reply>,
+}
+
+/// What a process gets back.
+#[derive(Debug, Drop)]
+pub struct Answer {
+    /// The number of the operation among its process's, from 1.
+    pub seq: u64,
+    pub reply: Reply,
+    /// The group that has to be committed before the operation outlives a stop; 0 for none.
+    pub group: u64,
+}
+
+/// What a step waits for.
+#[derive(Clone, Copy, Debug, PartialEq, Eq)]
+pub enum Why {
+    /// A commit is under way.
+    Committing,
+    /// The log has no room for one more operation.
+    LogFull,
+    /// Another process holds the inode.
+    InodeHeld,
+    /// Another process holds the block's buffer.
+    BufferHeld,
+    /// All 40 buffers have references. (Bach, "The Design of the UNIX Operating System", chapter 3;
+    /// xv6 panics there.)
+    NoBuffer,
+    /// Answers were not fetched, and there is no place for one more.
+    AnswersFull,
+}
