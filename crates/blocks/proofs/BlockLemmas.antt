@@ -58,6 +58,6 @@ pub is_image-push : (x : Image) (block : List ℕ) → IsImage x → IsBlock blo
 is_image-push x block are is b lt = elim (cases_lt b (length x)) [
   | inl below ↦ subst IsBlock (sym (get_or-append x (block ∷ []) [] b below)) (are b below)
   | inr past ↦
-    let last : b ≡ length x = omega (arith, lt, length-append x (block ∷ [])) in
-    subst IsBlock (sym (ap (λ (i : ℕ). get_or (x ++ block ∷ []) i []) last ∙ get_or-append_seam x block [] [])) is
+      let last : b ≡ length x = omega (arith, lt, length-append x (block ∷ [])) in
+      subst IsBlock (sym (ap (λ (i : ℕ). get_or (x ++ block ∷ []) i []) last ∙ get_or-append_seam x block [] [])) is
 ]

@@ -1,12 +1,12 @@
 // A disk over a file. It keeps a copy of the blocks, which reads give; each write goes to both.
-ghost use Rattle.std.specs.Prelude.{◌≡◌, ◌≢◌, ◌<◌, ◌≤◌, ◌^◌, ◌*◌, ◌↔◌, ℕ, length, replicate, refl, slice_get, slice_set, Some, IfOk, IfErr, IsOk, IsOkUnless, OnOk, OnErr, IsErrOf};
+ghost use Rattle.std.specs.Prelude.{◌≡◌, ◌≢◌, ◌<◌, ◌≤◌, ◌^◌, ◌*◌, ◌↔◌, ℕ, false, length, replicate, refl, slice_get, slice_set, Some, IfOk, IfErr, IsOk, IsOkUnless, OnOk, OnErr, IsErrOf};
 ghost use Rattle.std.proofs.Common.{inl};
 ghost use Rattle.std.specs.List.{concat};
 ghost use Rattle.std.specs.IoError.{error_kind};
 ghost use Rattle.std.specs.Io.KnownBytes.{Consumes};
 ghost use Rattle.blocks.specs.Block.{zero_block};
 ghost use Rattle.blocks.specs.Disk.{IsImage, CountsFault, CountsSuccess, IsOldOrNew, Elapses, AddsNone, LeavesOldOrNew};
-ghost use Rattle.blocks.specs.File.{IsReadFrom, IsWrittenAt};
+ghost use Rattle.blocks.specs.File.{IsReadFrom, IsWrittenAt, is_disk_size};
 ghost use Rattle.blocks.specs.Images.{only_last, has_left-image};
 
 use crate::{BLOCK_SIZE, Block, Disk, DiskFault, FileFault, MemDisk, NoMemory};
@@ -54,14 +54,34 @@ impl<F: Read + Write + Seek + OpenFile + Drop> FileDisk<F> {
         ensures writes { IfOk result (λ disk. ⟦<FileDisk<F> as Disk>⟧.write_count disk ≡ 0) }
         ensures faults { IfOk result (λ disk. ⟦<FileDisk<F> as Disk>⟧.fault_count disk ≡ 0) }
     {
-        let mut file = OpenOptions::new()
+        let file = OpenOptions::new()
             .read(true)
             .write(true)
             .open(rt, path)
             .map_err(fault_of)?;
-        let size = blocks_of_length(file.metadata().map_err(fault_of)?.len())?;
-        let blocks = read_blocks(rt.alloc(), &mut file, size)?;
-        Ok(FileDisk::over(MemDisk::of(rt.alloc(), blocks, size), file))
+        let size = file.metadata().map_err(fault_of)?.len();
+        FileDisk::over_file(rt.alloc(), file, size)
+    }
+
+    /// The disk that an opened file of this many bytes holds. It is read from where it stands, at
+    /// its start, to its end.
+    ///
+    /// # Errors
+    ///
+    /// The first of these. `Length` where the bytes are not a whole number of blocks, from 1 to
+    /// `MAX_BLOCKS`; `NoMemory` where memory for the blocks is refused; `Open`, or `NoMemory` where
+    /// the system says so, where the file can't be read.
+    pub fn over_file(alloc: Global, mut file: F, size: u64) -> Result<FileDisk<F>, FileFault>
+        ensures size { IfOk result (λ disk. size ≡ length (⟦<FileDisk<F> as Disk>⟧.image disk) * 1024) }
+        ensures refused { IsErrOf result FileFault.Length ↔ (is_disk_size size ≡ false) }
+        ensures bytes { IfOk result (λ disk. Consumes (F.remaining file) (F.remaining (file_of disk))
+            (concat (⟦<FileDisk<F> as Disk>⟧.image disk))) }
+        ensures writes { IfOk result (λ disk. ⟦<FileDisk<F> as Disk>⟧.write_count disk ≡ 0) }
+        ensures faults { IfOk result (λ disk. ⟦<FileDisk<F> as Disk>⟧.fault_count disk ≡ 0) }
+    {
+        let count = blocks_of_length(size)?;
+        let blocks = read_blocks(alloc, &mut file, count)?;
+        Ok(FileDisk::over(MemDisk::of(alloc, blocks, count), file))
     }
 
     /// A disk of this many blocks of zeroes, in a new file at this path, which takes the place of
@@ -127,7 +147,7 @@ fn blocks_of_length(length: u64) -> Result<u32, FileFault>
     ensures bytes { IfOk result (λ size. length ≡ size * 1024) }
     ensures some { IfOk result (λ size. 1 ≤ size) }
     ensures at_most { IfOk result (λ size. size ≤ MAX_BLOCKS) }
-    ensures refused { OnErr result ((size : ℕ) → 1 ≤ size → size ≤ MAX_BLOCKS → length ≢ size * 1024) }
+    ensures refused { IsErrOf result FileFault.Length ↔ (is_disk_size length ≡ false) }
     ensures err { IsOkUnless result FileFault.Length }
 {
     let size = length / BLOCK_SIZE as u64;
