@@ -87,7 +87,7 @@ module _ {D : Type 0} (image : D → Image) (writes moment : D → ℕ) (leaves 
       (stays moment leaves old old mid P
       (started moment leaves old P (λ x left. subst P (sym (only_now old x left)) (record { image = refl; lawful = refl })))
       (record { later = reads.later; adds = reads.adds; keeps = reads.keeps }))
-      (subst (λ (y : Image). LeavesOnly moment leaves mid new (RecoversAs y)) reads.same then_on)
+      (subst (λ (y : Image). LeavesOnly moment leaves mid new (RecoversAs y)) reads.image then_on)
 
 -- a list of the same everywhere
 same_at : {A : Type 0} (n p : ℕ) (a : A) → get_or (replicate n a) p a ≡ a

@@ -1,13 +1,16 @@
 -- Steps of the making of an image.
-use Rattle.std.proofs.Common.{◌≡◌, ◌≢◌, inl, inr, ℕ, suc, ◌+◌, ◌-◌, ◌<◌, ◌≤◌, List, [], set, sym, ap, ◌∙◌, subst, ⊎_elim, arith}
+use Rattle.std.proofs.Common.{◌≡◌, ◌≢◌, inl, inr, ℕ, suc, ◌+◌, ◌-◌, ◌<◌, ◌≤◌, List, [], ◌∷◌, ◌++◌, length, take, get_or, set, refl, sym, ap, ◌∙◌, subst, arith, length-append}
+use Rattle.std.specs.List.{range_with_len}
 use Rattle.std.proofs.lemmas.Bool.{cases_eq}
-use Rattle.std.proofs.lemmas.List.{length-set, get_or-set_same, get_or-set_other}
-use Rattle.std.proofs.lemmas.List.FromFn.{fill_by_all}
-use Rattle.blocks.specs.Disk.{Image, block_at, one_more, LeavesOnly, Elapses, IsOldOrNew}
-use Rattle.blocks.proofs.Moments.{joined, goes_on}
+use Rattle.std.proofs.lemmas.List.{length-set, get_or-set_same, get_or-set_other, take_more}
+use Rattle.std.proofs.lemmas.List.FromFn.{fill_by_all, get_or-range_with_len, length-range_with_len}
+use Rattle.std.proofs.Math.ListN.{get_or-append}
+use Rattle.std.proofs.Math.Seq.{get_or-append_seam}
+use Rattle.blocks.specs.Disk.{Image, block_at, counted, one_more, LeavesOnly, Elapses, IsOldOrNew, IsSettled}
+use Rattle.blocks.proofs.Moments.{started, goes_on}
 use Rattle.model.specs.declared.types.image.Form.TheVariants.{One}
 use Rattle.model.specs.Codec.{made_block, made_image}
-use Rattle.layout.specs.Making.{counted, KeepsSuper, MakesSuperLast, HasMade}
+use Rattle.layout.specs.Making.{HasMade, IsMadeInPart, made_first, with_made, writing_order}
 
 -- one more write
 pub counted_more : (old b : ℕ) → 1 ≤ b → one_more (counted old (b - 1)) ≡ counted old (b + 1 - 1)
@@ -20,6 +23,46 @@ pub counted_all : (old size : ℕ) → 1 ≤ size → one_more (counted old (siz
 counted_all old size h =
     let e : suc (size - 1) ≡ size = omega arith in
     ap (counted old) e
+
+length-writing_order : (size : ℕ) → 2 ≤ size → length (writing_order size) ≡ size
+length-writing_order size some =
+    omega (arith, length-append (range_with_len 2 (size - 2)) (1 ∷ []), length-range_with_len 2 (size - 2))
+
+-- block b behind the superblock is the one before the bth of the order
+pub order_behind : (size b : ℕ) → 2 ≤ b → b < size → get_or (writing_order size) (b - 1) 0 ≡ b
+order_behind size b behind inside =
+    let place : b - 1 ≡ suc (b - 2) = omega arith in
+    let back : 2 + (b - 2) ≡ b = omega arith in
+    ap (λ (i : ℕ). get_or (writing_order size) i 0) place
+    ∙ get_or-append (range_with_len 2 (size - 2)) (1 ∷ []) 0 (b - 2) (omega (arith, length-range_with_len 2 (size - 2)))
+    ∙ get_or-range_with_len 2 (size - 2) (b - 2) 0 (omega arith) ∙ back
+
+-- the superblock is the last of the order
+pub order_last : (size : ℕ) → 2 ≤ size → get_or (writing_order size) (size - 1) 0 ≡ 1
+order_last size some =
+    let place : size - 1 ≡ suc (size - 2) = omega arith in
+    ap (λ (i : ℕ). get_or (writing_order size) i 0) place
+    ∙ ap (λ (i : ℕ). get_or (range_with_len 2 (size - 2) ++ 1 ∷ []) i 0) (sym (length-range_with_len 2 (size - 2)))
+    ∙ get_or-append_seam (range_with_len 2 (size - 2)) 1 [] 0
+
+with_made-append : (size n : ℕ) (bs : List ℕ) (b : ℕ) (x : Image) → with_made size n (bs ++ b ∷ []) x ≡ set (with_made size n bs x) b (made_block One size n b)
+with_made-append size n [] b x = refl
+with_made-append size n (a ∷ bs) b x = with_made-append size n bs b (set x a (made_block One size n a))
+
+-- one more block of the order
+pub made_first-more : (size n k b : ℕ) (x : Image) → 2 ≤ size → k < size → get_or (writing_order size) k 0 ≡ b →
+    made_first size n (k + 1) x ≡ set (made_first size n k x) b (made_block One size n b)
+made_first-more size n k b x some inside is =
+    ap (λ (bs : List ℕ). with_made size n bs x) (take_more (writing_order size) k 0 (omega (arith, length-writing_order size some)))
+    ∙ with_made-append size n (take k (writing_order size)) (get_or (writing_order size) k 0) x
+    ∙ ap (λ (c : ℕ). set (made_first size n k x) c (made_block One size n c)) is
+
+-- the write of one more block leaves an image that is made in part
+part_left : (size n k b : ℕ) (old mid new : Image) → 2 ≤ size → k < size → get_or (writing_order size) k 0 ≡ b → mid ≡ made_first size n k old →
+    IsOldOrNew mid b (made_block One size n b) new → IsMadeInPart old size n new
+part_left size n k b old mid new some inside is so_far (inl same) = (k, omega arith, same ∙ so_far)
+part_left size n k b old mid new some inside is so_far (inr written) =
+    (k + 1, omega arith, written ∙ ap (λ (x : Image). set x b (made_block One size n b)) so_far ∙ sym (made_first-more size n k b old some inside is))
 
 -- one more block
 pub has_made_more : (size n b : ℕ) (old mid new : Image) → HasMade size n b old mid → b < size → b ≢ 1 →
@@ -51,37 +94,26 @@ made_all size n old mid so_far some =
       | inr away ↦ get_or-set_other mid 1 k (made_block One size n 1) _ away ∙ so_far.made k below away
     ])
 
--- the last write: its bytes are those of block 1
-pub last_made : (size n : ℕ) (old mid new : Image) (bytes : List ℕ) → HasMade size n size old mid → 1 < size →
-    bytes ≡ made_block One size n 1 → new ≡ set mid 1 bytes → new ≡ made_image One size n
-last_made size n old mid new bytes so_far some is written = written ∙ ap (set mid 1) is ∙ made_all size n old mid so_far some
+-- the last write
+pub last_made : (size n : ℕ) (old mid new : Image) → HasMade size n size old mid → 1 < size → new ≡ set mid 1 (made_block One size n 1) → new ≡ made_image One size n
+last_made size n old mid new so_far some written = written ∙ made_all size n old mid so_far some
 
--- what it leaves, whether it succeeds or not
-pub last_leaves : (size n : ℕ) (old mid new : Image) (bytes : List ℕ) → HasMade size n size old mid → 1 < size →
-    bytes ≡ made_block One size n 1 → IsOldOrNew mid 1 bytes new → MakesSuperLast old size n new
-last_leaves size n old mid new bytes so_far some is (inl same) = inl (ap (λ (x : Image). block_at x 1) same ∙ so_far.superblock)
-last_leaves size n old mid new bytes so_far some is (inr written) = inr (last_made size n old mid new bytes so_far some is written)
+-- after block 0
+pub made_two : (size n : ℕ) (old new : Image) → length old ≡ size → 2 ≤ size → new ≡ set old 0 (made_block One size n 0) → HasMade size n 2 old new
+made_two size n old new long some is =
+    let none : HasMade size n 0 old old = record { long = long; made = λ b below apart. absurd (omega arith); superblock = refl } in
+    let one : HasMade size n 1 old new = has_made_more size n 0 old old new none (omega arith) (omega arith) is in
+    record { long = one.long; made = λ b below apart. one.made b (omega (arith, below, apart)) apart; superblock = one.superblock }
 
-module _ {D : Type 0} (moment : D → ℕ) (leaves : D → ℕ → Image → Type 0) where
-  weaker : (old new : D) (P Q : Image → Type 0) → ((x : Image) → P x → Q x) → LeavesOnly moment leaves old new P → LeavesOnly moment leaves old new Q
-  weaker old new P Q so run = record {
-    later = run.later;
-    each = λ x left. so x (run.each x left);
-    before = λ t x le left. ⊎_elim (λ was. inl was) (λ p. inr (so x p)) (run.before t x le left);
-    keeps = run.keeps;
-  }
+module _ {D : Type 0} (image : D → Image) (moment : D → ℕ) (leaves : D → ℕ → Image → Type 0) (only_now : (d : D) → IsSettled (image d) (leaves d (moment d))) where
+  -- before the first write
+  pub part_started : (size n : ℕ) (d : D) → LeavesOnly moment leaves d d (IsMadeInPart (image d) size n)
+  part_started size n d = started moment leaves d (IsMadeInPart (image d) size n) (λ x left. (0, omega arith, only_now d x left))
 
-  -- a run that keeps block 1, after another
-  pub keeps_on : (old mid new : D) (x y : Image) → KeepsSuper x y → LeavesOnly moment leaves old mid (KeepsSuper x) →
-      LeavesOnly moment leaves mid new (KeepsSuper y) → LeavesOnly moment leaves old new (KeepsSuper x)
-  keeps_on old mid new x y same first next =
-      joined moment leaves old mid new (KeepsSuper x) first
-      (weaker mid new (KeepsSuper y) (KeepsSuper x) (λ z kept. kept ∙ same) next)
-
-  -- the last write, after a run that keeps block 1
-  pub ends_made : (old mid new : D) (x : Image) (size n : ℕ) → LeavesOnly moment leaves old mid (KeepsSuper x) →
-      Elapses (moment mid) (moment new) (leaves mid) (leaves new) →
-      ((z : Image) → leaves new (moment new) z → MakesSuperLast x size n z) → LeavesOnly moment leaves old new (MakesSuperLast x size n)
-  ends_made old mid new x size n run time here =
-      goes_on moment leaves old mid new (MakesSuperLast x size n)
-      (weaker old mid (KeepsSuper x) (MakesSuperLast x size n) (λ z kept. inl kept) run) time here
+  -- one write more, done or not
+  pub part_more : (size n k b : ℕ) (old mid new : D) → 2 ≤ size → k < size → get_or (writing_order size) k 0 ≡ b → image mid ≡ made_first size n k (image old) →
+      IsOldOrNew (image mid) b (made_block One size n b) (image new) → Elapses (moment mid) (moment new) (leaves mid) (leaves new) →
+      LeavesOnly moment leaves old mid (IsMadeInPart (image old) size n) → LeavesOnly moment leaves old new (IsMadeInPart (image old) size n)
+  part_more size n k b old mid new some inside is so_far write time run =
+      goes_on moment leaves old mid new (IsMadeInPart (image old) size n) run time
+      (λ x left. subst (IsMadeInPart (image old) size n) (sym (only_now new x left)) (part_left size n k b (image old) (image mid) (image new) some inside is so_far write))

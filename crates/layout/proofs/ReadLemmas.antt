@@ -1,20 +1,18 @@
 -- Reads after reads.
-use Rattle.std.proofs.Common.{ℕ, ◌∙◌, refl, arith}
-use Rattle.blocks.specs.Disk.{Image}
-use Rattle.layout.specs.Cause.{OnlyReads}
+use Rattle.std.proofs.Common.{ℕ, ◌∙◌, arith}
+use Rattle.blocks.specs.Calls.{OnlyReads}
+use Rattle.blocks.specs.declared.disk.Disk.{Ghosts}
 
-module _ {D : Type 0} (image : D → Image) (writes moment : D → ℕ) (leaves : D → ℕ → Image → Type 0) where
-  -- no read at all
-  pub no_reads : (d : D) → OnlyReads image writes moment leaves d d
-  no_reads d = record { same = refl; unwritten = refl; later = omega arith; adds = λ t x le left. left; keeps = λ t x le left. left }
-
+module _ {D N : Type 0} (disk : Ghosts D N) where
   -- reads, and then reads
-  pub reads_then : (old mid new : D) → OnlyReads image writes moment leaves old mid → OnlyReads image writes moment leaves mid new →
-      OnlyReads image writes moment leaves old new
+  pub reads_then : (old mid new : D) → OnlyReads disk old mid → OnlyReads disk mid new → OnlyReads disk old new
   reads_then old mid new first then_on = record {
-    same = then_on.same ∙ first.same;
-    unwritten = then_on.unwritten ∙ first.unwritten;
-    later = omega (arith, first.later, then_on.later);
-    adds = λ t x le left. first.adds t x le (then_on.adds t x (omega (arith, le, first.later)) left);
-    keeps = λ t x le left. then_on.keeps t x (omega (arith, le, first.later)) (first.keeps t x le left);
+    name = then_on.name ∙ first.name;
+    image = then_on.image ∙ first.image;
+    writes = then_on.writes ∙ first.writes;
+    time = record {
+      later = omega (arith, first.time.later, then_on.time.later);
+      adds = λ t x le left. first.time.adds t x le (then_on.time.adds t x (omega (arith, le, first.time.later)) left);
+      keeps = λ t x le left. then_on.time.keeps t x (omega (arith, le, first.time.later)) (first.time.keeps t x le left);
+    };
   }

@@ -1,5 +1,5 @@
 -- Why a call that reads a disk ends as it does.
-use Rattle.std.specs.Prelude.{◌≡◌, ◌⊎◌, ◌≤◌, ◌+◌, ℕ, List, length, Option, Some, None}
+use Rattle.std.specs.Prelude.{◌≡◌, ◌≢◌, ◌⊎◌, ◌≤◌, ◌+◌, ℕ, List, length, Option, Some, None, Result, MatchResult}
 use Rattle.blocks.specs.Disk.{Image, Rose}
 use Rattle.model.specs.Log.{homes_of, place_among}
 use Rattle.model.specs.declared.types.fault.CheckFault.{CheckFault}
@@ -9,13 +9,9 @@ use Rattle.model.specs.declared.types.fault.CheckFault.TheVariants.{Disk, NoMemo
 abbrev pub IsCause : Option CheckFault → ℕ → ℕ → CheckFault → Type 0
 IsCause expected old new fault = (expected ≡ Some fault) ⊎ ((fault ≡ Disk) × Rose old new) ⊎ (fault ≡ NoMemory)
 
--- only reads were made: the disk is as before, but for its count of faults
-pub record OnlyReads {D : Type 0} (image : D → Image) (writes moment : D → ℕ) (leaves : D → ℕ → Image → Type 0) (old new : D) : Type 0 where
-  pub same : image new ≡ image old
-  pub unwritten : writes new ≡ writes old
-  pub later : moment old ≤ moment new
-  pub adds : (t : ℕ) (x : Image) → t ≤ moment old → leaves new t x → leaves old t x
-  pub keeps : (t : ℕ) (x : Image) → t ≤ moment old → leaves old t x → leaves new t x
+-- the disk's count of faults rose only where the answer is `Disk`
+abbrev pub KeepsFaults : {T : Type 0} → Result T CheckFault → ℕ → ℕ → Type 0
+KeepsFaults result old new = MatchResult result (λ _. new ≡ old) (λ fault. fault ≢ Disk → new ≡ old)
 
 -- the block to read for block b of the recovered image
 abbrev pub source_at : Option ℕ → ℕ → ℕ

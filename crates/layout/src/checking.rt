@@ -1,13 +1,14 @@
 // Whether an image is sound once its log is copied home, in one pass: each block that is needed is
 // read once.
 ghost use Rattle.std.specs.Prelude.{◌≡◌, ◌≤◌, ◌<◌, ◌≢◌, ◌↔◌, ◌&&◌, ◌++◌, ℕ, List, [], length, nat_le, slice_index, max, ◌⊎◌, ◌-◌, IsTrue, OnOk, IfOk, IfErr, IfSome, MatchResult, None};
+ghost use Rattle.blocks.specs.Calls.{OnlyReads};
 ghost use Rattle.blocks.specs.Disk.{block_at, CountsFault};
 ghost use Rattle.model.specs.Layout.{super_of, is_lawful_super, meta_count, inode_of, inode_count_of, inode_block, form_of, greatest_size};
 ghost use Rattle.model.specs.Log.{homes_of, logged_count, are_distinct, are_in_place, place_among, recovered};
 ghost use Rattle.model.specs.Files.{files_of, file_count};
 ghost use Rattle.model.specs.Readable.{IsReadable};
 ghost use Rattle.model.specs.Verdict.{geometry_fault, log_fault, inodes_fault, marks_fault, or_else, verdict, places_below};
-ghost use Rattle.layout.specs.Cause.{IsCause, IsLogOf, OnlyReads, source_among};
+ghost use Rattle.layout.specs.Cause.{IsCause, IsLogOf, KeepsFaults, source_among};
 ghost use Rattle.layout.specs.Owners.{Stand, SameLimits, own_pointers, entry_pointers, JudgesOn, JudgesInode, JudgesInodes};
 ghost use Rattle.layout.specs.Check.{IsReportOf, IsHeaderOf, IsGround, JudgesContents};
 
@@ -66,7 +67,7 @@ fn read_recovered<D: Disk>(
     requires behind { 33 ≤ b }
     requires inside { b < length (D.image disk.old) }
     ensures ok { OnOk result (into.new ≡ block_at (recovered (D.image disk.old)) b) }
-    ensures reads { OnlyReads D.image D.write_count D.moment D.leaves disk.old disk.new }
+    ensures reads { OnlyReads D.Disk disk.old disk.new }
     ensures faults { CountsFault result (D.fault_count disk.old) (D.fault_count disk.new) }
 {
     let source = source_of(homes, b);
@@ -97,8 +98,8 @@ fn is_lawful_super(fields: Super, block_count: u32) -> bool
 fn read_super<D: Disk>(disk: &mut D, block: &mut Block) -> Result<Super, CheckFault>
     requires long { 2 ≤ length (D.image disk.old) }
     ensures ok { MatchResult result (λ sup. (geometry_fault (D.image disk.old) ≡ None) × (sup ≡ super_of (D.image disk.old))) (λ fault. IsCause (geometry_fault (D.image disk.old)) (D.fault_count disk.old) (D.fault_count disk.new) fault) }
-    ensures reads { OnlyReads D.image D.write_count D.moment D.leaves disk.old disk.new }
-    ensures faults { OnOk result (D.fault_count disk.new ≡ D.fault_count disk.old) }
+    ensures reads { OnlyReads D.Disk disk.old disk.new }
+    ensures faults { KeepsFaults result (D.fault_count disk.old) (D.fault_count disk.new) }
 {
     disk.read(1, block)?;
     let bytes = block.as_slice();
@@ -116,8 +117,8 @@ fn read_super<D: Disk>(disk: &mut D, block: &mut Block) -> Result<Super, CheckFa
 fn read_header<D: Disk>(disk: &mut D, block: &mut Block) -> Result<Header, CheckFault>
     requires long { 33 ≤ length (D.image disk.old) }
     ensures ok { MatchResult result (λ header. IsHeaderOf (D.image disk.old) header) (λ fault. IsCause (log_fault (D.image disk.old)) (D.fault_count disk.old) (D.fault_count disk.new) fault) }
-    ensures reads { OnlyReads D.image D.write_count D.moment D.leaves disk.old disk.new }
-    ensures faults { OnOk result (D.fault_count disk.new ≡ D.fault_count disk.old) }
+    ensures reads { OnlyReads D.Disk disk.old disk.new }
+    ensures faults { KeepsFaults result (D.fault_count disk.old) (D.fault_count disk.new) }
 {
     disk.read(2, block)?;
     let header = Header::read(block.as_slice());
@@ -139,8 +140,8 @@ fn claim_entries<D: Disk>(
     requires log { IsLogOf (D.image disk.old) homes.now }
     requires inside { slice_index inode.now.addrs 12 ≢ 0 → (33 ≤ slice_index inode.now.addrs 12) × (slice_index inode.now.addrs 12 < length (D.image disk.old)) }
     requires addresses { length inode.now.addrs ≡ 13 }
-    ensures reads { OnlyReads D.image D.write_count D.moment D.leaves disk.old disk.new }
-    ensures faults { OnOk result (D.fault_count disk.new ≡ D.fault_count disk.old) }
+    ensures reads { OnlyReads D.Disk disk.old disk.new }
+    ensures faults { KeepsFaults result (D.fault_count disk.old) (D.fault_count disk.new) }
     ensures limits { SameLimits owners.old owners.new }
     ensures judged { (earlier : List ℕ) → Stand owners.old (recovered (D.image disk.old)) earlier → JudgesOn (recovered (D.image disk.old)) i earlier (entry_pointers (recovered (D.image disk.old)) inode.now) (D.fault_count disk.old) (D.fault_count disk.new) owners.new result }
 {
@@ -165,8 +166,8 @@ fn claim_inode<D: Disk>(
     requires first { 33 ≤ owners.old.first_data }
     requires size { owners.old.size ≡ length (D.image disk.old) }
     requires addresses { length inode.now.addrs ≡ 13 }
-    ensures reads { OnlyReads D.image D.write_count D.moment D.leaves disk.old disk.new }
-    ensures faults { OnOk result (D.fault_count disk.new ≡ D.fault_count disk.old) }
+    ensures reads { OnlyReads D.Disk disk.old disk.new }
+    ensures faults { KeepsFaults result (D.fault_count disk.old) (D.fault_count disk.new) }
     ensures limits { SameLimits owners.old owners.new }
     ensures judged { (earlier : List ℕ) → Stand owners.old (recovered (D.image disk.old)) earlier → JudgesOn (recovered (D.image disk.old)) i earlier (own_pointers inode.now ++ entry_pointers (recovered (D.image disk.old)) inode.now) (D.fault_count disk.old) (D.fault_count disk.new) owners.new result }
 {
@@ -197,8 +198,8 @@ fn check_inode<D: Disk>(
     requires some { 1 ≤ i }
     requires inode { inode.now ≡ inode_of (recovered (D.image disk.old)) i }
     requires addresses { length inode.now.addrs ≡ 13 }
-    ensures reads { OnlyReads D.image D.write_count D.moment D.leaves disk.old disk.new }
-    ensures faults { OnOk result (D.fault_count disk.new ≡ D.fault_count disk.old) }
+    ensures reads { OnlyReads D.Disk disk.old disk.new }
+    ensures faults { KeepsFaults result (D.fault_count disk.old) (D.fault_count disk.new) }
     ensures limits { SameLimits owners.old owners.new }
     ensures judged { Stand owners.old (recovered (D.image disk.old)) (places_below (recovered (D.image disk.old)) i) → JudgesInode (recovered (D.image disk.old)) i (D.fault_count disk.old) (D.fault_count disk.new) owners.new result }
 {
@@ -226,7 +227,7 @@ fn load_inode<D: Disk>(
     requires log { IsLogOf (D.image disk.old) homes.now }
     requires inside { inode_block i < length (D.image disk.old) }
     requires loaded { (i ≡ 1) ⊎ (block.old ≡ block_at (recovered (D.image disk.old)) (inode_block (i - 1))) }
-    ensures reads { OnlyReads D.image D.write_count D.moment D.leaves disk.old disk.new }
+    ensures reads { OnlyReads D.Disk disk.old disk.new }
     ensures faults { CountsFault result (D.fault_count disk.old) (D.fault_count disk.new) }
     ensures block { OnOk result (block.new ≡ block_at (recovered (D.image disk.old)) (inode_block i)) }
     ensures inode { IfOk result (λ inode. inode ≡ inode_of (recovered (D.image disk.old)) i) }
@@ -255,8 +256,8 @@ fn next_inode<D: Disk>(
     requires some { 1 ≤ i }
     requires inside { inode_block i < length (D.image disk.old) }
     requires loaded { (i ≡ 1) ⊎ (block.old ≡ block_at (recovered (D.image disk.old)) (inode_block (i - 1))) }
-    ensures reads { OnlyReads D.image D.write_count D.moment D.leaves disk.old disk.new }
-    ensures faults { OnOk result (D.fault_count disk.new ≡ D.fault_count disk.old) }
+    ensures reads { OnlyReads D.Disk disk.old disk.new }
+    ensures faults { KeepsFaults result (D.fault_count disk.old) (D.fault_count disk.new) }
     ensures limits { SameLimits owners.old owners.new }
     ensures block { OnOk result (block.new ≡ block_at (recovered (D.image disk.old)) (inode_block i)) }
     ensures judged { Stand owners.old (recovered (D.image disk.old)) (places_below (recovered (D.image disk.old)) i) → JudgesInode (recovered (D.image disk.old)) i (D.fault_count disk.old) (D.fault_count disk.new) owners.new result }
@@ -281,8 +282,8 @@ fn check_inodes<D: Disk>(
     requires count { ninodes ≡ inode_count_of (recovered (D.image disk.old)) }
     requires some { 2 ≤ ninodes }
     requires inside { inode_block ninodes < length (D.image disk.old) }
-    ensures reads { OnlyReads D.image D.write_count D.moment D.leaves disk.old disk.new }
-    ensures faults { OnOk result (D.fault_count disk.new ≡ D.fault_count disk.old) }
+    ensures reads { OnlyReads D.Disk disk.old disk.new }
+    ensures faults { KeepsFaults result (D.fault_count disk.old) (D.fault_count disk.new) }
     ensures limits { SameLimits owners.old owners.new }
     ensures judged { Stand owners.old (recovered (D.image disk.old)) [] → JudgesInodes (recovered (D.image disk.old)) (D.fault_count disk.old) (D.fault_count disk.new) owners.new result }
 {
@@ -305,8 +306,8 @@ fn check_contents<D: Disk>(
 ) -> Result<u32, CheckFault>
     requires ground { IsGround (D.image disk.old) sup }
     requires log { IsLogOf (D.image disk.old) homes.now }
-    ensures reads { OnlyReads D.image D.write_count D.moment D.leaves disk.old disk.new }
-    ensures faults { OnOk result (D.fault_count disk.new ≡ D.fault_count disk.old) }
+    ensures reads { OnlyReads D.Disk disk.old disk.new }
+    ensures faults { KeepsFaults result (D.fault_count disk.old) (D.fault_count disk.new) }
     ensures judged { JudgesContents (recovered (D.image disk.old)) (D.fault_count disk.old) (D.fault_count disk.new) result }
 {
     let mut entries = Block::zeroed(alloc)?;
@@ -334,8 +335,8 @@ pub fn check<D: Disk>(alloc: Global, disk: &mut D) -> Result<Report, CheckFault>
     ensures fault { IfErr result (λ fault. IsCause (verdict (D.image disk.old)) (D.fault_count disk.old) (D.fault_count disk.new) fault) }
 
     // nothing is written
-    ensures reads { OnlyReads D.image D.write_count D.moment D.leaves disk.old disk.new }
-    ensures faults { OnOk result (D.fault_count disk.new ≡ D.fault_count disk.old) }
+    ensures reads { OnlyReads D.Disk disk.old disk.new }
+    ensures faults { KeepsFaults result (D.fault_count disk.old) (D.fault_count disk.new) }
 {
     if disk.size() < 2 {
         return Err(CheckFault::BadGeometry);

@@ -1,11 +1,12 @@
 // A new image on a disk.
-ghost use Rattle.std.specs.Prelude.{◌≡◌, ◌≢◌, ◌↔◌, ◌≤◌, ◌<◌, ◌-◌, ◌&&◌, ◌==◌, false, length, slice_set, IsTrue, IsOk, OnOk, OnErr, IfErr};
+ghost use Rattle.std.specs.Prelude.{◌≡◌, ◌↔◌, ◌≤◌, ◌<◌, ◌-◌, ◌&&◌, ◌==◌, false, length, IsTrue, IsOk, OnOk, OnErr, IfErr};
 ghost use Rattle.std.specs.Result.{IsErrOf};
-ghost use Rattle.blocks.specs.Disk.{one_more, Rose, LeavesOnly};
+ghost use Rattle.blocks.specs.Calls.{WritesOne};
+ghost use Rattle.blocks.specs.Disk.{counted, Rose, LeavesOnly};
 ghost use Rattle.model.specs.declared.types.image.Form.TheVariants.{One};
 ghost use Rattle.model.specs.Layout.{is_inode_count, is_size};
-ghost use Rattle.model.specs.Codec.{made_block, made_image};
-ghost use Rattle.layout.specs.Making.{counted, OnRefusal, OnDisk, KeepsSuper, MakesSuperLast, HasMade};
+ghost use Rattle.model.specs.Codec.{made_block};
+ghost use Rattle.layout.specs.Making.{OnRefusal, OnDisk, HasMade, IsMadeInPart, Makes, made_first};
 
 use crate::MkfsFault;
 use crate::geometry::plan;
@@ -13,17 +14,11 @@ use crate::new_image::NewImage;
 use blocks::Disk;
 use std::alloc::Global;
 
-// Writes a block that isn't the superblock.
+// Writes a block.
 fn write_block<D: Disk>(disk: &mut D, image: &NewImage, b: u32) -> Result<(), MkfsFault>
-    requires inside { b < length (D.image disk.old) }
-    requires behind { b ≢ 1 }
-    ensures image { OnOk result (D.image disk.new ≡ slice_set (D.image disk.old) b (made_block One image.now.size image.now.ninodes b)) }
-    ensures writes { OnOk result (D.write_count disk.new ≡ one_more (D.write_count disk.old)) }
-    ensures faults { OnOk result (D.fault_count disk.new ≡ D.fault_count disk.old) }
+    requires { b < length (D.image disk.old) }
+    ensures writes { WritesOne D.Disk b (made_block One image.now.size image.now.ninodes b) result disk.old disk.new }
     ensures disk { IfErr result (λ fault. fault ≡ MkfsFault.Disk) }
-    ensures rose { OnErr result (Rose (D.fault_count disk.old) (D.fault_count disk.new)) }
-    ensures superblock { KeepsSuper (D.image disk.old) (D.image disk.new) }
-    ensures order { LeavesOnly D.moment D.leaves disk.old disk.new (KeepsSuper (D.image disk.old)) }
 {
     disk.write(b, image.block(b))?;
     Ok(())
@@ -34,11 +29,13 @@ fn write_behind<D: Disk>(disk: &mut D, image: &NewImage) -> Result<(), MkfsFault
     requires size { length (D.image disk.old) ≡ image.now.size }
     requires some { 2 ≤ image.now.size }
     ensures image { OnOk result (HasMade image.now.size image.now.ninodes image.now.size (D.image disk.old) (D.image disk.new)) }
+    ensures last { OnOk result (D.image disk.new ≡ made_first image.now.size image.now.ninodes (image.now.size - 1) (D.image disk.old)) }
     ensures writes { OnOk result (D.write_count disk.new ≡ counted (D.write_count disk.old) (image.now.size - 1)) }
+    ensures name { D.name disk.new ≡ D.name disk.old }
     ensures faults { OnOk result (D.fault_count disk.new ≡ D.fault_count disk.old) }
     ensures disk { IfErr result (λ fault. fault ≡ MkfsFault.Disk) }
     ensures rose { OnErr result (Rose (D.fault_count disk.old) (D.fault_count disk.new)) }
-    ensures order { LeavesOnly D.moment D.leaves disk.old disk.new (KeepsSuper (D.image disk.old)) }
+    ensures order { LeavesOnly D.moment D.leaves disk.old disk.new (IsMadeInPart (D.image disk.old) image.now.size image.now.ninodes) }
 {
     write_block(disk, image, 0)?;
     for b in 2..image.size {
@@ -51,15 +48,14 @@ fn write_behind<D: Disk>(disk: &mut D, image: &NewImage) -> Result<(), MkfsFault
 fn write_image<D: Disk>(disk: &mut D, image: &NewImage) -> Result<(), MkfsFault>
     requires size { length (D.image disk.old) ≡ image.now.size }
     requires some { 2 ≤ image.now.size }
-    ensures image { OnOk result (D.image disk.new ≡ made_image One image.now.size image.now.ninodes) }
-    ensures writes { OnOk result (D.write_count disk.new ≡ counted (D.write_count disk.old) image.now.size) }
-    ensures faults { OnOk result (D.fault_count disk.new ≡ D.fault_count disk.old) }
+    ensures made { OnOk result (Makes D.Disk image.now.size image.now.ninodes disk.old disk.new) }
+    ensures name { D.name disk.new ≡ D.name disk.old }
     ensures disk { IfErr result (λ fault. fault ≡ MkfsFault.Disk) }
     ensures rose { OnErr result (Rose (D.fault_count disk.old) (D.fault_count disk.new)) }
-    ensures order { LeavesOnly D.moment D.leaves disk.old disk.new (MakesSuperLast (D.image disk.old) image.now.size image.now.ninodes) }
+    ensures order { LeavesOnly D.moment D.leaves disk.old disk.new (IsMadeInPart (D.image disk.old) image.now.size image.now.ninodes) }
 {
     write_behind(disk, image)?;
-    disk.write(1, image.block(1))?;
+    write_block(disk, image, 1)?;
     Ok(())
 }
 
@@ -76,9 +72,8 @@ fn write_image<D: Disk>(disk: &mut D, image: &NewImage) -> Result<(), MkfsFault>
 /// `NoMemory` where the allocator refuses three blocks. With these nothing is written. `Disk` where
 /// the disk fails: what it holds then is not said, but for block 1.
 pub fn mkfs<D: Disk>(alloc: Global, disk: &mut D, size: u32, ninodes: u32) -> Result<(), MkfsFault>
-    ensures image { OnOk result (D.image disk.new ≡ made_image One size ninodes) }
-    ensures writes { OnOk result (D.write_count disk.new ≡ counted (D.write_count disk.old) size) }
-    ensures faults { OnOk result (D.fault_count disk.new ≡ D.fault_count disk.old) }
+    ensures made { OnOk result (Makes D.Disk size ninodes disk.old disk.new) }
+    ensures name { D.name disk.new ≡ D.name disk.old }
 
     // When each error comes.
     ensures inodes { IsErrOf result MkfsFault.InodeRange ↔ (is_inode_count ninodes ≡ false) }
@@ -87,8 +82,8 @@ pub fn mkfs<D: Disk>(alloc: Global, disk: &mut D, size: u32, ninodes: u32) -> Re
     ensures disk { OnDisk result (Rose (D.fault_count disk.old) (D.fault_count disk.new)) }
     ensures refused { OnRefusal result (disk.new ≡ disk.old) }
 
-    // A crash at any moment leaves block 1 as it was, or the whole image.
-    ensures order { LeavesOnly D.moment D.leaves disk.old disk.new (MakesSuperLast (D.image disk.old) size ninodes) }
+    // A crash at any moment leaves the image after some of these writes, in this order.
+    ensures order { LeavesOnly D.moment D.leaves disk.old disk.new (IsMadeInPart (D.image disk.old) size ninodes) }
 {
     let fields = plan(size, ninodes)?;
     if disk.size() != size {

@@ -1,6 +1,6 @@
 use Rattle.std.proofs.Common.{◌≡◌, ◌-◌}
-use Rattle.blocks.specs.Disk.{LeavesOnly}
-use Rattle.layout.specs.Making.{counted, KeepsSuper, HasMade}
+use Rattle.blocks.specs.Disk.{LeavesOnly, counted}
+use Rattle.layout.specs.Making.{HasMade, IsMadeInPart, made_first}
 use Rattle.layout.proofs.making.write_behind.Given as goal
 
 abbrev pub invariant-loop-b : goal.invariant-loop-b
@@ -8,7 +8,9 @@ invariant-loop-b g l =
     let d = g.D.Disk in
     record {
       made : HasMade l.image.size l.image.ninodes l.b (d.image l.fn.disk) (d.image l.disk);
+      first : d.image l.disk ≡ made_first l.image.size l.image.ninodes (l.b - 1) (d.image l.fn.disk);
+      name : d.name l.disk ≡ d.name l.fn.disk;
       writes : d.write_count l.disk ≡ counted (d.write_count l.fn.disk) (l.b - 1);
       faults : d.fault_count l.disk ≡ d.fault_count l.fn.disk;
-      order : LeavesOnly d.moment d.leaves l.fn.disk l.disk (KeepsSuper (d.image l.fn.disk));
+      order : LeavesOnly d.moment d.leaves l.fn.disk l.disk (IsMadeInPart (d.image l.fn.disk) l.image.size l.image.ninodes);
     }

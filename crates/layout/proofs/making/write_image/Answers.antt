@@ -1,38 +1,34 @@
-use Rattle.std.proofs.Common.{ap, ◌∙◌, subst, sym, inr, arith}
+use Rattle.std.proofs.Common.{◌-◌, ap, ◌∙◌, inr, arith}
 use Rattle.blocks.specs.Disk.{one_more}
-use Rattle.layout.specs.Making.{MakesSuperLast}
-use Rattle.layout.proofs.MakingLemmas.{counted_all, last_made, last_leaves, ends_made}
+use Rattle.layout.proofs.MakingLemmas.{counted_all, last_made, order_last, part_more}
 use Rattle.layout.proofs.making.write_image.Goals as goal
 
-pub returns-in_err-write-clause-order : goal.returns-in_err-write-clause-order
-returns-in_err-write-clause-order g c =
+pub returns-in_err-write_block-clause-order : goal.returns-in_err-write_block-clause-order
+returns-in_err-write_block-clause-order g c =
     let d = g.D.Disk in
     let image = c.args.image.now in
-    let old = d.image c.args.disk.now in
     let made = c.in_ok-write_behind.ensures in
-    let left = last_leaves image.size image.ninodes old (d.image c.write_behind.new.disk) (d.image c.write.new.self) c.block.result.now made.image c.requires.some c.block.ensures c.in_err-write.ensures.err in
-    ends_made d.moment d.leaves c.args.disk.now c.write_behind.new.disk c.write.new.self old image.size image.ninodes made.order c.write.ensures.time
-    (λ z crash. subst (MakesSuperLast old image.size image.ninodes) (sym (g.met.D.Disk.only_now c.write.new.self z crash)) left)
+    let write = c.in_err-write_block.ensures.writes in
+    part_more d.image d.moment d.leaves g.met.D.Disk.only_now image.size image.ninodes (image.size - 1) 1 c.args.disk.now c.write_behind.new.disk c.write_block.new.disk
+    c.requires.some (omega (arith, c.requires.some)) (order_last image.size c.requires.some) made.last write.err write.time made.order
 
-pub returns-clause-image : goal.returns-clause-image
-returns-clause-image g c =
+pub returns-clause-made : goal.returns-clause-made
+returns-clause-made g c =
     let d = g.D.Disk in
     let image = c.args.image.now in
-    last_made image.size image.ninodes (d.image c.args.disk.now) (d.image c.write_behind.new.disk) (d.image c.write.new.self) c.block.result.now
-    c.in_ok-write_behind.ensures.image c.requires.some c.block.ensures c.in_ok-write.ensures.ok
-
-pub returns-clause-writes : goal.returns-clause-writes
-returns-clause-writes g c =
-    let old = g.D.Disk.write_count c.args.disk.now in
-    c.in_ok-write.ensures.writes ∙ ap one_more c.in_ok-write_behind.ensures.writes
-    ∙ counted_all old c.args.image.now.size (omega (arith, c.requires.some))
+    let made = c.in_ok-write_behind.ensures in
+    let write = c.in_ok-write_block.ensures.writes in
+    record {
+      image = last_made image.size image.ninodes (d.image c.args.disk.now) (d.image c.write_behind.new.disk) (d.image c.write_block.new.disk) made.image c.requires.some write.ok;
+      writes = write.writes ∙ ap one_more made.writes ∙ counted_all (d.write_count c.args.disk.now) image.size (omega (arith, c.requires.some));
+      faults = write.faults ∙ made.faults;
+    }
 
 pub returns-clause-order : goal.returns-clause-order
 returns-clause-order g c =
     let d = g.D.Disk in
     let image = c.args.image.now in
-    let old = d.image c.args.disk.now in
     let made = c.in_ok-write_behind.ensures in
-    let left = last_leaves image.size image.ninodes old (d.image c.write_behind.new.disk) (d.image c.write.new.self) c.block.result.now made.image c.requires.some c.block.ensures (inr c.in_ok-write.ensures.ok) in
-    ends_made d.moment d.leaves c.args.disk.now c.write_behind.new.disk c.write.new.self old image.size image.ninodes made.order c.write.ensures.time
-    (λ z crash. subst (MakesSuperLast old image.size image.ninodes) (sym (g.met.D.Disk.only_now c.write.new.self z crash)) left)
+    let write = c.in_ok-write_block.ensures.writes in
+    part_more d.image d.moment d.leaves g.met.D.Disk.only_now image.size image.ninodes (image.size - 1) 1 c.args.disk.now c.write_behind.new.disk c.write_block.new.disk
+    c.requires.some (omega (arith, c.requires.some)) (order_last image.size c.requires.some) made.last (inr write.ok) write.time made.order

@@ -23,11 +23,11 @@ refused_by image faults T d mid e recover.NoMemory none same count rose bad memo
 
 pub recover-requires : goal.recover-requires
 recover-requires g c =
-    ap (λ x. is_lawful_super c.in_ok-report.report.sup (length x)) c.check.ensures.reads.same ∙ lawful_super (g.D.Disk.image c.args.disk.now) c.in_ok-report.report.sup c.in_ok-report.ensures.ok c.in_ok-report.ensures.report.sup
+    ap (λ x. is_lawful_super c.in_ok-report.report.sup (length x)) c.check.ensures.reads.image ∙ lawful_super (g.D.Disk.image c.args.disk.now) c.in_ok-report.report.sup c.in_ok-report.ensures.ok c.in_ok-report.ensures.report.sup
 
 pub returns-in-Err-clause-refused : goal.returns-in-Err-clause-refused
 returns-in-Err-clause-refused g c =
-    refused_by g.D.Disk.image g.D.Disk.fault_count ℕ c.args.disk.now c.check.new.disk c.recover.new.disk c.in-Err.fault c.in_ok-report.ensures.ok c.check.ensures.reads.same c.in_ok-report.ensures.faults
+    refused_by g.D.Disk.image g.D.Disk.fault_count ℕ c.args.disk.now c.check.new.disk c.recover.new.disk c.in-Err.fault c.in_ok-report.ensures.ok c.check.ensures.reads.image c.in_ok-report.ensures.faults
     c.in-Err.ensures.disk c.in-Err.ensures.bad c.in-Err.ensures.refused
 
 pub returns-in-Err-clause-any_moment : goal.returns-in-Err-clause-any_moment
