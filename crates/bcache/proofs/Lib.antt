@@ -1,3 +1,3 @@
 pub mod OrderLemmas
-pub mod Slots
-pub mod Shown
+pub mod SlotLemmas
+pub mod CurrentLemmas

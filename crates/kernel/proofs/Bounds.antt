@@ -15,7 +15,7 @@ use Rattle.wal.specs.Machine.{LogState, is_quiet, left_by, Idle}
 use Rattle.wal.specs.Joint.{Joint, seen, written_at}
 use Rattle.wal.specs.Step.{answer_at}
 use Rattle.wal.specs.Volume.{VolumeState}
-use Rattle.wal.proofs.Commits.{few_homes}
+use Rattle.wal.proofs.CommitLemmas.{few_homes}
 use Rattle.inodes.specs.declared.ialloc.Ialloc.{Ialloc}
 use Rattle.inodes.specs.declared.progress.Progress.TheVariants as progress
 use Rattle.inodes.specs.Creation.{lowest_free}

@@ -19,9 +19,9 @@ use Rattle.wal.specs.declared.types.Commit.TheVariants as commit
 use Rattle.wal.specs.Machine.{LogState, used_by, is_among, begun, ended, left_by, IsLogAt}
 use Rattle.wal.specs.Joint.{JointAt, Joint, seen}
 use Rattle.wal.specs.Volume.{VolumeState}
-use Rattle.wal.proofs.Commits.{logged-same}
-use Rattle.wal.proofs.Groups.{some_open, quiet_of}
-use Rattle.wal.proofs.Kept.{quiet_is_current}
+use Rattle.wal.proofs.CommitLemmas.{logged-same}
+use Rattle.wal.proofs.LogLemmas.{some_open, quiet_of}
+use Rattle.wal.proofs.RecoveredLemmas.{quiet_is_current}
 use Rattle.inodes.specs.declared.ialloc.Ialloc.{Ialloc}
 use Rattle.inodes.specs.declared.progress.Progress.{Progress}
 use Rattle.inodes.specs.declared.progress.Progress.TheVariants as progress

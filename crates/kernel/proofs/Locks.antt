@@ -8,7 +8,7 @@ use Rattle.model.specs.declared.types.operations.Op.{Op}
 use Rattle.model.specs.declared.types.operations.Why.TheVariants as why
 use Rattle.model.specs.Reservations.{is_log_full}
 use Rattle.bcache.specs.Buffers.{Buffers, buffer, found, victim, answer_by, lock_answer, take_answer}
-use Rattle.bcache.proofs.Slots.{some_found, block_is}
+use Rattle.bcache.proofs.SlotLemmas.{some_found, block_is}
 use Rattle.ports.specs.History.{Side, first_in}
 use Rattle.wal.specs.declared.types.Get.TheVariants as get
 use Rattle.wal.specs.Machine.{LogState, begin_cause, is_quiet}

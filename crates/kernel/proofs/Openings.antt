@@ -25,7 +25,7 @@ use Rattle.bcache.specs.Buffers.{buffer, empty_buffer, fresh as fresh_buffers}
 use Rattle.wal.specs.Machine.{new_log, used_by}
 use Rattle.wal.specs.Volume.{VolumeState}
 use Rattle.wal.proofs.LawfulLogs.{empty_lawful}
-use Rattle.wal.proofs.Opens.{fresh_seen}
+use Rattle.wal.proofs.OpeningLemmas.{fresh_seen}
 use Rattle.wal.specs.Recovery.{RecoversAs, OnDisk, OnBadLog}
 use Rattle.wal.specs.declared.faults.RecoverFault.{RecoverFault}
 use Rattle.wal.specs.declared.faults.RecoverFault.TheVariants as recover

@@ -17,15 +17,15 @@ use Rattle.model.specs.Soundness.{IsSound}
 use Rattle.model.specs.Lemmas.Recovery.{logged_count-left}
 use Rattle.model.specs.Lemmas.Soundness.{long_geometry}
 use Rattle.bcache.specs.Buffers.{Buffers}
-use Rattle.bcache.proofs.Shown.{length-current}
+use Rattle.bcache.proofs.CurrentLemmas.{length-current}
 use Rattle.wal.specs.declared.types.Commit.{Commit}
 use Rattle.wal.specs.declared.types.Commit.TheVariants as commit
 use Rattle.wal.specs.Machine.{LogState}
 use Rattle.wal.specs.Joint.{IsSameOutsideLog, seen, written_at}
 use Rattle.wal.specs.Kept.{KeepsCommitted, CrashKeeps}
 use Rattle.wal.specs.Volume.{VolumeState}
-use Rattle.wal.proofs.Commits.{outside_log}
-use Rattle.wal.proofs.Copies.{none_cleared}
+use Rattle.wal.proofs.CommitLemmas.{outside_log}
+use Rattle.wal.proofs.CopyLemmas.{none_cleared}
 use Rattle.inodes.specs.Creation.{HasCreated}
 use Rattle.kernel.specs.Keeps.{HasFilesAfter, cleared, most_kept, KeepsBetween, KeepsNow, Recovers, AreUpTo}
 use Rattle.kernel.proofs.Kept.{kept-append, kept_up_to, kept_not_yet, kept_still, kept_more}

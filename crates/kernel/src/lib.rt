@@ -1,4 +1,27 @@
-//! The kernel: processes whose operations go on step by step, over one volume.
+//! The kernel: processes whose operations go on step by step, over one volume (the xv6 book, the
+//! chapter "File system").
+//!
+//! A step is what a process does in one piece: it begins the operation that waits for it, gets one
+//! block or looks at it, ends its operation in the log, or makes one write of a commit. A step
+//! never blocks. Where a process would have to wait, the step is `Sleeping` with the cause and
+//! changes nothing, and the same step is tried again when the process has its next turn.
+//!
+//! Who takes the next turn is not the kernel's choice: its user calls `step` with the number of a
+//! process, in any order. A process has one operation under way at a time. Those of different
+//! processes go on side by side, and keep apart by the locks of buffers and by the log's groups.
+//!
+//! An operation that is refused by itself alone begins and is answered in one step. Any other
+//! belongs to the log's group that is open at its beginning. An operation's entry comes into the
+//! journal with its turn, which is one step: the refusal, or that in which a creation claims a
+//! number or finds that none is free. So the journal has the operations in the order in which they
+//! took effect. Next the operation ends in the log. It is answered then, or, where it was the last
+//! of its group, after the commit, which its process makes.
+//!
+//! A stop keeps the groups that are committed, each whole, and nothing of a later one. So an answer
+//! outlives a stop once the group that it names is committed, which the herald hears.
+//!
+//! After a fault of the disk each step is `Halted`. After a shutdown no operation begins, and those
+//! under way go on to their ends.
 #![tactic(auto)]
 
 mod journal;

@@ -208,7 +208,8 @@ impl Log {
 
     /// Adds the block of a slot that the process holds to the open group (`log_write`): where it is
     /// not among the homes yet, it becomes one and its buffer is pinned until it was written home.
-    /// The operation added fewer than ten. A block that is among the homes adds nothing.
+    /// The operation added fewer than ten. A block that is among the homes adds nothing, and then its
+    /// pins may be any number.
     pub fn log_write(&mut self, pid: u32, cache: &mut Cache, slot: u32)
         requires pid { pid < 32 }
         requires room { HasRoom (used_by self.old pid) }
@@ -217,7 +218,7 @@ impl Log {
         requires block { IsSome (buffer cache.old slot).block }
         requires behind { 33 ≤ block_or_zero (buffer cache.old slot).block }
         requires within { block_or_zero (buffer cache.old slot).block < self.old.size }
-        requires few { (buffer cache.old slot).pins + 1 < 2 ^ 32 }
+        requires few { is_among (block_or_zero (buffer cache.old slot).block) self.old.homes ≡ false → (buffer cache.old slot).pins + 1 < 2 ^ 32 }
         ensures log { self.new ≡ noted self.old pid (block_or_zero (buffer cache.old slot).block) }
         ensures cache { cache.new ≡ noted_cache self.old cache.old slot (block_or_zero (buffer cache.old slot).block) }
     {

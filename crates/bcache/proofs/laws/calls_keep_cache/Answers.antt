@@ -1,4 +1,4 @@
-use Rattle.bcache.proofs.Slots.{calls_keep}
+use Rattle.bcache.proofs.SlotLemmas.{calls_keep}
 use Rattle.bcache.proofs.laws.calls_keep_cache.Goals as goal
 
 pub returns : goal.returns

@@ -1,4 +1,4 @@
-use Rattle.bcache.proofs.Slots.{no_buffer_full}
+use Rattle.bcache.proofs.SlotLemmas.{no_buffer_full}
 use Rattle.bcache.proofs.laws.no_buffer_is_full.Goals as goal
 
 pub returns : goal.returns

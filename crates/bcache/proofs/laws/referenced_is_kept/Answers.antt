@@ -1,4 +1,4 @@
-use Rattle.bcache.proofs.Slots.{referenced_kept}
+use Rattle.bcache.proofs.SlotLemmas.{referenced_kept}
 use Rattle.bcache.proofs.laws.referenced_is_kept.Goals as goal
 
 pub returns : goal.returns

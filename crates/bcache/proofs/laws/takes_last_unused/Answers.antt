@@ -1,4 +1,4 @@
-use Rattle.bcache.proofs.Slots.{last_unused_taken}
+use Rattle.bcache.proofs.SlotLemmas.{last_unused_taken}
 use Rattle.bcache.proofs.laws.takes_last_unused.Goals as goal
 
 pub returns : goal.returns

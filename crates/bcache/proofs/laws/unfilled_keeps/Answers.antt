@@ -1,4 +1,4 @@
-use Rattle.bcache.proofs.Shown.{current_unfilled}
+use Rattle.bcache.proofs.CurrentLemmas.{current_unfilled}
 use Rattle.bcache.proofs.laws.unfilled_keeps.Goals as goal
 
 pub returns : goal.returns

@@ -6,8 +6,8 @@ use Rattle.layout.specs.Making.{counted}
 use Rattle.model.specs.Log.{homes_of}
 use Rattle.model.specs.Lemmas.Recovery.{few_homes}
 use Rattle.wal.specs.Recovery.{RecoversAs}
-use Rattle.wal.proofs.Copies.{SameBesides, same_besides, copied_none, recovers_besides, recovers_same, home_at}
-use Rattle.wal.proofs.Recoveries.{copy_besides, copy_step}
+use Rattle.wal.proofs.CopyLemmas.{SameBesides, same_besides, copied_none, recovers_besides, recovers_same, home_at}
+use Rattle.wal.proofs.RecoveryLemmas.{copy_besides, copy_step}
 use Rattle.wal.proofs.recovery.copy_home.Goals as goal
 
 pub log_block-requires : goal.log_block-requires

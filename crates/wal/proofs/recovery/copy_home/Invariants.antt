@@ -2,7 +2,7 @@ use Rattle.std.proofs.Common.{◌≡◌}
 use Rattle.blocks.specs.Disk.{Image, LeavesOnly}
 use Rattle.layout.specs.Making.{counted}
 use Rattle.wal.specs.Recovery.{RecoversAs, HasCopied}
-use Rattle.wal.proofs.Copies.{SameBesides}
+use Rattle.wal.proofs.CopyLemmas.{SameBesides}
 use Rattle.wal.proofs.recovery.copy_home.Given as goal
 
 -- the first k blocks are copied, and a crash leaves what is recovered to the same image

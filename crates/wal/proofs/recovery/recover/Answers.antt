@@ -7,8 +7,8 @@ use Rattle.model.specs.Log.{homes_of, logged_count}
 use Rattle.model.specs.Lemmas.Log.{recovered_empty}
 use Rattle.model.specs.Lemmas.Super.{super_facts}
 use Rattle.wal.specs.Recovery.{HasCopied}
-use Rattle.wal.proofs.Copies.{cleared, none_cleared}
-use Rattle.wal.proofs.Recoveries.{homes_counted, recovery_copies, recovery_ends}
+use Rattle.wal.proofs.CopyLemmas.{cleared, none_cleared}
+use Rattle.wal.proofs.RecoveryLemmas.{homes_counted, recovery_copies, recovery_ends}
 use Rattle.wal.proofs.recovery.recover.Goals as goal
 
 pub returns-then-header-eq0-clause-image : goal.returns-then-header-eq0-clause-image

@@ -1,6 +1,6 @@
 use Rattle.std.proofs.Common.{ap}
 use Rattle.bcache.specs.declared.types.Buffer.{Buffer}
-use Rattle.bcache.proofs.Slots.{cache_kept, slot_at}
+use Rattle.bcache.proofs.SlotLemmas.{cache_kept, slot_at}
 use Rattle.bcache.proofs.cache.Cache.lock.Goals as goal
 
 pub invariant_of-self-2 : goal.invariant_of-self-2

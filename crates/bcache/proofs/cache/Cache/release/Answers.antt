@@ -1,4 +1,4 @@
-use Rattle.bcache.proofs.Slots.{cache_unheld, slot_at}
+use Rattle.bcache.proofs.SlotLemmas.{cache_unheld, slot_at}
 use Rattle.bcache.proofs.cache.Cache.release.Goals as goal
 
 pub invariant_of-self : goal.invariant_of-self

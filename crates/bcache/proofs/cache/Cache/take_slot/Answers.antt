@@ -1,6 +1,6 @@
 use Rattle.std.proofs.Common.{ap, ◌∙◌}
 use Rattle.bcache.specs.Buffers.{Buffers, found}
-use Rattle.bcache.proofs.Slots.{cache_taken_from, slot_at}
+use Rattle.bcache.proofs.SlotLemmas.{cache_taken_from, slot_at}
 use Rattle.bcache.proofs.cache.Cache.take_slot.Goals as goal
 
 pub invariant_of-self : goal.invariant_of-self

@@ -1,5 +1,5 @@
 use Rattle.std.proofs.Common.{◌∷◌, [], ap, arith, length, length-append}
-use Rattle.wal.proofs.Groups.{log_noted}
+use Rattle.wal.proofs.LogLemmas.{log_noted}
 use Rattle.wal.proofs.log.Log.append.Goals as goal
 
 pub invariant_of-self : goal.invariant_of-self

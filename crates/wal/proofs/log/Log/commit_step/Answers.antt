@@ -3,8 +3,8 @@ use Rattle.model.specs.Codec.{header_block}
 use Rattle.wal.specs.Machine.{LogState}
 use Rattle.wal.specs.Joint.{IsPinned, written_at, written_cache}
 use Rattle.wal.specs.Step.{Faulted, answer_at}
-use Rattle.wal.proofs.Sources.{is_pinned, log_header}
-use Rattle.wal.proofs.Stepping.{stepped, faulted, commits_to, crash_step, crash_keeps, crash_lawful}
+use Rattle.wal.proofs.CommitBytesLemmas.{is_pinned, log_header}
+use Rattle.wal.proofs.CommitStepLemmas.{stepped, faulted, commits_to, crash_step, crash_keeps, crash_lawful}
 use Rattle.wal.proofs.log.Log.commit_step.Goals as goal
 
 pub go_on-requires : goal.go_on-requires

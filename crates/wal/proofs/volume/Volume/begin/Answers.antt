@@ -1,6 +1,6 @@
 use Rattle.std.proofs.Common.{rules}
-use Rattle.wal.proofs.Uses.{joint_after_begin}
-use Rattle.wal.proofs.Volumes.{if_joint, joint_here}
+use Rattle.wal.proofs.StepLemmas.{joint_after_begin}
+use Rattle.wal.proofs.VolumeLemmas.{if_joint, joint_here}
 use Rattle.wal.proofs.volume.Volume.begin.Goals as goal
 
 pub invariant_of-self : goal.invariant_of-self

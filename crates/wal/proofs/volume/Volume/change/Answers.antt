@@ -4,8 +4,8 @@ use Rattle.blocks.specs.Block.{overwritten}
 use Rattle.bcache.specs.Buffers.{buffer, block_or_zero}
 use Rattle.wal.specs.Joint.{seen}
 use Rattle.wal.specs.Volume.{Holds}
-use Rattle.wal.proofs.Uses.{joint_put, block_behind}
-use Rattle.wal.proofs.Volumes.{if_joint, joint_here, put_holds}
+use Rattle.wal.proofs.StepLemmas.{joint_put, block_behind}
+use Rattle.wal.proofs.VolumeLemmas.{if_joint, joint_here, put_holds}
 use Rattle.wal.proofs.volume.Volume.change.Goals as goal
 
 pub log_write-requires-clause-behind : goal.log_write-requires-clause-behind

@@ -1,6 +1,6 @@
 use Rattle.std.proofs.Common.{subst}
 use Rattle.wal.specs.Joint.{IsSameOutsideLog, seen}
-use Rattle.wal.proofs.Volumes.{joint_here, step_current}
+use Rattle.wal.proofs.VolumeLemmas.{joint_here, step_current}
 use Rattle.wal.proofs.volume.Volume.commit_step.Goals as goal
 
 pub returns-clause-current : goal.returns-clause-current

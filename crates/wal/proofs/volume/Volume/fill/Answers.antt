@@ -3,7 +3,7 @@ use Rattle.bcache.specs.declared.types.Buffer.{Buffer}
 use Rattle.blocks.specs.Disk.{block_at}
 use Rattle.bcache.specs.Buffers.{block_or_zero, filled}
 use Rattle.wal.specs.Joint.{seen}
-use Rattle.wal.proofs.Volumes.{if_joint, joint_here, buffer_here, joint_got, seen_unfilled, block_inside}
+use Rattle.wal.proofs.VolumeLemmas.{if_joint, joint_here, buffer_here, joint_got, seen_unfilled, block_inside}
 use Rattle.wal.proofs.volume.Volume.fill.Goals as goal
 
 pub fill-requires-clause-inside : goal.fill-requires-clause-inside

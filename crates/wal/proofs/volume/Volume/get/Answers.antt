@@ -1,7 +1,7 @@
 use Rattle.std.proofs.Common.{◌≡◌, ◌∙◌, subst, rules, true, false}
 use Rattle.wal.specs.Joint.{seen}
-use Rattle.wal.proofs.Uses.{joint_acquired}
-use Rattle.wal.proofs.Volumes.{acquired_now, filled_holds, holds_now, if_joint, joint_here, seen_acquired}
+use Rattle.wal.proofs.StepLemmas.{joint_acquired}
+use Rattle.wal.proofs.VolumeLemmas.{acquired_now, filled_holds, holds_now, if_joint, joint_here, seen_acquired}
 use Rattle.wal.proofs.volume.Volume.get.Goals as goal
 
 pub invariant_of-self-in-Got-default-true : goal.invariant_of-self-in-Got-default-true

@@ -1,6 +1,6 @@
 use Rattle.std.proofs.Common.{◌∙◌, ap}
 use Rattle.wal.specs.Joint.{seen}
-use Rattle.wal.proofs.Opens.{joint_opened, fresh_seen}
+use Rattle.wal.proofs.OpeningLemmas.{joint_opened, fresh_seen}
 use Rattle.wal.proofs.volume.Volume.open.Goals as goal
 
 pub invariant_of-result : goal.invariant_of-result

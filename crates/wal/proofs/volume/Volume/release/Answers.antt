@@ -1,8 +1,8 @@
 use Rattle.std.proofs.Common.{◌≡◌, ◌∙◌, ap, subst}
-use Rattle.bcache.proofs.Shown.{counts_keep_current}
+use Rattle.bcache.proofs.CurrentLemmas.{counts_keep_current}
 use Rattle.wal.specs.Joint.{seen}
-use Rattle.wal.proofs.Joins.{joint_released}
-use Rattle.wal.proofs.Volumes.{if_joint, joint_here}
+use Rattle.wal.proofs.CacheCallLemmas.{joint_released}
+use Rattle.wal.proofs.VolumeLemmas.{if_joint, joint_here}
 use Rattle.wal.proofs.volume.Volume.release.Goals as goal
 
 pub invariant_of-self : goal.invariant_of-self

@@ -8,12 +8,12 @@ use Rattle.bcache.specs.declared.types.Buffer.{Buffer}
 use Rattle.bcache.specs.Buffers.{Buffers, buffer, pinned}
 use Rattle.bcache.specs.Current.{is_number_in, is_of, shows}
 use Rattle.wal.specs.Joint.{seen, JointAt, Joint, Phase, pins_of, live_at}
-use Rattle.bcache.proofs.Slots.{each_buffer, buffer_same, block_is, cache_kept}
-use Rattle.bcache.proofs.Shown.{current_kept}
+use Rattle.bcache.proofs.SlotLemmas.{each_buffer, buffer_same, block_is, cache_kept}
+use Rattle.bcache.proofs.CurrentLemmas.{current_kept}
 use Rattle.wal.specs.declared.types.Commit.{Commit}
 use Rattle.wal.specs.declared.types.Commit.TheVariants as commit
 use Rattle.wal.specs.Machine.{is_among, LogState, begin_cause, used_by, begun, HasRoom, appended, noted, noted_cache, left_by, closed, ended, IsLogAt}
-use Rattle.wal.proofs.Groups.{let_in, log_begun, log_appended, log_left, log_emptied, log_closed}
+use Rattle.wal.proofs.LogLemmas.{let_in, log_begun, log_appended, log_left, log_emptied, log_closed}
 
 -- another log with the same homes
 pub joint_log : {k : Commit} {x : Image} {c : Buffers} (l m : LogState) → JointAt k x c l → IsLogAt k m → m.size ≡ l.size → m.homes ≡ l.homes → JointAt k x c m

@@ -7,8 +7,8 @@ use Rattle.bcache.specs.declared.types.Buffer.{Buffer}
 use Rattle.bcache.specs.Buffers.{Buffers, buffer, with_buffer, found, locked, taken, filled, changed, released, IsCache}
 use Rattle.bcache.specs.Current.{is_number_in, is_of, shows}
 use Rattle.wal.specs.Joint.{seen, JointAt, Phase, live_at, pins_of}
-use Rattle.bcache.proofs.Slots.{each_buffer, none_found, block_is, cache_kept, cache_taken, cache_released}
-use Rattle.bcache.proofs.Shown.{current_at, slot_shows, current_kept, current_hidden, current_filled, current_changed}
+use Rattle.bcache.proofs.SlotLemmas.{each_buffer, none_found, block_is, cache_kept, cache_taken, cache_released}
+use Rattle.bcache.proofs.CurrentLemmas.{current_at, slot_shows, current_kept, current_hidden, current_filled, current_changed}
 use Rattle.wal.specs.declared.types.Commit.{Commit}
 use Rattle.wal.specs.declared.types.Commit.TheVariants as commit
 use Rattle.wal.specs.Machine.{is_among, LogState}

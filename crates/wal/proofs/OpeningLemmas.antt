@@ -9,13 +9,13 @@ use Rattle.bcache.specs.Current.{is_of}
 use Rattle.model.specs.Lemmas.Log.{length-recovered}
 use Rattle.model.specs.Lemmas.Recovery.{logged_count-left}
 use Rattle.bcache.specs.Buffers.{Buffers, buffer, changed, empty_buffer, fresh}
-use Rattle.bcache.proofs.Slots.{cache_fresh}
-use Rattle.bcache.proofs.Shown.{not_shown, is_current, current_unfilled}
+use Rattle.bcache.proofs.SlotLemmas.{cache_fresh}
+use Rattle.bcache.proofs.CurrentLemmas.{not_shown, is_current, current_unfilled}
 use Rattle.wal.specs.declared.types.Commit.{Commit}
 use Rattle.wal.specs.Machine.{LogState, new_log}
 use Rattle.wal.specs.Joint.{Joint, JointAt, pins_of, seen}
-use Rattle.wal.proofs.Groups.{log_new}
-use Rattle.wal.proofs.Joins.{joint_kept}
+use Rattle.wal.proofs.LogLemmas.{log_new}
+use Rattle.wal.proofs.CacheCallLemmas.{joint_kept}
 
 fresh_slot : (i : ℕ) → buffer fresh i ≡ empty_buffer
 fresh_slot i = elim (cases_lt i 40) [

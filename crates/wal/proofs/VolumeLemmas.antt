@@ -8,8 +8,8 @@ use Rattle.bcache.specs.declared.types.Buffer.{Buffer}
 use Rattle.bcache.specs.Current.{is_number_in, is_of, shows}
 use Rattle.bcache.specs.declared.types.Acquired.TheVariants as acquired
 use Rattle.bcache.specs.Buffers.{Buffers, buffer, found, victim, locked, taken, pinned, filled, changed, EndsUnfilled, IsCache, block_or_zero, lock_answer, take_answer, answer_by, acquire_answer, after_lock, after_take, after_acquire_by, after_acquire}
-use Rattle.bcache.proofs.Slots.{buffer_same, some_found, victim_free, block_is}
-use Rattle.bcache.proofs.Shown.{current_at, slot_shows, current_kept, current_hidden, current_filled, current_unfilled}
+use Rattle.bcache.proofs.SlotLemmas.{buffer_same, some_found, victim_free, block_is}
+use Rattle.bcache.proofs.CurrentLemmas.{current_at, slot_shows, current_kept, current_hidden, current_filled, current_unfilled}
 use Rattle.wal.specs.declared.types.Commit.{Commit}
 use Rattle.wal.specs.declared.types.Committed.{Committed}
 use Rattle.wal.specs.declared.types.Committed.TheVariants as committed
@@ -19,9 +19,9 @@ use Rattle.wal.specs.Step.{Stepped, Faulted, CommitsTo}
 use Rattle.wal.specs.declared.types.Get.{Get}
 use Rattle.wal.specs.declared.types.Get.TheVariants as get
 use Rattle.wal.specs.Volume.{VolumeState, Holds, OnGot, UnlessFault}
-use Rattle.wal.proofs.Commits.{write_current, unpinned_current}
-use Rattle.wal.proofs.Joins.{clean_shows, joint_filled}
-use Rattle.wal.proofs.Uses.{some_block}
+use Rattle.wal.proofs.CommitLemmas.{write_current, unpinned_current}
+use Rattle.wal.proofs.CacheCallLemmas.{clean_shows, joint_filled}
+use Rattle.wal.proofs.StepLemmas.{some_block}
 
 joint_of : {J : Type 0} (fault : Option DiskFault) → fault ≡ None → IfNone fault J → J
 joint_of None none joint = joint

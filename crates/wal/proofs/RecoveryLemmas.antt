@@ -10,7 +10,7 @@ use Rattle.model.specs.Log.{logged_in, homes_in, logged_count, homes_of, is_lawf
 use Rattle.model.specs.Lemmas.Log.{both_of, recovered_empty}
 use Rattle.model.specs.Lemmas.Recovery.{few_homes}
 use Rattle.wal.specs.Recovery.{HasCopied, RecoversAs}
-use Rattle.wal.proofs.Copies.{SameBesides, home_at, besides_copied, besides_old_or_new, recovers_besides, recovers_same, copied_more, low_stays, cleared, none_cleared, length-homes_of}
+use Rattle.wal.proofs.CopyLemmas.{SameBesides, home_at, besides_copied, besides_old_or_new, recovers_besides, recovers_same, copied_more, low_stays, cleared, none_cleared, length-homes_of}
 use Rattle.wal.proofs.LawfulLogs.{empty_lawful}
 
 -- the header that was read

@@ -11,15 +11,15 @@ use Rattle.bcache.specs.declared.types.Buffer.{Buffer}
 use Rattle.bcache.specs.Buffers.{Buffers, buffer, found, unpinned}
 use Rattle.bcache.specs.Current.{is_number_in, is_of, shows}
 use Rattle.wal.specs.Joint.{seen, IsHeader, IsSameOutsideLog, JointAt, Joint, Phase, Logs, HasHeader, live_at, pins_of, place_at, bytes_at, written_at, written_cache, unpinned_found, IsWithin}
-use Rattle.bcache.proofs.Slots.{each_buffer, none_found, some_found, block_is, cache_kept}
-use Rattle.bcache.proofs.Shown.{length-current, current_kept, current_same_write, current_write}
+use Rattle.bcache.proofs.SlotLemmas.{each_buffer, none_found, some_found, block_is, cache_kept}
+use Rattle.bcache.proofs.CurrentLemmas.{length-current, current_kept, current_same_write, current_write}
 use Rattle.wal.specs.declared.types.Commit.{Commit}
 use Rattle.wal.specs.declared.types.Commit.TheVariants as commit
 use Rattle.model.specs.Log.{logged_count, homes_of, logged_in, homes_in}
 use Rattle.wal.proofs.LawfulLogs.{home_facts}
 use Rattle.wal.specs.Machine.{is_among, AreHomes, LogState, Idle, Counts, IsLogAt}
 use Rattle.model.specs.Agreement.{is_outside_log}
-use Rattle.wal.proofs.Groups.{no_homes}
+use Rattle.wal.proofs.LogLemmas.{no_homes}
 use Rattle.model.specs.Fields.{u32_at}
 use Rattle.model.specs.Lemmas.Log.{zero_header}
 

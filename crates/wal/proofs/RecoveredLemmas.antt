@@ -8,7 +8,7 @@ use Rattle.blocks.specs.Block.{zero_block}
 use Rattle.blocks.specs.Disk.{Image, block_at}
 use Rattle.bcache.specs.Buffers.{Buffers}
 use Rattle.wal.specs.Joint.{seen}
-use Rattle.bcache.proofs.Shown.{length-current}
+use Rattle.bcache.proofs.CurrentLemmas.{length-current}
 use Rattle.wal.specs.declared.types.Commit.{Commit}
 use Rattle.wal.specs.declared.types.Commit.TheVariants as commit
 use Rattle.model.specs.Log.{logged_count, recovered}
@@ -21,8 +21,8 @@ use Rattle.wal.specs.Kept.{Committed, KeepsCommitted}
 use Rattle.model.specs.Log.{block_from_log, place_among}
 use Rattle.model.specs.Lemmas.Log.{recovered_empty, recovered_at, recovered_block-header, length-recovered}
 use Rattle.model.specs.Lemmas.Recovery.{place_below, no_place}
-use Rattle.wal.proofs.Copies.{none_cleared, not_header, home_of_place}
-use Rattle.wal.proofs.Commits.{home_far, outside_log, header_read, logged-same, homes-same, among_drop}
+use Rattle.wal.proofs.CopyLemmas.{none_cleared, not_header, home_of_place}
+use Rattle.wal.proofs.CommitLemmas.{home_far, outside_log, header_read, logged-same, homes-same, among_drop}
 
 pub but_log_same : (x y : Image) → x ≡ y → SameButLog x y
 but_log_same x y is = subst (SameButLog x) is (record { outside = record { size = refl; agree = λ b out. refl }; header = refl })

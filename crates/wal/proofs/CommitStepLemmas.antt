@@ -12,10 +12,10 @@ use Rattle.wal.specs.Machine.{LogState, is_quiet}
 use Rattle.wal.specs.Joint.{Joint, place_at, bytes_at, source_at, written_at, written_cache}
 use Rattle.wal.specs.Kept.{KeepsCommitted, CrashKeeps}
 use Rattle.wal.specs.Step.{Stepped, Faulted, CommitsTo, answer_at}
-use Rattle.wal.proofs.Commits.{wrote_next}
-use Rattle.wal.proofs.Kept.{kept_write}
-use Rattle.wal.proofs.Sources.{source_current, not_quiet}
-use Rattle.wal.proofs.Uses.{joint_lawful}
+use Rattle.wal.proofs.CommitLemmas.{wrote_next}
+use Rattle.wal.proofs.RecoveredLemmas.{kept_write}
+use Rattle.wal.proofs.CommitBytesLemmas.{source_current, not_quiet}
+use Rattle.wal.proofs.StepLemmas.{joint_lawful}
 
 pub stepped : (h : List ℕ) (x : Image) (c : Buffers) (l : LogState) (y : Image) (d : Buffers) (m : LogState) → Joint x c l → is_quiet l.commit ≡ false → IsHeader h l.homes
     → y ≡ set x (place_at l.commit l.homes) (source_at l.commit l.homes h c) → d ≡ written_cache l.commit l.homes c → m ≡ written_at l.commit l → Stepped h x c l y d m
