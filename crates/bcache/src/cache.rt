@@ -2,7 +2,8 @@
 ghost use Rattle.std.specs.Prelude.{◌≡◌, ◌<◌, ◌≤◌, ◌+◌, ◌^◌, length, slice_index, Some, None, IfOk, OnOk, OnErr, IfErr, IfSome, IsSome, position};
 ghost use Rattle.std.specs.Borrow.{Lends, sem};
 ghost use Rattle.blocks.specs.Block.{IsBlock, overwritten};
-ghost use Rattle.blocks.specs.Disk.{CountsFault, AddsNone, block_at};
+ghost use Rattle.blocks.specs.Calls.{OnlyReads};
+ghost use Rattle.blocks.specs.Disk.{CountsFault, block_at};
 ghost use Rattle.blocks.specs.contracts.block.Block.{the_row as block_row};
 ghost use Rattle.bcache.specs.Current.{is_of};
 ghost use Rattle.bcache.specs.Buffers.{IsCache, buffer, found, victim, acquire_answer, after_acquire, taken, filled, changed, released, pinned, unpinned, lock_answer, after_lock, take_answer, after_take, block_or_zero, EndsUnfilled, fresh, empty_buffer};
@@ -150,10 +151,8 @@ impl Cache {
         ensures ok { OnOk result (self.new ≡ filled self.old slot (block_at (D.image disk.old) (block_or_zero (buffer self.old slot).block))) }
         ensures err { OnErr result (EndsUnfilled self.old slot self.new) }
         ensures fault { IfErr result (λ fault. fault.0 ≡ block_or_zero (buffer self.old slot).block) }
-        ensures image { D.image disk.new ≡ D.image disk.old }
-        ensures writes { D.write_count disk.new ≡ D.write_count disk.old }
+        ensures reads { OnlyReads D.Disk disk.old disk.new }
         ensures faults { CountsFault result (D.fault_count disk.old) (D.fault_count disk.new) }
-        ensures time { AddsNone (D.moment disk.old) (D.moment disk.new) (D.leaves disk.old) (D.leaves disk.new) }
     {
         let buffer = &mut self.buffers[slot as usize];
         let Some(block) = buffer.block else {

@@ -1,6 +1,7 @@
 // A creation's search for a free inode number.
 ghost use Rattle.std.specs.Prelude.{◌≡◌, ◌<◌, ◌≤◌, ◌-◌, Some, None, if◌then◌else◌};
-ghost use Rattle.blocks.specs.Disk.{block_at, AddsNone};
+ghost use Rattle.blocks.specs.Calls.{OnlyReads};
+ghost use Rattle.blocks.specs.Disk.{block_at};
 ghost use Rattle.model.specs.Layout.{inode_block};
 ghost use Rattle.model.specs.Codec.{dinode_bytes};
 ghost use Rattle.wal.specs.Machine.{used_by, HasRoom};
@@ -62,10 +63,8 @@ impl Ialloc {
         ensures taken { OnNoneFree self.old.slot result (SeesTaken (seen (D.image volume.old.device) volume.old.buffers) self.old) }
 
         ensures fault { volume.new.fault ≡ fault_in result }
-        ensures image { D.image volume.new.device ≡ D.image volume.old.device }
-        ensures writes { D.write_count volume.new.device ≡ D.write_count volume.old.device }
+        ensures device { OnlyReads D.Disk volume.old.device volume.new.device }
         ensures faults { D.fault_count volume.new.device ≡ faults_after (fault_in result) (D.fault_count volume.old.device) }
-        ensures time { AddsNone (D.moment volume.old.device) (D.moment volume.new.device) (D.leaves volume.old.device) (D.leaves volume.new.device) }
     {
         match self.slot {
             None => self.get(volume, pid),
@@ -82,10 +81,8 @@ impl Ialloc {
         ensures more { OnMore result (IsReady (seen (D.image volume.new.device) volume.new.buffers) volume.new.buffers volume.new.log.size pid self.new) }
         ensures current { seen (D.image volume.new.device) volume.new.buffers ≡ seen (D.image volume.old.device) volume.old.buffers }
         ensures fault { volume.new.fault ≡ fault_in result }
-        ensures image { D.image volume.new.device ≡ D.image volume.old.device }
-        ensures writes { D.write_count volume.new.device ≡ D.write_count volume.old.device }
+        ensures device { OnlyReads D.Disk volume.old.device volume.new.device }
         ensures faults { D.fault_count volume.new.device ≡ faults_after (fault_in result) (D.fault_count volume.old.device) }
-        ensures time { AddsNone (D.moment volume.old.device) (D.moment volume.new.device) (D.leaves volume.old.device) (D.leaves volume.new.device) }
     {
         match volume.get(pid, self.block) {
             Get::Got(slot) => {

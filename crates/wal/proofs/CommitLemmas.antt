@@ -1,5 +1,5 @@
 -- What a write of a commit keeps of disk, buffers and log together.
-use Rattle.std.proofs.Common.{◌≡◌, ◌≢◌, ⊎_elim, inl, inr, ℕ, zero, suc, ◌+◌, ◌-◌, ◌<◌, ◌≤◌, ◌==◌, ◌||◌, ltb, Bool, true, false, cond, List, [], ◌∷◌, length, get_or, set, take, drop, length-drop, refl, sym, ◌∙◌, ap, subst, arith, Option, Some, None, length-set, add-one}
+use Rattle.std.proofs.Common.{◌≡◌, ◌≢◌, ⊎_elim, inl, inr, ℕ, zero, suc, ◌+◌, ◌*◌, ◌-◌, ◌<◌, ◌≤◌, ◌==◌, ◌||◌, ltb, Bool, true, false, cond, List, [], ◌∷◌, length, get_or, set, take, drop, length-drop, refl, sym, ◌∙◌, ap, subst, arith, Option, Some, None, length-set, add-one}
 use Rattle.std.specs.Prelude.{slice_index}
 use Rattle.std.proofs.Math.Seq.{drop-cons, drop-length}
 use Rattle.std.proofs.lemmas.Bool.{cases_eq, cond-true, cond-false, eqb-true, eq-eqb, ne_eqb, both_ways, and_parts, and_right, false_from_ne_true, or_cases, or_parts, or_from, or_right, ltb-true}
@@ -19,7 +19,7 @@ use Rattle.model.specs.Log.{logged_count, homes_of, logged_in, homes_in}
 use Rattle.wal.proofs.LawfulLogs.{home_facts}
 use Rattle.wal.specs.Machine.{is_among, AreHomes, LogState, Idle, Counts, IsLogAt}
 use Rattle.model.specs.Agreement.{is_outside_log}
-use Rattle.wal.proofs.LogLemmas.{no_homes}
+use Rattle.wal.proofs.LogLemmas.{no_homes, none_added}
 use Rattle.model.specs.Fields.{u32_at}
 use Rattle.model.specs.Lemmas.Log.{zero_header}
 
@@ -74,8 +74,19 @@ wrote_low {k} {x} {l} c n m b v j low size is live phase = record {
     cur = current_write x c b v (none_low c b j low)
 
 -- the log in another phase
-pub in_phase : (k n : Commit) (l : LogState) (hs : List ℕ) (done : ℕ) → IsLogAt k l → Idle n (record l { commit = n; homes = hs; committed = done }) → AreHomes l.size hs → length hs ≤ length l.homes → Counts n (record l { commit = n; homes = hs; committed = done }) → IsLogAt n (record l { commit = n; homes = hs; committed = done })
-in_phase k n l hs done is idle are few counts = record { big = is.big; small = is.small; places = are; pids = is.pids; open_ones = is.open_ones; room = omega (arith, is.room, few); idle = idle; counts = counts }
+pub in_phase : (k n : Commit) (l : LogState) (hs : List ℕ) (done : ℕ) → IsLogAt k l → l.outstanding ≡ 0 → Idle n (record l { commit = n; homes = hs; committed = done }) → AreHomes l.size hs → length hs ≤ length l.homes → Counts n (record l { commit = n; homes = hs; committed = done }) → IsLogAt n (record l { commit = n; homes = hs; committed = done })
+in_phase k n l hs done is none idle are few counts = record {
+  big = is.big;
+  small = is.small;
+  places = are;
+  pids = is.pids;
+  open_ones = is.open_ones;
+  each = is.each;
+  added = omega (arith, none_added l.used (sym is.open_ones ∙ ap (λ (m : ℕ). 10 * m) none));
+  room = omega (arith, is.room, few);
+  idle = idle;
+  counts = counts;
+}
 
 pub few_homes : {k : Commit} {l : LogState} → IsLogAt k l → length l.homes ≤ 30
 few_homes {k} {l} is = omega (arith, is.room)
@@ -117,12 +128,12 @@ wrote_log x c l n j = by_last (n + 1 == length l.homes) refl
     by_last true e =
         let all : n + 1 ≡ length l.homes = eqb-true _ _ e in
         wrote_low c commit.Heading (record l { commit = commit.Heading }) (3 + n) v j (omega (arith, few)) refl
-        (in_phase (commit.Logging n) commit.Heading l l.homes l.committed j.log (j.log.idle.0, omega (arith, j.log.idle.1)) j.log.places (omega arith) j.log.counts) refl
+        (in_phase (commit.Logging n) commit.Heading l l.homes l.committed j.log j.log.idle.0 (j.log.idle.0, omega (arith, j.log.idle.1)) j.log.places (omega arith) j.log.counts) refl
         (none, subst (λ (m : ℕ). Logs m (set x (3 + n) v) (set (seen x c) (3 + n) v) l.homes) all logs)
     by_last false e =
         let more : n + 1 < length l.homes = (let away : n + 1 ≢ length l.homes = λ same. both_ways _ e (eq-eqb _ _ same) in omega (arith, away, j.log.idle.1)) in
         wrote_low c (commit.Logging (n + 1)) (record l { commit = commit.Logging (n + 1) }) (3 + n) v j (omega (arith, few)) refl
-        (in_phase (commit.Logging n) (commit.Logging (n + 1)) l l.homes l.committed j.log (j.log.idle.0, more) j.log.places (omega arith) j.log.counts) refl
+        (in_phase (commit.Logging n) (commit.Logging (n + 1)) l l.homes l.committed j.log j.log.idle.0 (j.log.idle.0, more) j.log.places (omega arith) j.log.counts) refl
         (none, logs)
 
 -- a header is read as its homes
@@ -133,7 +144,7 @@ header_read x h hs is head = record { count = ap logged_in is ∙ head.count; ea
 pub wrote_header : (x : Image) (c : Buffers) (l : LogState) (h : List ℕ) → JointAt commit.Heading x c l → IsHeader h l.homes → Joint (set x 2 h) c (written_at commit.Heading l)
 wrote_header x c l h j head =
     wrote_low c (commit.Homing 0) (record l { commit = commit.Homing 0; committed = l.opened }) 2 h j (omega arith) refl
-    (in_phase commit.Heading (commit.Homing 0) l l.homes l.opened j.log (j.log.idle.0, j.log.idle.1) j.log.places (omega arith) refl) refl (
+    (in_phase commit.Heading (commit.Homing 0) l l.homes l.opened j.log j.log.idle.0 (j.log.idle.0, j.log.idle.1) j.log.places (omega arith) refl) refl (
       header_read (set x 2 h) h l.homes (get_or-set_same x 2 h [] (omega (arith, j.size, j.log.big))) head,
       logs_low l.size (length l.homes) 2 x (seen x c) l.homes h j.log.places (omega arith) (omega arith) (λ i lt e. omega (arith, e)) j.phase.1,
     )
@@ -142,7 +153,7 @@ wrote_header x c l h j head =
 pub wrote_empty : (x : Image) (c : Buffers) (l : LogState) → JointAt commit.Clearing x c l → Joint (set x 2 zero_block) c (written_at commit.Clearing l)
 wrote_empty x c l j =
     wrote_low c commit.Quiet (record l { commit = commit.Quiet; homes = [] }) 2 zero_block j (omega arith) refl
-    (in_phase commit.Clearing commit.Quiet l [] l.committed j.log tt (no_homes l.size) (omega arith) (omega (arith, j.log.counts, j.log.idle.0))) (sym (drop-length l.homes))
+    (in_phase commit.Clearing commit.Quiet l [] l.committed j.log j.log.idle.0 tt (no_homes l.size) (omega arith) (omega (arith, j.log.counts, j.log.idle.0))) (sym (drop-length l.homes))
     (none_logged (set x 2 zero_block) (get_or-set_same x 2 zero_block [] (omega (arith, j.size, j.log.big))))
 
 -- a home is not among those behind it
@@ -270,10 +281,10 @@ wrote_home x c l n j = by_found (found c h) refl
         by_last : (b : Bool) → (n + 1 == length hs) ≡ b → Joint y d (record l { commit = cond b commit.Clearing (commit.Homing (n + 1)) })
         by_last true last =
             let all : n + 1 ≡ length hs = eqb-true _ _ last in
-            whole commit.Clearing (in_phase (commit.Homing n) commit.Clearing l hs l.committed j.log (j.log.idle.0, omega (arith, lt)) j.log.places (omega arith) j.log.counts) (ap (λ (m : ℕ). drop m hs) (sym all)) (header, logs)
+            whole commit.Clearing (in_phase (commit.Homing n) commit.Clearing l hs l.committed j.log j.log.idle.0 (j.log.idle.0, omega (arith, lt)) j.log.places (omega arith) j.log.counts) (ap (λ (m : ℕ). drop m hs) (sym all)) (header, logs)
         by_last false last =
             let more : n + 1 < length hs = (let away : n + 1 ≢ length hs = λ same. both_ways _ last (eq-eqb _ _ same) in omega (arith, away, lt)) in
-            whole (commit.Homing (n + 1)) (in_phase (commit.Homing n) (commit.Homing (n + 1)) l hs l.committed j.log (j.log.idle.0, more) j.log.places (omega arith) j.log.counts) refl (header, logs)
+            whole (commit.Homing (n + 1)) (in_phase (commit.Homing n) (commit.Homing (n + 1)) l hs l.committed j.log j.log.idle.0 (j.log.idle.0, more) j.log.places (omega arith) j.log.counts) refl (header, logs)
 
 -- any write of a commit
 pub wrote_next : (x : Image) (c : Buffers) (l : LogState) (h : List ℕ) → Joint x c l → l.commit ≢ commit.Quiet → IsHeader h l.homes
@@ -334,9 +345,9 @@ unpinned_current (commit.Homing n) hs y c = by_found (found c (slice_index hs n)
 pub log_logging : (l : LogState) (n : ℕ) (k : Commit) → IsLogAt l.commit l → l.commit ≡ commit.Logging n → k ≡ cond (n + 1 == length l.homes) commit.Heading (commit.Logging (n + 1)) → IsLogAt k (record l { commit = k })
 log_logging l n k is at next = subst (λ (m : Commit). IsLogAt m (record l { commit = m })) (sym next) (elim (cases_eq (n + 1) (length l.homes)) [
   | inl all ↦ subst (λ (m : Commit). IsLogAt m (record l { commit = m })) (sym (cond-true (n + 1 == length l.homes) commit.Heading (commit.Logging (n + 1)) (eq-eqb _ _ all)))
-      (in_phase (commit.Logging n) commit.Heading l l.homes l.committed was (was.idle.0, omega (arith, was.idle.1)) was.places (omega arith) was.counts)
+      (in_phase (commit.Logging n) commit.Heading l l.homes l.committed was was.idle.0 (was.idle.0, omega (arith, was.idle.1)) was.places (omega arith) was.counts)
   | inr more ↦ subst (λ (m : Commit). IsLogAt m (record l { commit = m })) (sym (cond-false (n + 1 == length l.homes) commit.Heading (commit.Logging (n + 1)) (ne_eqb _ _ more)))
-      (in_phase (commit.Logging n) (commit.Logging (n + 1)) l l.homes l.committed was (was.idle.0, omega (arith, was.idle.1, more)) was.places (omega arith) was.counts)
+      (in_phase (commit.Logging n) (commit.Logging (n + 1)) l l.homes l.committed was was.idle.0 (was.idle.0, omega (arith, was.idle.1, more)) was.places (omega arith) was.counts)
 ])
   where
     was : IsLogAt (commit.Logging n) l
@@ -345,14 +356,14 @@ log_logging l n k is at next = subst (λ (m : Commit). IsLogAt m (record l { com
 pub log_heading : (l : LogState) → IsLogAt l.commit l → l.commit ≡ commit.Heading → IsLogAt (commit.Homing 0) (record l { commit = commit.Homing 0; committed = l.opened })
 log_heading l is at =
     let was : IsLogAt commit.Heading l = subst (λ (m : Commit). IsLogAt m l) at is in
-    in_phase commit.Heading (commit.Homing 0) l l.homes l.opened was (was.idle.0, was.idle.1) was.places (omega arith) refl
+    in_phase commit.Heading (commit.Homing 0) l l.homes l.opened was was.idle.0 (was.idle.0, was.idle.1) was.places (omega arith) refl
 
 pub log_homing : (l : LogState) (n : ℕ) (k : Commit) → IsLogAt l.commit l → l.commit ≡ commit.Homing n → k ≡ cond (n + 1 == length l.homes) commit.Clearing (commit.Homing (n + 1)) → IsLogAt k (record l { commit = k })
 log_homing l n k is at next = subst (λ (m : Commit). IsLogAt m (record l { commit = m })) (sym next) (elim (cases_eq (n + 1) (length l.homes)) [
   | inl all ↦ subst (λ (m : Commit). IsLogAt m (record l { commit = m })) (sym (cond-true (n + 1 == length l.homes) commit.Clearing (commit.Homing (n + 1)) (eq-eqb _ _ all)))
-      (in_phase (commit.Homing n) commit.Clearing l l.homes l.committed was (was.idle.0, omega (arith, was.idle.1)) was.places (omega arith) was.counts)
+      (in_phase (commit.Homing n) commit.Clearing l l.homes l.committed was was.idle.0 (was.idle.0, omega (arith, was.idle.1)) was.places (omega arith) was.counts)
   | inr more ↦ subst (λ (m : Commit). IsLogAt m (record l { commit = m })) (sym (cond-false (n + 1 == length l.homes) commit.Clearing (commit.Homing (n + 1)) (ne_eqb _ _ more)))
-      (in_phase (commit.Homing n) (commit.Homing (n + 1)) l l.homes l.committed was (was.idle.0, omega (arith, was.idle.1, more)) was.places (omega arith) was.counts)
+      (in_phase (commit.Homing n) (commit.Homing (n + 1)) l l.homes l.committed was was.idle.0 (was.idle.0, omega (arith, was.idle.1, more)) was.places (omega arith) was.counts)
 ])
   where
     was : IsLogAt (commit.Homing n) l
@@ -362,7 +373,7 @@ pub log_cleared : (l : LogState) (hs : List ℕ) → IsLogAt l.commit l → l.co
 log_cleared l hs is at none =
     let was : IsLogAt commit.Clearing l = subst (λ (m : Commit). IsLogAt m l) at is in
     subst (λ (gs : List ℕ). IsLogAt commit.Quiet (record l { commit = commit.Quiet; homes = gs })) (sym none)
-    (in_phase commit.Clearing commit.Quiet l [] l.committed was tt (no_homes l.size) (omega arith) (omega (arith, was.counts, was.idle.0)))
+    (in_phase commit.Clearing commit.Quiet l [] l.committed was was.idle.0 tt (no_homes l.size) (omega arith) (omega (arith, was.counts, was.idle.0)))
 
 pub is_within : (k : Commit) (l : LogState) → IsLogAt k l → IsWithin k l.homes
 is_within commit.Quiet l is = tt

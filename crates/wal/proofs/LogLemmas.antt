@@ -1,18 +1,18 @@
 -- What the calls of the log keep of it.
 use Rattle.std.proofs.Common.{◌≡◌, ◌≢◌, inl, inr, ℕ, ◌+◌, ◌-◌, ◌*◌, ◌^◌, ◌<◌, ◌≤◌, Bool, true, false, cond, not, List, [], ◌∷◌, ◌++◌, length, get_or, set, take, length-append, refl, sym, ◌∙◌, ap, ap₂, subst, arith, Option, Some, None, length-set}
-use Rattle.std.specs.Prelude.{IsSome}
+use Rattle.std.specs.Prelude.{IsSome, replicate}
 use Rattle.std.specs.List.{sum_by}
 use Rattle.std.proofs.lemmas.Bool.{cases_eq, cases_lt, eq-eqb, ne_eqb, ltb-false}
 use Rattle.std.proofs.lemmas.Grind.{common_steps}
-use Rattle.std.proofs.lemmas.List.Sums.{sum_by-set, get_or-le-sum_by, sum_by-le-sum_by}
-use Rattle.std.proofs.lemmas.List.{take-append-le}
+use Rattle.std.proofs.lemmas.List.Sums.{sum_by-cons, sum_by-set, get_or-le-sum_by, sum_by-le-sum_by}
+use Rattle.std.proofs.lemmas.List.{get_or-set_same, get_or-set_other, get_or-replicate, get_or_past, take-append-le}
 use Rattle.std.proofs.Math.Seq.{take-append_seam}
 use Rattle.model.specs.declared.types.operations.Why.TheVariants.{LogFull}
 use Rattle.model.specs.Reservations.{log_cause, is_log_full}
 use Rattle.wal.specs.declared.types.Commit.{Commit}
 use Rattle.wal.specs.declared.types.Commit.TheVariants as commit
 use Rattle.wal.proofs.LawfulLogs.{home_facts, are_homes}
-use Rattle.wal.specs.Machine.{LogState, AreHomes, IsLogAt, is_quiet, is_among, begin_cause, used_by, begun, HasRoom, one_used, appended, left_by, unused, ten, new_log}
+use Rattle.wal.specs.Machine.{LogState, AreHomes, IsLogAt, is_quiet, is_among, begin_cause, used_by, begun, HasRoom, one_used, appended, left_by, unused, ten, added_by, new_log}
 
 -- a beginning is let in only while no commit is under way and the log has room
 pub let_in : (k : Commit) (n outstanding : ℕ) → log_cause (not (is_quiet k)) n outstanding ≡ None → (k ≡ commit.Quiet) × (is_log_full n outstanding ≡ false)
@@ -37,11 +37,27 @@ unused_few us = sum_by-le-sum_by unused ten us unused_ten
 pub set_sum : (f : Option ℕ → ℕ) (us : List (Option ℕ)) (p : ℕ) (o old : Option ℕ) → p < length us → get_or us p None ≡ old → sum_by f (set us p o) + f old ≡ sum_by f us + f o
 set_sum f us p o old lt is = subst (λ (q : Option ℕ). sum_by f (set us p o) + f q ≡ sum_by f us + f o) is (sum_by-set f us p o None lt)
 
+-- another entry of at most ten
+each_set : (us : List (Option ℕ)) (p : ℕ) (o : Option ℕ) → p < length us → ((q : ℕ) → added_by (get_or us q None) ≤ 10) → added_by o ≤ 10 → (q : ℕ) → added_by (get_or (set us p o) q None) ≤ 10
+each_set us p o lt each few q = elim (cases_eq q p) [
+  | inl same ↦ let at : added_by (get_or (set us p o) q None) ≡ added_by o = ap (λ (i : ℕ). added_by (get_or (set us p o) i None)) same ∙ ap added_by (get_or-set_same us p o None lt) in omega (arith, at, few)
+  | inr other ↦ let at : added_by (get_or (set us p o) q None) ≡ added_by (get_or us q None) = ap added_by (get_or-set_other us p q o None other) in omega (arith, at, each q)
+]
+
+-- where none is open, none added a home
+pub none_added : (us : List (Option ℕ)) → sum_by ten us ≡ 0 → sum_by added_by us ≡ 0
+none_added [] none = refl
+none_added (None ∷ us) none =
+    let rest : sum_by added_by us ≡ 0 = none_added us (omega (arith, none, sum_by-cons ten None us)) in
+    omega (arith, rest, sum_by-cons added_by None us)
+none_added (Some u ∷ us) none = absurd (omega (arith, none, sum_by-cons ten (Some u) us))
+
 -- a beginning
 pub log_begun : (l : LogState) (p : ℕ) → IsLogAt commit.Quiet l → is_log_full (length l.homes) l.outstanding ≡ false → p < 32 → used_by l p ≡ None → IsLogAt commit.Quiet (begun l p)
 log_begun l p is fits lt none =
     let tens = set_sum ten l.used p (Some 0) None (omega (arith, lt, is.pids)) none in
     let more = set_sum unused l.used p (Some 0) None (omega (arith, lt, is.pids)) none in
+    let same = set_sum added_by l.used p (Some 0) None (omega (arith, lt, is.pids)) none in
     let room : length l.homes + (l.outstanding + 1) * 10 ≤ 30 = ltb-false _ _ fits in
     record {
       big = is.big;
@@ -49,6 +65,8 @@ log_begun l p is fits lt none =
       places = is.places;
       pids = length-set l.used p (Some 0) ∙ is.pids;
       open_ones = omega (arith, tens, is.open_ones);
+      each = each_set l.used p (Some 0) (omega (arith, lt, is.pids)) is.each (omega arith);
+      added = omega (arith, same, is.added);
       room = omega (arith, more, room, unused_few l.used, is.open_ones);
       idle = tt;
       counts = elim (cases_eq l.outstanding 0) [
@@ -114,12 +132,15 @@ log_appended l p b is lt room low high out =
     let tens : sum_by ten (set l.used p (Some (had.0 + 1))) + 10 ≡ sum_by ten l.used + 10 = set_sum ten l.used p (Some (had.0 + 1)) (Some had.0) inside had.1 in
     let less : sum_by unused (set l.used p (Some (had.0 + 1))) + (10 - had.0) ≡ sum_by unused l.used + (10 - (had.0 + 1)) = set_sum unused l.used p (Some (had.0 + 1)) (Some had.0) inside had.1 in
     let few : had.0 < 10 = had.2 in
+    let one : sum_by added_by (set l.used p (Some (had.0 + 1))) + had.0 ≡ sum_by added_by l.used + (had.0 + 1) = set_sum added_by l.used p (Some (had.0 + 1)) (Some had.0) inside had.1 in
     subst (λ (o : Option ℕ). IsLogAt commit.Quiet (record l { homes = l.homes ++ b ∷ []; used = set l.used p o })) (sym now) (record {
       big = is.big;
       small = is.small;
       places = homes_more l.size l.homes b is.places low high out;
       pids = length-set l.used p (Some (had.0 + 1)) ∙ is.pids;
       open_ones = omega (arith, tens, is.open_ones);
+      each = each_set l.used p (Some (had.0 + 1)) inside is.each (omega (arith, few));
+      added = omega (arith, length-append l.homes (b ∷ []), one, is.added);
       room = omega (arith, length-append l.homes (b ∷ []), less, few, is.room);
       idle = tt;
       counts = is.counts;
@@ -140,6 +161,7 @@ log_left l p is lt held other =
     let inside : p < length l.used = omega (arith, lt, is.pids) in
     let tens : sum_by ten (set l.used p None) + 10 ≡ sum_by ten l.used + 0 = set_sum ten l.used p None (Some had.0) inside had.1 in
     let less : sum_by unused (set l.used p None) + (10 - had.0) ≡ sum_by unused l.used + 0 = set_sum unused l.used p None (Some had.0) inside had.1 in
+    let fewer : sum_by added_by (set l.used p None) + had.0 ≡ sum_by added_by l.used + 0 = set_sum added_by l.used p None (Some had.0) inside had.1 in
     let some : 0 < l.outstanding = is_open l commit.Quiet p had.0 is lt had.1 in
     record {
       big = is.big;
@@ -147,6 +169,8 @@ log_left l p is lt held other =
       places = is.places;
       pids = length-set l.used p None ∙ is.pids;
       open_ones = omega (arith, tens, is.open_ones, some);
+      each = each_set l.used p None inside is.each (omega arith);
+      added = omega (arith, fewer, is.added);
       room = omega (arith, less, is.room);
       idle = tt;
       counts = omega (arith, is.counts, some, other);
@@ -159,12 +183,15 @@ log_emptied l p is lt held last =
     let inside : p < length l.used = omega (arith, lt, is.pids) in
     let tens : sum_by ten (set l.used p None) + 10 ≡ sum_by ten l.used + 0 = set_sum ten l.used p None (Some had.0) inside had.1 in
     let less : sum_by unused (set l.used p None) + (10 - had.0) ≡ sum_by unused l.used + 0 = set_sum unused l.used p None (Some had.0) inside had.1 in
+    let fewer : sum_by added_by (set l.used p None) + had.0 ≡ sum_by added_by l.used + 0 = set_sum added_by l.used p None (Some had.0) inside had.1 in
     record {
       big = is.big;
       small = is.small;
       places = is.places;
       pids = length-set l.used p None ∙ is.pids;
       open_ones = omega (arith, tens, is.open_ones, last);
+      each = each_set l.used p None inside is.each (omega arith);
+      added = omega (arith, fewer, is.added);
       room = omega (arith, less, is.room);
       idle = tt;
       counts = omega (arith, last);
@@ -177,12 +204,15 @@ log_closed l p is lt held last some =
     let inside : p < length l.used = omega (arith, lt, is.pids) in
     let tens : sum_by ten (set l.used p None) + 10 ≡ sum_by ten l.used + 0 = set_sum ten l.used p None (Some had.0) inside had.1 in
     let less : sum_by unused (set l.used p None) + (10 - had.0) ≡ sum_by unused l.used + 0 = set_sum unused l.used p None (Some had.0) inside had.1 in
+    let fewer : sum_by added_by (set l.used p None) + had.0 ≡ sum_by added_by l.used + 0 = set_sum added_by l.used p None (Some had.0) inside had.1 in
     record {
       big = is.big;
       small = is.small;
       places = is.places;
       pids = length-set l.used p None ∙ is.pids;
       open_ones = omega (arith, tens, is.open_ones, last);
+      each = each_set l.used p None inside is.each (omega arith);
+      added = omega (arith, fewer, is.added);
       room = omega (arith, less, is.room);
       idle = (omega (arith, last), some);
       counts = omega (arith, is.counts, last);
@@ -198,6 +228,11 @@ log_new size homes big small none = subst (λ (hs : List ℕ). IsLogAt commit.Qu
   places = no_homes size;
   pids = refl;
   open_ones = refl;
+  each = λ p. elim (cases_lt p 32) [
+    | inl low ↦ let at : added_by (get_or (replicate 32 None) p None) ≡ 0 = ap added_by (get_or-replicate 32 p None None low) in omega (arith, at)
+    | inr high ↦ let at : added_by (get_or (replicate 32 None) p None) ≡ 0 = ap added_by (get_or_past (replicate 32 None) p None (omega (arith, high))) in omega (arith, at)
+  ];
+  added = omega arith;
   room = omega arith;
   idle = tt;
   counts = refl;

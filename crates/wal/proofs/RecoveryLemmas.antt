@@ -9,8 +9,8 @@ use Rattle.blocks.proofs.Moments.{started, stays, goes_on, joined}
 use Rattle.model.specs.Log.{logged_in, homes_in, logged_count, homes_of, is_lawful_log, are_in_place, are_distinct}
 use Rattle.model.specs.Lemmas.Log.{both_of, recovered_empty}
 use Rattle.model.specs.Lemmas.Recovery.{few_homes}
-use Rattle.wal.specs.Recovery.{HasCopied, RecoversAs}
-use Rattle.wal.proofs.CopyLemmas.{SameBesides, home_at, besides_copied, besides_old_or_new, recovers_besides, recovers_same, copied_more, low_stays, cleared, none_cleared, length-homes_of}
+use Rattle.wal.specs.Recovery.{HasCopied, IsRecoveredInPart, RecoversAs}
+use Rattle.wal.proofs.CopyLemmas.{SameBesides, home_at, besides_copied, besides_old_or_new, recovers_besides, recovers_same, copied_more, copied_none, low_stays, cleared, none_cleared, length-homes_of}
 use Rattle.wal.proofs.LawfulLogs.{empty_lawful}
 
 -- the header that was read
@@ -50,6 +50,22 @@ copy_step x y z k home v lawful lt is copied read written =
     = sym (get_or_from_slice_get y (3 + k) v [] read) ∙ low_stays x y (3 + k) lawful (besides_copied x y k copied) (omega arith) in
     subst (HasCopied (k + 1) x) (sym (written ∙ ap (λ (h : ℕ). set y h v) is)) (copied_more x y k v lawful lt copied value)
 
+-- the first k homes are copied
+pub copied_in_part : (x y z : Image) (k : ℕ) → k ≤ length (homes_of x) → HasCopied k x y → z ≡ y → IsRecoveredInPart x z
+copied_in_part x y z k le copied is = inl (k, le, subst (HasCopied k x) (sym is) copied)
+
+-- the next was written, or wasn't
+pub written_in_part : (x y new z : Image) (k home : ℕ) (v : List ℕ) → is_lawful_log x ≡ true → k < length (homes_of x) → home ≡ home_at x k → HasCopied k x y →
+    slice_get y (3 + k) ≡ Some v → IsOldOrNew y home v new → z ≡ new → IsRecoveredInPart x z
+written_in_part x y new z k home v lawful lt at copied read (inl same) is = copied_in_part x y z k (omega arith) copied (is ∙ same)
+written_in_part x y new z k home v lawful lt at copied read (inr written) is =
+    copied_in_part x new z (k + 1) (omega arith) (copy_step x y new k home v lawful lt at copied read written) is
+
+-- the header was cleared, or wasn't
+pub cleared_in_part : (x y new z : Image) → 2 < length x → logged_count x ≢ 0 → HasCopied (length (homes_of x)) x y → IsOldOrNew y 2 zero_block new → z ≡ new → IsRecoveredInPart x z
+cleared_in_part x y new z long some copied (inl same) is = copied_in_part x y z (length (homes_of x)) (omega arith) copied (is ∙ same)
+cleared_in_part x y new z long some copied (inr written) is = inr (is ∙ written ∙ cleared x y long some copied)
+
 -- the write that clears the header
 pub clear_recovers : (x y z : Image) → 33 ≤ length x → is_lawful_log x ≡ true → logged_count x ≢ 0 → HasCopied (length (homes_of x)) x y →
     IsOldOrNew y 2 zero_block z → RecoversAs x z
@@ -86,3 +102,32 @@ module _ {D : Type 0} (image : D → Image) (moment : D → ℕ) (leaves : D →
       let home = recovery_copies settled old read mid same reading copying in
       goes_on moment leaves old mid new (RecoversAs x) home time
       (λ z crash. subst (RecoversAs x) (sym (settled new z crash)) (clear_recovers x (image mid) (image new) long lawful some copied written))
+
+  -- the same of the homes' order
+  pub part_copies : ((d : D) → IsSettled (image d) (leaves d (moment d))) → (old read mid : D) → image read ≡ image old →
+      AddsNone (moment old) (moment read) (leaves old) (leaves read) → LeavesOnly moment leaves read mid (IsRecoveredInPart (image read)) →
+      LeavesOnly moment leaves old mid (IsRecoveredInPart (image old))
+  part_copies settled old read mid same reading copying =
+      let x = image old in
+      let start = started moment leaves old (IsRecoveredInPart x) (λ z crash. copied_in_part x x z 0 (omega arith) (copied_none x) (settled old z crash)) in
+      let first = stays moment leaves old old read (IsRecoveredInPart x) start reading in
+      joined moment leaves old read mid (IsRecoveredInPart x) first (subst (λ (z : Image). LeavesOnly moment leaves read mid (IsRecoveredInPart z)) same copying)
+
+  pub part_ends : ((d : D) → IsSettled (image d) (leaves d (moment d))) → (old read mid new : D) → 33 ≤ length (image old) →
+      logged_count (image old) ≢ 0 → image read ≡ image old → AddsNone (moment old) (moment read) (leaves old) (leaves read) →
+      HasCopied (length (homes_of (image old))) (image old) (image mid) → LeavesOnly moment leaves read mid (IsRecoveredInPart (image read)) →
+      IsOldOrNew (image mid) 2 zero_block (image new) → Elapses (moment mid) (moment new) (leaves mid) (leaves new) →
+      LeavesOnly moment leaves old new (IsRecoveredInPart (image old))
+  part_ends settled old read mid new long some same reading copied copying written time =
+      let x = image old in
+      let home = part_copies settled old read mid same reading copying in
+      goes_on moment leaves old mid new (IsRecoveredInPart x) home time
+      (λ z crash. cleared_in_part x (image mid) (image new) z (omega arith) some copied written (settled new z crash))
+
+  -- only reads
+  pub part_read : ((d : D) → IsSettled (image d) (leaves d (moment d))) → (old read : D) → AddsNone (moment old) (moment read) (leaves old) (leaves read) →
+      LeavesOnly moment leaves old read (IsRecoveredInPart (image old))
+  part_read settled old read reading =
+      let x = image old in
+      stays moment leaves old old read (IsRecoveredInPart x)
+      (started moment leaves old (IsRecoveredInPart x) (λ z crash. copied_in_part x x z 0 (omega arith) (copied_none x) (settled old z crash))) reading

@@ -109,6 +109,11 @@ abbrev pub unused : Option ℕ → ℕ
 unused None = 0
 unused (Some u) = unused_reservation u
 
+-- what it added
+abbrev pub added_by : Option ℕ → ℕ
+added_by None = 0
+added_by (Some u) = u
+
 abbrev pub ten : Option ℕ → ℕ
 ten None = 0
 ten (Some u) = 10
@@ -141,6 +146,9 @@ pub record IsLogAt (k : Commit) (l : LogState) : Type 0 where
   pub places : AreHomes l.size l.homes
   pub pids : length l.used ≡ 32
   pub open_ones : 10 * l.outstanding ≡ sum_by ten l.used
+  -- each of them added at most ten homes, which stand among the group's
+  pub each : (p : ℕ) → added_by (used_by l p) ≤ 10
+  pub added : sum_by added_by l.used ≤ length l.homes
   -- the homes and all unused reservations fit the log
   pub room : length l.homes + sum_by unused l.used ≤ 30
   pub idle : Idle k l

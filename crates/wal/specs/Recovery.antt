@@ -1,7 +1,9 @@
 -- What recovery makes of an image, and why it may refuse.
-use Rattle.std.specs.Prelude.{◌≡◌, ℕ, ◌+◌, ◌==◌, ⊤, nat_lt, if◌then◌else◌, List, length, Result, Ok, Err, Option, Some, None}
-use Rattle.blocks.specs.Disk.{Image, block_at}
-use Rattle.model.specs.Log.{homes_of, is_lawful_log, place_among, recovered}
+use Rattle.std.specs.Prelude.{◌≡◌, ◌⊎◌, ◌≤◌, ℕ, ◌+◌, ◌==◌, ⊤, nat_lt, if◌then◌else◌, IsTrue, List, length, Result, Ok, Err, Option, Some, None}
+use Rattle.blocks.specs.Calls.{OnlyReads}
+use Rattle.blocks.specs.declared.disk.Disk.{Ghosts}
+use Rattle.blocks.specs.Disk.{Image, block_at, counted}
+use Rattle.model.specs.Log.{homes_of, is_lawful_log, logged_count, place_among, recovered}
 use Rattle.wal.specs.declared.faults.RecoverFault.{RecoverFault}
 use Rattle.wal.specs.declared.faults.RecoverFault.TheVariants.{Disk, BadLog, NoMemory}
 
@@ -44,3 +46,22 @@ copied_block x k b (Some j) = if nat_lt j k then block_at x (3 + j) else block_a
 pub record HasCopied (k : ℕ) (x y : Image) : Type 0 where
   pub size : length y ≡ length x
   pub each : (b : ℕ) → block_at y b ≡ copied_block x k b (place_among (homes_of x) b)
+
+-- the first of the homes were copied, in the order of logging, or all was done
+abbrev pub IsRecoveredInPart : Image → Image → Type 0
+IsRecoveredInPart x z = ((k : ℕ) × (k ≤ length (homes_of x)) × HasCopied k x z) ⊎ (z ≡ recovered x)
+
+-- a disk was only read, and no call of it failed
+pub record Looks {D N : Type 0} (disk : Ghosts D N) (old new : D) : Type 0 where
+  pub reads : OnlyReads disk old new
+  pub faults : disk.fault_count new ≡ disk.fault_count old
+
+-- A disk with a lawful log of n blocks was recovered, and nothing is logged any more. Where nothing was logged it was only read.
+pub record Recovers {D N : Type 0} (disk : Ghosts D N) (n : ℕ) (old new : D) : Type 0 where
+  pub lawful : IsTrue (is_lawful_log (disk.image old))
+  pub count : n ≡ logged_count (disk.image old)
+  pub image : disk.image new ≡ recovered (disk.image old)
+  pub none : logged_count (disk.image new) ≡ 0
+  pub writes : disk.write_count new ≡ counted (disk.write_count old) (writes_to_recover n)
+  pub faults : disk.fault_count new ≡ disk.fault_count old
+  pub unwritten : n ≡ 0 → OnlyReads disk old new

@@ -2,7 +2,8 @@
 ghost use Rattle.std.specs.Prelude.{◌≡◌, ◌≢◌, ◌<◌, ◌≤◌, ◌+◌, ◌==◌, ◌^◌, false, length, slice_set, Some, None, IsSome, IsTrue, ◌↔◌, IfOk, IfErr, OnOk, OnErr, if◌then◌else◌};
 ghost use Rattle.bcache.specs.Buffers.{buffer, block_or_zero, found};
 ghost use Rattle.blocks.specs.Block.{zero_block};
-ghost use Rattle.blocks.specs.Disk.{Image, one_more, IsOldOrNew, Elapses, LeavesOldOrNew, CountsFault, CountsSuccess};
+ghost use Rattle.blocks.specs.Calls.{WritesOne};
+ghost use Rattle.blocks.specs.Disk.{Image, one_more, Elapses, LeavesOldOrNew};
 ghost use Rattle.model.specs.Codec.{header_block};
 ghost use Rattle.model.specs.Layout.{is_lawful_super};
 ghost use Rattle.model.specs.Log.{is_lawful_log};
@@ -181,7 +182,7 @@ impl Log {
     pub fn begin(&mut self, pid: u32) -> Began
         requires pid { pid < 32 }
         requires none { used_by self.old pid ≡ None }
-        requires opened { self.old.opened + 1 < 2 ^ 64 }
+        requires opened { begin_cause self.old ≡ None → self.old.outstanding ≡ 0 → self.old.opened + 1 < 2 ^ 64 }
         ensures answer { result ≡ begin_answer self.old pid }
         ensures log { self.new ≡ after_begin self.old pid }
     {
@@ -195,7 +196,7 @@ impl Log {
     fn open(&mut self, pid: u32) -> u64
         requires pid { pid < 32 }
         requires none { used_by self.old pid ≡ None }
-        requires opened { self.old.opened + 1 < 2 ^ 64 }
+        requires opened { self.old.outstanding ≡ 0 → self.old.opened + 1 < 2 ^ 64 }
         requires free { begin_cause self.old ≡ None }
         ensures group { result ≡ (begun self.old pid).opened }
         ensures log { self.new ≡ begun self.old pid }
@@ -300,6 +301,7 @@ impl Log {
         ensures step { CommitsTo self.old.commit self.old.opened result
             (Stepped (header_block self.old.homes) (D.image disk.old) cache.old self.old (D.image disk.new) cache.new self.new)
             (Faulted (header_block self.old.homes) (D.image disk.old) cache.old self.old (D.image disk.new) cache.new self.new) }
+        ensures name { D.name disk.new ≡ D.name disk.old }
         ensures time { Elapses (D.moment disk.old) (D.moment disk.new) (D.leaves disk.old) (D.leaves disk.new) }
         ensures crash { LeavesOldOrNew (place_at self.old.commit self.old.homes)
             (bytes_at self.old.commit self.old.homes (header_block self.old.homes) (seen (D.image disk.old) cache.old))
@@ -323,14 +325,9 @@ impl Log {
     fn write_next<D: Disk>(&mut self, cache: &Cache, disk: &mut D) -> Result<(), DiskFault>
         requires inside { place_at self.old.commit self.old.homes < length (D.image disk.old) }
         ensures log { self.new ≡ self.old }
-        ensures ok { OnOk result (D.image disk.new ≡ slice_set (D.image disk.old) (place_at self.old.commit self.old.homes) (source_at self.old.commit self.old.homes (header_block self.old.homes) cache.now)) }
-        ensures err { OnErr result (IsOldOrNew (D.image disk.old) (place_at self.old.commit self.old.homes) (source_at self.old.commit self.old.homes (header_block self.old.homes) cache.now) (D.image disk.new)) }
+        ensures writes { WritesOne D.Disk (place_at self.old.commit self.old.homes)
+            (source_at self.old.commit self.old.homes (header_block self.old.homes) cache.now) result disk.old disk.new }
         ensures fault { IfErr result (λ fault. fault.0 ≡ place_at self.old.commit self.old.homes) }
-        ensures writes { CountsSuccess result (D.write_count disk.old) (D.write_count disk.new) }
-        ensures faults { CountsFault result (D.fault_count disk.old) (D.fault_count disk.new) }
-        ensures time { Elapses (D.moment disk.old) (D.moment disk.new) (D.leaves disk.old) (D.leaves disk.new) }
-        ensures crash { LeavesOldOrNew (place_at self.old.commit self.old.homes) (source_at self.old.commit self.old.homes (header_block self.old.homes) cache.now)
-            (D.leaves disk.old (D.moment disk.old)) (D.leaves disk.new (D.moment disk.new)) }
     {
         make_header(self.commit, &self.header, &mut self.made);
         let homes = self.header.homes.as_slice();
@@ -494,7 +491,7 @@ fn is_quiet(commit: Commit) -> bool
 
 // The number of the group that an operation belongs to.
 fn next_group(outstanding: u32, opened: u64) -> u64
-    requires { opened + 1 < 2 ^ 64 }
+    requires { outstanding ≡ 0 → opened + 1 < 2 ^ 64 }
     ensures { result ≡ (if outstanding == 0 then opened + 1 else opened) }
 {
     if outstanding == 0 { opened + 1 } else { opened }

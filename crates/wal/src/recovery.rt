@@ -1,11 +1,11 @@
 // Recovery: what was committed before a crash is copied home.
-ghost use Rattle.std.specs.Prelude.{◌≡◌, ◌≢◌, ◌<◌, ◌≤◌, ◌+◌, false, length, slice_set, IsTrue, IfOk, OnOk, OnErr};
+ghost use Rattle.std.specs.Prelude.{◌≡◌, ◌<◌, ◌≤◌, ◌+◌, false, length, IsTrue, IfOk, OnOk, OnErr};
 ghost use Rattle.blocks.specs.Block.{zero_block};
-ghost use Rattle.blocks.specs.Disk.{one_more, Rose, IsOldOrNew, IsSettled, CountsFault, Elapses, AddsNone, LeavesOnly};
-ghost use Rattle.layout.specs.Making.{counted};
+ghost use Rattle.blocks.specs.Calls.{OnlyReads, WritesOne};
+ghost use Rattle.blocks.specs.Disk.{counted, Rose, IsSettled, LeavesOnly};
 ghost use Rattle.model.specs.Layout.{is_lawful_super};
-ghost use Rattle.model.specs.Log.{is_lawful_log, logged_count, homes_of, recovered};
-ghost use Rattle.wal.specs.Recovery.{OnDisk, OnBadLog, OnNoMemory, RecoversAs, HasCopied, writes_to_recover};
+ghost use Rattle.model.specs.Log.{is_lawful_log, logged_count, homes_of};
+ghost use Rattle.wal.specs.Recovery.{OnDisk, OnBadLog, OnNoMemory, RecoversAs, Recovers, Looks, IsRecoveredInPart, HasCopied};
 
 use crate::RecoverFault;
 use blocks::{Block, Disk, DiskFault};
@@ -30,10 +30,8 @@ fn read_header<D: Disk>(disk: &mut D, size: u32, block: &mut Block) -> Result<He
     ensures bad_faults { OnBadLog result (D.fault_count disk.new ≡ D.fault_count disk.old) }
     ensures refused { OnNoMemory result (disk.new ≡ disk.old) }
     ensures disk { OnDisk result (Rose (D.fault_count disk.old) (D.fault_count disk.new)) }
-    ensures image { D.image disk.new ≡ D.image disk.old }
-    ensures writes { D.write_count disk.new ≡ D.write_count disk.old }
+    ensures reads { OnlyReads D.Disk disk.old disk.new }
     ensures faults { OnOk result (D.fault_count disk.new ≡ D.fault_count disk.old) }
-    ensures time { AddsNone (D.moment disk.old) (D.moment disk.new) (D.leaves disk.old) (D.leaves disk.new) }
 {
     disk.read(HEADER, block)?;
     let header = Header::read(block.as_slice());
@@ -55,11 +53,7 @@ fn log_block(place: usize) -> u32
 fn clear_header<D: Disk>(disk: &mut D, empty: &Block) -> Result<(), DiskFault>
     requires inside { 2 < length (D.image disk.old) }
     requires empty { empty.now ≡ zero_block }
-    ensures ok { OnOk result (D.image disk.new ≡ slice_set (D.image disk.old) 2 zero_block) }
-    ensures err { OnErr result (IsOldOrNew (D.image disk.old) 2 zero_block (D.image disk.new)) }
-    ensures writes { OnOk result (D.write_count disk.new ≡ one_more (D.write_count disk.old)) }
-    ensures faults { CountsFault result (D.fault_count disk.old) (D.fault_count disk.new) }
-    ensures time { Elapses (D.moment disk.old) (D.moment disk.new) (D.leaves disk.old) (D.leaves disk.new) }
+    ensures { WritesOne D.Disk 2 zero_block result disk.old disk.new }
 {
     disk.write(HEADER, empty)
 }
@@ -73,8 +67,10 @@ fn copy_home<D: Disk>(disk: &mut D, block: &mut Block, homes: &[u32]) -> Result<
     ensures ok { OnOk result (HasCopied (length homes.now) (D.image disk.old) (D.image disk.new)) }
     ensures writes { OnOk result (D.write_count disk.new ≡ counted (D.write_count disk.old) (length homes.now)) }
     ensures faults { OnOk result (D.fault_count disk.new ≡ D.fault_count disk.old) }
+    ensures name { D.name disk.new ≡ D.name disk.old }
     ensures disk { OnErr result (Rose (D.fault_count disk.old) (D.fault_count disk.new)) }
     ensures any_moment { LeavesOnly D.moment D.leaves disk.old disk.new (RecoversAs (D.image disk.old)) }
+    ensures in_order { LeavesOnly D.moment D.leaves disk.old disk.new (IsRecoveredInPart (D.image disk.old)) }
 {
     for (k, home) in homes.iter().enumerate() {
         disk.read(log_block(k), block)?;
@@ -98,23 +94,18 @@ fn copy_home<D: Disk>(disk: &mut D, block: &mut Block, homes: &[u32]) -> Result<
 /// its end, and may be run again.
 pub fn recover<D: Disk>(alloc: Global, disk: &mut D, sup: &Super) -> Result<u32, RecoverFault>
     requires { IsTrue (is_lawful_super sup.now (length (D.image disk.old))) }
-    ensures lawful { OnOk result (IsTrue (is_lawful_log (D.image disk.old))) }
-    ensures image { OnOk result (D.image disk.new ≡ recovered (D.image disk.old)) }
-    ensures none { OnOk result (logged_count (D.image disk.new) ≡ 0) }
-    ensures count { IfOk result (λ n. n ≡ logged_count (D.image disk.old)) }
-    ensures writes { IfOk result (λ n. D.write_count disk.new ≡ counted (D.write_count disk.old) (writes_to_recover n)) }
-    ensures faults { OnOk result (D.fault_count disk.new ≡ D.fault_count disk.old) }
+    ensures ok { IfOk result (λ n. Recovers D.Disk n disk.old disk.new) }
+    ensures name { D.name disk.new ≡ D.name disk.old }
 
     // When each error comes, and how the disk is then.
     ensures bad { OnBadLog result (is_lawful_log (D.image disk.old) ≡ false) }
-    ensures bad_image { OnBadLog result (D.image disk.new ≡ D.image disk.old) }
-    ensures bad_writes { OnBadLog result (D.write_count disk.new ≡ D.write_count disk.old) }
-    ensures bad_faults { OnBadLog result (D.fault_count disk.new ≡ D.fault_count disk.old) }
+    ensures unwritten { OnBadLog result (Looks D.Disk disk.old disk.new) }
     ensures refused { OnNoMemory result (disk.new ≡ disk.old) }
     ensures disk { OnDisk result (Rose (D.fault_count disk.old) (D.fault_count disk.new)) }
 
-    // A crash at any moment leaves an image that is recovered to the same one, and its log is lawful
-    // where that of the image is.
+    // A crash at any moment leaves an image with the first homes copied, or the recovered one. It is
+    // recovered to the same image, and its log is lawful where that of the start is.
+    ensures in_order { LeavesOnly D.moment D.leaves disk.old disk.new (IsRecoveredInPart (D.image disk.old)) }
     ensures any_moment { LeavesOnly D.moment D.leaves disk.old disk.new (RecoversAs (D.image disk.old)) }
 {
     let mut block = Block::zeroed(alloc)?;

@@ -1,7 +1,8 @@
 // A disk with its buffer cache and its log, as the layers above use them.
 ghost use Rattle.std.specs.Prelude.{◌≡◌, ◌<◌, ◌≤◌, ◌+◌, ◌^◌, ℕ, true, false, length, slice_set, Some, None, IsSome, IsTrue, IfNone};
 ghost use Rattle.blocks.specs.Block.{IsBlock, overwritten};
-ghost use Rattle.blocks.specs.Disk.{Image, block_at, one_more, Elapses, AddsNone, LeavesOldOrNew};
+ghost use Rattle.blocks.specs.Calls.{OnlyReads};
+ghost use Rattle.blocks.specs.Disk.{Image, block_at, one_more, Elapses, LeavesOldOrNew};
 ghost use Rattle.model.specs.Codec.{header_block};
 ghost use Rattle.model.specs.Log.{is_lawful_log, logged_count};
 ghost use Rattle.bcache.specs.Buffers.{buffer, block_or_zero, filled, fresh, released, EndsUnfilled};
@@ -108,7 +109,6 @@ impl<D: Disk> Volume<D> {
 
     /// Why an operation would have to sleep before it begins, as the log's `may_begin`.
     pub fn may_begin(&self) -> Option<Why>
-        requires { self.now.fault ≡ None }
         ensures { result ≡ begin_cause self.now.log }
     {
         self.log.may_begin()
@@ -119,7 +119,7 @@ impl<D: Disk> Volume<D> {
         requires fault { self.old.fault ≡ None }
         requires pid { pid < 32 }
         requires none { used_by self.old.log pid ≡ None }
-        requires opened { self.old.log.opened + 1 < 2 ^ 64 }
+        requires opened { begin_cause self.old.log ≡ None → self.old.log.outstanding ≡ 0 → self.old.log.opened + 1 < 2 ^ 64 }
         ensures answer { result ≡ begin_answer self.old.log pid }
         ensures volume { self.new ≡ record self.old { log = after_begin self.old.log pid } }
     {
@@ -153,10 +153,8 @@ impl<D: Disk> Volume<D> {
         ensures fault { self.new.fault ≡ fault_of_get result }
         ensures log { self.new.log ≡ self.old.log }
         ensures current { seen (D.image self.new.device) self.new.buffers ≡ seen (D.image self.old.device) self.old.buffers }
-        ensures image { D.image self.new.device ≡ D.image self.old.device }
-        ensures writes { D.write_count self.new.device ≡ D.write_count self.old.device }
+        ensures device { OnlyReads D.Disk self.old.device self.new.device }
         ensures faults { D.fault_count self.new.device ≡ faults_after (fault_of_get result) (D.fault_count self.old.device) }
-        ensures time { AddsNone (D.moment self.old.device) (D.moment self.new.device) (D.leaves self.old.device) (D.leaves self.new.device) }
     {
         match self.cache.acquire(pid, block) {
             Acquired::Sleeping(busy) => Get::Sleeping(why(busy)),
@@ -178,10 +176,8 @@ impl<D: Disk> Volume<D> {
         ensures fault { self.new.fault ≡ fault_of_get result }
         ensures log { self.new.log ≡ self.old.log }
         ensures current { seen (D.image self.new.device) self.new.buffers ≡ seen (D.image self.old.device) self.old.buffers }
-        ensures image { D.image self.new.device ≡ D.image self.old.device }
-        ensures writes { D.write_count self.new.device ≡ D.write_count self.old.device }
+        ensures device { OnlyReads D.Disk self.old.device self.new.device }
         ensures faults { D.fault_count self.new.device ≡ faults_after (fault_of_get result) (D.fault_count self.old.device) }
-        ensures time { AddsNone (D.moment self.old.device) (D.moment self.new.device) (D.leaves self.old.device) (D.leaves self.new.device) }
     {
         match self.cache.fill(slot, &mut self.disk) {
             Ok(()) => Get::Got(slot),
@@ -241,6 +237,7 @@ impl<D: Disk> Volume<D> {
             (Stepped (header_block self.old.log.homes) (D.image self.old.device) self.old.buffers self.old.log (D.image self.new.device) self.new.buffers self.new.log)
             (Faulted (header_block self.old.log.homes) (D.image self.old.device) self.old.buffers self.old.log (D.image self.new.device) self.new.buffers self.new.log) }
         ensures fault { self.new.fault ≡ fault_of_step result }
+        ensures name { D.name self.new.device ≡ D.name self.old.device }
         ensures current { IsSameOutsideLog (seen (D.image self.old.device) self.old.buffers) (seen (D.image self.new.device) self.new.buffers) }
         ensures time { Elapses (D.moment self.old.device) (D.moment self.new.device) (D.leaves self.old.device) (D.leaves self.new.device) }
         ensures crash { LeavesOldOrNew (place_at self.old.log.commit self.old.log.homes)

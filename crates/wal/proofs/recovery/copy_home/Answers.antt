@@ -1,13 +1,12 @@
-use Rattle.std.proofs.Common.{◌≡◌, ◌<◌, ℕ, List, length, get_or, set, refl, sym, ◌∙◌, ap, subst, arith, add-one}
+use Rattle.std.proofs.Common.{◌≡◌, ◌<◌, ◌+◌, ℕ, List, length, get_or, set, refl, sym, ◌∙◌, ap, subst, arith, add-one}
 use Rattle.std.specs.Prelude.{slice_get}
-use Rattle.blocks.specs.Disk.{Image, one_more}
+use Rattle.blocks.specs.Disk.{Image, IsOldOrNew, counted, one_more}
 use Rattle.blocks.proofs.Moments.{started, stays, goes_on, now_stays}
-use Rattle.layout.specs.Making.{counted}
 use Rattle.model.specs.Log.{homes_of}
 use Rattle.model.specs.Lemmas.Recovery.{few_homes}
-use Rattle.wal.specs.Recovery.{RecoversAs}
+use Rattle.wal.specs.Recovery.{RecoversAs, IsRecoveredInPart}
 use Rattle.wal.proofs.CopyLemmas.{SameBesides, same_besides, copied_none, recovers_besides, recovers_same, home_at}
-use Rattle.wal.proofs.RecoveryLemmas.{copy_besides, copy_step}
+use Rattle.wal.proofs.RecoveryLemmas.{copy_besides, copy_step, copied_in_part, written_in_part}
 use Rattle.wal.proofs.recovery.copy_home.Goals as goal
 
 pub log_block-requires : goal.log_block-requires
@@ -24,9 +23,11 @@ loop-k-init g c =
     record {
       copied = copied_none x;
       besides = λ z now. subst (SameBesides x) (sym (c.requires.settled z now)) (same_besides x);
+      name = refl;
       writes = refl;
       faults = refl;
       any_moment = started d.moment d.leaves old (RecoversAs x) (λ z now. recovers_same x z (c.requires.settled z now));
+      in_order = started d.moment d.leaves old (IsRecoveredInPart x) (λ z now. copied_in_part x x z 0 (omega arith) (copied_none x) (c.requires.settled z now));
     }
 
 pub returns-in_err-write-clause-any_moment : goal.returns-in_err-write-clause-any_moment
@@ -41,6 +42,19 @@ returns-in_err-write-clause-any_moment g c =
     goes_on d.moment d.leaves c.args.disk.now c.read.new.self c.write.new.self (RecoversAs x) read c.write.ensures.time
     (λ z now. recovers_besides x z c.requires.lawful (copy_besides x c.loop-k.k _ _ _ _ lt home before c.write.ensures.crash z now))
 
+pub returns-in_err-write-clause-in_order : goal.returns-in_err-write-clause-in_order
+returns-in_err-write-clause-in_order g c =
+    let d = g.D.Disk in
+    let x = d.image c.args.disk.now in
+    let kept = c.loop-k.invariant in
+    let lt : c.loop-k.k < length (homes_of x) = omega (arith, ap length c.requires.homes) in
+    let home : get_or c.args.homes.now c.loop-k.k 0 ≡ home_at x c.loop-k.k = ap (λ (l : List ℕ). get_or l c.loop-k.k 0) c.requires.homes in
+    let read = stays d.moment d.leaves c.args.disk.now c.loop-k.disk c.read.new.self (IsRecoveredInPart x) kept.in_order c.read.ensures.time in
+    let left = subst (λ (y : Image). IsOldOrNew y (get_or c.args.homes.now c.loop-k.k 0) c.read.new.into (d.image c.write.new.self)) c.in_ok-read.ensures.image c.in_err-write.ensures.err in
+    goes_on d.moment d.leaves c.args.disk.now c.read.new.self c.write.new.self (IsRecoveredInPart x) read c.write.ensures.time
+    (λ z now. written_in_part x (d.image c.loop-k.disk) (d.image c.write.new.self) z c.loop-k.k _ _ c.requires.lawful lt home kept.copied
+    (ap (slice_get (d.image c.loop-k.disk)) (sym c.log_block.ensures) ∙ c.in_ok-read.ensures.ok) left (g.met.D.Disk.only_now c.write.new.self z now))
+
 pub loop-k-preserved : goal.loop-k-preserved
 loop-k-preserved g c =
     let d = g.D.Disk in
@@ -52,8 +66,13 @@ loop-k-preserved g c =
     let written : d.image c.write.new.self ≡ set (d.image c.loop-k.disk) (get_or c.args.homes.now c.loop-k.k 0) c.read.new.into = c.in_ok-write.ensures.ok ∙ ap (λ (y : Image). set y (get_or c.args.homes.now c.loop-k.k 0) c.read.new.into) c.in_ok-read.ensures.image in
     let read = stays d.moment d.leaves c.args.disk.now c.loop-k.disk c.read.new.self (RecoversAs x) kept.any_moment c.read.ensures.time in
     let besides : (z : Image) → d.leaves c.write.new.self (d.moment c.write.new.self) z → SameBesides x z = copy_besides x c.loop-k.k _ _ _ _ lt home before c.write.ensures.crash in
+    let copied = copy_step x (d.image c.loop-k.disk) (d.image c.write.new.self) c.loop-k.k _ _ c.requires.lawful lt home kept.copied (ap (slice_get (d.image c.loop-k.disk)) (sym c.log_block.ensures) ∙ c.in_ok-read.ensures.ok) written in
     record {
-      copied = copy_step x (d.image c.loop-k.disk) (d.image c.write.new.self) c.loop-k.k _ _ c.requires.lawful lt home kept.copied (ap (slice_get (d.image c.loop-k.disk)) (sym c.log_block.ensures) ∙ c.in_ok-read.ensures.ok) written;
+      copied = copied;
+      name = c.in_ok-write.ensures.name ∙ c.in_ok-read.ensures.name ∙ kept.name;
+      in_order = goes_on d.moment d.leaves c.args.disk.now c.read.new.self c.write.new.self (IsRecoveredInPart x)
+          (stays d.moment d.leaves c.args.disk.now c.loop-k.disk c.read.new.self (IsRecoveredInPart x) kept.in_order c.read.ensures.time) c.write.ensures.time
+          (λ z now. copied_in_part x (d.image c.write.new.self) z (c.loop-k.k + 1) (omega (arith, lt)) copied (g.met.D.Disk.only_now c.write.new.self z now));
       besides = besides;
       writes = c.in_ok-write.ensures.writes ∙ ap one_more (c.in_ok-read.ensures.writes ∙ kept.writes) ∙ ap (counted (d.write_count c.args.disk.now)) (sym (add-one c.loop-k.k));
       faults = c.in_ok-write.ensures.faults ∙ c.in_ok-read.ensures.faults ∙ kept.faults;

@@ -1,7 +1,6 @@
 use Rattle.std.proofs.Common.{◌≡◌}
-use Rattle.blocks.specs.Disk.{Image, LeavesOnly}
-use Rattle.layout.specs.Making.{counted}
-use Rattle.wal.specs.Recovery.{RecoversAs, HasCopied}
+use Rattle.blocks.specs.Disk.{Image, LeavesOnly, counted}
+use Rattle.wal.specs.Recovery.{RecoversAs, HasCopied, IsRecoveredInPart}
 use Rattle.wal.proofs.CopyLemmas.{SameBesides}
 use Rattle.wal.proofs.recovery.copy_home.Given as goal
 
@@ -13,7 +12,9 @@ invariant-loop-k g l =
     record {
       copied : HasCopied l.k x (d.image l.disk);
       besides : (z : Image) → d.leaves l.disk (d.moment l.disk) z → SameBesides x z;
+      name : d.name l.disk ≡ d.name l.fn.disk;
       writes : d.write_count l.disk ≡ counted (d.write_count l.fn.disk) l.k;
       faults : d.fault_count l.disk ≡ d.fault_count l.fn.disk;
       any_moment : LeavesOnly d.moment d.leaves l.fn.disk l.disk (RecoversAs x);
+      in_order : LeavesOnly d.moment d.leaves l.fn.disk l.disk (IsRecoveredInPart x);
     }

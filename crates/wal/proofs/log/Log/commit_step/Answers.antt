@@ -19,7 +19,7 @@ returns-in-Ok-clause-step g c =
     let same = c.in-Ok.ensures.log in
     commits_to l.commit l.opened c.go_on.result _ _ c.requires.busy (c.go_on.ensures.answer ∙ ap (λ (m : LogState). answer_at m.commit m.opened) same)
     (stepped (header_block l.homes) (g.D.Disk.image c.args.disk.now) buffers l (g.D.Disk.image c.write_next.new.disk) c.go_on.new.cache c.go_on.new.self c.requires.joint c.requires.busy
-    (log_header l.commit l c.requires.joint.log) c.in-Ok.ensures.ok (c.go_on.ensures.cache ∙ ap (λ (m : LogState). written_cache m.commit m.homes buffers) same)
+    (log_header l.commit l c.requires.joint.log) c.in-Ok.ensures.writes.ok (c.go_on.ensures.cache ∙ ap (λ (m : LogState). written_cache m.commit m.homes buffers) same)
     (c.go_on.ensures.log ∙ ap (λ (m : LogState). written_at m.commit m) same))
 
 pub returns-in-Ok-clause-crash : goal.returns-in-Ok-clause-crash
@@ -27,7 +27,7 @@ returns-in-Ok-clause-crash g c =
     let d = g.D.Disk in
     let old = c.args.disk.now in
     let new = c.write_next.new.disk in
-    crash_step (header_block c.args.self.now.homes) (d.image old) c.args.cache.now c.args.self.now (d.leaves old (d.moment old)) (d.leaves new (d.moment new)) c.requires.joint c.in-Ok.ensures.crash
+    crash_step (header_block c.args.self.now.homes) (d.image old) c.args.cache.now c.args.self.now (d.leaves old (d.moment old)) (d.leaves new (d.moment new)) c.requires.joint c.in-Ok.ensures.writes.crash
 
 pub returns-in-Ok-clause-recovers : goal.returns-in-Ok-clause-recovers
 returns-in-Ok-clause-recovers g c =
@@ -36,7 +36,7 @@ returns-in-Ok-clause-recovers g c =
     let new = c.write_next.new.disk in
     let l = c.args.self.now in
     crash_keeps (header_block l.homes) (d.image old) c.args.cache.now l (d.leaves old (d.moment old)) (d.leaves new (d.moment new)) c.requires.joint c.requires.busy
-    (log_header l.commit l c.requires.joint.log) (g.met.D.Disk.only_now old) c.in-Ok.ensures.crash
+    (log_header l.commit l c.requires.joint.log) (g.met.D.Disk.only_now old) c.in-Ok.ensures.writes.crash
 
 pub returns-in-Err-clause-step : goal.returns-in-Err-clause-step
 returns-in-Err-clause-step g c =
@@ -44,14 +44,14 @@ returns-in-Err-clause-step g c =
     let y = g.D.Disk.image c.write_next.new.disk in
     let l = c.args.self.now in
     subst (λ (m : LogState). Faulted (header_block l.homes) x c.args.cache.now l y c.args.cache.now m) (sym c.in-Err.ensures.log)
-    (faulted (header_block l.homes) x c.args.cache.now l y c.requires.joint c.in-Err.ensures.err)
+    (faulted (header_block l.homes) x c.args.cache.now l y c.requires.joint c.in-Err.ensures.writes.err)
 
 pub returns-in-Err-clause-crash : goal.returns-in-Err-clause-crash
 returns-in-Err-clause-crash g c =
     let d = g.D.Disk in
     let old = c.args.disk.now in
     let new = c.write_next.new.disk in
-    crash_step (header_block c.args.self.now.homes) (d.image old) c.args.cache.now c.args.self.now (d.leaves old (d.moment old)) (d.leaves new (d.moment new)) c.requires.joint c.in-Err.ensures.crash
+    crash_step (header_block c.args.self.now.homes) (d.image old) c.args.cache.now c.args.self.now (d.leaves old (d.moment old)) (d.leaves new (d.moment new)) c.requires.joint c.in-Err.ensures.writes.crash
 
 pub returns-in-Err-clause-recovers : goal.returns-in-Err-clause-recovers
 returns-in-Err-clause-recovers g c =
@@ -60,7 +60,7 @@ returns-in-Err-clause-recovers g c =
     let new = c.write_next.new.disk in
     let l = c.args.self.now in
     crash_keeps (header_block l.homes) (d.image old) c.args.cache.now l (d.leaves old (d.moment old)) (d.leaves new (d.moment new)) c.requires.joint c.requires.busy
-    (log_header l.commit l c.requires.joint.log) (g.met.D.Disk.only_now old) c.in-Err.ensures.crash
+    (log_header l.commit l c.requires.joint.log) (g.met.D.Disk.only_now old) c.in-Err.ensures.writes.crash
 
 pub returns-in-Ok-clause-lawful : goal.returns-in-Ok-clause-lawful
 returns-in-Ok-clause-lawful g c =
@@ -69,7 +69,7 @@ returns-in-Ok-clause-lawful g c =
     let new = c.write_next.new.disk in
     let l = c.args.self.now in
     crash_lawful (header_block l.homes) (d.image old) c.args.cache.now l (d.leaves old (d.moment old)) (d.leaves new (d.moment new)) c.requires.joint c.requires.busy
-    (log_header l.commit l c.requires.joint.log) (g.met.D.Disk.only_now old) c.in-Ok.ensures.crash
+    (log_header l.commit l c.requires.joint.log) (g.met.D.Disk.only_now old) c.in-Ok.ensures.writes.crash
 
 pub returns-in-Err-clause-lawful : goal.returns-in-Err-clause-lawful
 returns-in-Err-clause-lawful g c =
@@ -78,4 +78,4 @@ returns-in-Err-clause-lawful g c =
     let new = c.write_next.new.disk in
     let l = c.args.self.now in
     crash_lawful (header_block l.homes) (d.image old) c.args.cache.now l (d.leaves old (d.moment old)) (d.leaves new (d.moment new)) c.requires.joint c.requires.busy
-    (log_header l.commit l c.requires.joint.log) (g.met.D.Disk.only_now old) c.in-Err.ensures.crash
+    (log_header l.commit l c.requires.joint.log) (g.met.D.Disk.only_now old) c.in-Err.ensures.writes.crash

@@ -15,7 +15,7 @@ invariant_of-self g c =
     let block = ap (λ (s : Buffer). s.block) slot ∙ c.requires.block in
     let valid = ap (λ (s : Buffer). s.valid) slot ∙ c.requires.valid in
     let bytes = ap (λ o. filled c.self.inside.cache c.args.slot (block_at (g.D.Disk.image c.self.inside.disk) (block_or_zero o))) block in
-    if_joint _ (joint_got _ _ c.args.slot c.args.block (joint_here g.D.Disk.image _ _ c.self.view_is c.requires.fault c.self.invariant) c.requires.slot block valid (c.in-Ok.ensures.ok ∙ bytes) c.in-Ok.ensures.image).0
+    if_joint _ (joint_got _ _ c.args.slot c.args.block (joint_here g.D.Disk.image _ _ c.self.view_is c.requires.fault c.self.invariant) c.requires.slot block valid (c.in-Ok.ensures.ok ∙ bytes) c.in-Ok.ensures.reads.image).0
 
 pub returns-in-Ok-clause-current : goal.returns-in-Ok-clause-current
 returns-in-Ok-clause-current g c =
@@ -24,10 +24,10 @@ returns-in-Ok-clause-current g c =
     let valid = ap (λ (s : Buffer). s.valid) slot ∙ c.requires.valid in
     let bytes = ap (λ o. filled c.self.inside.cache c.args.slot (block_at (g.D.Disk.image c.self.inside.disk) (block_or_zero o))) block in
     subst (λ s. seen (g.D.Disk.image c.fill.new.disk) c.fill.new.self ≡ seen (g.D.Disk.image s.device) s.buffers) c.self.view_is
-    (joint_got _ _ c.args.slot c.args.block (joint_here g.D.Disk.image _ _ c.self.view_is c.requires.fault c.self.invariant) c.requires.slot block valid (c.in-Ok.ensures.ok ∙ bytes) c.in-Ok.ensures.image).1
+    (joint_got _ _ c.args.slot c.args.block (joint_here g.D.Disk.image _ _ c.self.view_is c.requires.fault c.self.invariant) c.requires.slot block valid (c.in-Ok.ensures.ok ∙ bytes) c.in-Ok.ensures.reads.image).1
 
 pub returns-in-Err-clause-current : goal.returns-in-Err-clause-current
 returns-in-Err-clause-current g c =
     let valid = ap (λ (s : Buffer). s.valid) (buffer_here _ _ c.args.slot c.self.view_is) ∙ c.requires.valid in
     subst (λ s. seen (g.D.Disk.image c.fill.new.disk) c.fill.new.self ≡ seen (g.D.Disk.image s.device) s.buffers) c.self.view_is
-    (seen_unfilled c.self.inside.cache c.fill.new.self c.args.slot valid c.in-Err.ensures.err c.in-Err.ensures.image)
+    (seen_unfilled c.self.inside.cache c.fill.new.self c.args.slot valid c.in-Err.ensures.err c.in-Err.ensures.reads.image)

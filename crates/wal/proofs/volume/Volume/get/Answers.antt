@@ -43,7 +43,7 @@ returns-in-Got-default-false-clause-got g c =
     let arm = c.in-Got-default-false in
     let joint = joint_here g.D.Disk.image _ _ c.self.view_is c.requires.fault c.self.invariant in
     let has = acquired_now c.self.inside.cache c.acquire.new.self c.args.pid c.args.block arm.slot false arm.valid joint.cache arm.ensures.answer arm.valid-test c.acquire.ensures.cache in
-    filled_holds c.acquire.new.self c.fill.new.self.buffers c.args.pid c.args.block arm.slot c.fill.result (joint_acquired c.self.inside.cache c.acquire.new.self c.args.pid c.args.block joint c.requires.behind (search rules) c.acquire.ensures.cache) has c.fill.ensures.answer c.fill.ensures.buffers c.fill.ensures.image
+    filled_holds c.acquire.new.self c.fill.new.self.buffers c.args.pid c.args.block arm.slot c.fill.result (joint_acquired c.self.inside.cache c.acquire.new.self c.args.pid c.args.block joint c.requires.behind (search rules) c.acquire.ensures.cache) has c.fill.ensures.answer c.fill.ensures.buffers c.fill.ensures.device.image
 
 pub returns-in-Got-default-true-clause-current : goal.returns-in-Got-default-true-clause-current
 returns-in-Got-default-true-clause-current g c =
