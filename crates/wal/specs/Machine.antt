@@ -4,7 +4,7 @@ use Rattle.std.specs.List.{list_any, sum_by}
 use Rattle.model.specs.declared.types.operations.Why.{Why}
 use Rattle.model.specs.Log.{are_in_place, are_distinct}
 use Rattle.model.specs.Reservations.{unused_reservation, log_cause}
-use Rattle.bcache.specs.Buffers.{Buffers, pinned}
+use Rattle.bcache.specs.Buffers.{Buffers, buffer, block_or_zero, pinned}
 use Rattle.wal.specs.declared.types.Commit.{Commit}
 use Rattle.wal.specs.declared.types.Commit.TheVariants as commit
 use Rattle.wal.specs.declared.types.Began.{Began}
@@ -88,6 +88,10 @@ noted l pid b = if is_among b l.homes then l else appended l pid b
 
 abbrev pub noted_cache : LogState → Buffers → ℕ → ℕ → Buffers
 noted_cache l c i b = if is_among b l.homes then c else pinned c i
+
+-- a slot whose block is not among the homes has room for one pin more
+abbrev pub MayPin : LogState → Buffers → ℕ → Type 0
+MayPin l c i = is_among (block_or_zero (buffer c i).block) l.homes ≡ false → (buffer c i).pins + 1 < 2 ^ 32
 
 -- an operation less
 abbrev pub left_by : LogState → ℕ → LogState

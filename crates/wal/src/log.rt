@@ -10,7 +10,7 @@ ghost use Rattle.model.specs.Log.{is_lawful_log};
 ghost use Rattle.wal.specs.Joint.{Joint, seen, place_at, bytes_at, source_at, written_at, written_cache, bytes_found, unpinned_found, HasPin, IsPinned, IsWithin};
 ghost use Rattle.wal.specs.Kept.{CrashKeeps};
 ghost use Rattle.wal.specs.Step.{Stepped, Faulted, CommitsTo, IsFault, answer_at};
-ghost use Rattle.wal.specs.Machine.{IsLog, is_quiet, new_log, begin_cause, begin_answer, after_begin, begun, used_by, HasRoom, is_among, one_used, appended, noted, noted_cache, ended, end_answer};
+ghost use Rattle.wal.specs.Machine.{IsLog, is_quiet, new_log, begin_cause, begin_answer, after_begin, begun, used_by, HasRoom, is_among, MayPin, one_used, appended, noted, noted_cache, ended, end_answer};
 
 use crate::{Began, Commit, Committed, Ended};
 use arrayvec::ArrayVec;
@@ -219,7 +219,7 @@ impl Log {
         requires block { IsSome (buffer cache.old slot).block }
         requires behind { 33 ≤ block_or_zero (buffer cache.old slot).block }
         requires within { block_or_zero (buffer cache.old slot).block < self.old.size }
-        requires few { is_among (block_or_zero (buffer cache.old slot).block) self.old.homes ≡ false → (buffer cache.old slot).pins + 1 < 2 ^ 32 }
+        requires few { MayPin self.old cache.old slot }
         ensures log { self.new ≡ noted self.old pid (block_or_zero (buffer cache.old slot).block) }
         ensures cache { cache.new ≡ noted_cache self.old cache.old slot (block_or_zero (buffer cache.old slot).block) }
     {
