@@ -10,6 +10,3 @@ mod types;
 
 pub use cache::Cache;
 pub use types::{Acquired, Busy};
-
-#[cfg(test)]
-mod tests;

@@ -202,6 +202,3 @@ impl<D: Disk> Disk for FaultyDisk<D> {
         Ok(())
     }
 }
-
-#[cfg(test)]
-mod tests;

@@ -2,8 +2,6 @@
 //! of what a crash cut short.
 #![tactic(auto)]
 
-#[cfg(test)]
-mod disks;
 mod faults;
 mod log;
 mod recovery;
