@@ -26,6 +26,3 @@ mod types;
 
 pub use cache::Cache;
 pub use types::{Acquired, Buffer, Busy};
-
-#[cfg(test)]
-mod tests;

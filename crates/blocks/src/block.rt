@@ -80,23 +80,3 @@ impl Block {
         Ok(block)
     }
 }
-
-#[cfg(test)]
-mod tests {
-    use super::*;
-    use std::test::Fail;
-
-    #[test]
-    fn bytes_are_put_and_copied(rt: HostRuntime) -> Result<(), Fail> {
-        let mut block = Block::zeroed(rt.alloc())?;
-        block.put(1022, &[3, 4]);
-        let copy = block.copied(rt.alloc())?;
-        block.put(0, &[9]);
-        for (at, want) in [(0, 0), (1021, 0), (1022, 3), (1023, 4)] {
-            assert_eq!(rt; copy.as_slice().get(at), Some(&want), "at {at}");
-        }
-        block.copy_from(&copy);
-        assert_eq!(rt; block.as_slice(), copy.as_slice());
-        Ok(())
-    }
-}

@@ -273,6 +273,3 @@ fn left_after(is_counted: bool, left: u64) -> u64
         left
     }
 }
-
-#[cfg(test)]
-mod tests;

@@ -281,6 +281,3 @@ impl<F: Write + Seek + Drop> Disk for FileDisk<F> {
         self.copy.write(block, from)
     }
 }
-
-#[cfg(test)]
-mod tests;

@@ -37,6 +37,3 @@ pub use processes::Processes;
 pub use runs::run;
 pub use stepping::Kernel;
 pub use types::{At, OpenFault, Process, Step, Turn};
-
-#[cfg(test)]
-mod tests;

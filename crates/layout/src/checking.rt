@@ -74,26 +74,6 @@ fn read_recovered<D: Disk>(
     disk.read(source, into)
 }
 
-// Whether the fields are those of an image of that many blocks, within the limits.
-fn is_lawful_super(fields: Super, block_count: u32) -> bool
-    ensures { result ≡ is_lawful_super fields block_count }
-{
-    let size = fields.size;
-    let ninodes = fields.ninodes;
-    if size != block_count || !(2..=1024).contains(&ninodes) {
-        return false;
-    }
-    let meta = meta_count(size, ninodes);
-    if size <= meta || size > 8191 {
-        return false;
-    }
-    fields.nblocks == size - meta
-        && fields.nlog == 31
-        && fields.logstart == 2
-        && fields.inodestart == 33
-        && fields.bmapstart == 33 + ninodes / 16 + 1
-}
-
 // Reads the superblock, and judges it.
 fn read_super<D: Disk>(disk: &mut D, block: &mut Block) -> Result<Super, CheckFault>
     requires long { 2 ≤ length (D.image disk.old) }
@@ -107,7 +87,7 @@ fn read_super<D: Disk>(disk: &mut D, block: &mut Block) -> Result<Super, CheckFa
         return Err(CheckFault::BadMagic);
     }
     let sup = superblock::read(bytes);
-    if !is_lawful_super(sup, disk.size()) {
+    if !superblock::is_lawful(&sup, disk.size()) {
         return Err(CheckFault::BadGeometry);
     }
     Ok(sup)

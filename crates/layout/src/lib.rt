@@ -19,6 +19,3 @@ pub use checking::{Report, check};
 pub use geometry::{MkfsFault, plan};
 pub use making::mkfs;
 pub use model::types::{CheckFault, Dinode, Super};
-
-#[cfg(test)]
-mod tests;

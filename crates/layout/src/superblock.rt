@@ -1,11 +1,12 @@
 // The superblock: the magic number and seven fields of four bytes each.
 ghost use Rattle.std.specs.Prelude.{◌≡◌, ◌≤◌, length};
 ghost use Rattle.model.specs.Fields.{u32_at};
-ghost use Rattle.model.specs.Layout.{super_in};
+ghost use Rattle.model.specs.Layout.{super_in, is_lawful_super};
 ghost use Rattle.model.specs.Codec.{super_block, super_words};
 ghost use Rattle.model.specs.declared.types.image.Form.TheVariants.{One};
 
 use crate::fields::{clear, read_u32, write_words};
+use crate::geometry::meta_count;
 use blocks::Block;
 use model::types::Super;
 
@@ -36,6 +37,26 @@ pub fn read(bytes: &[u8]) -> Super
         inodestart: read_u32(bytes, 24),
         bmapstart: read_u32(bytes, 28),
     }
+}
+
+/// Whether the fields are those that `plan` gives an image of that many blocks, within the limits.
+pub fn is_lawful(sup: &Super, block_count: u32) -> bool
+    ensures { result ≡ is_lawful_super sup.now block_count }
+{
+    let size = sup.size;
+    let ninodes = sup.ninodes;
+    if size != block_count || !(2..=1024).contains(&ninodes) {
+        return false;
+    }
+    let meta = meta_count(size, ninodes);
+    if size <= meta || size > 8191 {
+        return false;
+    }
+    sup.nblocks == size - meta
+        && sup.nlog == 31
+        && sup.logstart == 2
+        && sup.inodestart == 33
+        && sup.bmapstart == 33 + ninodes / 16 + 1
 }
 
 /// Writes a superblock: the magic number, these fields, and zeroes behind them.

@@ -26,6 +26,3 @@ mod queues;
 pub use herald::{Herald, PlainHerald};
 pub use intake::Intake;
 pub use queues::{PLACES, QueueIntake};
-
-#[cfg(test)]
-mod tests;

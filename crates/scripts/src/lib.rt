@@ -27,8 +27,6 @@ mod number;
 mod operation;
 mod schedule;
 mod script;
-#[cfg(test)]
-mod tests;
 
 pub use schedule::{SCHEDULE_LIMIT, ScheduleFault, Word, read_schedule};
 pub use script::{SCRIPT_LIMIT, ScriptFault, Task, processes, read_script};

@@ -23,8 +23,6 @@
 //! the header. A stop during that is recovered to the same image.
 #![tactic(auto)]
 
-#[cfg(test)]
-mod disks;
 mod faults;
 mod log;
 mod recovery;

@@ -513,6 +513,3 @@ fn has_home(homes: &[u32], block: u32) -> bool
 {
     homes.iter().any(|home| *home == block)
 }
-
-#[cfg(test)]
-mod tests;

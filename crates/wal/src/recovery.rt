@@ -118,6 +118,3 @@ pub fn recover<D: Disk>(alloc: Global, disk: &mut D, sup: &Super) -> Result<u32,
     clear_header(disk, &empty)?;
     Ok(header.n)
 }
-
-#[cfg(test)]
-mod tests;

@@ -273,6 +273,3 @@ fn fault_of(answer: Committed) -> Option<DiskFault>
         Committed::Fault(fault) => Some(fault),
     }
 }
-
-#[cfg(test)]
-mod tests;

@@ -1,7 +1,8 @@
+// The cache against plain lists, over calls in a row that looks like chance.
 ghost use Rattle.std.specs.Prelude.{◌<◌};
 
-use crate::{Acquired, Busy, Cache};
-use blocks::{Block, Disk, MemDisk};
+use bcache::{Acquired, Busy, Cache};
+use blocks::{Disk, MemDisk};
 use std::alloc::Global;
 use std::process::Abort;
 use std::test::Fail;
@@ -27,88 +28,6 @@ fn is_released(cache: &mut Cache, slot: u32) -> bool
         }
         None => false,
     }
-}
-
-#[test]
-fn slots_are_taken_in_the_order_of_release(rt: HostRuntime) -> Result<(), Fail> {
-    let mut cache = Cache::new(rt.alloc())?;
-    let mut disk = MemDisk::new(rt.alloc(), 60)?;
-    for (block, slot) in [(50, 0), (51, 1)] {
-        assert_eq!(rt;
-            cache.acquire(0, block),
-            Acquired::Got { slot, valid: false }
-        );
-    }
-    assert!(rt; is_filled(&mut cache, 0, &mut disk));
-    assert!(rt; is_filled(&mut cache, 1, &mut disk));
-    assert!(rt; is_released(&mut cache, 0));
-    assert!(rt; is_released(&mut cache, 1));
-    assert_eq!(rt;
-        [cache.slot_at(0), cache.slot_at(1), cache.slot_at(2)],
-        [1, 0, 39]
-    );
-    assert_eq!(rt;
-        cache.acquire(1, 52),
-        Acquired::Got {
-            slot: 2,
-            valid: false
-        }
-    );
-    assert_eq!(rt;
-        cache.acquire(1, 50),
-        Acquired::Got {
-            slot: 0,
-            valid: true
-        }
-    );
-    assert_eq!(rt; cache.acquire(0, 50), Acquired::Sleeping(Busy::Held));
-    Ok(())
-}
-
-#[test]
-fn none_is_left_for_the_41st(rt: HostRuntime) -> Result<(), Fail> {
-    let mut cache = Cache::new(rt.alloc())?;
-    for block in 0..40 {
-        assert_eq!(rt;
-            cache.acquire(3, block),
-            Acquired::Got {
-                slot: block,
-                valid: false
-            }
-        );
-    }
-    assert_eq!(rt; cache.acquire(3, 40), Acquired::Sleeping(Busy::NoBuffer));
-    Ok(())
-}
-
-#[test]
-fn the_holder_writes_what_was_read(rt: HostRuntime) -> Result<(), Fail> {
-    let mut cache = Cache::new(rt.alloc())?;
-    let mut disk = MemDisk::new(rt.alloc(), 8)?;
-    let mut bytes = Block::zeroed(rt.alloc())?;
-    bytes.put(0, &[1, 2, 3, 4]);
-    if disk.size() == 8 {
-        assert!(rt; disk.write(5, &bytes).is_ok());
-    }
-    assert_eq!(rt;
-        cache.acquire(2, 5),
-        Acquired::Got {
-            slot: 0,
-            valid: false
-        }
-    );
-    assert!(rt; is_filled(&mut cache, 0, &mut disk));
-    if cache.holder(0) == Some(2) {
-        cache.put(2, 0, 1, &[8]);
-    }
-    if cache.holder(0) == Some(2) {
-        cache.data_mut(2, 0).put(3, &[9]);
-    }
-    assert_eq!(rt; cache.find(5), Some(0));
-    for (at, want) in [(0, 1), (1, 8), (2, 3), (3, 9), (4, 0)] {
-        assert_eq!(rt; cache.data(0).as_slice().get(at), Some(&want), "at {at}");
-    }
-    Ok(())
 }
 
 // A buffer without its bytes.

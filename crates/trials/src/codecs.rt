@@ -1,68 +1,9 @@
-use crate::header::Header;
-use crate::{Dinode, MkfsFault, Super, bitmap, entries, inode, mkfs, plan, superblock};
+// Records in the bytes of a block, as they stand in images of xv6.
 use arrayvec::ArrayVec;
-use blocks::{Block, Disk, MemDisk};
-use std::alloc::Global;
-use std::process::Abort;
+use blocks::Block;
+use layout::header::Header;
+use layout::{Dinode, Super, bitmap, entries, inode, superblock};
 use std::test::Fail;
-
-// A block of a disk.
-fn read_block<D: Disk>(
-    rt: &impl Abort,
-    alloc: Global,
-    disk: &mut D,
-    b: u32,
-) -> Result<Block, Fail> {
-    let size = disk.size();
-    assert!(rt; b < size);
-    let mut block = Block::zeroed(alloc)?;
-    disk.read(b, &mut block)?;
-    Ok(block)
-}
-
-#[test]
-fn makes_an_image(rt: HostRuntime) -> Result<(), Fail> {
-    let mut disk = MemDisk::new(rt.alloc(), 200)?;
-    mkfs(rt.alloc(), &mut disk, 200, 32)?;
-    assert_eq!(rt; disk.writes(), 200);
-    let superblock = read_block(&rt, rt.alloc(), &mut disk, 1)?;
-    let fields = [
-        0x40, 0x30, 0x20, 0x10, 0xc8, 0, 0, 0, 0xa3, 0, 0, 0, 0x20, 0, 0, 0, 0x1f, 0, 0, 0, 2, 0,
-        0, 0, 0x21, 0, 0, 0, 0x24, 0, 0, 0, 0,
-    ];
-    assert!(rt; superblock.as_slice().starts_with(&fields));
-    let map = read_block(&rt, rt.alloc(), &mut disk, 36)?;
-    let marks = [0xff, 0xff, 0xff, 0xff, 0x1f, 0];
-    assert!(rt; map.as_slice().starts_with(&marks));
-    let last = read_block(&rt, rt.alloc(), &mut disk, 199)?;
-    assert!(rt; last.as_slice().iter().all(|byte| *byte == 0));
-    Ok(())
-}
-
-#[test]
-fn refuses_another_size(rt: HostRuntime) -> Result<(), Fail> {
-    let mut disk = MemDisk::new(rt.alloc(), 200)?;
-    assert_eq!(rt;
-        mkfs(rt.alloc(), &mut disk, 199, 32),
-        Err(MkfsFault::SizeRange)
-    );
-    assert_eq!(rt;
-        mkfs(rt.alloc(), &mut disk, 200, 1),
-        Err(MkfsFault::InodeRange)
-    );
-    assert_eq!(rt; disk.writes(), 0);
-    Ok(())
-}
-
-#[test]
-fn plans(rt: HostRuntime) {
-    assert_eq!(rt; plan(36, 2).map(|fields| fields.nblocks), Ok(1));
-    assert_eq!(rt; plan(38, 32).map(|fields| fields.nblocks), Ok(1));
-    assert_eq!(rt; plan(35, 2), Err(MkfsFault::SizeRange));
-    assert_eq!(rt; plan(8192, 32), Err(MkfsFault::SizeRange));
-    assert_eq!(rt; plan(200, 1), Err(MkfsFault::InodeRange));
-    assert_eq!(rt; plan(200, 1025), Err(MkfsFault::InodeRange));
-}
 
 #[test]
 fn reads_a_superblock(rt: HostRuntime) -> Result<(), Fail> {

@@ -1,10 +1,13 @@
-use super::*;
-use crate::NoMemory;
+// Disks over files: over a file in memory that refuses a call, and over a real one.
+use blocks::{BLOCK_SIZE, Block, Disk, DiskFault, FileDisk, FileFault, NoMemory};
 use std::alloc::{Allocator, Global};
 use std::cell::Cell;
-use std::fs::Metadata;
-use std::io::Cursor;
+use std::fs::{Metadata, OpenFile, OpenOptions};
+use std::io::{self, Cursor, ErrorKind, Read, Seek, SeekFrom, Write};
+use std::process::Abort;
+use std::rt::Files;
 use std::test::Fail;
+use std::{env, fs, process};
 
 #[derive(Clone, Copy, Debug, PartialEq)]
 enum Call {
@@ -197,46 +200,69 @@ fn opens_what_is_a_disk(rt: HostRuntime) -> Result<(), Fail> {
     Ok(())
 }
 
-#[test]
-fn a_write_goes_to_the_file_too(rt: HostRuntime) -> Result<(), Fail> {
-    let refusing = make_shelf(&rt, 2048, Some(Call::Write), ErrorKind::StorageFull);
-    let mut disk = FileDisk::open(&refusing, "disk")?;
-    assert!(rt; disk.size() == 2);
+// The second block begins with this byte.
+fn assert_second(
+    rt: &(impl Abort + AllocGlobal),
+    disk: &mut FileDisk<FakeFile>,
+    byte: u8,
+) -> Result<(), Fail> {
+    let size = disk.size();
+    assert!(rt; size == 2);
     let mut into = Block::zeroed(rt.alloc())?;
-    assert_eq!(rt; disk.read(1, &mut into), Ok(()));
-    assert_eq!(rt; into.as_slice(), [2; BLOCK_SIZE].as_slice());
-
-    let mut from = Block::zeroed(rt.alloc())?;
-    from.put(3, &[5]);
-    assert_eq!(rt; disk.write(1, &from), Err(DiskFault(1)));
-    assert_eq!(rt; (disk.writes(), disk.faults()), (0, 1));
-    assert_eq!(rt; disk.read(1, &mut into), Ok(()));
-    assert_eq!(rt; into.as_slice(), [2; BLOCK_SIZE].as_slice());
-
-    assert_eq!(rt; disk.write(1, &from), Ok(()));
-    assert_eq!(rt; (disk.writes(), disk.faults()), (1, 1));
-    assert!(rt; disk.size() == 2);
-    assert_eq!(rt; disk.read(1, &mut into), Ok(()));
-    assert_eq!(rt; into.as_slice(), from.as_slice());
-    let bytes = disk.file.bytes.get_ref();
-    for (at, want) in [(0, 1), (1023, 1), (1024, 0), (1027, 5), (2047, 0)] {
-        assert_eq!(rt; bytes.get(at), Some(&want), "at {at}");
-    }
-    assert_eq!(rt; bytes.len(), 2048);
+    disk.read(1, &mut into)?;
+    assert_eq!(rt; into.as_slice().first(), Some(&byte));
     Ok(())
 }
 
 #[test]
-fn creates_a_file_of_zeroes(rt: HostRuntime) -> Result<(), Fail> {
-    let denied = ErrorKind::PermissionDenied;
-    let disk = FileDisk::create(&make_shelf(&rt, 0, None, denied), "disk", 3)?;
-    assert_eq!(rt; disk.size(), 3);
-    assert_eq!(rt; disk.file.length.get(), 3 * 1024);
-    assert_eq!(rt; disk.file.bytes.get_ref().len(), 0);
-    for call in [Call::Open, Call::SetLen] {
-        let refused = FileDisk::create(&make_shelf(&rt, 0, Some(call), denied), "disk", 3);
-        assert_eq!(rt; refused.map(|disk| disk.size()), Err(FileFault::Open));
+fn a_write_that_the_file_refuses_changes_nothing(rt: HostRuntime) -> Result<(), Fail> {
+    let refusing = make_shelf(&rt, 2048, Some(Call::Write), ErrorKind::StorageFull);
+    let mut disk = FileDisk::open(&refusing, "disk")?;
+    assert_second(&rt, &mut disk, 2)?;
+    let mut from = Block::zeroed(rt.alloc())?;
+    from.put(0, &[5]);
+    for (answer, counts, byte) in [(Err(DiskFault(1)), (0, 1), 2), (Ok(()), (1, 1), 5)] {
+        let size = disk.size();
+        assert!(rt; size == 2);
+        assert_eq!(rt; disk.write(1, &from), answer);
+        assert_eq!(rt; (disk.writes(), disk.faults()), counts);
+        assert_second(&rt, &mut disk, byte)?;
     }
+    Ok(())
+}
+
+#[test]
+fn a_file_that_cannot_be_made(rt: HostRuntime) -> Result<(), Fail> {
+    for call in [Call::Open, Call::SetLen] {
+        let shelf = make_shelf(&rt, 0, Some(call), ErrorKind::PermissionDenied);
+        let refused = FileDisk::create(&shelf, "disk", 3).map(|disk| disk.size());
+        assert_eq!(rt; refused, Err(FileFault::Open));
+    }
+    Ok(())
+}
+
+#[test]
+fn a_real_file_keeps_what_was_written(rt: HostRuntime) -> Result<(), Fail> {
+    let folder = env::temp_dir(&rt)?;
+    let id = process::id(rt.process());
+    let folder = folder.as_str();
+    let path = format!(in rt.alloc(); "{folder}/xvfs-file-{id}.img")?;
+    fs::write(&rt, path.as_str(), "an old file of another length")?;
+    let mut disk = FileDisk::create(&rt, path.as_str(), 3)?;
+    let mut from = Block::zeroed(rt.alloc())?;
+    from.put(7, &[1, 2]);
+    let size = disk.size();
+    assert!(rt; size == 3);
+    disk.write(2, &from)?;
+    let bytes = fs::read(&rt, path.as_str())?;
+    assert_eq!(rt; bytes.len(), 3072);
+    for (at, byte) in bytes.iter().enumerate() {
+        let expected = [(2055, 1), (2056, 2)]
+            .iter()
+            .find(|(place, _)| *place == at);
+        assert_eq!(rt; *byte, expected.map_or(0, |(_, byte)| *byte), "byte {at}");
+    }
+    fs::remove_file(&rt, path.as_str())?;
     Ok(())
 }
 
