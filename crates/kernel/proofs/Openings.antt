@@ -6,7 +6,8 @@ use Rattle.std.proofs.lemmas.List.{get_or-replicate, get_or_past, length-replica
 use Rattle.std.proofs.lemmas.List.Folds.{sum_by-replicate}
 use Rattle.blocks.specs.Disk.{Image, Rose, IsSettled, LeavesOnly}
 use Rattle.blocks.proofs.Moments.{started, stays, joined}
-use Rattle.layout.specs.Cause.{OnlyReads}
+use Rattle.blocks.specs.Calls.{OnlyReads}
+use Rattle.blocks.specs.declared.disk.Disk.{Ghosts}
 use Rattle.model.specs.Layout.{super_of, inode_count_of, is_lawful_super, magic_of}
 use Rattle.model.specs.Log.{is_lawful_log, logged_count, recovered}
 use Rattle.model.specs.Soundness.{IsSound}
@@ -78,16 +79,16 @@ recover_cause T x y recover.Disk old mid new none is same rose bad = subst (λ (
 recover_cause T x y recover.BadLog old mid new none is same rose bad = false≢true (sym bad ∙ ap is_lawful_log is ∙ (verdict_sound x none).1)
 recover_cause T x y recover.NoMemory old mid new none is same rose bad = tt
 
-module _ {D : Type 0} (image : D → Image) (writes moment : D → ℕ) (leaves : D → ℕ → Image → Type 0) (only_now : (d : D) → IsSettled (image d) (leaves d (moment d))) where
+module _ {D N : Type 0} (disk : Ghosts D N) (only_now : (d : D) → IsSettled (disk.image d) (disk.leaves d (disk.moment d))) where
   -- a crash during a check and a recovery leaves what is recovered to the same image
-  pub opened_leaves : (old mid new : D) → OnlyReads image writes moment leaves old mid → LeavesOnly moment leaves mid new (RecoversAs (image mid)) → LeavesOnly moment leaves old new (RecoversAs (image old))
+  pub opened_leaves : (old mid new : D) → OnlyReads disk old mid → LeavesOnly disk.moment disk.leaves mid new (RecoversAs (disk.image mid)) → LeavesOnly disk.moment disk.leaves old new (RecoversAs (disk.image old))
   opened_leaves old mid new reads then_on =
-      let P : Image → Type 0 = RecoversAs (image old) in
-      joined moment leaves old mid new P
-      (stays moment leaves old old mid P
-      (started moment leaves old P (λ x left. subst P (sym (only_now old x left)) (record { image = refl; lawful = refl })))
-      (record { later = reads.later; adds = reads.adds; keeps = reads.keeps }))
-      (subst (λ (y : Image). LeavesOnly moment leaves mid new (RecoversAs y)) reads.image then_on)
+      let P : Image → Type 0 = RecoversAs (disk.image old) in
+      joined disk.moment disk.leaves old mid new P
+      (stays disk.moment disk.leaves old old mid P
+      (started disk.moment disk.leaves old P (λ x left. subst P (sym (only_now old x left)) (record { image = refl; lawful = refl })))
+      reads.time)
+      (subst (λ (y : Image). LeavesOnly disk.moment disk.leaves mid new (RecoversAs y)) reads.image then_on)
 
 -- a list of the same everywhere
 same_at : {A : Type 0} (n p : ℕ) (a : A) → get_or (replicate n a) p a ≡ a

@@ -1,6 +1,6 @@
 // Opening a kernel, and what may be asked of it between two steps.
-ghost use Rattle.std.specs.Prelude.{◌≡◌, ◌⊎◌, ◌≤◌, ℕ, ◌<◌, true, length, None, IfOk, IfErr, IsTrue};
-ghost use Rattle.blocks.specs.Disk.{LeavesOnly};
+ghost use Rattle.std.specs.Prelude.{◌≡◌, ◌⊎◌, ◌≤◌, ℕ, ◌<◌, true, length, None, IfOk, IfErr, IsTrue, MatchResult};
+ghost use Rattle.blocks.specs.Disk.{LeavesOnly, counted};
 ghost use Rattle.model.specs.Layout.{inode_count_of, is_lawful_super};
 ghost use Rattle.model.specs.Log.{recovered, logged_count};
 ghost use Rattle.model.specs.Verdict.{verdict};
@@ -9,7 +9,6 @@ ghost use Rattle.wal.specs.Machine.{new_log};
 ghost use Rattle.wal.specs.Recovery.{RecoversAs, writes_to_recover};
 ghost use Rattle.kernel.specs.Processes.{fresh, process};
 ghost use Rattle.kernel.specs.Opening.{Refuses, MayWrite};
-ghost use Rattle.layout.specs.Making.{counted};
 ghost use Rattle.ports.specs.History.{fresh as nothing_yet};
 
 use crate::stepping::Kernel;
@@ -73,6 +72,7 @@ impl<D: Disk, I: Intake, H: Herald> Kernel<D, I, H> {
         ensures intake { IfOk result (λ k. k.intake ≡ intake) }
         ensures herald { IfOk result (λ k. k.herald ≡ herald) }
         ensures few { IfOk result (λ k. (1 ≤ processes) × (processes ≤ 32)) }
+        ensures name { MatchResult result (λ k. D.name k.opening ≡ D.name disk) (λ e. D.name e.1 ≡ D.name disk) }
         ensures writes { IfOk result (λ k. D.write_count k.opening ≡ counted (D.write_count disk) (writes_to_recover (logged_count (D.image disk)))) }
         ensures faults { IfOk result (λ k. D.fault_count k.opening ≡ D.fault_count disk) }
         ensures unwritten { IfErr result (λ e. MayWrite e.0 ⊎ (D.write_count e.1 ≡ D.write_count disk)) }

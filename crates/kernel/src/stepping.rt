@@ -131,6 +131,7 @@ impl<D: Disk, I: Intake, H: Herald> Kernel<D, I, H> {
         ensures inode_count { self.new.inode_count ≡ self.old.inode_count }
         ensures processes { length self.new.world.processes ≡ length self.old.world.processes }
         ensures halted { (result ≡ Step.Halted) ↔ IsSome self.new.volume.fault }
+        ensures name { D.name self.new.volume.device ≡ D.name self.old.volume.device }
         ensures writes { WritesOnce (D.write_count self.old.volume.device) (D.write_count self.new.volume.device) }
         ensures faults { self.old.volume.fault ≡ None → CountsItsFault self.new.volume.fault (D.write_count self.old.volume.device) (D.write_count self.new.volume.device) (D.fault_count self.old.volume.device) (D.fault_count self.new.volume.device) }
         ensures image { is_committing_at (process self.old.world pid).at ≡ false → D.image self.new.volume.device ≡ D.image self.old.volume.device }
@@ -166,6 +167,7 @@ impl<D: Disk, I: Intake, H: Herald> Kernel<D, I, H> {
         ensures opening { self.new.opening ≡ self.old.opening }
         ensures inode_count { self.new.inode_count ≡ self.old.inode_count }
         ensures halted { (result ≡ Step.Halted) ↔ IsSome self.new.volume.fault }
+        ensures name { D.name self.new.volume.device ≡ D.name self.old.volume.device }
         ensures writes { WritesOnce (D.write_count self.old.volume.device) (D.write_count self.new.volume.device) }
         ensures faults { self.old.volume.fault ≡ None → CountsItsFault self.new.volume.fault (D.write_count self.old.volume.device) (D.write_count self.new.volume.device) (D.fault_count self.old.volume.device) (D.fault_count self.new.volume.device) }
         ensures time { Elapses (D.moment self.old.volume.device) (D.moment self.new.volume.device) (D.leaves self.old.volume.device) (D.leaves self.new.volume.device) }
@@ -328,6 +330,7 @@ impl<D: Disk, I: Intake, H: Herald> Kernel<D, I, H> {
         ensures inode_count { self.new.inode_count ≡ self.old.inode_count }
         ensures time { Elapses (D.moment self.old.volume.device) (D.moment self.new.volume.device) (D.leaves self.old.volume.device) (D.leaves self.new.volume.device) }
         ensures halted { (result ≡ Step.Halted) ↔ IsSome self.new.volume.fault }
+        ensures name { D.name self.new.volume.device ≡ D.name self.old.volume.device }
         ensures writes { WritesOnce (D.write_count self.old.volume.device) (D.write_count self.new.volume.device) }
         ensures faults { CountsItsFault self.new.volume.fault (D.write_count self.old.volume.device) (D.write_count self.new.volume.device) (D.fault_count self.old.volume.device) (D.fault_count self.new.volume.device) }
         ensures ahead { (I.side self.new.intake pid).ahead ≡ (I.side self.old.intake pid).ahead }
@@ -363,6 +366,7 @@ impl<D: Disk, I: Intake, H: Herald> Kernel<D, I, H> {
         ensures inode_count { self.new.inode_count ≡ self.old.inode_count }
         ensures time { Elapses (D.moment self.old.volume.device) (D.moment self.new.volume.device) (D.leaves self.old.volume.device) (D.leaves self.new.volume.device) }
         ensures halted { (result ≡ Step.Halted) ↔ IsSome self.new.volume.fault }
+        ensures name { D.name self.new.volume.device ≡ D.name self.old.volume.device }
         ensures writes { WritesOnce (D.write_count self.old.volume.device) (D.write_count self.new.volume.device) }
         ensures faults { CountsItsFault self.new.volume.fault (D.write_count self.old.volume.device) (D.write_count self.new.volume.device) (D.fault_count self.old.volume.device) (D.fault_count self.new.volume.device) }
         ensures ahead { (I.side self.new.intake pid).ahead ≡ (I.side self.old.intake pid).ahead }

@@ -7,7 +7,7 @@ use Rattle.model.specs.declared.types.operations.Answer.{Answer}
 use Rattle.ports.specs.declared.lane.Lane.{Lane}
 use Rattle.ports.specs.History.{History, FitWith, AllFit, gives, fresh}
 use Rattle.ports.specs.Lanes.{IsEmptyLane, SameWaiting, polled_after}
-use Rattle.ports.specs.Queues.{FitsAt, FitsLane, polled_at}
+use Rattle.ports.specs.Queues.{FitsAt, FitsLane}
 
 pub slice_get-set_here : {A : Type 0} (xs : List A) (i : ℕ) (x : A) → i < length xs → slice_get (set xs i x) i ≡ Some x
 slice_get-set_here [] i x h = absurd (omega arith)
@@ -29,11 +29,12 @@ fits_with lanes pid l n f at here moves = record {
   others = λ p h other old. subst (λ o. FitsAt o h) (sym (slice_get-set_other lanes pid p n other)) old;
 }
 
--- one that polls nothing
-pub polled_stay : (lanes : List Lane) (pid : ℕ) (l n : Lane) → slice_get lanes pid ≡ Some l → pid < length lanes → n.polled ≡ l.polled → (p : ℕ) → polled_at (slice_get (set lanes pid n) p) ≡ polled_at (slice_get lanes p)
-polled_stay lanes pid l n at here same p = dite (ℕ_discrete p pid)
-    (λ mine. ap (λ q. polled_at (slice_get (set lanes pid n) q)) mine ∙ ap polled_at (slice_get-set_here lanes pid n here) ∙ same ∙ ap polled_at (sym at) ∙ ap (λ q. polled_at (slice_get lanes q)) (sym mine))
-    (λ apart. ap polled_at (slice_get-set_other lanes pid p n apart))
+-- one that keeps what is told of it
+pub stays_so : {A : Type 0} (told : Option Lane → A) (lanes : List Lane) (pid : ℕ) (l n : Lane) → slice_get lanes pid ≡ Some l → pid < length lanes → told (Some n) ≡ told (Some l)
+    → (p : ℕ) → told (slice_get (set lanes pid n) p) ≡ told (slice_get lanes p)
+stays_so told lanes pid l n at here same p = dite (ℕ_discrete p pid)
+    (λ mine. ap (λ q. told (slice_get (set lanes pid n) q)) mine ∙ ap told (slice_get-set_here lanes pid n here) ∙ same ∙ ap told (sym at) ∙ ap (λ q. told (slice_get lanes q)) (sym mine))
+    (λ apart. ap told (slice_get-set_other lanes pid p n apart))
 
 -- one that keeps them
 pub all_fit : (lanes : List Lane) (pid : ℕ) (l n : Lane) → slice_get lanes pid ≡ Some l → pid < length lanes

@@ -30,6 +30,21 @@ polled_at (Some l) = l.polled
 abbrev pub polled : QueueIntake → ℕ → ℕ
 polled q p = polled_at (slice_get q.lanes.items p)
 
+abbrev pub submitted_at : Option Lane → ℕ
+submitted_at None = 0
+submitted_at (Some l) = l.submitted
+
+-- how many operations a process has handed in
+abbrev pub submitted : QueueIntake → ℕ → ℕ
+submitted q p = submitted_at (slice_get q.lanes.items p)
+
+-- what no call of the kernel's side changes: how many operations were handed in, and how many answers polled
+abbrev pub name_at : Option Lane → ℕ × ℕ
+name_at lane = (submitted_at lane, polled_at lane)
+
+abbrev pub queue_name : QueueIntake → ℕ → ℕ × ℕ
+queue_name q p = name_at (slice_get q.lanes.items p)
+
 -- how many processes it serves
 abbrev pub queue_count : QueueIntake → ℕ
 queue_count q = length q.lanes.items

@@ -83,12 +83,13 @@ impl QueueIntake {
 }
 
 impl Intake for QueueIntake {
-    ghost use Rattle.ports.specs.Queues.{queue_count, queue_side, polled, QueueFits};
+    ghost use Rattle.ports.specs.Queues.{queue_count, queue_name, queue_side, QueueFits};
 
-    // How many answers a process has polled: the kernel polls none.
-    type Name = u64;
+    // How many operations a process has handed in, and how many answers it has polled: the kernel
+    // hands in none, and polls none.
+    type Name = (u64, u64);
 
-    ghost name = { polled };
+    ghost name = { queue_name };
 
     ghost process_count = { queue_count };
 

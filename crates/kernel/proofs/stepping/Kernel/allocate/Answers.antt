@@ -42,7 +42,7 @@ invariant_of-self g c =
     let image = g.D.Disk.image in
     let opening = image c.self.inside.opening.value in
     let recovers = recovers_searched image opening c.self.inside.volume c.step.new.volume c.self.inside.processes c.search.new.self (where_none _ well c.self.invariant.recovers)
-    c.args.pid c.args.group c.step.new.self c.step.ensures.image c.in-Moved.ensures.current c.search.ensures stays.opened stays.committed in
+    c.args.pid c.args.group c.step.new.self c.step.ensures.device.image c.in-Moved.ensures.current c.search.ensures stays.opened stays.committed in
     record {
       table = if_none _ stays.table;
       processes = c.self.invariant.processes ∙ sym (as_many c.self.inside.processes c.search.new.self c.args.pid _ (ap (λ (v : World). v.processes) c.search.ensures));
@@ -90,7 +90,7 @@ invariant_of-self-in-Over g c =
     let opening = image c.self.inside.opening.value in
     let recovers = recovers_turn image opening c.self.inside.volume c.step.new.volume c.self.inside.processes c.turn.new.self (where_none _ well c.self.invariant.recovers)
     c.self.inside.inode_count c.args.pid c.args.group c.args.search c.step.new.self c.in-Over.made (where_none _ well c.known.ensures) (where_none _ well c.self.invariant.table) c.self.invariant.numbers.same stands
-    c.in-Over.ensures.step c.in-Over.ensures.claimed c.in-Over.ensures.current c.step.ensures.image stays.opened stays.committed c.turn.ensures in
+    c.in-Over.ensures.step c.in-Over.ensures.claimed c.in-Over.ensures.current c.step.ensures.device.image stays.opened stays.committed c.turn.ensures in
     record {
       table = if_none _ stays.table;
       processes = c.self.invariant.processes ∙ sym (as_many c.self.inside.processes c.turn.new.self c.args.pid _ (ap (λ (v : World). v.processes) c.turn.ensures));
@@ -123,7 +123,7 @@ invariant_of-self-in-Fault g c =
       numbers = c.self.invariant.numbers;
       journal = subst (λ (l : LogState). IsJournal opening l.opened c.self.inside.processes.journal.list) (sym same) c.self.invariant.journal;
       recovers = if_some _ _ _ c.in-Fault.ensures.fault;
-      keeps = subst (λ (x : Image). KeepsNow c.step.new.volume opening c.self.inside.processes.journal.list x) (sym c.step.ensures.image)
+      keeps = subst (λ (x : Image). KeepsNow c.step.new.volume opening c.self.inside.processes.journal.list x) (sym c.step.ensures.device.image)
           (keeps_now c.step.new.volume c.self.inside.volume.log opening (image c.self.inside.volume.device) c.self.inside.volume.buffers c.self.inside.processes.journal.list (ap (λ (l : LogState). l.committed) same) (where_none _ well c.self.invariant.recovers));
       histories = c.self.invariant.histories;
     }

@@ -1,7 +1,8 @@
-use Rattle.std.proofs.Common.{◌<◌, length, refl, rules}
+use Rattle.std.proofs.Common.{ℕ, ◌<◌, length, ap₂, refl, rules}
 use Rattle.std.proofs.lemmas.Option.{slice_get_read}
 use Rattle.ports.specs.History.{gives}
-use Rattle.ports.proofs.LaneLemmas.{fits_with, gives_lane, polled_stay}
+use Rattle.ports.specs.Queues.{name_at}
+use Rattle.ports.proofs.LaneLemmas.{fits_with, gives_lane, stays_so}
 use Rattle.ports.proofs.queues.QueueIntakeIntake.answer.Goals as goal
 
 pub returns-clause-fits : goal.returns-clause-fits
@@ -15,4 +16,5 @@ pub returns-clause-names : goal.returns-clause-names
 returns-clause-names c =
     let l = c.index_mut.result.now in
     let here : c.args.pid < length c.args.self.now.lanes.items = search rules in
-    polled_stay c.args.self.now.lanes.items c.args.pid l c.answer.new.self (slice_get_read c.args.self.now.lanes.items _ _ _ refl here c.index_mut.ensures.value) here c.answer.ensures.polled
+    stays_so name_at c.args.self.now.lanes.items c.args.pid l c.answer.new.self (slice_get_read c.args.self.now.lanes.items _ _ _ refl here c.index_mut.ensures.value) here
+    (ap₂ (λ (a b : ℕ). (a, b)) c.answer.ensures.waiting.submitted c.answer.ensures.polled)
