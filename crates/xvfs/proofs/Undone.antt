@@ -2,7 +2,7 @@
 use Rattle.std.proofs.Common.{◌≡◌, ℕ, List, Option, Err, arith}
 use Rattle.xvfs.specs.declared.command.Failure.{Failure}
 use Rattle.xvfs.specs.declared.command.Failure.TheVariants.{Refused, Misused}
-use Rattle.xvfs.specs.declared.refusal.Refusal.{Refusal}
+use Rattle.player.specs.declared.refusal.Refusal.{Refusal}
 use Rattle.xvfs.specs.Requests.{IsUndone}
 use Rattle.xvfs.specs.Status.{status_of}
 

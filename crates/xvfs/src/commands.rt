@@ -6,7 +6,7 @@ ghost use Rattle.xvfs.specs.Lines.{lines_in, words_in, script_in};
 ghost use Rattle.xvfs.specs.Requests.{AreDone};
 
 use crate::command::{command, refuse};
-use crate::refusal::InputFault;
+use player::{InputFault, Refusal, input_unread};
 use std::alloc::{AllocError, Global};
 use std::io::{Read, Write};
 use std::rt::Files;
@@ -31,7 +31,7 @@ pub fn commands<R: Files + AllocGlobal, I: Read + Drop, O: Write, E: Write>(
 {
     match read_text(rt.alloc(), input) {
         Ok(text) => perform_text(rt, text.as_str(), out, err),
-        Err(fault) => refuse(fault.into(), err),
+        Err(fault) => refuse(Refusal::Input(fault), err),
     }
 }
 
@@ -40,7 +40,10 @@ fn read_text<I: Read + Drop>(alloc: Global, input: I) -> Result<String, InputFau
     ensures { IfOk result (λ text. IfSome (I.remaining input) (λ bytes. (length bytes ≤ LIMIT) × (string_bytes text ≡ bytes))) }
 {
     let mut bytes = Vec::new(alloc);
-    input.take(LIMIT as u64 + 1).read_to_end(&mut bytes)?;
+    input
+        .take(LIMIT as u64 + 1)
+        .read_to_end(&mut bytes)
+        .map_err(|error| input_unread(error))?;
     text_of(bytes)
 }
 
@@ -68,7 +71,7 @@ fn perform_text<R: Files + AllocGlobal, O: Write, E: Write>(
 {
     match script_of(rt.alloc(), text) {
         Ok(lines) => perform_lines(rt, lines.as_slice(), out, err),
-        Err(_) => refuse(InputFault::NoMemory.into(), err),
+        Err(_) => refuse(Refusal::Input(InputFault::NoMemory), err),
     }
 }
 
