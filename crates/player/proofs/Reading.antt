@@ -1,6 +1,6 @@
 -- A text of which no more was read than its limit and one byte.
-use Rattle.std.proofs.Common.{◌≡◌, ◌⊎◌, ◌∙◌, ℕ, ◌+◌, ◌<◌, Bool, true, false, List, take, length, refl, sym, ap, subst, inl, inr, ⊎_elim, arith, nat_lt, Option, Some, None, Ok, Err}
-use Rattle.std.specs.Prelude.{◌≤◌, Result, IfErr, IfOk, IfSome, min, option_map, if◌then◌else◌}
+use Rattle.std.proofs.Common.{◌≡◌, ◌⊎◌, ◌∙◌, ℕ, ◌+◌, true, List, take, length, sym, ap, subst, inl, inr, ⊎_elim, arith, nat_lt, Option, Some, None, Ok, Err}
+use Rattle.std.specs.Prelude.{Result, IfErr, IfOk, IfSome, min, option_map, if◌then◌else◌}
 use Rattle.std.proofs.lemmas.Bool.{cases_lt}
 use Rattle.std.proofs.lemmas.Bool.Decides.{nat_tests}
 use Rattle.std.proofs.lemmas.List.{length-take, take_all}

@@ -1,5 +1,5 @@
 -- Why a command over a disk wasn't done, and how the disk is then.
-use Rattle.std.specs.Prelude.{◌≡◌, ◌&&◌, ◌==◌, ℕ, false, length, IsTrue, None}
+use Rattle.std.specs.Prelude.{◌≡◌, ◌&&◌, ◌==◌, ℕ, false, length, None}
 use Rattle.blocks.specs.Disk.{Image, Rose}
 use Rattle.layout.specs.Cause.{IsCause}
 use Rattle.layout.specs.declared.geometry.MkfsFault.TheVariants as mkfs
@@ -10,7 +10,7 @@ use Rattle.model.specs.Verdict.{verdict}
 use Rattle.model.specs.declared.types.image.Form.TheVariants.{One}
 use Rattle.wal.specs.declared.faults.RecoverFault.TheVariants as recover
 use Rattle.player.specs.declared.refusal.Refusal.{Refusal}
-use Rattle.player.specs.declared.refusal.Refusal.TheVariants.{File, Mkfs, Check, Recover, Open, Script, Schedule, Disk, Input, Output}
+use Rattle.player.specs.declared.refusal.Refusal.TheVariants.{Mkfs, Check, Recover, Output}
 
 -- the disk d, now e, was not checked, or what was found could not be printed
 abbrev pub IsUnchecked : {D : Type 0} → (D → Image) → (D → ℕ) → D → D → Refusal → Type 0
