@@ -1,5 +1,5 @@
 -- A replay prints the turns of some schedule.
-use Rattle.std.proofs.Common.{◌≡◌, ℕ, ◌-◌, Bool, true, false, List, [], ◌∷◌, refl, sym, subst, Option, Some, None}
+use Rattle.std.proofs.Common.{ℕ, ◌-◌, Bool, true, false, List, [], ◌∷◌, refl, sym, subst, Option, Some, None}
 use Rattle.blocks.specs.Disk.{Image}
 use Rattle.blocks.specs.FaultyDisk.{has_fired}
 use Rattle.blocks.specs.declared.errors.DiskFault.{DiskFault}
@@ -55,14 +55,14 @@ some_words image count x written tasks processes words stop fault text printed r
     (words, (run.events, plays_of image stop words run.events replays.player run.last run.makes, (count run.last.kernel.volume.device - count replays.player.kernel.volume.device, (run.last.kernel.volume.log.committed, run.lines))))
 
 -- what was printed where a replay was refused
-pub on_refusal : (r : Refusal) (P Q none : Type 0) → (P → Q) → OnRefusal r P none → OnRefusal r Q none
-on_refusal (Disk _) P Q none f h = f h
-on_refusal Output P Q none f h = h
-on_refusal (File _) P Q none f h = h
-on_refusal (Mkfs _) P Q none f h = h
-on_refusal (Check _) P Q none f h = h
-on_refusal (Recover _) P Q none f h = h
-on_refusal (Open _) P Q none f h = h
-on_refusal (Script _) P Q none f h = h
-on_refusal (Schedule _) P Q none f h = h
-on_refusal (Input _) P Q none f h = h
+pub on_refusal : (r : Refusal) (P Q R S : Type 0) → (P → Q) → (R → S) → OnRefusal r P R → OnRefusal r Q S
+on_refusal (Disk _) P Q R S f k h = f h
+on_refusal Output P Q R S f k h = h
+on_refusal (File _) P Q R S f k h = k h
+on_refusal (Mkfs _) P Q R S f k h = k h
+on_refusal (Check _) P Q R S f k h = k h
+on_refusal (Recover _) P Q R S f k h = k h
+on_refusal (Open _) P Q R S f k h = k h
+on_refusal (Script _) P Q R S f k h = k h
+on_refusal (Schedule _) P Q R S f k h = k h
+on_refusal (Input _) P Q R S f k h = k h

@@ -1,5 +1,5 @@
 -- What a request is answered.
-use Rattle.std.specs.Prelude.{◌≡◌, ◌≢◌, ◌⊎◌, ℕ, List, [], ◌∷◌, Option, unwrap_or}
+use Rattle.std.specs.Prelude.{◌≡◌, ◌≢◌, ◌⊎◌, ℕ, List, [], ◌∷◌, ◌++◌, Option, unwrap_or}
 use Rattle.clap.specs.Words.{IsAmong, kind_of}
 use Rattle.clap.specs.declared.error.Error.{Error}
 use Rattle.std.specs.Io.KnownBytes.{Appends}
@@ -49,3 +49,17 @@ IsUndone words old new none (Misused text) = none × IsMistakeIn words text
 abbrev pub AreDone : List (List (List ℕ)) → Option (List ℕ) → Option (List ℕ) → Type 0
 AreDone [] old new = new ≡ old
 AreDone (words ∷ rest) old new = (mid : Option (List ℕ)) × IsDone words old mid × AreDone rest mid new
+
+-- the command of these words ended without being done, and this was printed
+abbrev pub IsNotDone : List (List ℕ) → Option (List ℕ) → Option (List ℕ) → Type 0
+IsNotDone words old new = (f : Failure) × IsUndone words old new (new ≡ old) f
+
+-- the commands of these lines were done, one after the other, up to one that was not, and none behind it was begun
+pub record StopsAmong (lines : List (List (List ℕ))) (old new : Option (List ℕ)) : Type 0 where
+  pub before : List (List (List ℕ))
+  pub words : List (List ℕ)
+  pub behind : List (List (List ℕ))
+  pub mid : Option (List ℕ)
+  pub split : lines ≡ before ++ words ∷ behind
+  pub done : AreDone before old mid
+  pub fails : IsNotDone words mid new

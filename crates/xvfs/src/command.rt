@@ -3,6 +3,7 @@ ghost use Rattle.std.specs.Prelude.{◌≡◌, ◌≤◌, map, Err, OnOk, IfErr,
 ghost use Rattle.xvfs.specs.Requests.{Answers, IsDone, IsUndone, OnRefused};
 ghost use Rattle.xvfs.specs.Status.{IsMisuse, IsUnprinted, status_of};
 ghost use Rattle.xvfs.specs.declared.command.Failure.TheVariants as failure;
+ghost use Rattle.clap.specs.declared.error.Error.{Error as SomeError};
 ghost use Rattle.player.specs.declared.refusal.Refusal.{Refusal as SomeRefusal};
 ghost use Rattle.xvfs.specs.Status.{Tells};
 
@@ -49,6 +50,7 @@ pub fn command<R: Files + AllocGlobal, S: AsStr, O: Write, E: Write>(
     ensures status { result ≤ 2 }
     ensures done { result ≡ 0 → IsDone (map S.text words.now) (O.contents out.old) (O.contents out.new) }
     ensures refused { result ≡ 1 → (r : SomeRefusal) × IsUndone (map S.text words.now) (O.contents out.old) (O.contents out.new) (out.new ≡ out.old) (failure.Refused r) }
+    ensures wrong { result ≡ 2 → (text : SomeError) × IsUndone (map S.text words.now) (O.contents out.old) (O.contents out.new) (out.new ≡ out.old) (failure.Misused text) }
     ensures silent { result ≡ 0 → err.new ≡ err.old }
     ensures misused { result ≡ 2 → out.new ≡ out.old }
 {

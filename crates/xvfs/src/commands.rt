@@ -1,9 +1,9 @@
 // Command lines from a reader.
-ghost use Rattle.std.specs.Prelude.{◌≡◌, ◌≤◌, ◌<◌, ◌↔◌, [], length, map, IfOk, IfSome, string_bytes};
+ghost use Rattle.std.specs.Prelude.{◌≡◌, ◌≢◌, ◌⊎◌, ◌≤◌, ◌<◌, ◌↔◌, [], length, map, IfOk, IfSome, string_bytes};
 ghost use Rattle.std.specs.Result.{IsErrOf};
 ghost use Rattle.std.specs.Str.{IsUtf8};
 ghost use Rattle.xvfs.specs.Lines.{lines_in, words_in, script_in};
-ghost use Rattle.xvfs.specs.Requests.{AreDone};
+ghost use Rattle.xvfs.specs.Requests.{AreDone, StopsAmong};
 
 use crate::command::{command, refuse};
 use player::{InputFault, Refusal, input_unread};
@@ -27,6 +27,8 @@ pub fn commands<R: Files + AllocGlobal, I: Read + Drop, O: Write, E: Write>(
     ensures status { result ≤ 2 }
     ensures large { IfSome (I.remaining input) (λ bytes. LIMIT < length bytes → (result ≡ 1) × (out.new ≡ out.old)) }
     ensures done { IfSome (I.remaining input) (λ bytes. result ≡ 0 → AreDone (script_in (lines_in bytes)) (O.contents out.old) (O.contents out.new)) }
+    ensures stopped { IfSome (I.remaining input) (λ bytes. result ≢ 0
+        → StopsAmong (script_in (lines_in bytes)) (O.contents out.old) (O.contents out.new) ⊎ (out.new ≡ out.old)) }
     ensures silent { result ≡ 0 → err.new ≡ err.old }
 {
     match read_text(rt.alloc(), input) {
@@ -67,6 +69,7 @@ fn perform_text<R: Files + AllocGlobal, O: Write, E: Write>(
 ) -> u8
     ensures status { result ≤ 2 }
     ensures done { result ≡ 0 → AreDone (script_in (lines_in text.now)) (O.contents out.old) (O.contents out.new) }
+    ensures stopped { result ≢ 0 → StopsAmong (script_in (lines_in text.now)) (O.contents out.old) (O.contents out.new) ⊎ (out.new ≡ out.old) }
     ensures silent { result ≡ 0 → err.new ≡ err.old }
 {
     match script_of(rt.alloc(), text) {
@@ -84,6 +87,7 @@ fn perform_lines<R: Files + AllocGlobal, O: Write, E: Write>(
     ensures status { result ≤ 2 }
     ensures none { lines.now ≡ [] → (result ≡ 0) × (out.new ≡ out.old) }
     ensures done { result ≡ 0 → AreDone (map (λ words. map (λ word. word.now) words.items) lines.now) (O.contents out.old) (O.contents out.new) }
+    ensures stopped { result ≢ 0 → StopsAmong (map (λ words. map (λ word. word.now) words.items) lines.now) (O.contents out.old) (O.contents out.new) }
     ensures silent { result ≡ 0 → err.new ≡ err.old }
 {
     for words in lines {
