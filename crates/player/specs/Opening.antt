@@ -1,0 +1,38 @@
+-- A player at its opening, and a whole replay.
+use Rattle.std.specs.Prelude.{◌≡◌, ◌<◌, ℕ, List, [], length, Option, None}
+use Rattle.blocks.specs.Disk.{Image}
+use Rattle.blocks.specs.declared.errors.DiskFault.{DiskFault}
+use Rattle.blocks.specs.declared.faulty.FaultyDisk.{FaultyDisk}
+use Rattle.bcache.specs.Buffers.{fresh as fresh_buffers}
+use Rattle.kernel.specs.Processes.{fresh as fresh_world}
+use Rattle.layout.specs.Making.{counted}
+use Rattle.model.specs.Layout.{inode_count_of}
+use Rattle.model.specs.Log.{logged_count, recovered}
+use Rattle.model.specs.Verdict.{verdict}
+use Rattle.ports.specs.Queues.{waiting, answers}
+use Rattle.scripts.specs.declared.schedule.Word.{Word}
+use Rattle.scripts.specs.declared.script.Task.{Task}
+use Rattle.wal.specs.Machine.{new_log}
+use Rattle.wal.specs.Recovery.{writes_to_recover}
+use Rattle.player.specs.Backlog.{backlog_at, ops_of}
+use Rattle.player.specs.Stepping.{RunsTo}
+use Rattle.player.specs.declared.turns.Player.{Player}
+
+-- The player of these operations, of so many processes, over a disk whose image was x: the image was recovered, a kernel was opened over it, and nothing was handed in.
+pub record IsOpenedOver {D : Type 0} (image : FaultyDisk D → Image) (x : Image) (tasks : List Task) (processes : ℕ) (player : Player D) : Type 0 where
+  pub sound : verdict x ≡ None
+  pub recovers : image player.kernel.volume.device ≡ recovered x
+  pub volume : player.kernel.volume ≡ record { device = player.kernel.opening; buffers = fresh_buffers; log = new_log (length x); fault = None }
+  pub world : player.kernel.world ≡ fresh_world processes
+  pub numbers : player.kernel.inode_count ≡ inode_count_of x
+  pub queues : (p : ℕ) → (waiting player.kernel.intake p ≡ []) × (answers player.kernel.intake p ≡ [])
+  pub backlogs : (p : ℕ) → p < processes → backlog_at player.backlogs.items p ≡ ops_of p tasks
+
+-- The image x of a disk that had counted so many writes was recovered. A player was opened over it, which made no write, and made the turns of these words. Printed are
+-- their lines and the counts, of writes from behind the recovery on. This fault is told of the disk.
+pub record Replays {D : Type 0} (image : FaultyDisk D → Image) (count : FaultyDisk D → ℕ) (x : Image) (written : ℕ) (tasks : List Task) (processes : ℕ) (words : List Word) (stop : ℕ) (fault : Option DiskFault) (text printed : Option (List ℕ)) : Type 0 where
+  pub sound : verdict x ≡ None
+  pub player : Player D
+  pub opened : IsOpenedOver image (recovered x) tasks processes player
+  pub base : count player.kernel.volume.device ≡ counted written (writes_to_recover (logged_count x))
+  pub runs : RunsTo image count stop (count player.kernel.volume.device) words player fault text printed
