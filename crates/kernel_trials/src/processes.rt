@@ -12,7 +12,7 @@ fn a_creation_is_answered(rt: HostRuntime) -> Result<(), Fail> {
     processes.reserve()?;
     processes.create(1, 1, Ialloc::new(2, 16));
     assert!(rt; matches!(processes.at(1), At::Creating { group: 1, .. }));
-    processes.turn(1, 1, 2, Some(5));
+    processes.decide(1, 1, 2, Some(5));
     processes.commit(1);
     assert!(rt; matches!(processes.at(1), At::Committing { group: 1, .. }));
     let answer = processes.answer(1);

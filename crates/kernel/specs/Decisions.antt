@@ -11,24 +11,24 @@ use Rattle.kernel.specs.declared.types.At.TheVariants as at
 
 -- The reply at the turn of a creation that looks at block b, with the current images before and after it: a number that was free is
 -- that of a new file, or none is free in the block, which is the last one.
-abbrev pub IsTurn : ℕ → Ialloc → Image → Image → Reply → Type 0
-IsTurn n m before now (Made i) = (inode_block i ≡ m.block) × ((inode_of before i).kind ≡ 0) × HasCreated before i m.kind now
-IsTurn n m before now NoInode = (m.block ≡ inode_block (n - 1)) × HasNoFreeInode now m.block
-IsTurn n m before now (Wrote k) = ⊥
-IsTurn n m before now (Bytes bytes) = ⊥
-IsTurn n m before now Done = ⊥
-IsTurn n m before now (StatOf kind size) = ⊥
-IsTurn n m before now NoFile = ⊥
-IsTurn n m before now BadOffset = ⊥
-IsTurn n m before now TooBig = ⊥
-IsTurn n m before now TooLong = ⊥
-IsTurn n m before now BadType = ⊥
+abbrev pub IsDecision : ℕ → Ialloc → Image → Image → Reply → Type 0
+IsDecision n m before now (Made i) = (inode_block i ≡ m.block) × ((inode_of before i).kind ≡ 0) × HasCreated before i m.kind now
+IsDecision n m before now NoInode = (m.block ≡ inode_block (n - 1)) × HasNoFreeInode now m.block
+IsDecision n m before now (Wrote k) = ⊥
+IsDecision n m before now (Bytes bytes) = ⊥
+IsDecision n m before now Done = ⊥
+IsDecision n m before now (StatOf kind size) = ⊥
+IsDecision n m before now NoFile = ⊥
+IsDecision n m before now BadOffset = ⊥
+IsDecision n m before now TooBig = ⊥
+IsDecision n m before now TooLong = ⊥
+IsDecision n m before now BadType = ⊥
 
 -- after a look the creation has had its turn, or no number of the block is free
 abbrev pub IsLook : ℕ → Ialloc → Image → Image → At → Type 0
 IsLook n m before now at.Idle = ⊥
 IsLook n m before now (at.Creating group next) = HasNoFreeInode now m.block
-IsLook n m before now (at.Ending group reply) = IsTurn n m before now reply
+IsLook n m before now (at.Ending group reply) = IsDecision n m before now reply
 IsLook n m before now (at.Committing group reply) = ⊥
 
 -- a search looks at its block where it has got it
