@@ -17,12 +17,12 @@ use Rattle.player.specs.Stepping.{MakesTurn, MakesTurns, PlaysTo, RunsTo}
 use Rattle.player.specs.Turns.{IfLast, told_fault}
 
 -- the first k words had their turns, which made now of old, and none was the last
-pub record PlayedSo {D : Type 0} (image : FaultyDisk D → Image) (stop : ℕ) (words : List Word) (k : ℕ) (old now : Player D) (text printed : Option (List ℕ)) : Type 0 where
+pub record PlayedSo {D N : Type 0} (image : FaultyDisk D → Image) (stop : ℕ) (words : List Word) (k : ℕ) (old now : Player D N) (text printed : Option (List ℕ)) : Type 0 where
   pub events : List Event
   pub lines : Appends text printed (flat_map event_line events)
-  pub joins : (rest : List Event) (new : Player D) → MakesTurns image stop (drop k words) rest now new → MakesTurns image stop words (events ++ rest) old new
+  pub joins : (rest : List Event) (new : Player D N) → MakesTurns image stop (drop k words) rest now new → MakesTurns image stop words (events ++ rest) old new
 
-pub none_played : {D : Type 0} (image : FaultyDisk D → Image) (stop : ℕ) (words : List Word) (player : Player D) (text : Option (List ℕ)) → PlayedSo image stop words 0 player player text text
+pub none_played : {D N : Type 0} (image : FaultyDisk D → Image) (stop : ℕ) (words : List Word) (player : Player D N) (text : Option (List ℕ)) → PlayedSo image stop words 0 player player text text
 none_played image stop words player text = record { events = []; lines = Appends-nil text; joins = λ rest new makes. makes }
 
 -- the next word
@@ -34,7 +34,7 @@ more_printed : (text mid printed : Option (List ℕ)) (events : List Event) (eve
 more_printed text mid printed events event before line = subst (Appends text printed) (flat_map_more event_line [] events event) (Appends-trans text mid printed _ _ before line)
 
 -- one turn more
-pub one_played : {D : Type 0} (image : FaultyDisk D → Image) (stop : ℕ) (words : List Word) (k : ℕ) (old now next : Player D) (text mid printed : Option (List ℕ)) (word : Word) (event : Event) → PlayedSo image stop words k old now text mid → drop k words ≡ word ∷ drop (k + 1) words
+pub one_played : {D N : Type 0} (image : FaultyDisk D → Image) (stop : ℕ) (words : List Word) (k : ℕ) (old now next : Player D N) (text mid printed : Option (List ℕ)) (word : Word) (event : Event) → PlayedSo image stop words k old now text mid → drop k words ≡ word ∷ drop (k + 1) words
     → MakesTurn image stop word event now next → is_last event ≡ false → Appends mid printed (event_line event) → PlayedSo image stop words (k + 1) old next text printed
 one_played image stop words k old now next text mid printed word event so left turn more line = record {
   events = so.events ++ event ∷ [];
@@ -46,7 +46,7 @@ one_played image stop words k old now next text mid printed word event so left t
 }
 
 -- the last turn
-pub last_played : {D : Type 0} (image : FaultyDisk D → Image) (stop : ℕ) (words : List Word) (k : ℕ) (old now next : Player D) (text mid printed : Option (List ℕ)) (word : Word) (event : Event) → PlayedSo image stop words k old now text mid → drop k words ≡ word ∷ drop (k + 1) words
+pub last_played : {D N : Type 0} (image : FaultyDisk D → Image) (stop : ℕ) (words : List Word) (k : ℕ) (old now next : Player D N) (text mid printed : Option (List ℕ)) (word : Word) (event : Event) → PlayedSo image stop words k old now text mid → drop k words ≡ word ∷ drop (k + 1) words
     → MakesTurn image stop word event now next → is_last event ≡ true → Appends mid printed (event_line event) → PlaysTo image stop words old next text printed
 last_played image stop words k old now next text mid printed word event so left turn last line =
     let none : List Event = [] in
@@ -60,7 +60,7 @@ last_played image stop words k old now next text mid printed word event so left 
     }
 
 -- all words had their turns
-pub all_played : {D : Type 0} (image : FaultyDisk D → Image) (stop : ℕ) (words : List Word) (k : ℕ) (old now : Player D) (text printed : Option (List ℕ)) → PlayedSo image stop words k old now text printed → drop k words ≡ [] → PlaysTo image stop words old now text printed
+pub all_played : {D N : Type 0} (image : FaultyDisk D → Image) (stop : ℕ) (words : List Word) (k : ℕ) (old now : Player D N) (text printed : Option (List ℕ)) → PlayedSo image stop words k old now text printed → drop k words ≡ [] → PlaysTo image stop words old now text printed
 all_played image stop words k old now text printed so none =
     let nothing : List Event = [] in
     let ends : (nothing ≡ []) × (now ≡ now) = (refl, refl) in
@@ -71,7 +71,7 @@ all_played image stop words k old now text printed so none =
     }
 
 -- the counts behind the turns
-pub counts_printed : {D : Type 0} (image : FaultyDisk D → Image) (count : FaultyDisk D → ℕ) (stop base : ℕ) (words : List Word) (old new : Player D) (fault : Option DiskFault) (text mid printed : Option (List ℕ)) → PlaysTo image stop words old new text mid
+pub counts_printed : {D N : Type 0} (image : FaultyDisk D → Image) (count : FaultyDisk D → ℕ) (stop base : ℕ) (words : List Word) (old new : Player D N) (fault : Option DiskFault) (text mid printed : Option (List ℕ)) → PlaysTo image stop words old new text mid
     → told_fault (has_fired new.kernel.volume.device) new.kernel.volume.fault ≡ fault → Appends mid printed (counts_text (count new.kernel.volume.device - base) new.kernel.volume.log.committed) → RunsTo image count stop base words old fault text printed
 counts_printed image count stop base words old new fault text mid printed plays told counts = record {
   events = plays.events;

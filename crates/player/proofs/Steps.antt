@@ -36,7 +36,7 @@ pub moves_all : {D : Type 0} (image : D → Image) (most p n : ℕ) (k m : Plain
 moves_all image most p n k m moves all = record { moved = n; mid = m; moves = moves; ends = inr (refl, all, refl) }
 
 -- a turn of process p, call by call
-pub one_turn : {D : Type 0} (makes : Step → Plain (FaultyDisk D) → Plain (FaultyDisk D) → Type 0) (stop p : ℕ) (event : Event) (old new : Player D) (handed stepped : Plain (FaultyDisk D)) (c : List Backlog) (r : Step)
+pub one_turn : {D N : Type 0} (makes : Step → Plain (FaultyDisk D) → Plain (FaultyDisk D) → Type 0) (stop p : ℕ) (event : Event) (old new : Player D N) (handed stepped : Plain (FaultyDisk D)) (c : List Backlog) (r : Step)
     → HandsIn p old.kernel old.backlogs.items handed c → makes r handed stepped → Polls p stepped new.kernel → event ≡ event_of (has_fired stepped.volume.device) stop p r (first_in (answers stepped.intake p)) → new.backlogs.items ≡ c
     → MakesTurnOf makes stop p event old new
 one_turn makes stop p event old new handed stepped c r hands_in steps polls tells backlogs = record {

@@ -1,13 +1,16 @@
 -- Why a command over a disk wasn't done, and how the disk is then.
 use Rattle.std.specs.Prelude.{◌≡◌, ◌&&◌, ◌==◌, ℕ, false, length, None}
 use Rattle.blocks.specs.Disk.{Image, Rose}
+use Rattle.blocks.specs.declared.disk.Disk.{Ghosts}
 use Rattle.layout.specs.Cause.{IsCause}
+use Rattle.blocks.specs.Disk.{counted}
 use Rattle.layout.specs.declared.geometry.MkfsFault.TheVariants as mkfs
 use Rattle.model.specs.Codec.{made_image}
 use Rattle.model.specs.Layout.{is_inode_count, is_size}
-use Rattle.model.specs.Log.{recovered}
+use Rattle.model.specs.Log.{logged_count, recovered}
 use Rattle.model.specs.Verdict.{verdict}
 use Rattle.model.specs.declared.types.image.Form.TheVariants.{One}
+use Rattle.wal.specs.Recovery.{writes_to_recover}
 use Rattle.wal.specs.declared.faults.RecoverFault.TheVariants as recover
 use Rattle.player.specs.declared.refusal.Refusal.{Refusal}
 use Rattle.player.specs.declared.refusal.Refusal.TheVariants.{Mkfs, Check, Recover, Output}
@@ -35,3 +38,12 @@ IsUnrecovered image faults d e (Recover recover.BadLog) = ⊥
 IsUnrecovered image faults d e (Recover recover.NoMemory) = (verdict (image d) ≡ None) × (image e ≡ image d)
 IsUnrecovered image faults d e Output = (verdict (image d) ≡ None) × (image e ≡ recovered (image d))
 IsUnrecovered image faults d e _ = ⊥
+
+-- the disk of an image without a fault was recovered, with so many blocks copied, and nothing is logged any more
+pub record IsRecovered {D N : Type 0} (disk : Ghosts D N) (copied : ℕ) (old new : D) : Type 0 where
+  pub sound : verdict (disk.image old) ≡ None
+  pub count : copied ≡ logged_count (disk.image old)
+  pub image : disk.image new ≡ recovered (disk.image old)
+  pub none : logged_count (disk.image new) ≡ 0
+  pub writes : disk.write_count new ≡ counted (disk.write_count old) (writes_to_recover copied)
+  pub faults : disk.fault_count new ≡ disk.fault_count old

@@ -70,7 +70,7 @@ pub record Polls {D : Type 0} (p : ℕ) (k m : Plain D) : Type 0 where
   pub same : m ≡ record k { intake = m.intake }
 
 -- The turn of process p: its operations are handed in, its steps are made, and the event tells what they came to.
-pub record MakesTurnOf {D : Type 0} (makes : Step → Plain (FaultyDisk D) → Plain (FaultyDisk D) → Type 0) (stop p : ℕ) (event : Event) (old new : Player D) : Type 0 where
+pub record MakesTurnOf {D N : Type 0} (makes : Step → Plain (FaultyDisk D) → Plain (FaultyDisk D) → Type 0) (stop p : ℕ) (event : Event) (old new : Player D N) : Type 0 where
   pub handed : Plain (FaultyDisk D)
   pub stepped : Plain (FaultyDisk D)
   pub answer : Step
@@ -80,29 +80,29 @@ pub record MakesTurnOf {D : Type 0} (makes : Step → Plain (FaultyDisk D) → P
   pub tells : event ≡ event_of (has_fired stepped.volume.device) stop p answer (first_in (answers stepped.intake p))
 
 -- the turn of a word, where that write is stopped, makes new of old, and comes to the event
-abbrev pub MakesTurn : {D : Type 0} → (FaultyDisk D → Image) → ℕ → Word → Event → Player D → Player D → Type 0
+abbrev pub MakesTurn : {D N : Type 0} → (FaultyDisk D → Image) → ℕ → Word → Event → Player D N → Player D N → Type 0
 MakesTurn image stop (word.Step p) event old new = MakesTurnOf (MakesStep image p) stop p event old new
 MakesTurn image stop (word.Steps p) event old new = MakesTurnOf (MakesSteps image 2000 p) stop p event old new
 MakesTurn image stop word.Shutdown event old new = (event ≡ Shut) × (new.kernel ≡ with_shutdown old.kernel) × (new.backlogs ≡ old.backlogs)
 
 -- the turns of these words, one for each up to the last that is made, make new of old, and come to these events
-abbrev pub MakesTurns : {D : Type 0} → (FaultyDisk D → Image) → ℕ → List Word → List Event → Player D → Player D → Type 0
+abbrev pub MakesTurns : {D N : Type 0} → (FaultyDisk D → Image) → ℕ → List Word → List Event → Player D N → Player D N → Type 0
 MakesTurns image stop [] events old new = (events ≡ []) × (new ≡ old)
 MakesTurns image stop (first ∷ words) [] old new = ⊥
-MakesTurns {D} image stop (first ∷ words) (event ∷ events) old new =
-    (mid : Player D) × MakesTurn image stop first event old mid × IfLast (is_last event) ((events ≡ []) × (new ≡ mid)) (MakesTurns image stop words events mid new)
+MakesTurns {D} {N} image stop (first ∷ words) (event ∷ events) old new =
+    (mid : Player D N) × MakesTurn image stop first event old mid × IfLast (is_last event) ((events ≡ []) × (new ≡ mid)) (MakesTurns image stop words events mid new)
 
 -- the turns of these words make new of old, and a line was printed for each
-pub record PlaysTo {D : Type 0} (image : FaultyDisk D → Image) (stop : ℕ) (words : List Word) (old new : Player D) (text printed : Option (List ℕ)) : Type 0 where
+pub record PlaysTo {D N : Type 0} (image : FaultyDisk D → Image) (stop : ℕ) (words : List Word) (old new : Player D N) (text printed : Option (List ℕ)) : Type 0 where
   pub events : List Event
   pub makes : MakesTurns image stop words events old new
   pub lines : Appends text printed (flat_map event_line events)
 
 -- The turns of these words were made, and a line was printed for each; behind them the counts of the kernel that they made, over a disk that had counted `base`
 -- writes before. This fault is told of its disk.
-pub record RunsTo {D : Type 0} (image : FaultyDisk D → Image) (count : FaultyDisk D → ℕ) (stop base : ℕ) (words : List Word) (player : Player D) (fault : Option DiskFault) (text printed : Option (List ℕ)) : Type 0 where
+pub record RunsTo {D N : Type 0} (image : FaultyDisk D → Image) (count : FaultyDisk D → ℕ) (stop base : ℕ) (words : List Word) (player : Player D N) (fault : Option DiskFault) (text printed : Option (List ℕ)) : Type 0 where
   pub events : List Event
-  pub last : Player D
+  pub last : Player D N
   pub makes : MakesTurns image stop words events player last
   pub tells : told_fault (has_fired last.kernel.volume.device) last.kernel.volume.fault ≡ fault
   pub lines : Appends text printed (flat_map event_line events ++ counts_text (count last.kernel.volume.device - base) last.kernel.volume.log.committed)

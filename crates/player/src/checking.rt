@@ -1,7 +1,7 @@
 // A check of a disk's image, and what it prints.
 ghost use Rattle.std.specs.Prelude.{◌≡◌, ◌≢◌, OnOk, IfErr, IsOkUnless, None};
 ghost use Rattle.std.specs.Io.KnownBytes.{Appends};
-ghost use Rattle.layout.specs.Cause.{OnlyReads};
+ghost use Rattle.blocks.specs.Calls.{OnlyReads};
 ghost use Rattle.model.specs.Files.{file_count, files_of};
 ghost use Rattle.model.specs.Log.{logged_count, recovered};
 ghost use Rattle.model.specs.Verdict.{verdict};
@@ -31,7 +31,7 @@ pub fn check_disk<D: Disk, O: Write>(
     ensures sound { OnOk result (verdict (D.image disk.old) ≡ None) }
     ensures printed { OnOk result (Appends (O.contents out.old) (O.contents out.new)
         (report_text (logged_count (D.image disk.old)) (file_count (files_of (recovered (D.image disk.old)))))) }
-    ensures reads { OnlyReads D.image D.write_count D.moment D.leaves disk.old disk.new }
+    ensures reads { OnlyReads D.Disk disk.old disk.new }
     ensures refused { IfErr result (IsUnchecked D.image D.fault_count disk.old disk.new) }
     ensures silent { IfErr result (λ r. r ≢ refusal.Output → out.new ≡ out.old) }
 {

@@ -2,10 +2,8 @@
 ghost use Rattle.std.specs.Prelude.{◌≡◌, ◌≢◌, OnOk, IfErr, IsOkUnless};
 ghost use Rattle.std.specs.Io.KnownBytes.{Appends};
 ghost use Rattle.blocks.specs.Disk.{LeavesOnly};
-ghost use Rattle.layout.specs.Making.{MakesSuperLast, counted};
-ghost use Rattle.model.specs.Codec.{made_image};
+ghost use Rattle.layout.specs.Making.{IsMadeInPart, Makes};
 ghost use Rattle.model.specs.Layout.{planned_super};
-ghost use Rattle.model.specs.declared.types.image.Form.TheVariants.{One};
 ghost use Rattle.player.specs.declared.refusal.Refusal.TheVariants as refusal;
 ghost use Rattle.player.specs.Output.{numbers_text};
 ghost use Rattle.player.specs.Causes.{IsUnmade};
@@ -31,12 +29,12 @@ pub fn make_disk<D: Disk, O: Write>(
     ninodes: u32,
     out: &mut O,
 ) -> Result<(), Refusal>
-    ensures image { OnOk result (D.image disk.new ≡ made_image One size ninodes) }
-    ensures writes { OnOk result (D.write_count disk.new ≡ counted (D.write_count disk.old) size) }
+    ensures made { OnOk result (Makes D.Disk size ninodes disk.old disk.new) }
+    ensures name { D.name disk.new ≡ D.name disk.old }
     ensures printed { OnOk result (Appends (O.contents out.old) (O.contents out.new) (numbers_text (planned_super size ninodes))) }
     ensures refused { IfErr result (IsUnmade D.image D.fault_count size ninodes disk.old disk.new) }
     ensures silent { IfErr result (λ r. r ≢ refusal.Output → out.new ≡ out.old) }
-    ensures order { LeavesOnly D.moment D.leaves disk.old disk.new (MakesSuperLast (D.image disk.old) size ninodes) }
+    ensures order { LeavesOnly D.moment D.leaves disk.old disk.new (IsMadeInPart (D.image disk.old) size ninodes) }
 {
     let fields = plan(size, ninodes).map_err(Refusal::Mkfs)?;
     mkfs(alloc, disk, size, ninodes).map_err(Refusal::Mkfs)?;

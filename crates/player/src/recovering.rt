@@ -1,13 +1,11 @@
 // A recovery of a disk's image, and what it prints.
-ghost use Rattle.std.specs.Prelude.{◌≡◌, ◌≢◌, None, IfOk, OnOk, IfErr, IsOkUnless};
+ghost use Rattle.std.specs.Prelude.{◌≡◌, ◌≢◌, IfOk, OnOk, IfErr, IsOkUnless};
 ghost use Rattle.std.specs.Io.KnownBytes.{Appends};
 ghost use Rattle.blocks.specs.Disk.{LeavesOnly};
-ghost use Rattle.layout.specs.Making.{counted};
-ghost use Rattle.model.specs.Log.{logged_count, recovered};
-ghost use Rattle.model.specs.Verdict.{verdict};
-ghost use Rattle.wal.specs.Recovery.{RecoversAs, writes_to_recover};
+ghost use Rattle.model.specs.Log.{logged_count};
+ghost use Rattle.wal.specs.Recovery.{RecoversAs};
 ghost use Rattle.player.specs.declared.refusal.Refusal.TheVariants as refusal;
-ghost use Rattle.player.specs.Causes.{IsUnrecovered};
+ghost use Rattle.player.specs.Causes.{IsRecovered, IsUnrecovered};
 ghost use Rattle.player.specs.Output.{copied_text};
 
 use crate::output::print_last;
@@ -33,10 +31,8 @@ pub fn recover_disk<D: Disk, O: Write>(
     disk: &mut D,
     out: &mut O,
 ) -> Result<(), Refusal>
-    ensures sound { OnOk result (verdict (D.image disk.old) ≡ None) }
-    ensures image { OnOk result (D.image disk.new ≡ recovered (D.image disk.old)) }
-    ensures writes { OnOk result (D.write_count disk.new
-        ≡ counted (D.write_count disk.old) (writes_to_recover (logged_count (D.image disk.old)))) }
+    ensures recovered { OnOk result (IsRecovered D.Disk (logged_count (D.image disk.old)) disk.old disk.new) }
+    ensures name { D.name disk.new ≡ D.name disk.old }
     ensures printed { OnOk result (Appends (O.contents out.old) (O.contents out.new) (copied_text (logged_count (D.image disk.old)))) }
     ensures refused { IfErr result (IsUnrecovered D.image D.fault_count disk.old disk.new) }
     ensures silent { IfErr result (λ r. r ≢ refusal.Output → out.new ≡ out.old) }
@@ -52,11 +48,8 @@ pub fn recover_disk<D: Disk, O: Write>(
 ///
 /// As of `recover_disk`, but for `Output`.
 pub fn recover_image<D: Disk>(alloc: Global, disk: &mut D) -> Result<u32, Refusal>
-    ensures sound { OnOk result (verdict (D.image disk.old) ≡ None) }
-    ensures image { OnOk result (D.image disk.new ≡ recovered (D.image disk.old)) }
-    ensures none { OnOk result (logged_count (D.image disk.new) ≡ 0) }
-    ensures count { IfOk result (λ copied. copied ≡ logged_count (D.image disk.old)) }
-    ensures writes { IfOk result (λ copied. D.write_count disk.new ≡ counted (D.write_count disk.old) (writes_to_recover copied)) }
+    ensures ok { IfOk result (λ copied. IsRecovered D.Disk copied disk.old disk.new) }
+    ensures name { D.name disk.new ≡ D.name disk.old }
     ensures refused { IfErr result (IsUnrecovered D.image D.fault_count disk.old disk.new) }
     ensures output { IfErr result (λ r. r ≢ refusal.Output) }
     ensures any_moment { LeavesOnly D.moment D.leaves disk.old disk.new (RecoversAs (D.image disk.old)) }

@@ -1,12 +1,12 @@
 // A script's operations over a disk, in the turns of a schedule.
 ghost use Rattle.std.specs.Prelude.{◌≡◌, ◌<◌, length, All, IsTrue, IfOk, OnOk, IfErr, None, unwrap_or};
 ghost use Rattle.std.specs.List.{list_all};
-ghost use Rattle.layout.specs.Making.{counted};
+ghost use Rattle.blocks.specs.Disk.{counted};
 ghost use Rattle.model.specs.Log.{logged_count, recovered};
 ghost use Rattle.model.specs.Verdict.{verdict};
 ghost use Rattle.scripts.specs.Schedule.{is_word_of};
 ghost use Rattle.wal.specs.Recovery.{writes_to_recover};
-ghost use Rattle.player.specs.Opening.{IsOpenedOver, Replays};
+ghost use Rattle.player.specs.Opening.{IsArmed, IsOpenedOver, Replays};
 ghost use Rattle.player.specs.Refusal.{IsOfReplay, IsOpening, OnRefusal};
 ghost use Rattle.player.specs.Stepping.{fault_in};
 
@@ -39,10 +39,10 @@ pub fn replay_disk<D: Disk + Drop, O: Write>(
 ) -> Result<(), Refusal>
     requires tasks { All (λ task. task.pid < processes) tasks.items }
     requires words { IsTrue (list_all (is_word_of processes) words.now) }
-    ensures printed { OnOk result (Replays ⟦<FaultyDisk<D> as Disk>⟧.image ⟦<FaultyDisk<D> as Disk>⟧.write_count
+    ensures printed { OnOk result (Replays ⟦<FaultyDisk<D> as Disk>⟧
         (D.image disk) (D.write_count disk) tasks.items processes words.now (unwrap_or stop 0) None (O.contents out.old) (O.contents out.new)) }
     ensures refused { IfErr result (λ r. OnRefusal r
-        (Replays ⟦<FaultyDisk<D> as Disk>⟧.image ⟦<FaultyDisk<D> as Disk>⟧.write_count
+        (Replays ⟦<FaultyDisk<D> as Disk>⟧
         (D.image disk) (D.write_count disk) tasks.items processes words.now (unwrap_or stop 0) (fault_in r) (O.contents out.old) (O.contents out.new))
         (out.new ≡ out.old)) }
     ensures layers { IfErr result IsOfReplay }
@@ -67,6 +67,7 @@ fn open_recovered<D: Disk + Drop>(
     ensures processes { IfOk result (λ made. length made.0.kernel.world.processes ≡ processes) }
     ensures base { IfOk result (λ made. made.1 ≡ ⟦<FaultyDisk<D> as Disk>⟧.write_count made.0.kernel.volume.device) }
     ensures writes { IfOk result (λ made. made.1 ≡ counted (D.write_count disk) (writes_to_recover (logged_count (D.image disk)))) }
+    ensures armed { IfOk result (λ made. IsArmed ⟦<FaultyDisk<D> as Disk>⟧ stop made.0.kernel.volume.device) }
     ensures refused { IfErr result IsOpening }
 {
     recover_image(alloc, &mut disk)?;

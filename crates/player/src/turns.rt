@@ -1,14 +1,14 @@
 // The turns of a schedule, over a kernel with a script's operations.
 ghost use Rattle.std.specs.Prelude.{◌≡◌, ◌-◌, ◌<◌, All, IsTrue, length, IfOk, IfErr};
 ghost use Rattle.blocks.specs.FaultyDisk.{has_fired};
-ghost use Rattle.layout.specs.Making.{counted};
+ghost use Rattle.blocks.specs.Disk.{counted};
 ghost use Rattle.model.specs.Log.{logged_count};
 ghost use Rattle.ports.specs.History.{first_in};
 ghost use Rattle.ports.specs.Queues.{answers};
 ghost use Rattle.scripts.specs.Schedule.{is_word_of};
 ghost use Rattle.wal.specs.Recovery.{writes_to_recover};
 ghost use Rattle.player.specs.Stepping.{MakesStep, MakesSteps, HandsIn, Polls, MakesTurnOf, MakesTurn};
-ghost use Rattle.player.specs.Opening.{IsOpenedOver};
+ghost use Rattle.player.specs.Opening.{IsArmed, IsOpenedOver};
 ghost use Rattle.player.specs.Refusal.{IsOpening};
 ghost use Rattle.player.specs.Turns.{event_of, told_fault};
 
@@ -64,6 +64,7 @@ pub fn open_player<D: Disk + Drop>(
     ensures processes { IfOk result (λ player. length player.kernel.world.processes ≡ processes) }
     ensures writes { IfOk result (λ player. ⟦<FaultyDisk<D> as Disk>⟧.write_count player.kernel.volume.device
         ≡ counted (D.write_count disk) (writes_to_recover (logged_count (D.image disk)))) }
+    ensures armed { IfOk result (λ player. logged_count (D.image disk) ≡ 0 → IsArmed ⟦<FaultyDisk<D> as Disk>⟧ stop player.kernel.volume.device) }
     ensures refused { IfErr result IsOpening }
 {
     let backlogs = backlogs_of(alloc, tasks, processes)

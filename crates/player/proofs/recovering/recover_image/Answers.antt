@@ -32,8 +32,8 @@ returns-in-Err-clause-refused g c =
 
 pub returns-in-Err-clause-any_moment : goal.returns-in-Err-clause-any_moment
 returns-in-Err-clause-any_moment g c =
-    opened_leaves g.D.Disk.image g.D.Disk.write_count g.D.Disk.moment g.D.Disk.leaves g.met.D.Disk.only_now c.args.disk.now c.check.new.disk c.recover.new.disk c.check.ensures.reads c.recover.ensures.any_moment
+    opened_leaves g.D.Disk g.met.D.Disk.only_now c.args.disk.now c.check.new.disk c.recover.new.disk c.check.ensures.reads c.recover.ensures.any_moment
 
 pub returns-in-Ok-clause-any_moment : goal.returns-in-Ok-clause-any_moment
 returns-in-Ok-clause-any_moment g c =
-    opened_leaves g.D.Disk.image g.D.Disk.write_count g.D.Disk.moment g.D.Disk.leaves g.met.D.Disk.only_now c.args.disk.now c.check.new.disk c.recover.new.disk c.check.ensures.reads c.recover.ensures.any_moment
+    opened_leaves g.D.Disk g.met.D.Disk.only_now c.args.disk.now c.check.new.disk c.recover.new.disk c.check.ensures.reads c.recover.ensures.any_moment

@@ -14,7 +14,7 @@ pub returns-clause-printed : goal.returns-clause-printed
 returns-clause-printed g c =
     let made = c.in_ok-player.ensures in
     on_ok_weaker c.run.result
-    (replayed _ _ _ _ _ _ _ _ c.unwrap_or-stop.result _ c.in_ok-player.player _ (g.O.Write.contents c.args.out.now) (g.O.Write.contents c.run.new.out) made.sound made.opened made.base made.writes c.unwrap_or-stop.ensures)
+    (replayed _ _ _ _ _ _ _ c.unwrap_or-stop.result _ c.in_ok-player.player _ (g.O.Write.contents c.args.out.now) (g.O.Write.contents c.run.new.out) made.sound made.opened made.base made.writes made.armed c.unwrap_or-stop.ensures)
     c.run.ensures.printed
 
 pub returns-clause-refused : goal.returns-clause-refused
@@ -22,6 +22,6 @@ returns-clause-refused g c =
     let made = c.in_ok-player.ensures in
     IfErr-weaker c.run.result _ _
     (λ r. on_refusal r _ _ _ _
-    (replayed _ _ _ _ _ _ _ _ c.unwrap_or-stop.result _ c.in_ok-player.player _ (g.O.Write.contents c.args.out.now) (g.O.Write.contents c.run.new.out) made.sound made.opened made.base made.writes c.unwrap_or-stop.ensures)
+    (replayed _ _ _ _ _ _ _ c.unwrap_or-stop.result _ c.in_ok-player.player _ (g.O.Write.contents c.args.out.now) (g.O.Write.contents c.run.new.out) made.sound made.opened made.base made.writes made.armed c.unwrap_or-stop.ensures)
     (λ none. absurd none))
     c.run.ensures.refused
