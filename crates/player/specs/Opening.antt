@@ -7,8 +7,8 @@ use Rattle.blocks.specs.declared.disk.Disk.{Ghosts}
 use Rattle.blocks.specs.declared.faulty.FaultyDisk.{FaultyDisk}
 use Rattle.blocks.specs.declared.faulty.Kind.TheVariants.{WriteOld}
 use Rattle.blocks.specs.declared.faulty.Trap.{Trap}
-use Rattle.bcache.specs.Buffers.{fresh as fresh_buffers}
-use Rattle.kernel.specs.Processes.{fresh as fresh_world}
+use Rattle.bcache.specs.Buffers.{fresh_buffers}
+use Rattle.kernel.specs.Processes.{fresh_world}
 use Rattle.blocks.specs.Disk.{counted}
 use Rattle.model.specs.Layout.{inode_count_of}
 use Rattle.model.specs.Log.{logged_count, recovered}
