@@ -10,7 +10,7 @@ use Rattle.bcache.specs.Current.{is_number_in, is_of, references_of}
 use Rattle.bcache.specs.Order.{IsOrder, first_order, moved_to_front}
 use Rattle.bcache.specs.declared.types.Busy.TheVariants as busy
 use Rattle.bcache.specs.declared.types.Acquired.TheVariants as acquired
-use Rattle.bcache.specs.Buffers.{Buffers, empty_buffer, buffer, with_buffer, found, victim, taken, released, after_lock, after_take, after_acquire, after_acquire_by, lock_answer, take_answer, answer_by, fresh, IsOnce, IsCache}
+use Rattle.bcache.specs.Buffers.{Buffers, empty_buffer, buffer, with_buffer, found, victim, taken, released, after_lock, after_take, after_acquire, after_acquire_by, lock_answer, take_answer, answer_by, fresh_buffers, IsOnce, IsCache}
 use Rattle.bcache.specs.Laws.{AreAllInUse, NoBufferIsFull, IsLastUnused, TakesLastUnused, KeepsCopy, ReferencedIsKept, CallsKeepCache}
 use Rattle.bcache.proofs.OrderLemmas.{none_passes, order_moved, order_first, slot_below, has_place, victim_none, victim_last, victim_unused, victim_below}
 
@@ -136,14 +136,14 @@ empty_at zero j = refl
 empty_at (suc n) zero = refl
 empty_at (suc n) (suc j) = empty_at n j
 
-pub cache_fresh : IsCache fresh
+pub cache_fresh : IsCache fresh_buffers
 cache_fresh = record {
   size = length-replicate 40 empty_buffer;
   order = order_first;
   once = record { same = λ i j b hi hj. absurd (false≢true (sym (ap (is_of b) (empty_at 40 i)) ∙ hi)) };
 }
 
-pub fresh_from : (ss : List Buffer) (o : List ℕ) (n : ℕ) → ss ≡ replicate n empty_buffer → 40 ≤ n → n ≤ 40 → o ≡ first_order → record { slots = ss; order = o } ≡ fresh
+pub fresh_from : (ss : List Buffer) (o : List ℕ) (n : ℕ) → ss ≡ replicate n empty_buffer → 40 ≤ n → n ≤ 40 → o ≡ first_order → record { slots = ss; order = o } ≡ fresh_buffers
 fresh_from ss o n made low high order =
     let all : n ≡ 40 = omega (arith, low, high) in
     ap (λ (ts : List Buffer). let c : Buffers = record { slots = ts; order = o } in c) (made ∙ ap (λ (m : ℕ). replicate m empty_buffer) all)

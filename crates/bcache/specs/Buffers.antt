@@ -35,8 +35,8 @@ pub record IsCache (c : Buffers) : Type 0 where
   pub once : IsOnce c
 
 -- 40 slots that were never taken
-abbrev pub fresh : Buffers
-fresh = record { slots = replicate buffer_count empty_buffer; order = first_order }
+abbrev pub fresh_buffers : Buffers
+fresh_buffers = record { slots = replicate buffer_count empty_buffer; order = first_order }
 
 -- the slot of a block
 abbrev pub found : Buffers → ℕ → Option ℕ

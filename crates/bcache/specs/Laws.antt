@@ -6,7 +6,7 @@ use Rattle.bcache.specs.Current.{references_of, shows, current}
 use Rattle.bcache.specs.Order.{buffer_count}
 use Rattle.bcache.specs.declared.types.Busy.TheVariants as busy
 use Rattle.bcache.specs.declared.types.Acquired.TheVariants as acquired
-use Rattle.bcache.specs.Buffers.{Buffers, buffer, IsCache, found, acquire_answer, locked, taken, filled, changed, released, pinned, unpinned, after_acquire, fresh}
+use Rattle.bcache.specs.Buffers.{Buffers, buffer, IsCache, found, acquire_answer, locked, taken, filled, changed, released, pinned, unpinned, after_acquire, fresh_buffers}
 
 -- the same block with the same bytes, and as many pins
 pub record KeepsCopy (old new : Buffer) : Type 0 where
@@ -98,4 +98,4 @@ abbrev pub CallsKeepCache : Type 0
 CallsKeepCache = (c : Buffers) (pid b i : ℕ) (bytes : List ℕ) → IsCache c → i < buffer_count → StaysCache c pid b i bytes
 
 abbrev pub FreshIsCache : Type 0
-FreshIsCache = IsCache fresh
+FreshIsCache = IsCache fresh_buffers

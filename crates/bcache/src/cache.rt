@@ -6,7 +6,7 @@ ghost use Rattle.blocks.specs.Calls.{OnlyReads};
 ghost use Rattle.blocks.specs.Disk.{CountsFault, block_at};
 ghost use Rattle.blocks.specs.contracts.block.Block.{the_row as block_row};
 ghost use Rattle.bcache.specs.Current.{is_of};
-ghost use Rattle.bcache.specs.Buffers.{IsCache, buffer, found, victim, acquire_answer, after_acquire, taken, filled, changed, released, pinned, unpinned, lock_answer, after_lock, take_answer, after_take, block_or_zero, EndsUnfilled, fresh, empty_buffer};
+ghost use Rattle.bcache.specs.Buffers.{IsCache, buffer, found, victim, acquire_answer, after_acquire, taken, filled, changed, released, pinned, unpinned, lock_answer, after_lock, take_answer, after_take, block_or_zero, EndsUnfilled, fresh_buffers, empty_buffer};
 ghost use Rattle.bcache.specs.contracts.cache.Cache.{the_row};
 
 use crate::order::Order;
@@ -45,7 +45,7 @@ impl Cache {
     ///
     /// `NoMemory` where the allocator refuses the slots or one of their blocks.
     pub fn new(alloc: Global) -> Result<Cache, NoMemory>
-        ensures { IfOk result (λ cache. cache ≡ fresh) }
+        ensures { IfOk result (λ cache. cache ≡ fresh_buffers) }
     {
         let mut buffers = Vec::new(alloc);
         for slot in 0..SLOTS {

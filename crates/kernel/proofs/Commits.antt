@@ -14,7 +14,7 @@ use Rattle.wal.specs.Joint.{written_at, written_cache}
 use Rattle.wal.specs.Step.{Stepped, answer_at}
 use Rattle.kernel.specs.declared.types.At.{At}
 use Rattle.kernel.specs.declared.types.At.TheVariants as at
-use Rattle.kernel.specs.Processes.{World, process, answered}
+use Rattle.kernel.specs.Processes.{World, process, idle_again}
 use Rattle.kernel.specs.Table.{IsTable, is_committing_at}
 use Rattle.kernel.proofs.Events.{table_written, table_done}
 
@@ -78,10 +78,10 @@ module _ (h : List ℕ) (x y : Image) (c d : Buffers) (l m : LogState) (n p : �
       subst (λ (e : Buffers). IsTable e m n w) (sym made.cache) (subst (λ (o : LogState). IsTable (written_cache l.commit l.homes c) o n w) (sym made.log)
       (table_written c l n p here.group here.reply w table lt here.is (goes_on l.commit l l.opened busy more)))
 
-  pub table_last : (v : World) → v ≡ answered w p → IsTable d m n v
+  pub table_last : (v : World) → v ≡ idle_again w p → IsTable d m n v
   table_last v is =
       let here = commits_at (process w p).at mine in
-      subst (λ (o : World). IsTable d m n o) (sym is) (subst (λ (e : Buffers). IsTable e m n (answered w p)) (sym made.cache) (subst (λ (o : LogState). IsTable (written_cache l.commit l.homes c) o n (answered w p)) (sym made.log)
+      subst (λ (o : World). IsTable d m n o) (sym is) (subst (λ (e : Buffers). IsTable e m n (idle_again w p)) (sym made.cache) (subst (λ (o : LogState). IsTable (written_cache l.commit l.homes c) o n (idle_again w p)) (sym made.log)
       (table_done c l n p here.group here.reply w table lt here.is)))
 
   pub committed_same : ((k : ℕ) → answer_at l.commit l.opened ≡ committed.Durable k → ⊥) → m.committed ≡ l.committed

@@ -10,7 +10,7 @@ use Rattle.wal.specs.Volume.{VolumeState}
 use Rattle.wal.proofs.LogLemmas.{some_open, quiet_of}
 use Rattle.kernel.specs.declared.types.At.{At}
 use Rattle.kernel.specs.declared.types.At.TheVariants as at
-use Rattle.kernel.specs.Processes.{World, process, committing, answered}
+use Rattle.kernel.specs.Processes.{World, process, committing, idle_again}
 use Rattle.kernel.specs.Table.{Stands, IsTable, is_ending_at}
 use Rattle.kernel.proofs.Logging.{open_now}
 use Rattle.kernel.proofs.Events.{commits_now, table_commits, table_left}
@@ -34,10 +34,10 @@ module _ {D : Type 0} (v u : VolumeState D) (n p : ℕ) (w x : World) (table : I
       subst (λ (o : World). IsTable u.buffers u.log n o) (sym goes) (subst (λ (o : VolumeState D). IsTable o.buffers o.log n (committing w p)) (sym over)
       (table_commits v.buffers v.log n p here.group here.reply w table is lt here.is (sym last)))
 
-  pub table_end_left : x ≡ answered w p → IsTable u.buffers u.log n x
+  pub table_end_left : x ≡ idle_again w p → IsTable u.buffers u.log n x
   table_end_left goes =
       let here = ends_at (process w p).at mine in
-      subst (λ (o : World). IsTable u.buffers u.log n o) (sym goes) (subst (λ (o : VolumeState D). IsTable o.buffers o.log n (answered w p)) (sym over)
+      subst (λ (o : World). IsTable u.buffers u.log n o) (sym goes) (subst (λ (o : VolumeState D). IsTable o.buffers o.log n (idle_again w p)) (sym over)
       (table_left v.buffers v.log n p here.group here.reply w table is lt here.is))
 
   pub committed_before : ended_as.Commit ≡ end_answer v.log → u.log.committed ≡ v.log.committed

@@ -21,7 +21,7 @@ use Rattle.inodes.specs.Ialloc.{at_slot, at_next_block, is_last_block}
 use Rattle.kernel.specs.declared.types.At.{At}
 use Rattle.kernel.specs.declared.types.At.TheVariants as at
 use Rattle.kernel.specs.declared.types.Process.{Process}
-use Rattle.kernel.specs.Processes.{World, process, idle, with_place, creating, searching, turned, entry_of, committing, committing_at, answered}
+use Rattle.kernel.specs.Processes.{World, process, idle, with_place, creating, searching, turned, entry_of, committing, committing_at, idle_again}
 use Rattle.kernel.specs.Table.{HasSlot, IsSearching, Stands, IsTable, is_committing_at, is_searching_at, slot_at}
 use Rattle.kernel.proofs.Holding.{HeldAs, held_same, held_released, locks_then, locks_noted, slots_noted, locks_changed, locks_written, OthersHold, others_same, others_released, others_changed, others_noted, others_then, others_written, noted_holder}
 use Rattle.wal.proofs.VolumeLemmas.{changed_lock}
@@ -92,7 +92,7 @@ table_begun c l n p kind w table is lt stands free is_kind = table_goes c c l (b
   opened = let more = opened_more l p in omega (arith, more, table.counted.opened);
 })
 
--- an operation is answered at once: its entry is in the journal, and nothing else happened
+-- an operation is idle_again at once: its entry is in the journal, and nothing else happened
 pub table_at_once : (c : Buffers) (l : LogState) (n p : ℕ) (w v : World) (t : Process) → IsTable c l n w → p < length w.processes → (process w p).at ≡ at.Idle → t.at ≡ at.Idle
     → t.begun ≡ (process w p).begun + 1 → v.processes ≡ set w.processes p t → v.journal.room ≡ w.journal.room → length v.journal.list ≡ length w.journal.list + 1 → IsTable c l n v
 table_at_once c l n p w v t table lt stands stays one is room longer = table_goes c c l l n p w v at.Idle t (record {
@@ -233,7 +233,7 @@ ended_opened l p = by_last (eqb l.outstanding 1) (eqb (length l.homes) 0)
 
 -- an operation ends, and others of its group are open, or the group logged nothing
 pub table_left : (c : Buffers) (l : LogState) (n p group : ℕ) (reply : Reply) (w : World) → IsTable c l n w → IsLog l → p < length w.processes → (process w p).at ≡ at.Ending group reply
-    → IsTable c (ended l p) n (answered w p)
+    → IsTable c (ended l p) n (idle_again w p)
 table_left c l n p group reply w table is lt stands =
     let s = subst (λ (a : At). Stands c l n p a) stands (table.stands p) in
     let has = some_open (used_by l p) s.0 in
@@ -335,7 +335,7 @@ table_written c l n p group reply w table lt stands busy =
 
 -- the last write of a commit
 pub table_done : (c : Buffers) (l : LogState) (n p group : ℕ) (reply : Reply) (w : World) → IsTable c l n w → p < length w.processes → (process w p).at ≡ at.Committing group reply
-    → IsTable (written_cache l.commit l.homes c) (written_at l.commit l) n (answered w p)
+    → IsTable (written_cache l.commit l.homes c) (written_at l.commit l) n (idle_again w p)
 table_done c l n p group reply w table lt stands =
     let s = subst (λ (a : At). Stands c l n p a) stands (table.stands p) in
     let same = written_same l.commit l in

@@ -21,7 +21,7 @@ use Rattle.kernel.specs.Keeps.{Recovers}
 use Rattle.kernel.specs.declared.types.Process.{Process}
 use Rattle.kernel.specs.Processes.{World, process, made_reply, searching, turned}
 use Rattle.kernel.specs.Table.{IsSearching, Stands, IsTable}
-use Rattle.kernel.specs.Turns.{LooksIn, HasLooked}
+use Rattle.kernel.specs.Decisions.{LooksIn, HasLooked}
 use Rattle.kernel.proofs.Places.{there_now}
 use Rattle.kernel.proofs.Keeping.{IsOpen, open_of, empty_now, found_at, free_now}
 use Rattle.kernel.proofs.Recovers.{count_now, sound_now}

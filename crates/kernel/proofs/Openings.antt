@@ -22,7 +22,7 @@ use Rattle.model.specs.Lemmas.Recovery.{logged_count-left}
 use Rattle.model.specs.Lemmas.Super.{super_of-recovered}
 use Rattle.model.specs.Lemmas.Soundness.{verdict_sound, sound_verdict, facts_of, long_geometry}
 use Rattle.bcache.specs.declared.types.Buffer.{Buffer}
-use Rattle.bcache.specs.Buffers.{buffer, empty_buffer, fresh as fresh_buffers}
+use Rattle.bcache.specs.Buffers.{buffer, empty_buffer, fresh_buffers}
 use Rattle.wal.specs.Machine.{new_log, used_by}
 use Rattle.wal.specs.Volume.{VolumeState}
 use Rattle.wal.proofs.LawfulLogs.{empty_lawful}
@@ -32,8 +32,8 @@ use Rattle.wal.specs.declared.faults.RecoverFault.{RecoverFault}
 use Rattle.wal.specs.declared.faults.RecoverFault.TheVariants as recover
 use Rattle.kernel.specs.declared.types.Process.{Process}
 use Rattle.kernel.specs.Opening.{IsRecoverCause}
-use Rattle.kernel.specs.Processes.{World, process, idle, fresh}
-use Rattle.ports.specs.History.{History, fresh as nothing_yet}
+use Rattle.kernel.specs.Processes.{World, process, idle, fresh_world}
+use Rattle.ports.specs.History.{History, nothing_yet}
 use Rattle.kernel.specs.Histories.{pending_at, owed_at, HasHistory}
 use Rattle.kernel.specs.Keeps.{HasFilesAfter, cleared, IsJournal, Recovers}
 use Rattle.kernel.specs.State.{HasNumbers, is_under_way_at}
@@ -95,7 +95,7 @@ same_at : {A : Type 0} (n p : ℕ) (a : A) → get_or (replicate n a) p a ≡ a
 same_at {A} n p a = ⊎_elim (λ (low : p < n). get_or-replicate n p a a low) (λ (high : n ≤ p). get_or_past (replicate n a) p a (omega (arith, length-replicate {A = A} n a))) (cases_lt p n)
 
 -- every process is idle
-idle_at : (n p : ℕ) → process (fresh n) p ≡ idle
+idle_at : (n p : ℕ) → process (fresh_world n) p ≡ idle
 idle_at n p = same_at n p idle
 
 none_used : (size p : ℕ) → used_by (new_log size) p ≡ None
@@ -111,7 +111,7 @@ mul_zero n = omega arith
 none_searches : (n : ℕ) → count_by (λ (q : Process). is_searching_at q.at) (replicate n idle) ≡ 0
 none_searches n = sum_by-replicate (λ (q : Process). cond {A = ℕ} (is_searching_at q.at) 1 0) n idle ∙ mul_zero n
 
-pub table_opened : (x : Image) (sup : Super) (n : ℕ) → verdict x ≡ None → sup ≡ super_of x → n ≤ 32 → IsTable fresh_buffers (new_log (length x)) sup.ninodes (fresh n)
+pub table_opened : (x : Image) (sup : Super) (n : ℕ) → verdict x ≡ None → sup ≡ super_of x → n ≤ 32 → IsTable fresh_buffers (new_log (length x)) sup.ninodes (fresh_world n)
 table_opened x sup n none is few =
     let f = facts_of x (verdict_sound x none).0 in
     let count : sup.ninodes ≡ (super_of x).ninodes = ap (λ (s : Super). s.ninodes) is in
@@ -130,23 +130,23 @@ table_opened x sup n none is few =
       };
     }
 
-pub rooms_opened : (n : ℕ) (has_room : ℕ → Bool) → (p : ℕ) → is_under_way_at (process (fresh n) p).at ≡ true → has_room p ≡ true
+pub rooms_opened : (n : ℕ) (has_room : ℕ → Bool) → (p : ℕ) → is_under_way_at (process (fresh_world n) p).at ≡ true → has_room p ≡ true
 rooms_opened n has_room p under = absurd (false≢true (sym (ap (λ (r : Process). is_under_way_at r.at) (idle_at n p)) ∙ under))
 
 -- the volume of a kernel that is opened, with its disk and its size by other names
 pub volume_same : {D : Type 0} (d e : D) (a b : ℕ) → e ≡ d → a ≡ b → opened_volume d a ≡ opened_volume e b
 volume_same d e a b is same = ap (λ f. opened_volume f a) (sym is) ∙ ap (opened_volume e) same
 
-pub opened_table : {D : Type 0} (v : VolumeState D) (d : D) (x : Image) (sup : Super) (size n : ℕ) (w : World) → v ≡ opened_volume d size → size ≡ length x → w ≡ fresh n
+pub opened_table : {D : Type 0} (v : VolumeState D) (d : D) (x : Image) (sup : Super) (size n : ℕ) (w : World) → v ≡ opened_volume d size → size ≡ length x → w ≡ fresh_world n
     → verdict x ≡ None → sup ≡ super_of x → n ≤ 32 → IsTable v.buffers v.log sup.ninodes w
 opened_table v d x sup size n w is same new none of few =
     subst (λ (o : VolumeState _). IsTable o.buffers o.log sup.ninodes w) (sym (is ∙ ap (opened_volume d) same))
     (subst (λ (o : World). IsTable fresh_buffers (new_log (length x)) sup.ninodes o) (sym new) (table_opened x sup n none of few))
 
-pub opened_count : (n : ℕ) (w : World) → w ≡ fresh n → length w.processes ≡ n
+pub opened_count : (n : ℕ) (w : World) → w ≡ fresh_world n → length w.processes ≡ n
 opened_count n w is = ap (λ (o : World). length o.processes) is ∙ length-replicate {A = Process} n idle
 
-pub opened_rooms : (n : ℕ) (w : World) (has_room : ℕ → Bool) → w ≡ fresh n → (p : ℕ) → is_under_way_at (process w p).at ≡ true → has_room p ≡ true
+pub opened_rooms : (n : ℕ) (w : World) (has_room : ℕ → Bool) → w ≡ fresh_world n → (p : ℕ) → is_under_way_at (process w p).at ≡ true → has_room p ≡ true
 opened_rooms n w has_room is p under = rooms_opened n has_room p (ap (λ (o : World). is_under_way_at (process o p).at) (sym is) ∙ under)
 
 -- as many inode numbers as the image that was checked
@@ -157,7 +157,7 @@ opened_numbers x y sup none new is =
     record { same = ap (λ (s : Super). s.ninodes) (new ∙ sym (super_of-recovered x sound.1 (omega (arith, long)))) ∙ sym (ap inode_count_of is) }
 
 -- nothing was done yet, and nothing is logged
-pub opened_recovers : {D : Type 0} (image : D → Image) (v : VolumeState D) (d : D) (x y : Image) (size n : ℕ) (w : World) → v ≡ opened_volume d size → w ≡ fresh n → verdict x ≡ None → image d ≡ recovered x → y ≡ image d
+pub opened_recovers : {D : Type 0} (image : D → Image) (v : VolumeState D) (d : D) (x y : Image) (size n : ℕ) (w : World) → v ≡ opened_volume d size → w ≡ fresh_world n → verdict x ≡ None → image d ≡ recovered x → y ≡ image d
     → Recovers y (image v.device) v.buffers v.log w.journal.list
 opened_recovers image v d x y size n w is new none left same =
     subst (λ (o : World). Recovers y (image v.device) v.buffers v.log o.journal.list) (sym new)
@@ -174,12 +174,12 @@ opened_recovers image v d x y size n w is new none left same =
     empty : logged_count (image d) ≡ 0
     empty = ap logged_count left ∙ logged_count-left x
 
-pub opened_journal : {D : Type 0} (v : VolumeState D) (d : D) (y : Image) (size n : ℕ) (w : World) → v ≡ opened_volume d size → w ≡ fresh n → IsJournal y v.log.opened w.journal.list
+pub opened_journal : {D : Type 0} (v : VolumeState D) (d : D) (y : Image) (size n : ℕ) (w : World) → v ≡ opened_volume d size → w ≡ fresh_world n → IsJournal y v.log.opened w.journal.list
 opened_journal v d y size n w is new =
     subst (λ (o : World). IsJournal y v.log.opened o.journal.list) (sym new) (subst (λ (o : VolumeState _). IsJournal y o.log.opened []) (sym is) (journal_none y))
 
 -- nothing was taken, and nothing given
-pub opened_histories : (fits : ℕ → History → Type 0) (n : ℕ) (w : World) → w ≡ fresh n → ((p : ℕ) → fits p nothing_yet) → (p : ℕ) → HasHistory fits w p
+pub opened_histories : (fits : ℕ → History → Type 0) (n : ℕ) (w : World) → w ≡ fresh_world n → ((p : ℕ) → fits p nothing_yet) → (p : ℕ) → HasHistory fits w p
 opened_histories fits n w is fit p = subst (λ (o : World). HasHistory fits o p) (sym is) (record {
   history = nothing_yet;
   is = record {

@@ -26,7 +26,7 @@ use Rattle.kernel.specs.declared.types.Process.{Process}
 use Rattle.kernel.specs.declared.types.Step.{Step}
 use Rattle.kernel.specs.declared.types.Step.TheVariants as step
 use Rattle.kernel.specs.Keeps.{Grows}
-use Rattle.kernel.specs.Next.{Same, Creates, Refuses, Searches, Ends, Commits, BeginsWith, Begins, NextAt, NextIf, Next}
+use Rattle.kernel.specs.Next.{Same, BeginsCreation, AnswersRefusal, Searches, Ends, Commits, BeginsWith, Begins, NextAt, NextIf, Next}
 use Rattle.kernel.specs.Processes.{World, process, idle, entry_of, made_reply}
 use Rattle.kernel.specs.Progress.{is_heading, commits_at, commits, CountsCommitted, KeepsShutdown}
 use Rattle.kernel.specs.State.{State, waiting_of}
@@ -154,7 +154,7 @@ module _ {D : Type 0} (x y : Image) (m n p : ℕ) (v u : VolumeState D) (w z : W
   idle_none step.NotYet stands = refl
 
   module _ (well : v.fault ≡ None) (stands : (process w p).at ≡ at.Idle) (free : w.is_shut ≡ false) where
-    refuses : (ahead : List Op) (r : Step) → Refuses v w p ahead s r u z → Goes r
+    refuses : (ahead : List Op) (r : Step) → AnswersRefusal v w p ahead s r u z → Goes r
     refuses ahead step.Answered made =
         let e : Entry = record { pid = p; seq = (process w p).begun + 1; op = made.0; group = 0; reply = Some BadType } in
         adds step.Answered _ _ e made.4 well (count_same step.Answered (idle_none step.Answered stands) (same_count made.3)) refl (kept_not_changing m v.log.committed e (refused_still m made.0 made.2)) refl (shut_open w _ free refl)
@@ -166,7 +166,7 @@ module _ {D : Type 0} (x y : Image) (m n p : ℕ) (v u : VolumeState D) (w z : W
     refuses ahead step.Halted made = absurd made
     refuses ahead step.NotYet made = absurd made
 
-    creates : (kind : ℕ) (ahead : List Op) (r : Step) → Creates n kind v w p ahead s r u z → Goes r
+    creates : (kind : ℕ) (ahead : List Op) (r : Step) → BeginsCreation n kind v w p ahead s r u z → Goes r
     creates kind ahead step.Moved made =
         moves step.Moved _ _ made.4 well (count_same step.Moved (idle_none step.Moved stands) (same_count_of made.3)) refl refl (shut_open w _ free refl)
       where

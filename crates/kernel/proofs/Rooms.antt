@@ -4,7 +4,7 @@ use Rattle.std.proofs.lemmas.Bool.{cases_eq, false≢true}
 use Rattle.ports.specs.History.{Side, OthersStay}
 use Rattle.kernel.specs.declared.types.At.TheVariants as at
 use Rattle.kernel.specs.declared.types.Process.{Process}
-use Rattle.kernel.specs.Processes.{World, process, answered}
+use Rattle.kernel.specs.Processes.{World, process, idle_again}
 use Rattle.kernel.specs.State.{is_under_way_at}
 use Rattle.kernel.proofs.Places.{there_now, others_stay}
 
@@ -22,7 +22,7 @@ rooms_go old new w v p t lt is stay own had q under = ⊎_elim
     stay q apart (had q (ap (λ (s : Process). is_under_way_at s.at) (sym here) ∙ under)))
     (cases_eq q p)
 
-pub rooms_answered : (old new : ℕ → Side) (w v : World) (p : ℕ) → p < length w.processes → v ≡ answered w p → OthersStay old new p
+pub rooms_answered : (old new : ℕ → Side) (w v : World) (p : ℕ) → p < length w.processes → v ≡ idle_again w p → OthersStay old new p
     → ((q : ℕ) → is_under_way_at (process w q).at ≡ true → (old q).has_room ≡ true)
     → (q : ℕ) → is_under_way_at (process v q).at ≡ true → (new q).has_room ≡ true
 rooms_answered old new w v p lt is others had =

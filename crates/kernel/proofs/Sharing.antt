@@ -21,7 +21,7 @@ use Rattle.kernel.specs.declared.types.Process.{Process}
 use Rattle.kernel.specs.declared.types.Step.{Step}
 use Rattle.kernel.specs.declared.types.Step.TheVariants as step
 use Rattle.kernel.specs.Bound.{steps_left, GivesNone}
-use Rattle.kernel.specs.Next.{Same, Creates, Refuses, Searches, Ends, Commits, BeginsWith, Begins, NextAt, NextIf, Next}
+use Rattle.kernel.specs.Next.{Same, BeginsCreation, AnswersRefusal, Searches, Ends, Commits, BeginsWith, Begins, NextAt, NextIf, Next}
 use Rattle.kernel.specs.Processes.{World, process, idle}
 use Rattle.kernel.specs.State.{State, waiting_of}
 use Rattle.kernel.specs.Table.{IsSearching, Stands, IsTable, is_committing_at}
@@ -57,7 +57,7 @@ module _ {D : Type 0} (x y : Image) (n p : ℕ) (v u : VolumeState D) (w z : Wor
   nothing : Same v w u z → Gives
   nothing same = gives (stays same.1) (logged same.0)
 
-  refuses : (ahead : List Op) (r : Step) → Refuses v w p ahead s r u z → Gives
+  refuses : (ahead : List Op) (r : Step) → AnswersRefusal v w p ahead s r u z → Gives
   refuses ahead step.Answered made = gives (moved _ (ap (λ (o : World). o.processes) made.4)) (logged made.3)
   refuses ahead (step.Sleeping cause) made = nothing made.0
   refuses ahead step.NoMemory made = nothing made.0
@@ -72,7 +72,7 @@ module _ {D : Type 0} (x y : Image) (n p : ℕ) (v u : VolumeState D) (w z : Wor
     alone : v.log.commit ≡ commit.Quiet → (q : ℕ) → q ≢ p → is_committing_at (process w q).at ≡ true → u.log ≡ v.log
     alone quiet q apart commits = absurd (none_commits v.buffers v.log n q w table quiet commits)
 
-    creates : (kind : ℕ) (ahead : List Op) (r : Step) → Creates n kind v w p ahead s r u z → Gives
+    creates : (kind : ℕ) (ahead : List Op) (r : Step) → BeginsCreation n kind v w p ahead s r u z → Gives
     creates kind ahead step.Moved made = gives (moved _ (ap (λ (o : World). o.processes) made.4)) (alone (let_in v.log.commit (length v.log.homes) v.log.outstanding made.2).0)
     creates kind ahead (step.Sleeping cause) made = nothing made.0
     creates kind ahead step.NoMemory made = nothing made.0

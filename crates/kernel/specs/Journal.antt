@@ -10,5 +10,5 @@ pub record Entries : Type 0 where
 abbrev pub reserved : Entries → Entries
 reserved j = record { list = j.list; room = j.room + 1 }
 
-abbrev pub noted : Entries → Entry → Entries
-noted j e = record { list = j.list ++ e ∷ []; room = j.room - 1 }
+abbrev pub journal_with : Entries → Entry → Entries
+journal_with j e = record { list = j.list ++ e ∷ []; room = j.room - 1 }

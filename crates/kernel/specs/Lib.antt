@@ -8,5 +8,5 @@ pub mod Keeps
 pub mod Runs
 pub mod Histories
 pub mod Bound
-pub mod Turns
+pub mod Decisions
 pub mod Progress

@@ -25,7 +25,7 @@ use Rattle.kernel.specs.declared.types.At.{At}
 use Rattle.kernel.specs.declared.types.At.TheVariants as at
 use Rattle.kernel.specs.declared.types.Step.{Step}
 use Rattle.kernel.specs.declared.types.Step.TheVariants as step
-use Rattle.kernel.specs.Processes.{World, process, with_place, creating, searching, turned, refused, committing, answered, made_reply}
+use Rattle.kernel.specs.Processes.{World, process, with_place, creating, searching, turned, refused, committing, idle_again, made_reply}
 
 -- volume and processes stay
 abbrev pub Same : {D : Type 0} → VolumeState D → World → VolumeState D → World → Type 0
@@ -44,28 +44,28 @@ abbrev pub IsLeft : List Op → Side → Op → Type 0
 IsLeft ahead s op = (s.ahead ≡ ahead) × (first_in ahead ≡ Some op)
 
 -- a creation that waits begins, or has to wait, or has no memory
-abbrev pub Creates : {D : Type 0} → ℕ → ℕ → VolumeState D → World → ℕ → List Op → Side → Step → VolumeState D → World → Type 0
-Creates n kind v w p ahead s step.Moved u z = ((op : Op) × IsTaken ahead s op × (waiting_of op ≡ waiting.Creation kind)) ×
+abbrev pub BeginsCreation : {D : Type 0} → ℕ → ℕ → VolumeState D → World → ℕ → List Op → Side → Step → VolumeState D → World → Type 0
+BeginsCreation n kind v w p ahead s step.Moved u z = ((op : Op) × IsTaken ahead s op × (waiting_of op ≡ waiting.Creation kind)) ×
     (s.has_room ≡ true) × (begin_cause v.log ≡ None) × (u ≡ record v { log = begun v.log p }) × (z ≡ creating (with_place w) p (begun v.log p).opened (first_search kind n))
-Creates n kind v w p ahead s (step.Sleeping cause) u z = Same v w u z × (s.ahead ≡ ahead) ×
+BeginsCreation n kind v w p ahead s (step.Sleeping cause) u z = Same v w u z × (s.ahead ≡ ahead) ×
     (((cause ≡ why.AnswersFull) × (s.has_room ≡ false)) ⊎ ((begin_cause v.log ≡ Some cause) × (s.has_room ≡ true)))
-Creates n kind v w p ahead s step.NoMemory u z = Same v w u z × (s.ahead ≡ ahead) × (s.has_room ≡ true) × (begin_cause v.log ≡ None)
-Creates n kind v w p ahead s step.Answered u z = ⊥
-Creates n kind v w p ahead s step.Idle u z = ⊥
-Creates n kind v w p ahead s step.ShutDown u z = ⊥
-Creates n kind v w p ahead s step.Halted u z = ⊥
-Creates n kind v w p ahead s step.NotYet u z = ⊥
+BeginsCreation n kind v w p ahead s step.NoMemory u z = Same v w u z × (s.ahead ≡ ahead) × (s.has_room ≡ true) × (begin_cause v.log ≡ None)
+BeginsCreation n kind v w p ahead s step.Answered u z = ⊥
+BeginsCreation n kind v w p ahead s step.Idle u z = ⊥
+BeginsCreation n kind v w p ahead s step.ShutDown u z = ⊥
+BeginsCreation n kind v w p ahead s step.Halted u z = ⊥
+BeginsCreation n kind v w p ahead s step.NotYet u z = ⊥
 
--- one that is refused is answered at once
-abbrev pub Refuses : {D : Type 0} → VolumeState D → World → ℕ → List Op → Side → Step → VolumeState D → World → Type 0
-Refuses v w p ahead s step.Answered u z = (op : Op) × IsTaken ahead s op × (waiting_of op ≡ waiting.Refused) × (u ≡ v) × (z ≡ refused (with_place w) p op)
-Refuses v w p ahead s (step.Sleeping cause) u z = Same v w u z × (s.ahead ≡ ahead) × (cause ≡ why.AnswersFull) × (s.has_room ≡ false)
-Refuses v w p ahead s step.NoMemory u z = Same v w u z × (s.ahead ≡ ahead) × (s.has_room ≡ true)
-Refuses v w p ahead s step.Moved u z = ⊥
-Refuses v w p ahead s step.Idle u z = ⊥
-Refuses v w p ahead s step.ShutDown u z = ⊥
-Refuses v w p ahead s step.Halted u z = ⊥
-Refuses v w p ahead s step.NotYet u z = ⊥
+-- one that is refused is idle_again at once
+abbrev pub AnswersRefusal : {D : Type 0} → VolumeState D → World → ℕ → List Op → Side → Step → VolumeState D → World → Type 0
+AnswersRefusal v w p ahead s step.Answered u z = (op : Op) × IsTaken ahead s op × (waiting_of op ≡ waiting.Refused) × (u ≡ v) × (z ≡ refused (with_place w) p op)
+AnswersRefusal v w p ahead s (step.Sleeping cause) u z = Same v w u z × (s.ahead ≡ ahead) × (cause ≡ why.AnswersFull) × (s.has_room ≡ false)
+AnswersRefusal v w p ahead s step.NoMemory u z = Same v w u z × (s.ahead ≡ ahead) × (s.has_room ≡ true)
+AnswersRefusal v w p ahead s step.Moved u z = ⊥
+AnswersRefusal v w p ahead s step.Idle u z = ⊥
+AnswersRefusal v w p ahead s step.ShutDown u z = ⊥
+AnswersRefusal v w p ahead s step.Halted u z = ⊥
+AnswersRefusal v w p ahead s step.NotYet u z = ⊥
 
 -- a step of a creation's search, over a disk with the image x
 abbrev pub Searches : {D : Type 0} → Image → ℕ → Ialloc → VolumeState D → World → ℕ → Step → VolumeState D → World → Type 0
@@ -80,10 +80,10 @@ Searches x group m v w p step.NoMemory u z = ⊥
 Searches x group m v w p step.ShutDown u z = ⊥
 Searches x group m v w p step.NotYet u z = ⊥
 
--- an operation ends: its group is closed with homes, and it commits it, or it is answered
+-- an operation ends: its group is closed with homes, and it commits it, or it is idle_again
 abbrev pub Ends : {D : Type 0} → VolumeState D → World → ℕ → Step → VolumeState D → World → Type 0
 Ends v w p step.Moved u z = (end_answer v.log ≡ ended_as.Commit) × (u ≡ record v { log = ended v.log p }) × (z ≡ committing w p)
-Ends v w p step.Answered u z = (end_answer v.log ≡ ended_as.Left) × (u ≡ record v { log = ended v.log p }) × (z ≡ answered w p)
+Ends v w p step.Answered u z = (end_answer v.log ≡ ended_as.Left) × (u ≡ record v { log = ended v.log p }) × (z ≡ idle_again w p)
 Ends v w p (step.Sleeping cause) u z = ⊥
 Ends v w p step.Idle u z = ⊥
 Ends v w p step.NoMemory u z = ⊥
@@ -98,7 +98,7 @@ Writes x v y u = Stepped (header_block v.log.homes) x v.buffers v.log y u.buffer
 abbrev pub Commits : {D : Type 0} → Image → VolumeState D → World → ℕ → Step → Image → VolumeState D → World → Type 0
 Commits x v w p step.Moved y u z =
     ((answer_at v.log.commit v.log.opened ≡ committed.More) ⊎ ((group : ℕ) × (answer_at v.log.commit v.log.opened ≡ committed.Durable group))) × Writes x v y u × (z ≡ w)
-Commits x v w p step.Answered y u z = (answer_at v.log.commit v.log.opened ≡ committed.Done) × Writes x v y u × (z ≡ answered w p)
+Commits x v w p step.Answered y u z = (answer_at v.log.commit v.log.opened ≡ committed.Done) × Writes x v y u × (z ≡ idle_again w p)
 Commits x v w p step.Halted y u z = Faulted (header_block v.log.homes) x v.buffers v.log y u.buffers u.log × (z ≡ w)
 Commits x v w p (step.Sleeping cause) y u z = ⊥
 Commits x v w p step.Idle y u z = ⊥
@@ -110,8 +110,8 @@ Commits x v w p step.NotYet y u z = ⊥
 abbrev pub BeginsWith : {D : Type 0} → Option Waiting → ℕ → VolumeState D → World → ℕ → List Op → Side → Step → VolumeState D → World → Type 0
 BeginsWith None n v w p ahead s r u z = (r ≡ step.Idle) × Same v w u z × (s.ahead ≡ ahead)
 BeginsWith (Some waiting.Other) n v w p ahead s r u z = (r ≡ step.NotYet) × Same v w u z × (s.ahead ≡ ahead)
-BeginsWith (Some waiting.Refused) n v w p ahead s r u z = Refuses v w p ahead s r u z
-BeginsWith (Some (waiting.Creation kind)) n v w p ahead s r u z = Creates n kind v w p ahead s r u z
+BeginsWith (Some waiting.Refused) n v w p ahead s r u z = AnswersRefusal v w p ahead s r u z
+BeginsWith (Some (waiting.Creation kind)) n v w p ahead s r u z = BeginsCreation n kind v w p ahead s r u z
 
 -- no operation begins any more: the kernel was shut, or its herald told of a shutdown
 abbrev pub HearsShutdown : {D : Type 0} → VolumeState D → World → Bool → Step → VolumeState D → World → Type 0

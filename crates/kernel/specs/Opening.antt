@@ -15,11 +15,11 @@ IsRecoverCause recover.BadLog old new = ⊥
 IsRecoverCause recover.NoMemory old new = Unit {0}
 
 -- the disk d is handed back as e, with that fault
-abbrev pub Refuses : {D : Type 0} → (D → Image) → (D → ℕ) → D → D → ℕ → OpenFault → Type 0
-Refuses image faults d e processes (Check fault) = (1 ≤ processes) × (processes ≤ 32) × IsCause (verdict (image d)) (faults d) (faults e) fault × (image e ≡ image d)
-Refuses image faults d e processes (Recover fault) = (1 ≤ processes) × (processes ≤ 32) × (verdict (image d) ≡ None) × IsRecoverCause fault (faults d) (faults e)
-Refuses image faults d e processes NoMemory = (1 ≤ processes) × (processes ≤ 32) × (verdict (image d) ≡ None) × (image e ≡ image d)
-Refuses image faults d e processes ProcRange = ((processes < 1) ⊎ (32 < processes)) × (e ≡ d)
+abbrev pub RefusesToOpen : {D : Type 0} → (D → Image) → (D → ℕ) → D → D → ℕ → OpenFault → Type 0
+RefusesToOpen image faults d e processes (Check fault) = (1 ≤ processes) × (processes ≤ 32) × IsCause (verdict (image d)) (faults d) (faults e) fault × (image e ≡ image d)
+RefusesToOpen image faults d e processes (Recover fault) = (1 ≤ processes) × (processes ≤ 32) × (verdict (image d) ≡ None) × IsRecoverCause fault (faults d) (faults e)
+RefusesToOpen image faults d e processes NoMemory = (1 ≤ processes) × (processes ≤ 32) × (verdict (image d) ≡ None) × (image e ≡ image d)
+RefusesToOpen image faults d e processes ProcRange = ((processes < 1) ⊎ (32 < processes)) × (e ≡ d)
 
 -- the faults at which blocks may have been written
 abbrev pub MayWrite : OpenFault → Type 0

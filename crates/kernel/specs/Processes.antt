@@ -9,7 +9,7 @@ use Rattle.inodes.specs.declared.ialloc.Ialloc.{Ialloc}
 use Rattle.kernel.specs.declared.types.At.{At}
 use Rattle.kernel.specs.declared.types.At.TheVariants as at
 use Rattle.kernel.specs.declared.types.Process.{Process}
-use Rattle.kernel.specs.Journal.{Entries, reserved, noted}
+use Rattle.kernel.specs.Journal.{Entries, reserved, journal_with}
 
 -- the processes, their journal, and whether no operation begins any more
 pub record World : Type 0 where
@@ -24,8 +24,8 @@ idle = record { begun = 0; at = at.Idle }
 abbrev pub process : World → ℕ → Process
 process w p = slice_index_or w.processes p idle
 
-abbrev pub fresh : ℕ → World
-fresh count = record { processes = replicate count idle; journal = record { list = []; room = 0 }; is_shut = false }
+abbrev pub fresh_world : ℕ → World
+fresh_world count = record { processes = replicate count idle; journal = record { list = []; room = 0 }; is_shut = false }
 
 -- a process stands elsewhere
 abbrev pub at_place : World → ℕ → At → World
@@ -43,7 +43,7 @@ creating w p group search = record w { processes = slice_set w.processes p (reco
 abbrev pub refused : World → ℕ → Op → World
 refused w p op = record w {
   processes = slice_set w.processes p (record (process w p) { begun = (process w p).begun + 1 });
-  journal = noted w.journal (record { pid = p; seq = (process w p).begun + 1; op = op; group = 0; reply = Some BadType });
+  journal = journal_with w.journal (record { pid = p; seq = (process w p).begun + 1; op = op; group = 0; reply = Some BadType });
 }
 
 -- its search went on
@@ -60,7 +60,7 @@ entry_of w p op group reply = record { pid = p; seq = (process w p).begun; op = 
 
 -- the turn: the entry is in the journal, and the operation ends next
 abbrev pub turned : World → ℕ → Op → ℕ → Reply → World
-turned w p op group reply = record (at_place w p (at.Ending group reply)) { journal = noted w.journal (entry_of w p op group reply) }
+turned w p op group reply = record (at_place w p (at.Ending group reply)) { journal = journal_with w.journal (entry_of w p op group reply) }
 
 -- the search that a process makes
 abbrev pub search_at : At → Option Ialloc
@@ -101,6 +101,6 @@ answer_by None seq group = record { seq = seq; reply = NoInode; group = group }
 abbrev pub answer_of : Process → Answer
 answer_of q = answer_by (reply_at q.at) q.begun (group_at q.at)
 
--- it was answered
-abbrev pub answered : World → ℕ → World
-answered w p = at_place w p at.Idle
+-- it was idle_again
+abbrev pub idle_again : World → ℕ → World
+idle_again w p = at_place w p at.Idle

@@ -25,7 +25,7 @@ impl Model for Journal {
 }
 
 impl Journal {
-    ghost use Rattle.kernel.specs.Journal.{reserved, noted};
+    ghost use Rattle.kernel.specs.Journal.{reserved, journal_with};
 
     /// Without entries, and with no place.
     pub fn new(alloc: Global) -> Journal
@@ -69,7 +69,7 @@ impl Journal {
     /// Adds an entry, in a place that was kept.
     pub fn add(&mut self, entry: Entry)
         requires { 0 < self.old.room }
-        ensures { self.new ≡ noted self.old entry }
+        ensures { self.new ≡ journal_with self.old entry }
     {
         self.room -= 1;
         let _ = self.entries.push(entry);

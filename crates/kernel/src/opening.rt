@@ -4,12 +4,12 @@ ghost use Rattle.blocks.specs.Disk.{LeavesOnly, counted};
 ghost use Rattle.model.specs.Layout.{inode_count_of, is_lawful_super};
 ghost use Rattle.model.specs.Log.{recovered, logged_count};
 ghost use Rattle.model.specs.Verdict.{verdict};
-ghost use Rattle.bcache.specs.Buffers.{fresh as fresh_buffers};
+ghost use Rattle.bcache.specs.Buffers.{fresh_buffers};
 ghost use Rattle.wal.specs.Machine.{new_log};
 ghost use Rattle.wal.specs.Recovery.{RecoversAs, writes_to_recover};
-ghost use Rattle.kernel.specs.Processes.{fresh, process};
-ghost use Rattle.kernel.specs.Opening.{Refuses, MayWrite};
-ghost use Rattle.ports.specs.History.{fresh as nothing_yet};
+ghost use Rattle.kernel.specs.Processes.{fresh_world, process};
+ghost use Rattle.kernel.specs.Opening.{RefusesToOpen, MayWrite};
+ghost use Rattle.ports.specs.History.{nothing_yet};
 
 use crate::stepping::Kernel;
 use crate::{OpenFault, Processes};
@@ -35,7 +35,7 @@ fn take_memory(alloc: Global, sup: &Super, processes: u32) -> Result<Memory, NoM
     requires { IsTrue (is_lawful_super sup.now sup.now.size) }
     ensures cache { IfOk result (λ memory. memory.cache ≡ fresh_buffers) }
     ensures log { IfOk result (λ memory. memory.log ≡ new_log sup.now.size) }
-    ensures processes { IfOk result (λ memory. memory.processes ≡ fresh processes) }
+    ensures processes { IfOk result (λ memory. memory.processes ≡ fresh_world processes) }
 {
     Ok(Memory {
         cache: Cache::new(alloc)?,
@@ -67,7 +67,7 @@ impl<D: Disk, I: Intake, H: Herald> Kernel<D, I, H> {
         ensures sound { IfOk result (λ k. verdict (D.image disk) ≡ None) }
         ensures opening { IfOk result (λ k. D.image k.opening ≡ recovered (D.image disk)) }
         ensures volume { IfOk result (λ k. k.volume ≡ record { device = k.opening; buffers = fresh_buffers; log = new_log (length (D.image disk)); fault = None }) }
-        ensures world { IfOk result (λ k. k.world ≡ fresh processes) }
+        ensures world { IfOk result (λ k. k.world ≡ fresh_world processes) }
         ensures count { IfOk result (λ k. k.inode_count ≡ inode_count_of (D.image disk)) }
         ensures intake { IfOk result (λ k. k.intake ≡ intake) }
         ensures herald { IfOk result (λ k. k.herald ≡ herald) }
@@ -76,7 +76,7 @@ impl<D: Disk, I: Intake, H: Herald> Kernel<D, I, H> {
         ensures writes { IfOk result (λ k. D.write_count k.opening ≡ counted (D.write_count disk) (writes_to_recover (logged_count (D.image disk)))) }
         ensures faults { IfOk result (λ k. D.fault_count k.opening ≡ D.fault_count disk) }
         ensures unwritten { IfErr result (λ e. MayWrite e.0 ⊎ (D.write_count e.1 ≡ D.write_count disk)) }
-        ensures refused { IfErr result (λ e. Refuses D.image D.fault_count disk e.1 processes e.0) }
+        ensures refused { IfErr result (λ e. RefusesToOpen D.image D.fault_count disk e.1 processes e.0) }
         ensures leaves { IfOk result (λ k. LeavesOnly D.moment D.leaves disk k.opening (RecoversAs (D.image disk))) }
         ensures back { IfErr result (λ e. LeavesOnly D.moment D.leaves disk e.1 (RecoversAs (D.image disk))) }
     {

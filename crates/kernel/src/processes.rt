@@ -1,7 +1,7 @@
 // The processes and their journal, without volume and ports.
 ghost use Rattle.std.specs.Prelude.{◌≡◌, ◌<◌, ◌^◌, ◌+◌, ◌↔◌, [], IsTrue, true, length, Some, IsSome, IfOk, OnErr};
-ghost use Rattle.kernel.specs.Processes.{World, process, fresh, with_place, creating, refused, searching, entry_of, turned, search_at, group_at, reply_at, committing, answer_of, answered, made_reply};
-ghost use Rattle.kernel.specs.Journal.{reserved, noted};
+ghost use Rattle.kernel.specs.Processes.{World, process, fresh_world, with_place, creating, refused, searching, entry_of, turned, search_at, group_at, reply_at, committing, answer_of, idle_again, made_reply};
+ghost use Rattle.kernel.specs.Journal.{reserved, journal_with};
 
 use crate::{At, Journal, Process};
 use blocks::NoMemory;
@@ -34,7 +34,7 @@ impl Processes {
     ///
     /// `NoMemory` where the allocator refuses the processes.
     pub fn new(alloc: Global, count: u32) -> Result<Processes, NoMemory>
-        ensures { IfOk result (λ w. w ≡ fresh count) }
+        ensures { IfOk result (λ w. w ≡ fresh_world count) }
     {
         let mut processes = Vec::new(alloc);
         for _process in 0..count {
@@ -167,7 +167,7 @@ impl Processes {
     }
 
     /// A creation of a file of this type in this group has its turn: the number was made, or none.
-    pub fn turn(&mut self, pid: u32, group: u64, kind: u16, made: Option<u32>)
+    pub fn decide(&mut self, pid: u32, group: u64, kind: u16, made: Option<u32>)
         requires pid { pid < length self.old.processes }
         requires room { 0 < self.old.journal.room }
         ensures { self.new ≡ turned self.old pid (Op.Create kind) group (made_reply made) }
@@ -203,7 +203,7 @@ impl Processes {
         requires pid { pid < length self.old.processes }
         requires over { IsSome (reply_at (process self.old pid).at) }
         ensures answer { result ≡ answer_of (process self.old pid) }
-        ensures processes { self.new ≡ answered self.old pid }
+        ensures processes { self.new ≡ idle_again self.old pid }
     {
         let process = &mut self.processes[pid as usize];
         match mem::replace(&mut process.at, At::Idle) {

@@ -3,7 +3,7 @@ ghost use Rattle.std.specs.Prelude.{◌≡◌, ◌⊎◌, ◌<◌, ◌^◌, ◌+
 ghost use Rattle.wal.specs.Machine.{used_by, begin_cause, begun};
 ghost use Rattle.kernel.specs.State.{waiting_of};
 ghost use Rattle.ports.specs.History.{SameNames, OthersStay, FitWith, gives};
-ghost use Rattle.kernel.specs.Processes.{process, reply_at, answered, answer_of};
+ghost use Rattle.kernel.specs.Processes.{process, reply_at, idle_again, answer_of};
 
 use crate::{At, Processes, Step};
 use blocks::Disk;
@@ -84,9 +84,9 @@ impl<D: Disk, I: Intake, H: Herald> Kernel<D, I, H> {
     ghost use Rattle.kernel.specs.Processes.{process};
     ghost use Rattle.kernel.specs.Table.{is_committing_at, is_ending_at, WaitsForBuffer};
     ghost use Rattle.kernel.specs.Bound.{TakesOne, GivesNone};
-    ghost use Rattle.kernel.specs.Turns.{HasLooked};
+    ghost use Rattle.kernel.specs.Decisions.{HasLooked};
     ghost use Rattle.kernel.specs.Progress.{CountsCommitted, KeepsShutdown};
-    ghost use Rattle.kernel.specs.Next.{block_at_step, Creates, Refuses, Searches, Ends, Commits, Begins, Next, WritesOnce, CountsItsFault};
+    ghost use Rattle.kernel.specs.Next.{block_at_step, BeginsCreation, AnswersRefusal, Searches, Ends, Commits, Begins, Next, WritesOnce, CountsItsFault};
 
     /// Does nothing: it says what recovery of the disk gives. A stop now leaves a sound image whose
     /// files are the opening ones after the changing operations of the committed groups, in the
@@ -257,7 +257,7 @@ impl<D: Disk, I: Intake, H: Herald> Kernel<D, I, H> {
         requires at { (process self.old.world pid).at ≡ at.Idle }
         requires kind { IsTrue (is_kind kind) }
         requires waits { option_map waiting_of (first_in (I.side self.old.intake pid).ahead) ≡ Some (waiting.Creation kind) }
-        ensures next { Creates self.old.inode_count kind self.old.volume self.old.world pid (I.side self.old.intake pid).ahead (I.side self.new.intake pid) result self.new.volume self.new.world }
+        ensures next { BeginsCreation self.old.inode_count kind self.old.volume self.old.world pid (I.side self.old.intake pid).ahead (I.side self.new.intake pid) result self.new.volume self.new.world }
         ensures sides { OthersStay (I.side self.old.intake) (I.side self.new.intake) pid }
         ensures names { SameNames (I.name self.old.intake) (I.name self.new.intake) }
         ensures herald { self.new.herald ≡ self.old.herald }
@@ -292,7 +292,7 @@ impl<D: Disk, I: Intake, H: Herald> Kernel<D, I, H> {
         requires fault { self.old.volume.fault ≡ None }
         requires at { (process self.old.world pid).at ≡ at.Idle }
         requires waits { option_map waiting_of (first_in (I.side self.old.intake pid).ahead) ≡ Some waiting.Refused }
-        ensures next { Refuses self.old.volume self.old.world pid (I.side self.old.intake pid).ahead (I.side self.new.intake pid) result self.new.volume self.new.world }
+        ensures next { AnswersRefusal self.old.volume self.old.world pid (I.side self.old.intake pid).ahead (I.side self.new.intake pid) result self.new.volume self.new.world }
         ensures sides { OthersStay (I.side self.old.intake) (I.side self.new.intake) pid }
         ensures names { SameNames (I.name self.old.intake) (I.name self.new.intake) }
         ensures herald { self.new.herald ≡ self.old.herald }
@@ -383,7 +383,7 @@ impl<D: Disk, I: Intake, H: Herald> Kernel<D, I, H> {
             }
             Progress::Sleeping(why) => Step::Sleeping(why),
             Progress::Over(made) => {
-                self.processes.turn(pid, group, kind, made);
+                self.processes.decide(pid, group, kind, made);
                 Step::Moved
             }
             Progress::Fault(_) => Step::Halted,
@@ -438,7 +438,7 @@ fn give<I: Intake>(processes: &mut Processes, intake: &mut I, pid: u32)
     requires served { pid < I.process_count intake.old }
     requires over { IsSome (reply_at (process processes.old pid).at) }
     requires room { (I.side intake.old pid).has_room ≡ true }
-    ensures processes { processes.new ≡ answered processes.old pid }
+    ensures processes { processes.new ≡ idle_again processes.old pid }
     ensures served { I.process_count intake.new ≡ I.process_count intake.old }
     ensures names { SameNames (I.name intake.old) (I.name intake.new) }
     ensures ahead { (I.side intake.new pid).ahead ≡ (I.side intake.old pid).ahead }

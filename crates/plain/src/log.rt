@@ -2,9 +2,9 @@
 ghost use Rattle.std.specs.Prelude.{◌≡◌, ◌≤◌, length, IfOk};
 ghost use Rattle.model.specs.Log.{logged_count, homes_of, are_distinct, are_in_place, is_lawful_log};
 
-use crate::fields::read_u32;
 use crate::superblock::{INODE_START, LOG_START};
 use blocks::{Block, NoMemory};
+use layout::fields::read_u32;
 use std::alloc::Global;
 
 /// The most blocks that a log holds.

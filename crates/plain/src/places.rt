@@ -5,10 +5,10 @@ ghost use Rattle.model.specs.Names.{names_under, names_along, names_of};
 ghost use Rattle.model.specs.Places.{pointer_of, pointers_under, pointers_along, pointers_in, pointers_of, addresses_in, places_of};
 ghost use Rattle.model.specs.Verdict.{places_below};
 
-use crate::fields::read_u32;
 use crate::inode::inode_of;
 use crate::superblock::{form_of, inode_count};
 use blocks::{Block, NoMemory};
+use layout::fields::read_u32;
 use model::types::{Dinode, Form, Pointer};
 use std::alloc::Global;
 

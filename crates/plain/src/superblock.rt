@@ -2,8 +2,10 @@
 ghost use Rattle.std.specs.Prelude.{◌≡◌, ◌≤◌, ◌<◌, length};
 ghost use Rattle.model.specs.Layout.{magic_of, magic_at, has_known_magic, form_of, greatest_size, super_in, super_of, meta_count, planned_super, are_alike, is_inode_count, is_size, is_lawful_super, inode_count_of, first_data_block, is_marked};
 
-use crate::fields::{has_bit, read_u32};
+use crate::fields::has_bit;
 use blocks::Block;
+use layout::fields::read_u32;
+use layout::superblock;
 use model::types::{Form, Super};
 
 /// The log's first block, its header.
@@ -70,20 +72,11 @@ pub fn greatest_size(form: Form) -> u32
 }
 
 /// The fields in a superblock's bytes, at least 32.
-#[tactic(auto, unfolding(model::specs::Layout::super_in))]
 pub fn super_in(bytes: &[u8]) -> Super
     requires { 32 ≤ length bytes.now }
     ensures { result ≡ super_in bytes.now }
 {
-    Super {
-        size: read_u32(bytes, 4),
-        nblocks: read_u32(bytes, 8),
-        ninodes: read_u32(bytes, 12),
-        nlog: read_u32(bytes, 16),
-        logstart: read_u32(bytes, 20),
-        inodestart: read_u32(bytes, 24),
-        bmapstart: read_u32(bytes, 28),
-    }
+    superblock::read(bytes)
 }
 
 /// The fields of the superblock.
@@ -160,13 +153,10 @@ pub fn is_size(size: u32, inode_count: u32) -> bool
 pub fn is_lawful_super(fields: Super, block_count: usize) -> bool
     ensures { result ≡ is_lawful_super fields block_count }
 {
-    if fields.size as usize != block_count {
-        return false;
+    match u32::try_from(block_count) {
+        Ok(count) => superblock::is_lawful(&fields, count),
+        Err(_) => false,
     }
-    if !is_inode_count(fields.ninodes) || !is_size(fields.size, fields.ninodes) {
-        return false;
-    }
-    are_alike(fields, planned_super(fields.size, fields.ninodes))
 }
 
 /// Whether the bitmap says that block `b` is used.
@@ -177,5 +167,5 @@ pub fn is_marked(image: &[Block], b: u32) -> bool
     ensures { result ≡ is_marked image.now b }
 {
     let bitmap = &image[super_of(image).bmapstart as usize];
-    has_bit(bitmap.as_slice(), b)
+    has_bit(bitmap, b)
 }

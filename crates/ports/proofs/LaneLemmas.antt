@@ -5,7 +5,7 @@ use mathlib.Core.Logic.{dite}
 use Rattle.std.specs.Prelude.{Option, slice_get, All, option_to_list}
 use Rattle.model.specs.declared.types.operations.Answer.{Answer}
 use Rattle.ports.specs.declared.lane.Lane.{Lane}
-use Rattle.ports.specs.History.{History, FitWith, AllFit, gives, fresh}
+use Rattle.ports.specs.History.{History, FitWith, AllFit, gives, nothing_yet}
 use Rattle.ports.specs.Lanes.{IsEmptyLane, SameWaiting, polled_after}
 use Rattle.ports.specs.Queues.{FitsAt, FitsLane}
 
@@ -62,7 +62,7 @@ polls_lane l n r less polls same h fits = record {
   given = (fits.given.0 ++ option_to_list r, fits.given.1 ∙ ap (λ m. fits.given.0 ++ m) less ∙ sym (append_assoc fits.given.0 (option_to_list r) n.answers.items), polls ∙ polls_more fits.given.0 r l.polled fits.given.2);
 }
 
-pub all_fresh : (lanes : List Lane) → All IsEmptyLane lanes → (p : ℕ) → FitsAt (slice_get lanes p) fresh
+pub all_fresh : (lanes : List Lane) → All IsEmptyLane lanes → (p : ℕ) → FitsAt (slice_get lanes p) nothing_yet
 all_fresh [] all p = tt
 all_fresh (l ∷ ls) all zero = let z = all 0 l (omega arith) in let w = ap length z.waiting in record { submitted = omega (arith, z.submitted, w); given = ([], sym z.answers, z.polled) }
 all_fresh (l ∷ ls) all (suc p) = all_fresh ls (λ k d h. all (suc k) d (omega arith)) p

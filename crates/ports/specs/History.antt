@@ -14,8 +14,8 @@ pub record History : Type 0 where
   pub given : List Answer
 
 -- nothing was taken or given
-abbrev pub fresh : History
-fresh = record { taken = []; given = [] }
+abbrev pub nothing_yet : History
+nothing_yet = record { taken = []; given = [] }
 
 -- the first of a list
 abbrev pub first_in : {A : Type 0} → List A → Option A

@@ -1,6 +1,6 @@
 // Plain queues in memory.
 ghost use Rattle.std.specs.Prelude.{◌≡◌, ◌<◌, ◌≤◌, ◌+◌, ◌^◌, ◌⊎◌, ◌++◌, ◌∷◌, [], ℕ, length, IfOk, IfErr, OnErr, option_to_list};
-ghost use Rattle.ports.specs.History.{History, AllFit, RoomStays, fresh, first_in};
+ghost use Rattle.ports.specs.History.{History, AllFit, RoomStays, nothing_yet, first_in};
 
 use crate::intake::Intake;
 use crate::lane::Lane;
@@ -30,7 +30,7 @@ impl QueueIntake {
     pub fn new(alloc: Global, processes: u32) -> Result<QueueIntake, NoMemory>
         ensures processes { IfOk result (λ q. queue_count q ≡ processes) }
         ensures empty { IfOk result (λ q. (p : ℕ) → (waiting q p ≡ []) × (answers q p ≡ [])) }
-        ensures fresh { IfOk result (λ q. (p : ℕ) → QueueFits q p fresh) }
+        ensures fresh { IfOk result (λ q. (p : ℕ) → QueueFits q p nothing_yet) }
     {
         let mut lanes = Vec::new(alloc);
         for _process in 0..processes {

@@ -8,7 +8,7 @@ use Rattle.model.specs.Log.{logged_count, recovered}
 use Rattle.bcache.specs.Current.{is_of}
 use Rattle.model.specs.Lemmas.Log.{length-recovered}
 use Rattle.model.specs.Lemmas.Recovery.{logged_count-left}
-use Rattle.bcache.specs.Buffers.{Buffers, buffer, changed, empty_buffer, fresh}
+use Rattle.bcache.specs.Buffers.{Buffers, buffer, changed, empty_buffer, fresh_buffers}
 use Rattle.bcache.proofs.SlotLemmas.{cache_fresh}
 use Rattle.bcache.proofs.CurrentLemmas.{not_shown, is_current, current_unfilled}
 use Rattle.wal.specs.declared.types.Commit.{Commit}
@@ -17,18 +17,18 @@ use Rattle.wal.specs.Joint.{Joint, JointAt, pins_of, seen}
 use Rattle.wal.proofs.LogLemmas.{log_new}
 use Rattle.wal.proofs.CacheCallLemmas.{joint_kept}
 
-fresh_slot : (i : ℕ) → buffer fresh i ≡ empty_buffer
+fresh_slot : (i : ℕ) → buffer fresh_buffers i ≡ empty_buffer
 fresh_slot i = elim (cases_lt i 40) [
   | inl lt ↦ get_or-replicate 40 i empty_buffer empty_buffer lt
   | inr past ↦ get_or_past (replicate 40 empty_buffer) i empty_buffer (omega (arith, length-replicate 40 empty_buffer))
 ]
 
 -- buffers that were never taken show what the disk has
-pub fresh_seen : (x : Image) → seen x fresh ≡ x
-fresh_seen x = sym (is_current x x fresh refl (λ b lt. sym (not_shown fresh.slots b (block_at x b) (λ j. ap (λ (s : Buffer). s.valid && is_of b s) (fresh_slot j)))))
+pub fresh_seen : (x : Image) → seen x fresh_buffers ≡ x
+fresh_seen x = sym (is_current x x fresh_buffers refl (λ b lt. sym (not_shown fresh_buffers.slots b (block_at x b) (λ j. ap (λ (s : Buffer). s.valid && is_of b s) (fresh_slot j)))))
 
 -- a new log and buffers that were never taken, over an image where nothing is logged
-pub joint_new : (x : Image) (size : ℕ) → length x ≡ size → 33 ≤ size → size < 2 ^ 32 → logged_count x ≡ 0 → Joint x fresh (new_log size)
+pub joint_new : (x : Image) (size : ℕ) → length x ≡ size → 33 ≤ size → size < 2 ^ 32 → logged_count x ≡ 0 → Joint x fresh_buffers (new_log size)
 joint_new x size same big small none = record {
   size = same;
   cache = cache_fresh;
@@ -41,13 +41,13 @@ joint_new x size same big small none = record {
 }
 
 -- the same, of what is handed in
-pub joint_opened : (x : Image) (c : Buffers) (l : LogState) → c ≡ fresh → l ≡ new_log (length x) → 33 ≤ l.size → l.size < 2 ^ 32 → logged_count x ≡ 0 → Joint x c l
+pub joint_opened : (x : Image) (c : Buffers) (l : LogState) → c ≡ fresh_buffers → l ≡ new_log (length x) → 33 ≤ l.size → l.size < 2 ^ 32 → logged_count x ≡ 0 → Joint x c l
 joint_opened x c l are is big small none =
     let size : l.size ≡ length x = ap (λ (m : LogState). m.size) is in
-    subst (λ (e : Buffers). Joint x e l) (sym are) (subst (λ (m : LogState). Joint x fresh m) (sym is) (joint_new x (length x) refl (omega (arith, size, big)) (omega (arith, size, small)) none))
+    subst (λ (e : Buffers). Joint x e l) (sym are) (subst (λ (m : LogState). Joint x fresh_buffers m) (sym is) (joint_new x (length x) refl (omega (arith, size, big)) (omega (arith, size, small)) none))
 
 -- so it is after a recovery
-pub joint_recovered : (x : Image) (size : ℕ) → length x ≡ size → 33 ≤ size → size < 2 ^ 32 → Joint (recovered x) fresh (new_log size)
+pub joint_recovered : (x : Image) (size : ℕ) → length x ≡ size → 33 ≤ size → size < 2 ^ 32 → Joint (recovered x) fresh_buffers (new_log size)
 joint_recovered x size same big small = joint_new (recovered x) size (length-recovered x ∙ same) big small (logged_count-left x)
 
 -- a read that failed leaves a slot that wasn't valid with other bytes

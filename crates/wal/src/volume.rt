@@ -5,7 +5,7 @@ ghost use Rattle.blocks.specs.Calls.{OnlyReads};
 ghost use Rattle.blocks.specs.Disk.{Image, block_at, one_more, Elapses, LeavesOldOrNew};
 ghost use Rattle.model.specs.Codec.{header_block};
 ghost use Rattle.model.specs.Log.{is_lawful_log, logged_count};
-ghost use Rattle.bcache.specs.Buffers.{buffer, block_or_zero, filled, fresh, released, EndsUnfilled};
+ghost use Rattle.bcache.specs.Buffers.{buffer, block_or_zero, filled, fresh_buffers, released, EndsUnfilled};
 ghost use Rattle.wal.specs.Machine.{is_quiet, new_log, begin_cause, begin_answer, after_begin, used_by, HasRoom, ended, end_answer};
 ghost use Rattle.wal.specs.Joint.{Joint, IsSameOutsideLog, seen, place_at, bytes_at};
 ghost use Rattle.wal.specs.Kept.{CrashKeeps};
@@ -48,10 +48,10 @@ impl<D: Disk> Volume<D> {
     /// A disk on which nothing is logged, with a cache whose slots were never taken, and a new log
     /// for an image of its size.
     pub fn open(disk: D, cache: Cache, log: Log) -> Volume<D>
-        requires cache { cache ≡ fresh }
+        requires cache { cache ≡ fresh_buffers }
         requires log { log ≡ new_log (length (D.image disk)) }
         requires none { logged_count (D.image disk) ≡ 0 }
-        ensures volume { result ≡ record { device = disk; buffers = fresh; log = new_log (length (D.image disk)); fault = None } }
+        ensures volume { result ≡ record { device = disk; buffers = fresh_buffers; log = new_log (length (D.image disk)); fault = None } }
         ensures current { seen (D.image result.device) result.buffers ≡ D.image disk }
     {
         log.known();

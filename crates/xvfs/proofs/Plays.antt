@@ -1,102 +1,40 @@
--- The turns of a schedule's first words, with a line for each.
-use Rattle.std.proofs.Common.{◌≡◌, ℕ, ◌+◌, ◌-◌, ◌<◌, Bool, true, false, List, [], ◌∷◌, ◌++◌, length, drop, refl, sym, ◌∙◌, ap, subst, append_assoc, append-nil, drop-cons, add-one, get_or, Option, Some, None}
-use Rattle.std.specs.Prelude.{flat_map}
-use Rattle.std.specs.Io.KnownBytes.{Appends}
-use Rattle.std.proofs.lemmas.List.{flat_map_more}
-use Rattle.std.proofs.KnownBytes.{Appends-nil, Appends-trans}
+-- A replay prints the turns of some schedule.
+use Rattle.std.proofs.Common.{ℕ, ◌-◌, Bool, true, false, List, [], ◌∷◌, refl, sym, subst, Option, Some, None}
 use Rattle.blocks.specs.Disk.{Image}
 use Rattle.blocks.specs.FaultyDisk.{has_fired}
 use Rattle.blocks.specs.declared.errors.DiskFault.{DiskFault}
+use Rattle.blocks.specs.declared.disk.Disk.{Ghosts}
 use Rattle.blocks.specs.declared.faulty.FaultyDisk.{FaultyDisk}
+use Rattle.blocks.specs.declared.faulty.Trap.{Trap}
 use Rattle.model.specs.declared.types.operations.Answer.{Answer}
 use Rattle.ports.specs.History.{first_in}
 use Rattle.ports.specs.Queues.{answers}
 use Rattle.scripts.specs.declared.schedule.Word.{Word}
 use Rattle.scripts.specs.declared.schedule.Word.TheVariants as word
+use Rattle.scripts.specs.declared.script.Task.{Task}
 use Rattle.kernel.specs.declared.types.Step.{Step}
-use Rattle.xvfs.specs.declared.events.Event.{Event}
-use Rattle.xvfs.specs.declared.turns.Player.{Player}
-use Rattle.xvfs.specs.Events.{event_line, is_last}
-use Rattle.xvfs.specs.Output.{counts_text}
-use Rattle.xvfs.specs.Stepping.{Plain, MakesTurnOf, MakesTurn, MakesTurns, PlaysTo, RunsTo}
-use Rattle.xvfs.specs.Turns.{IsTurnOfProcess, IsTurnOf, IfLast, Plays, PrintsRun, event_of, told_fault}
-
--- the first k words had their turns, which made now of old, and none was the last
-pub record PlayedSo {D : Type 0} (image : FaultyDisk D → Image) (stop : ℕ) (words : List Word) (k : ℕ) (old now : Player D) (text printed : Option (List ℕ)) : Type 0 where
-  pub events : List Event
-  pub lines : Appends text printed (flat_map event_line events)
-  pub joins : (rest : List Event) (new : Player D) → MakesTurns image stop (drop k words) rest now new → MakesTurns image stop words (events ++ rest) old new
-
-pub none_played : {D : Type 0} (image : FaultyDisk D → Image) (stop : ℕ) (words : List Word) (player : Player D) (text : Option (List ℕ)) → PlayedSo image stop words 0 player player text text
-none_played image stop words player text = record { events = []; lines = Appends-nil text; joins = λ rest new makes. makes }
-
--- the next word
-pub next_word : (words : List Word) (k : ℕ) (default : Word) → k < length words → drop k words ≡ get_or words k default ∷ drop (k + 1) words
-next_word words k default within = drop-cons words k default within ∙ ap (λ n. get_or words k default ∷ drop n words) (sym (add-one k))
-
--- one line more
-more_printed : (text mid printed : Option (List ℕ)) (events : List Event) (event : Event) → Appends text mid (flat_map event_line events) → Appends mid printed (event_line event) → Appends text printed (flat_map event_line (events ++ event ∷ []))
-more_printed text mid printed events event before line = subst (Appends text printed) (flat_map_more event_line [] events event) (Appends-trans text mid printed _ _ before line)
-
--- one turn more
-pub one_played : {D : Type 0} (image : FaultyDisk D → Image) (stop : ℕ) (words : List Word) (k : ℕ) (old now next : Player D) (text mid printed : Option (List ℕ)) (word : Word) (event : Event) → PlayedSo image stop words k old now text mid → drop k words ≡ word ∷ drop (k + 1) words
-    → MakesTurn image stop word event now next → is_last event ≡ false → Appends mid printed (event_line event) → PlayedSo image stop words (k + 1) old next text printed
-one_played image stop words k old now next text mid printed word event so left turn more line = record {
-  events = so.events ++ event ∷ [];
-  lines = more_printed text mid printed so.events event so.lines line;
-  joins = λ rest new makes.
-      let here : MakesTurns image stop (word ∷ drop (k + 1) words) (event ∷ rest) now new =
-      (next, turn, subst (λ b. IfLast b ((rest ≡ []) × (new ≡ next)) (MakesTurns image stop (drop (k + 1) words) rest next new)) (sym more) makes) in
-      subst (λ events. MakesTurns image stop words events old new) (sym (append_assoc so.events (event ∷ []) rest)) (so.joins (event ∷ rest) new (subst (λ ws. MakesTurns image stop ws (event ∷ rest) now new) (sym left) here));
-}
-
--- the last turn
-pub last_played : {D : Type 0} (image : FaultyDisk D → Image) (stop : ℕ) (words : List Word) (k : ℕ) (old now next : Player D) (text mid printed : Option (List ℕ)) (word : Word) (event : Event) → PlayedSo image stop words k old now text mid → drop k words ≡ word ∷ drop (k + 1) words
-    → MakesTurn image stop word event now next → is_last event ≡ true → Appends mid printed (event_line event) → PlaysTo image stop words old next text printed
-last_played image stop words k old now next text mid printed word event so left turn last line =
-    let none : List Event = [] in
-    let ends : (none ≡ []) × (next ≡ next) = (refl, refl) in
-    let here : MakesTurns image stop (word ∷ drop (k + 1) words) (event ∷ []) now next =
-    (next, turn, subst (λ b. IfLast b ((none ≡ []) × (next ≡ next)) (MakesTurns image stop (drop (k + 1) words) [] next next)) (sym last) ends) in
-    record {
-      events = so.events ++ event ∷ [];
-      makes = so.joins (event ∷ []) next (subst (λ ws. MakesTurns image stop ws (event ∷ []) now next) (sym left) here);
-      lines = more_printed text mid printed so.events event so.lines line;
-    }
-
--- all words had their turns
-pub all_played : {D : Type 0} (image : FaultyDisk D → Image) (stop : ℕ) (words : List Word) (k : ℕ) (old now : Player D) (text printed : Option (List ℕ)) → PlayedSo image stop words k old now text printed → drop k words ≡ [] → PlaysTo image stop words old now text printed
-all_played image stop words k old now text printed so none =
-    let nothing : List Event = [] in
-    let ends : (nothing ≡ []) × (now ≡ now) = (refl, refl) in
-    record {
-      events = so.events;
-      makes = subst (λ events. MakesTurns image stop words events old now) (append-nil so.events) (so.joins [] now (subst (λ ws. MakesTurns image stop ws [] now now) (sym none) ends));
-      lines = so.lines;
-    }
-
--- the counts behind the turns
-pub counts_printed : {D : Type 0} (image : FaultyDisk D → Image) (count : FaultyDisk D → ℕ) (stop base : ℕ) (words : List Word) (old new : Player D) (fault : Option DiskFault) (text mid printed : Option (List ℕ)) → PlaysTo image stop words old new text mid
-    → told_fault (has_fired new.kernel.volume.device) new.kernel.volume.fault ≡ fault → Appends mid printed (counts_text (count new.kernel.volume.device - base) new.kernel.volume.log.committed) → RunsTo image count stop base words old fault text printed
-counts_printed image count stop base words old new fault text mid printed plays told counts = record {
-  events = plays.events;
-  last = new;
-  makes = plays.makes;
-  tells = told;
-  lines = Appends-trans text mid printed _ _ plays.lines counts;
-}
+use Rattle.player.specs.declared.events.Event.{Event}
+use Rattle.player.specs.declared.turns.Player.{Player}
+use Rattle.player.specs.Events.{is_last}
+use Rattle.player.specs.Opening.{Replays}
+use Rattle.player.specs.Refusal.{OnRefusal}
+use Rattle.player.specs.declared.refusal.Refusal.{Refusal}
+use Rattle.player.specs.declared.refusal.Refusal.TheVariants.{File, Mkfs, Check, Recover, Open, Script, Schedule, Disk, Input, Output}
+use Rattle.player.specs.Stepping.{Plain, MakesTurnOf, MakesTurn, MakesTurns}
+use Rattle.player.specs.Turns.{IfLast, event_of}
+use Rattle.xvfs.specs.Turns.{IsTurnOfProcess, IsTurnOf, Plays, PrintsRun}
 
 is_event_of : (fired : Bool) (stop p : ℕ) (r : Step) (polled : Option Answer) → IsTurnOfProcess stop p (event_of fired stop p r polled)
 is_event_of true stop p r polled = refl
 is_event_of false stop p r None = refl
 is_event_of false stop p r (Some polled) = refl
 
-turn_is_of : {D : Type 0} (makes : Step → Plain (FaultyDisk D) → Plain (FaultyDisk D) → Type 0) (stop p : ℕ) (event : Event) (old new : Player D) → MakesTurnOf makes stop p event old new → IsTurnOfProcess stop p event
+turn_is_of : {D N : Type 0} (makes : Step → Plain (FaultyDisk D) → Plain (FaultyDisk D) → Type 0) (stop p : ℕ) (event : Event) (old new : Player D N) → MakesTurnOf makes stop p event old new → IsTurnOfProcess stop p event
 turn_is_of makes stop p event old new turn =
     subst (IsTurnOfProcess stop p) (sym turn.tells) (is_event_of (has_fired turn.stepped.volume.device) stop p turn.answer (first_in (answers turn.stepped.intake p)))
 
 -- the event of a turn is of its word's process
-pub turn_is : {D : Type 0} (image : FaultyDisk D → Image) (stop : ℕ) (word : Word) (event : Event) (old new : Player D) → MakesTurn image stop word event old new → IsTurnOf stop word event
+pub turn_is : {D N : Type 0} (image : FaultyDisk D → Image) (stop : ℕ) (word : Word) (event : Event) (old new : Player D N) → MakesTurn image stop word event old new → IsTurnOf stop word event
 turn_is image stop (word.Step p) event old new turn = turn_is_of _ stop p event old new turn
 turn_is image stop (word.Steps p) event old new turn = turn_is_of _ stop p event old new turn
 turn_is image stop word.Shutdown event old new turn = turn.0
@@ -105,14 +43,28 @@ if_last : (b : Bool) (P Q R S : Type 0) → (P → R) → (Q → S) → IfLast b
 if_last true P Q R S f h last = f last
 if_last false P Q R S f h more = h more
 
-plays_of : {D : Type 0} (image : FaultyDisk D → Image) (stop : ℕ) (words : List Word) (events : List Event) (old new : Player D) → MakesTurns image stop words events old new → Plays stop words events
+plays_of : {D N : Type 0} (image : FaultyDisk D → Image) (stop : ℕ) (words : List Word) (events : List Event) (old new : Player D N) → MakesTurns image stop words events old new → Plays stop words events
 plays_of image stop [] events old new makes = makes.0
 plays_of image stop (first ∷ words) [] old new makes = makes
 plays_of image stop (first ∷ words) (event ∷ events) old new makes =
     (turn_is image stop first event old makes.0 makes.1, if_last (is_last event) _ _ _ _ (λ ends. ends.0) (λ more. plays_of image stop words events makes.0 new more) makes.2)
 
--- a run prints the turns of some schedule
-pub some_words : {D : Type 0} (image : FaultyDisk D → Image) (count : FaultyDisk D → ℕ) (s t base : ℕ) (words : List Word) (player : Player D) (fault : Option DiskFault) (text printed : Option (List ℕ)) → s ≡ t → RunsTo image count s base words player fault text printed → (of : List Word) × PrintsRun t of text printed
-some_words image count s t base words player fault text printed same run =
-    let plays = plays_of image s words run.events player run.last run.makes in
-    (words, subst (λ stop. PrintsRun stop words text printed) same (run.events, plays, (count run.last.kernel.volume.device - base, (run.last.kernel.volume.log.committed, run.lines))))
+-- a replay prints the turns of some schedule
+pub some_words : {D N : Type 0} (disk : Ghosts (FaultyDisk D) (N × Trap)) (x : Image) (written : ℕ) (tasks : List Task) (processes : ℕ) (words : List Word) (stop : ℕ) (fault : Option DiskFault) (text printed : Option (List ℕ))
+    → Replays disk x written tasks processes words stop fault text printed → (of : List Word) × PrintsRun stop of text printed
+some_words disk x written tasks processes words stop fault text printed replays =
+    let run = replays.runs in
+    (words, (run.events, plays_of disk.image stop words run.events replays.player run.last run.makes, (disk.write_count run.last.kernel.volume.device - disk.write_count replays.player.kernel.volume.device, (run.last.kernel.volume.log.committed, run.lines))))
+
+-- what was printed where a replay was refused
+pub on_refusal : (r : Refusal) (P Q R S : Type 0) → (P → Q) → (R → S) → OnRefusal r P R → OnRefusal r Q S
+on_refusal (Disk _) P Q R S f k h = f h
+on_refusal Output P Q R S f k h = h
+on_refusal (File _) P Q R S f k h = k h
+on_refusal (Mkfs _) P Q R S f k h = k h
+on_refusal (Check _) P Q R S f k h = k h
+on_refusal (Recover _) P Q R S f k h = k h
+on_refusal (Open _) P Q R S f k h = k h
+on_refusal (Script _) P Q R S f k h = k h
+on_refusal (Schedule _) P Q R S f k h = k h
+on_refusal (Input _) P Q R S f k h = k h

@@ -1,12 +1,6 @@
-pub mod Refusal
 pub mod Status
 pub mod Lines
-pub mod Output
-pub mod Recovering
-pub mod Events
-pub mod Inputs
+pub mod Printed
 pub mod Turns
 pub mod Requests
 pub mod CommandLine
-pub mod Backlog
-pub mod Stepping

@@ -1,5 +1,5 @@
 -- What a request is answered.
-use Rattle.std.specs.Prelude.{◌≡◌, ◌≢◌, ◌⊎◌, ℕ, List, [], ◌∷◌, Option, unwrap_or}
+use Rattle.std.specs.Prelude.{◌≡◌, ◌≢◌, ◌⊎◌, ℕ, List, [], ◌∷◌, ◌++◌, Option, unwrap_or}
 use Rattle.clap.specs.Words.{IsAmong, kind_of}
 use Rattle.clap.specs.declared.error.Error.{Error}
 use Rattle.std.specs.Io.KnownBytes.{Appends}
@@ -9,18 +9,20 @@ use Rattle.xvfs.specs.declared.command.Failure.{Failure}
 use Rattle.xvfs.specs.declared.command.Failure.TheVariants.{Refused, Misused}
 use Rattle.xvfs.specs.declared.words.Request.{Request}
 use Rattle.xvfs.specs.declared.words.Request.TheVariants.{Mkfs, Check, Recover, Replay}
-use Rattle.xvfs.specs.declared.refusal.Refusal.{Refusal}
-use Rattle.xvfs.specs.declared.refusal.Refusal.TheVariants.{Output}
-use Rattle.xvfs.specs.Output.{numbers_text, report_text, copied_text}
+use Rattle.player.specs.declared.refusal.Refusal.{Refusal}
+use Rattle.player.specs.declared.refusal.Refusal.TheVariants.{Output}
+use Rattle.player.specs.Output.{numbers_text}
+use Rattle.player.specs.Refusal.{OnRefusal}
+use Rattle.xvfs.specs.Printed.{PrintsCopied, PrintsReport}
 use Rattle.xvfs.specs.CommandLine.{AskFor, IsMistakeIn, mistakes_in}
 use Rattle.xvfs.specs.Status.{IsMisuse}
-use Rattle.xvfs.specs.Turns.{PrintsRun, OnRefusal}
+use Rattle.xvfs.specs.Turns.{PrintsRun}
 
 -- a request was done, and its answer printed
 abbrev pub Answers : Request → Option (List ℕ) → Option (List ℕ) → Type 0
 Answers (Mkfs image size ninodes) old new = Appends old new (numbers_text (planned_super size ninodes))
-Answers (Check image) old new = (logged files : ℕ) × Appends old new (report_text logged files)
-Answers (Recover image) old new = (copied : ℕ) × Appends old new (copied_text copied)
+Answers (Check image) old new = PrintsReport old new
+Answers (Recover image) old new = PrintsCopied old new
 Answers (Replay image script schedule stop) old new = (words : List Word) × PrintsRun (unwrap_or stop 0) words old new
 
 -- what was printed where a request was refused; `none` says that nothing was
@@ -47,3 +49,17 @@ IsUndone words old new none (Misused text) = none × IsMistakeIn words text
 abbrev pub AreDone : List (List (List ℕ)) → Option (List ℕ) → Option (List ℕ) → Type 0
 AreDone [] old new = new ≡ old
 AreDone (words ∷ rest) old new = (mid : Option (List ℕ)) × IsDone words old mid × AreDone rest mid new
+
+-- the command of these words ended without being done, and this was printed
+abbrev pub IsNotDone : List (List ℕ) → Option (List ℕ) → Option (List ℕ) → Type 0
+IsNotDone words old new = (f : Failure) × IsUndone words old new (new ≡ old) f
+
+-- the commands of these lines were done, one after the other, up to one that was not, and none behind it was begun
+pub record StopsAmong (lines : List (List (List ℕ))) (old new : Option (List ℕ)) : Type 0 where
+  pub before : List (List (List ℕ))
+  pub words : List (List ℕ)
+  pub behind : List (List (List ℕ))
+  pub mid : Option (List ℕ)
+  pub split : lines ≡ before ++ words ∷ behind
+  pub done : AreDone before old mid
+  pub fails : IsNotDone words mid new

@@ -1,11 +1,13 @@
 -- The exit status of a command.
-use Rattle.std.specs.Prelude.{◌≡◌, ◌≢◌, ℕ, Result, Ok, Err}
+use Rattle.std.specs.Prelude.{◌≡◌, ◌≢◌, ℕ, ⊤, List, Option, Result, Ok, Err}
+use Rattle.std.specs.Io.KnownBytes.{Appends}
 use Rattle.clap.specs.Words.{kind_of}
 use Rattle.clap.specs.declared.error.Error.{Error}
 use Rattle.clap.specs.declared.error.kind.ErrorKind.TheVariants as kind
 use Rattle.xvfs.specs.declared.command.Failure.{Failure}
 use Rattle.xvfs.specs.declared.command.Failure.TheVariants.{Refused, Misused}
-use Rattle.xvfs.specs.declared.refusal.Refusal.TheVariants.{Output}
+use Rattle.player.specs.declared.refusal.Refusal.TheVariants.{Output}
+use Rattle.xvfs.specs.Printed.{refusal_line}
 
 abbrev pub status_of : Result Unit Failure → ℕ
 status_of (Ok _) = 0
@@ -20,3 +22,8 @@ IsMisuse text = (kind_of text ≢ kind.DisplayHelp) × (kind_of text ≢ kind.Di
 abbrev pub IsUnprinted : Error → Failure → Type 0
 IsUnprinted text (Misused other) = (other ≡ text) × IsMisuse text
 IsUnprinted text (Refused r) = (r ≡ Output) × (¬ (IsMisuse text))
+
+-- a refusal was told, where the bytes are known; what is said of words that are no command is clap's
+abbrev pub Tells : Failure → Option (List ℕ) → Option (List ℕ) → Type 0
+Tells (Refused r) old new = Appends old new (refusal_line r)
+Tells (Misused _) old new = ⊤

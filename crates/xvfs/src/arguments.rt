@@ -1,8 +1,8 @@
 // The words that the program was started with.
 ghost use Rattle.std.specs.Prelude.{IfErr};
-ghost use Rattle.xvfs.specs.Refusal.{IsOfInput};
+ghost use Rattle.player.specs.Refusal.{IsOfInput};
 
-use crate::refusal::{InputFault, Refusal};
+use player::{InputFault, Refusal, input_unread};
 use std::env;
 use std::rt::Env;
 
@@ -15,10 +15,11 @@ use std::rt::Env;
 pub fn given<R: Env + AllocGlobal>(rt: &R) -> Result<Vec<String>, Refusal>
     ensures { IfErr result IsOfInput }
 {
-    let arguments = env::args(rt).map_err(InputFault::from)?;
+    let arguments = env::args(rt).map_err(|error| Refusal::Input(input_unread(error)))?;
     let words: Vec<String> = arguments
         .skip(1)
         .collect(rt.alloc())
-        .map_err(InputFault::from)?;
+        .map_err(InputFault::from)
+        .map_err(Refusal::Input)?;
     Ok(words)
 }

@@ -3,16 +3,13 @@ ghost use Rattle.std.specs.Prelude.{◌≡◌, ◌≤◌, map, Err, OnOk, IfErr,
 ghost use Rattle.xvfs.specs.Requests.{Answers, IsDone, IsUndone, OnRefused};
 ghost use Rattle.xvfs.specs.Status.{IsMisuse, IsUnprinted, status_of};
 ghost use Rattle.xvfs.specs.declared.command.Failure.TheVariants as failure;
-ghost use Rattle.xvfs.specs.declared.refusal.Refusal.{Refusal as SomeRefusal};
-ghost use Rattle.xvfs.specs.Output.{Tells};
+ghost use Rattle.clap.specs.declared.error.Error.{Error as SomeError};
+ghost use Rattle.player.specs.declared.refusal.Refusal.{Refusal as SomeRefusal};
+ghost use Rattle.xvfs.specs.Status.{Tells};
 
-use crate::checking::check_file;
-use crate::making::make;
-use crate::output::print;
-use crate::recovering::recover_file;
-use crate::refusal::Refusal;
-use crate::replaying::replay;
+use crate::images::{check_file, make_file, recover_file, replay_files};
 use crate::words::{Request, parse};
+use player::{Refusal, print_last};
 use std::convert::AsStr;
 use std::io::Write;
 use std::rt::Files;
@@ -53,6 +50,7 @@ pub fn command<R: Files + AllocGlobal, S: AsStr, O: Write, E: Write>(
     ensures status { result ≤ 2 }
     ensures done { result ≡ 0 → IsDone (map S.text words.now) (O.contents out.old) (O.contents out.new) }
     ensures refused { result ≡ 1 → (r : SomeRefusal) × IsUndone (map S.text words.now) (O.contents out.old) (O.contents out.new) (out.new ≡ out.old) (failure.Refused r) }
+    ensures wrong { result ≡ 2 → (text : SomeError) × IsUndone (map S.text words.now) (O.contents out.old) (O.contents out.new) (out.new ≡ out.old) (failure.Misused text) }
     ensures silent { result ≡ 0 → err.new ≡ err.old }
     ensures misused { result ≡ 2 → out.new ≡ out.old }
 {
@@ -89,8 +87,8 @@ fn report<E: Write>(failure: Failure, err: &mut E) -> Result<(), Refusal>
     ensures err { IsOkUnless result Refusal.Output }
 {
     match failure {
-        Failure::Refused(refusal) => print(err, format_args!("xvfs: {refusal}\n")),
-        Failure::Misused(text) => print(err, text),
+        Failure::Refused(refusal) => print_last(err, format_args!("xvfs: {refusal}\n")),
+        Failure::Misused(text) => print_last(err, text),
     }
 }
 
@@ -118,7 +116,7 @@ fn explain<O: Write>(text: clap::Error, out: &mut O) -> Result<(), Failure>
     if text.use_stderr() {
         return Err(Failure::Misused(text));
     }
-    Ok(print(out, text)?)
+    Ok(print_last(out, text)?)
 }
 
 // Does what is asked for, and prints the answer.
@@ -135,7 +133,7 @@ fn dispatch<R: Files + AllocGlobal, O: Write>(
             image,
             size,
             ninodes,
-        } => make(rt, image, size, ninodes, out),
+        } => make_file(rt, image, size, ninodes, out),
         Request::Check { image } => check_file(rt, image, out),
         Request::Recover { image } => recover_file(rt, image, out),
         Request::Replay {
@@ -143,6 +141,6 @@ fn dispatch<R: Files + AllocGlobal, O: Write>(
             script,
             schedule,
             stop,
-        } => replay(rt, image, script, schedule, stop, out),
+        } => replay_files(rt, image, script, schedule, stop, out),
     }
 }

@@ -1,12 +1,12 @@
 // Command lines from a reader.
-ghost use Rattle.std.specs.Prelude.{◌≡◌, ◌≤◌, ◌<◌, ◌↔◌, [], length, map, IfOk, IfSome, string_bytes};
+ghost use Rattle.std.specs.Prelude.{◌≡◌, ◌≢◌, ◌⊎◌, ◌≤◌, ◌<◌, ◌↔◌, [], length, map, IfOk, IfSome, string_bytes};
 ghost use Rattle.std.specs.Result.{IsErrOf};
 ghost use Rattle.std.specs.Str.{IsUtf8};
 ghost use Rattle.xvfs.specs.Lines.{lines_in, words_in, script_in};
-ghost use Rattle.xvfs.specs.Requests.{AreDone};
+ghost use Rattle.xvfs.specs.Requests.{AreDone, StopsAmong};
 
 use crate::command::{command, refuse};
-use crate::refusal::InputFault;
+use player::{InputFault, Refusal, input_unread};
 use std::alloc::{AllocError, Global};
 use std::io::{Read, Write};
 use std::rt::Files;
@@ -27,11 +27,13 @@ pub fn commands<R: Files + AllocGlobal, I: Read + Drop, O: Write, E: Write>(
     ensures status { result ≤ 2 }
     ensures large { IfSome (I.remaining input) (λ bytes. LIMIT < length bytes → (result ≡ 1) × (out.new ≡ out.old)) }
     ensures done { IfSome (I.remaining input) (λ bytes. result ≡ 0 → AreDone (script_in (lines_in bytes)) (O.contents out.old) (O.contents out.new)) }
+    ensures stopped { IfSome (I.remaining input) (λ bytes. result ≢ 0
+        → StopsAmong (script_in (lines_in bytes)) (O.contents out.old) (O.contents out.new) ⊎ (out.new ≡ out.old)) }
     ensures silent { result ≡ 0 → err.new ≡ err.old }
 {
     match read_text(rt.alloc(), input) {
         Ok(text) => perform_text(rt, text.as_str(), out, err),
-        Err(fault) => refuse(fault.into(), err),
+        Err(fault) => refuse(Refusal::Input(fault), err),
     }
 }
 
@@ -40,7 +42,10 @@ fn read_text<I: Read + Drop>(alloc: Global, input: I) -> Result<String, InputFau
     ensures { IfOk result (λ text. IfSome (I.remaining input) (λ bytes. (length bytes ≤ LIMIT) × (string_bytes text ≡ bytes))) }
 {
     let mut bytes = Vec::new(alloc);
-    input.take(LIMIT as u64 + 1).read_to_end(&mut bytes)?;
+    input
+        .take(LIMIT as u64 + 1)
+        .read_to_end(&mut bytes)
+        .map_err(|error| input_unread(error))?;
     text_of(bytes)
 }
 
@@ -64,11 +69,12 @@ fn perform_text<R: Files + AllocGlobal, O: Write, E: Write>(
 ) -> u8
     ensures status { result ≤ 2 }
     ensures done { result ≡ 0 → AreDone (script_in (lines_in text.now)) (O.contents out.old) (O.contents out.new) }
+    ensures stopped { result ≢ 0 → StopsAmong (script_in (lines_in text.now)) (O.contents out.old) (O.contents out.new) ⊎ (out.new ≡ out.old) }
     ensures silent { result ≡ 0 → err.new ≡ err.old }
 {
     match script_of(rt.alloc(), text) {
         Ok(lines) => perform_lines(rt, lines.as_slice(), out, err),
-        Err(_) => refuse(InputFault::NoMemory.into(), err),
+        Err(_) => refuse(Refusal::Input(InputFault::NoMemory), err),
     }
 }
 
@@ -81,6 +87,7 @@ fn perform_lines<R: Files + AllocGlobal, O: Write, E: Write>(
     ensures status { result ≤ 2 }
     ensures none { lines.now ≡ [] → (result ≡ 0) × (out.new ≡ out.old) }
     ensures done { result ≡ 0 → AreDone (map (λ words. map (λ word. word.now) words.items) lines.now) (O.contents out.old) (O.contents out.new) }
+    ensures stopped { result ≢ 0 → StopsAmong (map (λ words. map (λ word. word.now) words.items) lines.now) (O.contents out.old) (O.contents out.new) }
     ensures silent { result ≡ 0 → err.new ≡ err.old }
 {
     for words in lines {

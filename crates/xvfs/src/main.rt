@@ -2,30 +2,23 @@
 #![tactic(auto)]
 
 mod arguments;
-mod backlog;
-mod checking;
 mod command;
 mod commands;
-mod events;
+mod images;
 mod inputs;
-mod making;
-mod output;
-mod recovering;
-mod refusal;
-mod replaying;
-mod turns;
 mod words;
 
 use command::{command, refuse};
 use commands::commands;
+use player::{Refusal, input_unread};
+use std::io::{BufWriter, Stdout};
 use std::process::ExitCode;
 
 fn main(rt: HostRuntime) -> ExitCode {
-    let mut out = rt.stdout();
     let mut err = rt.stderr();
-    let status = match arguments::given(&rt) {
+    let status = match words_and_output(&rt) {
         Err(refusal) => refuse(refusal, &mut err),
-        Ok(words) => {
+        Ok((words, mut out)) => {
             if words.is_empty() {
                 commands(&rt, rt.stdin(), &mut out, &mut err)
             } else {
@@ -36,5 +29,12 @@ fn main(rt: HostRuntime) -> ExitCode {
     ExitCode::from(status)
 }
 
-#[cfg(test)]
-mod tests;
+// The words that the program was started with, and its output, which is held back up to the end of
+// each command.
+fn words_and_output(rt: &HostRuntime) -> Result<(Vec<String>, BufWriter<Stdout>), Refusal> {
+    let words = arguments::given(rt)?;
+    let out = BufWriter::new(rt.alloc(), rt.stdout()).map_err(|error| Refusal::Input(input_unread(
+        error,
+    )))?;
+    Ok((words, out))
+}

@@ -1,7 +1,8 @@
 use Rattle.std.proofs.Common.{rules, arith, refl, ◌≡◌, ◌<◌, ◌∙◌, ap, sym, subst, length, map}
 use Rattle.std.proofs.lemmas.List.{take_more, map-append}
-use Rattle.xvfs.specs.Requests.{IsDone, AreDone}
-use Rattle.xvfs.proofs.Sequences.{one_more_done}
+use Rattle.xvfs.specs.Requests.{IsDone, IsNotDone, AreDone}
+use Rattle.xvfs.proofs.Sequences.{one_more_done, stops_here}
+use Rattle.xvfs.proofs.Undone.{not_done}
 use Rattle.xvfs.proofs.commands.perform_lines.Goals as goal
 
 pub loop-words-init : goal.loop-words-init
@@ -18,3 +19,13 @@ loop-words-preserved g c =
           (one_more_done _ _ _ _ _ c.loop-words.invariant.done
           (subst (λ ws. IsDone (map (λ word. word.now) ws) (g.O.Write.contents c.loop-words.out) (g.O.Write.contents c.command-status.new.out)) (c.as_slice.ensures.value ∙ ap (λ v. v.items) c.words-item.is) (c.command-status.ensures.done (search rules))));
     }
+
+pub returns-then-status-ne0-clause-stopped : goal.returns-then-status-ne0-clause-stopped
+returns-then-status-ne0-clause-stopped g c =
+    let contents = g.O.Write.contents in
+    let lt : c.loop-words.words-index < length c.args.lines.now = search rules in
+    λ other. stops_here (λ words. map (λ word. word.now) words.items) c.args.lines.now c.loop-words.words-index _ (contents c.args.out.now) (contents c.loop-words.out) (contents c.command-status.new.out) lt
+    c.loop-words.invariant.done
+    (subst (λ ws. IsNotDone (map (λ word. word.now) ws) (contents c.loop-words.out) (contents c.command-status.new.out)) (c.as_slice.ensures.value ∙ ap (λ v. v.items) c.words-item.is)
+    (not_done _ (contents c.loop-words.out) (contents c.command-status.new.out) (c.command-status.new.out ≡ c.loop-words.out) c.command-status.result (λ same. ap contents same) c.command-status.ensures.status other
+    c.command-status.ensures.refused c.command-status.ensures.wrong))

@@ -1,6 +1,6 @@
-use Rattle.std.proofs.Common.{◌≡◌, ◌++◌, take, subst}
+use Rattle.std.proofs.Common.{◌≡◌, rules, take, subst}
 use Rattle.std.specs.Prelude.{IfSome, option_map, string_bytes}
-use Rattle.xvfs.specs.declared.refusal.InputFault.TheVariants as fault
+use Rattle.player.specs.declared.faults.InputFault.TheVariants as fault
 use Rattle.xvfs.specs.declared.commands.TheConstants.{LIMIT}
 use Rattle.xvfs.proofs.Reading.{whole_read}
 use Rattle.xvfs.proofs.commands.read_text.Goals as goal
@@ -9,7 +9,7 @@ pub returns : goal.returns
 returns g c =
     let items = c.read_to_end.new.buf.items in
     let taken = option_map (take c.take.result.limit) (g.I.Read.remaining c.take.result.inner) in
-    let read : IfSome taken (λ xs. items ≡ xs) = subst (λ old. IfSome taken (λ xs. items ≡ old ++ xs)) c.new-bytes.ensures.items c.in_ok-read_to_end.ensures.bytes in
+    let read : IfSome taken (λ xs. items ≡ xs) = search rules in
     whole_read string_bytes c.text_of.result fault.TooLarge (g.I.Read.remaining c.args.input) items LIMIT c.take.result.limit c.take.ensures.limit
     (subst (λ inner. IfSome (option_map (take c.take.result.limit) (g.I.Read.remaining inner)) (λ xs. items ≡ xs)) c.take.ensures.inner read)
     c.text_of.ensures.ok c.text_of.ensures.large

@@ -9,7 +9,7 @@ use Rattle.wal.specs.Volume.{VolumeState}
 use Rattle.kernel.specs.declared.types.At.TheVariants as at
 use Rattle.kernel.specs.Processes.{World, process, made_reply}
 use Rattle.kernel.specs.State.{State, is_under_way_at}
-use Rattle.kernel.specs.Turns.{HasLooked}
+use Rattle.kernel.specs.Decisions.{HasLooked}
 use Rattle.kernel.proofs.Looking.{looks_as, searches_now, ends_now, looked_on, looked_over, looked_at_none}
 use Rattle.kernel.specs.Table.{IsTable}
 use Rattle.kernel.proofs.Commits.{where_none, if_none, if_some}
@@ -83,25 +83,25 @@ invariant_of-self-in-Over g c =
     let well : c.self.inside.volume.fault ≡ None = search rules in
     let stands : (process c.self.inside.processes c.args.pid).at ≡ at.Creating c.args.group c.args.search = search rules in
     let lt : c.args.pid < length c.self.inside.processes.processes = search rules in
-    let stays = search_over (g.D.Disk.image c.self.inside.volume.device) c.self.inside.volume c.step.new.volume _ c.args.pid c.args.group c.args.search c.step.new.self c.self.inside.processes c.turn.new.self
-    (where_none _ well c.known.ensures) (where_none _ well c.self.invariant.table) lt stands _ _ _ c.in-Over.ensures.step c.turn.ensures in
+    let stays = search_over (g.D.Disk.image c.self.inside.volume.device) c.self.inside.volume c.step.new.volume _ c.args.pid c.args.group c.args.search c.step.new.self c.self.inside.processes c.decide.new.self
+    (where_none _ well c.known.ensures) (where_none _ well c.self.invariant.table) lt stands _ _ _ c.in-Over.ensures.step c.decide.ensures in
     let fits = g.I.Intake.fits in
     let image = g.D.Disk.image in
     let opening = image c.self.inside.opening.value in
-    let recovers = recovers_turn image opening c.self.inside.volume c.step.new.volume c.self.inside.processes c.turn.new.self (where_none _ well c.self.invariant.recovers)
+    let recovers = recovers_turn image opening c.self.inside.volume c.step.new.volume c.self.inside.processes c.decide.new.self (where_none _ well c.self.invariant.recovers)
     c.self.inside.inode_count c.args.pid c.args.group c.args.search c.step.new.self c.in-Over.made (where_none _ well c.known.ensures) (where_none _ well c.self.invariant.table) c.self.invariant.numbers.same stands
-    c.in-Over.ensures.step c.in-Over.ensures.claimed c.in-Over.ensures.current c.step.ensures.device.image stays.opened stays.committed c.turn.ensures in
+    c.in-Over.ensures.step c.in-Over.ensures.claimed c.in-Over.ensures.current c.step.ensures.device.image stays.opened stays.committed c.decide.ensures in
     record {
       table = if_none _ stays.table;
-      processes = c.self.invariant.processes ∙ sym (as_many c.self.inside.processes c.turn.new.self c.args.pid _ (ap (λ (v : World). v.processes) c.turn.ensures));
-      room = rooms_busy (g.I.Intake.side c.self.inside.intake) c.self.inside.processes c.turn.new.self c.args.pid _ lt (ap (λ (v : World). v.processes) c.turn.ensures) (ap is_under_way_at stands) c.self.invariant.room;
+      processes = c.self.invariant.processes ∙ sym (as_many c.self.inside.processes c.decide.new.self c.args.pid _ (ap (λ (v : World). v.processes) c.decide.ensures));
+      room = rooms_busy (g.I.Intake.side c.self.inside.intake) c.self.inside.processes c.decide.new.self c.args.pid _ lt (ap (λ (v : World). v.processes) c.decide.ensures) (ap is_under_way_at stands) c.self.invariant.room;
       told = c.self.invariant.told ∙ sym stays.committed;
       numbers = c.self.invariant.numbers;
-      journal = journal_turned opening (image c.self.inside.volume.device) c.self.inside.volume.buffers c.self.inside.volume.log c.step.new.volume.log.opened c.self.inside.inode_count c.args.pid c.args.group c.args.search c.in-Over.made c.self.inside.processes c.turn.new.self
-          c.self.invariant.journal (where_none _ well c.known.ensures) (where_none _ well c.self.invariant.table) stands stays.opened c.turn.ensures;
+      journal = journal_turned opening (image c.self.inside.volume.device) c.self.inside.volume.buffers c.self.inside.volume.log c.step.new.volume.log.opened c.self.inside.inode_count c.args.pid c.args.group c.args.search c.in-Over.made c.self.inside.processes c.decide.new.self
+          c.self.invariant.journal (where_none _ well c.known.ensures) (where_none _ well c.self.invariant.table) stands stays.opened c.decide.ensures;
       recovers = if_none _ recovers;
-      keeps = kept_of image opening c.step.new.volume c.turn.new.self.journal.list recovers;
-      histories = histories_turn (fits c.self.inside.intake) (fits c.self.inside.intake) c.self.inside.processes c.turn.new.self c.args.pid _ lt (ap (λ (v : World). v.processes) c.turn.ensures) _ (Create c.args.search.kind) (ap (λ (v : World). v.journal.list) c.turn.ensures)
+      keeps = kept_of image opening c.step.new.volume c.decide.new.self.journal.list recovers;
+      histories = histories_turn (fits c.self.inside.intake) (fits c.self.inside.intake) c.self.inside.processes c.decide.new.self c.args.pid _ lt (ap (λ (v : World). v.processes) c.decide.ensures) _ (Create c.args.search.kind) (ap (λ (v : World). v.journal.list) c.decide.ensures)
           refl refl refl (ap pending_at stands) (ap (λ (a : At). owed_at a (process c.self.inside.processes c.args.pid)) stands) refl refl refl (fit_same (fits c.self.inside.intake)) c.self.invariant.histories;
     }
 
@@ -164,9 +164,9 @@ returns-in-Over-clause-looked g c =
     let lt : c.args.pid < length c.self.inside.processes.processes = search rules in
     let image = g.D.Disk.image in
     let now = seen (image c.step.new.volume.device) c.step.new.volume.buffers in
-    subst (λ (k : State _ _ _). HasLooked k.inode_count (seen (image k.volume.device) k.volume.buffers) now (process k.world c.args.pid).at (process c.turn.new.self c.args.pid).at) c.self.view_is
-    (looks_as c.self.inside.inode_count (seen (image c.self.inside.volume.device) c.self.inside.volume.buffers) now c.self.inside.processes c.turn.new.self c.args.pid (at.Creating c.args.group c.args.search) (at.Ending c.args.group (made_reply c.in-Over.made))
-    stands (ends_now c.self.inside.processes c.turn.new.self c.args.pid c.args.group (Create c.args.search.kind) (made_reply c.in-Over.made) lt c.turn.ensures)
+    subst (λ (k : State _ _ _). HasLooked k.inode_count (seen (image k.volume.device) k.volume.buffers) now (process k.world c.args.pid).at (process c.decide.new.self c.args.pid).at) c.self.view_is
+    (looks_as c.self.inside.inode_count (seen (image c.self.inside.volume.device) c.self.inside.volume.buffers) now c.self.inside.processes c.decide.new.self c.args.pid (at.Creating c.args.group c.args.search) (at.Ending c.args.group (made_reply c.in-Over.made))
+    stands (ends_now c.self.inside.processes c.decide.new.self c.args.pid c.args.group (Create c.args.search.kind) (made_reply c.in-Over.made) lt c.decide.ensures)
     (looked_over image (image c.self.inside.opening.value) c.self.inside.volume c.step.new.volume c.self.inside.processes c.self.inside.inode_count c.args.pid c.args.group c.args.search c.step.new.self
     (where_none _ well c.self.invariant.recovers) (where_none _ well c.known.ensures) (where_none _ well c.self.invariant.table) c.self.invariant.numbers.same stands c.in-Over.made c.in-Over.ensures.step c.in-Over.ensures.claimed c.in-Over.ensures.taken c.in-Over.ensures.current))
 

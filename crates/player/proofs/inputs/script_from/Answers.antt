@@ -1,0 +1,18 @@
+use Rattle.std.proofs.Common.{◌≡◌, take, refl, rules, subst, sym}
+use Rattle.std.specs.Prelude.{IfSome}
+use Rattle.player.proofs.Reading.{script_read, script_refused}
+use Rattle.player.proofs.inputs.script_from.Goals as goal
+
+pub returns-clause-tasks : goal.returns-clause-tasks
+returns-clause-tasks g c =
+    let left = g.I.Read.remaining c.args.input in
+    let read : IfSome left (λ all. c.in_ok-text.text.items ≡ take 4194305 all) = search rules in
+    script_read (λ tasks. tasks.items) c.script_of.result left c.as_slice.result.now 4194305 refl
+    (subst (λ text. IfSome left (λ all. text ≡ take 4194305 all)) (sym c.as_slice.ensures.value) read) c.script_of.ensures.tasks c.script_of.ensures.sound
+
+pub returns-clause-fault : goal.returns-clause-fault
+returns-clause-fault g c =
+    let left = g.I.Read.remaining c.args.input in
+    let read : IfSome left (λ all. c.in_ok-text.text.items ≡ take 4194305 all) = search rules in
+    script_refused c.script_of.result left c.as_slice.result.now 4194305 refl (subst (λ text. IfSome left (λ all. text ≡ take 4194305 all)) (sym c.as_slice.ensures.value) read)
+    c.script_of.ensures.fault

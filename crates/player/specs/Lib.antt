@@ -1,0 +1,10 @@
+pub mod Telling
+pub mod Refusal
+pub mod Output
+pub mod Causes
+pub mod Events
+pub mod Inputs
+pub mod Turns
+pub mod Backlog
+pub mod Stepping
+pub mod Opening

@@ -1,0 +1,90 @@
+-- How the layers' faults are told.
+use Rattle.std.specs.Prelude.{ℕ, List, Option, Some, None, codes}
+use Rattle.blocks.specs.declared.errors.DiskFault.{DiskFault}
+use Rattle.blocks.specs.declared.errors.FileFault.{FileFault}
+use Rattle.blocks.specs.declared.errors.FileFault.TheVariants as file
+use Rattle.layout.specs.declared.geometry.MkfsFault.{MkfsFault}
+use Rattle.layout.specs.declared.geometry.MkfsFault.TheVariants as mkfs
+use Rattle.model.specs.declared.types.fault.CheckFault.{CheckFault}
+use Rattle.model.specs.declared.types.fault.CheckFault.TheVariants as check
+use Rattle.wal.specs.declared.faults.RecoverFault.{RecoverFault}
+use Rattle.wal.specs.declared.faults.RecoverFault.TheVariants as recover
+use Rattle.scripts.specs.declared.script.ScriptFault.{ScriptFault}
+use Rattle.scripts.specs.declared.script.ScriptFault.TheVariants as script
+use Rattle.scripts.specs.declared.schedule.ScheduleFault.{ScheduleFault}
+use Rattle.scripts.specs.declared.schedule.ScheduleFault.TheVariants as schedule
+use Rattle.player.specs.declared.faults.InputFault.{InputFault}
+use Rattle.player.specs.declared.faults.InputFault.TheVariants as input
+use Rattle.player.specs.declared.faults.KernelFault.{KernelFault}
+use Rattle.player.specs.declared.faults.KernelFault.TheVariants as kernel
+use Rattle.player.specs.declared.told.Told.{Told}
+
+-- a fault's number among its layer's, its name, and the inode, the block, the line or the word that it names
+pub record Telling : Type 0 where
+  pub number : ℕ
+  pub name : List ℕ
+  pub argument : Option ℕ
+
+abbrev pub telling_of : Told → Telling
+telling_of t = record { number = t.number; name = t.name.now; argument = t.argument }
+
+-- of a fault that names nothing
+abbrev pub plain : ℕ → List ℕ → Telling
+plain number name = record { number = number; name = name; argument = None }
+
+abbrev pub naming : ℕ → List ℕ → ℕ → Telling
+naming number name argument = record { number = number; name = name; argument = Some argument }
+
+abbrev pub file_telling : FileFault → Telling
+file_telling file.Open = plain 1 (codes "Open")
+file_telling file.Length = plain 2 (codes "Length")
+file_telling file.NoMemory = plain 3 (codes "NoMemory")
+
+abbrev pub mkfs_telling : MkfsFault → Telling
+mkfs_telling mkfs.SizeRange = plain 1 (codes "SizeRange")
+mkfs_telling mkfs.InodeRange = plain 2 (codes "InodeRange")
+mkfs_telling mkfs.Disk = plain 3 (codes "Disk")
+mkfs_telling mkfs.NoMemory = plain 4 (codes "NoMemory")
+
+abbrev pub check_telling : CheckFault → Telling
+check_telling check.BadMagic = plain 1 (codes "BadMagic")
+check_telling check.BadGeometry = plain 2 (codes "BadGeometry")
+check_telling check.BadLog = plain 3 (codes "BadLog")
+check_telling (check.BadType inode) = naming 4 (codes "BadType") inode
+check_telling (check.BadSize inode) = naming 5 (codes "BadSize") inode
+check_telling (check.BadAddress inode) = naming 6 (codes "BadAddress") inode
+check_telling (check.TwiceUsed block) = naming 7 (codes "TwiceUsed") block
+check_telling (check.UsedButFree block) = naming 8 (codes "UsedButFree") block
+check_telling (check.LostBlock block) = naming 9 (codes "LostBlock") block
+check_telling check.Disk = plain 10 (codes "Disk")
+check_telling check.NoMemory = plain 11 (codes "NoMemory")
+
+abbrev pub recover_telling : RecoverFault → Telling
+recover_telling recover.Disk = plain 1 (codes "Disk")
+recover_telling recover.BadLog = plain 2 (codes "BadLog")
+recover_telling recover.NoMemory = plain 3 (codes "NoMemory")
+
+abbrev pub kernel_telling : KernelFault → Telling
+kernel_telling kernel.NoMemory = plain 3 (codes "NoMemory")
+kernel_telling kernel.ProcRange = plain 4 (codes "ProcRange")
+
+abbrev pub script_telling : ScriptFault → Telling
+script_telling (script.BadLine line) = naming 1 (codes "BadLine") line
+script_telling script.TooLarge = plain 2 (codes "TooLarge")
+script_telling script.NoMemory = plain 3 (codes "NoMemory")
+script_telling script.File = plain 4 (codes "File")
+script_telling (script.NotYet line) = naming 5 (codes "NotYet") line
+
+abbrev pub schedule_telling : ScheduleFault → Telling
+schedule_telling (schedule.BadWord word) = naming 1 (codes "BadWord") word
+schedule_telling schedule.TooLarge = plain 2 (codes "TooLarge")
+schedule_telling schedule.NoMemory = plain 3 (codes "NoMemory")
+schedule_telling schedule.File = plain 4 (codes "File")
+
+abbrev pub disk_telling : DiskFault → Telling
+disk_telling fault = naming 1 (codes "DiskFault") fault.0
+
+abbrev pub input_telling : InputFault → Telling
+input_telling input.Read = plain 1 (codes "Read")
+input_telling input.TooLarge = plain 2 (codes "TooLarge")
+input_telling input.NoMemory = plain 3 (codes "NoMemory")

@@ -1,0 +1,24 @@
+-- What a turn of a process comes to.
+use Rattle.std.specs.Prelude.{ℕ, Bool, true, false, Option, Some, None, if◌then◌else◌}
+use Rattle.blocks.specs.declared.errors.DiskFault.{DiskFault}
+use Rattle.model.specs.declared.types.operations.Answer.{Answer}
+use Rattle.kernel.specs.declared.types.Step.{Step}
+use Rattle.player.specs.declared.events.Event.{Event}
+use Rattle.player.specs.declared.events.Event.TheVariants.{Stepped, Answered, Stopped}
+
+-- what a turn came to whose last step answered so, and whose process had that answer waiting
+abbrev pub answered_or : ℕ → Step → Option Answer → Event
+answered_or p s (Some a) = Answered p a
+answered_or p s None = Stepped p s
+
+-- the same where the write to be stopped was reached, or not
+abbrev pub event_of : Bool → ℕ → ℕ → Step → Option Answer → Event
+event_of fired stop p s a = if fired then Stopped stop else answered_or p s a
+
+abbrev pub IfLast : Bool → Type 0 → Type 0 → Type 0
+IfLast true last more = last
+IfLast false last more = more
+
+-- the fault that is told: none where the write that was to be stopped was reached
+abbrev pub told_fault : Bool → Option DiskFault → Option DiskFault
+told_fault fired fault = if fired then None else fault

@@ -1,0 +1,186 @@
+// What a turn of a schedule came to, and its line.
+ghost use Rattle.std.specs.Prelude.{◌≡◌, Some};
+ghost use Rattle.player.specs.Events.{number_of, name_of, step_text, bytes_text, reply_text, answer_text, event_text, is_last};
+
+use itoa::Buffer;
+use kernel::Step;
+use model::types::{Answer, Reply, Why};
+use std::fmt;
+
+/// What a turn came to.
+#[derive(Debug, Drop)]
+pub enum Event {
+    /// The last step of this process answered so.
+    Stepped(u32, Step),
+    /// An operation of this process was answered.
+    Answered(u32, Answer),
+    /// No operation begins from now on.
+    Shut,
+    /// The step would have made this write of the run, counted from 1.
+    Stopped(u64),
+}
+
+impl Event {
+    /// Whether the turn was the last of its run: the disk failed, or was made to.
+    pub fn is_last(&self) -> bool
+        ensures { result ≡ is_last self.now }
+    {
+        match self {
+            Event::Stopped(_) => true,
+            Event::Stepped(_, step) => matches!(step, Step::Halted),
+            Event::Answered(..) | Event::Shut => false,
+        }
+    }
+}
+
+/// The line of a turn, without its line feed.
+impl fmt::Display for Event {
+    ghost output = { λ event. Some (event_text event) };
+
+    fn fmt<W: fmt::Write>(&self, f: &mut fmt::Formatter<W>) -> fmt::Result {
+        let mut digits = Buffer::new();
+        match self {
+            Event::Stepped(pid, step) => {
+                let pid = digits.format(*pid);
+                let step = StepText(*step);
+                write!(f, "{pid} {step}")
+            }
+            Event::Answered(pid, answer) => {
+                let pid = digits.format(*pid);
+                let answer = AnswerText(answer);
+                write!(f, "{pid} {answer}")
+            }
+            Event::Shut => write!(f, "shut"),
+            Event::Stopped(write) => {
+                let write = digits.format(*write);
+                write!(f, "stopped before write {write}")
+            }
+        }
+    }
+}
+
+// What a step answered, as a line tells it.
+#[derive(Drop)]
+struct StepText(Step);
+
+impl fmt::Display for StepText {
+    ghost output = { λ step. Some (step_text step.0) };
+
+    fn fmt<W: fmt::Write>(&self, f: &mut fmt::Formatter<W>) -> fmt::Result {
+        match self.0 {
+            Step::Moved => write!(f, "moved"),
+            Step::Answered => write!(f, "answered"),
+            Step::Sleeping(why) => {
+                let mut digits = Buffer::new();
+                let number = digits.format(number_of(why));
+                write!(f, "sleeping {number} {}", name_of(why))
+            }
+            Step::Idle => write!(f, "idle"),
+            Step::NoMemory => write!(f, "nomemory"),
+            Step::ShutDown => write!(f, "shutdown"),
+            Step::Halted => write!(f, "halted"),
+            Step::NotYet => write!(f, "notyet"),
+        }
+    }
+}
+
+// An answer, as a line tells it.
+#[derive(Drop)]
+struct AnswerText<'a>(&'a Answer);
+
+impl fmt::Display for AnswerText<'_> {
+    ghost output = { λ answer. Some (answer_text answer.0.now) };
+
+    fn fmt<W: fmt::Write>(&self, f: &mut fmt::Formatter<W>) -> fmt::Result {
+        let mut buffers = (Buffer::new(), Buffer::new());
+        let seq = buffers.0.format(self.0.seq);
+        let group = buffers.1.format(self.0.group);
+        let reply = ReplyText(&self.0.reply);
+        write!(f, "answered {seq} {group} {reply}")
+    }
+}
+
+// A reply, as a line tells it.
+#[derive(Drop)]
+struct ReplyText<'a>(&'a Reply);
+
+impl fmt::Display for ReplyText<'_> {
+    ghost output = { λ reply. Some (reply_text reply.0.now) };
+
+    fn fmt<W: fmt::Write>(&self, f: &mut fmt::Formatter<W>) -> fmt::Result {
+        let mut buffers = (Buffer::new(), Buffer::new());
+        match self.0 {
+            Reply::Made(inode) => {
+                let inode = buffers.0.format(*inode);
+                write!(f, "made {inode}")
+            }
+            Reply::NoInode => write!(f, "noinode"),
+            Reply::Wrote(count) => {
+                let count = buffers.0.format(*count);
+                write!(f, "wrote {count}")
+            }
+            Reply::Bytes(bytes) => {
+                let digits = HexText(bytes.as_slice());
+                write!(f, "bytes {digits}")
+            }
+            Reply::Done => write!(f, "done"),
+            Reply::StatOf(kind, size) => {
+                let kind = buffers.0.format(*kind);
+                let size = buffers.1.format(*size);
+                write!(f, "stat {kind} {size}")
+            }
+            Reply::NoFile => write!(f, "refused 1 NoFile"),
+            Reply::BadOffset => write!(f, "refused 2 BadOffset"),
+            Reply::TooBig => write!(f, "refused 3 TooBig"),
+            Reply::TooLong => write!(f, "refused 4 TooLong"),
+            Reply::BadType => write!(f, "refused 5 BadType"),
+        }
+    }
+}
+
+// Bytes as hexadecimal digits of lower case, two each, or `-` where there are none.
+#[derive(Drop)]
+struct HexText<'a>(&'a [u8]);
+
+impl fmt::Display for HexText<'_> {
+    ghost output = { λ bytes. Some (bytes_text bytes.0.now) };
+
+    fn fmt<W: fmt::Write>(&self, f: &mut fmt::Formatter<W>) -> fmt::Result {
+        if self.0.is_empty() {
+            return write!(f, "-");
+        }
+        for byte in self.0 {
+            let (high, low) = (*byte / 16, *byte % 16);
+            write!(f, "{high:x}{low:x}")?;
+        }
+        Ok(())
+    }
+}
+
+// The number of what a step waits for.
+fn number_of(why: Why) -> u32
+    ensures { result ≡ number_of why }
+{
+    match why {
+        Why::Committing => 1,
+        Why::LogFull => 2,
+        Why::InodeHeld => 3,
+        Why::BufferHeld => 4,
+        Why::NoBuffer => 5,
+        Why::AnswersFull => 6,
+    }
+}
+
+// The name of what a step waits for.
+fn name_of(why: Why) -> &'static str
+    ensures { result.now ≡ name_of why }
+{
+    match why {
+        Why::Committing => "Committing",
+        Why::LogFull => "LogFull",
+        Why::InodeHeld => "InodeHeld",
+        Why::BufferHeld => "BufferHeld",
+        Why::NoBuffer => "NoBuffer",
+        Why::AnswersFull => "AnswersFull",
+    }
+}

@@ -1,0 +1,215 @@
+// The faults of the layers, as a refusal tells them, and two that the program has of its own.
+ghost use Rattle.std.specs.Prelude.{◌≡◌, ◌≢◌};
+ghost use Rattle.std.specs.IoError.{error_kind};
+ghost use Rattle.player.specs.Telling.{
+  check_telling,
+  disk_telling,
+  file_telling,
+  input_telling,
+  kernel_telling,
+  mkfs_telling,
+  recover_telling,
+  schedule_telling,
+  script_telling,
+};
+
+use crate::told::{Fault, Told};
+use blocks::{DiskFault, FileFault, NoMemory};
+use layout::{CheckFault, MkfsFault};
+use scripts::{ScheduleFault, ScriptFault};
+use std::alloc::{AllocError, AllocFailed};
+use std::io;
+use std::io::ErrorKind;
+use thiserror::Error;
+use wal::RecoverFault;
+
+/// Why command lines can't be had from a reader.
+#[derive(Clone, Copy, Debug, PartialEq, Eq, Error)]
+pub enum InputFault {
+    /// It can't be read, or gives what is no UTF-8.
+    #[error("the input can't be read")]
+    Read,
+    /// It gives more than `LIMIT` bytes.
+    #[error("the input is too large")]
+    TooLarge,
+    /// Memory was refused.
+    #[error("memory was refused")]
+    NoMemory,
+}
+
+impl From<AllocError> for InputFault {
+    ghost use Rattle.player.specs.declared.faults.InputFault.TheVariants as fault;
+
+    ghost from_gives = { λ _ e. e ≡ fault.NoMemory };
+
+    fn from(_refused: AllocError) -> InputFault {
+        InputFault::NoMemory
+    }
+}
+
+/// Why a reader or the system gave no words.
+pub fn input_unread(error: io::Error) -> InputFault
+    ensures memory { error_kind error ≡ ErrorKind.OutOfMemory → result ≡ InputFault.NoMemory }
+    ensures other { error_kind error ≢ ErrorKind.OutOfMemory → result ≡ InputFault.Read }
+{
+    match error.kind() {
+        ErrorKind::OutOfMemory => InputFault::NoMemory,
+        _ => InputFault::Read,
+    }
+}
+
+/// Why a kernel isn't opened over an image that can be used.
+#[derive(Clone, Copy, Debug, PartialEq, Eq, Error)]
+pub enum KernelFault {
+    /// Memory was refused.
+    #[error("memory was refused")]
+    NoMemory,
+    /// There are not 1 to 32 processes.
+    #[error("a kernel has 1 to 32 processes")]
+    ProcRange,
+}
+
+impl From<NoMemory> for KernelFault {
+    ghost use Rattle.player.specs.declared.faults.KernelFault.TheVariants as fault;
+
+    ghost from_gives = { λ _ e. e ≡ fault.NoMemory };
+
+    fn from(_refused: NoMemory) -> KernelFault {
+        KernelFault::NoMemory
+    }
+}
+
+impl From<AllocError> for KernelFault {
+    ghost use Rattle.player.specs.declared.faults.KernelFault.TheVariants as fault;
+
+    ghost from_gives = { λ _ e. e ≡ fault.NoMemory };
+
+    fn from(_refused: AllocError) -> KernelFault {
+        KernelFault::NoMemory
+    }
+}
+
+impl<T: Drop> From<AllocFailed<T>> for KernelFault {
+    ghost use Rattle.player.specs.declared.faults.KernelFault.TheVariants as fault;
+
+    ghost from_gives = { λ _ e. e ≡ fault.NoMemory };
+
+    fn from(_refused: AllocFailed<T>) -> KernelFault {
+        KernelFault::NoMemory
+    }
+}
+
+impl Fault for FileFault {
+    ghost telling = { file_telling };
+
+    fn told(&self) -> Told {
+        match self {
+            FileFault::Open => Told::new(1, "Open"),
+            FileFault::Length => Told::new(2, "Length"),
+            FileFault::NoMemory => Told::new(3, "NoMemory"),
+        }
+    }
+}
+
+impl Fault for MkfsFault {
+    ghost telling = { mkfs_telling };
+
+    fn told(&self) -> Told {
+        match self {
+            MkfsFault::SizeRange => Told::new(1, "SizeRange"),
+            MkfsFault::InodeRange => Told::new(2, "InodeRange"),
+            MkfsFault::Disk => Told::new(3, "Disk"),
+            MkfsFault::NoMemory => Told::new(4, "NoMemory"),
+        }
+    }
+}
+
+impl Fault for CheckFault {
+    ghost telling = { check_telling };
+
+    fn told(&self) -> Told {
+        match self {
+            CheckFault::BadMagic => Told::new(1, "BadMagic"),
+            CheckFault::BadGeometry => Told::new(2, "BadGeometry"),
+            CheckFault::BadLog => Told::new(3, "BadLog"),
+            CheckFault::BadType(inode) => Told::naming(4, "BadType", *inode),
+            CheckFault::BadSize(inode) => Told::naming(5, "BadSize", *inode),
+            CheckFault::BadAddress(inode) => Told::naming(6, "BadAddress", *inode),
+            CheckFault::TwiceUsed(block) => Told::naming(7, "TwiceUsed", *block),
+            CheckFault::UsedButFree(block) => Told::naming(8, "UsedButFree", *block),
+            CheckFault::LostBlock(block) => Told::naming(9, "LostBlock", *block),
+            CheckFault::Disk => Told::new(10, "Disk"),
+            CheckFault::NoMemory => Told::new(11, "NoMemory"),
+        }
+    }
+}
+
+impl Fault for RecoverFault {
+    ghost telling = { recover_telling };
+
+    fn told(&self) -> Told {
+        match self {
+            RecoverFault::Disk => Told::new(1, "Disk"),
+            RecoverFault::BadLog => Told::new(2, "BadLog"),
+            RecoverFault::NoMemory => Told::new(3, "NoMemory"),
+        }
+    }
+}
+
+impl Fault for KernelFault {
+    ghost telling = { kernel_telling };
+
+    fn told(&self) -> Told {
+        match self {
+            KernelFault::NoMemory => Told::new(3, "NoMemory"),
+            KernelFault::ProcRange => Told::new(4, "ProcRange"),
+        }
+    }
+}
+
+impl Fault for ScriptFault {
+    ghost telling = { script_telling };
+
+    fn told(&self) -> Told {
+        match self {
+            ScriptFault::BadLine(line) => Told::naming(1, "BadLine", *line),
+            ScriptFault::TooLarge => Told::new(2, "TooLarge"),
+            ScriptFault::NoMemory => Told::new(3, "NoMemory"),
+            ScriptFault::File => Told::new(4, "File"),
+            ScriptFault::NotYet(line) => Told::naming(5, "NotYet", *line),
+        }
+    }
+}
+
+impl Fault for ScheduleFault {
+    ghost telling = { schedule_telling };
+
+    fn told(&self) -> Told {
+        match self {
+            ScheduleFault::BadWord(word) => Told::naming(1, "BadWord", *word),
+            ScheduleFault::TooLarge => Told::new(2, "TooLarge"),
+            ScheduleFault::NoMemory => Told::new(3, "NoMemory"),
+            ScheduleFault::File => Told::new(4, "File"),
+        }
+    }
+}
+
+impl Fault for DiskFault {
+    ghost telling = { disk_telling };
+
+    fn told(&self) -> Told {
+        Told::naming(1, "DiskFault", self.0)
+    }
+}
+
+impl Fault for InputFault {
+    ghost telling = { input_telling };
+
+    fn told(&self) -> Told {
+        match self {
+            InputFault::Read => Told::new(1, "Read"),
+            InputFault::TooLarge => Told::new(2, "TooLarge"),
+            InputFault::NoMemory => Told::new(3, "NoMemory"),
+        }
+    }
+}

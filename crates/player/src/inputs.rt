@@ -1,0 +1,115 @@
+// The script and the schedule of a replay, from the readers that give them.
+ghost use Rattle.std.specs.Prelude.{◌≡◌, ◌≢◌, ◌⊎◌, ◌<◌, take, All, IfOk, IfErr, IfSome, IsTrue, None, Some};
+ghost use Rattle.std.specs.List.{list_all};
+ghost use Rattle.std.specs.IoError.{error_kind};
+ghost use Rattle.scripts.specs.Schedule.{is_word_of};
+ghost use Rattle.scripts.specs.Script.{tasks_of};
+ghost use Rattle.player.specs.Inputs.{GivesNoSchedule, GivesNoScript, GivesSchedule, GivesScript, is_creation, first_other, script_fault};
+
+use model::types::Op;
+use scripts::{
+    SCHEDULE_LIMIT, SCRIPT_LIMIT, ScheduleFault, ScriptFault, Task, Word, read_schedule,
+    read_script,
+};
+use std::alloc::Global;
+use std::io;
+use std::io::{ErrorKind, Read};
+
+/// The operations of the script that a reader gives, in order: creations.
+///
+/// # Errors
+///
+/// `File` where it can't be read; else a fault of `read_script`; else `NotYet` with the first line
+/// whose operation is no creation. `NoMemory` where memory is refused.
+pub fn script_from<I: Read + Drop>(alloc: Global, input: I) -> Result<Vec<Task>, ScriptFault>
+    ensures tasks { IfOk result (λ tasks. GivesScript (I.remaining input) tasks.items) }
+    ensures fault { IfErr result (GivesNoScript (I.remaining input)) }
+    ensures processes { IfOk result (λ tasks. All (λ task. task.pid < 32) tasks.items) }
+    ensures creations { IfOk result (λ tasks. first_other tasks.items ≡ None) }
+{
+    let text = first_bytes(alloc, input, SCRIPT_LIMIT as u64 + 1).map_err(script_unread)?;
+    script_of(alloc, text.as_slice())
+}
+
+// The operations of a script.
+fn script_of(alloc: Global, text: &[u8]) -> Result<Vec<Task>, ScriptFault>
+    ensures tasks { IfOk result (λ tasks. tasks.items ≡ tasks_of text.now) }
+    ensures sound { IfOk result (λ tasks. script_fault text.now ≡ None) }
+    ensures fault { IfErr result (λ fault. (fault ≡ ScriptFault.NoMemory) ⊎ (script_fault text.now ≡ Some fault)) }
+    ensures processes { IfOk result (λ tasks. All (λ task. task.pid < 32) tasks.items) }
+    ensures creations { IfOk result (λ tasks. first_other tasks.items ≡ None) }
+{
+    let tasks = read_script(alloc, text)?;
+    match first_other(tasks.as_slice()) {
+        None => Ok(tasks),
+        Some(line) => Err(ScriptFault::NotYet(line)),
+    }
+}
+
+/// The words of the schedule that a reader gives, in order, for so many processes.
+///
+/// # Errors
+///
+/// `File` where it can't be read; else a fault of `read_schedule`. `NoMemory` where memory is refused.
+pub fn schedule_from<I: Read + Drop>(
+    alloc: Global,
+    input: I,
+    processes: u32,
+) -> Result<Vec<Word>, ScheduleFault>
+    ensures words { IfOk result (λ words. GivesSchedule processes (I.remaining input) words.items) }
+    ensures processes { IfOk result (λ words. IsTrue (list_all (is_word_of processes) words.items)) }
+    ensures fault { IfErr result (GivesNoSchedule processes (I.remaining input)) }
+{
+    let text = first_bytes(alloc, input, SCHEDULE_LIMIT as u64 + 1).map_err(schedule_unread)?;
+    read_schedule(alloc, text.as_slice(), processes)
+}
+
+// The first bytes of a reader, at most so many.
+fn first_bytes<I: Read + Drop>(alloc: Global, input: I, most: u64) -> io::Result<Vec<u8>>
+    ensures { IfOk result (λ bytes. IfSome (I.remaining input) (λ all. bytes.items ≡ take most all)) }
+{
+    let mut bytes = Vec::new(alloc);
+    input.take(most).read_to_end(&mut bytes)?;
+    Ok(bytes)
+}
+
+/// Why a script's file gave no bytes.
+pub fn script_unread(error: io::Error) -> ScriptFault
+    ensures memory { error_kind error ≡ ErrorKind.OutOfMemory → result ≡ ScriptFault.NoMemory }
+    ensures other { error_kind error ≢ ErrorKind.OutOfMemory → result ≡ ScriptFault.File }
+{
+    match error.kind() {
+        ErrorKind::OutOfMemory => ScriptFault::NoMemory,
+        _ => ScriptFault::File,
+    }
+}
+
+/// Why a schedule's file gave no bytes.
+pub fn schedule_unread(error: io::Error) -> ScheduleFault
+    ensures memory { error_kind error ≡ ErrorKind.OutOfMemory → result ≡ ScheduleFault.NoMemory }
+    ensures other { error_kind error ≢ ErrorKind.OutOfMemory → result ≡ ScheduleFault.File }
+{
+    match error.kind() {
+        ErrorKind::OutOfMemory => ScheduleFault::NoMemory,
+        _ => ScheduleFault::File,
+    }
+}
+
+// The line of the first operation that is no creation.
+fn first_other(tasks: &[Task]) -> Option<u32>
+    ensures { result ≡ first_other tasks.now }
+{
+    tasks
+        .iter()
+        .find(|task| !is_creation(&task.op))
+        .map(|task| task.line)
+}
+
+fn is_creation(op: &Op) -> bool
+    ensures { result ≡ is_creation op.now }
+{
+    match op {
+        Op::Create(_) => true,
+        Op::Write(..) | Op::Read(..) | Op::Trunc(_) | Op::Remove(_) | Op::Stat(_) => false,
+    }
+}

@@ -1,0 +1,56 @@
+// A new image on a disk, and what is printed of it.
+ghost use Rattle.std.specs.Prelude.{◌≡◌, ◌≢◌, OnOk, IfErr, IsOkUnless};
+ghost use Rattle.std.specs.Io.KnownBytes.{Appends};
+ghost use Rattle.blocks.specs.Disk.{LeavesOnly};
+ghost use Rattle.layout.specs.Making.{IsMadeInPart, Makes};
+ghost use Rattle.model.specs.Layout.{planned_super};
+ghost use Rattle.player.specs.declared.refusal.Refusal.TheVariants as refusal;
+ghost use Rattle.player.specs.Output.{numbers_text};
+ghost use Rattle.player.specs.Causes.{IsUnmade};
+
+use crate::output::print_last;
+use crate::refusal::Refusal;
+use blocks::Disk;
+use itoa::Buffer;
+use layout::{Super, mkfs, plan};
+use std::alloc::Global;
+use std::io::Write;
+
+/// Makes an image of `size` blocks of 1024 bytes with `ninodes` inode numbers on a disk of that size,
+/// and prints its numbers.
+///
+/// # Errors
+///
+/// `Mkfs` with a fault of `plan` or of `mkfs`, and then nothing was printed; else `Output`.
+pub fn make_disk<D: Disk, O: Write>(
+    alloc: Global,
+    disk: &mut D,
+    size: u32,
+    ninodes: u32,
+    out: &mut O,
+) -> Result<(), Refusal>
+    ensures made { OnOk result (Makes D.Disk size ninodes disk.old disk.new) }
+    ensures name { D.name disk.new ≡ D.name disk.old }
+    ensures printed { OnOk result (Appends (O.contents out.old) (O.contents out.new) (numbers_text (planned_super size ninodes))) }
+    ensures refused { IfErr result (IsUnmade D.image D.fault_count size ninodes disk.old disk.new) }
+    ensures silent { IfErr result (λ r. r ≢ refusal.Output → out.new ≡ out.old) }
+    ensures order { LeavesOnly D.moment D.leaves disk.old disk.new (IsMadeInPart (D.image disk.old) size ninodes) }
+{
+    let fields = plan(size, ninodes).map_err(Refusal::Mkfs)?;
+    mkfs(alloc, disk, size, ninodes).map_err(Refusal::Mkfs)?;
+    print_numbers(&fields, out)
+}
+
+fn print_numbers<O: Write>(fields: &Super, out: &mut O) -> Result<(), Refusal>
+    ensures ok { OnOk result (Appends (O.contents out.old) (O.contents out.new) (numbers_text fields.now)) }
+    ensures err { IsOkUnless result refusal.Output }
+{
+    let mut buffers = (Buffer::new(), Buffer::new(), Buffer::new());
+    let size = buffers.0.format(fields.size);
+    let ninodes = buffers.1.format(fields.ninodes);
+    let nblocks = buffers.2.format(fields.nblocks);
+    print_last(
+        out,
+        format_args!("size {size} ninodes {ninodes} nblocks {nblocks}\n"),
+    )
+}

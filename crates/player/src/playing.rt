@@ -1,0 +1,90 @@
+// The turns of a schedule's words, with a line for each.
+ghost use Rattle.std.specs.Prelude.{◌≡◌, ◌≢◌, ◌-◌, OnOk, IsTrue, IfErr, IsOkUnless, Some, None, length, option_map};
+ghost use Rattle.std.specs.Io.KnownBytes.{Appends};
+ghost use Rattle.std.specs.List.{list_all};
+ghost use Rattle.blocks.specs.FaultyDisk.{has_fired};
+ghost use Rattle.scripts.specs.Schedule.{is_word_of};
+ghost use Rattle.player.specs.declared.refusal.Refusal.TheVariants as refusal;
+ghost use Rattle.player.specs.Output.{counts_text};
+ghost use Rattle.player.specs.Stepping.{PlaysTo, RunsTo, fault_in};
+ghost use Rattle.player.specs.Refusal.{OnRefusal};
+ghost use Rattle.player.specs.Turns.{told_fault};
+
+use crate::output::{print, print_last};
+use crate::refusal::Refusal;
+use crate::turns::Player;
+use blocks::{Disk, FaultyDisk};
+use itoa::Buffer;
+use scripts::Word;
+use std::io::Write;
+
+/// Makes the turns of the words over a disk that had counted `base` writes before them, and prints
+/// what they came to. The write of number `stop` isn't made. The processes that the words name are
+/// the player's.
+///
+/// # Errors
+///
+/// `Output`; else `Disk` where a step found that the disk failed, and then all was printed.
+pub fn run<D: Disk + Drop, O: Write>(
+    mut player: Player<D>,
+    words: &[Word],
+    stop: u64,
+    base: u64,
+    out: &mut O,
+) -> Result<(), Refusal>
+    requires { IsTrue (list_all (is_word_of (length player.kernel.world.processes)) words.now) }
+    ensures printed { OnOk result (RunsTo ⟦<FaultyDisk<D> as Disk>⟧.image ⟦<FaultyDisk<D> as Disk>⟧.write_count stop base words.now player None (O.contents out.old) (O.contents out.new)) }
+    ensures refused { IfErr result (λ r. OnRefusal r (RunsTo ⟦<FaultyDisk<D> as Disk>⟧.image ⟦<FaultyDisk<D> as Disk>⟧.write_count stop base words.now player (fault_in r) (O.contents out.old) (O.contents out.new)) ⊥) }
+{
+    play(&mut player, words, stop, out)?;
+    close(player, base, out)
+}
+
+// Makes the turns of the words, and prints a line for each, up to the last that can be made.
+fn play<D: Disk + Drop, O: Write>(
+    player: &mut Player<D>,
+    words: &[Word],
+    stop: u64,
+    out: &mut O,
+) -> Result<(), Refusal>
+    requires { IsTrue (list_all (is_word_of (length player.old.kernel.world.processes)) words.now) }
+    ensures printed { OnOk result (PlaysTo ⟦<FaultyDisk<D> as Disk>⟧.image stop words.now player.old player.new (O.contents out.old) (O.contents out.new)) }
+    ensures err { IsOkUnless result refusal.Output }
+{
+    for word in words {
+        let event = player.turn(*word, stop);
+        print(out, format_args!("{event}\n"))?;
+        if event.is_last() {
+            return Ok(());
+        }
+    }
+    Ok(())
+}
+
+// Prints what the turns came to.
+fn close<D: Disk + Drop, O: Write>(player: Player<D>, base: u64, out: &mut O) -> Result<(), Refusal>
+    ensures printed { OnOk result (Appends (O.contents out.old) (O.contents out.new) (counts_text (⟦<FaultyDisk<D> as Disk>⟧.write_count player.kernel.volume.device - base) player.kernel.volume.log.committed)) }
+    ensures sound { OnOk result (told_fault (has_fired player.kernel.volume.device) player.kernel.volume.fault ≡ None) }
+    ensures refused { IfErr result (λ r. OnRefusal r (Appends (O.contents out.old) (O.contents out.new) (counts_text (⟦<FaultyDisk<D> as Disk>⟧.write_count player.kernel.volume.device - base) player.kernel.volume.log.committed)) ⊥) }
+    ensures fault { IfErr result (λ r. r ≢ refusal.Output → option_map refusal.Disk (told_fault (has_fired player.kernel.volume.device) player.kernel.volume.fault) ≡ Some r) }
+{
+    let outcome = player.finish(base);
+    print_counts(outcome.writes, outcome.committed, out)?;
+    match outcome.fault {
+        Some(fault) => Err(Refusal::Disk(fault)),
+        None => Ok(()),
+    }
+}
+
+fn print_counts<O: Write>(writes: u64, committed: u64, out: &mut O) -> Result<(), Refusal>
+    ensures ok { OnOk result (Appends (O.contents out.old) (O.contents out.new) (counts_text writes committed)) }
+    ensures err { IsOkUnless result refusal.Output }
+{
+    let mut buffers = (Buffer::new(), Buffer::new());
+    let writes = buffers.0.format(writes);
+    let committed = buffers.1.format(committed);
+    print_last(
+        out,
+        format_args!("writes {writes}\ncommitted {committed}\n"),
+    )
+}

@@ -1,0 +1,71 @@
+// A recovery of a disk's image, and what it prints.
+ghost use Rattle.std.specs.Prelude.{◌≡◌, ◌≢◌, IfOk, OnOk, IfErr, IsOkUnless};
+ghost use Rattle.std.specs.Io.KnownBytes.{Appends};
+ghost use Rattle.blocks.specs.Disk.{LeavesOnly};
+ghost use Rattle.model.specs.Log.{logged_count};
+ghost use Rattle.wal.specs.Recovery.{RecoversAs};
+ghost use Rattle.player.specs.declared.refusal.Refusal.TheVariants as refusal;
+ghost use Rattle.player.specs.Causes.{IsRecovered, IsUnrecovered};
+ghost use Rattle.player.specs.Output.{copied_text};
+
+use crate::output::print_last;
+use crate::refusal::Refusal;
+use blocks::Disk;
+use itoa::Buffer;
+use layout::check;
+use std::alloc::Global;
+use std::io::Write;
+use wal::recover;
+
+/// Checks the image of a disk, copies the blocks of its log home, and prints how many these were.
+///
+/// # Errors
+///
+/// `Check` with a fault of the image or of its check, and then nothing was written; else `Recover`
+/// with a fault of the recovery, which may be made again. With these nothing was printed. Else
+/// `Output`, and the image is recovered.
+///
+/// Whatever a crash at any moment leaves is recovered to the same image.
+pub fn recover_disk<D: Disk, O: Write>(
+    alloc: Global,
+    disk: &mut D,
+    out: &mut O,
+) -> Result<(), Refusal>
+    ensures recovered { OnOk result (IsRecovered D.Disk (logged_count (D.image disk.old)) disk.old disk.new) }
+    ensures name { D.name disk.new ≡ D.name disk.old }
+    ensures printed { OnOk result (Appends (O.contents out.old) (O.contents out.new) (copied_text (logged_count (D.image disk.old)))) }
+    ensures refused { IfErr result (IsUnrecovered D.image D.fault_count disk.old disk.new) }
+    ensures silent { IfErr result (λ r. r ≢ refusal.Output → out.new ≡ out.old) }
+    ensures any_moment { LeavesOnly D.moment D.leaves disk.old disk.new (RecoversAs (D.image disk.old)) }
+{
+    let copied = recover_image(alloc, disk)?;
+    print_copied(copied, out)
+}
+
+/// Checks the image of a disk, and then recovers it. How many blocks were copied home.
+///
+/// # Errors
+///
+/// As of `recover_disk`, but for `Output`.
+pub fn recover_image<D: Disk>(alloc: Global, disk: &mut D) -> Result<u32, Refusal>
+    ensures ok { IfOk result (λ copied. IsRecovered D.Disk copied disk.old disk.new) }
+    ensures name { D.name disk.new ≡ D.name disk.old }
+    ensures refused { IfErr result (IsUnrecovered D.image D.fault_count disk.old disk.new) }
+    ensures output { IfErr result (λ r. r ≢ refusal.Output) }
+    ensures any_moment { LeavesOnly D.moment D.leaves disk.old disk.new (RecoversAs (D.image disk.old)) }
+{
+    let report = check(alloc, disk)?;
+    match recover(alloc, disk, &report.sup) {
+        Ok(copied) => Ok(copied),
+        Err(fault) => Err(Refusal::Recover(fault)),
+    }
+}
+
+fn print_copied<O: Write>(copied: u32, out: &mut O) -> Result<(), Refusal>
+    ensures ok { OnOk result (Appends (O.contents out.old) (O.contents out.new) (copied_text copied)) }
+    ensures err { IsOkUnless result refusal.Output }
+{
+    let mut buffer = Buffer::new();
+    let copied = buffer.format(copied);
+    print_last(out, format_args!("recovered {copied}\n"))
+}

@@ -1,0 +1,121 @@
+// Which layer refused a command, and why.
+ghost use Rattle.std.specs.Prelude.{◌≡◌, Some};
+ghost use Rattle.player.specs.Refusal.{layer_of, open_refusal, refusal_telling, refusal_text};
+ghost use Rattle.player.specs.Telling.{telling_of};
+
+use crate::faults::{InputFault, KernelFault};
+use crate::told::{Fault, Told};
+use blocks::{DiskFault, FileFault};
+use itoa::Buffer;
+use kernel::OpenFault;
+use layout::{CheckFault, MkfsFault};
+use scripts::{ScheduleFault, ScriptFault};
+use std::fmt;
+use wal::RecoverFault;
+
+/// A layer's fault that ends a command.
+#[derive(Clone, Copy, Debug, PartialEq, Eq)]
+pub enum Refusal {
+    /// The file can't be used as a disk.
+    File(FileFault),
+    /// The image can't be made.
+    Mkfs(MkfsFault),
+    /// The image isn't sound, or can't be checked.
+    Check(CheckFault),
+    /// The image can't be recovered.
+    Recover(RecoverFault),
+    /// The kernel can't be opened.
+    Open(KernelFault),
+    /// The script can't be had.
+    Script(ScriptFault),
+    /// The schedule can't be had.
+    Schedule(ScheduleFault),
+    /// The disk failed in a step of the kernel.
+    Disk(DiskFault),
+    /// The command lines can't be had.
+    Input(InputFault),
+    /// The output can't be written.
+    Output,
+}
+
+impl Refusal {
+    /// The word for the layer.
+    pub fn layer(self) -> &'static str
+        ensures { result.now ≡ layer_of self }
+    {
+        match self {
+            Refusal::File(_) => "file",
+            Refusal::Mkfs(_) => "mkfs",
+            Refusal::Check(_) => "check",
+            Refusal::Recover(_) => "recover",
+            Refusal::Open(_) => "open",
+            Refusal::Script(_) => "script",
+            Refusal::Schedule(_) => "schedule",
+            Refusal::Disk(_) => "disk",
+            Refusal::Input(_) => "input",
+            Refusal::Output => "output",
+        }
+    }
+
+    /// How the fault is told.
+    pub fn told(self) -> Told
+        ensures { telling_of result ≡ refusal_telling self }
+    {
+        match self {
+            Refusal::File(fault) => fault.told(),
+            Refusal::Mkfs(fault) => fault.told(),
+            Refusal::Check(fault) => fault.told(),
+            Refusal::Recover(fault) => fault.told(),
+            Refusal::Open(fault) => fault.told(),
+            Refusal::Script(fault) => fault.told(),
+            Refusal::Schedule(fault) => fault.told(),
+            Refusal::Disk(fault) => fault.told(),
+            Refusal::Input(fault) => fault.told(),
+            Refusal::Output => Told::new(1, "Write"),
+        }
+    }
+}
+
+/// Layer, number, name, and what the fault names, if anything, with one space between them.
+impl fmt::Display for Refusal {
+    ghost output = { λ r. Some (refusal_text r) };
+
+    fn fmt<W: fmt::Write>(&self, f: &mut fmt::Formatter<W>) -> fmt::Result {
+        let told = self.told();
+        let mut digits = Buffer::new();
+        let number = digits.format(told.number);
+        write!(f, "{} {number} {}", self.layer(), told.name)?;
+        if let Some(argument) = told.argument {
+            let mut digits = Buffer::new();
+            let argument = digits.format(argument);
+            write!(f, " {argument}")?;
+        }
+        Ok(())
+    }
+}
+
+impl std::error::Error for Refusal {}
+
+impl From<CheckFault> for Refusal {
+    ghost use Rattle.player.specs.declared.refusal.Refusal.TheVariants as refusal;
+
+    ghost from_gives = { λ fault r. r ≡ refusal.Check fault };
+
+    fn from(fault: CheckFault) -> Refusal {
+        Refusal::Check(fault)
+    }
+}
+
+/// A fault of the check or of the recovery inside is told as its own layer's.
+impl From<OpenFault> for Refusal {
+    ghost from_gives = { λ fault r. r ≡ open_refusal fault };
+
+    fn from(fault: OpenFault) -> Refusal {
+        match fault {
+            OpenFault::Check(fault) => Refusal::Check(fault),
+            OpenFault::Recover(fault) => Refusal::Recover(fault),
+            OpenFault::NoMemory => Refusal::Open(KernelFault::NoMemory),
+            OpenFault::ProcRange => Refusal::Open(KernelFault::ProcRange),
+        }
+    }
+}

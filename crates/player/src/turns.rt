@@ -1,0 +1,204 @@
+// The turns of a schedule, over a kernel with a script's operations.
+ghost use Rattle.std.specs.Prelude.{◌≡◌, ◌-◌, ◌<◌, All, IsTrue, length, IfOk, IfErr};
+ghost use Rattle.blocks.specs.FaultyDisk.{has_fired};
+ghost use Rattle.blocks.specs.Disk.{counted};
+ghost use Rattle.model.specs.Log.{logged_count};
+ghost use Rattle.ports.specs.History.{first_in};
+ghost use Rattle.ports.specs.Queues.{answers};
+ghost use Rattle.scripts.specs.Schedule.{is_word_of};
+ghost use Rattle.wal.specs.Recovery.{writes_to_recover};
+ghost use Rattle.player.specs.Stepping.{MakesStep, MakesSteps, HandsIn, Polls, MakesTurnOf, MakesTurn};
+ghost use Rattle.player.specs.Opening.{IsArmed, IsOpenedOver};
+ghost use Rattle.player.specs.Refusal.{IsOpening};
+ghost use Rattle.player.specs.Turns.{event_of, told_fault};
+
+use crate::backlog::{Backlog, backlogs_of};
+use crate::events::Event;
+use crate::faults::KernelFault;
+use crate::refusal::Refusal;
+use blocks::{Disk, DiskFault, FaultyDisk, Kind};
+use kernel::{Kernel, Step};
+use model::types::Answer;
+use ports::{PlainHerald, QueueIntake};
+use scripts::{Task, Word};
+use std::alloc::Global;
+
+// More steps than any operation makes.
+const MOST_STEPS: u32 = 2000;
+
+/// A kernel over plain queues and a disk of which one write may be stopped, and the operations of a
+/// script that wait to be handed in.
+#[derive(Drop)]
+pub struct Player<D: Disk> {
+    pub(crate) kernel: Kernel<FaultyDisk<D>, QueueIntake, PlainHerald>,
+    // Those of each process.
+    pub(crate) backlogs: Vec<Backlog>,
+}
+
+/// What the turns came to.
+#[derive(Clone, Copy, Debug, PartialEq, Eq)]
+pub struct Outcome {
+    /// The blocks written since the image was recovered.
+    pub writes: u64,
+    /// The committed groups.
+    pub committed: u64,
+    /// The disk's fault, but for the one that was asked for.
+    pub fault: Option<DiskFault>,
+}
+
+/// A player of these operations, of so many processes, over a disk whose image was recovered. The
+/// write of number `stop` isn't made, counted from 1; each is where that is 0.
+///
+/// # Errors
+///
+/// A fault of `Kernel::open`; its `NoMemory` also where memory for the operations is refused.
+pub fn open_player<D: Disk + Drop>(
+    alloc: Global,
+    disk: D,
+    tasks: Vec<Task>,
+    processes: u32,
+    stop: u64,
+) -> Result<Player<D>, Refusal>
+    requires { All (λ task. task.pid < processes) tasks.items }
+    ensures opened { IfOk result (IsOpenedOver ⟦<FaultyDisk<D> as Disk>⟧.image (D.image disk) tasks.items processes) }
+    ensures processes { IfOk result (λ player. length player.kernel.world.processes ≡ processes) }
+    ensures writes { IfOk result (λ player. ⟦<FaultyDisk<D> as Disk>⟧.write_count player.kernel.volume.device
+        ≡ counted (D.write_count disk) (writes_to_recover (logged_count (D.image disk)))) }
+    ensures armed { IfOk result (λ player. logged_count (D.image disk) ≡ 0 → IsArmed ⟦<FaultyDisk<D> as Disk>⟧ stop player.kernel.volume.device) }
+    ensures refused { IfErr result IsOpening }
+{
+    let backlogs = backlogs_of(alloc, tasks, processes)
+        .map_err(KernelFault::from)
+        .map_err(Refusal::Open)?;
+    let intake = QueueIntake::new(alloc, processes)
+        .map_err(KernelFault::from)
+        .map_err(Refusal::Open)?;
+    let disk = FaultyDisk::new(disk, stop, Kind::WriteOld);
+    match Kernel::open(alloc, disk, intake, PlainHerald::new(), processes) {
+        Ok(kernel) => Ok(Player { kernel, backlogs }),
+        Err((fault, _)) => Err(fault.into()),
+    }
+}
+
+impl<D: Disk + Drop> Player<D> {
+    /// Makes the turn of a word, where the write of number `stop` isn't made. The process that the
+    /// word names is one of the kernel's.
+    pub fn turn(&mut self, word: Word, stop: u64) -> Event
+        requires { IsTrue (is_word_of (length self.old.kernel.world.processes) word) }
+        ensures makes { MakesTurn ⟦<FaultyDisk<D> as Disk>⟧.image stop word result self.old self.new }
+        ensures processes { length self.new.kernel.world.processes ≡ length self.old.kernel.world.processes }
+    {
+        match word {
+            Word::Step(pid) => self.make_step(pid, stop),
+            Word::Steps(pid) => self.make_steps(pid, stop),
+            Word::Shutdown => {
+                self.kernel.shut();
+                Event::Shut
+            }
+        }
+    }
+
+    // Makes the turn of a process that has one step.
+    #[tactic(auto, using(crate::proofs::Steps::one_turn))]
+    fn make_step(&mut self, pid: u32, stop: u64) -> Event
+        requires { pid < length self.old.kernel.world.processes }
+        ensures makes { MakesTurnOf (MakesStep ⟦<FaultyDisk<D> as Disk>⟧.image pid) stop pid result self.old self.new }
+        ensures processes { length self.new.kernel.world.processes ≡ length self.old.kernel.world.processes }
+    {
+        self.hand_in(pid);
+        let step = self.step(pid);
+        self.event(pid, step, stop)
+    }
+
+    // Makes the turn of a process that has steps until one doesn't move.
+    #[tactic(auto, using(crate::proofs::Steps::one_turn))]
+    fn make_steps(&mut self, pid: u32, stop: u64) -> Event
+        requires { pid < length self.old.kernel.world.processes }
+        ensures makes { MakesTurnOf (MakesSteps ⟦<FaultyDisk<D> as Disk>⟧.image 2000 pid) stop pid result self.old self.new }
+        ensures processes { length self.new.kernel.world.processes ≡ length self.old.kernel.world.processes }
+    {
+        self.hand_in(pid);
+        let step = self.steps(pid);
+        self.event(pid, step, stop)
+    }
+
+    /// What the turns came to, on a disk that had counted `base` writes before them.
+    pub fn finish(self, base: u64) -> Outcome
+        ensures writes { result.writes ≡ ⟦<FaultyDisk<D> as Disk>⟧.write_count self.kernel.volume.device - base }
+        ensures committed { result.committed ≡ self.kernel.volume.log.committed }
+        ensures fault { result.fault ≡ told_fault (has_fired self.kernel.volume.device) self.kernel.volume.fault }
+    {
+        let Player { kernel, .. } = self;
+        let committed = kernel.committed();
+        let fault = kernel.fault();
+        let disk = kernel.into_disk();
+        Outcome {
+            writes: disk.writes().saturating_sub(base),
+            committed,
+            fault: if disk.fired() { None } else { fault },
+        }
+    }
+
+    // Hands in the next operations of a process, as many as its queue takes.
+    fn hand_in(&mut self, pid: u32)
+        requires { pid < length self.old.kernel.world.processes }
+        ensures { HandsIn pid self.old.kernel self.old.backlogs.items self.new.kernel self.new.backlogs.items }
+    {
+        if let Some(backlog) = self.backlogs.get_mut(pid as usize) {
+            backlog.hand_in(&mut self.kernel, pid);
+        }
+    }
+
+    // Makes a step of a process.
+    fn step(&mut self, pid: u32) -> Step
+        requires { pid < length self.old.kernel.world.processes }
+        ensures makes { MakesStep ⟦<FaultyDisk<D> as Disk>⟧.image pid result self.old.kernel self.new.kernel }
+        ensures processes { length self.new.kernel.world.processes ≡ length self.old.kernel.world.processes }
+        ensures backlogs { self.new.backlogs ≡ self.old.backlogs }
+    {
+        self.kernel.step(pid)
+    }
+
+    // Makes steps of a process, until one doesn't move. What the last of them answers.
+    #[tactic(auto, using(crate::proofs::Steps::none_moved, crate::proofs::Steps::one_moved))]
+    fn steps(&mut self, pid: u32) -> Step
+        requires { pid < length self.old.kernel.world.processes }
+        ensures makes { MakesSteps ⟦<FaultyDisk<D> as Disk>⟧.image 2000 pid result self.old.kernel self.new.kernel }
+        ensures processes { length self.new.kernel.world.processes ≡ length self.old.kernel.world.processes }
+        ensures backlogs { self.new.backlogs ≡ self.old.backlogs }
+    {
+        for _step in 0..MOST_STEPS {
+            let step = self.step(pid);
+            if step != Step::Moved {
+                return step;
+            }
+        }
+        Step::Moved
+    }
+
+    // What the turn of a process came to, whose last step answered so.
+    fn event(&mut self, pid: u32, step: Step, stop: u64) -> Event
+        requires { pid < length self.old.kernel.world.processes }
+        ensures event { result ≡ event_of (has_fired self.old.kernel.volume.device) stop pid step (first_in (answers self.old.kernel.intake pid)) }
+        ensures polls { Polls pid self.old.kernel self.new.kernel }
+        ensures backlogs { self.new.backlogs ≡ self.old.backlogs }
+    {
+        let fired = self.kernel.disk().fired();
+        let answer = self.kernel.poll(pid);
+        event_of(fired, stop, pid, step, answer)
+    }
+}
+
+// What a turn of a process came to: the write to be stopped was reached, or its operation was
+// answered, or its last step answered so.
+fn event_of(fired: bool, stop: u64, pid: u32, step: Step, answer: Option<Answer>) -> Event
+    ensures { result ≡ event_of fired stop pid step answer }
+{
+    if fired {
+        return Event::Stopped(stop);
+    }
+    match answer {
+        Some(answer) => Event::Answered(pid, answer),
+        None => Event::Stepped(pid, step),
+    }
+}

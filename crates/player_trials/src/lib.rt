@@ -1,0 +1,8 @@
+//! Trials of the player over disks in memory: a disk that fails in a run, outputs that fail, and a
+//! long script. The crate has no code but these tests.
+#![tactic(auto)]
+
+#[cfg(test)]
+mod failing;
+#[cfg(test)]
+mod scripts_of_readers;

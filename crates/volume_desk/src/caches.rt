@@ -1,0 +1,98 @@
+// Calls of a cache by itself, beside the disk.
+use bcache::Cache;
+use blocks::Disk;
+use desk::{Faulty, done};
+use std::alloc::Global;
+
+/// Does a call of this file, if the line is one for which all holds that it asks.
+pub fn call(
+    alloc: Global,
+    cache: &mut Cache,
+    disk: &mut Faulty,
+    words: &[&str],
+) -> anyhow::Result<Option<String>> {
+    match *words {
+        ["acquire", pid, block] => {
+            let answer = cache.acquire(pid.parse()?, block.parse()?);
+            Ok(Some(format!(in alloc; "{answer:?}")?))
+        }
+        ["find", block] => {
+            let answer = cache.find(block.parse()?);
+            Ok(Some(format!(in alloc; "{answer:?}")?))
+        }
+        ["fill", slot] => fill(alloc, cache, disk, slot.parse()?),
+        ["unlock", pid, slot] => unlock(alloc, cache, pid.parse()?, slot.parse()?),
+        ["write", pid, slot, at, hex] => {
+            write(alloc, cache, pid.parse()?, slot.parse()?, at.parse()?, hex)
+        }
+        ["first", count] => first(alloc, cache, count.parse()?),
+        ["data", slot, count] => data(alloc, cache, slot.parse()?, count.parse()?),
+        _ => Ok(None),
+    }
+}
+
+fn fill(
+    alloc: Global,
+    cache: &mut Cache,
+    disk: &mut Faulty,
+    slot: u32,
+) -> anyhow::Result<Option<String>> {
+    if slot >= 40 {
+        return Ok(None);
+    }
+    match cache.block(slot) {
+        Some(block) if block < disk.size() => {
+            let answer = cache.fill(slot, disk);
+            Ok(Some(format!(in alloc; "{answer:?}")?))
+        }
+        _ => Ok(None),
+    }
+}
+
+fn unlock(alloc: Global, cache: &mut Cache, pid: u32, slot: u32) -> anyhow::Result<Option<String>> {
+    if slot >= 40 || cache.holder(slot) != Some(pid) {
+        return Ok(None);
+    }
+    cache.release(pid, slot);
+    done(alloc, true)
+}
+
+// The holder of a slot writes bytes into it: one into what it was lent, and more by `put`.
+fn write(
+    alloc: Global,
+    cache: &mut Cache,
+    pid: u32,
+    slot: u32,
+    at: usize,
+    hex: &str,
+) -> anyhow::Result<Option<String>> {
+    let bytes = hex::decode(alloc, hex)?;
+    if slot >= 40 || at > 1024 || bytes.len() > 1024 - at || cache.holder(slot) != Some(pid) {
+        return Ok(None);
+    }
+    if bytes.len() == 1 {
+        cache.data_mut(pid, slot).put(at, bytes.as_slice());
+    } else {
+        cache.put(pid, slot, at, bytes.as_slice());
+    }
+    done(alloc, true)
+}
+
+// The slots of the order's first places.
+fn first(alloc: Global, cache: &Cache, count: u32) -> anyhow::Result<Option<String>> {
+    let mut slots = Vec::new(alloc);
+    for place in 0..count.min(40) {
+        slots.push(cache.slot_at(place))?;
+    }
+    Ok(Some(format!(in alloc; "{slots:?}")?))
+}
+
+fn data(alloc: Global, cache: &Cache, slot: u32, count: usize) -> anyhow::Result<Option<String>> {
+    if slot >= 40 {
+        return Ok(None);
+    }
+    match cache.data(slot).as_slice().get(..count) {
+        Some(bytes) => Ok(Some(hex::encode(alloc, bytes)?)),
+        None => Ok(None),
+    }
+}

@@ -1,9 +1,0 @@
-use Rattle.std.proofs.Common.{◌≡◌, length}
-use Rattle.xvfs.proofs.Plays.{PlayedSo}
-use Rattle.xvfs.proofs.replaying.play.Given as goal
-
-abbrev pub invariant-loop-word : goal.invariant-loop-word
-invariant-loop-word g l = record {
-  played : PlayedSo (λ d. g.D.Disk.image d.inner) l.stop l.words l.word-index l.fn.player l.player (g.O.Write.contents l.initial.out) (g.O.Write.contents l.out);
-  processes : length l.player.kernel.world.processes ≡ length l.fn.player.kernel.world.processes;
-}

@@ -1,0 +1,118 @@
+// The commands over the files that they name: each opens its files, and does nothing else.
+ghost use Rattle.std.specs.Prelude.{◌≡◌, ◌≢◌, ◌↔◌, false, IsTrue, IfErr, List, OnOk, unwrap_or};
+ghost use Rattle.std.specs.Io.KnownBytes.{Appends};
+ghost use Rattle.std.specs.Result.{IsErrOf};
+ghost use Rattle.layout.specs.declared.geometry.MkfsFault.TheVariants as fault;
+ghost use Rattle.model.specs.Layout.{is_inode_count, is_size, planned_super};
+ghost use Rattle.player.specs.declared.refusal.Refusal.TheVariants as refusal;
+ghost use Rattle.player.specs.Output.{numbers_text};
+ghost use Rattle.player.specs.Refusal.{IsOfCheck, IsOfMkfs, IsOfRecover, IsOfReplay, OnRefusal};
+ghost use Rattle.scripts.specs.declared.schedule.Word.{Word};
+ghost use Rattle.xvfs.specs.Printed.{PrintsCopied, PrintsReport};
+ghost use Rattle.xvfs.specs.Turns.{PrintsRun};
+
+use crate::inputs::{schedule_from, script_from};
+use blocks::FileDisk;
+use layout::plan;
+use player::{Refusal, check_disk, make_disk, recover_disk, replay_disk};
+use scripts::processes;
+use std::io::Write;
+use std::rt::Files;
+
+/// Makes an image of `size` blocks of 1024 bytes with `ninodes` inode numbers in a file at this path,
+/// and prints its numbers.
+///
+/// # Errors
+///
+/// A fault of `plan`, and then the file at the path is as it was; else one of `FileDisk::create` or of
+/// `make_disk`.
+pub fn make_file<R: Files + AllocGlobal, O: Write>(
+    rt: &R,
+    image: &str,
+    size: u32,
+    ninodes: u32,
+    out: &mut O,
+) -> Result<(), Refusal>
+    ensures printed { OnOk result (Appends (O.contents out.old) (O.contents out.new) (numbers_text (planned_super size ninodes))) }
+    ensures silent { IfErr result (λ r. r ≢ refusal.Output → out.new ≡ out.old) }
+    ensures layers { IfErr result IsOfMkfs }
+    ensures inodes { IsErrOf result (refusal.Mkfs fault.InodeRange) ↔ (is_inode_count ninodes ≡ false) }
+    ensures size { IsErrOf result (refusal.Mkfs fault.SizeRange) ↔ (IsTrue (is_inode_count ninodes) × (is_size size ninodes ≡ false)) }
+{
+    plan(size, ninodes).map_err(Refusal::Mkfs)?;
+    let mut disk = FileDisk::create(rt, image, size).map_err(Refusal::File)?;
+    make_disk(rt.alloc(), &mut disk, size, ninodes, out)
+}
+
+/// Checks the image in the file at this path, and prints how many blocks its log holds and how many
+/// files there are.
+///
+/// # Errors
+///
+/// A fault of `FileDisk::open` or of `check_disk`. Which it is, and the numbers, follow from the file's
+/// bytes, which no contract here can name: `check_disk` promises them of a disk.
+pub fn check_file<R: Files + AllocGlobal, O: Write>(
+    rt: &R,
+    image: &str,
+    out: &mut O,
+) -> Result<(), Refusal>
+    ensures printed { OnOk result (PrintsReport (O.contents out.old) (O.contents out.new)) }
+    ensures silent { IfErr result (λ r. r ≢ refusal.Output → out.new ≡ out.old) }
+    ensures layers { IfErr result IsOfCheck }
+{
+    let mut disk = FileDisk::open(rt, image).map_err(Refusal::File)?;
+    check_disk(rt.alloc(), &mut disk, out)
+}
+
+/// Checks the image in the file at this path, copies the blocks of its log home, and prints how many
+/// these were.
+///
+/// # Errors
+///
+/// A fault of `FileDisk::open` or of `recover_disk`.
+pub fn recover_file<R: Files + AllocGlobal, O: Write>(
+    rt: &R,
+    image: &str,
+    out: &mut O,
+) -> Result<(), Refusal>
+    ensures printed { OnOk result (PrintsCopied (O.contents out.old) (O.contents out.new)) }
+    ensures silent { IfErr result (λ r. r ≢ refusal.Output → out.new ≡ out.old) }
+    ensures layers { IfErr result IsOfRecover }
+{
+    let mut disk = FileDisk::open(rt, image).map_err(Refusal::File)?;
+    recover_disk(rt.alloc(), &mut disk, out)
+}
+
+/// Recovers the image in the file at this path, and makes the operations of a script in the turns of
+/// a schedule, as `replay_disk`. With `stop` the write of this number, from 1, is not made, and ends
+/// the run.
+///
+/// # Errors
+///
+/// A fault of the script, then of the schedule, then of `FileDisk::open` or of `replay_disk`.
+pub fn replay_files<R: Files + AllocGlobal, O: Write>(
+    rt: &R,
+    image: &str,
+    script: &str,
+    schedule: &str,
+    stop: Option<u64>,
+    out: &mut O,
+) -> Result<(), Refusal>
+    ensures printed { OnOk result ((words : List Word) × PrintsRun (unwrap_or stop 0) words (O.contents out.old) (O.contents out.new)) }
+    ensures layers { IfErr result IsOfReplay }
+    ensures refused { IfErr result (λ r. OnRefusal r ((words : List Word) × PrintsRun (unwrap_or stop 0) words (O.contents out.old) (O.contents out.new)) (out.new ≡ out.old)) }
+{
+    let tasks = script_from(rt, script).map_err(Refusal::Script)?;
+    let processes = processes(tasks.as_slice());
+    let words = schedule_from(rt, schedule, processes).map_err(Refusal::Schedule)?;
+    let disk = FileDisk::open(rt, image).map_err(Refusal::File)?;
+    replay_disk(
+        rt.alloc(),
+        disk,
+        tasks,
+        processes,
+        words.as_slice(),
+        stop,
+        out,
+    )
+}
