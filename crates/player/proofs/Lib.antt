@@ -4,3 +4,4 @@ pub mod Backlogs
 pub mod Reading
 pub mod Openings
 pub mod Steps
+mod Disks

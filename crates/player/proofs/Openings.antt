@@ -26,13 +26,13 @@ none_counted written logged none = ap (λ n. counted written (writes_to_recover 
 -- a run of a player over the recovered image
 pub replayed : {D N : Type 0} (disk : Ghosts (FaultyDisk D) (N × Trap)) (x : Image) (written base : ℕ) (tasks : List Task) (processes : ℕ) (words : List Word) (s stop : ℕ) (player : Player D N) (fault : Option DiskFault) (text printed : Option (List ℕ))
     → verdict x ≡ None → IsOpenedOver disk.image (recovered x) tasks processes player → base ≡ disk.write_count player.kernel.volume.device → base ≡ counted written (writes_to_recover (logged_count x))
-    → IsArmed disk s player.kernel.volume.device → s ≡ stop → RunsTo disk.image disk.write_count s base words player fault text printed → Replays disk x written tasks processes words stop fault text printed
+    → IsArmed disk s player.kernel.volume.device → s ≡ stop → RunsTo disk s base words player fault text printed → Replays disk x written tasks processes words stop fault text printed
 replayed disk x written base tasks processes words s stop player fault text printed sound opened now wrote armed same runs = record {
   sound = sound;
   player = player;
   opened = opened;
   base = sym now ∙ wrote;
   armed = subst (λ t. IsArmed disk t player.kernel.volume.device) same armed;
-  runs = subst (λ b. RunsTo disk.image disk.write_count stop b words player fault text printed) now
-      (subst (λ t. RunsTo disk.image disk.write_count t base words player fault text printed) same runs);
+  runs = subst (λ b. RunsTo disk stop b words player fault text printed) now
+      (subst (λ t. RunsTo disk t base words player fault text printed) same runs);
 }

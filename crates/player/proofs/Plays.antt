@@ -4,7 +4,8 @@ use Rattle.std.specs.Prelude.{flat_map}
 use Rattle.std.specs.Io.KnownBytes.{Appends}
 use Rattle.std.proofs.lemmas.List.{flat_map_more}
 use Rattle.std.proofs.KnownBytes.{Appends-nil, Appends-trans}
-use Rattle.blocks.specs.Disk.{Image}
+use Rattle.blocks.specs.declared.disk.Disk.{Ghosts}
+use Rattle.blocks.specs.declared.faulty.Trap.{Trap}
 use Rattle.blocks.specs.FaultyDisk.{has_fired}
 use Rattle.blocks.specs.declared.errors.DiskFault.{DiskFault}
 use Rattle.blocks.specs.declared.faulty.FaultyDisk.{FaultyDisk}
@@ -17,13 +18,13 @@ use Rattle.player.specs.Stepping.{MakesTurn, MakesTurns, PlaysTo, RunsTo}
 use Rattle.player.specs.Turns.{IfLast, told_fault}
 
 -- the first k words had their turns, which made now of old, and none was the last
-pub record PlayedSo {D N : Type 0} (image : FaultyDisk D → Image) (stop : ℕ) (words : List Word) (k : ℕ) (old now : Player D N) (text printed : Option (List ℕ)) : Type 0 where
+pub record PlayedSo {D N : Type 0} (disk : Ghosts (FaultyDisk D) (N × Trap)) (stop : ℕ) (words : List Word) (k : ℕ) (old now : Player D N) (text printed : Option (List ℕ)) : Type 0 where
   pub events : List Event
   pub lines : Appends text printed (flat_map event_line events)
-  pub joins : (rest : List Event) (new : Player D N) → MakesTurns image stop (drop k words) rest now new → MakesTurns image stop words (events ++ rest) old new
+  pub joins : (rest : List Event) (new : Player D N) → MakesTurns disk stop (drop k words) rest now new → MakesTurns disk stop words (events ++ rest) old new
 
-pub none_played : {D N : Type 0} (image : FaultyDisk D → Image) (stop : ℕ) (words : List Word) (player : Player D N) (text : Option (List ℕ)) → PlayedSo image stop words 0 player player text text
-none_played image stop words player text = record { events = []; lines = Appends-nil text; joins = λ rest new makes. makes }
+pub none_played : {D N : Type 0} (disk : Ghosts (FaultyDisk D) (N × Trap)) (stop : ℕ) (words : List Word) (player : Player D N) (text : Option (List ℕ)) → PlayedSo disk stop words 0 player player text text
+none_played disk stop words player text = record { events = []; lines = Appends-nil text; joins = λ rest new makes. makes }
 
 -- the next word
 pub next_word : (words : List Word) (k : ℕ) (default : Word) → k < length words → drop k words ≡ get_or words k default ∷ drop (k + 1) words
@@ -34,46 +35,46 @@ more_printed : (text mid printed : Option (List ℕ)) (events : List Event) (eve
 more_printed text mid printed events event before line = subst (Appends text printed) (flat_map_more event_line [] events event) (Appends-trans text mid printed _ _ before line)
 
 -- one turn more
-pub one_played : {D N : Type 0} (image : FaultyDisk D → Image) (stop : ℕ) (words : List Word) (k : ℕ) (old now next : Player D N) (text mid printed : Option (List ℕ)) (word : Word) (event : Event) → PlayedSo image stop words k old now text mid → drop k words ≡ word ∷ drop (k + 1) words
-    → MakesTurn image stop word event now next → is_last event ≡ false → Appends mid printed (event_line event) → PlayedSo image stop words (k + 1) old next text printed
-one_played image stop words k old now next text mid printed word event so left turn more line = record {
+pub one_played : {D N : Type 0} (disk : Ghosts (FaultyDisk D) (N × Trap)) (stop : ℕ) (words : List Word) (k : ℕ) (old now next : Player D N) (text mid printed : Option (List ℕ)) (word : Word) (event : Event) → PlayedSo disk stop words k old now text mid → drop k words ≡ word ∷ drop (k + 1) words
+    → MakesTurn disk stop word event now next → is_last event ≡ false → Appends mid printed (event_line event) → PlayedSo disk stop words (k + 1) old next text printed
+one_played disk stop words k old now next text mid printed word event so left turn more line = record {
   events = so.events ++ event ∷ [];
   lines = more_printed text mid printed so.events event so.lines line;
   joins = λ rest new makes.
-      let here : MakesTurns image stop (word ∷ drop (k + 1) words) (event ∷ rest) now new =
-      (next, turn, subst (λ b. IfLast b ((rest ≡ []) × (new ≡ next)) (MakesTurns image stop (drop (k + 1) words) rest next new)) (sym more) makes) in
-      subst (λ events. MakesTurns image stop words events old new) (sym (append_assoc so.events (event ∷ []) rest)) (so.joins (event ∷ rest) new (subst (λ ws. MakesTurns image stop ws (event ∷ rest) now new) (sym left) here));
+      let here : MakesTurns disk stop (word ∷ drop (k + 1) words) (event ∷ rest) now new =
+      (next, turn, subst (λ b. IfLast b ((rest ≡ []) × (new ≡ next)) (MakesTurns disk stop (drop (k + 1) words) rest next new)) (sym more) makes) in
+      subst (λ events. MakesTurns disk stop words events old new) (sym (append_assoc so.events (event ∷ []) rest)) (so.joins (event ∷ rest) new (subst (λ ws. MakesTurns disk stop ws (event ∷ rest) now new) (sym left) here));
 }
 
 -- the last turn
-pub last_played : {D N : Type 0} (image : FaultyDisk D → Image) (stop : ℕ) (words : List Word) (k : ℕ) (old now next : Player D N) (text mid printed : Option (List ℕ)) (word : Word) (event : Event) → PlayedSo image stop words k old now text mid → drop k words ≡ word ∷ drop (k + 1) words
-    → MakesTurn image stop word event now next → is_last event ≡ true → Appends mid printed (event_line event) → PlaysTo image stop words old next text printed
-last_played image stop words k old now next text mid printed word event so left turn last line =
+pub last_played : {D N : Type 0} (disk : Ghosts (FaultyDisk D) (N × Trap)) (stop : ℕ) (words : List Word) (k : ℕ) (old now next : Player D N) (text mid printed : Option (List ℕ)) (word : Word) (event : Event) → PlayedSo disk stop words k old now text mid → drop k words ≡ word ∷ drop (k + 1) words
+    → MakesTurn disk stop word event now next → is_last event ≡ true → Appends mid printed (event_line event) → PlaysTo disk stop words old next text printed
+last_played disk stop words k old now next text mid printed word event so left turn last line =
     let none : List Event = [] in
     let ends : (none ≡ []) × (next ≡ next) = (refl, refl) in
-    let here : MakesTurns image stop (word ∷ drop (k + 1) words) (event ∷ []) now next =
-    (next, turn, subst (λ b. IfLast b ((none ≡ []) × (next ≡ next)) (MakesTurns image stop (drop (k + 1) words) [] next next)) (sym last) ends) in
+    let here : MakesTurns disk stop (word ∷ drop (k + 1) words) (event ∷ []) now next =
+    (next, turn, subst (λ b. IfLast b ((none ≡ []) × (next ≡ next)) (MakesTurns disk stop (drop (k + 1) words) [] next next)) (sym last) ends) in
     record {
       events = so.events ++ event ∷ [];
-      makes = so.joins (event ∷ []) next (subst (λ ws. MakesTurns image stop ws (event ∷ []) now next) (sym left) here);
+      makes = so.joins (event ∷ []) next (subst (λ ws. MakesTurns disk stop ws (event ∷ []) now next) (sym left) here);
       lines = more_printed text mid printed so.events event so.lines line;
     }
 
 -- all words had their turns
-pub all_played : {D N : Type 0} (image : FaultyDisk D → Image) (stop : ℕ) (words : List Word) (k : ℕ) (old now : Player D N) (text printed : Option (List ℕ)) → PlayedSo image stop words k old now text printed → drop k words ≡ [] → PlaysTo image stop words old now text printed
-all_played image stop words k old now text printed so none =
+pub all_played : {D N : Type 0} (disk : Ghosts (FaultyDisk D) (N × Trap)) (stop : ℕ) (words : List Word) (k : ℕ) (old now : Player D N) (text printed : Option (List ℕ)) → PlayedSo disk stop words k old now text printed → drop k words ≡ [] → PlaysTo disk stop words old now text printed
+all_played disk stop words k old now text printed so none =
     let nothing : List Event = [] in
     let ends : (nothing ≡ []) × (now ≡ now) = (refl, refl) in
     record {
       events = so.events;
-      makes = subst (λ events. MakesTurns image stop words events old now) (append-nil so.events) (so.joins [] now (subst (λ ws. MakesTurns image stop ws [] now now) (sym none) ends));
+      makes = subst (λ events. MakesTurns disk stop words events old now) (append-nil so.events) (so.joins [] now (subst (λ ws. MakesTurns disk stop ws [] now now) (sym none) ends));
       lines = so.lines;
     }
 
 -- the counts behind the turns
-pub counts_printed : {D N : Type 0} (image : FaultyDisk D → Image) (count : FaultyDisk D → ℕ) (stop base : ℕ) (words : List Word) (old new : Player D N) (fault : Option DiskFault) (text mid printed : Option (List ℕ)) → PlaysTo image stop words old new text mid
-    → told_fault (has_fired new.kernel.volume.device) new.kernel.volume.fault ≡ fault → Appends mid printed (counts_text (count new.kernel.volume.device - base) new.kernel.volume.log.committed) → RunsTo image count stop base words old fault text printed
-counts_printed image count stop base words old new fault text mid printed plays told counts = record {
+pub counts_printed : {D N : Type 0} (disk : Ghosts (FaultyDisk D) (N × Trap)) (stop base : ℕ) (words : List Word) (old new : Player D N) (fault : Option DiskFault) (text mid printed : Option (List ℕ)) → PlaysTo disk stop words old new text mid
+    → told_fault (has_fired new.kernel.volume.device) new.kernel.volume.fault ≡ fault → Appends mid printed (counts_text (disk.write_count new.kernel.volume.device - base) new.kernel.volume.log.committed) → RunsTo disk stop base words old fault text printed
+counts_printed disk stop base words old new fault text mid printed plays told counts = record {
   events = plays.events;
   last = new;
   makes = plays.makes;

@@ -1,6 +1,6 @@
 -- Steps of a process, one after the other.
 use Rattle.std.proofs.Common.{◌≡◌, ℕ, ◌+◌, zero, suc, ◌≢◌, ◌<◌, List, refl, sym, subst, inl, inr, add-one}
-use Rattle.blocks.specs.Disk.{Image}
+use Rattle.blocks.specs.declared.disk.Disk.{Ghosts}
 use Rattle.blocks.specs.FaultyDisk.{has_fired}
 use Rattle.blocks.specs.declared.faulty.FaultyDisk.{FaultyDisk}
 use Rattle.ports.specs.History.{first_in}
@@ -14,26 +14,26 @@ use Rattle.player.specs.Stepping.{Plain, MakesStep, MakesSteps, Moves, HandsIn, 
 use Rattle.player.specs.Turns.{event_of}
 
 -- none yet
-pub none_moved : {D : Type 0} (image : D → Image) (p : ℕ) (k : Plain D) → Moves image p 0 k k
+pub none_moved : {D N : Type 0} (disk : Ghosts D N) (p : ℕ) (k : Plain D) → Moves disk p 0 k k
 unfolding Moves
-none_moved image p k = refl
+none_moved disk p k = refl
 
-moves_then : {D : Type 0} (image : D → Image) (p n : ℕ) (k m next : Plain D) → Moves image p n k m → MakesStep image p step.Moved m next → Moves image p (suc n) k next
+moves_then : {D N : Type 0} (disk : Ghosts D N) (p n : ℕ) (k m next : Plain D) → Moves disk p n k m → MakesStep disk p step.Moved m next → Moves disk p (suc n) k next
 unfolding Moves
-moves_then image p zero k m next is made = (next, subst (λ o. MakesStep image p step.Moved o next) is made, refl)
-moves_then image p (suc n) k m next moves made = (moves.0, moves.1, moves_then image p n moves.0 m next moves.2 made)
+moves_then disk p zero k m next is made = (next, subst (λ o. MakesStep disk p step.Moved o next) is made, refl)
+moves_then disk p (suc n) k m next moves made = (moves.0, moves.1, moves_then disk p n moves.0 m next moves.2 made)
 
 -- one step more that moves
-pub one_moved : {D : Type 0} (image : D → Image) (p n : ℕ) (k m next : Plain D) → Moves image p n k m → MakesStep image p step.Moved m next → Moves image p (n + 1) k next
-one_moved image p n k m next moves made = subst (λ count. Moves image p count k next) (sym (add-one n)) (moves_then image p n k m next moves made)
+pub one_moved : {D N : Type 0} (disk : Ghosts D N) (p n : ℕ) (k m next : Plain D) → Moves disk p n k m → MakesStep disk p step.Moved m next → Moves disk p (n + 1) k next
+one_moved disk p n k m next moves made = subst (λ count. Moves disk p count k next) (sym (add-one n)) (moves_then disk p n k m next moves made)
 
 -- steps up to one that doesn't move
-pub stops : {D : Type 0} (image : D → Image) (most p n : ℕ) (r : Step) (k mid m : Plain D) → Moves image p n k mid → MakesStep image p r mid m → n < most → r ≢ step.Moved → MakesSteps image most p r k m
-stops image most p n r k mid m moves made few other = record { moved = n; mid = mid; moves = moves; ends = inl (other, few, made) }
+pub stops : {D N : Type 0} (disk : Ghosts D N) (most p n : ℕ) (r : Step) (k mid m : Plain D) → Moves disk p n k mid → MakesStep disk p r mid m → n < most → r ≢ step.Moved → MakesSteps disk most p r k m
+stops disk most p n r k mid m moves made few other = record { moved = n; mid = mid; moves = moves; ends = inl (other, few, made) }
 
 -- all steps that may be made, each of which moved
-pub moves_all : {D : Type 0} (image : D → Image) (most p n : ℕ) (k m : Plain D) → Moves image p n k m → n ≡ most → MakesSteps image most p step.Moved k m
-moves_all image most p n k m moves all = record { moved = n; mid = m; moves = moves; ends = inr (refl, all, refl) }
+pub moves_all : {D N : Type 0} (disk : Ghosts D N) (most p n : ℕ) (k m : Plain D) → Moves disk p n k m → n ≡ most → MakesSteps disk most p step.Moved k m
+moves_all disk most p n k m moves all = record { moved = n; mid = m; moves = moves; ends = inr (refl, all, refl) }
 
 -- a turn of process p, call by call
 pub one_turn : {D N : Type 0} (makes : Step → Plain (FaultyDisk D) → Plain (FaultyDisk D) → Type 0) (stop p : ℕ) (event : Event) (old new : Player D N) (handed stepped : Plain (FaultyDisk D)) (c : List Backlog) (r : Step)

@@ -44,4 +44,4 @@ pub record Replays {D N : Type 0} (disk : Ghosts (FaultyDisk D) (N × Trap)) (x 
   pub opened : IsOpenedOver disk.image (recovered x) tasks processes player
   pub base : disk.write_count player.kernel.volume.device ≡ counted written (writes_to_recover (logged_count x))
   pub armed : IsArmed disk stop player.kernel.volume.device
-  pub runs : RunsTo disk.image disk.write_count stop (disk.write_count player.kernel.volume.device) words player fault text printed
+  pub runs : RunsTo disk stop (disk.write_count player.kernel.volume.device) words player fault text printed

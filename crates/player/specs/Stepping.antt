@@ -2,18 +2,19 @@
 use Rattle.std.specs.Prelude.{◌≡◌, ◌≢◌, ◌⊎◌, ℕ, zero, suc, ◌-◌, ◌<◌, false, List, [], ◌∷◌, ◌++◌, flat_map, Option, Some, None, option_to_list}
 use Rattle.std.specs.Io.KnownBytes.{Appends}
 use Rattle.blocks.specs.declared.errors.DiskFault.{DiskFault}
-use Rattle.blocks.specs.Disk.{Image}
+use Rattle.blocks.specs.declared.disk.Disk.{Ghosts}
+use Rattle.blocks.specs.declared.faulty.Trap.{Trap}
 use Rattle.blocks.specs.FaultyDisk.{has_fired}
 use Rattle.blocks.specs.declared.faulty.FaultyDisk.{FaultyDisk}
 use Rattle.ports.specs.History.{OthersStay, SameNames, first_in}
-use Rattle.ports.specs.Queues.{waiting, answers, polled, queue_side, OthersWait}
+use Rattle.ports.specs.Queues.{waiting, answers, queue_name, queue_side, OthersWait}
 use Rattle.ports.specs.declared.herald.PlainHerald.{PlainHerald}
 use Rattle.ports.specs.declared.queues.QueueIntake.{QueueIntake}
 use Rattle.scripts.specs.declared.schedule.Word.{Word}
 use Rattle.scripts.specs.declared.schedule.Word.TheVariants as word
 use Rattle.kernel.specs.declared.types.Step.{Step}
 use Rattle.kernel.specs.declared.types.Step.TheVariants as step
-use Rattle.kernel.specs.Next.{Next}
+use Rattle.kernel.specs.Next.{CountsItsFault, Next, WritesOnce}
 use Rattle.kernel.specs.Runs.{with_shutdown}
 use Rattle.kernel.specs.State.{State}
 use Rattle.player.specs.declared.backlog.Backlog.{Backlog}
@@ -32,25 +33,30 @@ abbrev pub Plain : Type 0 → Type 0
 Plain D = State D QueueIntake PlainHerald
 
 -- one step of process p, which answers r, makes m of k; a plain herald tells of no shutdown
-pub record MakesStep {D : Type 0} (image : D → Image) (p : ℕ) (r : Step) (k m : Plain D) : Type 0 where
-  pub next : Next (image k.volume.device) k.inode_count k.volume k.world p (waiting k.intake p) (queue_side m.intake p) false r (image m.volume.device) m.volume m.world
+pub record MakesStep {D N : Type 0} (disk : Ghosts D N) (p : ℕ) (r : Step) (k m : Plain D) : Type 0 where
+  pub next : Next (disk.image k.volume.device) k.inode_count k.volume k.world p (waiting k.intake p) (queue_side m.intake p) false r (disk.image m.volume.device) m.volume m.world
   pub opening : m.opening ≡ k.opening
   pub inode_count : m.inode_count ≡ k.inode_count
-  -- the other processes' queues stay, and no answer is polled
+  -- the other processes' queues stay; no operation is handed in, and no answer is polled
   pub others : OthersStay (queue_side k.intake) (queue_side m.intake) p
-  pub unpolled : SameNames (polled k.intake) (polled m.intake)
+  pub names : SameNames (queue_name k.intake) (queue_name m.intake)
+  -- it is the same disk, and one write of it was made at most, or one call failed
+  pub name : disk.name m.volume.device ≡ disk.name k.volume.device
+  pub writes : WritesOnce (disk.write_count k.volume.device) (disk.write_count m.volume.device)
+  pub faults : k.volume.fault ≡ None → CountsItsFault m.volume.fault (disk.write_count k.volume.device) (disk.write_count m.volume.device)
+      (disk.fault_count k.volume.device) (disk.fault_count m.volume.device)
 
 -- n steps of process p, each of which moves, make m of k
-unfoldable pub Moves : {D : Type 0} → (D → Image) → ℕ → ℕ → Plain D → Plain D → Type 0
-Moves image p zero k m = m ≡ k
-Moves {D} image p (suc n) k m = (mid : Plain D) × MakesStep image p step.Moved k mid × Moves image p n mid m
+unfoldable pub Moves : {D N : Type 0} → Ghosts D N → ℕ → ℕ → Plain D → Plain D → Type 0
+Moves disk p zero k m = m ≡ k
+Moves {D} disk p (suc n) k m = (mid : Plain D) × MakesStep disk p step.Moved k mid × Moves disk p n mid m
 
 -- Steps of process p make m of k, and the last answers r: up to the first that doesn't move, or `most` of them.
-pub record MakesSteps {D : Type 0} (image : D → Image) (most p : ℕ) (r : Step) (k m : Plain D) : Type 0 where
+pub record MakesSteps {D N : Type 0} (disk : Ghosts D N) (most p : ℕ) (r : Step) (k m : Plain D) : Type 0 where
   pub moved : ℕ
   pub mid : Plain D
-  pub moves : Moves image p moved k mid
-  pub ends : ((r ≢ step.Moved) × (moved < most) × MakesStep image p r mid m) ⊎ ((r ≡ step.Moved) × (moved ≡ most) × (m ≡ mid))
+  pub moves : Moves disk p moved k mid
+  pub ends : ((r ≢ step.Moved) × (moved < most) × MakesStep disk p r mid m) ⊎ ((r ≡ step.Moved) × (moved ≡ most) × (m ≡ mid))
 
 -- Operations of process p went from the front of its backlog to the end of its queue, until none was left, or the queue was full, or no number was left. No other
 -- process's backlog or queue changed, and nothing else of the kernel.
@@ -80,32 +86,32 @@ pub record MakesTurnOf {D N : Type 0} (makes : Step → Plain (FaultyDisk D) →
   pub tells : event ≡ event_of (has_fired stepped.volume.device) stop p answer (first_in (answers stepped.intake p))
 
 -- the turn of a word, where that write is stopped, makes new of old, and comes to the event
-abbrev pub MakesTurn : {D N : Type 0} → (FaultyDisk D → Image) → ℕ → Word → Event → Player D N → Player D N → Type 0
-MakesTurn image stop (word.Step p) event old new = MakesTurnOf (MakesStep image p) stop p event old new
-MakesTurn image stop (word.Steps p) event old new = MakesTurnOf (MakesSteps image 2000 p) stop p event old new
-MakesTurn image stop word.Shutdown event old new = (event ≡ Shut) × (new.kernel ≡ with_shutdown old.kernel) × (new.backlogs ≡ old.backlogs)
+abbrev pub MakesTurn : {D N : Type 0} → Ghosts (FaultyDisk D) (N × Trap) → ℕ → Word → Event → Player D N → Player D N → Type 0
+MakesTurn disk stop (word.Step p) event old new = MakesTurnOf (MakesStep disk p) stop p event old new
+MakesTurn disk stop (word.Steps p) event old new = MakesTurnOf (MakesSteps disk 2000 p) stop p event old new
+MakesTurn disk stop word.Shutdown event old new = (event ≡ Shut) × (new.kernel ≡ with_shutdown old.kernel) × (new.backlogs ≡ old.backlogs)
 
 -- the turns of these words, one for each up to the last that is made, make new of old, and come to these events
-abbrev pub MakesTurns : {D N : Type 0} → (FaultyDisk D → Image) → ℕ → List Word → List Event → Player D N → Player D N → Type 0
-MakesTurns image stop [] events old new = (events ≡ []) × (new ≡ old)
-MakesTurns image stop (first ∷ words) [] old new = ⊥
-MakesTurns {D} {N} image stop (first ∷ words) (event ∷ events) old new =
-    (mid : Player D N) × MakesTurn image stop first event old mid × IfLast (is_last event) ((events ≡ []) × (new ≡ mid)) (MakesTurns image stop words events mid new)
+abbrev pub MakesTurns : {D N : Type 0} → Ghosts (FaultyDisk D) (N × Trap) → ℕ → List Word → List Event → Player D N → Player D N → Type 0
+MakesTurns disk stop [] events old new = (events ≡ []) × (new ≡ old)
+MakesTurns disk stop (first ∷ words) [] old new = ⊥
+MakesTurns {D} {N} disk stop (first ∷ words) (event ∷ events) old new =
+    (mid : Player D N) × MakesTurn disk stop first event old mid × IfLast (is_last event) ((events ≡ []) × (new ≡ mid)) (MakesTurns disk stop words events mid new)
 
 -- the turns of these words make new of old, and a line was printed for each
-pub record PlaysTo {D N : Type 0} (image : FaultyDisk D → Image) (stop : ℕ) (words : List Word) (old new : Player D N) (text printed : Option (List ℕ)) : Type 0 where
+pub record PlaysTo {D N : Type 0} (disk : Ghosts (FaultyDisk D) (N × Trap)) (stop : ℕ) (words : List Word) (old new : Player D N) (text printed : Option (List ℕ)) : Type 0 where
   pub events : List Event
-  pub makes : MakesTurns image stop words events old new
+  pub makes : MakesTurns disk stop words events old new
   pub lines : Appends text printed (flat_map event_line events)
 
 -- The turns of these words were made, and a line was printed for each; behind them the counts of the kernel that they made, over a disk that had counted `base`
 -- writes before. This fault is told of its disk.
-pub record RunsTo {D N : Type 0} (image : FaultyDisk D → Image) (count : FaultyDisk D → ℕ) (stop base : ℕ) (words : List Word) (player : Player D N) (fault : Option DiskFault) (text printed : Option (List ℕ)) : Type 0 where
+pub record RunsTo {D N : Type 0} (disk : Ghosts (FaultyDisk D) (N × Trap)) (stop base : ℕ) (words : List Word) (player : Player D N) (fault : Option DiskFault) (text printed : Option (List ℕ)) : Type 0 where
   pub events : List Event
   pub last : Player D N
-  pub makes : MakesTurns image stop words events player last
+  pub makes : MakesTurns disk stop words events player last
   pub tells : told_fault (has_fired last.kernel.volume.device) last.kernel.volume.fault ≡ fault
-  pub lines : Appends text printed (flat_map event_line events ++ counts_text (count last.kernel.volume.device - base) last.kernel.volume.log.committed)
+  pub lines : Appends text printed (flat_map event_line events ++ counts_text (disk.write_count last.kernel.volume.device - base) last.kernel.volume.log.committed)
 
 -- the disk's fault that a refusal tells
 abbrev pub fault_in : Refusal → Option DiskFault

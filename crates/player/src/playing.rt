@@ -33,8 +33,8 @@ pub fn run<D: Disk + Drop, O: Write>(
     out: &mut O,
 ) -> Result<(), Refusal>
     requires { IsTrue (list_all (is_word_of (length player.kernel.world.processes)) words.now) }
-    ensures printed { OnOk result (RunsTo ⟦<FaultyDisk<D> as Disk>⟧.image ⟦<FaultyDisk<D> as Disk>⟧.write_count stop base words.now player None (O.contents out.old) (O.contents out.new)) }
-    ensures refused { IfErr result (λ r. OnRefusal r (RunsTo ⟦<FaultyDisk<D> as Disk>⟧.image ⟦<FaultyDisk<D> as Disk>⟧.write_count stop base words.now player (fault_in r) (O.contents out.old) (O.contents out.new)) ⊥) }
+    ensures printed { OnOk result (RunsTo ⟦<FaultyDisk<D> as Disk>⟧ stop base words.now player None (O.contents out.old) (O.contents out.new)) }
+    ensures refused { IfErr result (λ r. OnRefusal r (RunsTo ⟦<FaultyDisk<D> as Disk>⟧ stop base words.now player (fault_in r) (O.contents out.old) (O.contents out.new)) ⊥) }
 {
     play(&mut player, words, stop, out)?;
     close(player, base, out)
@@ -48,7 +48,7 @@ fn play<D: Disk + Drop, O: Write>(
     out: &mut O,
 ) -> Result<(), Refusal>
     requires { IsTrue (list_all (is_word_of (length player.old.kernel.world.processes)) words.now) }
-    ensures printed { OnOk result (PlaysTo ⟦<FaultyDisk<D> as Disk>⟧.image stop words.now player.old player.new (O.contents out.old) (O.contents out.new)) }
+    ensures printed { OnOk result (PlaysTo ⟦<FaultyDisk<D> as Disk>⟧ stop words.now player.old player.new (O.contents out.old) (O.contents out.new)) }
     ensures err { IsOkUnless result refusal.Output }
 {
     for word in words {

@@ -85,7 +85,7 @@ impl<D: Disk + Drop> Player<D> {
     /// word names is one of the kernel's.
     pub fn turn(&mut self, word: Word, stop: u64) -> Event
         requires { IsTrue (is_word_of (length self.old.kernel.world.processes) word) }
-        ensures makes { MakesTurn ⟦<FaultyDisk<D> as Disk>⟧.image stop word result self.old self.new }
+        ensures makes { MakesTurn ⟦<FaultyDisk<D> as Disk>⟧ stop word result self.old self.new }
         ensures processes { length self.new.kernel.world.processes ≡ length self.old.kernel.world.processes }
     {
         match word {
@@ -102,7 +102,7 @@ impl<D: Disk + Drop> Player<D> {
     #[tactic(auto, using(crate::proofs::Steps::one_turn))]
     fn make_step(&mut self, pid: u32, stop: u64) -> Event
         requires { pid < length self.old.kernel.world.processes }
-        ensures makes { MakesTurnOf (MakesStep ⟦<FaultyDisk<D> as Disk>⟧.image pid) stop pid result self.old self.new }
+        ensures makes { MakesTurnOf (MakesStep ⟦<FaultyDisk<D> as Disk>⟧ pid) stop pid result self.old self.new }
         ensures processes { length self.new.kernel.world.processes ≡ length self.old.kernel.world.processes }
     {
         self.hand_in(pid);
@@ -114,7 +114,7 @@ impl<D: Disk + Drop> Player<D> {
     #[tactic(auto, using(crate::proofs::Steps::one_turn))]
     fn make_steps(&mut self, pid: u32, stop: u64) -> Event
         requires { pid < length self.old.kernel.world.processes }
-        ensures makes { MakesTurnOf (MakesSteps ⟦<FaultyDisk<D> as Disk>⟧.image 2000 pid) stop pid result self.old self.new }
+        ensures makes { MakesTurnOf (MakesSteps ⟦<FaultyDisk<D> as Disk>⟧ 2000 pid) stop pid result self.old self.new }
         ensures processes { length self.new.kernel.world.processes ≡ length self.old.kernel.world.processes }
     {
         self.hand_in(pid);
@@ -152,7 +152,7 @@ impl<D: Disk + Drop> Player<D> {
     // Makes a step of a process.
     fn step(&mut self, pid: u32) -> Step
         requires { pid < length self.old.kernel.world.processes }
-        ensures makes { MakesStep ⟦<FaultyDisk<D> as Disk>⟧.image pid result self.old.kernel self.new.kernel }
+        ensures makes { MakesStep ⟦<FaultyDisk<D> as Disk>⟧ pid result self.old.kernel self.new.kernel }
         ensures processes { length self.new.kernel.world.processes ≡ length self.old.kernel.world.processes }
         ensures backlogs { self.new.backlogs ≡ self.old.backlogs }
     {
@@ -163,7 +163,7 @@ impl<D: Disk + Drop> Player<D> {
     #[tactic(auto, using(crate::proofs::Steps::none_moved, crate::proofs::Steps::one_moved))]
     fn steps(&mut self, pid: u32) -> Step
         requires { pid < length self.old.kernel.world.processes }
-        ensures makes { MakesSteps ⟦<FaultyDisk<D> as Disk>⟧.image 2000 pid result self.old.kernel self.new.kernel }
+        ensures makes { MakesSteps ⟦<FaultyDisk<D> as Disk>⟧ 2000 pid result self.old.kernel self.new.kernel }
         ensures processes { length self.new.kernel.world.processes ≡ length self.old.kernel.world.processes }
         ensures backlogs { self.new.backlogs ≡ self.old.backlogs }
     {

@@ -34,27 +34,27 @@ turn_is_of makes stop p event old new turn =
     subst (IsTurnOfProcess stop p) (sym turn.tells) (is_event_of (has_fired turn.stepped.volume.device) stop p turn.answer (first_in (answers turn.stepped.intake p)))
 
 -- the event of a turn is of its word's process
-pub turn_is : {D N : Type 0} (image : FaultyDisk D → Image) (stop : ℕ) (word : Word) (event : Event) (old new : Player D N) → MakesTurn image stop word event old new → IsTurnOf stop word event
-turn_is image stop (word.Step p) event old new turn = turn_is_of _ stop p event old new turn
-turn_is image stop (word.Steps p) event old new turn = turn_is_of _ stop p event old new turn
-turn_is image stop word.Shutdown event old new turn = turn.0
+pub turn_is : {D N : Type 0} (disk : Ghosts (FaultyDisk D) (N × Trap)) (stop : ℕ) (word : Word) (event : Event) (old new : Player D N) → MakesTurn disk stop word event old new → IsTurnOf stop word event
+turn_is disk stop (word.Step p) event old new turn = turn_is_of _ stop p event old new turn
+turn_is disk stop (word.Steps p) event old new turn = turn_is_of _ stop p event old new turn
+turn_is disk stop word.Shutdown event old new turn = turn.0
 
 if_last : (b : Bool) (P Q R S : Type 0) → (P → R) → (Q → S) → IfLast b P Q → IfLast b R S
 if_last true P Q R S f h last = f last
 if_last false P Q R S f h more = h more
 
-plays_of : {D N : Type 0} (image : FaultyDisk D → Image) (stop : ℕ) (words : List Word) (events : List Event) (old new : Player D N) → MakesTurns image stop words events old new → Plays stop words events
-plays_of image stop [] events old new makes = makes.0
-plays_of image stop (first ∷ words) [] old new makes = makes
-plays_of image stop (first ∷ words) (event ∷ events) old new makes =
-    (turn_is image stop first event old makes.0 makes.1, if_last (is_last event) _ _ _ _ (λ ends. ends.0) (λ more. plays_of image stop words events makes.0 new more) makes.2)
+plays_of : {D N : Type 0} (disk : Ghosts (FaultyDisk D) (N × Trap)) (stop : ℕ) (words : List Word) (events : List Event) (old new : Player D N) → MakesTurns disk stop words events old new → Plays stop words events
+plays_of disk stop [] events old new makes = makes.0
+plays_of disk stop (first ∷ words) [] old new makes = makes
+plays_of disk stop (first ∷ words) (event ∷ events) old new makes =
+    (turn_is disk stop first event old makes.0 makes.1, if_last (is_last event) _ _ _ _ (λ ends. ends.0) (λ more. plays_of disk stop words events makes.0 new more) makes.2)
 
 -- a replay prints the turns of some schedule
 pub some_words : {D N : Type 0} (disk : Ghosts (FaultyDisk D) (N × Trap)) (x : Image) (written : ℕ) (tasks : List Task) (processes : ℕ) (words : List Word) (stop : ℕ) (fault : Option DiskFault) (text printed : Option (List ℕ))
     → Replays disk x written tasks processes words stop fault text printed → (of : List Word) × PrintsRun stop of text printed
 some_words disk x written tasks processes words stop fault text printed replays =
     let run = replays.runs in
-    (words, (run.events, plays_of disk.image stop words run.events replays.player run.last run.makes, (disk.write_count run.last.kernel.volume.device - disk.write_count replays.player.kernel.volume.device, (run.last.kernel.volume.log.committed, run.lines))))
+    (words, (run.events, plays_of disk stop words run.events replays.player run.last run.makes, (disk.write_count run.last.kernel.volume.device - disk.write_count replays.player.kernel.volume.device, (run.last.kernel.volume.log.committed, run.lines))))
 
 -- what was printed where a replay was refused
 pub on_refusal : (r : Refusal) (P Q R S : Type 0) → (P → Q) → (R → S) → OnRefusal r P R → OnRefusal r Q S

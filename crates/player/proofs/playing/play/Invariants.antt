@@ -1,9 +1,10 @@
 use Rattle.std.proofs.Common.{◌≡◌, length}
 use Rattle.player.proofs.Plays.{PlayedSo}
+use Rattle.player.proofs.Disks.{faulty}
 use Rattle.player.proofs.playing.play.Given as goal
 
 abbrev pub invariant-loop-word : goal.invariant-loop-word
 invariant-loop-word g l = record {
-  played : PlayedSo (λ d. g.D.Disk.image d.inner) l.stop l.words l.word-index l.fn.player l.player (g.O.Write.contents l.initial.out) (g.O.Write.contents l.out);
+  played : PlayedSo (faulty g.D.Disk) l.stop l.words l.word-index l.fn.player l.player (g.O.Write.contents l.initial.out) (g.O.Write.contents l.out);
   processes : length l.player.kernel.world.processes ≡ length l.fn.player.kernel.world.processes;
 }
