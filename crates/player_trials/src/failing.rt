@@ -70,6 +70,9 @@ fn tells_of_a_failing_output(rt: HostRuntime) -> Result<(), Fail> {
     }
     let mut out = BufWriter::new(alloc, Narrow { room: 20 })?;
     assert_eq!(rt; check_disk(alloc, &mut disk, &mut out), Ok(()));
-    assert_eq!(rt; recover_disk(alloc, &mut disk, &mut out), Err(Refusal::Output));
+    assert_eq!(rt;
+        recover_disk(alloc, &mut disk, &mut out),
+        Err(Refusal::Output)
+    );
     Ok(())
 }
