@@ -2,7 +2,7 @@
 use Rattle.std.proofs.Common.{◌≡◌, ℕ, ◌+◌, ◌-◌, ◌*◌, ◌<◌, List, [], ◌∷◌, ◌++◌, length, take, drop, get_or, set, slice_index, replicate, sym, ◌∙◌, ap, subst, inl, inr, arith, length-append, length-set}
 use Rattle.std.proofs.lemmas.Bool.{cases_eq, cases_lt}
 use Rattle.std.proofs.lemmas.List.{get_or-set_same, get_or-set_other, get_or-replicate, get_or_past, length-replicate}
-use Rattle.std.proofs.lemmas.List.{append-nil}
+use Rattle.std.proofs.lemmas.List.{append-nil, append_assoc}
 use Rattle.std.proofs.Math.Seq.{get_or-append_seam, take-add}
 use Rattle.std.proofs.Math.ListN.{drop_of_length-le, get_or-append}
 use Rattle.std.proofs.lemmas.List.Folds.{concat-append}
@@ -43,15 +43,17 @@ pub overwritten-whole : (old bytes : List ℕ) → length old ≡ 1024 → lengt
 overwritten-whole old bytes size same =
     ap (λ (rest : List ℕ). bytes ++ rest) (drop_of_length-le old {i = 0 + length bytes} (omega arith)) ∙ append-nil bytes
 
--- the bytes of blocks that are the first so many of a list, and of the next one
-pub concat-push : (x : Image) (bytes block : List ℕ) (n : ℕ) → concat x ≡ take (n * 1024) bytes → block ≡ take (n * 1024 + 1024 - n * 1024) (drop (n * 1024) bytes)
-    → concat (x ++ block ∷ []) ≡ take ((n + 1) * 1024) bytes
-concat-push x bytes block n so_far next =
+-- the bytes of blocks that end with the first so many of a list, and of the next one
+pub concat-push : (x : Image) (front bytes block : List ℕ) (n : ℕ) → concat x ≡ front ++ take (n * 1024) bytes → block ≡ take (n * 1024 + 1024 - n * 1024) (drop (n * 1024) bytes)
+    → concat (x ++ block ∷ []) ≡ front ++ take ((n + 1) * 1024) bytes
+concat-push x front bytes block n so_far next =
     let one : n * 1024 + 1024 - n * 1024 ≡ 1024 = omega arith in
     let more : n * 1024 + 1024 ≡ (n + 1) * 1024 = omega arith in
-    concat-append x (block ∷ []) ∙ ap (λ (end : List ℕ). concat x ++ end) (append-nil block) ∙ ap (λ (start : List ℕ). start ++ block) so_far
-    ∙ ap (λ (end : List ℕ). take (n * 1024) bytes ++ end) (next ∙ ap (λ (k : ℕ). take k (drop (n * 1024) bytes)) one)
-    ∙ sym (take-add (n * 1024) 1024 bytes) ∙ ap (λ (k : ℕ). take k bytes) more
+    let start = take (n * 1024) bytes in
+    concat-append x (block ∷ []) ∙ ap (λ (end : List ℕ). concat x ++ end) (append-nil block) ∙ ap (λ (begin : List ℕ). begin ++ block) so_far
+    ∙ append_assoc front start block
+    ∙ ap (λ (end : List ℕ). front ++ (start ++ end)) (next ∙ ap (λ (k : ℕ). take k (drop (n * 1024) bytes)) one)
+    ∙ ap (λ (end : List ℕ). front ++ end) (sym (take-add (n * 1024) 1024 bytes) ∙ ap (λ (k : ℕ). take k bytes) more)
 
 -- an image with a block more
 pub is_image-push : (x : Image) (block : List ℕ) → IsImage x → IsBlock block → IsImage (x ++ block ∷ [])

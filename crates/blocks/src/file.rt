@@ -1,5 +1,5 @@
 // A disk over a file. It keeps a copy of the blocks, which reads give; each write goes to both.
-ghost use Rattle.std.specs.Prelude.{◌≡◌, ◌≢◌, ◌<◌, ◌≤◌, ◌^◌, ◌*◌, ◌↔◌, ℕ, false, length, replicate, refl, slice_get, slice_set, Some, IfOk, IfErr, IsOk, IsOkUnless, OnOk, OnErr, IsErrOf};
+ghost use Rattle.std.specs.Prelude.{◌≡◌, ◌≢◌, ◌<◌, ◌≤◌, ◌^◌, ◌+◌, ◌*◌, ◌++◌, ◌↔◌, ℕ, false, length, replicate, refl, slice_get, slice_set, Some, IfOk, IfErr, IsOk, IsOkUnless, OnOk, OnErr, IsErrOf};
 ghost use Rattle.std.proofs.Common.{inl};
 ghost use Rattle.std.specs.List.{concat};
 ghost use Rattle.std.specs.IoError.{error_kind};
@@ -18,6 +18,9 @@ use std::rt::Files;
 
 /// The most blocks of a file that is opened as a disk.
 pub const MAX_BLOCKS: u32 = 8191;
+
+// The most blocks that one read of a file gives.
+const PIECE: u32 = 64;
 
 /// A disk over a file `F`, in which block b stands at byte 1024 * b. The file is read once, when
 /// it is opened; reads are answered from a copy in memory, and a write goes to the file first.
@@ -157,33 +160,51 @@ fn blocks_of_length(length: u64) -> Result<u32, FileFault>
     Ok(size as u32)
 }
 
-// Reads so many blocks, all with one read.
+// Reads so many blocks, some with each read.
 fn read_blocks<F: Read>(alloc: Global, file: &mut F, size: u32) -> Result<Vec<Block>, FileFault>
     ensures size { IfOk result (λ blocks. length blocks.items ≡ size) }
     ensures image { IfOk result (λ blocks. IsImage blocks.items) }
     ensures bytes { IfOk result (λ blocks. Consumes (F.remaining file.old) (F.remaining file.new) (concat blocks.items)) }
     ensures err { IfErr result (λ fault. fault ≢ FileFault.Length) }
 {
-    let mut bytes = vec![in alloc; 0; size as usize * BLOCK_SIZE].map_err(NoMemory::from)?;
-    file.read_exact(&mut bytes).map_err(fault_of)?;
-    Ok(blocks_of(alloc, bytes.as_slice(), size)?)
-}
-
-// The blocks that these bytes make, one after another.
-fn blocks_of(alloc: Global, bytes: &[u8], size: u32) -> Result<Vec<Block>, NoMemory>
-    requires { length bytes.now ≡ size * 1024 }
-    ensures size { IfOk result (λ blocks. length blocks.items ≡ size) }
-    ensures image { IfOk result (λ blocks. IsImage blocks.items) }
-    ensures bytes { IfOk result (λ blocks. concat blocks.items ≡ bytes.now) }
-{
+    let mut piece = zeroes(alloc, PIECE as usize * BLOCK_SIZE)?;
     let mut blocks = Vec::new(alloc);
-    for number in 0..size {
-        let at = number as usize * BLOCK_SIZE;
-        let mut block = Block::zeroed(alloc)?;
-        block.put(0, &bytes[at..at + BLOCK_SIZE]);
-        blocks.push(block)?;
+    let mut left = size;
+    while left > 0 {
+        let count = left.min(PIECE);
+        let bytes = &mut piece[..count as usize * BLOCK_SIZE];
+        file.read_exact(bytes).map_err(fault_of)?;
+        add_blocks(alloc, &mut blocks, bytes, count)?;
+        left -= count;
     }
     Ok(blocks)
+}
+
+// This many bytes, all zero.
+fn zeroes(alloc: Global, count: usize) -> Result<Vec<u8>, NoMemory>
+    ensures { IfOk result (λ bytes. length bytes.items ≡ count) }
+{
+    Ok(vec![in alloc; 0; count]?)
+}
+
+// Adds the blocks that these bytes make, one after another.
+fn add_blocks(
+    alloc: Global,
+    blocks: &mut Vec<Block>,
+    bytes: &[u8],
+    count: u32,
+) -> Result<(), NoMemory>
+    requires size { length bytes.now ≡ count * 1024 }
+    requires image { IsImage blocks.old.items }
+    ensures size { OnOk result (length blocks.new.items ≡ length blocks.old.items + count) }
+    ensures image { OnOk result (IsImage blocks.new.items) }
+    ensures bytes { OnOk result (concat blocks.new.items ≡ concat blocks.old.items ++ bytes.now) }
+{
+    for number in 0..count {
+        let at = number as usize * BLOCK_SIZE;
+        blocks.push(Block::of(alloc, &bytes[at..at + BLOCK_SIZE])?)?;
+    }
+    Ok(())
 }
 
 // Writes the bytes of a block at its place.

@@ -1,9 +1,9 @@
-//! Trials of the kernel: 32 processes, stopped before each of their writes and recovered; processes
-//! by themselves; and plain queues. The crate has no code but these tests.
+//! Trials of the kernel: 32 processes, stopped before each of their writes and recovered; the texts
+//! of its faults; and plain queues. The crate has no code but these tests.
 #![tactic(auto)]
 
 #[cfg(test)]
-mod processes;
+mod faults;
 #[cfg(test)]
 mod queues;
 #[cfg(test)]

@@ -1,6 +1,6 @@
-// Plain queues and a plain herald.
+// Plain queues.
 use model::types::{Answer, Op, Reply};
-use ports::{Herald, Intake, PLACES, PlainHerald, QueueIntake};
+use ports::{Intake, PLACES, QueueIntake};
 use std::process::Abort;
 use std::test::Fail;
 
@@ -41,15 +41,5 @@ fn first_in_first_out(rt: HostRuntime) -> Result<(), Fail> {
     assert_eq!(rt; queues.poll(1).map(|answer| answer.seq), Some(1));
     assert!(rt; queues.room(1));
     assert!(rt; queues.poll(0).is_none());
-    Ok(())
-}
-
-#[test]
-fn herald_counts(rt: HostRuntime) -> Result<(), Fail> {
-    let mut herald = PlainHerald::new();
-    herald.durable(1);
-    herald.durable(2);
-    assert_eq!(rt; herald.count(), 2);
-    assert!(rt; !herald.is_shut());
     Ok(())
 }

@@ -38,77 +38,31 @@ fn hurt_byte(
     put_block(disk, b, &whole)
 }
 
-// Hurts each byte of a half of a block in four ways.
-fn hurt_half(
+// Hurts each byte of a part of a block in four ways.
+fn hurt_part(
     rt: &impl Abort,
     alloc: Global,
     disk: &mut MemDisk,
     b: u32,
-    first: usize,
+    length: usize,
 ) -> Result<(), Fail> {
     let mut image = blocks_of(alloc, disk)?;
-    for at in 0..512 {
+    for at in 0..length {
         for value in [0x00, 0x01, 0x7f, 0xff] {
-            hurt_byte(
-                rt,
-                alloc,
-                disk,
-                &mut image,
-                b,
-                first.saturating_add(at),
-                value,
-            )?;
+            hurt_byte(rt, alloc, disk, &mut image, b, at, value)?;
         }
     }
     Ok(())
 }
 
 #[test]
-fn superblock(rt: HostRuntime) -> Result<(), Fail> {
+fn each_byte_of_what_is_read(rt: HostRuntime) -> Result<(), Fail> {
     let mut disk = with_a_file(rt.alloc())?;
-    hurt_half(&rt, rt.alloc(), &mut disk, 1, 0)
-}
-
-#[test]
-fn behind_the_superblock(rt: HostRuntime) -> Result<(), Fail> {
-    let mut disk = with_a_file(rt.alloc())?;
-    hurt_half(&rt, rt.alloc(), &mut disk, 1, 512)
-}
-
-#[test]
-fn header(rt: HostRuntime) -> Result<(), Fail> {
-    let mut disk = with_a_file(rt.alloc())?;
-    hurt_half(&rt, rt.alloc(), &mut disk, 2, 0)
-}
-
-#[test]
-fn behind_the_header(rt: HostRuntime) -> Result<(), Fail> {
-    let mut disk = with_a_file(rt.alloc())?;
-    hurt_half(&rt, rt.alloc(), &mut disk, 2, 512)
-}
-
-#[test]
-fn first_inodes(rt: HostRuntime) -> Result<(), Fail> {
-    let mut disk = with_a_file(rt.alloc())?;
-    hurt_half(&rt, rt.alloc(), &mut disk, 33, 0)
-}
-
-#[test]
-fn later_inodes(rt: HostRuntime) -> Result<(), Fail> {
-    let mut disk = with_a_file(rt.alloc())?;
-    hurt_half(&rt, rt.alloc(), &mut disk, 33, 512)
-}
-
-#[test]
-fn bitmap(rt: HostRuntime) -> Result<(), Fail> {
-    let mut disk = with_a_file(rt.alloc())?;
-    hurt_half(&rt, rt.alloc(), &mut disk, 36, 0)
-}
-
-#[test]
-fn behind_the_bitmap(rt: HostRuntime) -> Result<(), Fail> {
-    let mut disk = with_a_file(rt.alloc())?;
-    hurt_half(&rt, rt.alloc(), &mut disk, 36, 512)
+    // The superblock, the header, four inodes, and the bits of all blocks; each with bytes behind.
+    for (b, length) in [(1, 64), (2, 144), (33, 256), (36, 32)] {
+        hurt_part(&rt, rt.alloc(), &mut disk, b, length)?;
+    }
+    Ok(())
 }
 
 // The bytes that four numbers of four bytes are on the disk.
@@ -152,5 +106,5 @@ fn logged_inode(rt: HostRuntime) -> Result<(), Fail> {
     let report = check(rt.alloc(), &mut disk)?;
     assert_eq!(rt; report.logged, 1);
     assert_eq!(rt; report.files, 1);
-    hurt_half(&rt, rt.alloc(), &mut disk, 3, 0)
+    hurt_part(&rt, rt.alloc(), &mut disk, 3, 128)
 }
