@@ -1,3 +1,2 @@
 pub mod OrderLemmas
 pub mod SlotLemmas
-pub mod CurrentLemmas

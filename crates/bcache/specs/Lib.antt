@@ -2,3 +2,4 @@ pub mod Order
 pub mod Current
 pub mod Buffers
 pub mod Laws
+pub mod Lemmas

@@ -133,7 +133,8 @@ impl Cache {
         requires slot { slot < 40 }
         requires held { (buffer self.old slot).holder ≡ Some pid }
         requires fits { at + length bytes.now ≤ 1024 }
-        ensures { self.new ≡ changed self.old slot (overwritten (buffer self.old slot).bytes at bytes.now) }
+        ensures cache { self.new ≡ changed self.old slot (overwritten (buffer self.old slot).bytes at bytes.now) }
+        ensures block { IsBlock (overwritten (buffer self.old slot).bytes at bytes.now) }
     {
         self.data_mut(pid, slot).put(at, bytes);
     }

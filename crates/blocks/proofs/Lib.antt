@@ -1,4 +1,3 @@
 pub mod BlockLemmas
 mod Kept
-pub mod Moments
 mod TrapLemmas

@@ -1,7 +1,7 @@
 -- How the counts of a disk of which one call fails go on.
 use Rattle.std.proofs.Common.{◌≡◌, ◌≢◌, ◌⊎◌, ℕ, suc, ◌+◌, ◌-◌, ◌<◌, ◌≤◌, ◌^◌, Bool, true, false, inl, inr, refl, sym, ◌∙◌, ap, subst, arith}
-use Rattle.std.proofs.lemmas.Bool.{both_ways, cases_eq, eqb-true, eqb-false, eq-eqb, or_cases, true≢false}
-use Rattle.std.specs.Prelude.{◌&&◌, ◌||◌, ◌==◌}
+use Rattle.std.proofs.lemmas.Bool.{both_ways, cases_eq, eqb-true, eq-eqb, or_cases, true≢false}
+use Rattle.std.specs.Prelude.{◌||◌}
 use Rattle.blocks.specs.declared.faulty.Kind.{Kind}
 use Rattle.blocks.specs.declared.faulty.Kind.TheVariants.{Read, WriteOld, WriteNew}
 use Rattle.blocks.specs.declared.faulty.Trap.{Trap}

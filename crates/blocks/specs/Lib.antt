@@ -7,3 +7,4 @@ pub mod Trap
 pub mod FaultyDisk
 pub mod File
 pub mod FileDisk
+pub mod Lemmas

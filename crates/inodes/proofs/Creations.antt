@@ -1,5 +1,5 @@
 -- A new inode at a free number of a sound image: one file more, and no other change.
-use Rattle.std.proofs.Common.{◌≡◌, ◌≢◌, ℕ, zero, suc, ◌-◌, ◌%◌, ◌<◌, ◌≤◌, true, not, Option, ◌||◌, eqb, ltb, leb, List, [], ◌∷◌, length, get_or, set, replicate, Some, None, refl, sym, ap, subst, ◌∙◌, ⊎_elim, arith}
+use Rattle.std.proofs.Common.{◌≡◌, ◌≢◌, ℕ, ◌-◌, ◌<◌, ◌≤◌, true, not, Option, ◌||◌, eqb, ltb, leb, List, [], ◌∷◌, length, get_or, set, Some, None, refl, sym, ap, subst, ◌∙◌, ⊎_elim, arith}
 use Rattle.std.specs.Prelude.{All}
 use Rattle.std.specs.List.{flat_map, list_all, range_with_len, AllByRecursion}
 use Rattle.std.proofs.lemmas.Bool.{ne_eqb, cases_eq, leb-true, ltb-true, eqb-true, false≢true}
@@ -13,8 +13,8 @@ use Rattle.model.specs.declared.types.image.Form.TheVariants.{One}
 use Rattle.model.specs.declared.types.image.Pointer.{Pointer}
 use Rattle.model.specs.declared.types.image.Super.{Super}
 use Rattle.model.specs.Fields.{u32_at, has_bit}
-use Rattle.model.specs.Layout.{super_in, super_of, form_of, magic_of, magic_at, meta_count, depths, is_lawful_super, inode_count_of, first_data_block, inode_of, inode_in, inode_bytes, inode_bytes_in, inode_block, is_marked}
-use Rattle.model.specs.Codec.{with_inode_bytes, IsDinode}
+use Rattle.model.specs.Layout.{super_in, super_of, form_of, magic_of, magic_at, meta_count, depths, is_lawful_super, inode_count_of, first_data_block, inode_of, inode_bytes, inode_block, is_marked}
+use Rattle.model.specs.Codec.{with_inode_bytes, new_inode}
 use Rattle.model.specs.Crash.{IsUntouched}
 use Rattle.model.specs.Log.{logged_in}
 use Rattle.model.specs.Operations.{is_kind}
@@ -23,32 +23,16 @@ use Rattle.model.specs.Names.{names_of}
 use Rattle.model.specs.Files.{file_of, file_at, files_of, bytes_in}
 use Rattle.model.specs.Soundness.{IsSound, IsLawfulInode, IsFilled, count_of, place_count}
 use Rattle.model.specs.Agreement.{AgreesFor}
-use Rattle.model.specs.Lemmas.Codecs.{inode_in-with_inode_bytes, inode_bytes_in-with_inode_bytes_other}
 use Rattle.model.specs.Lemmas.Counts.{All-range, All-range_at}
 use Rattle.model.specs.Lemmas.FileNumbers.{length-files_of, file_in-files_of}
 use Rattle.model.specs.Lemmas.Frames.{Agrees-set, form_agree, pointers_free, pointers_used, pointers_agree, file_agree}
+use Rattle.model.specs.Lemmas.Inodes.{IsPlaced, is_dinode-new_inode, inode_of-with_inode, inode_bytes-with_inode_other, inode_of-with_inode_other}
 use Rattle.model.specs.Lemmas.Log.{both_of}
 use Rattle.model.specs.Lemmas.Names.{pointers_named}
 use Rattle.model.specs.Lemmas.OutsideLog.{flat_map_range_same}
 use Rattle.model.specs.Lemmas.Soundness.{IsInData, inode_in_data, facts_of}
-use Rattle.inodes.specs.Creation.{new_inode, HasCreated}
+use Rattle.inodes.specs.Creation.{HasCreated}
 use Rattle.inodes.specs.Laws.{CreatesFile}
-
-zeroes_at : (n k : ℕ) → get_or {A = ℕ} (replicate n 0) k 0 ≡ 0
-zeroes_at zero k = refl
-zeroes_at (suc n) zero = refl
-zeroes_at (suc n) (suc k) = zeroes_at n k
-
-pub is_dinode-new_inode : (kind : ℕ) → kind ≤ 3 → IsDinode (new_inode kind)
-is_dinode-new_inode kind h = record {
-  kind = omega arith;
-  major = omega arith;
-  minor = omega arith;
-  nlink = omega arith;
-  size = omega arith;
-  count = refl;
-  addrs = λ k. let z = zeroes_at 13 k in omega (arith, z);
-}
 
 -- what no size needs may be there or not
 filled_unneeded : (pointers : List Pointer) → list_all (λ (p : Pointer). not p.needed) pointers ≡ true → AllByRecursion IsFilled pointers
@@ -96,30 +80,20 @@ module _ (x : Image) (i kind : ℕ) (h : IsFree x i) (low : 1 ≤ kind) (high : 
   other_block : (c : ℕ) → c ≢ b → block_at y c ≡ block_at x c
   other_block c ne = get_or-set_other x b c v [] ne
 
-  own_block : block_at y b ≡ v
-  own_block = get_or-set_same x b v [] apart.inside
+  placed : IsPlaced x i
+  placed = record { within = apart.inside; full = h.full }
 
   super : super_of y ≡ super_of x
   super = let a = apart.behind in ap super_in (other_block 1 (λ e. omega arith))
 
   own_inode : inode_of y i ≡ d
-  unfolding inode_of
-  own_inode = ap (λ bytes. inode_in (inode_bytes_in bytes i)) own_block ∙ inode_in-with_inode_bytes (block_at x b) i d h.full (is_dinode-new_inode kind high)
+  own_inode = inode_of-with_inode x i d placed (is_dinode-new_inode kind high)
 
   other_bytes : (j : ℕ) → j ≢ i → inode_bytes y j ≡ inode_bytes x j
-  other_bytes j ne =
-      ⊎_elim
-      (λ (e : inode_block j ≡ b).
-      let places : j % 16 ≢ i % 16 = λ same. ne (omega arith) in
-      ap (λ c. inode_bytes_in (block_at y c) j) e ∙ ap (λ bytes. inode_bytes_in bytes j) own_block
-      ∙ inode_bytes_in-with_inode_bytes_other (block_at x b) i j d h.full refl places
-      ∙ ap (λ c. inode_bytes_in (block_at x c) j) (sym e))
-      (λ (ne : inode_block j ≢ b). ap (λ bytes. inode_bytes_in bytes j) (other_block (inode_block j) ne))
-      (cases_eq (inode_block j) b)
+  other_bytes j ne = inode_bytes-with_inode_other x i j d placed (is_dinode-new_inode kind high) ne
 
   other_inode : (j : ℕ) → j ≢ i → inode_of y j ≡ inode_of x j
-  unfolding inode_of
-  other_inode j ne = ap inode_in (other_bytes j ne)
+  other_inode j ne = inode_of-with_inode_other x i j d placed (is_dinode-new_inode kind high) ne
 
   away : (c : ℕ) → c ≢ b → not (eqb c b) ≡ true
   away c ne = ap not (ne_eqb c b ne)

@@ -1,2 +1,6 @@
 pub mod Creations
 pub mod LookLemmas
+mod Agreeing
+mod Searching
+mod StoreSteps
+mod StoreKeeps

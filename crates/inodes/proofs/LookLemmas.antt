@@ -1,32 +1,25 @@
 -- What a look at an inode block finds.
-use Rattle.std.proofs.Common.{◌≡◌, ℕ, zero, suc, ◌+◌, ◌-◌, ◌*◌, ◌<◌, ◌≤◌, Bool, true, false, cond, eqb, List, Option, Some, None, refl, sym, ap, subst, ◌∙◌, ⊎_elim, arith}
+use Rattle.std.proofs.Common.{◌≡◌, ℕ, zero, suc, ◌+◌, ◌-◌, ◌*◌, ◌<◌, ◌≤◌, Bool, true, false, cond, List, Option, Some, None, refl, sym, ap, subst, ◌∙◌, ⊎_elim, arith}
 use Rattle.std.specs.List.{range_with_len, find}
-use Rattle.std.proofs.lemmas.Bool.{eqb-true, eqb-false, cases_eq, lt-ltb, both_ways}
+use Rattle.std.proofs.lemmas.Bool.{eqb-false, cases_eq, lt-ltb, both_ways}
 use Rattle.blocks.specs.Block.{IsBlock}
 use Rattle.blocks.specs.Disk.{Image, block_at}
+use Rattle.model.specs.Codec.{new_inode, with_inode}
 use Rattle.model.specs.Layout.{inode_in, inode_bytes_in, inode_block, inode_of, inode_count_of}
 use Rattle.model.specs.Journal.{is_number}
-use Rattle.model.specs.Lemmas.Log.{both_of}
 use Rattle.bcache.specs.Buffers.{Buffers, buffer}
 use Rattle.wal.specs.Volume.{Holds}
 use Rattle.inodes.specs.declared.ialloc.Ialloc.{Ialloc}
 use Rattle.inodes.specs.declared.progress.Progress.{Progress}
 use Rattle.inodes.specs.declared.progress.Progress.TheVariants as progress
-use Rattle.inodes.specs.Creation.{is_free_in, lowest_free, new_inode, with_inode, HasCreated}
-use Rattle.inodes.specs.Ialloc.{IsReady, HoldsAt, OnMore, OnNoneFree, Creates, SeesTaken, is_last_block, at_next_block}
+use Rattle.inodes.specs.Creation.{is_free_in, lowest_free, HasCreated}
+use Rattle.bcache.specs.Buffers.{block_or_zero}
+use Rattle.wal.specs.Held.{GivesUpLock}
+use Rattle.wal.specs.Machine.{noted}
+use Rattle.wal.specs.Volume.{VolumeState}
+use Rattle.inodes.specs.Ialloc.{IsReady, HoldsAt, OnMore, OnNoneFree, Creates, SeesTaken, IsFree, SearchSteps, is_last_block, at_next_block, with_released, with_new_inode}
 use Rattle.inodes.proofs.Creations.{creates_file}
-
--- the number that is found passes, and lies in the range
-abbrev IsIn : (ℕ → Bool) → ℕ → ℕ → ℕ → Type 0
-IsIn test a n i = (a ≤ i) × (i < a + n) × (test i ≡ true)
-
-here_or_later : (test : ℕ → Bool) (a n i : ℕ) (t : Bool) → test a ≡ t → (find test (range_with_len (a + 1) n) ≡ Some i → IsIn test (a + 1) n i) → cond t (Some a) (find test (range_with_len (a + 1) n)) ≡ Some i → IsIn test a (suc n) i
-here_or_later test a n i true is later e = let same : a ≡ i = cc e in (omega arith, omega arith, subst (λ (j : ℕ). test j ≡ true) same is)
-here_or_later test a n i false is later e = let rest = later e in (omega arith, omega arith, rest.2)
-
-pub find-range : (test : ℕ → Bool) (a n i : ℕ) → find test (range_with_len a n) ≡ Some i → IsIn test a n i
-find-range test a zero i h = absurd (cc h)
-find-range test a (suc n) i h = here_or_later test a n i (test a) refl (λ e. find-range test (a + 1) n i e) h
+use Rattle.inodes.specs.Lemmas.Looks.{found_number}
 
 -- where none is found, none of the range passes
 neither : (test : ℕ → Bool) (a n i : ℕ) (t : Bool) → test a ≡ t → (find test (range_with_len (a + 1) n) ≡ None → a + 1 ≤ i → test i ≡ false) → cond t (Some a) (find test (range_with_len (a + 1) n)) ≡ None → a ≤ i → test i ≡ false
@@ -36,18 +29,6 @@ neither test a n i false is later e low = ⊎_elim (λ (same : a ≡ i). subst (
 pub find-range_none : (test : ℕ → Bool) (a n i : ℕ) → find test (range_with_len a n) ≡ None → a ≤ i → i < a + n → test i ≡ false
 find-range_none test a zero i h low high = absurd (omega arith)
 find-range_none test a (suc n) i h low high = neither test a n i (test a) refl (λ e more. find-range_none test (a + 1) n i e more (omega arith)) h low
-
--- a number that a look finds: its inode stands in the block, operations may name it, and it is free
-pub record IsFound (bytes : List ℕ) (inode_count block i : ℕ) : Type 0 where
-  pub place : inode_block i ≡ block
-  pub number : is_number inode_count i ≡ true
-  pub free : (inode_in (inode_bytes_in bytes i)).kind ≡ 0
-
-pub found_number : (bytes : List ℕ) (inode_count block i : ℕ) → 33 ≤ block → lowest_free bytes inode_count block ≡ Some i → IsFound bytes inode_count block i
-found_number bytes inode_count block i behind h =
-    let f = find-range (is_free_in bytes inode_count) ((block - 33) * 16) 16 i h in
-    let parts = both_of (is_number inode_count i) (eqb (inode_in (inode_bytes_in bytes i)).kind 0) f.2 in
-    record { place = omega (arith, f.0, f.1); number = parts.0; free = eqb-true (inode_in (inode_bytes_in bytes i)).kind 0 parts.1 }
 
 -- the process holds the block that it looks at
 pub held : (cur : Image) (c : Buffers) (size pid slot : ℕ) (m : Ialloc) → IsReady cur c size pid m → m.slot ≡ Some slot → Holds cur c pid m.block slot
@@ -109,3 +90,37 @@ none_free o slot last r P at is p = subst (λ (n : Option ℕ). OnNoneFree n r P
     by_last : (t : Bool) → OnNoneFree (Some slot) (cond t (progress.Over None) progress.Moved) P
     by_last true = p
     by_last false = p
+
+-- a number that a look finds is free in the image
+pub finds_free : (cur : Image) (bytes : List ℕ) (m : Ialloc) (i : ℕ) → 33 ≤ m.block → bytes ≡ block_at cur m.block → Some i ≡ lowest_free bytes m.inode_count m.block → IsFree cur m i
+unfolding inode_of
+finds_free cur bytes m i behind same e =
+    let found = found_number bytes m.inode_count m.block i behind (sym e) in
+    let here : bytes ≡ block_at cur (inode_block i) = same ∙ ap (λ (b : ℕ). block_at cur b) (sym found.place) in
+    record { place = found.place; number = found.number; free = ap (λ (l : List ℕ). (inode_in (inode_bytes_in l i)).kind) (sym here) ∙ found.free }
+
+-- a look that claims a number
+pub look_claims : {D : Type 0} (cur : Image) (v w : VolumeState D) (pid slot i : ℕ) (bytes : List ℕ) (m : Ialloc) → IsReady cur v.buffers v.log.size pid m → m.slot ≡ Some slot → bytes ≡ block_at cur m.block
+    → Some i ≡ lowest_free bytes m.inode_count m.block → w ≡ with_new_inode v pid slot i m.kind → GivesUpLock v.buffers w.buffers pid slot → SearchSteps (Some slot) cur v w pid m m (progress.Over (Some i))
+look_claims cur v w pid slot i bytes m ready is same e made gives = record {
+  goes = finds_free cur bytes m i ready.behind same e;
+  locks = gives;
+  log = ap (λ (o : VolumeState _). o.log) made ∙ ap (λ (o : Option ℕ). noted v.log pid (block_or_zero o)) (held cur v.buffers v.log.size pid slot m ready is).block;
+  asleep = λ cause no. absurd (cc no);
+}
+
+-- a look that claims none
+pub look_goes_on : {D : Type 0} (cur : Image) (v w : VolumeState D) (pid slot : ℕ) (m n : Ialloc) (r : Progress (Option ℕ)) (last : Bool) → is_last_block m ≡ last → SeesTaken cur m → w ≡ with_released v slot → GivesUpLock v.buffers w.buffers pid slot
+    → r ≡ cond last (progress.Over None) progress.Moved → n ≡ cond last m (at_next_block m) → SearchSteps (Some slot) cur v w pid m n r
+look_goes_on cur v w pid slot m n r true is taken made gives answer next = subst (λ (a : Progress (Option ℕ)). SearchSteps (Some slot) cur v w pid m n a) (sym answer) (record {
+  goes = (is, taken);
+  locks = gives;
+  log = ap (λ (o : VolumeState _). o.log) made;
+  asleep = λ cause no. absurd (cc no);
+})
+look_goes_on cur v w pid slot m n r false is taken made gives answer next = subst (λ (a : Progress (Option ℕ)). SearchSteps (Some slot) cur v w pid m n a) (sym answer) (record {
+  goes = (next, is, taken);
+  locks = gives;
+  log = ap (λ (o : VolumeState _). o.log) made;
+  asleep = λ cause no. absurd (cc no);
+})

@@ -1,22 +1,12 @@
--- What a creation looks for in an inode block, and what it writes there.
-use Rattle.std.specs.Prelude.{◌≡◌, ◌≢◌, ℕ, ◌-◌, ◌*◌, ◌==◌, ◌&&◌, Bool, List, [], replicate, slice_set, find, Option, Some}
+-- What a creation looks for in an inode block, and what it makes of the image.
+use Rattle.std.specs.Prelude.{◌≡◌, ◌≢◌, ℕ, ◌-◌, ◌*◌, ◌==◌, ◌&&◌, Bool, List, [], slice_set, find, Option, Some}
 use Rattle.std.specs.List.{range_with_len}
-use Rattle.blocks.specs.Disk.{Image, block_at}
-use Rattle.model.specs.declared.types.image.Dinode.{Dinode}
-use Rattle.model.specs.Layout.{inode_in, inode_bytes_in, inode_block, inode_of}
-use Rattle.model.specs.Codec.{with_inode_bytes}
+use Rattle.blocks.specs.Disk.{Image}
+use Rattle.model.specs.Layout.{inode_in, inode_bytes_in, inode_of}
 use Rattle.model.specs.Crash.{IsUntouched, labels_of}
 use Rattle.model.specs.Files.{files_of}
 use Rattle.model.specs.Journal.{is_number}
 use Rattle.model.specs.Soundness.{IsSound}
-
--- the inode of a new file
-abbrev pub new_inode : ℕ → Dinode
-new_inode kind = record { kind = kind; major = 0; minor = 0; nlink = 1; size = 0; addrs = replicate 13 0 }
-
--- the image with another inode at the place of number i
-abbrev pub with_inode : Image → ℕ → Dinode → Image
-with_inode x i d = slice_set x (inode_block i) (with_inode_bytes (block_at x (inode_block i)) i d)
 
 -- operations may name the number, and its inode block says that it is free
 abbrev pub is_free_in : List ℕ → ℕ → ℕ → Bool

@@ -2,17 +2,21 @@
 use Rattle.std.specs.Prelude.{◌≡◌, ◌<◌, ◌≤◌, ℕ, ◌+◌, ◌-◌, ◌*◌, ◌%◌, ◌==◌, Bool, true, false, IsTrue, Option, Some, None}
 use Rattle.blocks.specs.Disk.{Image, block_at}
 use Rattle.blocks.specs.declared.errors.DiskFault.{DiskFault}
-use Rattle.model.specs.Layout.{inode_block, inode_count_of, HasNoFreeInode}
+use Rattle.model.specs.declared.types.operations.Why.{Why}
+use Rattle.model.specs.Journal.{is_number}
+use Rattle.model.specs.Layout.{inode_block, inode_of, inode_count_of, HasNoFreeInode}
 use Rattle.model.specs.Operations.{is_kind}
 use Rattle.model.specs.Soundness.{IsSound}
-use Rattle.model.specs.Codec.{dinode_bytes}
+use Rattle.model.specs.Codec.{dinode_bytes, new_inode, with_inode}
 use Rattle.bcache.specs.Buffers.{Buffers, released}
+use Rattle.wal.specs.Held.{GetsLock, GivesUpLock, WaitsFor}
+use Rattle.wal.specs.Machine.{LogState, noted}
 use Rattle.wal.specs.Volume.{VolumeState, Holds, get_answer, after_get, after_change, FailsToFill}
 use Rattle.wal.specs.declared.types.Get.TheVariants as get
 use Rattle.inodes.specs.declared.ialloc.Ialloc.{Ialloc}
 use Rattle.inodes.specs.declared.progress.Progress.{Progress}
 use Rattle.inodes.specs.declared.progress.Progress.TheVariants as progress
-use Rattle.inodes.specs.Creation.{new_inode, with_inode, lowest_free, HasCreated}
+use Rattle.inodes.specs.Creation.{lowest_free, HasCreated}
 
 -- the block that is looked at is an inode block, and the process holds it where it was got
 abbrev pub HoldsAt : Image → Buffers → ℕ → ℕ → Option ℕ → Type 0
@@ -115,3 +119,47 @@ Creates cur m new i = IsSound cur → m.inode_count ≡ inode_count_of cur → I
 -- no number in the block that was looked at is free, where the image has as many inode numbers
 abbrev pub SeesTaken : Image → Ialloc → Type 0
 SeesTaken cur m = m.inode_count ≡ inode_count_of cur → HasNoFreeInode cur m.block
+
+-- a number in the block that is looked at, which operations may name, and which is free
+pub record IsFree (cur : Image) (m : Ialloc) (i : ℕ) : Type 0 where
+  pub place : inode_block i ≡ m.block
+  pub number : IsTrue (is_number m.inode_count i)
+  pub free : (inode_of cur i).kind ≡ 0
+
+-- where a step leads to and why, by whether the search had got its block
+abbrev pub SearchGoes : Option ℕ → Image → Ialloc → Progress (Option ℕ) → Ialloc → Type 0
+SearchGoes None cur m progress.Moved n = (i : ℕ) × (n ≡ at_slot m i)
+SearchGoes None cur m (progress.Sleeping why) n = n ≡ m
+SearchGoes None cur m (progress.Over out) n = ⊥
+SearchGoes None cur m (progress.Fault fault) n = (n ≡ m) × (fault.0 ≡ m.block)
+SearchGoes (Some s) cur m progress.Moved n = (n ≡ at_next_block m) × (is_last_block m ≡ false) × SeesTaken cur m
+SearchGoes (Some s) cur m (progress.Sleeping why) n = ⊥
+SearchGoes (Some s) cur m (progress.Over None) n = (is_last_block m ≡ true) × SeesTaken cur m
+SearchGoes (Some s) cur m (progress.Over (Some i)) n = IsFree cur m i
+SearchGoes (Some s) cur m (progress.Fault fault) n = ⊥
+
+-- what it makes of the locks
+abbrev pub SearchLocks : Option ℕ → Progress (Option ℕ) → Buffers → Buffers → ℕ → ℕ → Option ℕ → Type 0
+SearchLocks None progress.Moved c d pid b slot = (i : ℕ) × (slot ≡ Some i) × GetsLock c d pid b i
+SearchLocks None (progress.Sleeping cause) c d pid b slot = WaitsFor cause c b
+SearchLocks None (progress.Over out) c d pid b slot = ⊥
+SearchLocks None (progress.Fault fault) c d pid b slot = Unit {0}
+SearchLocks (Some i) progress.Moved c d pid b slot = GivesUpLock c d pid i
+SearchLocks (Some i) (progress.Sleeping cause) c d pid b slot = ⊥
+SearchLocks (Some i) (progress.Over out) c d pid b slot = GivesUpLock c d pid i
+SearchLocks (Some i) (progress.Fault fault) c d pid b slot = ⊥
+
+-- the log after it: a claim logs the block
+abbrev pub log_after : LogState → ℕ → ℕ → Progress (Option ℕ) → LogState
+log_after l pid b progress.Moved = l
+log_after l pid b (progress.Sleeping why) = l
+log_after l pid b (progress.Over None) = l
+log_after l pid b (progress.Over (Some i)) = noted l pid b
+log_after l pid b (progress.Fault fault) = l
+
+-- a step of the search, by whether it had got its block
+pub record SearchSteps {D : Type 0} (slot : Option ℕ) (cur : Image) (v w : VolumeState D) (pid : ℕ) (m n : Ialloc) (r : Progress (Option ℕ)) : Type 0 where
+  pub goes : SearchGoes slot cur m r n
+  pub locks : SearchLocks slot r v.buffers w.buffers pid m.block n.slot
+  pub log : w.log ≡ log_after v.log pid m.block r
+  pub asleep : (cause : Why) → r ≡ progress.Sleeping cause → w ≡ v

@@ -1,3 +1,7 @@
 pub mod Creation
 pub mod Ialloc
 pub mod Laws
+pub mod Lemmas
+pub mod Steps
+pub mod Store
+pub mod Tasks

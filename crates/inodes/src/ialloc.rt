@@ -3,12 +3,13 @@ ghost use Rattle.std.specs.Prelude.{◌≡◌, ◌<◌, ◌≤◌, ◌-◌, Some
 ghost use Rattle.blocks.specs.Calls.{OnlyReads};
 ghost use Rattle.blocks.specs.Disk.{block_at};
 ghost use Rattle.model.specs.Layout.{inode_block};
-ghost use Rattle.model.specs.Codec.{dinode_bytes};
+ghost use Rattle.model.specs.Codec.{dinode_bytes, new_inode, with_inode};
 ghost use Rattle.wal.specs.Machine.{used_by, HasRoom};
+ghost use Rattle.wal.specs.Held.{GivesUpLock};
 ghost use Rattle.wal.specs.Joint.{seen};
 ghost use Rattle.wal.specs.Volume.{Holds, faults_after};
-ghost use Rattle.inodes.specs.Creation.{new_inode, with_inode, is_free_in, lowest_free};
-ghost use Rattle.inodes.specs.Ialloc.{IsReady, Gets, Looks, Allocates, OnMore, OnClaimed, OnNoneFree, Creates, SeesTaken, is_last_block, at_next_block, with_new_inode, current_after, fault_in};
+ghost use Rattle.inodes.specs.Creation.{is_free_in, lowest_free};
+ghost use Rattle.inodes.specs.Ialloc.{IsReady, Gets, Looks, SearchSteps, Allocates, OnMore, OnClaimed, OnNoneFree, Creates, SeesTaken, is_last_block, at_next_block, with_new_inode, current_after, fault_in};
 
 use crate::Progress;
 use blocks::{Block, Disk};
@@ -62,6 +63,7 @@ impl Ialloc {
         ensures claimed { OnClaimed result (Creates (seen (D.image volume.old.device) volume.old.buffers) self.old (seen (D.image volume.new.device) volume.new.buffers)) }
         ensures taken { OnNoneFree self.old.slot result (SeesTaken (seen (D.image volume.old.device) volume.old.buffers) self.old) }
 
+        ensures search { SearchSteps self.old.slot (seen (D.image volume.old.device) volume.old.buffers) volume.old volume.new pid self.old self.new result }
         ensures fault { volume.new.fault ≡ fault_in result }
         ensures device { OnlyReads D.Disk volume.old.device volume.new.device }
         ensures faults { D.fault_count volume.new.device ≡ faults_after (fault_in result) (D.fault_count volume.old.device) }
@@ -79,6 +81,7 @@ impl Ialloc {
         requires slot { self.old.slot ≡ None }
         ensures step { Gets (D.image volume.old.device) (seen (D.image volume.old.device) volume.old.buffers) self.old volume.old pid result self.new volume.new }
         ensures more { OnMore result (IsReady (seen (D.image volume.new.device) volume.new.buffers) volume.new.buffers volume.new.log.size pid self.new) }
+        ensures search { SearchSteps None (seen (D.image volume.old.device) volume.old.buffers) volume.old volume.new pid self.old self.new result }
         ensures current { seen (D.image volume.new.device) volume.new.buffers ≡ seen (D.image volume.old.device) volume.old.buffers }
         ensures fault { volume.new.fault ≡ fault_in result }
         ensures device { OnlyReads D.Disk volume.old.device volume.new.device }
@@ -111,6 +114,7 @@ impl Ialloc {
         ensures current { seen (D.image volume.new.device) volume.new.buffers ≡ current_after (seen (D.image volume.old.device) volume.old.buffers) self.old result }
         ensures claimed { OnClaimed result (Creates (seen (D.image volume.old.device) volume.old.buffers) self.old (seen (D.image volume.new.device) volume.new.buffers)) }
         ensures taken { OnNoneFree self.old.slot result (SeesTaken (seen (D.image volume.old.device) volume.old.buffers) self.old) }
+        ensures search { SearchSteps (Some slot) (seen (D.image volume.old.device) volume.old.buffers) volume.old volume.new pid self.old self.new result }
         ensures device { volume.new.device ≡ volume.old.device }
         ensures fault { volume.new.fault ≡ fault_in result }
         ensures none { fault_in result ≡ None }
@@ -151,6 +155,7 @@ fn claim<D: Disk>(volume: &mut Volume<D>, pid: u32, slot: u32, i: u32, kind: u16
     requires room { HasRoom (used_by volume.old.log pid) }
     requires holds { Holds (seen (D.image volume.old.device) volume.old.buffers) volume.old.buffers pid (inode_block i) slot }
     ensures volume { volume.new ≡ with_new_inode volume.old pid slot i kind }
+    ensures locks { GivesUpLock volume.old.buffers volume.new.buffers pid slot }
     ensures current { seen (D.image volume.new.device) volume.new.buffers ≡ with_inode (seen (D.image volume.old.device) volume.old.buffers) i (new_inode kind) }
 {
     let at = (i % 16 * 64) as usize;

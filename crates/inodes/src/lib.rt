@@ -4,6 +4,10 @@
 mod ialloc;
 pub mod laws;
 mod progress;
+mod store;
+mod tasks;
 
 pub use ialloc::Ialloc;
-pub use progress::Progress;
+pub use progress::{Progress, TaskProgress};
+pub use store::Store;
+pub use tasks::{Place, Tasks};

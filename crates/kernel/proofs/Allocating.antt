@@ -10,7 +10,7 @@ use Rattle.bcache.specs.Buffers.{Buffers}
 use Rattle.wal.specs.Machine.{LogState}
 use Rattle.wal.specs.Joint.{Joint, seen}
 use Rattle.wal.specs.Volume.{VolumeState, Holds}
-use Rattle.wal.proofs.VolumeLemmas.{holds_now}
+use Rattle.wal.specs.Lemmas.Volume.{holds_now}
 use Rattle.inodes.specs.declared.ialloc.Ialloc.{Ialloc}
 use Rattle.inodes.specs.declared.progress.Progress.TheVariants as progress
 use Rattle.inodes.specs.Creation.{lowest_free}

@@ -15,7 +15,7 @@ use Rattle.wal.specs.Machine.{LogState, is_quiet, left_by, Idle}
 use Rattle.wal.specs.Joint.{Joint, seen, written_at}
 use Rattle.wal.specs.Step.{answer_at}
 use Rattle.wal.specs.Volume.{VolumeState}
-use Rattle.wal.proofs.CommitLemmas.{few_homes}
+use Rattle.wal.specs.Lemmas.Log.{few_homes}
 use Rattle.inodes.specs.declared.ialloc.Ialloc.{Ialloc}
 use Rattle.inodes.specs.declared.progress.Progress.TheVariants as progress
 use Rattle.inodes.specs.Creation.{lowest_free}
@@ -32,7 +32,7 @@ use Rattle.kernel.specs.Processes.{World, process, idle, committing_at}
 use Rattle.kernel.specs.State.{State, waiting_of, is_under_way_at}
 use Rattle.kernel.specs.Table.{IsSearching, Stands, IsTable}
 use Rattle.kernel.proofs.Places.{there_now}
-use Rattle.kernel.proofs.Commits.{where_none}
+use Rattle.inodes.specs.Lemmas.Faults.{where_none}
 use Rattle.kernel.proofs.Events.{commits_now}
 
 one_look : (o : Option ℕ) → 1 ≤ looks_left o

@@ -18,23 +18,6 @@ use Rattle.kernel.specs.Processes.{World, process, idle_again}
 use Rattle.kernel.specs.Table.{IsTable, is_committing_at}
 use Rattle.kernel.proofs.Events.{table_written, table_done}
 
--- what holds where there is no fault
-pub where_none : {T : Type 0} (o : Option DiskFault) → o ≡ None → IfNone o T → T
-where_none None e t = t
-where_none (Some fault) e t = absurd (cc e)
-
-pub if_none : {T : Type 0} (o : Option DiskFault) → T → IfNone o T
-if_none None t = t
-if_none (Some fault) t = tt
-
-pub if_some : (T : Type 0) (o : Option DiskFault) (fault : DiskFault) → o ≡ Some fault → IfNone o T
-if_some T None fault e = absurd (cc e)
-if_some T (Some f) fault e = tt
-
-pub if_well : {S T : Type 0} (o : Option DiskFault) → (S → T) → IfNone o S → IfNone o T
-if_well None f s = f s
-if_well (Some fault) f s = tt
-
 -- where a process commits
 record CommitsAt (a : At) : Type 0 where
   group : ℕ

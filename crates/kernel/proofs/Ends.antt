@@ -7,7 +7,7 @@ use Rattle.wal.specs.declared.types.Commit.TheVariants as commit
 use Rattle.wal.specs.declared.types.Ended.TheVariants as ended_as
 use Rattle.wal.specs.Machine.{LogState, used_by, ended, end_answer, IsLog, IsLogAt}
 use Rattle.wal.specs.Volume.{VolumeState}
-use Rattle.wal.proofs.LogLemmas.{some_open, quiet_of}
+use Rattle.wal.specs.Lemmas.Log.{some_open, quiet_of}
 use Rattle.kernel.specs.declared.types.At.{At}
 use Rattle.kernel.specs.declared.types.At.TheVariants as at
 use Rattle.kernel.specs.Processes.{World, process, committing, idle_again}

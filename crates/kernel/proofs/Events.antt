@@ -15,7 +15,7 @@ use Rattle.wal.specs.declared.types.Commit.TheVariants as commit
 use Rattle.wal.specs.declared.types.Ended.TheVariants as ended_as
 use Rattle.wal.specs.Machine.{LogState, used_by, is_quiet, is_among, begin_cause, begun, noted, noted_cache, appended, one_used, ended, end_answer, closed, left_by, IsLog}
 use Rattle.wal.specs.Joint.{written_at, written_cache}
-use Rattle.wal.proofs.LogLemmas.{quiet_of, some_open}
+use Rattle.wal.specs.Lemmas.Log.{quiet_of, some_open}
 use Rattle.inodes.specs.declared.ialloc.Ialloc.{Ialloc}
 use Rattle.inodes.specs.Ialloc.{at_slot, at_next_block, is_last_block}
 use Rattle.kernel.specs.declared.types.At.{At}
@@ -24,7 +24,7 @@ use Rattle.kernel.specs.declared.types.Process.{Process}
 use Rattle.kernel.specs.Processes.{World, process, idle, with_place, creating, searching, turned, entry_of, committing, committing_at, idle_again}
 use Rattle.kernel.specs.Table.{HasSlot, IsSearching, Stands, IsTable, is_committing_at, is_searching_at, slot_at}
 use Rattle.kernel.proofs.Holding.{HeldAs, held_same, held_released, locks_then, locks_noted, slots_noted, locks_changed, locks_written, OthersHold, others_same, others_released, others_changed, others_noted, others_then, others_written, noted_holder}
-use Rattle.wal.proofs.VolumeLemmas.{changed_lock}
+use Rattle.wal.specs.Lemmas.Volume.{changed_lock}
 use Rattle.kernel.proofs.Tables.{table_goes}
 use Rattle.kernel.proofs.Logging.{none_commits, open_now, logs_same, logs_begun, logs_noted, logs_ended, logs_written}
 

@@ -1,13 +1,11 @@
 -- Images with the opening's files after some entries.
-use Rattle.std.proofs.Common.{◌≡◌, ◌≢◌, ℕ, ◌+◌, ◌*◌, ◌/◌, ◌<◌, true, false, ◌||◌, ltb, List, [], ◌∷◌, ◌++◌, length, set, refl, sym, ◌∙◌, ap, subst, arith, ⊎_elim, Some, None}
-use Rattle.std.specs.Prelude.{is_none}
+use Rattle.std.proofs.Common.{◌≡◌, ◌≢◌, ℕ, ◌+◌, ◌*◌, ◌/◌, ◌<◌, true, false, ◌||◌, ltb, List, [], ◌∷◌, ◌++◌, length, refl, sym, ◌∙◌, ap, subst, arith, ⊎_elim, Some, None}
 use Rattle.std.specs.List.{list_any}
-use Rattle.std.proofs.lemmas.Bool.{cases_eq, eq-eqb, ne_eqb, ltb-true, lt-ltb}
+use Rattle.std.proofs.lemmas.Bool.{cases_eq, eq-eqb, ne_eqb, ltb-true}
 use Rattle.std.proofs.lemmas.List.Folds.{list_any-append}
 use Rattle.blocks.specs.Disk.{Image, block_at}
 use Rattle.model.specs.declared.types.image.Dinode.{Dinode}
 use Rattle.model.specs.declared.types.operations.Entry.{Entry}
-use Rattle.model.specs.declared.types.image.Form.{Form}
 use Rattle.model.specs.declared.types.operations.Op.TheVariants.{Create}
 use Rattle.model.specs.declared.types.operations.Reply.TheVariants.{Made, NoInode}
 use Rattle.model.specs.declared.types.image.Super.{Super}
@@ -18,10 +16,11 @@ use Rattle.model.specs.Files.{Files, files_of, file_in, file_of}
 use Rattle.model.specs.Journal.{is_number, is_making}
 use Rattle.model.specs.Layout.{form_of, super_in, super_of, inode_of, inode_in, inode_bytes, inode_bytes_in, inode_block, inode_count_of}
 use Rattle.model.specs.Log.{logged_count}
-use Rattle.model.specs.Operations.{is_kind, after}
+use Rattle.model.specs.Operations.{is_kind}
 use Rattle.model.specs.Soundness.{IsSound}
 use Rattle.model.specs.Lemmas.FileNumbers.{length-files_of, file_in-files_of}
 use Rattle.model.specs.Lemmas.Log.{both_of}
+use Rattle.model.specs.Lemmas.Runs.{after-made, after-no_inode}
 use Rattle.model.specs.Lemmas.OutsideLog.{behind_log, same_outside_log}
 use Rattle.model.specs.Lemmas.Soundness.{facts_of}
 use Rattle.inodes.specs.Creation.{HasCreated}
@@ -85,24 +84,14 @@ due_made opening es e i made = rw (list_any-append (λ (f : Entry). is_making i 
     or_all false = refl
 
 -- a creation that found no number changes no file
-answers_none : (form : Form) (files : Files) (kind : ℕ) → is_kind kind ≡ true → after form files (Create kind) NoInode ≡ Some files
-unfolding after
-answers_none form files kind is = rw is refl
-
 pub after_no_inode : (opening : Image) (es : List Entry) (e : Entry) (kind : ℕ) (y : Image) → HasFilesAfter opening es y → is_kind kind ≡ true → e.op ≡ Create kind → e.reply ≡ Some NoInode → HasFilesAfter opening (es ++ e ∷ []) y
 after_no_inode opening es e kind y h is op reply = record {
   size = h.size;
   sound = h.sound;
-  files = replay_more (form_of opening) (files_of opening) (files_of y) (files_of y) es e h.files (rw (op, reply) (answers_none (form_of opening) (files_of y) kind is));
+  files = replay_more (form_of opening) (files_of opening) (files_of y) (files_of y) es e h.files (rw (op, reply) (after-no_inode (form_of opening) (files_of y) kind is));
   untouched = h.untouched;
   labels = λ i used number. h.labels i used number ∙ sym (due_more opening es e i (ap (is_making i) reply));
 }
-
--- a creation that made a number gives it an empty file
-answers_made : (form : Form) (files : Files) (kind i : ℕ) → is_kind kind ≡ true → 0 < i → i < length files → file_in files i ≡ None
-    → after form files (Create kind) (Made i) ≡ Some (set files i (Some (record { kind = kind; bytes = [] })))
-unfolding after
-answers_made form files kind i is some below free = rw (is, lt-ltb 0 i some, lt-ltb i (length files) below, free) refl
 
 free_file : (x : Image) (i : ℕ) → 0 < i → i < inode_count_of x → (inode_of x i).kind ≡ 0 → file_in (files_of x) i ≡ None
 unfolding file_of
@@ -121,7 +110,7 @@ after_created opening es e kind i x y h made size is number free op reply =
       size = size ∙ h.size;
       sound = made.sound;
       files = replay_more (form_of opening) (files_of opening) (files_of x) (files_of y) es e h.files
-          (rw (op, reply) (answers_made (form_of opening) (files_of x) kind i is some (omega (arith, below, length-files_of x)) (free_file x i some below free) ∙ ap (λ (f : Files). Some f) (sym made.files)));
+          (rw (op, reply) (after-made (form_of opening) (files_of x) kind i is some (omega (arith, below, length-files_of x)) (free_file x i some below free) ∙ ap (λ (f : Files). Some f) (sym made.files)));
       untouched = record {
         boot = v.boot ∙ u.boot;
         super = v.super ∙ u.super;

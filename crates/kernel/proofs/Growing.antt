@@ -3,7 +3,7 @@ use Rattle.std.proofs.Common.{◌≡◌, inl, inr, ⊎_elim, ℕ, ◌≤◌, Lis
 use Rattle.std.proofs.lemmas.List.{append-nil, append_assoc}
 use Rattle.blocks.specs.Disk.{Image, Elapses, AddsNone, LeavesOnly}
 use Rattle.blocks.specs.declared.errors.DiskFault.{DiskFault}
-use Rattle.blocks.proofs.Moments.{started, goes_on, joined}
+use Rattle.blocks.specs.Lemmas.Moments.{started, goes_on, joined}
 use Rattle.model.specs.declared.types.operations.Entry.{Entry}
 use Rattle.model.specs.Crash.{Keeps, due_labels}
 use Rattle.model.specs.Files.{files_of}

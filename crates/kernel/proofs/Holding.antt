@@ -6,7 +6,7 @@ use Rattle.bcache.specs.Current.{references_of, holder_count}
 use Rattle.bcache.specs.Buffers.{Buffers, buffer, with_buffer, found, victim, filled, changed, released, pinned, unpinned, locked, taken, after_acquire, after_acquire_by, after_lock, after_take, acquire_answer, answer_by, lock_answer, take_answer, IsCache}
 use Rattle.bcache.specs.declared.types.Acquired.{Acquired}
 use Rattle.bcache.specs.declared.types.Acquired.TheVariants as acquired
-use Rattle.bcache.proofs.SlotLemmas.{buffer_same, buffer_other, each_buffer, some_found, victim_free, cache_acquired}
+use Rattle.bcache.specs.Lemmas.Slots.{buffer_same, buffer_other, each_buffer, some_found, victim_free, cache_acquired}
 use Rattle.std.proofs.lemmas.Bool.{cases_eq}
 use Rattle.wal.specs.declared.types.Commit.{Commit}
 use Rattle.wal.specs.declared.types.Commit.TheVariants as commit
@@ -15,7 +15,7 @@ use Rattle.std.specs.Prelude.{slice_index}
 use Rattle.wal.specs.Joint.{written_cache, unpinned_found}
 use Rattle.wal.specs.declared.types.Get.TheVariants as get
 use Rattle.wal.specs.Volume.{after_get, after_get_by, get_answer, get_answer_by}
-use Rattle.wal.proofs.VolumeLemmas.{acquired_now}
+use Rattle.wal.specs.Lemmas.Volume.{acquired_now}
 use Rattle.kernel.specs.Table.{HasSlot}
 
 -- what the others hold stays

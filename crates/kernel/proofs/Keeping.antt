@@ -19,15 +19,14 @@ use Rattle.wal.specs.declared.types.Commit.TheVariants as commit
 use Rattle.wal.specs.Machine.{LogState, used_by, is_among, begun, ended, left_by, IsLogAt}
 use Rattle.wal.specs.Joint.{JointAt, Joint, seen}
 use Rattle.wal.specs.Volume.{VolumeState}
-use Rattle.wal.proofs.CommitLemmas.{logged-same}
-use Rattle.wal.proofs.LogLemmas.{some_open, quiet_of}
-use Rattle.wal.proofs.RecoveredLemmas.{quiet_is_current}
+use Rattle.wal.specs.Lemmas.Commits.{logged-same, quiet_is_current}
+use Rattle.wal.specs.Lemmas.Log.{some_open, quiet_of}
 use Rattle.inodes.specs.declared.ialloc.Ialloc.{Ialloc}
 use Rattle.inodes.specs.declared.progress.Progress.{Progress}
 use Rattle.inodes.specs.declared.progress.Progress.TheVariants as progress
 use Rattle.inodes.specs.Creation.{lowest_free}
 use Rattle.inodes.specs.Ialloc.{Looks, AllocatesAt, Allocates, OnClaimed, Creates, current_after, is_last_block}
-use Rattle.inodes.proofs.LookLemmas.{IsFound, found_number}
+use Rattle.inodes.specs.Lemmas.Looks.{IsFound, found_number}
 use Rattle.kernel.specs.declared.stepping.Waiting.TheVariants as waiting
 use Rattle.kernel.specs.declared.types.At.{At}
 use Rattle.kernel.specs.declared.types.At.TheVariants as at

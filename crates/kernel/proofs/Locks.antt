@@ -8,7 +8,7 @@ use Rattle.model.specs.declared.types.operations.Op.{Op}
 use Rattle.model.specs.declared.types.operations.Why.TheVariants as why
 use Rattle.model.specs.Reservations.{is_log_full}
 use Rattle.bcache.specs.Buffers.{Buffers, buffer, found, victim, answer_by, lock_answer, take_answer}
-use Rattle.bcache.proofs.SlotLemmas.{some_found, block_is}
+use Rattle.bcache.specs.Lemmas.Slots.{some_found, block_is}
 use Rattle.ports.specs.History.{Side, first_in}
 use Rattle.wal.specs.declared.types.Get.TheVariants as get
 use Rattle.wal.specs.Machine.{LogState, begin_cause, is_quiet}
@@ -27,7 +27,7 @@ use Rattle.kernel.specs.Next.{BeginsWith, Begins, NextAt, NextIf, Next}
 use Rattle.kernel.specs.Processes.{World, process}
 use Rattle.kernel.specs.State.{State, waiting_of}
 use Rattle.kernel.specs.Table.{IsTable, IsHeldByAnother, WaitsForBuffer, slot_at}
-use Rattle.kernel.proofs.Commits.{where_none}
+use Rattle.inodes.specs.Lemmas.Faults.{where_none}
 
 -- a locked slot of the block
 record IsLocked (c : Buffers) (b : ℕ) : Type 0 where

@@ -7,7 +7,7 @@ use Rattle.wal.specs.declared.types.Commit.{Commit}
 use Rattle.wal.specs.declared.types.Commit.TheVariants as commit
 use Rattle.wal.specs.Machine.{LogState, used_by, is_quiet, is_among, begin_cause, begun, noted, appended, one_used, ended, closed, left_by, IsLogAt, IsLog, Counts}
 use Rattle.wal.specs.Joint.{written_at}
-use Rattle.wal.proofs.LogLemmas.{let_in, is_open, quiet_of}
+use Rattle.wal.specs.Lemmas.Log.{let_in, is_open, quiet_of}
 use Rattle.kernel.specs.declared.types.At.{At}
 use Rattle.kernel.specs.declared.types.At.TheVariants as at
 use Rattle.kernel.specs.Processes.{World, process}

@@ -4,12 +4,9 @@ use Rattle.std.specs.Prelude.{count_by}
 use Rattle.std.proofs.lemmas.Bool.{cases_lt, false≢true}
 use Rattle.std.proofs.lemmas.List.{get_or-replicate, get_or_past, length-replicate}
 use Rattle.std.proofs.lemmas.List.Folds.{sum_by-replicate}
-use Rattle.blocks.specs.Disk.{Image, Rose, IsSettled, LeavesOnly}
-use Rattle.blocks.proofs.Moments.{started, stays, joined}
-use Rattle.blocks.specs.Calls.{OnlyReads}
-use Rattle.blocks.specs.declared.disk.Disk.{Ghosts}
+use Rattle.blocks.specs.Disk.{Image, Rose}
 use Rattle.model.specs.Layout.{super_of, inode_count_of, is_lawful_super, magic_of}
-use Rattle.model.specs.Log.{is_lawful_log, logged_count, recovered}
+use Rattle.model.specs.Log.{is_lawful_log, logged_count, recovered, cleared}
 use Rattle.model.specs.Soundness.{IsSound}
 use Rattle.model.specs.Fields.{u32_at}
 use Rattle.model.specs.Crash.{Keeps}
@@ -25,9 +22,9 @@ use Rattle.bcache.specs.declared.types.Buffer.{Buffer}
 use Rattle.bcache.specs.Buffers.{buffer, empty_buffer, fresh_buffers}
 use Rattle.wal.specs.Machine.{new_log, used_by}
 use Rattle.wal.specs.Volume.{VolumeState}
-use Rattle.wal.proofs.LawfulLogs.{empty_lawful}
-use Rattle.wal.proofs.OpeningLemmas.{fresh_seen}
-use Rattle.wal.specs.Recovery.{RecoversAs, OnDisk, OnBadLog}
+use Rattle.wal.specs.Lemmas.Commits.{empty_lawful}
+use Rattle.wal.specs.Lemmas.Volume.{fresh_seen}
+use Rattle.wal.specs.Recovery.{OnDisk, OnBadLog}
 use Rattle.wal.specs.declared.faults.RecoverFault.{RecoverFault}
 use Rattle.wal.specs.declared.faults.RecoverFault.TheVariants as recover
 use Rattle.kernel.specs.declared.types.Process.{Process}
@@ -35,20 +32,17 @@ use Rattle.kernel.specs.Opening.{IsRecoverCause}
 use Rattle.kernel.specs.Processes.{World, process, idle, fresh_world}
 use Rattle.ports.specs.History.{History, nothing_yet}
 use Rattle.kernel.specs.Histories.{pending_at, owed_at, HasHistory}
-use Rattle.kernel.specs.Keeps.{HasFilesAfter, cleared, IsJournal, Recovers}
+use Rattle.kernel.specs.Keeps.{HasFilesAfter, IsJournal, Recovers}
 use Rattle.kernel.specs.State.{HasNumbers, is_under_way_at}
 use Rattle.kernel.specs.Table.{Stands, IsTable, is_committing_at, is_searching_at}
 use Rattle.kernel.proofs.FilesAfter.{after_none}
 use Rattle.kernel.proofs.Journals.{journal_none}
 use Rattle.kernel.proofs.Recovers.{clear}
+use Rattle.kernel.specs.Lemmas.Openings.{lawful_super}
 
 -- the volume of a kernel that is opened on an image of so many blocks
 abbrev pub opened_volume : {D : Type 0} → D → ℕ → VolumeState D
 opened_volume d size = record { device = d; buffers = fresh_buffers; log = new_log size; fault = None }
-
--- the superblock that a check without a fault answers is lawful
-pub lawful_super : (x : Image) (sup : Super) → verdict x ≡ None → sup ≡ super_of x → is_lawful_super sup (length x) ≡ true
-lawful_super x sup none is = ap (λ (s : Super). is_lawful_super s (length x)) is ∙ (verdict_sound x none).0.fields
 
 pub super_size : (x : Image) (sup : Super) → verdict x ≡ None → sup ≡ super_of x → sup.size ≡ length x
 super_size x sup none is = ap (λ (s : Super). s.size) is ∙ (facts_of x (verdict_sound x none).0).size
@@ -78,17 +72,6 @@ pub recover_cause : (T : Type 0) (x y : Image) (fault : RecoverFault) (old mid n
 recover_cause T x y recover.Disk old mid new none is same rose bad = subst (λ (n : ℕ). Rose n new) same rose
 recover_cause T x y recover.BadLog old mid new none is same rose bad = false≢true (sym bad ∙ ap is_lawful_log is ∙ (verdict_sound x none).1)
 recover_cause T x y recover.NoMemory old mid new none is same rose bad = tt
-
-module _ {D N : Type 0} (disk : Ghosts D N) (only_now : (d : D) → IsSettled (disk.image d) (disk.leaves d (disk.moment d))) where
-  -- a crash during a check and a recovery leaves what is recovered to the same image
-  pub opened_leaves : (old mid new : D) → OnlyReads disk old mid → LeavesOnly disk.moment disk.leaves mid new (RecoversAs (disk.image mid)) → LeavesOnly disk.moment disk.leaves old new (RecoversAs (disk.image old))
-  opened_leaves old mid new reads then_on =
-      let P : Image → Type 0 = RecoversAs (disk.image old) in
-      joined disk.moment disk.leaves old mid new P
-      (stays disk.moment disk.leaves old old mid P
-      (started disk.moment disk.leaves old P (λ x left. subst P (sym (only_now old x left)) (record { image = refl; lawful = refl })))
-      reads.time)
-      (subst (λ (y : Image). LeavesOnly disk.moment disk.leaves mid new (RecoversAs y)) reads.image then_on)
 
 -- a list of the same everywhere
 same_at : {A : Type 0} (n p : ℕ) (a : A) → get_or (replicate n a) p a ≡ a

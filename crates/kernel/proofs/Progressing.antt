@@ -32,7 +32,7 @@ use Rattle.kernel.specs.Progress.{is_heading, commits_at, commits, CountsCommitt
 use Rattle.kernel.specs.State.{State, waiting_of}
 use Rattle.kernel.specs.Table.{IsSearching, Stands, IsTable}
 use Rattle.kernel.proofs.Allocating.{search_moves, search_over, search_sleeps, search_fails}
-use Rattle.kernel.proofs.Commits.{where_none}
+use Rattle.inodes.specs.Lemmas.Faults.{where_none}
 use Rattle.kernel.proofs.Places.{there_now, others_stay}
 use Rattle.kernel.proofs.Growing.{grows_none, grows_same, grows_one}
 use Rattle.kernel.proofs.Keeping.{IsOpen, open_of, refused_still}

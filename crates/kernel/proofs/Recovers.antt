@@ -7,27 +7,27 @@ use Rattle.blocks.specs.declared.errors.DiskFault.{DiskFault}
 use Rattle.model.specs.declared.types.operations.Entry.{Entry}
 use Rattle.model.specs.declared.types.operations.Op.TheVariants.{Create}
 use Rattle.model.specs.declared.types.operations.Reply.TheVariants.{Made, NoInode}
-use Rattle.model.specs.Agreement.{Agrees, is_outside_log}
+use Rattle.model.specs.Agreement.{Agrees, is_outside_log, IsSameOutsideLog}
 use Rattle.model.specs.Crash.{Keeps}
 use Rattle.model.specs.Journal.{kept, is_changing, is_number}
 use Rattle.model.specs.Layout.{inode_count_of, inode_of, super_in}
-use Rattle.model.specs.Log.{logged_count, is_lawful_log, recovered}
+use Rattle.model.specs.Log.{logged_count, is_lawful_log, recovered, cleared}
 use Rattle.model.specs.Operations.{is_kind}
 use Rattle.model.specs.Soundness.{IsSound}
+use Rattle.model.specs.Lemmas.Log.{none_cleared}
 use Rattle.model.specs.Lemmas.Recovery.{logged_count-left}
 use Rattle.model.specs.Lemmas.Soundness.{long_geometry}
 use Rattle.bcache.specs.Buffers.{Buffers}
-use Rattle.bcache.proofs.CurrentLemmas.{length-current}
+use Rattle.bcache.specs.Lemmas.Current.{length-current}
 use Rattle.wal.specs.declared.types.Commit.{Commit}
 use Rattle.wal.specs.declared.types.Commit.TheVariants as commit
 use Rattle.wal.specs.Machine.{LogState}
-use Rattle.wal.specs.Joint.{IsSameOutsideLog, seen, written_at}
+use Rattle.wal.specs.Joint.{seen, written_at}
 use Rattle.wal.specs.Kept.{KeepsCommitted, CrashKeeps}
 use Rattle.wal.specs.Volume.{VolumeState}
-use Rattle.wal.proofs.CommitLemmas.{outside_log}
-use Rattle.wal.proofs.CopyLemmas.{none_cleared}
+use Rattle.wal.specs.Lemmas.Commits.{outside_log}
 use Rattle.inodes.specs.Creation.{HasCreated}
-use Rattle.kernel.specs.Keeps.{HasFilesAfter, cleared, most_kept, KeepsBetween, KeepsNow, Recovers, AreUpTo}
+use Rattle.kernel.specs.Keeps.{HasFilesAfter, most_kept, KeepsBetween, KeepsNow, Recovers, AreUpTo}
 use Rattle.kernel.proofs.Kept.{kept-append, kept_up_to, kept_not_yet, kept_still, kept_more}
 use Rattle.kernel.proofs.Events.{written_same}
 use Rattle.kernel.proofs.FilesAfter.{after_elsewhere, after_no_inode, after_created}

@@ -11,7 +11,7 @@ use Rattle.wal.specs.declared.types.Commit.TheVariants as commit
 use Rattle.wal.specs.Machine.{LogState}
 use Rattle.wal.specs.Joint.{Joint}
 use Rattle.wal.specs.Volume.{VolumeState}
-use Rattle.wal.proofs.LogLemmas.{let_in}
+use Rattle.wal.specs.Lemmas.Log.{let_in}
 use Rattle.inodes.specs.declared.ialloc.Ialloc.{Ialloc}
 use Rattle.kernel.specs.declared.stepping.Waiting.{Waiting}
 use Rattle.kernel.specs.declared.stepping.Waiting.TheVariants as waiting

@@ -7,7 +7,7 @@ use Rattle.wal.specs.Machine.{LogState}
 use Rattle.kernel.specs.Processes.{World, process}
 use Rattle.kernel.specs.State.{State, Inv, is_under_way_at}
 use Rattle.kernel.specs.Table.{IsTable}
-use Rattle.kernel.proofs.Commits.{if_well}
+use Rattle.inodes.specs.Lemmas.Faults.{if_well}
 use Rattle.kernel.proofs.Taking.{histories_stay}
 
 -- the table says nothing of a shutdown

@@ -5,7 +5,7 @@ use Rattle.std.proofs.lemmas.Bool.{cases_eq}
 use Rattle.std.proofs.lemmas.List.Sums.{sum_by-set}
 use Rattle.bcache.specs.Buffers.{Buffers, buffer}
 use Rattle.wal.specs.Machine.{LogState, used_by, is_quiet}
-use Rattle.wal.proofs.LogLemmas.{some_open}
+use Rattle.wal.specs.Lemmas.Log.{some_open}
 use Rattle.kernel.specs.declared.types.At.{At}
 use Rattle.kernel.specs.declared.types.At.TheVariants as at
 use Rattle.kernel.specs.declared.types.Process.{Process}

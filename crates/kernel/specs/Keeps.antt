@@ -1,8 +1,7 @@
 -- What a kernel's disk keeps of its journal.
-use Rattle.std.specs.Prelude.{◌≡◌, ◌≢◌, ℕ, ◌+◌, ◌≤◌, nat_le, nat_lt, All, IsTrue, List, [], ◌++◌, length, slice_set, Option, Some, None}
+use Rattle.std.specs.Prelude.{◌≡◌, ◌≢◌, ℕ, ◌+◌, ◌≤◌, nat_le, nat_lt, All, IsTrue, List, [], ◌++◌, length, Option, Some, None}
 use mathlib.Core.List.{IsPrefix}
 use Rattle.std.specs.List.{list_all}
-use Rattle.blocks.specs.Block.{zero_block}
 use Rattle.blocks.specs.Disk.{Image}
 use Rattle.blocks.specs.declared.errors.DiskFault.{DiskFault}
 use Rattle.model.specs.declared.types.operations.Entry.{Entry}
@@ -10,7 +9,7 @@ use Rattle.model.specs.Crash.{IsUntouched, Keeps, labels_of, due_labels}
 use Rattle.model.specs.Files.{files_of}
 use Rattle.model.specs.Journal.{kept, replay, answered, is_changing, is_number}
 use Rattle.model.specs.Layout.{form_of, inode_of, inode_count_of}
-use Rattle.model.specs.Log.{is_lawful_log, recovered}
+use Rattle.model.specs.Log.{is_lawful_log, recovered, cleared}
 use Rattle.model.specs.Soundness.{IsSound}
 use Rattle.bcache.specs.Buffers.{Buffers}
 use Rattle.wal.specs.declared.types.Commit.{Commit}
@@ -26,10 +25,6 @@ pub record HasFilesAfter (opening : Image) (entries : List Entry) (y : Image) : 
   pub files : replay (form_of opening) (files_of opening) entries ≡ Some (files_of y)
   pub untouched : IsUntouched opening y
   pub labels : (i : ℕ) → (inode_of y i).kind ≢ 0 → IsTrue (is_number (inode_count_of opening) i) → labels_of y i ≡ due_labels opening entries i
-
--- the image with an empty log header
-abbrev pub cleared : Image → Image
-cleared x = slice_set x 2 zero_block
 
 -- no entry is of a later group
 abbrev pub AreUpTo : ℕ → List Entry → Type 0

@@ -10,3 +10,4 @@ pub mod Histories
 pub mod Bound
 pub mod Decisions
 pub mod Progress
+pub mod Lemmas

@@ -68,6 +68,7 @@ impl<D: Disk, I: Intake, H: Herald> Kernel<D, I, H> {
     ghost use Rattle.std.specs.Option.{option_map};
     ghost use Rattle.blocks.specs.Disk.{Image, Elapses, LeavesOnly, one_more};
     ghost use Rattle.model.specs.Layout.{form_of, inode_count_of};
+    ghost use Rattle.model.specs.Log.{cleared};
     ghost use Rattle.model.specs.Operations.{is_kind};
     ghost use Rattle.std.specs.List.{filter};
     ghost use Rattle.model.specs.Files.{files_of};
@@ -76,7 +77,7 @@ impl<D: Disk, I: Intake, H: Herald> Kernel<D, I, H> {
     ghost use Rattle.wal.specs.Joint.{seen, place_at};
     ghost use Rattle.model.specs.Verdict.{verdict};
     ghost use Rattle.kernel.specs.Histories.{HasHistory, IsHistory};
-    ghost use Rattle.kernel.specs.Keeps.{HasFilesAfter, cleared, IsJournal, KeepsNow, KeepsBetween, Grows, most_of};
+    ghost use Rattle.kernel.specs.Keeps.{HasFilesAfter, IsJournal, KeepsNow, KeepsBetween, Grows, most_of};
     ghost use Rattle.ports.specs.History.{History, OthersStay, SameNames, first_in};
     ghost use Rattle.kernel.specs.State.{waiting_of, Stays, is_under_way_at};
     ghost use Rattle.kernel.specs.declared.types.At.TheVariants as at;

@@ -7,7 +7,7 @@ use Rattle.std.proofs.lemmas.List.FromFn.{fill_by_all, get_or-range_with_len, le
 use Rattle.std.proofs.Math.ListN.{get_or-append}
 use Rattle.std.proofs.Math.Seq.{get_or-append_seam}
 use Rattle.blocks.specs.Disk.{Image, block_at, counted, one_more, LeavesOnly, Elapses, IsOldOrNew, IsSettled}
-use Rattle.blocks.proofs.Moments.{started, goes_on}
+use Rattle.blocks.specs.Lemmas.Moments.{started, goes_on}
 use Rattle.model.specs.declared.types.image.Form.TheVariants.{One}
 use Rattle.model.specs.Codec.{made_block, made_image}
 use Rattle.layout.specs.Making.{HasMade, IsMadeInPart, made_first, with_made, writing_order}

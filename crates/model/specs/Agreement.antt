@@ -1,5 +1,5 @@
 -- Images that are alike at some of their blocks.
-use Rattle.std.specs.Prelude.{◌≡◌, ◌≢◌, ℕ, ◌||◌, nat_lt, IsTrue, Bool, List}
+use Rattle.std.specs.Prelude.{◌≡◌, ◌≢◌, ℕ, ◌||◌, nat_lt, IsTrue, Bool, List, length}
 use Rattle.std.specs.List.{list_all}
 use Rattle.blocks.specs.Disk.{Image, block_at}
 use Rattle.model.specs.declared.types.image.Dinode.{Dinode}
@@ -34,3 +34,8 @@ pub record HasSameContents (x y : Image) (d : Dinode) : Type 0 where
 -- the blocks but for the log's header and its 30 blocks
 abbrev pub is_outside_log : ℕ → Bool
 is_outside_log b = nat_lt b 2 || nat_lt 32 b
+
+-- one size, and the same blocks outside the log
+pub record IsSameOutsideLog (x y : Image) : Type 0 where
+  pub size : length y ≡ length x
+  pub agree : Agrees is_outside_log x y

@@ -1,15 +1,15 @@
--- The bytes of records, and a new image block by block.
-use Rattle.std.specs.Prelude.{◌≡◌, ℕ, zero, suc, ◌*◌, ◌/◌, ◌%◌, ◌^◌, ◌<◌, ◌==◌, if◌then◌else◌, List, [], ◌∷◌, ◌++◌, length, map, slice_set, slice_index, bit_or, bit_and}
+-- The bytes of records, an image with another inode, and a new image block by block.
+use Rattle.std.specs.Prelude.{◌≡◌, ℕ, zero, suc, ◌*◌, ◌/◌, ◌%◌, ◌^◌, ◌<◌, ◌==◌, if◌then◌else◌, List, [], ◌∷◌, ◌++◌, length, map, replicate, slice_set, slice_index, bit_or, bit_and}
 use Rattle.std.specs.Int.{bit_not}
 use Rattle.std.specs.List.{flat_map, range_with_len}
 use mir.Syntax.{w8}
 use Rattle.byteorder.specs.Endian.{little_bytes}
 use Rattle.blocks.specs.Block.{zero_block, overwritten}
-use Rattle.blocks.specs.Disk.{Image}
+use Rattle.blocks.specs.Disk.{Image, block_at}
 use Rattle.model.specs.declared.types.image.Dinode.{Dinode}
 use Rattle.model.specs.declared.types.image.Form.{Form}
 use Rattle.model.specs.declared.types.image.Super.{Super}
-use Rattle.model.specs.Layout.{magic_of, meta_count, planned_super}
+use Rattle.model.specs.Layout.{magic_of, meta_count, planned_super, inode_block}
 
 -- numbers of four bytes each, one after the other
 abbrev pub bytes_of_words : List ℕ → List ℕ
@@ -50,6 +50,21 @@ pub record IsDinode (d : Dinode) : Type 0 where
 -- an inode block with another inode at the place of number i
 abbrev pub with_inode_bytes : List ℕ → ℕ → Dinode → List ℕ
 with_inode_bytes block i d = overwritten block (i % 16 * 64) (dinode_bytes d)
+
+-- the image with another inode at the place of number i
+abbrev pub with_inode : Image → ℕ → Dinode → Image
+with_inode x i d = slice_set x (inode_block i) (with_inode_bytes (block_at x (inode_block i)) i d)
+
+-- the inode of a new file
+abbrev pub new_inode : ℕ → Dinode
+new_inode kind = record {
+  kind = kind;
+  major = 0;
+  minor = 0;
+  nlink = 1;
+  size = 0;
+  addrs = replicate 13 0;
+}
 
 -- a block with another number at place e
 abbrev pub with_entry : List ℕ → ℕ → ℕ → List ℕ

@@ -14,4 +14,5 @@ pub mod OutsideLog
 pub mod Bits
 pub mod FileNumbers
 pub mod Codecs
+pub mod Inodes
 pub mod MadeImages

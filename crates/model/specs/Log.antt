@@ -1,5 +1,5 @@
 -- The log's header, and the image that recovery makes.
-use Rattle.std.specs.Prelude.{ℕ, ◌+◌, ◌==◌, ◌&&◌, not, nat_le, nat_lt, min, if◌then◌else◌, Bool, true, List, [], ◌∷◌, take, drop, length, map, Option, Some, None}
+use Rattle.std.specs.Prelude.{ℕ, ◌+◌, ◌==◌, ◌&&◌, not, nat_le, nat_lt, min, if◌then◌else◌, Bool, true, List, [], ◌∷◌, take, drop, length, map, slice_set, Option, Some, None}
 use Rattle.std.specs.List.{list_any, list_all, position_from, range_with_len}
 use Rattle.blocks.specs.Block.{zero_block}
 use Rattle.blocks.specs.Disk.{Image, block_at}
@@ -52,3 +52,7 @@ recovered_block x b =
 unfoldable pub recovered : Image → Image
 recovered x =
     if logged_count x == 0 then x else map (recovered_block x) (range_with_len 0 (length x))
+
+-- the image with an empty header
+abbrev pub cleared : Image → Image
+cleared x = slice_set x 2 zero_block

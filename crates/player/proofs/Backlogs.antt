@@ -5,7 +5,7 @@ use Rattle.std.proofs.lemmas.Bool.Decides.{eqb_tells}
 use Rattle.std.proofs.lemmas.List.{flat_map_more}
 use Rattle.ports.specs.Queues.{OthersWait}
 use Rattle.ports.specs.declared.queues.QueueIntake.{QueueIntake}
-use Rattle.ports.proofs.LaneLemmas.{slice_get-set_here, slice_get-set_other}
+use Rattle.ports.specs.Lemmas.Lanes.{slice_get-set_here, slice_get-set_other}
 use Rattle.model.specs.declared.types.operations.Op.{Op}
 use Rattle.scripts.specs.declared.script.Task.{Task}
 use Rattle.player.specs.declared.backlog.Backlog.{Backlog}

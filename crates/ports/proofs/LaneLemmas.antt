@@ -1,5 +1,5 @@
 -- One lane changes, and the others stay.
-use Rattle.std.proofs.Common.{◌≡◌, ◌≢◌, ℕ, zero, suc, ◌<◌, ◌+◌, ◌-◌, ◌^◌, min, List, [], ◌∷◌, ◌++◌, length, set, Some, None, append-nil, length-append, refl, sym, ap, ◌∙◌, subst, arith, append_assoc}
+use Rattle.std.proofs.Common.{◌≡◌, ℕ, zero, suc, ◌<◌, ◌+◌, ◌-◌, ◌^◌, min, List, [], ◌∷◌, ◌++◌, length, set, Some, None, append-nil, length-append, sym, ap, ◌∙◌, subst, arith, append_assoc}
 use native.Mathlib.Decide.{ℕ_discrete}
 use mathlib.Core.Logic.{dite}
 use Rattle.std.specs.Prelude.{Option, slice_get, All, option_to_list}
@@ -8,18 +8,7 @@ use Rattle.ports.specs.declared.lane.Lane.{Lane}
 use Rattle.ports.specs.History.{History, FitWith, AllFit, gives, nothing_yet}
 use Rattle.ports.specs.Lanes.{IsEmptyLane, SameWaiting, polled_after}
 use Rattle.ports.specs.Queues.{FitsAt, FitsLane}
-
-pub slice_get-set_here : {A : Type 0} (xs : List A) (i : ℕ) (x : A) → i < length xs → slice_get (set xs i x) i ≡ Some x
-slice_get-set_here [] i x h = absurd (omega arith)
-slice_get-set_here (y ∷ ys) zero x h = refl
-slice_get-set_here (y ∷ ys) (suc i) x h = slice_get-set_here ys i x (omega arith)
-
-pub slice_get-set_other : {A : Type 0} (xs : List A) (i j : ℕ) (x : A) → j ≢ i → slice_get (set xs i x) j ≡ slice_get xs j
-slice_get-set_other [] i j x n = refl
-slice_get-set_other (y ∷ ys) zero zero x n = absurd (n refl)
-slice_get-set_other (y ∷ ys) zero (suc j) x n = refl
-slice_get-set_other (y ∷ ys) (suc i) zero x n = refl
-slice_get-set_other (y ∷ ys) (suc i) (suc j) x n = slice_get-set_other ys i j x (λ e. n (ap suc e))
+use Rattle.ports.specs.Lemmas.Lanes.{slice_get-set_here, slice_get-set_other}
 
 -- a change of one lane that takes each history of it to another
 pub fits_with : (lanes : List Lane) (pid : ℕ) (l n : Lane) (f : History → History) → slice_get lanes pid ≡ Some l → pid < length lanes

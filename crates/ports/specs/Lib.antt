@@ -2,3 +2,4 @@ pub mod History
 pub mod PlainHerald
 pub mod Lanes
 pub mod Queues
+pub mod Lemmas

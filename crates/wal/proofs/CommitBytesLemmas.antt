@@ -11,8 +11,8 @@ use Rattle.blocks.specs.Disk.{Image, block_at}
 use Rattle.bcache.specs.Buffers.{Buffers, buffer, found}
 use Rattle.bcache.specs.Current.{is_of, shows}
 use Rattle.wal.specs.Joint.{seen, JointAt, Joint, live_at, pins_of, place_at, bytes_at, source_at, bytes_found, HasPin, IsPinned, IsHeader}
-use Rattle.bcache.proofs.SlotLemmas.{none_found, some_found, block_is}
-use Rattle.bcache.proofs.CurrentLemmas.{current_at, slot_shows}
+use Rattle.bcache.specs.Lemmas.Slots.{none_found, some_found, block_is}
+use Rattle.bcache.specs.Lemmas.Current.{current_at, slot_shows}
 use Rattle.wal.specs.declared.types.Commit.{Commit}
 use Rattle.wal.specs.declared.types.Commit.TheVariants as commit
 use Rattle.wal.proofs.LawfulLogs.{home_facts}

@@ -1,8 +1,8 @@
 -- What a write of a commit keeps of disk, buffers and log together.
-use Rattle.std.proofs.Common.{◌≡◌, ◌≢◌, ⊎_elim, inl, inr, ℕ, zero, suc, ◌+◌, ◌*◌, ◌-◌, ◌<◌, ◌≤◌, ◌==◌, ◌||◌, ltb, Bool, true, false, cond, List, [], ◌∷◌, length, get_or, set, take, drop, length-drop, refl, sym, ◌∙◌, ap, subst, arith, Option, Some, None, length-set, add-one}
+use Rattle.std.proofs.Common.{◌≡◌, ◌≢◌, inl, inr, ℕ, zero, suc, ◌+◌, ◌*◌, ◌-◌, ◌<◌, ◌≤◌, ◌==◌, ◌||◌, Bool, true, false, cond, List, [], ◌∷◌, length, get_or, set, take, drop, length-drop, refl, sym, ◌∙◌, ap, subst, arith, Option, Some, None, length-set, add-one}
 use Rattle.std.specs.Prelude.{slice_index}
 use Rattle.std.proofs.Math.Seq.{drop-cons, drop-length}
-use Rattle.std.proofs.lemmas.Bool.{cases_eq, cond-true, cond-false, eqb-true, eq-eqb, ne_eqb, both_ways, and_parts, and_right, false_from_ne_true, or_cases, or_parts, or_from, or_right, ltb-true}
+use Rattle.std.proofs.lemmas.Bool.{cases_eq, cond-true, cond-false, eqb-true, eq-eqb, ne_eqb, both_ways, and_parts, and_right, false_from_ne_true, or_parts, or_from, or_right}
 use Rattle.std.proofs.lemmas.List.{get_or-set_same, get_or-set_other, get_or-drop, get_or-take, get_or_default, length-take-le}
 use Rattle.std.proofs.lemmas.List.Folds.{list_any_none, list_any_at}
 use Rattle.blocks.specs.Block.{zero_block}
@@ -10,22 +10,19 @@ use Rattle.blocks.specs.Disk.{Image, block_at}
 use Rattle.bcache.specs.declared.types.Buffer.{Buffer}
 use Rattle.bcache.specs.Buffers.{Buffers, buffer, found, unpinned}
 use Rattle.bcache.specs.Current.{is_number_in, is_of, shows}
-use Rattle.wal.specs.Joint.{seen, IsHeader, IsSameOutsideLog, JointAt, Joint, Phase, Logs, HasHeader, live_at, pins_of, place_at, bytes_at, written_at, written_cache, unpinned_found, IsWithin}
-use Rattle.bcache.proofs.SlotLemmas.{each_buffer, none_found, some_found, block_is, cache_kept}
-use Rattle.bcache.proofs.CurrentLemmas.{length-current, current_kept, current_same_write, current_write}
+use Rattle.wal.specs.Joint.{seen, IsHeader, JointAt, Joint, Phase, Logs, HasHeader, live_at, pins_of, place_at, bytes_at, written_at, written_cache, unpinned_found, IsWithin}
+use Rattle.bcache.specs.Lemmas.Slots.{each_buffer, none_found, some_found, block_is, cache_kept}
+use Rattle.bcache.specs.Lemmas.Current.{length-current, current_kept, current_same_write, current_write}
 use Rattle.wal.specs.declared.types.Commit.{Commit}
 use Rattle.wal.specs.declared.types.Commit.TheVariants as commit
+use Rattle.model.specs.Agreement.{is_outside_log, IsSameOutsideLog}
 use Rattle.model.specs.Log.{logged_count, homes_of, logged_in, homes_in}
 use Rattle.wal.proofs.LawfulLogs.{home_facts}
 use Rattle.wal.specs.Machine.{is_among, AreHomes, LogState, Idle, Counts, IsLogAt}
-use Rattle.model.specs.Agreement.{is_outside_log}
 use Rattle.wal.proofs.LogLemmas.{no_homes, none_added}
 use Rattle.model.specs.Fields.{u32_at}
 use Rattle.model.specs.Lemmas.Log.{zero_header}
-
--- images with the same header
-pub logged-same : (x y : Image) → block_at y 2 ≡ block_at x 2 → logged_count y ≡ logged_count x
-logged-same x y same = ap logged_in same
+use Rattle.wal.specs.Lemmas.Commits.{logged-same, outside_log}
 
 pub homes-same : (x y : Image) → block_at y 2 ≡ block_at x 2 → homes_of y ≡ homes_of x
 homes-same x y same = ap homes_in same
@@ -87,9 +84,6 @@ in_phase k n l hs done is none idle are few counts = record {
   idle = idle;
   counts = counts;
 }
-
-pub few_homes : {k : Commit} {l : LogState} → IsLogAt k l → length l.homes ≤ 30
-few_homes {k} {l} is = omega (arith, is.room)
 
 -- one log block more
 logs_more : (size n : ℕ) (x cur : Image) (hs : List ℕ) → AreHomes size hs → n < length hs → n < 30 → 33 ≤ length x → Logs n x cur hs
@@ -297,13 +291,6 @@ wrote_next x c l h j busy head = by_phase l.commit j busy
     by_phase commit.Heading j busy = wrote_header x c l h j head
     by_phase (commit.Homing n) j busy = wrote_home x c l n j
     by_phase commit.Clearing j busy = wrote_empty x c l j
-
--- a block outside the log is none of the log's
-pub outside_log : (a b : ℕ) → is_outside_log a ≡ true → 2 ≤ b → b < 33 → a ≢ b
-outside_log a b out far low same = ⊎_elim
-    (λ first. let lt : a < 2 = ltb-true a 2 first in omega (arith, lt, far, same))
-    (λ last. let lt : 32 < a = ltb-true 32 a last in omega (arith, lt, low, same))
-    (or_cases (ltb a 2) (ltb 32 a) out)
 
 same_low : (x : Image) (c : Buffers) (k : Commit) (l : LogState) (b : ℕ) (v : List ℕ) → JointAt k x c l → 2 ≤ b → b < 33 → IsSameOutsideLog (seen x c) (seen (set x b v) c)
 same_low x c k l b v j far low =

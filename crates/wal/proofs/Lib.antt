@@ -10,4 +10,6 @@ pub mod CommitBytesLemmas
 pub mod CommitStepLemmas
 pub mod StepLemmas
 pub mod OpeningLemmas
+pub mod BlocksLemmas
+pub mod HeldLemmas
 pub mod VolumeLemmas

@@ -2,13 +2,13 @@
 use Rattle.std.proofs.Common.{◌≡◌, ◌≢◌, ⊎_elim, inl, inr, ℕ, zero, suc, ◌+◌, ◌<◌, ◌≤◌, ltb, false, List, [], ◌∷◌, length, set, refl, sym, ◌∙◌, ap, subst, arith, length-set, Option, Some, None}
 use Rattle.std.specs.Prelude.{slice_index}
 use Rattle.std.proofs.lemmas.Bool.{cases_eq, cases_lt, ltb-true, or_cases}
-use Rattle.std.proofs.lemmas.List.{get_or-set_same, get_or-set_other, ext_get_or, set-set}
+use Rattle.std.proofs.lemmas.List.{get_or-set_same, get_or-set_other, set-set}
 use Rattle.std.proofs.Math.Seq.{drop-length}
 use Rattle.blocks.specs.Block.{zero_block}
 use Rattle.blocks.specs.Disk.{Image, block_at}
 use Rattle.bcache.specs.Buffers.{Buffers}
 use Rattle.wal.specs.Joint.{seen}
-use Rattle.bcache.proofs.CurrentLemmas.{length-current}
+use Rattle.bcache.specs.Lemmas.Current.{length-current}
 use Rattle.wal.specs.declared.types.Commit.{Commit}
 use Rattle.wal.specs.declared.types.Commit.TheVariants as commit
 use Rattle.model.specs.Log.{logged_count, recovered}
@@ -19,10 +19,11 @@ use Rattle.wal.specs.Machine.{LogState}
 use Rattle.wal.specs.Joint.{JointAt, Joint, Logs, HasHeader, SameButLog, place_at, bytes_at}
 use Rattle.wal.specs.Kept.{Committed, KeepsCommitted}
 use Rattle.model.specs.Log.{block_from_log, place_among}
-use Rattle.model.specs.Lemmas.Log.{recovered_empty, recovered_at, recovered_block-header, length-recovered}
+use Rattle.model.specs.Lemmas.Log.{recovered_empty, recovered_at, recovered_block-header, length-recovered, none_cleared}
 use Rattle.model.specs.Lemmas.Recovery.{place_below, no_place}
-use Rattle.wal.proofs.CopyLemmas.{none_cleared, not_header, home_of_place}
-use Rattle.wal.proofs.CommitLemmas.{home_far, outside_log, header_read, logged-same, homes-same, among_drop}
+use Rattle.wal.proofs.CopyLemmas.{not_header, home_of_place}
+use Rattle.wal.specs.Lemmas.Commits.{outside_log, logged-same}
+use Rattle.wal.proofs.CommitLemmas.{home_far, header_read, homes-same, among_drop}
 
 pub but_log_same : (x y : Image) → x ≡ y → SameButLog x y
 but_log_same x y is = subst (SameButLog x) is (record { outside = record { size = refl; agree = λ b out. refl }; header = refl })
@@ -166,7 +167,3 @@ kept_write x c l h joint busy head = by_phase l.commit joint busy
         let both : SameButLog cur x = record { outside = record { size = sym (length-current x c); agree = λ b out. same b }; header = same 2 } in
         but_log_then (recovered x) (set cur 2 zero_block) (recovered y) (but_log_back _ _ (committed_at commit.Clearing x c l j))
         (but_log_then (set cur 2 zero_block) y (recovered y) (but_log_two cur x zero_block both (omega (arith, length-current x c, big))) (but_log_same y (recovered y) (sym (recovered_empty y (none_cleared x big)))))
-
--- with no operation open and no commit under way, nothing logged: recovery gives the current image
-pub quiet_is_current : (x : Image) (c : Buffers) (l : LogState) → JointAt commit.Quiet x c l → l.homes ≡ [] → recovered x ≡ seen x c
-quiet_is_current x c l j none = recovered_empty x j.phase ∙ ext_get_or [] x (seen x c) (sym (length-current x c)) (λ b lt. sym (j.clean b (ap (is_among b) none)))

@@ -5,13 +5,13 @@ use Rattle.std.proofs.lemmas.Bool.{leb-true}
 use Rattle.std.proofs.lemmas.Option.{get_or_from_slice_get}
 use Rattle.blocks.specs.Block.{zero_block, IsBlock}
 use Rattle.blocks.specs.Disk.{Image, block_at, IsOldOrNew, LeavesOldOrNew, IsSettled, AddsNone, Elapses, LeavesOnly}
-use Rattle.blocks.proofs.Moments.{started, stays, goes_on, joined}
+use Rattle.blocks.specs.Lemmas.Moments.{started, stays, goes_on, joined}
 use Rattle.model.specs.Log.{logged_in, homes_in, logged_count, homes_of, is_lawful_log, are_in_place, are_distinct}
-use Rattle.model.specs.Lemmas.Log.{both_of, recovered_empty}
+use Rattle.model.specs.Lemmas.Log.{both_of, recovered_empty, none_cleared}
 use Rattle.model.specs.Lemmas.Recovery.{few_homes}
 use Rattle.wal.specs.Recovery.{HasCopied, IsRecoveredInPart, RecoversAs}
-use Rattle.wal.proofs.CopyLemmas.{SameBesides, home_at, besides_copied, besides_old_or_new, recovers_besides, recovers_same, copied_more, copied_none, low_stays, cleared, none_cleared, length-homes_of}
-use Rattle.wal.proofs.LawfulLogs.{empty_lawful}
+use Rattle.wal.proofs.CopyLemmas.{SameBesides, home_at, besides_copied, besides_old_or_new, recovers_besides, recovers_same, copied_more, copied_none, low_stays, cleared, length-homes_of}
+use Rattle.wal.specs.Lemmas.Commits.{empty_lawful}
 
 -- the header that was read
 pub header_read : (x : Image) (bytes : List ℕ) → slice_get x 2 ≡ Some bytes → block_at x 2 ≡ bytes

@@ -8,17 +8,18 @@ use Rattle.bcache.specs.declared.types.Buffer.{Buffer}
 use Rattle.bcache.specs.Buffers.{Buffers, buffer, found, locked, taken, changed, pinned, block_or_zero, after_acquire, after_acquire_by, after_lock, after_take, victim}
 use Rattle.bcache.specs.Current.{is_number_in, shows}
 use Rattle.wal.specs.Joint.{seen, JointAt, Joint}
-use Rattle.bcache.proofs.SlotLemmas.{buffer_same, some_found, victim_free}
+use Rattle.bcache.specs.Lemmas.Slots.{buffer_same, some_found, victim_free}
 use Rattle.wal.specs.declared.types.Commit.{Commit}
 use Rattle.wal.specs.declared.types.Commit.TheVariants as commit
 use Rattle.wal.specs.Machine.{is_among, LogState, HasRoom, appended, noted, noted_cache, used_by, begin_cause, begun, after_begin, after_begin_by, ended}
 use Rattle.model.specs.declared.types.operations.Why.{Why}
 use Rattle.model.specs.Log.{is_lawful_log}
-use Rattle.wal.proofs.LawfulLogs.{empty_lawful, header_lawful}
-use Rattle.wal.proofs.CommitLemmas.{few_homes}
+use Rattle.wal.proofs.LawfulLogs.{header_lawful}
+use Rattle.wal.specs.Lemmas.Commits.{empty_lawful}
+use Rattle.wal.specs.Lemmas.Log.{few_homes, some_open, is_open, quiet_of}
 use Rattle.wal.proofs.CacheCallLemmas.{joint_locked, joint_taken, joint_changed}
 use Rattle.wal.proofs.LogCallLemmas.{joint_noted, joint_begun, joint_ended}
-use Rattle.wal.proofs.LogLemmas.{room_of, some_open, is_open, quiet_of}
+use Rattle.wal.proofs.LogLemmas.{room_of}
 
 -- between any two calls the disk's log is lawful
 pub joint_lawful : (x : Image) (c : Buffers) (l : LogState) → Joint x c l → is_lawful_log x ≡ true

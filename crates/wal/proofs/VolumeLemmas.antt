@@ -1,20 +1,20 @@
 -- What the calls on a disk with its buffers and its log keep, and what they give.
-use Rattle.std.proofs.Common.{◌≡◌, ⊎_elim, ℕ, ◌+◌, ◌<◌, Bool, true, false, cond, List, length, refl, sym, ◌∙◌, ap, subst, arith, Option, Some, None, length-set}
+use Rattle.std.proofs.Common.{◌≡◌, ⊎_elim, ℕ, ◌<◌, true, false, List, length, refl, sym, ◌∙◌, ap, subst, arith, Option, Some, None}
 use Rattle.std.specs.Prelude.{IfNone, IsSome}
-use Rattle.std.proofs.lemmas.Bool.{and_from, eq-eqb}
+use Rattle.std.proofs.lemmas.Bool.{eq-eqb}
 use Rattle.blocks.specs.declared.errors.DiskFault.{DiskFault}
 use Rattle.blocks.specs.Disk.{Image, block_at}
 use Rattle.bcache.specs.declared.types.Buffer.{Buffer}
-use Rattle.bcache.specs.Current.{is_number_in, is_of, shows}
-use Rattle.bcache.specs.declared.types.Acquired.TheVariants as acquired
-use Rattle.bcache.specs.Buffers.{Buffers, buffer, found, victim, locked, taken, pinned, filled, changed, EndsUnfilled, IsCache, block_or_zero, lock_answer, take_answer, answer_by, acquire_answer, after_lock, after_take, after_acquire_by, after_acquire}
-use Rattle.bcache.proofs.SlotLemmas.{buffer_same, some_found, victim_free, block_is}
-use Rattle.bcache.proofs.CurrentLemmas.{current_at, slot_shows, current_kept, current_hidden, current_filled, current_unfilled}
+use Rattle.bcache.specs.Current.{is_number_in, is_of}
+use Rattle.bcache.specs.Buffers.{Buffers, buffer, found, victim, filled, changed, EndsUnfilled, IsCache, block_or_zero, after_lock, after_take, after_acquire_by, after_acquire}
+use Rattle.bcache.specs.Lemmas.Slots.{buffer_same, victim_free}
+use Rattle.bcache.specs.Lemmas.Current.{current_kept, current_hidden, current_filled, current_unfilled}
 use Rattle.wal.specs.declared.types.Commit.{Commit}
 use Rattle.wal.specs.declared.types.Committed.{Committed}
 use Rattle.wal.specs.declared.types.Committed.TheVariants as committed
-use Rattle.wal.specs.Machine.{LogState, is_among, noted_cache}
-use Rattle.wal.specs.Joint.{JointAt, Joint, IsSameOutsideLog, seen}
+use Rattle.wal.specs.Machine.{LogState, noted_cache}
+use Rattle.model.specs.Agreement.{IsSameOutsideLog}
+use Rattle.wal.specs.Joint.{JointAt, Joint, AreBlocks, IsVolume, seen}
 use Rattle.wal.specs.Step.{Stepped, Faulted, CommitsTo}
 use Rattle.wal.specs.declared.types.Get.{Get}
 use Rattle.wal.specs.declared.types.Get.TheVariants as get
@@ -22,69 +22,29 @@ use Rattle.wal.specs.Volume.{VolumeState, Holds, OnGot, UnlessFault}
 use Rattle.wal.proofs.CommitLemmas.{write_current, unpinned_current}
 use Rattle.wal.proofs.CacheCallLemmas.{clean_shows, joint_filled}
 use Rattle.wal.proofs.StepLemmas.{some_block}
+use Rattle.wal.specs.Lemmas.Volume.{IsAcquired, holds_now, changed_lock}
 
-joint_of : {J : Type 0} (fault : Option DiskFault) → fault ≡ None → IfNone fault J → J
-joint_of None none joint = joint
-joint_of (Some f) none joint = absurd (cc none)
+whole_of : {J : Type 0} (fault : Option DiskFault) → fault ≡ None → IfNone fault J → J
+whole_of None none whole = whole
+whole_of (Some f) none whole = absurd (cc none)
 
-pub if_joint : {J : Type 0} (fault : Option DiskFault) → J → IfNone fault J
-if_joint None joint = joint
-if_joint (Some f) joint = tt
+pub if_whole : {x : Image} {c : Buffers} {l : LogState} (fault : Option DiskFault) → Joint x c l → AreBlocks c → IfNone fault (IsVolume x c l)
+if_whole None joint are = record { joint = joint; blocks = are }
+if_whole (Some f) joint are = tt
+
+pub if_joint : (x : Image) (c : Buffers) (l : LogState) (fault : Option DiskFault) → IfNone fault (IsVolume x c l) → IfNone fault (Joint x c l)
+if_joint x c l None whole = whole.joint
+if_joint x c l (Some f) whole = tt
 
 -- where the disk hasn't failed: v is what the fields of w were
-pub joint_here : {D : Type 0} (image : D → Image) (v w : VolumeState D) → v ≡ w → w.fault ≡ None → IfNone v.fault (Joint (image v.device) v.buffers v.log) → Joint (image v.device) v.buffers v.log
-joint_here {D} image v w is none joint = joint_of v.fault (ap (λ (u : VolumeState D). u.fault) is ∙ none) joint
+pub joint_here : {D : Type 0} (image : D → Image) (v w : VolumeState D) → v ≡ w → w.fault ≡ None → IfNone v.fault (IsVolume (image v.device) v.buffers v.log) → Joint (image v.device) v.buffers v.log
+joint_here {D} image v w is none whole = (whole_of v.fault (ap (λ (u : VolumeState D). u.fault) is ∙ none) whole).joint
+
+pub blocks_here : {D : Type 0} (image : D → Image) (v w : VolumeState D) → v ≡ w → w.fault ≡ None → IfNone v.fault (IsVolume (image v.device) v.buffers v.log) → AreBlocks v.buffers
+blocks_here {D} image v w is none whole = (whole_of v.fault (ap (λ (u : VolumeState D). u.fault) is ∙ none) whole).blocks
 
 pub buffer_here : {D : Type 0} (v w : VolumeState D) (i : ℕ) → v ≡ w → buffer v.buffers i ≡ buffer w.buffers i
 buffer_here {D} v w i is = ap (λ (u : VolumeState D). buffer u.buffers i) is
-
--- what a process has that acquired a slot
-pub record IsAcquired (c : Buffers) (pid b i : ℕ) (v : Bool) : Type 0 where
-  pub slot : i < 40
-  pub holder : (buffer c i).holder ≡ Some pid
-  pub block : (buffer c i).block ≡ Some b
-  pub valid : (buffer c i).valid ≡ v
-
-acquired_slot : (c : Buffers) (pid b i : ℕ) (v : Bool) → IsCache c → acquire_answer c b ≡ acquired.Got i v → IsAcquired (after_acquire c pid b) pid b i v
-acquired_slot c pid b i v is e = by_found (found c b) refl e
-  where
-    by_lock : (j : ℕ) (o : Option ℕ) → found c b ≡ Some j → lock_answer o j (buffer c j).valid ≡ acquired.Got i v → IsAcquired (after_lock o c pid j) pid b i v
-    by_lock j None at e =
-        let here = some_found c b j at in
-        let t : Buffer = record (buffer c j) { holder = Some pid } in
-        let now : buffer (locked c pid j) j ≡ t = buffer_same c j t here.0 in
-        let same : j ≡ i = cc e in
-        let valid : (buffer c j).valid ≡ v = cc e in
-        subst (λ (n : ℕ). IsAcquired (locked c pid j) pid b n v) same (record {
-          slot = omega (arith, here.0, is.size);
-          holder = ap (λ (s : Buffer). s.holder) now;
-          block = ap (λ (s : Buffer). s.block) now ∙ block_is b (buffer c j).block here.1;
-          valid = ap (λ (s : Buffer). s.valid) now ∙ valid;
-        })
-    by_lock j (Some q) at e = absurd (cc e)
-
-    by_take : (o : Option ℕ) → victim c ≡ o → take_answer o ≡ acquired.Got i v → IsAcquired (after_take o c pid b) pid b i v
-    by_take None at e = absurd (cc e)
-    by_take (Some j) at e =
-        let free = victim_free c j is at in
-        let t : Buffer = record (buffer c j) { block = Some b; valid = false; holder = Some pid } in
-        let now : buffer (taken c pid b j) j ≡ t = buffer_same c j t (omega (arith, free.0, is.size)) in
-        let same : j ≡ i = cc e in
-        let valid : false ≡ v = cc e in
-        subst (λ (n : ℕ). IsAcquired (taken c pid b j) pid b n v) same (record {
-          slot = free.0;
-          holder = ap (λ (s : Buffer). s.holder) now;
-          block = ap (λ (s : Buffer). s.block) now;
-          valid = ap (λ (s : Buffer). s.valid) now ∙ valid;
-        })
-
-    by_found : (o : Option ℕ) → found c b ≡ o → answer_by o c ≡ acquired.Got i v → IsAcquired (after_acquire_by o c pid b) pid b i v
-    by_found None at e = by_take (victim c) refl e
-    by_found (Some j) at e = by_lock j (buffer c j).holder at e
-
-pub acquired_now : (c d : Buffers) (pid b i : ℕ) (v w : Bool) → IsCache c → acquired.Got i w ≡ acquire_answer c b → w ≡ v → d ≡ after_acquire c pid b → IsAcquired d pid b i v
-acquired_now c d pid b i v w is answer valid are =
-    subst (λ (e : Buffers). IsAcquired e pid b i v) (sym are) (acquired_slot c pid b i v is (sym answer ∙ ap (acquired.Got i) valid))
 
 -- a slot is acquired, or nothing changes: the current image stays
 pub seen_acquired : {k : Commit} {x : Image} {l : LogState} (c d : Buffers) (pid b : ℕ) → JointAt k x c l → d ≡ after_acquire c pid b → seen x d ≡ seen x c
@@ -104,38 +64,6 @@ seen_acquired {k} {x} {l} c d pid b j is = ap (seen x) is ∙ by_found (found c 
     by_found None = by_take (victim c) refl
     by_found (Some i) = by_lock i (buffer c i).holder
 
--- a valid slot shows its block of the current image
-pub holds_now : {k : Commit} {x : Image} {l : LogState} (c : Buffers) (pid b i : ℕ) → JointAt k x c l → i < 40 → (buffer c i).holder ≡ Some pid → (buffer c i).block ≡ Some b → (buffer c i).valid ≡ true → Holds (seen x c) c pid b i
-holds_now {k} {x} {l} c pid b i j lt holder block valid =
-    let here : is_of b (buffer c i) ≡ true = ap (is_number_in b) block ∙ eq-eqb b b refl in
-    let shown : shows b (buffer c i) ≡ true = and_from (buffer c i).valid (is_of b (buffer c i)) valid here in
-    let behind = j.behind i b here in
-    record {
-      slot = lt;
-      holder = holder;
-      block = block;
-      valid = valid;
-      bytes = sym (slot_shows c i b (block_at x b) j.cache.once shown) ∙ sym (current_at x c b (omega (arith, behind.1, j.size)));
-    }
-
--- a slot whose bytes are changed, after it was logged, is as before but for them
-pub record KeepsLock (old new : Buffer) : Type 0 where
-  pub holder : new.holder ≡ old.holder
-  pub block : new.block ≡ old.block
-  pub valid : new.valid ≡ old.valid
-
-pub changed_lock : (l : LogState) (c : Buffers) (i b : ℕ) (bytes : List ℕ) → i < length c.slots → KeepsLock (buffer c i) (buffer (changed (noted_cache l c i b) i bytes) i)
-changed_lock l c i b bytes lt = by_home (is_among b l.homes)
-  where
-    by_change : (e : Buffers) → length e.slots ≡ length c.slots → KeepsLock (buffer c i) (buffer e i) → KeepsLock (buffer c i) (buffer (changed e i bytes) i)
-    by_change e size kept = subst (KeepsLock (buffer c i)) (sym (buffer_same e i (record (buffer e i) { bytes = bytes }) (omega (arith, lt, size)))) (record { holder = kept.holder; block = kept.block; valid = kept.valid })
-
-    by_home : (t : Bool) → KeepsLock (buffer c i) (buffer (changed (cond t c (pinned c i)) i bytes) i)
-    by_home true = by_change c refl (record { holder = refl; block = refl; valid = refl })
-    by_home false =
-        let s : Buffer = record (buffer c i) { pins = (buffer c i).pins + 1 } in
-        by_change (pinned c i) (length-set c.slots i s) (subst (KeepsLock (buffer c i)) (sym (buffer_same c i s lt)) (record { holder = refl; block = refl; valid = refl }))
-
 -- a slot is changed, after it was logged: it still has its block's bytes
 pub put_holds : {x : Image} (c e d : Buffers) (l m : LogState) (p i : ℕ) (bytes : List ℕ) → Joint x d m → IsCache c → i < 40 → (buffer c i).holder ≡ Some p → IsSome (buffer c i).block → (buffer c i).valid ≡ true
     → e ≡ noted_cache l c i (block_or_zero (buffer c i).block) → d ≡ changed e i bytes → Holds (seen x d) d p (block_or_zero (buffer c i).block) i
@@ -151,6 +79,9 @@ block_inside {x} {l} c i b j block =
     let here : is_of b (buffer c i) ≡ true = ap (is_number_in b) block ∙ eq-eqb b b refl in
     let at : block_or_zero (buffer c i).block ≡ b = ap block_or_zero block in
     omega (arith, at, (j.behind i b here).1, j.size)
+
+pub inside_here : {x : Image} {l : LogState} (c : Buffers) (i b : ℕ) → Joint x c l → (buffer c i).block ≡ Some b → b < length x
+inside_here {x} {l} c i b j block = subst (λ (n : ℕ). n < length x) (ap block_or_zero block) (block_inside c i b j block)
 
 -- a slot is filled: the current image stays
 pub joint_got : {x y : Image} {l : LogState} (c d : Buffers) (i b : ℕ) → Joint x c l → i < 40 → (buffer c i).block ≡ Some b → (buffer c i).valid ≡ false → d ≡ filled c i (block_at x b) → y ≡ x

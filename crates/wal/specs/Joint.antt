@@ -1,9 +1,9 @@
 -- Disk, buffers and log together.
 use Rattle.std.specs.Prelude.{◌≡◌, ◌<◌, ◌≤◌, ◌==◌, ◌+◌, ℕ, true, false, List, [], length, drop, slice_index, if◌then◌else◌, Option, Some, None}
-use Rattle.blocks.specs.Block.{zero_block}
+use Rattle.blocks.specs.Block.{zero_block, IsBlock}
 use Rattle.blocks.specs.Disk.{Image, block_at}
 use Rattle.bcache.specs.Current.{is_of, shows, current}
-use Rattle.model.specs.Agreement.{Agrees, is_outside_log}
+use Rattle.model.specs.Agreement.{IsSameOutsideLog}
 use Rattle.model.specs.Log.{logged_in, homes_in, logged_count, homes_of}
 use Rattle.bcache.specs.Buffers.{Buffers, buffer, found, unpinned, IsCache}
 use Rattle.wal.specs.declared.types.Commit.{Commit}
@@ -100,10 +100,14 @@ pub record JointAt (k : Commit) (x : Image) (c : Buffers) (l : LogState) : Type 
 abbrev pub Joint : Image → Buffers → LogState → Type 0
 Joint x c l = JointAt l.commit x c l
 
--- one size, and the same blocks outside the log
-pub record IsSameOutsideLog (x y : Image) : Type 0 where
-  pub size : length y ≡ length x
-  pub agree : Agrees is_outside_log x y
+-- each buffer has the bytes of a block
+abbrev pub AreBlocks : Buffers → Type 0
+AreBlocks c = (i : ℕ) → IsBlock (buffer c i).bytes
+
+-- what is true of a volume whose disk hasn't failed
+pub record IsVolume (x : Image) (c : Buffers) (l : LogState) : Type 0 where
+  pub joint : Joint x c l
+  pub blocks : AreBlocks c
 
 -- the header is the same too: all but the 30 logged blocks
 pub record SameButLog (x y : Image) : Type 0 where

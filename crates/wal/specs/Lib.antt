@@ -5,3 +5,5 @@ pub mod Joint
 pub mod Kept
 pub mod Step
 pub mod Volume
+pub mod Held
+pub mod Lemmas

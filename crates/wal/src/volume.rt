@@ -2,14 +2,16 @@
 ghost use Rattle.std.specs.Prelude.{◌≡◌, ◌<◌, ◌≤◌, ◌+◌, ◌^◌, ℕ, true, false, length, slice_set, Some, None, IsSome, IsTrue, IfNone};
 ghost use Rattle.blocks.specs.Block.{IsBlock, overwritten};
 ghost use Rattle.blocks.specs.Calls.{OnlyReads};
-ghost use Rattle.blocks.specs.Disk.{Image, block_at, one_more, Elapses, LeavesOldOrNew};
+ghost use Rattle.blocks.specs.Disk.{Image, IsImage, block_at, one_more, Elapses, LeavesOldOrNew};
+ghost use Rattle.model.specs.Agreement.{IsSameOutsideLog};
 ghost use Rattle.model.specs.Codec.{header_block};
 ghost use Rattle.model.specs.Log.{is_lawful_log, logged_count};
 ghost use Rattle.bcache.specs.Buffers.{buffer, block_or_zero, filled, fresh_buffers, released, EndsUnfilled};
 ghost use Rattle.wal.specs.Machine.{is_quiet, new_log, begin_cause, begin_answer, after_begin, used_by, HasRoom, ended, end_answer};
-ghost use Rattle.wal.specs.Joint.{Joint, IsSameOutsideLog, seen, place_at, bytes_at};
+ghost use Rattle.wal.specs.Joint.{Joint, seen, place_at, bytes_at};
 ghost use Rattle.wal.specs.Kept.{CrashKeeps};
 ghost use Rattle.wal.specs.Step.{Stepped, Faulted, CommitsTo, IsFault};
+ghost use Rattle.wal.specs.Held.{HoldsBlock, LeavesLocks, GivesUpLock, LocksAfter};
 ghost use Rattle.wal.specs.Volume.{Holds, FailsToFill, why_busy, get_answer, after_get, after_change, fault_of_get, fault_of_step, faults_after, OnGot, OnSleeping, OnFault, UnlessFault};
 
 use crate::{Began, Committed, Ended, Get, Log};
@@ -34,14 +36,14 @@ pub struct Volume<D: Disk> {
 
 impl<D: Disk> Model for Volume<D> {
     ghost use Rattle.std.specs.Prelude.{IfNone};
-    ghost use Rattle.wal.specs.Joint.{Joint};
+    ghost use Rattle.wal.specs.Joint.{IsVolume};
     ghost use Rattle.wal.specs.Volume.{VolumeState};
 
     ghost Value = { VolumeState D };
 
     ghost view = { λ v. record { device = v.disk; buffers = v.cache; log = v.log; fault = v.fault } };
 
-    ghost invariant = { λ v. IfNone v.fault (Joint (D.image v.disk) v.cache v.log) };
+    ghost invariant = { λ v. IfNone v.fault (IsVolume (D.image v.disk) v.cache v.log) };
 }
 
 impl<D: Disk> Volume<D> {
@@ -67,6 +69,13 @@ impl<D: Disk> Volume<D> {
     /// together.
     pub fn known(&self)
         ensures { IfNone self.now.fault (Joint (D.image self.now.device) self.now.buffers self.now.log) }
+    {
+        let _ = &self.fault;
+    }
+
+    /// Does nothing: where the disk hasn't failed, each block of the current image has 1024 bytes.
+    pub fn image_known(&self)
+        ensures { IfNone self.now.fault (IsImage (seen (D.image self.now.device) self.now.buffers)) }
     {
         let _ = &self.fault;
     }
@@ -155,6 +164,9 @@ impl<D: Disk> Volume<D> {
         ensures current { seen (D.image self.new.device) self.new.buffers ≡ seen (D.image self.old.device) self.old.buffers }
         ensures device { OnlyReads D.Disk self.old.device self.new.device }
         ensures faults { D.fault_count self.new.device ≡ faults_after (fault_of_get result) (D.fault_count self.old.device) }
+
+        // No other lock is taken, and what is held stays so; who waits for a held buffer waits for its lock.
+        ensures locks { LocksAfter result self.old.buffers self.new.buffers pid block }
     {
         match self.cache.acquire(pid, block) {
             Acquired::Sleeping(busy) => Get::Sleeping(why(busy)),
@@ -188,11 +200,13 @@ impl<D: Disk> Volume<D> {
         }
     }
 
-    /// The bytes of a slot.
+    /// The bytes of a slot: of one whose block a process holds, that block of the current image.
     pub fn data(&self, slot: u32) -> &Block
         requires { slot < 40 }
         ensures bytes { result.now ≡ (buffer self.now.buffers slot).bytes }
         ensures block { IsBlock result.now }
+        ensures current { (pid b : ℕ) → self.now.fault ≡ None → HoldsBlock self.now.buffers pid b slot
+            → result.now ≡ block_at (seen (D.image self.now.device) self.now.buffers) b }
     {
         self.cache.data(slot)
     }
@@ -204,6 +218,7 @@ impl<D: Disk> Volume<D> {
         requires held { (buffer self.old.buffers slot).holder ≡ Some pid }
         ensures volume { self.new ≡ record self.old { buffers = released self.old.buffers slot } }
         ensures current { seen (D.image self.new.device) self.new.buffers ≡ seen (D.image self.old.device) self.old.buffers }
+        ensures locks { GivesUpLock self.old.buffers self.new.buffers pid slot }
     {
         self.cache.release(pid, slot);
     }
@@ -223,6 +238,7 @@ impl<D: Disk> Volume<D> {
         ensures volume { self.new ≡ after_change self.old pid slot at bytes.now }
         ensures current { seen (D.image self.new.device) self.new.buffers ≡ slice_set (seen (D.image self.old.device) self.old.buffers) (block_or_zero (buffer self.old.buffers slot).block) (overwritten (buffer self.old.buffers slot).bytes at bytes.now) }
         ensures holds { Holds (seen (D.image self.new.device) self.new.buffers) self.new.buffers pid (block_or_zero (buffer self.old.buffers slot).block) slot }
+        ensures locks { LeavesLocks self.old.buffers self.new.buffers }
     {
         self.log.log_write(pid, &mut self.cache, slot);
         self.cache.put(pid, slot, at, bytes);
@@ -247,6 +263,7 @@ impl<D: Disk> Volume<D> {
         ensures lawful { (z : Image) → D.leaves self.new.device (D.moment self.new.device) z → IsTrue (is_lawful_log z) }
         ensures writes { IsFault result (λ fault. D.write_count self.new.device ≡ D.write_count self.old.device) (D.fault_count self.new.device ≡ one_more (D.fault_count self.old.device)) (D.write_count self.new.device ≡ one_more (D.write_count self.old.device)) }
         ensures faults { IsFault result (λ fault. fault.0 ≡ place_at self.old.log.commit self.old.log.homes) (D.fault_count self.new.device ≡ one_more (D.fault_count self.old.device)) (D.fault_count self.new.device ≡ D.fault_count self.old.device) }
+        ensures locks { LeavesLocks self.old.buffers self.new.buffers }
     {
         let answer = self.log.commit_step(&mut self.cache, &mut self.disk);
         self.fault = fault_of(answer);

@@ -9,7 +9,7 @@ use Rattle.std.proofs.lemmas.List.{get_or-set_same, get_or-set_other, length-set
 use Rattle.std.proofs.lemmas.Nat.{or_lt, and_le_l, pow_below}
 use Rattle.std.proofs.lemmas.Nat.Bits.{bit_at_or, bit_at-lt, bit_at-pow_same, bit_at-pow_other, bit_at_clear_same, bit_at_clear_other, bit_at-zero}
 use Rattle.blocks.specs.Block.{zero_block, IsBlock}
-use Rattle.blocks.proofs.BlockLemmas.{is_block-zero_block}
+use Rattle.blocks.specs.Lemmas.Blocks.{is_block-zero_block}
 use Rattle.model.specs.Fields.{has_bit}
 use Rattle.model.specs.Codec.{with_bit, without_bit, first_bits}
 use Rattle.model.specs.Laws.{FirstBits}

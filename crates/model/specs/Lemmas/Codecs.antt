@@ -9,7 +9,7 @@ use Rattle.std.proofs.lemmas.List.Edits.{length-between, get_or-between}
 use Rattle.byteorder.specs.Endian.{little_bytes, little_number}
 use Rattle.byteorder.specs.Numbers.{little_number-reads_back}
 use Rattle.blocks.specs.Block.{IsBlock, overwritten, zero_block}
-use Rattle.blocks.proofs.BlockLemmas.{length-zero_block, is_block-zero_block}
+use Rattle.blocks.specs.Lemmas.Blocks.{length-zero_block, is_block-zero_block}
 use Rattle.model.specs.Fields.{u16_at, u32_at, words_of}
 use Rattle.model.specs.declared.types.image.Form.{Form}
 use Rattle.model.specs.declared.types.image.Form.TheVariants.{One, Two}

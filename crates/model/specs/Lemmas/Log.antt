@@ -1,12 +1,13 @@
--- What recovery leaves where it was.
+-- What recovery leaves where it was, and an empty header.
 use Rattle.std.proofs.Common.{◌≡◌, ◌≢◌, ℕ, ◌+◌, ◌<◌, Bool, true, false, cond, ◌&&◌, eqb, leb, ltb, List, [], ◌∷◌, length, map, None, refl, ap, ◌∙◌, ⊎_elim, arith}
 use Rattle.std.specs.List.{range_with_len, position_from}
 use Rattle.std.proofs.lemmas.Bool.{ne_eqb, leb-true, cases_eq}
+use Rattle.std.proofs.lemmas.List.{get_or-set_same}
 use Rattle.std.proofs.lemmas.List.FromFn.{get_or-map-range_with_len, length-map-range_with_len}
 use Rattle.blocks.specs.Block.{zero_block}
 use Rattle.blocks.specs.Disk.{Image, block_at}
 use Rattle.model.specs.Fields.{u32_at}
-use Rattle.model.specs.Log.{logged_count, homes_of, is_lawful_log, are_in_place, recovered, recovered_block, block_from_log, are_distinct}
+use Rattle.model.specs.Log.{logged_count, homes_of, is_lawful_log, are_in_place, recovered, recovered_block, block_from_log, are_distinct, cleared}
 
 -- both sides of a test that holds
 pub both_of : (a b : Bool) → (a && b) ≡ true → (a ≡ true) × (b ≡ true)
@@ -60,6 +61,9 @@ recovered_empty x e = rw e refl
 pub zero_header : u32_at zero_block 0 ≡ 0
 unfolding u32_at zero_block
 zero_header = refl
+
+pub none_cleared : (x : Image) → 2 < length x → logged_count (cleared x) ≡ 0
+none_cleared x long = ap (λ bytes. u32_at bytes 0) (get_or-set_same x 2 zero_block [] long) ∙ zero_header
 
 -- what lies below the log's blocks stays, but for the header
 pub recovered_low : (x : Image) (b : ℕ) → is_lawful_log x ≡ true → b < 33 → b ≢ 2 → b < length x →

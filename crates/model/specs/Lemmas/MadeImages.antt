@@ -7,7 +7,7 @@ use Rattle.std.proofs.lemmas.List.{drop-replicate, take-replicate}
 use Rattle.std.proofs.lemmas.List.FromFn.{length-range_with_len, get_or-range_with_len, length-map-range_with_len, get_or-map-range_with_len}
 use Rattle.blocks.specs.Block.{IsBlock, zero_block}
 use Rattle.blocks.specs.Disk.{IsImage, block_at}
-use Rattle.blocks.proofs.BlockLemmas.{is_block-zero_block}
+use Rattle.blocks.specs.Lemmas.Blocks.{is_block-zero_block}
 use Rattle.model.specs.declared.types.image.Form.TheVariants.{One}
 use Rattle.model.specs.declared.types.image.Super.{Super}
 use Rattle.model.specs.declared.types.image.File.{File}

@@ -6,7 +6,7 @@ use Rattle.std.proofs.lemmas.List.Folds.{list_any_at}
 use Rattle.std.proofs.lemmas.List.{get_or-set_other, length-set, length-take, get_or_past, ext_get_or}
 use Rattle.blocks.specs.Block.{IsBlock, zero_block}
 use Rattle.blocks.specs.Disk.{Image, IsImage, block_at}
-use Rattle.blocks.proofs.BlockLemmas.{is_block-zero_block}
+use Rattle.blocks.specs.Lemmas.Blocks.{is_block-zero_block}
 use Rattle.model.specs.Fields.{u32_at, words_of}
 use Rattle.model.specs.Log.{logged_in, logged_count, homes_of, homes_in, is_lawful_log, are_in_place, are_distinct, recovered, recovered_block, block_from_log, place_among}
 use Rattle.model.specs.Agreement.{Agrees}

@@ -1,5 +1,5 @@
--- Runs in parts, and what operations keep.
-use Rattle.std.proofs.Common.{◌≡◌, ℕ, Bool, true, false, cond, not, ◌&&◌, ◌||◌, ltb, leb, List, [], ◌∷◌, length, set, Option, Some, None, refl, sym, ap, subst, ◌∙◌, inl, inr, ⊎_elim, ◌⊎◌, arith, ◌≢◌}
+-- Runs in parts, what operations keep, and what a creation makes of files.
+use Rattle.std.proofs.Common.{◌≡◌, ℕ, Bool, true, false, cond, not, ◌&&◌, ◌||◌, ltb, leb, ◌<◌, List, [], ◌∷◌, length, set, Option, Some, None, refl, sym, ap, subst, ◌∙◌, inl, inr, ⊎_elim, ◌⊎◌, arith, ◌≢◌}
 use Rattle.std.specs.Prelude.{IsSome, is_none}
 use Rattle.std.proofs.lemmas.Bool.{and_cases, ltb-false, le-leb, le-ltb, lt-ltb, lt-leb, cases_lt, not-true, and_parts, ltb-true}
 use Rattle.std.proofs.lemmas.List.{length-set, get_or_past, get_or-set_other}
@@ -240,3 +240,14 @@ at_once_is_refused form files (Remove i) none h =
     refuses_no_file (file_in files i) (no_file_at files i none (not-true (is_number (length files) i) h))
 at_once_is_refused form files (Stat i) none h =
     refuses_no_file (file_in files i) (no_file_at files i none (not-true (is_number (length files) i) h))
+
+-- a creation that made a number gives it an empty file
+pub after-made : (form : Form) (files : Files) (kind i : ℕ) → is_kind kind ≡ true → 0 < i → i < length files → file_in files i ≡ None →
+    after form files (Create kind) (Made i) ≡ Some (set files i (Some (record { kind = kind; bytes = [] })))
+unfolding after
+after-made form files kind i is some below free = rw (is, lt-ltb 0 i some, lt-ltb i (length files) below, free) refl
+
+-- one that found no number changes no file
+pub after-no_inode : (form : Form) (files : Files) (kind : ℕ) → is_kind kind ≡ true → after form files (Create kind) NoInode ≡ Some files
+unfolding after
+after-no_inode form files kind is = rw is refl

@@ -1,4 +1,4 @@
-use Rattle.bcache.proofs.CurrentLemmas.{current_changed}
+use Rattle.bcache.specs.Lemmas.Current.{current_changed}
 use Rattle.bcache.proofs.laws.changing_sets.Goals as goal
 
 pub returns : goal.returns

@@ -1,4 +1,4 @@
-use Rattle.bcache.proofs.CurrentLemmas.{current_filled}
+use Rattle.bcache.specs.Lemmas.Current.{current_filled}
 use Rattle.bcache.proofs.laws.filling_keeps.Goals as goal
 
 pub returns : goal.returns

@@ -1,4 +1,4 @@
-use Rattle.bcache.proofs.CurrentLemmas.{current_hidden}
+use Rattle.bcache.specs.Lemmas.Current.{current_hidden}
 use Rattle.std.proofs.Common.{Some, false, refl}
 use Rattle.bcache.specs.Buffers.{buffer}
 use Rattle.bcache.proofs.laws.recycling_keeps.Goals as goal

@@ -1,4 +1,4 @@
-use Rattle.bcache.proofs.CurrentLemmas.{current_same_write}
+use Rattle.bcache.specs.Lemmas.Current.{current_same_write}
 use Rattle.bcache.proofs.laws.shown_write_keeps.Goals as goal
 
 pub returns : goal.returns

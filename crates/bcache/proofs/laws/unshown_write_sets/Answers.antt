@@ -1,4 +1,4 @@
-use Rattle.bcache.proofs.CurrentLemmas.{current_write}
+use Rattle.bcache.specs.Lemmas.Current.{current_write}
 use Rattle.bcache.proofs.laws.unshown_write_sets.Goals as goal
 
 pub returns : goal.returns

@@ -8,7 +8,7 @@ use Rattle.model.specs.Lemmas.Soundness.{verdict_sound}
 use Rattle.wal.specs.Recovery.{OnDisk, OnBadLog, OnNoMemory}
 use Rattle.wal.specs.declared.faults.RecoverFault.{RecoverFault}
 use Rattle.wal.specs.declared.faults.RecoverFault.TheVariants as recover
-use Rattle.kernel.proofs.Openings.{lawful_super, opened_leaves}
+use Rattle.kernel.specs.Lemmas.Openings.{opened_leaves, lawful_super}
 use Rattle.player.specs.declared.refusal.Refusal.TheVariants as refusal
 use Rattle.player.specs.Causes.{IsUnrecovered}
 use Rattle.player.proofs.recovering.recover_image.Goals as goal

@@ -1,7 +1,7 @@
 use Rattle.std.proofs.Common.{◌≡◌, ◌<◌, ◌+◌, ℕ, List, length, get_or, set, refl, sym, ◌∙◌, ap, subst, arith, add-one}
 use Rattle.std.specs.Prelude.{slice_get}
 use Rattle.blocks.specs.Disk.{Image, IsOldOrNew, counted, one_more}
-use Rattle.blocks.proofs.Moments.{started, stays, goes_on, now_stays}
+use Rattle.blocks.specs.Lemmas.Moments.{started, stays, goes_on, now_stays}
 use Rattle.model.specs.Log.{homes_of}
 use Rattle.model.specs.Lemmas.Recovery.{few_homes}
 use Rattle.wal.specs.Recovery.{RecoversAs, IsRecoveredInPart}

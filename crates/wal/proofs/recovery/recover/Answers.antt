@@ -1,13 +1,11 @@
 use Rattle.std.proofs.Common.{◌≡◌, ◌≤◌, ◌+◌, ℕ, length, inr, sym, ◌∙◌, ap, subst, arith, add-one}
 use Rattle.std.proofs.lemmas.Bool.{cond-false, ne_eqb}
-use Rattle.std.proofs.lemmas.Bool.{eq-eqb, cond-true}
-use Rattle.blocks.specs.Block.{zero_block}
 use Rattle.blocks.specs.Disk.{Image, counted, one_more}
 use Rattle.model.specs.Log.{homes_of, logged_count}
-use Rattle.model.specs.Lemmas.Log.{recovered_empty}
+use Rattle.model.specs.Lemmas.Log.{recovered_empty, none_cleared}
 use Rattle.model.specs.Lemmas.Super.{super_facts}
-use Rattle.wal.specs.Recovery.{HasCopied, writes_to_recover}
-use Rattle.wal.proofs.CopyLemmas.{cleared, none_cleared}
+use Rattle.wal.specs.Recovery.{HasCopied}
+use Rattle.wal.proofs.CopyLemmas.{cleared}
 use Rattle.wal.proofs.RecoveryLemmas.{homes_counted, part_copies, part_ends, part_read, recovery_copies, recovery_ends}
 use Rattle.wal.proofs.recovery.recover.Goals as goal
 

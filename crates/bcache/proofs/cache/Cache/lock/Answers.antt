@@ -1,6 +1,7 @@
 use Rattle.std.proofs.Common.{ap}
 use Rattle.bcache.specs.declared.types.Buffer.{Buffer}
-use Rattle.bcache.proofs.SlotLemmas.{cache_kept, slot_at}
+use Rattle.bcache.proofs.SlotLemmas.{slot_at}
+use Rattle.bcache.specs.Lemmas.Slots.{cache_kept}
 use Rattle.bcache.proofs.cache.Cache.lock.Goals as goal
 
 pub invariant_of-self-2 : goal.invariant_of-self-2

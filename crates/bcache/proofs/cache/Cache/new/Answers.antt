@@ -1,6 +1,7 @@
 use Rattle.std.proofs.Common.{sym, subst}
 use Rattle.bcache.specs.Buffers.{Buffers, IsCache}
-use Rattle.bcache.proofs.SlotLemmas.{cache_fresh, fresh_from}
+use Rattle.bcache.proofs.SlotLemmas.{fresh_from}
+use Rattle.bcache.specs.Lemmas.Slots.{cache_fresh}
 use Rattle.bcache.proofs.cache.Cache.new.Goals as goal
 
 pub invariant_of-result : goal.invariant_of-result

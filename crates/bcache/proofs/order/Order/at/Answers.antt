@@ -1,4 +1,4 @@
-use Rattle.bcache.proofs.OrderLemmas.{slot_below}
+use Rattle.bcache.specs.Lemmas.Order.{slot_below}
 use Rattle.bcache.proofs.order.Order.at.Goals as goal
 
 pub returns-clause-within : goal.returns-clause-within

@@ -2,7 +2,8 @@ use Rattle.std.proofs.Common.{◌≡◌, ℕ, ◌+◌, ◌-◌, List, ◌++◌, 
 use Rattle.std.specs.List.{range_with_len}
 use Rattle.std.proofs.lemmas.List.FromFn.{map-range_with_len_more}
 use Rattle.bcache.specs.Order.{IsOrder}
-use Rattle.bcache.proofs.OrderLemmas.{first_made, order_first}
+use Rattle.bcache.proofs.OrderLemmas.{first_made}
+use Rattle.bcache.specs.Lemmas.Order.{order_first}
 use Rattle.bcache.proofs.order.Order.new.Goals as goal
 
 pub loop-slot-preserved : goal.loop-slot-preserved

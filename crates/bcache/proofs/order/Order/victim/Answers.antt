@@ -1,6 +1,7 @@
 use Rattle.std.proofs.Common.{◌<◌, ℕ, length, get_or, map, ap, arith}
 use Rattle.bcache.specs.Current.{references_of}
-use Rattle.bcache.proofs.OrderLemmas.{slot_below, victim_within}
+use Rattle.bcache.proofs.OrderLemmas.{victim_within}
+use Rattle.bcache.specs.Lemmas.Order.{slot_below}
 use Rattle.bcache.proofs.order.Order.victim.Goals as goal
 
 pub last_unused-requires : goal.last_unused-requires

@@ -12,7 +12,7 @@ use Rattle.kernel.specs.State.{State, is_under_way_at}
 use Rattle.kernel.specs.Decisions.{HasLooked}
 use Rattle.kernel.proofs.Looking.{looks_as, searches_now, ends_now, looked_on, looked_over, looked_at_none}
 use Rattle.kernel.specs.Table.{IsTable}
-use Rattle.kernel.proofs.Commits.{where_none, if_none, if_some}
+use Rattle.inodes.specs.Lemmas.Faults.{where_none, if_none, if_some}
 use Rattle.kernel.proofs.Allocating.{ready_of, search_moves, search_over, search_sleeps, search_fails, search_fails_at}
 use Rattle.kernel.specs.Keeps.{IsJournal, KeepsNow, Recovers}
 use Rattle.kernel.proofs.Journals.{journal_same}

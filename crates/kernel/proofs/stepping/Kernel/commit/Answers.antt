@@ -2,7 +2,8 @@ use Rattle.std.proofs.Common.{rules, refl, ◌≡◌, ◌<◌, None, ◌∙◌, 
 use Rattle.wal.specs.declared.types.Commit.{Commit}
 use Rattle.wal.specs.Machine.{LogState, IsLogAt}
 use Rattle.kernel.specs.Processes.{World, process}
-use Rattle.kernel.proofs.Commits.{where_none, if_none, if_some, table_more, table_last, committed_same}
+use Rattle.inodes.specs.Lemmas.Faults.{where_none, if_none, if_some}
+use Rattle.kernel.proofs.Commits.{table_more, table_last, committed_same}
 use Rattle.kernel.specs.Keeps.{IsJournal, KeepsNow, Recovers}
 use Rattle.kernel.proofs.Journals.{journal_same}
 use Rattle.kernel.proofs.Recovers.{commit_goes, commit_fails, written_opened}

@@ -3,7 +3,7 @@ use Rattle.wal.specs.Volume.{VolumeState}
 use Rattle.kernel.specs.declared.types.At.TheVariants as at
 use Rattle.kernel.specs.Keeps.{IsJournal}
 use Rattle.kernel.specs.Processes.{World, process, with_place, creating}
-use Rattle.kernel.proofs.Commits.{where_none, if_none}
+use Rattle.inodes.specs.Lemmas.Faults.{where_none, if_none}
 use Rattle.kernel.proofs.Beginnings.{begins_fit, table_created, created_processes, others_twice, rooms_begun}
 use Rattle.kernel.proofs.Keeping.{recovers_created, journal_created, kept_of}
 use Rattle.model.specs.declared.types.operations.Op.{Op}

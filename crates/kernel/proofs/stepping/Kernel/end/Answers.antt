@@ -1,6 +1,6 @@
 use Rattle.std.proofs.Common.{rules, refl, ◌≡◌, ◌<◌, ◌+◌, ℕ, inl, inr, ⊎_elim, None, ◌∙◌, sym, ap, subst, length}
 use Rattle.kernel.specs.Processes.{World, process}
-use Rattle.kernel.proofs.Commits.{where_none, if_none}
+use Rattle.inodes.specs.Lemmas.Faults.{where_none, if_none}
 use Rattle.kernel.proofs.Ends.{table_end_commits, table_end_left, committed_before, committed_one_more}
 use Rattle.wal.specs.Volume.{VolumeState}
 use Rattle.kernel.specs.Keeps.{IsJournal}

@@ -7,13 +7,14 @@ use Rattle.model.specs.declared.types.operations.Entry.{Entry}
 use Rattle.model.specs.Files.{files_of}
 use Rattle.model.specs.Journal.{kept, own, replay, answered, is_changing}
 use Rattle.model.specs.Layout.{form_of, inode_count_of}
+use Rattle.model.specs.Log.{cleared}
 use Rattle.wal.specs.Joint.{seen}
 use Rattle.ports.specs.History.{History}
 use Rattle.kernel.specs.Histories.{HasHistory, IsHistory}
-use Rattle.kernel.specs.Keeps.{HasFilesAfter, cleared, IsJournal, KeepsNow}
+use Rattle.kernel.specs.Keeps.{HasFilesAfter, IsJournal, KeepsNow}
 use Rattle.kernel.specs.State.{State}
 use Rattle.wal.specs.Machine.{is_quiet}
-use Rattle.kernel.proofs.Commits.{if_well}
+use Rattle.inodes.specs.Lemmas.Faults.{if_well}
 use Rattle.kernel.proofs.Logging.{settled}
 use Rattle.kernel.proofs.Openings.{opens_again}
 use Rattle.kernel.proofs.Journals.{kept_of_taken}

@@ -6,8 +6,9 @@ use Rattle.model.specs.Lemmas.Log.{length-recovered}
 use Rattle.wal.specs.Machine.{new_log}
 use Rattle.wal.specs.Recovery.{RecoversAs}
 use Rattle.wal.specs.Volume.{VolumeState}
-use Rattle.kernel.proofs.Commits.{if_none}
-use Rattle.kernel.proofs.Openings.{lawful_super, super_size, lawful_here, recover_cause, opened_leaves, opened_table, opened_count, opened_rooms, opened_numbers, opened_recovers, opened_journal, opened_histories, volume_same}
+use Rattle.inodes.specs.Lemmas.Faults.{if_none}
+use Rattle.kernel.proofs.Openings.{super_size, lawful_here, recover_cause, opened_table, opened_count, opened_rooms, opened_numbers, opened_recovers, opened_journal, opened_histories, volume_same}
+use Rattle.kernel.specs.Lemmas.Openings.{opened_leaves, lawful_super}
 use Rattle.kernel.proofs.Keeping.{kept_of}
 use Rattle.kernel.proofs.stepping.Kernel.open.Goals as goal
 

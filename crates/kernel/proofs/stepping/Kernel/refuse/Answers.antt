@@ -3,7 +3,7 @@ use Rattle.std.proofs.lemmas.Bool.{false≢true}
 use Rattle.kernel.specs.declared.types.At.TheVariants as at
 use Rattle.kernel.specs.Processes.{World, process, with_place, refused}
 use Rattle.kernel.specs.State.{is_under_way_at, Inv}
-use Rattle.kernel.proofs.Commits.{where_none, if_none}
+use Rattle.inodes.specs.Lemmas.Faults.{where_none, if_none}
 use Rattle.kernel.proofs.Beginnings.{begins_fit, table_refused, refused_processes, others_twice, rooms_begun}
 use Rattle.kernel.proofs.Keeping.{recovers_refused, journal_refused, kept_of}
 use Rattle.model.specs.declared.types.operations.Op.{Op}

@@ -1,4 +1,4 @@
-use Rattle.std.proofs.Common.{ap, length, rules}
+use Rattle.std.proofs.Common.{rules}
 use Rattle.wal.specs.Machine.{LogState}
 use Rattle.wal.proofs.CommitLemmas.{log_cleared}
 use Rattle.wal.proofs.log.Log.wrote.Goals as goal

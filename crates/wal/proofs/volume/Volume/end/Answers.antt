@@ -1,7 +1,7 @@
 use Rattle.std.proofs.Common.{rules}
 use Rattle.wal.proofs.StepLemmas.{joint_after_end}
-use Rattle.wal.proofs.VolumeLemmas.{if_joint, joint_here}
+use Rattle.wal.proofs.VolumeLemmas.{if_whole, joint_here, blocks_here}
 use Rattle.wal.proofs.volume.Volume.end.Goals as goal
 
 pub invariant_of-self : goal.invariant_of-self
-invariant_of-self g c = if_joint _ (joint_after_end _ _ c.args.pid (joint_here g.D.Disk.image _ _ c.self.view_is c.requires.fault c.self.invariant) c.requires.pid (search rules) c.end.ensures.log)
+invariant_of-self g c = if_whole _ (joint_after_end _ _ c.args.pid (joint_here g.D.Disk.image _ _ c.self.view_is c.requires.fault c.self.invariant) c.requires.pid (search rules) c.end.ensures.log) (blocks_here g.D.Disk.image _ _ c.self.view_is c.requires.fault c.self.invariant)

@@ -3,7 +3,8 @@ use Rattle.bcache.specs.declared.types.Buffer.{Buffer}
 use Rattle.blocks.specs.Disk.{block_at}
 use Rattle.bcache.specs.Buffers.{block_or_zero, filled}
 use Rattle.wal.specs.Joint.{seen}
-use Rattle.wal.proofs.VolumeLemmas.{if_joint, joint_here, buffer_here, joint_got, seen_unfilled, block_inside}
+use Rattle.wal.proofs.BlocksLemmas.{blocks_filled}
+use Rattle.wal.proofs.VolumeLemmas.{if_whole, joint_here, blocks_here, buffer_here, joint_got, seen_unfilled, block_inside, inside_here}
 use Rattle.wal.proofs.volume.Volume.fill.Goals as goal
 
 pub fill-requires-clause-inside : goal.fill-requires-clause-inside
@@ -15,7 +16,10 @@ invariant_of-self g c =
     let block = ap (λ (s : Buffer). s.block) slot ∙ c.requires.block in
     let valid = ap (λ (s : Buffer). s.valid) slot ∙ c.requires.valid in
     let bytes = ap (λ o. filled c.self.inside.cache c.args.slot (block_at (g.D.Disk.image c.self.inside.disk) (block_or_zero o))) block in
-    if_joint _ (joint_got _ _ c.args.slot c.args.block (joint_here g.D.Disk.image _ _ c.self.view_is c.requires.fault c.self.invariant) c.requires.slot block valid (c.in-Ok.ensures.ok ∙ bytes) c.in-Ok.ensures.reads.image).0
+    let joint = joint_here g.D.Disk.image _ _ c.self.view_is c.requires.fault c.self.invariant in
+    if_whole _ (joint_got _ _ c.args.slot c.args.block joint c.requires.slot block valid (c.in-Ok.ensures.ok ∙ bytes) c.in-Ok.ensures.reads.image).0
+    (blocks_filled (g.D.Disk.image c.self.inside.disk) _ _ c.args.slot c.args.block joint.cache c.requires.slot (blocks_here g.D.Disk.image _ _ c.self.view_is c.requires.fault c.self.invariant)
+    (g.met.D.Disk.is_image c.self.inside.disk) (inside_here _ c.args.slot c.args.block joint block) (c.in-Ok.ensures.ok ∙ bytes))
 
 pub returns-in-Ok-clause-current : goal.returns-in-Ok-clause-current
 returns-in-Ok-clause-current g c =

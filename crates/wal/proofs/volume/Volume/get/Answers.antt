@@ -1,14 +1,25 @@
 use Rattle.std.proofs.Common.{◌≡◌, ◌∙◌, subst, rules, true, false}
 use Rattle.wal.specs.Joint.{seen}
+use Rattle.wal.specs.Held.{WaitsFor, LeavesLocks, LocksAfter}
+use Rattle.wal.proofs.BlocksLemmas.{blocks_acquired}
+use Rattle.wal.proofs.HeldLemmas.{gets_acquired, gets_filled, waits_acquired}
+use Rattle.wal.specs.declared.types.Get.TheVariants as get
 use Rattle.wal.proofs.StepLemmas.{joint_acquired}
-use Rattle.wal.proofs.VolumeLemmas.{acquired_now, filled_holds, holds_now, if_joint, joint_here, seen_acquired}
+use Rattle.wal.proofs.VolumeLemmas.{filled_holds, if_whole, joint_here, blocks_here, seen_acquired}
+use Rattle.wal.specs.Lemmas.Volume.{acquired_now, holds_now}
 use Rattle.wal.proofs.volume.Volume.get.Goals as goal
 
 pub invariant_of-self-in-Got-default-true : goal.invariant_of-self-in-Got-default-true
-invariant_of-self-in-Got-default-true g c = if_joint _ (joint_acquired _ _ c.args.pid c.args.block (joint_here g.D.Disk.image _ _ c.self.view_is c.requires.fault c.self.invariant) c.requires.behind (search rules) c.acquire.ensures.cache)
+invariant_of-self-in-Got-default-true g c =
+    let joint = joint_here g.D.Disk.image _ _ c.self.view_is c.requires.fault c.self.invariant in
+    if_whole _ (joint_acquired _ _ c.args.pid c.args.block joint c.requires.behind (search rules) c.acquire.ensures.cache)
+    (blocks_acquired _ _ c.args.pid c.args.block joint.cache (blocks_here g.D.Disk.image _ _ c.self.view_is c.requires.fault c.self.invariant) c.acquire.ensures.cache)
 
 pub invariant_of-self-in-Got-default-false : goal.invariant_of-self-in-Got-default-false
-invariant_of-self-in-Got-default-false g c = if_joint _ (joint_acquired _ _ c.args.pid c.args.block (joint_here g.D.Disk.image _ _ c.self.view_is c.requires.fault c.self.invariant) c.requires.behind (search rules) c.acquire.ensures.cache)
+invariant_of-self-in-Got-default-false g c =
+    let joint = joint_here g.D.Disk.image _ _ c.self.view_is c.requires.fault c.self.invariant in
+    if_whole _ (joint_acquired _ _ c.args.pid c.args.block joint c.requires.behind (search rules) c.acquire.ensures.cache)
+    (blocks_acquired _ _ c.args.pid c.args.block joint.cache (blocks_here g.D.Disk.image _ _ c.self.view_is c.requires.fault c.self.invariant) c.acquire.ensures.cache)
 
 pub fill-requires-clause-slot : goal.fill-requires-clause-slot
 fill-requires-clause-slot g c =
@@ -56,3 +67,27 @@ returns-in-Got-default-false-clause-current g c =
     let x = g.D.Disk.image c.self.inside.disk in
     subst (λ s. seen (g.D.Disk.image c.fill.new.self.device) c.fill.new.self.buffers ≡ seen (g.D.Disk.image s.device) s.buffers) c.self.view_is
     (c.fill.ensures.current ∙ seen_acquired c.self.inside.cache c.acquire.new.self c.args.pid c.args.block (joint_here g.D.Disk.image _ _ c.self.view_is c.requires.fault c.self.invariant) c.acquire.ensures.cache)
+
+pub returns-in-Got-default-true-clause-locks : goal.returns-in-Got-default-true-clause-locks
+returns-in-Got-default-true-clause-locks g c =
+    let arm = c.in-Got-default-true in
+    let joint = joint_here g.D.Disk.image _ _ c.self.view_is c.requires.fault c.self.invariant in
+    let has = acquired_now c.self.inside.cache c.acquire.new.self c.args.pid c.args.block arm.slot true arm.valid joint.cache arm.ensures.answer arm.valid-test c.acquire.ensures.cache in
+    subst (λ s. LocksAfter (get.Got arm.slot) s.buffers c.acquire.new.self c.args.pid c.args.block) c.self.view_is
+    (gets_acquired c.self.inside.cache c.acquire.new.self c.args.pid c.args.block arm.slot arm.valid joint.cache arm.ensures.answer c.acquire.ensures.cache has)
+
+pub returns-in-Got-default-false-clause-locks : goal.returns-in-Got-default-false-clause-locks
+returns-in-Got-default-false-clause-locks g c =
+    let arm = c.in-Got-default-false in
+    let joint = joint_here g.D.Disk.image _ _ c.self.view_is c.requires.fault c.self.invariant in
+    let joint' = joint_acquired c.self.inside.cache c.acquire.new.self c.args.pid c.args.block joint c.requires.behind (search rules) c.acquire.ensures.cache in
+    let has = acquired_now c.self.inside.cache c.acquire.new.self c.args.pid c.args.block arm.slot false arm.valid joint.cache arm.ensures.answer arm.valid-test c.acquire.ensures.cache in
+    subst (λ s. LocksAfter c.fill.result s.buffers c.fill.new.self.buffers c.args.pid c.args.block) c.self.view_is
+    (gets_filled (g.D.Disk.image c.self.inside.disk) c.self.inside.cache c.acquire.new.self c.fill.new.self.buffers c.args.pid c.args.block arm.slot arm.valid c.fill.result joint.cache joint'.cache
+    arm.ensures.answer c.acquire.ensures.cache has c.fill.ensures.answer c.fill.ensures.buffers)
+
+pub returns-in-Sleeping-clause-locks : goal.returns-in-Sleeping-clause-locks
+returns-in-Sleeping-clause-locks g c =
+    let arm = c.in-Sleeping in
+    subst (λ s. WaitsFor c.why.result s.buffers c.args.block × LeavesLocks s.buffers c.acquire.new.self) c.self.view_is
+    (waits_acquired c.self.inside.cache c.acquire.new.self c.args.pid c.args.block arm.busy c.why.result arm.ensures.answer c.why.ensures c.acquire.ensures.cache)

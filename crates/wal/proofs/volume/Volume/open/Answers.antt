@@ -1,10 +1,15 @@
-use Rattle.std.proofs.Common.{◌∙◌, ap}
-use Rattle.wal.specs.Joint.{seen}
-use Rattle.wal.proofs.OpeningLemmas.{joint_opened, fresh_seen}
+use Rattle.std.proofs.Common.{◌∙◌, ap, subst, sym, None}
+use Rattle.wal.specs.Joint.{AreBlocks, seen}
+use Rattle.wal.proofs.BlocksLemmas.{blocks_fresh}
+use Rattle.wal.proofs.VolumeLemmas.{if_whole}
+use Rattle.wal.proofs.OpeningLemmas.{joint_opened}
+use Rattle.wal.specs.Lemmas.Volume.{fresh_seen}
 use Rattle.wal.proofs.volume.Volume.open.Goals as goal
 
 pub invariant_of-result : goal.invariant_of-result
-invariant_of-result g c = joint_opened (g.D.Disk.image c.args.disk) c.args.cache c.args.log c.requires.cache c.requires.log c.known.ensures.big c.known.ensures.small c.requires.none
+invariant_of-result g c =
+    if_whole None (joint_opened (g.D.Disk.image c.args.disk) c.args.cache c.args.log c.requires.cache c.requires.log c.known.ensures.big c.known.ensures.small c.requires.none)
+    (subst AreBlocks (sym c.requires.cache) blocks_fresh)
 
 pub returns-clause-current : goal.returns-clause-current
 returns-clause-current g c = ap (seen (g.D.Disk.image c.args.disk)) c.requires.cache ∙ fresh_seen (g.D.Disk.image c.args.disk)

@@ -9,7 +9,7 @@ use Rattle.bcache.specs.declared.types.Buffer.{Buffer}
 use Rattle.bcache.specs.Current.{is_number_in, is_of, shows, bytes_or, current}
 use Rattle.bcache.specs.Buffers.{Buffers, empty_buffer, buffer, with_buffer, filled, changed, IsOnce, IsCache}
 use Rattle.bcache.specs.Laws.{UnfilledKeeps, CountsKeepCurrent}
-use Rattle.bcache.proofs.SlotLemmas.{buffer_same, buffer_other, block_is, is_number_some}
+use Rattle.bcache.specs.Lemmas.Slots.{buffer_same, buffer_other, block_is, is_number_some}
 
 -- the bytes of the first valid buffer of a block, or else those
 abbrev pub shown : List Buffer → ℕ → List ℕ → List ℕ

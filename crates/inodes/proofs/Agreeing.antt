@@ -1,0 +1,78 @@
+-- One task goes on, and all of them agree with buffers and log as before.
+use Rattle.std.proofs.Common.{◌≡◌, ◌≢◌, ℕ, ◌<◌, List, length, set, refl, sym, ◌∙◌, ap, subst, ⊎_elim, Option, Some, None}
+use Rattle.std.proofs.lemmas.Bool.{cases_eq}
+use Rattle.std.proofs.lemmas.List.{get_or-set_same, get_or-set_other}
+use Rattle.bcache.specs.Buffers.{Buffers}
+use Rattle.wal.specs.Held.{HoldsBlock, HasLock}
+use Rattle.wal.specs.Machine.{LogState, used_by}
+use Rattle.inodes.specs.declared.tasks.Place.{Place}
+use Rattle.inodes.specs.declared.tasks.Place.TheVariants as place
+use Rattle.inodes.specs.Tasks.{TaskState, task, no_task}
+use Rattle.inodes.specs.Store.{HoldsAt, Stands, Agrees, slot_at}
+
+-- what the others hold and have in the log stays, while process p works
+pub record StaysForOthers (c d : Buffers) (l m : LogState) (p : ℕ) : Type 0 where
+  pub holds : (q b i : ℕ) → q ≢ p → HoldsBlock c q b i → HoldsBlock d q b i
+  pub locks : (q b i : ℕ) → q ≢ p → HasLock d q b i → HasLock c q b i
+  pub used : (q : ℕ) → q ≢ p → used_by m q ≡ used_by l q
+
+pub stays_same : (c : Buffers) (l : LogState) (p : ℕ) → StaysForOthers c c l l p
+stays_same c l p = record { holds = λ q b i apart has. has; locks = λ q b i apart has. has; used = λ q apart. refl }
+
+-- process p's task is t now
+pub record TaskIsNow (c d : Buffers) (l m : LogState) (n p : ℕ) (ts : List TaskState) (t : TaskState) : Type 0 where
+  pub agrees : Agrees c l n ts
+  pub inside : p < length ts
+  pub others : StaysForOthers c d l m p
+  pub stands : Stands d m n p t.op t.place
+  pub locks : (b i : ℕ) → HasLock d p b i → slot_at t.place ≡ Some i
+
+holds_other : (c d : Buffers) (l m : LogState) (p q b : ℕ) (o : Option ℕ) → StaysForOthers c d l m p → q ≢ p → HoldsAt c q b o → HoldsAt d q b o
+holds_other c d l m p q b None stays apart has = tt
+holds_other c d l m p q b (Some i) stays apart has = stays.holds q b i apart has
+
+stands_other : (c d : Buffers) (l m : LogState) (n p q : ℕ) (t : TaskState) (a : Place) → StaysForOthers c d l m p → q ≢ p → Stands c l n q t.op a → Stands d m n q t.op a
+stands_other c d l m n p q t place.Nowhere stays apart s = tt
+stands_other c d l m n p q t (place.Creating search) stays apart s = record {
+  op = s.op;
+  used = stays.used q apart ∙ s.used;
+  count = s.count;
+  kind = s.kind;
+  behind = s.behind;
+  last = s.last;
+  holds = holds_other c d l m p q search.block search.slot stays apart s.holds;
+}
+
+pub agrees_now : (c d : Buffers) (l m : LogState) (n p : ℕ) (ts : List TaskState) (t : TaskState) → TaskIsNow c d l m n p ts t → Agrees d m n (set ts p t)
+agrees_now c d l m n p ts t is = record {
+  stands = λ q. ⊎_elim
+      (λ (same : q ≡ p). subst (λ (r : ℕ). Stands d m n r (task (set ts p t) r).op (task (set ts p t) r).place) (sym same) (subst (λ (s : TaskState). Stands d m n p s.op s.place) (sym mine) is.stands))
+      (λ (apart : q ≢ p). subst (λ (s : TaskState). Stands d m n q s.op s.place) (sym (theirs q apart)) (stands_other c d l m n p q (task ts q) (task ts q).place is.others apart (is.agrees.stands q)))
+      (cases_eq q p);
+  holders = λ q b i has. ⊎_elim
+      (λ (same : q ≡ p). ap (λ (r : ℕ). slot_at (task (set ts p t) r).place) same ∙ ap (λ (s : TaskState). slot_at s.place) mine ∙ is.locks b i (subst (λ (r : ℕ). HasLock d r b i) same has))
+      (λ (apart : q ≢ p). ap (λ (s : TaskState). slot_at s.place) (theirs q apart) ∙ is.agrees.holders q b i (is.others.locks q b i apart has))
+      (cases_eq q p);
+}
+  where
+    mine : task (set ts p t) p ≡ t
+    mine = get_or-set_same ts p t no_task is.inside
+
+    theirs : (q : ℕ) → q ≢ p → task (set ts p t) q ≡ task ts q
+    theirs q apart = get_or-set_other ts p q t no_task apart
+
+-- nobody's task goes on, and each process keeps what it has
+pub agrees_still : (c d : Buffers) (l m : LogState) (n : ℕ) (ts : List TaskState) → ((q b i : ℕ) → HoldsBlock c q b i → HoldsBlock d q b i) → ((q b i : ℕ) → HasLock d q b i → HasLock c q b i)
+    → ((q : ℕ) → used_by m q ≡ used_by l q) → Agrees c l n ts → Agrees d m n ts
+agrees_still c d l m n ts holds locks used are = record {
+  stands = λ q. by_place q (task ts q) (task ts q).place (are.stands q);
+  holders = λ q b i has. are.holders q b i (locks q b i has);
+}
+  where
+    by_slot : (q b : ℕ) (o : Option ℕ) → HoldsAt c q b o → HoldsAt d q b o
+    by_slot q b None has = tt
+    by_slot q b (Some i) has = holds q b i has
+
+    by_place : (q : ℕ) (t : TaskState) (a : Place) → Stands c l n q t.op a → Stands d m n q t.op a
+    by_place q t place.Nowhere s = tt
+    by_place q t (place.Creating search) s = record { op = s.op; used = used q ∙ s.used; count = s.count; kind = s.kind; behind = s.behind; last = s.last; holds = by_slot q search.block search.slot s.holds }

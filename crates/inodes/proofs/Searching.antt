@@ -1,0 +1,118 @@
+-- A creation's search goes on, and the tasks agree with buffers and log as before.
+use Rattle.std.proofs.Common.{◌≡◌, ◌≢◌, inl, ℕ, ◌-◌, ◌<◌, false, leb, List, length, refl, sym, ◌∙◌, ap, subst, arith, ⊎_elim, Option, Some, None}
+use Rattle.std.proofs.lemmas.Bool.{eqb-false, leb-true}
+use Rattle.blocks.specs.Disk.{Image}
+use Rattle.model.specs.Layout.{inode_block, inode_count_of}
+use Rattle.model.specs.Soundness.{IsLawfulGeometry}
+use Rattle.model.specs.Lemmas.Log.{both_of}
+use Rattle.model.specs.Lemmas.Soundness.{facts_of}
+use Rattle.bcache.specs.Buffers.{Buffers}
+use Rattle.bcache.specs.Lemmas.Current.{length-current}
+use Rattle.wal.specs.Held.{HasLock, LeavesLocks, GetsLock, GivesUpLock}
+use Rattle.wal.specs.Joint.{Joint, seen}
+use Rattle.wal.specs.Machine.{LogState, used_by}
+use Rattle.wal.specs.Lemmas.Held.{held_is}
+use Rattle.inodes.specs.declared.ialloc.Ialloc.{Ialloc}
+use Rattle.inodes.specs.declared.tasks.Place.{Place}
+use Rattle.inodes.specs.declared.tasks.Place.TheVariants as place
+use Rattle.inodes.specs.Ialloc.{IsReady, at_slot, at_next_block, is_last_block}
+use Rattle.inodes.specs.Tasks.{TaskState, task}
+use Rattle.inodes.specs.Store.{IsSearching, HoldsAt, Stands, Agrees, slot_at}
+use Rattle.inodes.proofs.Agreeing.{StaysForOthers, TaskIsNow}
+
+-- a call that leaves the locks, and then one that gives a lock up
+pub gives_up_then : (c d e : Buffers) (p i : ℕ) → LeavesLocks c d → GivesUpLock d e p i → GivesUpLock c e p i
+gives_up_then c d e p i first second = record {
+  others = λ q b j apart has. second.others q b j apart (first.held q b j has);
+  none = λ q b j has. first.none q b j (second.none q b j has);
+  free = second.free;
+}
+
+module _ (c d : Buffers) (l : LogState) (n p : ℕ) (ts : List TaskState) (m : Ialloc) (agrees : Agrees c l n ts) (inside : p < length ts) (stood : (task ts p).place ≡ place.Creating m) where
+  pub search : IsSearching c l n p (task ts p).op m
+  search = subst (λ (a : Place). Stands c l n p (task ts p).op a) stood (agrees.stands p)
+
+  -- what the process has, it has in the search's slot
+  own : (o : Option ℕ) (b j : ℕ) → m.slot ≡ o → HasLock c p b j → o ≡ Some j
+  own o b j is has = sym is ∙ sym (ap slot_at stood) ∙ agrees.holders p b j has
+
+  -- it got its block
+  pub task_got : (i : ℕ) → m.slot ≡ None → GetsLock c d p m.block i → TaskIsNow c d l l n p ts (record (task ts p) { place = place.Creating (at_slot m i) })
+  task_got i none gets = record {
+    agrees = agrees;
+    inside = inside;
+    others = record {
+      holds = λ q b j apart has. gets.held q b j has;
+      locks = λ q b j apart has. ⊎_elim (λ (was : HasLock c q b j). was) (λ mine. absurd (apart mine.0)) (gets.takes q b j has);
+      used = λ q apart. refl;
+    };
+    stands = record { op = search.op; used = search.used; count = search.count; kind = search.kind; behind = search.behind; last = search.last; holds = gets.holds };
+    locks = λ b j has. ⊎_elim
+        (λ (was : HasLock c p b j). let no = own None b j none was in absurd (cc no))
+        (λ mine. ap Some (sym mine.2))
+        (gets.takes p b j has);
+  }
+
+  module _ (i : ℕ) (slot : m.slot ≡ Some i) (gives : GivesUpLock c d p i) where
+    -- nothing is left to it
+    nothing : {A : Type 0} (b j : ℕ) → HasLock d p b j → A
+    nothing b j has =
+        let same : Some i ≡ Some j = own (Some i) b j slot (gives.none p b j has) in
+        let here : j ≡ i = cc same in
+        absurd (gives.free p b (subst (λ (k : ℕ). HasLock d p b k) here has))
+
+    others : (k : LogState) → ((q : ℕ) → q ≢ p → used_by k q ≡ used_by l q) → StaysForOthers c d l k p
+    others k used = record {
+      holds = λ q b j apart has. gives.others q b j (inl apart) has;
+      locks = λ q b j apart has. gives.none q b j has;
+      used = used;
+    }
+
+    -- it goes on to the next block
+    pub task_next : is_last_block m ≡ false → TaskIsNow c d l l n p ts (record (task ts p) { place = place.Creating (at_next_block m) })
+    task_next more =
+        let other = eqb-false m.block (inode_block (m.inode_count - 1)) more in
+        let same : inode_block (m.inode_count - 1) ≡ inode_block (n - 1) = ap (λ (k : ℕ). inode_block (k - 1)) search.count in
+        record {
+          agrees = agrees;
+          inside = inside;
+          others = others l (λ q apart. refl);
+          stands = record { op = search.op; used = search.used; count = search.count; kind = search.kind; behind = omega (arith, search.behind); last = let low = search.last in omega (arith, low, other, same); holds = tt };
+          locks = λ b j has. nothing b j has;
+        }
+
+    -- it is over
+    pub task_over : (k : LogState) → ((q : ℕ) → q ≢ p → used_by k q ≡ used_by l q) → TaskIsNow c d l k n p ts (record (task ts p) { place = place.Nowhere })
+    task_over k used = record {
+      agrees = agrees;
+      inside = inside;
+      others = others k used;
+      stands = tt;
+      locks = λ b j has. nothing b j has;
+    }
+
+slot_holds : (x : Image) (c : Buffers) (l : LogState) (p b : ℕ) (o : Option ℕ) → Joint x c l → HoldsAt c p b o → Rattle.inodes.specs.Ialloc.HoldsAt (seen x c) c p b o
+slot_holds x c l p b None joint has = tt
+slot_holds x c l p b (Some i) joint has = held_is p b i joint has
+
+-- the search may make its next step
+pub ready_of : (x : Image) (c : Buffers) (l : LogState) (n p : ℕ) (ts : List TaskState) (m : Ialloc) → Agrees c l n ts → p < length ts → (task ts p).place ≡ place.Creating m → Joint x c l
+    → IsLawfulGeometry (seen x c) → n ≡ inode_count_of (seen x c) → IsReady (seen x c) c l.size p m
+ready_of x c l n p ts m agrees inside stood joint geometry numbers =
+    let s = search c c l n p ts m agrees inside stood in
+    let f = facts_of (seen x c) geometry in
+    let some = f.some in
+    let few = f.few in
+    let room = f.room in
+    let size = f.size in
+    let same : inode_block (m.inode_count - 1) ≡ inode_block (n - 1) = ap (λ (k : ℕ). inode_block (k - 1)) s.count in
+    let long = length-current x c in
+    record {
+      kind = leb-true m.kind 3 (both_of (leb 1 m.kind) (leb m.kind 3) s.kind).1;
+      behind = s.behind;
+      last = let low = s.last in omega (arith, low, same);
+      some = omega (arith, some, numbers, s.count);
+      few = omega (arith, few, numbers, s.count);
+      within = omega (arith, room, size, some, numbers, s.count, long, joint.size);
+      holds = slot_holds x c l p m.block m.slot joint s.holds;
+    }

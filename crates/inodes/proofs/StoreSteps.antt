@@ -1,0 +1,313 @@
+-- What a step of a search promises, of the store in which it is made.
+use Rattle.std.proofs.Common.{◌≡◌, ◌≢◌, ℕ, ◌+◌, ◌-◌, ◌*◌, ◌<◌, ◌≤◌, Bool, true, false, cond, leb, ltb, ⊎_elim, List, length, length-set, set, refl, sym, ◌∙◌, ap, subst, arith, Option, Some, None}
+use Rattle.std.specs.Prelude.{IsTrue, is_some}
+use Rattle.std.proofs.lemmas.Bool.{eqb-true, eqb-false, eq-eqb, leb-true, ltb-true, cases_eq, false≢true}
+use Rattle.std.proofs.lemmas.List.{get_or-set_same, get_or-set_other}
+use Rattle.blocks.specs.Calls.{OnlyReads}
+use Rattle.blocks.specs.Disk.{Image, IsImage}
+use Rattle.blocks.specs.declared.disk.Disk.{Ghosts}
+use Rattle.blocks.specs.declared.errors.DiskFault.{DiskFault}
+use Rattle.bcache.specs.Buffers.{Buffers}
+use Rattle.model.specs.declared.types.operations.Op.{Op}
+use Rattle.model.specs.declared.types.operations.Op.TheVariants.{Create}
+use Rattle.model.specs.declared.types.operations.Reply.{Reply}
+use Rattle.model.specs.declared.types.operations.Reply.TheVariants.{Made, NoInode}
+use Rattle.model.specs.declared.types.operations.Why.{Why}
+use Rattle.model.specs.declared.types.operations.Why.TheVariants as why
+use Rattle.model.specs.declared.types.image.Dinode.{Dinode}
+use Rattle.model.specs.Codec.{new_inode, with_inode}
+use Rattle.model.specs.Crash.{labels_of}
+use Rattle.model.specs.Files.{Files}
+use Rattle.model.specs.Journal.{is_making, is_number}
+use Rattle.model.specs.Layout.{form_of, inode_block, inode_of, inode_count_of, HasNoFreeInode}
+use Rattle.model.specs.Lemmas.Log.{both_of}
+use Rattle.model.specs.Lemmas.Runs.{after-no_inode}
+use Rattle.model.specs.Lemmas.Soundness.{facts_of}
+use Rattle.model.specs.Soundness.{IsLawfulGeometry}
+use Rattle.loose.specs.Claims.{HasClaimed, with_new_file}
+use Rattle.loose.specs.Loose.{Fits}
+use Rattle.loose.specs.Lemmas.Claims.{claims, fits_claimed}
+use Rattle.wal.specs.Machine.{LogState, used_by, is_among, noted, appended, one_used}
+use Rattle.wal.specs.Volume.{VolumeState, faults_after}
+use Rattle.inodes.specs.declared.ialloc.Ialloc.{Ialloc}
+use Rattle.inodes.specs.declared.progress.Progress.{Progress}
+use Rattle.inodes.specs.declared.progress.Progress.TheVariants as search
+use Rattle.inodes.specs.declared.progress.TaskProgress.{TaskProgress}
+use Rattle.inodes.specs.declared.progress.TaskProgress.TheVariants as progress
+use Rattle.inodes.specs.declared.tasks.Place.{Place}
+use Rattle.inodes.specs.declared.tasks.Place.TheVariants as place
+use Rattle.inodes.specs.Ialloc.{SearchSteps, SearchGoes, SearchLocks, IsFree, current_after, log_after, fault_in}
+use Rattle.inodes.specs.Tasks.{TaskState, task, no_task}
+use Rattle.inodes.specs.Store.{StoreState, FitsFiles, Agrees, IsSearching, current_of, slot_at, reply_of}
+use Rattle.inodes.proofs.Searching.{search as searching}
+use Rattle.inodes.specs.Steps.{Steps, FilesThen, Answers, Goes, GoesFrom, reply_at_turn, fault_of_task, Marks, SameGroups, IsHeldByAnother, steps_left, looks_left, block_at_place}
+
+-- what a store answers for what its search came to
+abbrev pub answer_of : Progress (Option ℕ) → TaskProgress
+answer_of search.Moved = progress.Moved
+answer_of (search.Sleeping cause) = progress.Sleeping cause
+answer_of (search.Over made) = progress.Turned (Some (reply_of made))
+answer_of (search.Fault fault) = progress.Fault fault
+
+-- where the task stands then
+abbrev pub place_then : Progress (Option ℕ) → Ialloc → Ialloc → Place
+place_then search.Moved m new = place.Creating new
+place_then (search.Sleeping cause) m new = place.Creating m
+place_then (search.Over made) m new = place.Nowhere
+place_then (search.Fault fault) m new = place.Creating m
+
+-- where a search goes, its task goes
+goes_from : (o : Option ℕ) (r : Progress (Option ℕ)) (n : ℕ) (m new : Ialloc) (before now : Image) → m.inode_count ≡ n → n ≡ inode_count_of before → now ≡ current_after before m r
+    → ((i : ℕ) → r ≡ search.Over (Some i) → IsFree before m i → inode_of now i ≡ new_inode m.kind)
+    → SearchGoes o before m r new → GoesFrom o n m (answer_of r) (place_then r m new) before now
+goes_from None search.Moved n m new before now count same current made g = (g.0, ap place.Creating g.1)
+goes_from None (search.Sleeping cause) n m new before now count same current made g = refl
+goes_from None (search.Over out) n m new before now count same current made g = absurd g
+goes_from None (search.Fault fault) n m new before now count same current made g = (refl, g.1)
+goes_from (Some s) search.Moved n m new before now count same current made g = (ap place.Creating g.0, subst (λ (y : Image). HasNoFreeInode y m.block) (sym current) (g.2 (count ∙ same)))
+goes_from (Some s) (search.Sleeping cause) n m new before now count same current made g = absurd g
+goes_from (Some s) (search.Over None) n m new before now count same current made g =
+    (refl, (eqb-true m.block (inode_block (m.inode_count - 1)) g.0 ∙ ap (λ (k : ℕ). inode_block (k - 1)) count, subst (λ (y : Image). HasNoFreeInode y m.block) (sym current) (g.1 (count ∙ same))))
+goes_from (Some s) (search.Over (Some i)) n m new before now count same current made g = (refl, (g.place, g.free, made i refl g))
+goes_from (Some s) (search.Fault fault) n m new before now count same current made g = absurd g
+
+-- a search that moved has fewer steps left
+fewer : (o : Option ℕ) (n : ℕ) (m new : Ialloc) (cur : Image) → m.slot ≡ o → m.inode_count ≡ n → m.block ≤ inode_block (n - 1) → SearchGoes o cur m search.Moved new → steps_left (place.Creating new) n < steps_left (place.Creating m) n
+fewer None n m new cur is count last g =
+    let now : steps_left (place.Creating new) n ≡ 2 * (inode_block (n - 1) - m.block) + 1 = ap (λ (k : Ialloc). steps_left (place.Creating k) n) g.1 in
+    let before : looks_left m.slot ≡ 2 = ap looks_left is in
+    omega (arith, now, before)
+fewer (Some s) n m new cur is count last g =
+    let now : steps_left (place.Creating new) n ≡ 2 * (inode_block (n - 1) - (m.block + 1)) + 2 = ap (λ (k : Ialloc). steps_left (place.Creating k) n) g.0 in
+    let before : looks_left m.slot ≡ 1 = ap looks_left is in
+    let other = eqb-false m.block (inode_block (m.inode_count - 1)) g.1 in
+    let same : inode_block (m.inode_count - 1) ≡ inode_block (n - 1) = ap (λ (k : ℕ). inode_block (k - 1)) count in
+    omega (arith, now, before, other, same, last)
+
+-- who waits for a buffer, waits for another's
+held_by : {D : Type 0} (s : StoreState D) (p : ℕ) (m : Ialloc) (o : Option ℕ) → Agrees s.volume.buffers s.volume.log s.inode_count s.tasks → (task s.tasks p).place ≡ place.Creating m → m.slot ≡ o
+    → (d : Buffers) (slot : Option ℕ) → SearchLocks o (search.Sleeping why.BufferHeld) s.volume.buffers d p m.block slot → IsHeldByAnother s p m.block
+held_by s p m None agrees stood none d slot waits = record {
+  other = waits.0;
+  slot = waits.1;
+  apart = λ same. let no : None ≡ Some waits.1 = sym (ap slot_at stood ∙ none) ∙ ap (λ (q : ℕ). slot_at (task s.tasks q).place) (sym same) ∙ agrees.holders waits.0 m.block waits.1 waits.2 in absurd (cc no);
+  lock = waits.2;
+  got = agrees.holders waits.0 m.block waits.1 waits.2;
+}
+held_by s p m (Some i) agrees stood got d slot waits = absurd waits
+
+-- a number's inode block lies in the image
+pub within_image : (x : Image) (i : ℕ) → IsLawfulGeometry x → IsTrue (is_number (inode_count_of x) i) → inode_block i < length x
+within_image x i g number =
+    let f = facts_of x g in
+    let below = ltb-true i (inode_count_of x) (both_of (ltb 0 i) (ltb i (inode_count_of x)) number).1 in
+    let room = f.room in
+    let size = f.size in
+    omega arith
+
+-- nothing is done to an image
+marks_same : (made : Option Reply) (x : Image) → ((i : ℕ) → is_making i made ≡ true → ⊥) → Marks made x x
+marks_same made x none = record {
+  size = refl;
+  untouched = record { boot = refl; super = refl; inode_zero = refl; inodes_past = λ i low high. refl; bits_past = λ b low high. refl };
+  others = λ i number other used. (used, refl);
+  fresh = λ i number makes. absurd (none i makes);
+}
+
+-- a number was claimed
+marks_claimed : (x y : Image) (i kind : ℕ) → HasClaimed x i kind y → Marks (Some (Made i)) x y
+marks_claimed x y i kind claimed = record {
+  size = claimed.size;
+  untouched = claimed.untouched;
+  others = λ j number other used.
+      let apart : j ≢ i = λ same. other (eq-eqb j i same) in
+      (λ none. used (ap (λ (d : Dinode). d.kind) (claimed.others j apart) ∙ none), claimed.other_labels j apart);
+  fresh = λ j number makes. subst (λ (k : ℕ). labels_of y k ≡ (0, 0, 1)) (sym (eqb-true j i makes)) claimed.own_labels;
+}
+
+-- the log has the same groups, whatever an operation logs
+groups_noted : (l : LogState) (p b : ℕ) → p < length l.used → SameGroups l (noted l p b)
+groups_noted l p b lt = by_home (is_among b l.homes)
+  where
+    one_more : (o : Option ℕ) → is_some (one_used o) ≡ is_some o
+    one_more None = refl
+    one_more (Some u) = refl
+
+    used : (q : ℕ) → is_some (used_by (appended l p b) q) ≡ is_some (used_by l q)
+    used q = ⊎_elim
+        (λ (same : q ≡ p). subst (λ (k : ℕ). is_some (used_by (appended l p b) k) ≡ is_some (used_by l k)) (sym same) (ap is_some (get_or-set_same l.used p (one_used (used_by l p)) None lt) ∙ one_more (used_by l p)))
+        (λ (apart : q ≢ p). ap is_some (get_or-set_other l.used p q (one_used (used_by l p)) None apart))
+        (cases_eq q p)
+
+    by_home : (t : Bool) → SameGroups l (cond t l (appended l p b))
+    by_home true = record { size = refl; outstanding = refl; opened = refl; committed = refl; commit = refl; used = λ q. refl }
+    by_home false = record { size = refl; outstanding = refl; opened = refl; committed = refl; commit = refl; used = used }
+
+groups_same : (l : LogState) → SameGroups l l
+groups_same l = record { size = refl; outstanding = refl; opened = refl; committed = refl; commit = refl; used = λ q. refl }
+
+groups_after : (l : LogState) (p b : ℕ) (r : Progress (Option ℕ)) → p < length l.used → SameGroups l (log_after l p b r)
+groups_after l p b search.Moved lt = groups_same l
+groups_after l p b (search.Sleeping cause) lt = groups_same l
+groups_after l p b (search.Over None) lt = groups_same l
+groups_after l p b (search.Over (Some i)) lt = groups_noted l p b lt
+groups_after l p b (search.Fault fault) lt = groups_same l
+
+-- what a step of the search came to, in a store with these files
+module _ {D : Type 0} (image : D → Image) (s t : StoreState D) (p : ℕ) (m new : Ialloc) (op : Op) (r : Progress (Option ℕ))
+    (agrees : Agrees s.volume.buffers s.volume.log s.inode_count s.tasks) (numbers : s.inode_count ≡ inode_count_of (current_of image s.volume)) (inside : p < length s.tasks)
+    (stood : (task s.tasks p).place ≡ place.Creating m) (is_op : (task s.tasks p).op ≡ Some op)
+    (current : current_of image t.volume ≡ current_after (current_of image s.volume) m r) where
+  abbrev cur : Image
+  cur = current_of image s.volume
+
+  mine : IsSearching s.volume.buffers s.volume.log s.inode_count p (task s.tasks p).op m
+  mine = searching s.volume.buffers s.volume.buffers s.volume.log s.inode_count p s.tasks m agrees inside stood
+
+  same_op : op ≡ Create m.kind
+  same_op = ap (λ (o : Option Op). elim o [ None ↦ Create m.kind | Some q ↦ q ]) (sym is_op ∙ mine.op)
+
+  -- a free number may be named
+  number_of : (i : ℕ) → IsFree cur m i → IsTrue (is_number (inode_count_of cur) i)
+  number_of i free = subst (λ (n : ℕ). IsTrue (is_number n i)) (mine.count ∙ numbers) free.number
+
+  still : (files : Files) → current_of image t.volume ≡ cur → FitsFiles image s files → FitsFiles image t files
+  unfolding FitsFiles
+  still files same fits = subst (λ (y : Image). Fits files y) (sym same) fits
+
+  claims_file : (files : Files) (i : ℕ) → IsFree cur m i → current_of image t.volume ≡ with_inode cur i (new_inode m.kind) → FitsFiles image s files
+      → Answers (form_of cur) (Create m.kind) (Made i) files (FitsFiles image t)
+  unfolding FitsFiles
+  claims_file files i free now fits =
+      let done = fits_claimed files cur i m.kind fits (number_of i free) free.free mine.kind in
+      (with_new_file files i m.kind, done.1, subst (λ (y : Image). Fits (with_new_file files i m.kind) y) (sym now) done.0)
+
+  pub files_then : (o : Option ℕ) → SearchGoes o cur m r new → (files : Files) → FitsFiles image s files → FilesThen (form_of cur) op (answer_of r) files (FitsFiles image t)
+  files_then o g files fits = subst (λ (q : Op). FilesThen (form_of cur) q (answer_of r) files (FitsFiles image t)) (sym same_op) (by_answer r o g current)
+    where
+      by_answer : (r : Progress (Option ℕ)) (o : Option ℕ) → SearchGoes o cur m r new → current_of image t.volume ≡ current_after cur m r → FilesThen (form_of cur) (Create m.kind) (answer_of r) files (FitsFiles image t)
+      by_answer search.Moved o g now = still files now fits
+      by_answer (search.Sleeping cause) o g now = still files now fits
+      by_answer (search.Over None) o g now = (files, after-no_inode (form_of cur) files m.kind mine.kind, still files now fits)
+      by_answer (search.Over (Some i)) None g now = absurd g
+      by_answer (search.Over (Some i)) (Some k) g now = claims_file files i g now fits
+      by_answer (search.Fault fault) o g now = still files now fits
+
+  module _ (geometry : IsLawfulGeometry cur) (full : IsImage cur) (few : m.kind ≤ 3) where
+    claimed : (i : ℕ) → IsFree cur m i → HasClaimed cur i m.kind (with_inode cur i (new_inode m.kind))
+    claimed i free = claims cur i m.kind geometry (number_of i free) few (full (inode_block i) (within_image cur i geometry (number_of i free))).size
+
+    made : (i : ℕ) → r ≡ search.Over (Some i) → IsFree cur m i → inode_of (current_of image t.volume) i ≡ new_inode m.kind
+    made i is free = ap (λ (y : Image). inode_of y i) (current ∙ ap (current_after cur m) is) ∙ (claimed i free).own
+
+    pub goes_now : (o : Option ℕ) → SearchGoes o cur m r new → GoesFrom o s.inode_count m (answer_of r) (place_then r m new) cur (current_of image t.volume)
+    goes_now o g = goes_from o r s.inode_count m new cur (current_of image t.volume) mine.count numbers current made g
+
+    pub marks_now : (o : Option ℕ) → SearchGoes o cur m r new → Marks (reply_at_turn (answer_of r)) cur (current_of image t.volume)
+    marks_now o g = by_answer r o g current
+      where
+        nothing : (made : Option Reply) → ((i : ℕ) → is_making i made ≡ true → ⊥) → current_of image t.volume ≡ cur → Marks made cur (current_of image t.volume)
+        nothing made none now = subst (λ (y : Image). Marks made cur y) (sym now) (marks_same made cur none)
+
+        by_answer : (r : Progress (Option ℕ)) (o : Option ℕ) → SearchGoes o cur m r new → current_of image t.volume ≡ current_after cur m r → Marks (reply_at_turn (answer_of r)) cur (current_of image t.volume)
+        by_answer search.Moved o g now = nothing None (λ i e. false≢true e) now
+        by_answer (search.Sleeping cause) o g now = nothing None (λ i e. false≢true e) now
+        by_answer (search.Over None) o g now = nothing (Some NoInode) (λ i e. false≢true e) now
+        by_answer (search.Over (Some i)) None g now = absurd g
+        by_answer (search.Over (Some i)) (Some k) g now = subst (λ (y : Image). Marks (Some (Made i)) cur y) (sym now) (marks_claimed cur (with_inode cur i (new_inode m.kind)) i m.kind (claimed i g))
+        by_answer (search.Fault fault) o g now = nothing None (λ i e. false≢true e) now
+
+-- the tasks then
+abbrev pub tasks_then : List TaskState → ℕ → Ialloc → Progress (Option ℕ) → List TaskState
+tasks_then ts p new search.Moved = set ts p (record (task ts p) { place = place.Creating new })
+tasks_then ts p new (search.Sleeping cause) = ts
+tasks_then ts p new (search.Over made) = set ts p (record (task ts p) { place = place.Nowhere })
+tasks_then ts p new (search.Fault fault) = ts
+
+-- and the store
+abbrev pub store_then : {D : Type 0} → StoreState D → VolumeState D → ℕ → Ialloc → Progress (Option ℕ) → StoreState D
+store_then s u p new r = record { volume = u; tasks = tasks_then s.tasks p new r; inode_count = s.inode_count }
+
+others_then : (ts : List TaskState) (p : ℕ) (new : Ialloc) (r : Progress (Option ℕ)) (q : ℕ) → q ≢ p → task (tasks_then ts p new r) q ≡ task ts q
+others_then ts p new search.Moved q apart = get_or-set_other ts p q (record (task ts p) { place = place.Creating new }) no_task apart
+others_then ts p new (search.Sleeping cause) q apart = refl
+others_then ts p new (search.Over made) q apart = get_or-set_other ts p q (record (task ts p) { place = place.Nowhere }) no_task apart
+others_then ts p new (search.Fault fault) q apart = refl
+
+pub many_then : (ts : List TaskState) (p : ℕ) (new : Ialloc) (r : Progress (Option ℕ)) → length (tasks_then ts p new r) ≡ length ts
+many_then ts p new search.Moved = length-set ts p (record (task ts p) { place = place.Creating new })
+many_then ts p new (search.Sleeping cause) = refl
+many_then ts p new (search.Over made) = length-set ts p (record (task ts p) { place = place.Nowhere })
+many_then ts p new (search.Fault fault) = refl
+
+mine_then : (ts : List TaskState) (p : ℕ) (m new : Ialloc) (r : Progress (Option ℕ)) → p < length ts → (task ts p).place ≡ place.Creating m
+    → ((task (tasks_then ts p new r) p).place ≡ place_then r m new) × ((task (tasks_then ts p new r) p).op ≡ (task ts p).op)
+mine_then ts p m new search.Moved lt stood =
+    let is = get_or-set_same ts p (record (task ts p) { place = place.Creating new }) no_task lt in
+    (ap (λ (t : TaskState). t.place) is, ap (λ (t : TaskState). t.op) is)
+mine_then ts p m new (search.Sleeping cause) lt stood = (stood, refl)
+mine_then ts p m new (search.Over made) lt stood =
+    let is = get_or-set_same ts p (record (task ts p) { place = place.Nowhere }) no_task lt in
+    (ap (λ (t : TaskState). t.place) is, ap (λ (t : TaskState). t.op) is)
+mine_then ts p m new (search.Fault fault) lt stood = (stood, refl)
+
+fault_then : (r : Progress (Option ℕ)) → fault_of_task (answer_of r) ≡ fault_in r
+fault_then search.Moved = refl
+fault_then (search.Sleeping cause) = refl
+fault_then (search.Over made) = refl
+fault_then (search.Fault fault) = refl
+
+asleep_then : {D : Type 0} (s : StoreState D) (u : VolumeState D) (p : ℕ) (new : Ialloc) (r : Progress (Option ℕ)) → ((cause : Why) → r ≡ search.Sleeping cause → u ≡ s.volume)
+    → (cause : Why) → answer_of r ≡ progress.Sleeping cause → store_then s u p new r ≡ s
+asleep_then s u p new search.Moved same cause is = absurd (cc is)
+asleep_then s u p new (search.Sleeping other) same cause is = ap (λ (v : VolumeState _). record s { volume = v }) (same other refl)
+asleep_then s u p new (search.Over made) same cause is = absurd (cc is)
+asleep_then s u p new (search.Fault fault) same cause is = absurd (cc is)
+
+held_then : {D : Type 0} (s : StoreState D) (p : ℕ) (m : Ialloc) (r : Progress (Option ℕ)) → Agrees s.volume.buffers s.volume.log s.inode_count s.tasks → (task s.tasks p).place ≡ place.Creating m
+    → (d : Buffers) (slot : Option ℕ) → SearchLocks m.slot r s.volume.buffers d p m.block slot → answer_of r ≡ progress.Sleeping why.BufferHeld → IsHeldByAnother s p m.block
+held_then s p m search.Moved agrees stood d slot locks is = absurd (cc is)
+held_then s p m (search.Sleeping cause) agrees stood d slot locks is =
+    let same : cause ≡ why.BufferHeld = cc is in
+    held_by s p m m.slot agrees stood refl d slot (subst (λ (w : Why). SearchLocks m.slot (search.Sleeping w) s.volume.buffers d p m.block slot) same locks)
+held_then s p m (search.Over made) agrees stood d slot locks is = absurd (cc is)
+held_then s p m (search.Fault fault) agrees stood d slot locks is = absurd (cc is)
+
+falls_then : (n : ℕ) (m new : Ialloc) (cur : Image) (r : Progress (Option ℕ)) → m.inode_count ≡ n → m.block ≤ inode_block (n - 1) → SearchGoes m.slot cur m r new → answer_of r ≡ progress.Moved → steps_left (place_then r m new) n < steps_left (place.Creating m) n
+falls_then n m new cur search.Moved count last g is = fewer m.slot n m new cur refl count last g
+falls_then n m new cur (search.Sleeping cause) count last g is = absurd (cc is)
+falls_then n m new cur (search.Over made) count last g is = absurd (cc is)
+falls_then n m new cur (search.Fault fault) count last g is = absurd (cc is)
+
+-- THE STEP: what a store promises of a step of its search
+pub search_steps : {D N : Type 0} (disk : Ghosts D N) (s : StoreState D) (u : VolumeState D) (p : ℕ) (m new : Ialloc) (op : Op) (r : Progress (Option ℕ))
+    → Agrees s.volume.buffers s.volume.log s.inode_count s.tasks → s.inode_count ≡ inode_count_of (current_of disk.image s.volume) → p < length s.tasks
+    → (task s.tasks p).place ≡ place.Creating m → (task s.tasks p).op ≡ Some op → IsLawfulGeometry (current_of disk.image s.volume) → IsImage (current_of disk.image s.volume)
+    → p < length s.volume.log.used → SearchSteps m.slot (current_of disk.image s.volume) s.volume u p m new r → current_of disk.image u ≡ current_after (current_of disk.image s.volume) m r
+    → OnlyReads disk s.volume.device u.device → u.fault ≡ fault_in r → disk.fault_count u.device ≡ faults_after (fault_in r) (disk.fault_count s.volume.device)
+    → Steps disk s p op (answer_of r) (store_then s u p new r)
+search_steps disk s u p m new op r agrees numbers inside stood is_op geometry full pid steps current device fault faults =
+    let t = store_then s u p new r in
+    let cur = current_of disk.image s.volume in
+    let mine = searching s.volume.buffers s.volume.buffers s.volume.log s.inode_count p s.tasks m agrees inside stood in
+    let now = mine_then s.tasks p m new r inside stood in
+    let few = leb-true m.kind 3 (both_of (leb 1 m.kind) (leb m.kind 3) mine.kind).1 in
+    record {
+      files = files_then disk.image s t p m new op r agrees numbers inside stood is_op current m.slot steps.goes;
+      goes = subst (λ (a : Place). Goes a s.inode_count (answer_of r) (task t.tasks p).place cur (current_of disk.image u)) (sym stood)
+          (subst (λ (a : Place). GoesFrom m.slot s.inode_count m (answer_of r) a cur (current_of disk.image u)) (sym now.0)
+          (goes_now disk.image s t p m new op r agrees numbers inside stood is_op current geometry full few m.slot steps.goes));
+      op_stays = now.1;
+      others = λ q apart. others_then s.tasks p new r q apart;
+      many = many_then s.tasks p new r;
+      numbers = refl;
+      groups = subst (λ (l : LogState). SameGroups s.volume.log l) (sym steps.log) (groups_after s.volume.log p m.block r pid);
+      marks = marks_now disk.image s t p m new op r agrees numbers inside stood is_op current geometry full few m.slot steps.goes;
+      sleeping = λ cause is. asleep_then s u p new r steps.asleep cause is;
+      held = λ is. subst (λ (a : Place). IsHeldByAnother s p (block_at_place a)) (sym stood) (held_then s p m r agrees stood u.buffers new.slot steps.locks is);
+      device = device;
+      fault = fault ∙ sym (fault_then r);
+      faults = faults ∙ ap (λ (o : Option DiskFault). faults_after o (disk.fault_count s.volume.device)) (sym (fault_then r));
+      falls = λ is. subst (λ (a : Place). steps_left (task t.tasks p).place s.inode_count < steps_left a s.inode_count) (sym stood)
+          (subst (λ (a : Place). steps_left a s.inode_count < steps_left (place.Creating m) s.inode_count) (sym now.0) (falls_then s.inode_count m new cur r mine.count mine.last steps.goes is));
+    }

@@ -1,0 +1,49 @@
+use Rattle.std.proofs.Common.{rules, refl, ◌≡◌, sym, subst, ◌∙◌}
+use Rattle.std.specs.Prelude.{None}
+use Rattle.model.specs.Codec.{header_block}
+use Rattle.loose.specs.Lemmas.OutsideLog.{fits_outside}
+use Rattle.inodes.specs.Store.{StoreState, FitsFiles, current_of}
+use Rattle.inodes.specs.Steps.{Commits}
+use Rattle.inodes.specs.Lemmas.Faults.{where_none, if_none}
+use Rattle.inodes.proofs.StoreKeeps.{geometry_kept, count_kept, agrees_committed}
+use Rattle.inodes.proofs.store.Store.commit_step.Goals as goal
+
+pub invariant_of-self : goal.invariant_of-self
+invariant_of-self g c =
+    let image = g.D.Disk.image in
+    let old = c.self.inside.volume in
+    let new = c.commit_step.new.self in
+    let n = c.self.inside.inode_count in
+    let well : old.fault ≡ None = search rules in
+    let e = c.commit_step.ensures in
+    let super = e.current.agree 1 refl in
+    record {
+      few = c.self.invariant.few;
+      geometry = geometry_kept (current_of image old) (current_of image new) e.current.size super c.self.invariant.geometry;
+      numbers = c.self.invariant.numbers ∙ sym (count_kept (current_of image old) (current_of image new) super);
+      agrees = if_none new.fault (agrees_committed (header_block old.log.homes) (image old.device) (image new.device) old.buffers new.buffers old.log new.log c.commit_step.result n c.self.inside.tasks e.step e.locks (where_none old.fault well c.self.invariant.agrees));
+    }
+
+pub returns : goal.returns
+unfolding FitsFiles
+returns g c =
+    let image = g.D.Disk.image in
+    let e = c.commit_step.ensures in
+    let old = c.self.inside.volume in
+    let s : StoreState _ = record { volume = old; tasks = c.self.inside.tasks; inode_count = c.self.inside.inode_count } in
+    let t : StoreState _ = record { volume = c.commit_step.new.self; tasks = c.self.inside.tasks; inode_count = c.self.inside.inode_count } in
+    let promise : Commits g.D.Disk s c.commit_step.result t = record {
+      step = e.step;
+      fault = e.fault;
+      name = e.name;
+      same = e.current;
+      time = e.time;
+      keeps = e.recovers;
+      lawful = e.lawful;
+      writes = e.writes;
+      faults = e.faults;
+      files = λ m fits. fits_outside m (current_of image old) (current_of image c.commit_step.new.self) e.current fits;
+      tasks = refl;
+      numbers = refl;
+    } in
+    record { commits = subst (λ (k : StoreState _). Commits g.D.Disk k c.commit_step.result t) c.self.view_is promise }

@@ -1,0 +1,31 @@
+use Rattle.std.proofs.Common.{rules, ◌≡◌, sym, subst}
+use Rattle.std.specs.Prelude.{IfNone, None}
+use Rattle.model.specs.Layout.{inode_count_of}
+use Rattle.model.specs.Soundness.{IsLawfulGeometry}
+use Rattle.loose.specs.Loose.{Fits}
+use Rattle.wal.specs.Volume.{VolumeState}
+use Rattle.inodes.specs.Store.{StoreState, FitsFiles, Agrees, current_of}
+use Rattle.inodes.specs.Lemmas.Faults.{where_none, if_none}
+use Rattle.inodes.proofs.StoreKeeps.{agrees_ended}
+use Rattle.inodes.proofs.store.Store.end.Goals as goal
+
+pub invariant_of-self : goal.invariant_of-self
+invariant_of-self g c =
+    let image = g.D.Disk.image in
+    let old = c.self.inside.volume in
+    let n = c.self.inside.inode_count in
+    let well : old.fault ≡ None = search rules in
+    let volume = c.end.ensures.volume in
+    record {
+      few = c.self.invariant.few;
+      geometry = subst (λ (v : VolumeState _). IsLawfulGeometry (current_of image v)) (sym volume) c.self.invariant.geometry;
+      numbers = subst (λ (v : VolumeState _). n ≡ inode_count_of (current_of image v)) (sym volume) c.self.invariant.numbers;
+      agrees = subst (λ (v : VolumeState _). IfNone v.fault (Agrees v.buffers v.log n c.self.inside.tasks)) (sym volume)
+          (if_none old.fault (agrees_ended old.buffers old.log n c.args.pid c.self.inside.tasks (where_none old.fault well c.self.invariant.agrees) (search rules)));
+    }
+
+pub returns-clause-files : goal.returns-clause-files
+unfolding FitsFiles
+returns-clause-files g c = λ files fits.
+    let image = g.D.Disk.image in
+    subst (λ (v : VolumeState _). Fits files (current_of image v)) (sym c.end.ensures.volume) (subst (λ (s : StoreState _). Fits files (current_of image s.volume)) (sym c.self.view_is) fits)

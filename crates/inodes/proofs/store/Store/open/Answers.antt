@@ -1,0 +1,38 @@
+use Rattle.std.proofs.Common.{◌≡◌, length, sym, ◌∙◌, ap, subst, List}
+use Rattle.std.specs.Prelude.{IfNone}
+use Rattle.blocks.specs.Disk.{Image}
+use Rattle.model.specs.Files.{files_of}
+use Rattle.model.specs.Layout.{inode_count_of}
+use Rattle.model.specs.Soundness.{IsLawfulGeometry}
+use Rattle.loose.specs.Loose.{Fits}
+use Rattle.loose.specs.Lemmas.Soundly.{fits_sound}
+use Rattle.bcache.specs.Buffers.{fresh_buffers}
+use Rattle.wal.specs.Machine.{new_log}
+use Rattle.wal.specs.Volume.{VolumeState}
+use Rattle.wal.specs.Lemmas.Volume.{fresh_seen}
+use Rattle.inodes.specs.Tasks.{TaskState}
+use Rattle.inodes.specs.Store.{FitsFiles, Agrees, current_of}
+use Rattle.inodes.proofs.StoreKeeps.{agrees_opened}
+use Rattle.inodes.proofs.store.Store.open.Goals as goal
+
+pub invariant_of-result : goal.invariant_of-result
+invariant_of-result g c =
+    let image = g.D.Disk.image in
+    let d = c.args.volume.device in
+    let now : current_of image c.args.volume ≡ image d = ap (λ (v : VolumeState _). current_of image v) c.requires.volume ∙ fresh_seen (image d) in
+    record {
+      few = c.requires.few;
+      geometry = subst IsLawfulGeometry (sym now) c.requires.sound.geometry;
+      numbers = c.requires.numbers ∙ sym (ap inode_count_of now);
+      agrees = subst (λ (v : VolumeState _). IfNone v.fault (Agrees v.buffers v.log c.args.inode_count c.args.tasks)) (sym c.requires.volume)
+          (subst (λ (ts : List TaskState). Agrees fresh_buffers (new_log (length (image d))) c.args.inode_count ts) (sym c.requires.tasks)
+          (agrees_opened (new_log (length (image d))) c.args.inode_count (length c.args.tasks)));
+    }
+
+pub returns-clause-files : goal.returns-clause-files
+unfolding FitsFiles
+returns-clause-files g c =
+    let image = g.D.Disk.image in
+    let d = c.args.volume.device in
+    let now : current_of image c.args.volume ≡ image d = ap (λ (v : VolumeState _). current_of image v) c.requires.volume ∙ fresh_seen (image d) in
+    subst (λ (y : Image). Fits (files_of (image d)) y) (sym now) (fits_sound (image d) (g.met.D.Disk.is_image d) c.requires.sound)

@@ -1,0 +1,121 @@
+-- A volume with the tasks of processes, and what is true of it between any two steps.
+use Rattle.std.specs.Prelude.{◌≡◌, ◌≤◌, ℕ, ◌-◌, IsTrue, IfNone, List, length, slice_set, Option, Some, None}
+use Rattle.blocks.specs.Disk.{Image}
+use Rattle.model.specs.declared.types.operations.Op.{Op}
+use Rattle.model.specs.declared.types.operations.Op.TheVariants.{Create, Write, Read, Trunc, Remove, Stat}
+use Rattle.model.specs.declared.types.operations.Reply.{Reply}
+use Rattle.model.specs.declared.types.operations.Reply.TheVariants.{Made, NoInode}
+use Rattle.model.specs.Files.{Files}
+use Rattle.model.specs.Layout.{inode_block, inode_count_of}
+use Rattle.model.specs.Operations.{is_kind}
+use Rattle.model.specs.Soundness.{IsLawfulGeometry}
+use Rattle.loose.specs.Loose.{Fits}
+use Rattle.bcache.specs.Buffers.{Buffers, fresh_buffers}
+use Rattle.wal.specs.Held.{HoldsBlock, HasLock}
+use Rattle.wal.specs.Joint.{seen}
+use Rattle.wal.specs.Machine.{LogState, used_by, begun, new_log}
+use Rattle.wal.specs.Volume.{VolumeState}
+use Rattle.inodes.specs.declared.ialloc.Ialloc.{Ialloc}
+use Rattle.inodes.specs.declared.tasks.Place.{Place}
+use Rattle.inodes.specs.declared.tasks.Place.TheVariants as place
+use Rattle.inodes.specs.Tasks.{TaskState, task}
+
+pub record StoreState (D : Type 0) : Type 0 where
+  pub volume : VolumeState D
+  -- where each process stands
+  pub tasks : List TaskState
+  -- the image's inode numbers, the unused number 0 included
+  pub inode_count : ℕ
+
+-- the image as it is now, with what stands in buffers alone
+abbrev pub current_of : {D : Type 0} → (D → Image) → VolumeState D → Image
+current_of image v = seen (image v.device) v.buffers
+
+-- THE FILES: the current image stands for these, with the operations that had their turn done
+unfoldable pub FitsFiles : {D : Type 0} → (D → Image) → StoreState D → Files → Type 0
+FitsFiles image s files = Fits files (current_of image s.volume)
+
+-- whatever files it stood for, it stands for
+abbrev pub KeepsFiles : {D : Type 0} → (D → Image) → StoreState D → StoreState D → Type 0
+KeepsFiles image old new = (files : Files) → FitsFiles image old files → FitsFiles image new files
+
+abbrev pub with_volume : {D : Type 0} → StoreState D → VolumeState D → StoreState D
+with_volume s v = record s { volume = v }
+
+abbrev pub with_log : {D : Type 0} → StoreState D → LogState → StoreState D
+with_log s l = with_volume s (record s.volume { log = l })
+
+-- a process's task goes on to a place
+abbrev pub with_place : {D : Type 0} → StoreState D → ℕ → Place → StoreState D
+with_place s p a = record s { tasks = slice_set s.tasks p (record (task s.tasks p) { place = a }) }
+
+-- operations that a store carries out
+abbrev pub CanBegin : Op → Type 0
+CanBegin (Create kind) = IsTrue (is_kind kind)
+CanBegin (Write i off bytes) = ⊥
+CanBegin (Read i off n) = ⊥
+CanBegin (Trunc i) = ⊥
+CanBegin (Remove i) = ⊥
+CanBegin (Stat i) = ⊥
+
+-- where the task of an operation begins
+abbrev pub first_place : Op → ℕ → Place
+first_place (Create kind) n = place.Creating (record { kind = kind; inode_count = n; block = 33; slot = None })
+first_place (Write i off bytes) n = place.Nowhere
+first_place (Read i off m) n = place.Nowhere
+first_place (Trunc i) n = place.Nowhere
+first_place (Remove i) n = place.Nowhere
+first_place (Stat i) n = place.Nowhere
+
+-- what a creation answers whose search came to a number, or to none
+abbrev pub reply_of : Option ℕ → Reply
+reply_of (Some i) = Made i
+reply_of None = NoInode
+
+-- a process's operation is open in the log, and its task begins
+abbrev pub with_begun : {D : Type 0} → StoreState D → ℕ → Op → StoreState D
+with_begun s p op = record (with_log s (begun s.volume.log p)) {
+  tasks = slice_set s.tasks p (record { op = Some op; place = first_place op s.inode_count });
+}
+
+-- a disk that was just opened
+abbrev pub fresh_volume : {D : Type 0} → (D → Image) → D → VolumeState D
+fresh_volume image d = record { device = d; buffers = fresh_buffers; log = new_log (length (image d)); fault = None }
+
+-- the slot that a task has got
+abbrev pub slot_at : Place → Option ℕ
+slot_at place.Nowhere = None
+slot_at (place.Creating m) = m.slot
+
+-- a process holds the block where it was got
+abbrev pub HoldsAt : Buffers → ℕ → ℕ → Option ℕ → Type 0
+HoldsAt c p b None = Unit {0}
+HoldsAt c p b (Some i) = HoldsBlock c p b i
+
+-- a creation that looks for a free number is open in the log, and added nothing yet
+pub record IsSearching (c : Buffers) (l : LogState) (n p : ℕ) (o : Option Op) (m : Ialloc) : Type 0 where
+  pub op : o ≡ Some (Create m.kind)
+  pub used : used_by l p ≡ Some 0
+  pub count : m.inode_count ≡ n
+  pub kind : IsTrue (is_kind m.kind)
+  pub behind : 33 ≤ m.block
+  pub last : m.block ≤ inode_block (n - 1)
+  pub holds : HoldsAt c p m.block m.slot
+
+-- what is true of a process, by where its task stands
+abbrev pub Stands : Buffers → LogState → ℕ → ℕ → Option Op → Place → Type 0
+Stands c l n p o place.Nowhere = Unit {0}
+Stands c l n p o (place.Creating m) = IsSearching c l n p o m
+
+-- the tasks agree with buffers and log, while the disk has not failed
+pub record Agrees (c : Buffers) (l : LogState) (n : ℕ) (ts : List TaskState) : Type 0 where
+  pub stands : (p : ℕ) → Stands c l n p (task ts p).op (task ts p).place
+  -- who has a buffer's lock is a process whose task has got it
+  pub holders : (p b i : ℕ) → HasLock c p b i → slot_at (task ts p).place ≡ Some i
+
+-- What is true of every store, beside its files.
+pub record IsStore {D : Type 0} (image : D → Image) (s : StoreState D) : Type 0 where
+  pub few : length s.tasks ≤ 32
+  pub geometry : IsLawfulGeometry (current_of image s.volume)
+  pub numbers : s.inode_count ≡ inode_count_of (current_of image s.volume)
+  pub agrees : IfNone s.volume.fault (Agrees s.volume.buffers s.volume.log s.inode_count s.tasks)

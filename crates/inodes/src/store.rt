@@ -1,0 +1,184 @@
+// A volume with the tasks of the processes that work on its files.
+ghost use Rattle.std.specs.Prelude.{◌≡◌, ◌<◌, ◌≤◌, ◌^◌, ◌+◌, false, length, replicate, Some, None, IsSome};
+ghost use Rattle.model.specs.Files.{files_of};
+ghost use Rattle.model.specs.declared.types.operations.Op.{Op};
+ghost use Rattle.model.specs.Layout.{inode_count_of};
+ghost use Rattle.model.specs.Soundness.{IsSound};
+ghost use Rattle.wal.specs.Machine.{used_by, is_quiet, begin_cause, begun, ended, end_answer};
+ghost use Rattle.inodes.specs.Tasks.{task, no_task};
+ghost use Rattle.inodes.specs.Store.{FitsFiles, KeepsFiles, fresh_volume, with_begun, with_log, first_place, reply_of, CanBegin};
+ghost use Rattle.inodes.specs.Steps.{Steps, Commits};
+ghost use Rattle.inodes.specs.declared.tasks.Place.TheVariants as place;
+
+use crate::{Ialloc, Place, Progress, TaskProgress, Tasks};
+use blocks::Disk;
+use model::types::{Op, Reply};
+use std::marker::Model;
+use wal::{Began, Committed, Ended, Volume};
+
+/// A volume with the tasks of up to 32 processes, whose steps go on in any order. Contracts say
+/// which files the current image stands for (`FitsFiles`), and what each step makes of them.
+#[derive(Drop)]
+pub struct Store<D: Disk> {
+    volume: Volume<D>,
+    tasks: Tasks,
+    inode_count: u32,
+}
+
+impl<D: Disk> Model for Store<D> {
+    ghost use Rattle.inodes.specs.Store.{StoreState, IsStore};
+
+    ghost Value = { StoreState D };
+
+    ghost view = { λ s. record { volume = s.volume; tasks = s.tasks; inode_count = s.inode_count } };
+
+    ghost invariant = { λ s. IsStore D.image (record { volume = s.volume; tasks = s.tasks; inode_count = s.inode_count }) };
+}
+
+impl<D: Disk> Store<D> {
+    /// A store over the fresh volume of a sound image, with no task under way.
+    pub fn open(volume: Volume<D>, tasks: Tasks, inode_count: u32) -> Store<D>
+        requires volume { volume ≡ fresh_volume D.image volume.device }
+        requires sound { IsSound (D.image volume.device) }
+        requires tasks { tasks ≡ replicate (length tasks) no_task }
+        requires few { length tasks ≤ 32 }
+        requires numbers { inode_count ≡ inode_count_of (D.image volume.device) }
+        ensures store { result ≡ record { volume = volume; tasks = tasks; inode_count = inode_count } }
+        ensures files { FitsFiles D.image result (files_of (D.image volume.device)) }
+    {
+        Store {
+            volume,
+            tasks,
+            inode_count,
+        }
+    }
+
+    /// The volume, for who only asks.
+    pub fn volume(&self) -> &Volume<D>
+        ensures { result.now ≡ self.now.volume }
+    {
+        &self.volume
+    }
+
+    /// The disk, without buffers, log and tasks.
+    pub fn into_disk(self) -> D
+        ensures { result ≡ self.volume.device }
+    {
+        let Store { volume, .. } = self;
+        volume.into_disk()
+    }
+
+    /// Opens an operation of a process in the log, and begins its task. The number of its group.
+    pub fn begin(&mut self, pid: u32, op: &Op) -> u64
+        requires fault { self.old.volume.fault ≡ None }
+        requires pid { pid < length self.old.tasks }
+        requires idle { (task self.old.tasks pid).place ≡ place.Nowhere }
+        requires none { used_by self.old.volume.log pid ≡ None }
+        requires op { CanBegin op.now }
+        requires free { begin_cause self.old.volume.log ≡ None }
+        requires opened { self.old.volume.log.opened + 1 < 2 ^ 64 }
+        ensures group { result ≡ (begun self.old.volume.log pid).opened }
+        ensures store { self.new ≡ with_begun self.old pid op.now }
+        ensures files { KeepsFiles D.image self.old self.new }
+    {
+        self.volume.known();
+        let place = first_place(op, self.inode_count);
+        self.tasks.begin(pid, op, place);
+        open_group(&mut self.volume, pid)
+    }
+
+    /// Ends the operation that a process has open in the log, whose task is over.
+    pub fn end(&mut self, pid: u32) -> Ended
+        requires fault { self.old.volume.fault ≡ None }
+        requires pid { pid < length self.old.tasks }
+        requires idle { (task self.old.tasks pid).place ≡ place.Nowhere }
+        requires open { IsSome (used_by self.old.volume.log pid) }
+        ensures answer { result ≡ end_answer self.old.volume.log }
+        ensures store { self.new ≡ with_log self.old (ended self.old.volume.log pid) }
+        ensures files { KeepsFiles D.image self.old self.new }
+    {
+        self.volume.end(pid)
+    }
+
+    /// The next step of a process's task.
+    pub fn step(&mut self, pid: u32, op: &Op) -> TaskProgress
+        requires fault { self.old.volume.fault ≡ None }
+        requires pid { pid < length self.old.tasks }
+        requires op { (task self.old.tasks pid).op ≡ Some op.now }
+        ensures step { Steps D.Disk self.old pid op.now result self.new }
+    {
+        let _ = op;
+        match self.tasks.place(pid) {
+            Place::Nowhere => TaskProgress::Over,
+            Place::Creating(search) => self.search(pid, search),
+        }
+    }
+
+    // The next step of a creation's search.
+    fn search(&mut self, pid: u32, mut search: Ialloc) -> TaskProgress
+        requires fault { self.old.volume.fault ≡ None }
+        requires pid { pid < length self.old.tasks }
+        requires at { (task self.old.tasks pid).place ≡ place.Creating search }
+        ensures step { (op : Op) → (task self.old.tasks pid).op ≡ Some op → Steps D.Disk self.old pid op result self.new }
+    {
+        self.volume.known();
+        self.volume.image_known();
+        match search.step(&mut self.volume, pid) {
+            Progress::Moved => {
+                self.tasks.go(pid, Place::Creating(search));
+                TaskProgress::Moved
+            }
+            Progress::Sleeping(why) => TaskProgress::Sleeping(why),
+            Progress::Over(made) => {
+                self.tasks.go(pid, Place::Nowhere);
+                TaskProgress::Turned(Some(reply_of(made)))
+            }
+            Progress::Fault(fault) => TaskProgress::Fault(fault),
+        }
+    }
+
+    /// The next write of the commit that is under way.
+    pub fn commit_step(&mut self) -> Committed
+        requires fault { self.old.volume.fault ≡ None }
+        requires busy { is_quiet self.old.volume.log.commit ≡ false }
+        ensures commits { Commits D.Disk self.old result self.new }
+    {
+        self.volume.commit_step()
+    }
+}
+
+// Where the task of an operation begins.
+fn first_place(op: &Op, inode_count: u32) -> Place
+    ensures { result ≡ first_place op.now inode_count }
+{
+    match op {
+        Op::Create(kind) => Place::Creating(Ialloc::new(*kind, inode_count)),
+        Op::Write(..) | Op::Read(..) | Op::Trunc(_) | Op::Remove(_) | Op::Stat(_) => Place::Nowhere,
+    }
+}
+
+// What a creation answers whose search came to this.
+fn reply_of(made: Option<u32>) -> Reply
+    ensures { result ≡ reply_of made }
+{
+    match made {
+        Some(i) => Reply::Made(i),
+        None => Reply::NoInode,
+    }
+}
+
+// Opens an operation of a process, which need not wait. Its group.
+fn open_group<D: Disk>(volume: &mut Volume<D>, pid: u32) -> u64
+    requires fault { volume.old.fault ≡ None }
+    requires pid { pid < 32 }
+    requires none { used_by volume.old.log pid ≡ None }
+    requires opened { volume.old.log.opened + 1 < 2 ^ 64 }
+    requires free { begin_cause volume.old.log ≡ None }
+    ensures group { result ≡ (begun volume.old.log pid).opened }
+    ensures volume { volume.new ≡ record volume.old { log = begun volume.old.log pid } }
+{
+    match volume.begin(pid) {
+        Began::Began(group) => group,
+        Began::Sleeping(_) => unreachable!(),
+    }
+}

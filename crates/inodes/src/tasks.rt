@@ -1,0 +1,104 @@
+// What the processes' operations do next.
+ghost use Rattle.std.specs.Prelude.{◌≡◌, ◌<◌, length, replicate, slice_set, Some, IfOk};
+ghost use Rattle.inodes.specs.Tasks.{no_task, task};
+
+use crate::Ialloc;
+use blocks::NoMemory;
+use model::types::Op;
+use std::alloc::Global;
+use std::marker::Model;
+use std::snapshot::Snapshot;
+
+/// Where a process's task stands.
+#[derive(Clone, Copy, Debug, PartialEq, Eq)]
+pub enum Place {
+    /// It has none, or it is over.
+    Nowhere,
+    /// A creation looks for a free number.
+    Creating(Ialloc),
+}
+
+// The task of a process. It remembers its operation, without taking bytes for it.
+#[derive(Drop)]
+struct Task {
+    op: Option<Snapshot<Op>>,
+    place: Place,
+}
+
+impl Model for Task {
+    ghost use Rattle.std.specs.Option.{option_map};
+    ghost use Rattle.inodes.specs.Tasks.{TaskState};
+
+    ghost Value = { TaskState };
+
+    ghost view = { λ t. record { op = option_map (λ s. s.value) t.op; place = t.place } };
+}
+
+/// The tasks of some processes, which are numbered from 0. Contracts see their list.
+#[derive(Drop)]
+pub struct Tasks {
+    tasks: Vec<Task>,
+}
+
+impl Model for Tasks {
+    ghost use Rattle.std.specs.Prelude.{List};
+    ghost use Rattle.inodes.specs.Tasks.{TaskState};
+
+    ghost Value = { List TaskState };
+
+    ghost view = { λ t. t.tasks.items };
+}
+
+impl Tasks {
+    /// Processes that have none.
+    ///
+    /// # Errors
+    ///
+    /// `NoMemory` where the allocator refuses their places.
+    pub fn new(alloc: Global, processes: u32) -> Result<Tasks, NoMemory>
+        ensures { IfOk result (λ tasks. tasks ≡ replicate processes no_task) }
+    {
+        let mut tasks = Vec::new(alloc);
+        for _process in 0..processes {
+            tasks.push(Task {
+                op: None,
+                place: Place::Nowhere,
+            })?;
+        }
+        Ok(Tasks { tasks })
+    }
+
+    /// How many processes there are.
+    pub fn len(&self) -> usize
+        ensures { result ≡ length self.now }
+    {
+        self.tasks.len()
+    }
+
+    /// Where a process's task stands.
+    pub fn place(&self, pid: u32) -> Place
+        requires { pid < length self.now }
+        ensures { result ≡ (task self.now pid).place }
+    {
+        self.tasks[pid as usize].place
+    }
+
+    /// A process begins the task of this operation, at that place.
+    pub fn begin(&mut self, pid: u32, op: &Op, place: Place)
+        requires { pid < length self.old }
+        ensures { self.new ≡ slice_set self.old pid (record { op = Some op.now; place = place }) }
+    {
+        self.tasks[pid as usize] = Task {
+            op: Some(Snapshot::of(op)),
+            place,
+        };
+    }
+
+    /// Its task goes on to that place.
+    pub fn go(&mut self, pid: u32, place: Place)
+        requires { pid < length self.old }
+        ensures { self.new ≡ slice_set self.old pid (record (task self.old pid) { place = place }) }
+    {
+        self.tasks[pid as usize].place = place;
+    }
+}

@@ -1,0 +1,4 @@
+pub mod Loose
+pub mod Claims
+pub mod Laws
+pub mod Lemmas

@@ -1,0 +1,22 @@
+//! Images between the steps of an operation, and the files that they stand for.
+//!
+//! An operation changes an image in several steps: a block is marked in the bitmap in one of them
+//! and named by its inode in a later one, and steps of other processes lie between. So the image
+//! need not be sound there. It is loose: the bitmap has the blocks before the data and those of a
+//! list, the owned ones, which are data blocks and stand in the list once each, and no other block
+//! is marked. A number that no operation holds is at rest: its file is the one that its inode has
+//! in the image, and a used inode has a type and a size that there are, and each block that the
+//! size needs.
+//!
+//! So far there are creations alone, which own no block and write an inode whole in one step. Each
+//! number is at rest, the owned blocks are those that the inodes name, and the image stands for the
+//! files of its numbers (`Fits`).
+//!
+//! The laws say that a sound image stands for its own files; that an image which stands for files
+//! is sound, with them as its files, once its log is empty; that the log's blocks have no part in
+//! it; and that the claim of a free number makes an image that stands for the files after that
+//! creation. What a claim does to the bytes of an image is said of any, sound or not. These laws
+//! and the lemmas of `specs/Lemmas` are for the layers that keep an image through such steps.
+#![tactic(auto)]
+
+pub mod laws;
