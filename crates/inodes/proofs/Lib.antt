@@ -1,4 +1,3 @@
-pub mod Creations
 pub mod LookLemmas
 mod Agreeing
 mod Searching

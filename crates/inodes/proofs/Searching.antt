@@ -12,10 +12,10 @@ use Rattle.wal.specs.Held.{HasLock, LeavesLocks, GetsLock, GivesUpLock}
 use Rattle.wal.specs.Joint.{Joint, seen}
 use Rattle.wal.specs.Machine.{LogState, used_by}
 use Rattle.wal.specs.Lemmas.Held.{held_is}
-use Rattle.inodes.specs.declared.ialloc.Ialloc.{Ialloc}
+use Rattle.inodes.specs.Ialloc.{SearchState}
 use Rattle.inodes.specs.declared.tasks.Place.{Place}
 use Rattle.inodes.specs.declared.tasks.Place.TheVariants as place
-use Rattle.inodes.specs.Ialloc.{IsReady, at_slot, at_next_block, is_last_block}
+use Rattle.inodes.specs.Ialloc.{IsReady, HoldsCurrent, at_slot, at_next_block, is_last_block}
 use Rattle.inodes.specs.Tasks.{TaskState, task}
 use Rattle.inodes.specs.Store.{IsSearching, HoldsAt, Stands, Agrees, slot_at}
 use Rattle.inodes.proofs.Agreeing.{StaysForOthers, TaskIsNow}
@@ -28,7 +28,7 @@ gives_up_then c d e p i first second = record {
   free = second.free;
 }
 
-module _ (c d : Buffers) (l : LogState) (n p : ℕ) (ts : List TaskState) (m : Ialloc) (agrees : Agrees c l n ts) (inside : p < length ts) (stood : (task ts p).place ≡ place.Creating m) where
+module _ (c d : Buffers) (l : LogState) (n p : ℕ) (ts : List TaskState) (m : SearchState) (agrees : Agrees c l n ts) (inside : p < length ts) (stood : (task ts p).place ≡ place.Creating m) where
   pub search : IsSearching c l n p (task ts p).op m
   search = subst (λ (a : Place). Stands c l n p (task ts p).op a) stood (agrees.stands p)
 
@@ -91,12 +91,12 @@ module _ (c d : Buffers) (l : LogState) (n p : ℕ) (ts : List TaskState) (m : I
       locks = λ b j has. nothing b j has;
     }
 
-slot_holds : (x : Image) (c : Buffers) (l : LogState) (p b : ℕ) (o : Option ℕ) → Joint x c l → HoldsAt c p b o → Rattle.inodes.specs.Ialloc.HoldsAt (seen x c) c p b o
+slot_holds : (x : Image) (c : Buffers) (l : LogState) (p b : ℕ) (o : Option ℕ) → Joint x c l → HoldsAt c p b o → HoldsCurrent (seen x c) c p b o
 slot_holds x c l p b None joint has = tt
 slot_holds x c l p b (Some i) joint has = held_is p b i joint has
 
 -- the search may make its next step
-pub ready_of : (x : Image) (c : Buffers) (l : LogState) (n p : ℕ) (ts : List TaskState) (m : Ialloc) → Agrees c l n ts → p < length ts → (task ts p).place ≡ place.Creating m → Joint x c l
+pub ready_of : (x : Image) (c : Buffers) (l : LogState) (n p : ℕ) (ts : List TaskState) (m : SearchState) → Agrees c l n ts → p < length ts → (task ts p).place ≡ place.Creating m → Joint x c l
     → IsLawfulGeometry (seen x c) → n ≡ inode_count_of (seen x c) → IsReady (seen x c) c l.size p m
 ready_of x c l n p ts m agrees inside stood joint geometry numbers =
     let s = search c c l n p ts m agrees inside stood in
@@ -113,6 +113,7 @@ ready_of x c l n p ts m agrees inside stood joint geometry numbers =
       last = let low = s.last in omega (arith, low, same);
       some = omega (arith, some, numbers, s.count);
       few = omega (arith, few, numbers, s.count);
+      count = s.count ∙ numbers;
       within = omega (arith, room, size, some, numbers, s.count, long, joint.size);
       holds = slot_holds x c l p m.block m.slot joint s.holds;
     }

@@ -3,6 +3,7 @@ use Rattle.std.proofs.Common.{◌≡◌, ◌≢◌, ℕ, zero, suc, ◌<◌, ◌
 use Rattle.std.specs.Prelude.{IsTrue, IfNone}
 use Rattle.std.proofs.lemmas.Bool.{cases_eq, leb-true}
 use Rattle.blocks.specs.Disk.{Image, IsImage, block_at}
+use Rattle.blocks.specs.declared.disk.Disk.{Ghosts}
 use Rattle.blocks.specs.declared.errors.DiskFault.{DiskFault}
 use Rattle.model.specs.declared.types.operations.Op.{Op}
 use Rattle.model.specs.declared.types.operations.Op.TheVariants.{Create, Write, Read, Trunc, Remove, Stat}
@@ -27,7 +28,7 @@ use Rattle.wal.specs.Step.{Stepped, Faulted, CommitsTo}
 use Rattle.wal.specs.Volume.{VolumeState}
 use Rattle.wal.specs.Lemmas.Held.{none_locked}
 use Rattle.wal.specs.Lemmas.Rooms.{used_begun, used_noted, used_ended, used_first}
-use Rattle.inodes.specs.declared.ialloc.Ialloc.{Ialloc}
+use Rattle.inodes.specs.Ialloc.{SearchState}
 use Rattle.inodes.specs.declared.progress.Progress.{Progress}
 use Rattle.inodes.specs.declared.progress.Progress.TheVariants as search
 use Rattle.inodes.specs.declared.tasks.Place.{Place}
@@ -51,27 +52,27 @@ pub count_kept : (x y : Image) → block_at y 1 ≡ block_at x 1 → inode_count
 count_kept x y same = ap (λ (b : List ℕ). (super_in b).ninodes) same
 
 -- the tasks agree with buffers and log after a step of a search that met no fault
-pub agrees_then : {D : Type 0} (cur : Image) (v u : VolumeState D) (n p : ℕ) (ts : List TaskState) (m new : Ialloc) (r : Progress (Option ℕ)) → Agrees v.buffers v.log n ts → p < length ts → (task ts p).place ≡ place.Creating m
-    → SearchSteps m.slot cur v u p m new r → fault_in r ≡ None → Agrees u.buffers u.log n (tasks_then ts p new r)
-agrees_then {D} cur v u n p ts m new r agrees lt stood steps well = by_answer r steps.goes steps.locks steps.log steps.asleep well
+pub agrees_then : {D N : Type 0} (disk : Ghosts D N) (v u : VolumeState D) (n p : ℕ) (ts : List TaskState) (m new : SearchState) (r : Progress (Option ℕ)) → Agrees v.buffers v.log n ts → p < length ts → (task ts p).place ≡ place.Creating m
+    → SearchSteps disk m.slot v u p m new r → fault_in r ≡ None → Agrees u.buffers u.log n (tasks_then ts p new r)
+agrees_then {D} disk v u n p ts m new r agrees lt stood steps well = by_answer r steps.goes steps.locks steps.log steps.asleep well
   where
-    got : (o : Option ℕ) → m.slot ≡ o → SearchGoes o cur m search.Moved new → SearchLocks o search.Moved v.buffers u.buffers p m.block new.slot → u.log ≡ v.log → Agrees u.buffers u.log n (tasks_then ts p new search.Moved)
+    got : (o : Option ℕ) → m.slot ≡ o → SearchGoes o (current_of disk.image v) m search.Moved new → SearchLocks o search.Moved v.buffers u.buffers p m.block new.slot → u.log ≡ v.log → Agrees u.buffers u.log n (tasks_then ts p new search.Moved)
     got None none goes locks log =
-        let here : goes.0 ≡ locks.0 = let same : Some goes.0 ≡ Some locks.0 = sym (ap (λ (k : Ialloc). k.slot) goes.1) ∙ locks.1 in cc same in
+        let here : goes.0 ≡ locks.0 = let same : Some goes.0 ≡ Some locks.0 = sym (ap (λ (k : SearchState). k.slot) goes.1) ∙ locks.1 in cc same in
         let is : new ≡ at_slot m locks.0 = goes.1 ∙ ap (at_slot m) here in
         subst (λ (l : LogState). Agrees u.buffers l n (tasks_then ts p new search.Moved)) (sym log)
-        (subst (λ (k : Ialloc). Agrees u.buffers v.log n (tasks_then ts p k search.Moved)) (sym is)
+        (subst (λ (k : SearchState). Agrees u.buffers v.log n (tasks_then ts p k search.Moved)) (sym is)
         (agrees_now v.buffers u.buffers v.log v.log n p ts (record (task ts p) { place = place.Creating (at_slot m locks.0) }) (task_got v.buffers u.buffers v.log n p ts m agrees lt stood locks.0 none locks.2)))
     got (Some i) slot goes gives log =
         subst (λ (l : LogState). Agrees u.buffers l n (tasks_then ts p new search.Moved)) (sym log)
-        (subst (λ (k : Ialloc). Agrees u.buffers v.log n (tasks_then ts p k search.Moved)) (sym goes.0)
+        (subst (λ (k : SearchState). Agrees u.buffers v.log n (tasks_then ts p k search.Moved)) (sym goes.0)
         (agrees_now v.buffers u.buffers v.log v.log n p ts (record (task ts p) { place = place.Creating (at_next_block m) }) (task_next v.buffers u.buffers v.log n p ts m agrees lt stood i slot gives goes.1)))
 
     over : (made : Option ℕ) (o : Option ℕ) → m.slot ≡ o → SearchLocks o (search.Over made) v.buffers u.buffers p m.block new.slot → ((q : ℕ) → q ≢ p → used_by u.log q ≡ used_by v.log q) → Agrees u.buffers u.log n (tasks_then ts p new (search.Over made))
     over made None none locks used = absurd locks
     over made (Some i) slot gives used = agrees_now v.buffers u.buffers v.log u.log n p ts (record (task ts p) { place = place.Nowhere }) (task_over v.buffers u.buffers v.log n p ts m agrees lt stood i slot gives u.log used)
 
-    by_answer : (r : Progress (Option ℕ)) → SearchGoes m.slot cur m r new → SearchLocks m.slot r v.buffers u.buffers p m.block new.slot → u.log ≡ log_after v.log p m.block r
+    by_answer : (r : Progress (Option ℕ)) → SearchGoes m.slot (current_of disk.image v) m r new → SearchLocks m.slot r v.buffers u.buffers p m.block new.slot → u.log ≡ log_after v.log p m.block r
         → ((cause : Why) → r ≡ search.Sleeping cause → u ≡ v) → fault_in r ≡ None → Agrees u.buffers u.log n (tasks_then ts p new r)
     by_answer search.Moved goes locks log asleep well = got m.slot refl goes locks log
     by_answer (search.Sleeping cause) goes locks log asleep well = subst (λ (w : VolumeState D). Agrees w.buffers w.log n ts) (sym (asleep cause refl)) agrees
@@ -141,7 +142,7 @@ agrees_opened l n k = record {
     none (suc k) (suc p) = none k p
 
 -- a step of a search keeps the geometry
-geometry_then : (cur now : Image) (m : Ialloc) (r : Progress (Option ℕ)) (new : Ialloc) (o : Option ℕ) → IsLawfulGeometry cur → IsImage cur → m.inode_count ≡ inode_count_of cur → m.kind ≤ 3 → SearchGoes o cur m r new
+geometry_then : (cur now : Image) (m : SearchState) (r : Progress (Option ℕ)) (new : SearchState) (o : Option ℕ) → IsLawfulGeometry cur → IsImage cur → m.inode_count ≡ inode_count_of cur → m.kind ≤ 3 → SearchGoes o cur m r new
     → now ≡ current_after cur m r → IsLawfulGeometry now × (inode_count_of now ≡ inode_count_of cur)
 geometry_then cur now m r new o g full count few goes current = by_answer r o goes current
   where
@@ -164,15 +165,14 @@ geometry_then cur now m r new o g full count few goes current = by_answer r o go
     by_answer (search.Fault fault) o goes is = same is
 
 -- and all that is true of every store
-pub store_searched : {D : Type 0} (image : D → Image) (s : StoreState D) (u : VolumeState D) (p : ℕ) (m new : Ialloc) (r : Progress (Option ℕ)) → IsStore image s → s.volume.fault ≡ None → IsImage (current_of image s.volume)
-    → p < length s.tasks → (task s.tasks p).place ≡ place.Creating m → SearchSteps m.slot (current_of image s.volume) s.volume u p m new r → current_of image u ≡ current_after (current_of image s.volume) m r → u.fault ≡ fault_in r
-    → IsStore image (store_then s u p new r)
-store_searched image s u p m new r is well full lt stood steps current fault =
-    let cur = current_of image s.volume in
+pub store_searched : {D N : Type 0} (disk : Ghosts D N) (s : StoreState D) (u : VolumeState D) (p : ℕ) (m new : SearchState) (r : Progress (Option ℕ)) → IsStore disk.image s → s.volume.fault ≡ None → IsImage (current_of disk.image s.volume)
+    → p < length s.tasks → (task s.tasks p).place ≡ place.Creating m → SearchSteps disk m.slot s.volume u p m new r → IsStore disk.image (store_then s u p new r)
+store_searched disk s u p m new r is well full lt stood steps =
+    let cur = current_of disk.image s.volume in
     let agrees = where_none s.volume.fault well is.agrees in
     let mine = searching s.volume.buffers s.volume.buffers s.volume.log s.inode_count p s.tasks m agrees lt stood in
     let few = leb-true m.kind 3 (both_of (leb 1 m.kind) (leb m.kind 3) mine.kind).1 in
-    let kept = geometry_then cur (current_of image u) m r new m.slot is.geometry full (mine.count ∙ is.numbers) few steps.goes current in
+    let kept = geometry_then cur (current_of disk.image u) m r new m.slot is.geometry full (mine.count ∙ is.numbers) few steps.goes steps.current in
     record {
       few = let size = many_then s.tasks p new r in omega (arith, size, is.few);
       geometry = kept.0;
@@ -181,5 +181,5 @@ store_searched image s u p m new r is well full lt stood steps current fault =
     }
   where
     by_fault : (o : Option DiskFault) → fault_in r ≡ o → IfNone u.fault (Agrees u.buffers u.log s.inode_count (tasks_then s.tasks p new r))
-    by_fault None e = if_none u.fault (agrees_then (current_of image s.volume) s.volume u s.inode_count p s.tasks m new r (where_none s.volume.fault well is.agrees) lt stood steps e)
-    by_fault (Some f) e = if_some (Agrees u.buffers u.log s.inode_count (tasks_then s.tasks p new r)) u.fault f (fault ∙ e)
+    by_fault None e = if_none u.fault (agrees_then disk s.volume u s.inode_count p s.tasks m new r (where_none s.volume.fault well is.agrees) lt stood steps e)
+    by_fault (Some f) e = if_some (Agrees u.buffers u.log s.inode_count (tasks_then s.tasks p new r)) u.fault f (steps.fault ∙ e)

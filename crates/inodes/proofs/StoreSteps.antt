@@ -3,8 +3,7 @@ use Rattle.std.proofs.Common.{◌≡◌, ◌≢◌, ℕ, ◌+◌, ◌-◌, ◌*�
 use Rattle.std.specs.Prelude.{IsTrue, is_some}
 use Rattle.std.proofs.lemmas.Bool.{eqb-true, eqb-false, eq-eqb, leb-true, ltb-true, cases_eq, false≢true}
 use Rattle.std.proofs.lemmas.List.{get_or-set_same, get_or-set_other}
-use Rattle.blocks.specs.Calls.{OnlyReads}
-use Rattle.blocks.specs.Disk.{Image, IsImage}
+use Rattle.blocks.specs.Disk.{Image, IsImage, block_at}
 use Rattle.blocks.specs.declared.disk.Disk.{Ghosts}
 use Rattle.blocks.specs.declared.errors.DiskFault.{DiskFault}
 use Rattle.bcache.specs.Buffers.{Buffers}
@@ -27,20 +26,22 @@ use Rattle.model.specs.Soundness.{IsLawfulGeometry}
 use Rattle.loose.specs.Claims.{HasClaimed, with_new_file}
 use Rattle.loose.specs.Loose.{Fits}
 use Rattle.loose.specs.Lemmas.Claims.{claims, fits_claimed}
-use Rattle.wal.specs.Machine.{LogState, used_by, is_among, noted, appended, one_used}
+use Rattle.wal.specs.Machine.{LogState, SameGroups, used_by, is_among, noted, appended, one_used}
 use Rattle.wal.specs.Volume.{VolumeState, faults_after}
-use Rattle.inodes.specs.declared.ialloc.Ialloc.{Ialloc}
+use Rattle.inodes.specs.Ialloc.{SearchState}
 use Rattle.inodes.specs.declared.progress.Progress.{Progress}
 use Rattle.inodes.specs.declared.progress.Progress.TheVariants as search
-use Rattle.inodes.specs.declared.progress.TaskProgress.{TaskProgress}
-use Rattle.inodes.specs.declared.progress.TaskProgress.TheVariants as progress
+use Rattle.model.specs.declared.types.operations.TaskProgress.{TaskProgress}
+use Rattle.model.specs.declared.types.operations.TaskProgress.TheVariants as progress
 use Rattle.inodes.specs.declared.tasks.Place.{Place}
 use Rattle.inodes.specs.declared.tasks.Place.TheVariants as place
-use Rattle.inodes.specs.Ialloc.{SearchSteps, SearchGoes, SearchLocks, IsFree, current_after, log_after, fault_in}
+use Rattle.inodes.specs.Creation.{lowest_free}
+use Rattle.inodes.specs.Ialloc.{Gets, Looks, Allocates, SearchSteps, SearchGoes, SearchLocks, IsFree, is_last_block, current_after, log_after, fault_in}
 use Rattle.inodes.specs.Tasks.{TaskState, task, no_task}
 use Rattle.inodes.specs.Store.{StoreState, FitsFiles, Agrees, IsSearching, current_of, slot_at, reply_of}
 use Rattle.inodes.proofs.Searching.{search as searching}
-use Rattle.inodes.specs.Steps.{Steps, FilesThen, Answers, Goes, GoesFrom, reply_at_turn, fault_of_task, Marks, SameGroups, IsHeldByAnother, steps_left, looks_left, block_at_place}
+use Rattle.model.specs.Tasks.{FilesThen, Answers, reply_at_turn, fault_of_task, Marks}
+use Rattle.inodes.specs.Steps.{Steps, Shown, shown_of, FindsNone, GetsBlock, LooksAtBlock, Goes, GoesFrom, IsHeldByAnother, steps_left, looks_left, block_at_place}
 
 -- what a store answers for what its search came to
 abbrev pub answer_of : Progress (Option ℕ) → TaskProgress
@@ -50,42 +51,92 @@ answer_of (search.Over made) = progress.Turned (Some (reply_of made))
 answer_of (search.Fault fault) = progress.Fault fault
 
 -- where the task stands then
-abbrev pub place_then : Progress (Option ℕ) → Ialloc → Ialloc → Place
+abbrev pub place_then : Progress (Option ℕ) → SearchState → SearchState → Place
 place_then search.Moved m new = place.Creating new
 place_then (search.Sleeping cause) m new = place.Creating m
 place_then (search.Over made) m new = place.Nowhere
 place_then (search.Fault fault) m new = place.Creating m
 
+-- a look that claims a number found it
+found_by : {D : Type 0} (o : Option ℕ) (last : Bool) (m new : SearchState) (v u : VolumeState D) (p s i : ℕ) → Looks o last m v p s (search.Over (Some i)) new u → o ≡ Some i
+found_by (Some j) last m new v u p s i looks = let same : search.Over (Some i) ≡ search.Over (Some j) = looks.0 in let is : i ≡ j = cc same in ap Some (sym is)
+found_by None true m new v u p s i looks = absurd (cc looks.0)
+found_by None false m new v u p s i looks = absurd (cc looks.0)
+
+-- one that claims none found none
+none_by : {D : Type 0} (o : Option ℕ) (last : Bool) (m new : SearchState) (v u : VolumeState D) (p s : ℕ) → Looks o last m v p s (search.Over None) new u → o ≡ None
+none_by (Some j) last m new v u p s looks = absurd (cc looks.0)
+none_by None last m new v u p s looks = refl
+
+-- and so did one that goes on
+none_moved : {D : Type 0} (o : Option ℕ) (last : Bool) (m new : SearchState) (v u : VolumeState D) (p s : ℕ) → Looks o last m v p s search.Moved new u → o ≡ None
+none_moved (Some j) last m new v u p s looks = absurd (cc looks.0)
+none_moved None last m new v u p s looks = refl
+
 -- where a search goes, its task goes
-goes_from : (o : Option ℕ) (r : Progress (Option ℕ)) (n : ℕ) (m new : Ialloc) (before now : Image) → m.inode_count ≡ n → n ≡ inode_count_of before → now ≡ current_after before m r
-    → ((i : ℕ) → r ≡ search.Over (Some i) → IsFree before m i → inode_of now i ≡ new_inode m.kind)
-    → SearchGoes o before m r new → GoesFrom o n m (answer_of r) (place_then r m new) before now
-goes_from None search.Moved n m new before now count same current made g = (g.0, ap place.Creating g.1)
-goes_from None (search.Sleeping cause) n m new before now count same current made g = refl
-goes_from None (search.Over out) n m new before now count same current made g = absurd g
-goes_from None (search.Fault fault) n m new before now count same current made g = (refl, g.1)
-goes_from (Some s) search.Moved n m new before now count same current made g = (ap place.Creating g.0, subst (λ (y : Image). HasNoFreeInode y m.block) (sym current) (g.2 (count ∙ same)))
-goes_from (Some s) (search.Sleeping cause) n m new before now count same current made g = absurd g
-goes_from (Some s) (search.Over None) n m new before now count same current made g =
-    (refl, (eqb-true m.block (inode_block (m.inode_count - 1)) g.0 ∙ ap (λ (k : ℕ). inode_block (k - 1)) count, subst (λ (y : Image). HasNoFreeInode y m.block) (sym current) (g.1 (count ∙ same))))
-goes_from (Some s) (search.Over (Some i)) n m new before now count same current made g = (refl, (g.place, g.free, made i refl g))
-goes_from (Some s) (search.Fault fault) n m new before now count same current made g = absurd g
+module _ {D : Type 0} (image : D → Image) (v u : VolumeState D) (p n : ℕ) (m new : SearchState) (now : Shown) (count : m.inode_count ≡ n) where
+  abbrev before : Shown
+  before = shown_of image v
+
+  -- what it shows then
+  abbrev Shows : Progress (Option ℕ) → Type 0
+  Shows r = now ≡ record { current = current_after before.current m r; log = log_after before.log p m.block r }
+
+  -- the inode of a number that was claimed
+  abbrev Inode : Progress (Option ℕ) → Type 0
+  Inode r = (i : ℕ) → r ≡ search.Over (Some i) → IsFree before.current m i → inode_of now.current i ≡ new_inode m.kind
+
+  finds_none : now ≡ before → HasNoFreeInode before.current m.block → lowest_free (block_at before.current m.block) m.inode_count m.block ≡ None → FindsNone n m before now
+  finds_none shows taken none = record {
+    none = subst (λ (k : ℕ). lowest_free (block_at before.current m.block) k m.block ≡ None) count none;
+    full = subst (λ (w : Shown). HasNoFreeInode w.current m.block) (sym shows) taken;
+    shown = shows;
+  }
+
+  gets_block : (r : Progress (Option ℕ)) → Shows r → Gets (image v.device) before.current m v p r new u → SearchGoes None before.current m r new → GetsBlock v.buffers m (answer_of r) (place_then r m new) × (now ≡ before)
+  gets_block search.Moved shows gets g = ((gets.0, gets.1, ap place.Creating gets.2), shows)
+  gets_block (search.Sleeping cause) shows gets g = ((gets.0, refl), shows)
+  gets_block (search.Over out) shows gets g = absurd g
+  gets_block (search.Fault fault) shows gets g = ((g.1, refl), shows)
+
+  looks_at : (s : ℕ) (last : Bool) (r : Progress (Option ℕ)) → Shows r → Inode r → Looks (lowest_free (block_at before.current m.block) m.inode_count m.block) last m v p s r new u
+      → SearchGoes (Some s) before.current m r new → LooksAtBlock n p m (answer_of r) (place_then r m new) before now
+  looks_at s last search.Moved shows made looks g = (ap place.Creating g.0, finds_none shows g.2 (none_moved _ last m new v u p s looks))
+  looks_at s last (search.Sleeping cause) shows made looks g = absurd g
+  looks_at s last (search.Over None) shows made looks g =
+      (refl, (eqb-true m.block (inode_block (m.inode_count - 1)) g.0 ∙ ap (λ (k : ℕ). inode_block (k - 1)) count, finds_none shows g.1 (none_by _ last m new v u p s looks)))
+  looks_at s last (search.Over (Some i)) shows made looks g = (
+    refl,
+    record {
+      lowest = subst (λ (k : ℕ). lowest_free (block_at before.current m.block) k m.block ≡ Some i) count (found_by _ last m new v u p s i looks);
+      place = g.place;
+      free = g.free;
+      inode = made i refl g;
+      shown = shows;
+    },
+  )
+  looks_at s last (search.Fault fault) shows made looks g = absurd g
+
+  pub goes_from : (o : Option ℕ) (r : Progress (Option ℕ)) → Shows r → Inode r → Allocates image o m v p r new u → SearchGoes o before.current m r new
+      → GoesFrom o n p m v.buffers (answer_of r) (place_then r m new) before now
+  goes_from None r shows made does g = gets_block r shows does g
+  goes_from (Some s) r shows made does g = looks_at s (is_last_block m) r shows made does g
 
 -- a search that moved has fewer steps left
-fewer : (o : Option ℕ) (n : ℕ) (m new : Ialloc) (cur : Image) → m.slot ≡ o → m.inode_count ≡ n → m.block ≤ inode_block (n - 1) → SearchGoes o cur m search.Moved new → steps_left (place.Creating new) n < steps_left (place.Creating m) n
+fewer : (o : Option ℕ) (n : ℕ) (m new : SearchState) (cur : Image) → m.slot ≡ o → m.inode_count ≡ n → m.block ≤ inode_block (n - 1) → SearchGoes o cur m search.Moved new → steps_left (place.Creating new) n < steps_left (place.Creating m) n
 fewer None n m new cur is count last g =
-    let now : steps_left (place.Creating new) n ≡ 2 * (inode_block (n - 1) - m.block) + 1 = ap (λ (k : Ialloc). steps_left (place.Creating k) n) g.1 in
+    let now : steps_left (place.Creating new) n ≡ 2 * (inode_block (n - 1) - m.block) + 1 = ap (λ (k : SearchState). steps_left (place.Creating k) n) g.1 in
     let before : looks_left m.slot ≡ 2 = ap looks_left is in
     omega (arith, now, before)
 fewer (Some s) n m new cur is count last g =
-    let now : steps_left (place.Creating new) n ≡ 2 * (inode_block (n - 1) - (m.block + 1)) + 2 = ap (λ (k : Ialloc). steps_left (place.Creating k) n) g.0 in
+    let now : steps_left (place.Creating new) n ≡ 2 * (inode_block (n - 1) - (m.block + 1)) + 2 = ap (λ (k : SearchState). steps_left (place.Creating k) n) g.0 in
     let before : looks_left m.slot ≡ 1 = ap looks_left is in
     let other = eqb-false m.block (inode_block (m.inode_count - 1)) g.1 in
     let same : inode_block (m.inode_count - 1) ≡ inode_block (n - 1) = ap (λ (k : ℕ). inode_block (k - 1)) count in
     omega (arith, now, before, other, same, last)
 
 -- who waits for a buffer, waits for another's
-held_by : {D : Type 0} (s : StoreState D) (p : ℕ) (m : Ialloc) (o : Option ℕ) → Agrees s.volume.buffers s.volume.log s.inode_count s.tasks → (task s.tasks p).place ≡ place.Creating m → m.slot ≡ o
+held_by : {D : Type 0} (s : StoreState D) (p : ℕ) (m : SearchState) (o : Option ℕ) → Agrees s.volume.buffers s.volume.log s.inode_count s.tasks → (task s.tasks p).place ≡ place.Creating m → m.slot ≡ o
     → (d : Buffers) (slot : Option ℕ) → SearchLocks o (search.Sleeping why.BufferHeld) s.volume.buffers d p m.block slot → IsHeldByAnother s p m.block
 held_by s p m None agrees stood none d slot waits = record {
   other = waits.0;
@@ -154,7 +205,7 @@ groups_after l p b (search.Over (Some i)) lt = groups_noted l p b lt
 groups_after l p b (search.Fault fault) lt = groups_same l
 
 -- what a step of the search came to, in a store with these files
-module _ {D : Type 0} (image : D → Image) (s t : StoreState D) (p : ℕ) (m new : Ialloc) (op : Op) (r : Progress (Option ℕ))
+module _ {D : Type 0} (image : D → Image) (s t : StoreState D) (p : ℕ) (m new : SearchState) (op : Op) (r : Progress (Option ℕ))
     (agrees : Agrees s.volume.buffers s.volume.log s.inode_count s.tasks) (numbers : s.inode_count ≡ inode_count_of (current_of image s.volume)) (inside : p < length s.tasks)
     (stood : (task s.tasks p).place ≡ place.Creating m) (is_op : (task s.tasks p).op ≡ Some op)
     (current : current_of image t.volume ≡ current_after (current_of image s.volume) m r) where
@@ -200,8 +251,12 @@ module _ {D : Type 0} (image : D → Image) (s t : StoreState D) (p : ℕ) (m ne
     made : (i : ℕ) → r ≡ search.Over (Some i) → IsFree cur m i → inode_of (current_of image t.volume) i ≡ new_inode m.kind
     made i is free = ap (λ (y : Image). inode_of y i) (current ∙ ap (current_after cur m) is) ∙ (claimed i free).own
 
-    pub goes_now : (o : Option ℕ) → SearchGoes o cur m r new → GoesFrom o s.inode_count m (answer_of r) (place_then r m new) cur (current_of image t.volume)
-    goes_now o g = goes_from o r s.inode_count m new cur (current_of image t.volume) mine.count numbers current made g
+    shows : t.volume.log ≡ log_after s.volume.log p m.block r → shown_of image t.volume ≡ record { current = current_after cur m r; log = log_after s.volume.log p m.block r }
+    shows log = ap (λ (y : Image). record { current = y; log = t.volume.log }) current ∙ ap (λ (l : LogState). record { current = current_after cur m r; log = l }) log
+
+    pub goes_now : (o : Option ℕ) → t.volume.log ≡ log_after s.volume.log p m.block r → Allocates image o m s.volume p r new t.volume → SearchGoes o cur m r new
+        → GoesFrom o s.inode_count p m s.volume.buffers (answer_of r) (place_then r m new) (shown_of image s.volume) (shown_of image t.volume)
+    goes_now o log does g = goes_from image s.volume t.volume p s.inode_count m new (shown_of image t.volume) mine.count o r (shows log) made does g
 
     pub marks_now : (o : Option ℕ) → SearchGoes o cur m r new → Marks (reply_at_turn (answer_of r)) cur (current_of image t.volume)
     marks_now o g = by_answer r o g current
@@ -218,29 +273,29 @@ module _ {D : Type 0} (image : D → Image) (s t : StoreState D) (p : ℕ) (m ne
         by_answer (search.Fault fault) o g now = nothing None (λ i e. false≢true e) now
 
 -- the tasks then
-abbrev pub tasks_then : List TaskState → ℕ → Ialloc → Progress (Option ℕ) → List TaskState
+abbrev pub tasks_then : List TaskState → ℕ → SearchState → Progress (Option ℕ) → List TaskState
 tasks_then ts p new search.Moved = set ts p (record (task ts p) { place = place.Creating new })
 tasks_then ts p new (search.Sleeping cause) = ts
 tasks_then ts p new (search.Over made) = set ts p (record (task ts p) { place = place.Nowhere })
 tasks_then ts p new (search.Fault fault) = ts
 
 -- and the store
-abbrev pub store_then : {D : Type 0} → StoreState D → VolumeState D → ℕ → Ialloc → Progress (Option ℕ) → StoreState D
+abbrev pub store_then : {D : Type 0} → StoreState D → VolumeState D → ℕ → SearchState → Progress (Option ℕ) → StoreState D
 store_then s u p new r = record { volume = u; tasks = tasks_then s.tasks p new r; inode_count = s.inode_count }
 
-others_then : (ts : List TaskState) (p : ℕ) (new : Ialloc) (r : Progress (Option ℕ)) (q : ℕ) → q ≢ p → task (tasks_then ts p new r) q ≡ task ts q
+others_then : (ts : List TaskState) (p : ℕ) (new : SearchState) (r : Progress (Option ℕ)) (q : ℕ) → q ≢ p → task (tasks_then ts p new r) q ≡ task ts q
 others_then ts p new search.Moved q apart = get_or-set_other ts p q (record (task ts p) { place = place.Creating new }) no_task apart
 others_then ts p new (search.Sleeping cause) q apart = refl
 others_then ts p new (search.Over made) q apart = get_or-set_other ts p q (record (task ts p) { place = place.Nowhere }) no_task apart
 others_then ts p new (search.Fault fault) q apart = refl
 
-pub many_then : (ts : List TaskState) (p : ℕ) (new : Ialloc) (r : Progress (Option ℕ)) → length (tasks_then ts p new r) ≡ length ts
+pub many_then : (ts : List TaskState) (p : ℕ) (new : SearchState) (r : Progress (Option ℕ)) → length (tasks_then ts p new r) ≡ length ts
 many_then ts p new search.Moved = length-set ts p (record (task ts p) { place = place.Creating new })
 many_then ts p new (search.Sleeping cause) = refl
 many_then ts p new (search.Over made) = length-set ts p (record (task ts p) { place = place.Nowhere })
 many_then ts p new (search.Fault fault) = refl
 
-mine_then : (ts : List TaskState) (p : ℕ) (m new : Ialloc) (r : Progress (Option ℕ)) → p < length ts → (task ts p).place ≡ place.Creating m
+mine_then : (ts : List TaskState) (p : ℕ) (m new : SearchState) (r : Progress (Option ℕ)) → p < length ts → (task ts p).place ≡ place.Creating m
     → ((task (tasks_then ts p new r) p).place ≡ place_then r m new) × ((task (tasks_then ts p new r) p).op ≡ (task ts p).op)
 mine_then ts p m new search.Moved lt stood =
     let is = get_or-set_same ts p (record (task ts p) { place = place.Creating new }) no_task lt in
@@ -257,14 +312,14 @@ fault_then (search.Sleeping cause) = refl
 fault_then (search.Over made) = refl
 fault_then (search.Fault fault) = refl
 
-asleep_then : {D : Type 0} (s : StoreState D) (u : VolumeState D) (p : ℕ) (new : Ialloc) (r : Progress (Option ℕ)) → ((cause : Why) → r ≡ search.Sleeping cause → u ≡ s.volume)
+asleep_then : {D : Type 0} (s : StoreState D) (u : VolumeState D) (p : ℕ) (new : SearchState) (r : Progress (Option ℕ)) → ((cause : Why) → r ≡ search.Sleeping cause → u ≡ s.volume)
     → (cause : Why) → answer_of r ≡ progress.Sleeping cause → store_then s u p new r ≡ s
 asleep_then s u p new search.Moved same cause is = absurd (cc is)
 asleep_then s u p new (search.Sleeping other) same cause is = ap (λ (v : VolumeState _). record s { volume = v }) (same other refl)
 asleep_then s u p new (search.Over made) same cause is = absurd (cc is)
 asleep_then s u p new (search.Fault fault) same cause is = absurd (cc is)
 
-held_then : {D : Type 0} (s : StoreState D) (p : ℕ) (m : Ialloc) (r : Progress (Option ℕ)) → Agrees s.volume.buffers s.volume.log s.inode_count s.tasks → (task s.tasks p).place ≡ place.Creating m
+held_then : {D : Type 0} (s : StoreState D) (p : ℕ) (m : SearchState) (r : Progress (Option ℕ)) → Agrees s.volume.buffers s.volume.log s.inode_count s.tasks → (task s.tasks p).place ≡ place.Creating m
     → (d : Buffers) (slot : Option ℕ) → SearchLocks m.slot r s.volume.buffers d p m.block slot → answer_of r ≡ progress.Sleeping why.BufferHeld → IsHeldByAnother s p m.block
 held_then s p m search.Moved agrees stood d slot locks is = absurd (cc is)
 held_then s p m (search.Sleeping cause) agrees stood d slot locks is =
@@ -273,41 +328,46 @@ held_then s p m (search.Sleeping cause) agrees stood d slot locks is =
 held_then s p m (search.Over made) agrees stood d slot locks is = absurd (cc is)
 held_then s p m (search.Fault fault) agrees stood d slot locks is = absurd (cc is)
 
-falls_then : (n : ℕ) (m new : Ialloc) (cur : Image) (r : Progress (Option ℕ)) → m.inode_count ≡ n → m.block ≤ inode_block (n - 1) → SearchGoes m.slot cur m r new → answer_of r ≡ progress.Moved → steps_left (place_then r m new) n < steps_left (place.Creating m) n
+falls_then : (n : ℕ) (m new : SearchState) (cur : Image) (r : Progress (Option ℕ)) → m.inode_count ≡ n → m.block ≤ inode_block (n - 1) → SearchGoes m.slot cur m r new → answer_of r ≡ progress.Moved → steps_left (place_then r m new) n < steps_left (place.Creating m) n
 falls_then n m new cur search.Moved count last g is = fewer m.slot n m new cur refl count last g
 falls_then n m new cur (search.Sleeping cause) count last g is = absurd (cc is)
 falls_then n m new cur (search.Over made) count last g is = absurd (cc is)
 falls_then n m new cur (search.Fault fault) count last g is = absurd (cc is)
 
 -- THE STEP: what a store promises of a step of its search
-pub search_steps : {D N : Type 0} (disk : Ghosts D N) (s : StoreState D) (u : VolumeState D) (p : ℕ) (m new : Ialloc) (op : Op) (r : Progress (Option ℕ))
+pub search_steps : {D N : Type 0} (disk : Ghosts D N) (s : StoreState D) (u : VolumeState D) (p : ℕ) (m new : SearchState) (op : Op) (r : Progress (Option ℕ))
     → Agrees s.volume.buffers s.volume.log s.inode_count s.tasks → s.inode_count ≡ inode_count_of (current_of disk.image s.volume) → p < length s.tasks
     → (task s.tasks p).place ≡ place.Creating m → (task s.tasks p).op ≡ Some op → IsLawfulGeometry (current_of disk.image s.volume) → IsImage (current_of disk.image s.volume)
-    → p < length s.volume.log.used → SearchSteps m.slot (current_of disk.image s.volume) s.volume u p m new r → current_of disk.image u ≡ current_after (current_of disk.image s.volume) m r
-    → OnlyReads disk s.volume.device u.device → u.fault ≡ fault_in r → disk.fault_count u.device ≡ faults_after (fault_in r) (disk.fault_count s.volume.device)
+    → p < length s.volume.log.used → Allocates disk.image m.slot m s.volume p r new u → SearchSteps disk m.slot s.volume u p m new r
     → Steps disk s p op (answer_of r) (store_then s u p new r)
-search_steps disk s u p m new op r agrees numbers inside stood is_op geometry full pid steps current device fault faults =
+search_steps disk s u p m new op r agrees numbers inside stood is_op geometry full pid does steps =
     let t = store_then s u p new r in
     let cur = current_of disk.image s.volume in
     let mine = searching s.volume.buffers s.volume.buffers s.volume.log s.inode_count p s.tasks m agrees inside stood in
     let now = mine_then s.tasks p m new r inside stood in
     let few = leb-true m.kind 3 (both_of (leb 1 m.kind) (leb m.kind 3) mine.kind).1 in
     record {
-      files = files_then disk.image s t p m new op r agrees numbers inside stood is_op current m.slot steps.goes;
-      goes = subst (λ (a : Place). Goes a s.inode_count (answer_of r) (task t.tasks p).place cur (current_of disk.image u)) (sym stood)
-          (subst (λ (a : Place). GoesFrom m.slot s.inode_count m (answer_of r) a cur (current_of disk.image u)) (sym now.0)
-          (goes_now disk.image s t p m new op r agrees numbers inside stood is_op current geometry full few m.slot steps.goes));
-      op_stays = now.1;
-      others = λ q apart. others_then s.tasks p new r q apart;
-      many = many_then s.tasks p new r;
-      numbers = refl;
+      files = files_then disk.image s t p m new op r agrees numbers inside stood is_op steps.current m.slot steps.goes;
+      goes = subst (λ (a : Place). Goes a s.inode_count p s.volume.buffers (answer_of r) (task t.tasks p).place (shown_of disk.image s.volume) (shown_of disk.image u)) (sym stood)
+          (subst (λ (a : Place). GoesFrom m.slot s.inode_count p m s.volume.buffers (answer_of r) a (shown_of disk.image s.volume) (shown_of disk.image u)) (sym now.0)
+          (goes_now disk.image s t p m new op r agrees numbers inside stood is_op steps.current geometry full few m.slot steps.log does steps.goes));
+      tasks = record {
+        op_stays = now.1;
+        others = λ q apart. others_then s.tasks p new r q apart;
+        many = many_then s.tasks p new r;
+        numbers = refl;
+      };
       groups = subst (λ (l : LogState). SameGroups s.volume.log l) (sym steps.log) (groups_after s.volume.log p m.block r pid);
-      marks = marks_now disk.image s t p m new op r agrees numbers inside stood is_op current geometry full few m.slot steps.goes;
-      sleeping = λ cause is. asleep_then s u p new r steps.asleep cause is;
-      held = λ is. subst (λ (a : Place). IsHeldByAnother s p (block_at_place a)) (sym stood) (held_then s p m r agrees stood u.buffers new.slot steps.locks is);
-      device = device;
-      fault = fault ∙ sym (fault_then r);
-      faults = faults ∙ ap (λ (o : Option DiskFault). faults_after o (disk.fault_count s.volume.device)) (sym (fault_then r));
+      marks = marks_now disk.image s t p m new op r agrees numbers inside stood is_op steps.current geometry full few m.slot steps.goes;
+      waits = record {
+        sleeping = λ cause is. asleep_then s u p new r steps.asleep cause is;
+        held = λ is. subst (λ (a : Place). IsHeldByAnother s p (block_at_place a)) (sym stood) (held_then s p m r agrees stood u.buffers new.slot steps.locks is);
+      };
+      reads = record {
+        device = steps.device;
+        fault = steps.fault ∙ sym (fault_then r);
+        faults = steps.faults ∙ ap (λ (o : Option DiskFault). faults_after o (disk.fault_count s.volume.device)) (sym (fault_then r));
+      };
       falls = λ is. subst (λ (a : Place). steps_left (task t.tasks p).place s.inode_count < steps_left a s.inode_count) (sym stood)
           (subst (λ (a : Place). steps_left a s.inode_count < steps_left (place.Creating m) s.inode_count) (sym now.0) (falls_then s.inode_count m new cur r mine.count mine.last steps.goes is));
     }

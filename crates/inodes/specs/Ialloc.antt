@@ -1,80 +1,105 @@
 -- A step of a creation's search for a free number.
 use Rattle.std.specs.Prelude.{◌≡◌, ◌<◌, ◌≤◌, ℕ, ◌+◌, ◌-◌, ◌*◌, ◌%◌, ◌==◌, Bool, true, false, IsTrue, Option, Some, None}
+use Rattle.blocks.specs.Calls.{OnlyReads}
 use Rattle.blocks.specs.Disk.{Image, block_at}
+use Rattle.blocks.specs.declared.disk.Disk.{Ghosts}
 use Rattle.blocks.specs.declared.errors.DiskFault.{DiskFault}
 use Rattle.model.specs.declared.types.operations.Why.{Why}
 use Rattle.model.specs.Journal.{is_number}
 use Rattle.model.specs.Layout.{inode_block, inode_of, inode_count_of, HasNoFreeInode}
-use Rattle.model.specs.Operations.{is_kind}
-use Rattle.model.specs.Soundness.{IsSound}
 use Rattle.model.specs.Codec.{dinode_bytes, new_inode, with_inode}
 use Rattle.bcache.specs.Buffers.{Buffers, released}
 use Rattle.wal.specs.Held.{GetsLock, GivesUpLock, WaitsFor}
+use Rattle.wal.specs.Joint.{seen}
 use Rattle.wal.specs.Machine.{LogState, noted}
-use Rattle.wal.specs.Volume.{VolumeState, Holds, get_answer, after_get, after_change, FailsToFill}
+use Rattle.wal.specs.Volume.{VolumeState, Holds, get_answer, after_get, after_change, FailsToFill, faults_after}
 use Rattle.wal.specs.declared.types.Get.TheVariants as get
-use Rattle.inodes.specs.declared.ialloc.Ialloc.{Ialloc}
 use Rattle.inodes.specs.declared.progress.Progress.{Progress}
 use Rattle.inodes.specs.declared.progress.Progress.TheVariants as progress
-use Rattle.inodes.specs.Creation.{lowest_free, HasCreated}
+use Rattle.inodes.specs.Creation.{lowest_free}
 
--- the block that is looked at is an inode block, and the process holds it where it was got
-abbrev pub HoldsAt : Image → Buffers → ℕ → ℕ → Option ℕ → Type 0
-HoldsAt cur c pid b None = Unit {0}
-HoldsAt cur c pid b (Some i) = Holds cur c pid b i
+-- Where a creation's search stands.
+pub record SearchState : Type 0 where
+  -- the type of the new file, from 1 to 3
+  pub kind : ℕ
+  -- the inode numbers, the unused number 0 included
+  pub inode_count : ℕ
+  -- the inode block that is looked at, and the slot that holds it, where it was got
+  pub block : ℕ
+  pub slot : Option ℕ
 
-pub record IsReady (cur : Image) (c : Buffers) (size pid : ℕ) (m : Ialloc) : Type 0 where
+-- the process holds a block that the buffers show as it is now, where it was got
+abbrev pub HoldsCurrent : Image → Buffers → ℕ → ℕ → Option ℕ → Type 0
+HoldsCurrent cur c pid b None = Unit {0}
+HoldsCurrent cur c pid b (Some i) = Holds cur c pid b i
+
+-- the search may look at its block, which is an inode block of the image
+pub record IsReady (cur : Image) (c : Buffers) (size pid : ℕ) (m : SearchState) : Type 0 where
   pub kind : m.kind ≤ 3
   pub behind : 33 ≤ m.block
   -- up to that of the last number
   pub last : m.block ≤ inode_block (m.inode_count - 1)
   pub some : 2 ≤ m.inode_count
   pub few : m.inode_count ≤ 1024
+  pub count : m.inode_count ≡ inode_count_of cur
   pub within : inode_block (m.inode_count - 1) < size
-  pub holds : HoldsAt cur c pid m.block m.slot
+  pub holds : HoldsCurrent cur c pid m.block m.slot
+
+-- and so it may make a step over this volume
+abbrev pub MayStep : {D : Type 0} → (D → Image) → VolumeState D → ℕ → SearchState → Type 0
+MayStep image v pid m = IsReady (seen (image v.device) v.buffers) v.buffers v.log.size pid m
 
 -- the block after it holds no number that operations may name
-abbrev pub is_last_block : Ialloc → Bool
+abbrev pub is_last_block : SearchState → Bool
 is_last_block m = m.block == inode_block (m.inode_count - 1)
 
 -- the block was got in that slot
-abbrev pub at_slot : Ialloc → ℕ → Ialloc
+abbrev pub at_slot : SearchState → ℕ → SearchState
 at_slot m i = record m { slot = Some i }
 
-abbrev pub at_next_block : Ialloc → Ialloc
+abbrev pub at_next_block : SearchState → SearchState
 at_next_block m = record m { block = m.block + 1; slot = None }
 
 -- the step that gets the block, over a disk with the image x
-abbrev pub Gets : {D : Type 0} → Image → Image → Ialloc → VolumeState D → ℕ → Progress (Option ℕ) → Ialloc → VolumeState D → Type 0
+abbrev pub Gets : {D : Type 0} → Image → Image → SearchState → VolumeState D → ℕ
+    → Progress (Option ℕ) → SearchState → VolumeState D → Type 0
 Gets x cur m v pid progress.Moved n w =
-    (i : ℕ) × (get_answer v.buffers m.block ≡ get.Got i) × (n ≡ at_slot m i) × (w.buffers ≡ after_get x v.buffers pid m.block) × (w.log ≡ v.log) × Holds cur w.buffers pid m.block i
-Gets x cur m v pid (progress.Sleeping why) n w = (get_answer v.buffers m.block ≡ get.Sleeping why) × (n ≡ m) × (w ≡ v)
+    (i : ℕ) × (get_answer v.buffers m.block ≡ get.Got i) × (n ≡ at_slot m i)
+    × (w.buffers ≡ after_get x v.buffers pid m.block) × (w.log ≡ v.log) × Holds cur w.buffers pid m.block i
+Gets x cur m v pid (progress.Sleeping why) n w =
+    (get_answer v.buffers m.block ≡ get.Sleeping why) × (n ≡ m) × (w ≡ v)
 Gets x cur m v pid (progress.Over out) n w = ⊥
-Gets x cur m v pid (progress.Fault fault) n w = FailsToFill v.buffers w.buffers pid m.block fault × (n ≡ m) × (w.log ≡ v.log)
+Gets x cur m v pid (progress.Fault fault) n w =
+    FailsToFill v.buffers w.buffers pid m.block fault × (n ≡ m) × (w.log ≡ v.log)
 
 abbrev pub with_released : {D : Type 0} → VolumeState D → ℕ → VolumeState D
 with_released v s = record v { buffers = released v.buffers s }
 
 -- a new inode is written, and the block released
 abbrev pub with_new_inode : {D : Type 0} → VolumeState D → ℕ → ℕ → ℕ → ℕ → VolumeState D
-with_new_inode v pid s i kind = with_released (after_change v pid s (i % 16 * 64) (dinode_bytes (new_inode kind))) s
+with_new_inode v pid s i kind =
+    with_released (after_change v pid s (i % 16 * 64) (dinode_bytes (new_inode kind))) s
 
--- the step that looks at the block: it claims the number that is free, or goes on to the next block, if there is one
-abbrev pub Looks : {D : Type 0} → Option ℕ → Bool → Ialloc → VolumeState D → ℕ → ℕ → Progress (Option ℕ) → Ialloc → VolumeState D → Type 0
-Looks (Some i) last m v pid s r n w = (r ≡ progress.Over (Some i)) × (n ≡ m) × (w ≡ with_new_inode v pid s i m.kind)
+-- the step that looks at the block: it claims the number that is free, or goes on to the next block
+abbrev pub Looks : {D : Type 0} → Option ℕ → Bool → SearchState → VolumeState D → ℕ → ℕ
+    → Progress (Option ℕ) → SearchState → VolumeState D → Type 0
+Looks (Some i) last m v pid s r n w =
+    (r ≡ progress.Over (Some i)) × (n ≡ m) × (w ≡ with_new_inode v pid s i m.kind)
 Looks None true m v pid s r n w = (r ≡ progress.Over None) × (n ≡ m) × (w ≡ with_released v s)
-Looks None false m v pid s r n w = (r ≡ progress.Moved) × (n ≡ at_next_block m) × (w ≡ with_released v s)
+Looks None false m v pid s r n w =
+    (r ≡ progress.Moved) × (n ≡ at_next_block m) × (w ≡ with_released v s)
 
--- one step of the search
-abbrev pub AllocatesAt : {D : Type 0} → Option ℕ → Image → Image → Ialloc → VolumeState D → ℕ → Progress (Option ℕ) → Ialloc → VolumeState D → Type 0
-AllocatesAt None x cur m v pid r n w = Gets x cur m v pid r n w
-AllocatesAt (Some s) x cur m v pid r n w = Looks (lowest_free (block_at cur m.block) m.inode_count m.block) (is_last_block m) m v pid s r n w
-
-abbrev pub Allocates : {D : Type 0} → Image → Image → Ialloc → VolumeState D → ℕ → Progress (Option ℕ) → Ialloc → VolumeState D → Type 0
-Allocates x cur m v pid r n w = AllocatesAt m.slot x cur m v pid r n w
+-- one step of the search, by whether it had got its block
+abbrev pub Allocates : {D : Type 0} → (D → Image) → Option ℕ → SearchState → VolumeState D → ℕ
+    → Progress (Option ℕ) → SearchState → VolumeState D → Type 0
+Allocates image None m v pid r n w =
+    Gets (image v.device) (seen (image v.device) v.buffers) m v pid r n w
+Allocates image (Some s) m v pid r n w =
+    Looks (lowest_free (block_at (seen (image v.device) v.buffers) m.block) m.inode_count m.block)
+    (is_last_block m) m v pid s r n w
 
 -- the current image after a step with that answer
-abbrev pub current_after : Image → Ialloc → Progress (Option ℕ) → Image
+abbrev pub current_after : Image → SearchState → Progress (Option ℕ) → Image
 current_after cur m progress.Moved = cur
 current_after cur m (progress.Sleeping why) = cur
 current_after cur m (progress.Over None) = cur
@@ -95,51 +120,29 @@ OnMore (progress.Sleeping why) P = P
 OnMore (progress.Over out) P = Unit {0}
 OnMore (progress.Fault fault) P = Unit {0}
 
--- P holds of the number that was claimed
-abbrev pub OnClaimed : Progress (Option ℕ) → (ℕ → Type 0) → Type 0
-OnClaimed progress.Moved P = Unit {0}
-OnClaimed (progress.Sleeping why) P = Unit {0}
-OnClaimed (progress.Over None) P = Unit {0}
-OnClaimed (progress.Over (Some i)) P = P i
-OnClaimed (progress.Fault fault) P = Unit {0}
-
--- P holds where the step looked at a block and claimed nothing
-abbrev pub OnNoneFree : Option ℕ → Progress (Option ℕ) → Type 0 → Type 0
-OnNoneFree None r P = Unit {0}
-OnNoneFree (Some s) progress.Moved P = P
-OnNoneFree (Some s) (progress.Sleeping why) P = Unit {0}
-OnNoneFree (Some s) (progress.Over None) P = P
-OnNoneFree (Some s) (progress.Over (Some i)) P = Unit {0}
-OnNoneFree (Some s) (progress.Fault fault) P = Unit {0}
-
--- the claim makes one file more, where the image is sound and has as many inode numbers
-abbrev pub Creates : Image → Ialloc → Image → ℕ → Type 0
-Creates cur m new i = IsSound cur → m.inode_count ≡ inode_count_of cur → IsTrue (is_kind m.kind) → HasCreated cur i m.kind new
-
--- no number in the block that was looked at is free, where the image has as many inode numbers
-abbrev pub SeesTaken : Image → Ialloc → Type 0
-SeesTaken cur m = m.inode_count ≡ inode_count_of cur → HasNoFreeInode cur m.block
-
 -- a number in the block that is looked at, which operations may name, and which is free
-pub record IsFree (cur : Image) (m : Ialloc) (i : ℕ) : Type 0 where
+pub record IsFree (cur : Image) (m : SearchState) (i : ℕ) : Type 0 where
   pub place : inode_block i ≡ m.block
   pub number : IsTrue (is_number m.inode_count i)
   pub free : (inode_of cur i).kind ≡ 0
 
 -- where a step leads to and why, by whether the search had got its block
-abbrev pub SearchGoes : Option ℕ → Image → Ialloc → Progress (Option ℕ) → Ialloc → Type 0
+abbrev pub SearchGoes : Option ℕ → Image → SearchState → Progress (Option ℕ) → SearchState → Type 0
 SearchGoes None cur m progress.Moved n = (i : ℕ) × (n ≡ at_slot m i)
 SearchGoes None cur m (progress.Sleeping why) n = n ≡ m
 SearchGoes None cur m (progress.Over out) n = ⊥
 SearchGoes None cur m (progress.Fault fault) n = (n ≡ m) × (fault.0 ≡ m.block)
-SearchGoes (Some s) cur m progress.Moved n = (n ≡ at_next_block m) × (is_last_block m ≡ false) × SeesTaken cur m
+SearchGoes (Some s) cur m progress.Moved n =
+    (n ≡ at_next_block m) × (is_last_block m ≡ false) × HasNoFreeInode cur m.block
 SearchGoes (Some s) cur m (progress.Sleeping why) n = ⊥
-SearchGoes (Some s) cur m (progress.Over None) n = (is_last_block m ≡ true) × SeesTaken cur m
+SearchGoes (Some s) cur m (progress.Over None) n =
+    (is_last_block m ≡ true) × HasNoFreeInode cur m.block
 SearchGoes (Some s) cur m (progress.Over (Some i)) n = IsFree cur m i
 SearchGoes (Some s) cur m (progress.Fault fault) n = ⊥
 
 -- what it makes of the locks
-abbrev pub SearchLocks : Option ℕ → Progress (Option ℕ) → Buffers → Buffers → ℕ → ℕ → Option ℕ → Type 0
+abbrev pub SearchLocks : Option ℕ → Progress (Option ℕ) → Buffers → Buffers → ℕ → ℕ → Option ℕ
+    → Type 0
 SearchLocks None progress.Moved c d pid b slot = (i : ℕ) × (slot ≡ Some i) × GetsLock c d pid b i
 SearchLocks None (progress.Sleeping cause) c d pid b slot = WaitsFor cause c b
 SearchLocks None (progress.Over out) c d pid b slot = ⊥
@@ -157,9 +160,17 @@ log_after l pid b (progress.Over None) = l
 log_after l pid b (progress.Over (Some i)) = noted l pid b
 log_after l pid b (progress.Fault fault) = l
 
--- a step of the search, by whether it had got its block
-pub record SearchSteps {D : Type 0} (slot : Option ℕ) (cur : Image) (v w : VolumeState D) (pid : ℕ) (m n : Ialloc) (r : Progress (Option ℕ)) : Type 0 where
-  pub goes : SearchGoes slot cur m r n
+-- What a step of the search makes of locks, log, image and disk, by whether it had got its block.
+pub record SearchSteps {D N : Type 0} (disk : Ghosts D N) (slot : Option ℕ) (v w : VolumeState D)
+    (pid : ℕ) (m n : SearchState) (r : Progress (Option ℕ)) : Type 0 where
+  pub goes : SearchGoes slot (seen (disk.image v.device) v.buffers) m r n
   pub locks : SearchLocks slot r v.buffers w.buffers pid m.block n.slot
   pub log : w.log ≡ log_after v.log pid m.block r
   pub asleep : (cause : Why) → r ≡ progress.Sleeping cause → w ≡ v
+  pub more : OnMore r (MayStep disk.image w pid n)
+  pub current : seen (disk.image w.device) w.buffers
+      ≡ current_after (seen (disk.image v.device) v.buffers) m r
+  pub fault : w.fault ≡ fault_in r
+  pub device : OnlyReads disk v.device w.device
+  pub faults : disk.fault_count w.device
+      ≡ faults_after (fault_in r) (disk.fault_count v.device)

@@ -1,3 +1,5 @@
 -- What follows from the definitions: the lemmas that the proofs of this crate and of those above it use.
+pub mod Bounds
 pub mod Looks
 pub mod Faults
+pub mod Ends

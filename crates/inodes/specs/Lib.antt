@@ -1,6 +1,5 @@
 pub mod Creation
 pub mod Ialloc
-pub mod Laws
 pub mod Lemmas
 pub mod Steps
 pub mod Store

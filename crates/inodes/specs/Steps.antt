@@ -1,126 +1,120 @@
 -- What a step of a task promises.
-use Rattle.std.specs.Prelude.{◌≡◌, ◌≢◌, ◌<◌, ℕ, ◌+◌, ◌-◌, ◌*◌, true, IsTrue, is_some, length, Option, Some, None}
+use Rattle.std.specs.Prelude.{◌≡◌, ◌≢◌, ◌<◌, ℕ, ◌+◌, ◌-◌, ◌*◌, Bool, true, false, IsTrue, length, Option, Some, None}
 use Rattle.blocks.specs.Calls.{OnlyReads}
-use Rattle.blocks.specs.Disk.{Image, Elapses, one_more}
+use Rattle.blocks.specs.Disk.{Image, Elapses, block_at, one_more}
 use Rattle.blocks.specs.declared.disk.Disk.{Ghosts}
-use Rattle.blocks.specs.declared.errors.DiskFault.{DiskFault}
-use Rattle.model.specs.declared.types.image.Form.{Form}
 use Rattle.model.specs.declared.types.operations.Op.{Op}
 use Rattle.model.specs.declared.types.operations.Reply.{Reply}
 use Rattle.model.specs.declared.types.operations.Reply.TheVariants.{Made, NoInode, Wrote, Bytes, Done, StatOf, NoFile, BadOffset, TooBig, TooLong, BadType}
 use Rattle.model.specs.declared.types.operations.Why.{Why}
 use Rattle.model.specs.declared.types.operations.Why.TheVariants as why
 use Rattle.model.specs.Agreement.{IsSameOutsideLog}
-use Rattle.model.specs.Codec.{header_block, new_inode}
-use Rattle.model.specs.Crash.{IsUntouched, labels_of}
+use Rattle.model.specs.Codec.{header_block, new_inode, with_inode}
 use Rattle.model.specs.Files.{Files}
-use Rattle.model.specs.Journal.{is_making, is_number}
-use Rattle.model.specs.Layout.{form_of, inode_block, inode_of, inode_count_of, HasNoFreeInode}
+use Rattle.model.specs.Layout.{form_of, inode_block, inode_of, HasNoFreeInode}
 use Rattle.model.specs.Log.{is_lawful_log}
-use Rattle.model.specs.Operations.{after}
-use Rattle.wal.specs.Machine.{LogState, used_by}
+use Rattle.model.specs.Tasks.{FilesThen, fault_of_task, reply_at_turn, Marks}
+use Rattle.bcache.specs.Buffers.{Buffers}
+use Rattle.wal.specs.Machine.{LogState, SameGroups, noted}
 use Rattle.wal.specs.declared.types.Committed.{Committed}
 use Rattle.wal.specs.Held.{HasLock}
 use Rattle.wal.specs.Joint.{place_at}
 use Rattle.wal.specs.Kept.{CrashKeeps}
 use Rattle.wal.specs.Step.{Stepped, Faulted, CommitsTo, IsFault}
-use Rattle.wal.specs.Volume.{faults_after, fault_of_step}
-use Rattle.inodes.specs.declared.ialloc.Ialloc.{Ialloc}
-use Rattle.inodes.specs.declared.progress.TaskProgress.{TaskProgress}
-use Rattle.inodes.specs.declared.progress.TaskProgress.TheVariants as progress
+use Rattle.wal.specs.Volume.{VolumeState, faults_after, fault_of_step, get_answer}
+use Rattle.wal.specs.declared.types.Get.TheVariants as get
+use Rattle.inodes.specs.Ialloc.{SearchState}
+use Rattle.model.specs.declared.types.operations.TaskProgress.{TaskProgress}
+use Rattle.model.specs.declared.types.operations.TaskProgress.TheVariants as progress
 use Rattle.inodes.specs.declared.tasks.Place.{Place}
 use Rattle.inodes.specs.declared.tasks.Place.TheVariants as place
+use Rattle.inodes.specs.Creation.{lowest_free}
 use Rattle.inodes.specs.Tasks.{task}
 use Rattle.inodes.specs.Ialloc.{at_slot, at_next_block}
 use Rattle.inodes.specs.Store.{StoreState, FitsFiles, KeepsFiles, current_of, slot_at}
 
--- the operation, answered so, makes files of these that have P
-abbrev pub Answers : Form → Op → Reply → Files → (Files → Type 0) → Type 0
-Answers form op reply files P = (new : Files) × (after form files op reply ≡ Some new) × P new
+-- what a step may change beside buffers and tasks: the current image and the log
+pub record Shown : Type 0 where
+  pub current : Image
+  pub log : LogState
 
-abbrev pub TurnsTo : Form → Op → Option Reply → Files → (Files → Type 0) → Type 0
-TurnsTo form op None files P = P files
-TurnsTo form op (Some reply) files P = Answers form op reply files P
+abbrev pub shown_of : {D : Type 0} → (D → Image) → VolumeState D → Shown
+shown_of image v = record { current = current_of image v; log = v.log }
 
--- the files after a step have P
-abbrev pub FilesThen : Form → Op → TaskProgress → Files → (Files → Type 0) → Type 0
-FilesThen form op progress.Moved files P = P files
-FilesThen form op (progress.Turned reply) files P = TurnsTo form op reply files P
-FilesThen form op (progress.Decided reply) files P = Answers form op reply files P
-FilesThen form op progress.Over files P = P files
-FilesThen form op (progress.Sleeping why) files P = P files
-FilesThen form op (progress.Fault fault) files P = P files
+-- the lowest number that is free in the block that a search looks at
+abbrev pub free_at : Image → ℕ → SearchState → Option ℕ
+free_at cur n m = lowest_free (block_at cur m.block) n m.block
 
--- the fault of an answer
-abbrev pub fault_of_task : TaskProgress → Option DiskFault
-fault_of_task progress.Moved = None
-fault_of_task (progress.Turned reply) = None
-fault_of_task (progress.Decided reply) = None
-fault_of_task progress.Over = None
-fault_of_task (progress.Sleeping why) = None
-fault_of_task (progress.Fault fault) = Some fault
+-- process p's creation writes a new inode at number i, and logs its block
+abbrev pub with_claimed : Shown → ℕ → SearchState → ℕ → Shown
+with_claimed v p m i = record {
+  current = with_inode v.current i (new_inode m.kind);
+  log = noted v.log p m.block;
+}
 
--- the reply that stands from the turn on
-abbrev pub reply_at_turn : TaskProgress → Option Reply
-reply_at_turn progress.Moved = None
-reply_at_turn (progress.Turned reply) = reply
-reply_at_turn (progress.Decided reply) = None
-reply_at_turn progress.Over = None
-reply_at_turn (progress.Sleeping why) = None
-reply_at_turn (progress.Fault fault) = None
+-- a look claims number i, which is the lowest that is free, and changes nothing else
+pub record Claims (n p : ℕ) (m : SearchState) (i : ℕ) (before now : Shown) : Type 0 where
+  pub lowest : free_at before.current n m ≡ Some i
+  pub place : inode_block i ≡ m.block
+  pub free : (inode_of before.current i).kind ≡ 0
+  pub inode : inode_of now.current i ≡ new_inode m.kind
+  pub shown : now ≡ with_claimed before p m i
 
--- the log has the same groups, and the same operations are open in it
-pub record SameGroups (l m : LogState) : Type 0 where
-  pub size : m.size ≡ l.size
-  pub outstanding : m.outstanding ≡ l.outstanding
-  pub opened : m.opened ≡ l.opened
-  pub committed : m.committed ≡ l.committed
-  pub commit : m.commit ≡ l.commit
-  pub used : (q : ℕ) → is_some (used_by m q) ≡ is_some (used_by l q)
+-- a look finds none, and changes nothing
+pub record FindsNone (n : ℕ) (m : SearchState) (before now : Shown) : Type 0 where
+  pub none : free_at before.current n m ≡ None
+  pub full : HasNoFreeInode now.current m.block
+  pub shown : now ≡ before
 
--- what a step that made a number, or none, did to what no file shows
-pub record Marks (made : Option Reply) (x y : Image) : Type 0 where
-  pub size : length y ≡ length x
-  pub untouched : IsUntouched x y
-  pub others : (i : ℕ) → IsTrue (is_number (inode_count_of x) i) → is_making i made ≢ true → (inode_of y i).kind ≢ 0
-      → ((inode_of x i).kind ≢ 0) × (labels_of y i ≡ labels_of x i)
-  pub fresh : (i : ℕ) → IsTrue (is_number (inode_count_of x) i) → is_making i made ≡ true → labels_of y i ≡ (0, 0, 1)
+-- The reply at the turn of a creation that looks at a block: the number that it claims, or that
+-- none is free in the block, which is the last one.
+abbrev pub IsTurn : ℕ → ℕ → SearchState → Option Reply → Shown → Shown → Type 0
+IsTurn n p m None before now = ⊥
+IsTurn n p m (Some (Made i)) before now = Claims n p m i before now
+IsTurn n p m (Some NoInode) before now = (m.block ≡ inode_block (n - 1)) × FindsNone n m before now
+IsTurn n p m (Some (Wrote k)) before now = ⊥
+IsTurn n p m (Some (Bytes bytes)) before now = ⊥
+IsTurn n p m (Some Done) before now = ⊥
+IsTurn n p m (Some (StatOf kind size)) before now = ⊥
+IsTurn n p m (Some NoFile) before now = ⊥
+IsTurn n p m (Some BadOffset) before now = ⊥
+IsTurn n p m (Some TooBig) before now = ⊥
+IsTurn n p m (Some TooLong) before now = ⊥
+IsTurn n p m (Some BadType) before now = ⊥
 
--- The reply at the turn of a creation that looks at block b, with the current images before and behind it: a number that was free is
--- that of a new file, or none is free in the block, which is the last one.
-abbrev pub IsTurn : ℕ → Ialloc → Option Reply → Image → Image → Type 0
-IsTurn n m None before now = ⊥
-IsTurn n m (Some (Made i)) before now = (inode_block i ≡ m.block) × ((inode_of before i).kind ≡ 0) × (inode_of now i ≡ new_inode m.kind)
-IsTurn n m (Some NoInode) before now = (m.block ≡ inode_block (n - 1)) × HasNoFreeInode now m.block
-IsTurn n m (Some (Wrote k)) before now = ⊥
-IsTurn n m (Some (Bytes bytes)) before now = ⊥
-IsTurn n m (Some Done) before now = ⊥
-IsTurn n m (Some (StatOf kind size)) before now = ⊥
-IsTurn n m (Some NoFile) before now = ⊥
-IsTurn n m (Some BadOffset) before now = ⊥
-IsTurn n m (Some TooBig) before now = ⊥
-IsTurn n m (Some TooLong) before now = ⊥
-IsTurn n m (Some BadType) before now = ⊥
+-- the step that gets the block that a search looks at, by what the buffers say to that
+abbrev pub GetsBlock : Buffers → SearchState → TaskProgress → Place → Type 0
+GetsBlock c m progress.Moved next =
+    (i : ℕ) × (get_answer c m.block ≡ get.Got i) × (next ≡ place.Creating (at_slot m i))
+GetsBlock c m (progress.Turned reply) next = ⊥
+GetsBlock c m (progress.Decided reply) next = ⊥
+GetsBlock c m progress.Over next = ⊥
+GetsBlock c m (progress.Sleeping why) next =
+    (get_answer c m.block ≡ get.Sleeping why) × (next ≡ place.Creating m)
+GetsBlock c m (progress.Fault fault) next = (fault.0 ≡ m.block) × (next ≡ place.Creating m)
 
--- what the steps of a search are, at the block that it looks at: where it got the block, it looks
-abbrev pub GoesFrom : Option ℕ → ℕ → Ialloc → TaskProgress → Place → Image → Image → Type 0
-GoesFrom None n m progress.Moved next before now = (i : ℕ) × (next ≡ place.Creating (at_slot m i))
-GoesFrom None n m (progress.Turned reply) next before now = ⊥
-GoesFrom None n m (progress.Decided reply) next before now = ⊥
-GoesFrom None n m progress.Over next before now = ⊥
-GoesFrom None n m (progress.Sleeping why) next before now = next ≡ place.Creating m
-GoesFrom None n m (progress.Fault fault) next before now = (next ≡ place.Creating m) × (fault.0 ≡ m.block)
-GoesFrom (Some i) n m progress.Moved next before now = (next ≡ place.Creating (at_next_block m)) × HasNoFreeInode now m.block
-GoesFrom (Some i) n m (progress.Turned reply) next before now = (next ≡ place.Nowhere) × IsTurn n m reply before now
-GoesFrom (Some i) n m (progress.Decided reply) next before now = ⊥
-GoesFrom (Some i) n m progress.Over next before now = ⊥
-GoesFrom (Some i) n m (progress.Sleeping why) next before now = ⊥
-GoesFrom (Some i) n m (progress.Fault fault) next before now = ⊥
+-- the step that looks at it
+abbrev pub LooksAtBlock : ℕ → ℕ → SearchState → TaskProgress → Place → Shown → Shown → Type 0
+LooksAtBlock n p m progress.Moved next before now =
+    (next ≡ place.Creating (at_next_block m)) × FindsNone n m before now
+LooksAtBlock n p m (progress.Turned reply) next before now =
+    (next ≡ place.Nowhere) × IsTurn n p m reply before now
+LooksAtBlock n p m (progress.Decided reply) next before now = ⊥
+LooksAtBlock n p m progress.Over next before now = ⊥
+LooksAtBlock n p m (progress.Sleeping why) next before now = ⊥
+LooksAtBlock n p m (progress.Fault fault) next before now = ⊥
 
--- where a task goes with a step, by where it stood; with the current images before the step and behind it
-abbrev pub Goes : Place → ℕ → TaskProgress → Place → Image → Image → Type 0
-Goes place.Nowhere n r next before now = (r ≡ progress.Over) × (next ≡ place.Nowhere)
-Goes (place.Creating m) n r next before now = GoesFrom m.slot n m r next before now
+-- a search gets its block without a change to image or log; and where it got it, looks at it
+abbrev pub GoesFrom : Option ℕ → ℕ → ℕ → SearchState → Buffers → TaskProgress → Place
+    → Shown → Shown → Type 0
+GoesFrom None n p m c r next before now = GetsBlock c m r next × (now ≡ before)
+GoesFrom (Some i) n p m c r next before now = LooksAtBlock n p m r next before now
+
+-- where a step of process p's task goes by where it stood, and what it makes of image and log
+abbrev pub Goes : Place → ℕ → ℕ → Buffers → TaskProgress → Place → Shown → Shown → Type 0
+Goes place.Nowhere n p c r next before now =
+    (r ≡ progress.Over) × (next ≡ place.Nowhere) × (now ≡ before)
+Goes (place.Creating m) n p c r next before now = GoesFrom m.slot n p m c r next before now
 
 -- block b's buffer is locked by another process than p, whose task has got it
 pub record IsHeldByAnother {D : Type 0} (s : StoreState D) (p b : ℕ) : Type 0 where
@@ -145,25 +139,49 @@ abbrev pub steps_left : Place → ℕ → ℕ
 steps_left place.Nowhere n = 0
 steps_left (place.Creating m) n = 2 * (inode_block (n - 1) - m.block) + looks_left m.slot
 
--- THE PROMISE OF A STEP of process p's task, which carries out this operation.
-pub record Steps {D N : Type 0} (disk : Ghosts D N) (old : StoreState D) (p : ℕ) (op : Op) (r : TaskProgress) (new : StoreState D) : Type 0 where
-  -- whatever files it stood for, it stands for those that the answer says
-  pub files : (m : Files) → FitsFiles disk.image old m → FilesThen (form_of (current_of disk.image old.volume)) op r m (FitsFiles disk.image new)
-  pub goes : Goes (task old.tasks p).place old.inode_count r (task new.tasks p).place (current_of disk.image old.volume) (current_of disk.image new.volume)
+-- a task that stands there is over
+abbrev pub is_over : Place → Bool
+is_over place.Nowhere = true
+is_over (place.Creating m) = false
+
+-- a step of process p changes the place of its own task alone
+pub record LeavesTasks {D : Type 0} (old : StoreState D) (p : ℕ) (new : StoreState D) : Type 0 where
   pub op_stays : (task new.tasks p).op ≡ (task old.tasks p).op
   pub others : (q : ℕ) → q ≢ p → task new.tasks q ≡ task old.tasks q
   pub many : length new.tasks ≡ length old.tasks
   pub numbers : new.inode_count ≡ old.inode_count
-  pub groups : SameGroups old.volume.log new.volume.log
-  pub marks : Marks (reply_at_turn r) (current_of disk.image old.volume) (current_of disk.image new.volume)
-  -- who has to wait changed nothing, and where it waits for a buffer, another has it
+
+-- who has to wait changed nothing, and where it waits for a buffer, another has it
+pub record Waits {D : Type 0} (old : StoreState D) (p : ℕ) (r : TaskProgress) (new : StoreState D)
+    : Type 0 where
   pub sleeping : (cause : Why) → r ≡ progress.Sleeping cause → new ≡ old
-  pub held : r ≡ progress.Sleeping why.BufferHeld → IsHeldByAnother old p (block_at_place (task old.tasks p).place)
-  -- a step reads one block at most, and writes none
+  pub held : r ≡ progress.Sleeping why.BufferHeld
+      → IsHeldByAnother old p (block_at_place (task old.tasks p).place)
+
+-- a step reads one block at most, and writes none
+pub record Reads {D N : Type 0} (disk : Ghosts D N) (old : StoreState D) (r : TaskProgress) (new : StoreState D) : Type 0 where
   pub device : OnlyReads disk old.volume.device new.volume.device
   pub fault : new.volume.fault ≡ fault_of_task r
-  pub faults : disk.fault_count new.volume.device ≡ faults_after (fault_of_task r) (disk.fault_count old.volume.device)
-  pub falls : r ≡ progress.Moved → steps_left (task new.tasks p).place old.inode_count < steps_left (task old.tasks p).place old.inode_count
+  pub faults : disk.fault_count new.volume.device
+      ≡ faults_after (fault_of_task r) (disk.fault_count old.volume.device)
+
+-- THE PROMISE OF A STEP of process p's task, which carries out this operation.
+pub record Steps {D N : Type 0} (disk : Ghosts D N) (old : StoreState D) (p : ℕ) (op : Op) (r : TaskProgress) (new : StoreState D) : Type 0 where
+  -- whatever files it stood for, it stands for those that the answer says
+  pub files : (m : Files) → FitsFiles disk.image old m
+      → FilesThen (form_of (current_of disk.image old.volume)) op r m (FitsFiles disk.image new)
+  -- and which these are, image and log say
+  pub goes : Goes (task old.tasks p).place old.inode_count p old.volume.buffers
+      r (task new.tasks p).place
+      (shown_of disk.image old.volume) (shown_of disk.image new.volume)
+  pub tasks : LeavesTasks old p new
+  pub groups : SameGroups old.volume.log new.volume.log
+  pub marks : Marks (reply_at_turn r)
+      (current_of disk.image old.volume) (current_of disk.image new.volume)
+  pub waits : Waits old p r new
+  pub reads : Reads disk old r new
+  pub falls : r ≡ progress.Moved → steps_left (task new.tasks p).place old.inode_count
+      < steps_left (task old.tasks p).place old.inode_count
 
 -- THE PROMISE OF A COMMIT'S WRITE.
 pub record Commits {D N : Type 0} (disk : Ghosts D N) (old : StoreState D) (r : Committed) (new : StoreState D) : Type 0 where

@@ -1,5 +1,5 @@
 -- A volume with the tasks of processes, and what is true of it between any two steps.
-use Rattle.std.specs.Prelude.{◌≡◌, ◌≤◌, ℕ, ◌-◌, IsTrue, IfNone, List, length, slice_set, Option, Some, None}
+use Rattle.std.specs.Prelude.{◌≡◌, ◌<◌, ◌≤◌, ◌^◌, ℕ, ◌+◌, ◌-◌, IsTrue, IfNone, List, length, slice_set, Option, Some, None}
 use Rattle.blocks.specs.Disk.{Image}
 use Rattle.model.specs.declared.types.operations.Op.{Op}
 use Rattle.model.specs.declared.types.operations.Op.TheVariants.{Create, Write, Read, Trunc, Remove, Stat}
@@ -15,7 +15,7 @@ use Rattle.wal.specs.Held.{HoldsBlock, HasLock}
 use Rattle.wal.specs.Joint.{seen}
 use Rattle.wal.specs.Machine.{LogState, used_by, begun, new_log}
 use Rattle.wal.specs.Volume.{VolumeState}
-use Rattle.inodes.specs.declared.ialloc.Ialloc.{Ialloc}
+use Rattle.inodes.specs.Ialloc.{SearchState}
 use Rattle.inodes.specs.declared.tasks.Place.{Place}
 use Rattle.inodes.specs.declared.tasks.Place.TheVariants as place
 use Rattle.inodes.specs.Tasks.{TaskState, task}
@@ -48,6 +48,10 @@ with_log s l = with_volume s (record s.volume { log = l })
 -- a process's task goes on to a place
 abbrev pub with_place : {D : Type 0} → StoreState D → ℕ → Place → StoreState D
 with_place s p a = record s { tasks = slice_set s.tasks p (record (task s.tasks p) { place = a }) }
+
+-- a group that a beginning opens has a number
+abbrev pub HasGroupNumber : LogState → Type 0
+HasGroupNumber l = l.outstanding ≡ 0 → l.opened + 1 < 2 ^ 64
 
 -- operations that a store carries out
 abbrev pub CanBegin : Op → Type 0
@@ -93,7 +97,7 @@ HoldsAt c p b None = Unit {0}
 HoldsAt c p b (Some i) = HoldsBlock c p b i
 
 -- a creation that looks for a free number is open in the log, and added nothing yet
-pub record IsSearching (c : Buffers) (l : LogState) (n p : ℕ) (o : Option Op) (m : Ialloc) : Type 0 where
+pub record IsSearching (c : Buffers) (l : LogState) (n p : ℕ) (o : Option Op) (m : SearchState) : Type 0 where
   pub op : o ≡ Some (Create m.kind)
   pub used : used_by l p ≡ Some 0
   pub count : m.inode_count ≡ n

@@ -1,20 +1,19 @@
 // A creation's search for a free inode number.
 ghost use Rattle.std.specs.Prelude.{◌≡◌, ◌<◌, ◌≤◌, ◌-◌, Some, None, if◌then◌else◌};
-ghost use Rattle.blocks.specs.Calls.{OnlyReads};
-ghost use Rattle.blocks.specs.Disk.{block_at};
 ghost use Rattle.model.specs.Layout.{inode_block};
 ghost use Rattle.model.specs.Codec.{dinode_bytes, new_inode, with_inode};
 ghost use Rattle.wal.specs.Machine.{used_by, HasRoom};
 ghost use Rattle.wal.specs.Held.{GivesUpLock};
 ghost use Rattle.wal.specs.Joint.{seen};
-ghost use Rattle.wal.specs.Volume.{Holds, faults_after};
+ghost use Rattle.wal.specs.Volume.{Holds};
 ghost use Rattle.inodes.specs.Creation.{is_free_in, lowest_free};
-ghost use Rattle.inodes.specs.Ialloc.{IsReady, Gets, Looks, SearchSteps, Allocates, OnMore, OnClaimed, OnNoneFree, Creates, SeesTaken, is_last_block, at_next_block, with_new_inode, current_after, fault_in};
+ghost use Rattle.inodes.specs.Ialloc.{MayStep, SearchSteps, Allocates, is_last_block, at_next_block, with_new_inode};
 
 use crate::Progress;
 use blocks::{Block, Disk};
 use byteorder::{ByteOrder, LittleEndian};
 use layout::inode;
+use std::marker::Model;
 use wal::{Get, Volume};
 
 /// The steps in which a creation claims an inode number (`ialloc`; the xv6 book, the chapter "File
@@ -25,19 +24,44 @@ use wal::{Get, Volume};
 #[derive(Clone, Copy, Debug, PartialEq, Eq)]
 pub struct Ialloc {
     /// The type of the new file, from 1 to 3.
-    pub kind: u16,
+    kind: u16,
     /// The inode numbers, the unused number 0 included: from 2 to 1024.
-    pub inode_count: u32,
+    inode_count: u32,
     /// The inode block that is looked at.
-    pub block: u32,
+    block: u32,
     /// The slot that holds it, where it was got.
-    pub slot: Option<u32>,
+    slot: Option<u32>,
+}
+
+impl Model for Ialloc {
+    ghost use Rattle.inodes.specs.Ialloc.{SearchState};
+
+    ghost Value = { SearchState };
+
+    ghost view = { λ s. record {
+      kind = s.kind;
+      inode_count = s.inode_count;
+      block = s.block;
+      slot = s.slot;
+    } };
+
+    ghost inverse = { λ s. record {
+      kind = s.kind;
+      inode_count = s.inode_count;
+      block = s.block;
+      slot = s.slot;
+    } };
 }
 
 impl Ialloc {
     /// A search that begins at the first inode block, for a file of this type.
     pub fn new(kind: u16, inode_count: u32) -> Ialloc
-        ensures { result ≡ record { kind = kind; inode_count = inode_count; block = 33; slot = None } }
+        ensures { result ≡ record {
+          kind = kind;
+          inode_count = inode_count;
+          block = 33;
+          slot = None;
+        } }
     {
         Ialloc {
             kind,
@@ -54,19 +78,11 @@ impl Ialloc {
         requires fault { volume.old.fault ≡ None }
         requires pid { pid < 32 }
         requires room { HasRoom (used_by volume.old.log pid) }
-        requires ready { IsReady (seen (D.image volume.old.device) volume.old.buffers) volume.old.buffers volume.old.log.size pid self.old }
-        ensures step { Allocates (D.image volume.old.device) (seen (D.image volume.old.device) volume.old.buffers) self.old volume.old pid result self.new volume.new }
-        ensures more { OnMore result (IsReady (seen (D.image volume.new.device) volume.new.buffers) volume.new.buffers volume.new.log.size pid self.new) }
-        ensures current { seen (D.image volume.new.device) volume.new.buffers ≡ current_after (seen (D.image volume.old.device) volume.old.buffers) self.old result }
-
-        // What the files become, and why none is made.
-        ensures claimed { OnClaimed result (Creates (seen (D.image volume.old.device) volume.old.buffers) self.old (seen (D.image volume.new.device) volume.new.buffers)) }
-        ensures taken { OnNoneFree self.old.slot result (SeesTaken (seen (D.image volume.old.device) volume.old.buffers) self.old) }
-
-        ensures search { SearchSteps self.old.slot (seen (D.image volume.old.device) volume.old.buffers) volume.old volume.new pid self.old self.new result }
-        ensures fault { volume.new.fault ≡ fault_in result }
-        ensures device { OnlyReads D.Disk volume.old.device volume.new.device }
-        ensures faults { D.fault_count volume.new.device ≡ faults_after (fault_in result) (D.fault_count volume.old.device) }
+        requires ready { MayStep D.image volume.old pid self.old }
+        ensures step { Allocates D.image self.old.slot self.old volume.old pid
+            result self.new volume.new }
+        ensures search { SearchSteps D.Disk self.old.slot volume.old volume.new pid
+            self.old self.new result }
     {
         match self.slot {
             None => self.get(volume, pid),
@@ -77,15 +93,12 @@ impl Ialloc {
     // Gets the block.
     fn get<D: Disk>(&mut self, volume: &mut Volume<D>, pid: u32) -> Progress<Option<u32>>
         requires fault { volume.old.fault ≡ None }
-        requires ready { IsReady (seen (D.image volume.old.device) volume.old.buffers) volume.old.buffers volume.old.log.size pid self.old }
+        requires ready { MayStep D.image volume.old pid self.old }
         requires slot { self.old.slot ≡ None }
-        ensures step { Gets (D.image volume.old.device) (seen (D.image volume.old.device) volume.old.buffers) self.old volume.old pid result self.new volume.new }
-        ensures more { OnMore result (IsReady (seen (D.image volume.new.device) volume.new.buffers) volume.new.buffers volume.new.log.size pid self.new) }
-        ensures search { SearchSteps None (seen (D.image volume.old.device) volume.old.buffers) volume.old volume.new pid self.old self.new result }
-        ensures current { seen (D.image volume.new.device) volume.new.buffers ≡ seen (D.image volume.old.device) volume.old.buffers }
-        ensures fault { volume.new.fault ≡ fault_in result }
-        ensures device { OnlyReads D.Disk volume.old.device volume.new.device }
-        ensures faults { D.fault_count volume.new.device ≡ faults_after (fault_in result) (D.fault_count volume.old.device) }
+        ensures step { Allocates D.image None self.old volume.old pid
+            result self.new volume.new }
+        ensures search { SearchSteps D.Disk None volume.old volume.new pid
+            self.old self.new result }
     {
         match volume.get(pid, self.block) {
             Get::Got(slot) => {
@@ -107,17 +120,12 @@ impl Ialloc {
         requires fault { volume.old.fault ≡ None }
         requires pid { pid < 32 }
         requires room { HasRoom (used_by volume.old.log pid) }
-        requires ready { IsReady (seen (D.image volume.old.device) volume.old.buffers) volume.old.buffers volume.old.log.size pid self.old }
+        requires ready { MayStep D.image volume.old pid self.old }
         requires slot { self.old.slot ≡ Some slot }
-        ensures step { Looks (lowest_free (block_at (seen (D.image volume.old.device) volume.old.buffers) self.old.block) self.old.inode_count self.old.block) (is_last_block self.old) self.old volume.old pid slot result self.new volume.new }
-        ensures more { OnMore result (IsReady (seen (D.image volume.new.device) volume.new.buffers) volume.new.buffers volume.new.log.size pid self.new) }
-        ensures current { seen (D.image volume.new.device) volume.new.buffers ≡ current_after (seen (D.image volume.old.device) volume.old.buffers) self.old result }
-        ensures claimed { OnClaimed result (Creates (seen (D.image volume.old.device) volume.old.buffers) self.old (seen (D.image volume.new.device) volume.new.buffers)) }
-        ensures taken { OnNoneFree self.old.slot result (SeesTaken (seen (D.image volume.old.device) volume.old.buffers) self.old) }
-        ensures search { SearchSteps (Some slot) (seen (D.image volume.old.device) volume.old.buffers) volume.old volume.new pid self.old self.new result }
-        ensures device { volume.new.device ≡ volume.old.device }
-        ensures fault { volume.new.fault ≡ fault_in result }
-        ensures none { fault_in result ≡ None }
+        ensures step { Allocates D.image (Some slot) self.old volume.old pid
+            result self.new volume.new }
+        ensures search { SearchSteps D.Disk (Some slot) volume.old volume.new pid
+            self.old self.new result }
     {
         match lowest_free(volume.data(slot), self.inode_count, self.block) {
             Some(i) => {
@@ -136,8 +144,10 @@ impl Ialloc {
         requires some { 2 ≤ self.old.inode_count }
         requires few { self.old.inode_count ≤ 1024 }
         requires last { self.old.block ≤ inode_block (self.old.inode_count - 1) }
-        ensures answer { result ≡ (if is_last_block self.old then Progress.Over None else Progress.Moved) }
-        ensures search { self.new ≡ (if is_last_block self.old then self.old else at_next_block self.old) }
+        ensures answer { result
+            ≡ (if is_last_block self.old then Progress.Over None else Progress.Moved) }
+        ensures search { self.new
+            ≡ (if is_last_block self.old then self.old else at_next_block self.old) }
     {
         if self.block == 33 + (self.inode_count - 1) / 16 {
             return Progress::Over(None);
@@ -153,10 +163,12 @@ fn claim<D: Disk>(volume: &mut Volume<D>, pid: u32, slot: u32, i: u32, kind: u16
     requires fault { volume.old.fault ≡ None }
     requires pid { pid < 32 }
     requires room { HasRoom (used_by volume.old.log pid) }
-    requires holds { Holds (seen (D.image volume.old.device) volume.old.buffers) volume.old.buffers pid (inode_block i) slot }
+    requires holds { Holds (seen (D.image volume.old.device) volume.old.buffers)
+        volume.old.buffers pid (inode_block i) slot }
     ensures volume { volume.new ≡ with_new_inode volume.old pid slot i kind }
     ensures locks { GivesUpLock volume.old.buffers volume.new.buffers pid slot }
-    ensures current { seen (D.image volume.new.device) volume.new.buffers ≡ with_inode (seen (D.image volume.old.device) volume.old.buffers) i (new_inode kind) }
+    ensures current { seen (D.image volume.new.device) volume.new.buffers
+        ≡ with_inode (seen (D.image volume.old.device) volume.old.buffers) i (new_inode kind) }
 {
     let at = (i % 16 * 64) as usize;
     volume.change(pid, slot, at, &new_inode_bytes(kind));

@@ -2,12 +2,11 @@
 #![tactic(auto)]
 
 mod ialloc;
-pub mod laws;
 mod progress;
 mod store;
 mod tasks;
 
 pub use ialloc::Ialloc;
-pub use progress::{Progress, TaskProgress};
+pub use progress::Progress;
 pub use store::Store;
 pub use tasks::{Place, Tasks};

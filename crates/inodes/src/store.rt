@@ -1,18 +1,19 @@
 // A volume with the tasks of the processes that work on its files.
-ghost use Rattle.std.specs.Prelude.{◌≡◌, ◌<◌, ◌≤◌, ◌^◌, ◌+◌, false, length, replicate, Some, None, IsSome};
+ghost use Rattle.std.specs.Prelude.{◌≡◌, ◌<◌, ◌≤◌, false, length, replicate, Some, None, IsSome, IfNone};
+ghost use Rattle.wal.specs.Joint.{Joint};
 ghost use Rattle.model.specs.Files.{files_of};
 ghost use Rattle.model.specs.declared.types.operations.Op.{Op};
 ghost use Rattle.model.specs.Layout.{inode_count_of};
 ghost use Rattle.model.specs.Soundness.{IsSound};
 ghost use Rattle.wal.specs.Machine.{used_by, is_quiet, begin_cause, begun, ended, end_answer};
 ghost use Rattle.inodes.specs.Tasks.{task, no_task};
-ghost use Rattle.inodes.specs.Store.{FitsFiles, KeepsFiles, fresh_volume, with_begun, with_log, first_place, reply_of, CanBegin};
-ghost use Rattle.inodes.specs.Steps.{Steps, Commits};
+ghost use Rattle.inodes.specs.Store.{IsStore, HasGroupNumber, FitsFiles, KeepsFiles, fresh_volume, with_begun, with_log, first_place, reply_of, CanBegin};
+ghost use Rattle.inodes.specs.Steps.{Steps, Commits, is_over};
 ghost use Rattle.inodes.specs.declared.tasks.Place.TheVariants as place;
 
-use crate::{Ialloc, Place, Progress, TaskProgress, Tasks};
+use crate::{Ialloc, Place, Progress, Tasks};
 use blocks::Disk;
-use model::types::{Op, Reply};
+use model::types::{Op, Reply, TaskProgress};
 use std::marker::Model;
 use wal::{Began, Committed, Ended, Volume};
 
@@ -43,7 +44,8 @@ impl<D: Disk> Store<D> {
         requires tasks { tasks ≡ replicate (length tasks) no_task }
         requires few { length tasks ≤ 32 }
         requires numbers { inode_count ≡ inode_count_of (D.image volume.device) }
-        ensures store { result ≡ record { volume = volume; tasks = tasks; inode_count = inode_count } }
+        ensures store { result
+            ≡ record { volume = volume; tasks = tasks; inode_count = inode_count } }
         ensures files { FitsFiles D.image result (files_of (D.image volume.device)) }
     {
         Store {
@@ -58,6 +60,26 @@ impl<D: Disk> Store<D> {
         ensures { result.now ≡ self.now.volume }
     {
         &self.volume
+    }
+
+    /// Does nothing: it says what is true of every store.
+    pub fn known(&self)
+        ensures store { IsStore D.image self.now }
+        ensures volume { IfNone self.now.volume.fault (Joint (D.image self.now.volume.device)
+            self.now.volume.buffers self.now.volume.log) }
+    {
+        self.volume.known();
+    }
+
+    /// Whether a process has no task, or one that is over.
+    pub fn is_over(&self, pid: u32) -> bool
+        requires { pid < length self.now.tasks }
+        ensures { result ≡ is_over (task self.now.tasks pid).place }
+    {
+        match self.tasks.place(pid) {
+            Place::Nowhere => true,
+            Place::Creating(_) => false,
+        }
     }
 
     /// The disk, without buffers, log and tasks.
@@ -76,7 +98,7 @@ impl<D: Disk> Store<D> {
         requires none { used_by self.old.volume.log pid ≡ None }
         requires op { CanBegin op.now }
         requires free { begin_cause self.old.volume.log ≡ None }
-        requires opened { self.old.volume.log.opened + 1 < 2 ^ 64 }
+        requires opened { HasGroupNumber self.old.volume.log }
         ensures group { result ≡ (begun self.old.volume.log pid).opened }
         ensures store { self.new ≡ with_begun self.old pid op.now }
         ensures files { KeepsFiles D.image self.old self.new }
@@ -119,7 +141,8 @@ impl<D: Disk> Store<D> {
         requires fault { self.old.volume.fault ≡ None }
         requires pid { pid < length self.old.tasks }
         requires at { (task self.old.tasks pid).place ≡ place.Creating search }
-        ensures step { (op : Op) → (task self.old.tasks pid).op ≡ Some op → Steps D.Disk self.old pid op result self.new }
+        ensures step { (op : Op) → (task self.old.tasks pid).op ≡ Some op
+            → Steps D.Disk self.old pid op result self.new }
     {
         self.volume.known();
         self.volume.image_known();
@@ -172,7 +195,7 @@ fn open_group<D: Disk>(volume: &mut Volume<D>, pid: u32) -> u64
     requires fault { volume.old.fault ≡ None }
     requires pid { pid < 32 }
     requires none { used_by volume.old.log pid ≡ None }
-    requires opened { volume.old.log.opened + 1 < 2 ^ 64 }
+    requires opened { HasGroupNumber volume.old.log }
     requires free { begin_cause volume.old.log ≡ None }
     ensures group { result ≡ (begun volume.old.log pid).opened }
     ensures volume { volume.new ≡ record volume.old { log = begun volume.old.log pid } }

@@ -1,357 +1,314 @@
--- Each step keeps the table true.
-use Rattle.std.proofs.Common.{◌≡◌, ℕ, ◌+◌, ◌-◌, ◌<◌, ◌≤◌, Bool, true, false, cond, eqb, List, [], ◌∷◌, ◌++◌, length, length-set, get_or, set, refl, sym, ◌∙◌, ap, subst, arith, Option, Some, None}
-use Rattle.std.specs.Prelude.{IsSome, IsTrue, count_by}
-use Rattle.std.proofs.lemmas.Bool.{eqb-false, false≢true}
-use Rattle.std.proofs.lemmas.List.{get_or-set_same, set-get_or, length-append}
-use Rattle.std.proofs.lemmas.List.Sums.{get_or-le-sum_by}
-use Rattle.model.specs.declared.types.operations.Entry.{Entry}
+-- What each event of a process makes of store and processes.
+use Rattle.std.proofs.Common.{set, ◌≡◌, ◌≢◌, ◌⊎◌, ⊎_elim, inl, inr, ℕ, ◌+◌, ◌-◌, ◌<◌, ◌≤◌, Bool, true, false, cond, List, length, refl, sym, ◌∙◌, ap, subst, arith, Option, Some, None}
+use Rattle.std.specs.Option.{option_map}
+use Rattle.std.specs.Prelude.{IsSome}
+use Rattle.std.proofs.lemmas.Bool.{false≢true}
+use Rattle.std.proofs.lemmas.List.{get_or-set_same, get_or-set_other, set-get_or}
+use Rattle.blocks.specs.Disk.{Image}
+use Rattle.blocks.specs.declared.disk.Disk.{Ghosts}
+use Rattle.blocks.specs.declared.errors.DiskFault.{DiskFault}
 use Rattle.model.specs.declared.types.operations.Op.{Op}
-use Rattle.model.specs.declared.types.operations.Reply.{Reply}
-use Rattle.model.specs.Layout.{inode_block}
-use Rattle.model.specs.Operations.{is_kind}
-use Rattle.bcache.specs.Buffers.{Buffers, buffer, released, changed, IsCache}
+use Rattle.model.specs.declared.types.operations.Reply.TheVariants.{BadType}
+use Rattle.model.specs.declared.types.operations.TaskProgress.{TaskProgress}
+use Rattle.model.specs.declared.types.operations.TaskProgress.TheVariants as progress
+use Rattle.model.specs.declared.types.operations.Why.{Why}
+use Rattle.model.specs.Layout.{inode_count_of}
+use Rattle.ports.specs.History.{Side, first_in}
 use Rattle.wal.specs.declared.types.Commit.{Commit}
 use Rattle.wal.specs.declared.types.Commit.TheVariants as commit
+use Rattle.wal.specs.declared.types.Committed.{Committed}
+use Rattle.wal.specs.declared.types.Committed.TheVariants as committed
+use Rattle.wal.specs.declared.types.Ended.{Ended}
 use Rattle.wal.specs.declared.types.Ended.TheVariants as ended_as
-use Rattle.wal.specs.Machine.{LogState, used_by, is_quiet, is_among, begin_cause, begun, noted, noted_cache, appended, one_used, ended, end_answer, closed, left_by, IsLog}
-use Rattle.wal.specs.Joint.{written_at, written_cache}
-use Rattle.wal.specs.Lemmas.Log.{quiet_of, some_open}
-use Rattle.inodes.specs.declared.ialloc.Ialloc.{Ialloc}
-use Rattle.inodes.specs.Ialloc.{at_slot, at_next_block, is_last_block}
-use Rattle.kernel.specs.declared.types.At.{At}
-use Rattle.kernel.specs.declared.types.At.TheVariants as at
-use Rattle.kernel.specs.declared.types.Process.{Process}
-use Rattle.kernel.specs.Processes.{World, process, idle, with_place, creating, searching, turned, entry_of, committing, committing_at, idle_again}
-use Rattle.kernel.specs.Table.{HasSlot, IsSearching, Stands, IsTable, is_committing_at, is_searching_at, slot_at}
-use Rattle.kernel.proofs.Holding.{HeldAs, held_same, held_released, locks_then, locks_noted, slots_noted, locks_changed, locks_written, OthersHold, others_same, others_released, others_changed, others_noted, others_then, others_written, noted_holder}
-use Rattle.wal.specs.Lemmas.Volume.{changed_lock}
-use Rattle.kernel.proofs.Tables.{table_goes}
-use Rattle.kernel.proofs.Logging.{none_commits, open_now, logs_same, logs_begun, logs_noted, logs_ended, logs_written}
+use Rattle.wal.specs.Joint.{written_at}
+use Rattle.wal.specs.Lemmas.Log.{few_homes, let_in}
+use Rattle.wal.specs.Machine.{LogState, ended, end_answer, is_quiet, used_by, IsLogAt}
+use Rattle.wal.specs.Step.{answer_at}
+use Rattle.inodes.specs.Steps.{Steps, Commits, is_over, shown_of, steps_left}
+use Rattle.inodes.specs.Store.{StoreState, first_place, with_begun}
+use Rattle.inodes.specs.Tasks.{TaskState, task, no_task}
+use Rattle.journal.specs.declared.types.At.{At}
+use Rattle.journal.specs.declared.types.At.TheVariants as at
+use Rattle.journal.specs.declared.types.Process.{Process}
+use Rattle.journal.specs.Alone.{is_committing_at}
+use Rattle.journal.specs.Bound.{all_steps_left, is_busy_at, writes_left}
+use Rattle.journal.specs.Grows.{Grows, JournalGoes}
+use Rattle.journal.specs.Lemmas.Alone.{goes_on, none_commits, quiet_if_open}
+use Rattle.journal.specs.Lemmas.Bounds.{steps_few, writes_fall}
+use Rattle.journal.specs.Lemmas.Groups.{open_of}
+use Rattle.journal.specs.Lemmas.Growing.{grows_goes, grows_none}
+use Rattle.journal.specs.Processes.{World, process, idle, answered, committing, committing_at, entry_of, refusal, turned, turned_from}
+use Rattle.kernel.specs.declared.waiting.Waiting.{Waiting}
+use Rattle.kernel.specs.declared.waiting.Waiting.TheVariants as waiting
+use Rattle.kernel.specs.declared.types.Step.{Step}
+use Rattle.kernel.specs.declared.types.Step.TheVariants as step
+use Rattle.kernel.specs.Next.{IsNotTaken, BeginsWith, Works, Ends, Writes, NextAt, NextIf, Next, step_of, world_after, step_of_end, world_ended, step_of_write, world_written}
+use Rattle.kernel.specs.Progress.{is_heading, commits, CountsCommitted}
+use Rattle.kernel.specs.State.{waiting_of, ats_of}
+use Rattle.kernel.proofs.Beginnings.{refusal_at_once}
+use Rattle.kernel.proofs.Well.{IsWell, log_of, stands_at, later_before, open_before, unfinished}
+use Rattle.inodes.specs.Lemmas.Bounds.{few_steps, some_step}
+use Rattle.journal.specs.Lemmas.Ends.{commits_now, ended_count}
+use Rattle.inodes.specs.Lemmas.Ends as working
+use Rattle.inodes.specs.Lemmas.Ends.{ends_of}
 
--- a place is kept for the entry of a search
-pub room_kept : (c : Buffers) (l : LogState) (n p : ℕ) (w : World) → IsTable c l n w → p < length w.processes → is_searching_at (process w p).at ≡ true → 0 < w.journal.room
-room_kept c l n p w table lt is =
-    let one : cond {A = ℕ} (is_searching_at (process w p).at) 1 0 ≤ count_by (λ (q : Process). is_searching_at q.at) w.processes = get_or-le-sum_by (λ (q : Process). cond {A = ℕ} (is_searching_at q.at) 1 0) w.processes p idle lt in
-    let here : cond {A = ℕ} (is_searching_at (process w p).at) 1 0 ≡ 1 = ap (λ (b : Bool). cond {A = ℕ} b 1 0) is in
-    omega (arith, one, here, table.room)
+-- a write of a commit commits its group where it is that of the header
+written_count : (k : Commit) (l : LogState) → IsLogAt k l → (written_at k l).committed ≡ l.committed + cond (is_heading k) 1 0
+written_count commit.Quiet l is = omega arith
+written_count (commit.Logging j) l is = omega arith
+written_count commit.Heading l is = omega (arith, is.counts)
+written_count (commit.Homing j) l is = omega arith
+written_count commit.Clearing l is = omega arith
 
--- how many operations a process began, by where it stands
-pub begun_at : (c : Buffers) (l : LogState) (n p : ℕ) (a : At) (w : World) → IsTable c l n w → (process w p).at ≡ a → (process w p).begun ≤ length w.journal.list + cond (is_searching_at a) 1 0
-begun_at c l n p a w table is = subst (λ (b : At). (process w p).begun ≤ length w.journal.list + cond (is_searching_at b) 1 0) is (table.counted.begun p)
+-- what is counted is never less
+at_least : (t : Bool) (old new : ℕ) → new ≡ old + cond t 1 0 → old ≤ new
+at_least true old new is = omega (arith, is)
+at_least false old new is = omega (arith, is)
 
--- one group more at most
-opened_more : (l : LogState) (p : ℕ) → (begun l p).opened ≤ l.opened + 1
-opened_more l p = by_first (eqb l.outstanding 0)
+-- an answer where nothing was done
+pub record Rests (r : Step) : Type 0 where
+  pub unmoved : r ≢ step.Moved
+  pub runs : r ≢ step.Halted
+  pub none : (a : At) (l : LogState) → commits r a l ≡ false
+
+-- such are the answers where nothing is taken
+pub not_taken : (what : Option Waiting) (l : LogState) (room : Bool) (r : Step) → IsNotTaken what l room r → Rests r
+not_taken what l room r is = by_case what is
   where
-    by_first : (t : Bool) → cond t (l.opened + 1) l.opened ≤ l.opened + 1
-    by_first true = omega arith
-    by_first false = omega arith
+    sleeps : (cause : Why) → r ≡ step.Sleeping cause → Rests r
+    sleeps cause e = subst Rests (sym e) (record { unmoved = λ e. cc e; runs = λ e. cc e; none = λ a l. refl })
 
-one_longer : (es : List Entry) (e : Entry) → length (es ++ e ∷ []) ≡ length es + 1
-one_longer es e = length-append es (e ∷ [])
+    lacks : r ≡ step.NoMemory → Rests r
+    lacks e = subst Rests (sym e) (record { unmoved = λ e. cc e; runs = λ e. cc e; none = λ a l. refl })
 
--- the log is quiet while a search goes on, so nobody commits
-search_alone : (c : Buffers) (l : LogState) (n p q group : ℕ) (m : Ialloc) (w : World) → IsTable c l n w → IsLog l → IsSearching c l n p group m → is_committing_at (process w q).at ≡ true → ⊥
-search_alone c l n p q group m w table is s = none_commits c l n q w table (quiet_of l.commit l is (open_now l l.commit p 0 is s.used))
+    by_case : (what : Option Waiting) → IsNotTaken what l room r → Rests r
+    by_case None is = subst Rests (sym is) (record { unmoved = λ e. cc e; runs = λ e. cc e; none = λ a l. refl })
+    by_case (Some waiting.Other) is = subst Rests (sym is) (record { unmoved = λ e. cc e; runs = λ e. cc e; none = λ a l. refl })
+    by_case (Some waiting.Refused) (inl full) = sleeps _ full.0
+    by_case (Some waiting.Refused) (inr none) = lacks none.0
+    by_case (Some waiting.Creation) (inl full) = sleeps _ full.0
+    by_case (Some waiting.Creation) (inr (inl out)) = sleeps out.0 out.1
+    by_case (Some waiting.Creation) (inr (inr none)) = lacks none.0.0
 
--- a process without a slot holds none
-pub holds_none : (c : Buffers) (l : LogState) (n p : ℕ) (w : World) → IsTable c l n w → slot_at (process w p).at ≡ None → (i : ℕ) → (buffer c i).holder ≡ Some p → ⊥
-holds_none c l n p w table none i held = let some = sym none ∙ table.holders i p held in absurd (cc some)
+-- the steps that a process's task has left
+abbrev pub task_left : {D : Type 0} → StoreState D → ℕ → ℕ
+task_left s q = steps_left (task s.tasks q).place s.inode_count
 
-held_none : (c : Buffers) (p : ℕ) (o : Option ℕ) (l : LogState) (n : ℕ) (w : World) → IsTable c l n w → slot_at (process w p).at ≡ None → HeldAs c c p o
-held_none c p o l n w table none = held_same c c p o (λ i. refl) (holds_none c l n p w table none)
+-- the other processes keep their tasks, and the log where they commit
+pub record LeavesOthers {D : Type 0} (p : ℕ) (s : StoreState D) (w : World) (t : StoreState D) : Type 0 where
+  pub tasks : (q : ℕ) → q ≢ p → task t.tasks q ≡ task s.tasks q
+  pub numbers : t.inode_count ≡ s.inode_count
+  pub log : (q : ℕ) → q ≢ p → is_committing_at (process w q).at ≡ true → t.volume.log ≡ s.volume.log
 
--- and one with a slot no other
-only_slot : (c : Buffers) (l : LogState) (n p group i j : ℕ) (m : Ialloc) (w : World) → IsTable c l n w → (process w p).at ≡ at.Creating group m → m.slot ≡ Some i → (buffer c j).holder ≡ Some p → i ≡ j
-only_slot c l n p group i j m w table stands slot held = let same : Some i ≡ Some j = sym (ap slot_at stands ∙ slot) ∙ table.holders j p held in cc same
+-- process p, which becomes u, has a step less left, or has begun with few
+abbrev pub HasFewer : {D : Type 0} → ℕ → StoreState D → World → StoreState D → Process → Type 0
+HasFewer p s w t u =
+    (is_busy_at (process w p).at ≡ true → all_steps_left u.at (task_left t p) t.volume.log < all_steps_left (process w p).at (task_left s p) s.volume.log)
+    × (all_steps_left u.at (task_left t p) t.volume.log < 2000)
 
--- a creation begins
-pub table_begun : (c : Buffers) (l : LogState) (n p kind : ℕ) (w : World) → IsTable c l n w → IsLog l → p < length w.processes → (process w p).at ≡ at.Idle → begin_cause l ≡ None → IsTrue (is_kind kind)
-    → IsTable c (begun l p) n (creating (with_place w) p (begun l p).opened (record { kind = kind; inode_count = n; block = 33; slot = None }))
-table_begun c l n p kind w table is lt stands free is_kind = table_goes c c l (begun l p) n p w _ at.Idle (record { begun = (process w p).begun + 1; at = at.Creating (begun l p).opened (record { kind = kind; inode_count = n; block = 33; slot = None }) }) (record {
-  table = table;
-  inside = lt;
-  from = stands;
-  holds = others_same c p;
-  logs = logs_begun l w c n p table is free;
-  held = held_none c p None l n w table (ap slot_at stands);
-  processes = refl;
-  place = record {
-    used = get_or-set_same l.used p (Some 0) None (omega (arith, lt, table.few, is.pids));
-    newest = refl;
-    count = refl;
-    kind = is_kind;
-    behind = omega arith;
-    last = omega arith;
-    holds = tt;
-  };
-  alone = λ e q apart committing. absurd (false≢true e);
-  room = omega arith;
-  longer = omega arith;
-  begun = let had = begun_at c l n p at.Idle w table stands in omega (arith, had);
-  opened = let more = opened_more l p in omega (arith, more, table.counted.opened);
-})
+-- what an event of process p makes of store and processes
+pub record Event {D : Type 0} (n p : ℕ) (s : StoreState D) (w : World) (t : StoreState D) (z : World) (r : Step) : Type 0 where
+  pub now : Process
+  pub processes : z.processes ≡ set w.processes p now
+  pub grows : Grows n s.volume w.journal.list t.volume z.journal.list
+  pub committed : CountsCommitted r (process w p).at s.volume.log t.volume.log
+  pub shut : w.is_shut ≡ true → z.is_shut ≡ true
+  pub begun : z.is_shut ≡ true → now.begun ≡ (process w p).begun
+  pub others : LeavesOthers p s w t
+  pub bound : r ≡ step.Moved → HasFewer p s w t now
 
--- an operation is idle_again at once: its entry is in the journal, and nothing else happened
-pub table_at_once : (c : Buffers) (l : LogState) (n p : ℕ) (w v : World) (t : Process) → IsTable c l n w → p < length w.processes → (process w p).at ≡ at.Idle → t.at ≡ at.Idle
-    → t.begun ≡ (process w p).begun + 1 → v.processes ≡ set w.processes p t → v.journal.room ≡ w.journal.room → length v.journal.list ≡ length w.journal.list + 1 → IsTable c l n v
-table_at_once c l n p w v t table lt stands stays one is room longer = table_goes c c l l n p w v at.Idle t (record {
-  table = table;
-  inside = lt;
-  from = stands;
-  holds = others_same c p;
-  logs = logs_same l w c n p table;
-  held = held_none c p (slot_at t.at) l n w table (ap slot_at stands);
-  processes = is;
-  place = subst (λ (a : At). Stands c l n p a) (stands ∙ sym stays) (table.stands p);
-  alone = λ e q apart committing. absurd (false≢true (sym (ap is_committing_at stays) ∙ e));
-  room = let none = ap (λ (a : At). cond {A = ℕ} (is_searching_at a) 1 0) stays in omega (arith, none, room);
-  longer = omega (arith, longer);
-  begun = let had = begun_at c l n p at.Idle w table stands in omega (arith, had, one, longer);
-  opened = omega (arith, longer, room, table.counted.opened);
-})
+module _ {D N : Type 0} (disk : Ghosts D N) (opening : Image) (p : ℕ) (s t : StoreState D) (w z : World) (before : List Op) (side : Side) (told : Bool) where
+  abbrev n : ℕ
+  n = inode_count_of opening
 
--- the search has its block
-pub table_got : (c d : Buffers) (l : LogState) (n p group i : ℕ) (m : Ialloc) (w : World) → IsTable c l n w → IsLog l → p < length w.processes → (process w p).at ≡ at.Creating group m
-    → OthersHold c d p → HeldAs c d p (Some i) → HasSlot d p m.block i → IsTable d l n (searching w p group (at_slot m i))
-table_got c d l n p group i m w table is lt stands others held has =
-    let s : IsSearching c l n p group m = subst (λ (a : At). Stands c l n p a) stands (table.stands p) in
-    table_goes c d l l n p w _ (at.Creating group m) (record (process w p) { at = at.Creating group (at_slot m i) }) (record {
-      table = table;
-      inside = lt;
-      from = stands;
-      holds = others;
-      logs = logs_same l w c n p table;
-      held = held;
-      processes = refl;
-      place = record { used = s.used; newest = s.newest; count = s.count; kind = s.kind; behind = s.behind; last = s.last; holds = has };
-      alone = λ e q apart committing. absurd (false≢true e);
-      room = refl;
-      longer = omega arith;
-      begun = begun_at c l n p (at.Creating group m) w table stands;
-      opened = table.counted.opened;
-    })
+  abbrev Made : Step → Type 0
+  Made r = Event n p s w t z r
 
--- it goes on to the next block
-pub table_next : (c : Buffers) (l : LogState) (n p group i : ℕ) (m : Ialloc) (w : World) → IsTable c l n w → IsCache c → p < length w.processes → (process w p).at ≡ at.Creating group m
-    → m.slot ≡ Some i → is_last_block m ≡ false → IsTable (released c i) l n (searching w p group (at_next_block m))
-table_next c l n p group i m w table cache lt stands slot more =
-    let s : IsSearching c l n p group m = subst (λ (a : At). Stands c l n p a) stands (table.stands p) in
-    let has : HasSlot c p m.block i = subst (λ (o : Option ℕ). Rattle.kernel.specs.Table.HasSlotAt c p m.block o) slot s.holds in
-    let other = eqb-false m.block (inode_block (m.inode_count - 1)) more in
-    let same : inode_block (m.inode_count - 1) ≡ inode_block (n - 1) = ap (λ (k : ℕ). inode_block (k - 1)) s.count in
-    table_goes c (released c i) l l n p w _ (at.Creating group m) (record (process w p) { at = at.Creating group (at_next_block m) }) (record {
-      table = table;
-      inside = lt;
-      from = stands;
-      holds = others_released c p i has.holder;
-      logs = logs_same l w c n p table;
-      held = held_released c c p i (λ j. refl) (omega (arith, has.slot, cache.size)) (λ j now. only_slot c l n p group i j m w table stands slot now);
-      processes = refl;
-      place = record { used = s.used; newest = s.newest; count = s.count; kind = s.kind; behind = omega (arith, s.behind); last = let low = s.last in omega (arith, low, other, same); holds = tt };
-      alone = λ e q apart committing. absurd (false≢true e);
-      room = refl;
-      longer = omega arith;
-      begun = begun_at c l n p (at.Creating group m) w table stands;
-      opened = table.counted.opened;
-    })
+  others_same : t ≡ s → LeavesOthers p s w t
+  others_same is = record { tasks = λ q apart. ap (λ (o : StoreState D). task o.tasks q) is; numbers = ap (λ (o : StoreState D). o.inode_count) is; log = λ q apart commits. ap (λ (o : StoreState D). o.volume.log) is }
 
--- the turn without a number
-pub table_none : (c : Buffers) (l : LogState) (n p group i : ℕ) (m : Ialloc) (op : Op) (reply : Reply) (w : World) → IsTable c l n w → IsCache c → p < length w.processes → (process w p).at ≡ at.Creating group m
-    → m.slot ≡ Some i → IsTable (released c i) l n (turned w p op group reply)
-table_none c l n p group i m op reply w table cache lt stands slot =
-    let s : IsSearching c l n p group m = subst (λ (a : At). Stands c l n p a) stands (table.stands p) in
-    let has : HasSlot c p m.block i = subst (λ (o : Option ℕ). Rattle.kernel.specs.Table.HasSlotAt c p m.block o) slot s.holds in
-    let kept = room_kept c l n p w table lt (ap is_searching_at stands) in
-    table_goes c (released c i) l l n p w _ (at.Creating group m) (record (process w p) { at = at.Ending group reply }) (record {
-      table = table;
-      inside = lt;
-      from = stands;
-      holds = others_released c p i has.holder;
-      logs = logs_same l w c n p table;
-      held = held_released c c p i (λ j. refl) (omega (arith, has.slot, cache.size)) (λ j now. only_slot c l n p group i j m w table stands slot now);
-      processes = refl;
-      place = (subst IsSome (sym s.used) refl, s.newest);
-      alone = λ e q apart committing. absurd (false≢true e);
-      room = omega (arith, kept);
-      longer = let more = one_longer w.journal.list (entry_of w p op group reply) in omega (arith, more);
-      begun = let had = begun_at c l n p (at.Creating group m) w table stands in let more = one_longer w.journal.list (entry_of w p op group reply) in omega (arith, had, more);
-      opened = let more = one_longer w.journal.list (entry_of w p op group reply) in omega (arith, kept, more, table.counted.opened);
-    })
+  -- nothing happened, but that a shutdown may have been heard of
+  rests : (r : Step) (b : Bool) → commits r (process w p).at s.volume.log ≡ false → r ≢ step.Moved → t ≡ s → z ≡ record w { is_shut = b } → (w.is_shut ≡ true → b ≡ true) → Made r
+  rests r b none unmoved is to shut = record {
+    now = process w p;
+    processes = ap (λ (o : World). o.processes) to ∙ sym (set-get_or w.processes p idle);
+    grows = grows_none n s.volume t.volume w.journal.list z.journal.list (ap (λ (o : StoreState D). o.volume) is) (ap (λ (o : World). o.journal.list) to);
+    committed = let same = ap (λ (o : StoreState D). o.volume.log.committed) is in rw none (omega (arith, same));
+    shut = λ was. ap (λ (o : World). o.is_shut) to ∙ shut was;
+    begun = λ is. refl;
+    others = others_same is;
+    bound = λ moved. absurd (unmoved moved);
+  }
 
-still_open : (l : LogState) (p b : ℕ) → p < length l.used → used_by l p ≡ Some 0 → IsSome (used_by (noted l p b) p)
-still_open l p b lt is = by_home (is_among b l.homes)
-  where
-    by_home : (t : Bool) → IsSome (used_by (cond t l (appended l p b)) p)
-    by_home true = subst IsSome (sym is) refl
-    by_home false = subst IsSome (sym (get_or-set_same l.used p (one_used (used_by l p)) None lt ∙ ap one_used is)) refl
+  module _ (is : IsWell disk.image opening s w p) where
+    -- process p becomes u
+    goes : (r : Step) (o : World) (u : Process) → z ≡ o → o.processes ≡ set w.processes p u → o.is_shut ≡ w.is_shut → (w.is_shut ≡ false) ⊎ (u.begun ≡ (process w p).begun)
+        → JournalGoes n p s.volume.log.committed w.journal.list o.journal.list → CountsCommitted r (process w p).at s.volume.log t.volume.log → LeavesOthers p s w t → (r ≡ step.Moved → HasFewer p s w t u) → Made r
+    goes r o u to here shut begun journal counted others bound = record {
+      now = u;
+      processes = ap (λ (v : World). v.processes) to ∙ here;
+      grows = grows_goes n p s.volume t.volume w.journal.list z.journal.list is.well (at_least (commits r (process w p).at s.volume.log) s.volume.log.committed t.volume.log.committed counted)
+          (subst (λ (v : World). JournalGoes n p s.volume.log.committed w.journal.list v.journal.list) (sym to) journal);
+      committed = counted;
+      shut = λ was. ap (λ (v : World). v.is_shut) to ∙ shut ∙ was;
+      begun = λ now. ⊎_elim (λ free. absurd (false≢true (sym free ∙ sym shut ∙ sym (ap (λ (v : World). v.is_shut) to) ∙ now))) (λ same. same) begun;
+      others = others;
+      bound = bound;
+    }
 
-opened_noted : (l : LogState) (p b : ℕ) → (noted l p b).opened ≡ l.opened
-opened_noted l p b = by_home (is_among b l.homes)
-  where
-    by_home : (t : Bool) → (cond t l (appended l p b)).opened ≡ l.opened
-    by_home true = refl
-    by_home false = refl
+    -- it stays where it is
+    stays : (r : Step) → z ≡ w → CountsCommitted r (process w p).at s.volume.log t.volume.log → LeavesOthers p s w t → (r ≡ step.Moved → HasFewer p s w t (process w p)) → Made r
+    stays r to counted others bound = goes r w (process w p) to (sym (set-get_or w.processes p idle)) refl (inr refl) (inl refl) counted others bound
 
--- the turn with the number that was claimed
-pub table_claimed : (c : Buffers) (l : LogState) (n p group i b : ℕ) (bytes : List ℕ) (m : Ialloc) (op : Op) (reply : Reply) (w : World) → IsTable c l n w → IsLog l → IsCache c → p < length w.processes → (process w p).at ≡ at.Creating group m
-    → m.slot ≡ Some i → IsTable (released (changed (noted_cache l c i b) i bytes) i) (noted l p b) n (turned w p op group reply)
-table_claimed c l n p group i b bytes m op reply w table is cache lt stands slot =
-    let s : IsSearching c l n p group m = subst (λ (a : At). Stands c l n p a) stands (table.stands p) in
-    let has : HasSlot c p m.block i = subst (λ (o : Option ℕ). Rattle.kernel.specs.Table.HasSlotAt c p m.block o) slot s.holds in
-    let kept = room_kept c l n p w table lt (ap is_searching_at stands) in
-    let e = noted_cache l c i b in
-    let inside : i < length c.slots = omega (arith, has.slot, cache.size) in
-    let noted_inside : i < length e.slots = let size = slots_noted l c i b in omega (arith, inside, size) in
-    let logged : (buffer e i).holder ≡ Some p = noted_holder l c p i b inside has.holder in
-    let written : (buffer (changed e i bytes) i).holder ≡ Some p = (changed_lock l c i b bytes inside).holder ∙ has.holder in
-    table_goes c (released (changed e i bytes) i) l (noted l p b) n p w _ (at.Creating group m) (record (process w p) { at = at.Ending group reply }) (record {
-      table = table;
-      inside = lt;
-      from = stands;
-      holds = others_then c e (released (changed e i bytes) i) p (others_noted l c p i b has.holder)
-          (others_then e (changed e i bytes) (released (changed e i bytes) i) p (others_changed e p i bytes logged) (others_released (changed e i bytes) p i written));
-      logs = logs_noted l w c n p b table;
-      held = held_released c (changed e i bytes) p i (locks_then c e (changed e i bytes) (locks_noted l c i b inside) (locks_changed e i bytes noted_inside)) (let size = length-set e.slots i (record (buffer e i) { bytes = bytes }) in omega (arith, noted_inside, size)) (λ j now. only_slot c l n p group i j m w table stands slot now);
-      processes = refl;
-      place = (still_open l p b (omega (arith, lt, table.few, is.pids)) s.used, s.newest ∙ sym (opened_noted l p b));
-      alone = λ e q apart committing. absurd (false≢true e);
-      room = omega (arith, kept);
-      longer = let more = one_longer w.journal.list (entry_of w p op group reply) in omega (arith, more);
-      begun = let had = begun_at c l n p (at.Creating group m) w table stands in let more = one_longer w.journal.list (entry_of w p op group reply) in omega (arith, had, more);
-      opened = let more = one_longer w.journal.list (entry_of w p op group reply) in omega (arith, kept, more, table.counted.opened, opened_noted l p b);
-    })
+    -- what is counted where it stands
+    counted_at : (a : At) (r : Step) → (process w p).at ≡ a → CountsCommitted r a s.volume.log t.volume.log → CountsCommitted r (process w p).at s.volume.log t.volume.log
+    counted_at a r stands counted = subst (λ (b : At). CountsCommitted r b s.volume.log t.volume.log) (sym stands) counted
 
--- the end of an operation opens no group
-pub ended_opened : (l : LogState) (p : ℕ) → (ended l p).opened ≡ l.opened
-ended_opened l p = by_last (eqb l.outstanding 1) (eqb (length l.homes) 0)
-  where
-    by_last : (s t : Bool) → (cond s (cond t (record (left_by l p) { committed = l.opened }) (record (left_by l p) { commit = commit.Logging 0 })) (left_by l p)).opened ≡ l.opened
-    by_last true true = refl
-    by_last true false = refl
-    by_last false t = refl
+    -- from place to place
+    fewer : (u : Process) (a b : At) → (process w p).at ≡ a → u.at ≡ b → all_steps_left b (task_left t p) t.volume.log < all_steps_left a (task_left s p) s.volume.log → HasFewer p s w t u
+    fewer u a b stands to less =
+        let lt : all_steps_left u.at (task_left t p) t.volume.log < all_steps_left (process w p).at (task_left s p) s.volume.log
+        = subst (λ (c : At). all_steps_left c (task_left t p) t.volume.log < all_steps_left (process w p).at (task_left s p) s.volume.log) (sym to)
+        (subst (λ (c : At). all_steps_left b (task_left t p) t.volume.log < all_steps_left c (task_left s p) s.volume.log) (sym stands) less) in
+        let most = steps_few (process w p).at (task_left s p) s.volume.log (log_of disk.image opening s w p is) (few_steps (task s.tasks p).place s.inode_count is.numbers) in
+        ((λ busy. lt), omega (arith, lt, most))
 
--- an operation ends, and others of its group are open, or the group logged nothing
-pub table_left : (c : Buffers) (l : LogState) (n p group : ℕ) (reply : Reply) (w : World) → IsTable c l n w → IsLog l → p < length w.processes → (process w p).at ≡ at.Ending group reply
-    → IsTable c (ended l p) n (idle_again w p)
-table_left c l n p group reply w table is lt stands =
-    let s = subst (λ (a : At). Stands c l n p a) stands (table.stands p) in
-    let has = some_open (used_by l p) s.0 in
-    table_goes c c l (ended l p) n p w _ (at.Ending group reply) (record (process w p) { at = at.Idle }) (record {
-      table = table;
-      inside = lt;
-      from = stands;
-      holds = others_same c p;
-      logs = logs_ended l w c n p has.0 table is has.1;
-      held = held_none c p None l n w table (ap slot_at stands);
-      processes = refl;
-      place = closed_for l p (omega (arith, lt, table.few, is.pids));
-      alone = λ e q apart committing. absurd (false≢true e);
-      room = refl;
-      longer = omega arith;
-      begun = begun_at c l n p (at.Ending group reply) w table stands;
-      opened = omega (arith, ended_opened l p, table.counted.opened);
-    })
-  where
-    closed_for : (l : LogState) (p : ℕ) → p < length l.used → used_by (ended l p) p ≡ None
-    closed_for l p inside = by_last (eqb l.outstanding 1)
+    -- nobody commits while the log is quiet
+    alone : is_quiet s.volume.log.commit ≡ true → (q : ℕ) → q ≢ p → is_committing_at (process w q).at ≡ true → t.volume.log ≡ s.volume.log
+    alone quiet q apart commits = absurd (false≢true (sym (none_commits (ats_of w) s.volume.log is.has.alone quiet q) ∙ commits))
+
+    begins : (what : Option Waiting) (ahead : List Op) (r : Step) → (process w p).at ≡ at.Idle → w.is_shut ≡ false → BeginsWith what s w p ahead side r t z → Made r
+    begins what ahead r stands free (inl made) =
+        let inside : p < length s.tasks = (let many = is.paired.many in let lt = is.inside in omega (arith, many, lt)) in
+        let same = ap (λ (o : StoreState D). o.volume.log.committed) made.store in
+        let there : task (with_begun s p made.op).tasks p ≡ record { op = Some made.op; place = first_place made.op s.inode_count } = get_or-set_same s.tasks p _ no_task inside in
+        let left : task_left t p ≡ steps_left (first_place made.op s.inode_count) s.inode_count
+        = ap (λ (o : StoreState D). task_left o p) made.store ∙ ap (λ (u : TaskState). steps_left u.place s.inode_count) there in
+        let few = few_steps (first_place made.op s.inode_count) s.inode_count is.numbers in
+        subst Made (sym made.answer)
+        (goes step.Moved _ _ made.world refl refl (inl free) (inl refl) (counted_at at.Idle step.Moved stands (omega (arith, same)))
+        (record {
+          tasks = λ q apart. ap (λ (o : StoreState D). task o.tasks q) made.store ∙ get_or-set_other s.tasks p q _ no_task apart;
+          numbers = ap (λ (o : StoreState D). o.inode_count) made.store;
+          log = alone (ap is_quiet (let_in s.volume.log.commit _ s.volume.log.outstanding made.free).0);
+        })
+        (λ moved. ((λ busy. absurd (false≢true (ap is_busy_at (sym stands) ∙ busy))), omega (arith, left, few))))
+    begins what ahead r stands free (inr (inl made)) =
+        let same = ap (λ (o : StoreState D). o.volume.log.committed) made.store in
+        subst Made (sym made.answer)
+        (goes step.Answered _ _ made.world refl refl (inl free)
+        (inr (inl (record { entry = refusal w p made.op BadType; mine = refl; later = λ changing. absurd (false≢true (sym ((refusal_at_once n made.op made.taken.1)).1 ∙ changing)); list = refl })))
+        (counted_at at.Idle step.Answered stands (omega (arith, same))) (others_same made.store) (λ moved. absurd (cc moved)))
+    begins what ahead r stands free (inr (inr made)) =
+        let waits = not_taken what s.volume.log side.has_room r made.answer in
+        rests r w.is_shut (waits.none (process w p).at s.volume.log) waits.unmoved made.same.0 made.same.1 (λ shut. shut)
+
+    works : (group : ℕ) (op : Op) (r : Step) → (process w p).at ≡ at.Before group op → Works disk s w p op r t z → Made r
+    works group op r stands made = subst Made (sym made.answer) (by_progress made.progress made.steps made.world)
       where
-        left : used_by (left_by l p) p ≡ None
-        left = get_or-set_same l.used p None None inside
+        searched : is_over (task s.tasks p).place ≡ false
+        searched = unfinished disk.image opening s w p is group op stands
 
-        by_homes : (t : Bool) → used_by (cond t (record (left_by l p) { committed = l.opened }) (record (left_by l p) { commit = commit.Logging 0 })) p ≡ None
-        by_homes true = left
-        by_homes false = left
+        stops : (q : TaskProgress) → Steps disk s p op q t → working.Ends q (task t.tasks p).place
+        stops q done = ends_of (task s.tasks p).place (task t.tasks p).place s.inode_count p s.volume.buffers q (shown_of disk.image s.volume) (shown_of disk.image t.volume) searched done.goes
 
-        by_last : (t : Bool) → used_by (cond t (closed (left_by l p)) (left_by l p)) p ≡ None
-        by_last true = by_homes (eqb (length l.homes) 0)
-        by_last false = left
+        others : (q : TaskProgress) → Steps disk s p op q t → LeavesOthers p s w t
+        others q done = record { tasks = done.tasks.others; numbers = done.tasks.numbers; log = alone (quiet_if_open s.volume.log p (log_of disk.image opening s w p is) (open_before disk.image opening s w p is group op stands)) }
 
--- it was the last of a group that logged something
-pub commits_now : (l : LogState) (p : ℕ) → end_answer l ≡ ended_as.Commit → ended l p ≡ record (left_by l p) { commit = commit.Logging 0 }
-commits_now l p e = by_last (eqb l.outstanding 1) (eqb (length l.homes) 0) e
-  where
-    by_last : (s t : Bool) → cond s (cond t ended_as.Left ended_as.Commit) ended_as.Left ≡ ended_as.Commit
-        → cond s (cond t (record (left_by l p) { committed = l.opened }) (record (left_by l p) { commit = commit.Logging 0 })) (left_by l p) ≡ record (left_by l p) { commit = commit.Logging 0 }
-    by_last true true e = absurd (cc e)
-    by_last true false e = refl
-    by_last false t e = absurd (cc e)
+        by_progress : (q : TaskProgress) → Steps disk s p op q t → z ≡ world_after q (is_over (task t.tasks p).place) w p → Made (step_of q)
+        by_progress progress.Moved done to =
+            let same = done.groups.committed in
+            let less : task_left t p < task_left s p = subst (λ (m : ℕ). steps_left (task t.tasks p).place m < task_left s p) (sym done.tasks.numbers) (done.falls refl) in
+            stays step.Moved to (counted_at (at.Before group op) step.Moved stands (omega (arith, same))) (others progress.Moved done)
+            (λ moved. fewer (process w p) (at.Before group op) (at.Before group op) stands stands (omega (arith, less)))
+        by_progress (progress.Turned reply) done to =
+            let same = done.groups.committed in
+            let over : is_over (task t.tasks p).place ≡ true = ((stops (progress.Turned reply) done).turned reply refl).0 in
+            let now : turned w p reply (is_over (task t.tasks p).place) ≡ turned_from (at.Before group op) w p reply true
+            = ap (λ (b : Bool). turned w p reply b) over ∙ ap (λ (a : At). turned_from a w p reply true) stands in
+            let some = some_step (task s.tasks p).place s.inode_count searched in
+            goes step.Moved (turned_from (at.Before group op) w p reply true) (record (process w p) { at = at.Ending group (length w.journal.list) }) (to ∙ now) refl refl (inr refl)
+            (inr (inl (record { entry = entry_of w p group op reply; mine = refl; later = later_before disk.image opening s w p is group op stands; list = refl })))
+            (counted_at (at.Before group op) step.Moved stands (omega (arith, same))) (others (progress.Turned reply) done)
+            (λ moved. fewer (record (process w p) { at = at.Ending group (length w.journal.list) }) (at.Before group op) (at.Ending group (length w.journal.list)) stands refl (omega (arith, some)))
+        by_progress (progress.Decided reply) done to = absurd ((stops (progress.Decided reply) done).decided reply refl)
+        by_progress progress.Over done to = absurd ((stops progress.Over done).over refl)
+        by_progress (progress.Sleeping cause) done to =
+            let same = done.groups.committed in stays (step.Sleeping cause) to (omega (arith, same)) (others (progress.Sleeping cause) done) (λ moved. absurd (cc moved))
+        by_progress (progress.Fault fault) done to =
+            let same = done.groups.committed in stays step.Halted to (omega (arith, same)) (others (progress.Fault fault) done) (λ moved. absurd (cc moved))
 
-pub table_commits : (c : Buffers) (l : LogState) (n p group : ℕ) (reply : Reply) (w : World) → IsTable c l n w → IsLog l → p < length w.processes → (process w p).at ≡ at.Ending group reply
-    → end_answer l ≡ ended_as.Commit → IsTable c (ended l p) n (committing w p)
-table_commits c l n p group reply w table is lt stands last =
-    let s = subst (λ (a : At). Stands c l n p a) stands (table.stands p) in
-    let has = some_open (used_by l p) s.0 in
-    let now = commits_now l p last in
-    let m : LogState = record (left_by l p) { commit = commit.Logging 0 } in
-    let none : used_by m p ≡ None = get_or-set_same l.used p None None (omega (arith, lt, table.few, is.pids)) in
-    table_goes c c l (ended l p) n p w _ (at.Ending group reply) (record (process w p) { at = committing_at (process w p).at }) (record {
-      table = table;
-      inside = lt;
-      from = stands;
-      holds = others_same c p;
-      logs = logs_ended l w c n p has.0 table is has.1;
-      held = held_none c p (slot_at (committing_at (process w p).at)) l n w table (ap slot_at stands);
-      processes = refl;
-      place = subst (λ (a : At). Stands c (ended l p) n p (committing_at a)) (sym stands) (subst (λ (o : LogState). Stands c o n p (at.Committing group reply)) (sym now) (none, refl, s.1));
-      alone = λ e q apart committing. none_commits c l n q w table (quiet_of l.commit l is (open_now l l.commit p has.0 is has.1)) committing;
-      room = let none_searches = ap (λ (a : At). cond {A = ℕ} (is_searching_at (committing_at a)) 1 0) stands in omega (arith, none_searches);
-      longer = omega arith;
-      begun = let had = begun_at c l n p (at.Ending group reply) w table stands in let none_searches = ap (λ (a : At). cond {A = ℕ} (is_searching_at (committing_at a)) 1 0) stands in omega (arith, had, none_searches);
-      opened = omega (arith, ended_opened l p, table.counted.opened);
-    })
+    ends : (group k : ℕ) (r : Step) → (process w p).at ≡ at.Ending group k → Ends s w p r t z → Made r
+    ends group k r stands made = subst Made (sym made.answer) (by_answer (end_answer s.volume.log) refl made.world)
+      where
+        used : IsSome (used_by s.volume.log p)
+        used = (stands_at disk.image opening s w p is (at.Ending group k) stands).1.0
 
-pub written_same : (k : Commit) (l : LogState) → ((written_at k l).used ≡ l.used) × ((written_at k l).opened ≡ l.opened)
-written_same commit.Quiet l = (refl, refl)
-written_same (commit.Logging j) l = (refl, refl)
-written_same commit.Heading l = (refl, refl)
-written_same (commit.Homing j) l = (refl, refl)
-written_same commit.Clearing l = (refl, refl)
+        log : t.volume.log ≡ ended s.volume.log p
+        log = ap (λ (o : StoreState D). o.volume.log) made.store
 
--- a write of a commit that goes on
-pub table_written : (c : Buffers) (l : LogState) (n p group : ℕ) (reply : Reply) (w : World) → IsTable c l n w → p < length w.processes → (process w p).at ≡ at.Committing group reply
-    → is_quiet (written_at l.commit l).commit ≡ false → IsTable (written_cache l.commit l.homes c) (written_at l.commit l) n w
-table_written c l n p group reply w table lt stands busy =
-    let s = subst (λ (a : At). Stands c l n p a) stands (table.stands p) in
-    let same = written_same l.commit l in
-    let mine : is_committing_at (process w p).at ≡ true = ap is_committing_at stands in
-    let d = written_cache l.commit l.homes c in
-    let m = written_at l.commit l in
-    table_goes c d l m n p w w (at.Committing group reply) (process w p) (record {
-      table = table;
-      inside = lt;
-      from = stands;
-      holds = others_written l.commit l.homes c p;
-      logs = logs_written l.commit l w c n p table mine;
-      held = held_same c d p (slot_at (process w p).at) (locks_written l.commit l.homes c) (holds_none c l n p w table (ap slot_at stands));
-      processes = sym (set-get_or w.processes p idle);
-      place = subst (λ (a : At). Stands d m n p a) (sym stands) (ap (λ (us : List (Option ℕ)). get_or us p None) same.0 ∙ s.0, busy, s.2 ∙ sym same.1);
-      alone = λ e q apart committing. apart (table.sole q p committing mine);
-      room = let none = ap (λ (a : At). cond {A = ℕ} (is_searching_at a) 1 0) stands in omega (arith, none);
-      longer = omega arith;
-      begun = table.counted.begun p;
-      opened = omega (arith, same.1, table.counted.opened);
-    })
+        counted : CountsCommitted step.Moved (at.Ending group k) s.volume.log t.volume.log
+        counted = ap (λ (l : LogState). l.committed) log ∙ ended_count s.volume.log p (open_of s.volume.log p (log_of disk.image opening s w p is) used)
 
--- the last write of a commit
-pub table_done : (c : Buffers) (l : LogState) (n p group : ℕ) (reply : Reply) (w : World) → IsTable c l n w → p < length w.processes → (process w p).at ≡ at.Committing group reply
-    → IsTable (written_cache l.commit l.homes c) (written_at l.commit l) n (idle_again w p)
-table_done c l n p group reply w table lt stands =
-    let s = subst (λ (a : At). Stands c l n p a) stands (table.stands p) in
-    let same = written_same l.commit l in
-    let mine : is_committing_at (process w p).at ≡ true = ap is_committing_at stands in
-    table_goes c (written_cache l.commit l.homes c) l (written_at l.commit l) n p w _ (at.Committing group reply) (record (process w p) { at = at.Idle }) (record {
-      table = table;
-      inside = lt;
-      from = stands;
-      holds = others_written l.commit l.homes c p;
-      logs = logs_written l.commit l w c n p table mine;
-      held = held_same c (written_cache l.commit l.homes c) p None (locks_written l.commit l.homes c) (holds_none c l n p w table (ap slot_at stands));
-      processes = refl;
-      place = ap (λ (us : List (Option ℕ)). get_or us p None) same.0 ∙ s.0;
-      alone = λ e q apart committing. absurd (false≢true e);
-      room = refl;
-      longer = omega arith;
-      begun = begun_at c l n p (at.Committing group reply) w table stands;
-      opened = omega (arith, same.1, table.counted.opened);
-    })
+        others : LeavesOthers p s w t
+        others = record {
+          tasks = λ q apart. ap (λ (o : StoreState D). task o.tasks q) made.store;
+          numbers = ap (λ (o : StoreState D). o.inode_count) made.store;
+          log = alone (quiet_if_open s.volume.log p (log_of disk.image opening s w p is) used);
+        }
+
+        by_answer : (e : Ended) → end_answer s.volume.log ≡ e → z ≡ world_ended e w p → Made (step_of_end e)
+        by_answer ended_as.Commit e to =
+            let few = few_homes (log_of disk.image opening s w p is) in
+            let left : writes_left t.volume.log.commit (length t.volume.log.homes) ≡ (length s.volume.log.homes - 0) + 1 + length s.volume.log.homes + 1
+            = ap (λ (l : LogState). writes_left l.commit (length l.homes)) (log ∙ commits_now s.volume.log p e) in
+            goes step.Moved (committing w p) (record (process w p) { at = committing_at (process w p).at }) to refl refl (inr refl) (inl refl) (counted_at (at.Ending group k) step.Moved stands counted) others
+            (λ moved. fewer (record (process w p) { at = committing_at (process w p).at }) (at.Ending group k) (at.Committing group k) stands (ap committing_at stands) (omega (arith, left, few)))
+        by_answer ended_as.Left e to =
+            goes step.Answered (answered w p) (record (process w p) { at = at.Idle }) to refl refl (inr refl) (inl refl) (counted_at (at.Ending group k) step.Answered stands counted) others (λ moved. absurd (cc moved))
+
+    writes : (group k : ℕ) (r : Step) → (process w p).at ≡ at.Committing group k → Writes disk s w p r t z → Made r
+    writes group k r stands made = subst Made (sym made.answer) (by_result made.result made.commits made.world)
+      where
+        counted : t.volume.log ≡ written_at s.volume.log.commit s.volume.log → CountsCommitted step.Moved (at.Committing group k) s.volume.log t.volume.log
+        counted log = ap (λ (l : LogState). l.committed) log ∙ written_count s.volume.log.commit s.volume.log (log_of disk.image opening s w p is)
+
+        -- one commits at most
+        others : (q : Committed) → Commits disk s q t → LeavesOthers p s w t
+        others q done = record {
+          tasks = λ q apart. ap (λ ts. task ts q) done.tasks;
+          numbers = done.numbers;
+          log = λ q apart other. absurd (apart (is.has.alone.sole q p other (ap is_committing_at stands)));
+        }
+
+        more : (q : Committed) → Commits disk s q t → (answer_at s.volume.log.commit s.volume.log.opened ≡ committed.Done → ⊥) → t.volume.log ≡ written_at s.volume.log.commit s.volume.log → z ≡ w → Made step.Moved
+        more q done goes_further log to =
+            let busy = is.has.alone.busy p (ap is_committing_at stands) in
+            let less = writes_fall s.volume.log.commit s.volume.log (log_of disk.image opening s w p is).idle busy (goes_on s.volume.log.commit s.volume.log s.volume.log.opened busy goes_further) in
+            stays step.Moved to (counted_at (at.Committing group k) step.Moved stands (counted log)) (others q done)
+            (λ moved. fewer (process w p) (at.Committing group k) (at.Committing group k) stands stands
+            (subst (λ (l : LogState). writes_left l.commit (length l.homes) < writes_left s.volume.log.commit (length s.volume.log.homes)) (sym log) less))
+
+        by_result : (q : Committed) → Commits disk s q t → z ≡ world_written q w p → Made (step_of_write q)
+        by_result committed.More done to = more committed.More done (λ over. let no = sym done.step.0 ∙ over in absurd (cc no)) done.step.1.log to
+        by_result (committed.Durable g) done to = more (committed.Durable g) done (λ over. let no = sym done.step.0 ∙ over in absurd (cc no)) done.step.1.log to
+        by_result committed.Done done to =
+            goes step.Answered (answered w p) (record (process w p) { at = at.Idle }) to refl refl (inr refl) (inl refl) (counted_at (at.Committing group k) step.Answered stands (counted done.step.1.log)) (others committed.Done done) (λ moved. absurd (cc moved))
+        by_result (committed.Fault fault) done to =
+            let same = ap (λ (l : LogState). l.committed) done.step.log in stays step.Halted to (omega (arith, same)) (others (committed.Fault fault) done) (λ moved. absurd (cc moved))
+
+    event_at : (r : Step) (a : At) → (process w p).at ≡ a → NextAt disk a s w p before side told r t z → Made r
+    event_at r at.Idle stands (inl heard) = subst Made (sym heard.answer) (rests step.ShutDown true refl (λ e. cc e) heard.store heard.world (λ shut. refl))
+    event_at r at.Idle stands (inr rest) = begins (option_map waiting_of (first_in rest.ahead)) rest.ahead r stands rest.unshut rest.begins
+    event_at r (at.Before group op) stands made = works group op r stands made
+    event_at r (at.Behind group k) stands made = absurd made
+    event_at r (at.Ending group k) stands made = ends group k r stands made
+    event_at r (at.Committing group k) stands made = writes group k r stands made
+
+  -- what each step of a process is, also after a fault
+  pub event_of : (r : Step) → (s.volume.fault ≡ None → IsWell disk.image opening s w p) → Next disk s w p before side told r t z → Made r
+  event_of r well made = by_fault s.volume.fault refl made
+    where
+      by_fault : (o : Option DiskFault) → s.volume.fault ≡ o → NextIf disk o s w p before side told r t z → Made r
+      by_fault None is next = event_at (well is) r (process w p).at refl next
+      by_fault (Some fault) is next = subst Made (sym next.0) (rests step.Halted w.is_shut refl (λ e. cc e) next.1.0 next.1.1 (λ shut. shut))

@@ -1,156 +1,195 @@
--- One step of a process: what becomes of volume and processes, by where the process stands and what the step answers.
+-- One step of a process: what becomes of store and processes, by where the process stands and what
+-- the step answers.
 use Rattle.std.specs.Option.{option_map}
 use Rattle.std.specs.Prelude.{◌≡◌, ◌⊎◌, ℕ, ◌∷◌, Bool, false, true, List, Option, Some, None}
 use mathlib.Core.List.{IsPrefix}
-use Rattle.blocks.specs.Disk.{Image, one_more}
+use Rattle.blocks.specs.declared.disk.Disk.{Ghosts}
 use Rattle.blocks.specs.declared.errors.DiskFault.{DiskFault}
 use Rattle.model.specs.declared.types.operations.Op.{Op}
-use Rattle.model.specs.declared.types.operations.Op.TheVariants.{Create}
+use Rattle.model.specs.declared.types.operations.Reply.TheVariants.{BadType}
+use Rattle.model.specs.declared.types.operations.TaskProgress.{TaskProgress}
+use Rattle.model.specs.declared.types.operations.TaskProgress.TheVariants as progress
+use Rattle.model.specs.declared.types.operations.Why.{Why}
 use Rattle.model.specs.declared.types.operations.Why.TheVariants as why
-use Rattle.model.specs.Codec.{header_block}
+use Rattle.wal.specs.declared.types.Committed.{Committed}
 use Rattle.wal.specs.declared.types.Committed.TheVariants as committed
+use Rattle.wal.specs.declared.types.Ended.{Ended}
 use Rattle.wal.specs.declared.types.Ended.TheVariants as ended_as
 use Rattle.wal.specs.Machine.{LogState, begin_cause, begun, ended, end_answer}
-use Rattle.wal.specs.Joint.{seen, place_at}
-use Rattle.wal.specs.Step.{Stepped, Faulted, answer_at}
-use Rattle.wal.specs.Volume.{VolumeState}
+use Rattle.inodes.specs.Store.{StoreState, with_begun, with_log}
+use Rattle.inodes.specs.Tasks.{task}
+use Rattle.inodes.specs.Steps.{Steps, Commits, is_over}
 use Rattle.ports.specs.History.{Side, first_in}
-use Rattle.inodes.specs.declared.ialloc.Ialloc.{Ialloc}
-use Rattle.inodes.specs.declared.progress.Progress.TheVariants as progress
-use Rattle.inodes.specs.Ialloc.{Allocates}
-use Rattle.kernel.specs.declared.stepping.Waiting.{Waiting}
-use Rattle.kernel.specs.declared.stepping.Waiting.TheVariants as waiting
-use Rattle.kernel.specs.State.{waiting_of}
-use Rattle.kernel.specs.declared.types.At.{At}
-use Rattle.kernel.specs.declared.types.At.TheVariants as at
+use Rattle.journal.specs.declared.types.At.{At}
+use Rattle.journal.specs.declared.types.At.TheVariants as at
+use Rattle.journal.specs.Processes.{World, process, with_place, taken, turned, refused, committing, answered}
+use Rattle.kernel.specs.declared.waiting.Waiting.{Waiting}
+use Rattle.kernel.specs.declared.waiting.Waiting.TheVariants as waiting
 use Rattle.kernel.specs.declared.types.Step.{Step}
 use Rattle.kernel.specs.declared.types.Step.TheVariants as step
-use Rattle.kernel.specs.Processes.{World, process, with_place, creating, searching, turned, refused, committing, idle_again, made_reply}
+use Rattle.kernel.specs.State.{waiting_of}
 
--- volume and processes stay
-abbrev pub Same : {D : Type 0} → VolumeState D → World → VolumeState D → World → Type 0
-Same v w u z = (u ≡ v) × (z ≡ w)
+-- store and processes stay
+abbrev pub Same : {D : Type 0} → StoreState D → World → StoreState D → World → Type 0
+Same s w t z = (t ≡ s) × (z ≡ w)
 
--- the search that a creation begins with
-abbrev pub first_search : ℕ → ℕ → Ialloc
-first_search kind inode_count = record { kind = kind; inode_count = inode_count; block = 33; slot = None }
+-- The operation is the first of those that waited, and was taken: `side` is the process's side of
+-- the intake then.
+abbrev pub IsTaken : List Op → Side → Waiting → Op → Type 0
+IsTaken ahead side what op = (ahead ≡ op ∷ side.ahead) × (waiting_of op ≡ what)
 
--- The operation is the first of those that waited, and was taken: s is the process's side of the intake then.
-abbrev pub IsTaken : List Op → Side → Op → Type 0
-IsTaken ahead s op = ahead ≡ op ∷ s.ahead
+-- a creation was taken, and its group is open
+pub record TakesCreation {D : Type 0} (what : Option Waiting) (s : StoreState D) (w : World) (p : ℕ) (ahead : List Op)
+    (side : Side) (r : Step) (t : StoreState D) (z : World) : Type 0 where
+  pub op : Op
+  pub waits : what ≡ Some waiting.Creation
+  pub taken : IsTaken ahead side waiting.Creation op
+  pub room : side.has_room ≡ true
+  pub free : begin_cause s.volume.log ≡ None
+  pub answer : r ≡ step.Moved
+  pub store : t ≡ with_begun s p op
+  pub world : z ≡ Rattle.journal.specs.Processes.taken (with_place w) p (begun s.volume.log p).opened op
 
--- the operation is the first of those that wait, and goes on waiting
-abbrev pub IsLeft : List Op → Side → Op → Type 0
-IsLeft ahead s op = (s.ahead ≡ ahead) × (first_in ahead ≡ Some op)
+-- a creation of a type that no file has was taken, and answered at once
+pub record TakesRefused {D : Type 0} (what : Option Waiting) (s : StoreState D) (w : World) (p : ℕ) (ahead : List Op)
+    (side : Side) (r : Step) (t : StoreState D) (z : World) : Type 0 where
+  pub op : Op
+  pub waits : what ≡ Some waiting.Refused
+  pub taken : IsTaken ahead side waiting.Refused op
+  pub answer : r ≡ step.Answered
+  pub store : t ≡ s
+  pub world : z ≡ refused (with_place w) p op BadType
 
--- a creation that waits begins, or has to wait, or has no memory
-abbrev pub BeginsCreation : {D : Type 0} → ℕ → ℕ → VolumeState D → World → ℕ → List Op → Side → Step → VolumeState D → World → Type 0
-BeginsCreation n kind v w p ahead s step.Moved u z = ((op : Op) × IsTaken ahead s op × (waiting_of op ≡ waiting.Creation kind)) ×
-    (s.has_room ≡ true) × (begin_cause v.log ≡ None) × (u ≡ record v { log = begun v.log p }) × (z ≡ creating (with_place w) p (begun v.log p).opened (first_search kind n))
-BeginsCreation n kind v w p ahead s (step.Sleeping cause) u z = Same v w u z × (s.ahead ≡ ahead) ×
-    (((cause ≡ why.AnswersFull) × (s.has_room ≡ false)) ⊎ ((begin_cause v.log ≡ Some cause) × (s.has_room ≡ true)))
-BeginsCreation n kind v w p ahead s step.NoMemory u z = Same v w u z × (s.ahead ≡ ahead) × (s.has_room ≡ true) × (begin_cause v.log ≡ None)
-BeginsCreation n kind v w p ahead s step.Answered u z = ⊥
-BeginsCreation n kind v w p ahead s step.Idle u z = ⊥
-BeginsCreation n kind v w p ahead s step.ShutDown u z = ⊥
-BeginsCreation n kind v w p ahead s step.Halted u z = ⊥
-BeginsCreation n kind v w p ahead s step.NotYet u z = ⊥
+-- there is room for an answer, but no memory
+abbrev pub HasNoMemory : Bool → Step → Type 0
+HasNoMemory room r = (r ≡ step.NoMemory) × (room ≡ true)
 
--- one that is refused is idle_again at once
-abbrev pub AnswersRefusal : {D : Type 0} → VolumeState D → World → ℕ → List Op → Side → Step → VolumeState D → World → Type 0
-AnswersRefusal v w p ahead s step.Answered u z = (op : Op) × IsTaken ahead s op × (waiting_of op ≡ waiting.Refused) × (u ≡ v) × (z ≡ refused (with_place w) p op)
-AnswersRefusal v w p ahead s (step.Sleeping cause) u z = Same v w u z × (s.ahead ≡ ahead) × (cause ≡ why.AnswersFull) × (s.has_room ≡ false)
-AnswersRefusal v w p ahead s step.NoMemory u z = Same v w u z × (s.ahead ≡ ahead) × (s.has_room ≡ true)
-AnswersRefusal v w p ahead s step.Moved u z = ⊥
-AnswersRefusal v w p ahead s step.Idle u z = ⊥
-AnswersRefusal v w p ahead s step.ShutDown u z = ⊥
-AnswersRefusal v w p ahead s step.Halted u z = ⊥
-AnswersRefusal v w p ahead s step.NotYet u z = ⊥
+-- there is no room for an answer
+abbrev pub HasNoRoom : Bool → Step → Type 0
+HasNoRoom room r = (r ≡ step.Sleeping why.AnswersFull) × (room ≡ false)
 
--- a step of a creation's search, over a disk with the image x
-abbrev pub Searches : {D : Type 0} → Image → ℕ → Ialloc → VolumeState D → World → ℕ → Step → VolumeState D → World → Type 0
-Searches x group m v w p step.Moved u z = (n : Ialloc) ×
-    ((Allocates x (seen x v.buffers) m v p progress.Moved n u × (z ≡ searching w p group n))
-    ⊎ ((made : Option ℕ) × Allocates x (seen x v.buffers) m v p (progress.Over made) n u × (z ≡ turned w p (Create m.kind) group (made_reply made))))
-Searches x group m v w p (step.Sleeping cause) u z = (n : Ialloc) × Allocates x (seen x v.buffers) m v p (progress.Sleeping cause) n u × (z ≡ w)
-Searches x group m v w p step.Halted u z = (n : Ialloc) × ((fault : DiskFault) × Allocates x (seen x v.buffers) m v p (progress.Fault fault) n u × (z ≡ w))
-Searches x group m v w p step.Answered u z = ⊥
-Searches x group m v w p step.Idle u z = ⊥
-Searches x group m v w p step.NoMemory u z = ⊥
-Searches x group m v w p step.ShutDown u z = ⊥
-Searches x group m v w p step.NotYet u z = ⊥
+-- the log lets no operation begin
+abbrev pub IsKeptOut : LogState → Bool → Step → Type 0
+IsKeptOut l room r = (cause : Why) × (r ≡ step.Sleeping cause) × (begin_cause l ≡ Some cause) × (room ≡ true)
 
--- an operation ends: its group is closed with homes, and it commits it, or it is idle_again
-abbrev pub Ends : {D : Type 0} → VolumeState D → World → ℕ → Step → VolumeState D → World → Type 0
-Ends v w p step.Moved u z = (end_answer v.log ≡ ended_as.Commit) × (u ≡ record v { log = ended v.log p }) × (z ≡ committing w p)
-Ends v w p step.Answered u z = (end_answer v.log ≡ ended_as.Left) × (u ≡ record v { log = ended v.log p }) × (z ≡ idle_again w p)
-Ends v w p (step.Sleeping cause) u z = ⊥
-Ends v w p step.Idle u z = ⊥
-Ends v w p step.NoMemory u z = ⊥
-Ends v w p step.ShutDown u z = ⊥
-Ends v w p step.Halted u z = ⊥
-Ends v w p step.NotYet u z = ⊥
+-- why what waits first is not taken, as the answer says
+abbrev pub IsNotTaken : Option Waiting → LogState → Bool → Step → Type 0
+IsNotTaken None l room r = r ≡ step.Idle
+IsNotTaken (Some waiting.Other) l room r = r ≡ step.NotYet
+IsNotTaken (Some waiting.Refused) l room r = HasNoRoom room r ⊎ HasNoMemory room r
+IsNotTaken (Some waiting.Creation) l room r =
+    HasNoRoom room r ⊎ (IsKeptOut l room r ⊎ (HasNoMemory room r × (begin_cause l ≡ None)))
 
--- a write of a commit was made, over disks with the images x and y
-abbrev pub Writes : {D : Type 0} → Image → VolumeState D → Image → VolumeState D → Type 0
-Writes x v y u = Stepped (header_block v.log.homes) x v.buffers v.log y u.buffers u.log
-
-abbrev pub Commits : {D : Type 0} → Image → VolumeState D → World → ℕ → Step → Image → VolumeState D → World → Type 0
-Commits x v w p step.Moved y u z =
-    ((answer_at v.log.commit v.log.opened ≡ committed.More) ⊎ ((group : ℕ) × (answer_at v.log.commit v.log.opened ≡ committed.Durable group))) × Writes x v y u × (z ≡ w)
-Commits x v w p step.Answered y u z = (answer_at v.log.commit v.log.opened ≡ committed.Done) × Writes x v y u × (z ≡ idle_again w p)
-Commits x v w p step.Halted y u z = Faulted (header_block v.log.homes) x v.buffers v.log y u.buffers u.log × (z ≡ w)
-Commits x v w p (step.Sleeping cause) y u z = ⊥
-Commits x v w p step.Idle y u z = ⊥
-Commits x v w p step.NoMemory y u z = ⊥
-Commits x v w p step.ShutDown y u z = ⊥
-Commits x v w p step.NotYet y u z = ⊥
+-- nothing was taken, and nothing changed
+pub record TakesNone {D : Type 0} (what : Option Waiting) (s : StoreState D) (w : World) (ahead : List Op) (side : Side)
+    (r : Step) (t : StoreState D) (z : World) : Type 0 where
+  pub same : Same s w t z
+  pub ahead_stays : side.ahead ≡ ahead
+  pub answer : IsNotTaken what s.volume.log side.has_room r
 
 -- by what waits first
-abbrev pub BeginsWith : {D : Type 0} → Option Waiting → ℕ → VolumeState D → World → ℕ → List Op → Side → Step → VolumeState D → World → Type 0
-BeginsWith None n v w p ahead s r u z = (r ≡ step.Idle) × Same v w u z × (s.ahead ≡ ahead)
-BeginsWith (Some waiting.Other) n v w p ahead s r u z = (r ≡ step.NotYet) × Same v w u z × (s.ahead ≡ ahead)
-BeginsWith (Some waiting.Refused) n v w p ahead s r u z = AnswersRefusal v w p ahead s r u z
-BeginsWith (Some (waiting.Creation kind)) n v w p ahead s r u z = BeginsCreation n kind v w p ahead s r u z
+abbrev pub BeginsWith : {D : Type 0} → Option Waiting → StoreState D → World → ℕ → List Op → Side → Step → StoreState D → World → Type 0
+BeginsWith what s w p ahead side r t z =
+    TakesCreation what s w p ahead side r t z
+    ⊎ (TakesRefused what s w p ahead side r t z ⊎ TakesNone what s w ahead side r t z)
 
 -- no operation begins any more: the kernel was shut, or its herald told of a shutdown
-abbrev pub HearsShutdown : {D : Type 0} → VolumeState D → World → Bool → Step → VolumeState D → World → Type 0
-HearsShutdown v w told r u z = ((w.is_shut ≡ true) ⊎ (told ≡ true)) × (r ≡ step.ShutDown) × (u ≡ v) × (z ≡ record w { is_shut = true })
+pub record HearsShutdown {D : Type 0} (s : StoreState D) (w : World) (told : Bool) (r : Step) (t : StoreState D) (z : World) : Type 0 where
+  pub heard : (w.is_shut ≡ true) ⊎ (told ≡ true)
+  pub answer : r ≡ step.ShutDown
+  pub store : t ≡ s
+  pub world : z ≡ record w { is_shut = true }
 
--- The beginning of what waits for a process, where these operations were ahead before the step, the intake's side is s after it,
--- and `told` says whether the herald told of a shutdown.
-abbrev pub Begins : {D : Type 0} → ℕ → VolumeState D → World → ℕ → List Op → Side → Bool → Step → VolumeState D → World → Type 0
-Begins n v w p before s told r u z =
-    HearsShutdown v w told r u z
-    ⊎ ((w.is_shut ≡ false) × (told ≡ false) × ((ahead : List Op) × IsPrefix before ahead × BeginsWith (option_map waiting_of (first_in ahead)) n v w p ahead s r u z))
+-- nobody told of a shutdown; what waits was looked up, and the first of it decides
+pub record HearsNone {D : Type 0} (s : StoreState D) (w : World) (p : ℕ) (before : List Op) (side : Side) (told : Bool)
+    (r : Step) (t : StoreState D) (z : World) : Type 0 where
+  pub unshut : w.is_shut ≡ false
+  pub untold : told ≡ false
+  pub ahead : List Op
+  pub prefix : IsPrefix before ahead
+  pub begins : BeginsWith (option_map waiting_of (first_in ahead)) s w p ahead side r t z
+
+-- The beginning of what waits for a process, where these operations were ahead before the step, the
+-- intake's side is `side` after it, and `told` says whether the herald told of a shutdown.
+abbrev pub BeginsNext : {D : Type 0} → StoreState D → World → ℕ → List Op → Side → Bool → Step → StoreState D → World → Type 0
+BeginsNext s w p before side told r t z = HearsShutdown s w told r t z ⊎ HearsNone s w p before side told r t z
+
+-- what a step answers, by what the task's step came to
+abbrev pub step_of : TaskProgress → Step
+step_of progress.Moved = step.Moved
+step_of (progress.Turned reply) = step.Moved
+step_of (progress.Decided reply) = step.Moved
+step_of progress.Over = step.Moved
+step_of (progress.Sleeping cause) = step.Sleeping cause
+step_of (progress.Fault fault) = step.Halted
+
+-- the turn of an operation brings its entry into the journal; nothing else of the processes changes
+abbrev pub world_after : TaskProgress → Bool → World → ℕ → World
+world_after progress.Moved over w p = w
+world_after (progress.Turned reply) over w p = turned w p reply over
+world_after (progress.Decided reply) over w p = w
+world_after progress.Over over w p = w
+world_after (progress.Sleeping cause) over w p = w
+world_after (progress.Fault fault) over w p = w
+
+-- a step of the task of a process whose operation has not had its turn
+pub record Works {D N : Type 0} (disk : Ghosts D N) (s : StoreState D) (w : World) (p : ℕ) (op : Op) (r : Step)
+    (t : StoreState D) (z : World) : Type 0 where
+  pub progress : TaskProgress
+  pub steps : Steps disk s p op progress t
+  pub answer : r ≡ step_of progress
+  pub world : z ≡ world_after progress (is_over (task t.tasks p).place) w p
+
+-- what a step answers, by what an end in the log came to
+abbrev pub step_of_end : Ended → Step
+step_of_end ended_as.Commit = step.Moved
+step_of_end ended_as.Left = step.Answered
+
+-- the process commits its group, or it is answered
+abbrev pub world_ended : Ended → World → ℕ → World
+world_ended ended_as.Commit w p = committing w p
+world_ended ended_as.Left w p = answered w p
+
+-- an operation ends: with its last one a group that has homes is closed
+pub record Ends {D : Type 0} (s : StoreState D) (w : World) (p : ℕ) (r : Step) (t : StoreState D) (z : World) : Type 0 where
+  pub answer : r ≡ step_of_end (end_answer s.volume.log)
+  pub store : t ≡ with_log s (ended s.volume.log p)
+  pub world : z ≡ world_ended (end_answer s.volume.log) w p
+
+-- what a step answers, by what a commit's write came to
+abbrev pub step_of_write : Committed → Step
+step_of_write committed.More = step.Moved
+step_of_write (committed.Durable group) = step.Moved
+step_of_write committed.Done = step.Answered
+step_of_write (committed.Fault fault) = step.Halted
+
+-- with the last write the operation is answered
+abbrev pub world_written : Committed → World → ℕ → World
+world_written committed.More w p = w
+world_written (committed.Durable group) w p = w
+world_written committed.Done w p = answered w p
+world_written (committed.Fault fault) w p = w
+
+-- a write of a commit
+pub record Writes {D N : Type 0} (disk : Ghosts D N) (s : StoreState D) (w : World) (p : ℕ) (r : Step) (t : StoreState D) (z : World) : Type 0 where
+  pub result : Committed
+  pub commits : Commits disk s result t
+  pub answer : r ≡ step_of_write result
+  pub world : z ≡ world_written result w p
 
 -- by where the process stands
-abbrev pub NextAt : {D : Type 0} → At → Image → ℕ → VolumeState D → World → ℕ → List Op → Side → Bool → Step → Image → VolumeState D → World → Type 0
-NextAt at.Idle x n v w p before s told r y u z = Begins n v w p before s told r u z
-NextAt (at.Creating group m) x n v w p before s told r y u z = Searches x group m v w p r u z
-NextAt (at.Ending group reply) x n v w p before s told r y u z = Ends v w p r u z
-NextAt (at.Committing group reply) x n v w p before s told r y u z = Commits x v w p r y u z
+abbrev pub NextAt : {D N : Type 0} → Ghosts D N → At → StoreState D → World → ℕ → List Op → Side → Bool → Step → StoreState D → World → Type 0
+NextAt disk at.Idle s w p before side told r t z = BeginsNext s w p before side told r t z
+NextAt disk (at.Before group op) s w p before side told r t z = Works disk s w p op r t z
+-- a creation is over at its turn
+NextAt disk (at.Behind group k) s w p before side told r t z = ⊥
+NextAt disk (at.Ending group k) s w p before side told r t z = Ends s w p r t z
+NextAt disk (at.Committing group k) s w p before side told r t z = Writes disk s w p r t z
 
 -- after a fault nothing is done any more
-abbrev pub NextIf : {D : Type 0} → Option DiskFault → Image → ℕ → VolumeState D → World → ℕ → List Op → Side → Bool → Step → Image → VolumeState D → World → Type 0
-NextIf None x n v w p before s told r y u z = NextAt (process w p).at x n v w p before s told r y u z
-NextIf (Some fault) x n v w p before s told r y u z = (r ≡ step.Halted) × Same v w u z
+abbrev pub NextIf : {D N : Type 0} → Ghosts D N → Option DiskFault → StoreState D → World → ℕ → List Op → Side → Bool → Step → StoreState D → World → Type 0
+NextIf disk None s w p before side told r t z = NextAt disk (process w p).at s w p before side told r t z
+NextIf disk (Some fault) s w p before side told r t z = (r ≡ step.Halted) × Same s w t z
 
-abbrev pub Next : {D : Type 0} → Image → ℕ → VolumeState D → World → ℕ → List Op → Side → Bool → Step → Image → VolumeState D → World → Type 0
-Next x n v w p before s told r y u z = NextIf v.fault x n v w p before s told r y u z
-
--- a step makes one write at most
-abbrev pub WritesOnce : ℕ → ℕ → Type 0
-WritesOnce old new = (new ≡ old) ⊎ (new ≡ one_more old)
-
--- a step has a fault exactly where the disk counts one, and then no write
-abbrev pub CountsItsFault : Option DiskFault → ℕ → ℕ → ℕ → ℕ → Type 0
-CountsItsFault None writes written faults failed = failed ≡ faults
-CountsItsFault (Some fault) writes written faults failed = (written ≡ writes) × (failed ≡ one_more faults)
-
--- the block that a step reads or writes; 0 where it does neither
-abbrev pub block_at_step : At → LogState → ℕ
-block_at_step at.Idle l = 0
-block_at_step (at.Creating group m) l = m.block
-block_at_step (at.Ending group reply) l = 0
-block_at_step (at.Committing group reply) l = place_at l.commit l.homes
+abbrev pub Next : {D N : Type 0} → Ghosts D N → StoreState D → World → ℕ → List Op → Side → Bool → Step → StoreState D → World → Type 0
+Next disk s w p before side told r t z = NextIf disk s.volume.fault s w p before side told r t z

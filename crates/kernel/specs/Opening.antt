@@ -1,12 +1,40 @@
--- Why a kernel isn't opened, and how the disk is then.
-use Rattle.std.specs.Prelude.{◌≡◌, ◌≤◌, ◌<◌, ◌⊎◌, ℕ, None}
-use Rattle.blocks.specs.Disk.{Image, Rose}
+-- A kernel that was opened, and why one isn't.
+use Rattle.std.specs.Prelude.{◌≡◌, ◌≤◌, ◌<◌, ◌⊎◌, ℕ, replicate, None}
+use Rattle.blocks.specs.Disk.{Rose, LeavesOnly, counted}
+use Rattle.blocks.specs.declared.disk.Disk.{Ghosts}
+use Rattle.model.specs.Layout.{inode_count_of}
+use Rattle.model.specs.Log.{recovered, logged_count}
 use Rattle.model.specs.Verdict.{verdict}
 use Rattle.layout.specs.Cause.{IsCause}
+use Rattle.wal.specs.Recovery.{RecoversAs, writes_to_recover}
 use Rattle.wal.specs.declared.faults.RecoverFault.{RecoverFault}
 use Rattle.wal.specs.declared.faults.RecoverFault.TheVariants as recover
+use Rattle.inodes.specs.Store.{fresh_volume}
+use Rattle.inodes.specs.Tasks.{no_task}
+use Rattle.journal.specs.Processes.{fresh_world}
+use Rattle.kernel.specs.State.{State}
 use Rattle.kernel.specs.declared.types.OpenFault.{OpenFault}
 use Rattle.kernel.specs.declared.types.OpenFault.TheVariants.{Check, Recover, NoMemory, ProcRange}
+
+-- k was opened with so many processes over the disk d, whose image was sound: it was recovered, and
+-- nothing else happened
+pub record IsOpened {D N I H : Type 0} (disk : Ghosts D N) (d : D) (i : I) (h : H) (processes : ℕ) (k : State D I H) : Type 0 where
+  pub some : 1 ≤ processes
+  pub few : processes ≤ 32
+  pub sound : verdict (disk.image d) ≡ None
+  pub opening : disk.image k.opening ≡ recovered (disk.image d)
+  pub store : k.store ≡ record {
+    volume = fresh_volume disk.image k.opening;
+    tasks = replicate processes no_task;
+    inode_count = inode_count_of (disk.image d);
+  }
+  pub world : k.world ≡ fresh_world processes
+  pub intake : k.intake ≡ i
+  pub herald : k.herald ≡ h
+  pub name : disk.name k.opening ≡ disk.name d
+  pub writes : disk.write_count k.opening ≡ counted (disk.write_count d) (writes_to_recover (logged_count (disk.image d)))
+  pub faults : disk.fault_count k.opening ≡ disk.fault_count d
+  pub leaves : LeavesOnly disk.moment disk.leaves d k.opening (RecoversAs (disk.image d))
 
 -- the fault of a recovery after a check that found none
 abbrev pub IsRecoverCause : RecoverFault → ℕ → ℕ → Type 0
@@ -14,16 +42,25 @@ IsRecoverCause recover.Disk old new = Rose old new
 IsRecoverCause recover.BadLog old new = ⊥
 IsRecoverCause recover.NoMemory old new = Unit {0}
 
--- the disk d is handed back as e, with that fault
-abbrev pub RefusesToOpen : {D : Type 0} → (D → Image) → (D → ℕ) → D → D → ℕ → OpenFault → Type 0
-RefusesToOpen image faults d e processes (Check fault) = (1 ≤ processes) × (processes ≤ 32) × IsCause (verdict (image d)) (faults d) (faults e) fault × (image e ≡ image d)
-RefusesToOpen image faults d e processes (Recover fault) = (1 ≤ processes) × (processes ≤ 32) × (verdict (image d) ≡ None) × IsRecoverCause fault (faults d) (faults e)
-RefusesToOpen image faults d e processes NoMemory = (1 ≤ processes) × (processes ≤ 32) × (verdict (image d) ≡ None) × (image e ≡ image d)
-RefusesToOpen image faults d e processes ProcRange = ((processes < 1) ⊎ (32 < processes)) × (e ≡ d)
-
--- the faults at which blocks may have been written
+-- the faults at which blocks may have been written: a write of the recovery failed
 abbrev pub MayWrite : OpenFault → Type 0
 MayWrite (Check fault) = ⊥
-MayWrite (Recover fault) = Unit {0}
+MayWrite (Recover recover.Disk) = Unit {0}
+MayWrite (Recover recover.BadLog) = ⊥
+MayWrite (Recover recover.NoMemory) = ⊥
 MayWrite NoMemory = ⊥
 MayWrite ProcRange = ⊥
+
+-- the disk d is handed back as e, for that reason
+abbrev pub IsOpenCause : {D N : Type 0} → Ghosts D N → D → D → ℕ → OpenFault → Type 0
+IsOpenCause disk d e processes (Check fault) = (1 ≤ processes) × (processes ≤ 32) × IsCause (verdict (disk.image d)) (disk.fault_count d) (disk.fault_count e) fault
+IsOpenCause disk d e processes (Recover fault) = (1 ≤ processes) × (processes ≤ 32) × (verdict (disk.image d) ≡ None) × IsRecoverCause fault (disk.fault_count d) (disk.fault_count e)
+IsOpenCause disk d e processes NoMemory = (1 ≤ processes) × (processes ≤ 32) × (verdict (disk.image d) ≡ None)
+IsOpenCause disk d e processes ProcRange = ((processes < 1) ⊎ (32 < processes)) × (e ≡ d)
+
+-- and nothing of it was written but by a recovery that failed
+pub record RefusesToOpen {D N : Type 0} (disk : Ghosts D N) (d e : D) (processes : ℕ) (fault : OpenFault) : Type 0 where
+  pub cause : IsOpenCause disk d e processes fault
+  pub unwritten : MayWrite fault ⊎ ((disk.image e ≡ disk.image d) × (disk.write_count e ≡ disk.write_count d))
+  pub name : disk.name e ≡ disk.name d
+  pub leaves : LeavesOnly disk.moment disk.leaves d e (RecoversAs (disk.image d))

@@ -3,11 +3,11 @@ use Rattle.std.specs.Prelude.{◌≡◌, ℕ, ◌+◌, ◌==◌, ◌&&◌, if◌
 use Rattle.wal.specs.declared.types.Commit.{Commit}
 use Rattle.wal.specs.declared.types.Commit.TheVariants as commit
 use Rattle.wal.specs.Machine.{LogState}
-use Rattle.kernel.specs.declared.types.At.{At}
-use Rattle.kernel.specs.declared.types.At.TheVariants as at
+use Rattle.journal.specs.declared.types.At.{At}
+use Rattle.journal.specs.declared.types.At.TheVariants as at
+use Rattle.journal.specs.Processes.{World, process}
 use Rattle.kernel.specs.declared.types.Step.{Step}
 use Rattle.kernel.specs.declared.types.Step.TheVariants as step
-use Rattle.kernel.specs.Processes.{World, process}
 
 -- the next write is that of the header
 abbrev pub is_heading : Commit → Bool
@@ -17,12 +17,14 @@ is_heading commit.Heading = true
 is_heading (commit.Homing k) = false
 is_heading commit.Clearing = false
 
--- the step of a process that stands so commits its group: it writes the header, or it is the last end of a group without homes
+-- the step of a process that stands so commits its group: it writes the header, or it is the last
+-- end of a group without homes
 abbrev pub commits_at : At → LogState → Bool
 commits_at at.Idle l = false
-commits_at (at.Creating group search) l = false
-commits_at (at.Ending group reply) l = (l.outstanding == 1) && (length l.homes == 0)
-commits_at (at.Committing group reply) l = is_heading l.commit
+commits_at (at.Before group op) l = false
+commits_at (at.Behind group k) l = false
+commits_at (at.Ending group k) l = (l.outstanding == 1) && (length l.homes == 0)
+commits_at (at.Committing group k) l = is_heading l.commit
 
 -- a step that is made; one that halts is not
 abbrev pub commits : Step → At → LogState → Bool

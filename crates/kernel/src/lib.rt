@@ -24,16 +24,13 @@
 //! under way go on to their ends.
 #![tactic(auto)]
 
-mod journal;
 mod opening;
-mod processes;
 mod queues;
 mod runs;
 mod stepping;
 mod types;
+mod waiting;
 
-pub use journal::Journal;
-pub use processes::Processes;
 pub use runs::run;
 pub use stepping::Kernel;
-pub use types::{At, OpenFault, Process, Step, Turn};
+pub use types::{OpenFault, Step, Turn};

@@ -1,20 +1,19 @@
 // Opening a kernel, and what may be asked of it between two steps.
-ghost use Rattle.std.specs.Prelude.{◌≡◌, ◌⊎◌, ◌≤◌, ℕ, ◌<◌, true, length, None, IfOk, IfErr, IsTrue, MatchResult};
-ghost use Rattle.blocks.specs.Disk.{LeavesOnly, counted};
-ghost use Rattle.model.specs.Layout.{inode_count_of, is_lawful_super};
-ghost use Rattle.model.specs.Log.{recovered, logged_count};
-ghost use Rattle.model.specs.Verdict.{verdict};
+ghost use Rattle.std.specs.Prelude.{◌≡◌, ◌<◌, ℕ, true, length, replicate, IfOk, IfErr, IsTrue};
+ghost use Rattle.model.specs.Layout.{is_lawful_super};
 ghost use Rattle.bcache.specs.Buffers.{fresh_buffers};
 ghost use Rattle.wal.specs.Machine.{new_log};
-ghost use Rattle.wal.specs.Recovery.{RecoversAs, writes_to_recover};
-ghost use Rattle.kernel.specs.Processes.{fresh_world, process};
-ghost use Rattle.kernel.specs.Opening.{RefusesToOpen, MayWrite};
+ghost use Rattle.inodes.specs.Tasks.{no_task};
+ghost use Rattle.journal.specs.Processes.{fresh_world, process};
+ghost use Rattle.kernel.specs.Opening.{IsOpened, RefusesToOpen};
 ghost use Rattle.ports.specs.History.{nothing_yet};
 
+use crate::OpenFault;
 use crate::stepping::Kernel;
-use crate::{OpenFault, Processes};
 use bcache::Cache;
 use blocks::{Disk, DiskFault, NoMemory};
+use inodes::{Store, Tasks};
+use journal::Processes;
 use layout::{Super, check};
 use model::types::Entry;
 use ports::{Herald, Intake};
@@ -27,6 +26,7 @@ use wal::{Log, Volume, recover};
 struct Memory {
     cache: Cache,
     log: Log,
+    tasks: Tasks,
     processes: Processes,
 }
 
@@ -35,11 +35,13 @@ fn take_memory(alloc: Global, sup: &Super, processes: u32) -> Result<Memory, NoM
     requires { IsTrue (is_lawful_super sup.now sup.now.size) }
     ensures cache { IfOk result (λ memory. memory.cache ≡ fresh_buffers) }
     ensures log { IfOk result (λ memory. memory.log ≡ new_log sup.now.size) }
+    ensures tasks { IfOk result (λ memory. memory.tasks ≡ replicate processes no_task) }
     ensures processes { IfOk result (λ memory. memory.processes ≡ fresh_world processes) }
 {
     Ok(Memory {
         cache: Cache::new(alloc)?,
         log: Log::new(alloc, sup)?,
+        tasks: Tasks::new(alloc, processes)?,
         processes: Processes::new(alloc, processes)?,
     })
 }
@@ -63,22 +65,9 @@ impl<D: Disk, I: Intake, H: Herald> Kernel<D, I, H> {
     ) -> Result<Kernel<D, I, H>, (OpenFault, D)>
         requires served { I.process_count intake ≡ processes }
         requires told { H.count herald ≡ 0 }
-        requires fits { (p : ℕ) → I.fits intake p nothing_yet }
-        ensures sound { IfOk result (λ k. verdict (D.image disk) ≡ None) }
-        ensures opening { IfOk result (λ k. D.image k.opening ≡ recovered (D.image disk)) }
-        ensures volume { IfOk result (λ k. k.volume ≡ record { device = k.opening; buffers = fresh_buffers; log = new_log (length (D.image disk)); fault = None }) }
-        ensures world { IfOk result (λ k. k.world ≡ fresh_world processes) }
-        ensures count { IfOk result (λ k. k.inode_count ≡ inode_count_of (D.image disk)) }
-        ensures intake { IfOk result (λ k. k.intake ≡ intake) }
-        ensures herald { IfOk result (λ k. k.herald ≡ herald) }
-        ensures few { IfOk result (λ k. (1 ≤ processes) × (processes ≤ 32)) }
-        ensures name { MatchResult result (λ k. D.name k.opening ≡ D.name disk) (λ e. D.name e.1 ≡ D.name disk) }
-        ensures writes { IfOk result (λ k. D.write_count k.opening ≡ counted (D.write_count disk) (writes_to_recover (logged_count (D.image disk)))) }
-        ensures faults { IfOk result (λ k. D.fault_count k.opening ≡ D.fault_count disk) }
-        ensures unwritten { IfErr result (λ e. MayWrite e.0 ⊎ (D.write_count e.1 ≡ D.write_count disk)) }
-        ensures refused { IfErr result (λ e. RefusesToOpen D.image D.fault_count disk e.1 processes e.0) }
-        ensures leaves { IfOk result (λ k. LeavesOnly D.moment D.leaves disk k.opening (RecoversAs (D.image disk))) }
-        ensures back { IfErr result (λ e. LeavesOnly D.moment D.leaves disk e.1 (RecoversAs (D.image disk))) }
+        requires fits { (p : ℕ) → p < processes → I.fits intake p nothing_yet }
+        ensures opened { IfOk result (λ k. IsOpened D.Disk disk intake herald processes k) }
+        ensures refused { IfErr result (λ e. RefusesToOpen D.Disk disk e.1 processes e.0) }
     {
         if !(1..=32).contains(&processes) {
             return Err((OpenFault::ProcRange, disk));
@@ -96,16 +85,18 @@ impl<D: Disk, I: Intake, H: Herald> Kernel<D, I, H> {
         let Memory {
             cache,
             log,
+            tasks,
             processes,
         } = memory;
         let opening = Snapshot::of(&disk);
+        let store = Store::open(Volume::open(disk, cache, log), tasks, sup.ninodes);
+        store.known();
         Ok(Kernel {
-            volume: Volume::open(disk, cache, log),
+            store,
             opening,
             intake,
             herald,
             processes,
-            inode_count: sup.ninodes,
         })
     }
 
@@ -125,16 +116,16 @@ impl<D: Disk, I: Intake, H: Herald> Kernel<D, I, H> {
 
     /// How many groups are committed.
     pub fn committed(&self) -> u64
-        ensures { result ≡ self.now.volume.log.committed }
+        ensures { result ≡ self.now.store.volume.log.committed }
     {
-        self.volume.log().committed()
+        self.store.volume().log().committed()
     }
 
     /// How many groups were opened.
     pub fn opened(&self) -> u64
-        ensures { result ≡ self.now.volume.log.opened }
+        ensures { result ≡ self.now.store.volume.log.opened }
     {
-        self.volume.log().opened()
+        self.store.volume().log().opened()
     }
 
     /// How many processes there are.
@@ -154,23 +145,23 @@ impl<D: Disk, I: Intake, H: Herald> Kernel<D, I, H> {
 
     /// The disk as it is, for who only asks.
     pub fn disk(&self) -> &D
-        ensures { result.now ≡ self.now.volume.device }
+        ensures { result.now ≡ self.now.store.volume.device }
     {
-        self.volume.disk()
+        self.store.volume().disk()
     }
 
     /// The fault of the disk, after which no step is made any more.
     pub fn fault(&self) -> Option<DiskFault>
-        ensures { result ≡ self.now.volume.fault }
+        ensures { result ≡ self.now.store.volume.fault }
     {
-        self.volume.fault()
+        self.store.volume().fault()
     }
 
     /// The disk as it is.
     pub fn into_disk(self) -> D
-        ensures { result ≡ self.volume.device }
+        ensures { result ≡ self.store.volume.device }
     {
-        let Kernel { volume, .. } = self;
-        volume.into_disk()
+        let Kernel { store, .. } = self;
+        store.into_disk()
     }
 }

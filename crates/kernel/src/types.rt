@@ -1,30 +1,7 @@
 // Plain data of the kernel.
-use inodes::Ialloc;
-use model::types::{CheckFault, Reply, Why};
+use model::types::{CheckFault, Why};
 use thiserror::Error;
 use wal::RecoverFault;
-
-/// Where the operation of a process stands.
-#[derive(Debug, Drop)]
-pub enum At {
-    /// None is under way.
-    Idle,
-    /// A creation looks for a free number. It belongs to the group of this number.
-    Creating { group: u64, search: Ialloc },
-    /// The operation had its turn; next it ends in the log.
-    Ending { group: u64, reply: Reply },
-    /// It was the last of its group, and makes the group's commit.
-    Committing { group: u64, reply: Reply },
-}
-
-/// A process, as the kernel sees it.
-#[derive(Debug, Drop)]
-pub struct Process {
-    /// How many operations were taken for it.
-    pub begun: u64,
-    /// Where the last of them stands.
-    pub at: At,
-}
 
 /// What a step of a process answers.
 #[derive(Clone, Copy, Debug, PartialEq, Eq)]

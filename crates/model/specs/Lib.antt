@@ -10,6 +10,7 @@ pub mod Verdict
 pub mod Operations
 pub mod Journal
 pub mod Crash
+pub mod Tasks
 pub mod Codec
 pub mod Reservations
 pub mod Agreement

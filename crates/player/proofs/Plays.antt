@@ -1,21 +1,19 @@
 -- The turns of a schedule's first words, with a line for each.
-use Rattle.std.proofs.Common.{◌≡◌, ℕ, ◌+◌, ◌-◌, ◌<◌, true, false, List, [], ◌∷◌, ◌++◌, length, drop, refl, sym, ◌∙◌, ap, subst, append_assoc, append-nil, drop-cons, add-one, get_or, Option}
+use Rattle.std.proofs.Common.{◌≡◌, ℕ, ◌+◌, ◌<◌, true, false, List, [], ◌∷◌, ◌++◌, length, drop, refl, sym, ◌∙◌, ap, subst, append_assoc, append-nil, drop-cons, add-one, get_or, Option}
 use Rattle.std.specs.Prelude.{flat_map}
 use Rattle.std.specs.Io.KnownBytes.{Appends}
 use Rattle.std.proofs.lemmas.List.{flat_map_more}
 use Rattle.std.proofs.KnownBytes.{Appends-nil, Appends-trans}
 use Rattle.blocks.specs.declared.disk.Disk.{Ghosts}
 use Rattle.blocks.specs.declared.faulty.Trap.{Trap}
-use Rattle.blocks.specs.FaultyDisk.{has_fired}
 use Rattle.blocks.specs.declared.errors.DiskFault.{DiskFault}
 use Rattle.blocks.specs.declared.faulty.FaultyDisk.{FaultyDisk}
 use Rattle.scripts.specs.declared.schedule.Word.{Word}
 use Rattle.player.specs.declared.events.Event.{Event}
 use Rattle.player.specs.declared.turns.Player.{Player}
 use Rattle.player.specs.Events.{event_line, is_last}
-use Rattle.player.specs.Output.{counts_text}
-use Rattle.player.specs.Stepping.{MakesTurn, MakesTurns, PlaysTo, RunsTo}
-use Rattle.player.specs.Turns.{IfLast, told_fault}
+use Rattle.player.specs.Stepping.{MakesTurn, MakesTurns, PlaysTo, RunsTo, kernel_counts, kernel_fault}
+use Rattle.player.specs.Turns.{IfLast}
 
 -- the first k words had their turns, which made now of old, and none was the last
 pub record PlayedSo {D N : Type 0} (disk : Ghosts (FaultyDisk D) (N × Trap)) (stop : ℕ) (words : List Word) (k : ℕ) (old now : Player D N) (text printed : Option (List ℕ)) : Type 0 where
@@ -73,7 +71,7 @@ all_played disk stop words k old now text printed so none =
 
 -- the counts behind the turns
 pub counts_printed : {D N : Type 0} (disk : Ghosts (FaultyDisk D) (N × Trap)) (stop base : ℕ) (words : List Word) (old new : Player D N) (fault : Option DiskFault) (text mid printed : Option (List ℕ)) → PlaysTo disk stop words old new text mid
-    → told_fault (has_fired new.kernel.volume.device) new.kernel.volume.fault ≡ fault → Appends mid printed (counts_text (disk.write_count new.kernel.volume.device - base) new.kernel.volume.log.committed) → RunsTo disk stop base words old fault text printed
+    → kernel_fault new.kernel ≡ fault → Appends mid printed (kernel_counts disk base new.kernel) → RunsTo disk stop base words old fault text printed
 counts_printed disk stop base words old new fault text mid printed plays told counts = record {
   events = plays.events;
   last = new;

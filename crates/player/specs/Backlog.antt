@@ -3,7 +3,7 @@ use Rattle.std.specs.Prelude.{◌≡◌, ◌⊎◌, ◌≤◌, ◌+◌, ◌^◌,
 use Rattle.model.specs.declared.types.operations.Op.{Op}
 use Rattle.ports.specs.Queues.{waiting}
 use Rattle.ports.specs.declared.queues.QueueIntake.{QueueIntake}
-use Rattle.kernel.specs.Processes.{process}
+use Rattle.journal.specs.Processes.{process}
 use Rattle.kernel.specs.State.{State}
 use Rattle.scripts.specs.declared.script.Task.{Task}
 use Rattle.player.specs.declared.backlog.Backlog.{Backlog}

@@ -6,17 +6,20 @@ use Rattle.blocks.specs.declared.disk.Disk.{Ghosts}
 use Rattle.blocks.specs.declared.faulty.Trap.{Trap}
 use Rattle.blocks.specs.FaultyDisk.{has_fired}
 use Rattle.blocks.specs.declared.faulty.FaultyDisk.{FaultyDisk}
-use Rattle.ports.specs.History.{OthersStay, SameNames, first_in}
-use Rattle.ports.specs.Queues.{waiting, answers, queue_name, queue_side, OthersWait}
+use Rattle.ports.specs.History.{first_in}
+use Rattle.ports.specs.PlainHerald.{count_of}
+use Rattle.ports.specs.Queues.{waiting, answers, queue_count, queue_name, queue_side, OthersWait, QueueFits}
+use Rattle.ports.specs.declared.herald.Herald.{Ghosts as Heralds}
+use Rattle.ports.specs.declared.intake.Intake.{Ghosts as Intakes}
 use Rattle.ports.specs.declared.herald.PlainHerald.{PlainHerald}
 use Rattle.ports.specs.declared.queues.QueueIntake.{QueueIntake}
 use Rattle.scripts.specs.declared.schedule.Word.{Word}
 use Rattle.scripts.specs.declared.schedule.Word.TheVariants as word
 use Rattle.kernel.specs.declared.types.Step.{Step}
 use Rattle.kernel.specs.declared.types.Step.TheVariants as step
-use Rattle.kernel.specs.Next.{CountsItsFault, Next, WritesOnce}
 use Rattle.kernel.specs.Runs.{with_shutdown}
 use Rattle.kernel.specs.State.{State}
+use Rattle.kernel.specs.Steps.{MakesStep}
 use Rattle.player.specs.declared.backlog.Backlog.{Backlog}
 use Rattle.player.specs.declared.events.Event.{Event}
 use Rattle.player.specs.declared.events.Event.TheVariants.{Shut}
@@ -32,34 +35,39 @@ use Rattle.player.specs.Turns.{IfLast, event_of, told_fault}
 abbrev pub Plain : Type 0 → Type 0
 Plain D = State D QueueIntake PlainHerald
 
--- one step of process p, which answers r, makes m of k; a plain herald tells of no shutdown
-pub record MakesStep {D N : Type 0} (disk : Ghosts D N) (p : ℕ) (r : Step) (k m : Plain D) : Type 0 where
-  pub next : Next (disk.image k.volume.device) k.inode_count k.volume k.world p (waiting k.intake p) (queue_side m.intake p) false r (disk.image m.volume.device) m.volume m.world
-  pub opening : m.opening ≡ k.opening
-  pub inode_count : m.inode_count ≡ k.inode_count
-  -- the other processes' queues stay; no operation is handed in, and no answer is polled
-  pub others : OthersStay (queue_side k.intake) (queue_side m.intake) p
-  pub names : SameNames (queue_name k.intake) (queue_name m.intake)
-  -- it is the same disk, and one write of it was made at most, or one call failed
-  pub name : disk.name m.volume.device ≡ disk.name k.volume.device
-  pub writes : WritesOnce (disk.write_count k.volume.device) (disk.write_count m.volume.device)
-  pub faults : k.volume.fault ≡ None → CountsItsFault m.volume.fault (disk.write_count k.volume.device) (disk.write_count m.volume.device)
-      (disk.fault_count k.volume.device) (disk.fault_count m.volume.device)
+-- what contracts see of plain queues
+abbrev pub plain_queues : Intakes QueueIntake (ℕ × ℕ)
+plain_queues = record {
+  name = queue_name;
+  process_count = queue_count;
+  side = queue_side;
+  fits = QueueFits;
+}
+
+-- and of a plain herald, which tells of no shutdown
+abbrev pub plain_herald : Heralds PlainHerald
+plain_herald = record { count = count_of; told = λ h. false }
+
+-- one step of process p, which answers r, makes m of k: the kernel's promise of a step
+abbrev pub MakesPlainStep : {D N : Type 0} → Ghosts D N → ℕ → Step → Plain D → Plain D → Type 0
+MakesPlainStep disk p r k m = MakesStep disk plain_queues plain_herald p r k m
 
 -- n steps of process p, each of which moves, make m of k
 unfoldable pub Moves : {D N : Type 0} → Ghosts D N → ℕ → ℕ → Plain D → Plain D → Type 0
 Moves disk p zero k m = m ≡ k
-Moves {D} disk p (suc n) k m = (mid : Plain D) × MakesStep disk p step.Moved k mid × Moves disk p n mid m
+Moves {D} disk p (suc n) k m = (mid : Plain D) × MakesPlainStep disk p step.Moved k mid × Moves disk p n mid m
 
 -- Steps of process p make m of k, and the last answers r: up to the first that doesn't move, or `most` of them.
 pub record MakesSteps {D N : Type 0} (disk : Ghosts D N) (most p : ℕ) (r : Step) (k m : Plain D) : Type 0 where
   pub moved : ℕ
   pub mid : Plain D
   pub moves : Moves disk p moved k mid
-  pub ends : ((r ≢ step.Moved) × (moved < most) × MakesStep disk p r mid m) ⊎ ((r ≡ step.Moved) × (moved ≡ most) × (m ≡ mid))
+  pub ends : ((r ≢ step.Moved) × (moved < most) × MakesPlainStep disk p r mid m)
+      ⊎ ((r ≡ step.Moved) × (moved ≡ most) × (m ≡ mid))
 
--- Operations of process p went from the front of its backlog to the end of its queue, until none was left, or the queue was full, or no number was left. No other
--- process's backlog or queue changed, and nothing else of the kernel.
+-- Operations of process p went from the front of its backlog to the end of its queue, until none was
+-- left, or the queue was full, or no number was left. No other process's backlog or queue changed,
+-- and nothing else of the kernel.
 pub record HandsIn {D : Type 0} (p : ℕ) (k : Plain D) (b : List Backlog) (m : Plain D) (c : List Backlog) : Type 0 where
   pub order : waiting m.intake p ++ backlog_at c p ≡ waiting k.intake p ++ backlog_at b p
   pub all : HasHandedIn p m (backlog_at c p)
@@ -76,18 +84,19 @@ pub record Polls {D : Type 0} (p : ℕ) (k m : Plain D) : Type 0 where
   pub same : m ≡ record k { intake = m.intake }
 
 -- The turn of process p: its operations are handed in, its steps are made, and the event tells what they came to.
-pub record MakesTurnOf {D N : Type 0} (makes : Step → Plain (FaultyDisk D) → Plain (FaultyDisk D) → Type 0) (stop p : ℕ) (event : Event) (old new : Player D N) : Type 0 where
+pub record MakesTurnOf {D N : Type 0} (makes : Step → Plain (FaultyDisk D) → Plain (FaultyDisk D) → Type 0)
+    (stop p : ℕ) (event : Event) (old new : Player D N) : Type 0 where
   pub handed : Plain (FaultyDisk D)
   pub stepped : Plain (FaultyDisk D)
   pub answer : Step
   pub hands_in : HandsIn p old.kernel old.backlogs.items handed new.backlogs.items
   pub steps : makes answer handed stepped
   pub polls : Polls p stepped new.kernel
-  pub tells : event ≡ event_of (has_fired stepped.volume.device) stop p answer (first_in (answers stepped.intake p))
+  pub tells : event ≡ event_of (has_fired stepped.store.volume.device) stop p answer (first_in (answers stepped.intake p))
 
 -- the turn of a word, where that write is stopped, makes new of old, and comes to the event
 abbrev pub MakesTurn : {D N : Type 0} → Ghosts (FaultyDisk D) (N × Trap) → ℕ → Word → Event → Player D N → Player D N → Type 0
-MakesTurn disk stop (word.Step p) event old new = MakesTurnOf (MakesStep disk p) stop p event old new
+MakesTurn disk stop (word.Step p) event old new = MakesTurnOf (MakesPlainStep disk p) stop p event old new
 MakesTurn disk stop (word.Steps p) event old new = MakesTurnOf (MakesSteps disk 2000 p) stop p event old new
 MakesTurn disk stop word.Shutdown event old new = (event ≡ Shut) × (new.kernel ≡ with_shutdown old.kernel) × (new.backlogs ≡ old.backlogs)
 
@@ -96,22 +105,33 @@ abbrev pub MakesTurns : {D N : Type 0} → Ghosts (FaultyDisk D) (N × Trap) →
 MakesTurns disk stop [] events old new = (events ≡ []) × (new ≡ old)
 MakesTurns disk stop (first ∷ words) [] old new = ⊥
 MakesTurns {D} {N} disk stop (first ∷ words) (event ∷ events) old new =
-    (mid : Player D N) × MakesTurn disk stop first event old mid × IfLast (is_last event) ((events ≡ []) × (new ≡ mid)) (MakesTurns disk stop words events mid new)
+    (mid : Player D N) × MakesTurn disk stop first event old mid
+    × IfLast (is_last event) ((events ≡ []) × (new ≡ mid)) (MakesTurns disk stop words events mid new)
 
 -- the turns of these words make new of old, and a line was printed for each
-pub record PlaysTo {D N : Type 0} (disk : Ghosts (FaultyDisk D) (N × Trap)) (stop : ℕ) (words : List Word) (old new : Player D N) (text printed : Option (List ℕ)) : Type 0 where
+pub record PlaysTo {D N : Type 0} (disk : Ghosts (FaultyDisk D) (N × Trap)) (stop : ℕ) (words : List Word)
+    (old new : Player D N) (text printed : Option (List ℕ)) : Type 0 where
   pub events : List Event
   pub makes : MakesTurns disk stop words events old new
   pub lines : Appends text printed (flat_map event_line events)
 
--- The turns of these words were made, and a line was printed for each; behind them the counts of the kernel that they made, over a disk that had counted `base`
--- writes before. This fault is told of its disk.
-pub record RunsTo {D N : Type 0} (disk : Ghosts (FaultyDisk D) (N × Trap)) (stop base : ℕ) (words : List Word) (player : Player D N) (fault : Option DiskFault) (text printed : Option (List ℕ)) : Type 0 where
+-- the counts of a kernel, of writes over a disk that had counted `base` of them before
+abbrev pub kernel_counts : {D N : Type 0} → Ghosts D N → ℕ → Plain D → List ℕ
+kernel_counts disk base k = counts_text (disk.write_count k.store.volume.device - base) k.store.volume.log.committed
+
+-- the fault that is told of a kernel's disk
+abbrev pub kernel_fault : {D : Type 0} → Plain (FaultyDisk D) → Option DiskFault
+kernel_fault k = told_fault (has_fired k.store.volume.device) k.store.volume.fault
+
+-- The turns of these words were made, and a line was printed for each; behind them the counts of the
+-- kernel that they made, over a disk that had counted `base` writes before. This fault is told of it.
+pub record RunsTo {D N : Type 0} (disk : Ghosts (FaultyDisk D) (N × Trap)) (stop base : ℕ) (words : List Word)
+    (player : Player D N) (fault : Option DiskFault) (text printed : Option (List ℕ)) : Type 0 where
   pub events : List Event
   pub last : Player D N
   pub makes : MakesTurns disk stop words events player last
-  pub tells : told_fault (has_fired last.kernel.volume.device) last.kernel.volume.fault ≡ fault
-  pub lines : Appends text printed (flat_map event_line events ++ counts_text (disk.write_count last.kernel.volume.device - base) last.kernel.volume.log.committed)
+  pub tells : kernel_fault last.kernel ≡ fault
+  pub lines : Appends text printed (flat_map event_line events ++ kernel_counts disk base last.kernel)
 
 -- the disk's fault that a refusal tells
 abbrev pub fault_in : Refusal → Option DiskFault

@@ -47,7 +47,8 @@ impl Backlog {
     #[tactic(auto, using(crate::proofs::Backlogs::waits_none, crate::proofs::Backlogs::waits_then))]
     pub fn hand_in<D: Disk, H: Herald>(&mut self, kernel: &mut Kernel<D, QueueIntake, H>, pid: u32)
         requires { pid < length kernel.old.world.processes }
-        ensures order { waiting kernel.new.intake pid ++ backlog_of self.new ≡ waiting kernel.old.intake pid ++ backlog_of self.old }
+        ensures order { waiting kernel.new.intake pid ++ backlog_of self.new
+            ≡ waiting kernel.old.intake pid ++ backlog_of self.old }
         ensures all { HasHandedIn pid kernel.new (backlog_of self.new) }
         ensures unpolled { answers kernel.new.intake pid ≡ answers kernel.old.intake pid }
         ensures others { OthersWait kernel.old.intake kernel.new.intake pid }
@@ -88,7 +89,8 @@ pub fn backlogs_of(
     processes: u32,
 ) -> Result<Vec<Backlog>, AllocError>
     requires { All (λ task. task.pid < processes) tasks.items }
-    ensures { IfOk result (λ backlogs. (p : ℕ) → p < processes → backlog_at backlogs.items p ≡ ops_of p tasks.items) }
+    ensures { IfOk result (λ backlogs. (p : ℕ) → p < processes
+        → backlog_at backlogs.items p ≡ ops_of p tasks.items) }
 {
     let mut backlogs = empty_backlogs(alloc, processes)?;
     for task in tasks {
@@ -100,7 +102,8 @@ pub fn backlogs_of(
 // So many without operations.
 fn empty_backlogs(alloc: Global, processes: u32) -> Result<Vec<Backlog>, AllocError>
     ensures count { IfOk result (λ backlogs. length backlogs.items ≡ processes) }
-    ensures empty { IfOk result (λ backlogs. All (λ backlog. backlog_of backlog ≡ []) backlogs.items) }
+    ensures empty { IfOk result
+        (λ backlogs. All (λ backlog. backlog_of backlog ≡ []) backlogs.items) }
 {
     let mut backlogs = Vec::new(alloc);
     for _process in 0..processes {

@@ -40,7 +40,8 @@ pub fn check_disk<D: Disk, O: Write>(
 }
 
 fn print_report<O: Write>(report: &Report, out: &mut O) -> Result<(), Refusal>
-    ensures ok { OnOk result (Appends (O.contents out.old) (O.contents out.new) (report_text report.now.logged report.now.files)) }
+    ensures ok { OnOk result (Appends (O.contents out.old) (O.contents out.new)
+        (report_text report.now.logged report.now.files)) }
     ensures err { IsOkUnless result refusal.Output }
 {
     let mut buffers = (Buffer::new(), Buffer::new());

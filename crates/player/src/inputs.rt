@@ -35,7 +35,8 @@ pub fn script_from<I: Read + Drop>(alloc: Global, input: I) -> Result<Vec<Task>,
 fn script_of(alloc: Global, text: &[u8]) -> Result<Vec<Task>, ScriptFault>
     ensures tasks { IfOk result (λ tasks. tasks.items ≡ tasks_of text.now) }
     ensures sound { IfOk result (λ tasks. script_fault text.now ≡ None) }
-    ensures fault { IfErr result (λ fault. (fault ≡ ScriptFault.NoMemory) ⊎ (script_fault text.now ≡ Some fault)) }
+    ensures fault { IfErr result (λ fault. (fault ≡ ScriptFault.NoMemory) ⊎
+        (script_fault text.now ≡ Some fault)) }
     ensures processes { IfOk result (λ tasks. All (λ task. task.pid < 32) tasks.items) }
     ensures creations { IfOk result (λ tasks. first_other tasks.items ≡ None) }
 {
@@ -57,7 +58,8 @@ pub fn schedule_from<I: Read + Drop>(
     processes: u32,
 ) -> Result<Vec<Word>, ScheduleFault>
     ensures words { IfOk result (λ words. GivesSchedule processes (I.remaining input) words.items) }
-    ensures processes { IfOk result (λ words. IsTrue (list_all (is_word_of processes) words.items)) }
+    ensures processes { IfOk result (λ words. IsTrue
+        (list_all (is_word_of processes) words.items)) }
     ensures fault { IfErr result (GivesNoSchedule processes (I.remaining input)) }
 {
     let text = first_bytes(alloc, input, SCHEDULE_LIMIT as u64 + 1).map_err(schedule_unread)?;
@@ -66,7 +68,8 @@ pub fn schedule_from<I: Read + Drop>(
 
 // The first bytes of a reader, at most so many.
 fn first_bytes<I: Read + Drop>(alloc: Global, input: I, most: u64) -> io::Result<Vec<u8>>
-    ensures { IfOk result (λ bytes. IfSome (I.remaining input) (λ all. bytes.items ≡ take most all)) }
+    ensures { IfOk result (λ bytes. IfSome (I.remaining input)
+        (λ all. bytes.items ≡ take most all)) }
 {
     let mut bytes = Vec::new(alloc);
     input.take(most).read_to_end(&mut bytes)?;

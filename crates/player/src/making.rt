@@ -31,10 +31,12 @@ pub fn make_disk<D: Disk, O: Write>(
 ) -> Result<(), Refusal>
     ensures made { OnOk result (Makes D.Disk size ninodes disk.old disk.new) }
     ensures name { D.name disk.new ≡ D.name disk.old }
-    ensures printed { OnOk result (Appends (O.contents out.old) (O.contents out.new) (numbers_text (planned_super size ninodes))) }
+    ensures printed { OnOk result (Appends (O.contents out.old) (O.contents out.new)
+        (numbers_text (planned_super size ninodes))) }
     ensures refused { IfErr result (IsUnmade D.image D.fault_count size ninodes disk.old disk.new) }
     ensures silent { IfErr result (λ r. r ≢ refusal.Output → out.new ≡ out.old) }
-    ensures order { LeavesOnly D.moment D.leaves disk.old disk.new (IsMadeInPart (D.image disk.old) size ninodes) }
+    ensures order { LeavesOnly D.moment D.leaves disk.old disk.new
+        (IsMadeInPart (D.image disk.old) size ninodes) }
 {
     let fields = plan(size, ninodes).map_err(Refusal::Mkfs)?;
     mkfs(alloc, disk, size, ninodes).map_err(Refusal::Mkfs)?;
@@ -42,7 +44,8 @@ pub fn make_disk<D: Disk, O: Write>(
 }
 
 fn print_numbers<O: Write>(fields: &Super, out: &mut O) -> Result<(), Refusal>
-    ensures ok { OnOk result (Appends (O.contents out.old) (O.contents out.new) (numbers_text fields.now)) }
+    ensures ok { OnOk result (Appends (O.contents out.old) (O.contents out.new)
+        (numbers_text fields.now)) }
     ensures err { IsOkUnless result refusal.Output }
 {
     let mut buffers = (Buffer::new(), Buffer::new(), Buffer::new());

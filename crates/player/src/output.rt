@@ -12,7 +12,8 @@ use std::io::Write;
 ///
 /// `Output` where the writer fails.
 pub fn print<O: Write, D: Display + Drop>(out: &mut O, text: D) -> Result<(), Refusal>
-    ensures ok { OnOk result (IfSome (D.output text) (Appends (O.contents out.old) (O.contents out.new))) }
+    ensures ok { OnOk result (IfSome (D.output text)
+        (Appends (O.contents out.old) (O.contents out.new))) }
     ensures err { IsOkUnless result Refusal.Output }
 {
     write!(out, "{text}").map_err(|_| Refusal::Output)
@@ -24,7 +25,8 @@ pub fn print<O: Write, D: Display + Drop>(out: &mut O, text: D) -> Result<(), Re
 ///
 /// `Output` where the writer fails.
 pub fn print_last<O: Write, D: Display + Drop>(out: &mut O, text: D) -> Result<(), Refusal>
-    ensures ok { OnOk result (IfSome (D.output text) (Appends (O.contents out.old) (O.contents out.new))) }
+    ensures ok { OnOk result (IfSome (D.output text)
+        (Appends (O.contents out.old) (O.contents out.new))) }
     ensures err { IsOkUnless result Refusal.Output }
 {
     print(out, text)?;

@@ -1,14 +1,12 @@
 // The turns of a schedule's words, with a line for each.
-ghost use Rattle.std.specs.Prelude.{◌≡◌, ◌≢◌, ◌-◌, OnOk, IsTrue, IfErr, IsOkUnless, Some, None, length, option_map};
+ghost use Rattle.std.specs.Prelude.{◌≡◌, ◌≢◌, OnOk, IsTrue, IfErr, IsOkUnless, Some, None, length, option_map};
 ghost use Rattle.std.specs.Io.KnownBytes.{Appends};
 ghost use Rattle.std.specs.List.{list_all};
-ghost use Rattle.blocks.specs.FaultyDisk.{has_fired};
 ghost use Rattle.scripts.specs.Schedule.{is_word_of};
 ghost use Rattle.player.specs.declared.refusal.Refusal.TheVariants as refusal;
 ghost use Rattle.player.specs.Output.{counts_text};
-ghost use Rattle.player.specs.Stepping.{PlaysTo, RunsTo, fault_in};
+ghost use Rattle.player.specs.Stepping.{PlaysTo, RunsTo, fault_in, kernel_counts, kernel_fault};
 ghost use Rattle.player.specs.Refusal.{OnRefusal};
-ghost use Rattle.player.specs.Turns.{told_fault};
 
 use crate::output::{print, print_last};
 use crate::refusal::Refusal;
@@ -33,8 +31,10 @@ pub fn run<D: Disk + Drop, O: Write>(
     out: &mut O,
 ) -> Result<(), Refusal>
     requires { IsTrue (list_all (is_word_of (length player.kernel.world.processes)) words.now) }
-    ensures printed { OnOk result (RunsTo ⟦<FaultyDisk<D> as Disk>⟧ stop base words.now player None (O.contents out.old) (O.contents out.new)) }
-    ensures refused { IfErr result (λ r. OnRefusal r (RunsTo ⟦<FaultyDisk<D> as Disk>⟧ stop base words.now player (fault_in r) (O.contents out.old) (O.contents out.new)) ⊥) }
+    ensures printed { OnOk result (RunsTo ⟦<FaultyDisk<D> as Disk>⟧
+        stop base words.now player None (O.contents out.old) (O.contents out.new)) }
+    ensures refused { IfErr result (λ r. OnRefusal r (RunsTo ⟦<FaultyDisk<D> as Disk>⟧
+        stop base words.now player (fault_in r) (O.contents out.old) (O.contents out.new)) ⊥) }
 {
     play(&mut player, words, stop, out)?;
     close(player, base, out)
@@ -48,7 +48,8 @@ fn play<D: Disk + Drop, O: Write>(
     out: &mut O,
 ) -> Result<(), Refusal>
     requires { IsTrue (list_all (is_word_of (length player.old.kernel.world.processes)) words.now) }
-    ensures printed { OnOk result (PlaysTo ⟦<FaultyDisk<D> as Disk>⟧ stop words.now player.old player.new (O.contents out.old) (O.contents out.new)) }
+    ensures printed { OnOk result (PlaysTo ⟦<FaultyDisk<D> as Disk>⟧
+        stop words.now player.old player.new (O.contents out.old) (O.contents out.new)) }
     ensures err { IsOkUnless result refusal.Output }
 {
     for word in words {
@@ -63,10 +64,14 @@ fn play<D: Disk + Drop, O: Write>(
 
 // Prints what the turns came to.
 fn close<D: Disk + Drop, O: Write>(player: Player<D>, base: u64, out: &mut O) -> Result<(), Refusal>
-    ensures printed { OnOk result (Appends (O.contents out.old) (O.contents out.new) (counts_text (⟦<FaultyDisk<D> as Disk>⟧.write_count player.kernel.volume.device - base) player.kernel.volume.log.committed)) }
-    ensures sound { OnOk result (told_fault (has_fired player.kernel.volume.device) player.kernel.volume.fault ≡ None) }
-    ensures refused { IfErr result (λ r. OnRefusal r (Appends (O.contents out.old) (O.contents out.new) (counts_text (⟦<FaultyDisk<D> as Disk>⟧.write_count player.kernel.volume.device - base) player.kernel.volume.log.committed)) ⊥) }
-    ensures fault { IfErr result (λ r. r ≢ refusal.Output → option_map refusal.Disk (told_fault (has_fired player.kernel.volume.device) player.kernel.volume.fault) ≡ Some r) }
+    ensures printed { OnOk result (Appends (O.contents out.old) (O.contents out.new)
+        (kernel_counts ⟦<FaultyDisk<D> as Disk>⟧ base player.kernel)) }
+    ensures sound { OnOk result (kernel_fault player.kernel ≡ None) }
+    ensures refused { IfErr result (λ r. OnRefusal r
+        (Appends (O.contents out.old) (O.contents out.new)
+        (kernel_counts ⟦<FaultyDisk<D> as Disk>⟧ base player.kernel)) ⊥) }
+    ensures fault { IfErr result (λ r. r ≢ refusal.Output
+        → option_map refusal.Disk (kernel_fault player.kernel) ≡ Some r) }
 {
     let outcome = player.finish(base);
     print_counts(outcome.writes, outcome.committed, out)?;
@@ -77,7 +82,8 @@ fn close<D: Disk + Drop, O: Write>(player: Player<D>, base: u64, out: &mut O) ->
 }
 
 fn print_counts<O: Write>(writes: u64, committed: u64, out: &mut O) -> Result<(), Refusal>
-    ensures ok { OnOk result (Appends (O.contents out.old) (O.contents out.new) (counts_text writes committed)) }
+    ensures ok { OnOk result
+        (Appends (O.contents out.old) (O.contents out.new) (counts_text writes committed)) }
     ensures err { IsOkUnless result refusal.Output }
 {
     let mut buffers = (Buffer::new(), Buffer::new());

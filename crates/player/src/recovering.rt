@@ -31,12 +31,15 @@ pub fn recover_disk<D: Disk, O: Write>(
     disk: &mut D,
     out: &mut O,
 ) -> Result<(), Refusal>
-    ensures recovered { OnOk result (IsRecovered D.Disk (logged_count (D.image disk.old)) disk.old disk.new) }
+    ensures recovered { OnOk result (IsRecovered D.Disk
+        (logged_count (D.image disk.old)) disk.old disk.new) }
     ensures name { D.name disk.new ≡ D.name disk.old }
-    ensures printed { OnOk result (Appends (O.contents out.old) (O.contents out.new) (copied_text (logged_count (D.image disk.old)))) }
+    ensures printed { OnOk result (Appends (O.contents out.old) (O.contents out.new)
+        (copied_text (logged_count (D.image disk.old)))) }
     ensures refused { IfErr result (IsUnrecovered D.image D.fault_count disk.old disk.new) }
     ensures silent { IfErr result (λ r. r ≢ refusal.Output → out.new ≡ out.old) }
-    ensures any_moment { LeavesOnly D.moment D.leaves disk.old disk.new (RecoversAs (D.image disk.old)) }
+    ensures any_moment { LeavesOnly D.moment D.leaves disk.old disk.new
+        (RecoversAs (D.image disk.old)) }
 {
     let copied = recover_image(alloc, disk)?;
     print_copied(copied, out)
@@ -52,7 +55,8 @@ pub fn recover_image<D: Disk>(alloc: Global, disk: &mut D) -> Result<u32, Refusa
     ensures name { D.name disk.new ≡ D.name disk.old }
     ensures refused { IfErr result (IsUnrecovered D.image D.fault_count disk.old disk.new) }
     ensures output { IfErr result (λ r. r ≢ refusal.Output) }
-    ensures any_moment { LeavesOnly D.moment D.leaves disk.old disk.new (RecoversAs (D.image disk.old)) }
+    ensures any_moment { LeavesOnly D.moment D.leaves disk.old disk.new
+        (RecoversAs (D.image disk.old)) }
 {
     let report = check(alloc, disk)?;
     match recover(alloc, disk, &report.sup) {
@@ -62,7 +66,8 @@ pub fn recover_image<D: Disk>(alloc: Global, disk: &mut D) -> Result<u32, Refusa
 }
 
 fn print_copied<O: Write>(copied: u32, out: &mut O) -> Result<(), Refusal>
-    ensures ok { OnOk result (Appends (O.contents out.old) (O.contents out.new) (copied_text copied)) }
+    ensures ok { OnOk result (Appends (O.contents out.old) (O.contents out.new)
+        (copied_text copied)) }
     ensures err { IsOkUnless result refusal.Output }
 {
     let mut buffer = Buffer::new();

@@ -106,6 +106,16 @@ impl From<CheckFault> for Refusal {
     }
 }
 
+impl From<KernelFault> for Refusal {
+    ghost use Rattle.player.specs.declared.refusal.Refusal.TheVariants as refusal;
+
+    ghost from_gives = { λ fault r. r ≡ refusal.Open fault };
+
+    fn from(fault: KernelFault) -> Refusal {
+        Refusal::Open(fault)
+    }
+}
+
 /// A fault of the check or of the recovery inside is told as its own layer's.
 impl From<OpenFault> for Refusal {
     ghost from_gives = { λ fault r. r ≡ open_refusal fault };

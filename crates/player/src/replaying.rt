@@ -40,11 +40,11 @@ pub fn replay_disk<D: Disk + Drop, O: Write>(
     requires tasks { All (λ task. task.pid < processes) tasks.items }
     requires words { IsTrue (list_all (is_word_of processes) words.now) }
     ensures printed { OnOk result (Replays ⟦<FaultyDisk<D> as Disk>⟧
-        (D.image disk) (D.write_count disk) tasks.items processes words.now (unwrap_or stop 0) None (O.contents out.old) (O.contents out.new)) }
-    ensures refused { IfErr result (λ r. OnRefusal r
-        (Replays ⟦<FaultyDisk<D> as Disk>⟧
-        (D.image disk) (D.write_count disk) tasks.items processes words.now (unwrap_or stop 0) (fault_in r) (O.contents out.old) (O.contents out.new))
-        (out.new ≡ out.old)) }
+        (D.image disk) (D.write_count disk) tasks.items processes words.now (unwrap_or stop 0)
+        None (O.contents out.old) (O.contents out.new)) }
+    ensures refused { IfErr result (λ r. OnRefusal r (Replays ⟦<FaultyDisk<D> as Disk>⟧
+        (D.image disk) (D.write_count disk) tasks.items processes words.now (unwrap_or stop 0)
+        (fault_in r) (O.contents out.old) (O.contents out.new)) (out.new ≡ out.old)) }
     ensures layers { IfErr result IsOfReplay }
 {
     let stop = stop.unwrap_or(0);
@@ -63,11 +63,15 @@ fn open_recovered<D: Disk + Drop>(
 ) -> Result<(Player<D>, u64), Refusal>
     requires { All (λ task. task.pid < processes) tasks.items }
     ensures sound { OnOk result (verdict (D.image disk) ≡ None) }
-    ensures opened { IfOk result (λ made. IsOpenedOver ⟦<FaultyDisk<D> as Disk>⟧.image (recovered (D.image disk)) tasks.items processes made.0) }
+    ensures opened { IfOk result (λ made. IsOpenedOver ⟦<FaultyDisk<D> as Disk>⟧.image
+        (recovered (D.image disk)) tasks.items processes made.0) }
     ensures processes { IfOk result (λ made. length made.0.kernel.world.processes ≡ processes) }
-    ensures base { IfOk result (λ made. made.1 ≡ ⟦<FaultyDisk<D> as Disk>⟧.write_count made.0.kernel.volume.device) }
-    ensures writes { IfOk result (λ made. made.1 ≡ counted (D.write_count disk) (writes_to_recover (logged_count (D.image disk)))) }
-    ensures armed { IfOk result (λ made. IsArmed ⟦<FaultyDisk<D> as Disk>⟧ stop made.0.kernel.volume.device) }
+    ensures base { IfOk result (λ made. made.1
+        ≡ ⟦<FaultyDisk<D> as Disk>⟧.write_count made.0.kernel.store.volume.device) }
+    ensures writes { IfOk result (λ made. made.1
+        ≡ counted (D.write_count disk) (writes_to_recover (logged_count (D.image disk)))) }
+    ensures armed { IfOk result (λ made.
+        IsArmed ⟦<FaultyDisk<D> as Disk>⟧ stop made.0.kernel.store.volume.device) }
     ensures refused { IfErr result IsOpening }
 {
     recover_image(alloc, &mut disk)?;

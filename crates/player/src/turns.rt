@@ -1,16 +1,17 @@
 // The turns of a schedule, over a kernel with a script's operations.
-ghost use Rattle.std.specs.Prelude.{◌≡◌, ◌-◌, ◌<◌, All, IsTrue, length, IfOk, IfErr};
+ghost use Rattle.std.specs.Prelude.{◌≡◌, ◌-◌, ◌<◌, ℕ, [], All, IsTrue, length, IfOk, IfErr};
 ghost use Rattle.blocks.specs.FaultyDisk.{has_fired};
 ghost use Rattle.blocks.specs.Disk.{counted};
 ghost use Rattle.model.specs.Log.{logged_count};
-ghost use Rattle.ports.specs.History.{first_in};
-ghost use Rattle.ports.specs.Queues.{answers};
+ghost use Rattle.ports.specs.History.{first_in, nothing_yet};
+ghost use Rattle.ports.specs.Queues.{answers, queue_count, waiting, QueueFits};
 ghost use Rattle.scripts.specs.Schedule.{is_word_of};
 ghost use Rattle.wal.specs.Recovery.{writes_to_recover};
-ghost use Rattle.player.specs.Stepping.{MakesStep, MakesSteps, HandsIn, Polls, MakesTurnOf, MakesTurn};
+ghost use Rattle.player.specs.Stepping.{MakesPlainStep, MakesSteps, HandsIn, Polls, MakesTurnOf, MakesTurn, kernel_fault};
+ghost use Rattle.player.specs.Backlog.{backlog_at, ops_of};
 ghost use Rattle.player.specs.Opening.{IsArmed, IsOpenedOver};
 ghost use Rattle.player.specs.Refusal.{IsOpening};
-ghost use Rattle.player.specs.Turns.{event_of, told_fault};
+ghost use Rattle.player.specs.Turns.{event_of};
 
 use crate::backlog::{Backlog, backlogs_of};
 use crate::events::Event;
@@ -46,6 +47,24 @@ pub struct Outcome {
     pub fault: Option<DiskFault>,
 }
 
+// The operations of each of so many processes, in the order of a script, and empty queues for them.
+fn take_memory(
+    alloc: Global,
+    tasks: Vec<Task>,
+    processes: u32,
+) -> Result<(Vec<Backlog>, QueueIntake), KernelFault>
+    requires { All (λ task. task.pid < processes) tasks.items }
+    ensures backlogs { IfOk result (λ m. (p : ℕ) → p < processes
+        → backlog_at m.0.items p ≡ ops_of p tasks.items) }
+    ensures served { IfOk result (λ m. queue_count m.1 ≡ processes) }
+    ensures empty { IfOk result (λ m. (p : ℕ) → (waiting m.1 p ≡ []) × (answers m.1 p ≡ [])) }
+    ensures fresh { IfOk result (λ m. (p : ℕ) → QueueFits m.1 p nothing_yet) }
+{
+    let backlogs = backlogs_of(alloc, tasks, processes)?;
+    let intake = QueueIntake::new(alloc, processes)?;
+    Ok((backlogs, intake))
+}
+
 /// A player of these operations, of so many processes, over a disk whose image was recovered. The
 /// write of number `stop` isn't made, counted from 1; each is where that is 0.
 ///
@@ -60,19 +79,17 @@ pub fn open_player<D: Disk + Drop>(
     stop: u64,
 ) -> Result<Player<D>, Refusal>
     requires { All (λ task. task.pid < processes) tasks.items }
-    ensures opened { IfOk result (IsOpenedOver ⟦<FaultyDisk<D> as Disk>⟧.image (D.image disk) tasks.items processes) }
+    ensures opened { IfOk result (IsOpenedOver ⟦<FaultyDisk<D> as Disk>⟧.image
+        (D.image disk) tasks.items processes) }
     ensures processes { IfOk result (λ player. length player.kernel.world.processes ≡ processes) }
-    ensures writes { IfOk result (λ player. ⟦<FaultyDisk<D> as Disk>⟧.write_count player.kernel.volume.device
+    ensures writes { IfOk result (λ player.
+        ⟦<FaultyDisk<D> as Disk>⟧.write_count player.kernel.store.volume.device
         ≡ counted (D.write_count disk) (writes_to_recover (logged_count (D.image disk)))) }
-    ensures armed { IfOk result (λ player. logged_count (D.image disk) ≡ 0 → IsArmed ⟦<FaultyDisk<D> as Disk>⟧ stop player.kernel.volume.device) }
+    ensures armed { IfOk result (λ player. logged_count (D.image disk) ≡ 0
+        → IsArmed ⟦<FaultyDisk<D> as Disk>⟧ stop player.kernel.store.volume.device) }
     ensures refused { IfErr result IsOpening }
 {
-    let backlogs = backlogs_of(alloc, tasks, processes)
-        .map_err(KernelFault::from)
-        .map_err(Refusal::Open)?;
-    let intake = QueueIntake::new(alloc, processes)
-        .map_err(KernelFault::from)
-        .map_err(Refusal::Open)?;
+    let (backlogs, intake) = take_memory(alloc, tasks, processes)?;
     let disk = FaultyDisk::new(disk, stop, Kind::WriteOld);
     match Kernel::open(alloc, disk, intake, PlainHerald::new(), processes) {
         Ok(kernel) => Ok(Player { kernel, backlogs }),
@@ -86,7 +103,8 @@ impl<D: Disk + Drop> Player<D> {
     pub fn turn(&mut self, word: Word, stop: u64) -> Event
         requires { IsTrue (is_word_of (length self.old.kernel.world.processes) word) }
         ensures makes { MakesTurn ⟦<FaultyDisk<D> as Disk>⟧ stop word result self.old self.new }
-        ensures processes { length self.new.kernel.world.processes ≡ length self.old.kernel.world.processes }
+        ensures processes { length self.new.kernel.world.processes
+            ≡ length self.old.kernel.world.processes }
     {
         match word {
             Word::Step(pid) => self.make_step(pid, stop),
@@ -102,8 +120,10 @@ impl<D: Disk + Drop> Player<D> {
     #[tactic(auto, using(crate::proofs::Steps::one_turn))]
     fn make_step(&mut self, pid: u32, stop: u64) -> Event
         requires { pid < length self.old.kernel.world.processes }
-        ensures makes { MakesTurnOf (MakesStep ⟦<FaultyDisk<D> as Disk>⟧ pid) stop pid result self.old self.new }
-        ensures processes { length self.new.kernel.world.processes ≡ length self.old.kernel.world.processes }
+        ensures makes { MakesTurnOf (MakesPlainStep ⟦<FaultyDisk<D> as Disk>⟧ pid)
+            stop pid result self.old self.new }
+        ensures processes { length self.new.kernel.world.processes
+            ≡ length self.old.kernel.world.processes }
     {
         self.hand_in(pid);
         let step = self.step(pid);
@@ -114,8 +134,10 @@ impl<D: Disk + Drop> Player<D> {
     #[tactic(auto, using(crate::proofs::Steps::one_turn))]
     fn make_steps(&mut self, pid: u32, stop: u64) -> Event
         requires { pid < length self.old.kernel.world.processes }
-        ensures makes { MakesTurnOf (MakesSteps ⟦<FaultyDisk<D> as Disk>⟧ 2000 pid) stop pid result self.old self.new }
-        ensures processes { length self.new.kernel.world.processes ≡ length self.old.kernel.world.processes }
+        ensures makes { MakesTurnOf (MakesSteps ⟦<FaultyDisk<D> as Disk>⟧ 2000 pid)
+            stop pid result self.old self.new }
+        ensures processes { length self.new.kernel.world.processes
+            ≡ length self.old.kernel.world.processes }
     {
         self.hand_in(pid);
         let step = self.steps(pid);
@@ -124,9 +146,10 @@ impl<D: Disk + Drop> Player<D> {
 
     /// What the turns came to, on a disk that had counted `base` writes before them.
     pub fn finish(self, base: u64) -> Outcome
-        ensures writes { result.writes ≡ ⟦<FaultyDisk<D> as Disk>⟧.write_count self.kernel.volume.device - base }
-        ensures committed { result.committed ≡ self.kernel.volume.log.committed }
-        ensures fault { result.fault ≡ told_fault (has_fired self.kernel.volume.device) self.kernel.volume.fault }
+        ensures writes { result.writes
+            ≡ ⟦<FaultyDisk<D> as Disk>⟧.write_count self.kernel.store.volume.device - base }
+        ensures committed { result.committed ≡ self.kernel.store.volume.log.committed }
+        ensures fault { result.fault ≡ kernel_fault self.kernel }
     {
         let Player { kernel, .. } = self;
         let committed = kernel.committed();
@@ -142,7 +165,8 @@ impl<D: Disk + Drop> Player<D> {
     // Hands in the next operations of a process, as many as its queue takes.
     fn hand_in(&mut self, pid: u32)
         requires { pid < length self.old.kernel.world.processes }
-        ensures { HandsIn pid self.old.kernel self.old.backlogs.items self.new.kernel self.new.backlogs.items }
+        ensures { HandsIn pid
+            self.old.kernel self.old.backlogs.items self.new.kernel self.new.backlogs.items }
     {
         if let Some(backlog) = self.backlogs.get_mut(pid as usize) {
             backlog.hand_in(&mut self.kernel, pid);
@@ -152,8 +176,10 @@ impl<D: Disk + Drop> Player<D> {
     // Makes a step of a process.
     fn step(&mut self, pid: u32) -> Step
         requires { pid < length self.old.kernel.world.processes }
-        ensures makes { MakesStep ⟦<FaultyDisk<D> as Disk>⟧ pid result self.old.kernel self.new.kernel }
-        ensures processes { length self.new.kernel.world.processes ≡ length self.old.kernel.world.processes }
+        ensures makes { MakesPlainStep ⟦<FaultyDisk<D> as Disk>⟧
+            pid result self.old.kernel self.new.kernel }
+        ensures processes { length self.new.kernel.world.processes
+            ≡ length self.old.kernel.world.processes }
         ensures backlogs { self.new.backlogs ≡ self.old.backlogs }
     {
         self.kernel.step(pid)
@@ -163,8 +189,10 @@ impl<D: Disk + Drop> Player<D> {
     #[tactic(auto, using(crate::proofs::Steps::none_moved, crate::proofs::Steps::one_moved))]
     fn steps(&mut self, pid: u32) -> Step
         requires { pid < length self.old.kernel.world.processes }
-        ensures makes { MakesSteps ⟦<FaultyDisk<D> as Disk>⟧ 2000 pid result self.old.kernel self.new.kernel }
-        ensures processes { length self.new.kernel.world.processes ≡ length self.old.kernel.world.processes }
+        ensures makes { MakesSteps ⟦<FaultyDisk<D> as Disk>⟧ 2000
+            pid result self.old.kernel self.new.kernel }
+        ensures processes { length self.new.kernel.world.processes
+            ≡ length self.old.kernel.world.processes }
         ensures backlogs { self.new.backlogs ≡ self.old.backlogs }
     {
         for _step in 0..MOST_STEPS {
@@ -179,7 +207,8 @@ impl<D: Disk + Drop> Player<D> {
     // What the turn of a process came to, whose last step answered so.
     fn event(&mut self, pid: u32, step: Step, stop: u64) -> Event
         requires { pid < length self.old.kernel.world.processes }
-        ensures event { result ≡ event_of (has_fired self.old.kernel.volume.device) stop pid step (first_in (answers self.old.kernel.intake pid)) }
+        ensures event { result ≡ event_of (has_fired self.old.kernel.store.volume.device)
+            stop pid step (first_in (answers self.old.kernel.intake pid)) }
         ensures polls { Polls pid self.old.kernel self.new.kernel }
         ensures backlogs { self.new.backlogs ≡ self.old.backlogs }
     {

@@ -55,14 +55,14 @@ pub record GivesUpLock (c d : Buffers) (pid i : ℕ) : Type 0 where
   pub none : TakesNoLock c d
   pub free : (p b : ℕ) → HasLock d p b i → ⊥
 
--- whoever waits for a buffer that is held waits for somebody's lock
+-- the causes of waiting for a block: somebody has its lock, or no buffer is free
 abbrev pub WaitsFor : Why → Buffers → ℕ → Type 0
 WaitsFor why.BufferHeld c b = IsLocked c b
 WaitsFor why.NoBuffer c b = ⊤
-WaitsFor why.Committing c b = ⊤
-WaitsFor why.LogFull c b = ⊤
-WaitsFor why.InodeHeld c b = ⊤
-WaitsFor why.AnswersFull c b = ⊤
+WaitsFor why.Committing c b = ⊥
+WaitsFor why.LogFull c b = ⊥
+WaitsFor why.InodeHeld c b = ⊥
+WaitsFor why.AnswersFull c b = ⊥
 
 -- what `get` makes of the locks, by its answer
 abbrev pub LocksAfter : Get → Buffers → Buffers → ℕ → ℕ → Type 0

@@ -1,5 +1,5 @@
 -- The log as contracts see it, and what each call makes of it.
-use Rattle.std.specs.Prelude.{◌≡◌, ◌<◌, ◌≤◌, ◌==◌, ◌+◌, ◌-◌, ◌*◌, ◌^◌, ℕ, not, min, IsTrue, Bool, true, false, List, [], ◌∷◌, ◌++◌, length, replicate, slice_index_or, slice_set, if◌then◌else◌, Option, Some, None}
+use Rattle.std.specs.Prelude.{is_some, ◌≡◌, ◌<◌, ◌≤◌, ◌==◌, ◌+◌, ◌-◌, ◌*◌, ◌^◌, ℕ, not, min, IsTrue, Bool, true, false, List, [], ◌∷◌, ◌++◌, length, replicate, slice_index_or, slice_set, if◌then◌else◌, Option, Some, None}
 use Rattle.std.specs.List.{list_any, sum_by}
 use Rattle.model.specs.declared.types.operations.Why.{Why}
 use Rattle.model.specs.Log.{are_in_place, are_distinct}
@@ -160,3 +160,12 @@ pub record IsLogAt (k : Commit) (l : LogState) : Type 0 where
 
 abbrev pub IsLog : LogState → Type 0
 IsLog l = IsLogAt l.commit l
+
+-- the log has the same groups, and the same operations are open in it
+pub record SameGroups (l m : LogState) : Type 0 where
+  pub size : m.size ≡ l.size
+  pub outstanding : m.outstanding ≡ l.outstanding
+  pub opened : m.opened ≡ l.opened
+  pub committed : m.committed ≡ l.committed
+  pub commit : m.commit ≡ l.commit
+  pub used : (q : ℕ) → is_some (used_by m q) ≡ is_some (used_by l q)

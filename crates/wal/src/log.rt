@@ -182,7 +182,8 @@ impl Log {
     pub fn begin(&mut self, pid: u32) -> Began
         requires pid { pid < 32 }
         requires none { used_by self.old pid ≡ None }
-        requires opened { begin_cause self.old ≡ None → self.old.outstanding ≡ 0 → self.old.opened + 1 < 2 ^ 64 }
+        requires opened { begin_cause self.old ≡ None → self.old.outstanding ≡ 0
+            → self.old.opened + 1 < 2 ^ 64 }
         ensures answer { result ≡ begin_answer self.old pid }
         ensures log { self.new ≡ after_begin self.old pid }
     {
@@ -221,7 +222,8 @@ impl Log {
         requires within { block_or_zero (buffer cache.old slot).block < self.old.size }
         requires few { MayPin self.old cache.old slot }
         ensures log { self.new ≡ noted self.old pid (block_or_zero (buffer cache.old slot).block) }
-        ensures cache { cache.new ≡ noted_cache self.old cache.old slot (block_or_zero (buffer cache.old slot).block) }
+        ensures cache { cache.new ≡ noted_cache self.old cache.old slot
+            (block_or_zero (buffer cache.old slot).block) }
     {
         let Some(block) = cache.block(slot) else {
             unreachable!();
@@ -302,18 +304,26 @@ impl Log {
             (Stepped (header_block self.old.homes) (D.image disk.old) cache.old self.old (D.image disk.new) cache.new self.new)
             (Faulted (header_block self.old.homes) (D.image disk.old) cache.old self.old (D.image disk.new) cache.new self.new) }
         ensures name { D.name disk.new ≡ D.name disk.old }
-        ensures time { Elapses (D.moment disk.old) (D.moment disk.new) (D.leaves disk.old) (D.leaves disk.new) }
+        ensures time { Elapses (D.moment disk.old) (D.moment disk.new) (D.leaves disk.old)
+            (D.leaves disk.new) }
         ensures crash { LeavesOldOrNew (place_at self.old.commit self.old.homes)
             (bytes_at self.old.commit self.old.homes (header_block self.old.homes) (seen (D.image disk.old) cache.old))
             (D.leaves disk.old (D.moment disk.old)) (D.leaves disk.new (D.moment disk.new)) }
 
         // What a crash now may leave is recovered to what was committed, or to the group.
-        ensures recovers { (z : Image) → D.leaves disk.new (D.moment disk.new) z → CrashKeeps self.old.commit (D.image disk.old) (seen (D.image disk.old) cache.old) z }
+        ensures recovers { (z : Image) → D.leaves disk.new (D.moment disk.new) z
+            → CrashKeeps self.old.commit (D.image disk.old) (seen (D.image disk.old) cache.old) z }
 
         // And its log is lawful.
-        ensures lawful { (z : Image) → D.leaves disk.new (D.moment disk.new) z → IsTrue (is_lawful_log z) }
-        ensures writes { IsFault result (λ fault. D.write_count disk.new ≡ D.write_count disk.old) (D.fault_count disk.new ≡ one_more (D.fault_count disk.old)) (D.write_count disk.new ≡ one_more (D.write_count disk.old)) }
-        ensures faults { IsFault result (λ fault. fault.0 ≡ place_at self.old.commit self.old.homes) (D.fault_count disk.new ≡ one_more (D.fault_count disk.old)) (D.fault_count disk.new ≡ D.fault_count disk.old) }
+        ensures lawful { (z : Image) → D.leaves disk.new (D.moment disk.new) z → IsTrue
+            (is_lawful_log z) }
+        ensures writes { IsFault result (λ fault. D.write_count disk.new ≡ D.write_count disk.old)
+            (D.fault_count disk.new ≡ one_more (D.fault_count disk.old))
+            (D.write_count disk.new ≡ one_more (D.write_count disk.old)) }
+        ensures faults { IsFault result (λ fault. fault.0
+            ≡ place_at self.old.commit self.old.homes)
+            (D.fault_count disk.new ≡ one_more (D.fault_count disk.old))
+            (D.fault_count disk.new ≡ D.fault_count disk.old) }
     {
         match self.write_next(cache, disk) {
             Ok(()) => self.go_on(cache),

@@ -65,12 +65,15 @@ fn copy_home<D: Disk>(disk: &mut D, block: &mut Block, homes: &[u32]) -> Result<
     requires homes { homes.now ≡ homes_of (D.image disk.old) }
     requires settled { IsSettled (D.image disk.old) (D.leaves disk.old (D.moment disk.old)) }
     ensures ok { OnOk result (HasCopied (length homes.now) (D.image disk.old) (D.image disk.new)) }
-    ensures writes { OnOk result (D.write_count disk.new ≡ counted (D.write_count disk.old) (length homes.now)) }
+    ensures writes { OnOk result (D.write_count disk.new ≡ counted (D.write_count disk.old)
+        (length homes.now)) }
     ensures faults { OnOk result (D.fault_count disk.new ≡ D.fault_count disk.old) }
     ensures name { D.name disk.new ≡ D.name disk.old }
     ensures disk { OnErr result (Rose (D.fault_count disk.old) (D.fault_count disk.new)) }
-    ensures any_moment { LeavesOnly D.moment D.leaves disk.old disk.new (RecoversAs (D.image disk.old)) }
-    ensures in_order { LeavesOnly D.moment D.leaves disk.old disk.new (IsRecoveredInPart (D.image disk.old)) }
+    ensures any_moment { LeavesOnly D.moment D.leaves disk.old disk.new
+        (RecoversAs (D.image disk.old)) }
+    ensures in_order { LeavesOnly D.moment D.leaves disk.old disk.new
+        (IsRecoveredInPart (D.image disk.old)) }
 {
     for (k, home) in homes.iter().enumerate() {
         disk.read(log_block(k), block)?;
@@ -105,8 +108,10 @@ pub fn recover<D: Disk>(alloc: Global, disk: &mut D, sup: &Super) -> Result<u32,
 
     // A crash at any moment leaves an image with the first homes copied, or the recovered one. It is
     // recovered to the same image, and its log is lawful where that of the start is.
-    ensures in_order { LeavesOnly D.moment D.leaves disk.old disk.new (IsRecoveredInPart (D.image disk.old)) }
-    ensures any_moment { LeavesOnly D.moment D.leaves disk.old disk.new (RecoversAs (D.image disk.old)) }
+    ensures in_order { LeavesOnly D.moment D.leaves disk.old disk.new
+        (IsRecoveredInPart (D.image disk.old)) }
+    ensures any_moment { LeavesOnly D.moment D.leaves disk.old disk.new
+        (RecoversAs (D.image disk.old)) }
 {
     let mut block = Block::zeroed(alloc)?;
     let empty = Block::zeroed(alloc)?;

@@ -53,7 +53,13 @@ impl<D: Disk> Volume<D> {
         requires cache { cache ≡ fresh_buffers }
         requires log { log ≡ new_log (length (D.image disk)) }
         requires none { logged_count (D.image disk) ≡ 0 }
-        ensures volume { result ≡ record { device = disk; buffers = fresh_buffers; log = new_log (length (D.image disk)); fault = None } }
+        ensures volume { result ≡ record {
+          device = disk;
+          buffers = fresh_buffers;
+          log = new_log
+              (length (D.image disk));
+          fault = None;
+        } }
         ensures current { seen (D.image result.device) result.buffers ≡ D.image disk }
     {
         log.known();
@@ -68,14 +74,16 @@ impl<D: Disk> Volume<D> {
     /// Does nothing: where the disk hasn't failed, it says what is true of disk, buffers and log
     /// together.
     pub fn known(&self)
-        ensures { IfNone self.now.fault (Joint (D.image self.now.device) self.now.buffers self.now.log) }
+        ensures { IfNone self.now.fault (Joint
+            (D.image self.now.device) self.now.buffers self.now.log) }
     {
         let _ = &self.fault;
     }
 
     /// Does nothing: where the disk hasn't failed, each block of the current image has 1024 bytes.
     pub fn image_known(&self)
-        ensures { IfNone self.now.fault (IsImage (seen (D.image self.now.device) self.now.buffers)) }
+        ensures { IfNone self.now.fault (IsImage
+            (seen (D.image self.now.device) self.now.buffers)) }
     {
         let _ = &self.fault;
     }
@@ -128,7 +136,8 @@ impl<D: Disk> Volume<D> {
         requires fault { self.old.fault ≡ None }
         requires pid { pid < 32 }
         requires none { used_by self.old.log pid ≡ None }
-        requires opened { begin_cause self.old.log ≡ None → self.old.log.outstanding ≡ 0 → self.old.log.opened + 1 < 2 ^ 64 }
+        requires opened { begin_cause self.old.log ≡ None → self.old.log.outstanding ≡ 0
+            → self.old.log.opened + 1 < 2 ^ 64 }
         ensures answer { result ≡ begin_answer self.old.log pid }
         ensures volume { self.new ≡ record self.old { log = after_begin self.old.log pid } }
     {
@@ -155,15 +164,19 @@ impl<D: Disk> Volume<D> {
         requires behind { 33 ≤ block }
         requires within { block < self.old.log.size }
         ensures answer { UnlessFault result (result ≡ get_answer self.old.buffers block) }
-        ensures buffers { UnlessFault result (self.new.buffers ≡ after_get (D.image self.old.device) self.old.buffers pid block) }
-        ensures got { OnGot result (λ slot. Holds (seen (D.image self.new.device) self.new.buffers) self.new.buffers pid block slot) }
+        ensures buffers { UnlessFault result
+            (self.new.buffers ≡ after_get (D.image self.old.device) self.old.buffers pid block) }
+        ensures got { OnGot result (λ slot. Holds
+            (seen (D.image self.new.device) self.new.buffers) self.new.buffers pid block slot) }
         ensures sleeping { OnSleeping result (self.new ≡ self.old) }
         ensures failed { OnFault result (FailsToFill self.old.buffers self.new.buffers pid block) }
         ensures fault { self.new.fault ≡ fault_of_get result }
         ensures log { self.new.log ≡ self.old.log }
-        ensures current { seen (D.image self.new.device) self.new.buffers ≡ seen (D.image self.old.device) self.old.buffers }
+        ensures current { seen (D.image self.new.device) self.new.buffers ≡ seen
+            (D.image self.old.device) self.old.buffers }
         ensures device { OnlyReads D.Disk self.old.device self.new.device }
-        ensures faults { D.fault_count self.new.device ≡ faults_after (fault_of_get result) (D.fault_count self.old.device) }
+        ensures faults { D.fault_count self.new.device ≡ faults_after (fault_of_get result)
+            (D.fault_count self.old.device) }
 
         // No other lock is taken, and what is held stays so; who waits for a held buffer waits for its lock.
         ensures locks { LocksAfter result self.old.buffers self.new.buffers pid block }
@@ -182,14 +195,18 @@ impl<D: Disk> Volume<D> {
         requires block { (buffer self.old.buffers slot).block ≡ Some block }
         requires valid { (buffer self.old.buffers slot).valid ≡ false }
         ensures answer { UnlessFault result (result ≡ Get.Got slot) }
-        ensures buffers { UnlessFault result (self.new.buffers ≡ filled self.old.buffers slot (block_at (D.image self.old.device) block)) }
+        ensures buffers { UnlessFault result
+            (self.new.buffers ≡ filled self.old.buffers slot
+            (block_at (D.image self.old.device) block)) }
         ensures place { OnFault result (λ fault. fault.0 ≡ block) }
         ensures failed { OnFault result (λ _. EndsUnfilled self.old.buffers slot self.new.buffers) }
         ensures fault { self.new.fault ≡ fault_of_get result }
         ensures log { self.new.log ≡ self.old.log }
-        ensures current { seen (D.image self.new.device) self.new.buffers ≡ seen (D.image self.old.device) self.old.buffers }
+        ensures current { seen (D.image self.new.device) self.new.buffers ≡ seen
+            (D.image self.old.device) self.old.buffers }
         ensures device { OnlyReads D.Disk self.old.device self.new.device }
-        ensures faults { D.fault_count self.new.device ≡ faults_after (fault_of_get result) (D.fault_count self.old.device) }
+        ensures faults { D.fault_count self.new.device ≡ faults_after (fault_of_get result)
+            (D.fault_count self.old.device) }
     {
         match self.cache.fill(slot, &mut self.disk) {
             Ok(()) => Get::Got(slot),
@@ -205,7 +222,8 @@ impl<D: Disk> Volume<D> {
         requires { slot < 40 }
         ensures bytes { result.now ≡ (buffer self.now.buffers slot).bytes }
         ensures block { IsBlock result.now }
-        ensures current { (pid b : ℕ) → self.now.fault ≡ None → HoldsBlock self.now.buffers pid b slot
+        ensures current { (pid b : ℕ) → self.now.fault ≡ None
+            → HoldsBlock self.now.buffers pid b slot
             → result.now ≡ block_at (seen (D.image self.now.device) self.now.buffers) b }
     {
         self.cache.data(slot)
@@ -217,7 +235,8 @@ impl<D: Disk> Volume<D> {
         requires slot { slot < 40 }
         requires held { (buffer self.old.buffers slot).holder ≡ Some pid }
         ensures volume { self.new ≡ record self.old { buffers = released self.old.buffers slot } }
-        ensures current { seen (D.image self.new.device) self.new.buffers ≡ seen (D.image self.old.device) self.old.buffers }
+        ensures current { seen (D.image self.new.device) self.new.buffers ≡ seen
+            (D.image self.old.device) self.old.buffers }
         ensures locks { GivesUpLock self.old.buffers self.new.buffers pid slot }
     {
         self.cache.release(pid, slot);
@@ -236,8 +255,12 @@ impl<D: Disk> Volume<D> {
         requires valid { (buffer self.old.buffers slot).valid ≡ true }
         requires fits { at + length bytes.now ≤ 1024 }
         ensures volume { self.new ≡ after_change self.old pid slot at bytes.now }
-        ensures current { seen (D.image self.new.device) self.new.buffers ≡ slice_set (seen (D.image self.old.device) self.old.buffers) (block_or_zero (buffer self.old.buffers slot).block) (overwritten (buffer self.old.buffers slot).bytes at bytes.now) }
-        ensures holds { Holds (seen (D.image self.new.device) self.new.buffers) self.new.buffers pid (block_or_zero (buffer self.old.buffers slot).block) slot }
+        ensures current { seen (D.image self.new.device) self.new.buffers ≡ slice_set
+            (seen (D.image self.old.device) self.old.buffers)
+            (block_or_zero (buffer self.old.buffers slot).block)
+            (overwritten (buffer self.old.buffers slot).bytes at bytes.now) }
+        ensures holds { Holds (seen (D.image self.new.device) self.new.buffers) self.new.buffers
+            pid (block_or_zero (buffer self.old.buffers slot).block) slot }
         ensures locks { LeavesLocks self.old.buffers self.new.buffers }
     {
         self.log.log_write(pid, &mut self.cache, slot);
@@ -254,15 +277,26 @@ impl<D: Disk> Volume<D> {
             (Faulted (header_block self.old.log.homes) (D.image self.old.device) self.old.buffers self.old.log (D.image self.new.device) self.new.buffers self.new.log) }
         ensures fault { self.new.fault ≡ fault_of_step result }
         ensures name { D.name self.new.device ≡ D.name self.old.device }
-        ensures current { IsSameOutsideLog (seen (D.image self.old.device) self.old.buffers) (seen (D.image self.new.device) self.new.buffers) }
-        ensures time { Elapses (D.moment self.old.device) (D.moment self.new.device) (D.leaves self.old.device) (D.leaves self.new.device) }
+        ensures current { IsSameOutsideLog (seen (D.image self.old.device) self.old.buffers)
+            (seen (D.image self.new.device) self.new.buffers) }
+        ensures time { Elapses (D.moment self.old.device) (D.moment self.new.device)
+            (D.leaves self.old.device) (D.leaves self.new.device) }
         ensures crash { LeavesOldOrNew (place_at self.old.log.commit self.old.log.homes)
             (bytes_at self.old.log.commit self.old.log.homes (header_block self.old.log.homes) (seen (D.image self.old.device) self.old.buffers))
             (D.leaves self.old.device (D.moment self.old.device)) (D.leaves self.new.device (D.moment self.new.device)) }
-        ensures recovers { (z : Image) → D.leaves self.new.device (D.moment self.new.device) z → CrashKeeps self.old.log.commit (D.image self.old.device) (seen (D.image self.old.device) self.old.buffers) z }
-        ensures lawful { (z : Image) → D.leaves self.new.device (D.moment self.new.device) z → IsTrue (is_lawful_log z) }
-        ensures writes { IsFault result (λ fault. D.write_count self.new.device ≡ D.write_count self.old.device) (D.fault_count self.new.device ≡ one_more (D.fault_count self.old.device)) (D.write_count self.new.device ≡ one_more (D.write_count self.old.device)) }
-        ensures faults { IsFault result (λ fault. fault.0 ≡ place_at self.old.log.commit self.old.log.homes) (D.fault_count self.new.device ≡ one_more (D.fault_count self.old.device)) (D.fault_count self.new.device ≡ D.fault_count self.old.device) }
+        ensures recovers { (z : Image) → D.leaves self.new.device (D.moment self.new.device) z
+            → CrashKeeps self.old.log.commit (D.image self.old.device)
+            (seen (D.image self.old.device) self.old.buffers) z }
+        ensures lawful { (z : Image) → D.leaves self.new.device (D.moment self.new.device) z
+            → IsTrue (is_lawful_log z) }
+        ensures writes { IsFault result (λ fault. D.write_count self.new.device
+            ≡ D.write_count self.old.device)
+            (D.fault_count self.new.device ≡ one_more (D.fault_count self.old.device))
+            (D.write_count self.new.device ≡ one_more (D.write_count self.old.device)) }
+        ensures faults { IsFault result (λ fault. fault.0
+            ≡ place_at self.old.log.commit self.old.log.homes)
+            (D.fault_count self.new.device ≡ one_more (D.fault_count self.old.device))
+            (D.fault_count self.new.device ≡ D.fault_count self.old.device) }
         ensures locks { LeavesLocks self.old.buffers self.new.buffers }
     {
         let answer = self.log.commit_step(&mut self.cache, &mut self.disk);

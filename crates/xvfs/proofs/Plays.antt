@@ -31,7 +31,7 @@ is_event_of false stop p r (Some polled) = refl
 
 turn_is_of : {D N : Type 0} (makes : Step → Plain (FaultyDisk D) → Plain (FaultyDisk D) → Type 0) (stop p : ℕ) (event : Event) (old new : Player D N) → MakesTurnOf makes stop p event old new → IsTurnOfProcess stop p event
 turn_is_of makes stop p event old new turn =
-    subst (IsTurnOfProcess stop p) (sym turn.tells) (is_event_of (has_fired turn.stepped.volume.device) stop p turn.answer (first_in (answers turn.stepped.intake p)))
+    subst (IsTurnOfProcess stop p) (sym turn.tells) (is_event_of (has_fired turn.stepped.store.volume.device) stop p turn.answer (first_in (answers turn.stepped.intake p)))
 
 -- the event of a turn is of its word's process
 pub turn_is : {D N : Type 0} (disk : Ghosts (FaultyDisk D) (N × Trap)) (stop : ℕ) (word : Word) (event : Event) (old new : Player D N) → MakesTurn disk stop word event old new → IsTurnOf stop word event
@@ -54,7 +54,7 @@ pub some_words : {D N : Type 0} (disk : Ghosts (FaultyDisk D) (N × Trap)) (x : 
     → Replays disk x written tasks processes words stop fault text printed → (of : List Word) × PrintsRun stop of text printed
 some_words disk x written tasks processes words stop fault text printed replays =
     let run = replays.runs in
-    (words, (run.events, plays_of disk stop words run.events replays.player run.last run.makes, (disk.write_count run.last.kernel.volume.device - disk.write_count replays.player.kernel.volume.device, (run.last.kernel.volume.log.committed, run.lines))))
+    (words, (run.events, plays_of disk stop words run.events replays.player run.last run.makes, (disk.write_count run.last.kernel.store.volume.device - disk.write_count replays.player.kernel.store.volume.device, (run.last.kernel.store.volume.log.committed, run.lines))))
 
 -- what was printed where a replay was refused
 pub on_refusal : (r : Refusal) (P Q R S : Type 0) → (P → Q) → (R → S) → OnRefusal r P R → OnRefusal r Q S

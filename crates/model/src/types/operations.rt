@@ -1,5 +1,6 @@
 // Operations on files, and what becomes of them.
 use crate::content::Content;
+use blocks::DiskFault;
 
 /// An operation on files, by inode number.
 #[derive(Debug, Drop)]
@@ -84,4 +85,22 @@ pub enum Why {
     NoBuffer,
     /// Answers were not fetched, and there is no place for one more.
     AnswersFull,
+}
+
+/// What a step of a process's operation answers to whoever drives it.
+#[derive(Debug, Drop)]
+pub enum TaskProgress {
+    /// The step was made, and the task goes on.
+    Moved,
+    /// The step was the operation's turn: where its reply is known, the files are from now on what
+    /// they are after it.
+    Turned(Option<Reply>),
+    /// The reply of an operation that had its turn is known.
+    Decided(Reply),
+    /// The task is over.
+    Over,
+    /// Nothing was changed, and the process has to wait.
+    Sleeping(Why),
+    /// The disk failed.
+    Fault(DiskFault),
 }

@@ -1,8 +1,14 @@
-use Rattle.std.proofs.Common.{rules, refl}
-use Rattle.ports.specs.Queues.{QueueFits, queue_count, queue_side}
-use Rattle.kernel.proofs.Staying.{stays_true}
+use Rattle.std.proofs.Common.{refl}
+use Rattle.ports.specs.contracts.queues.QueueIntakeIntake.TheImpl.{ghosts}
+use Rattle.kernel.proofs.Ports.{ports_stay}
 use Rattle.kernel.proofs.queues.Kernel+D+QueueIntake+H.poll.Goals as goal
 
 pub invariant_of-self : goal.invariant_of-self
 invariant_of-self g c =
-    stays_true g.D.Disk.image queue_count queue_side QueueFits g.H.Herald.count _ c.poll.new.self c.self.inside.herald c.self.inside.processes.is_shut c.self.invariant c.poll.ensures.processes (search rules) c.poll.ensures.fits refl
+    let k = c.self.inside in
+    let ports = c.self.invariant.ports in
+    record {
+      right = c.self.invariant.right;
+      ports = ports_stay ghosts g.H.Herald k.intake c.poll.new.self k.herald k.herald k.store.volume.log.committed k.store.volume.log.committed k.processes k.processes ports c.poll.ensures.processes refl refl
+          (λ p busy. c.poll.ensures.room p (ports.room p busy)) c.poll.ensures.fits ports.told;
+    }

@@ -1,103 +1,173 @@
-use Rattle.std.proofs.Common.{rules, refl, ◌≡◌, ◌<◌, None, ◌∙◌, sym, ap, subst, length}
-use Rattle.wal.specs.declared.types.Commit.{Commit}
-use Rattle.wal.specs.Machine.{LogState, IsLogAt}
-use Rattle.kernel.specs.Processes.{World, process}
-use Rattle.inodes.specs.Lemmas.Faults.{where_none, if_none, if_some}
-use Rattle.kernel.proofs.Commits.{table_more, table_last, committed_same}
-use Rattle.kernel.specs.Keeps.{IsJournal, KeepsNow, Recovers}
-use Rattle.kernel.proofs.Journals.{journal_same}
-use Rattle.kernel.proofs.Recovers.{commit_goes, commit_fails, written_opened}
-use Rattle.kernel.proofs.Keeping.{kept_of}
-use Rattle.kernel.proofs.Taking.{histories_given, committing_owes}
-use Rattle.kernel.proofs.Rooms.{rooms_answered, as_many}
+use Rattle.std.proofs.Common.{rules, refl, ◌≡◌, ◌<◌, ℕ, length, true, false, None, ap, subst, sym, ◌∙◌}
+use Rattle.wal.specs.declared.types.Committed.{Committed}
+use Rattle.wal.specs.declared.types.Committed.TheVariants as committed
+use Rattle.wal.specs.Machine.{LogState, is_quiet}
+use Rattle.wal.specs.Volume.{fault_of_step}
+use Rattle.inodes.specs.Lemmas.Faults.{where_none}
+use Rattle.inodes.specs.Steps.{Commits}
+use Rattle.inodes.specs.Tasks.{task}
+use Rattle.journal.specs.declared.types.At.{At}
+use Rattle.journal.specs.declared.types.At.TheVariants as at
+use Rattle.journal.specs.Alone.{is_committing_at}
+use Rattle.journal.specs.Lemmas.Alone.{goes_on, over_now, same_committed, durable_count}
+use Rattle.journal.specs.Processes.{World, process, answered}
+use Rattle.kernel.specs.declared.types.Step.TheVariants as step
+use Rattle.kernel.specs.Invariant.{IsRight, HasFacts, TaskStands}
+use Rattle.kernel.specs.State.{State}
+use Rattle.kernel.specs.Steps.{Acts}
+use Rattle.kernel.proofs.Acting.{acts_written, sides_same}
+use Rattle.kernel.proofs.Answering.{answer_commits}
+use Rattle.kernel.proofs.Closing.{right_written, right_done, right_unwritten}
+use Rattle.journal.specs.Lemmas.Places.{committing_there}
+use Rattle.kernel.proofs.Ports.{ports_given, ports_counted, ports_stay}
+use Rattle.kernel.proofs.Right.{joint_now}
 use Rattle.kernel.proofs.stepping.Kernel.commit.Goals as goal
+
+-- who commits has a commit under way
+has_busy : {D N : Type 0} (disk : Rattle.blocks.specs.declared.disk.Disk.Ghosts D N) (opening : D) (s : Rattle.inodes.specs.Store.StoreState D) (w : World) → IsRight disk opening s w → s.volume.fault ≡ None → (p : ℕ)
+    → is_committing_at (process w p).at ≡ true → is_quiet s.volume.log.commit ≡ false
+has_busy disk opening s w right well p commits = (where_none {T = HasFacts disk.image (disk.image opening) s w} s.volume.fault well right.facts).alone.busy p commits
+
+-- and can be answered
+can_answer : {D N : Type 0} (disk : Rattle.blocks.specs.declared.disk.Disk.Ghosts D N) (opening : D) (s : Rattle.inodes.specs.Store.StoreState D) (w : World) → IsRight disk opening s w → s.volume.fault ≡ None → (p : ℕ)
+    → is_committing_at (process w p).at ≡ true → Rattle.std.specs.Prelude.IsSome (Rattle.journal.specs.Processes.last_answer w (process w p).at)
+can_answer disk opening s w right well p commits =
+    let there = committing_there (process w p).at commits in
+    let stands : TaskStands (task s.tasks p) (at.Committing there.0 there.1) = subst (λ (a : At). TaskStands (task s.tasks p) a) there.2 (right.paired.stand p) in
+    answer_commits disk opening s w p right well there.0 there.1 there.2 stands.1
+
+pub commit_step-committed-requires-clause-busy : goal.commit_step-committed-requires-clause-busy
+commit_step-committed-requires-clause-busy g c =
+    let k = c.self.inside in
+    let well : k.store.volume.fault ≡ None = search rules in
+    let commits : is_committing_at (process k.processes c.args.pid).at ≡ true = search rules in
+    has_busy g.D.Disk k.opening.value k.store k.processes c.self.invariant.right well c.args.pid commits
+
+pub give-requires-clause-over : goal.give-requires-clause-over
+give-requires-clause-over g c =
+    let k = c.self.inside in
+    let well : k.store.volume.fault ≡ None = search rules in
+    let commits : is_committing_at (process k.processes c.args.pid).at ≡ true = search rules in
+    can_answer g.D.Disk k.opening.value k.store k.processes c.self.invariant.right well c.args.pid commits
 
 pub invariant_of-self : goal.invariant_of-self
 invariant_of-self g c =
-    let well : c.self.inside.volume.fault ≡ None = search rules in
-    let table = where_none _ well c.self.invariant.table in
-    let image = g.D.Disk.image in
-    let opening = image c.self.inside.opening.value in
-    let recovers = commit_goes opening (image c.self.inside.volume.device) c.self.inside.volume.buffers c.self.inside.volume.log c.self.inside.processes.journal.list (where_none _ well c.self.invariant.recovers)
-    (image c.commit_step-answer.new.self.device) c.commit_step-answer.new.self.buffers c.commit_step-answer.new.self.log c.in-More.ensures.step.1.log c.in-More.ensures.step.1.keeps c.commit_step-answer.ensures.current
-    (c.commit_step-answer.ensures.lawful _ (g.met.D.Disk.has_now c.commit_step-answer.new.self.device)) in
+    let k = c.self.inside in
+    let well : k.store.volume.fault ≡ None = search rules in
+    let lt : c.args.pid < length k.processes.processes = search rules in
+    let commits : is_committing_at (process k.processes c.args.pid).at ≡ true = search rules in
+    let there = committing_there (process k.processes c.args.pid).at commits in
+    let t = c.commit_step-committed.new.self in
+    let l = k.store.volume.log in
+    let busy : is_quiet l.commit ≡ false = has_busy g.D.Disk k.opening.value k.store k.processes c.self.invariant.right well c.args.pid commits in
+    let made : Commits g.D.Disk k.store committed.More t = subst (λ (r : Committed). Commits g.D.Disk k.store r t) c.in-More.is c.commit_step-committed.ensures.commits in
+    let now : t.volume.fault ≡ fault_of_step committed.More = made.fault in
     record {
-      table = if_none _ (table_more _ _ _ _ _ _ _ _ c.args.pid _ table (search rules) (search rules) c.in-More.ensures.step.1 (search rules) (λ e. let same = sym c.in-More.ensures.step.0 ∙ e in absurd (cc same)));
-      processes = c.self.invariant.processes;
-      room = c.self.invariant.room;
-      told = c.self.invariant.told ∙ sym (committed_same _ _ _ _ _ _ _ _ c.args.pid _ table (search rules) (search rules) c.in-More.ensures.step.1 (λ k e. let same = sym c.in-More.ensures.step.0 ∙ e in absurd (cc same)));
-      numbers = c.self.invariant.numbers;
-      journal = journal_same opening c.self.inside.volume.log.opened c.self.inside.processes.journal.list c.self.invariant.journal c.commit_step-answer.new.self.log.opened c.self.inside.processes.journal.list (written_opened c.self.inside.volume.log c.commit_step-answer.new.self.log c.in-More.ensures.step.1.log) refl;
-      recovers = if_none _ recovers;
-      keeps = kept_of image opening c.commit_step-answer.new.self c.self.inside.processes.journal.list recovers;
-      histories = c.self.invariant.histories;
-    }
-
-pub invariant_of-self-in-Done : goal.invariant_of-self-in-Done
-invariant_of-self-in-Done g c =
-    let well : c.self.inside.volume.fault ≡ None = search rules in
-    let lt : c.args.pid < length c.self.inside.processes.processes = search rules in
-    let table = where_none _ well c.self.invariant.table in
-    let is = c.give.ensures.processes in
-    let owes = committing_owes (process c.self.inside.processes c.args.pid).at (process c.self.inside.processes c.args.pid) (search rules) in
-    let image = g.D.Disk.image in
-    let opening = image c.self.inside.opening.value in
-    let recovers = commit_goes opening (image c.self.inside.volume.device) c.self.inside.volume.buffers c.self.inside.volume.log c.self.inside.processes.journal.list (where_none _ well c.self.invariant.recovers)
-    (image c.commit_step-answer.new.self.device) c.commit_step-answer.new.self.buffers c.commit_step-answer.new.self.log c.in-Done.ensures.step.1.log c.in-Done.ensures.step.1.keeps c.commit_step-answer.ensures.current
-    (c.commit_step-answer.ensures.lawful _ (g.met.D.Disk.has_now c.commit_step-answer.new.self.device)) in
-    let list = ap (λ (v : World). v.journal.list) is in
-    record {
-      table = if_none _ (table_last _ _ _ _ _ _ _ _ c.args.pid _ table lt (search rules) c.in-Done.ensures.step.1 _ is);
-      processes = c.give.ensures.served ∙ c.self.invariant.processes ∙ sym (as_many c.self.inside.processes c.give.new.processes c.args.pid _ (ap (λ (v : World). v.processes) is));
-      room = rooms_answered (g.I.Intake.side c.self.inside.intake) (g.I.Intake.side c.give.new.intake) c.self.inside.processes _ c.args.pid lt is c.give.ensures.others c.self.invariant.room;
-      told = c.self.invariant.told ∙ sym (committed_same _ _ _ _ _ _ _ _ c.args.pid _ table lt (search rules) c.in-Done.ensures.step.1 (λ k e. let same = sym c.in-Done.ensures.step.0 ∙ e in absurd (cc same)));
-      numbers = c.self.invariant.numbers;
-      journal = journal_same opening c.self.inside.volume.log.opened c.self.inside.processes.journal.list c.self.invariant.journal c.commit_step-answer.new.self.log.opened c.give.new.processes.journal.list (written_opened c.self.inside.volume.log c.commit_step-answer.new.self.log c.in-Done.ensures.step.1.log) list;
-      recovers = if_none _ (subst (λ es. Recovers opening (image c.commit_step-answer.new.self.device) c.commit_step-answer.new.self.buffers c.commit_step-answer.new.self.log es) (sym list) recovers);
-      keeps = subst (λ es. KeepsNow c.commit_step-answer.new.self opening es (image c.commit_step-answer.new.self.device)) (sym list) (kept_of image opening c.commit_step-answer.new.self c.self.inside.processes.journal.list recovers);
-      histories = histories_given (g.I.Intake.fits c.self.inside.intake) (g.I.Intake.fits c.give.new.intake) c.self.inside.processes c.give.new.processes c.args.pid _ lt (ap (λ (v : World). v.processes) is) _ (ap (λ (v : World). v.journal.list) is)
-          owes.0 owes.1 refl refl refl c.give.ensures.fits c.self.invariant.histories;
+      right = right_written g.D.Disk k.opening.value k.store k.processes c.self.invariant.right well c.args.pid lt there.0 there.1 there.2 t committed.More made g.met.D.Disk.has_now
+          (joint_now g.D.Disk.image t now c.known-2.ensures.volume) now made.step.1.log
+          (goes_on l.commit l l.opened busy (λ done. let both = sym made.step.0 ∙ done in absurd (cc both))) made.faults;
+      ports = ports_counted g.I.Intake g.H.Herald k.intake k.herald l.committed t.volume.log.committed k.processes c.self.invariant.ports (ap (λ (m : LogState). m.committed) made.step.1.log ∙ same_committed l.commit l l.opened (λ n durable. let both = sym made.step.0 ∙ durable in absurd (cc both)));
     }
 
 pub invariant_of-self-in-Durable : goal.invariant_of-self-in-Durable
 invariant_of-self-in-Durable g c =
-    let well : c.self.inside.volume.fault ≡ None = search rules in
-    let table = where_none _ well c.self.invariant.table in
-    let image = g.D.Disk.image in
-    let opening = image c.self.inside.opening.value in
-    let made = c.in-Durable.ensures.step.1 in
-    let recovers = commit_goes opening (image c.self.inside.volume.device) c.self.inside.volume.buffers c.self.inside.volume.log c.self.inside.processes.journal.list (where_none _ well c.self.invariant.recovers)
-    (image c.commit_step-answer.new.self.device) c.commit_step-answer.new.self.buffers c.commit_step-answer.new.self.log made.log made.keeps c.commit_step-answer.ensures.current
-    (c.commit_step-answer.ensures.lawful _ (g.met.D.Disk.has_now c.commit_step-answer.new.self.device)) in
+    let k = c.self.inside in
+    let well : k.store.volume.fault ≡ None = search rules in
+    let lt : c.args.pid < length k.processes.processes = search rules in
+    let commits : is_committing_at (process k.processes c.args.pid).at ≡ true = search rules in
+    let there = committing_there (process k.processes c.args.pid).at commits in
+    let t = c.commit_step-committed.new.self in
+    let l = k.store.volume.log in
+    let busy : is_quiet l.commit ≡ false = has_busy g.D.Disk k.opening.value k.store k.processes c.self.invariant.right well c.args.pid commits in
+    let made : Commits g.D.Disk k.store (committed.Durable c.in-Durable.group) t = subst (λ (r : Committed). Commits g.D.Disk k.store r t) c.in-Durable.is c.commit_step-committed.ensures.commits in
+    let now : t.volume.fault ≡ fault_of_step (committed.Durable c.in-Durable.group) = made.fault in
     record {
-      numbers = c.self.invariant.numbers;
-      table = if_none _ (table_more _ _ _ _ _ _ _ _ c.args.pid _ table (search rules) (search rules) made (search rules) (λ e. let same = sym c.in-Durable.ensures.step.0 ∙ e in absurd (cc same)));
-      processes = c.self.invariant.processes;
-      room = c.self.invariant.room;
-      told = search rules;
-      journal = journal_same opening c.self.inside.volume.log.opened c.self.inside.processes.journal.list c.self.invariant.journal c.commit_step-answer.new.self.log.opened c.self.inside.processes.journal.list (written_opened c.self.inside.volume.log c.commit_step-answer.new.self.log made.log) refl;
-      recovers = if_none _ recovers;
-      keeps = kept_of image opening c.commit_step-answer.new.self c.self.inside.processes.journal.list recovers;
-      histories = c.self.invariant.histories;
+      right = right_written g.D.Disk k.opening.value k.store k.processes c.self.invariant.right well c.args.pid lt there.0 there.1 there.2 t (committed.Durable c.in-Durable.group) made g.met.D.Disk.has_now
+          (joint_now g.D.Disk.image t now c.known-2.ensures.volume) now made.step.1.log
+          (goes_on l.commit l l.opened busy (λ done. let both = sym made.step.0 ∙ done in absurd (cc both))) made.faults;
+      ports = ports_stay g.I.Intake g.H.Herald k.intake k.intake k.herald c.durable.new.self l.committed t.volume.log.committed k.processes k.processes c.self.invariant.ports refl refl refl c.self.invariant.ports.room (λ p h fits. fits) (c.durable.ensures.count ∙ durable_count l t.volume.log c.in-Durable.group made.step.0 made.step.1.log);
+    }
+
+pub invariant_of-self-in-Done : goal.invariant_of-self-in-Done
+invariant_of-self-in-Done g c =
+    let k = c.self.inside in
+    let well : k.store.volume.fault ≡ None = search rules in
+    let lt : c.args.pid < length k.processes.processes = search rules in
+    let commits : is_committing_at (process k.processes c.args.pid).at ≡ true = search rules in
+    let there = committing_there (process k.processes c.args.pid).at commits in
+    let t = c.commit_step-committed.new.self in
+    let l = k.store.volume.log in
+    let busy : is_quiet l.commit ≡ false = has_busy g.D.Disk k.opening.value k.store k.processes c.self.invariant.right well c.args.pid commits in
+    let made : Commits g.D.Disk k.store committed.Done t = subst (λ (r : Committed). Commits g.D.Disk k.store r t) c.in-Done.is c.commit_step-committed.ensures.commits in
+    let now : t.volume.fault ≡ fault_of_step committed.Done = made.fault in
+    let some = can_answer g.D.Disk k.opening.value k.store k.processes c.self.invariant.right well c.args.pid commits in
+    let same : t.volume.log.committed ≡ l.committed = (ap (λ (m : LogState). m.committed) made.step.1.log ∙ same_committed l.commit l l.opened (λ n durable. let both = sym made.step.0 ∙ durable in absurd (cc both))) in
+    record {
+      right = subst (λ (w : World). IsRight g.D.Disk k.opening.value t w) (sym c.give.ensures.processes)
+          (right_done g.D.Disk k.opening.value k.store k.processes c.self.invariant.right well c.args.pid lt there.0 there.1 there.2 t committed.Done made g.met.D.Disk.has_now
+          (joint_now g.D.Disk.image t now c.known-2.ensures.volume) now made.step.1.log (over_now l.commit l l.opened made.step.0) made.faults);
+      ports = ports_given g.I.Intake g.H.Herald k.intake c.give.new.intake k.herald k.herald l.committed t.volume.log.committed k.processes c.give.new.processes c.args.pid
+          c.self.invariant.ports lt some c.give.ensures.processes c.give.ensures.gives (c.self.invariant.ports.told ∙ sym same);
     }
 
 pub invariant_of-self-in-Fault : goal.invariant_of-self-in-Fault
 invariant_of-self-in-Fault g c =
-    let well : c.self.inside.volume.fault ≡ None = search rules in
-    let image = g.D.Disk.image in
-    let opening = image c.self.inside.opening.value in
-    let is = (where_none _ well c.known.ensures).log in
-    let left = g.met.D.Disk.has_now c.commit_step-answer.new.self.device in
+    let k = c.self.inside in
+    let well : k.store.volume.fault ≡ None = search rules in
+    let lt : c.args.pid < length k.processes.processes = search rules in
+    let commits : is_committing_at (process k.processes c.args.pid).at ≡ true = search rules in
+    let there = committing_there (process k.processes c.args.pid).at commits in
+    let t = c.commit_step-committed.new.self in
+    let l = k.store.volume.log in
+    let busy : is_quiet l.commit ≡ false = has_busy g.D.Disk k.opening.value k.store k.processes c.self.invariant.right well c.args.pid commits in
+    let made : Commits g.D.Disk k.store (committed.Fault c.in-Fault.field-0) t = subst (λ (r : Committed). Commits g.D.Disk k.store r t) c.in-Fault.is c.commit_step-committed.ensures.commits in
+    let now : t.volume.fault ≡ fault_of_step (committed.Fault c.in-Fault.field-0) = made.fault in
     record {
-      numbers = c.self.invariant.numbers;
-      table = if_some _ _ _ c.in-Fault.ensures.fault;
-      processes = c.self.invariant.processes;
-      room = c.self.invariant.room;
-      told = search rules;
-      journal = subst (λ (l : LogState). IsJournal opening l.opened c.self.inside.processes.journal.list) (sym c.in-Fault.ensures.step.log) c.self.invariant.journal;
-      recovers = if_some _ _ _ c.in-Fault.ensures.fault;
-      keeps = commit_fails opening (image c.self.inside.volume.device) c.self.inside.volume.buffers c.self.inside.volume.log c.self.inside.processes.journal.list (where_none _ well c.self.invariant.recovers)
-          c.commit_step-answer.new.self _ (image c.commit_step-answer.new.self.device) c.in-Fault.ensures.fault c.in-Fault.ensures.step.log (c.commit_step-answer.ensures.recovers _ left) (c.commit_step-answer.ensures.lawful _ left)
-          (λ heading. (subst (λ (k : Commit). IsLogAt k c.self.inside.volume.log) heading is).counts);
-      histories = c.self.invariant.histories;
+      right = right_unwritten g.D.Disk k.opening.value k.store k.processes c.self.invariant.right well c.args.pid lt there.0 there.1 there.2 t (committed.Fault c.in-Fault.field-0) made g.met.D.Disk.has_now
+          c.in-Fault.field-0 refl made.step.log made.faults.0 made.faults.1;
+      ports = ports_counted g.I.Intake g.H.Herald k.intake k.herald l.committed t.volume.log.committed k.processes c.self.invariant.ports (ap (λ (m : LogState). m.committed) made.step.log);
     }
+
+pub returns-in-More : goal.returns-in-More
+returns-in-More g c =
+    let k = c.self.inside in
+    let well : k.store.volume.fault ≡ None = search rules in
+    let commits : is_committing_at (process k.processes c.args.pid).at ≡ true = search rules in
+    let there = committing_there (process k.processes c.args.pid).at commits in
+    let t = c.commit_step-committed.new.self in
+    let made : Commits g.D.Disk k.store committed.More t = subst (λ (r : Committed). Commits g.D.Disk k.store r t) c.in-More.is c.commit_step-committed.ensures.commits in
+    subst (λ (o : State _ _ _). Acts g.D.Disk g.I.Intake g.H.Herald c.args.pid step.Moved o (record { store = t; opening = k.opening.value; intake = k.intake; herald = k.herald; world = k.processes })) c.self.view_is
+    (acts_written g.D.Disk g.I.Intake g.H.Herald c.args.pid k.store t k.opening.value k.intake k.herald k.processes k.processes well there.0 there.1 k.intake k.herald committed.More there.2 made refl (sides_same g.I.Intake c.args.pid k.intake) refl)
+
+pub returns-in-Durable : goal.returns-in-Durable
+returns-in-Durable g c =
+    let k = c.self.inside in
+    let well : k.store.volume.fault ≡ None = search rules in
+    let commits : is_committing_at (process k.processes c.args.pid).at ≡ true = search rules in
+    let there = committing_there (process k.processes c.args.pid).at commits in
+    let t = c.commit_step-committed.new.self in
+    let made : Commits g.D.Disk k.store (committed.Durable c.in-Durable.group) t = subst (λ (r : Committed). Commits g.D.Disk k.store r t) c.in-Durable.is c.commit_step-committed.ensures.commits in
+    subst (λ (o : State _ _ _). Acts g.D.Disk g.I.Intake g.H.Herald c.args.pid step.Moved o (record { store = t; opening = k.opening.value; intake = k.intake; herald = c.durable.new.self; world = k.processes })) c.self.view_is
+    (acts_written g.D.Disk g.I.Intake g.H.Herald c.args.pid k.store t k.opening.value k.intake k.herald k.processes k.processes well there.0 there.1 k.intake c.durable.new.self (committed.Durable c.in-Durable.group) there.2 made refl (sides_same g.I.Intake c.args.pid k.intake) refl)
+
+pub returns-in-Done : goal.returns-in-Done
+returns-in-Done g c =
+    let k = c.self.inside in
+    let well : k.store.volume.fault ≡ None = search rules in
+    let commits : is_committing_at (process k.processes c.args.pid).at ≡ true = search rules in
+    let there = committing_there (process k.processes c.args.pid).at commits in
+    let t = c.commit_step-committed.new.self in
+    let made : Commits g.D.Disk k.store committed.Done t = subst (λ (r : Committed). Commits g.D.Disk k.store r t) c.in-Done.is c.commit_step-committed.ensures.commits in
+    subst (λ (o : State _ _ _). Acts g.D.Disk g.I.Intake g.H.Herald c.args.pid step.Answered o (record { store = t; opening = k.opening.value; intake = c.give.new.intake; herald = k.herald; world = c.give.new.processes })) c.self.view_is
+    (acts_written g.D.Disk g.I.Intake g.H.Herald c.args.pid k.store t k.opening.value k.intake k.herald k.processes c.give.new.processes well there.0 there.1 c.give.new.intake k.herald committed.Done there.2 made c.give.ensures.processes c.give.ensures.gives.keeps c.give.ensures.gives.ahead)
+
+pub returns-in-Fault : goal.returns-in-Fault
+returns-in-Fault g c =
+    let k = c.self.inside in
+    let well : k.store.volume.fault ≡ None = search rules in
+    let commits : is_committing_at (process k.processes c.args.pid).at ≡ true = search rules in
+    let there = committing_there (process k.processes c.args.pid).at commits in
+    let t = c.commit_step-committed.new.self in
+    let made : Commits g.D.Disk k.store (committed.Fault c.in-Fault.field-0) t = subst (λ (r : Committed). Commits g.D.Disk k.store r t) c.in-Fault.is c.commit_step-committed.ensures.commits in
+    subst (λ (o : State _ _ _). Acts g.D.Disk g.I.Intake g.H.Herald c.args.pid step.Halted o (record { store = t; opening = k.opening.value; intake = k.intake; herald = k.herald; world = k.processes })) c.self.view_is
+    (acts_written g.D.Disk g.I.Intake g.H.Herald c.args.pid k.store t k.opening.value k.intake k.herald k.processes k.processes well there.0 there.1 k.intake k.herald (committed.Fault c.in-Fault.field-0) there.2 made refl (sides_same g.I.Intake c.args.pid k.intake) refl)

@@ -1,77 +1,121 @@
-use Rattle.std.proofs.Common.{rules, refl, Option, Some, [], ◌∷◌, ◌≡◌, ◌<◌, None, ◌∙◌, sym, ap, subst, length}
-use Rattle.wal.specs.Volume.{VolumeState}
-use Rattle.kernel.specs.declared.types.At.TheVariants as at
-use Rattle.kernel.specs.Keeps.{IsJournal}
-use Rattle.kernel.specs.Processes.{World, process, with_place, creating}
-use Rattle.inodes.specs.Lemmas.Faults.{where_none, if_none}
-use Rattle.kernel.proofs.Beginnings.{begins_fit, table_created, created_processes, others_twice, rooms_begun}
-use Rattle.kernel.proofs.Keeping.{recovers_created, journal_created, kept_of}
+use Rattle.std.proofs.Common.{rules, refl, inl, inr, ◌≡◌, ◌<◌, ℕ, length, true, false, None, Some, Option, ◌∷◌, ◌++◌, ap, subst, sym, ◌∙◌}
+use Rattle.std.specs.Prelude.{option_to_list}
+use Rattle.std.specs.Option.{option_map}
 use Rattle.model.specs.declared.types.operations.Op.{Op}
-use Rattle.model.specs.declared.types.operations.Op.TheVariants.{Create}
+use Rattle.model.specs.declared.types.operations.Why.TheVariants as why
 use Rattle.ports.specs.History.{FitWith, takes, first_in}
-use Rattle.inodes.specs.declared.ialloc.Ialloc.{Ialloc}
-use Rattle.kernel.proofs.Taking.{histories_taken, fit_after, first_creation}
-use Rattle.kernel.proofs.Rooms.{as_many}
-use Rattle.kernel.specs.State.{Inv}
-use Rattle.kernel.proofs.Staying.{stays_true}
+use Rattle.wal.specs.Joint.{Joint}
+use Rattle.wal.specs.Machine.{begun, begin_cause}
+use Rattle.inodes.specs.Store.{StoreState, KeepsFiles, with_begun}
+use Rattle.journal.specs.declared.types.At.TheVariants as at
+use Rattle.journal.specs.Processes.{World, process, with_place, taken}
+use Rattle.kernel.specs.declared.waiting.Waiting.TheVariants as waiting
+use Rattle.kernel.specs.declared.types.Step.TheVariants as step
+use Rattle.kernel.specs.Begins.{Begins}
+use Rattle.kernel.specs.Invariant.{IsRight, ArePorts}
+use Rattle.kernel.specs.Ports.{first_waiting}
+use Rattle.kernel.specs.State.{State, waiting_of}
+use Rattle.kernel.proofs.Beginnings.{right_taken, first_waits, names_twice, others_twice}
+use Rattle.kernel.proofs.Ports.{ports_asked, ports_taken}
+use Rattle.kernel.proofs.Right.{joint_now}
 use Rattle.kernel.proofs.stepping.Kernel.create.Goals as goal
-
-pub invariant_of-self-2 : goal.invariant_of-self-2
-invariant_of-self-2 g c =
-    let well : c.self.inside.volume.fault ≡ None = search rules in
-    let lt : c.args.pid < length c.self.inside.processes.processes = search rules in
-    let stands : (process c.self.inside.processes c.args.pid).at ≡ at.Idle = search rules in
-    let kept : c.reserve.new.self ≡ with_place c.self.inside.processes = search rules in
-    let is = created_processes c.args.pid c.open_group-group.result c.new-search.result c.self.inside.processes c.reserve.new.self c.create.new.self kept c.create.ensures in
-    let fits = g.I.Intake.fits in
-    let first : c.take-taken.result ≡ Some (Create c.args.kind) = c.take-taken.ensures.shown ∙ ap first_in c.room.ensures.ahead ∙ first_creation _ c.args.kind (search rules) in
-    let image = g.D.Disk.image in
-    let opening = image c.self.inside.opening.value in
-    let recovers = recovers_created image opening c.self.inside.volume c.open_group-group.new.volume c.self.inside.processes c.create.new.self (where_none _ well c.self.invariant.recovers)
-    c.args.pid c.open_group-group.result c.new-search.result c.reserve.new.self c.self.invariant.journal.groups c.open_group-group.ensures.volume kept c.create.ensures in
-    record {
-      table = if_none _ (table_created c.self.inside.volume c.open_group-group.new.volume c.self.inside.inode_count c.args.pid c.args.kind c.open_group-group.result c.new-search.result c.self.inside.processes c.reserve.new.self c.create.new.self
-          (where_none _ well c.self.invariant.table) (where_none _ well c.known.ensures).log lt stands (search rules) c.requires.kind c.open_group-group.ensures.volume c.open_group-group.ensures.group c.new-search.ensures kept c.create.ensures);
-      processes = c.take-taken.ensures.processes ∙ c.room.ensures.processes ∙ c.self.invariant.processes ∙ sym (as_many c.self.inside.processes c.create.new.self c.args.pid _ is);
-      room = rooms_begun (g.I.Intake.side c.self.inside.intake) (g.I.Intake.side c.take-taken.new.self) c.self.inside.processes c.create.new.self c.args.pid _ lt is
-          (others_twice (g.I.Intake.side c.self.inside.intake) (g.I.Intake.side c.room.new.self) (g.I.Intake.side c.take-taken.new.self) c.args.pid c.room.ensures.others c.take-taken.ensures.others)
-          (λ e. c.take-taken.ensures.room ∙ c.room.ensures.room ∙ search rules) c.self.invariant.room;
-      told = c.self.invariant.told ∙ sym (ap (λ (v : VolumeState _). v.log.committed) c.open_group-group.ensures.volume);
-      numbers = c.self.invariant.numbers;
-      journal = subst (λ (v : VolumeState _). IsJournal opening v.log.opened c.create.new.self.journal.list) (sym c.open_group-group.ensures.volume)
-          (journal_created opening c.self.inside.volume.log c.self.inside.processes c.create.new.self c.self.invariant.journal c.args.pid c.open_group-group.result c.new-search.result c.reserve.new.self kept c.create.ensures);
-      recovers = if_none _ recovers;
-      keeps = kept_of image opening c.open_group-group.new.volume c.create.new.self.journal.list recovers;
-      histories = histories_taken (fits c.self.inside.intake) (fits c.take-taken.new.self) c.self.inside.processes c.create.new.self c.args.pid _ lt is c.args.kind
-          (ap (λ (w : World). w.journal.list) (c.create.ensures ∙ ap (λ (w : World). creating w c.args.pid c.open_group-group.result c.new-search.result) kept)) stands (ap (λ (m : Ialloc). Create m.kind ∷ []) c.new-search.ensures) refl refl
-          (fit_after (fits c.self.inside.intake) (fits c.room.new.self) (fits c.take-taken.new.self) c.args.pid (takes (Some (Create c.args.kind))) c.room.ensures.fits
-          (subst (λ (o : Option Op). FitWith (fits c.room.new.self) (fits c.take-taken.new.self) c.args.pid (takes o)) first c.take-taken.ensures.fits)) c.self.invariant.histories;
-    }
 
 pub invariant_of-self : goal.invariant_of-self
 invariant_of-self g c =
-    stays_true g.D.Disk.image g.I.Intake.process_count g.I.Intake.side g.I.Intake.fits g.H.Herald.count _ c.room.new.self c.self.inside.herald c.self.inside.processes.is_shut c.self.invariant c.room.ensures.processes (search rules) c.room.ensures.fits refl
+    let k = c.self.inside in
+    record {
+      right = c.self.invariant.right;
+      ports = ports_asked g.I.Intake g.H.Herald k.intake c.room.new.self k.herald k.store.volume.log.committed k.processes k.processes c.args.pid c.self.invariant.ports
+          c.room.ensures.processes refl refl c.room.ensures.others (λ kept. c.room.ensures.room ∙ c.room.ensures.stays kept) c.room.ensures.fits;
+    }
 
 pub invariant_of-self-in-Some : goal.invariant_of-self-in-Some
 invariant_of-self-in-Some g c =
-    stays_true g.D.Disk.image g.I.Intake.process_count g.I.Intake.side g.I.Intake.fits g.H.Herald.count _ c.room.new.self c.self.inside.herald c.self.inside.processes.is_shut c.self.invariant c.room.ensures.processes (search rules) c.room.ensures.fits refl
+    let k = c.self.inside in
+    record {
+      right = c.self.invariant.right;
+      ports = ports_asked g.I.Intake g.H.Herald k.intake c.room.new.self k.herald k.store.volume.log.committed k.processes k.processes c.args.pid c.self.invariant.ports
+          c.room.ensures.processes refl refl c.room.ensures.others (λ kept. c.room.ensures.room ∙ c.room.ensures.stays kept) c.room.ensures.fits;
+    }
 
 pub invariant_of-self-then-is_err : goal.invariant_of-self-then-is_err
 invariant_of-self-then-is_err g c =
-    let same : c.reserve.new.self ≡ c.self.inside.processes = search rules in
-    subst (λ (w : World). Inv g.D.Disk.image g.I.Intake.process_count g.I.Intake.side g.I.Intake.fits g.H.Herald.count (record { volume = c.self.inside.volume; opening = c.self.inside.opening.value; intake = c.room.new.self; herald = c.self.inside.herald; world = w; inode_count = c.self.inside.inode_count })) (sym same)
-    (stays_true g.D.Disk.image g.I.Intake.process_count g.I.Intake.side g.I.Intake.fits g.H.Herald.count _ c.room.new.self c.self.inside.herald c.self.inside.processes.is_shut c.self.invariant c.room.ensures.processes (search rules) c.room.ensures.fits refl)
+    let k = c.self.inside in
+    let same : c.reserve.new.self ≡ k.processes = search rules in
+    record {
+      right = subst (λ (w : World). IsRight g.D.Disk k.opening.value k.store w) (sym same) c.self.invariant.right;
+      ports = ports_asked g.I.Intake g.H.Herald k.intake c.room.new.self k.herald k.store.volume.log.committed k.processes c.reserve.new.self c.args.pid c.self.invariant.ports
+          c.room.ensures.processes (ap (λ (w : World). w.processes) same) (ap (λ (w : World). w.journal.list) same) c.room.ensures.others (λ kept. c.room.ensures.room ∙ c.room.ensures.stays kept) c.room.ensures.fits;
+    }
 
-pub create-requires-clause-begun : goal.create-requires-clause-begun
-create-requires-clause-begun g c =
-    let well : c.self.inside.volume.fault ≡ None = search rules in
-    let stands : (process c.self.inside.processes c.args.pid).at ≡ at.Idle = search rules in
-    let kept : c.reserve.new.self ≡ with_place c.self.inside.processes = search rules in
-    (begins_fit _ _ _ c.args.pid c.self.inside.processes c.reserve.new.self (where_none _ well c.self.invariant.table) stands kept c.known-2.ensures).0
+pub returns-then-not-room : goal.returns-then-not-room
+returns-then-not-room g c =
+    let k = c.self.inside in
+    let none : c.room.result ≡ false = search rules in
+    subst (λ (o : State _ _ _). Begins g.I.Intake waiting.Creation c.args.pid (step.Sleeping why.AnswersFull) o (record { store = k.store; opening = k.opening.value; intake = c.room.new.self; herald = k.herald; world = k.processes })) c.self.view_is
+    (record { next = inr (inr (record { same = (refl, refl); ahead_stays = c.room.ensures.ahead; answer = inl (refl, c.room.ensures.room ∙ none) })); sides = record { names = c.room.ensures.names; others = c.room.ensures.others }; herald = refl; opening = refl })
 
-pub open_group-group-requires-clause-opened : goal.open_group-group-requires-clause-opened
-open_group-group-requires-clause-opened g c =
-    let well : c.self.inside.volume.fault ≡ None = search rules in
-    let stands : (process c.self.inside.processes c.args.pid).at ≡ at.Idle = search rules in
-    let kept : c.reserve.new.self ≡ with_place c.self.inside.processes = search rules in
-    (begins_fit _ _ _ c.args.pid c.self.inside.processes c.reserve.new.self (where_none _ well c.self.invariant.table) stands kept c.known-2.ensures).1
+pub returns-in-Some : goal.returns-in-Some
+returns-in-Some g c =
+    let k = c.self.inside in
+    let room : c.room.result ≡ true = search rules in
+    let cause : begin_cause k.store.volume.log ≡ Some c.in-Some.cause = search rules in
+    subst (λ (o : State _ _ _). Begins g.I.Intake waiting.Creation c.args.pid (step.Sleeping c.in-Some.cause) o (record { store = k.store; opening = k.opening.value; intake = c.room.new.self; herald = k.herald; world = k.processes })) c.self.view_is
+    (record { next = inr (inr (record { same = (refl, refl); ahead_stays = c.room.ensures.ahead; answer = inr (inl (c.in-Some.cause, refl, cause, c.room.ensures.room ∙ room)) })); sides = record { names = c.room.ensures.names; others = c.room.ensures.others }; herald = refl; opening = refl })
+
+pub returns-then-is_err : goal.returns-then-is_err
+returns-then-is_err g c =
+    let k = c.self.inside in
+    let room : c.room.result ≡ true = search rules in
+    let free : begin_cause k.store.volume.log ≡ None = search rules in
+    let same : c.reserve.new.self ≡ k.processes = search rules in
+    subst (λ (o : State _ _ _). Begins g.I.Intake waiting.Creation c.args.pid step.NoMemory o (record { store = k.store; opening = k.opening.value; intake = c.room.new.self; herald = k.herald; world = c.reserve.new.self })) c.self.view_is
+    (record { next = inr (inr (record { same = (refl, same); ahead_stays = c.room.ensures.ahead; answer = inr (inr ((refl, c.room.ensures.room ∙ room), free)) })); sides = record { names = c.room.ensures.names; others = c.room.ensures.others }; herald = refl; opening = refl })
+
+pub invariant_of-self-2 : goal.invariant_of-self-2
+invariant_of-self-2 g c =
+    let k = c.self.inside in
+    let well : k.store.volume.fault ≡ None = search rules in
+    let lt : c.args.pid < length k.processes.processes = search rules in
+    let stands : (process k.processes c.args.pid).at ≡ at.Idle = search rules in
+    let kept : c.reserve.new.self ≡ with_place k.processes = search rules in
+    let free : begin_cause k.store.volume.log ≡ None = search rules in
+    let room : c.room.result ≡ true = search rules in
+    let op = c.in-Some-take.op in
+    let taken_is : c.take.result ≡ Some op = search rules in
+    let waits : option_map waiting_of (first_in (g.I.Intake.side k.intake c.args.pid).ahead) ≡ Some waiting.Creation = subst (λ (o : State _ _ _). first_waiting g.I.Intake o.intake c.args.pid ≡ Some waiting.Creation) (sym c.self.view_is) c.requires.waits in
+    let creation = first_waits op waiting.Creation (sym taken_is ∙ c.take.ensures.shown ∙ ap first_in c.room.ensures.ahead) waits in
+    let t = c.begin-group.new.self in
+    let s : StoreState _ = with_begun k.store c.args.pid op in
+    let is : t ≡ s = c.begin-group.ensures.store in
+    let joint = subst (λ (o : StoreState _). Joint (g.D.Disk.image o.volume.device) o.volume.buffers o.volume.log) is (joint_now g.D.Disk.image t (ap (λ (o : StoreState _). o.volume.fault) is ∙ well) c.known-3.ensures.volume) in
+    let keeps = subst (λ (o : StoreState _). KeepsFiles g.D.Disk.image k.store o) is c.begin-group.ensures.files in
+    let made : c.take-2.new.self ≡ taken (with_place k.processes) c.args.pid (begun k.store.volume.log c.args.pid).opened op =
+    c.take-2.ensures ∙ ap (λ (w : World). taken w c.args.pid c.begin-group.result op) kept ∙ ap (λ (n : ℕ). taken (with_place k.processes) c.args.pid n op) c.begin-group.ensures.group in
+    let fits = g.I.Intake.fits in
+    record {
+      right = subst (λ (o : StoreState _). IsRight g.D.Disk k.opening.value o c.take-2.new.self) (sym is)
+          (subst (λ (w : World). IsRight g.D.Disk k.opening.value s w) (sym made)
+          (right_taken g.D.Disk k.opening.value k.store k.processes c.self.invariant.right well c.args.pid lt stands op creation free joint keeps));
+      ports = subst (λ (o : StoreState _). ArePorts g.I.Intake g.H.Herald c.take.new.self k.herald o.volume.log.committed c.take-2.new.self) (sym is)
+          (ports_taken g.I.Intake g.H.Herald k.intake c.room.new.self c.take.new.self k.herald k.store.volume.log.committed k.processes c.take-2.new.self c.args.pid (begun k.store.volume.log c.args.pid).opened op
+          c.self.invariant.ports lt stands made c.room.ensures.processes c.room.ensures.others c.room.ensures.fits c.take.ensures.processes c.take.ensures.others
+          (subst (λ (o : Option Op). FitWith (fits c.room.new.self) (fits c.take.new.self) c.args.pid (takes o)) taken_is c.take.ensures.fits) (c.take.ensures.room ∙ c.room.ensures.room ∙ room));
+    }
+
+pub returns : goal.returns
+returns g c =
+    let k = c.self.inside in
+    let kept : c.reserve.new.self ≡ with_place k.processes = search rules in
+    let free : begin_cause k.store.volume.log ≡ None = search rules in
+    let room : c.room.result ≡ true = search rules in
+    let op = c.in-Some-take.op in
+    let taken_is : c.take.result ≡ Some op = search rules in
+    let waits : option_map waiting_of (first_in (g.I.Intake.side k.intake c.args.pid).ahead) ≡ Some waiting.Creation = subst (λ (o : State _ _ _). first_waiting g.I.Intake o.intake c.args.pid ≡ Some waiting.Creation) (sym c.self.view_is) c.requires.waits in
+    let creation = first_waits op waiting.Creation (sym taken_is ∙ c.take.ensures.shown ∙ ap first_in c.room.ensures.ahead) waits in
+    let made : c.take-2.new.self ≡ taken (with_place k.processes) c.args.pid (begun k.store.volume.log c.args.pid).opened op =
+    c.take-2.ensures ∙ ap (λ (w : World). taken w c.args.pid c.begin-group.result op) kept ∙ ap (λ (n : ℕ). taken (with_place k.processes) c.args.pid n op) c.begin-group.ensures.group in
+    let side = g.I.Intake.side in
+    let ahead : (side k.intake c.args.pid).ahead ≡ op ∷ (side c.take.new.self c.args.pid).ahead = sym c.room.ensures.ahead ∙ c.take.ensures.ahead ∙ ap (λ (o : Option Op). option_to_list o ++ (side c.take.new.self c.args.pid).ahead) taken_is in
+    subst (λ (o : State _ _ _). Begins g.I.Intake waiting.Creation c.args.pid step.Moved o (record { store = c.begin-group.new.self; opening = k.opening.value; intake = c.take.new.self; herald = k.herald; world = c.take-2.new.self })) c.self.view_is
+    (record { next = inl (record { op = op; waits = refl; taken = (ahead, creation); room = c.take.ensures.room ∙ c.room.ensures.room ∙ room; free = free; answer = refl; store = c.begin-group.ensures.store; world = made }); sides = record { names = names_twice (g.I.Intake.name k.intake) (g.I.Intake.name c.room.new.self) (g.I.Intake.name c.take.new.self) c.room.ensures.names c.take.ensures.names; others = others_twice (side k.intake) (side c.room.new.self) (side c.take.new.self) c.args.pid c.room.ensures.others c.take.ensures.others }; herald = refl; opening = refl })

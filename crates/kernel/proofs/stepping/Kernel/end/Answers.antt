@@ -1,75 +1,97 @@
-use Rattle.std.proofs.Common.{rules, refl, ◌≡◌, ◌<◌, ◌+◌, ℕ, inl, inr, ⊎_elim, None, ◌∙◌, sym, ap, subst, length}
-use Rattle.kernel.specs.Processes.{World, process}
-use Rattle.inodes.specs.Lemmas.Faults.{where_none, if_none}
-use Rattle.kernel.proofs.Ends.{table_end_commits, table_end_left, committed_before, committed_one_more}
-use Rattle.wal.specs.Volume.{VolumeState}
-use Rattle.kernel.specs.Keeps.{IsJournal}
-use Rattle.kernel.proofs.Keeping.{recovers_ended, journal_ended, kept_of}
-use Rattle.kernel.proofs.Taking.{histories_move, histories_given, committing_same, ending_owes, fit_same}
-use Rattle.kernel.proofs.Rooms.{rooms_answered, rooms_busy, as_many}
+use Rattle.std.proofs.Common.{rules, refl, ◌≡◌, ◌<◌, length, true, None, ap, subst, sym, ◌∙◌}
+use Rattle.wal.specs.declared.types.Ended.TheVariants as ended_as
+use Rattle.wal.specs.Joint.{Joint}
+use Rattle.wal.specs.Machine.{ended, end_answer}
+use Rattle.inodes.specs.Store.{StoreState, KeepsFiles, with_log}
+use Rattle.journal.specs.Processes.{World, process}
+use Rattle.kernel.specs.declared.types.Step.TheVariants as step
+use Rattle.kernel.specs.Invariant.{IsRight}
+use Rattle.kernel.specs.Next.{step_of_end, world_ended}
+use Rattle.kernel.specs.State.{State}
+use Rattle.journal.specs.Processes.{is_ending}
+use Rattle.kernel.specs.Steps.{Acts}
+use Rattle.kernel.proofs.Acting.{acts_ended, sides_same}
+use Rattle.kernel.proofs.Answering.{answer_ends}
+use Rattle.journal.specs.Lemmas.Groups.{closed_uncommitted}
+use Rattle.kernel.proofs.Closing.{right_closed, right_left}
+use Rattle.journal.specs.Lemmas.Places.{ending_there}
+use Rattle.kernel.proofs.Ports.{ports_committing, ports_given, ports_counted}
+use Rattle.kernel.proofs.Right.{joint_now}
 use Rattle.kernel.proofs.stepping.Kernel.end.Goals as goal
+
+pub give-requires-clause-over : goal.give-requires-clause-over
+give-requires-clause-over g c =
+    let well : c.self.inside.store.volume.fault ≡ None = search rules in
+    let ends : is_ending (process c.self.inside.processes c.args.pid).at ≡ true = search rules in
+    answer_ends g.D.Disk c.self.inside.opening.value c.self.inside.store c.self.inside.processes c.args.pid c.self.invariant.right well ends
 
 pub invariant_of-self : goal.invariant_of-self
 invariant_of-self g c =
-    let well : c.self.inside.volume.fault ≡ None = search rules in
-    let lt : c.args.pid < length c.self.inside.processes.processes = search rules in
-    let table = where_none _ well c.self.invariant.table in
-    let is = (where_none _ well c.known.ensures).log in
-    let fits = g.I.Intake.fits in
-    let owes = committing_same (process c.self.inside.processes c.args.pid) (search rules) in
-    let image = g.D.Disk.image in
-    let opening = image c.self.inside.opening.value in
-    let recovers = recovers_ended image opening c.self.inside.volume c.end.new.self c.self.inside.processes c.commit.new.self (where_none _ well c.self.invariant.recovers)
-    c.args.pid (where_none _ well c.known.ensures) (search rules) c.end.ensures.volume (ap (λ (v : World). v.journal.list) c.commit.ensures) in
+    let k = c.self.inside in
+    let well : k.store.volume.fault ≡ None = search rules in
+    let lt : c.args.pid < length k.processes.processes = search rules in
+    let ends : is_ending (process k.processes c.args.pid).at ≡ true = search rules in
+    let there = ending_there (process k.processes c.args.pid).at ends in
+    let t = c.end-ended.new.self in
+    let s : StoreState _ = with_log k.store (ended k.store.volume.log c.args.pid) in
+    let is : t ≡ s = c.end-ended.ensures.store in
+    let joint = subst (λ (o : StoreState _). Joint (g.D.Disk.image o.volume.device) o.volume.buffers o.volume.log) is (joint_now g.D.Disk.image t (ap (λ (o : StoreState _). o.volume.fault) is ∙ well) c.known-2.ensures.volume) in
+    let before = joint_now g.D.Disk.image k.store well c.known.ensures.volume in
+    let keeps = subst (λ (o : StoreState _). KeepsFiles g.D.Disk.image k.store o) is c.end-ended.ensures.files in
+    let answer : end_answer k.store.volume.log ≡ ended_as.Commit = sym c.end-ended.ensures.answer ∙ c.in-Commit.is in
     record {
-      table = if_none _ (table_end_commits c.self.inside.volume c.end.new.self _ c.args.pid _ _ table is lt (search rules) c.end.ensures.volume c.in-Commit.ensures.answer c.commit.ensures);
-      processes = c.self.invariant.processes ∙ sym (as_many c.self.inside.processes c.commit.new.self c.args.pid _ (ap (λ (v : World). v.processes) c.commit.ensures));
-      room = rooms_busy (g.I.Intake.side c.self.inside.intake) c.self.inside.processes c.commit.new.self c.args.pid _ lt (ap (λ (v : World). v.processes) c.commit.ensures) (search rules) c.self.invariant.room;
-      told = c.self.invariant.told ∙ sym (committed_before c.self.inside.volume c.end.new.self _ c.args.pid _ c.self.inside.processes table is lt (search rules) c.end.ensures.volume c.in-Commit.ensures.answer);
-      numbers = c.self.invariant.numbers;
-      journal = subst (λ (v : VolumeState _). IsJournal opening v.log.opened c.commit.new.self.journal.list) (sym c.end.ensures.volume)
-          (journal_ended opening c.self.inside.volume.log c.self.inside.processes c.commit.new.self c.self.invariant.journal c.args.pid (ap (λ (v : World). v.journal.list) c.commit.ensures));
-      recovers = if_none _ recovers;
-      keeps = kept_of image opening c.end.new.self c.commit.new.self.journal.list recovers;
-      histories = histories_move (fits c.self.inside.intake) (fits c.self.inside.intake) c.self.inside.processes c.commit.new.self c.args.pid _ lt (ap (λ (v : World). v.processes) c.commit.ensures) (ap (λ (v : World). v.journal.list) c.commit.ensures)
-          owes.0 owes.1 refl (fit_same (fits c.self.inside.intake)) c.self.invariant.histories;
+      right = subst (λ (o : StoreState _). IsRight g.D.Disk k.opening.value o c.commit.new.self) (sym is)
+          (subst (λ (w : World). IsRight g.D.Disk k.opening.value s w) (sym c.commit.ensures)
+          (right_closed g.D.Disk k.opening.value k.store k.processes c.self.invariant.right well c.args.pid lt there.0 there.1 there.2 joint before keeps answer));
+      ports = ports_committing g.I.Intake g.H.Herald k.intake k.herald t.volume.log.committed k.processes c.commit.new.self c.args.pid there.0 there.1
+          (ports_counted g.I.Intake g.H.Herald k.intake k.herald k.store.volume.log.committed t.volume.log.committed k.processes c.self.invariant.ports
+          (ap (λ (o : StoreState _). o.volume.log.committed) is ∙ closed_uncommitted k.store.volume.log c.args.pid answer)) lt there.2 c.commit.ensures;
     }
-
-pub tell-requires-clause-one : goal.tell-requires-clause-one
-tell-requires-clause-one g c =
-    let well : c.self.inside.volume.fault ≡ None = search rules in
-    let lt : c.args.pid < length c.self.inside.processes.processes = search rules in
-    let table = where_none _ well c.self.invariant.table in
-    let is = (where_none _ well c.known.ensures).log in
-    let now : c.committed.result ≡ c.end.new.self.log.committed = search rules in
-    let before : c.committed-before.result ≡ c.self.inside.volume.log.committed = search rules in
-    ⊎_elim (λ same. inl (now ∙ same ∙ sym before)) (λ more. inr (now ∙ more ∙ ap (λ (n : ℕ). n + 1) (sym before)))
-    (committed_one_more c.self.inside.volume c.end.new.self _ c.args.pid _ c.self.inside.processes table is lt (search rules) c.end.ensures.volume)
 
 pub invariant_of-self-in-Left : goal.invariant_of-self-in-Left
 invariant_of-self-in-Left g c =
-    let well : c.self.inside.volume.fault ≡ None = search rules in
-    let lt : c.args.pid < length c.self.inside.processes.processes = search rules in
-    let table = where_none _ well c.self.invariant.table in
-    let is = (where_none _ well c.known.ensures).log in
-    let now : c.committed.result ≡ c.end.new.self.log.committed = search rules in
-    let goes = c.give.ensures.processes in
-    let fits = g.I.Intake.fits in
-    let owes = ending_owes (process c.self.inside.processes c.args.pid).at (process c.self.inside.processes c.args.pid) (search rules) in
-    let image = g.D.Disk.image in
-    let opening = image c.self.inside.opening.value in
-    let recovers = recovers_ended image opening c.self.inside.volume c.end.new.self c.self.inside.processes c.give.new.processes (where_none _ well c.self.invariant.recovers)
-    c.args.pid (where_none _ well c.known.ensures) (search rules) c.end.ensures.volume (ap (λ (v : World). v.journal.list) goes) in
+    let k = c.self.inside in
+    let well : k.store.volume.fault ≡ None = search rules in
+    let lt : c.args.pid < length k.processes.processes = search rules in
+    let ends : is_ending (process k.processes c.args.pid).at ≡ true = search rules in
+    let there = ending_there (process k.processes c.args.pid).at ends in
+    let t = c.end-ended.new.self in
+    let s : StoreState _ = with_log k.store (ended k.store.volume.log c.args.pid) in
+    let is : t ≡ s = c.end-ended.ensures.store in
+    let joint = subst (λ (o : StoreState _). Joint (g.D.Disk.image o.volume.device) o.volume.buffers o.volume.log) is (joint_now g.D.Disk.image t (ap (λ (o : StoreState _). o.volume.fault) is ∙ well) c.known-2.ensures.volume) in
+    let before = joint_now g.D.Disk.image k.store well c.known.ensures.volume in
+    let keeps = subst (λ (o : StoreState _). KeepsFiles g.D.Disk.image k.store o) is c.end-ended.ensures.files in
+    let answer : end_answer k.store.volume.log ≡ ended_as.Left = sym c.end-ended.ensures.answer ∙ c.in-Left.is in
+    let some = answer_ends g.D.Disk k.opening.value k.store k.processes c.args.pid c.self.invariant.right well ends in
+    let now : c.committed.result ≡ t.volume.log.committed = search rules in
     record {
-      table = if_none _ (table_end_left c.self.inside.volume c.end.new.self _ c.args.pid _ _ table is lt (search rules) c.end.ensures.volume goes);
-      processes = c.give.ensures.served ∙ c.self.invariant.processes ∙ sym (as_many c.self.inside.processes c.give.new.processes c.args.pid _ (ap (λ (v : World). v.processes) goes));
-      room = rooms_answered (g.I.Intake.side c.self.inside.intake) (g.I.Intake.side c.give.new.intake) c.self.inside.processes _ c.args.pid lt goes c.give.ensures.others c.self.invariant.room;
-      told = c.tell.ensures.count ∙ now;
-      numbers = c.self.invariant.numbers;
-      journal = subst (λ (v : VolumeState _). IsJournal opening v.log.opened c.give.new.processes.journal.list) (sym c.end.ensures.volume)
-          (journal_ended opening c.self.inside.volume.log c.self.inside.processes c.give.new.processes c.self.invariant.journal c.args.pid (ap (λ (v : World). v.journal.list) goes));
-      recovers = if_none _ recovers;
-      keeps = kept_of image opening c.end.new.self c.give.new.processes.journal.list recovers;
-      histories = histories_given (fits c.self.inside.intake) (fits c.give.new.intake) c.self.inside.processes c.give.new.processes c.args.pid _ lt (ap (λ (v : World). v.processes) goes) _ (ap (λ (v : World). v.journal.list) goes)
-          owes.0 owes.1 refl refl refl c.give.ensures.fits c.self.invariant.histories;
+      right = subst (λ (o : StoreState _). IsRight g.D.Disk k.opening.value o c.give.new.processes) (sym is)
+          (subst (λ (w : World). IsRight g.D.Disk k.opening.value s w) (sym c.give.ensures.processes)
+          (right_left g.D.Disk k.opening.value k.store k.processes c.self.invariant.right well c.args.pid lt there.0 there.1 there.2 joint before keeps answer));
+      ports = ports_given g.I.Intake g.H.Herald k.intake c.give.new.intake k.herald c.tell.new.herald k.store.volume.log.committed t.volume.log.committed k.processes c.give.new.processes c.args.pid
+          c.self.invariant.ports lt some c.give.ensures.processes c.give.ensures.gives (c.tell.ensures.count ∙ now);
     }
+
+pub returns-in-Commit : goal.returns-in-Commit
+returns-in-Commit g c =
+    let k = c.self.inside in
+    let well : k.store.volume.fault ≡ None = search rules in
+    let ends : is_ending (process k.processes c.args.pid).at ≡ true = search rules in
+    let there = ending_there (process k.processes c.args.pid).at ends in
+    let t = c.end-ended.new.self in
+    let answer : end_answer k.store.volume.log ≡ ended_as.Commit = sym c.end-ended.ensures.answer ∙ c.in-Commit.is in
+    subst (λ (o : State _ _ _). Acts g.D.Disk g.I.Intake g.H.Herald c.args.pid step.Moved o (record { store = t; opening = k.opening.value; intake = k.intake; herald = k.herald; world = c.commit.new.self })) c.self.view_is
+    (acts_ended g.D.Disk g.I.Intake g.H.Herald c.args.pid k.store t k.opening.value k.intake k.herald k.processes c.commit.new.self well there.0 there.1 k.intake k.herald step.Moved there.2
+    (record { answer = ap step_of_end (sym answer); store = c.end-ended.ensures.store; world = c.commit.ensures ∙ ap (λ e. world_ended e k.processes c.args.pid) (sym answer) }) (sides_same g.I.Intake c.args.pid k.intake) refl)
+
+pub returns-in-Left : goal.returns-in-Left
+returns-in-Left g c =
+    let k = c.self.inside in
+    let well : k.store.volume.fault ≡ None = search rules in
+    let ends : is_ending (process k.processes c.args.pid).at ≡ true = search rules in
+    let there = ending_there (process k.processes c.args.pid).at ends in
+    let t = c.end-ended.new.self in
+    let answer : end_answer k.store.volume.log ≡ ended_as.Left = sym c.end-ended.ensures.answer ∙ c.in-Left.is in
+    subst (λ (o : State _ _ _). Acts g.D.Disk g.I.Intake g.H.Herald c.args.pid step.Answered o (record { store = t; opening = k.opening.value; intake = c.give.new.intake; herald = c.tell.new.herald; world = c.give.new.processes })) c.self.view_is
+    (acts_ended g.D.Disk g.I.Intake g.H.Herald c.args.pid k.store t k.opening.value k.intake k.herald k.processes c.give.new.processes well there.0 there.1 c.give.new.intake c.tell.new.herald step.Answered there.2
+    (record { answer = ap step_of_end (sym answer); store = c.end-ended.ensures.store; world = c.give.ensures.processes ∙ ap (λ e. world_ended e k.processes c.args.pid) (sym answer) }) c.give.ensures.gives.keeps c.give.ensures.gives.ahead)

@@ -1,11 +1,14 @@
-use Rattle.kernel.proofs.Taking.{fit_same}
-use Rattle.kernel.specs.State.{Inv}
-use Rattle.kernel.specs.Processes.{World}
-use Rattle.kernel.proofs.Staying.{stays_true}
-use Rattle.std.proofs.Common.{sym, subst, true, refl}
+use Rattle.std.proofs.Common.{true, refl, subst, sym, ◌∙◌}
+use Rattle.journal.specs.Processes.{World}
+use Rattle.kernel.specs.Invariant.{Inv}
+use Rattle.kernel.proofs.Beginnings.{right_shut}
+use Rattle.kernel.proofs.Ports.{ports_stay}
 use Rattle.kernel.proofs.stepping.Kernel.hears_shutdown.Goals as goal
 
 pub invariant_of-self-2 : goal.invariant_of-self-2
 invariant_of-self-2 g c =
-    subst (λ (w : World). Inv g.D.Disk.image g.I.Intake.process_count g.I.Intake.side g.I.Intake.fits g.H.Herald.count (record { volume = c.self.inside.volume; opening = c.self.inside.opening.value; intake = c.self.inside.intake; herald = c.is_shut-2.new.self; world = w; inode_count = c.self.inside.inode_count })) (sym c.shut.ensures)
-    (stays_true g.D.Disk.image g.I.Intake.process_count g.I.Intake.side g.I.Intake.fits g.H.Herald.count _ c.self.inside.intake c.is_shut-2.new.self true c.self.invariant refl c.self.invariant.room (fit_same (g.I.Intake.fits c.self.inside.intake)) c.is_shut-2.ensures.count)
+    let k = c.self.inside in
+    subst (λ (w : World). Inv g.D.Disk g.I.Intake g.H.Herald (record { store = k.store; opening = k.opening.value; intake = k.intake; herald = c.is_shut-2.new.self; world = w })) (sym c.shut.ensures) (record {
+      right = right_shut g.D.Disk k.opening.value k.store k.processes true c.self.invariant.right;
+      ports = ports_stay g.I.Intake g.H.Herald k.intake k.intake k.herald c.is_shut-2.new.self _ _ k.processes _ c.self.invariant.ports refl refl refl c.self.invariant.ports.room (λ p h fits. fits) (c.is_shut-2.ensures.count ∙ c.self.invariant.ports.told);
+    })

@@ -1,15 +1,25 @@
-use Rattle.std.proofs.Common.{rules, ◌≡◌, ◌≤◌, ℕ, ◌∙◌, sym, ap, subst, length}
+use Rattle.std.proofs.Common.{None, rules, refl, replicate, ◌≡◌, ◌≤◌, ℕ, ◌∙◌, sym, ap, subst, length, arith}
+use Rattle.std.proofs.lemmas.List.{length-replicate}
 use Rattle.blocks.specs.Disk.{Image, LeavesOnly}
-use Rattle.model.specs.Layout.{is_lawful_super}
+use Rattle.model.specs.Layout.{is_lawful_super, inode_count_of}
 use Rattle.model.specs.Log.{recovered}
+use Rattle.model.specs.Soundness.{IsSound}
 use Rattle.model.specs.Lemmas.Log.{length-recovered}
+use Rattle.model.specs.Lemmas.Soundness.{verdict_sound}
 use Rattle.wal.specs.Machine.{new_log}
 use Rattle.wal.specs.Recovery.{RecoversAs}
 use Rattle.wal.specs.Volume.{VolumeState}
-use Rattle.inodes.specs.Lemmas.Faults.{if_none}
-use Rattle.kernel.proofs.Openings.{super_size, lawful_here, recover_cause, opened_table, opened_count, opened_rooms, opened_numbers, opened_recovers, opened_journal, opened_histories, volume_same}
+use Rattle.inodes.specs.Store.{StoreState, FitsFiles, fresh_volume}
+use Rattle.model.specs.Files.{files_of}
+use Rattle.model.specs.declared.types.image.Super.{Super}
+use Rattle.kernel.proofs.Right.{joint_now}
+use Rattle.inodes.specs.Tasks.{no_task}
+use Rattle.journal.specs.Processes.{World, fresh_world}
+use Rattle.kernel.specs.Invariant.{IsRight, ArePorts}
+use Rattle.kernel.proofs.AtOpening.{right_new}
+use Rattle.kernel.proofs.Openings.{super_size, lawful_here, recover_cause, opened_numbers, empty_left, recover_unwritten, store_is}
+use Rattle.kernel.proofs.Ports.{ports_new}
 use Rattle.kernel.specs.Lemmas.Openings.{opened_leaves, lawful_super}
-use Rattle.kernel.proofs.Keeping.{kept_of}
 use Rattle.kernel.proofs.stepping.Kernel.open.Goals as goal
 
 pub take_memory-requires : goal.take_memory-requires
@@ -19,49 +29,89 @@ pub recover-requires : goal.recover-requires
 recover-requires g c =
     ap (λ x. is_lawful_super c.in-Ok.report.sup (length x)) c.check.ensures.reads.image ∙ lawful_super (g.D.Disk.image c.args.disk) c.in-Ok.report.sup c.in-Ok.ensures.ok c.in-Ok.ensures.report.sup
 
-pub returns-in-Err-recover-clause-refused : goal.returns-in-Err-recover-clause-refused
-returns-in-Err-recover-clause-refused g c =
-    (search rules, search rules, c.in-Ok.ensures.ok, recover_cause ℕ (g.D.Disk.image c.args.disk) (g.D.Disk.image c.check.new.disk) c.in-Err-recover.fault _ (g.D.Disk.fault_count c.check.new.disk) _ c.in-Ok.ensures.ok c.check.ensures.reads.image c.in-Ok.ensures.faults c.in-Err-recover.ensures.disk c.in-Err-recover.ensures.bad)
-
-pub returns-in-Err-recover-clause-back : goal.returns-in-Err-recover-clause-back
-returns-in-Err-recover-clause-back g c = opened_leaves g.D.Disk g.met.D.Disk.only_now c.args.disk c.check.new.disk c.recover.new.disk c.check.ensures.reads c.recover.ensures.any_moment
-
 pub open-requires-clause-log : goal.open-requires-clause-log
 open-requires-clause-log g c =
     let x = g.D.Disk.image c.args.disk in
     let size : length (g.D.Disk.image c.recover.new.disk) ≡ length x = ap (λ (y : Image). length y) c.in_default-recover.ensures.ok.image ∙ length-recovered (g.D.Disk.image c.check.new.disk) ∙ ap (λ (y : Image). length y) c.check.ensures.reads.image in
     c.in-Ok-take_memory.ensures.log ∙ ap new_log (super_size x c.in-Ok.report.sup c.in-Ok.ensures.ok c.in-Ok.ensures.report.sup ∙ sym size)
 
+pub open-store-requires-clause-sound : goal.open-store-requires-clause-sound
+open-store-requires-clause-sound g c =
+    let x = g.D.Disk.image c.args.disk in
+    let left : g.D.Disk.image c.recover.new.disk ≡ recovered x = c.in_default-recover.ensures.ok.image ∙ ap recovered c.check.ensures.reads.image in
+    let is : g.D.Disk.image c.open.result.device ≡ recovered x = ap (λ (v : VolumeState _). g.D.Disk.image v.device) c.open.ensures.volume ∙ left in
+    subst IsSound (sym is) (verdict_sound x c.in-Ok.ensures.ok).2
+
+pub open-store-requires-clause-few : goal.open-store-requires-clause-few
+open-store-requires-clause-few g c =
+    let few : c.args.processes ≤ 32 = search rules in
+    let many : length c.in-Ok-take_memory.memory.tasks ≡ c.args.processes = ap (λ (ts : _). length ts) c.in-Ok-take_memory.ensures.tasks ∙ length-replicate c.args.processes no_task in
+    omega (arith, few, many)
+
+pub open-store-requires-clause-numbers : goal.open-store-requires-clause-numbers
+open-store-requires-clause-numbers g c =
+    let x = g.D.Disk.image c.args.disk in
+    let left : g.D.Disk.image c.recover.new.disk ≡ recovered x = c.in_default-recover.ensures.ok.image ∙ ap recovered c.check.ensures.reads.image in
+    opened_numbers x (g.D.Disk.image c.open.result.device) c.in-Ok.report.sup c.in-Ok.ensures.ok c.in-Ok.ensures.report.sup (ap (λ (v : VolumeState _). g.D.Disk.image v.device) c.open.ensures.volume ∙ left)
+
 pub invariant_of-result : goal.invariant_of-result
 invariant_of-result g c =
     let x = g.D.Disk.image c.args.disk in
-    let size : length (g.D.Disk.image c.recover.new.disk) ≡ length x = ap (λ (y : Image). length y) c.in_default-recover.ensures.ok.image ∙ length-recovered (g.D.Disk.image c.check.new.disk) ∙ ap (λ (y : Image). length y) c.check.ensures.reads.image in
+    let d = c.recover.new.disk in
+    let s = c.open-store.result in
+    let left : g.D.Disk.image d ≡ recovered x = c.in_default-recover.ensures.ok.image ∙ ap recovered c.check.ensures.reads.image in
+    let volume : s.volume ≡ fresh_volume g.D.Disk.image d = ap (λ (o : StoreState _). o.volume) c.open-store.ensures.store ∙ c.open.ensures.volume in
+    let device : s.volume.device ≡ d = ap (λ (v : VolumeState _). v.device) volume in
+    let opening : c.of-opening.result.value ≡ d = c.of-opening.ensures in
+    let tasks : s.tasks ≡ replicate c.args.processes no_task = ap (λ (o : StoreState _). o.tasks) c.open-store.ensures.store ∙ c.in-Ok-take_memory.ensures.tasks in
+    let some : 1 ≤ c.args.processes = search rules in
     let few : c.args.processes ≤ 32 = search rules in
-    let new = c.in-Ok-take_memory.ensures.processes in
-    let image = g.D.Disk.image in
-    let opening = image c.of-opening.result.value in
-    let left : image c.recover.new.disk ≡ recovered x = c.in_default-recover.ensures.ok.image ∙ ap recovered c.check.ensures.reads.image in
-    let same : opening ≡ image c.recover.new.disk = ap image c.of-opening.ensures in
-    let recovers = opened_recovers image c.open.result c.recover.new.disk x opening (length (image c.recover.new.disk)) c.args.processes c.in-Ok-take_memory.memory.processes c.open.ensures.volume new c.in-Ok.ensures.ok left same in
+    let now : g.D.Disk.image s.volume.device ≡ recovered x = ap g.D.Disk.image device ∙ left in
+    let well : s.volume.fault ≡ None = ap (λ (v : VolumeState _). v.fault) volume in
+    let fits = subst (λ (v : VolumeState _). FitsFiles g.D.Disk.image s (files_of (g.D.Disk.image v.device))) (sym (ap (λ (o : StoreState _). o.volume) c.open-store.ensures.store)) c.open-store.ensures.files in
+    let world : c.in-Ok-take_memory.memory.processes ≡ fresh_world c.args.processes = c.in-Ok-take_memory.ensures.processes in
     record {
-      table = if_none _ (opened_table c.open.result c.recover.new.disk x c.in-Ok.report.sup (length (g.D.Disk.image c.recover.new.disk)) c.args.processes c.in-Ok-take_memory.memory.processes c.open.ensures.volume size new c.in-Ok.ensures.ok c.in-Ok.ensures.report.sup few);
-      processes = c.requires.served ∙ sym (opened_count c.args.processes c.in-Ok-take_memory.memory.processes new);
-      room = opened_rooms c.args.processes c.in-Ok-take_memory.memory.processes (λ p. (g.I.Intake.side c.args.intake p).has_room) new;
-      told = c.requires.told ∙ sym (ap (λ (v : VolumeState _). v.log.committed) c.open.ensures.volume);
-      numbers = opened_numbers x opening c.in-Ok.report.sup c.in-Ok.ensures.ok c.in-Ok.ensures.report.sup (same ∙ left);
-      journal = opened_journal c.open.result c.recover.new.disk opening (length (image c.recover.new.disk)) c.args.processes c.in-Ok-take_memory.memory.processes c.open.ensures.volume new;
-      recovers = if_none _ recovers;
-      keeps = kept_of image opening c.open.result c.in-Ok-take_memory.memory.processes.journal.list recovers;
-      histories = opened_histories (g.I.Intake.fits c.args.intake) c.args.processes c.in-Ok-take_memory.memory.processes new c.requires.fits;
+      right = subst (λ (w : World). IsRight g.D.Disk c.of-opening.result.value s w) (sym world)
+          (right_new g.D.Disk c.of-opening.result.value s c.args.processes (volume ∙ ap (fresh_volume g.D.Disk.image) (sym device)) (opening ∙ sym device) tasks
+          (ap (λ (o : StoreState _). o.inode_count) c.open-store.ensures.store ∙ opened_numbers x (g.D.Disk.image s.volume.device) c.in-Ok.report.sup c.in-Ok.ensures.ok c.in-Ok.ensures.report.sup now)
+          some few (subst IsSound (sym now) (verdict_sound x c.in-Ok.ensures.ok).2) (empty_left x (g.D.Disk.image s.volume.device) now) (joint_now g.D.Disk.image s well c.known.ensures.volume) fits);
+      ports = subst (λ (w : World). ArePorts g.I.Intake g.H.Herald c.args.intake c.args.herald s.volume.log.committed w) (sym world)
+          (ports_new g.I.Intake g.H.Herald c.args.intake c.args.herald s.volume.log.committed c.args.processes c.requires.served (c.requires.told ∙ sym (ap (λ (v : VolumeState _). v.log.committed) volume)) c.requires.fits);
     }
 
-pub returns-clause-volume : goal.returns-clause-volume
-returns-clause-volume g c =
-    let x = g.D.Disk.image c.args.disk in
-    let size : length (g.D.Disk.image c.recover.new.disk) ≡ length x = ap (λ (y : Image). length y) c.in_default-recover.ensures.ok.image ∙ length-recovered (g.D.Disk.image c.check.new.disk) ∙ ap (λ (y : Image). length y) c.check.ensures.reads.image in
-    c.open.ensures.volume ∙ volume_same c.recover.new.disk c.of-opening.result.value (length (g.D.Disk.image c.recover.new.disk)) (length x) c.of-opening.ensures size
+pub returns-in-Err-recover-clause-refused : goal.returns-in-Err-recover-clause-refused
+returns-in-Err-recover-clause-refused g c = record {
+  cause = (search rules, search rules, c.in-Ok.ensures.ok, recover_cause ℕ (g.D.Disk.image c.args.disk) (g.D.Disk.image c.check.new.disk) c.in-Err-recover.fault _ (g.D.Disk.fault_count c.check.new.disk) _ c.in-Ok.ensures.ok c.check.ensures.reads.image c.in-Ok.ensures.faults c.in-Err-recover.ensures.disk c.in-Err-recover.ensures.bad);
+  unwritten = recover_unwritten ℕ g.D.Disk c.args.disk c.check.new.disk c.recover.new.disk c.in-Err-recover.fault c.check.ensures.reads c.in-Err-recover.ensures.unwritten c.in-Err-recover.ensures.refused;
+  name = c.recover.ensures.name ∙ c.check.ensures.reads.name;
+  leaves = opened_leaves g.D.Disk g.met.D.Disk.only_now c.args.disk c.check.new.disk c.recover.new.disk c.check.ensures.reads c.recover.ensures.any_moment;
+}
 
-pub returns-clause-leaves : goal.returns-clause-leaves
-returns-clause-leaves g c =
-    subst (λ d. LeavesOnly g.D.Disk.moment g.D.Disk.leaves c.args.disk d (RecoversAs (g.D.Disk.image c.args.disk))) (sym c.of-opening.ensures)
-    (opened_leaves g.D.Disk g.met.D.Disk.only_now c.args.disk c.check.new.disk c.recover.new.disk c.check.ensures.reads c.recover.ensures.any_moment)
+pub returns-clause-opened : goal.returns-clause-opened
+returns-clause-opened g c =
+    let x = g.D.Disk.image c.args.disk in
+    let d = c.recover.new.disk in
+    let s = c.open-store.result in
+    let left : g.D.Disk.image d ≡ recovered x = c.in_default-recover.ensures.ok.image ∙ ap recovered c.check.ensures.reads.image in
+    let volume : s.volume ≡ fresh_volume g.D.Disk.image d = ap (λ (o : StoreState _). o.volume) c.open-store.ensures.store ∙ c.open.ensures.volume in
+    let device : s.volume.device ≡ d = ap (λ (v : VolumeState _). v.device) volume in
+    let opening : c.of-opening.result.value ≡ d = c.of-opening.ensures in
+    let tasks : s.tasks ≡ replicate c.args.processes no_task = ap (λ (o : StoreState _). o.tasks) c.open-store.ensures.store ∙ c.in-Ok-take_memory.ensures.tasks in
+    let some : 1 ≤ c.args.processes = search rules in
+    let few : c.args.processes ≤ 32 = search rules in
+    record {
+      some = some;
+      few = few;
+      sound = c.in-Ok.ensures.ok;
+      opening = ap g.D.Disk.image opening ∙ left;
+      store = c.open-store.ensures.store ∙ store_is c.open.result (fresh_volume g.D.Disk.image c.of-opening.result.value) c.in-Ok-take_memory.memory.tasks (replicate c.args.processes no_task) c.in-Ok.report.sup.ninodes (inode_count_of x)
+          (c.open.ensures.volume ∙ ap (fresh_volume g.D.Disk.image) (sym opening)) c.in-Ok-take_memory.ensures.tasks (ap (λ (o : Super). o.ninodes) c.in-Ok.ensures.report.sup);
+      world = c.in-Ok-take_memory.ensures.processes;
+      intake = refl;
+      herald = refl;
+      name = ap g.D.Disk.name opening ∙ c.recover.ensures.name ∙ c.check.ensures.reads.name;
+      writes = search rules;
+      faults = search rules;
+      leaves = subst (λ (o : _). LeavesOnly g.D.Disk.moment g.D.Disk.leaves c.args.disk o (RecoversAs (g.D.Disk.image c.args.disk))) (sym opening)
+          (opened_leaves g.D.Disk g.met.D.Disk.only_now c.args.disk c.check.new.disk c.recover.new.disk c.check.ensures.reads c.recover.ensures.any_moment);
+    }

@@ -1,0 +1,36 @@
+-- What a stop leaves, over a store.
+use Rattle.std.specs.Prelude.{◌≡◌, ◌≢◌, ℕ, length, IsTrue, IsSome, true, List, Option, Some}
+use Rattle.blocks.specs.Disk.{Image}
+use Rattle.model.specs.declared.types.operations.Entry.{Entry}
+use Rattle.model.specs.Crash.{IsUntouched, labels_of, due_labels}
+use Rattle.model.specs.Files.{Files, files_of}
+use Rattle.model.specs.Journal.{kept, is_number}
+use Rattle.model.specs.Layout.{inode_of, inode_count_of}
+use Rattle.model.specs.Log.{is_lawful_log, recovered, cleared}
+use Rattle.model.specs.Soundness.{IsSound}
+use Rattle.wal.specs.Machine.{LogState, used_by}
+use Rattle.journal.specs.Keeps.{HasFilesAfter}
+use Rattle.journal.specs.Open.{Held, AreExclusive}
+
+-- what no operation touches is the opening's, and the labels are those that are due
+pub record HasMarks (opening : Image) (es : List Entry) (x : Image) : Type 0 where
+  pub size : length x ≡ length opening
+  pub untouched : IsUntouched opening x
+  pub labels : (i : ℕ) → (inode_of x i).kind ≢ 0 → IsTrue (is_number (inode_count_of opening) i)
+      → labels_of x i ≡ due_labels opening es i
+
+-- What disk and log have of the journal, while the disk has not failed; the current image is what
+-- buffers and disk show together.
+pub record Survives (opening x current : Image) (l : LogState) (es : List Entry) : Type 0 where
+  pub marks : HasMarks opening es current
+  pub lawful : IsTrue (is_lawful_log x)
+  -- recovery gives the files after the committed groups
+  pub committed : HasFilesAfter opening (kept (inode_count_of opening) es l.committed) (recovered x)
+
+-- a store's laws: what its tasks hold, and its files while no operation is open in the log
+pub record StoreLaws (current : Image) (l : LogState) (holds : ℕ → Option Held)
+    (fit : Files → Type 0) : Type 0 where
+  pub alone : AreExclusive holds
+  pub logged : (q : ℕ) (h : Held) → holds q ≡ Some h → h.writes ≡ true → IsSome (used_by l q)
+  pub quiet : l.outstanding ≡ 0 → (m : Files) → fit m
+      → IsSound (cleared current) × (m ≡ files_of (cleared current))

@@ -1,0 +1,64 @@
+-- What a disk keeps of the journal of a kernel.
+use Rattle.std.specs.Prelude.{◌≡◌, ◌≢◌, ℕ, ◌+◌, ◌==◌, ◌≤◌, nat_le, nat_lt, if◌then◌else◌, IsTrue, List, length, Option, Some, None}
+use mathlib.Core.List.{IsPrefix}
+use Rattle.std.specs.List.{list_all}
+use Rattle.blocks.specs.Disk.{Image}
+use Rattle.blocks.specs.declared.errors.DiskFault.{DiskFault}
+use Rattle.model.specs.declared.types.operations.Entry.{Entry}
+use Rattle.model.specs.Crash.{IsUntouched, Keeps, labels_of, due_labels}
+use Rattle.model.specs.Files.{files_of}
+use Rattle.model.specs.Journal.{kept, replay, is_changing, is_number}
+use Rattle.model.specs.Layout.{form_of, inode_of, inode_count_of}
+use Rattle.model.specs.Soundness.{IsSound}
+use Rattle.wal.specs.declared.types.Commit.{Commit}
+use Rattle.wal.specs.declared.types.Commit.TheVariants as commit
+use Rattle.wal.specs.Volume.{VolumeState}
+
+-- Image y is sound and has the opening's files after these entries; what no operation touches is the
+-- opening's.
+pub record HasFilesAfter (opening : Image) (entries : List Entry) (y : Image) : Type 0 where
+  pub size : length y ≡ length opening
+  pub sound : IsSound y
+  pub files : replay (form_of opening) (files_of opening) entries ≡ Some (files_of y)
+  pub untouched : IsUntouched opening y
+  pub labels : (i : ℕ) → (inode_of y i).kind ≢ 0 → IsTrue (is_number (inode_count_of opening) i)
+      → labels_of y i ≡ due_labels opening entries i
+
+-- no entry is of a later group
+abbrev pub AreUpTo : ℕ → List Entry → Type 0
+AreUpTo group entries = IsTrue (list_all (λ (e : Entry). nat_le e.group group) entries)
+
+-- The groups that recovery may keep at most: where the write of a header failed, which is block 2,
+-- one more than are committed.
+abbrev pub most_kept : Option DiskFault → Commit → ℕ → ℕ
+most_kept None k committed = committed
+most_kept (Some fault) commit.Quiet committed = committed
+most_kept (Some fault) (commit.Logging j) committed = committed
+most_kept (Some fault) commit.Heading committed = if fault.0 == 2 then committed + 1 else committed
+most_kept (Some fault) (commit.Homing j) committed = committed
+most_kept (Some fault) commit.Clearing committed = committed
+
+-- those of a volume
+abbrev pub most_of : {D : Type 0} → VolumeState D → ℕ
+most_of v = most_kept v.fault v.log.commit v.log.committed
+
+-- recovery of x keeps some count of groups between those
+pub record KeepsBetween (least most : ℕ) (opening : Image) (entries : List Entry) (x : Image)
+    : Type 0 where
+  pub groups : ℕ
+  pub low : least ≤ groups
+  pub high : groups ≤ most
+  pub keeps : Keeps opening entries x groups
+
+-- recovery of x keeps the committed groups; after a fault in the write of a header, those or one more
+abbrev pub KeepsNow : {D : Type 0} → VolumeState D → Image → List Entry → Image → Type 0
+KeepsNow v opening entries x = KeepsBetween v.log.committed (most_of v) opening entries x
+
+-- what is kept of any count of groups is a beginning of what is kept of all up to that group
+abbrev pub KeepsBeginnings : ℕ → List Entry → ℕ → Type 0
+KeepsBeginnings inode_count entries group =
+    (c : ℕ) → IsPrefix (kept inode_count entries c) (kept inode_count entries group)
+
+-- an entry has a group exactly where its operation is a changing one
+abbrev pub HasItsGroup : ℕ → Entry → Type 0
+HasItsGroup inode_count e = nat_lt 0 e.group ≡ is_changing inode_count e.op

@@ -1,0 +1,116 @@
+-- The processes as contracts see them, and what each event makes of them.
+use Rattle.std.specs.Prelude.{ℕ, ◌+◌, Bool, true, false, List, [], length, replicate, slice_index_or, slice_set, nat_lt, if◌then◌else◌, Option, Some, None}
+use Rattle.model.specs.declared.types.operations.Answer.{Answer}
+use Rattle.model.specs.declared.types.operations.Entry.{Entry}
+use Rattle.model.specs.declared.types.operations.Op.{Op}
+use Rattle.model.specs.declared.types.operations.Reply.{Reply}
+use Rattle.journal.specs.declared.types.At.{At}
+use Rattle.journal.specs.declared.types.At.TheVariants as at
+use Rattle.journal.specs.declared.types.Process.{Process}
+use Rattle.journal.specs.Journal.{Entries, reserved, journal_with, entry_in, answer_of}
+
+-- the processes, their journal, and whether no operation begins any more
+pub record World : Type 0 where
+  pub processes : List Process
+  pub journal : Entries
+  pub is_shut : Bool
+
+abbrev pub idle : Process
+idle = record { begun = 0; at = at.Idle }
+
+-- a process; one past the last is idle
+abbrev pub process : World → ℕ → Process
+process w p = slice_index_or w.processes p idle
+
+abbrev pub fresh_world : ℕ → World
+fresh_world count = record { processes = replicate count idle; journal = record { list = []; room = 0 }; is_shut = false }
+
+-- a process is another
+abbrev pub with_process : World → ℕ → Process → World
+with_process w p t = record w { processes = slice_set w.processes p t }
+
+-- a process stands elsewhere
+abbrev pub at_place : World → ℕ → At → World
+at_place w p place = with_process w p (record (process w p) { at = place })
+
+-- a place in the journal is kept for one operation more
+abbrev pub with_place : World → World
+with_place w = record w { journal = reserved w.journal }
+
+-- an operation was taken for a process, in that group
+abbrev pub taken : World → ℕ → ℕ → Op → World
+taken w p group op = with_process w p (record { begun = (process w p).begun + 1; at = at.Before group op })
+
+-- the entry of an operation that is answered at once
+abbrev pub refusal : World → ℕ → Op → Reply → Entry
+refusal w p op reply = record { pid = p; seq = (process w p).begun + 1; op = op; group = 0; reply = Some reply }
+
+-- an operation of a process was answered at once
+abbrev pub refused : World → ℕ → Op → Reply → World
+refused w p op reply = record (with_process w p (record (process w p) { begun = (process w p).begun + 1 })) { journal = journal_with w.journal (refusal w p op reply) }
+
+abbrev pub refusal_answer : World → ℕ → Reply → Answer
+refusal_answer w p reply = record { seq = (process w p).begun + 1; reply = reply; group = 0 }
+
+-- the entry of a process's operation, at its turn
+abbrev pub entry_of : World → ℕ → ℕ → Op → Option Reply → Entry
+entry_of w p group op reply = record { pid = p; seq = (process w p).begun; op = op; group = group; reply = reply }
+
+-- where an operation stands behind its turn: its task goes on, or is over
+abbrev pub place_behind : Bool → ℕ → ℕ → At
+place_behind true group k = at.Ending group k
+place_behind false group k = at.Behind group k
+
+abbrev pub turned_from : At → World → ℕ → Option Reply → Bool → World
+turned_from at.Idle w p reply over = w
+turned_from (at.Before group op) w p reply over =
+    record (at_place w p (place_behind over group (length w.journal.list))) { journal = journal_with w.journal (entry_of w p group op reply) }
+turned_from (at.Behind group k) w p reply over = w
+turned_from (at.Ending group k) w p reply over = w
+turned_from (at.Committing group k) w p reply over = w
+
+-- the turn: the entry is in the journal
+abbrev pub turned : World → ℕ → Option Reply → Bool → World
+turned w p reply over = turned_from (process w p).at w p reply over
+
+abbrev pub is_before : At → Bool
+is_before at.Idle = false
+is_before (at.Before group op) = true
+is_before (at.Behind group k) = false
+is_before (at.Ending group k) = false
+is_before (at.Committing group k) = false
+
+-- its operation ends next
+abbrev pub is_ending : At → Bool
+is_ending at.Idle = false
+is_ending (at.Before group op) = false
+is_ending (at.Behind group k) = false
+is_ending (at.Ending group k) = true
+is_ending (at.Committing group k) = false
+
+abbrev pub committing_at : At → At
+committing_at at.Idle = at.Idle
+committing_at (at.Before group op) = at.Before group op
+committing_at (at.Behind group k) = at.Behind group k
+committing_at (at.Ending group k) = at.Committing group k
+committing_at (at.Committing group k) = at.Committing group k
+
+-- the operation's end was the last of its group
+abbrev pub committing : World → ℕ → World
+committing w p = at_place w p (committing_at (process w p).at)
+
+-- the answer of the entry at a place, if there is one
+abbrev pub answer_in : List Entry → ℕ → Option Answer
+answer_in es k = if nat_lt k (length es) then answer_of (entry_in es k) else None
+
+-- the answer of an operation that is at its end
+abbrev pub last_answer : World → At → Option Answer
+last_answer w at.Idle = None
+last_answer w (at.Before group op) = None
+last_answer w (at.Behind group k) = None
+last_answer w (at.Ending group k) = answer_in w.journal.list k
+last_answer w (at.Committing group k) = answer_in w.journal.list k
+
+-- it was answered
+abbrev pub answered : World → ℕ → World
+answered w p = at_place w p at.Idle

@@ -1,0 +1,118 @@
+// The operations that had their turn.
+ghost use Rattle.std.specs.Prelude.{◌≡◌, ◌<◌, ◌^◌, ◌+◌, ◌-◌, ◌++◌, ◌∷◌, [], length, IfOk, OnErr};
+ghost use Rattle.journal.specs.Journal.{plain_reply};
+
+use blocks::NoMemory;
+use model::types::{Answer, Entry, Reply};
+use std::alloc::Global;
+use std::marker::Model;
+
+/// The entries, the oldest first, and how many places are kept for more.
+#[derive(Drop)]
+pub struct Journal {
+    entries: Vec<Entry>,
+    room: usize,
+}
+
+impl Model for Journal {
+    ghost use Rattle.std.specs.Prelude.{◌+◌, ◌≤◌, vec_len, vec_capacity};
+    ghost use Rattle.journal.specs.Journal.{Entries};
+
+    ghost Value = { Entries };
+
+    ghost view = { λ j. record { list = j.entries.items; room = j.room } };
+
+    ghost invariant = { λ j. vec_len j.entries + j.room ≤ vec_capacity j.entries };
+}
+
+impl Journal {
+    ghost use Rattle.std.specs.Prelude.{Some, IsSome};
+    ghost use Rattle.journal.specs.Journal.{reserved, journal_with, entry_in, answer_of};
+
+    /// Without entries, and with no place.
+    pub fn new(alloc: Global) -> Journal
+        ensures { result ≡ record { list = []; room = 0 } }
+    {
+        Journal {
+            entries: Vec::new(alloc),
+            room: 0,
+        }
+    }
+
+    /// The entries, the oldest first.
+    pub fn entries(&self) -> &[Entry]
+        ensures { result.now ≡ self.now.list }
+    {
+        &self.entries
+    }
+
+    /// Does nothing: entries and kept places can be counted.
+    pub fn known(&self)
+        ensures { length self.now.list + self.now.room < 2 ^ 64 }
+    {
+        let _ = self.entries.capacity();
+    }
+
+    /// Keeps a place for one more entry.
+    ///
+    /// # Errors
+    ///
+    /// `NoMemory` where the allocator refuses it; nothing is changed.
+    pub fn reserve(&mut self) -> Result<(), NoMemory>
+        requires { self.old.room + 1 < 2 ^ 64 }
+        ensures ok { IfOk result (λ _. self.new ≡ reserved self.old) }
+        ensures err { OnErr result (self.new ≡ self.old) }
+    {
+        self.entries.reserve(self.room + 1)?;
+        self.room += 1;
+        Ok(())
+    }
+
+    /// Adds an entry, in a place that was kept. Its place among the entries, from 0.
+    pub fn add(&mut self, entry: Entry) -> usize
+        requires { 0 < self.old.room }
+        ensures place { result ≡ length self.old.list }
+        ensures entries { self.new ≡ journal_with self.old entry }
+    {
+        let place = self.entries.len();
+        self.room -= 1;
+        let _ = self.entries.push(entry);
+        place
+    }
+
+    /// The answer of the entry at this place, which has a reply without bytes.
+    pub fn answer(&self, place: usize) -> Answer
+        requires inside { place < length self.now.list }
+        requires answered { IsSome (answer_of (entry_in self.now.list place)) }
+        ensures { Some result ≡ answer_of (entry_in self.now.list place) }
+    {
+        let entry = &self.entries[place];
+        let Some(reply) = plain_reply(&entry.reply) else {
+            unreachable!();
+        };
+        Answer {
+            seq: entry.seq,
+            reply,
+            group: entry.group,
+        }
+    }
+}
+
+// The reply, if it is there and has no bytes.
+fn plain_reply(reply: &Option<Reply>) -> Option<Reply>
+    ensures { result ≡ plain_reply reply.now }
+{
+    match reply {
+        Some(Reply::Made(i)) => Some(Reply::Made(*i)),
+        Some(Reply::NoInode) => Some(Reply::NoInode),
+        Some(Reply::Wrote(count)) => Some(Reply::Wrote(*count)),
+        Some(Reply::Done) => Some(Reply::Done),
+        Some(Reply::StatOf(kind, size)) => Some(Reply::StatOf(*kind, *size)),
+        Some(Reply::NoFile) => Some(Reply::NoFile),
+        Some(Reply::BadOffset) => Some(Reply::BadOffset),
+        Some(Reply::TooBig) => Some(Reply::TooBig),
+        Some(Reply::TooLong) => Some(Reply::TooLong),
+        Some(Reply::BadType) => Some(Reply::BadType),
+        None | Some(Reply::Bytes(_)) => None,
+    }
+}

@@ -1,0 +1,261 @@
+-- What each event of a process is, as a step's acts.
+use Rattle.std.proofs.Common.{◌≡◌, ◌≢◌, ◌↔◌, inl, inr, ℕ, Bool, true, false, List, [], refl, sym, ◌∙◌, ap, subst, Option, Some, None}
+use Rattle.std.specs.Prelude.{IsSome, IfSome}
+use Rattle.std.proofs.lemmas.Bool.{false≢true}
+use Rattle.std.proofs.lemmas.List.{append-nil}
+use mathlib.Core.List.{IsPrefix}
+use Rattle.blocks.specs.Disk.{one_more}
+use Rattle.blocks.specs.declared.disk.Disk as disk_trait
+use Rattle.blocks.specs.declared.errors.DiskFault.{DiskFault}
+use Rattle.model.specs.declared.types.operations.Op.{Op}
+use Rattle.model.specs.declared.types.operations.TaskProgress.{TaskProgress}
+use Rattle.model.specs.declared.types.operations.TaskProgress.TheVariants as progress
+use Rattle.model.specs.Tasks.{fault_of_task}
+use Rattle.ports.specs.declared.herald.Herald as herald_trait
+use Rattle.ports.specs.declared.intake.Intake as intake_trait
+use Rattle.ports.specs.History.{Side}
+use Rattle.wal.specs.declared.types.Committed.{Committed}
+use Rattle.wal.specs.declared.types.Committed.TheVariants as committed
+use Rattle.wal.specs.declared.types.Ended.{Ended}
+use Rattle.wal.specs.declared.types.Ended.TheVariants as ended_as
+use Rattle.wal.specs.Joint.{place_at}
+use Rattle.wal.specs.Machine.{end_answer}
+use Rattle.wal.specs.Step.{IsFault}
+use Rattle.wal.specs.Volume.{faults_after, fault_of_step}
+use Rattle.inodes.specs.declared.tasks.Place.{Place}
+use Rattle.inodes.specs.declared.tasks.Place.TheVariants as place
+use Rattle.inodes.specs.Steps.{Steps, Commits, Goes, GoesFrom, shown_of, block_at_place, is_over}
+use Rattle.inodes.specs.Store.{StoreState}
+use Rattle.inodes.specs.Tasks.{task}
+use Rattle.journal.specs.declared.types.At.{At}
+use Rattle.journal.specs.declared.types.At.TheVariants as at
+use Rattle.journal.specs.Alone.{is_committing_at}
+use Rattle.journal.specs.Bound.{is_busy_at}
+use Rattle.journal.specs.Processes.{World, process}
+use Rattle.kernel.specs.declared.types.Step.{Step}
+use Rattle.kernel.specs.declared.types.Step.TheVariants as step
+use Rattle.kernel.specs.Device.{UsesDisk, CountsItsFault, WritesOnce, block_at_step}
+use Rattle.std.specs.Option.{option_map}
+use Rattle.ports.specs.History.{first_in}
+use Rattle.kernel.specs.declared.waiting.Waiting.{Waiting}
+use Rattle.kernel.specs.Next.{NextIf, NextAt, BeginsWith, Ends, step_of, step_of_end, step_of_write, world_after, world_written}
+use Rattle.kernel.specs.Ports.{KeepsOthers, Asks}
+use Rattle.kernel.specs.State.{State, waiting_of}
+use Rattle.kernel.specs.Steps.{Acts}
+use Rattle.kernel.proofs.Events.{not_taken}
+use Rattle.journal.specs.Lemmas.Leaving.{elapses_none, elapses_same}
+
+-- no other side changed
+pub sides_same : {I M : Type 0} (intake : intake_trait.Ghosts I M) (p : ℕ) (i : I) → KeepsOthers intake p i i
+sides_same intake p i = record { names = λ q. refl; others = λ q apart. refl }
+
+pub same_prefix : {A : Type 0} (xs ys : List A) → ys ≡ xs → IsPrefix xs ys
+same_prefix xs ys same = ([], append-nil xs ∙ sym same)
+
+-- what a step that uses block b says of the disk's fault
+record TellsFault {D N : Type 0} (disk : disk_trait.Ghosts D N) (b : ℕ) (r : Step) (s t : StoreState D) : Type 0 where
+  pub halted : (r ≡ step.Halted) ↔ IsSome t.volume.fault
+  pub faults : CountsItsFault t.volume.fault (disk.write_count s.volume.device) (disk.write_count t.volume.device) (disk.fault_count s.volume.device) (disk.fault_count t.volume.device)
+  pub block : IfSome t.volume.fault (λ fault. fault.0 ≡ b)
+
+module _ {D N : Type 0} (disk : disk_trait.Ghosts D N) (s t : StoreState D) where
+  abbrev Counts : Option DiskFault → Type 0
+  Counts o = CountsItsFault o (disk.write_count s.volume.device) (disk.write_count t.volume.device) (disk.fault_count s.volume.device) (disk.fault_count t.volume.device)
+
+  -- there is none
+  tells_none : (b : ℕ) (r : Step) → r ≢ step.Halted → t.volume.fault ≡ None → disk.fault_count t.volume.device ≡ disk.fault_count s.volume.device → TellsFault disk b r s t
+  tells_none b r runs none same = record {
+    halted = ((λ e. absurd (runs e)), (λ some. absurd (let no = subst IsSome none some in cc no)));
+    faults = subst Counts (sym none) same;
+    block = subst (λ (o : Option DiskFault). IfSome o (λ fault. fault.0 ≡ b)) (sym none) tt;
+  }
+
+  -- it failed
+  tells_fault : (b : ℕ) (fault : DiskFault) → t.volume.fault ≡ Some fault → fault.0 ≡ b → Counts (Some fault) → TellsFault disk b step.Halted s t
+  tells_fault b fault is here counts = record {
+    halted = ((λ e. subst IsSome (sym is) refl), (λ some. refl));
+    faults = subst Counts (sym is) counts;
+    block = subst (λ (o : Option DiskFault). IfSome o (λ fault. fault.0 ≡ b)) (sym is) here;
+  }
+
+  -- the disk isn't used
+  pub rests : (a : At) (p : ℕ) (r : Step) → is_committing_at a ≡ false → r ≢ step.Halted → s.volume.fault ≡ None → t.volume.fault ≡ s.volume.fault → t.volume.device ≡ s.volume.device → UsesDisk disk a p r s t
+  rests a p r quiet runs well same is =
+      let tells = tells_none (block_at_step a s p) r runs (same ∙ well) (ap disk.fault_count is) in
+      record {
+        halted = tells.halted;
+        name = ap disk.name is;
+        time = elapses_same disk.moment disk.leaves s.volume.device t.volume.device is;
+        image = λ e. ap disk.image is;
+        unwritten = λ e. ap disk.write_count is;
+        written = λ e. absurd (false≢true (sym quiet ∙ e));
+        writes = inl (ap disk.write_count is);
+        faults = λ e. tells.faults;
+        block = λ e. tells.block;
+      }
+
+  -- a step of a task reads a block at most
+  pub reads : (p group : ℕ) (op : Op) (r : TaskProgress) → Steps disk s p op r t → UsesDisk disk (at.Before group op) p (step_of r) s t
+  reads p group op r steps =
+      let tells = by_answer r steps.reads.fault steps.reads.faults steps.goes in
+      record {
+        halted = tells.halted;
+        name = steps.reads.device.name;
+        time = elapses_none steps.reads.device.time;
+        image = λ e. steps.reads.device.image;
+        unwritten = λ e. steps.reads.device.writes;
+        written = λ e. absurd (false≢true e);
+        writes = inl steps.reads.device.writes;
+        faults = λ e. tells.faults;
+        block = λ e. tells.block;
+      }
+    where
+      b : ℕ
+      b = block_at_place (task s.tasks p).place
+
+      -- the block at which a task's read fails is that which its place names
+      fails_at : (pl next : Place) (fault : DiskFault) → Goes pl s.inode_count p s.volume.buffers (progress.Fault fault) next (shown_of disk.image s.volume) (shown_of disk.image t.volume) → fault.0 ≡ block_at_place pl
+      fails_at place.Nowhere next fault goes = let no = goes.0 in absurd (cc no)
+      fails_at (place.Creating m) next fault goes = by_slot m.slot goes
+        where
+          by_slot : (o : Option ℕ) → GoesFrom o s.inode_count p m s.volume.buffers (progress.Fault fault) next (shown_of disk.image s.volume) (shown_of disk.image t.volume) → fault.0 ≡ m.block
+          by_slot None goes = goes.0.0
+          by_slot (Some i) goes = absurd goes
+
+      by_answer : (r : TaskProgress) → t.volume.fault ≡ fault_of_task r → disk.fault_count t.volume.device ≡ faults_after (fault_of_task r) (disk.fault_count s.volume.device)
+          → Goes (task s.tasks p).place s.inode_count p s.volume.buffers r (task t.tasks p).place (shown_of disk.image s.volume) (shown_of disk.image t.volume) → TellsFault disk b (step_of r) s t
+      by_answer progress.Moved is same goes = tells_none b step.Moved (λ e. cc e) is same
+      by_answer (progress.Turned reply) is same goes = tells_none b step.Moved (λ e. cc e) is same
+      by_answer (progress.Decided reply) is same goes = tells_none b step.Moved (λ e. cc e) is same
+      by_answer progress.Over is same goes = tells_none b step.Moved (λ e. cc e) is same
+      by_answer (progress.Sleeping why) is same goes = tells_none b (step.Sleeping why) (λ e. cc e) is same
+      by_answer (progress.Fault fault) is same goes = tells_fault b fault is (fails_at (task s.tasks p).place (task t.tasks p).place fault goes) (steps.reads.device.writes, same)
+
+  -- a write of a commit
+  pub writes : (p group k : ℕ) (r : Committed) → Commits disk s r t → UsesDisk disk (at.Committing group k) p (step_of_write r) s t
+  writes p group k r made =
+      let told = by_result r made.fault made.writes made.faults in
+      record {
+        halted = told.0.halted;
+        name = made.name;
+        time = made.time;
+        image = λ e. absurd (false≢true (sym e));
+        unwritten = λ e. absurd (false≢true (sym e));
+        written = λ e runs. told.1 runs;
+        writes = told.2;
+        faults = λ e. told.0.faults;
+        block = λ e. told.0.block;
+      }
+    where
+      old : ℕ
+      old = disk.write_count s.volume.device
+
+      new : ℕ
+      new = disk.write_count t.volume.device
+
+      more : Type 0
+      more = disk.fault_count t.volume.device ≡ one_more (disk.fault_count s.volume.device)
+
+      b : ℕ
+      b = place_at s.volume.log.commit s.volume.log.homes
+
+      by_result : (r : Committed) → t.volume.fault ≡ fault_of_step r → IsFault r (λ fault. new ≡ old) more (new ≡ one_more old) → IsFault r (λ fault. fault.0 ≡ b) more (disk.fault_count t.volume.device ≡ disk.fault_count s.volume.device)
+          → TellsFault disk b (step_of_write r) s t × (step_of_write r ≢ step.Halted → new ≡ one_more old) × WritesOnce old new
+      by_result committed.More is wrote same = (tells_none b step.Moved (λ e. cc e) is same, (λ runs. wrote), inr wrote)
+      by_result (committed.Durable g) is wrote same = (tells_none b step.Moved (λ e. cc e) is same, (λ runs. wrote), inr wrote)
+      by_result committed.Done is wrote same = (tells_none b step.Answered (λ e. cc e) is same, (λ runs. wrote), inr wrote)
+      by_result (committed.Fault fault) is wrote failed = (tells_fault b fault is failed.0 (wrote.0, wrote.1), (λ runs. absurd (runs refl)), inl wrote.0)
+
+module _ {D N I M H : Type 0} (disk : disk_trait.Ghosts D N) (intake : intake_trait.Ghosts I M) (herald : herald_trait.Ghosts H) (p : ℕ) (k m : State D I H) where
+  -- what a process makes of store and processes where it stands, while the disk has not failed
+  pub acts_at : (r : Step) (a : At) → k.store.volume.fault ≡ None → (process k.world p).at ≡ a
+      → NextAt disk a k.store k.world p (intake.side k.intake p).ahead (intake.side m.intake p) (herald.told m.herald) r m.store m.world → UsesDisk disk a p r k.store m.store → m.opening ≡ k.opening
+      → KeepsOthers intake p k.intake m.intake → (r ≢ step.Moved → r ≢ step.Answered → IsPrefix (intake.side k.intake p).ahead (intake.side m.intake p).ahead)
+      → (is_busy_at a ≡ true → (intake.side m.intake p).ahead ≡ (intake.side k.intake p).ahead) → Acts disk intake herald p r k m
+  acts_at r a well stands next device opening sides waits ahead = record {
+    next = subst (λ (o : Option DiskFault). NextIf disk o k.store k.world p (intake.side k.intake p).ahead (intake.side m.intake p) (herald.told m.herald) r m.store m.world) (sym well)
+        (subst (λ (b : At). NextAt disk b k.store k.world p (intake.side k.intake p).ahead (intake.side m.intake p) (herald.told m.herald) r m.store m.world) (sym stands) next);
+    device = subst (λ (b : At). UsesDisk disk b p r k.store m.store) (sym stands) device;
+    opening = opening;
+    sides = sides;
+    waits = waits;
+    ahead = λ busy. ahead (ap is_busy_at (sym stands) ∙ busy);
+  }
+
+  -- who is under way, and leaves what waits
+  pub acts_busy : (r : Step) (a : At) → k.store.volume.fault ≡ None → (process k.world p).at ≡ a
+      → NextAt disk a k.store k.world p (intake.side k.intake p).ahead (intake.side m.intake p) (herald.told m.herald) r m.store m.world → UsesDisk disk a p r k.store m.store → m.opening ≡ k.opening
+      → KeepsOthers intake p k.intake m.intake → (intake.side m.intake p).ahead ≡ (intake.side k.intake p).ahead → Acts disk intake herald p r k m
+  acts_busy r a well stands next device opening sides same =
+      acts_at r a well stands next device opening sides (λ moved answered. same_prefix (intake.side k.intake p).ahead (intake.side m.intake p).ahead same) (λ busy. same)
+
+module _ {D N I M H : Type 0} (disk : disk_trait.Ghosts D N) (intake : intake_trait.Ghosts I M) (herald : herald_trait.Ghosts H) (p : ℕ) (s t : StoreState D) (d : D) (i : I) (h : H) (w z : World) (well : s.volume.fault ≡ None) where
+  -- a step of a task before its turn
+  pub acts_worked : (group : ℕ) (op : Op) (r : TaskProgress) → (process w p).at ≡ at.Before group op → Steps disk s p op r t → z ≡ world_after r (is_over (task t.tasks p).place) w p
+      → Acts disk intake herald p (step_of r) (record { store = s; opening = d; intake = i; herald = h; world = w }) (record { store = t; opening = d; intake = i; herald = h; world = z })
+  acts_worked group op r stands steps made =
+      acts_busy disk intake herald p (record { store = s; opening = d; intake = i; herald = h; world = w }) (record { store = t; opening = d; intake = i; herald = h; world = z }) (step_of r) (at.Before group op) well stands
+      (record { progress = r; steps = steps; answer = refl; world = made }) (reads disk s t p group op r steps) refl (sides_same intake p i) refl
+
+  -- an end in the log, after which the intake is j and the herald g
+  pub acts_ended : (group k : ℕ) (j : I) (g : H) (r : Step) → (process w p).at ≡ at.Ending group k → Ends s w p r t z → KeepsOthers intake p i j → (intake.side j p).ahead ≡ (intake.side i p).ahead
+      → Acts disk intake herald p r (record { store = s; opening = d; intake = i; herald = h; world = w }) (record { store = t; opening = d; intake = j; herald = g; world = z })
+  acts_ended group k j g r stands made sides ahead =
+      acts_busy disk intake herald p (record { store = s; opening = d; intake = i; herald = h; world = w }) (record { store = t; opening = d; intake = j; herald = g; world = z }) r (at.Ending group k) well stands
+      made (rests disk s t (at.Ending group k) p r refl (λ e. runs (end_answer s.volume.log) (sym made.answer ∙ e)) well (ap (λ (o : StoreState D). o.volume.fault) made.store) (ap (λ (o : StoreState D). o.volume.device) made.store)) refl sides ahead
+    where
+      runs : (e : Ended) → step_of_end e ≢ step.Halted
+      runs ended_as.Commit e = cc e
+      runs ended_as.Left e = cc e
+
+  -- a write of a commit
+  pub acts_written : (group k : ℕ) (j : I) (g : H) (r : Committed) → (process w p).at ≡ at.Committing group k → Commits disk s r t → z ≡ world_written r w p → KeepsOthers intake p i j → (intake.side j p).ahead ≡ (intake.side i p).ahead
+      → Acts disk intake herald p (step_of_write r) (record { store = s; opening = d; intake = i; herald = h; world = w }) (record { store = t; opening = d; intake = j; herald = g; world = z })
+  acts_written group k j g r stands made is sides ahead =
+      acts_busy disk intake herald p (record { store = s; opening = d; intake = i; herald = h; world = w }) (record { store = t; opening = d; intake = j; herald = g; world = z }) (step_of_write r) (at.Committing group k) well stands
+      (record { result = r; commits = made; answer = refl; world = is }) (writes disk s t p group k r made) refl sides ahead
+
+-- a beginning changes neither the disk nor its fault, and what waits goes on waiting, but for what is taken
+pub record BeginsStill (D : Type 0) (s : StoreState D) (ahead : List Op) (side : Side) (r : Step) (t : StoreState D) : Type 0 where
+  pub runs : r ≢ step.Halted
+  pub fault : t.volume.fault ≡ s.volume.fault
+  pub device : t.volume.device ≡ s.volume.device
+  pub waits : r ≢ step.Moved → r ≢ step.Answered → side.ahead ≡ ahead
+
+begins_still : {D : Type 0} (s t : StoreState D) (w z : World) (p : ℕ) (ahead : List Op) (side : Side) (what : Option Waiting) (r : Step) → BeginsWith what s w p ahead side r t z → BeginsStill D s ahead side r t
+begins_still {D} s t w z p ahead side what r (inl made) = record { runs = λ e. let no = sym made.answer ∙ e in cc no; fault = ap (λ (o : StoreState D). o.volume.fault) made.store; device = ap (λ (o : StoreState D). o.volume.device) made.store; waits = λ moved answered. absurd (moved made.answer) }
+begins_still {D} s t w z p ahead side what r (inr (inl made)) = record { runs = λ e. let no = sym made.answer ∙ e in cc no; fault = ap (λ (o : StoreState D). o.volume.fault) made.store; device = ap (λ (o : StoreState D). o.volume.device) made.store; waits = λ moved answered. absurd (answered made.answer) }
+begins_still {D} s t w z p ahead side what r (inr (inr made)) = record { runs = (not_taken what s.volume.log side.has_room r made.answer).runs; fault = ap (λ (o : StoreState D). o.volume.fault) made.same.0; device = ap (λ (o : StoreState D). o.volume.device) made.same.0; waits = λ moved answered. made.ahead_stays }
+
+module _ {D N I M H : Type 0} (disk : disk_trait.Ghosts D N) (intake : intake_trait.Ghosts I M) (herald : herald_trait.Ghosts H) (p : ℕ) (k asked looked m : State D I H) (well : k.store.volume.fault ≡ None)
+    (stands : (process k.world p).at ≡ at.Idle) where
+  -- nobody told of a shutdown, what waits was looked up, and the first of it begins
+  pub acts_begun : (r : Step) (o : Option Waiting) → asked.store ≡ k.store → asked.opening ≡ k.opening → asked.intake ≡ k.intake → asked.world ≡ record k.world { is_shut = false }
+      → (k.world.is_shut ≡ false) × (herald.told asked.herald ≡ false) → looked ≡ record asked { intake = looked.intake } → Asks intake p asked.intake looked.intake
+      → o ≡ option_map waiting_of (first_in (intake.side looked.intake p).ahead)
+      → BeginsWith o looked.store looked.world p (intake.side looked.intake p).ahead (intake.side m.intake p) r m.store m.world → KeepsOthers intake p looked.intake m.intake → m.herald ≡ looked.herald → m.opening ≡ looked.opening
+      → Acts disk intake herald p r k m
+  acts_begun r o store opening same world open_still is asks waits made sides told kept =
+      let world_is : looked.world ≡ k.world = ap (λ (s : State D I H). s.world) is ∙ world ∙ ap (λ (b : Bool). record k.world { is_shut = b }) (sym open_still.0) in
+      let store_is : looked.store ≡ k.store = ap (λ (s : State D I H). s.store) is ∙ store in
+      let here : BeginsWith o k.store k.world p (intake.side looked.intake p).ahead (intake.side m.intake p) r m.store m.world =
+      subst (λ (w : World). BeginsWith o k.store w p (intake.side looked.intake p).ahead (intake.side m.intake p) r m.store m.world) world_is
+      (subst (λ (s : StoreState D). BeginsWith o s looked.world p (intake.side looked.intake p).ahead (intake.side m.intake p) r m.store m.world) store_is made) in
+      let still = begins_still k.store m.store k.world m.world p (intake.side looked.intake p).ahead (intake.side m.intake p) o r here in
+      let prefix : IsPrefix (intake.side k.intake p).ahead (intake.side looked.intake p).ahead = subst (λ (i : I). IsPrefix (intake.side i p).ahead (intake.side looked.intake p).ahead) same asks.prefix in
+      acts_at disk intake herald p k m r at.Idle well stands
+      (inr (record {
+        unshut = open_still.0;
+        untold = ap herald.told told ∙ ap (λ (s : State D I H). herald.told s.herald) is ∙ open_still.1;
+        ahead = (intake.side looked.intake p).ahead;
+        prefix = prefix;
+        begins = subst (λ (q : Option Waiting). BeginsWith q k.store k.world p (intake.side looked.intake p).ahead (intake.side m.intake p) r m.store m.world) waits here;
+      }))
+      (rests disk k.store m.store at.Idle p r refl still.runs well still.fault still.device)
+      (kept ∙ ap (λ (s : State D I H). s.opening) is ∙ opening)
+      (record {
+        names = λ q. sides.names q ∙ asks.keeps.names q ∙ ap (λ (i : I). intake.name i q) same;
+        others = λ q apart. sides.others q apart ∙ asks.keeps.others q apart ∙ ap (λ (i : I). intake.side i q) same;
+      })
+      (λ moved answered. subst (λ (l : List Op). IsPrefix (intake.side k.intake p).ahead l) (sym (still.waits moved answered)) prefix)
+      (λ busy. absurd (false≢true busy))

@@ -1,0 +1,84 @@
+-- A store that was just opened has what is true of every kernel.
+use Rattle.std.proofs.Common.{◌≡◌, ◌≤◌, ℕ, zero, suc, true, false, [], replicate, ◌∙◌, sym, refl, ap, subst, Option, None}
+use Rattle.std.proofs.lemmas.Bool.{false≢true}
+use Rattle.blocks.specs.declared.disk.Disk.{Ghosts}
+use Rattle.wal.specs.Machine.{LogState, is_quiet}
+use Rattle.inodes.specs.Tasks.{no_task}
+use Rattle.journal.specs.declared.types.Process.{Process}
+use Rattle.journal.specs.Alone.{CommitsAlone, is_committing_at}
+use Rattle.journal.specs.Lemmas.Nexts.{at_same}
+use Rattle.journal.specs.Processes.{World, fresh_world}
+use Rattle.journal.specs.Views.{View}
+use Rattle.kernel.specs.Invariant.{IsRight}
+use Rattle.kernel.specs.State.{ats_of}
+use Rattle.kernel.proofs.Openings.{idle_at, paired_new, counted_new}
+use Rattle.kernel.proofs.Right.{right_well}
+use Rattle.std.specs.Prelude.{is_some, IsTrue, slice_index_or}
+use Rattle.blocks.specs.Disk.{Image}
+use Rattle.model.specs.Files.{files_of}
+use Rattle.model.specs.Layout.{inode_count_of}
+use Rattle.model.specs.Log.{is_lawful_log}
+use Rattle.model.specs.Soundness.{IsSound}
+use Rattle.wal.specs.Joint.{Joint}
+use Rattle.wal.specs.Lemmas.Volume.{fresh_seen}
+use Rattle.wal.specs.Machine.{used_by}
+use Rattle.wal.specs.Volume.{VolumeState}
+use Rattle.inodes.specs.Tasks.{task}
+use Rattle.inodes.specs.Store.{StoreState, FitsFiles, current_of, fresh_volume}
+use Rattle.journal.specs.declared.types.At.TheVariants as at
+use Rattle.journal.specs.Crash.{Survives}
+use Rattle.journal.specs.Views.{KernelFacts}
+use Rattle.journal.specs.Lemmas.Known.{inv_new}
+use Rattle.journal.specs.Lemmas.Stops.{recovers_opened}
+use Rattle.kernel.specs.View.{view_of}
+use Rattle.kernel.proofs.Valid.{none_held, valid_joint}
+
+none_used : (k q : ℕ) → slice_index_or (replicate k None) q None ≡ (let none : Option ℕ = None in none)
+none_used zero q = refl
+none_used (suc k) zero = refl
+none_used (suc k) (suc q) = none_used k q
+
+module _ {D : Type 0} (image : D → Image) (s : StoreState D) (fresh : s.volume ≡ fresh_volume image s.volume.device) where
+  -- the current image is the disk's
+  shown : current_of image s.volume ≡ image s.volume.device
+  shown = ap (λ (v : VolumeState D). current_of image v) fresh ∙ fresh_seen (image s.volume.device)
+
+  -- no operation is open in the log
+  none_open : (q : ℕ) → is_some (used_by s.volume.log q) ≡ false
+  none_open q = ap (λ (v : VolumeState D). is_some (used_by v.log q)) fresh ∙ ap is_some (none_used 32 q)
+
+  pub facts_at_open : IsSound (image s.volume.device) → IsTrue (is_lawful_log (image s.volume.device)) → Joint (image s.volume.device) s.volume.buffers s.volume.log → FitsFiles image s (files_of (image s.volume.device))
+      → KernelFacts (image s.volume.device) (view_of image s) [] (λ q. at.Idle)
+  facts_at_open sound lawful joint fits =
+      let opening = image s.volume.device in
+      inv_new opening (view_of image s) (valid_joint image s (inode_count_of opening) joint) (λ q. none_held (task s.tasks q).place) none_open fits
+      (subst (λ (x : Image). Survives opening opening x s.volume.log []) (sym shown) (recovers_opened opening s.volume.log sound lawful sound.empty_log))
+
+-- where each process is idle, it is so by either name
+facts_idle : (opening : Image) (s : View) (w : World) → ((q : ℕ) → ats_of w q ≡ at.Idle) → KernelFacts opening s [] (λ q. at.Idle) → KernelFacts opening s [] (ats_of w)
+facts_idle opening s w idle facts = at_same opening s [] (λ q. at.Idle) (ats_of w) idle facts
+
+alone_idle : (l : LogState) (w : World) → ((q : ℕ) → ats_of w q ≡ at.Idle) → is_quiet l.commit ≡ true → CommitsAlone (ats_of w) l
+alone_idle l w idle quiet = record {
+  sole = λ p q mine other. absurd (false≢true (sym (ap is_committing_at (idle p)) ∙ mine));
+  busy = λ p mine. absurd (false≢true (sym (ap is_committing_at (idle p)) ∙ mine));
+  none_open = λ p mine. absurd (false≢true (sym (ap is_committing_at (idle p)) ∙ mine));
+  quiet = λ nobody. quiet;
+}
+
+-- what is true of store and processes of a kernel that was just opened
+pub right_new : {D N : Type 0} (disk : Ghosts D N) (opening : D) (s : StoreState D) (n : ℕ) → s.volume ≡ fresh_volume disk.image s.volume.device → opening ≡ s.volume.device → s.tasks ≡ replicate n no_task
+    → s.inode_count ≡ inode_count_of (disk.image s.volume.device) → 1 ≤ n → n ≤ 32 → IsSound (disk.image s.volume.device) → is_lawful_log (disk.image s.volume.device) ≡ true
+    → Joint (disk.image s.volume.device) s.volume.buffers s.volume.log → FitsFiles disk.image s (files_of (disk.image s.volume.device)) → IsRight disk opening s (fresh_world n)
+right_new disk opening s n fresh same tasks numbers some few sound lawful joint fits =
+    let d = s.volume.device in
+    let idle_all : (q : ℕ) → ats_of (fresh_world n) q ≡ at.Idle = λ q. ap (λ (p : Process). p.at) (idle_at n q) in
+    let well : s.volume.fault ≡ None = ap (λ (v : VolumeState _). v.fault) fresh in
+    let none : s.volume.log.opened ≡ 0 = ap (λ (v : VolumeState _). v.log.opened) fresh in
+    let quiet : is_quiet s.volume.log.commit ≡ true = ap (λ (v : VolumeState _). is_quiet v.log.commit) fresh in
+    subst (λ (o : _). IsRight disk o s (fresh_world n)) (sym same)
+    (right_well disk d s (fresh_world n) well numbers (paired_new s n tasks some few) (counted_new s.volume.log.opened n none)
+    (record {
+      facts = facts_idle (disk.image d) (view_of disk.image s) (fresh_world n) idle_all (facts_at_open disk.image s fresh sound lawful joint fits);
+      alone = alone_idle s.volume.log (fresh_world n) idle_all quiet;
+    }) refl)

@@ -1,0 +1,202 @@
+-- What is true of store and processes stays so where an operation ends in the log, and with each write of a commit.
+use Rattle.std.proofs.Common.{◌≡◌, ◌≢◌, ℕ, ◌<◌, true, false, List, [], ◌∷◌, length, set, refl, sym, ◌∙◌, ap, subst, arith, inl, inr, Option, Some, None}
+use Rattle.std.proofs.lemmas.List.{set-get_or}
+use Rattle.blocks.specs.Disk.{one_more}
+use Rattle.blocks.specs.declared.disk.Disk.{Ghosts}
+use Rattle.blocks.specs.declared.errors.DiskFault.{DiskFault}
+use Rattle.model.specs.Layout.{inode_count_of}
+use Rattle.model.specs.Log.{recovered}
+use Rattle.wal.specs.declared.types.Commit.{Commit}
+use Rattle.wal.specs.declared.types.Committed.{Committed}
+use Rattle.wal.specs.declared.types.Committed.TheVariants as committed
+use Rattle.wal.specs.declared.types.Ended.TheVariants as ended_as
+use Rattle.wal.specs.Joint.{Joint, JointAt, seen, written_at}
+use Rattle.wal.specs.Lemmas.Commits.{quiet_is_current}
+use Rattle.wal.specs.Machine.{LogState, is_quiet, ended, end_answer}
+use Rattle.wal.specs.Volume.{faults_after}
+use Rattle.inodes.specs.Lemmas.Faults.{where_none}
+use Rattle.inodes.specs.Steps.{Commits}
+use Rattle.inodes.specs.Store.{StoreState, KeepsFiles, with_log}
+use Rattle.inodes.specs.Tasks.{TaskState, task}
+use Rattle.journal.specs.declared.types.At.{At}
+use Rattle.journal.specs.declared.types.At.TheVariants as at
+use Rattle.journal.specs.declared.types.Process.{Process}
+use Rattle.journal.specs.Alone.{CommitsAlone, is_committing_at}
+use Rattle.journal.specs.Lemmas.Alone.{alone_end_leaves, alone_end_commits, alone_written, alone_done}
+use Rattle.journal.specs.Lemmas.Groups.{ended_opened, open_of, written_same}
+use Rattle.journal.specs.Lemmas.Known.{known_failed}
+use Rattle.journal.specs.Lemmas.LogEvents.{inv_end_leaves, inv_end_commits, inv_written}
+use Rattle.journal.specs.Processes.{World, process, idle, committing, committing_at, answered, is_before}
+use Rattle.journal.specs.Journal.{Entries}
+use Rattle.journal.specs.Views.{IsValidView, KernelFacts, StandsAt}
+use Rattle.kernel.specs.Invariant.{IsRight, HasFacts, TaskStands}
+use Rattle.kernel.specs.State.{ats_of}
+use Rattle.kernel.specs.View.{view_of}
+use Rattle.journal.specs.Lemmas.Answers.{group_there}
+use Rattle.kernel.proofs.Committing.{writes_of}
+use Rattle.kernel.proofs.LogCalls.{logs_ended}
+use Rattle.kernel.proofs.Valid.{valid_joint}
+use Rattle.journal.specs.Lemmas.Counting.{counted_same}
+use Rattle.kernel.proofs.Pairing.{paired_goes}
+use Rattle.journal.specs.Lemmas.Places.{there_now, others_stay}
+use Rattle.kernel.proofs.Right.{right_well, right_failed}
+
+no_homes : (hs : List ℕ) → length hs ≡ 0 → hs ≡ []
+no_homes [] none = refl
+no_homes (h ∷ hs) none = absurd (omega (arith, none))
+
+-- process p goes from one place to another behind its turn, and nothing else of the processes changes
+pub record GoesTo (w z : World) (p : ℕ) (a b : At) : Type 0 where
+  pub stands : (process w p).at ≡ a
+  pub was : is_before a ≡ false
+  pub behind : is_before b ≡ false
+  pub processes : z.processes ≡ set w.processes p (record (process w p) { at = b })
+  pub journal : z.journal ≡ w.journal
+
+-- the operation is answered, or goes on to its group's commit
+pub goes_answered : (w : World) (p : ℕ) (a : At) → (process w p).at ≡ a → is_before a ≡ false → GoesTo w (answered w p) p a at.Idle
+goes_answered w p a stands was = record { stands = stands; was = was; behind = refl; processes = refl; journal = refl }
+
+pub goes_committing : (w : World) (p group k : ℕ) → (process w p).at ≡ at.Ending group k → GoesTo w (committing w p) p (at.Ending group k) (at.Committing group k)
+goes_committing w p group k stands = record {
+  stands = stands;
+  was = refl;
+  behind = refl;
+  processes = ap (λ (a : At). set w.processes p (record (process w p) { at = committing_at a })) stands;
+  journal = refl;
+}
+
+module _ {D N : Type 0} (disk : Ghosts D N) (opening : D) (s : StoreState D) (w : World) (right : IsRight disk opening s w) (well : s.volume.fault ≡ None) (p : ℕ) (lt : p < length w.processes) where
+  abbrev n : ℕ
+  n = inode_count_of (disk.image opening)
+
+  had : HasFacts disk.image (disk.image opening) s w
+  had = where_none _ well right.facts
+
+  faults_well : disk.fault_count s.volume.device ≡ disk.fault_count opening
+  faults_well = right.faults ∙ ap (λ (o : Option DiskFault). faults_after o (disk.fault_count opening)) well
+
+  inside : p < length s.volume.log.used
+  inside = let few = right.paired.few in let pids = had.facts.valid.log.pids in omega (arith, lt, few, pids)
+
+  module _ (t : StoreState D) (tasks : t.tasks ≡ s.tasks) (numbers : t.inode_count ≡ s.inode_count) (well_now : t.volume.fault ≡ None) (opened : t.volume.log.opened ≡ s.volume.log.opened)
+      (counts : disk.fault_count t.volume.device ≡ disk.fault_count s.volume.device) (z : World) (a b : At) (g : GoesTo w z p a b) where
+    others : (q : ℕ) → q ≢ p → ats_of z q ≡ ats_of w q
+    others q apart = ap (λ (r : Process). r.at) (others_stay w z p (record (process w p) { at = b }) g.processes q apart)
+
+    now : ats_of z p ≡ b
+    now = ap (λ (r : Process). r.at) (there_now w z p (record (process w p) { at = b }) g.processes lt)
+
+    -- so all is right where the facts are
+    goes_right : (TaskStands (task s.tasks p) a → TaskStands (task s.tasks p) b) → KernelFacts (disk.image opening) (view_of disk.image t) w.journal.list (ats_of z) → CommitsAlone (ats_of z) t.volume.log → IsRight disk opening t z
+    goes_right finished facts alone =
+        right_well disk opening t z well_now (numbers ∙ right.numbers)
+        (paired_goes s t w z p (record (process w p) { at = b }) right.paired lt g.processes (ap (λ (l : List TaskState). length l) tasks) (λ q apart. ap (λ (l : List TaskState). task l q) tasks)
+        (subst (λ (l : List TaskState). TaskStands (task l p) b) (sym tasks) (finished (subst (λ (c : At). TaskStands (task s.tasks p) c) g.stands (right.paired.stand p)))))
+        (counted_same s.volume.log.opened p w right.counted lt t.volume.log.opened z b (ap is_before g.stands ∙ g.was) g.behind g.processes g.journal opened)
+        (record { facts = subst (λ (j : Entries). KernelFacts (disk.image opening) (view_of disk.image t) j.list (ats_of z)) (sym g.journal) facts; alone = alone })
+        (counts ∙ faults_well)
+
+  module _ (group k : ℕ) (stands : (process w p).at ≡ at.Ending group k) (joint : Joint (disk.image s.volume.device) s.volume.buffers (ended s.volume.log p)) (before : Joint (disk.image s.volume.device) s.volume.buffers s.volume.log)
+      (keeps : KeepsFiles disk.image s (with_log s (ended s.volume.log p))) where
+    abbrev t : StoreState D
+    t = with_log s (ended s.volume.log p)
+
+    stood : StandsAt n (view_of disk.image s) w.journal.list p (at.Ending group k)
+    stood = subst (λ (a : At). StandsAt n (view_of disk.image s) w.journal.list p a) stands (had.facts.stands p)
+
+    valid : IsValidView n (view_of disk.image t)
+    valid = valid_joint disk.image t n joint
+
+    opened_same : t.volume.log.opened ≡ s.volume.log.opened
+    opened_same = ended_opened s.volume.log p
+
+    -- it was the last of its group, and commits it
+    pub right_closed : end_answer s.volume.log ≡ ended_as.Commit → IsRight disk opening t (committing w p)
+    right_closed answer =
+        goes_right t refl refl well opened_same refl (committing w p) (at.Ending group k) (at.Committing group k) g (λ over. (over, group_there n p group k (view_of disk.image s) w.journal.list had.facts.valid.log stood))
+        (inv_end_commits (disk.image opening) (view_of disk.image s) (view_of disk.image t) w.journal.list (ats_of w) had.facts valid p (ats_of (committing w p)) others_at group k stood.2.0 stands
+        (logs_ended disk.image s t p keeps refl) inside answer at_p)
+        (alone_end_commits (ats_of w) (ats_of (committing w p)) s.volume.log had.alone p others_at had.facts.valid.log stood.1.0 answer (ap is_committing_at at_p))
+      where
+        g : GoesTo w (committing w p) p (at.Ending group k) (at.Committing group k)
+        g = goes_committing w p group k stands
+
+        at_p : ats_of (committing w p) p ≡ at.Committing group k
+        at_p = now t refl refl well opened_same refl (committing w p) (at.Ending group k) (at.Committing group k) g
+
+        others_at : (q : ℕ) → q ≢ p → ats_of (committing w p) q ≡ ats_of w q
+        others_at = others t refl refl well opened_same refl (committing w p) (at.Ending group k) (at.Committing group k) g
+
+    -- it is answered: others of its group go on, or the group had no homes
+    pub right_left : end_answer s.volume.log ≡ ended_as.Left → IsRight disk opening t (answered w p)
+    right_left answer =
+        goes_right t refl refl well opened_same refl (answered w p) (at.Ending group k) at.Idle g (λ over. over)
+        (inv_end_leaves (disk.image opening) (view_of disk.image s) (view_of disk.image t) w.journal.list (ats_of w) had.facts valid p (ats_of (answered w p)) others_at group k stood.2.0 stands
+        (logs_ended disk.image s t p keeps refl) inside answer shown at_p)
+        (alone_end_leaves (ats_of w) (ats_of (answered w p)) s.volume.log had.alone p others_at had.facts.valid.log stood.1.0 answer (ap is_committing_at at_p))
+      where
+        g : GoesTo w (answered w p) p (at.Ending group k) at.Idle
+        g = goes_answered w p (at.Ending group k) stands refl
+
+        at_p : ats_of (answered w p) p ≡ at.Idle
+        at_p = now t refl refl well opened_same refl (answered w p) (at.Ending group k) at.Idle g
+
+        others_at : (q : ℕ) → q ≢ p → ats_of (answered w p) q ≡ ats_of w q
+        others_at = others t refl refl well opened_same refl (answered w p) (at.Ending group k) at.Idle g
+
+        -- the log was quiet, without homes: recovery gives the current image
+        shown : length s.volume.log.homes ≡ 0 → recovered (disk.image s.volume.device) ≡ seen (disk.image s.volume.device) s.volume.buffers
+        shown none = quiet_is_current (disk.image s.volume.device) s.volume.buffers s.volume.log
+            (subst (λ (c : Commit). JointAt c (disk.image s.volume.device) s.volume.buffers s.volume.log) (open_of s.volume.log p had.facts.valid.log stood.1.0).quiet before) (no_homes s.volume.log.homes none)
+
+  module _ (group k : ℕ) (stands : (process w p).at ≡ at.Committing group k) (t : StoreState D) (r : Committed) (made : Commits disk s r t) (has_now : (d : D) → disk.leaves d (disk.moment d) (disk.image d)) where
+    stood_committing : StandsAt n (view_of disk.image s) w.journal.list p (at.Committing group k)
+    stood_committing = subst (λ (a : At). StandsAt n (view_of disk.image s) w.journal.list p a) stands (had.facts.stands p)
+
+    alone_here : is_committing_at (ats_of w p) ≡ true
+    alone_here = ap is_committing_at stands
+
+    none_open : s.volume.log.outstanding ≡ 0
+    none_open = had.alone.none_open p alone_here
+
+    module _ (joint : Joint (disk.image t.volume.device) t.volume.buffers t.volume.log) (well_now : t.volume.fault ≡ None) where
+      valid_now : IsValidView n (view_of disk.image t)
+      valid_now = valid_joint disk.image t n joint
+
+      -- a write is made, and more are to come
+      pub right_written : (t.volume.log ≡ written_at s.volume.log.commit s.volume.log) → is_quiet (written_at s.volume.log.commit s.volume.log).commit ≡ false → disk.fault_count t.volume.device ≡ disk.fault_count s.volume.device → IsRight disk opening t w
+      right_written log more counts =
+          let same = written_same s.volume.log.commit s.volume.log in
+          let opened = ap (λ (l : LogState). l.opened) log ∙ same.opened in
+          let g : GoesTo w w p (at.Committing group k) (at.Committing group k) = record { stands = stands; was = refl; behind = refl; processes = sym (set-get_or w.processes p idle) ∙ ap (λ (a : At). set w.processes p (record (process w p) { at = a })) stands; journal = refl } in
+          goes_right t made.tasks made.numbers well_now opened counts w (at.Committing group k) (at.Committing group k) g (λ over. over)
+          (inv_written (disk.image opening) (view_of disk.image s) (view_of disk.image t) w.journal.list (ats_of w) had.facts valid_now p (ats_of w) (λ q apart. refl) group k
+          (writes_of disk s t r has_now (sym made.fault ∙ well_now) made) stands none_open (inl stands))
+          (subst (λ (l : LogState). CommitsAlone (ats_of w) l) (sym log) (alone_written (ats_of w) (ats_of w) s.volume.log had.alone p (λ q apart. refl) alone_here alone_here more))
+
+      -- the last write is made, and the operation is answered
+      pub right_done : (t.volume.log ≡ written_at s.volume.log.commit s.volume.log) → is_quiet (written_at s.volume.log.commit s.volume.log).commit ≡ true → disk.fault_count t.volume.device ≡ disk.fault_count s.volume.device → IsRight disk opening t (answered w p)
+      right_done log last counts =
+          let same = written_same s.volume.log.commit s.volume.log in
+          let opened = ap (λ (l : LogState). l.opened) log ∙ same.opened in
+          let g = goes_answered w p (at.Committing group k) stands refl in
+          let at_p = now t made.tasks made.numbers well_now opened counts (answered w p) (at.Committing group k) at.Idle g in
+          let others_at = others t made.tasks made.numbers well_now opened counts (answered w p) (at.Committing group k) at.Idle g in
+          goes_right t made.tasks made.numbers well_now opened counts (answered w p) (at.Committing group k) at.Idle g (λ st. st.0)
+          (inv_written (disk.image opening) (view_of disk.image s) (view_of disk.image t) w.journal.list (ats_of w) had.facts valid_now p (ats_of (answered w p)) others_at group k
+          (writes_of disk s t r has_now (sym made.fault ∙ well_now) made) stands none_open (inr at_p))
+          (subst (λ (l : LogState). CommitsAlone (ats_of (answered w p)) l) (sym log) (alone_done (ats_of w) (ats_of (answered w p)) s.volume.log had.alone p others_at alone_here (ap is_committing_at at_p) last))
+
+    -- the write failed
+    pub right_unwritten : (fault : DiskFault) → r ≡ committed.Fault fault → t.volume.log ≡ s.volume.log → fault.0 ≡ Rattle.wal.specs.Joint.place_at s.volume.log.commit s.volume.log.homes
+        → disk.fault_count t.volume.device ≡ one_more (disk.fault_count s.volume.device) → IsRight disk opening t w
+    right_unwritten fault is log place counts =
+        let failed : t.volume.fault ≡ Some fault = made.fault ∙ ap Rattle.wal.specs.Volume.fault_of_step is in
+        right_failed disk opening s t w fault right well failed made.numbers
+        (paired_goes s t w w p (process w p) right.paired lt (sym (set-get_or w.processes p idle)) (ap (λ (l : List TaskState). length l) made.tasks) (λ q apart. ap (λ (l : List TaskState). task l q) made.tasks)
+        (subst (λ (l : List TaskState). TaskStands (task l p) (process w p).at) (sym made.tasks) (right.paired.stand p)))
+        (ap (λ (l : LogState). l.opened) log)
+        (known_failed (disk.image opening) (view_of disk.image s) w.journal.list (ats_of w) had.facts t.volume fault (disk.image t.volume.device) failed place log none_open
+        (made.keeps (disk.image t.volume.device) (has_now t.volume.device)) (made.lawful (disk.image t.volume.device) (has_now t.volume.device)))
+        counts

@@ -1,0 +1,97 @@
+-- From what a step does follows what it promises.
+use Rattle.std.proofs.Common.{◌≡◌, ◌≢◌, ⊎_elim, ℕ, ◌<◌, ◌≤◌, length, sym, ◌∙◌, ap, subst, arith, None}
+use Rattle.std.proofs.lemmas.Bool.{cases_eq}
+use Rattle.blocks.specs.Disk.{Image, LeavesOnly}
+use Rattle.blocks.specs.declared.disk.Disk as disk_trait
+use Rattle.model.specs.Layout.{inode_count_of}
+use Rattle.ports.specs.declared.herald.Herald as herald_trait
+use Rattle.ports.specs.declared.intake.Intake as intake_trait
+use Rattle.wal.specs.Machine.{LogState}
+use Rattle.inodes.specs.Lemmas.Faults.{where_none}
+use Rattle.inodes.specs.Steps.{steps_left}
+use Rattle.inodes.specs.Store.{IsStore}
+use Rattle.inodes.specs.Tasks.{TaskState, task}
+use Rattle.journal.specs.declared.types.Process.{Process}
+use Rattle.journal.specs.Bound.{all_steps_left}
+use Rattle.journal.specs.Keeps.{KeepsNow, KeepsBetween, most_of}
+use Rattle.journal.specs.Lemmas.Bounds.{left_same}
+use Rattle.journal.specs.Lemmas.Leaving.{leaves_between}
+use Rattle.journal.specs.Processes.{process}
+use Rattle.kernel.specs.declared.types.Step.{Step}
+use Rattle.kernel.specs.declared.types.Step.TheVariants as step
+use Rattle.kernel.specs.Bound.{TakesOne, GivesNone, left_of}
+use Rattle.kernel.specs.Invariant.{Inv}
+use Rattle.kernel.specs.Progress.{KeepsShutdown}
+use Rattle.kernel.specs.State.{State}
+use Rattle.kernel.specs.Steps.{Acts, MakesStep}
+use Rattle.kernel.proofs.Events.{Event, event_of, task_left}
+use Rattle.journal.specs.Lemmas.Places.{as_many, others_stay, there_now}
+use Rattle.kernel.proofs.Well.{IsWell, few_numbers}
+
+module _ {D I H : Type 0} (n p : ℕ) (r : Step) (k m : State D I H) (lt : p < length k.world.processes) (e : Event n p k.store k.world m.store m.world r) where
+  others_are : (q : ℕ) → q ≢ p → process m.world q ≡ process k.world q
+  others_are q apart = others_stay k.world m.world p e.now e.processes q apart
+
+  here : process m.world p ≡ e.now
+  here = there_now k.world m.world p e.now e.processes lt
+
+  keeps_shutdown : KeepsShutdown k.world m.world
+  keeps_shutdown = record {
+    stays = e.shut;
+    none = λ shut q. ⊎_elim
+        (λ (same : q ≡ p). subst (λ (o : ℕ). (process m.world o).begun ≡ (process k.world o).begun) (sym same) (ap (λ (v : Process). v.begun) here ∙ e.begun shut))
+        (λ (apart : q ≢ p). ap (λ (v : Process). v.begun) (others_are q apart))
+        (cases_eq q p);
+  }
+
+  takes_one : r ≡ step.Moved → TakesOne k p m
+  takes_one moved =
+      let same : left_of m p ≡ all_steps_left e.now.at (task_left m.store p) m.store.volume.log = ap (λ (v : Process). all_steps_left v.at (task_left m.store p) m.store.volume.log) here in
+      let fewer = e.bound moved in
+      let few = fewer.1 in
+      record { falls = λ busy. let less = fewer.0 busy in omega (arith, same, less); few = omega (arith, same, few) }
+
+  gives_none : GivesNone k p m
+  gives_none q apart =
+      let same : task_left m.store q ≡ task_left k.store q
+      = ap (λ (u : TaskState). steps_left u.place m.store.inode_count) (e.others.tasks q apart) ∙ ap (λ (c : ℕ). steps_left (task k.store.tasks q).place c) e.others.numbers in
+      subst (λ (u : Process). all_steps_left u.at (task_left m.store q) m.store.volume.log ≤ left_of k q) (sym (others_are q apart))
+      (left_same (process k.world q).at (task_left k.store q) (task_left m.store q) k.store.volume.log m.store.volume.log (omega (arith, same))
+      (λ commits. let log = e.others.log q apart commits in (ap (λ (l : LogState). l.commit) log, ap (λ (l : LogState). length l.homes) log)))
+
+module _ {D N I M H : Type 0} (disk : disk_trait.Ghosts D N) (intake : intake_trait.Ghosts I M) (herald : herald_trait.Ghosts H) (p : ℕ) (r : Step) (k m : State D I H) where
+  -- the facts of a kernel whose disk has not failed
+  well_of : Inv disk intake herald k → IsStore disk.image k.store → p < length k.world.processes → k.store.volume.fault ≡ None → IsWell disk.image (disk.image k.opening) k.store k.world p
+  well_of inv store lt well = record {
+    well = well;
+    inside = lt;
+    paired = inv.right.paired;
+    has = where_none k.store.volume.fault well inv.right.facts;
+    agrees = where_none k.store.volume.fault well store.agrees;
+    numbers = few_numbers disk.image k.store store;
+  }
+
+  pub makes_step : Inv disk intake herald k → IsStore disk.image k.store → p < length k.world.processes
+      → ((x : Image) → disk.leaves k.store.volume.device (disk.moment k.store.volume.device) x → KeepsNow k.store.volume (disk.image k.opening) k.world.journal.list x)
+      → Acts disk intake herald p r k m
+      → ((x : Image) → disk.leaves m.store.volume.device (disk.moment m.store.volume.device) x → KeepsNow m.store.volume (disk.image m.opening) m.world.journal.list x)
+      → MakesStep disk intake herald p r k m
+  makes_step inv store lt before acts after =
+      let opening = disk.image k.opening in
+      let n = inode_count_of opening in
+      let e : Event n p k.store k.world m.store m.world r = event_of disk opening p k.store m.store k.world m.world _ _ _ r (well_of inv store lt) acts.next in
+      let leaves : LeavesOnly disk.moment disk.leaves k.store.volume.device m.store.volume.device (KeepsBetween k.store.volume.log.committed (most_of m.store.volume) opening m.world.journal.list)
+      = leaves_between opening k.store.volume m.store.volume k.world.journal.list m.world.journal.list e.grows disk.moment disk.leaves before
+      (subst (λ (o : D). (x : Image) → disk.leaves m.store.volume.device (disk.moment m.store.volume.device) x → KeepsNow m.store.volume (disk.image o) m.world.journal.list x) acts.opening after)
+      acts.device.time in
+      record {
+        acts = acts;
+        many = as_many k.world m.world p e.now e.processes;
+        committed = e.committed;
+        shut = keeps_shutdown n p r k m lt e;
+        bound = takes_one n p r k m lt e;
+        others = gives_none n p r k m lt e;
+        keeps = after;
+        grows = e.grows;
+        leaves = subst (λ (o : D). LeavesOnly disk.moment disk.leaves k.store.volume.device m.store.volume.device (KeepsBetween k.store.volume.log.committed (most_of m.store.volume) (disk.image o) m.world.journal.list)) (sym acts.opening) leaves;
+      }

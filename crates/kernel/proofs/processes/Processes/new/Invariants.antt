@@ -1,6 +1,0 @@
-use Rattle.std.proofs.Common.{◌≡◌, replicate}
-use Rattle.kernel.specs.Processes.{idle}
-use Rattle.kernel.proofs.processes.Processes.new.Given as goal
-
-abbrev pub invariant-loop-process : goal.invariant-loop-process
-invariant-loop-process l = l.processes.items ≡ replicate l._process idle

@@ -1,0 +1,11 @@
+use Rattle.std.proofs.Common.{sym, subst}
+use Rattle.kernel.specs.Runs.{RunsOn}
+use Rattle.kernel.proofs.Turns.{runs_on_shut, runs_on_step}
+use Rattle.kernel.proofs.stepping.Kernel.make.Goals as goal
+
+pub returns-in-Proc-clause-keeps : goal.returns-in-Proc-clause-keeps
+returns-in-Proc-clause-keeps g c = runs_on_step g.D.Disk g.I.Intake g.H.Herald _ _ c.args.self.now c.step-answer.new.self c.step-answer.ensures
+
+pub returns-in-Shut-clause-keeps : goal.returns-in-Shut-clause-keeps
+returns-in-Shut-clause-keeps g c =
+    subst (λ k. RunsOn g.D.Disk c.args.self.now k) (sym c.shut.ensures) (runs_on_shut g.D.Disk g.I.Intake g.H.Herald c.args.self.now c.known.ensures.keeps)

@@ -1,0 +1,86 @@
+-- What is true of every kernel, between two steps.
+use Rattle.std.specs.Prelude.{◌≡◌, ◌<◌, ◌≤◌, ℕ, true, false, length, IfNone, Some}
+use Rattle.blocks.specs.Disk.{Image}
+use Rattle.blocks.specs.declared.disk.Disk as disk_trait
+use Rattle.model.specs.Files.{Files, files_of}
+use Rattle.model.specs.Journal.{answered, replay}
+use Rattle.model.specs.Layout.{form_of, inode_count_of}
+use Rattle.wal.specs.Volume.{faults_after}
+use Rattle.inodes.specs.Store.{StoreState}
+use Rattle.inodes.specs.Tasks.{TaskState, task}
+use Rattle.inodes.specs.Steps.{is_over}
+use Rattle.ports.specs.History.{History}
+use Rattle.ports.specs.declared.herald.Herald as herald_trait
+use Rattle.ports.specs.declared.intake.Intake as intake_trait
+use Rattle.journal.specs.declared.types.At.{At}
+use Rattle.journal.specs.declared.types.At.TheVariants as at
+use Rattle.journal.specs.Alone.{CommitsAlone}
+use Rattle.journal.specs.Views.{KernelFacts}
+use Rattle.journal.specs.Follows.{IsJournal}
+use Rattle.journal.specs.Histories.{IsHistory}
+use Rattle.journal.specs.Keeps.{KeepsNow}
+use Rattle.journal.specs.Counting.{IsCounted}
+use Rattle.journal.specs.Processes.{World, process}
+use Rattle.journal.specs.Bound.{is_busy_at}
+use Rattle.kernel.specs.State.{State, ats_of}
+use Rattle.kernel.specs.View.{view_of}
+
+-- a process's task stands where its operation does
+abbrev pub TaskStands : TaskState → At → Type 0
+TaskStands t at.Idle = is_over t.place ≡ true
+TaskStands t (at.Before group op) = (t.op ≡ Some op) × (is_over t.place ≡ false)
+-- a creation is over at its turn
+TaskStands t (at.Behind group k) = ⊥
+TaskStands t (at.Ending group k) = is_over t.place ≡ true
+TaskStands t (at.Committing group k) = (is_over t.place ≡ true) × (0 < group)
+
+-- so many processes, each with its task
+pub record ArePaired {D : Type 0} (s : StoreState D) (w : World) : Type 0 where
+  pub many : length s.tasks ≡ length w.processes
+  pub some : 1 ≤ length w.processes
+  pub few : length w.processes ≤ 32
+  pub stand : (p : ℕ) → TaskStands (task s.tasks p) (process w p).at
+
+-- the facts of store and journal, while the disk has not failed
+pub record HasFacts {D : Type 0} (image : D → Image) (opening : Image) (s : StoreState D) (w : World) : Type 0 where
+  pub facts : KernelFacts opening (view_of image s) w.journal.list (ats_of w)
+  pub alone : CommitsAlone (ats_of w) s.volume.log
+
+-- the answered entries can be replayed
+pub record CanReplay (opening : Image) (w : World) : Type 0 where
+  pub files : Files
+  pub run : replay (form_of opening) (files_of opening) (answered w.journal.list) ≡ Some files
+
+-- what is true of store and processes
+pub record IsRight {D N : Type 0} (disk : disk_trait.Ghosts D N) (opening : D) (s : StoreState D) (w : World) : Type 0 where
+  pub numbers : s.inode_count ≡ inode_count_of (disk.image opening)
+  pub paired : ArePaired s w
+  pub counted : IsCounted s.volume.log.opened w
+  pub facts : IfNone s.volume.fault (HasFacts disk.image (disk.image opening) s w)
+  pub journal : IsJournal (inode_count_of (disk.image opening)) s.volume.log.opened w.journal.list
+  pub replays : CanReplay (disk.image opening) w
+  -- what recovery of the disk gives
+  pub keeps : KeepsNow s.volume (disk.image opening) w.journal.list (disk.image s.volume.device)
+  -- the disk counted no fault since the opening, or this one
+  pub faults : disk.fault_count s.volume.device ≡ faults_after s.volume.fault (disk.fault_count opening)
+
+-- an intake agrees with what the journal tells of a process
+pub record HasHistory (fits : ℕ → History → Type 0) (w : World) (p : ℕ) : Type 0 where
+  pub history : History
+  pub is : IsHistory w.journal.list (process w p).at (process w p).begun p history
+  pub fit : fits p history
+
+-- what is true of the ports
+pub record ArePorts {I M H : Type 0} (intake : intake_trait.Ghosts I M) (herald : herald_trait.Ghosts H)
+    (i : I) (h : H) (committed : ℕ) (w : World) : Type 0 where
+  pub served : intake.process_count i ≡ length w.processes
+  -- a place for the answer of each operation under way is kept
+  pub room : (p : ℕ) → is_busy_at (process w p).at ≡ true → (intake.side i p).has_room ≡ true
+  -- the herald was told of each commit
+  pub told : herald.count h ≡ committed
+  pub histories : (p : ℕ) → p < length w.processes → HasHistory (intake.fits i) w p
+
+pub record Inv {D N I M H : Type 0} (disk : disk_trait.Ghosts D N) (intake : intake_trait.Ghosts I M) (herald : herald_trait.Ghosts H)
+    (k : State D I H) : Type 0 where
+  pub right : IsRight disk k.opening k.store k.world
+  pub ports : ArePorts intake herald k.intake k.herald k.store.volume.log.committed k.world
