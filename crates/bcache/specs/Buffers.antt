@@ -52,7 +52,11 @@ locked c pid i = with_buffer c i (record (buffer c i) { holder = Some pid })
 
 -- a slot is taken for another block
 abbrev pub taken : Buffers → ℕ → ℕ → ℕ → Buffers
-taken c pid b i = with_buffer c i (record (buffer c i) { block = Some b; valid = false; holder = Some pid })
+taken c pid b i = with_buffer c i (record (buffer c i) {
+  block = Some b;
+  valid = false;
+  holder = Some pid;
+})
 
 -- a slot gets the bytes of its block
 abbrev pub filled : Buffers → ℕ → List ℕ → Buffers

@@ -30,4 +30,5 @@ bytes_or bytes (buffer ∷ rest) = buffer.bytes
 -- the disk with each valid buffer in its block's place
 unfoldable pub current : Image → List Buffer → Image
 current disk buffers =
-    map (λ b. bytes_or (block_at disk b) (filter (shows b) buffers)) (range_with_len 0 (length disk))
+    map (λ b. bytes_or (block_at disk b) (filter (shows b) buffers))
+    (range_with_len 0 (length disk))

@@ -35,12 +35,14 @@ pub record IsLastUnused (c : Buffers) (i : ℕ) : Type 0 where
   pub unused : references_of (buffer c i) ≡ 0
   pub place : ℕ
   pub at : slice_index c.order place ≡ i
-  pub behind : (k : ℕ) → place < k → k < buffer_count → references_of (buffer c (slice_index c.order k)) ≢ 0
+  pub behind : (k : ℕ) → place < k → k < buffer_count
+      → references_of (buffer c (slice_index c.order k)) ≢ 0
 
 -- the slot that a block without one gets
 abbrev pub TakesLastUnused : Type 0
 TakesLastUnused = (c : Buffers) (pid b i : ℕ) (valid : Bool) → IsCache c → found c b ≡ None →
-    acquire_answer c b ≡ acquired.Got i valid → IsLastUnused c i × (after_acquire c pid b ≡ taken c pid b i)
+    acquire_answer c b ≡ acquired.Got i valid →
+    IsLastUnused c i × (after_acquire c pid b ≡ taken c pid b i)
 
 -- a read of a slot's block changes nothing of the current image
 abbrev pub FillingKeeps : Type 0
@@ -55,8 +57,8 @@ UnfilledKeeps = (x : Image) (c : Buffers) (i : ℕ) (bytes : List ℕ) → (buff
 
 -- a change of a valid buffer sets its block of the current image, and no other
 abbrev pub ChangingSets : Type 0
-ChangingSets = (x : Image) (c : Buffers) (i b : ℕ) (bytes : List ℕ) → IsCache c → i < buffer_count → b < length x →
-    IsTrue (shows b (buffer c i)) →
+ChangingSets = (x : Image) (c : Buffers) (i b : ℕ) (bytes : List ℕ) → IsCache c →
+    i < buffer_count → b < length x → IsTrue (shows b (buffer c i)) →
     current x (changed c i bytes).slots ≡ slice_set (current x c.slots) b bytes
 
 -- a slot that shows its block as the disk has it, or shows nothing, may be taken for another block
@@ -67,12 +69,14 @@ RecyclingKeeps = (x : Image) (c : Buffers) (pid b i : ℕ) → IsCache c → i <
 
 -- a write to the disk of a block that a slot shows
 abbrev pub ShownWriteKeeps : Type 0
-ShownWriteKeeps = (x : Image) (c : Buffers) (i b : ℕ) (bytes : List ℕ) → IsCache c → IsTrue (shows b (buffer c i)) →
+ShownWriteKeeps = (x : Image) (c : Buffers) (i b : ℕ) (bytes : List ℕ) → IsCache c →
+    IsTrue (shows b (buffer c i)) →
     current (slice_set x b bytes) c.slots ≡ current x c.slots
 
 -- a write to the disk of a block that none shows
 abbrev pub UnshownWriteSets : Type 0
-UnshownWriteSets = (x : Image) (c : Buffers) (b : ℕ) (bytes : List ℕ) → ((i : ℕ) → shows b (buffer c i) ≡ false) →
+UnshownWriteSets = (x : Image) (c : Buffers) (b : ℕ) (bytes : List ℕ) →
+    ((i : ℕ) → shows b (buffer c i) ≡ false) →
     current (slice_set x b bytes) c.slots ≡ slice_set (current x c.slots) b bytes
 
 -- holders, pins and the order are nothing to the current image
@@ -95,7 +99,8 @@ pub record StaysCache (c : Buffers) (pid b i : ℕ) (bytes : List ℕ) : Type 0 
   pub unpin : IsCache (unpinned c i)
 
 abbrev pub CallsKeepCache : Type 0
-CallsKeepCache = (c : Buffers) (pid b i : ℕ) (bytes : List ℕ) → IsCache c → i < buffer_count → StaysCache c pid b i bytes
+CallsKeepCache = (c : Buffers) (pid b i : ℕ) (bytes : List ℕ) → IsCache c →
+    i < buffer_count → StaysCache c pid b i bytes
 
 abbrev pub FreshIsCache : Type 0
 FreshIsCache = IsCache fresh_buffers

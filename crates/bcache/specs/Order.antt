@@ -21,7 +21,8 @@ moved_to_front order slot = slot ∷ filter (λ s. not (s == slot)) order
 
 -- a release moves its slot to the front where no reference is left, and else none
 abbrev pub order_after_release : List ℕ → ℕ → ℕ → List ℕ
-order_after_release order slot references_left = if references_left == 0 then moved_to_front order slot else order
+order_after_release order slot references_left =
+    if references_left == 0 then moved_to_front order slot else order
 
 abbrev pub later_or : Option ℕ → Bool → ℕ → Option ℕ
 later_or (Some later) is_free slot = Some later
@@ -31,4 +32,5 @@ later_or None false slot = None
 -- the last slot of an order without references, if there is one
 abbrev pub victim_in : List ℕ → List ℕ → Option ℕ
 victim_in references [] = None
-victim_in references (slot ∷ order) = later_or (victim_in references order) (slice_index references slot == 0) slot
+victim_in references (slot ∷ order) =
+    later_or (victim_in references order) (slice_index references slot == 0) slot

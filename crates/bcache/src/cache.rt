@@ -123,7 +123,8 @@ impl Cache {
         requires slot { slot < 40 }
         requires held { (buffer self.old slot).holder ≡ Some pid }
         ensures value { result.now ≡ (buffer self.old slot).bytes }
-        ensures* lends { sem 𝓛 (Lends the_row block_row self.entry result (λ bytes. changed self.old slot bytes)) }
+        ensures* lends { sem 𝓛 (Lends the_row block_row self.entry result
+            (λ bytes. changed self.old slot bytes)) }
     {
         &mut self.buffers[slot as usize].bytes
     }
@@ -133,7 +134,8 @@ impl Cache {
         requires slot { slot < 40 }
         requires held { (buffer self.old slot).holder ≡ Some pid }
         requires fits { at + length bytes.now ≤ 1024 }
-        ensures cache { self.new ≡ changed self.old slot (overwritten (buffer self.old slot).bytes at bytes.now) }
+        ensures cache { self.new
+            ≡ changed self.old slot (overwritten (buffer self.old slot).bytes at bytes.now) }
         ensures block { IsBlock (overwritten (buffer self.old slot).bytes at bytes.now) }
     {
         self.data_mut(pid, slot).put(at, bytes);
@@ -149,9 +151,11 @@ impl Cache {
         requires slot { slot < 40 }
         requires block { IsSome (buffer self.old slot).block }
         requires inside { block_or_zero (buffer self.old slot).block < length (D.image disk.old) }
-        ensures ok { OnOk result (self.new ≡ filled self.old slot (block_at (D.image disk.old) (block_or_zero (buffer self.old slot).block))) }
+        ensures ok { OnOk result (self.new ≡ filled self.old slot
+            (block_at (D.image disk.old) (block_or_zero (buffer self.old slot).block))) }
         ensures err { OnErr result (EndsUnfilled self.old slot self.new) }
-        ensures fault { IfErr result (λ fault. fault.0 ≡ block_or_zero (buffer self.old slot).block) }
+        ensures fault { IfErr result (λ fault. fault.0
+            ≡ block_or_zero (buffer self.old slot).block) }
         ensures reads { OnlyReads D.Disk disk.old disk.new }
         ensures faults { CountsFault result (D.fault_count disk.old) (D.fault_count disk.new) }
     {
@@ -186,7 +190,8 @@ impl Cache {
 
     fn lock(&mut self, pid: u32, slot: u32) -> Acquired
         requires { slot < 40 }
-        ensures answer { result ≡ lock_answer (buffer self.old slot).holder slot (buffer self.old slot).valid }
+        ensures answer { result
+            ≡ lock_answer (buffer self.old slot).holder slot (buffer self.old slot).valid }
         ensures cache { self.new ≡ after_lock (buffer self.old slot).holder self.old pid slot }
     {
         let buffer = &mut self.buffers[slot as usize];

@@ -39,7 +39,8 @@ CountsSuccess result old new = MatchResult result (λ _. new ≡ one_more old) (
 abbrev pub IsOldOrNew : Image → ℕ → List ℕ → Image → Type 0
 IsOldOrNew old block bytes image = (image ≡ old) ⊎ (image ≡ slice_set old block bytes)
 
--- Time goes on. A crash since t might have left what it might have left before, or what a crash now may leave.
+-- Time goes on. A crash since t might have left what it might have left before, or what a crash now
+-- may leave.
 pub record Elapses (before now : ℕ) (old new : ℕ → Image → Type 0) : Type 0 where
   pub later : before ≤ now
   pub adds : (t : ℕ) (x : Image) → t ≤ before → new t x → old t x ⊎ new now x
@@ -51,12 +52,15 @@ pub record AddsNone (before now : ℕ) (old new : ℕ → Image → Type 0) : Ty
   pub adds : (t : ℕ) (x : Image) → t ≤ before → new t x → old t x
   pub keeps : (t : ℕ) (x : Image) → t ≤ before → old t x → new t x
 
--- What a crash may leave after a write: what it might have left before, with the block as it was there or as handed in.
+-- What a crash may leave after a write: what it might have left before, with the block as it was
+-- there or as handed in.
 abbrev pub LeavesOldOrNew : ℕ → List ℕ → (Image → Type 0) → (Image → Type 0) → Type 0
-LeavesOldOrNew block bytes old new = (x : Image) → new x → (y : Image) × old y × IsOldOrNew y block bytes x
+LeavesOldOrNew block bytes old new = (x : Image) → new x →
+    (y : Image) × old y × IsOldOrNew y block bytes x
 
 -- A crash at any moment from old on leaves an image that has P.
-pub record LeavesOnly {D : Type 0} (moment : D → ℕ) (leaves : D → ℕ → Image → Type 0) (old new : D) (P : Image → Type 0) : Type 0 where
+pub record LeavesOnly {D : Type 0} (moment : D → ℕ) (leaves : D → ℕ → Image → Type 0) (old new : D)
+    (P : Image → Type 0) : Type 0 where
   pub later : moment old ≤ moment new
   pub each : (x : Image) → leaves new (moment old) x → P x
   -- for a run that began earlier

@@ -1,9 +1,11 @@
 -- What callers see of a disk of which one call fails.
-use Rattle.std.specs.Prelude.{◌≡◌, ◌≢◌, ℕ, Bool}
+use Rattle.std.specs.Prelude.{◌≡◌, ◌≢◌, ◌⊎◌, ◌↔◌, ◌-◌, ℕ, Bool, List, Result, IsErr, IsTrue, slice_set}
 use Rattle.blocks.specs.declared.faulty.Kind.{Kind}
 use Rattle.blocks.specs.declared.faulty.Trap.{Trap}
-use Rattle.blocks.specs.declared.faulty.Kind.TheVariants.{Read}
+use Rattle.blocks.specs.declared.faulty.Kind.TheVariants.{Read, WriteOld, WriteNew}
 use Rattle.blocks.specs.declared.faulty.FaultyDisk.{FaultyDisk}
+use Rattle.blocks.specs.declared.disk.Disk.{Ghosts}
+use Rattle.blocks.specs.Disk.{CountsFault, CountsSuccess, one_more}
 
 -- the disk below it
 abbrev pub inner_of : {D : Type 0} → FaultyDisk D → D
@@ -39,3 +41,34 @@ pub record SameCounts {D : Type 0} (old new : FaultyDisk D) : Type 0 where
   pub fired : new.fired ≡ old.fired
   pub writes : new.writes ≡ old.writes
   pub faults : new.faults ≡ old.faults
+
+-- a call that is counted, or isn't, goes on towards the one that fails, which a due call is
+pub record CountsDown {D : Type 0} (is_counted is_passed_over is_due : Type 0)
+    (old new : FaultyDisk D) : Type 0 where
+  pub left : is_counted → left_of new ≡ left_of old - 1
+  pub left_stays : is_passed_over → left_of new ≡ left_of old
+  pub fired : IsTrue (has_fired new) ↔ (IsTrue (has_fired old) ⊎ is_due)
+
+-- the read that is due fails and leaves the disk below alone; another fails where that does
+pub record TrapsRead {D N T E : Type 0} (disk : Ghosts D N) (result : Result T E)
+    (old new : FaultyDisk D) : Type 0 where
+  pub due : IsReadDue old → IsErr result
+  pub due_keeps : IsReadDue old → inner_of new ≡ inner_of old
+  pub passed_on : ¬ IsReadDue old →
+      CountsFault result (disk.fault_count (inner_of old)) (disk.fault_count (inner_of new))
+  pub unwritten : disk.write_count (inner_of new) ≡ disk.write_count (inner_of old)
+
+-- the write that is due fails, and leaves the disk below as it was or passes the write on;
+-- another fails where that does
+pub record TrapsWrite {D N T E : Type 0} (disk : Ghosts D N) (block : ℕ) (bytes : List ℕ)
+    (result : Result T E) (old new : FaultyDisk D) : Type 0 where
+  pub due : IsWriteDue old → IsErr result
+  pub due_old : IsWriteDue old → kind_of old ≡ WriteOld → inner_of new ≡ inner_of old
+  pub due_new : IsWriteDue old → kind_of old ≡ WriteNew →
+      ((disk.image (inner_of new) ≡ slice_set (disk.image (inner_of old)) block bytes)
+      × (disk.write_count (inner_of new) ≡ one_more (disk.write_count (inner_of old))))
+      ⊎ (disk.fault_count (inner_of new) ≡ one_more (disk.fault_count (inner_of old)))
+  pub passed_on : ¬ IsWriteDue old →
+      CountsFault result (disk.fault_count (inner_of old)) (disk.fault_count (inner_of new))
+  pub written_once : ¬ IsWriteDue old →
+      CountsSuccess result (disk.write_count (inner_of old)) (disk.write_count (inner_of new))

@@ -19,14 +19,16 @@ is_due is_counted left = is_counted && (left == 1)
 abbrev pub left_after : Bool → ℕ → ℕ
 left_after is_counted left = if is_counted then left - 1 else left
 
--- The counts of a disk whose nth write fails, as long as the count of faults can tell one more. Before that write each write was counted, unless the disk below
--- failed; once it was made, all writes before it were.
+-- The counts of a disk whose nth write fails, as long as the count of faults can tell one more.
+-- Before that write each write was counted, unless the disk below failed; once it was made, all
+-- writes before it were.
 pub record KeepsWrites (trap : Trap) (left : ℕ) (fired : Bool) (writes faults : ℕ) : Type 0 where
   pub armed : 1 ≤ left → faults ≡ trap.faults → writes ≡ counted trap.writes (trap.nth - left)
   pub fault : fired ≡ true → trap.faults < faults
   pub sprung : fired ≡ true → faults ≡ trap.faults + 1 → counted trap.writes (trap.nth - 1) ≤ writes
 
--- `left` of the calls of its kind are to be made up to the one that fails; where that was made, none.
+-- `left` of the calls of its kind are to be made up to the one that fails; where that was made,
+-- none.
 pub record KeepsCounts (trap : Trap) (left : ℕ) (fired : Bool) (writes faults : ℕ) : Type 0 where
   pub few : left ≤ trap.nth
   pub grown : trap.faults ≤ faults

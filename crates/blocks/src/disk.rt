@@ -58,7 +58,8 @@ pub trait Disk {
         ensures image { image self.new ≡ image self.old }
         ensures writes { write_count self.new ≡ write_count self.old }
         ensures faults { CountsFault result (fault_count self.old) (fault_count self.new) }
-        ensures time { AddsNone (moment self.old) (moment self.new) (leaves self.old) (leaves self.new) };
+        ensures time { AddsNone (moment self.old) (moment self.new)
+            (leaves self.old) (leaves self.new) };
 
     /// Writes the block with this number, counted from 0.
     ///
@@ -74,8 +75,10 @@ pub trait Disk {
         ensures name { name self.new ≡ name self.old }
         ensures writes { CountsSuccess result (write_count self.old) (write_count self.new) }
         ensures faults { CountsFault result (fault_count self.old) (fault_count self.new) }
-        ensures time { Elapses (moment self.old) (moment self.new) (leaves self.old) (leaves self.new) }
-        ensures crash { LeavesOldOrNew block from.now (leaves self.old (moment self.old)) (leaves self.new (moment self.new)) };
+        ensures time { Elapses (moment self.old) (moment self.new)
+            (leaves self.old) (leaves self.new) }
+        ensures crash { LeavesOldOrNew block from.now
+            (leaves self.old (moment self.old)) (leaves self.new (moment self.new)) };
 
     /// Reads give blocks of 1024 bytes.
     ghost is_image: { (d : Self) → IsImage (image d) };
@@ -87,7 +90,8 @@ pub trait Disk {
     ghost counts_fit: { (d : Self) → (write_count d < 2 ^ 64) × (fault_count d < 2 ^ 64) };
 
     /// This moment is one of those since an earlier one.
-    ghost counts_now: { (d : Self) (t : ℕ) (x : Image) → t ≤ moment d → leaves d (moment d) x → leaves d t x };
+    ghost counts_now: { (d : Self) (t : ℕ) (x : Image) → t ≤ moment d →
+        leaves d (moment d) x → leaves d t x };
 
     /// A crash now may leave what reads give.
     ghost has_now: { (d : Self) → leaves d (moment d) (image d) };

@@ -1,7 +1,6 @@
 // A disk of which one call fails.
-ghost use Rattle.std.specs.Prelude.{◌≡◌, ◌≢◌, ◌<◌, ◌≤◌, ◌^◌, ◌-◌, ◌⊎◌, ◌↔◌, ◌||◌, length, slice_get, slice_set, Some, IsTrue, IsErr, IfErr, OnOk, OnErr};
-ghost use Rattle.blocks.specs.Disk.{one_more, CountsFault, CountsSuccess, IsOldOrNew, Elapses, AddsNone, LeavesOldOrNew};
-ghost use Rattle.blocks.specs.Calls.{WritesOne};
+ghost use Rattle.std.specs.Prelude.{◌≡◌, ◌≢◌, ◌<◌, ◌^◌, ◌⊎◌, ◌||◌, length, IsTrue, IsErr, IfErr};
+ghost use Rattle.blocks.specs.Calls.{ReadsOne, WritesOne};
 ghost use Rattle.blocks.specs.Trap.{KeepsCounts, is_due, is_write, left_after};
 
 use crate::{Block, Disk, DiskFault};
@@ -65,7 +64,12 @@ impl<D: Disk> FaultyDisk<D> {
     /// The counts of writes and faults go on from those of the disk below.
     pub fn new(inner: D, n: u64, kind: Kind) -> FaultyDisk<D>
         ensures inner { inner_of result ≡ inner }
-        ensures trap { trap_of result ≡ record { kind = kind; nth = n; writes = D.write_count inner; faults = D.fault_count inner } }
+        ensures trap { trap_of result ≡ record {
+          kind = kind;
+          nth = n;
+          writes = D.write_count inner;
+          faults = D.fault_count inner;
+        } }
         ensures left { left_of result ≡ n }
         ensures fired { IsTrue (has_fired result) → ⊥ }
         ensures writes { ⟦<FaultyDisk<D> as Disk>⟧.write_count result ≡ D.write_count inner }
@@ -106,8 +110,10 @@ impl<D: Disk> FaultyDisk<D> {
     // Passes a write on, unless it is the one that fails and leaves the block as it was.
     fn pass_write(&mut self, is_due: bool, block: u32, from: &Block) -> Result<(), DiskFault>
         requires { block < length (D.image (inner_of self.old)) }
-        ensures kept { IsTrue is_due → kind_of self.old ≡ WriteOld → (inner_of self.new ≡ inner_of self.old) × IsErr result }
-        ensures passed { (IsTrue is_due × (kind_of self.old ≡ WriteOld)) ⊎ WritesOne D.Disk block from.now result (inner_of self.old) (inner_of self.new) }
+        ensures kept { IsTrue is_due → kind_of self.old ≡ WriteOld →
+            (inner_of self.new ≡ inner_of self.old) × IsErr result }
+        ensures passed { (IsTrue is_due × (kind_of self.old ≡ WriteOld))
+            ⊎ WritesOne D.Disk block from.now result (inner_of self.old) (inner_of self.new) }
         ensures fault { IfErr result (λ fault. fault.0 ≡ block) }
         ensures same { SameCounts self.old self.new }
     {
@@ -121,15 +127,16 @@ impl<D: Disk> FaultyDisk<D> {
     /// that fails.
     pub fn known(&self)
         ensures { KeepsCounts (trap_of self.now) (left_of self.now) (has_fired self.now)
-            (⟦<FaultyDisk<D> as Disk>⟧.write_count self.now) (⟦<FaultyDisk<D> as Disk>⟧.fault_count self.now) }
+            (⟦<FaultyDisk<D> as Disk>⟧.write_count self.now)
+            (⟦<FaultyDisk<D> as Disk>⟧.fault_count self.now) }
     {
         let _ = &self.fired;
     }
 }
 
 impl<D: Disk> Disk for FaultyDisk<D> {
-    ghost use Rattle.blocks.specs.FaultyDisk.{inner_of, trap_of, kind_of, left_of, has_fired, IsReadDue, IsWriteDue};
-    ghost use Rattle.blocks.specs.declared.faulty.Kind.TheVariants.{Read, WriteOld, WriteNew};
+    ghost use Rattle.blocks.specs.FaultyDisk.{inner_of, kind_of, CountsDown, IsReadDue, IsWriteDue, TrapsRead, TrapsWrite};
+    ghost use Rattle.blocks.specs.declared.faulty.Kind.TheVariants.{Read};
 
     // The disk below, and the call that fails.
     type Name = (D::Name, Trap);
@@ -176,22 +183,13 @@ impl<D: Disk> Disk for FaultyDisk<D> {
         requires { block < length (D.image (inner_of self.old)) }
 
         // As of each disk.
-        ensures ok { OnOk result (slice_get (D.image (inner_of self.old)) block ≡ Some into.new) }
+        ensures reads { ReadsOne ⟦<FaultyDisk<D> as Disk>⟧ block into.new result self.old self.new }
         ensures fault { IfErr result (λ fault. fault.0 ≡ block) }
-        ensures name { ⟦<FaultyDisk<D> as Disk>⟧.name self.new ≡ ⟦<FaultyDisk<D> as Disk>⟧.name self.old }
-        ensures image { D.image (inner_of self.new) ≡ D.image (inner_of self.old) }
-        ensures writes { ⟦<FaultyDisk<D> as Disk>⟧.write_count self.new ≡ ⟦<FaultyDisk<D> as Disk>⟧.write_count self.old }
-        ensures faults { CountsFault result (⟦<FaultyDisk<D> as Disk>⟧.fault_count self.old) (⟦<FaultyDisk<D> as Disk>⟧.fault_count self.new) }
-        ensures time { AddsNone (D.moment (inner_of self.old)) (D.moment (inner_of self.new)) (D.leaves (inner_of self.old)) (D.leaves (inner_of self.new)) }
 
         // Of this one.
-        ensures due { IsReadDue self.old → IsErr result }
-        ensures due_keeps { IsReadDue self.old → inner_of self.new ≡ inner_of self.old }
-        ensures passed_on { ¬ IsReadDue self.old → CountsFault result (D.fault_count (inner_of self.old)) (D.fault_count (inner_of self.new)) }
-        ensures unwritten { D.write_count (inner_of self.new) ≡ D.write_count (inner_of self.old) }
-        ensures left { kind_of self.old ≡ Read → left_of self.new ≡ left_of self.old - 1 }
-        ensures left_stays { kind_of self.old ≢ Read → left_of self.new ≡ left_of self.old }
-        ensures fired { IsTrue (has_fired self.new) ↔ (IsTrue (has_fired self.old) ⊎ IsReadDue self.old) }
+        ensures trap { TrapsRead D.Disk result self.old self.new }
+        ensures counts { CountsDown (kind_of self.old ≡ Read) (kind_of self.old ≢ Read)
+            (IsReadDue self.old) self.old self.new }
     {
         let is_counted = !self.trap.kind.is_write();
         let is_due = is_due(is_counted, self.left);
@@ -214,27 +212,14 @@ impl<D: Disk> Disk for FaultyDisk<D> {
         requires { block < length (D.image (inner_of self.old)) }
 
         // As of each disk.
-        ensures ok { OnOk result (D.image (inner_of self.new) ≡ slice_set (D.image (inner_of self.old)) block from.now) }
-        ensures err { OnErr result (IsOldOrNew (D.image (inner_of self.old)) block from.now (D.image (inner_of self.new))) }
+        ensures writes { WritesOne ⟦<FaultyDisk<D> as Disk>⟧ block from.now result
+            self.old self.new }
         ensures fault { IfErr result (λ fault. fault.0 ≡ block) }
-        ensures name { ⟦<FaultyDisk<D> as Disk>⟧.name self.new ≡ ⟦<FaultyDisk<D> as Disk>⟧.name self.old }
-        ensures writes { CountsSuccess result (⟦<FaultyDisk<D> as Disk>⟧.write_count self.old) (⟦<FaultyDisk<D> as Disk>⟧.write_count self.new) }
-        ensures faults { CountsFault result (⟦<FaultyDisk<D> as Disk>⟧.fault_count self.old) (⟦<FaultyDisk<D> as Disk>⟧.fault_count self.new) }
-        ensures time { Elapses (D.moment (inner_of self.old)) (D.moment (inner_of self.new)) (D.leaves (inner_of self.old)) (D.leaves (inner_of self.new)) }
-        ensures crash { LeavesOldOrNew block from.now (D.leaves (inner_of self.old) (D.moment (inner_of self.old))) (D.leaves (inner_of self.new) (D.moment (inner_of self.new))) }
 
         // Of this one.
-        ensures due { IsWriteDue self.old → IsErr result }
-        ensures due_old { IsWriteDue self.old → kind_of self.old ≡ WriteOld → inner_of self.new ≡ inner_of self.old }
-        ensures due_new { IsWriteDue self.old → kind_of self.old ≡ WriteNew →
-            ((D.image (inner_of self.new) ≡ slice_set (D.image (inner_of self.old)) block from.now) ×
-            (D.write_count (inner_of self.new) ≡ one_more (D.write_count (inner_of self.old)))) ⊎
-            (D.fault_count (inner_of self.new) ≡ one_more (D.fault_count (inner_of self.old))) }
-        ensures passed_on { ¬ IsWriteDue self.old → CountsFault result (D.fault_count (inner_of self.old)) (D.fault_count (inner_of self.new)) }
-        ensures written_once { ¬ IsWriteDue self.old → CountsSuccess result (D.write_count (inner_of self.old)) (D.write_count (inner_of self.new)) }
-        ensures left { kind_of self.old ≢ Read → left_of self.new ≡ left_of self.old - 1 }
-        ensures left_stays { kind_of self.old ≡ Read → left_of self.new ≡ left_of self.old }
-        ensures fired { IsTrue (has_fired self.new) ↔ (IsTrue (has_fired self.old) ⊎ IsWriteDue self.old) }
+        ensures trap { TrapsWrite D.Disk block from.now result self.old self.new }
+        ensures counts { CountsDown (kind_of self.old ≢ Read) (kind_of self.old ≡ Read)
+            (IsWriteDue self.old) self.old self.new }
     {
         let is_counted = self.trap.kind.is_write();
         let is_due = is_due(is_counted, self.left);

@@ -5,7 +5,8 @@ ghost use Rattle.std.specs.List.{concat};
 ghost use Rattle.std.specs.IoError.{error_kind};
 ghost use Rattle.std.specs.Io.KnownBytes.{Consumes};
 ghost use Rattle.blocks.specs.Block.{zero_block};
-ghost use Rattle.blocks.specs.Disk.{IsImage, CountsFault, CountsSuccess, IsOldOrNew, Elapses, AddsNone, LeavesOldOrNew};
+ghost use Rattle.blocks.specs.Calls.{ReadsOne, WritesOne};
+ghost use Rattle.blocks.specs.Disk.{IsImage};
 ghost use Rattle.blocks.specs.File.{IsReadFrom, IsWrittenAt, is_disk_size};
 ghost use Rattle.blocks.specs.Images.{only_last, has_left-image};
 
@@ -52,8 +53,10 @@ impl<F: Read + Write + Seek + OpenFile + Drop> FileDisk<F> {
         path: &str,
     ) -> Result<FileDisk<F>, FileFault>
         ensures some { IfOk result (λ disk. 1 ≤ length (⟦<FileDisk<F> as Disk>⟧.image disk)) }
-        ensures at_most { IfOk result (λ disk. length (⟦<FileDisk<F> as Disk>⟧.image disk) ≤ MAX_BLOCKS) }
-        ensures bytes { IfOk result (λ disk. IsReadFrom F.remaining (file_of disk) (⟦<FileDisk<F> as Disk>⟧.image disk)) }
+        ensures at_most { IfOk result
+            (λ disk. length (⟦<FileDisk<F> as Disk>⟧.image disk) ≤ MAX_BLOCKS) }
+        ensures bytes { IfOk result (λ disk. IsReadFrom F.remaining (file_of disk)
+            (⟦<FileDisk<F> as Disk>⟧.image disk)) }
         ensures writes { IfOk result (λ disk. ⟦<FileDisk<F> as Disk>⟧.write_count disk ≡ 0) }
         ensures faults { IfOk result (λ disk. ⟦<FileDisk<F> as Disk>⟧.fault_count disk ≡ 0) }
     {
@@ -75,9 +78,11 @@ impl<F: Read + Write + Seek + OpenFile + Drop> FileDisk<F> {
     /// `MAX_BLOCKS`; `NoMemory` where memory for the blocks is refused; `Open`, or `NoMemory` where
     /// the system says so, where the file can't be read.
     pub fn over_file(alloc: Global, mut file: F, size: u64) -> Result<FileDisk<F>, FileFault>
-        ensures size { IfOk result (λ disk. size ≡ length (⟦<FileDisk<F> as Disk>⟧.image disk) * 1024) }
+        ensures size { IfOk result
+            (λ disk. size ≡ length (⟦<FileDisk<F> as Disk>⟧.image disk) * 1024) }
         ensures refused { IsErrOf result FileFault.Length ↔ (is_disk_size size ≡ false) }
-        ensures bytes { IfOk result (λ disk. Consumes (F.remaining file) (F.remaining (file_of disk))
+        ensures bytes { IfOk result
+            (λ disk. Consumes (F.remaining file) (F.remaining (file_of disk))
             (concat (⟦<FileDisk<F> as Disk>⟧.image disk))) }
         ensures writes { IfOk result (λ disk. ⟦<FileDisk<F> as Disk>⟧.write_count disk ≡ 0) }
         ensures faults { IfOk result (λ disk. ⟦<FileDisk<F> as Disk>⟧.fault_count disk ≡ 0) }
@@ -100,7 +105,8 @@ impl<F: Read + Write + Seek + OpenFile + Drop> FileDisk<F> {
         path: &str,
         size: u32,
     ) -> Result<FileDisk<F>, FileFault>
-        ensures image { IfOk result (λ disk. ⟦<FileDisk<F> as Disk>⟧.image disk ≡ replicate size zero_block) }
+        ensures image { IfOk result
+            (λ disk. ⟦<FileDisk<F> as Disk>⟧.image disk ≡ replicate size zero_block) }
         ensures writes { IfOk result (λ disk. ⟦<FileDisk<F> as Disk>⟧.write_count disk ≡ 0) }
         ensures faults { IfOk result (λ disk. ⟦<FileDisk<F> as Disk>⟧.fault_count disk ≡ 0) }
         ensures err { IfErr result (λ fault. fault ≢ FileFault.Length) }
@@ -164,7 +170,8 @@ fn blocks_of_length(length: u64) -> Result<u32, FileFault>
 fn read_blocks<F: Read>(alloc: Global, file: &mut F, size: u32) -> Result<Vec<Block>, FileFault>
     ensures size { IfOk result (λ blocks. length blocks.items ≡ size) }
     ensures image { IfOk result (λ blocks. IsImage blocks.items) }
-    ensures bytes { IfOk result (λ blocks. Consumes (F.remaining file.old) (F.remaining file.new) (concat blocks.items)) }
+    ensures bytes { IfOk result (λ blocks. Consumes (F.remaining file.old) (F.remaining file.new)
+        (concat blocks.items)) }
     ensures err { IfErr result (λ fault. fault ≢ FileFault.Length) }
 {
     let mut piece = zeroes(alloc, PIECE as usize * BLOCK_SIZE)?;
@@ -209,7 +216,8 @@ fn add_blocks(
 
 // Writes the bytes of a block at its place.
 fn write_through<F: Write + Seek>(file: &mut F, block: u32, from: &Block) -> io::Result<()>
-    ensures { OnOk result (IsWrittenAt F.stream_position F.contents file.old file.new (block * 1024) from.now) }
+    ensures { OnOk result (IsWrittenAt F.stream_position F.contents file.old file.new
+        (block * 1024) from.now) }
 {
     file.seek(SeekFrom::Start(block as u64 * BLOCK_SIZE as u64))?;
     file.write_all(from.as_slice())
@@ -234,7 +242,9 @@ impl<F: Write + Seek + Drop> Disk for FileDisk<F> {
 
     ghost is_image = { λ d. d.copy.is_image };
 
-    ghost leaves_images = { λ d t x left. has_left-image d.copy.past d.copy.blocks.items t x d.copy.were_images d.copy.is_image left };
+    ghost leaves_images = { λ d t x left.
+        has_left-image d.copy.past d.copy.blocks.items t x d.copy.were_images
+        d.copy.is_image left };
 
     ghost counts_fit = { λ d. (d.copy.writes_fit, d.faults_fit) };
 
@@ -261,13 +271,8 @@ impl<F: Write + Seek + Drop> Disk for FileDisk<F> {
         requires { block < length (⟦<FileDisk<F> as Disk>⟧.image self.old) }
 
         // As of each disk.
-        ensures ok { OnOk result (slice_get (⟦<FileDisk<F> as Disk>⟧.image self.old) block ≡ Some into.new) }
+        ensures reads { ReadsOne ⟦<FileDisk<F> as Disk>⟧ block into.new result self.old self.new }
         ensures fault { IfErr result (λ fault. fault.0 ≡ block) }
-        ensures name { ⟦<FileDisk<F> as Disk>⟧.name self.new ≡ ⟦<FileDisk<F> as Disk>⟧.name self.old }
-        ensures image { ⟦<FileDisk<F> as Disk>⟧.image self.new ≡ ⟦<FileDisk<F> as Disk>⟧.image self.old }
-        ensures writes { ⟦<FileDisk<F> as Disk>⟧.write_count self.new ≡ ⟦<FileDisk<F> as Disk>⟧.write_count self.old }
-        ensures faults { CountsFault result (⟦<FileDisk<F> as Disk>⟧.fault_count self.old) (⟦<FileDisk<F> as Disk>⟧.fault_count self.new) }
-        ensures time { AddsNone (⟦<FileDisk<F> as Disk>⟧.moment self.old) (⟦<FileDisk<F> as Disk>⟧.moment self.new) (⟦<FileDisk<F> as Disk>⟧.leaves self.old) (⟦<FileDisk<F> as Disk>⟧.leaves self.new) }
 
         // Of this one.
         ensures succeeds { IsOk result }
@@ -282,18 +287,14 @@ impl<F: Write + Seek + Drop> Disk for FileDisk<F> {
         requires { block < length (⟦<FileDisk<F> as Disk>⟧.image self.old) }
 
         // As of each disk.
-        ensures ok { OnOk result (⟦<FileDisk<F> as Disk>⟧.image self.new ≡ slice_set (⟦<FileDisk<F> as Disk>⟧.image self.old) block from.now) }
-        ensures err { OnErr result (IsOldOrNew (⟦<FileDisk<F> as Disk>⟧.image self.old) block from.now (⟦<FileDisk<F> as Disk>⟧.image self.new)) }
+        ensures writes { WritesOne ⟦<FileDisk<F> as Disk>⟧ block from.now result self.old self.new }
         ensures fault { IfErr result (λ fault. fault.0 ≡ block) }
-        ensures name { ⟦<FileDisk<F> as Disk>⟧.name self.new ≡ ⟦<FileDisk<F> as Disk>⟧.name self.old }
-        ensures writes { CountsSuccess result (⟦<FileDisk<F> as Disk>⟧.write_count self.old) (⟦<FileDisk<F> as Disk>⟧.write_count self.new) }
-        ensures faults { CountsFault result (⟦<FileDisk<F> as Disk>⟧.fault_count self.old) (⟦<FileDisk<F> as Disk>⟧.fault_count self.new) }
-        ensures time { Elapses (⟦<FileDisk<F> as Disk>⟧.moment self.old) (⟦<FileDisk<F> as Disk>⟧.moment self.new) (⟦<FileDisk<F> as Disk>⟧.leaves self.old) (⟦<FileDisk<F> as Disk>⟧.leaves self.new) }
-        ensures crash { LeavesOldOrNew block from.now (⟦<FileDisk<F> as Disk>⟧.leaves self.old (⟦<FileDisk<F> as Disk>⟧.moment self.old)) (⟦<FileDisk<F> as Disk>⟧.leaves self.new (⟦<FileDisk<F> as Disk>⟧.moment self.new)) }
 
         // Of this one.
-        ensures file { OnOk result (IsWrittenAt F.stream_position F.contents (file_of self.old) (file_of self.new) (block * 1024) from.now) }
-        ensures keeps { OnErr result (⟦<FileDisk<F> as Disk>⟧.image self.new ≡ ⟦<FileDisk<F> as Disk>⟧.image self.old) }
+        ensures file { OnOk result (IsWrittenAt F.stream_position F.contents
+            (file_of self.old) (file_of self.new) (block * 1024) from.now) }
+        ensures keeps { OnErr result
+            (⟦<FileDisk<F> as Disk>⟧.image self.new ≡ ⟦<FileDisk<F> as Disk>⟧.image self.old) }
     {
         if write_through(&mut self.file, block, from).is_err() {
             self.faults = self.faults.saturating_add(1);

@@ -31,7 +31,8 @@ impl MemDisk {
     ///
     /// `NoMemory` where the allocator refuses one of them.
     pub fn new(alloc: Global, size: u32) -> Result<MemDisk, NoMemory>
-        ensures image { IfOk result (λ disk. ⟦<MemDisk as Disk>⟧.image disk ≡ replicate size zero_block) }
+        ensures image { IfOk result
+            (λ disk. ⟦<MemDisk as Disk>⟧.image disk ≡ replicate size zero_block) }
         ensures writes { IfOk result (λ disk. ⟦<MemDisk as Disk>⟧.write_count disk ≡ 0) }
         ensures faults { IfOk result (λ disk. ⟦<MemDisk as Disk>⟧.fault_count disk ≡ 0) }
     {
@@ -84,7 +85,8 @@ impl Disk for MemDisk {
 
     ghost is_image = { λ d. d.is_image };
 
-    ghost leaves_images = { λ d t x left. has_left-image d.past d.blocks.items t x d.were_images d.is_image left };
+    ghost leaves_images = { λ d t x left.
+        has_left-image d.past d.blocks.items t x d.were_images d.is_image left };
 
     ghost counts_fit = { λ d. (d.writes_fit, lit< tt) };
 

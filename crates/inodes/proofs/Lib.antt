@@ -1,4 +1,5 @@
 pub mod LookLemmas
+pub mod ReadLemmas
 mod Agreeing
 mod Searching
 mod StoreSteps

@@ -1,34 +1,24 @@
 -- What a look at an inode block finds.
-use Rattle.std.proofs.Common.{◌≡◌, ℕ, zero, suc, ◌+◌, ◌-◌, ◌*◌, ◌<◌, ◌≤◌, Bool, true, false, cond, List, Option, Some, None, refl, sym, ap, subst, ◌∙◌, ⊎_elim, arith}
-use Rattle.std.specs.List.{range_with_len, find}
-use Rattle.std.proofs.lemmas.Bool.{eqb-false, cases_eq, lt-ltb, both_ways}
+use Rattle.std.proofs.Common.{◌≡◌, ℕ, ◌-◌, ◌≤◌, Bool, true, false, cond, List, Option, Some, None, refl, sym, ap, subst, ◌∙◌, arith}
+use Rattle.std.proofs.lemmas.Bool.{eqb-false, lt-ltb}
 use Rattle.blocks.specs.Calls.{OnlyReads}
 use Rattle.blocks.specs.Disk.{Image, block_at}
 use Rattle.blocks.specs.declared.disk.Disk.{Ghosts}
 use Rattle.model.specs.Codec.{new_inode, with_inode}
-use Rattle.model.specs.Layout.{inode_in, inode_bytes_in, inode_block, inode_of, inode_count_of, HasNoFreeInode}
+use Rattle.model.specs.Layout.{inode_in, inode_bytes_in, inode_block, inode_of}
 use Rattle.bcache.specs.Buffers.{Buffers, buffer}
 use Rattle.wal.specs.Volume.{Holds}
 use Rattle.inodes.specs.Ialloc.{SearchState}
-use Rattle.inodes.specs.declared.progress.Progress.{Progress}
-use Rattle.inodes.specs.declared.progress.Progress.TheVariants as progress
-use Rattle.inodes.specs.Creation.{is_free_in, lowest_free}
+use Rattle.blockmap.specs.declared.progress.Progress.{Progress}
+use Rattle.blockmap.specs.declared.progress.Progress.TheVariants as progress
+use Rattle.inodes.specs.Creation.{lowest_free}
 use Rattle.bcache.specs.Buffers.{block_or_zero}
 use Rattle.wal.specs.Held.{GivesUpLock}
 use Rattle.wal.specs.Joint.{seen}
 use Rattle.wal.specs.Machine.{noted}
 use Rattle.wal.specs.Volume.{VolumeState}
-use Rattle.inodes.specs.Ialloc.{IsReady, MayStep, HoldsCurrent, OnMore, IsFree, SearchSteps, is_last_block, at_next_block, with_released, with_new_inode}
-use Rattle.inodes.specs.Lemmas.Looks.{found_number}
-
--- where none is found, none of the range passes
-neither : (test : ℕ → Bool) (a n i : ℕ) (t : Bool) → test a ≡ t → (find test (range_with_len (a + 1) n) ≡ None → a + 1 ≤ i → test i ≡ false) → cond t (Some a) (find test (range_with_len (a + 1) n)) ≡ None → a ≤ i → test i ≡ false
-neither test a n i true is later e low = absurd (cc e)
-neither test a n i false is later e low = ⊎_elim (λ (same : a ≡ i). subst (λ (j : ℕ). test j ≡ false) same is) (λ other. later e (omega (arith, other))) (cases_eq a i)
-
-pub find-range_none : (test : ℕ → Bool) (a n i : ℕ) → find test (range_with_len a n) ≡ None → a ≤ i → i < a + n → test i ≡ false
-find-range_none test a zero i h low high = absurd (omega arith)
-find-range_none test a (suc n) i h low high = neither test a n i (test a) refl (λ e more. find-range_none test (a + 1) n i e more (omega arith)) h low
+use Rattle.inodes.specs.Ialloc.{IsReady, MayStep, HoldsCurrent, OnMore, IsFree, SeesNoneFree, SearchSteps, finds, is_last_block, at_next_block, with_released, with_new_inode}
+use Rattle.inodes.specs.Lemmas.Looks.{found_number, taken_by_look}
 
 -- the process holds the block that it looks at
 pub held : (cur : Image) (c : Buffers) (size pid slot : ℕ) (m : SearchState) → IsReady cur c size pid m → m.slot ≡ Some slot → Holds cur c pid m.block slot
@@ -42,9 +32,9 @@ held_number cur c size pid slot i bytes m ready is same e =
     subst (λ (b : ℕ). Holds cur c pid b slot) (sym found.place) (held cur c size pid slot m ready is)
 
 -- the next block may be looked at, if there is one
-pub ready_next : (cur new : Image) (c d : Buffers) (size width pid : ℕ) (m n : SearchState) (r : Progress (Option ℕ)) → IsReady cur c size pid m → new ≡ cur → width ≡ size
+pub ready_next : (cur new : Image) (c d : Buffers) (size width pid : ℕ) (m n : SearchState) (r : Progress (Option ℕ)) → IsReady cur c size pid m → width ≡ size
     → r ≡ cond (is_last_block m) (progress.Over None) progress.Moved → n ≡ cond (is_last_block m) m (at_next_block m) → OnMore r (IsReady new d width pid n)
-ready_next cur new c d size width pid m n r ready still same are is =
+ready_next cur new c d size width pid m n r ready same are is =
     subst (λ (s : Progress (Option ℕ)). OnMore s (IsReady new d width pid n)) (sym are) (subst (λ (o : SearchState). OnMore {T = Option ℕ} (cond (is_last_block m) (progress.Over None) progress.Moved) (IsReady new d width pid o)) (sym is) (by_last (is_last_block m) refl))
   where
     by_last : (t : Bool) → is_last_block m ≡ t → OnMore {T = Option ℕ} (cond t (progress.Over None) progress.Moved) (IsReady new d width pid (cond t m (at_next_block m)))
@@ -58,20 +48,14 @@ ready_next cur new c d size width pid m n r ready still same are is =
           last = omega (arith, other, low);
           some = ready.some;
           few = ready.few;
-          count = ready.count ∙ sym (ap inode_count_of still);
           within = omega (arith, ready.within, same);
           holds = tt;
         }
 
 -- where a look found none, each number of the block is taken
-pub sees_taken : (cur : Image) (bytes : List ℕ) (m : SearchState) → bytes ≡ block_at cur m.block → m.inode_count ≡ inode_count_of cur → None ≡ lowest_free bytes m.inode_count m.block → HasNoFreeInode cur m.block
-unfolding inode_of
-sees_taken cur bytes m same count none i some below place free =
-    let test = find-range_none (is_free_in bytes m.inode_count) ((m.block - 33) * 16) 16 i (sym none) (omega (arith, place)) (omega (arith, place)) in
-    let here : block_at cur (inode_block i) ≡ bytes = ap (λ (b : ℕ). block_at cur b) place ∙ sym same in
-    let zero : (inode_in (inode_bytes_in bytes i)).kind ≡ 0 = ap (λ (l : List ℕ). (inode_in (inode_bytes_in l i)).kind) (sym here) ∙ free in
-    let passes : is_free_in bytes m.inode_count i ≡ true = rw (lt-ltb 0 i some, lt-ltb i m.inode_count (omega (arith, count)), zero) refl in
-    both_ways (is_free_in bytes m.inode_count i) test passes
+sees_none : (cur : Image) (m : SearchState) → finds cur m ≡ None → SeesNoneFree cur m
+sees_none cur m none count i some below place free =
+    taken_by_look cur m.inode_count m.block i None none tt (rw (lt-ltb 0 i some, lt-ltb i m.inode_count (omega (arith, count, below))) refl) place free
 
 -- a number that a look finds is free in the image
 pub finds_free : (cur : Image) (bytes : List ℕ) (m : SearchState) (i : ℕ) → 33 ≤ m.block → bytes ≡ block_at cur m.block → Some i ≡ lowest_free bytes m.inode_count m.block → IsFree cur m i
@@ -92,7 +76,8 @@ pub look_claims : {D N : Type 0} (disk : Ghosts D N) (v w : VolumeState D) (pid 
 look_claims disk v w pid slot i bytes m ready well is same e made gives current =
     let device : w.device ≡ v.device = ap (λ (o : VolumeState _). o.device) made in
     record {
-      goes = finds_free (seen (disk.image v.device) v.buffers) bytes m i ready.behind same e;
+      goes = (refl, ap (λ (l : List ℕ). lowest_free l m.inode_count m.block) (sym same) ∙ sym e, finds_free (seen (disk.image v.device) v.buffers) bytes m i ready.behind same e);
+      buffers = ap (λ (o : VolumeState _). o.buffers) made;
       locks = gives;
       log = ap (λ (o : VolumeState _). o.log) made ∙ ap (λ (o : Option ℕ). noted v.log pid (block_or_zero o)) (held (seen (disk.image v.device) v.buffers) v.buffers v.log.size pid slot m ready is).block;
       asleep = λ cause no. absurd (cc no);
@@ -100,21 +85,26 @@ look_claims disk v w pid slot i bytes m ready well is same e made gives current 
       current = current;
       fault = ap (λ (o : VolumeState _). o.fault) made ∙ well;
       device = reads_none disk v.device w.device device;
+      looks = λ got. device;
       faults = ap disk.fault_count device;
     }
 
 -- a look that claims none
-pub look_goes_on : {D N : Type 0} (disk : Ghosts D N) (v w : VolumeState D) (pid slot : ℕ) (m n : SearchState) (r : Progress (Option ℕ)) (last : Bool) → is_last_block m ≡ last → HasNoFreeInode (seen (disk.image v.device) v.buffers) m.block → v.fault ≡ None → w ≡ with_released v slot
+pub look_goes_on : {D N : Type 0} (disk : Ghosts D N) (v w : VolumeState D) (pid slot : ℕ) (m n : SearchState) (r : Progress (Option ℕ)) (last : Bool) → is_last_block m ≡ last → finds (seen (disk.image v.device) v.buffers) m ≡ None → v.fault ≡ None → w ≡ with_released v slot
     → GivesUpLock v.buffers w.buffers pid slot → seen (disk.image w.device) w.buffers ≡ seen (disk.image v.device) v.buffers → OnMore r (MayStep disk.image w pid n)
     → r ≡ cond last (progress.Over None) progress.Moved → n ≡ cond last m (at_next_block m) → SearchSteps disk (Some slot) v w pid m n r
-look_goes_on disk v w pid slot m n r last is taken well made gives current more answer next = by_last last is answer next
+look_goes_on disk v w pid slot m n r last is none well made gives current more answer next = by_last last is answer next
   where
     device : w.device ≡ v.device
     device = ap (λ (o : VolumeState _). o.device) made
 
+    taken : SeesNoneFree (seen (disk.image v.device) v.buffers) m
+    taken = sees_none (seen (disk.image v.device) v.buffers) m none
+
     by_last : (t : Bool) → is_last_block m ≡ t → r ≡ cond t (progress.Over None) progress.Moved → n ≡ cond t m (at_next_block m) → SearchSteps disk (Some slot) v w pid m n r
     by_last true end answer next = subst (λ (a : Progress (Option ℕ)). SearchSteps disk (Some slot) v w pid m n a) (sym answer) (record {
-      goes = (end, taken);
+      goes = (next, end, none, taken);
+      buffers = ap (λ (o : VolumeState _). o.buffers) made;
       locks = gives;
       log = ap (λ (o : VolumeState _). o.log) made;
       asleep = λ cause no. absurd (cc no);
@@ -122,10 +112,12 @@ look_goes_on disk v w pid slot m n r last is taken well made gives current more 
       current = current;
       fault = ap (λ (o : VolumeState _). o.fault) made ∙ well;
       device = reads_none disk v.device w.device device;
+      looks = λ got. device;
       faults = ap disk.fault_count device;
     })
     by_last false on answer next = subst (λ (a : Progress (Option ℕ)). SearchSteps disk (Some slot) v w pid m n a) (sym answer) (record {
-      goes = (next, on, taken);
+      goes = (next, on, none, taken);
+      buffers = ap (λ (o : VolumeState _). o.buffers) made;
       locks = gives;
       log = ap (λ (o : VolumeState _). o.log) made;
       asleep = λ cause no. absurd (cc no);
@@ -133,5 +125,6 @@ look_goes_on disk v w pid slot m n r last is taken well made gives current more 
       current = current;
       fault = ap (λ (o : VolumeState _). o.fault) made ∙ well;
       device = reads_none disk v.device w.device device;
+      looks = λ got. device;
       faults = ap disk.fault_count device;
     })

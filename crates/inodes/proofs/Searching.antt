@@ -113,7 +113,6 @@ ready_of x c l n p ts m agrees inside stood joint geometry numbers =
       last = let low = s.last in omega (arith, low, same);
       some = omega (arith, some, numbers, s.count);
       few = omega (arith, few, numbers, s.count);
-      count = s.count ∙ numbers;
       within = omega (arith, room, size, some, numbers, s.count, long, joint.size);
       holds = slot_holds x c l p m.block m.slot joint s.holds;
     }

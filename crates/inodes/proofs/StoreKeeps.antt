@@ -29,8 +29,8 @@ use Rattle.wal.specs.Volume.{VolumeState}
 use Rattle.wal.specs.Lemmas.Held.{none_locked}
 use Rattle.wal.specs.Lemmas.Rooms.{used_begun, used_noted, used_ended, used_first}
 use Rattle.inodes.specs.Ialloc.{SearchState}
-use Rattle.inodes.specs.declared.progress.Progress.{Progress}
-use Rattle.inodes.specs.declared.progress.Progress.TheVariants as search
+use Rattle.blockmap.specs.declared.progress.Progress.{Progress}
+use Rattle.blockmap.specs.declared.progress.Progress.TheVariants as search
 use Rattle.inodes.specs.declared.tasks.Place.{Place}
 use Rattle.inodes.specs.declared.tasks.Place.TheVariants as place
 use Rattle.inodes.specs.Ialloc.{SearchSteps, SearchGoes, SearchLocks, IsFree, current_after, log_after, fault_in, at_slot, at_next_block}
@@ -56,10 +56,10 @@ pub agrees_then : {D N : Type 0} (disk : Ghosts D N) (v u : VolumeState D) (n p 
     → SearchSteps disk m.slot v u p m new r → fault_in r ≡ None → Agrees u.buffers u.log n (tasks_then ts p new r)
 agrees_then {D} disk v u n p ts m new r agrees lt stood steps well = by_answer r steps.goes steps.locks steps.log steps.asleep well
   where
-    got : (o : Option ℕ) → m.slot ≡ o → SearchGoes o (current_of disk.image v) m search.Moved new → SearchLocks o search.Moved v.buffers u.buffers p m.block new.slot → u.log ≡ v.log → Agrees u.buffers u.log n (tasks_then ts p new search.Moved)
+    got : (o : Option ℕ) → m.slot ≡ o → SearchGoes o (current_of disk.image v) v.buffers m search.Moved new → SearchLocks o search.Moved v.buffers u.buffers p m.block new.slot → u.log ≡ v.log → Agrees u.buffers u.log n (tasks_then ts p new search.Moved)
     got None none goes locks log =
-        let here : goes.0 ≡ locks.0 = let same : Some goes.0 ≡ Some locks.0 = sym (ap (λ (k : SearchState). k.slot) goes.1) ∙ locks.1 in cc same in
-        let is : new ≡ at_slot m locks.0 = goes.1 ∙ ap (at_slot m) here in
+        let here : goes.0 ≡ locks.0 = let same : Some goes.0 ≡ Some locks.0 = sym (ap (λ (k : SearchState). k.slot) goes.2) ∙ locks.1 in cc same in
+        let is : new ≡ at_slot m locks.0 = goes.2 ∙ ap (at_slot m) here in
         subst (λ (l : LogState). Agrees u.buffers l n (tasks_then ts p new search.Moved)) (sym log)
         (subst (λ (k : SearchState). Agrees u.buffers v.log n (tasks_then ts p k search.Moved)) (sym is)
         (agrees_now v.buffers u.buffers v.log v.log n p ts (record (task ts p) { place = place.Creating (at_slot m locks.0) }) (task_got v.buffers u.buffers v.log n p ts m agrees lt stood locks.0 none locks.2)))
@@ -72,7 +72,7 @@ agrees_then {D} disk v u n p ts m new r agrees lt stood steps well = by_answer r
     over made None none locks used = absurd locks
     over made (Some i) slot gives used = agrees_now v.buffers u.buffers v.log u.log n p ts (record (task ts p) { place = place.Nowhere }) (task_over v.buffers u.buffers v.log n p ts m agrees lt stood i slot gives u.log used)
 
-    by_answer : (r : Progress (Option ℕ)) → SearchGoes m.slot (current_of disk.image v) m r new → SearchLocks m.slot r v.buffers u.buffers p m.block new.slot → u.log ≡ log_after v.log p m.block r
+    by_answer : (r : Progress (Option ℕ)) → SearchGoes m.slot (current_of disk.image v) v.buffers m r new → SearchLocks m.slot r v.buffers u.buffers p m.block new.slot → u.log ≡ log_after v.log p m.block r
         → ((cause : Why) → r ≡ search.Sleeping cause → u ≡ v) → fault_in r ≡ None → Agrees u.buffers u.log n (tasks_then ts p new r)
     by_answer search.Moved goes locks log asleep well = got m.slot refl goes locks log
     by_answer (search.Sleeping cause) goes locks log asleep well = subst (λ (w : VolumeState D). Agrees w.buffers w.log n ts) (sym (asleep cause refl)) agrees
@@ -142,9 +142,9 @@ agrees_opened l n k = record {
     none (suc k) (suc p) = none k p
 
 -- a step of a search keeps the geometry
-geometry_then : (cur now : Image) (m : SearchState) (r : Progress (Option ℕ)) (new : SearchState) (o : Option ℕ) → IsLawfulGeometry cur → IsImage cur → m.inode_count ≡ inode_count_of cur → m.kind ≤ 3 → SearchGoes o cur m r new
+geometry_then : (cur now : Image) (c : Buffers) (m : SearchState) (r : Progress (Option ℕ)) (new : SearchState) (o : Option ℕ) → IsLawfulGeometry cur → IsImage cur → m.inode_count ≡ inode_count_of cur → m.kind ≤ 3 → SearchGoes o cur c m r new
     → now ≡ current_after cur m r → IsLawfulGeometry now × (inode_count_of now ≡ inode_count_of cur)
-geometry_then cur now m r new o g full count few goes current = by_answer r o goes current
+geometry_then cur now c m r new o g full count few goes current = by_answer r o goes current
   where
     same : now ≡ cur → IsLawfulGeometry now × (inode_count_of now ≡ inode_count_of cur)
     same is = (subst IsLawfulGeometry (sym is) g, ap inode_count_of is)
@@ -156,12 +156,12 @@ geometry_then cur now m r new o g full count few goes current = by_answer r o go
         let super = h.elsewhere 1 (λ e. omega (arith, e)) in
         (subst IsLawfulGeometry (sym is) (geometry_kept cur (with_inode cur i (new_inode m.kind)) h.size super g), ap inode_count_of is ∙ count_kept cur (with_inode cur i (new_inode m.kind)) super)
 
-    by_answer : (r : Progress (Option ℕ)) (o : Option ℕ) → SearchGoes o cur m r new → now ≡ current_after cur m r → IsLawfulGeometry now × (inode_count_of now ≡ inode_count_of cur)
+    by_answer : (r : Progress (Option ℕ)) (o : Option ℕ) → SearchGoes o cur c m r new → now ≡ current_after cur m r → IsLawfulGeometry now × (inode_count_of now ≡ inode_count_of cur)
     by_answer search.Moved o goes is = same is
     by_answer (search.Sleeping cause) o goes is = same is
     by_answer (search.Over None) o goes is = same is
     by_answer (search.Over (Some i)) None goes is = absurd goes
-    by_answer (search.Over (Some i)) (Some k) goes is = claimed i goes is
+    by_answer (search.Over (Some i)) (Some k) goes is = claimed i goes.2 is
     by_answer (search.Fault fault) o goes is = same is
 
 -- and all that is true of every store
@@ -172,7 +172,7 @@ store_searched disk s u p m new r is well full lt stood steps =
     let agrees = where_none s.volume.fault well is.agrees in
     let mine = searching s.volume.buffers s.volume.buffers s.volume.log s.inode_count p s.tasks m agrees lt stood in
     let few = leb-true m.kind 3 (both_of (leb 1 m.kind) (leb m.kind 3) mine.kind).1 in
-    let kept = geometry_then cur (current_of disk.image u) m r new m.slot is.geometry full (mine.count ∙ is.numbers) few steps.goes steps.current in
+    let kept = geometry_then cur (current_of disk.image u) s.volume.buffers m r new m.slot is.geometry full (mine.count ∙ is.numbers) few steps.goes steps.current in
     record {
       few = let size = many_then s.tasks p new r in omega (arith, size, is.few);
       geometry = kept.0;

@@ -29,14 +29,14 @@ use Rattle.loose.specs.Lemmas.Claims.{claims, fits_claimed}
 use Rattle.wal.specs.Machine.{LogState, SameGroups, used_by, is_among, noted, appended, one_used}
 use Rattle.wal.specs.Volume.{VolumeState, faults_after}
 use Rattle.inodes.specs.Ialloc.{SearchState}
-use Rattle.inodes.specs.declared.progress.Progress.{Progress}
-use Rattle.inodes.specs.declared.progress.Progress.TheVariants as search
+use Rattle.blockmap.specs.declared.progress.Progress.{Progress}
+use Rattle.blockmap.specs.declared.progress.Progress.TheVariants as search
 use Rattle.model.specs.declared.types.operations.TaskProgress.{TaskProgress}
 use Rattle.model.specs.declared.types.operations.TaskProgress.TheVariants as progress
 use Rattle.inodes.specs.declared.tasks.Place.{Place}
 use Rattle.inodes.specs.declared.tasks.Place.TheVariants as place
 use Rattle.inodes.specs.Creation.{lowest_free}
-use Rattle.inodes.specs.Ialloc.{Gets, Looks, Allocates, SearchSteps, SearchGoes, SearchLocks, IsFree, is_last_block, current_after, log_after, fault_in}
+use Rattle.inodes.specs.Ialloc.{BuffersAfter, SearchSteps, SearchGoes, SearchLocks, IsFree, current_after, log_after, fault_in}
 use Rattle.inodes.specs.Tasks.{TaskState, task, no_task}
 use Rattle.inodes.specs.Store.{StoreState, FitsFiles, Agrees, IsSearching, current_of, slot_at, reply_of}
 use Rattle.inodes.proofs.Searching.{search as searching}
@@ -57,24 +57,8 @@ place_then (search.Sleeping cause) m new = place.Creating m
 place_then (search.Over made) m new = place.Nowhere
 place_then (search.Fault fault) m new = place.Creating m
 
--- a look that claims a number found it
-found_by : {D : Type 0} (o : Option ℕ) (last : Bool) (m new : SearchState) (v u : VolumeState D) (p s i : ℕ) → Looks o last m v p s (search.Over (Some i)) new u → o ≡ Some i
-found_by (Some j) last m new v u p s i looks = let same : search.Over (Some i) ≡ search.Over (Some j) = looks.0 in let is : i ≡ j = cc same in ap Some (sym is)
-found_by None true m new v u p s i looks = absurd (cc looks.0)
-found_by None false m new v u p s i looks = absurd (cc looks.0)
-
--- one that claims none found none
-none_by : {D : Type 0} (o : Option ℕ) (last : Bool) (m new : SearchState) (v u : VolumeState D) (p s : ℕ) → Looks o last m v p s (search.Over None) new u → o ≡ None
-none_by (Some j) last m new v u p s looks = absurd (cc looks.0)
-none_by None last m new v u p s looks = refl
-
--- and so did one that goes on
-none_moved : {D : Type 0} (o : Option ℕ) (last : Bool) (m new : SearchState) (v u : VolumeState D) (p s : ℕ) → Looks o last m v p s search.Moved new u → o ≡ None
-none_moved (Some j) last m new v u p s looks = absurd (cc looks.0)
-none_moved None last m new v u p s looks = refl
-
 -- where a search goes, its task goes
-module _ {D : Type 0} (image : D → Image) (v u : VolumeState D) (p n : ℕ) (m new : SearchState) (now : Shown) (count : m.inode_count ≡ n) where
+module _ {D : Type 0} (image : D → Image) (v : VolumeState D) (p n : ℕ) (m new : SearchState) (now : Shown) (d : Buffers) (count : m.inode_count ≡ n) (numbers : n ≡ inode_count_of (current_of image v)) where
   abbrev before : Shown
   before = shown_of image v
 
@@ -93,42 +77,40 @@ module _ {D : Type 0} (image : D → Image) (v u : VolumeState D) (p n : ℕ) (m
     shown = shows;
   }
 
-  gets_block : (r : Progress (Option ℕ)) → Shows r → Gets (image v.device) before.current m v p r new u → SearchGoes None before.current m r new → GetsBlock v.buffers m (answer_of r) (place_then r m new) × (now ≡ before)
-  gets_block search.Moved shows gets g = ((gets.0, gets.1, ap place.Creating gets.2), shows)
-  gets_block (search.Sleeping cause) shows gets g = ((gets.0, refl), shows)
-  gets_block (search.Over out) shows gets g = absurd g
-  gets_block (search.Fault fault) shows gets g = ((g.1, refl), shows)
+  gets_block : (r : Progress (Option ℕ)) → Shows r → BuffersAfter image None m v p r d → SearchGoes None before.current v.buffers m r new → GetsBlock v.buffers m (answer_of r) (place_then r m new) × (now ≡ before)
+  gets_block search.Moved shows made g = ((g.0, g.1, ap place.Creating g.2), shows)
+  gets_block (search.Sleeping cause) shows made g = ((g.0, refl), shows)
+  gets_block (search.Over out) shows made g = absurd g
+  gets_block (search.Fault fault) shows made g = ((made.block, refl), shows)
 
-  looks_at : (s : ℕ) (last : Bool) (r : Progress (Option ℕ)) → Shows r → Inode r → Looks (lowest_free (block_at before.current m.block) m.inode_count m.block) last m v p s r new u
-      → SearchGoes (Some s) before.current m r new → LooksAtBlock n p m (answer_of r) (place_then r m new) before now
-  looks_at s last search.Moved shows made looks g = (ap place.Creating g.0, finds_none shows g.2 (none_moved _ last m new v u p s looks))
-  looks_at s last (search.Sleeping cause) shows made looks g = absurd g
-  looks_at s last (search.Over None) shows made looks g =
-      (refl, (eqb-true m.block (inode_block (m.inode_count - 1)) g.0 ∙ ap (λ (k : ℕ). inode_block (k - 1)) count, finds_none shows g.1 (none_by _ last m new v u p s looks)))
-  looks_at s last (search.Over (Some i)) shows made looks g = (
+  looks_at : (s : ℕ) (r : Progress (Option ℕ)) → Shows r → Inode r → SearchGoes (Some s) before.current v.buffers m r new → LooksAtBlock n p m (answer_of r) (place_then r m new) before now
+  looks_at s search.Moved shows made g = (ap place.Creating g.0, finds_none shows (g.3 (count ∙ numbers)) g.2)
+  looks_at s (search.Sleeping cause) shows made g = absurd g
+  looks_at s (search.Over None) shows made g =
+      (refl, (eqb-true m.block (inode_block (m.inode_count - 1)) g.1 ∙ ap (λ (k : ℕ). inode_block (k - 1)) count, finds_none shows (g.3 (count ∙ numbers)) g.2))
+  looks_at s (search.Over (Some i)) shows made g = (
     refl,
     record {
-      lowest = subst (λ (k : ℕ). lowest_free (block_at before.current m.block) k m.block ≡ Some i) count (found_by _ last m new v u p s i looks);
-      place = g.place;
-      free = g.free;
-      inode = made i refl g;
+      lowest = subst (λ (k : ℕ). lowest_free (block_at before.current m.block) k m.block ≡ Some i) count g.1;
+      place = g.2.place;
+      free = g.2.free;
+      inode = made i refl g.2;
       shown = shows;
     },
   )
-  looks_at s last (search.Fault fault) shows made looks g = absurd g
+  looks_at s (search.Fault fault) shows made g = absurd g
 
-  pub goes_from : (o : Option ℕ) (r : Progress (Option ℕ)) → Shows r → Inode r → Allocates image o m v p r new u → SearchGoes o before.current m r new
-      → GoesFrom o n p m v.buffers (answer_of r) (place_then r m new) before now
-  goes_from None r shows made does g = gets_block r shows does g
-  goes_from (Some s) r shows made does g = looks_at s (is_last_block m) r shows made does g
+  pub goes_from : (o : Option ℕ) (r : Progress (Option ℕ)) → Shows r → Inode r → BuffersAfter image o m v p r d → SearchGoes o before.current v.buffers m r new → GoesFrom o n p m v.buffers (answer_of r) (place_then r m new) before now
+  goes_from None r shows inode made g = gets_block r shows made g
+  goes_from (Some s) r shows inode made g = looks_at s r shows inode g
 
 -- a search that moved has fewer steps left
-fewer : (o : Option ℕ) (n : ℕ) (m new : SearchState) (cur : Image) → m.slot ≡ o → m.inode_count ≡ n → m.block ≤ inode_block (n - 1) → SearchGoes o cur m search.Moved new → steps_left (place.Creating new) n < steps_left (place.Creating m) n
-fewer None n m new cur is count last g =
-    let now : steps_left (place.Creating new) n ≡ 2 * (inode_block (n - 1) - m.block) + 1 = ap (λ (k : SearchState). steps_left (place.Creating k) n) g.1 in
+fewer : (o : Option ℕ) (n : ℕ) (m new : SearchState) (cur : Image) (c : Buffers) → m.slot ≡ o → m.inode_count ≡ n → m.block ≤ inode_block (n - 1) → SearchGoes o cur c m search.Moved new → steps_left (place.Creating new) n < steps_left (place.Creating m) n
+fewer None n m new cur c is count last g =
+    let now : steps_left (place.Creating new) n ≡ 2 * (inode_block (n - 1) - m.block) + 1 = ap (λ (k : SearchState). steps_left (place.Creating k) n) g.2 in
     let before : looks_left m.slot ≡ 2 = ap looks_left is in
     omega (arith, now, before)
-fewer (Some s) n m new cur is count last g =
+fewer (Some s) n m new cur c is count last g =
     let now : steps_left (place.Creating new) n ≡ 2 * (inode_block (n - 1) - (m.block + 1)) + 2 = ap (λ (k : SearchState). steps_left (place.Creating k) n) g.0 in
     let before : looks_left m.slot ≡ 1 = ap looks_left is in
     let other = eqb-false m.block (inode_block (m.inode_count - 1)) g.1 in
@@ -233,15 +215,15 @@ module _ {D : Type 0} (image : D → Image) (s t : StoreState D) (p : ℕ) (m ne
       let done = fits_claimed files cur i m.kind fits (number_of i free) free.free mine.kind in
       (with_new_file files i m.kind, done.1, subst (λ (y : Image). Fits (with_new_file files i m.kind) y) (sym now) done.0)
 
-  pub files_then : (o : Option ℕ) → SearchGoes o cur m r new → (files : Files) → FitsFiles image s files → FilesThen (form_of cur) op (answer_of r) files (FitsFiles image t)
+  pub files_then : (o : Option ℕ) → SearchGoes o cur s.volume.buffers m r new → (files : Files) → FitsFiles image s files → FilesThen (form_of cur) op (answer_of r) files (FitsFiles image t)
   files_then o g files fits = subst (λ (q : Op). FilesThen (form_of cur) q (answer_of r) files (FitsFiles image t)) (sym same_op) (by_answer r o g current)
     where
-      by_answer : (r : Progress (Option ℕ)) (o : Option ℕ) → SearchGoes o cur m r new → current_of image t.volume ≡ current_after cur m r → FilesThen (form_of cur) (Create m.kind) (answer_of r) files (FitsFiles image t)
+      by_answer : (r : Progress (Option ℕ)) (o : Option ℕ) → SearchGoes o cur s.volume.buffers m r new → current_of image t.volume ≡ current_after cur m r → FilesThen (form_of cur) (Create m.kind) (answer_of r) files (FitsFiles image t)
       by_answer search.Moved o g now = still files now fits
       by_answer (search.Sleeping cause) o g now = still files now fits
       by_answer (search.Over None) o g now = (files, after-no_inode (form_of cur) files m.kind mine.kind, still files now fits)
       by_answer (search.Over (Some i)) None g now = absurd g
-      by_answer (search.Over (Some i)) (Some k) g now = claims_file files i g now fits
+      by_answer (search.Over (Some i)) (Some k) g now = claims_file files i g.2 now fits
       by_answer (search.Fault fault) o g now = still files now fits
 
   module _ (geometry : IsLawfulGeometry cur) (full : IsImage cur) (few : m.kind ≤ 3) where
@@ -254,22 +236,22 @@ module _ {D : Type 0} (image : D → Image) (s t : StoreState D) (p : ℕ) (m ne
     shows : t.volume.log ≡ log_after s.volume.log p m.block r → shown_of image t.volume ≡ record { current = current_after cur m r; log = log_after s.volume.log p m.block r }
     shows log = ap (λ (y : Image). record { current = y; log = t.volume.log }) current ∙ ap (λ (l : LogState). record { current = current_after cur m r; log = l }) log
 
-    pub goes_now : (o : Option ℕ) → t.volume.log ≡ log_after s.volume.log p m.block r → Allocates image o m s.volume p r new t.volume → SearchGoes o cur m r new
+    pub goes_now : (o : Option ℕ) → t.volume.log ≡ log_after s.volume.log p m.block r → BuffersAfter image o m s.volume p r t.volume.buffers → SearchGoes o cur s.volume.buffers m r new
         → GoesFrom o s.inode_count p m s.volume.buffers (answer_of r) (place_then r m new) (shown_of image s.volume) (shown_of image t.volume)
-    goes_now o log does g = goes_from image s.volume t.volume p s.inode_count m new (shown_of image t.volume) mine.count o r (shows log) made does g
+    goes_now o log buffers g = goes_from image s.volume p s.inode_count m new (shown_of image t.volume) t.volume.buffers mine.count numbers o r (shows log) made buffers g
 
-    pub marks_now : (o : Option ℕ) → SearchGoes o cur m r new → Marks (reply_at_turn (answer_of r)) cur (current_of image t.volume)
+    pub marks_now : (o : Option ℕ) → SearchGoes o cur s.volume.buffers m r new → Marks (reply_at_turn (answer_of r)) cur (current_of image t.volume)
     marks_now o g = by_answer r o g current
       where
         nothing : (made : Option Reply) → ((i : ℕ) → is_making i made ≡ true → ⊥) → current_of image t.volume ≡ cur → Marks made cur (current_of image t.volume)
         nothing made none now = subst (λ (y : Image). Marks made cur y) (sym now) (marks_same made cur none)
 
-        by_answer : (r : Progress (Option ℕ)) (o : Option ℕ) → SearchGoes o cur m r new → current_of image t.volume ≡ current_after cur m r → Marks (reply_at_turn (answer_of r)) cur (current_of image t.volume)
+        by_answer : (r : Progress (Option ℕ)) (o : Option ℕ) → SearchGoes o cur s.volume.buffers m r new → current_of image t.volume ≡ current_after cur m r → Marks (reply_at_turn (answer_of r)) cur (current_of image t.volume)
         by_answer search.Moved o g now = nothing None (λ i e. false≢true e) now
         by_answer (search.Sleeping cause) o g now = nothing None (λ i e. false≢true e) now
         by_answer (search.Over None) o g now = nothing (Some NoInode) (λ i e. false≢true e) now
         by_answer (search.Over (Some i)) None g now = absurd g
-        by_answer (search.Over (Some i)) (Some k) g now = subst (λ (y : Image). Marks (Some (Made i)) cur y) (sym now) (marks_claimed cur (with_inode cur i (new_inode m.kind)) i m.kind (claimed i g))
+        by_answer (search.Over (Some i)) (Some k) g now = subst (λ (y : Image). Marks (Some (Made i)) cur y) (sym now) (marks_claimed cur (with_inode cur i (new_inode m.kind)) i m.kind (claimed i g.2))
         by_answer (search.Fault fault) o g now = nothing None (λ i e. false≢true e) now
 
 -- the tasks then
@@ -328,19 +310,19 @@ held_then s p m (search.Sleeping cause) agrees stood d slot locks is =
 held_then s p m (search.Over made) agrees stood d slot locks is = absurd (cc is)
 held_then s p m (search.Fault fault) agrees stood d slot locks is = absurd (cc is)
 
-falls_then : (n : ℕ) (m new : SearchState) (cur : Image) (r : Progress (Option ℕ)) → m.inode_count ≡ n → m.block ≤ inode_block (n - 1) → SearchGoes m.slot cur m r new → answer_of r ≡ progress.Moved → steps_left (place_then r m new) n < steps_left (place.Creating m) n
-falls_then n m new cur search.Moved count last g is = fewer m.slot n m new cur refl count last g
-falls_then n m new cur (search.Sleeping cause) count last g is = absurd (cc is)
-falls_then n m new cur (search.Over made) count last g is = absurd (cc is)
-falls_then n m new cur (search.Fault fault) count last g is = absurd (cc is)
+falls_then : (n : ℕ) (m new : SearchState) (cur : Image) (c : Buffers) (r : Progress (Option ℕ)) → m.inode_count ≡ n → m.block ≤ inode_block (n - 1) → SearchGoes m.slot cur c m r new → answer_of r ≡ progress.Moved → steps_left (place_then r m new) n < steps_left (place.Creating m) n
+falls_then n m new cur c search.Moved count last g is = fewer m.slot n m new cur c refl count last g
+falls_then n m new cur c (search.Sleeping cause) count last g is = absurd (cc is)
+falls_then n m new cur c (search.Over made) count last g is = absurd (cc is)
+falls_then n m new cur c (search.Fault fault) count last g is = absurd (cc is)
 
 -- THE STEP: what a store promises of a step of its search
 pub search_steps : {D N : Type 0} (disk : Ghosts D N) (s : StoreState D) (u : VolumeState D) (p : ℕ) (m new : SearchState) (op : Op) (r : Progress (Option ℕ))
     → Agrees s.volume.buffers s.volume.log s.inode_count s.tasks → s.inode_count ≡ inode_count_of (current_of disk.image s.volume) → p < length s.tasks
     → (task s.tasks p).place ≡ place.Creating m → (task s.tasks p).op ≡ Some op → IsLawfulGeometry (current_of disk.image s.volume) → IsImage (current_of disk.image s.volume)
-    → p < length s.volume.log.used → Allocates disk.image m.slot m s.volume p r new u → SearchSteps disk m.slot s.volume u p m new r
+    → p < length s.volume.log.used → SearchSteps disk m.slot s.volume u p m new r
     → Steps disk s p op (answer_of r) (store_then s u p new r)
-search_steps disk s u p m new op r agrees numbers inside stood is_op geometry full pid does steps =
+search_steps disk s u p m new op r agrees numbers inside stood is_op geometry full pid steps =
     let t = store_then s u p new r in
     let cur = current_of disk.image s.volume in
     let mine = searching s.volume.buffers s.volume.buffers s.volume.log s.inode_count p s.tasks m agrees inside stood in
@@ -350,7 +332,7 @@ search_steps disk s u p m new op r agrees numbers inside stood is_op geometry fu
       files = files_then disk.image s t p m new op r agrees numbers inside stood is_op steps.current m.slot steps.goes;
       goes = subst (λ (a : Place). Goes a s.inode_count p s.volume.buffers (answer_of r) (task t.tasks p).place (shown_of disk.image s.volume) (shown_of disk.image u)) (sym stood)
           (subst (λ (a : Place). GoesFrom m.slot s.inode_count p m s.volume.buffers (answer_of r) a (shown_of disk.image s.volume) (shown_of disk.image u)) (sym now.0)
-          (goes_now disk.image s t p m new op r agrees numbers inside stood is_op steps.current geometry full few m.slot steps.log does steps.goes));
+          (goes_now disk.image s t p m new op r agrees numbers inside stood is_op steps.current geometry full few m.slot steps.log steps.buffers steps.goes));
       tasks = record {
         op_stays = now.1;
         others = λ q apart. others_then s.tasks p new r q apart;
@@ -369,5 +351,5 @@ search_steps disk s u p m new op r agrees numbers inside stood is_op geometry fu
         faults = steps.faults ∙ ap (λ (o : Option DiskFault). faults_after o (disk.fault_count s.volume.device)) (sym (fault_then r));
       };
       falls = λ is. subst (λ (a : Place). steps_left (task t.tasks p).place s.inode_count < steps_left a s.inode_count) (sym stood)
-          (subst (λ (a : Place). steps_left a s.inode_count < steps_left (place.Creating m) s.inode_count) (sym now.0) (falls_then s.inode_count m new cur r mine.count mine.last steps.goes is));
+          (subst (λ (a : Place). steps_left a s.inode_count < steps_left (place.Creating m) s.inode_count) (sym now.0) (falls_then s.inode_count m new cur s.volume.buffers r mine.count mine.last steps.goes is));
     }

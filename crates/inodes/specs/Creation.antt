@@ -6,7 +6,8 @@ use Rattle.model.specs.Journal.{is_number}
 
 -- operations may name the number, and its inode block says that it is free
 abbrev pub is_free_in : List ℕ → ℕ → ℕ → Bool
-is_free_in block inode_count i = is_number inode_count i && ((inode_in (inode_bytes_in block i)).kind == 0)
+is_free_in block inode_count i =
+    is_number inode_count i && ((inode_in (inode_bytes_in block i)).kind == 0)
 
 -- the numbers whose inodes stand in that inode block
 abbrev pub numbers_in : ℕ → List ℕ

@@ -1,5 +1,5 @@
 -- A step of a creation's search for a free number.
-use Rattle.std.specs.Prelude.{◌≡◌, ◌<◌, ◌≤◌, ℕ, ◌+◌, ◌-◌, ◌*◌, ◌%◌, ◌==◌, Bool, true, false, IsTrue, Option, Some, None}
+use Rattle.std.specs.Prelude.{◌≡◌, ◌<◌, ◌≤◌, ℕ, ◌+◌, ◌-◌, ◌*◌, ◌%◌, ◌==◌, Bool, true, false, IsTrue, Option, Some, None, IsSome}
 use Rattle.blocks.specs.Calls.{OnlyReads}
 use Rattle.blocks.specs.Disk.{Image, block_at}
 use Rattle.blocks.specs.declared.disk.Disk.{Ghosts}
@@ -14,8 +14,8 @@ use Rattle.wal.specs.Joint.{seen}
 use Rattle.wal.specs.Machine.{LogState, noted}
 use Rattle.wal.specs.Volume.{VolumeState, Holds, get_answer, after_get, after_change, FailsToFill, faults_after}
 use Rattle.wal.specs.declared.types.Get.TheVariants as get
-use Rattle.inodes.specs.declared.progress.Progress.{Progress}
-use Rattle.inodes.specs.declared.progress.Progress.TheVariants as progress
+use Rattle.blockmap.specs.declared.progress.Progress.{Progress}
+use Rattle.blockmap.specs.declared.progress.Progress.TheVariants as progress
 use Rattle.inodes.specs.Creation.{lowest_free}
 
 -- Where a creation's search stands.
@@ -41,7 +41,6 @@ pub record IsReady (cur : Image) (c : Buffers) (size pid : ℕ) (m : SearchState
   pub last : m.block ≤ inode_block (m.inode_count - 1)
   pub some : 2 ≤ m.inode_count
   pub few : m.inode_count ≤ 1024
-  pub count : m.inode_count ≡ inode_count_of cur
   pub within : inode_block (m.inode_count - 1) < size
   pub holds : HoldsCurrent cur c pid m.block m.slot
 
@@ -60,18 +59,6 @@ at_slot m i = record m { slot = Some i }
 abbrev pub at_next_block : SearchState → SearchState
 at_next_block m = record m { block = m.block + 1; slot = None }
 
--- the step that gets the block, over a disk with the image x
-abbrev pub Gets : {D : Type 0} → Image → Image → SearchState → VolumeState D → ℕ
-    → Progress (Option ℕ) → SearchState → VolumeState D → Type 0
-Gets x cur m v pid progress.Moved n w =
-    (i : ℕ) × (get_answer v.buffers m.block ≡ get.Got i) × (n ≡ at_slot m i)
-    × (w.buffers ≡ after_get x v.buffers pid m.block) × (w.log ≡ v.log) × Holds cur w.buffers pid m.block i
-Gets x cur m v pid (progress.Sleeping why) n w =
-    (get_answer v.buffers m.block ≡ get.Sleeping why) × (n ≡ m) × (w ≡ v)
-Gets x cur m v pid (progress.Over out) n w = ⊥
-Gets x cur m v pid (progress.Fault fault) n w =
-    FailsToFill v.buffers w.buffers pid m.block fault × (n ≡ m) × (w.log ≡ v.log)
-
 abbrev pub with_released : {D : Type 0} → VolumeState D → ℕ → VolumeState D
 with_released v s = record v { buffers = released v.buffers s }
 
@@ -80,23 +67,21 @@ abbrev pub with_new_inode : {D : Type 0} → VolumeState D → ℕ → ℕ → �
 with_new_inode v pid s i kind =
     with_released (after_change v pid s (i % 16 * 64) (dinode_bytes (new_inode kind))) s
 
--- the step that looks at the block: it claims the number that is free, or goes on to the next block
-abbrev pub Looks : {D : Type 0} → Option ℕ → Bool → SearchState → VolumeState D → ℕ → ℕ
-    → Progress (Option ℕ) → SearchState → VolumeState D → Type 0
-Looks (Some i) last m v pid s r n w =
-    (r ≡ progress.Over (Some i)) × (n ≡ m) × (w ≡ with_new_inode v pid s i m.kind)
-Looks None true m v pid s r n w = (r ≡ progress.Over None) × (n ≡ m) × (w ≡ with_released v s)
-Looks None false m v pid s r n w =
-    (r ≡ progress.Moved) × (n ≡ at_next_block m) × (w ≡ with_released v s)
-
--- one step of the search, by whether it had got its block
-abbrev pub Allocates : {D : Type 0} → (D → Image) → Option ℕ → SearchState → VolumeState D → ℕ
-    → Progress (Option ℕ) → SearchState → VolumeState D → Type 0
-Allocates image None m v pid r n w =
-    Gets (image v.device) (seen (image v.device) v.buffers) m v pid r n w
-Allocates image (Some s) m v pid r n w =
-    Looks (lowest_free (block_at (seen (image v.device) v.buffers) m.block) m.inode_count m.block)
-    (is_last_block m) m v pid s r n w
+-- The buffers after a step that was made, by whether the search had got its block; who sleeps
+-- changes none, and which answers there are `SearchGoes` says.
+abbrev pub BuffersAfter : {D : Type 0} → (D → Image) → Option ℕ → SearchState → VolumeState D → ℕ
+    → Progress (Option ℕ) → Buffers → Type 0
+BuffersAfter image None m v pid progress.Moved d =
+    d ≡ after_get (image v.device) v.buffers pid m.block
+BuffersAfter image None m v pid (progress.Sleeping why) d = Unit {0}
+BuffersAfter image None m v pid (progress.Over out) d = Unit {0}
+BuffersAfter image None m v pid (progress.Fault fault) d = FailsToFill v.buffers d pid m.block fault
+BuffersAfter image (Some s) m v pid progress.Moved d = d ≡ released v.buffers s
+BuffersAfter image (Some s) m v pid (progress.Sleeping why) d = Unit {0}
+BuffersAfter image (Some s) m v pid (progress.Over None) d = d ≡ released v.buffers s
+BuffersAfter image (Some s) m v pid (progress.Over (Some i)) d =
+    d ≡ (with_new_inode v pid s i m.kind).buffers
+BuffersAfter image (Some s) m v pid (progress.Fault fault) d = Unit {0}
 
 -- the current image after a step with that answer
 abbrev pub current_after : Image → SearchState → Progress (Option ℕ) → Image
@@ -126,19 +111,32 @@ pub record IsFree (cur : Image) (m : SearchState) (i : ℕ) : Type 0 where
   pub number : IsTrue (is_number m.inode_count i)
   pub free : (inode_of cur i).kind ≡ 0
 
--- where a step leads to and why, by whether the search had got its block
-abbrev pub SearchGoes : Option ℕ → Image → SearchState → Progress (Option ℕ) → SearchState → Type 0
-SearchGoes None cur m progress.Moved n = (i : ℕ) × (n ≡ at_slot m i)
-SearchGoes None cur m (progress.Sleeping why) n = n ≡ m
-SearchGoes None cur m (progress.Over out) n = ⊥
-SearchGoes None cur m (progress.Fault fault) n = (n ≡ m) × (fault.0 ≡ m.block)
-SearchGoes (Some s) cur m progress.Moved n =
-    (n ≡ at_next_block m) × (is_last_block m ≡ false) × HasNoFreeInode cur m.block
-SearchGoes (Some s) cur m (progress.Sleeping why) n = ⊥
-SearchGoes (Some s) cur m (progress.Over None) n =
-    (is_last_block m ≡ true) × HasNoFreeInode cur m.block
-SearchGoes (Some s) cur m (progress.Over (Some i)) n = IsFree cur m i
-SearchGoes (Some s) cur m (progress.Fault fault) n = ⊥
+-- a look that finds none: where the search counts the image's numbers, none of the block is free
+abbrev pub SeesNoneFree : Image → SearchState → Type 0
+SeesNoneFree cur m = m.inode_count ≡ inode_count_of cur → HasNoFreeInode cur m.block
+
+-- the lowest free number in the block that is looked at
+abbrev pub finds : Image → SearchState → Option ℕ
+finds cur m = lowest_free (block_at cur m.block) m.inode_count m.block
+
+-- Where a step leads to and why, by whether the search had got its block: it gets the block as the
+-- buffers say, or claims the number that it finds, or goes on to the next block.
+abbrev pub SearchGoes : Option ℕ → Image → Buffers → SearchState → Progress (Option ℕ) → SearchState
+    → Type 0
+SearchGoes None cur c m progress.Moved n =
+    (i : ℕ) × (get_answer c m.block ≡ get.Got i) × (n ≡ at_slot m i)
+SearchGoes None cur c m (progress.Sleeping why) n =
+    (get_answer c m.block ≡ get.Sleeping why) × (n ≡ m)
+SearchGoes None cur c m (progress.Over out) n = ⊥
+SearchGoes None cur c m (progress.Fault fault) n = n ≡ m
+SearchGoes (Some s) cur c m progress.Moved n =
+    (n ≡ at_next_block m) × (is_last_block m ≡ false) × (finds cur m ≡ None) × SeesNoneFree cur m
+SearchGoes (Some s) cur c m (progress.Sleeping why) n = ⊥
+SearchGoes (Some s) cur c m (progress.Over None) n =
+    (n ≡ m) × (is_last_block m ≡ true) × (finds cur m ≡ None) × SeesNoneFree cur m
+SearchGoes (Some s) cur c m (progress.Over (Some i)) n =
+    (n ≡ m) × (finds cur m ≡ Some i) × IsFree cur m i
+SearchGoes (Some s) cur c m (progress.Fault fault) n = ⊥
 
 -- what it makes of the locks
 abbrev pub SearchLocks : Option ℕ → Progress (Option ℕ) → Buffers → Buffers → ℕ → ℕ → Option ℕ
@@ -160,10 +158,11 @@ log_after l pid b (progress.Over None) = l
 log_after l pid b (progress.Over (Some i)) = noted l pid b
 log_after l pid b (progress.Fault fault) = l
 
--- What a step of the search makes of locks, log, image and disk, by whether it had got its block.
+-- THE PROMISE OF A STEP of the search, by whether it had got its block.
 pub record SearchSteps {D N : Type 0} (disk : Ghosts D N) (slot : Option ℕ) (v w : VolumeState D)
     (pid : ℕ) (m n : SearchState) (r : Progress (Option ℕ)) : Type 0 where
-  pub goes : SearchGoes slot (seen (disk.image v.device) v.buffers) m r n
+  pub goes : SearchGoes slot (seen (disk.image v.device) v.buffers) v.buffers m r n
+  pub buffers : BuffersAfter disk.image slot m v pid r w.buffers
   pub locks : SearchLocks slot r v.buffers w.buffers pid m.block n.slot
   pub log : w.log ≡ log_after v.log pid m.block r
   pub asleep : (cause : Why) → r ≡ progress.Sleeping cause → w ≡ v
@@ -172,5 +171,7 @@ pub record SearchSteps {D N : Type 0} (disk : Ghosts D N) (slot : Option ℕ) (v
       ≡ current_after (seen (disk.image v.device) v.buffers) m r
   pub fault : w.fault ≡ fault_in r
   pub device : OnlyReads disk v.device w.device
+  -- a look leaves the disk
+  pub looks : IsSome slot → w.device ≡ v.device
   pub faults : disk.fault_count w.device
       ≡ faults_after (fault_in r) (disk.fault_count v.device)

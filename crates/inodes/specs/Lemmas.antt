@@ -1,5 +1,10 @@
--- What follows from the definitions: the lemmas that the proofs of this crate and of those above it use.
+-- What follows from the definitions: the lemmas that the proofs of this crate and of those above
+-- it use.
 pub mod Bounds
 pub mod Looks
 pub mod Faults
 pub mod Ends
+pub mod Runs
+pub mod ReadRuns
+pub mod Table
+pub mod Grips

@@ -1,6 +1,13 @@
 pub mod Creation
+pub mod Grips
 pub mod Ialloc
+pub mod Ilock
+pub mod Readi
+pub mod ReadRuns
 pub mod Lemmas
+pub mod LockState
+pub mod Runs
 pub mod Steps
 pub mod Store
+pub mod Table
 pub mod Tasks

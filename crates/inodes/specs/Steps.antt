@@ -1,27 +1,22 @@
 -- What a step of a task promises.
-use Rattle.std.specs.Prelude.{◌≡◌, ◌≢◌, ◌<◌, ℕ, ◌+◌, ◌-◌, ◌*◌, Bool, true, false, IsTrue, length, Option, Some, None}
+use Rattle.std.specs.Prelude.{◌≡◌, ◌≢◌, ◌<◌, ℕ, ◌+◌, ◌-◌, ◌*◌, Bool, true, false, length, Option, Some, None}
 use Rattle.blocks.specs.Calls.{OnlyReads}
-use Rattle.blocks.specs.Disk.{Image, Elapses, block_at, one_more}
+use Rattle.blocks.specs.Disk.{Image, block_at}
 use Rattle.blocks.specs.declared.disk.Disk.{Ghosts}
 use Rattle.model.specs.declared.types.operations.Op.{Op}
 use Rattle.model.specs.declared.types.operations.Reply.{Reply}
 use Rattle.model.specs.declared.types.operations.Reply.TheVariants.{Made, NoInode, Wrote, Bytes, Done, StatOf, NoFile, BadOffset, TooBig, TooLong, BadType}
 use Rattle.model.specs.declared.types.operations.Why.{Why}
 use Rattle.model.specs.declared.types.operations.Why.TheVariants as why
-use Rattle.model.specs.Agreement.{IsSameOutsideLog}
-use Rattle.model.specs.Codec.{header_block, new_inode, with_inode}
+use Rattle.model.specs.Codec.{new_inode, with_inode}
 use Rattle.model.specs.Files.{Files}
 use Rattle.model.specs.Layout.{form_of, inode_block, inode_of, HasNoFreeInode}
-use Rattle.model.specs.Log.{is_lawful_log}
 use Rattle.model.specs.Tasks.{FilesThen, fault_of_task, reply_at_turn, Marks}
 use Rattle.bcache.specs.Buffers.{Buffers}
 use Rattle.wal.specs.Machine.{LogState, SameGroups, noted}
 use Rattle.wal.specs.declared.types.Committed.{Committed}
 use Rattle.wal.specs.Held.{HasLock}
-use Rattle.wal.specs.Joint.{place_at}
-use Rattle.wal.specs.Kept.{CrashKeeps}
-use Rattle.wal.specs.Step.{Stepped, Faulted, CommitsTo, IsFault}
-use Rattle.wal.specs.Volume.{VolumeState, faults_after, fault_of_step, get_answer}
+use Rattle.wal.specs.Volume.{VolumeState, VolumeCommits, faults_after, get_answer}
 use Rattle.wal.specs.declared.types.Get.TheVariants as get
 use Rattle.inodes.specs.Ialloc.{SearchState}
 use Rattle.model.specs.declared.types.operations.TaskProgress.{TaskProgress}
@@ -159,14 +154,16 @@ pub record Waits {D : Type 0} (old : StoreState D) (p : ℕ) (r : TaskProgress) 
       → IsHeldByAnother old p (block_at_place (task old.tasks p).place)
 
 -- a step reads one block at most, and writes none
-pub record Reads {D N : Type 0} (disk : Ghosts D N) (old : StoreState D) (r : TaskProgress) (new : StoreState D) : Type 0 where
+pub record Reads {D N : Type 0} (disk : Ghosts D N) (old : StoreState D) (r : TaskProgress)
+    (new : StoreState D) : Type 0 where
   pub device : OnlyReads disk old.volume.device new.volume.device
   pub fault : new.volume.fault ≡ fault_of_task r
   pub faults : disk.fault_count new.volume.device
       ≡ faults_after (fault_of_task r) (disk.fault_count old.volume.device)
 
 -- THE PROMISE OF A STEP of process p's task, which carries out this operation.
-pub record Steps {D N : Type 0} (disk : Ghosts D N) (old : StoreState D) (p : ℕ) (op : Op) (r : TaskProgress) (new : StoreState D) : Type 0 where
+pub record Steps {D N : Type 0} (disk : Ghosts D N) (old : StoreState D) (p : ℕ) (op : Op)
+    (r : TaskProgress) (new : StoreState D) : Type 0 where
   -- whatever files it stood for, it stands for those that the answer says
   pub files : (m : Files) → FitsFiles disk.image old m
       → FilesThen (form_of (current_of disk.image old.volume)) op r m (FitsFiles disk.image new)
@@ -184,20 +181,9 @@ pub record Steps {D N : Type 0} (disk : Ghosts D N) (old : StoreState D) (p : �
       < steps_left (task old.tasks p).place old.inode_count
 
 -- THE PROMISE OF A COMMIT'S WRITE.
-pub record Commits {D N : Type 0} (disk : Ghosts D N) (old : StoreState D) (r : Committed) (new : StoreState D) : Type 0 where
-  pub step : CommitsTo old.volume.log.commit old.volume.log.opened r
-      (Stepped (header_block old.volume.log.homes) (disk.image old.volume.device) old.volume.buffers old.volume.log (disk.image new.volume.device) new.volume.buffers new.volume.log)
-      (Faulted (header_block old.volume.log.homes) (disk.image old.volume.device) old.volume.buffers old.volume.log (disk.image new.volume.device) new.volume.buffers new.volume.log)
-  pub fault : new.volume.fault ≡ fault_of_step r
-  pub name : disk.name new.volume.device ≡ disk.name old.volume.device
-  pub same : IsSameOutsideLog (current_of disk.image old.volume) (current_of disk.image new.volume)
-  pub time : Elapses (disk.moment old.volume.device) (disk.moment new.volume.device) (disk.leaves old.volume.device) (disk.leaves new.volume.device)
-  pub keeps : (z : Image) → disk.leaves new.volume.device (disk.moment new.volume.device) z → CrashKeeps old.volume.log.commit (disk.image old.volume.device) (current_of disk.image old.volume) z
-  pub lawful : (z : Image) → disk.leaves new.volume.device (disk.moment new.volume.device) z → IsTrue (is_lawful_log z)
-  pub writes : IsFault r (λ fault. disk.write_count new.volume.device ≡ disk.write_count old.volume.device)
-      (disk.fault_count new.volume.device ≡ one_more (disk.fault_count old.volume.device)) (disk.write_count new.volume.device ≡ one_more (disk.write_count old.volume.device))
-  pub faults : IsFault r (λ fault. fault.0 ≡ place_at old.volume.log.commit old.volume.log.homes)
-      (disk.fault_count new.volume.device ≡ one_more (disk.fault_count old.volume.device)) (disk.fault_count new.volume.device ≡ disk.fault_count old.volume.device)
+pub record Commits {D N : Type 0} (disk : Ghosts D N) (old : StoreState D) (r : Committed)
+    (new : StoreState D) : Type 0 where
+  pub volume : VolumeCommits disk old.volume r new.volume
   pub files : KeepsFiles disk.image old new
   pub tasks : new.tasks ≡ old.tasks
   pub numbers : new.inode_count ≡ old.inode_count

@@ -13,7 +13,7 @@ use Rattle.loose.specs.Loose.{Fits}
 use Rattle.bcache.specs.Buffers.{Buffers, fresh_buffers}
 use Rattle.wal.specs.Held.{HoldsBlock, HasLock}
 use Rattle.wal.specs.Joint.{seen}
-use Rattle.wal.specs.Machine.{LogState, used_by, begun, new_log}
+use Rattle.wal.specs.Machine.{LogState, used_by, begin_cause, begun, new_log}
 use Rattle.wal.specs.Volume.{VolumeState}
 use Rattle.inodes.specs.Ialloc.{SearchState}
 use Rattle.inodes.specs.declared.tasks.Place.{Place}
@@ -53,6 +53,12 @@ with_place s p a = record s { tasks = slice_set s.tasks p (record (task s.tasks 
 abbrev pub HasGroupNumber : LogState → Type 0
 HasGroupNumber l = l.outstanding ≡ 0 → l.opened + 1 < 2 ^ 64
 
+-- process p has no operation open in the log, and need not wait to open one
+pub record MayBegin (l : LogState) (p : ℕ) : Type 0 where
+  pub none : used_by l p ≡ None
+  pub free : begin_cause l ≡ None
+  pub opened : HasGroupNumber l
+
 -- operations that a store carries out
 abbrev pub CanBegin : Op → Type 0
 CanBegin (Create kind) = IsTrue (is_kind kind)
@@ -64,7 +70,12 @@ CanBegin (Stat i) = ⊥
 
 -- where the task of an operation begins
 abbrev pub first_place : Op → ℕ → Place
-first_place (Create kind) n = place.Creating (record { kind = kind; inode_count = n; block = 33; slot = None })
+first_place (Create kind) n = place.Creating (record {
+  kind = kind;
+  inode_count = n;
+  block = 33;
+  slot = None;
+})
 first_place (Write i off bytes) n = place.Nowhere
 first_place (Read i off m) n = place.Nowhere
 first_place (Trunc i) n = place.Nowhere
@@ -84,7 +95,12 @@ with_begun s p op = record (with_log s (begun s.volume.log p)) {
 
 -- a disk that was just opened
 abbrev pub fresh_volume : {D : Type 0} → (D → Image) → D → VolumeState D
-fresh_volume image d = record { device = d; buffers = fresh_buffers; log = new_log (length (image d)); fault = None }
+fresh_volume image d = record {
+  device = d;
+  buffers = fresh_buffers;
+  log = new_log (length (image d));
+  fault = None;
+}
 
 -- the slot that a task has got
 abbrev pub slot_at : Place → Option ℕ
@@ -97,7 +113,8 @@ HoldsAt c p b None = Unit {0}
 HoldsAt c p b (Some i) = HoldsBlock c p b i
 
 -- a creation that looks for a free number is open in the log, and added nothing yet
-pub record IsSearching (c : Buffers) (l : LogState) (n p : ℕ) (o : Option Op) (m : SearchState) : Type 0 where
+pub record IsSearching (c : Buffers) (l : LogState) (n p : ℕ) (o : Option Op) (m : SearchState)
+    : Type 0 where
   pub op : o ≡ Some (Create m.kind)
   pub used : used_by l p ≡ Some 0
   pub count : m.inode_count ≡ n

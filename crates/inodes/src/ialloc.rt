@@ -7,7 +7,7 @@ ghost use Rattle.wal.specs.Held.{GivesUpLock};
 ghost use Rattle.wal.specs.Joint.{seen};
 ghost use Rattle.wal.specs.Volume.{Holds};
 ghost use Rattle.inodes.specs.Creation.{is_free_in, lowest_free};
-ghost use Rattle.inodes.specs.Ialloc.{MayStep, SearchSteps, Allocates, is_last_block, at_next_block, with_new_inode};
+ghost use Rattle.inodes.specs.Ialloc.{MayStep, SearchSteps, is_last_block, at_next_block, with_new_inode};
 
 use crate::Progress;
 use blocks::{Block, Disk};
@@ -17,8 +17,8 @@ use std::marker::Model;
 use wal::{Get, Volume};
 
 /// The steps in which a creation claims an inode number (`ialloc`; the xv6 book, the chapter "File
-/// system": "Code: Inodes"): it looks at the inode blocks in order, from the one of number 1 on, and
-/// takes the lowest free number of the first block that has one.
+/// system": "Code: Inodes"): it looks at the inode blocks in order, from the one of number 1 on,
+/// and takes the lowest free number of the first block that has one.
 ///
 /// A look is two steps: one that gets the block, and one that claims a number in it or goes on.
 #[derive(Clone, Copy, Debug, PartialEq, Eq)]
@@ -79,9 +79,7 @@ impl Ialloc {
         requires pid { pid < 32 }
         requires room { HasRoom (used_by volume.old.log pid) }
         requires ready { MayStep D.image volume.old pid self.old }
-        ensures step { Allocates D.image self.old.slot self.old volume.old pid
-            result self.new volume.new }
-        ensures search { SearchSteps D.Disk self.old.slot volume.old volume.new pid
+        ensures { SearchSteps D.Disk self.old.slot volume.old volume.new pid
             self.old self.new result }
     {
         match self.slot {
@@ -95,9 +93,7 @@ impl Ialloc {
         requires fault { volume.old.fault ≡ None }
         requires ready { MayStep D.image volume.old pid self.old }
         requires slot { self.old.slot ≡ None }
-        ensures step { Allocates D.image None self.old volume.old pid
-            result self.new volume.new }
-        ensures search { SearchSteps D.Disk None volume.old volume.new pid
+        ensures { SearchSteps D.Disk None volume.old volume.new pid
             self.old self.new result }
     {
         match volume.get(pid, self.block) {
@@ -122,9 +118,7 @@ impl Ialloc {
         requires room { HasRoom (used_by volume.old.log pid) }
         requires ready { MayStep D.image volume.old pid self.old }
         requires slot { self.old.slot ≡ Some slot }
-        ensures step { Allocates D.image (Some slot) self.old volume.old pid
-            result self.new volume.new }
-        ensures search { SearchSteps D.Disk (Some slot) volume.old volume.new pid
+        ensures { SearchSteps D.Disk (Some slot) volume.old volume.new pid
             self.old self.new result }
     {
         match lowest_free(volume.data(slot), self.inode_count, self.block) {

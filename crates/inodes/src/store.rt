@@ -5,9 +5,9 @@ ghost use Rattle.model.specs.Files.{files_of};
 ghost use Rattle.model.specs.declared.types.operations.Op.{Op};
 ghost use Rattle.model.specs.Layout.{inode_count_of};
 ghost use Rattle.model.specs.Soundness.{IsSound};
-ghost use Rattle.wal.specs.Machine.{used_by, is_quiet, begin_cause, begun, ended, end_answer};
+ghost use Rattle.wal.specs.Machine.{used_by, is_quiet, begun, ended, end_answer};
 ghost use Rattle.inodes.specs.Tasks.{task, no_task};
-ghost use Rattle.inodes.specs.Store.{IsStore, HasGroupNumber, FitsFiles, KeepsFiles, fresh_volume, with_begun, with_log, first_place, reply_of, CanBegin};
+ghost use Rattle.inodes.specs.Store.{IsStore, MayBegin, FitsFiles, KeepsFiles, fresh_volume, with_begun, with_log, first_place, reply_of, CanBegin};
 ghost use Rattle.inodes.specs.Steps.{Steps, Commits, is_over};
 ghost use Rattle.inodes.specs.declared.tasks.Place.TheVariants as place;
 
@@ -31,9 +31,17 @@ impl<D: Disk> Model for Store<D> {
 
     ghost Value = { StoreState D };
 
-    ghost view = { λ s. record { volume = s.volume; tasks = s.tasks; inode_count = s.inode_count } };
+    ghost view = { λ s. record {
+      volume = s.volume;
+      tasks = s.tasks;
+      inode_count = s.inode_count;
+    } };
 
-    ghost invariant = { λ s. IsStore D.image (record { volume = s.volume; tasks = s.tasks; inode_count = s.inode_count }) };
+    ghost invariant = { λ s. IsStore D.image (record {
+      volume = s.volume;
+      tasks = s.tasks;
+      inode_count = s.inode_count;
+    }) };
 }
 
 impl<D: Disk> Store<D> {
@@ -95,10 +103,8 @@ impl<D: Disk> Store<D> {
         requires fault { self.old.volume.fault ≡ None }
         requires pid { pid < length self.old.tasks }
         requires idle { (task self.old.tasks pid).place ≡ place.Nowhere }
-        requires none { used_by self.old.volume.log pid ≡ None }
         requires op { CanBegin op.now }
-        requires free { begin_cause self.old.volume.log ≡ None }
-        requires opened { HasGroupNumber self.old.volume.log }
+        requires may { MayBegin self.old.volume.log pid }
         ensures group { result ≡ (begun self.old.volume.log pid).opened }
         ensures store { self.new ≡ with_begun self.old pid op.now }
         ensures files { KeepsFiles D.image self.old self.new }
@@ -194,9 +200,7 @@ fn reply_of(made: Option<u32>) -> Reply
 fn open_group<D: Disk>(volume: &mut Volume<D>, pid: u32) -> u64
     requires fault { volume.old.fault ≡ None }
     requires pid { pid < 32 }
-    requires none { used_by volume.old.log pid ≡ None }
-    requires opened { HasGroupNumber volume.old.log }
-    requires free { begin_cause volume.old.log ≡ None }
+    requires may { MayBegin volume.old.log pid }
     ensures group { result ≡ (begun volume.old.log pid).opened }
     ensures volume { volume.new ≡ record volume.old { log = begun volume.old.log pid } }
 {

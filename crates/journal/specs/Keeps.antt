@@ -14,8 +14,8 @@ use Rattle.wal.specs.declared.types.Commit.{Commit}
 use Rattle.wal.specs.declared.types.Commit.TheVariants as commit
 use Rattle.wal.specs.Volume.{VolumeState}
 
--- Image y is sound and has the opening's files after these entries; what no operation touches is the
--- opening's.
+-- Image y is sound and has the opening's files after these entries; what no operation touches is
+-- the opening's.
 pub record HasFilesAfter (opening : Image) (entries : List Entry) (y : Image) : Type 0 where
   pub size : length y ≡ length opening
   pub sound : IsSound y
@@ -50,7 +50,8 @@ pub record KeepsBetween (least most : ℕ) (opening : Image) (entries : List Ent
   pub high : groups ≤ most
   pub keeps : Keeps opening entries x groups
 
--- recovery of x keeps the committed groups; after a fault in the write of a header, those or one more
+-- recovery of x keeps the committed groups; after a fault in the write of a header, those or one
+-- more
 abbrev pub KeepsNow : {D : Type 0} → VolumeState D → Image → List Entry → Image → Type 0
 KeepsNow v opening entries x = KeepsBetween v.log.committed (most_of v) opening entries x
 

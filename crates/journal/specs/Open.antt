@@ -8,8 +8,8 @@ use Rattle.model.specs.declared.types.operations.Reply.{Reply}
 use Rattle.model.specs.Operations.{transfer_limit}
 use Rattle.model.specs.Journal.{answered, own, is_making, is_number, is_changing}
 
--- The number of the file that an operation's answer depends on; 0 for a creation, and for what is too
--- long whatever the file is.
+-- The number of the file that an operation's answer depends on; 0 for a creation, and for what is
+-- too long whatever the file is.
 abbrev pub number_of : Op → ℕ
 number_of (Create kind) = 0
 number_of (Write i off bytes) = if nat_lt transfer_limit (length bytes) then 0 else i
@@ -36,8 +36,8 @@ is_write_op (Trunc i) = false
 is_write_op (Remove i) = false
 is_write_op (Stat i) = false
 
--- What a task behind its turn holds: the number of an inode, which nobody else holds, and whether it
--- writes it.
+-- What a task behind its turn holds: the number of an inode, which nobody else holds, and whether
+-- it writes it.
 pub record Held : Type 0 where
   pub number : ℕ
   pub writes : Bool
@@ -95,4 +95,5 @@ are_later n group es = list_all (λ (f : Entry). not (is_changing n f.op) || nat
 -- the groups of the changing entries rise
 abbrev pub AreRising : ℕ → List Entry → Type 0
 AreRising n [] = Unit {0}
-AreRising n (e ∷ es) = (is_changing n e.op ≡ true → IsTrue (are_later n e.group es)) × AreRising n es
+AreRising n (e ∷ es) =
+    (is_changing n e.op ≡ true → IsTrue (are_later n e.group es)) × AreRising n es

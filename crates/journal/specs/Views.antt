@@ -58,9 +58,11 @@ StandsAt n s es q (at.Before group op) =
 StandsAt n s es q (at.Behind group k) =
     InGroup s.log q group × ((e : Entry) × HasEntry es q k group e)
 StandsAt n s es q (at.Ending group k) =
-    (s.holds q ≡ None) × IsIn s.log q group × ((e : Entry) × HasEntry es q k group e × IsSome e.reply)
+    (s.holds q ≡ None) × IsIn s.log q group
+    × ((e : Entry) × HasEntry es q k group e × IsSome e.reply)
 StandsAt n s es q (at.Committing group k) =
-    (s.holds q ≡ None) × InGroup s.log q 0 × ((e : Entry) × HasEntry es q k group e × IsSome e.reply)
+    (s.holds q ≡ None) × InGroup s.log q 0
+    × ((e : Entry) × HasEntry es q k group e × IsSome e.reply)
 
 -- what is true of every store: a fact of its type
 pub record IsValidView (n : ℕ) (s : View) : Type 0 where

@@ -3,7 +3,7 @@ ghost use Rattle.std.specs.Prelude.{◌≡◌, ◌<◌, ◌^◌, ◌+◌, ◌-�
 ghost use Rattle.journal.specs.Journal.{plain_reply};
 
 use blocks::NoMemory;
-use model::types::{Answer, Entry, Reply};
+use model::types::{Answer, Entry, Op, Reply};
 use std::alloc::Global;
 use std::marker::Model;
 
@@ -27,7 +27,7 @@ impl Model for Journal {
 
 impl Journal {
     ghost use Rattle.std.specs.Prelude.{Some, IsSome};
-    ghost use Rattle.journal.specs.Journal.{reserved, journal_with, entry_in, answer_of};
+    ghost use Rattle.journal.specs.Journal.{reserved, journal_with, journal_told, entry_in, answer_of};
 
     /// Without entries, and with no place.
     pub fn new(alloc: Global) -> Journal
@@ -78,6 +78,23 @@ impl Journal {
         self.room -= 1;
         let _ = self.entries.push(entry);
         place
+    }
+
+    /// The operation of the entry at this place.
+    pub fn operation(&self, place: usize) -> &Op
+        requires { place < length self.now.list }
+        ensures { result.now ≡ (entry_in self.now.list place).op }
+    {
+        let entry = &self.entries[place];
+        &entry.op
+    }
+
+    /// The reply of the entry at this place is decided.
+    pub fn tell(&mut self, place: usize, reply: Reply)
+        requires { place < length self.old.list }
+        ensures { self.new ≡ journal_told self.old place reply }
+    {
+        self.entries[place].reply = Some(reply);
     }
 
     /// The answer of the entry at this place, which has a reply without bytes.

@@ -2,7 +2,7 @@
 ghost use Rattle.std.specs.Prelude.{◌≡◌, ◌<◌, ◌^◌, ◌+◌, ◌↔◌, [], IsTrue, true, length, Some, IsSome, IfOk, OnErr};
 ghost use Rattle.journal.specs.Processes.{World, process, fresh_world, with_place, taken, refused};
 ghost use Rattle.journal.specs.Journal.{plain_reply};
-ghost use Rattle.journal.specs.Processes.{turned, committing, answered, is_before, last_answer, refusal_answer};
+ghost use Rattle.journal.specs.Processes.{turned, decided, over, entry_place, operation_at, HasEntryPlace, committing, answered, is_before, last_answer, refusal_answer};
 
 use crate::{At, Journal, Process};
 use blocks::NoMemory;
@@ -24,7 +24,8 @@ impl Model for Processes {
 
     ghost Value = { World };
 
-    ghost view = { λ w. record { processes = w.processes.items; journal = w.journal; is_shut = w.is_shut } };
+    ghost view = { λ w.
+        record { processes = w.processes.items; journal = w.journal; is_shut = w.is_shut } };
 }
 
 impl Processes {
@@ -182,6 +183,42 @@ impl Processes {
         };
     }
 
+    /// The operation of a process that had its turn and goes on.
+    pub fn operation(&self, pid: u32) -> &Op
+        requires pid { pid < length self.now.processes }
+        requires entry { HasEntryPlace self.now (entry_place (process self.now pid).at) }
+        ensures { Some result.now ≡ operation_at self.now (entry_place (process self.now pid).at) }
+    {
+        let Some(place) = entry_place(&self.processes[pid as usize].at) else {
+            unreachable!();
+        };
+        self.journal.operation(place)
+    }
+
+    /// The reply of a process's operation that had its turn is decided.
+    pub fn decide(&mut self, pid: u32, reply: Reply)
+        requires pid { pid < length self.old.processes }
+        requires entry { HasEntryPlace self.old (entry_place (process self.old pid).at) }
+        ensures { self.new ≡ decided self.old pid reply }
+    {
+        let Some(place) = entry_place(&self.processes[pid as usize].at) else {
+            unreachable!();
+        };
+        self.journal.tell(place, reply);
+    }
+
+    /// The task of an operation that had its turn is over: it ends in the log next.
+    pub fn go_to_end(&mut self, pid: u32)
+        requires { pid < length self.old.processes }
+        ensures { self.new ≡ over self.old pid }
+    {
+        let process = &mut self.processes[pid as usize];
+        process.at = match mem::replace(&mut process.at, At::Idle) {
+            At::Behind { group, entry } => At::Ending { group, entry },
+            at => at,
+        };
+    }
+
     /// The operation of a process was the last of its group, and commits it.
     pub fn commit(&mut self, pid: u32)
         requires { pid < length self.old.processes }
@@ -194,8 +231,8 @@ impl Processes {
         };
     }
 
-    /// The operation of a process, which ends or commits and has a reply without bytes, is answered.
-    /// Its answer.
+    /// The operation of a process, which ends or commits and has a reply without bytes, is
+    /// answered. Its answer.
     pub fn answer(&mut self, pid: u32) -> Answer
         requires pid { pid < length self.old.processes }
         requires entry { IsSome (last_answer self.old (process self.old pid).at) }
@@ -203,12 +240,22 @@ impl Processes {
         ensures processes { self.new ≡ answered self.old pid }
     {
         let process = &mut self.processes[pid as usize];
-        let (At::Ending { entry, .. } | At::Committing { entry, .. }) = mem::replace(
-            &mut process.at,
-            At::Idle,
-        ) else {
+        let at = mem::replace(&mut process.at, At::Idle);
+        let Some(entry) = entry_place(&at) else {
             unreachable!();
         };
         self.journal.answer(entry)
+    }
+}
+
+// Where the entry of an operation stands that had its turn.
+fn entry_place(at: &At) -> Option<usize>
+    ensures { result ≡ entry_place at.now }
+{
+    match at {
+        At::Idle | At::Before { .. } => None,
+        At::Behind { entry, .. } | At::Ending { entry, .. } | At::Committing { entry, .. } => {
+            Some(*entry)
+        }
     }
 }

@@ -13,7 +13,7 @@ use Rattle.model.specs.declared.types.operations.TaskProgress.TheVariants as pro
 use Rattle.model.specs.Tasks.{fault_of_task}
 use Rattle.ports.specs.declared.herald.Herald as herald_trait
 use Rattle.ports.specs.declared.intake.Intake as intake_trait
-use Rattle.ports.specs.History.{Side}
+use Rattle.ports.specs.History.{Side, first_in}
 use Rattle.wal.specs.declared.types.Committed.{Committed}
 use Rattle.wal.specs.declared.types.Committed.TheVariants as committed
 use Rattle.wal.specs.declared.types.Ended.{Ended}
@@ -36,7 +36,6 @@ use Rattle.kernel.specs.declared.types.Step.{Step}
 use Rattle.kernel.specs.declared.types.Step.TheVariants as step
 use Rattle.kernel.specs.Device.{UsesDisk, CountsItsFault, WritesOnce, block_at_step}
 use Rattle.std.specs.Option.{option_map}
-use Rattle.ports.specs.History.{first_in}
 use Rattle.kernel.specs.declared.waiting.Waiting.{Waiting}
 use Rattle.kernel.specs.Next.{NextIf, NextAt, BeginsWith, Ends, step_of, step_of_end, step_of_write, world_after, world_written}
 use Rattle.kernel.specs.Ports.{KeepsOthers, Asks}
@@ -134,11 +133,11 @@ module _ {D N : Type 0} (disk : disk_trait.Ghosts D N) (s t : StoreState D) wher
   -- a write of a commit
   pub writes : (p group k : ℕ) (r : Committed) → Commits disk s r t → UsesDisk disk (at.Committing group k) p (step_of_write r) s t
   writes p group k r made =
-      let told = by_result r made.fault made.writes made.faults in
+      let told = by_result r made.volume.fault made.volume.write.writes made.volume.write.faults in
       record {
         halted = told.0.halted;
-        name = made.name;
-        time = made.time;
+        name = made.volume.write.name;
+        time = made.volume.write.time;
         image = λ e. absurd (false≢true (sym e));
         unwritten = λ e. absurd (false≢true (sym e));
         written = λ e runs. told.1 runs;

@@ -1,5 +1,5 @@
 -- Who is at an end, or commits, can be answered.
-use Rattle.std.proofs.Common.{◌≡◌, ℕ, ◌<◌, true}
+use Rattle.std.proofs.Common.{◌≡◌, ℕ, ◌<◌, true, None}
 use Rattle.std.specs.Prelude.{IsSome}
 use Rattle.blocks.specs.declared.disk.Disk.{Ghosts}
 use Rattle.model.specs.Files.{files_of}
@@ -12,7 +12,6 @@ use Rattle.journal.specs.Lemmas.Places.{ending_there}
 use Rattle.journal.specs.Processes.{World, process, last_answer, is_ending}
 use Rattle.kernel.specs.Invariant.{IsRight, HasFacts}
 use Rattle.kernel.specs.View.{view_of}
-use Rattle.std.proofs.Common.{None}
 
 -- so it is in every kernel whose disk has not failed
 module _ {D N : Type 0} (disk : Ghosts D N) (opening : D) (s : StoreState D) (w : World) (p : ℕ) (right : IsRight disk opening s w) (well : s.volume.fault ≡ None) where

@@ -2,13 +2,13 @@
 use Rattle.std.proofs.Common.{◌≡◌, ◌≤◌, ℕ, zero, suc, true, false, [], replicate, ◌∙◌, sym, refl, ap, subst, Option, None}
 use Rattle.std.proofs.lemmas.Bool.{false≢true}
 use Rattle.blocks.specs.declared.disk.Disk.{Ghosts}
-use Rattle.wal.specs.Machine.{LogState, is_quiet}
-use Rattle.inodes.specs.Tasks.{no_task}
+use Rattle.wal.specs.Machine.{LogState, is_quiet, used_by}
+use Rattle.inodes.specs.Tasks.{no_task, task}
 use Rattle.journal.specs.declared.types.Process.{Process}
 use Rattle.journal.specs.Alone.{CommitsAlone, is_committing_at}
 use Rattle.journal.specs.Lemmas.Nexts.{at_same}
 use Rattle.journal.specs.Processes.{World, fresh_world}
-use Rattle.journal.specs.Views.{View}
+use Rattle.journal.specs.Views.{View, KernelFacts}
 use Rattle.kernel.specs.Invariant.{IsRight}
 use Rattle.kernel.specs.State.{ats_of}
 use Rattle.kernel.proofs.Openings.{idle_at, paired_new, counted_new}
@@ -21,13 +21,10 @@ use Rattle.model.specs.Log.{is_lawful_log}
 use Rattle.model.specs.Soundness.{IsSound}
 use Rattle.wal.specs.Joint.{Joint}
 use Rattle.wal.specs.Lemmas.Volume.{fresh_seen}
-use Rattle.wal.specs.Machine.{used_by}
 use Rattle.wal.specs.Volume.{VolumeState}
-use Rattle.inodes.specs.Tasks.{task}
 use Rattle.inodes.specs.Store.{StoreState, FitsFiles, current_of, fresh_volume}
 use Rattle.journal.specs.declared.types.At.TheVariants as at
 use Rattle.journal.specs.Crash.{Survives}
-use Rattle.journal.specs.Views.{KernelFacts}
 use Rattle.journal.specs.Lemmas.Known.{inv_new}
 use Rattle.journal.specs.Lemmas.Stops.{recovers_opened}
 use Rattle.kernel.specs.View.{view_of}

@@ -172,7 +172,7 @@ module _ {D N : Type 0} (disk : Ghosts D N) (opening : D) (s : StoreState D) (w 
           let g : GoesTo w w p (at.Committing group k) (at.Committing group k) = record { stands = stands; was = refl; behind = refl; processes = sym (set-get_or w.processes p idle) ∙ ap (λ (a : At). set w.processes p (record (process w p) { at = a })) stands; journal = refl } in
           goes_right t made.tasks made.numbers well_now opened counts w (at.Committing group k) (at.Committing group k) g (λ over. over)
           (inv_written (disk.image opening) (view_of disk.image s) (view_of disk.image t) w.journal.list (ats_of w) had.facts valid_now p (ats_of w) (λ q apart. refl) group k
-          (writes_of disk s t r has_now (sym made.fault ∙ well_now) made) stands none_open (inl stands))
+          (writes_of disk s t r has_now (sym made.volume.fault ∙ well_now) made) stands none_open (inl stands))
           (subst (λ (l : LogState). CommitsAlone (ats_of w) l) (sym log) (alone_written (ats_of w) (ats_of w) s.volume.log had.alone p (λ q apart. refl) alone_here alone_here more))
 
       -- the last write is made, and the operation is answered
@@ -185,18 +185,18 @@ module _ {D N : Type 0} (disk : Ghosts D N) (opening : D) (s : StoreState D) (w 
           let others_at = others t made.tasks made.numbers well_now opened counts (answered w p) (at.Committing group k) at.Idle g in
           goes_right t made.tasks made.numbers well_now opened counts (answered w p) (at.Committing group k) at.Idle g (λ st. st.0)
           (inv_written (disk.image opening) (view_of disk.image s) (view_of disk.image t) w.journal.list (ats_of w) had.facts valid_now p (ats_of (answered w p)) others_at group k
-          (writes_of disk s t r has_now (sym made.fault ∙ well_now) made) stands none_open (inr at_p))
+          (writes_of disk s t r has_now (sym made.volume.fault ∙ well_now) made) stands none_open (inr at_p))
           (subst (λ (l : LogState). CommitsAlone (ats_of (answered w p)) l) (sym log) (alone_done (ats_of w) (ats_of (answered w p)) s.volume.log had.alone p others_at alone_here (ap is_committing_at at_p) last))
 
     -- the write failed
     pub right_unwritten : (fault : DiskFault) → r ≡ committed.Fault fault → t.volume.log ≡ s.volume.log → fault.0 ≡ Rattle.wal.specs.Joint.place_at s.volume.log.commit s.volume.log.homes
         → disk.fault_count t.volume.device ≡ one_more (disk.fault_count s.volume.device) → IsRight disk opening t w
     right_unwritten fault is log place counts =
-        let failed : t.volume.fault ≡ Some fault = made.fault ∙ ap Rattle.wal.specs.Volume.fault_of_step is in
+        let failed : t.volume.fault ≡ Some fault = made.volume.fault ∙ ap Rattle.wal.specs.Volume.fault_of_step is in
         right_failed disk opening s t w fault right well failed made.numbers
         (paired_goes s t w w p (process w p) right.paired lt (sym (set-get_or w.processes p idle)) (ap (λ (l : List TaskState). length l) made.tasks) (λ q apart. ap (λ (l : List TaskState). task l q) made.tasks)
         (subst (λ (l : List TaskState). TaskStands (task l p) (process w p).at) (sym made.tasks) (right.paired.stand p)))
         (ap (λ (l : LogState). l.opened) log)
         (known_failed (disk.image opening) (view_of disk.image s) w.journal.list (ats_of w) had.facts t.volume fault (disk.image t.volume.device) failed place log none_open
-        (made.keeps (disk.image t.volume.device) (has_now t.volume.device)) (made.lawful (disk.image t.volume.device) (has_now t.volume.device)))
+        (made.volume.write.recovers (disk.image t.volume.device) (has_now t.volume.device)) (made.volume.write.lawful (disk.image t.volume.device) (has_now t.volume.device)))
         counts

@@ -18,9 +18,9 @@ module _ {D N : Type 0} (disk : Ghosts D N) (s t : StoreState D) where
   IsMade = Stepped (header_block s.volume.log.homes) (disk.image s.volume.device) s.volume.buffers s.volume.log (disk.image t.volume.device) t.volume.buffers t.volume.log
 
   made_of : (r : Committed) → fault_of_step r ≡ None → Commits disk s r t → IsMade
-  made_of committed.More well c = c.step.1
-  made_of (committed.Durable group) well c = c.step.1
-  made_of committed.Done well c = c.step.1
+  made_of committed.More well c = c.volume.write.step.1
+  made_of (committed.Durable group) well c = c.volume.write.step.1
+  made_of committed.Done well c = c.volume.write.step.1
   made_of (committed.Fault fault) well c = absurd (cc well)
 
   -- the disk is what a crash leaves of it now
@@ -29,9 +29,9 @@ module _ {D N : Type 0} (disk : Ghosts D N) (s t : StoreState D) where
       let made = made_of r well c in
       record {
         log = made.log;
-        lawful = c.lawful (disk.image t.volume.device) (has_now t.volume.device);
+        lawful = c.volume.write.lawful (disk.image t.volume.device) (has_now t.volume.device);
         keeps = made.keeps;
-        same = c.same;
+        same = c.volume.current;
         holds = λ q. ap (λ (ts : List TaskState). held_at (task ts q).place) c.tasks;
         files = c.files;
       }

@@ -27,6 +27,7 @@ use Rattle.wal.specs.Step.{answer_at}
 use Rattle.inodes.specs.Steps.{Steps, Commits, is_over, shown_of, steps_left}
 use Rattle.inodes.specs.Store.{StoreState, first_place, with_begun}
 use Rattle.inodes.specs.Tasks.{TaskState, task, no_task}
+use Rattle.journal.specs.Journal.{entry_of}
 use Rattle.journal.specs.declared.types.At.{At}
 use Rattle.journal.specs.declared.types.At.TheVariants as at
 use Rattle.journal.specs.declared.types.Process.{Process}
@@ -34,10 +35,10 @@ use Rattle.journal.specs.Alone.{is_committing_at}
 use Rattle.journal.specs.Bound.{all_steps_left, is_busy_at, writes_left}
 use Rattle.journal.specs.Grows.{Grows, JournalGoes}
 use Rattle.journal.specs.Lemmas.Alone.{goes_on, none_commits, quiet_if_open}
-use Rattle.journal.specs.Lemmas.Bounds.{steps_few, writes_fall}
+use Rattle.journal.specs.Lemmas.Bounds.{some_write, steps_few, writes_fall}
 use Rattle.journal.specs.Lemmas.Groups.{open_of}
 use Rattle.journal.specs.Lemmas.Growing.{grows_goes, grows_none}
-use Rattle.journal.specs.Processes.{World, process, idle, answered, committing, committing_at, entry_of, refusal, turned, turned_from}
+use Rattle.journal.specs.Processes.{World, process, idle, answered, committing, committing_at, refusal, turned, turned_from}
 use Rattle.kernel.specs.declared.waiting.Waiting.{Waiting}
 use Rattle.kernel.specs.declared.waiting.Waiting.TheVariants as waiting
 use Rattle.kernel.specs.declared.types.Step.{Step}
@@ -100,11 +101,12 @@ pub record LeavesOthers {D : Type 0} (p : ℕ) (s : StoreState D) (w : World) (t
   pub numbers : t.inode_count ≡ s.inode_count
   pub log : (q : ℕ) → q ≢ p → is_committing_at (process w q).at ≡ true → t.volume.log ≡ s.volume.log
 
--- process p, which becomes u, has a step less left, or has begun with few
+-- process p, which becomes u, has a step less left, or has begun with few; and it has some
 abbrev pub HasFewer : {D : Type 0} → ℕ → StoreState D → World → StoreState D → Process → Type 0
 HasFewer p s w t u =
     (is_busy_at (process w p).at ≡ true → all_steps_left u.at (task_left t p) t.volume.log < all_steps_left (process w p).at (task_left s p) s.volume.log)
     × (all_steps_left u.at (task_left t p) t.volume.log < 2000)
+    × (0 < all_steps_left u.at (task_left t p) t.volume.log)
 
 -- what an event of process p makes of store and processes
 pub record Event {D : Type 0} (n p : ℕ) (s : StoreState D) (w : World) (t : StoreState D) (z : World) (r : Step) : Type 0 where
@@ -165,13 +167,13 @@ module _ {D N : Type 0} (disk : Ghosts D N) (opening : Image) (p : ℕ) (s t : S
     counted_at a r stands counted = subst (λ (b : At). CountsCommitted r b s.volume.log t.volume.log) (sym stands) counted
 
     -- from place to place
-    fewer : (u : Process) (a b : At) → (process w p).at ≡ a → u.at ≡ b → all_steps_left b (task_left t p) t.volume.log < all_steps_left a (task_left s p) s.volume.log → HasFewer p s w t u
-    fewer u a b stands to less =
+    fewer : (u : Process) (a b : At) → (process w p).at ≡ a → u.at ≡ b → all_steps_left b (task_left t p) t.volume.log < all_steps_left a (task_left s p) s.volume.log → 0 < all_steps_left b (task_left t p) t.volume.log → HasFewer p s w t u
+    fewer u a b stands to less some =
         let lt : all_steps_left u.at (task_left t p) t.volume.log < all_steps_left (process w p).at (task_left s p) s.volume.log
         = subst (λ (c : At). all_steps_left c (task_left t p) t.volume.log < all_steps_left (process w p).at (task_left s p) s.volume.log) (sym to)
         (subst (λ (c : At). all_steps_left b (task_left t p) t.volume.log < all_steps_left c (task_left s p) s.volume.log) (sym stands) less) in
         let most = steps_few (process w p).at (task_left s p) s.volume.log (log_of disk.image opening s w p is) (few_steps (task s.tasks p).place s.inode_count is.numbers) in
-        ((λ busy. lt), omega (arith, lt, most))
+        ((λ busy. lt), omega (arith, lt, most), subst (λ (c : At). 0 < all_steps_left c (task_left t p) t.volume.log) (sym to) some)
 
     -- nobody commits while the log is quiet
     alone : is_quiet s.volume.log.commit ≡ true → (q : ℕ) → q ≢ p → is_committing_at (process w q).at ≡ true → t.volume.log ≡ s.volume.log
@@ -192,7 +194,7 @@ module _ {D N : Type 0} (disk : Ghosts D N) (opening : Image) (p : ℕ) (s t : S
           numbers = ap (λ (o : StoreState D). o.inode_count) made.store;
           log = alone (ap is_quiet (let_in s.volume.log.commit _ s.volume.log.outstanding made.free).0);
         })
-        (λ moved. ((λ busy. absurd (false≢true (ap is_busy_at (sym stands) ∙ busy))), omega (arith, left, few))))
+        (λ moved. ((λ busy. absurd (false≢true (ap is_busy_at (sym stands) ∙ busy))), omega (arith, left, few), omega arith)))
     begins what ahead r stands free (inr (inl made)) =
         let same = ap (λ (o : StoreState D). o.volume.log.committed) made.store in
         subst Made (sym made.answer)
@@ -220,7 +222,7 @@ module _ {D N : Type 0} (disk : Ghosts D N) (opening : Image) (p : ℕ) (s t : S
             let same = done.groups.committed in
             let less : task_left t p < task_left s p = subst (λ (m : ℕ). steps_left (task t.tasks p).place m < task_left s p) (sym done.tasks.numbers) (done.falls refl) in
             stays step.Moved to (counted_at (at.Before group op) step.Moved stands (omega (arith, same))) (others progress.Moved done)
-            (λ moved. fewer (process w p) (at.Before group op) (at.Before group op) stands stands (omega (arith, less)))
+            (λ moved. fewer (process w p) (at.Before group op) (at.Before group op) stands stands (omega (arith, less)) (omega arith))
         by_progress (progress.Turned reply) done to =
             let same = done.groups.committed in
             let over : is_over (task t.tasks p).place ≡ true = ((stops (progress.Turned reply) done).turned reply refl).0 in
@@ -228,9 +230,9 @@ module _ {D N : Type 0} (disk : Ghosts D N) (opening : Image) (p : ℕ) (s t : S
             = ap (λ (b : Bool). turned w p reply b) over ∙ ap (λ (a : At). turned_from a w p reply true) stands in
             let some = some_step (task s.tasks p).place s.inode_count searched in
             goes step.Moved (turned_from (at.Before group op) w p reply true) (record (process w p) { at = at.Ending group (length w.journal.list) }) (to ∙ now) refl refl (inr refl)
-            (inr (inl (record { entry = entry_of w p group op reply; mine = refl; later = later_before disk.image opening s w p is group op stands; list = refl })))
+            (inr (inl (record { entry = entry_of p (process w p).begun op group reply; mine = refl; later = later_before disk.image opening s w p is group op stands; list = refl })))
             (counted_at (at.Before group op) step.Moved stands (omega (arith, same))) (others (progress.Turned reply) done)
-            (λ moved. fewer (record (process w p) { at = at.Ending group (length w.journal.list) }) (at.Before group op) (at.Ending group (length w.journal.list)) stands refl (omega (arith, some)))
+            (λ moved. fewer (record (process w p) { at = at.Ending group (length w.journal.list) }) (at.Before group op) (at.Ending group (length w.journal.list)) stands refl (omega (arith, some)) (omega arith))
         by_progress (progress.Decided reply) done to = absurd ((stops (progress.Decided reply) done).decided reply refl)
         by_progress progress.Over done to = absurd ((stops progress.Over done).over refl)
         by_progress (progress.Sleeping cause) done to =
@@ -263,7 +265,7 @@ module _ {D N : Type 0} (disk : Ghosts D N) (opening : Image) (p : ℕ) (s t : S
             let left : writes_left t.volume.log.commit (length t.volume.log.homes) ≡ (length s.volume.log.homes - 0) + 1 + length s.volume.log.homes + 1
             = ap (λ (l : LogState). writes_left l.commit (length l.homes)) (log ∙ commits_now s.volume.log p e) in
             goes step.Moved (committing w p) (record (process w p) { at = committing_at (process w p).at }) to refl refl (inr refl) (inl refl) (counted_at (at.Ending group k) step.Moved stands counted) others
-            (λ moved. fewer (record (process w p) { at = committing_at (process w p).at }) (at.Ending group k) (at.Committing group k) stands (ap committing_at stands) (omega (arith, left, few)))
+            (λ moved. fewer (record (process w p) { at = committing_at (process w p).at }) (at.Ending group k) (at.Committing group k) stands (ap committing_at stands) (omega (arith, left, few)) (omega (arith, left)))
         by_answer ended_as.Left e to =
             goes step.Answered (answered w p) (record (process w p) { at = at.Idle }) to refl refl (inr refl) (inl refl) (counted_at (at.Ending group k) step.Answered stands counted) others (λ moved. absurd (cc moved))
 
@@ -284,18 +286,20 @@ module _ {D N : Type 0} (disk : Ghosts D N) (opening : Image) (p : ℕ) (s t : S
         more : (q : Committed) → Commits disk s q t → (answer_at s.volume.log.commit s.volume.log.opened ≡ committed.Done → ⊥) → t.volume.log ≡ written_at s.volume.log.commit s.volume.log → z ≡ w → Made step.Moved
         more q done goes_further log to =
             let busy = is.has.alone.busy p (ap is_committing_at stands) in
-            let less = writes_fall s.volume.log.commit s.volume.log (log_of disk.image opening s w p is).idle busy (goes_on s.volume.log.commit s.volume.log s.volume.log.opened busy goes_further) in
+            let going = goes_on s.volume.log.commit s.volume.log s.volume.log.opened busy goes_further in
+            let less = writes_fall s.volume.log.commit s.volume.log (log_of disk.image opening s w p is).idle busy going in
             stays step.Moved to (counted_at (at.Committing group k) step.Moved stands (counted log)) (others q done)
             (λ moved. fewer (process w p) (at.Committing group k) (at.Committing group k) stands stands
-            (subst (λ (l : LogState). writes_left l.commit (length l.homes) < writes_left s.volume.log.commit (length s.volume.log.homes)) (sym log) less))
+            (subst (λ (l : LogState). writes_left l.commit (length l.homes) < writes_left s.volume.log.commit (length s.volume.log.homes)) (sym log) less)
+            (subst (λ (l : LogState). 0 < writes_left l.commit (length l.homes)) (sym log) (some_write _ _ going)))
 
         by_result : (q : Committed) → Commits disk s q t → z ≡ world_written q w p → Made (step_of_write q)
-        by_result committed.More done to = more committed.More done (λ over. let no = sym done.step.0 ∙ over in absurd (cc no)) done.step.1.log to
-        by_result (committed.Durable g) done to = more (committed.Durable g) done (λ over. let no = sym done.step.0 ∙ over in absurd (cc no)) done.step.1.log to
+        by_result committed.More done to = more committed.More done (λ over. let no = sym done.volume.write.step.0 ∙ over in absurd (cc no)) done.volume.write.step.1.log to
+        by_result (committed.Durable g) done to = more (committed.Durable g) done (λ over. let no = sym done.volume.write.step.0 ∙ over in absurd (cc no)) done.volume.write.step.1.log to
         by_result committed.Done done to =
-            goes step.Answered (answered w p) (record (process w p) { at = at.Idle }) to refl refl (inr refl) (inl refl) (counted_at (at.Committing group k) step.Answered stands (counted done.step.1.log)) (others committed.Done done) (λ moved. absurd (cc moved))
+            goes step.Answered (answered w p) (record (process w p) { at = at.Idle }) to refl refl (inr refl) (inl refl) (counted_at (at.Committing group k) step.Answered stands (counted done.volume.write.step.1.log)) (others committed.Done done) (λ moved. absurd (cc moved))
         by_result (committed.Fault fault) done to =
-            let same = ap (λ (l : LogState). l.committed) done.step.log in stays step.Halted to (omega (arith, same)) (others (committed.Fault fault) done) (λ moved. absurd (cc moved))
+            let same = ap (λ (l : LogState). l.committed) done.volume.write.step.log in stays step.Halted to (omega (arith, same)) (others (committed.Fault fault) done) (λ moved. absurd (cc moved))
 
     event_at : (r : Step) (a : At) → (process w p).at ≡ a → NextAt disk a s w p before side told r t z → Made r
     event_at r at.Idle stands (inl heard) = subst Made (sym heard.answer) (rests step.ShutDown true refl (λ e. cc e) heard.store heard.world (λ shut. refl))

@@ -1,6 +1,6 @@
 -- What a kernel that is opened has.
-use Rattle.std.proofs.Common.{get_or, ◌≡◌, ℕ, ◌+◌, ◌*◌, ◌<◌, ◌≤◌, true, false, cond, eqb, List, length, replicate, sym, ◌∙◌, ap, subst, arith, ⊎_elim, None, Err}
-use Rattle.std.specs.Prelude.{count_by}
+use Rattle.std.proofs.Common.{get_or, ◌≡◌, ℕ, ◌+◌, ◌*◌, ◌<◌, ◌≤◌, true, false, cond, eqb, List, length, replicate, sym, ◌∙◌, ap, subst, arith, ⊎_elim, None, Err, inl, inr}
+use Rattle.std.specs.Prelude.{count_by, Result, Ok, IfOk, OnErr, ◌⊎◌}
 use Rattle.std.proofs.lemmas.Bool.{cases_lt, false≢true}
 use Rattle.std.proofs.lemmas.List.{get_or-replicate, get_or_past, length-replicate}
 use Rattle.std.proofs.lemmas.List.Folds.{sum_by-replicate}
@@ -19,16 +19,13 @@ use Rattle.model.specs.Lemmas.Super.{super_of-recovered}
 use Rattle.model.specs.Lemmas.Soundness.{verdict_sound, sound_verdict, facts_of, long_geometry}
 use Rattle.wal.specs.Volume.{VolumeState}
 use Rattle.wal.specs.Lemmas.Commits.{empty_lawful}
-use Rattle.wal.specs.Recovery.{OnDisk, OnBadLog}
+use Rattle.wal.specs.Recovery.{OnDisk, OnBadLog, OnNoMemory, Looks}
 use Rattle.wal.specs.declared.faults.RecoverFault.{RecoverFault}
 use Rattle.wal.specs.declared.faults.RecoverFault.TheVariants as recover
 use Rattle.kernel.specs.Lemmas.Openings.{lawful_super}
-use Rattle.std.specs.Prelude.{Result, Ok, IfOk, OnErr, ◌⊎◌}
-use Rattle.std.proofs.Common.{inl, inr}
 use Rattle.blocks.specs.Calls.{OnlyReads}
 use Rattle.blocks.specs.declared.disk.Disk.{Ghosts}
-use Rattle.wal.specs.Recovery.{OnNoMemory, Looks}
-use Rattle.kernel.specs.Opening.{MayWrite}
+use Rattle.kernel.specs.Opening.{MayWrite, IsRecoverCause}
 use Rattle.kernel.specs.declared.types.OpenFault.TheVariants.{Recover}
 use Rattle.inodes.specs.Steps.{is_over}
 use Rattle.inodes.specs.Store.{StoreState}
@@ -37,7 +34,6 @@ use Rattle.journal.specs.declared.types.Process.{Process}
 use Rattle.journal.specs.Processes.{process, fresh_world, idle, is_before}
 use Rattle.kernel.specs.Invariant.{ArePaired, TaskStands}
 use Rattle.journal.specs.Counting.{IsCounted}
-use Rattle.kernel.specs.Opening.{IsRecoverCause}
 
 pub super_size : (x : Image) (sup : Super) → verdict x ≡ None → sup ≡ super_of x → sup.size ≡ length x
 super_size x sup none is = ap (λ (s : Super). s.size) is ∙ (facts_of x (verdict_sound x none).0).size

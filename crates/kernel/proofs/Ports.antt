@@ -10,12 +10,13 @@ use Rattle.model.specs.declared.types.operations.Reply.{Reply}
 use Rattle.ports.specs.declared.herald.Herald as herald_trait
 use Rattle.ports.specs.declared.intake.Intake as intake_trait
 use Rattle.ports.specs.History.{Side, History, OthersStay, AllFit, FitWith, nothing_yet, takes, gives}
+use Rattle.journal.specs.Journal.{entry_of}
 use Rattle.journal.specs.declared.types.At.{At}
 use Rattle.journal.specs.declared.types.At.TheVariants as at
 use Rattle.journal.specs.declared.types.Process.{Process}
 use Rattle.journal.specs.Bound.{is_busy_at}
 use Rattle.journal.specs.Histories.{IsHistory}
-use Rattle.journal.specs.Processes.{World, process, idle, fresh_world, with_place, taken, refusal, refused, refusal_answer, entry_of, place_behind, turned_from, turned, committing_at, committing, last_answer, answered}
+use Rattle.journal.specs.Processes.{World, process, idle, fresh_world, with_place, taken, refusal, refused, refusal_answer, place_behind, turned_from, turned, committing_at, committing, last_answer, answered}
 use Rattle.journal.specs.Lemmas.Histories.{history_new, history_more, history_taken, history_turned, history_turned_over, history_committing, history_at_once}
 use Rattle.kernel.specs.Invariant.{HasHistory, ArePorts}
 use Rattle.kernel.specs.Ports.{Gives}
@@ -189,7 +190,7 @@ module _ {I M H : Type 0} (intake : intake_trait.Ghosts I M) (herald : herald_tr
         rooms = λ q other kept. kept;
         room = λ busy. had.room p (ap is_busy_at stands);
         journal = λ q begun a f other history. subst (λ (o : World). IsHistory o.journal.list a begun q f) (sym is)
-            (history_more w.journal.list (entry_of w p group op reply) a begun q f (λ same. other (sym same)) history);
+            (history_more w.journal.list (entry_of p (process w p).begun op group reply) a begun q f (λ same. other (sym same)) history);
         fits = λ q f other fits. fits;
         mine = λ f history fits. (
           f,
@@ -199,9 +200,9 @@ module _ {I M H : Type 0} (intake : intake_trait.Ghosts I M) (herald : herald_tr
         );
       }) had.told
     where
-      behind : (b : Bool) (f : History) → IsHistory w.journal.list (at.Before group op) (process w p).begun p f → IsHistory (w.journal.list ++ entry_of w p group op reply ∷ []) (place_behind b group (length w.journal.list)) (process w p).begun p f
-      behind true f history = history_turned_over w.journal.list (process w p).begun group p (entry_of w p group op reply) f refl refl history
-      behind false f history = history_turned w.journal.list (process w p).begun group p (entry_of w p group op reply) f refl refl history
+      behind : (b : Bool) (f : History) → IsHistory w.journal.list (at.Before group op) (process w p).begun p f → IsHistory (w.journal.list ++ entry_of p (process w p).begun op group reply ∷ []) (place_behind b group (length w.journal.list)) (process w p).begun p f
+      behind true f history = history_turned_over w.journal.list (process w p).begun group p (entry_of p (process w p).begun op group reply) f refl refl history
+      behind false f history = history_turned w.journal.list (process w p).begun group p (entry_of p (process w p).begun op group reply) f refl refl history
 
   -- one goes on from its end to its group's commit
   pub ports_committing : (i : I) (h : H) (c : ℕ) (w z : World) (p group k : ℕ) → ArePorts intake herald i h c w → p < length w.processes → (process w p).at ≡ at.Ending group k → z ≡ committing w p → ArePorts intake herald i h c z

@@ -49,7 +49,8 @@ module _ {D I H : Type 0} (n p : ℕ) (r : Step) (k m : State D I H) (lt : p < l
       let same : left_of m p ≡ all_steps_left e.now.at (task_left m.store p) m.store.volume.log = ap (λ (v : Process). all_steps_left v.at (task_left m.store p) m.store.volume.log) here in
       let fewer = e.bound moved in
       let few = fewer.1 in
-      record { falls = λ busy. let less = fewer.0 busy in omega (arith, same, less); few = omega (arith, same, few) }
+      let some = fewer.2 in
+      record { falls = λ busy. let less = fewer.0 busy in omega (arith, same, less); few = omega (arith, same, few); some = omega (arith, same, some) }
 
   gives_none : GivesNone k p m
   gives_none q apart =

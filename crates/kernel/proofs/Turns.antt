@@ -7,7 +7,7 @@ use Rattle.ports.specs.declared.intake.Intake as intake_trait
 use Rattle.model.specs.Layout.{inode_count_of}
 use Rattle.journal.specs.Grows.{Grows}
 use Rattle.journal.specs.Keeps.{KeepsBetween, KeepsNow, most_of}
-use Rattle.journal.specs.Lemmas.Growing.{grows_then}
+use Rattle.journal.specs.Lemmas.Growing.{grows_then, grows_none}
 use Rattle.journal.specs.Lemmas.Leaving.{leaves_then}
 use Rattle.journal.specs.Processes.{World}
 use Rattle.kernel.specs.declared.types.Step.{Step}
@@ -19,7 +19,6 @@ use Rattle.kernel.specs.Steps.{MakesStep}
 use Rattle.blocks.specs.Lemmas.Moments.{started}
 use Rattle.wal.specs.Volume.{VolumeState}
 use Rattle.model.specs.declared.types.operations.Entry.{Entry}
-use Rattle.journal.specs.Lemmas.Growing.{grows_none}
 
 -- what is shut stays so in one step more
 shut_more : (w z y : World) → KeepsShutdown z y → (w.is_shut ≡ true → StaysShut w z) → w.is_shut ≡ true → StaysShut w y

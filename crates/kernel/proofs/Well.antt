@@ -3,12 +3,12 @@ use Rattle.std.proofs.Common.{◌≡◌, ℕ, ◌<◌, ◌≤◌, zero, suc, tru
 use Rattle.std.specs.Prelude.{IsSome}
 use Rattle.std.proofs.lemmas.Bool.{false≢true}
 use Rattle.blocks.specs.Disk.{Image}
-use Rattle.bcache.specs.Buffers.{Buffers}
 use Rattle.model.specs.declared.types.operations.Op.{Op}
 use Rattle.model.specs.Journal.{is_changing}
 use Rattle.model.specs.Layout.{inode_count_of}
 use Rattle.model.specs.Lemmas.Soundness.{facts_of}
-use Rattle.wal.specs.Machine.{LogState, used_by, IsLogAt}
+use Rattle.wal.specs.Machine.{used_by, IsLogAt}
+use Rattle.wal.specs.Volume.{VolumeState}
 use Rattle.inodes.specs.declared.tasks.Place.{Place}
 use Rattle.inodes.specs.declared.tasks.Place.TheVariants as place
 use Rattle.inodes.specs.Steps.{is_over}
@@ -39,9 +39,9 @@ few_numbers image s is =
     omega (arith, few, same)
 
 -- a search has its operation open in the log
-searching : (c : Buffers) (l : LogState) (n p : ℕ) (o : Option Op) (a : Place) → is_over a ≡ false → Stands c l n p o a → IsSome (used_by l p)
-searching c l n p o place.Nowhere unfinished stands = absurd (false≢true (sym unfinished))
-searching c l n p o (place.Creating m) unfinished stands = subst IsSome (sym stands.used) refl
+searching : {D : Type 0} (v : VolumeState D) (n p : ℕ) (o : Option Op) (a : Place) → is_over a ≡ false → Stands v.buffers v.log n p o a → IsSome (used_by v.log p)
+searching v n p o place.Nowhere unfinished stands = absurd (false≢true (sym unfinished))
+searching v n p o (place.Creating m) unfinished stands = subst IsSome (sym stands.used) refl
 
 module _ {D : Type 0} (image : D → Image) (opening : Image) (s : StoreState D) (w : World) (p : ℕ) (is : IsWell image opening s w p) where
   pub log_of : IsLogAt s.volume.log.commit s.volume.log
@@ -57,7 +57,7 @@ module _ {D : Type 0} (image : D → Image) (opening : Image) (s : StoreState D)
 
   pub open_before : (group : ℕ) (op : Op) → (process w p).at ≡ at.Before group op → IsSome (used_by s.volume.log p)
   open_before group op stands =
-      searching s.volume.buffers s.volume.log s.inode_count p (task s.tasks p).op (task s.tasks p).place (unfinished group op stands) (is.agrees.stands p)
+      searching s.volume s.inode_count p (task s.tasks p).op (task s.tasks p).place (unfinished group op stands) (is.agrees.stands p)
 
   -- the group of a changing one is not committed
   pub later_before : (group : ℕ) (op : Op) → (process w p).at ≡ at.Before group op → is_changing (inode_count_of opening) op ≡ true → s.volume.log.committed < group

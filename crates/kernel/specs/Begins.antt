@@ -8,8 +8,10 @@ use Rattle.kernel.specs.Ports.{KeepsOthers}
 use Rattle.kernel.specs.State.{State}
 
 -- an operation of this kind waits first for process p, and begins, or has to wait
-pub record Begins {D I H N : Type 0} (intake : Ghosts I N) (what : Waiting) (p : ℕ) (r : Step) (k m : State D I H) : Type 0 where
-  pub next : BeginsWith (Some what) k.store k.world p (intake.side k.intake p).ahead (intake.side m.intake p) r m.store m.world
+pub record Begins {D I H N : Type 0} (intake : Ghosts I N) (what : Waiting) (p : ℕ) (r : Step)
+    (k m : State D I H) : Type 0 where
+  pub next : BeginsWith (Some what) k.store k.world p (intake.side k.intake p).ahead
+      (intake.side m.intake p) r m.store m.world
   pub sides : KeepsOthers intake p k.intake m.intake
   pub herald : m.herald ≡ k.herald
   pub opening : m.opening ≡ k.opening

@@ -8,12 +8,16 @@ use Rattle.kernel.specs.State.{State}
 
 -- those of a process: of its task, of its end, and of its commit
 abbrev pub left_of : {D I H : Type 0} → State D I H → ℕ → ℕ
-left_of k q = all_steps_left (process k.world q).at (steps_left (task k.store.tasks q).place k.store.inode_count) k.store.volume.log
+left_of k q =
+    all_steps_left (process k.world q).at
+    (steps_left (task k.store.tasks q).place k.store.inode_count) k.store.volume.log
 
--- a step that moved process p took one of them, or began an operation that has fewer than 2,000 left
+-- A step that moved process p took one of them, or began an operation that has fewer than 2,000
+-- left. Some are left: the operation goes on.
 pub record TakesOne {D I H : Type 0} (k : State D I H) (p : ℕ) (m : State D I H) : Type 0 where
   pub falls : is_busy_at (process k.world p).at ≡ true → left_of m p < left_of k p
   pub few : left_of m p < 2000
+  pub some : 0 < left_of m p
 
 -- a step of process p gives no other process more of them
 abbrev pub GivesNone : {D I H : Type 0} → State D I H → ℕ → State D I H → Type 0

@@ -42,7 +42,8 @@ pub record ArePaired {D : Type 0} (s : StoreState D) (w : World) : Type 0 where
   pub stand : (p : ℕ) → TaskStands (task s.tasks p) (process w p).at
 
 -- the facts of store and journal, while the disk has not failed
-pub record HasFacts {D : Type 0} (image : D → Image) (opening : Image) (s : StoreState D) (w : World) : Type 0 where
+pub record HasFacts {D : Type 0} (image : D → Image) (opening : Image) (s : StoreState D)
+    (w : World) : Type 0 where
   pub facts : KernelFacts opening (view_of image s) w.journal.list (ats_of w)
   pub alone : CommitsAlone (ats_of w) s.volume.log
 
@@ -52,7 +53,8 @@ pub record CanReplay (opening : Image) (w : World) : Type 0 where
   pub run : replay (form_of opening) (files_of opening) (answered w.journal.list) ≡ Some files
 
 -- what is true of store and processes
-pub record IsRight {D N : Type 0} (disk : disk_trait.Ghosts D N) (opening : D) (s : StoreState D) (w : World) : Type 0 where
+pub record IsRight {D N : Type 0} (disk : disk_trait.Ghosts D N) (opening : D) (s : StoreState D)
+    (w : World) : Type 0 where
   pub numbers : s.inode_count ≡ inode_count_of (disk.image opening)
   pub paired : ArePaired s w
   pub counted : IsCounted s.volume.log.opened w
@@ -62,7 +64,8 @@ pub record IsRight {D N : Type 0} (disk : disk_trait.Ghosts D N) (opening : D) (
   -- what recovery of the disk gives
   pub keeps : KeepsNow s.volume (disk.image opening) w.journal.list (disk.image s.volume.device)
   -- the disk counted no fault since the opening, or this one
-  pub faults : disk.fault_count s.volume.device ≡ faults_after s.volume.fault (disk.fault_count opening)
+  pub faults : disk.fault_count s.volume.device
+      ≡ faults_after s.volume.fault (disk.fault_count opening)
 
 -- an intake agrees with what the journal tells of a process
 pub record HasHistory (fits : ℕ → History → Type 0) (w : World) (p : ℕ) : Type 0 where
@@ -71,8 +74,8 @@ pub record HasHistory (fits : ℕ → History → Type 0) (w : World) (p : ℕ) 
   pub fit : fits p history
 
 -- what is true of the ports
-pub record ArePorts {I M H : Type 0} (intake : intake_trait.Ghosts I M) (herald : herald_trait.Ghosts H)
-    (i : I) (h : H) (committed : ℕ) (w : World) : Type 0 where
+pub record ArePorts {I M H : Type 0} (intake : intake_trait.Ghosts I M)
+    (herald : herald_trait.Ghosts H) (i : I) (h : H) (committed : ℕ) (w : World) : Type 0 where
   pub served : intake.process_count i ≡ length w.processes
   -- a place for the answer of each operation under way is kept
   pub room : (p : ℕ) → is_busy_at (process w p).at ≡ true → (intake.side i p).has_room ≡ true
@@ -80,7 +83,8 @@ pub record ArePorts {I M H : Type 0} (intake : intake_trait.Ghosts I M) (herald 
   pub told : herald.count h ≡ committed
   pub histories : (p : ℕ) → p < length w.processes → HasHistory (intake.fits i) w p
 
-pub record Inv {D N I M H : Type 0} (disk : disk_trait.Ghosts D N) (intake : intake_trait.Ghosts I M) (herald : herald_trait.Ghosts H)
+pub record Inv {D N I M H : Type 0} (disk : disk_trait.Ghosts D N)
+    (intake : intake_trait.Ghosts I M) (herald : herald_trait.Ghosts H)
     (k : State D I H) : Type 0 where
   pub right : IsRight disk k.opening k.store k.world
   pub ports : ArePorts intake herald k.intake k.herald k.store.volume.log.committed k.world

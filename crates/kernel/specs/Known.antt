@@ -29,26 +29,35 @@ pub record IsCurrent {D I H : Type 0} (image : D → Image) (k : State D I H) : 
   pub files : k.store.volume.log.outstanding ≡ 0 → HasFilesAfter (image k.opening)
       (kept (inode_count_of (image k.opening)) k.world.journal.list k.store.volume.log.opened)
       (cleared (current_of image k.store.volume))
-  pub idle : ((p : ℕ) → ats_of k.world p ≡ at.Idle) → replay (form_of (image k.opening)) (files_of (image k.opening))
+  pub idle : ((p : ℕ) → ats_of k.world p ≡ at.Idle)
+      → replay (form_of (image k.opening)) (files_of (image k.opening))
       k.world.journal.list ≡ Some (files_of (cleared (current_of image k.store.volume)))
   -- all groups are committed then, but for one that is being committed
   pub settled : k.store.volume.log.outstanding ≡ 0 → is_quiet k.store.volume.log.commit ≡ true
       → k.store.volume.log.committed ≡ k.store.volume.log.opened
 
 -- What any kernel is like. A stop leaves an image that keeps the committed groups.
-pub record Known {D N I M H : Type 0} (disk : disk_trait.Ghosts D N) (intake : intake_trait.Ghosts I M) (herald : herald_trait.Ghosts H)
+pub record Known {D N I M H : Type 0} (disk : disk_trait.Ghosts D N)
+    (intake : intake_trait.Ghosts I M) (herald : herald_trait.Ghosts H)
     (k : State D I H) : Type 0 where
   pub keeps : (x : Image) → disk.leaves k.store.volume.device (disk.moment k.store.volume.device) x
       → KeepsNow k.store.volume (disk.image k.opening) k.world.journal.list x
-  pub reopens : (x : Image) → disk.leaves k.store.volume.device (disk.moment k.store.volume.device) x → verdict x ≡ None
+  pub reopens : (x : Image)
+      → disk.leaves k.store.volume.device (disk.moment k.store.volume.device) x → verdict x ≡ None
   pub current : IfNone k.store.volume.fault (IsCurrent disk.image k)
-  pub journal : IsJournal (inode_count_of (disk.image k.opening)) k.store.volume.log.opened k.world.journal.list
-  pub order : KeepsBeginnings (inode_count_of (disk.image k.opening)) k.world.journal.list k.store.volume.log.opened
+  pub journal : IsJournal
+      (inode_count_of (disk.image k.opening)) k.store.volume.log.opened k.world.journal.list
+  pub order : KeepsBeginnings
+      (inode_count_of (disk.image k.opening)) k.world.journal.list k.store.volume.log.opened
   pub replays : CanReplay (disk.image k.opening) k.world
-  pub histories : (p : ℕ) → p < length k.world.processes → HasHistory (intake.fits k.intake) k.world p
-  -- what is kept of a process's operations is a beginning of the changing ones that were taken of it
-  pub beginnings : (p c : ℕ) (h : History) → IsHistory k.world.journal.list (process k.world p).at (process k.world p).begun p h
-      → IsPrefix (map (λ (e : Entry). e.op) (own p (kept (inode_count_of (disk.image k.opening)) k.world.journal.list c)))
+  pub histories : (p : ℕ) → p < length k.world.processes
+      → HasHistory (intake.fits k.intake) k.world p
+  -- what is kept of a process's operations is a beginning of the changing ones that were taken of
+  -- it
+  pub beginnings : (p c : ℕ) (h : History)
+      → IsHistory k.world.journal.list (process k.world p).at (process k.world p).begun p h
+      → IsPrefix (map (λ (e : Entry). e.op)
+      (own p (kept (inode_count_of (disk.image k.opening)) k.world.journal.list c)))
       (filter (is_changing (inode_count_of (disk.image k.opening))) h.taken)
   pub told : herald.count k.herald ≡ k.store.volume.log.committed
   pub served : intake.process_count k.intake ≡ length k.world.processes
@@ -56,4 +65,5 @@ pub record Known {D N I M H : Type 0} (disk : disk_trait.Ghosts D N) (intake : i
   pub few : length k.world.processes ≤ 32
   pub numbers : k.store.inode_count ≡ inode_count_of (disk.image k.opening)
   -- the disk counted no fault since the opening, or the one after which nothing is done any more
-  pub faults : disk.fault_count k.store.volume.device ≡ faults_after k.store.volume.fault (disk.fault_count k.opening)
+  pub faults : disk.fault_count k.store.volume.device
+      ≡ faults_after k.store.volume.fault (disk.fault_count k.opening)

@@ -39,8 +39,8 @@ abbrev pub IsTaken : List Op → Side → Waiting → Op → Type 0
 IsTaken ahead side what op = (ahead ≡ op ∷ side.ahead) × (waiting_of op ≡ what)
 
 -- a creation was taken, and its group is open
-pub record TakesCreation {D : Type 0} (what : Option Waiting) (s : StoreState D) (w : World) (p : ℕ) (ahead : List Op)
-    (side : Side) (r : Step) (t : StoreState D) (z : World) : Type 0 where
+pub record TakesCreation {D : Type 0} (what : Option Waiting) (s : StoreState D) (w : World) (p : ℕ)
+    (ahead : List Op) (side : Side) (r : Step) (t : StoreState D) (z : World) : Type 0 where
   pub op : Op
   pub waits : what ≡ Some waiting.Creation
   pub taken : IsTaken ahead side waiting.Creation op
@@ -48,11 +48,12 @@ pub record TakesCreation {D : Type 0} (what : Option Waiting) (s : StoreState D)
   pub free : begin_cause s.volume.log ≡ None
   pub answer : r ≡ step.Moved
   pub store : t ≡ with_begun s p op
-  pub world : z ≡ Rattle.journal.specs.Processes.taken (with_place w) p (begun s.volume.log p).opened op
+  pub world : z
+      ≡ Rattle.journal.specs.Processes.taken (with_place w) p (begun s.volume.log p).opened op
 
 -- a creation of a type that no file has was taken, and answered at once
-pub record TakesRefused {D : Type 0} (what : Option Waiting) (s : StoreState D) (w : World) (p : ℕ) (ahead : List Op)
-    (side : Side) (r : Step) (t : StoreState D) (z : World) : Type 0 where
+pub record TakesRefused {D : Type 0} (what : Option Waiting) (s : StoreState D) (w : World) (p : ℕ)
+    (ahead : List Op) (side : Side) (r : Step) (t : StoreState D) (z : World) : Type 0 where
   pub op : Op
   pub waits : what ≡ Some waiting.Refused
   pub taken : IsTaken ahead side waiting.Refused op
@@ -70,7 +71,8 @@ HasNoRoom room r = (r ≡ step.Sleeping why.AnswersFull) × (room ≡ false)
 
 -- the log lets no operation begin
 abbrev pub IsKeptOut : LogState → Bool → Step → Type 0
-IsKeptOut l room r = (cause : Why) × (r ≡ step.Sleeping cause) × (begin_cause l ≡ Some cause) × (room ≡ true)
+IsKeptOut l room r =
+    (cause : Why) × (r ≡ step.Sleeping cause) × (begin_cause l ≡ Some cause) × (room ≡ true)
 
 -- why what waits first is not taken, as the answer says
 abbrev pub IsNotTaken : Option Waiting → LogState → Bool → Step → Type 0
@@ -81,28 +83,30 @@ IsNotTaken (Some waiting.Creation) l room r =
     HasNoRoom room r ⊎ (IsKeptOut l room r ⊎ (HasNoMemory room r × (begin_cause l ≡ None)))
 
 -- nothing was taken, and nothing changed
-pub record TakesNone {D : Type 0} (what : Option Waiting) (s : StoreState D) (w : World) (ahead : List Op) (side : Side)
-    (r : Step) (t : StoreState D) (z : World) : Type 0 where
+pub record TakesNone {D : Type 0} (what : Option Waiting) (s : StoreState D) (w : World)
+    (ahead : List Op) (side : Side) (r : Step) (t : StoreState D) (z : World) : Type 0 where
   pub same : Same s w t z
   pub ahead_stays : side.ahead ≡ ahead
   pub answer : IsNotTaken what s.volume.log side.has_room r
 
 -- by what waits first
-abbrev pub BeginsWith : {D : Type 0} → Option Waiting → StoreState D → World → ℕ → List Op → Side → Step → StoreState D → World → Type 0
+abbrev pub BeginsWith : {D : Type 0} → Option Waiting → StoreState D → World → ℕ → List Op → Side
+    → Step → StoreState D → World → Type 0
 BeginsWith what s w p ahead side r t z =
     TakesCreation what s w p ahead side r t z
     ⊎ (TakesRefused what s w p ahead side r t z ⊎ TakesNone what s w ahead side r t z)
 
 -- no operation begins any more: the kernel was shut, or its herald told of a shutdown
-pub record HearsShutdown {D : Type 0} (s : StoreState D) (w : World) (told : Bool) (r : Step) (t : StoreState D) (z : World) : Type 0 where
+pub record HearsShutdown {D : Type 0} (s : StoreState D) (w : World) (told : Bool) (r : Step)
+    (t : StoreState D) (z : World) : Type 0 where
   pub heard : (w.is_shut ≡ true) ⊎ (told ≡ true)
   pub answer : r ≡ step.ShutDown
   pub store : t ≡ s
   pub world : z ≡ record w { is_shut = true }
 
 -- nobody told of a shutdown; what waits was looked up, and the first of it decides
-pub record HearsNone {D : Type 0} (s : StoreState D) (w : World) (p : ℕ) (before : List Op) (side : Side) (told : Bool)
-    (r : Step) (t : StoreState D) (z : World) : Type 0 where
+pub record HearsNone {D : Type 0} (s : StoreState D) (w : World) (p : ℕ) (before : List Op)
+    (side : Side) (told : Bool) (r : Step) (t : StoreState D) (z : World) : Type 0 where
   pub unshut : w.is_shut ≡ false
   pub untold : told ≡ false
   pub ahead : List Op
@@ -111,8 +115,10 @@ pub record HearsNone {D : Type 0} (s : StoreState D) (w : World) (p : ℕ) (befo
 
 -- The beginning of what waits for a process, where these operations were ahead before the step, the
 -- intake's side is `side` after it, and `told` says whether the herald told of a shutdown.
-abbrev pub BeginsNext : {D : Type 0} → StoreState D → World → ℕ → List Op → Side → Bool → Step → StoreState D → World → Type 0
-BeginsNext s w p before side told r t z = HearsShutdown s w told r t z ⊎ HearsNone s w p before side told r t z
+abbrev pub BeginsNext : {D : Type 0} → StoreState D → World → ℕ → List Op → Side → Bool → Step
+    → StoreState D → World → Type 0
+BeginsNext s w p before side told r t z =
+    HearsShutdown s w told r t z ⊎ HearsNone s w p before side told r t z
 
 -- what a step answers, by what the task's step came to
 abbrev pub step_of : TaskProgress → Step
@@ -133,8 +139,8 @@ world_after (progress.Sleeping cause) over w p = w
 world_after (progress.Fault fault) over w p = w
 
 -- a step of the task of a process whose operation has not had its turn
-pub record Works {D N : Type 0} (disk : Ghosts D N) (s : StoreState D) (w : World) (p : ℕ) (op : Op) (r : Step)
-    (t : StoreState D) (z : World) : Type 0 where
+pub record Works {D N : Type 0} (disk : Ghosts D N) (s : StoreState D) (w : World) (p : ℕ) (op : Op)
+    (r : Step) (t : StoreState D) (z : World) : Type 0 where
   pub progress : TaskProgress
   pub steps : Steps disk s p op progress t
   pub answer : r ≡ step_of progress
@@ -151,7 +157,8 @@ world_ended ended_as.Commit w p = committing w p
 world_ended ended_as.Left w p = answered w p
 
 -- an operation ends: with its last one a group that has homes is closed
-pub record Ends {D : Type 0} (s : StoreState D) (w : World) (p : ℕ) (r : Step) (t : StoreState D) (z : World) : Type 0 where
+pub record Ends {D : Type 0} (s : StoreState D) (w : World) (p : ℕ) (r : Step) (t : StoreState D)
+    (z : World) : Type 0 where
   pub answer : r ≡ step_of_end (end_answer s.volume.log)
   pub store : t ≡ with_log s (ended s.volume.log p)
   pub world : z ≡ world_ended (end_answer s.volume.log) w p
@@ -171,14 +178,16 @@ world_written committed.Done w p = answered w p
 world_written (committed.Fault fault) w p = w
 
 -- a write of a commit
-pub record Writes {D N : Type 0} (disk : Ghosts D N) (s : StoreState D) (w : World) (p : ℕ) (r : Step) (t : StoreState D) (z : World) : Type 0 where
+pub record Writes {D N : Type 0} (disk : Ghosts D N) (s : StoreState D) (w : World) (p : ℕ)
+    (r : Step) (t : StoreState D) (z : World) : Type 0 where
   pub result : Committed
   pub commits : Commits disk s result t
   pub answer : r ≡ step_of_write result
   pub world : z ≡ world_written result w p
 
 -- by where the process stands
-abbrev pub NextAt : {D N : Type 0} → Ghosts D N → At → StoreState D → World → ℕ → List Op → Side → Bool → Step → StoreState D → World → Type 0
+abbrev pub NextAt : {D N : Type 0} → Ghosts D N → At → StoreState D → World → ℕ → List Op → Side
+    → Bool → Step → StoreState D → World → Type 0
 NextAt disk at.Idle s w p before side told r t z = BeginsNext s w p before side told r t z
 NextAt disk (at.Before group op) s w p before side told r t z = Works disk s w p op r t z
 -- a creation is over at its turn
@@ -187,9 +196,12 @@ NextAt disk (at.Ending group k) s w p before side told r t z = Ends s w p r t z
 NextAt disk (at.Committing group k) s w p before side told r t z = Writes disk s w p r t z
 
 -- after a fault nothing is done any more
-abbrev pub NextIf : {D N : Type 0} → Ghosts D N → Option DiskFault → StoreState D → World → ℕ → List Op → Side → Bool → Step → StoreState D → World → Type 0
-NextIf disk None s w p before side told r t z = NextAt disk (process w p).at s w p before side told r t z
+abbrev pub NextIf : {D N : Type 0} → Ghosts D N → Option DiskFault → StoreState D → World → ℕ
+    → List Op → Side → Bool → Step → StoreState D → World → Type 0
+NextIf disk None s w p before side told r t z =
+    NextAt disk (process w p).at s w p before side told r t z
 NextIf disk (Some fault) s w p before side told r t z = (r ≡ step.Halted) × Same s w t z
 
-abbrev pub Next : {D N : Type 0} → Ghosts D N → StoreState D → World → ℕ → List Op → Side → Bool → Step → StoreState D → World → Type 0
+abbrev pub Next : {D N : Type 0} → Ghosts D N → StoreState D → World → ℕ → List Op → Side → Bool
+    → Step → StoreState D → World → Type 0
 Next disk s w p before side told r t z = NextIf disk s.volume.fault s w p before side told r t z

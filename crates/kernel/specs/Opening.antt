@@ -18,7 +18,8 @@ use Rattle.kernel.specs.declared.types.OpenFault.TheVariants.{Check, Recover, No
 
 -- k was opened with so many processes over the disk d, whose image was sound: it was recovered, and
 -- nothing else happened
-pub record IsOpened {D N I H : Type 0} (disk : Ghosts D N) (d : D) (i : I) (h : H) (processes : ℕ) (k : State D I H) : Type 0 where
+pub record IsOpened {D N I H : Type 0} (disk : Ghosts D N) (d : D) (i : I) (h : H) (processes : ℕ)
+    (k : State D I H) : Type 0 where
   pub some : 1 ≤ processes
   pub few : processes ≤ 32
   pub sound : verdict (disk.image d) ≡ None
@@ -32,7 +33,8 @@ pub record IsOpened {D N I H : Type 0} (disk : Ghosts D N) (d : D) (i : I) (h : 
   pub intake : k.intake ≡ i
   pub herald : k.herald ≡ h
   pub name : disk.name k.opening ≡ disk.name d
-  pub writes : disk.write_count k.opening ≡ counted (disk.write_count d) (writes_to_recover (logged_count (disk.image d)))
+  pub writes : disk.write_count k.opening
+      ≡ counted (disk.write_count d) (writes_to_recover (logged_count (disk.image d)))
   pub faults : disk.fault_count k.opening ≡ disk.fault_count d
   pub leaves : LeavesOnly disk.moment disk.leaves d k.opening (RecoversAs (disk.image d))
 
@@ -53,14 +55,21 @@ MayWrite ProcRange = ⊥
 
 -- the disk d is handed back as e, for that reason
 abbrev pub IsOpenCause : {D N : Type 0} → Ghosts D N → D → D → ℕ → OpenFault → Type 0
-IsOpenCause disk d e processes (Check fault) = (1 ≤ processes) × (processes ≤ 32) × IsCause (verdict (disk.image d)) (disk.fault_count d) (disk.fault_count e) fault
-IsOpenCause disk d e processes (Recover fault) = (1 ≤ processes) × (processes ≤ 32) × (verdict (disk.image d) ≡ None) × IsRecoverCause fault (disk.fault_count d) (disk.fault_count e)
-IsOpenCause disk d e processes NoMemory = (1 ≤ processes) × (processes ≤ 32) × (verdict (disk.image d) ≡ None)
+IsOpenCause disk d e processes (Check fault) =
+    (1 ≤ processes) × (processes ≤ 32)
+    × IsCause (verdict (disk.image d)) (disk.fault_count d) (disk.fault_count e) fault
+IsOpenCause disk d e processes (Recover fault) =
+    (1 ≤ processes) × (processes ≤ 32) × (verdict (disk.image d) ≡ None)
+    × IsRecoverCause fault (disk.fault_count d) (disk.fault_count e)
+IsOpenCause disk d e processes NoMemory =
+    (1 ≤ processes) × (processes ≤ 32) × (verdict (disk.image d) ≡ None)
 IsOpenCause disk d e processes ProcRange = ((processes < 1) ⊎ (32 < processes)) × (e ≡ d)
 
 -- and nothing of it was written but by a recovery that failed
-pub record RefusesToOpen {D N : Type 0} (disk : Ghosts D N) (d e : D) (processes : ℕ) (fault : OpenFault) : Type 0 where
+pub record RefusesToOpen {D N : Type 0} (disk : Ghosts D N) (d e : D) (processes : ℕ)
+    (fault : OpenFault) : Type 0 where
   pub cause : IsOpenCause disk d e processes fault
-  pub unwritten : MayWrite fault ⊎ ((disk.image e ≡ disk.image d) × (disk.write_count e ≡ disk.write_count d))
+  pub unwritten : MayWrite fault
+      ⊎ ((disk.image e ≡ disk.image d) × (disk.write_count e ≡ disk.write_count d))
   pub name : disk.name e ≡ disk.name d
   pub leaves : LeavesOnly disk.moment disk.leaves d e (RecoversAs (disk.image d))

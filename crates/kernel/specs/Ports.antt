@@ -24,7 +24,8 @@ pub record Asks {I N : Type 0} (intake : Ghosts I N) (p : ℕ) (old new : I) : T
   pub prefix : IsPrefix (intake.side old p).ahead (intake.side new p).ahead
 
 -- process p got the answer of its operation
-pub record Gives {I N : Type 0} (intake : Ghosts I N) (w : World) (p : ℕ) (old new : I) : Type 0 where
+pub record Gives {I N : Type 0} (intake : Ghosts I N) (w : World) (p : ℕ)
+    (old new : I) : Type 0 where
   pub keeps : KeepsOthers intake p old new
   pub served : intake.process_count new ≡ intake.process_count old
   pub ahead : (intake.side new p).ahead ≡ (intake.side old p).ahead

@@ -24,22 +24,30 @@ abbrev pub with_shutdown : {D I H : Type 0} → State D I H → State D I H
 with_shutdown k = record k { world = record k.world { is_shut = true } }
 
 -- one turn makes m of k: a step of its process, with some answer, or the shutdown
-abbrev pub Makes : {D N I M H : Type 0} → disk_trait.Ghosts D N → intake_trait.Ghosts I M → herald_trait.Ghosts H → Turn → State D I H → State D I H → Type 0
+abbrev pub Makes : {D N I M H : Type 0} → disk_trait.Ghosts D N → intake_trait.Ghosts I M
+    → herald_trait.Ghosts H → Turn → State D I H → State D I H → Type 0
 Makes disk intake herald (Proc p) k m = (r : Step) × MakesStep disk intake herald p r k m
 Makes disk intake herald Shut k m = m ≡ with_shutdown k
 
 -- the turns of a list make m of k, one after the other
-abbrev pub Runs : {D N I M H : Type 0} → disk_trait.Ghosts D N → intake_trait.Ghosts I M → herald_trait.Ghosts H → List Turn → State D I H → State D I H → Type 0
+abbrev pub Runs : {D N I M H : Type 0} → disk_trait.Ghosts D N → intake_trait.Ghosts I M
+    → herald_trait.Ghosts H → List Turn → State D I H → State D I H → Type 0
 Runs disk intake herald [] k m = m ≡ k
-Runs {D} {N} {I} {M} {H} disk intake herald (t ∷ ts) k m = (mid : State D I H) × Makes disk intake herald t k mid × Runs disk intake herald ts mid m
+Runs {D} {N} {I} {M} {H} disk intake herald (t ∷ ts) k m =
+    (mid : State D I H) × Makes disk intake herald t k mid × Runs disk intake herald ts mid m
 
--- What any turns keep of a kernel: no group that was committed is lost, also by a stop at any moment.
-pub record RunsOn {D N I H : Type 0} (disk : disk_trait.Ghosts D N) (k m : State D I H) : Type 0 where
+-- What any turns keep of a kernel: no group that was committed is lost, also by a stop at any
+-- moment.
+pub record RunsOn {D N I H : Type 0} (disk : disk_trait.Ghosts D N)
+    (k m : State D I H) : Type 0 where
   pub opening : m.opening ≡ k.opening
   pub many : length m.world.processes ≡ length k.world.processes
   pub shut : k.world.is_shut ≡ true → StaysShut k.world m.world
   pub keeps : (x : Image) → disk.leaves m.store.volume.device (disk.moment m.store.volume.device) x
       → KeepsNow m.store.volume (disk.image m.opening) m.world.journal.list x
-  pub grows : Grows (inode_count_of (disk.image k.opening)) k.store.volume k.world.journal.list m.store.volume m.world.journal.list
+  pub grows : Grows
+      (inode_count_of (disk.image k.opening)) k.store.volume k.world.journal.list m.store.volume
+      m.world.journal.list
   pub leaves : LeavesOnly disk.moment disk.leaves k.store.volume.device m.store.volume.device
-      (KeepsBetween k.store.volume.log.committed (most_of m.store.volume) (disk.image m.opening) m.world.journal.list)
+      (KeepsBetween k.store.volume.log.committed (most_of m.store.volume)
+      (disk.image m.opening) m.world.journal.list)

@@ -20,19 +20,24 @@ use Rattle.journal.specs.Bound.{is_busy_at}
 use Rattle.kernel.specs.State.{State}
 
 -- What a step of process p does, which answers r and makes m of k.
-pub record Acts {D N I M H : Type 0} (disk : disk_trait.Ghosts D N) (intake : intake_trait.Ghosts I M) (herald : herald_trait.Ghosts H)
-    (p : ℕ) (r : Step) (k m : State D I H) : Type 0 where
-  pub next : Next disk k.store k.world p (intake.side k.intake p).ahead (intake.side m.intake p) (herald.told m.herald) r m.store m.world
+pub record Acts {D N I M H : Type 0} (disk : disk_trait.Ghosts D N)
+    (intake : intake_trait.Ghosts I M) (herald : herald_trait.Ghosts H) (p : ℕ) (r : Step)
+    (k m : State D I H) : Type 0 where
+  pub next : Next disk k.store k.world p (intake.side k.intake p).ahead (intake.side m.intake p)
+      (herald.told m.herald) r m.store m.world
   pub device : UsesDisk disk (process k.world p).at p r k.store m.store
   pub opening : m.opening ≡ k.opening
   pub sides : KeepsOthers intake p k.intake m.intake
   -- what waits goes on waiting, but for what is taken
-  pub waits : r ≢ step.Moved → r ≢ step.Answered → IsPrefix (intake.side k.intake p).ahead (intake.side m.intake p).ahead
-  pub ahead : is_busy_at (process k.world p).at ≡ true → (intake.side m.intake p).ahead ≡ (intake.side k.intake p).ahead
+  pub waits : r ≢ step.Moved → r ≢ step.Answered
+      → IsPrefix (intake.side k.intake p).ahead (intake.side m.intake p).ahead
+  pub ahead : is_busy_at (process k.world p).at ≡ true
+      → (intake.side m.intake p).ahead ≡ (intake.side k.intake p).ahead
 
 -- THE PROMISE OF A STEP of process p, which answers r and makes m of k.
-pub record MakesStep {D N I M H : Type 0} (disk : disk_trait.Ghosts D N) (intake : intake_trait.Ghosts I M) (herald : herald_trait.Ghosts H)
-    (p : ℕ) (r : Step) (k m : State D I H) : Type 0 where
+pub record MakesStep {D N I M H : Type 0} (disk : disk_trait.Ghosts D N)
+    (intake : intake_trait.Ghosts I M) (herald : herald_trait.Ghosts H) (p : ℕ) (r : Step)
+    (k m : State D I H) : Type 0 where
   pub acts : Acts disk intake herald p r k m
   pub many : length m.world.processes ≡ length k.world.processes
   pub committed : CountsCommitted r (process k.world p).at k.store.volume.log m.store.volume.log
@@ -43,6 +48,9 @@ pub record MakesStep {D N I M H : Type 0} (disk : disk_trait.Ghosts D N) (intake
   -- what a stop leaves, now and in this step
   pub keeps : (x : Image) → disk.leaves m.store.volume.device (disk.moment m.store.volume.device) x
       → KeepsNow m.store.volume (disk.image m.opening) m.world.journal.list x
-  pub grows : Grows (inode_count_of (disk.image k.opening)) k.store.volume k.world.journal.list m.store.volume m.world.journal.list
+  pub grows : Grows
+      (inode_count_of (disk.image k.opening)) k.store.volume k.world.journal.list m.store.volume
+      m.world.journal.list
   pub leaves : LeavesOnly disk.moment disk.leaves k.store.volume.device m.store.volume.device
-      (KeepsBetween k.store.volume.log.committed (most_of m.store.volume) (disk.image m.opening) m.world.journal.list)
+      (KeepsBetween k.store.volume.log.committed (most_of m.store.volume)
+      (disk.image m.opening) m.world.journal.list)

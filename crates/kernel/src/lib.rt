@@ -28,6 +28,7 @@ mod opening;
 mod queues;
 mod runs;
 mod stepping;
+mod telling;
 mod types;
 mod waiting;
 

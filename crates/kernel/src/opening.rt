@@ -1,8 +1,7 @@
 // Opening a kernel, and what may be asked of it between two steps.
 ghost use Rattle.std.specs.Prelude.{◌≡◌, ◌<◌, ℕ, true, length, replicate, IfOk, IfErr, IsTrue};
 ghost use Rattle.model.specs.Layout.{is_lawful_super};
-ghost use Rattle.bcache.specs.Buffers.{fresh_buffers};
-ghost use Rattle.wal.specs.Machine.{new_log};
+ghost use Rattle.wal.specs.Volume.{IsNewMemory};
 ghost use Rattle.inodes.specs.Tasks.{no_task};
 ghost use Rattle.journal.specs.Processes.{fresh_world, process};
 ghost use Rattle.kernel.specs.Opening.{IsOpened, RefusesToOpen};
@@ -33,8 +32,7 @@ struct Memory {
 // Takes the memory of a kernel over an image with this superblock.
 fn take_memory(alloc: Global, sup: &Super, processes: u32) -> Result<Memory, NoMemory>
     requires { IsTrue (is_lawful_super sup.now sup.now.size) }
-    ensures cache { IfOk result (λ memory. memory.cache ≡ fresh_buffers) }
-    ensures log { IfOk result (λ memory. memory.log ≡ new_log sup.now.size) }
+    ensures memory { IfOk result (λ memory. IsNewMemory memory.cache memory.log sup.now.size) }
     ensures tasks { IfOk result (λ memory. memory.tasks ≡ replicate processes no_task) }
     ensures processes { IfOk result (λ memory. memory.processes ≡ fresh_world processes) }
 {
@@ -48,14 +46,14 @@ fn take_memory(alloc: Global, sup: &Super, processes: u32) -> Result<Memory, NoM
 
 impl<D: Disk, I: Intake, H: Herald> Kernel<D, I, H> {
     /// A kernel of so many processes over the image of a disk: checks the image, takes the kernel's
-    /// memory, and recovers the image. The intake serves these processes and nothing was taken of it,
-    /// and the herald was told of no group.
+    /// memory, and recovers the image. The intake serves these processes and nothing was taken of
+    /// it, and the herald was told of no group.
     ///
     /// # Errors
     ///
-    /// Hands the disk back with `ProcRange` where there are not 1 to 32 processes; with the fault of
-    /// the check; with `NoMemory` where memory was refused; with the fault of the recovery. But for
-    /// the last of them no block was written.
+    /// Hands the disk back with `ProcRange` where there are not 1 to 32 processes; with the fault
+    /// of the check; with `NoMemory` where memory was refused; with the fault of the recovery. But
+    /// for the last of them no block was written.
     pub fn open(
         alloc: Global,
         mut disk: D,

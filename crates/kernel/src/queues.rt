@@ -23,8 +23,8 @@ impl<D: Disk, H: Herald> Kernel<D, QueueIntake, H> {
         ensures full { OnErr result ((16 ≤ length (waiting self.old.intake pid))
             ⊎ ((process self.old.world pid).begun + length (waiting self.old.intake pid) + 1
             ≡ 2 ^ 64)) }
-        ensures back { IfErr result (λ other. other ≡ op) }
-        ensures refused { OnErr result (waiting self.new.intake pid ≡ waiting self.old.intake pid) }
+        ensures back { IfErr result (λ other. (other ≡ op)
+            × (waiting self.new.intake pid ≡ waiting self.old.intake pid)) }
         ensures answers { (answers self.new.intake pid ≡ answers self.old.intake pid)
             × (polled self.new.intake pid ≡ polled self.old.intake pid) }
         ensures others { OthersWait self.old.intake self.new.intake pid }

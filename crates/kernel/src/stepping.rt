@@ -1,9 +1,6 @@
 // The kernel, and one step of a process.
-ghost use Rattle.std.specs.Prelude.{◌≡◌, ◌⊎◌, ◌<◌, ◌+◌, length, Some, IsSome, true, false};
-ghost use Rattle.journal.specs.Processes.{process, last_answer, answered};
-ghost use Rattle.kernel.specs.Ports.{Gives};
-
 use crate::Step;
+use crate::telling::{give, tell};
 use crate::waiting::{Waiting, waiting_of};
 use blocks::Disk;
 use inodes::Store;
@@ -30,9 +27,21 @@ impl<D: Disk, I: Intake, H: Herald> Model for Kernel<D, I, H> {
 
     ghost Value = { State D I H };
 
-    ghost view = { λ k. record { store = k.store; opening = k.opening.value; intake = k.intake; herald = k.herald; world = k.processes } };
+    ghost view = { λ k. record {
+      store = k.store;
+      opening = k.opening.value;
+      intake = k.intake;
+      herald = k.herald;
+      world = k.processes;
+    } };
 
-    ghost invariant = { λ k. Inv D.Disk I.Intake H.Herald (record { store = k.store; opening = k.opening.value; intake = k.intake; herald = k.herald; world = k.processes }) };
+    ghost invariant = { λ k. Inv D.Disk I.Intake H.Herald (record {
+      store = k.store;
+      opening = k.opening.value;
+      intake = k.intake;
+      herald = k.herald;
+      world = k.processes;
+    }) };
 }
 
 impl<D: Disk, I: Intake, H: Herald> Kernel<D, I, H> {
@@ -47,17 +56,17 @@ impl<D: Disk, I: Intake, H: Herald> Kernel<D, I, H> {
     ghost use Rattle.kernel.specs.Ports.{Asks, first_waiting};
 
     /// Does nothing: it says what is known of a kernel between two steps, above all what a stop now
-    /// leaves: an image that is recovered to a sound one with the opening's files after the changing
-    /// operations of the committed groups, in the order of the journal.
+    /// leaves: an image that is recovered to a sound one with the opening's files after the
+    /// changing operations of the committed groups, in the order of the journal.
     pub fn known(&self)
         ensures { Known D.Disk I.Intake H.Herald self.now }
     {
         self.store.known();
     }
 
-    /// One step of a process: the next of its operation, or the beginning of the one that waits. The
-    /// steps of an operation are what xv6 does between `begin_op` and `end_op`, commit included (the
-    /// xv6 book, the chapter "File system": "Code: logging"), one block at a time.
+    /// One step of a process: the next of its operation, or the beginning of the one that waits.
+    /// The steps of an operation are what xv6 does between `begin_op` and `end_op`, commit included
+    /// (the xv6 book, the chapter "File system": "Code: logging"), one block at a time.
     ///
     /// After a fault of the disk it is `Halted`, and nothing is done. A process with no operation
     /// under way answers, in this order: `ShutDown`, `Idle`, `NotYet`, `Sleeping(AnswersFull)`,
@@ -271,29 +280,4 @@ impl<D: Disk, I: Intake, H: Herald> Kernel<D, I, H> {
             Committed::Fault(_) => Step::Halted,
         }
     }
-}
-
-// Tells a herald that one group more is committed, if one is.
-fn tell<H: Herald>(herald: &mut H, before: u64, now: u64)
-    requires told { H.count herald.old ≡ before }
-    requires one { (now ≡ before) ⊎ (now ≡ before + 1) }
-    ensures count { H.count herald.new ≡ now }
-    ensures told { H.told herald.new ≡ H.told herald.old }
-{
-    if now > before {
-        herald.durable(now);
-    }
-}
-
-// Gives a process the answer of its operation, which is at its end.
-fn give<I: Intake>(processes: &mut Processes, intake: &mut I, pid: u32)
-    requires pid { pid < length processes.old.processes }
-    requires served { pid < I.process_count intake.old }
-    requires over { IsSome (last_answer processes.old (process processes.old pid).at) }
-    requires room { (I.side intake.old pid).has_room ≡ true }
-    ensures processes { processes.new ≡ answered processes.old pid }
-    ensures gives { Gives I.Intake processes.old pid intake.old intake.new }
-{
-    let answer = processes.answer(pid);
-    intake.answer(pid, answer);
 }

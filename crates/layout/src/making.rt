@@ -1,12 +1,12 @@
 // A new image on a disk.
-ghost use Rattle.std.specs.Prelude.{◌≡◌, ◌↔◌, ◌≤◌, ◌<◌, ◌-◌, ◌&&◌, ◌==◌, false, length, IsTrue, IsOk, OnOk, OnErr, IfErr};
+ghost use Rattle.std.specs.Prelude.{◌≡◌, ◌↔◌, ◌≤◌, ◌<◌, ◌&&◌, ◌==◌, false, length, IsTrue, IsOk, OnOk, OnErr, IfErr};
 ghost use Rattle.std.specs.Result.{IsErrOf};
 ghost use Rattle.blocks.specs.Calls.{WritesOne};
-ghost use Rattle.blocks.specs.Disk.{counted, Rose, LeavesOnly};
+ghost use Rattle.blocks.specs.Disk.{Rose, LeavesOnly};
 ghost use Rattle.model.specs.declared.types.image.Form.TheVariants.{One};
 ghost use Rattle.model.specs.Layout.{is_inode_count, is_size};
 ghost use Rattle.model.specs.Codec.{made_block};
-ghost use Rattle.layout.specs.Making.{OnRefusal, OnDisk, HasMade, IsMadeInPart, Makes, made_first};
+ghost use Rattle.layout.specs.Making.{OnRefusal, OnDisk, IsMadeInPart, Makes, MakesBehind};
 
 use crate::MkfsFault;
 use crate::geometry::plan;
@@ -17,7 +17,8 @@ use std::alloc::Global;
 // Writes a block.
 fn write_block<D: Disk>(disk: &mut D, image: &NewImage, b: u32) -> Result<(), MkfsFault>
     requires { b < length (D.image disk.old) }
-    ensures writes { WritesOne D.Disk b (made_block One image.now.size image.now.ninodes b) result disk.old disk.new }
+    ensures writes { WritesOne D.Disk b
+        (made_block One image.now.size image.now.ninodes b) result disk.old disk.new }
     ensures disk { IfErr result (λ fault. fault ≡ MkfsFault.Disk) }
 {
     disk.write(b, image.block(b))?;
@@ -28,14 +29,13 @@ fn write_block<D: Disk>(disk: &mut D, image: &NewImage, b: u32) -> Result<(), Mk
 fn write_behind<D: Disk>(disk: &mut D, image: &NewImage) -> Result<(), MkfsFault>
     requires size { length (D.image disk.old) ≡ image.now.size }
     requires some { 2 ≤ image.now.size }
-    ensures image { OnOk result (HasMade image.now.size image.now.ninodes image.now.size (D.image disk.old) (D.image disk.new)) }
-    ensures last { OnOk result (D.image disk.new ≡ made_first image.now.size image.now.ninodes (image.now.size - 1) (D.image disk.old)) }
-    ensures writes { OnOk result (D.write_count disk.new ≡ counted (D.write_count disk.old) (image.now.size - 1)) }
+    ensures ok { OnOk result
+        (MakesBehind D.Disk image.now.size image.now.ninodes disk.old disk.new) }
     ensures name { D.name disk.new ≡ D.name disk.old }
-    ensures faults { OnOk result (D.fault_count disk.new ≡ D.fault_count disk.old) }
     ensures disk { IfErr result (λ fault. fault ≡ MkfsFault.Disk) }
     ensures rose { OnErr result (Rose (D.fault_count disk.old) (D.fault_count disk.new)) }
-    ensures order { LeavesOnly D.moment D.leaves disk.old disk.new (IsMadeInPart (D.image disk.old) image.now.size image.now.ninodes) }
+    ensures order { LeavesOnly D.moment D.leaves disk.old disk.new
+        (IsMadeInPart (D.image disk.old) image.now.size image.now.ninodes) }
 {
     write_block(disk, image, 0)?;
     for b in 2..image.size {
@@ -52,25 +52,26 @@ fn write_image<D: Disk>(disk: &mut D, image: &NewImage) -> Result<(), MkfsFault>
     ensures name { D.name disk.new ≡ D.name disk.old }
     ensures disk { IfErr result (λ fault. fault ≡ MkfsFault.Disk) }
     ensures rose { OnErr result (Rose (D.fault_count disk.old) (D.fault_count disk.new)) }
-    ensures order { LeavesOnly D.moment D.leaves disk.old disk.new (IsMadeInPart (D.image disk.old) image.now.size image.now.ninodes) }
+    ensures order { LeavesOnly D.moment D.leaves disk.old disk.new
+        (IsMadeInPart (D.image disk.old) image.now.size image.now.ninodes) }
 {
     write_behind(disk, image)?;
     write_block(disk, image, 1)?;
     Ok(())
 }
 
-/// Makes a new image of `size` blocks with `ninodes` inode numbers on a disk of that size, as `plan`
-/// lays it out: blocks of zeroes, but for the superblock and the bitmap, which says that the blocks
-/// before the data are used. There is no file then, and nothing is logged.
+/// Makes a new image of `size` blocks with `ninodes` inode numbers on a disk of that size, as
+/// `plan` lays it out: blocks of zeroes, but for the superblock and the bitmap, which says that the
+/// blocks before the data are used. There is no file then, and nothing is logged.
 ///
 /// It writes block 0, then blocks 2 to the last in order, and block 1, the superblock, last. So
 /// where it stops before its end, block 1 is as it was.
 ///
 /// # Errors
 ///
-/// `InodeRange` and `SizeRange` as for `plan`, and `SizeRange` where the disk has another size; then
-/// `NoMemory` where the allocator refuses three blocks. With these nothing is written. `Disk` where
-/// the disk fails: what it holds then is not said, but for block 1.
+/// `InodeRange` and `SizeRange` as for `plan`, and `SizeRange` where the disk has another size;
+/// then `NoMemory` where the allocator refuses three blocks. With these nothing is written. `Disk`
+/// where the disk fails: what it holds then is not said, but for block 1.
 pub fn mkfs<D: Disk>(alloc: Global, disk: &mut D, size: u32, ninodes: u32) -> Result<(), MkfsFault>
     ensures made { OnOk result (Makes D.Disk size ninodes disk.old disk.new) }
     ensures name { D.name disk.new ≡ D.name disk.old }
@@ -78,12 +79,14 @@ pub fn mkfs<D: Disk>(alloc: Global, disk: &mut D, size: u32, ninodes: u32) -> Re
     // When each error comes.
     ensures inodes { IsErrOf result MkfsFault.InodeRange ↔ (is_inode_count ninodes ≡ false) }
     ensures size { IsErrOf result MkfsFault.SizeRange
-        ↔ (IsTrue (is_inode_count ninodes) × ((is_size size ninodes && (size == length (D.image disk.old))) ≡ false)) }
+        ↔ (IsTrue (is_inode_count ninodes)
+        × ((is_size size ninodes && (size == length (D.image disk.old))) ≡ false)) }
     ensures disk { OnDisk result (Rose (D.fault_count disk.old) (D.fault_count disk.new)) }
     ensures refused { OnRefusal result (disk.new ≡ disk.old) }
 
     // A crash at any moment leaves the image after some of these writes, in this order.
-    ensures order { LeavesOnly D.moment D.leaves disk.old disk.new (IsMadeInPart (D.image disk.old) size ninodes) }
+    ensures order { LeavesOnly D.moment D.leaves disk.old disk.new
+        (IsMadeInPart (D.image disk.old) size ninodes) }
 {
     let fields = plan(size, ninodes)?;
     if disk.size() != size {

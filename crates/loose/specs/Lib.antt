@@ -1,4 +1,5 @@
 pub mod Loose
 pub mod Claims
 pub mod Laws
+pub mod Looks
 pub mod Lemmas

@@ -13,9 +13,13 @@ use Rattle.model.specs.Soundness.{IsLawfulGeometry, count_of}
 abbrev pub AreFull : Image → Type 0
 AreFull x = (b : ℕ) → 33 ≤ b → b < length x → length (block_at x b) ≡ 1024
 
+-- a data block of the image
+abbrev pub LiesInData : Image → ℕ → Type 0
+LiesInData x b = (first_data_block x ≤ b) × (b < length x)
+
 -- the bitmap has the blocks before the data and those of the list: data blocks, each there once
 pub record IsLoose (x : Image) (owned : List ℕ) : Type 0 where
-  pub in_data : (b : ℕ) → count_of b owned ≢ 0 → (first_data_block x ≤ b) × (b < length x)
+  pub in_data : (b : ℕ) → count_of b owned ≢ 0 → LiesInData x b
   pub once : (b : ℕ) → count_of b owned ≤ 1
   pub marked : (b : ℕ) → b < length x →
       is_marked x b ≡ (nat_lt b (first_data_block x) || nat_lt 0 (count_of b owned))

@@ -14,9 +14,11 @@
 //!
 //! The laws say that a sound image stands for its own files; that an image which stands for files
 //! is sound, with them as its files, once its log is empty; that the log's blocks have no part in
-//! it; and that the claim of a free number makes an image that stands for the files after that
-//! creation. What a claim does to the bytes of an image is said of any, sound or not. These laws
-//! and the lemmas of `specs/Lemmas` are for the layers that keep an image through such steps.
+//! it; that the claim of a free number makes an image that stands for the files after that
+//! creation; and that the inode of a number and the blocks to which it leads say what a look at the
+//! number's file answers. What a claim does to the bytes of an image is said of any, sound or not.
+//! These laws and the lemmas of `specs/Lemmas` are for the layers that keep an image through such
+//! steps.
 #![tactic(auto)]
 
 pub mod laws;

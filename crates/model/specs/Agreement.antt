@@ -22,7 +22,8 @@ pub record AgreesFor (test : ℕ → Bool) (x y : Image) (d : Dinode) : Type 0 w
   pub one : IsTrue (test 1)
   pub names : IsTrue (all_pass test (pointers_in x d))
 
--- an inode has in y what it has in x. A free one has no pointers, names and file; its addresses are nobody's
+-- an inode has in y what it has in x. A free one has no pointers, names and file; its addresses are
+-- nobody's
 pub record HasSameContents (x y : Image) (d : Dinode) : Type 0 where
   pub pointers : pointers_in y d ≡ pointers_in x d
   pub names : names_of y d ≡ names_of x d

@@ -22,7 +22,8 @@ block_of_words words = overwritten zero_block 0 (bytes_of_words words)
 -- the superblock's numbers, the magic first
 abbrev pub super_words : Form → Super → List ℕ
 super_words form s =
-    magic_of form ∷ s.size ∷ s.nblocks ∷ s.ninodes ∷ s.nlog ∷ s.logstart ∷ s.inodestart ∷ s.bmapstart ∷ []
+    magic_of form ∷ s.size ∷ s.nblocks ∷ s.ninodes ∷ s.nlog ∷ s.logstart ∷ s.inodestart
+    ∷ s.bmapstart ∷ []
 
 abbrev pub super_block : Form → Super → List ℕ
 super_block form s = block_of_words (super_words form s)
@@ -34,8 +35,8 @@ header_block homes = block_of_words (length homes ∷ homes)
 -- the 64 bytes of an inode
 unfoldable pub dinode_bytes : Dinode → List ℕ
 dinode_bytes d =
-    little_bytes 2 d.kind ++ (little_bytes 2 d.major ++ (little_bytes 2 d.minor ++ (little_bytes 2 d.nlink
-    ++ (little_bytes 4 d.size ++ bytes_of_words d.addrs))))
+    little_bytes 2 d.kind ++ (little_bytes 2 d.major ++ (little_bytes 2 d.minor
+    ++ (little_bytes 2 d.nlink ++ (little_bytes 4 d.size ++ bytes_of_words d.addrs))))
 
 -- the fields fit theirs
 pub record IsDinode (d : Dinode) : Type 0 where
@@ -76,7 +77,8 @@ with_bit bytes k = slice_set bytes (k / 8) (bit_or (slice_index bytes (k / 8)) (
 
 -- a block with a bit cleared
 unfoldable pub without_bit : List ℕ → ℕ → List ℕ
-without_bit bytes k = slice_set bytes (k / 8) (bit_and (slice_index bytes (k / 8)) (bit_not w8 (1 * 2 ^ (k % 8) % 2 ^ 8)))
+without_bit bytes k = slice_set bytes (k / 8)
+    (bit_and (slice_index bytes (k / 8)) (bit_not w8 (1 * 2 ^ (k % 8) % 2 ^ 8)))
 
 -- a block whose first bits are set, that many, and no other
 unfoldable pub first_bits : ℕ → List ℕ
@@ -87,7 +89,8 @@ first_bits (suc n) = with_bit (first_bits n) n
 abbrev pub made_block : Form → ℕ → ℕ → ℕ → List ℕ
 made_block form size inode_count b =
     if b == 1 then super_block form (planned_super size inode_count)
-    else if b == (planned_super size inode_count).bmapstart then first_bits (meta_count size inode_count)
+    else if b == (planned_super size inode_count).bmapstart then
+    first_bits (meta_count size inode_count)
     else zero_block
 
 -- a new image: zeroes but for the superblock and the bitmap, which has the blocks before the data

@@ -23,14 +23,17 @@ pub record IsUntouched (opening x : Image) : Type 0 where
   pub boot : block_at x 0 ≡ block_at opening 0
   pub super : block_at x 1 ≡ block_at opening 1
   pub inode_zero : inode_bytes x 0 ≡ inode_bytes opening 0
-  pub inodes_past : (i : ℕ) → inode_count_of opening ≤ i → i < 16 * (inode_count_of opening / 16 + 1) → inode_bytes x i ≡ inode_bytes opening i
+  pub inodes_past : (i : ℕ) → inode_count_of opening ≤ i →
+      i < 16 * (inode_count_of opening / 16 + 1) → inode_bytes x i ≡ inode_bytes opening i
   pub bits_past : (b : ℕ) → length opening ≤ b → b < 8192 → is_marked x b ≡ is_marked opening b
 
 -- recovery of x gives a sound image with the opening's files after the kept entries
 pub record Keeps (opening : Image) (journal : List Entry) (x : Image) (c : ℕ) : Type 0 where
   pub log : IsTrue (is_lawful_log x)
   pub sound : IsSound (recovered x)
-  pub files : replay (form_of opening) (files_of opening) (kept (inode_count_of opening) journal c) ≡ Some (files_of (recovered x))
+  pub files : replay (form_of opening) (files_of opening) (kept (inode_count_of opening) journal c)
+      ≡ Some (files_of (recovered x))
   pub untouched : IsUntouched opening (recovered x)
-  pub labels : (i : ℕ) → (inode_of (recovered x) i).kind ≢ 0 → IsTrue (is_number (inode_count_of opening) i) →
+  pub labels : (i : ℕ) → (inode_of (recovered x) i).kind ≢ 0 →
+      IsTrue (is_number (inode_count_of opening) i) →
       labels_of (recovered x) i ≡ due_labels opening (kept (inode_count_of opening) journal c) i

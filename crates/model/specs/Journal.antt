@@ -36,7 +36,8 @@ is_number inode_count i = nat_lt 0 i && nat_lt i inode_count
 -- an operation that is answered in its beginning step, by itself alone
 abbrev pub is_at_once : ℕ → Op → Bool
 is_at_once inode_count (Create kind) = not (is_kind kind)
-is_at_once inode_count (Write i off bytes) = nat_lt transfer_limit (length bytes) || not (is_number inode_count i)
+is_at_once inode_count (Write i off bytes) =
+    nat_lt transfer_limit (length bytes) || not (is_number inode_count i)
 is_at_once inode_count (Read i off n) = nat_lt transfer_limit n || not (is_number inode_count i)
 is_at_once inode_count (Trunc i) = not (is_number inode_count i)
 is_at_once inode_count (Remove i) = not (is_number inode_count i)
@@ -45,7 +46,8 @@ is_at_once inode_count (Stat i) = not (is_number inode_count i)
 -- operations that may change a file and are not answered at once
 abbrev pub is_changing : ℕ → Op → Bool
 is_changing inode_count (Create kind) = is_kind kind
-is_changing inode_count (Write i off bytes) = nat_le (length bytes) transfer_limit && is_number inode_count i
+is_changing inode_count (Write i off bytes) =
+    nat_le (length bytes) transfer_limit && is_number inode_count i
 is_changing inode_count (Read i off n) = false
 is_changing inode_count (Trunc i) = is_number inode_count i
 is_changing inode_count (Remove i) = is_number inode_count i

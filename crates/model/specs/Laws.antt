@@ -26,7 +26,8 @@ RecoversOnce = (x : Image) → recovered (recovered x) ≡ recovered x
 -- a run of two lists is a run of the first and then of the second
 abbrev pub ReplaysInParts : Type 0
 ReplaysInParts = (form : Form) (files : Files) (first second : List Entry) →
-    replay form files (first ++ second) ≡ and_then (replay form files first) (λ mid. replay form mid second)
+    replay form files (first ++ second)
+    ≡ and_then (replay form files first) (λ mid. replay form mid second)
 
 -- a reply that changes no file
 abbrev pub is_still : Reply → Bool
@@ -54,9 +55,11 @@ CountStays = (form : Form) (files new : Files) (entries : List Entry) →
 
 -- an operation that has a refusal may be answered by it, and by no other reply, and changes nothing
 abbrev pub RefusalsFirst : Type 0
-RefusalsFirst = (form : Form) (files : Files) (op : Op) (refusal : Reply) → refusal_of form files op ≡ Some refusal →
+RefusalsFirst = (form : Form) (files : Files) (op : Op) (refusal : Reply) →
+    refusal_of form files op ≡ Some refusal →
     (after form files op refusal ≡ Some files)
-    × ((reply : Reply) (new : Files) → after form files op reply ≡ Some new → (reply ≡ refusal) × (new ≡ files))
+    × ((reply : Reply) (new : Files) → after form files op reply ≡ Some new →
+    (reply ≡ refusal) × (new ≡ files))
 
 -- the operations that may change a file
 abbrev pub is_writing : Op → Bool
@@ -69,11 +72,13 @@ is_writing (Stat i) = false
 
 -- the changing operations are those that may change a file and are not answered at once
 abbrev pub AtOnceIsNotChanging : Type 0
-AtOnceIsNotChanging = (inode_count : ℕ) (op : Op) → is_changing inode_count op ≡ (is_writing op && not (is_at_once inode_count op))
+AtOnceIsNotChanging = (inode_count : ℕ) (op : Op) →
+    is_changing inode_count op ≡ (is_writing op && not (is_at_once inode_count op))
 
 -- what is answered at once is refused, whatever the files are, if number 0 has none
 abbrev pub AtOnceIsRefused : Type 0
-AtOnceIsRefused = (form : Form) (files : Files) (op : Op) → file_in files 0 ≡ None → IsTrue (is_at_once (length files) op) →
+AtOnceIsRefused = (form : Form) (files : Files) (op : Op) → file_in files 0 ≡ None →
+    IsTrue (is_at_once (length files) op) →
     IsSome (refusal_of form files op)
 
 -- writing a logged block to its home changes nothing of what recovery leaves
@@ -87,26 +92,33 @@ is_home x b = list_any (λ h. h == b) (homes_of x)
 
 -- whatever stands at the homes of a log, recovery leaves the same
 abbrev pub HomesAreRewritten : Type 0
-HomesAreRewritten = (x y : Image) → IsTrue (is_lawful_log x) → length y ≡ length x → Agrees (λ b. not (is_home x b)) x y →
+HomesAreRewritten = (x y : Image) → IsTrue (is_lawful_log x) → length y ≡ length x →
+    Agrees (λ b. not (is_home x b)) x y →
     recovered y ≡ recovered x
 
--- a check finds no fault exactly where superblock and log are lawful and recovery leaves a sound image
+-- a check finds no fault exactly where superblock and log are lawful and recovery leaves a sound
+-- image
 abbrev pub VerdictIsSound : Type 0
 VerdictIsSound = (x : Image) →
     (verdict x ≡ None) ↔ (IsLawfulGeometry x × IsTrue (is_lawful_log x) × IsSound (recovered x))
 
 -- images that agree at the superblock and at what an inode names have the same contents of it
 abbrev pub FramesContents : Type 0
-FramesContents = (test : ℕ → Bool) (x y : Image) (d : Dinode) → AgreesFor test x y d → HasSameContents x y d
+FramesContents = (test : ℕ → Bool) (x y : Image) (d : Dinode) → AgreesFor test x y d →
+    HasSameContents x y d
 
--- an image with an empty log that differs from a sound one in the log alone is sound, and has the same files
+-- an image with an empty log that differs from a sound one in the log alone is sound, and has the
+-- same files
 abbrev pub SameOutsideLog : Type 0
-SameOutsideLog = (x y : Image) → length y ≡ length x → Agrees is_outside_log x y → IsSound x → logged_count y ≡ 0 →
+SameOutsideLog = (x y : Image) → length y ≡ length x → Agrees is_outside_log x y → IsSound x →
+    logged_count y ≡ 0 →
     IsSound y × (files_of y ≡ files_of x)
 
--- where recovery leaves a sound image, one that recovers to the same outside the log recovers to a sound one with the same files
+-- where recovery leaves a sound image, one that recovers to the same outside the log recovers to a
+-- sound one with the same files
 abbrev pub SameWhenRecovered : Type 0
-SameWhenRecovered = (x y : Image) → length y ≡ length x → Agrees is_outside_log (recovered x) (recovered y) → IsSound (recovered x) →
+SameWhenRecovered = (x y : Image) → length y ≡ length x →
+    Agrees is_outside_log (recovered x) (recovered y) → IsSound (recovered x) →
     IsSound (recovered y) × (files_of (recovered y) ≡ files_of (recovered x))
 
 -- the first bits of a block are set, as many as asked for, and no other

@@ -1,4 +1,5 @@
--- What follows from the definitions: the lemmas that the proofs of this crate and of those above it use.
+-- What follows from the definitions: the lemmas that the proofs of this crate and of those above it
+-- use.
 pub mod Words
 pub mod Steps
 pub mod Log

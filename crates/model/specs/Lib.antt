@@ -5,6 +5,7 @@ pub mod Readable
 pub mod Places
 pub mod Names
 pub mod Files
+pub mod Gathered
 pub mod Soundness
 pub mod Verdict
 pub mod Operations

@@ -35,7 +35,8 @@ no_file_refusal (Some file) = None
 abbrev pub refusal_of : Form → Files → Op → Option Reply
 refusal_of form files (Create kind) = if is_kind kind then None else Some BadType
 refusal_of form files (Write i off bytes) =
-    if nat_lt transfer_limit (length bytes) then Some TooLong else write_refusal form (file_in files i) off (length bytes)
+    if nat_lt transfer_limit (length bytes) then Some TooLong
+    else write_refusal form (file_in files i) off (length bytes)
 refusal_of form files (Read i off n) =
     if nat_lt transfer_limit n then Some TooLong else no_file_refusal (file_in files i)
 refusal_of form files (Trunc i) = no_file_refusal (file_in files i)
@@ -50,7 +51,8 @@ where_true b a = if b then Some a else None
 abbrev pub part_of : List ℕ → ℕ → ℕ → List ℕ
 part_of bytes at n = take n (drop at bytes)
 
--- a write may have written k of n bytes: a short one ends at a whole block, at the file's end or behind it
+-- a write may have written k of n bytes: a short one ends at a whole block, at the file's end or
+-- behind it
 abbrev pub may_have_written : ℕ → ℕ → ℕ → ℕ → Bool
 may_have_written old off n k =
     nat_le k n && ((k == n) || (((off + k) % 1024 == 0) && nat_le old (off + k)))
@@ -63,10 +65,12 @@ abbrev pub after_on : Files → ℕ → File → Op → Reply → Option Files
 after_on files i file (Write j off bytes) (Wrote k) =
     where_true (may_have_written (length file.bytes) off (length bytes) k)
     (slice_set files i (with_bytes file (overwritten file.bytes off (take k bytes))))
-after_on files i file (Read j off n) (Bytes bytes) = where_true (bytes_eq bytes (part_of file.bytes off n)) files
+after_on files i file (Read j off n) (Bytes bytes) =
+    where_true (bytes_eq bytes (part_of file.bytes off n)) files
 after_on files i file (Trunc j) Done = Some (slice_set files i (with_bytes file []))
 after_on files i file (Remove j) Done = Some (slice_set files i None)
-after_on files i file (Stat j) (StatOf kind size) = where_true ((kind == file.kind) && (size == length file.bytes)) files
+after_on files i file (Stat j) (StatOf kind size) =
+    where_true ((kind == file.kind) && (size == length file.bytes)) files
 after_on files i file op reply = None
 
 -- the same for the file of a number, where there is one
@@ -85,7 +89,8 @@ after_create files kind reply = None
 -- an operation that is not refused
 abbrev pub after_done : Files → Op → Reply → Option Files
 after_done files (Create kind) reply = after_create files kind reply
-after_done files (Write i off bytes) reply = after_at files i (file_in files i) (Write i off bytes) reply
+after_done files (Write i off bytes) reply =
+    after_at files i (file_in files i) (Write i off bytes) reply
 after_done files (Read i off n) reply = after_at files i (file_in files i) (Read i off n) reply
 after_done files (Trunc i) reply = after_at files i (file_in files i) (Trunc i) reply
 after_done files (Remove i) reply = after_at files i (file_in files i) (Remove i) reply

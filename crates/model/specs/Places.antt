@@ -1,4 +1,5 @@
--- Where an inode's blocks stand. What an inode has is a function of the image and the inode record, be it on the disk or in memory.
+-- Where an inode's blocks stand. What an inode has is a function of the image and the inode record,
+-- be it on the disk or in memory.
 use Rattle.std.specs.Prelude.{ℕ, zero, suc, ◌+◌, ◌-◌, ◌*◌, ◌/◌, ◌%◌, ◌==◌, not, nat_lt, if◌then◌else◌, List, [], ◌∷◌, ◌++◌, map, slice_index}
 use Rattle.std.specs.List.{filter, flat_map, range_with_len}
 use Rattle.blocks.specs.Disk.{Image, block_at}
@@ -7,7 +8,8 @@ use Rattle.model.specs.declared.types.image.Pointer.{Pointer}
 use Rattle.model.specs.Fields.{words_of}
 use Rattle.model.specs.Layout.{depths, reach, form_of, inode_of, inode_count_of}
 
--- the pointers behind each address of a list. The first of them leads to the file's block `first`, and each to `step` blocks
+-- the pointers behind each address of a list. The first of them leads to the file's block `first`,
+-- and each to `step` blocks
 abbrev pub pointers_behind : (ℕ → ℕ → List Pointer) → ℕ → ℕ → List ℕ → List Pointer
 pointers_behind pointers first step [] = []
 pointers_behind pointers first step (address ∷ addresses) =
@@ -17,20 +19,23 @@ pointers_behind pointers first step (address ∷ addresses) =
 abbrev pub pointer_of : ℕ → ℕ → ℕ → Pointer
 pointer_of size first address = record { address = address; needed = nat_lt (first * 1024) size }
 
--- the pointers from an address on, itself first, and then those in the block of addresses that it names
+-- the pointers from an address on, itself first, and then those in the block of addresses that it
+-- names
 abbrev pub pointers_under : Image → ℕ → ℕ → ℕ → ℕ → List Pointer
 pointers_under x size zero first address = pointer_of size first address ∷ []
 pointers_under x size (suc depth) first address =
     pointer_of size first address
     ∷ (if address == 0 then []
-    else pointers_behind (λ f a. pointers_under x size depth f a) first (reach depth) (words_of (block_at x address)))
+    else pointers_behind (λ f a. pointers_under x size depth f a) first (reach depth)
+    (words_of (block_at x address)))
 
 -- the pointers of addresses of those depths
 abbrev pub pointers_along : Image → ℕ → ℕ → List ℕ → List ℕ → List Pointer
 pointers_along x size first [] addresses = []
 pointers_along x size first (depth ∷ depths) [] = []
 pointers_along x size first (depth ∷ depths) (address ∷ addresses) =
-    pointers_under x size depth first address ++ pointers_along x size (first + reach depth) depths addresses
+    pointers_under x size depth first address
+    ++ pointers_along x size (first + reach depth) depths addresses
 
 -- the pointers of an inode, in order; none where it is free
 unfoldable pub pointers_in : Image → Dinode → List Pointer
@@ -56,7 +61,8 @@ abbrev pub address_under : Image → ℕ → ℕ → ℕ → ℕ
 address_under x zero k address = address
 address_under x (suc depth) k address =
     if address == 0 then 0
-    else address_under x depth (k % reach depth) (slice_index (words_of (block_at x address)) (k / reach depth))
+    else address_under x depth (k % reach depth)
+    (slice_index (words_of (block_at x address)) (k / reach depth))
 
 abbrev pub address_along : Image → ℕ → List ℕ → List ℕ → ℕ
 address_along x k [] addresses = 0

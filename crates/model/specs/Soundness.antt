@@ -31,7 +31,8 @@ count_of b (a ∷ rest) = (if a == b then 1 else 0) + count_of b rest
 abbrev pub place_count : Image → ℕ → ℕ
 place_count x b = count_of b (places_of x)
 
--- an empty log, inodes as the format has them, each block at one place at most, and a bitmap that says so
+-- an empty log, inodes as the format has them, each block at one place at most, and a bitmap that
+-- says so
 pub record IsSound (x : Image) : Type 0 where
   pub geometry : IsLawfulGeometry x
   pub empty_log : logged_count x ≡ 0
@@ -42,4 +43,5 @@ pub record IsSound (x : Image) : Type 0 where
   -- no block is at two places
   pub once : (b : ℕ) → place_count x b ≤ 1
   -- the bitmap has the blocks before the data and those at places
-  pub marked : (b : ℕ) → b < length x → is_marked x b ≡ (nat_lt b (first_data_block x) || nat_lt 0 (place_count x b))
+  pub marked : (b : ℕ) → b < length x →
+      is_marked x b ≡ (nat_lt b (first_data_block x) || nat_lt 0 (place_count x b))

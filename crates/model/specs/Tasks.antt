@@ -52,6 +52,8 @@ reply_at_turn (progress.Fault fault) = None
 pub record Marks (made : Option Reply) (x y : Image) : Type 0 where
   pub size : length y ≡ length x
   pub untouched : IsUntouched x y
-  pub others : (i : ℕ) → IsTrue (is_number (inode_count_of x) i) → is_making i made ≢ true → (inode_of y i).kind ≢ 0
+  pub others : (i : ℕ) → IsTrue (is_number (inode_count_of x) i) → is_making i made ≢ true →
+      (inode_of y i).kind ≢ 0
       → ((inode_of x i).kind ≢ 0) × (labels_of y i ≡ labels_of x i)
-  pub fresh : (i : ℕ) → IsTrue (is_number (inode_count_of x) i) → is_making i made ≡ true → labels_of y i ≡ (0, 0, 1)
+  pub fresh : (i : ℕ) → IsTrue (is_number (inode_count_of x) i) → is_making i made ≡ true →
+      labels_of y i ≡ (0, 0, 1)

@@ -50,7 +50,8 @@ pointer_fault x i earlier p =
 abbrev pub first_pointer_fault : Image → ℕ → List ℕ → List Pointer → Option CheckFault
 first_pointer_fault x i earlier [] = None
 first_pointer_fault x i earlier (p ∷ pointers) =
-    or_else (pointer_fault x i earlier p) (first_pointer_fault x i (earlier ++ addresses_in (p ∷ [])) pointers)
+    or_else (pointer_fault x i earlier p)
+    (first_pointer_fault x i (earlier ++ addresses_in (p ∷ [])) pointers)
 
 unfoldable pub inode_fault : Image → ℕ → Option CheckFault
 inode_fault x i =

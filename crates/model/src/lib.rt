@@ -4,5 +4,6 @@
 #![tactic(auto)]
 
 pub mod content;
+pub mod gathered;
 pub mod laws;
 pub mod types;

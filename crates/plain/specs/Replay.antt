@@ -13,10 +13,12 @@ or_stay (Some next) files f = f next
 -- the files after the entries before the first that can't be, and after all where there is none
 abbrev pub reached : Form → Files → List Entry → Files
 reached form files [] = files
-reached form files (e ∷ es) = or_stay (after_answer form files e.op e.reply) files (λ next. reached form next es)
+reached form files (e ∷ es) = or_stay (after_answer form files e.op e.reply) files
+    (λ next. reached form next es)
 
 -- the files after some first ones of the entries
-pub record IsOnTheWay (form : Form) (files : Files) (entries : List Entry) (new : Files) : Type 0 where
+pub record IsOnTheWay (form : Form) (files : Files) (entries : List Entry)
+    (new : Files) : Type 0 where
   pub before : List Entry
   pub rest : List Entry
   pub parts : entries ≡ before ++ rest

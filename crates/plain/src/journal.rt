@@ -76,7 +76,8 @@ pub fn is_kept(inode_count: u32, entry: &Entry, c: u64) -> bool
 
 /// Makes the files those after one entry; false where it has no reply or can't have this one.
 fn replay_one(alloc: Global, form: Form, files: &mut Files, entry: &Entry) -> Result<bool, NoMemory>
-    ensures after { IfOk result (λ yes. after_answer form files.old.items entry.now.op entry.now.reply
+    ensures after { IfOk result
+        (λ yes. after_answer form files.old.items entry.now.op entry.now.reply
         ≡ where_true yes files.new.items) }
     ensures same { IfOk result (λ yes. OnFalse yes (files.new.items ≡ files.old.items)) }
     ensures err { OnErr result (files.new.items ≡ files.old.items) }
@@ -118,8 +119,10 @@ pub fn replay_answered(
 ) -> Result<bool, NoMemory>
     ensures after { IfOk result (λ yes. replay form files.old.items (answered entries.now)
         ≡ where_true yes files.new.items) }
-    ensures stop { OnOk result (files.new.items ≡ reached form files.old.items (answered entries.now)) }
-    ensures err { OnErr result (IsOnTheWay form files.old.items (answered entries.now) files.new.items) }
+    ensures stop { OnOk result
+        (files.new.items ≡ reached form files.old.items (answered entries.now)) }
+    ensures err { OnErr result
+        (IsOnTheWay form files.old.items (answered entries.now) files.new.items) }
 {
     for entry in entries {
         if is_answered(entry) && !replay_one(alloc, form, files, entry)? {
@@ -140,8 +143,10 @@ pub fn replay_kept(
 ) -> Result<bool, NoMemory>
     ensures after { IfOk result (λ yes. replay form files.old.items (kept inode_count entries.now c)
         ≡ where_true yes files.new.items) }
-    ensures stop { OnOk result (files.new.items ≡ reached form files.old.items (kept inode_count entries.now c)) }
-    ensures err { OnErr result (IsOnTheWay form files.old.items (kept inode_count entries.now c) files.new.items) }
+    ensures stop { OnOk result
+        (files.new.items ≡ reached form files.old.items (kept inode_count entries.now c)) }
+    ensures err { OnErr result
+        (IsOnTheWay form files.old.items (kept inode_count entries.now c) files.new.items) }
 {
     for entry in entries {
         if is_kept(inode_count, entry, c) && !replay_one(alloc, form, files, entry)? {

@@ -6,18 +6,6 @@ use Rattle.player.specs.declared.refusal.Refusal.TheVariants.{File, Mkfs, Check,
 use Rattle.player.specs.Stepping.{fault_in}
 use Rattle.player.specs.Refusal.{OnRefusal}
 
-pub on_refusal : (r : Refusal) (P Q R S : Type 0) → (P → Q) → (R → S) → OnRefusal r P R → OnRefusal r Q S
-on_refusal (Disk _) P Q R S f k h = f h
-on_refusal Output P Q R S f k h = h
-on_refusal (File _) P Q R S f k h = k h
-on_refusal (Mkfs _) P Q R S f k h = k h
-on_refusal (Check _) P Q R S f k h = k h
-on_refusal (Recover _) P Q R S f k h = k h
-on_refusal (Open _) P Q R S f k h = k h
-on_refusal (Script _) P Q R S f k h = k h
-on_refusal (Schedule _) P Q R S f k h = k h
-on_refusal (Input _) P Q R S f k h = k h
-
 pub on_ok_both : (r : Result (Unit {0}) Refusal) (P Q R : Type 0) → (P → Q → R) → OnOk r P → OnOk r Q → OnOk r R
 on_ok_both (Ok _) P Q R f h k = f h k
 on_ok_both (Err _) P Q R f h k = h

@@ -1,10 +1,16 @@
 -- Steps of a process, one after the other.
-use Rattle.std.proofs.Common.{◌≡◌, ℕ, ◌+◌, zero, suc, ◌≢◌, ◌<◌, List, refl, sym, subst, inl, inr, add-one}
+use Rattle.std.proofs.Common.{◌≡◌, ℕ, ◌+◌, zero, suc, ◌≢◌, ◌<◌, true, List, refl, sym, subst, arith, add-one}
 use Rattle.blocks.specs.declared.disk.Disk.{Ghosts}
 use Rattle.blocks.specs.FaultyDisk.{has_fired}
 use Rattle.blocks.specs.declared.faulty.FaultyDisk.{FaultyDisk}
 use Rattle.ports.specs.History.{first_in}
 use Rattle.ports.specs.Queues.{answers}
+use Rattle.wal.specs.Machine.{LogState}
+use Rattle.journal.specs.declared.types.At.{At}
+use Rattle.journal.specs.declared.types.At.TheVariants as at
+use Rattle.journal.specs.Bound.{all_steps_left, is_busy_at}
+use Rattle.journal.specs.Processes.{process}
+use Rattle.kernel.specs.Bound.{left_of}
 use Rattle.kernel.specs.declared.types.Step.{Step}
 use Rattle.kernel.specs.declared.types.Step.TheVariants as step
 use Rattle.player.specs.declared.backlog.Backlog.{Backlog}
@@ -27,13 +33,37 @@ moves_then disk p (suc n) k m next moves made = (moves.0, moves.1, moves_then di
 pub one_moved : {D N : Type 0} (disk : Ghosts D N) (p n : ℕ) (k m next : Plain D) → Moves disk p n k m → MakesPlainStep disk p step.Moved m next → Moves disk p (n + 1) k next
 one_moved disk p n k m next moves made = subst (λ count. Moves disk p count k next) (sym (add-one n)) (moves_then disk p n k m next moves made)
 
--- steps up to one that doesn't move
-pub stops : {D N : Type 0} (disk : Ghosts D N) (most p n : ℕ) (r : Step) (k mid m : Plain D) → Moves disk p n k mid → MakesPlainStep disk p r mid m → n < most → r ≢ step.Moved → MakesSteps disk most p r k m
-stops disk most p n r k mid m moves made few other = record { moved = n; mid = mid; moves = moves; ends = inl (other, few, made) }
+-- who has steps left has an operation under way
+busy_with : (a : At) (left : ℕ) (l : LogState) → 0 < all_steps_left a left l → is_busy_at a ≡ true
+busy_with at.Idle left l some = let none : ⊥ = omega (arith, some) in absurd none
+busy_with (at.Before group op) left l some = refl
+busy_with (at.Behind group k) left l some = refl
+busy_with (at.Ending group k) left l some = refl
+busy_with (at.Committing group k) left l some = refl
 
--- all steps that may be made, each of which moved
-pub moves_all : {D N : Type 0} (disk : Ghosts D N) (most p n : ℕ) (k m : Plain D) → Moves disk p n k m → n ≡ most → MakesSteps disk most p step.Moved k m
-moves_all disk most p n k m moves all = record { moved = n; mid = m; moves = moves; ends = inr (refl, all, refl) }
+-- each of them takes one
+moves_left : {D N : Type 0} (disk : Ghosts D N) (p n : ℕ) (k m : Plain D) → 0 < left_of k p → Moves disk p n k m → n < left_of k p
+unfolding Moves
+moves_left disk p zero k m some moves = some
+moves_left disk p (suc n) k m some (mid, made, moves) =
+    let one = made.bound refl in
+    let less = one.falls (busy_with (process k.world p).at _ k.store.volume.log some) in
+    let rest = moves_left disk p n mid m one.some moves in
+    omega (arith, less, rest)
+
+-- so fewer than 2,000 move
+pub moves_few : {D N : Type 0} (disk : Ghosts D N) (p n : ℕ) (k m : Plain D) → Moves disk p n k m → n < 2000
+unfolding Moves
+moves_few disk p zero k m moves = omega arith
+moves_few disk p (suc n) k m (mid, made, moves) =
+    let one = made.bound refl in
+    let few = one.few in
+    let rest = moves_left disk p n mid m one.some moves in
+    omega (arith, few, rest)
+
+-- steps up to one that doesn't move
+pub stops : {D N : Type 0} (disk : Ghosts D N) (p n : ℕ) (r : Step) (k mid m : Plain D) → Moves disk p n k mid → MakesPlainStep disk p r mid m → r ≢ step.Moved → MakesSteps disk p r k m
+stops disk p n r k mid m moves made other = record { moved = n; mid = mid; moves = moves; few = moves_few disk p n k mid moves; last = other; made = made }
 
 -- a turn of process p, call by call
 pub one_turn : {D N : Type 0} (makes : Step → Plain (FaultyDisk D) → Plain (FaultyDisk D) → Type 0) (stop p : ℕ) (event : Event) (old new : Player D N) (handed stepped : Plain (FaultyDisk D)) (c : List Backlog) (r : Step)

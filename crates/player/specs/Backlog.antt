@@ -26,6 +26,9 @@ op_if p task = if task.pid == p then task.op ∷ [] else []
 abbrev pub ops_of : ℕ → List Task → List Op
 ops_of p tasks = flat_map (op_if p) tasks
 
--- none of these operations of process p can be handed in: there is none, or its queue is full, or no number is left
+-- none of these operations of process p can be handed in: there is none, or its queue is full, or
+-- no number is left
 abbrev pub HasHandedIn : {D H : Type 0} → ℕ → State D QueueIntake H → List Op → Type 0
-HasHandedIn p k rest = (rest ≡ []) ⊎ ((16 ≤ length (waiting k.intake p)) ⊎ ((process k.world p).begun + length (waiting k.intake p) + 1 ≡ 2 ^ 64))
+HasHandedIn p k rest =
+    (rest ≡ []) ⊎ ((16 ≤ length (waiting k.intake p))
+    ⊎ ((process k.world p).begun + length (waiting k.intake p) + 1 ≡ 2 ^ 64))

@@ -23,23 +23,30 @@ IsUnchecked image faults d e _ = ⊥
 
 -- on the disk d, now e, no image of that size was made, or its numbers could not be printed
 abbrev pub IsUnmade : {D : Type 0} → (D → Image) → (D → ℕ) → ℕ → ℕ → D → D → Refusal → Type 0
-IsUnmade image faults size ninodes d e (Mkfs mkfs.InodeRange) = (is_inode_count ninodes ≡ false) × (e ≡ d)
-IsUnmade image faults size ninodes d e (Mkfs mkfs.SizeRange) = ((is_size size ninodes && (size == length (image d))) ≡ false) × (e ≡ d)
+IsUnmade image faults size ninodes d e (Mkfs mkfs.InodeRange) =
+    (is_inode_count ninodes ≡ false) × (e ≡ d)
+IsUnmade image faults size ninodes d e (Mkfs mkfs.SizeRange) =
+    ((is_size size ninodes && (size == length (image d))) ≡ false) × (e ≡ d)
 IsUnmade image faults size ninodes d e (Mkfs mkfs.Disk) = Rose (faults d) (faults e)
 IsUnmade image faults size ninodes d e (Mkfs mkfs.NoMemory) = e ≡ d
 IsUnmade image faults size ninodes d e Output = image e ≡ made_image One size ninodes
 IsUnmade image faults size ninodes d e _ = ⊥
 
--- the disk d, now e, was checked and not recovered, or how many blocks were copied could not be printed
+-- the disk d, now e, was checked and not recovered, or how many blocks were copied could not be
+-- printed
 abbrev pub IsUnrecovered : {D : Type 0} → (D → Image) → (D → ℕ) → D → D → Refusal → Type 0
-IsUnrecovered image faults d e (Check fault) = IsCause (verdict (image d)) (faults d) (faults e) fault × (image e ≡ image d)
-IsUnrecovered image faults d e (Recover recover.Disk) = (verdict (image d) ≡ None) × Rose (faults d) (faults e)
+IsUnrecovered image faults d e (Check fault) =
+    IsCause (verdict (image d)) (faults d) (faults e) fault × (image e ≡ image d)
+IsUnrecovered image faults d e (Recover recover.Disk) =
+    (verdict (image d) ≡ None) × Rose (faults d) (faults e)
 IsUnrecovered image faults d e (Recover recover.BadLog) = ⊥
-IsUnrecovered image faults d e (Recover recover.NoMemory) = (verdict (image d) ≡ None) × (image e ≡ image d)
+IsUnrecovered image faults d e (Recover recover.NoMemory) =
+    (verdict (image d) ≡ None) × (image e ≡ image d)
 IsUnrecovered image faults d e Output = (verdict (image d) ≡ None) × (image e ≡ recovered (image d))
 IsUnrecovered image faults d e _ = ⊥
 
--- the disk of an image without a fault was recovered, with so many blocks copied, and nothing is logged any more
+-- the disk of an image without a fault was recovered, with so many blocks copied, and nothing is
+-- logged any more
 pub record IsRecovered {D N : Type 0} (disk : Ghosts D N) (copied : ℕ) (old new : D) : Type 0 where
   pub sound : verdict (disk.image old) ≡ None
   pub count : copied ≡ logged_count (disk.image old)

@@ -61,7 +61,9 @@ reply_text TooLong = codes "refused 4 TooLong"
 reply_text BadType = codes "refused 5 BadType"
 
 abbrev pub answer_text : Answer → List ℕ
-answer_text a = codes "answered " ++ decimal a.seq ++ codes " " ++ decimal a.group ++ codes " " ++ reply_text a.reply
+answer_text a =
+    codes "answered " ++ decimal a.seq ++ codes " " ++ decimal a.group ++ codes " "
+    ++ reply_text a.reply
 
 -- what a turn came to
 abbrev pub event_text : Event → List ℕ

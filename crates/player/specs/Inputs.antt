@@ -47,7 +47,8 @@ IsUnreadScript (script_is.NotYet line) = ⊥
 
 -- these are the words of a text, each of which is one, for so many processes
 abbrev pub IsScheduleOf : ℕ → List ℕ → List Word → Type 0
-IsScheduleOf processes text words = (fault_of_schedule processes text ≡ None) × (words ≡ schedule_of processes text)
+IsScheduleOf processes text words =
+    (fault_of_schedule processes text ≡ None) × (words ≡ schedule_of processes text)
 
 -- a schedule's reader gave no bytes
 abbrev pub IsUnread : ScheduleFault → Type 0
@@ -63,13 +64,18 @@ GivesScript left tasks = (text : List ℕ) × IsScriptOf text tasks × IfSome le
 -- it gave no bytes, or those of no script of creations
 abbrev pub GivesNoScript : Option (List ℕ) → ScriptFault → Type 0
 GivesNoScript left fault =
-    IsUnreadScript fault ⊎ ((text : List ℕ) × (script_fault text ≡ Some fault) × IfSome left (λ all. script_fault all ≡ Some fault))
+    IsUnreadScript fault
+    ⊎ ((text : List ℕ) × (script_fault text ≡ Some fault)
+    × IfSome left (λ all. script_fault all ≡ Some fault))
 
 -- it gives a schedule for so many processes
 abbrev pub GivesSchedule : ℕ → Option (List ℕ) → List Word → Type 0
-GivesSchedule processes left words = (text : List ℕ) × IsScheduleOf processes text words × IfSome left (λ all. all ≡ text)
+GivesSchedule processes left words =
+    (text : List ℕ) × IsScheduleOf processes text words × IfSome left (λ all. all ≡ text)
 
 -- it gave no bytes, or those of no schedule
 abbrev pub GivesNoSchedule : ℕ → Option (List ℕ) → ScheduleFault → Type 0
 GivesNoSchedule processes left fault =
-    IsUnread fault ⊎ ((text : List ℕ) × (fault_of_schedule processes text ≡ Some fault) × IfSome left (λ all. fault_of_schedule processes all ≡ Some fault))
+    IsUnread fault
+    ⊎ ((text : List ℕ) × (fault_of_schedule processes text ≡ Some fault)
+    × IfSome left (λ all. fault_of_schedule processes all ≡ Some fault))

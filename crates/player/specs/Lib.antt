@@ -8,3 +8,4 @@ pub mod Turns
 pub mod Backlog
 pub mod Stepping
 pub mod Opening
+pub mod Lemmas

@@ -22,10 +22,10 @@ use Rattle.player.specs.Backlog.{backlog_at, ops_of}
 use Rattle.player.specs.Stepping.{RunsTo}
 use Rattle.player.specs.declared.turns.Player.{Player}
 
--- The player of these operations, of so many processes, over a disk whose image was x: the image was
--- recovered, a kernel was opened over it, and nothing was handed in.
-pub record IsOpenedOver {D N : Type 0} (image : FaultyDisk D → Image) (x : Image) (tasks : List Task) (processes : ℕ)
-    (player : Player D N) : Type 0 where
+-- The player of these operations, of so many processes, over a disk whose image was x: the image
+-- was recovered, a kernel was opened over it, and nothing was handed in.
+pub record IsOpenedOver {D N : Type 0} (image : FaultyDisk D → Image) (x : Image)
+    (tasks : List Task) (processes : ℕ) (player : Player D N) : Type 0 where
   pub sound : verdict x ≡ None
   pub recovers : image player.kernel.opening ≡ recovered x
   pub store : player.kernel.store ≡ record {
@@ -34,24 +34,32 @@ pub record IsOpenedOver {D N : Type 0} (image : FaultyDisk D → Image) (x : Ima
     inode_count = inode_count_of x;
   }
   pub world : player.kernel.world ≡ fresh_world processes
-  pub queues : (p : ℕ) → (waiting player.kernel.intake p ≡ []) × (answers player.kernel.intake p ≡ [])
+  pub queues : (p : ℕ)
+      → (waiting player.kernel.intake p ≡ []) × (answers player.kernel.intake p ≡ [])
   pub backlogs : (p : ℕ) → p < processes → backlog_at player.backlogs.items p ≡ ops_of p tasks
 
--- The write of that number, from 1, is the one that isn't made, counted from here on: since the trap
--- was set no write was counted, and no fault.
+-- The write of that number, from 1, is the one that isn't made, counted from here on: since the
+-- trap was set no write was counted, and no fault.
 abbrev pub IsArmed : {D N : Type 0} → Ghosts (FaultyDisk D) N → ℕ → FaultyDisk D → Type 0
-IsArmed disk stop d = trap_of d ≡ record { kind = WriteOld; nth = stop; writes = disk.write_count d; faults = disk.fault_count d }
+IsArmed disk stop d = trap_of d ≡ record {
+  kind = WriteOld;
+  nth = stop;
+  writes = disk.write_count d;
+  faults = disk.fault_count d;
+}
 
 -- The image x of a disk that had counted so many writes was recovered. A player was opened over it,
--- which made no write, and made the turns of these words. Printed are their lines and the counts, of
--- writes from behind the recovery on; the write to be stopped is counted from there, too. This fault
--- is told of the disk.
-pub record Replays {D N : Type 0} (disk : Ghosts (FaultyDisk D) (N × Trap)) (x : Image) (written : ℕ)
-    (tasks : List Task) (processes : ℕ) (words : List Word) (stop : ℕ) (fault : Option DiskFault)
-    (text printed : Option (List ℕ)) : Type 0 where
+-- which made no write, and made the turns of these words. Printed are their lines and the counts,
+-- of writes from behind the recovery on; the write to be stopped is counted from there, too. This
+-- fault is told of the disk.
+pub record Replays {D N : Type 0} (disk : Ghosts (FaultyDisk D) (N × Trap)) (x : Image)
+    (written : ℕ) (tasks : List Task) (processes : ℕ) (words : List Word) (stop : ℕ)
+    (fault : Option DiskFault) (text printed : Option (List ℕ)) : Type 0 where
   pub sound : verdict x ≡ None
   pub player : Player D N
   pub opened : IsOpenedOver disk.image (recovered x) tasks processes player
-  pub base : disk.write_count player.kernel.store.volume.device ≡ counted written (writes_to_recover (logged_count x))
+  pub base : disk.write_count player.kernel.store.volume.device
+      ≡ counted written (writes_to_recover (logged_count x))
   pub armed : IsArmed disk stop player.kernel.store.volume.device
-  pub runs : RunsTo disk stop (disk.write_count player.kernel.store.volume.device) words player fault text printed
+  pub runs : RunsTo disk stop
+      (disk.write_count player.kernel.store.volume.device) words player fault text printed

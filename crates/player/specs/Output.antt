@@ -5,11 +5,13 @@ use Rattle.model.specs.declared.types.image.Super.{Super}
 -- the numbers of a new image
 abbrev pub numbers_text : Super → List ℕ
 numbers_text s =
-    codes "size " ++ decimal s.size ++ codes " ninodes " ++ decimal s.ninodes ++ codes " nblocks " ++ decimal s.nblocks ++ codes "\n"
+    codes "size " ++ decimal s.size ++ codes " ninodes " ++ decimal s.ninodes ++ codes " nblocks "
+    ++ decimal s.nblocks ++ codes "\n"
 
 -- what a check found
 abbrev pub report_text : ℕ → ℕ → List ℕ
-report_text logged files = codes "sound log " ++ decimal logged ++ codes " files " ++ decimal files ++ codes "\n"
+report_text logged files =
+    codes "sound log " ++ decimal logged ++ codes " files " ++ decimal files ++ codes "\n"
 
 -- how many blocks were copied home
 abbrev pub copied_text : ℕ → List ℕ
@@ -17,4 +19,5 @@ copied_text copied = codes "recovered " ++ decimal copied ++ codes "\n"
 
 -- how many blocks a run wrote, and how many groups are committed
 abbrev pub counts_text : ℕ → ℕ → List ℕ
-counts_text writes committed = codes "writes " ++ decimal writes ++ codes "\ncommitted " ++ decimal committed ++ codes "\n"
+counts_text writes committed =
+    codes "writes " ++ decimal writes ++ codes "\ncommitted " ++ decimal committed ++ codes "\n"

@@ -72,7 +72,8 @@ IsOfRecover (Recover _) = ⊤
 IsOfRecover Output = ⊤
 IsOfRecover _ = ⊥
 
--- those of `replay`: of its three files, of the image, of the recovery, of the kernel's opening, of the disk, or of the output
+-- those of `replay`: of its three files, of the image, of the recovery, of the kernel's opening, of
+-- the disk, or of the output
 abbrev pub IsOfReplay : Refusal → Type 0
 IsOfReplay (Mkfs _) = ⊥
 IsOfReplay (Input _) = ⊥

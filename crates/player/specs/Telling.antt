@@ -19,7 +19,8 @@ use Rattle.player.specs.declared.faults.KernelFault.{KernelFault}
 use Rattle.player.specs.declared.faults.KernelFault.TheVariants as kernel
 use Rattle.player.specs.declared.told.Told.{Told}
 
--- a fault's number among its layer's, its name, and the inode, the block, the line or the word that it names
+-- a fault's number among its layer's, its name, and the inode, the block, the line or the word that
+-- it names
 pub record Telling : Type 0 where
   pub number : ℕ
   pub name : List ℕ

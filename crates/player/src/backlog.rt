@@ -42,8 +42,8 @@ impl Backlog {
         Ok(())
     }
 
-    /// Hands in the next operations of a process of a kernel, as many as its queue takes. What waits
-    /// there and what is still to be handed in stays the same list.
+    /// Hands in the next operations of a process of a kernel, as many as its queue takes. What
+    /// waits there and what is still to be handed in stays the same list.
     #[tactic(auto, using(crate::proofs::Backlogs::waits_none, crate::proofs::Backlogs::waits_then))]
     pub fn hand_in<D: Disk, H: Herald>(&mut self, kernel: &mut Kernel<D, QueueIntake, H>, pid: u32)
         requires { pid < length kernel.old.world.processes }

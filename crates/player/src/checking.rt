@@ -17,8 +17,8 @@ use layout::{Report, check};
 use std::alloc::Global;
 use std::io::Write;
 
-/// Checks the image of a disk, and prints how many blocks its log holds and how many files there are
-/// once they are copied home. It writes no block.
+/// Checks the image of a disk, and prints how many blocks its log holds and how many files there
+/// are once they are copied home. It writes no block.
 ///
 /// # Errors
 ///
@@ -30,7 +30,8 @@ pub fn check_disk<D: Disk, O: Write>(
 ) -> Result<(), Refusal>
     ensures sound { OnOk result (verdict (D.image disk.old) ≡ None) }
     ensures printed { OnOk result (Appends (O.contents out.old) (O.contents out.new)
-        (report_text (logged_count (D.image disk.old)) (file_count (files_of (recovered (D.image disk.old)))))) }
+        (report_text (logged_count (D.image disk.old))
+        (file_count (files_of (recovered (D.image disk.old)))))) }
     ensures reads { OnlyReads D.Disk disk.old disk.new }
     ensures refused { IfErr result (IsUnchecked D.image D.fault_count disk.old disk.new) }
     ensures silent { IfErr result (λ r. r ≢ refusal.Output → out.new ≡ out.old) }

@@ -51,7 +51,8 @@ fn script_of(alloc: Global, text: &[u8]) -> Result<Vec<Task>, ScriptFault>
 ///
 /// # Errors
 ///
-/// `File` where it can't be read; else a fault of `read_schedule`. `NoMemory` where memory is refused.
+/// `File` where it can't be read; else a fault of `read_schedule`. `NoMemory` where memory is
+/// refused.
 pub fn schedule_from<I: Read + Drop>(
     alloc: Global,
     input: I,

@@ -16,8 +16,8 @@ use layout::{Super, mkfs, plan};
 use std::alloc::Global;
 use std::io::Write;
 
-/// Makes an image of `size` blocks of 1024 bytes with `ninodes` inode numbers on a disk of that size,
-/// and prints its numbers.
+/// Makes an image of `size` blocks of 1024 bytes with `ninodes` inode numbers on a disk of that
+/// size, and prints its numbers.
 ///
 /// # Errors
 ///

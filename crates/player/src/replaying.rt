@@ -20,9 +20,10 @@ use std::alloc::Global;
 use std::io::Write;
 
 /// Recovers the image of a disk, and makes the operations of a script of so many processes in the
-/// turns of a schedule. Prints a line for each word of the schedule, up to the one in whose turn the
-/// disk failed, and then how many blocks were written since the image was recovered, and how many
-/// groups are committed. With `stop` the write of this number, from 1, is not made, and ends the run.
+/// turns of a schedule. Prints a line for each word of the schedule, up to the one in whose turn
+/// the disk failed, and then how many blocks were written since the image was recovered, and how
+/// many groups are committed. With `stop` the write of this number, from 1, is not made, and ends
+/// the run.
 ///
 /// # Errors
 ///
@@ -52,7 +53,8 @@ pub fn replay_disk<D: Disk + Drop, O: Write>(
     run(player, words, stop, base, out)
 }
 
-// Recovers the image of a disk, and opens a player over it. How many writes the disk had counted then.
+// Recovers the image of a disk, and opens a player over it. How many writes the disk had counted
+// then.
 #[tactic(auto, using(crate::proofs::Openings::opened_again, crate::proofs::Openings::none_counted))]
 fn open_recovered<D: Disk + Drop>(
     alloc: Global,

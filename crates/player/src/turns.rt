@@ -134,7 +134,7 @@ impl<D: Disk + Drop> Player<D> {
     #[tactic(auto, using(crate::proofs::Steps::one_turn))]
     fn make_steps(&mut self, pid: u32, stop: u64) -> Event
         requires { pid < length self.old.kernel.world.processes }
-        ensures makes { MakesTurnOf (MakesSteps ⟦<FaultyDisk<D> as Disk>⟧ 2000 pid)
+        ensures makes { MakesTurnOf (MakesSteps ⟦<FaultyDisk<D> as Disk>⟧ pid)
             stop pid result self.old self.new }
         ensures processes { length self.new.kernel.world.processes
             ≡ length self.old.kernel.world.processes }
@@ -189,7 +189,7 @@ impl<D: Disk + Drop> Player<D> {
     #[tactic(auto, using(crate::proofs::Steps::none_moved, crate::proofs::Steps::one_moved))]
     fn steps(&mut self, pid: u32) -> Step
         requires { pid < length self.old.kernel.world.processes }
-        ensures makes { MakesSteps ⟦<FaultyDisk<D> as Disk>⟧ 2000
+        ensures makes { MakesSteps ⟦<FaultyDisk<D> as Disk>⟧
             pid result self.old.kernel self.new.kernel }
         ensures processes { length self.new.kernel.world.processes
             ≡ length self.old.kernel.world.processes }
@@ -201,7 +201,8 @@ impl<D: Disk + Drop> Player<D> {
                 return step;
             }
         }
-        Step::Moved
+        // No operation has so many steps.
+        unreachable!()
     }
 
     // What the turn of a process came to, whose last step answered so.

@@ -3,7 +3,8 @@ use Rattle.std.specs.Prelude.{◌≡◌, ◌≢◌, ℕ, Bool, true, List, [], �
 use Rattle.model.specs.declared.types.operations.Op.{Op}
 use Rattle.model.specs.declared.types.operations.Answer.{Answer}
 
--- One process's side of an intake: the operations that are known to wait, the next first, and whether a place for one answer is kept.
+-- One process's side of an intake: the operations that are known to wait, the next first, and
+-- whether a place for one answer is kept.
 pub record Side : Type 0 where
   pub ahead : List Op
   pub has_room : Bool

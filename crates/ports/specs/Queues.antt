@@ -1,8 +1,8 @@
 -- A queue intake as contracts see it.
-use Rattle.std.specs.Prelude.{◌≡◌, ◌≢◌, ℕ, ◌+◌, ◌-◌, ◌^◌, min, List, [], ◌++◌, Option, Some, None, length, slice_get, nat_lt}
+use Rattle.std.specs.Prelude.{◌≡◌, ◌≢◌, ℕ, ◌+◌, ◌-◌, ◌<◌, ◌^◌, min, List, [], ◌∷◌, ◌++◌, Option, Some, None, length, slice_get, nat_lt}
 use Rattle.model.specs.declared.types.operations.Op.{Op}
 use Rattle.model.specs.declared.types.operations.Answer.{Answer}
-use Rattle.ports.specs.History.{Side, History}
+use Rattle.ports.specs.History.{Side, History, AllFit, RoomStays}
 use Rattle.ports.specs.declared.lane.Lane.{Lane}
 use Rattle.ports.specs.declared.queues.QueueIntake.{QueueIntake}
 
@@ -38,7 +38,8 @@ submitted_at (Some l) = l.submitted
 abbrev pub submitted : QueueIntake → ℕ → ℕ
 submitted q p = submitted_at (slice_get q.lanes.items p)
 
--- what no call of the kernel's side changes: how many operations were handed in, and how many answers polled
+-- what no call of the kernel's side changes: how many operations were handed in, and how many
+-- answers polled
 abbrev pub name_at : Option Lane → ℕ × ℕ
 name_at lane = (submitted_at lane, polled_at lane)
 
@@ -52,10 +53,12 @@ queue_count q = length q.lanes.items
 abbrev pub queue_side : QueueIntake → ℕ → Side
 queue_side q p = record { ahead = waiting q p; has_room = nat_lt (length (answers q p)) 16 }
 
--- what was handed in was taken or waits, and the answers that wait are those that were given and not polled
+-- what was handed in was taken or waits, and the answers that wait are those that were given and
+-- not polled
 pub record FitsLane (l : Lane) (h : History) : Type 0 where
   pub submitted : l.submitted ≡ length h.taken + length l.waiting.items
-  pub given : (before : List Answer) × (h.given ≡ before ++ l.answers.items) × (l.polled ≡ min (length before) (2 ^ 64 - 1))
+  pub given : (before : List Answer) × (h.given ≡ before ++ l.answers.items)
+      × (l.polled ≡ min (length before) (2 ^ 64 - 1))
 
 abbrev pub FitsAt : Option Lane → History → Type 0
 FitsAt None h = Unit {0}
@@ -66,4 +69,19 @@ QueueFits q p h = FitsAt (slice_get q.lanes.items p) h
 
 -- every other process's queues stay
 abbrev pub OthersWait : QueueIntake → QueueIntake → ℕ → Type 0
-OthersWait old new pid = (p : ℕ) → p ≢ pid → (waiting new p ≡ waiting old p) × (answers new p ≡ answers old p) × (polled new p ≡ polled old p)
+OthersWait old new pid = (p : ℕ) → p ≢ pid → (waiting new p ≡ waiting old p)
+    × (answers new p ≡ answers old p) × (polled new p ≡ polled old p)
+
+-- the operation stands behind those that waited, in one of 16 places, and n were handed in by now
+pub record IsHandedIn (old new : QueueIntake) (pid : ℕ) (op : Op) (n : ℕ) : Type 0 where
+  pub last : waiting new pid ≡ waiting old pid ++ op ∷ []
+  pub number : (h : History) → QueueFits old pid h → n ≡ length h.taken + length (waiting new pid)
+  pub places : length (waiting old pid) < 16
+
+-- what a call of one process leaves: the others' queues, how many there are, each place that is
+-- kept, and each history that fits
+pub record LeavesRest (old new : QueueIntake) (pid : ℕ) : Type 0 where
+  pub others : OthersWait old new pid
+  pub processes : queue_count new ≡ queue_count old
+  pub room : RoomStays (queue_side old) (queue_side new)
+  pub fits : AllFit (QueueFits old) (QueueFits new)

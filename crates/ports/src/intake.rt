@@ -34,7 +34,12 @@ pub trait Intake: Drop {
     /// Looks for an operation that waits, and leaves it.
     fn next(&mut self, pid: u32) -> Option<&Op>
         requires { pid < process_count self.old }
-        ensures* after { sem 𝓛 (Rests Self.row self.entry (λ new. (process_count new ≡ process_count self.old) × SameNames (name self.old) (name new) × IsPrefix (side self.old pid).ahead (side new pid).ahead × (first_in (side new pid).ahead ≡ option_copied result) × ((side new pid).has_room ≡ (side self.old pid).has_room) × OthersStay (side self.old) (side new) pid × AllFit (fits self.old) (fits new))) };
+        ensures* after { sem 𝓛 (Rests Self.row self.entry (λ new.
+            (process_count new ≡ process_count self.old) × SameNames (name self.old) (name new)
+            × IsPrefix (side self.old pid).ahead (side new pid).ahead
+            × (first_in (side new pid).ahead ≡ option_copied result)
+            × ((side new pid).has_room ≡ (side self.old pid).has_room)
+            × OthersStay (side self.old) (side new) pid × AllFit (fits self.old) (fits new))) };
 
     /// Whether a place for one answer is kept from now on, until `answer`.
     fn room(&mut self, pid: u32) -> bool
@@ -53,7 +58,8 @@ pub trait Intake: Drop {
         ensures processes { process_count self.new ≡ process_count self.old }
         ensures names { SameNames (name self.old) (name self.new) }
         ensures shown { result ≡ first_in (side self.old pid).ahead }
-        ensures ahead { (side self.old pid).ahead ≡ option_to_list result ++ (side self.new pid).ahead }
+        ensures ahead { (side self.old pid).ahead
+            ≡ option_to_list result ++ (side self.new pid).ahead }
         ensures room { (side self.new pid).has_room ≡ (side self.old pid).has_room }
         ensures others { OthersStay (side self.old) (side self.new) pid }
         ensures fits { FitWith (fits self.old) (fits self.new) pid (takes result) };

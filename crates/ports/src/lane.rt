@@ -43,11 +43,13 @@ impl Lane {
     pub fn submit(&mut self, op: Op) -> Result<u64, Op>
         ensures number { IfOk result (λ n. n ≡ self.old.submitted + 1) }
         ensures count { IfOk result (λ n. self.new.submitted ≡ n) }
-        ensures waiting { IfOk result (λ _. self.new.waiting.items ≡ self.old.waiting.items ++ op ∷ []) }
+        ensures waiting { IfOk result
+            (λ _. self.new.waiting.items ≡ self.old.waiting.items ++ op ∷ []) }
         ensures places { IfOk result (λ _. length self.old.waiting.items < 16) }
         ensures back { IfErr result (λ other. other ≡ op) }
         ensures refused { OnErr result (SameWaiting self.old self.new) }
-        ensures full { OnErr result ((16 ≤ length self.old.waiting.items) ⊎ (self.old.submitted + 1 ≡ 2 ^ 64)) }
+        ensures full { OnErr result ((16 ≤ length self.old.waiting.items)
+            ⊎ (self.old.submitted + 1 ≡ 2 ^ 64)) }
         ensures answers { SameAnswers self.old self.new }
     {
         if self.waiting.len() >= PLACES || self.submitted == u64::MAX {

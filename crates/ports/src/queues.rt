@@ -1,6 +1,6 @@
 // Plain queues in memory.
-ghost use Rattle.std.specs.Prelude.{◌≡◌, ◌<◌, ◌≤◌, ◌+◌, ◌^◌, ◌⊎◌, ◌++◌, ◌∷◌, [], ℕ, length, IfOk, IfErr, OnErr, option_to_list};
-ghost use Rattle.ports.specs.History.{History, AllFit, RoomStays, nothing_yet, first_in};
+ghost use Rattle.std.specs.Prelude.{◌≡◌, ◌<◌, ◌≤◌, ◌+◌, ◌^◌, ◌⊎◌, ◌++◌, [], ℕ, length, IfOk, IfErr, OnErr, option_to_list};
+ghost use Rattle.ports.specs.History.{History, nothing_yet, first_in};
 
 use crate::intake::Intake;
 use crate::lane::Lane;
@@ -20,7 +20,7 @@ pub struct QueueIntake {
 
 impl QueueIntake {
     ghost use Rattle.ports.specs.Lanes.{polled_after};
-    ghost use Rattle.ports.specs.Queues.{waiting, answers, polled, queue_count, queue_side, QueueFits, OthersWait};
+    ghost use Rattle.ports.specs.Queues.{waiting, answers, polled, queue_count, QueueFits, IsHandedIn, LeavesRest};
 
     /// Empty queues for so many processes. No later call takes memory.
     ///
@@ -47,21 +47,18 @@ impl QueueIntake {
     }
 
     /// Puts an operation behind those of its process that wait, and answers how many the process
-    /// handed in by now. Hands the operation back where 16 of them wait, or 2^64 - 1 were handed in.
+    /// handed in by now. Hands it back where 16 of them wait, or 2^64 - 1 were handed in.
     pub fn submit(&mut self, pid: u32, op: Op) -> Result<u64, Op>
         requires { pid < queue_count self.old }
-        ensures ok { IfOk result (λ _. waiting self.new pid ≡ waiting self.old pid ++ op ∷ []) }
-        ensures number { IfOk result (λ n. (h : History) → QueueFits self.old pid h → n ≡ length h.taken + length (waiting self.new pid)) }
-        ensures places { IfOk result (λ _. length (waiting self.old pid) < 16) }
+        ensures ok { IfOk result (λ n. IsHandedIn self.old self.new pid op n) }
         ensures back { IfErr result (λ other. other ≡ op) }
         ensures refused { OnErr result (waiting self.new pid ≡ waiting self.old pid) }
-        ensures full { OnErr result ((16 ≤ length (waiting self.old pid)) ⊎ ((h : History) → QueueFits self.old pid h → length h.taken + length (waiting self.old pid) + 1 ≡ 2 ^ 64)) }
+        ensures full { OnErr result ((16 ≤ length (waiting self.old pid))
+            ⊎ ((h : History) → QueueFits self.old pid h
+            → length h.taken + length (waiting self.old pid) + 1 ≡ 2 ^ 64)) }
         ensures answers { answers self.new pid ≡ answers self.old pid }
         ensures polled { polled self.new pid ≡ polled self.old pid }
-        ensures others { OthersWait self.old self.new pid }
-        ensures processes { queue_count self.new ≡ queue_count self.old }
-        ensures room { RoomStays (queue_side self.old) (queue_side self.new) }
-        ensures fits { AllFit (QueueFits self.old) (QueueFits self.new) }
+        ensures rest { LeavesRest self.old self.new pid }
     {
         self.lanes[pid as usize].submit(op)
     }
@@ -73,10 +70,7 @@ impl QueueIntake {
         ensures answers { answers self.old pid ≡ option_to_list result ++ answers self.new pid }
         ensures polled { polled self.new pid ≡ polled_after result (polled self.old pid) }
         ensures waiting { waiting self.new pid ≡ waiting self.old pid }
-        ensures others { OthersWait self.old self.new pid }
-        ensures processes { queue_count self.new ≡ queue_count self.old }
-        ensures room { RoomStays (queue_side self.old) (queue_side self.new) }
-        ensures fits { AllFit (QueueFits self.old) (QueueFits self.new) }
+        ensures rest { LeavesRest self.old self.new pid }
     {
         self.lanes[pid as usize].poll()
     }

@@ -13,7 +13,8 @@ is_numeral (first ∷ digits) =
 -- the number that a text writes
 unfoldable pub number_of : List ℕ → Option ℕ
 number_of text =
-    if is_numeral text && nat_le (digits_value 10 text) 4294967295 then Some (digits_value 10 text) else None
+    if is_numeral text && nat_le (digits_value 10 text) 4294967295
+    then Some (digits_value 10 text) else None
 
 abbrev pub if_at_most : ℕ → Option ℕ → Option ℕ
 if_at_most most (Some value) = if nat_le value most then Some value else None

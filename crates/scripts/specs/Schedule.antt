@@ -10,7 +10,8 @@ use Rattle.scripts.specs.Number.{number_of}
 
 -- the words of a text: what stands between spaces and line feeds, and isn't empty
 abbrev pub words_of : List ℕ → List (List ℕ)
-words_of text = filter (λ word. not (length word == 0)) (slice_split (λ byte. (byte == 32) || (byte == 10)) text)
+words_of text = filter
+    (λ word. not (length word == 0)) (slice_split (λ byte. (byte == 32) || (byte == 10)) text)
 
 abbrev pub if_below : ℕ → Option ℕ → Option ℕ
 if_below processes (Some pid) = if nat_lt pid processes then Some pid else None
@@ -28,7 +29,8 @@ ends_marked text = slice_index text (length text - 1) == 33
 unfoldable pub word_of : ℕ → List ℕ → Option Word
 word_of processes text =
     if bytes_eq text (codes "S") then Some Shutdown
-    else if ends_marked text then option_map Steps (process_of processes (take (length text - 1) text))
+    else if ends_marked text
+    then option_map Steps (process_of processes (take (length text - 1) text))
     else option_map Step (process_of processes text)
 
 abbrev pub schedule_of : ℕ → List ℕ → List Word

@@ -23,7 +23,8 @@ is_bad line = not (is_skipped line) && is_none (statement_of line)
 -- the operation of the line of this number, which isn't skipped
 abbrev pub task_of : ℕ → List ℕ → Option Task
 task_of number line =
-    option_map (λ statement. record { line = number; pid = statement.0; op = statement.1 }) (statement_of line)
+    option_map (λ statement.
+    record { line = number; pid = statement.0; op = statement.1 }) (statement_of line)
 
 -- the operation of a numbered line, if it has one
 abbrev pub task_at : ℕ × List ℕ → Option Task

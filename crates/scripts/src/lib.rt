@@ -3,10 +3,11 @@
 //!
 //! # Scripts
 //!
-//! A script's lines end with a line feed, which the last may lack. An empty line and one that begins
-//! with `#` are skipped; a comment may hold any byte but the line feed. In every other line there is
-//! exactly one space between two fields, and each field stands in the table. Numbers are decimal
-//! digits, with no sign and no zero in front, at most 4294967295; `P` is the process, at most 31.
+//! A script's lines end with a line feed, which the last may lack. An empty line and one that
+//! begins with `#` are skipped; a comment may hold any byte but the line feed. In every other line
+//! there is exactly one space between two fields, and each field stands in the table. Numbers are
+//! decimal digits, with no sign and no zero in front, at most 4294967295; `P` is the process, at
+//! most 31.
 //!
 //! | Line | Operation of process `P` |
 //! |---|---|

@@ -10,8 +10,8 @@ use model::content::Content;
 use model::types::Op;
 use std::alloc::{AllocError, Global};
 
-// The process of a line, and its operation. A line of more fields than any row has isn't divided, so
-// that it takes no memory.
+// The process of a line, and its operation. A line of more fields than any row has isn't divided,
+// so that it takes no memory.
 pub(crate) fn statement(alloc: Global, line: &[u8]) -> Result<(u32, Op), LineFault>
     ensures { Tells result (statement_of line.now) }
 {

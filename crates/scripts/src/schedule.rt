@@ -50,13 +50,14 @@ impl<T: Drop> From<AllocFailed<T>> for ScheduleFault {
 ///
 /// # Errors
 ///
-/// `TooLarge` where the text has more than 1,048,576 bytes, whatever they are; else `BadWord` at the
-/// first word that is neither `S` nor the number of a process below `processes`, with `!` behind it
-/// or not. `NoMemory` where the allocator refuses their bytes.
+/// `TooLarge` where the text has more than 1,048,576 bytes, whatever they are; else `BadWord` at
+/// the first word that is neither `S` nor the number of a process below `processes`, with `!`
+/// behind it or not. `NoMemory` where the allocator refuses their bytes.
 pub fn read_schedule(alloc: Global, text: &[u8], processes: u32) -> Result<Vec<Word>, ScheduleFault>
     ensures words { IfOk result (λ words. words.items ≡ schedule_of processes text.now) }
     ensures sound { IfOk result (λ words. fault_of processes text.now ≡ None) }
-    ensures processes { IfOk result (λ words. IsTrue (list_all (is_word_of processes) words.items)) }
+    ensures processes { IfOk result
+        (λ words. IsTrue (list_all (is_word_of processes) words.items)) }
     ensures fault { IfErr result
         (λ fault. (fault ≡ ScheduleFault.NoMemory) ⊎ (fault_of processes text.now ≡ Some fault)) }
 {
@@ -72,7 +73,8 @@ fn words_in(alloc: Global, text: &[u8], processes: u32) -> Result<Vec<Word>, Sch
     ensures words { IfOk result (λ words. words.items ≡ schedule_of processes text.now) }
     ensures sound { IfOk result (λ words. fault_in_words processes text.now ≡ None) }
     ensures fault { IfErr result
-        (λ fault. (fault ≡ ScheduleFault.NoMemory) ⊎ (fault_in_words processes text.now ≡ Some fault)) }
+        (λ fault. (fault ≡ ScheduleFault.NoMemory)
+        ⊎ (fault_in_words processes text.now ≡ Some fault)) }
 {
     let mut words = Vec::new(alloc);
     let mut number = 0;

@@ -58,9 +58,9 @@ impl<T: Drop> From<AllocFailed<T>> for ScriptFault {
 ///
 /// # Errors
 ///
-/// `TooLarge` where the text has more than 4,194,304 bytes, whatever they are; else `BadLine` at the
-/// first line that is neither skipped nor in the table; else `TooLarge` where there are more than
-/// 10,000 operations. `NoMemory` where the allocator refuses their bytes.
+/// `TooLarge` where the text has more than 4,194,304 bytes, whatever they are; else `BadLine` at
+/// the first line that is neither skipped nor in the table; else `TooLarge` where there are more
+/// than 10,000 operations. `NoMemory` where the allocator refuses their bytes.
 pub fn read_script(alloc: Global, text: &[u8]) -> Result<Vec<Task>, ScriptFault>
     ensures tasks { IfOk result (λ tasks. tasks.items ≡ tasks_of text.now) }
     ensures sound { IfOk result (λ tasks. fault_of text.now ≡ None) }

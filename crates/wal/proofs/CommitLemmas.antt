@@ -15,7 +15,7 @@ use Rattle.bcache.specs.Lemmas.Slots.{each_buffer, none_found, some_found, block
 use Rattle.bcache.specs.Lemmas.Current.{length-current, current_kept, current_same_write, current_write}
 use Rattle.wal.specs.declared.types.Commit.{Commit}
 use Rattle.wal.specs.declared.types.Commit.TheVariants as commit
-use Rattle.model.specs.Agreement.{is_outside_log, IsSameOutsideLog}
+use Rattle.model.specs.Agreement.{IsSameOutsideLog}
 use Rattle.model.specs.Log.{logged_count, homes_of, logged_in, homes_in}
 use Rattle.wal.proofs.LawfulLogs.{home_facts}
 use Rattle.wal.specs.Machine.{is_among, AreHomes, LogState, Idle, Counts, IsLogAt}

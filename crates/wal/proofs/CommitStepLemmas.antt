@@ -11,7 +11,8 @@ use Rattle.wal.specs.Joint.{IsHeader}
 use Rattle.wal.specs.Machine.{LogState, is_quiet}
 use Rattle.wal.specs.Joint.{Joint, place_at, bytes_at, source_at, written_at, written_cache}
 use Rattle.wal.specs.Kept.{KeepsCommitted, CrashKeeps}
-use Rattle.wal.specs.Step.{Stepped, Faulted, CommitsTo, answer_at}
+use Rattle.wal.specs.Step.{Stepped, Faulted, CommitsTo, IsFault, answer_at}
+use Rattle.blocks.specs.declared.errors.DiskFault.{DiskFault}
 use Rattle.wal.proofs.CommitLemmas.{wrote_next}
 use Rattle.wal.proofs.RecoveredLemmas.{kept_write}
 use Rattle.wal.proofs.CommitBytesLemmas.{source_current, not_quiet}
@@ -48,6 +49,17 @@ commits_to k g r made failed busy is done = subst (λ (a : Committed). CommitsTo
     by_phase commit.Heading away = (refl, done)
     by_phase (commit.Homing i) away = (refl, done)
     by_phase commit.Clearing away = (refl, done)
+
+-- what holds where a write was made
+pub made_counts : (k : Commit) (g : ℕ) (r : Committed) (P : DiskFault → Type 0) (failed made : Type 0) → r ≡ answer_at k g → made → IsFault r P failed made
+made_counts k g r P failed made is done = subst (λ (a : Committed). IsFault a P failed made) (sym is) (by_phase k)
+  where
+    by_phase : (n : Commit) → IsFault (answer_at n g) P failed made
+    by_phase commit.Quiet = done
+    by_phase (commit.Logging i) = done
+    by_phase commit.Heading = done
+    by_phase (commit.Homing i) = done
+    by_phase commit.Clearing = done
 
 pub crash_step : (h : List ℕ) (x : Image) (c : Buffers) (l : LogState) (old new : Image → Type 0) → Joint x c l → LeavesOldOrNew (place_at l.commit l.homes) (source_at l.commit l.homes h c) old new
     → LeavesOldOrNew (place_at l.commit l.homes) (bytes_at l.commit l.homes h (seen x c)) old new

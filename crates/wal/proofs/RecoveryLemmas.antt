@@ -9,7 +9,9 @@ use Rattle.blocks.specs.Lemmas.Moments.{started, stays, goes_on, joined}
 use Rattle.model.specs.Log.{logged_in, homes_in, logged_count, homes_of, is_lawful_log, are_in_place, are_distinct}
 use Rattle.model.specs.Lemmas.Log.{both_of, recovered_empty, none_cleared}
 use Rattle.model.specs.Lemmas.Recovery.{few_homes}
-use Rattle.wal.specs.Recovery.{HasCopied, IsRecoveredInPart, RecoversAs}
+use Rattle.wal.specs.Recovery.{HasCopied, IsRecoveredInPart, RecoversAs, MayStop}
+use Rattle.blocks.specs.Calls.{OnlyReads}
+use Rattle.blocks.specs.declared.disk.Disk.{Ghosts}
 use Rattle.wal.proofs.CopyLemmas.{SameBesides, home_at, besides_copied, besides_old_or_new, recovers_besides, recovers_same, copied_more, copied_none, low_stays, cleared, length-homes_of}
 use Rattle.wal.specs.Lemmas.Commits.{empty_lawful}
 
@@ -78,56 +80,46 @@ clear_recovers x y z long lawful some copied (inr is) =
       lawful = empty_lawful (set y 2 zero_block) none ∙ sym lawful;
     })
 
--- a recovery from its start until the header's clearing was tried
-module _ {D : Type 0} (image : D → Image) (moment : D → ℕ) (leaves : D → ℕ → Image → Type 0) where
-  -- up to the copying's end
-  pub recovery_copies : ((d : D) → IsSettled (image d) (leaves d (moment d))) → (old read mid : D) → image read ≡ image old →
-      AddsNone (moment old) (moment read) (leaves old) (leaves read) → LeavesOnly moment leaves read mid (RecoversAs (image read)) →
-      LeavesOnly moment leaves old mid (RecoversAs (image old))
-  recovery_copies settled old read mid same reading copying =
-      let x = image old in
-      let start = started moment leaves old (RecoversAs x) (λ z crash. recovers_same x z (settled old z crash)) in
-      let first = stays moment leaves old old read (RecoversAs x) start reading in
-      joined moment leaves old read mid (RecoversAs x) first (subst (λ (z : Image). LeavesOnly moment leaves read mid (RecoversAs z)) same copying)
+-- where a recovery may stop: at its start, in its copying, and at the write that clears the header
+module _ {D N : Type 0} (disk : Ghosts D N) (settled : (d : D) → IsSettled (disk.image d) (disk.leaves d (disk.moment d))) where
+  pub stops_here : (d : D) → MayStop disk d d
+  stops_here d =
+      let x = disk.image d in
+      record {
+        in_order = started disk.moment disk.leaves d (IsRecoveredInPart x) (λ z crash. copied_in_part x x z 0 (omega arith) (copied_none x) (settled d z crash));
+        any_moment = started disk.moment disk.leaves d (RecoversAs x) (λ z crash. recovers_same x z (settled d z crash));
+      }
 
-  pub recovery_ends : ((d : D) → IsSettled (image d) (leaves d (moment d))) → (old read mid new : D) → 33 ≤ length (image old) →
-      is_lawful_log (image old) ≡ true → logged_count (image old) ≢ 0 → image read ≡ image old →
-      AddsNone (moment old) (moment read) (leaves old) (leaves read) →
-      HasCopied (length (homes_of (image old))) (image old) (image mid) →
-      LeavesOnly moment leaves read mid (RecoversAs (image read)) →
-      IsOldOrNew (image mid) 2 zero_block (image new) → Elapses (moment mid) (moment new) (leaves mid) (leaves new) →
-      LeavesOnly moment leaves old new (RecoversAs (image old))
-  recovery_ends settled old read mid new long lawful some same reading copied copying written time =
-      let x = image old in
-      let home = recovery_copies settled old read mid same reading copying in
-      goes_on moment leaves old mid new (RecoversAs x) home time
-      (λ z crash. subst (RecoversAs x) (sym (settled new z crash)) (clear_recovers x (image mid) (image new) long lawful some copied written))
+  -- after reads alone
+  pub stops_read : (old read : D) → AddsNone (disk.moment old) (disk.moment read) (disk.leaves old) (disk.leaves read) → MayStop disk old read
+  stops_read old read reading =
+      let x = disk.image old in
+      let here = stops_here old in
+      record {
+        in_order = stays disk.moment disk.leaves old old read (IsRecoveredInPart x) here.in_order reading;
+        any_moment = stays disk.moment disk.leaves old old read (RecoversAs x) here.any_moment reading;
+      }
 
-  -- the same of the homes' order
-  pub part_copies : ((d : D) → IsSettled (image d) (leaves d (moment d))) → (old read mid : D) → image read ≡ image old →
-      AddsNone (moment old) (moment read) (leaves old) (leaves read) → LeavesOnly moment leaves read mid (IsRecoveredInPart (image read)) →
-      LeavesOnly moment leaves old mid (IsRecoveredInPart (image old))
-  part_copies settled old read mid same reading copying =
-      let x = image old in
-      let start = started moment leaves old (IsRecoveredInPart x) (λ z crash. copied_in_part x x z 0 (omega arith) (copied_none x) (settled old z crash)) in
-      let first = stays moment leaves old old read (IsRecoveredInPart x) start reading in
-      joined moment leaves old read mid (IsRecoveredInPart x) first (subst (λ (z : Image). LeavesOnly moment leaves read mid (IsRecoveredInPart z)) same copying)
+  pub stops_copying : (old read mid : D) → OnlyReads disk old read → MayStop disk read mid → MayStop disk old mid
+  stops_copying old read mid reads copying =
+      let x = disk.image old in
+      let first = stops_read old read reads.time in
+      record {
+        in_order = joined disk.moment disk.leaves old read mid (IsRecoveredInPart x) first.in_order
+            (subst (λ (z : Image). LeavesOnly disk.moment disk.leaves read mid (IsRecoveredInPart z)) reads.image copying.in_order);
+        any_moment = joined disk.moment disk.leaves old read mid (RecoversAs x) first.any_moment
+            (subst (λ (z : Image). LeavesOnly disk.moment disk.leaves read mid (RecoversAs z)) reads.image copying.any_moment);
+      }
 
-  pub part_ends : ((d : D) → IsSettled (image d) (leaves d (moment d))) → (old read mid new : D) → 33 ≤ length (image old) →
-      logged_count (image old) ≢ 0 → image read ≡ image old → AddsNone (moment old) (moment read) (leaves old) (leaves read) →
-      HasCopied (length (homes_of (image old))) (image old) (image mid) → LeavesOnly moment leaves read mid (IsRecoveredInPart (image read)) →
-      IsOldOrNew (image mid) 2 zero_block (image new) → Elapses (moment mid) (moment new) (leaves mid) (leaves new) →
-      LeavesOnly moment leaves old new (IsRecoveredInPart (image old))
-  part_ends settled old read mid new long some same reading copied copying written time =
-      let x = image old in
-      let home = part_copies settled old read mid same reading copying in
-      goes_on moment leaves old mid new (IsRecoveredInPart x) home time
-      (λ z crash. cleared_in_part x (image mid) (image new) z (omega arith) some copied written (settled new z crash))
-
-  -- only reads
-  pub part_read : ((d : D) → IsSettled (image d) (leaves d (moment d))) → (old read : D) → AddsNone (moment old) (moment read) (leaves old) (leaves read) →
-      LeavesOnly moment leaves old read (IsRecoveredInPart (image old))
-  part_read settled old read reading =
-      let x = image old in
-      stays moment leaves old old read (IsRecoveredInPart x)
-      (started moment leaves old (IsRecoveredInPart x) (λ z crash. copied_in_part x x z 0 (omega arith) (copied_none x) (settled old z crash))) reading
+  pub stops_clearing : (old read mid new : D) → 33 ≤ length (disk.image old) → is_lawful_log (disk.image old) ≡ true → logged_count (disk.image old) ≢ 0 →
+      OnlyReads disk old read → HasCopied (length (homes_of (disk.image old))) (disk.image old) (disk.image mid) → MayStop disk read mid →
+      IsOldOrNew (disk.image mid) 2 zero_block (disk.image new) → Elapses (disk.moment mid) (disk.moment new) (disk.leaves mid) (disk.leaves new) → MayStop disk old new
+  stops_clearing old read mid new long lawful some reads copied copying written time =
+      let x = disk.image old in
+      let home = stops_copying old read mid reads copying in
+      record {
+        in_order = goes_on disk.moment disk.leaves old mid new (IsRecoveredInPart x) home.in_order time
+            (λ z crash. cleared_in_part x (disk.image mid) (disk.image new) z (omega (arith, long)) some copied written (settled new z crash));
+        any_moment = goes_on disk.moment disk.leaves old mid new (RecoversAs x) home.any_moment time
+            (λ z crash. subst (RecoversAs x) (sym (settled new z crash)) (clear_recovers x (disk.image mid) (disk.image new) long lawful some copied written));
+      }

@@ -33,9 +33,13 @@ bytes_at commit.Clearing hs h cur = zero_block
 -- the log after that write
 abbrev pub written_at : Commit → LogState → LogState
 written_at commit.Quiet l = l
-written_at (commit.Logging k) l = record l { commit = if k + 1 == length l.homes then commit.Heading else commit.Logging (k + 1) }
+written_at (commit.Logging k) l = record l {
+  commit = if k + 1 == length l.homes then commit.Heading else commit.Logging (k + 1);
+}
 written_at commit.Heading l = record l { commit = commit.Homing 0; committed = l.opened }
-written_at (commit.Homing k) l = record l { commit = if k + 1 == length l.homes then commit.Clearing else commit.Homing (k + 1) }
+written_at (commit.Homing k) l = record l {
+  commit = if k + 1 == length l.homes then commit.Clearing else commit.Homing (k + 1);
+}
 written_at commit.Clearing l = record l { commit = commit.Quiet; homes = [] }
 
 abbrev pub unpinned_found : Buffers → Option ℕ → Buffers
@@ -92,9 +96,11 @@ pub record JointAt (k : Commit) (x : Image) (c : Buffers) (l : LogState) : Type 
   -- no block of the log, or past the end, is cached
   pub behind : (i b : ℕ) → is_of b (buffer c i) ≡ true → (33 ≤ b) × (b < l.size)
   pub pins : (i : ℕ) → (buffer c i).pins ≡ pins_of (live_at k l.homes) (buffer c i).block
-  pub cached : (h : ℕ) → is_among h (live_at k l.homes) ≡ true → (i : ℕ) × (i < 40) × (shows h (buffer c i) ≡ true)
+  pub cached : (h : ℕ) → is_among h (live_at k l.homes) ≡ true
+      → (i : ℕ) × (i < 40) × (shows h (buffer c i) ≡ true)
   -- a block that is not pinned is the disk's
-  pub clean : (b : ℕ) → is_among b (live_at k l.homes) ≡ false → block_at (seen x c) b ≡ block_at x b
+  pub clean : (b : ℕ) → is_among b (live_at k l.homes) ≡ false
+      → block_at (seen x c) b ≡ block_at x b
   pub phase : Phase k x (seen x c) l.homes
 
 abbrev pub Joint : Image → Buffers → LogState → Type 0

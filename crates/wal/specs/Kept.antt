@@ -7,7 +7,8 @@ use Rattle.wal.specs.declared.types.Commit.{Commit}
 use Rattle.wal.specs.declared.types.Commit.TheVariants as commit
 use Rattle.wal.specs.Joint.{SameButLog}
 
--- Before the header is written, recovery gives the image as it is; from then on, the current image with an empty header.
+-- Before the header is written, recovery gives the image as it is; from then on, the current image
+-- with an empty header.
 abbrev pub Committed : Commit → Image → Image → Type 0
 Committed commit.Quiet x cur = recovered x ≡ x
 Committed (commit.Logging k) x cur = recovered x ≡ x
@@ -15,7 +16,8 @@ Committed commit.Heading x cur = recovered x ≡ x
 Committed (commit.Homing k) x cur = SameButLog (slice_set cur 2 zero_block) (recovered x)
 Committed commit.Clearing x cur = SameButLog (slice_set cur 2 zero_block) (recovered x)
 
--- A write in this phase turned x into y: but for the header with the homes, recovery gives the same outside the log blocks.
+-- A write in this phase turned x into y: but for the header with the homes, recovery gives the same
+-- outside the log blocks.
 abbrev pub KeepsCommitted : Commit → Image → Image → Image → Type 0
 KeepsCommitted commit.Quiet x cur y = SameButLog (recovered x) (recovered y)
 KeepsCommitted (commit.Logging k) x cur y = SameButLog (recovered x) (recovered y)

@@ -1,5 +1,5 @@
 -- The log as contracts see it, and what each call makes of it.
-use Rattle.std.specs.Prelude.{is_some, ◌≡◌, ◌<◌, ◌≤◌, ◌==◌, ◌+◌, ◌-◌, ◌*◌, ◌^◌, ℕ, not, min, IsTrue, Bool, true, false, List, [], ◌∷◌, ◌++◌, length, replicate, slice_index_or, slice_set, if◌then◌else◌, Option, Some, None}
+use Rattle.std.specs.Prelude.{is_some, IsSome, ◌≡◌, ◌<◌, ◌≤◌, ◌==◌, ◌+◌, ◌-◌, ◌*◌, ◌^◌, ℕ, not, min, IsTrue, Bool, true, false, List, [], ◌∷◌, ◌++◌, length, replicate, slice_index_or, slice_set, if◌then◌else◌, Option, Some, None}
 use Rattle.std.specs.List.{list_any, sum_by}
 use Rattle.model.specs.declared.types.operations.Why.{Why}
 use Rattle.model.specs.Log.{are_in_place, are_distinct}
@@ -28,7 +28,15 @@ pub record LogState : Type 0 where
 
 -- a log to which nothing was written
 abbrev pub new_log : ℕ → LogState
-new_log size = record { size = size; homes = []; used = replicate 32 None; outstanding = 0; opened = 0; committed = 0; commit = commit.Quiet }
+new_log size = record {
+  size = size;
+  homes = [];
+  used = replicate 32 None;
+  outstanding = 0;
+  opened = 0;
+  committed = 0;
+  commit = commit.Quiet;
+}
 
 abbrev pub is_quiet : Commit → Bool
 is_quiet commit.Quiet = true
@@ -72,6 +80,17 @@ abbrev pub HasRoom : Option ℕ → Type 0
 HasRoom None = ⊥
 HasRoom (Some u) = u < 10
 
+-- a process has an operation open that may add a home
+pub record MayLog (l : LogState) (p : ℕ) : Type 0 where
+  pub pid : p < 32
+  pub room : HasRoom (used_by l p)
+
+-- it has the lock of a slot, which is for a block
+pub record HasSlot (c : Buffers) (p i : ℕ) : Type 0 where
+  pub slot : i < 40
+  pub held : (buffer c i).holder ≡ Some p
+  pub block : IsSome (buffer c i).block
+
 abbrev pub is_among : ℕ → List ℕ → Bool
 is_among b homes = list_any (λ h. h == b) homes
 
@@ -80,7 +99,10 @@ one_used None = None
 one_used (Some u) = Some (u + 1)
 
 abbrev pub appended : LogState → ℕ → ℕ → LogState
-appended l pid b = record l { homes = l.homes ++ b ∷ []; used = slice_set l.used pid (one_used (used_by l pid)) }
+appended l pid b = record l {
+  homes = l.homes ++ b ∷ [];
+  used = slice_set l.used pid (one_used (used_by l pid));
+}
 
 -- the log and the buffers after `log_write`
 abbrev pub noted : LogState → ℕ → ℕ → LogState
@@ -91,7 +113,8 @@ noted_cache l c i b = if is_among b l.homes then c else pinned c i
 
 -- a slot whose block is not among the homes has room for one pin more
 abbrev pub MayPin : LogState → Buffers → ℕ → Type 0
-MayPin l c i = is_among (block_or_zero (buffer c i).block) l.homes ≡ false → (buffer c i).pins + 1 < 2 ^ 32
+MayPin l c i =
+    is_among (block_or_zero (buffer c i).block) l.homes ≡ false → (buffer c i).pins + 1 < 2 ^ 32
 
 -- an operation less
 abbrev pub left_by : LogState → ℕ → LogState
@@ -99,14 +122,20 @@ left_by l pid = record l { used = slice_set l.used pid None; outstanding = l.out
 
 -- the group is closed: without homes it is committed at once
 abbrev pub closed : LogState → LogState
-closed l = if length l.homes == 0 then record l { committed = l.opened } else record l { commit = commit.Logging 0 }
+closed l =
+    if length l.homes == 0
+    then record l { committed = l.opened }
+    else record l { commit = commit.Logging 0 }
 
 -- the log and the answer after `end`
 abbrev pub ended : LogState → ℕ → LogState
 ended l pid = if l.outstanding == 1 then closed (left_by l pid) else left_by l pid
 
 abbrev pub end_answer : LogState → Ended
-end_answer l = if l.outstanding == 1 then (if length l.homes == 0 then ended_as.Left else ended_as.Commit) else ended_as.Left
+end_answer l =
+    if l.outstanding == 1
+    then (if length l.homes == 0 then ended_as.Left else ended_as.Commit)
+    else ended_as.Left
 
 -- what an open operation may still add
 abbrev pub unused : Option ℕ → ℕ

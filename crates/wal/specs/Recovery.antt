@@ -1,8 +1,9 @@
 -- What recovery makes of an image, and why it may refuse.
-use Rattle.std.specs.Prelude.{◌≡◌, ◌⊎◌, ◌≤◌, ℕ, ◌+◌, ◌==◌, ⊤, nat_lt, if◌then◌else◌, IsTrue, List, length, Result, Ok, Err, Option, Some, None}
+use Rattle.std.specs.Prelude.{◌≡◌, ◌⊎◌, ◌≤◌, ℕ, false, ◌+◌, ◌==◌, ⊤, nat_lt, if◌then◌else◌, IsTrue, List, length, Result, Ok, Err, Option, Some, None}
 use Rattle.blocks.specs.Calls.{OnlyReads}
 use Rattle.blocks.specs.declared.disk.Disk.{Ghosts}
-use Rattle.blocks.specs.Disk.{Image, block_at, counted}
+use Rattle.blocks.specs.Disk.{Image, block_at, counted, Rose, LeavesOnly}
+use Rattle.layout.specs.declared.header.Header.{Header}
 use Rattle.model.specs.Log.{homes_of, is_lawful_log, logged_count, place_among, recovered}
 use Rattle.wal.specs.declared.faults.RecoverFault.{RecoverFault}
 use Rattle.wal.specs.declared.faults.RecoverFault.TheVariants.{Disk, BadLog, NoMemory}
@@ -56,7 +57,36 @@ pub record Looks {D N : Type 0} (disk : Ghosts D N) (old new : D) : Type 0 where
   pub reads : OnlyReads disk old new
   pub faults : disk.fault_count new ≡ disk.fault_count old
 
--- A disk with a lawful log of n blocks was recovered, and nothing is logged any more. Where nothing was logged it was only read.
+-- the header of a lawful log was read
+pub record ReadsHeader {D N : Type 0} (disk : Ghosts D N) (old new : D) (header : Header)
+    : Type 0 where
+  pub lawful : IsTrue (is_lawful_log (disk.image old))
+  pub count : header.n ≡ logged_count (disk.image old)
+  pub homes : header.homes.items ≡ homes_of (disk.image old)
+  pub faults : disk.fault_count new ≡ disk.fault_count old
+
+-- when each fault of a recovery comes, and how the disk is then
+pub record RefusesToRecover {D N T : Type 0} (disk : Ghosts D N) (old new : D)
+    (result : Result T RecoverFault) : Type 0 where
+  pub bad : OnBadLog result (is_lawful_log (disk.image old) ≡ false)
+  pub unwritten : OnBadLog result (Looks disk old new)
+  pub memory : OnNoMemory result (new ≡ old)
+  pub fault : OnDisk result (Rose (disk.fault_count old) (disk.fault_count new))
+
+-- the first n logged blocks were copied home, and no call failed
+pub record Copies {D N : Type 0} (disk : Ghosts D N) (n : ℕ) (old new : D) : Type 0 where
+  pub copied : HasCopied n (disk.image old) (disk.image new)
+  pub writes : disk.write_count new ≡ counted (disk.write_count old) n
+  pub faults : disk.fault_count new ≡ disk.fault_count old
+
+-- A crash at any moment leaves an image with the first homes copied, or the recovered one. It is
+-- recovered to the same image, and its log is lawful where that of the start is.
+pub record MayStop {D N : Type 0} (disk : Ghosts D N) (old new : D) : Type 0 where
+  pub in_order : LeavesOnly disk.moment disk.leaves old new (IsRecoveredInPart (disk.image old))
+  pub any_moment : LeavesOnly disk.moment disk.leaves old new (RecoversAs (disk.image old))
+
+-- A disk with a lawful log of n blocks was recovered, and nothing is logged any more. Where nothing
+-- was logged it was only read.
 pub record Recovers {D N : Type 0} (disk : Ghosts D N) (n : ℕ) (old new : D) : Type 0 where
   pub lawful : IsTrue (is_lawful_log (disk.image old))
   pub count : n ≡ logged_count (disk.image old)

@@ -2,19 +2,25 @@
 use Rattle.std.specs.Prelude.{◌≡◌, ◌<◌, ℕ, true, false, List, if◌then◌else◌, Option, Some, None, ⊤}
 use Rattle.blocks.specs.declared.errors.DiskFault.{DiskFault}
 use Rattle.blocks.specs.Block.{overwritten}
+use Rattle.blocks.specs.Calls.{OnlyReads}
+use Rattle.blocks.specs.declared.disk.Disk.{Ghosts}
 use Rattle.blocks.specs.Disk.{Image, block_at, one_more}
+use Rattle.model.specs.Agreement.{IsSameOutsideLog}
 use Rattle.model.specs.declared.types.operations.Why.{Why}
 use Rattle.model.specs.declared.types.operations.Why.TheVariants as why
 use Rattle.bcache.specs.declared.types.Busy.{Busy}
 use Rattle.bcache.specs.declared.types.Busy.TheVariants as busy
 use Rattle.bcache.specs.declared.types.Acquired.{Acquired}
 use Rattle.bcache.specs.declared.types.Acquired.TheVariants as acquired
-use Rattle.bcache.specs.Buffers.{Buffers, buffer, block_or_zero, acquire_answer, after_acquire, filled, changed, EndsUnfilled}
+use Rattle.bcache.specs.Buffers.{Buffers, buffer, block_or_zero, fresh_buffers, acquire_answer, after_acquire, filled, changed, EndsUnfilled}
 use Rattle.wal.specs.declared.types.Committed.{Committed}
 use Rattle.wal.specs.declared.types.Committed.TheVariants as committed
 use Rattle.wal.specs.declared.types.Get.{Get}
 use Rattle.wal.specs.declared.types.Get.TheVariants as get
-use Rattle.wal.specs.Machine.{LogState, noted, noted_cache}
+use Rattle.wal.specs.Machine.{LogState, new_log, noted, noted_cache, MayLog, HasSlot}
+use Rattle.wal.specs.Joint.{seen}
+use Rattle.wal.specs.Step.{CommitWrites}
+use Rattle.wal.specs.Held.{LeavesLocks}
 
 pub record VolumeState (D : Type 0) : Type 0 where
   pub device : D
@@ -22,6 +28,11 @@ pub record VolumeState (D : Type 0) : Type 0 where
   pub log : LogState
   -- the disk's fault, after which nothing is done any more
   pub fault : Option DiskFault
+
+-- buffers that were never taken, and a new log for an image of that size
+pub record IsNewMemory (c : Buffers) (l : LogState) (size : ℕ) : Type 0 where
+  pub cache : c ≡ fresh_buffers
+  pub log : l ≡ new_log size
 
 -- a process has the lock of block b's slot, which shows it as it is in the current image
 pub record Holds (cur : Image) (c : Buffers) (pid b i : ℕ) : Type 0 where
@@ -58,6 +69,12 @@ pub record FailsToFill (c d : Buffers) (pid b : ℕ) (fault : DiskFault) : Type 
   pub block : fault.0 ≡ b
   pub answer : acquire_answer c b ≡ acquired.Got slot false
   pub buffers : EndsUnfilled (after_acquire c pid b) slot d
+
+-- the slot of block b, which it does not show yet
+pub record LacksBlock (c : Buffers) (b i : ℕ) : Type 0 where
+  pub slot : i < 40
+  pub block : (buffer c i).block ≡ Some b
+  pub valid : (buffer c i).valid ≡ false
 
 -- P holds of the slot
 abbrev pub OnGot : Get → (ℕ → Type 0) → Type 0
@@ -100,9 +117,48 @@ abbrev pub faults_after : Option DiskFault → ℕ → ℕ
 faults_after None count = count
 faults_after (Some fault) count = one_more count
 
+-- Process p gets block b with this answer, or has to wait, or the disk fails.
+pub record Gets {D N : Type 0} (disk : Ghosts D N) (old : VolumeState D) (p b : ℕ) (r : Get)
+    (new : VolumeState D) : Type 0 where
+  pub answer : UnlessFault r (r ≡ get_answer old.buffers b)
+  pub buffers : UnlessFault r
+      (new.buffers ≡ after_get (disk.image old.device) old.buffers p b)
+  pub got : OnGot r (Holds (seen (disk.image new.device) new.buffers) new.buffers p b)
+  pub sleeping : OnSleeping r (new ≡ old)
+  pub failed : OnFault r (FailsToFill old.buffers new.buffers p b)
+
+-- The disk was only read for this answer, and neither log nor current image changed.
+pub record ReadsFor {D N : Type 0} (disk : Ghosts D N) (old : VolumeState D) (r : Get)
+    (new : VolumeState D) : Type 0 where
+  pub fault : new.fault ≡ fault_of_get r
+  pub log : new.log ≡ old.log
+  pub current : seen (disk.image new.device) new.buffers
+      ≡ seen (disk.image old.device) old.buffers
+  pub device : OnlyReads disk old.device new.device
+  pub faults : disk.fault_count new.device
+      ≡ faults_after (fault_of_get r) (disk.fault_count old.device)
+
+-- the process may change the block of a slot: it may log it, has its lock, and the slot shows it
+pub record MayChange {D : Type 0} (v : VolumeState D) (p i : ℕ) : Type 0 where
+  pub logs : MayLog v.log p
+  pub has : HasSlot v.buffers p i
+  pub valid : (buffer v.buffers i).valid ≡ true
+
 -- the block of a slot is logged, and its bytes changed
 abbrev pub after_change : {D : Type 0} → VolumeState D → ℕ → ℕ → ℕ → List ℕ → VolumeState D
 after_change v pid i at bytes = record v {
-  buffers = changed (noted_cache v.log v.buffers i (block_or_zero (buffer v.buffers i).block)) i (overwritten (buffer v.buffers i).bytes at bytes);
+  buffers = changed
+      (noted_cache v.log v.buffers i (block_or_zero (buffer v.buffers i).block))
+      i (overwritten (buffer v.buffers i).bytes at bytes);
   log = noted v.log pid (block_or_zero (buffer v.buffers i).block);
 }
+
+-- THE PROMISE OF A COMMIT'S WRITE to a volume: outside the log its current image stays, and so does
+-- who holds what.
+pub record VolumeCommits {D N : Type 0} (disk : Ghosts D N) (old : VolumeState D) (r : Committed)
+    (new : VolumeState D) : Type 0 where
+  pub write : CommitWrites disk old.device old.buffers old.log r new.device new.buffers new.log
+  pub fault : new.fault ≡ fault_of_step r
+  pub current : IsSameOutsideLog (seen (disk.image old.device) old.buffers)
+      (seen (disk.image new.device) new.buffers)
+  pub locks : LeavesLocks old.buffers new.buffers

@@ -3,14 +3,11 @@ ghost use Rattle.std.specs.Prelude.{◌≡◌, ◌≢◌, ◌<◌, ◌≤◌, �
 ghost use Rattle.bcache.specs.Buffers.{buffer, block_or_zero, found};
 ghost use Rattle.blocks.specs.Block.{zero_block};
 ghost use Rattle.blocks.specs.Calls.{WritesOne};
-ghost use Rattle.blocks.specs.Disk.{Image, one_more, Elapses, LeavesOldOrNew};
 ghost use Rattle.model.specs.Codec.{header_block};
 ghost use Rattle.model.specs.Layout.{is_lawful_super};
-ghost use Rattle.model.specs.Log.{is_lawful_log};
-ghost use Rattle.wal.specs.Joint.{Joint, seen, place_at, bytes_at, source_at, written_at, written_cache, bytes_found, unpinned_found, HasPin, IsPinned, IsWithin};
-ghost use Rattle.wal.specs.Kept.{CrashKeeps};
-ghost use Rattle.wal.specs.Step.{Stepped, Faulted, CommitsTo, IsFault, answer_at};
-ghost use Rattle.wal.specs.Machine.{IsLog, is_quiet, new_log, begin_cause, begin_answer, after_begin, begun, used_by, HasRoom, is_among, MayPin, one_used, appended, noted, noted_cache, ended, end_answer};
+ghost use Rattle.wal.specs.Joint.{Joint, place_at, source_at, written_at, written_cache, bytes_found, unpinned_found, HasPin, IsPinned, IsWithin};
+ghost use Rattle.wal.specs.Step.{CommitWrites, answer_at};
+ghost use Rattle.wal.specs.Machine.{IsLog, is_quiet, new_log, begin_cause, begin_answer, after_begin, begun, used_by, HasRoom, MayLog, HasSlot, is_among, MayPin, one_used, appended, noted, noted_cache, ended, end_answer};
 
 use crate::{Began, Commit, Committed, Ended};
 use arrayvec::ArrayVec;
@@ -27,7 +24,8 @@ const PROCESSES: usize = 32;
 
 /// The log of a file system, as it stands in memory: the homes of the open group, the operations
 /// that are open, and how far a commit is (the xv6 book, the chapter "File system": "Logging
-/// layer" and "Code: logging"). The homes and all that open operations may still add are at most 30.
+/// layer" and "Code: logging"). The homes and all that open operations may still add are at most
+/// 30.
 ///
 /// No call but `new` takes memory.
 #[derive(Drop)]
@@ -50,14 +48,30 @@ impl Model for Log {
 
     ghost Value = { LogState };
 
-    ghost view = { λ l. record { size = l.size; homes = l.header.homes.items; used = l.used; outstanding = l.outstanding; opened = l.opened; committed = l.committed; commit = l.commit } };
+    ghost view = { λ l. record {
+      size = l.size;
+      homes = l.header.homes.items;
+      used = l.used;
+      outstanding = l.outstanding;
+      opened = l.opened;
+      committed = l.committed;
+      commit = l.commit;
+    } };
 
-    ghost invariant = { λ l. IsWhole l.header l.empty (record { size = l.size; homes = l.header.homes.items; used = l.used; outstanding = l.outstanding; opened = l.opened; committed = l.committed; commit = l.commit }) };
+    ghost invariant = { λ l. IsWhole l.header l.empty (record {
+      size = l.size;
+      homes = l.header.homes.items;
+      used = l.used;
+      outstanding = l.outstanding;
+      opened = l.opened;
+      committed = l.committed;
+      commit = l.commit;
+    }) };
 }
 
 impl Log {
-    /// The log of an image with this lawful superblock, where nothing is logged. It makes the blocks from
-    /// which headers are written.
+    /// The log of an image with this lawful superblock, where nothing is logged. It makes the
+    /// blocks from which headers are written.
     ///
     /// # Errors
     ///
@@ -177,8 +191,9 @@ impl Log {
         None
     }
 
-    /// Opens an operation of a process that has none open (`begin_op`), or says why it has to sleep,
-    /// as `may_begin` does. It may add ten homes. Where no other is open, a new group begins with it.
+    /// Opens an operation of a process that has none open (`begin_op`), or says why it has to
+    /// sleep, as `may_begin` does. It may add ten homes. Where no other is open, a new group begins
+    /// with it.
     pub fn begin(&mut self, pid: u32) -> Began
         requires pid { pid < 32 }
         requires none { used_by self.old pid ≡ None }
@@ -210,14 +225,11 @@ impl Log {
 
     /// Adds the block of a slot that the process holds to the open group (`log_write`): where it is
     /// not among the homes yet, it becomes one and its buffer is pinned until it was written home.
-    /// The operation added fewer than ten. A block that is among the homes adds nothing, and then its
-    /// pins may be any number.
+    /// The operation added fewer than ten. A block that is among the homes adds nothing, and then
+    /// its pins may be any number.
     pub fn log_write(&mut self, pid: u32, cache: &mut Cache, slot: u32)
-        requires pid { pid < 32 }
-        requires room { HasRoom (used_by self.old pid) }
-        requires slot { slot < 40 }
-        requires held { (buffer cache.old slot).holder ≡ Some pid }
-        requires block { IsSome (buffer cache.old slot).block }
+        requires logs { MayLog self.old pid }
+        requires has { HasSlot cache.old pid slot }
         requires behind { 33 ≤ block_or_zero (buffer cache.old slot).block }
         requires within { block_or_zero (buffer cache.old slot).block < self.old.size }
         requires few { MayPin self.old cache.old slot }
@@ -235,8 +247,7 @@ impl Log {
 
     // Adds a home, and answers whether it was one already.
     fn note(&mut self, pid: u32, block: u32) -> bool
-        requires pid { pid < 32 }
-        requires room { HasRoom (used_by self.old pid) }
+        requires logs { MayLog self.old pid }
         requires behind { 33 ≤ block }
         requires within { block < self.old.size }
         ensures answer { result ≡ is_among block self.old.homes }
@@ -250,8 +261,7 @@ impl Log {
     }
 
     fn append(&mut self, pid: u32, block: u32)
-        requires pid { pid < 32 }
-        requires room { HasRoom (used_by self.old pid) }
+        requires logs { MayLog self.old pid }
         requires behind { 33 ≤ block }
         requires within { block < self.old.size }
         requires other { is_among block self.old.homes ≡ false }
@@ -262,9 +272,9 @@ impl Log {
         self.used[pid as usize] = one_more(self.used[pid as usize]);
     }
 
-    /// Ends the operation that a process has open (`end_op`). Where it was the last one, its group is
-    /// closed: with homes the commit of the group begins, and the answer is `Commit`; without any the
-    /// group is committed at once, as `committed` then says.
+    /// Ends the operation that a process has open (`end_op`). Where it was the last one, its group
+    /// is closed: with homes the commit of the group begins, and the answer is `Commit`; without
+    /// any the group is committed at once, as `committed` then says.
     pub fn end(&mut self, pid: u32) -> Ended
         requires pid { pid < 32 }
         requires open { IsSome (used_by self.old pid) }
@@ -295,35 +305,13 @@ impl Log {
     /// A crash during the step leaves what recovery turns into what was committed before it, or, at
     /// the header, into the closed group.
     ///
-    /// `Fault` where the disk failed: buffers and log are as before, and the block is as it was or as
-    /// it was to be.
+    /// `Fault` where the disk failed: buffers and log are as before, and the block is as it was or
+    /// as it was to be.
     pub fn commit_step<D: Disk>(&mut self, cache: &mut Cache, disk: &mut D) -> Committed
         requires busy { is_quiet self.old.commit ≡ false }
         requires joint { Joint (D.image disk.old) cache.old self.old }
-        ensures step { CommitsTo self.old.commit self.old.opened result
-            (Stepped (header_block self.old.homes) (D.image disk.old) cache.old self.old (D.image disk.new) cache.new self.new)
-            (Faulted (header_block self.old.homes) (D.image disk.old) cache.old self.old (D.image disk.new) cache.new self.new) }
-        ensures name { D.name disk.new ≡ D.name disk.old }
-        ensures time { Elapses (D.moment disk.old) (D.moment disk.new) (D.leaves disk.old)
-            (D.leaves disk.new) }
-        ensures crash { LeavesOldOrNew (place_at self.old.commit self.old.homes)
-            (bytes_at self.old.commit self.old.homes (header_block self.old.homes) (seen (D.image disk.old) cache.old))
-            (D.leaves disk.old (D.moment disk.old)) (D.leaves disk.new (D.moment disk.new)) }
-
-        // What a crash now may leave is recovered to what was committed, or to the group.
-        ensures recovers { (z : Image) → D.leaves disk.new (D.moment disk.new) z
-            → CrashKeeps self.old.commit (D.image disk.old) (seen (D.image disk.old) cache.old) z }
-
-        // And its log is lawful.
-        ensures lawful { (z : Image) → D.leaves disk.new (D.moment disk.new) z → IsTrue
-            (is_lawful_log z) }
-        ensures writes { IsFault result (λ fault. D.write_count disk.new ≡ D.write_count disk.old)
-            (D.fault_count disk.new ≡ one_more (D.fault_count disk.old))
-            (D.write_count disk.new ≡ one_more (D.write_count disk.old)) }
-        ensures faults { IsFault result (λ fault. fault.0
-            ≡ place_at self.old.commit self.old.homes)
-            (D.fault_count disk.new ≡ one_more (D.fault_count disk.old))
-            (D.fault_count disk.new ≡ D.fault_count disk.old) }
+        ensures write { CommitWrites D.Disk disk.old cache.old self.old result disk.new cache.new
+            self.new }
     {
         match self.write_next(cache, disk) {
             Ok(()) => self.go_on(cache),
@@ -336,7 +324,8 @@ impl Log {
         requires inside { place_at self.old.commit self.old.homes < length (D.image disk.old) }
         ensures log { self.new ≡ self.old }
         ensures writes { WritesOne D.Disk (place_at self.old.commit self.old.homes)
-            (source_at self.old.commit self.old.homes (header_block self.old.homes) cache.now) result disk.old disk.new }
+            (source_at self.old.commit self.old.homes (header_block self.old.homes) cache.now)
+            result disk.old disk.new }
         ensures fault { IfErr result (λ fault. fault.0 ≡ place_at self.old.commit self.old.homes) }
     {
         make_header(self.commit, &self.header, &mut self.made);

@@ -1,11 +1,11 @@
 // Recovery: what was committed before a crash is copied home.
-ghost use Rattle.std.specs.Prelude.{◌≡◌, ◌<◌, ◌≤◌, ◌+◌, false, length, IsTrue, IfOk, OnOk, OnErr};
+ghost use Rattle.std.specs.Prelude.{◌≡◌, ◌<◌, ◌≤◌, ◌+◌, length, IsTrue, IfOk, OnOk, OnErr};
 ghost use Rattle.blocks.specs.Block.{zero_block};
 ghost use Rattle.blocks.specs.Calls.{OnlyReads, WritesOne};
-ghost use Rattle.blocks.specs.Disk.{counted, Rose, IsSettled, LeavesOnly};
+ghost use Rattle.blocks.specs.Disk.{Rose, IsSettled};
 ghost use Rattle.model.specs.Layout.{is_lawful_super};
-ghost use Rattle.model.specs.Log.{is_lawful_log, logged_count, homes_of};
-ghost use Rattle.wal.specs.Recovery.{OnDisk, OnBadLog, OnNoMemory, RecoversAs, Recovers, Looks, IsRecoveredInPart, HasCopied};
+ghost use Rattle.model.specs.Log.{is_lawful_log, homes_of};
+ghost use Rattle.wal.specs.Recovery.{Recovers, ReadsHeader, RefusesToRecover, Copies, MayStop};
 
 use crate::RecoverFault;
 use blocks::{Block, Disk, DiskFault};
@@ -23,15 +23,9 @@ const LOG: u32 = 3;
 fn read_header<D: Disk>(disk: &mut D, size: u32, block: &mut Block) -> Result<Header, RecoverFault>
     requires size { size ≡ length (D.image disk.old) }
     requires long { 33 ≤ size }
-    ensures lawful { OnOk result (IsTrue (is_lawful_log (D.image disk.old))) }
-    ensures count { IfOk result (λ header. header.n ≡ logged_count (D.image disk.old)) }
-    ensures homes { IfOk result (λ header. header.homes.items ≡ homes_of (D.image disk.old)) }
-    ensures bad { OnBadLog result (is_lawful_log (D.image disk.old) ≡ false) }
-    ensures bad_faults { OnBadLog result (D.fault_count disk.new ≡ D.fault_count disk.old) }
-    ensures refused { OnNoMemory result (disk.new ≡ disk.old) }
-    ensures disk { OnDisk result (Rose (D.fault_count disk.old) (D.fault_count disk.new)) }
+    ensures ok { IfOk result (ReadsHeader D.Disk disk.old disk.new) }
+    ensures refused { RefusesToRecover D.Disk disk.old disk.new result }
     ensures reads { OnlyReads D.Disk disk.old disk.new }
-    ensures faults { OnOk result (D.fault_count disk.new ≡ D.fault_count disk.old) }
 {
     disk.read(HEADER, block)?;
     let header = Header::read(block.as_slice());
@@ -64,16 +58,10 @@ fn copy_home<D: Disk>(disk: &mut D, block: &mut Block, homes: &[u32]) -> Result<
     requires lawful { IsTrue (is_lawful_log (D.image disk.old)) }
     requires homes { homes.now ≡ homes_of (D.image disk.old) }
     requires settled { IsSettled (D.image disk.old) (D.leaves disk.old (D.moment disk.old)) }
-    ensures ok { OnOk result (HasCopied (length homes.now) (D.image disk.old) (D.image disk.new)) }
-    ensures writes { OnOk result (D.write_count disk.new ≡ counted (D.write_count disk.old)
-        (length homes.now)) }
-    ensures faults { OnOk result (D.fault_count disk.new ≡ D.fault_count disk.old) }
+    ensures ok { OnOk result (Copies D.Disk (length homes.now) disk.old disk.new) }
     ensures name { D.name disk.new ≡ D.name disk.old }
     ensures disk { OnErr result (Rose (D.fault_count disk.old) (D.fault_count disk.new)) }
-    ensures any_moment { LeavesOnly D.moment D.leaves disk.old disk.new
-        (RecoversAs (D.image disk.old)) }
-    ensures in_order { LeavesOnly D.moment D.leaves disk.old disk.new
-        (IsRecoveredInPart (D.image disk.old)) }
+    ensures stops { MayStop D.Disk disk.old disk.new }
 {
     for (k, home) in homes.iter().enumerate() {
         disk.read(log_block(k), block)?;
@@ -99,19 +87,8 @@ pub fn recover<D: Disk>(alloc: Global, disk: &mut D, sup: &Super) -> Result<u32,
     requires { IsTrue (is_lawful_super sup.now (length (D.image disk.old))) }
     ensures ok { IfOk result (λ n. Recovers D.Disk n disk.old disk.new) }
     ensures name { D.name disk.new ≡ D.name disk.old }
-
-    // When each error comes, and how the disk is then.
-    ensures bad { OnBadLog result (is_lawful_log (D.image disk.old) ≡ false) }
-    ensures unwritten { OnBadLog result (Looks D.Disk disk.old disk.new) }
-    ensures refused { OnNoMemory result (disk.new ≡ disk.old) }
-    ensures disk { OnDisk result (Rose (D.fault_count disk.old) (D.fault_count disk.new)) }
-
-    // A crash at any moment leaves an image with the first homes copied, or the recovered one. It is
-    // recovered to the same image, and its log is lawful where that of the start is.
-    ensures in_order { LeavesOnly D.moment D.leaves disk.old disk.new
-        (IsRecoveredInPart (D.image disk.old)) }
-    ensures any_moment { LeavesOnly D.moment D.leaves disk.old disk.new
-        (RecoversAs (D.image disk.old)) }
+    ensures refused { RefusesToRecover D.Disk disk.old disk.new result }
+    ensures stops { MayStop D.Disk disk.old disk.new }
 {
     let mut block = Block::zeroed(alloc)?;
     let empty = Block::zeroed(alloc)?;

@@ -41,7 +41,8 @@ pub enum Ended {
 pub enum Committed {
     /// There is more to write.
     More,
-    /// The group of this number is committed: from now on recovery gives it. There is more to write.
+    /// The group of this number is committed: from now on recovery gives it. There is more to
+    /// write.
     Durable(u64),
     /// The commit is at its end.
     Done,

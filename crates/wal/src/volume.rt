@@ -1,18 +1,13 @@
 // A disk with its buffer cache and its log, as the layers above use them.
-ghost use Rattle.std.specs.Prelude.{◌≡◌, ◌<◌, ◌≤◌, ◌+◌, ◌^◌, ℕ, true, false, length, slice_set, Some, None, IsSome, IsTrue, IfNone};
+ghost use Rattle.std.specs.Prelude.{◌≡◌, ◌<◌, ◌≤◌, ◌+◌, ◌^◌, ℕ, false, length, slice_set, Some, None, IsSome, IfNone};
 ghost use Rattle.blocks.specs.Block.{IsBlock, overwritten};
-ghost use Rattle.blocks.specs.Calls.{OnlyReads};
-ghost use Rattle.blocks.specs.Disk.{Image, IsImage, block_at, one_more, Elapses, LeavesOldOrNew};
-ghost use Rattle.model.specs.Agreement.{IsSameOutsideLog};
-ghost use Rattle.model.specs.Codec.{header_block};
-ghost use Rattle.model.specs.Log.{is_lawful_log, logged_count};
+ghost use Rattle.blocks.specs.Disk.{IsImage, block_at};
+ghost use Rattle.model.specs.Log.{logged_count};
 ghost use Rattle.bcache.specs.Buffers.{buffer, block_or_zero, filled, fresh_buffers, released, EndsUnfilled};
-ghost use Rattle.wal.specs.Machine.{is_quiet, new_log, begin_cause, begin_answer, after_begin, used_by, HasRoom, ended, end_answer};
-ghost use Rattle.wal.specs.Joint.{Joint, seen, place_at, bytes_at};
-ghost use Rattle.wal.specs.Kept.{CrashKeeps};
-ghost use Rattle.wal.specs.Step.{Stepped, Faulted, CommitsTo, IsFault};
+ghost use Rattle.wal.specs.Machine.{is_quiet, new_log, begin_cause, begin_answer, after_begin, used_by, ended, end_answer};
+ghost use Rattle.wal.specs.Joint.{Joint, seen};
 ghost use Rattle.wal.specs.Held.{HoldsBlock, LeavesLocks, GivesUpLock, LocksAfter};
-ghost use Rattle.wal.specs.Volume.{Holds, FailsToFill, why_busy, get_answer, after_get, after_change, fault_of_get, fault_of_step, faults_after, OnGot, OnSleeping, OnFault, UnlessFault};
+ghost use Rattle.wal.specs.Volume.{Holds, IsNewMemory, MayChange, LacksBlock, Gets, ReadsFor, VolumeCommits, why_busy, after_change, fault_of_step, OnFault, UnlessFault};
 
 use crate::{Began, Committed, Ended, Get, Log};
 use bcache::{Acquired, Busy, Cache};
@@ -41,7 +36,12 @@ impl<D: Disk> Model for Volume<D> {
 
     ghost Value = { VolumeState D };
 
-    ghost view = { λ v. record { device = v.disk; buffers = v.cache; log = v.log; fault = v.fault } };
+    ghost view = { λ v. record {
+      device = v.disk;
+      buffers = v.cache;
+      log = v.log;
+      fault = v.fault;
+    } };
 
     ghost invariant = { λ v. IfNone v.fault (IsVolume (D.image v.disk) v.cache v.log) };
 }
@@ -50,8 +50,7 @@ impl<D: Disk> Volume<D> {
     /// A disk on which nothing is logged, with a cache whose slots were never taken, and a new log
     /// for an image of its size.
     pub fn open(disk: D, cache: Cache, log: Log) -> Volume<D>
-        requires cache { cache ≡ fresh_buffers }
-        requires log { log ≡ new_log (length (D.image disk)) }
+        requires memory { IsNewMemory cache log (length (D.image disk)) }
         requires none { logged_count (D.image disk) ≡ 0 }
         ensures volume { result ≡ record {
           device = disk;
@@ -163,22 +162,11 @@ impl<D: Disk> Volume<D> {
         requires fault { self.old.fault ≡ None }
         requires behind { 33 ≤ block }
         requires within { block < self.old.log.size }
-        ensures answer { UnlessFault result (result ≡ get_answer self.old.buffers block) }
-        ensures buffers { UnlessFault result
-            (self.new.buffers ≡ after_get (D.image self.old.device) self.old.buffers pid block) }
-        ensures got { OnGot result (λ slot. Holds
-            (seen (D.image self.new.device) self.new.buffers) self.new.buffers pid block slot) }
-        ensures sleeping { OnSleeping result (self.new ≡ self.old) }
-        ensures failed { OnFault result (FailsToFill self.old.buffers self.new.buffers pid block) }
-        ensures fault { self.new.fault ≡ fault_of_get result }
-        ensures log { self.new.log ≡ self.old.log }
-        ensures current { seen (D.image self.new.device) self.new.buffers ≡ seen
-            (D.image self.old.device) self.old.buffers }
-        ensures device { OnlyReads D.Disk self.old.device self.new.device }
-        ensures faults { D.fault_count self.new.device ≡ faults_after (fault_of_get result)
-            (D.fault_count self.old.device) }
+        ensures gets { Gets D.Disk self.old pid block result self.new }
+        ensures reads { ReadsFor D.Disk self.old result self.new }
 
-        // No other lock is taken, and what is held stays so; who waits for a held buffer waits for its lock.
+        // No other lock is taken, and what is held stays so; who waits for a held buffer waits for
+        // its lock.
         ensures locks { LocksAfter result self.old.buffers self.new.buffers pid block }
     {
         match self.cache.acquire(pid, block) {
@@ -191,22 +179,14 @@ impl<D: Disk> Volume<D> {
     // Reads the block of a slot that isn't valid.
     fn fill(&mut self, block: u32, slot: u32) -> Get
         requires fault { self.old.fault ≡ None }
-        requires slot { slot < 40 }
-        requires block { (buffer self.old.buffers slot).block ≡ Some block }
-        requires valid { (buffer self.old.buffers slot).valid ≡ false }
+        requires lacks { LacksBlock self.old.buffers block slot }
         ensures answer { UnlessFault result (result ≡ Get.Got slot) }
         ensures buffers { UnlessFault result
             (self.new.buffers ≡ filled self.old.buffers slot
             (block_at (D.image self.old.device) block)) }
         ensures place { OnFault result (λ fault. fault.0 ≡ block) }
         ensures failed { OnFault result (λ _. EndsUnfilled self.old.buffers slot self.new.buffers) }
-        ensures fault { self.new.fault ≡ fault_of_get result }
-        ensures log { self.new.log ≡ self.old.log }
-        ensures current { seen (D.image self.new.device) self.new.buffers ≡ seen
-            (D.image self.old.device) self.old.buffers }
-        ensures device { OnlyReads D.Disk self.old.device self.new.device }
-        ensures faults { D.fault_count self.new.device ≡ faults_after (fault_of_get result)
-            (D.fault_count self.old.device) }
+        ensures reads { ReadsFor D.Disk self.old result self.new }
     {
         match self.cache.fill(slot, &mut self.disk) {
             Ok(()) => Get::Got(slot),
@@ -247,12 +227,7 @@ impl<D: Disk> Volume<D> {
     /// The process has an operation open that added fewer than ten homes.
     pub fn change(&mut self, pid: u32, slot: u32, at: usize, bytes: &[u8])
         requires fault { self.old.fault ≡ None }
-        requires pid { pid < 32 }
-        requires room { HasRoom (used_by self.old.log pid) }
-        requires slot { slot < 40 }
-        requires held { (buffer self.old.buffers slot).holder ≡ Some pid }
-        requires block { IsSome (buffer self.old.buffers slot).block }
-        requires valid { (buffer self.old.buffers slot).valid ≡ true }
+        requires may { MayChange self.old pid slot }
         requires fits { at + length bytes.now ≤ 1024 }
         ensures volume { self.new ≡ after_change self.old pid slot at bytes.now }
         ensures current { seen (D.image self.new.device) self.new.buffers ≡ slice_set
@@ -272,32 +247,7 @@ impl<D: Disk> Volume<D> {
     pub fn commit_step(&mut self) -> Committed
         requires fault { self.old.fault ≡ None }
         requires busy { is_quiet self.old.log.commit ≡ false }
-        ensures step { CommitsTo self.old.log.commit self.old.log.opened result
-            (Stepped (header_block self.old.log.homes) (D.image self.old.device) self.old.buffers self.old.log (D.image self.new.device) self.new.buffers self.new.log)
-            (Faulted (header_block self.old.log.homes) (D.image self.old.device) self.old.buffers self.old.log (D.image self.new.device) self.new.buffers self.new.log) }
-        ensures fault { self.new.fault ≡ fault_of_step result }
-        ensures name { D.name self.new.device ≡ D.name self.old.device }
-        ensures current { IsSameOutsideLog (seen (D.image self.old.device) self.old.buffers)
-            (seen (D.image self.new.device) self.new.buffers) }
-        ensures time { Elapses (D.moment self.old.device) (D.moment self.new.device)
-            (D.leaves self.old.device) (D.leaves self.new.device) }
-        ensures crash { LeavesOldOrNew (place_at self.old.log.commit self.old.log.homes)
-            (bytes_at self.old.log.commit self.old.log.homes (header_block self.old.log.homes) (seen (D.image self.old.device) self.old.buffers))
-            (D.leaves self.old.device (D.moment self.old.device)) (D.leaves self.new.device (D.moment self.new.device)) }
-        ensures recovers { (z : Image) → D.leaves self.new.device (D.moment self.new.device) z
-            → CrashKeeps self.old.log.commit (D.image self.old.device)
-            (seen (D.image self.old.device) self.old.buffers) z }
-        ensures lawful { (z : Image) → D.leaves self.new.device (D.moment self.new.device) z
-            → IsTrue (is_lawful_log z) }
-        ensures writes { IsFault result (λ fault. D.write_count self.new.device
-            ≡ D.write_count self.old.device)
-            (D.fault_count self.new.device ≡ one_more (D.fault_count self.old.device))
-            (D.write_count self.new.device ≡ one_more (D.write_count self.old.device)) }
-        ensures faults { IsFault result (λ fault. fault.0
-            ≡ place_at self.old.log.commit self.old.log.homes)
-            (D.fault_count self.new.device ≡ one_more (D.fault_count self.old.device))
-            (D.fault_count self.new.device ≡ D.fault_count self.old.device) }
-        ensures locks { LeavesLocks self.old.buffers self.new.buffers }
+        ensures commits { VolumeCommits D.Disk self.old result self.new }
     {
         let answer = self.log.commit_step(&mut self.cache, &mut self.disk);
         self.fault = fault_of(answer);

@@ -17,9 +17,6 @@ use Rattle.player.specs.declared.events.Event.{Event}
 use Rattle.player.specs.declared.turns.Player.{Player}
 use Rattle.player.specs.Events.{is_last}
 use Rattle.player.specs.Opening.{Replays}
-use Rattle.player.specs.Refusal.{OnRefusal}
-use Rattle.player.specs.declared.refusal.Refusal.{Refusal}
-use Rattle.player.specs.declared.refusal.Refusal.TheVariants.{File, Mkfs, Check, Recover, Open, Script, Schedule, Disk, Input, Output}
 use Rattle.player.specs.Stepping.{Plain, MakesTurnOf, MakesTurn, MakesTurns}
 use Rattle.player.specs.Turns.{IfLast, event_of}
 use Rattle.xvfs.specs.Turns.{IsTurnOfProcess, IsTurnOf, Plays, PrintsRun}
@@ -55,16 +52,3 @@ pub some_words : {D N : Type 0} (disk : Ghosts (FaultyDisk D) (N × Trap)) (x : 
 some_words disk x written tasks processes words stop fault text printed replays =
     let run = replays.runs in
     (words, (run.events, plays_of disk stop words run.events replays.player run.last run.makes, (disk.write_count run.last.kernel.store.volume.device - disk.write_count replays.player.kernel.store.volume.device, (run.last.kernel.store.volume.log.committed, run.lines))))
-
--- what was printed where a replay was refused
-pub on_refusal : (r : Refusal) (P Q R S : Type 0) → (P → Q) → (R → S) → OnRefusal r P R → OnRefusal r Q S
-on_refusal (Disk _) P Q R S f k h = f h
-on_refusal Output P Q R S f k h = h
-on_refusal (File _) P Q R S f k h = k h
-on_refusal (Mkfs _) P Q R S f k h = k h
-on_refusal (Check _) P Q R S f k h = k h
-on_refusal (Recover _) P Q R S f k h = k h
-on_refusal (Open _) P Q R S f k h = k h
-on_refusal (Script _) P Q R S f k h = k h
-on_refusal (Schedule _) P Q R S f k h = k h
-on_refusal (Input _) P Q R S f k h = k h

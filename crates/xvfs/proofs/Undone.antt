@@ -8,7 +8,7 @@ use Rattle.player.specs.declared.refusal.Refusal.{Refusal}
 use Rattle.xvfs.specs.declared.words.Request.{Request}
 use Rattle.xvfs.specs.declared.words.Request.TheVariants.{Mkfs, Check, Recover, Replay}
 use Rattle.xvfs.specs.Requests.{IsNotDone, IsUndone, OnRefused}
-use Rattle.xvfs.proofs.Plays.{on_refusal}
+use Rattle.player.specs.Lemmas.Refusals.{on_refusal}
 use Rattle.xvfs.specs.Status.{status_of}
 
 pub refused_at_one : (words : List (List ℕ)) (old new : Option (List ℕ)) (none : Type 0) (f : Failure) → status_of (Err f) ≡ 1 → IsUndone words old new none f → (r : Refusal) × IsUndone words old new none (Refused r)

@@ -30,36 +30,49 @@ abbrev pub image_app : List ℕ → App
 image_app name = with_rule (new_app name) (required_rule (codes "IMAGE"))
 
 abbrev pub mkfs_app : App
-mkfs_app = with_rule (with_rule (image_app (codes "mkfs")) (number_rule (codes "SIZE"))) (number_rule (codes "NINODES"))
+mkfs_app = with_rule (with_rule (image_app (codes "mkfs")) (number_rule (codes "SIZE")))
+    (number_rule (codes "NINODES"))
 
 abbrev pub replay_app : App
-replay_app = with_rule (with_rule (with_rule (image_app (codes "replay")) (required_rule (codes "SCRIPT"))) (required_rule (codes "SCHEDULE"))) stop_rule
+replay_app = with_rule (with_rule (with_rule (image_app (codes "replay"))
+    (required_rule (codes "SCRIPT"))) (required_rule (codes "SCHEDULE"))) stop_rule
 
 -- the program, with no command yet
 abbrev pub bare_app : App
 bare_app = record (new_app (codes "xvfs")) {
-  top = record (new_app (codes "xvfs")).top { has_version = true; no_binary_name = true; subcommand_required = true };
+  top = record (new_app (codes "xvfs")).top {
+    has_version = true;
+    no_binary_name = true;
+    subcommand_required = true;
+  };
 }
 
 abbrev pub xvfs_app : App
 xvfs_app =
-    with_subcommand (with_subcommand (with_subcommand (with_subcommand bare_app mkfs_app.top) (image_app (codes "check")).top) (image_app (codes "recover")).top) replay_app.top
+    with_subcommand (with_subcommand (with_subcommand (with_subcommand bare_app mkfs_app.top)
+    (image_app (codes "check")).top) (image_app (codes "recover")).top) replay_app.top
 
 -- a command of this shape, whose arguments are its own
 abbrev pub HasApp : App → Command → Type 0
 HasApp app c = (app_of c ≡ app) × ((out-Command c).has_globals ≡ false)
 
--- the kinds of mistake in these words, and of answers about the program; none where they make a command
+-- the kinds of mistake in these words, and of answers about the program; none where they make a
+-- command
 abbrev pub mistakes_in : List (List ℕ) → Kinds
 mistakes_in words = fault_of xvfs_app words
 
 -- a command of this name, with these values, asks for the request
 abbrev pub AsksBy : List ℕ → List Row → Request → Type 0
-AsksBy name rows (Mkfs image size ninodes) = (name ≡ codes "mkfs") × (first_of (codes "IMAGE") rows ≡ Some image.now)
-AsksBy name rows (Check image) = (name ≡ codes "check") × (first_of (codes "IMAGE") rows ≡ Some image.now)
-AsksBy name rows (Recover image) = (name ≡ codes "recover") × (first_of (codes "IMAGE") rows ≡ Some image.now)
+AsksBy name rows (Mkfs image size ninodes) = (name ≡ codes "mkfs")
+    × (first_of (codes "IMAGE") rows ≡ Some image.now)
+AsksBy name rows (Check image) = (name ≡ codes "check")
+    × (first_of (codes "IMAGE") rows ≡ Some image.now)
+AsksBy name rows (Recover image) = (name ≡ codes "recover")
+    × (first_of (codes "IMAGE") rows ≡ Some image.now)
 AsksBy name rows (Replay image script schedule stop) =
-    (name ≡ codes "replay") × (first_of (codes "IMAGE") rows ≡ Some image.now) × (first_of (codes "SCRIPT") rows ≡ Some script.now) × (first_of (codes "SCHEDULE") rows ≡ Some schedule.now)
+    (name ≡ codes "replay") × (first_of (codes "IMAGE") rows ≡ Some image.now)
+    × (first_of (codes "SCRIPT") rows ≡ Some script.now)
+    × (first_of (codes "SCHEDULE") rows ≡ Some schedule.now)
 
 abbrev pub Asks : Option (List ℕ × List Row) → Request → Type 0
 Asks None request = ⊥

@@ -11,11 +11,13 @@ use Rattle.player.specs.declared.refusal.Refusal.{Refusal}
 
 -- the report of some image without a fault
 abbrev pub PrintsReport : Option (List ℕ) → Option (List ℕ) → Type 0
-PrintsReport old new = (x : Image) × (verdict x ≡ None) × Appends old new (report_text (logged_count x) (file_count (files_of (recovered x))))
+PrintsReport old new = (x : Image) × (verdict x ≡ None)
+    × Appends old new (report_text (logged_count x) (file_count (files_of (recovered x))))
 
 -- how many blocks the log of some image without a fault held
 abbrev pub PrintsCopied : Option (List ℕ) → Option (List ℕ) → Type 0
-PrintsCopied old new = (x : Image) × (verdict x ≡ None) × Appends old new (copied_text (logged_count x))
+PrintsCopied old new = (x : Image) × (verdict x ≡ None)
+    × Appends old new (copied_text (logged_count x))
 
 -- the line for a refusal
 abbrev pub refusal_line : Refusal → List ℕ

@@ -23,7 +23,8 @@ abbrev pub IsUnprinted : Error → Failure → Type 0
 IsUnprinted text (Misused other) = (other ≡ text) × IsMisuse text
 IsUnprinted text (Refused r) = (r ≡ Output) × (¬ (IsMisuse text))
 
--- a refusal was told, where the bytes are known; what is said of words that are no command is clap's
+-- a refusal was told, where the bytes are known; what is said of words that are no command is
+-- clap's
 abbrev pub Tells : Failure → Option (List ℕ) → Option (List ℕ) → Type 0
 Tells (Refused r) old new = Appends old new (refusal_line r)
 Tells (Misused _) old new = ⊤

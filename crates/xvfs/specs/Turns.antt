@@ -26,9 +26,11 @@ IsTurnOf stop word.Shutdown event = event ≡ Shut
 abbrev pub Plays : ℕ → List Word → List Event → Type 0
 Plays stop [] events = events ≡ []
 Plays stop (first ∷ words) [] = ⊥
-Plays stop (first ∷ words) (event ∷ events) = IsTurnOf stop first event × IfLast (is_last event) (events ≡ []) (Plays stop words events)
+Plays stop (first ∷ words) (event ∷ events) = IsTurnOf stop first event
+    × IfLast (is_last event) (events ≡ []) (Plays stop words events)
 
 -- a line was printed for each turn, and the counts behind them
 abbrev pub PrintsRun : ℕ → List Word → Option (List ℕ) → Option (List ℕ) → Type 0
 PrintsRun stop words old new =
-    (events : List Event) × Plays stop words events × ((writes : ℕ) × ((committed : ℕ) × Appends old new (flat_map event_line events ++ counts_text writes committed)))
+    (events : List Event) × Plays stop words events × ((writes : ℕ) × ((committed : ℕ)
+    × Appends old new (flat_map event_line events ++ counts_text writes committed)))

@@ -34,13 +34,13 @@ impl From<Refusal> for Failure {
 }
 
 /// Does the command that these words ask for, the program's name not among them: prints what it
-/// answers to `out`, and why it wasn't done to `err`, as far as that can be written. The exit status:
-/// 0 where it was done, 1 for a refusal, 2 where the words are no command.
+/// answers to `out`, and why it wasn't done to `err`, as far as that can be written. The exit
+/// status: 0 where it was done, 1 for a refusal, 2 where the words are no command.
 ///
 /// With 0 the words make a command, and `out` has its answer; or they ask for help or the version,
-/// whose text is clap's. With 1 they do too, and nothing was printed, but of a replay whose disk failed
-/// and of an output that failed. With 2 nothing is written to `out`, with 0 nothing to `err`. What else
-/// `err` gets no contract tells, since it may fail at any byte.
+/// whose text is clap's. With 1 they do too, and nothing was printed, but of a replay whose disk
+/// failed and of an output that failed. With 2 nothing is written to `out`, with 0 nothing to
+/// `err`. What else `err` gets no contract tells, since it may fail at any byte.
 pub fn command<R: Files + AllocGlobal, S: AsStr, O: Write, E: Write>(
     rt: &R,
     words: &[S],
@@ -48,9 +48,12 @@ pub fn command<R: Files + AllocGlobal, S: AsStr, O: Write, E: Write>(
     err: &mut E,
 ) -> u8
     ensures status { result ≤ 2 }
-    ensures done { result ≡ 0 → IsDone (map S.text words.now) (O.contents out.old) (O.contents out.new) }
-    ensures refused { result ≡ 1 → (r : SomeRefusal) × IsUndone (map S.text words.now) (O.contents out.old) (O.contents out.new) (out.new ≡ out.old) (failure.Refused r) }
-    ensures wrong { result ≡ 2 → (text : SomeError) × IsUndone (map S.text words.now) (O.contents out.old) (O.contents out.new) (out.new ≡ out.old) (failure.Misused text) }
+    ensures done { result ≡ 0 →
+        IsDone (map S.text words.now) (O.contents out.old) (O.contents out.new) }
+    ensures refused { result ≡ 1 → (r : SomeRefusal) × IsUndone (map S.text words.now)
+        (O.contents out.old) (O.contents out.new) (out.new ≡ out.old) (failure.Refused r) }
+    ensures wrong { result ≡ 2 → (text : SomeError) × IsUndone (map S.text words.now)
+        (O.contents out.old) (O.contents out.new) (out.new ≡ out.old) (failure.Misused text) }
     ensures silent { result ≡ 0 → err.new ≡ err.old }
     ensures misused { result ≡ 2 → out.new ≡ out.old }
 {
@@ -97,8 +100,10 @@ fn perform<R: Files + AllocGlobal, S: AsStr, O: Write>(
     words: &[S],
     out: &mut O,
 ) -> Result<(), Failure>
-    ensures ok { OnOk result (IsDone (map S.text words.now) (O.contents out.old) (O.contents out.new)) }
-    ensures err { IfErr result (IsUndone (map S.text words.now) (O.contents out.old) (O.contents out.new) (out.new ≡ out.old)) }
+    ensures ok { OnOk result
+        (IsDone (map S.text words.now) (O.contents out.old) (O.contents out.new)) }
+    ensures err { IfErr result (IsUndone (map S.text words.now) (O.contents out.old)
+        (O.contents out.new) (out.new ≡ out.old)) }
     ensures silent { IfErr result (λ failure. status_of (Err failure) ≡ 2 → out.new ≡ out.old) }
 {
     match parse(rt.alloc(), words) {
@@ -126,7 +131,8 @@ fn dispatch<R: Files + AllocGlobal, O: Write>(
     out: &mut O,
 ) -> Result<(), Refusal>
     ensures ok { OnOk result (Answers request.entry (O.contents out.old) (O.contents out.new)) }
-    ensures err { IfErr result (λ r. OnRefused request.entry r (O.contents out.old) (O.contents out.new) (out.new ≡ out.old)) }
+    ensures err { IfErr result (λ r.
+        OnRefused request.entry r (O.contents out.old) (O.contents out.new) (out.new ≡ out.old)) }
 {
     match request {
         Request::Mkfs {

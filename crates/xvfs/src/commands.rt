@@ -16,8 +16,8 @@ pub const LIMIT: usize = 65_536;
 
 /// Does the commands of a text: each line is one, its words have one space between them, and empty
 /// lines are none. Ends at the first whose exit status isn't 0, and answers that, else 0. Prints as
-/// `command` does, and so nothing to `err` where the status is 0; then each line's command was done. Status 1, and no command is done,
-/// where the text can't be had.
+/// `command` does, and so nothing to `err` where the status is 0; then each line's command was
+/// done. Status 1, and no command is done, where the text can't be had.
 pub fn commands<R: Files + AllocGlobal, I: Read + Drop, O: Write, E: Write>(
     rt: &R,
     input: I,
@@ -25,10 +25,13 @@ pub fn commands<R: Files + AllocGlobal, I: Read + Drop, O: Write, E: Write>(
     err: &mut E,
 ) -> u8
     ensures status { result ≤ 2 }
-    ensures large { IfSome (I.remaining input) (λ bytes. LIMIT < length bytes → (result ≡ 1) × (out.new ≡ out.old)) }
-    ensures done { IfSome (I.remaining input) (λ bytes. result ≡ 0 → AreDone (script_in (lines_in bytes)) (O.contents out.old) (O.contents out.new)) }
+    ensures large { IfSome (I.remaining input)
+        (λ bytes. LIMIT < length bytes → (result ≡ 1) × (out.new ≡ out.old)) }
+    ensures done { IfSome (I.remaining input) (λ bytes. result ≡ 0 →
+        AreDone (script_in (lines_in bytes)) (O.contents out.old) (O.contents out.new)) }
     ensures stopped { IfSome (I.remaining input) (λ bytes. result ≢ 0
-        → StopsAmong (script_in (lines_in bytes)) (O.contents out.old) (O.contents out.new) ⊎ (out.new ≡ out.old)) }
+        → StopsAmong (script_in (lines_in bytes)) (O.contents out.old) (O.contents out.new)
+        ⊎ (out.new ≡ out.old)) }
     ensures silent { result ≡ 0 → err.new ≡ err.old }
 {
     match read_text(rt.alloc(), input) {
@@ -39,7 +42,8 @@ pub fn commands<R: Files + AllocGlobal, I: Read + Drop, O: Write, E: Write>(
 
 // The text that a reader gives.
 fn read_text<I: Read + Drop>(alloc: Global, input: I) -> Result<String, InputFault>
-    ensures { IfOk result (λ text. IfSome (I.remaining input) (λ bytes. (length bytes ≤ LIMIT) × (string_bytes text ≡ bytes))) }
+    ensures { IfOk result (λ text. IfSome (I.remaining input)
+        (λ bytes. (length bytes ≤ LIMIT) × (string_bytes text ≡ bytes))) }
 {
     let mut bytes = Vec::new(alloc);
     input
@@ -53,7 +57,8 @@ fn read_text<I: Read + Drop>(alloc: Global, input: I) -> Result<String, InputFau
 fn text_of(bytes: Vec<u8>) -> Result<String, InputFault>
     ensures ok { IfOk result (λ text. string_bytes text ≡ bytes.items) }
     ensures large { IsErrOf result InputFault.TooLarge ↔ (LIMIT < length bytes.items) }
-    ensures read { IsErrOf result InputFault.Read ↔ ((length bytes.items ≤ LIMIT) × (¬ (IsUtf8 bytes.items))) }
+    ensures read { IsErrOf result InputFault.Read
+        ↔ ((length bytes.items ≤ LIMIT) × (¬ (IsUtf8 bytes.items))) }
 {
     if bytes.len() > LIMIT {
         return Err(InputFault::TooLarge);
@@ -68,8 +73,10 @@ fn perform_text<R: Files + AllocGlobal, O: Write, E: Write>(
     err: &mut E,
 ) -> u8
     ensures status { result ≤ 2 }
-    ensures done { result ≡ 0 → AreDone (script_in (lines_in text.now)) (O.contents out.old) (O.contents out.new) }
-    ensures stopped { result ≢ 0 → StopsAmong (script_in (lines_in text.now)) (O.contents out.old) (O.contents out.new) ⊎ (out.new ≡ out.old) }
+    ensures done { result ≡ 0 →
+        AreDone (script_in (lines_in text.now)) (O.contents out.old) (O.contents out.new) }
+    ensures stopped { result ≢ 0 → StopsAmong (script_in (lines_in text.now)) (O.contents out.old)
+        (O.contents out.new) ⊎ (out.new ≡ out.old) }
     ensures silent { result ≡ 0 → err.new ≡ err.old }
 {
     match script_of(rt.alloc(), text) {
@@ -86,8 +93,10 @@ fn perform_lines<R: Files + AllocGlobal, O: Write, E: Write>(
 ) -> u8
     ensures status { result ≤ 2 }
     ensures none { lines.now ≡ [] → (result ≡ 0) × (out.new ≡ out.old) }
-    ensures done { result ≡ 0 → AreDone (map (λ words. map (λ word. word.now) words.items) lines.now) (O.contents out.old) (O.contents out.new) }
-    ensures stopped { result ≢ 0 → StopsAmong (map (λ words. map (λ word. word.now) words.items) lines.now) (O.contents out.old) (O.contents out.new) }
+    ensures done { result ≡ 0 → AreDone (map (λ words. map
+        (λ word. word.now) words.items) lines.now) (O.contents out.old) (O.contents out.new) }
+    ensures stopped { result ≢ 0 → StopsAmong (map (λ words. map
+        (λ word. word.now) words.items) lines.now) (O.contents out.old) (O.contents out.new) }
     ensures silent { result ≡ 0 → err.new ≡ err.old }
 {
     for words in lines {
@@ -101,7 +110,8 @@ fn perform_lines<R: Files + AllocGlobal, O: Write, E: Write>(
 
 // The words of each line that isn't empty.
 fn script_of<'a>(alloc: Global, text: &'a str) -> Result<Vec<Vec<&'a str>>, AllocError>
-    ensures { IfOk result (λ script. map (λ words. map (λ word. word.now) words.items) script.items ≡ script_in (lines_in text.now)) }
+    ensures { IfOk result (λ script. map (λ words. map (λ word. word.now) words.items) script.items
+        ≡ script_in (lines_in text.now)) }
 {
     let lines = lines_of(alloc, text)?;
     words_of_lines(alloc, lines.as_slice())
@@ -109,7 +119,8 @@ fn script_of<'a>(alloc: Global, text: &'a str) -> Result<Vec<Vec<&'a str>>, Allo
 
 // The words of each of these lines that isn't empty.
 fn words_of_lines<'a>(alloc: Global, lines: &[&'a str]) -> Result<Vec<Vec<&'a str>>, AllocError>
-    ensures { IfOk result (λ script. map (λ words. map (λ word. word.now) words.items) script.items ≡ script_in (map (λ line. line.now) lines.now)) }
+    ensures { IfOk result (λ script. map (λ words. map (λ word. word.now) words.items) script.items
+        ≡ script_in (map (λ line. line.now) lines.now)) }
 {
     let mut script = Vec::new(alloc);
     for line in lines {

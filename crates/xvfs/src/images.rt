@@ -19,13 +19,13 @@ use scripts::processes;
 use std::io::Write;
 use std::rt::Files;
 
-/// Makes an image of `size` blocks of 1024 bytes with `ninodes` inode numbers in a file at this path,
-/// and prints its numbers.
+/// Makes an image of `size` blocks of 1024 bytes with `ninodes` inode numbers in a file at this
+/// path, and prints its numbers.
 ///
 /// # Errors
 ///
-/// A fault of `plan`, and then the file at the path is as it was; else one of `FileDisk::create` or of
-/// `make_disk`.
+/// A fault of `plan`, and then the file at the path is as it was; else one of `FileDisk::create` or
+/// of `make_disk`.
 pub fn make_file<R: Files + AllocGlobal, O: Write>(
     rt: &R,
     image: &str,
@@ -33,11 +33,14 @@ pub fn make_file<R: Files + AllocGlobal, O: Write>(
     ninodes: u32,
     out: &mut O,
 ) -> Result<(), Refusal>
-    ensures printed { OnOk result (Appends (O.contents out.old) (O.contents out.new) (numbers_text (planned_super size ninodes))) }
+    ensures printed { OnOk result (Appends (O.contents out.old) (O.contents out.new)
+        (numbers_text (planned_super size ninodes))) }
     ensures silent { IfErr result (λ r. r ≢ refusal.Output → out.new ≡ out.old) }
     ensures layers { IfErr result IsOfMkfs }
-    ensures inodes { IsErrOf result (refusal.Mkfs fault.InodeRange) ↔ (is_inode_count ninodes ≡ false) }
-    ensures size { IsErrOf result (refusal.Mkfs fault.SizeRange) ↔ (IsTrue (is_inode_count ninodes) × (is_size size ninodes ≡ false)) }
+    ensures inodes { IsErrOf result (refusal.Mkfs fault.InodeRange)
+        ↔ (is_inode_count ninodes ≡ false) }
+    ensures size { IsErrOf result (refusal.Mkfs fault.SizeRange)
+        ↔ (IsTrue (is_inode_count ninodes) × (is_size size ninodes ≡ false)) }
 {
     plan(size, ninodes).map_err(Refusal::Mkfs)?;
     let mut disk = FileDisk::create(rt, image, size).map_err(Refusal::File)?;
@@ -49,8 +52,8 @@ pub fn make_file<R: Files + AllocGlobal, O: Write>(
 ///
 /// # Errors
 ///
-/// A fault of `FileDisk::open` or of `check_disk`. Which it is, and the numbers, follow from the file's
-/// bytes, which no contract here can name: `check_disk` promises them of a disk.
+/// A fault of `FileDisk::open` or of `check_disk`. Which it is, and the numbers, follow from the
+/// file's bytes, which no contract here can name: `check_disk` promises them of a disk.
 pub fn check_file<R: Files + AllocGlobal, O: Write>(
     rt: &R,
     image: &str,
@@ -64,8 +67,8 @@ pub fn check_file<R: Files + AllocGlobal, O: Write>(
     check_disk(rt.alloc(), &mut disk, out)
 }
 
-/// Checks the image in the file at this path, copies the blocks of its log home, and prints how many
-/// these were.
+/// Checks the image in the file at this path, copies the blocks of its log home, and prints how
+/// many these were.
 ///
 /// # Errors
 ///
@@ -83,9 +86,9 @@ pub fn recover_file<R: Files + AllocGlobal, O: Write>(
     recover_disk(rt.alloc(), &mut disk, out)
 }
 
-/// Recovers the image in the file at this path, and makes the operations of a script in the turns of
-/// a schedule, as `replay_disk`. With `stop` the write of this number, from 1, is not made, and ends
-/// the run.
+/// Recovers the image in the file at this path, and makes the operations of a script in the turns
+/// of a schedule, as `replay_disk`. With `stop` the write of this number, from 1, is not made, and
+/// ends the run.
 ///
 /// # Errors
 ///
@@ -98,9 +101,11 @@ pub fn replay_files<R: Files + AllocGlobal, O: Write>(
     stop: Option<u64>,
     out: &mut O,
 ) -> Result<(), Refusal>
-    ensures printed { OnOk result ((words : List Word) × PrintsRun (unwrap_or stop 0) words (O.contents out.old) (O.contents out.new)) }
+    ensures printed { OnOk result ((words : List Word)
+        × PrintsRun (unwrap_or stop 0) words (O.contents out.old) (O.contents out.new)) }
     ensures layers { IfErr result IsOfReplay }
-    ensures refused { IfErr result (λ r. OnRefusal r ((words : List Word) × PrintsRun (unwrap_or stop 0) words (O.contents out.old) (O.contents out.new)) (out.new ≡ out.old)) }
+    ensures refused { IfErr result (λ r. OnRefusal r ((words : List Word) × PrintsRun
+        (unwrap_or stop 0) words (O.contents out.old) (O.contents out.new)) (out.new ≡ out.old)) }
 {
     let tasks = script_from(rt, script).map_err(Refusal::Script)?;
     let processes = processes(tasks.as_slice());

@@ -13,11 +13,12 @@ use std::rt::Files;
 ///
 /// # Errors
 ///
-/// `File` where the file can't be read; else a fault of `player::script_from`. No contract of std says
-/// which bytes a path's file has.
+/// `File` where the file can't be read; else a fault of `player::script_from`. No contract of std
+/// says which bytes a path's file has.
 pub fn script_from<R: Files + AllocGlobal>(rt: &R, path: &str) -> Result<Vec<Task>, ScriptFault>
     ensures tasks { IfOk result (λ tasks. (text : List ℕ) × IsScriptOf text tasks.items) }
-    ensures fault { IfErr result (λ fault. IsUnreadScript fault ⊎ ((text : List ℕ) × (script_fault text ≡ Some fault))) }
+    ensures fault { IfErr result
+        (λ fault. IsUnreadScript fault ⊎ ((text : List ℕ) × (script_fault text ≡ Some fault))) }
     ensures processes { IfOk result (λ tasks. All (λ task. task.pid < 32) tasks.items) }
     ensures creations { IfOk result (λ tasks. first_other tasks.items ≡ None) }
 {
@@ -35,9 +36,12 @@ pub fn schedule_from<R: Files + AllocGlobal>(
     path: &str,
     processes: u32,
 ) -> Result<Vec<Word>, ScheduleFault>
-    ensures words { IfOk result (λ words. (text : List ℕ) × IsScheduleOf processes text words.items) }
-    ensures processes { IfOk result (λ words. IsTrue (list_all (is_word_of processes) words.items)) }
-    ensures fault { IfErr result (λ fault. IsUnread fault ⊎ ((text : List ℕ) × (fault_of processes text ≡ Some fault))) }
+    ensures words { IfOk result
+        (λ words. (text : List ℕ) × IsScheduleOf processes text words.items) }
+    ensures processes { IfOk result
+        (λ words. IsTrue (list_all (is_word_of processes) words.items)) }
+    ensures fault { IfErr result
+        (λ fault. IsUnread fault ⊎ ((text : List ℕ) × (fault_of processes text ≡ Some fault))) }
 {
     let file = File::open(rt, path).map_err(|error| schedule_unread(error))?;
     player::schedule_from(rt.alloc(), file, processes)

@@ -47,8 +47,8 @@ pub enum Request<'a> {
 ///
 /// # Errors
 ///
-/// What clap answers: a mistake in the words, the text of help or of the version, or want of memory.
-/// How it reads words is clap's definition, at this program's command line.
+/// What clap answers: a mistake in the words, the text of help or of the version, or want of
+/// memory. How it reads words is clap's definition, at this program's command line.
 pub fn parse<'a, S: AsStr>(alloc: Global, words: &'a [S]) -> Result<Request<'a>, Error>
     ensures ok { IfOk result (AskFor (map S.text words.entry.now)) }
     ensures err { IfErr result (IsMistakeIn (map S.text words.entry.now)) }

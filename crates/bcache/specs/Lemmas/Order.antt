@@ -83,6 +83,17 @@ below_length n (a ∷ o) = let rest = below_length n o in elim (cases_Bool (ltb 
   | inr over ↦ rw over (omega arith)
 ]
 
+-- where each number below n stands in a list, the list is at least so long
+pub counted_below : (n : ℕ) (o : List ℕ) → ((b : ℕ) → b < n → count_of b o ≢ 0) → n ≤ length o
+counted_below n o some = let le = below_length n o in let more = below_some n (omega arith) in omega arith
+  where
+    below_some : (k : ℕ) → k ≤ n → k ≤ below_count k o
+    below_some zero le = omega arith
+    below_some (suc k) le =
+        let rest = below_some k (omega arith) in
+        let more = below_more k o in
+        let one = some k (omega arith) in omega arith
+
 below_all : (n : ℕ) (o : List ℕ) (k : ℕ) → below_count n o ≡ length o → k < length o → get_or o k 0 < n
 unfolding below_count
 below_all n [] k all lt = absurd (omega arith)

@@ -34,9 +34,16 @@ some_step place.Nowhere n unfinished = absurd (false≢true (sym unfinished))
 some_step (place.Creating m) n unfinished = let one = one_look m.slot in omega (arith, one)
 
 -- a task that begins
-pub few_at_first : (x : Image) (op : Op) (n : ℕ) → IsLawfulGeometry x → n ≡ inode_count_of x → CanBegin op → steps_left (first_place op n) n < 1937
-few_at_first x op n geometry numbers can = let few = (facts_of x geometry).few in few_steps (first_place op n) n (omega (arith, few, numbers))
+pub few_at_first : (x : Image) (op : Op) (n : ℕ) → IsLawfulGeometry x → n ≡ inode_count_of x →
+    CanBegin op → steps_left (first_place op n) n < 1937
+few_at_first x op n geometry numbers can =
+    let few = (facts_of x geometry).few in
+    few_steps (first_place op n) n (omega (arith, few, numbers))
 
 -- and any that a store has
-pub few_in_task : (x : Image) (c : Buffers) (l : LogState) (n p : ℕ) (ts : List TaskState) → IsLawfulGeometry x → n ≡ inode_count_of x → Agrees c l n ts → steps_left (task ts p).place n < 1937
-few_in_task x c l n p ts geometry numbers agrees = let few = (facts_of x geometry).few in few_steps (task ts p).place n (omega (arith, few, numbers))
+pub few_in_task : (x : Image) (c : Buffers) (l : LogState) (n p : ℕ) (ts : List TaskState) →
+    IsLawfulGeometry x → n ≡ inode_count_of x → Agrees c l n ts →
+    steps_left (task ts p).place n < 1937
+few_in_task x c l n p ts geometry numbers agrees =
+    let few = (facts_of x geometry).few in
+    few_steps (task ts p).place n (omega (arith, few, numbers))

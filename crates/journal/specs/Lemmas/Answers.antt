@@ -70,7 +70,7 @@ owed_given w p k begun a answer h shape none tells is =
 pub history_given : (w : World) (p begun : ℕ) (a : At) (answer : Answer) (h : History) → last_answer w a ≡ Some answer → IsHistory w.journal.list a begun p h → IsHistory w.journal.list at.Idle begun p (gives answer h)
 history_given w p begun at.Idle answer h tells is = absurd (cc tells)
 history_given w p begun (at.Before group op) answer h tells is = absurd (cc tells)
-history_given w p begun (at.Behind group k) answer h tells is = absurd (cc tells)
+history_given w p begun (at.Behind group k) answer h tells is = owed_given w p k begun (at.Behind group k) answer h refl refl tells is
 history_given w p begun (at.Ending group k) answer h tells is = owed_given w p k begun (at.Ending group k) answer h refl refl tells is
 history_given w p begun (at.Committing group k) answer h tells is = owed_given w p k begun (at.Committing group k) answer h refl refl tells is
 

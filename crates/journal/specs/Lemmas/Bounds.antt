@@ -43,7 +43,7 @@ most_writes commit.Heading n le = omega (arith, le)
 most_writes (commit.Homing i) n le = omega (arith, le)
 most_writes commit.Clearing n le = omega arith
 
-some_write : (k : Commit) (n : ℕ) → is_quiet k ≡ false → 0 < writes_left k n
+pub some_write : (k : Commit) (n : ℕ) → is_quiet k ≡ false → 0 < writes_left k n
 some_write commit.Quiet n busy = absurd (false≢true (sym busy))
 some_write (commit.Logging i) n busy = omega arith
 some_write commit.Heading n busy = omega arith

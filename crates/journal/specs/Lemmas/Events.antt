@@ -14,13 +14,13 @@ use Rattle.model.specs.Tasks.{Marks}
 use Rattle.model.specs.Lemmas.FileNumbers.{length-files_of, file_in-files_of_zero}
 use Rattle.model.specs.Lemmas.Runs.{at_once_is_not_changing}
 use Rattle.wal.specs.Machine.{LogState, SameGroups}
+use Rattle.journal.specs.Journal.{entry_of}
 use Rattle.journal.specs.declared.types.At.{At}
 use Rattle.journal.specs.declared.types.At.TheVariants as at
 use Rattle.journal.specs.AtOnce.{at_once_reply}
 use Rattle.journal.specs.Crash.{Survives}
 use Rattle.journal.specs.Follows.{Follows, IsJournal}
 use Rattle.journal.specs.Open.{Held, number_of, IsEntry, told}
-use Rattle.journal.specs.Next.{entry_of}
 use Rattle.journal.specs.Views.{View, InGroup, IsIn, HasEntry, StandsAt, IsValidView, KernelFacts, LeavesRest, Moves, Takes, Turns, Opens, Decides, Leaves}
 use Rattle.journal.specs.Lemmas.AtOnce.{at_once_apart, at_once_takes, unmade}
 use Rattle.journal.specs.Lemmas.Following.{answered_some, follows_moved, follows_left, follows_turned, follows_opened, follows_told}

@@ -13,13 +13,14 @@ use Rattle.model.specs.declared.types.operations.TaskProgress.TheVariants as pro
 use Rattle.model.specs.Journal.{is_at_once}
 use Rattle.model.specs.Layout.{form_of, inode_count_of}
 use Rattle.ports.specs.History.{History, gives}
+use Rattle.journal.specs.Journal.{entry_of}
 use Rattle.journal.specs.declared.types.At.{At}
 use Rattle.journal.specs.declared.types.At.TheVariants as at
 use Rattle.journal.specs.AtOnce.{at_once_reply}
 use Rattle.journal.specs.Bound.{is_busy_at}
 use Rattle.journal.specs.Grows.{IsLonger, IsTold, JournalGoes}
 use Rattle.journal.specs.Histories.{entry_answer, IsHistory}
-use Rattle.journal.specs.Next.{entry_of, TaskNext}
+use Rattle.journal.specs.Next.{TaskNext}
 use Rattle.journal.specs.Open.{IsEntry, told}
 use Rattle.journal.specs.Views.{View, StandsAt, IsValidView, KernelFacts}
 use Rattle.journal.specs.Lemmas.Events.{at_once_still, inv_moved, inv_turned, inv_turned_over, inv_opened, inv_decided, inv_ending, inv_over, inv_read, later_group, mine_is, changing_later}

@@ -6,6 +6,7 @@ use Rattle.blocks.specs.declared.errors.DiskFault.{DiskFault}
 use Rattle.model.specs.declared.types.operations.Entry.{Entry}
 use Rattle.model.specs.declared.types.operations.Reply.{Reply}
 use Rattle.model.specs.Agreement.{IsSameOutsideLog}
+use Rattle.model.specs.Lemmas.OutsideLog.{cleared_outside}
 use Rattle.model.specs.Crash.{IsUntouched, Keeps, labels_of, due_labels}
 use Rattle.model.specs.Files.{Files, files_of}
 use Rattle.model.specs.Journal.{kept, is_changing, is_number, is_making, replay}
@@ -26,7 +27,7 @@ use Rattle.journal.specs.Crash.{HasMarks, Survives, StoreLaws}
 use Rattle.journal.specs.Follows.{Follows}
 use Rattle.journal.specs.Keeps.{AreUpTo, HasFilesAfter, most_kept, KeepsBetween, KeepsNow}
 use Rattle.journal.specs.Open.{Held, IsEntry, told}
-use Rattle.journal.specs.Lemmas.Elsewhere.{same_cleared, map_alike, map_behind, marks_elsewhere, marks_of, after_elsewhere, unclear, after_none}
+use Rattle.journal.specs.Lemmas.Elsewhere.{map_alike, map_behind, marks_elsewhere, marks_of, after_elsewhere, unclear, after_none}
 use Rattle.journal.specs.Lemmas.Groups.{open_now}
 use Rattle.journal.specs.Lemmas.Kept.{kept_still}
 use Rattle.journal.specs.Lemmas.Making.{makes, makes_more, makes_told, due_kept}
@@ -126,7 +127,7 @@ quiet_files opening current l holds fit es f all marks store is none =
     let run : replay (form_of opening) (files_of opening) (kept (inode_count_of opening) es l.opened) ≡ Some f.files
     = ap (λ (k : ℕ). replay (form_of opening) (files_of opening) (kept k es l.opened)) (sym (length-files_of opening))
     ∙ quiet_replays (form_of opening) (files_of opening) holds fit l.opened es f (nobody_writes current l holds fit store is none) (file_in-files_of_zero opening) all in
-    let m = marks_elsewhere opening es current (cleared current) (same_cleared current) (map_alike current (cleared current) (same_cleared current) (map_behind (cleared current) q.0)) marks in
+    let m = marks_elsewhere opening es current (cleared current) (cleared_outside current) (map_alike current (cleared current) (cleared_outside current) (map_behind (cleared current) q.0)) marks in
     record {
       size = m.size;
       sound = q.0;
@@ -185,7 +186,7 @@ module _ (opening x current : Image) (l : LogState) (es : List Entry) (r : Survi
   -- a write
   pub commit_goes : (y next : Image) (m : LogState) → m ≡ written_at l.commit l → KeepsCommitted l.commit x current y → IsSameOutsideLog current next → is_lawful_log y ≡ true → Survives opening y next m es
   commit_goes y next m is keeps same lawful = record {
-    marks = marks_elsewhere opening es current next same (map_alike current (cleared current) (same_cleared current) (map_behind (cleared current) now.sound)) r.marks;
+    marks = marks_elsewhere opening es current next same (map_alike current (cleared current) (cleared_outside current) (map_behind (cleared current) now.sound)) r.marks;
     lawful = lawful;
     committed = subst (λ (o : LogState). HasFilesAfter opening (entries o.committed) (recovered y)) (sym is) (after_write l.commit y keeps);
   }

@@ -126,7 +126,7 @@ no_names : (x : Image) (form : Form) → names_along x (depths form) (replicate 
 no_names x One = refl
 no_names x Two = refl
 
-free_file : (x : Image) (i : ℕ) → 0 < i → (inode_of x i).kind ≡ 0 → file_at x i ≡ None
+pub free_file : (x : Image) (i : ℕ) → 0 < i → (inode_of x i).kind ≡ 0 → file_at x i ≡ None
 unfolding file_of
 free_file x i some free = rw (ne_eqb i 0 (λ e. omega (arith, some, e)), eq-eqb (inode_of x i).kind 0 free) refl
 

@@ -16,7 +16,7 @@ use Rattle.model.specs.Soundness.{IsLawfulGeometry, count_of}
 use Rattle.model.specs.Lemmas.Counts.{count_flat}
 use Rattle.model.specs.Lemmas.Frames.{form_agree, pointers_agree, address_agree, file_agree}
 use Rattle.model.specs.Lemmas.OutsideLog.{flat_map_range_same}
-use Rattle.loose.specs.Loose.{IsLoose, IsFit, IsAtRest, Fits}
+use Rattle.loose.specs.Loose.{LiesInData, IsLoose, IsFit, IsAtRest, Fits}
 
 -- ---- numbers that stand in a list
 
@@ -42,7 +42,7 @@ AllByRecursion-counted P (a ∷ xs) each = (
 -- ---- what an inode names is owned, and lies among the data
 
 pub named_in_data : (m : Files) (x : Image) (i b : ℕ) → Fits m x → 1 ≤ i → i < inode_count_of x →
-    1 ≤ count_of b (addresses_in (pointers_of x i)) → (first_data_block x ≤ b) × (b < length x)
+    1 ≤ count_of b (addresses_in (pointers_of x i)) → LiesInData x b
 named_in_data m x i b f low high some =
     let few : count_of b (addresses_in (pointers_of x i)) ≤ count_of b (places_of x) =
     count_flat (λ j. addresses_in (pointers_of x j)) b 1 (inode_count_of x - 1) i low (omega arith) in

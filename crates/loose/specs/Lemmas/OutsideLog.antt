@@ -1,7 +1,5 @@
 -- The log has no part in which files an image stands for.
-use Rattle.std.proofs.Common.{◌≡◌, ◌≢◌, ℕ, ◌<◌, true, [], length, refl, sym, ap, subst, ◌∙◌, arith}
-use Rattle.std.proofs.lemmas.List.{length-set, get_or-set_other}
-use Rattle.blocks.specs.Block.{zero_block}
+use Rattle.std.proofs.Common.{◌≡◌, ℕ, ◌<◌, length, refl, sym, ap, subst, ◌∙◌, arith}
 use Rattle.blocks.specs.Disk.{Image}
 use Rattle.model.specs.declared.types.image.Super.{Super}
 use Rattle.model.specs.Agreement.{Agrees, IsSameOutsideLog, is_outside_log}
@@ -10,7 +8,7 @@ use Rattle.model.specs.Layout.{super_of, inode_count_of, inode_of, inode_in, ino
 use Rattle.model.specs.Log.{cleared}
 use Rattle.model.specs.Places.{places_of}
 use Rattle.model.specs.Lemmas.Log.{none_cleared}
-use Rattle.model.specs.Lemmas.OutsideLog.{behind_log}
+use Rattle.model.specs.Lemmas.OutsideLog.{behind_log, cleared_outside}
 use Rattle.model.specs.Lemmas.Soundness.{facts_of, long_geometry}
 use Rattle.loose.specs.Laws.{FitsOutsideLog, FitsWhenCleared}
 use Rattle.loose.specs.Loose.{IsLoose, Fits}
@@ -58,16 +56,6 @@ fits_outside m x y same f =
           rest_alike is_outside_log x y i (file_in m i) (inode_outside x y i agree)
           (agrees_for is_outside_log m x y i f data_same low inside) (f.each i low inside);
     }
-
--- the header lies in the log
-header_inside : (b : ℕ) → is_outside_log b ≡ true → b ≢ 2
-header_inside b out same = absurd (cc (subst (λ (a : ℕ). is_outside_log a ≡ true) same out))
-
-pub cleared_outside : (x : Image) → IsSameOutsideLog x (cleared x)
-cleared_outside x = record {
-  size = length-set x 2 zero_block;
-  agree = λ b out. get_or-set_other x 2 b zero_block [] (header_inside b out);
-}
 
 pub sound_cleared : FitsWhenCleared
 sound_cleared m x f =

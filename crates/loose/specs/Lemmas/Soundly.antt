@@ -8,7 +8,7 @@ use Rattle.std.proofs.lemmas.List.FromFn.{fill_by_all}
 use Rattle.blocks.specs.Disk.{Image, IsImage, block_at}
 use Rattle.model.specs.Fields.{words_of}
 use Rattle.model.specs.Files.{Files, file_in, file_at, files_of}
-use Rattle.model.specs.Layout.{form_of, inode_of, inode_block, inode_count_of, first_data_block}
+use Rattle.model.specs.Layout.{form_of, inode_of, inode_block, inode_count_of}
 use Rattle.model.specs.Places.{pointers_of, places_of, addresses_in}
 use Rattle.model.specs.Soundness.{IsSound, IsLawfulInode, IsFilled}
 use Rattle.model.specs.Lemmas.Codecs.{length-words_of-block}
@@ -19,14 +19,11 @@ use Rattle.model.specs.Lemmas.Inodes.{is_dinode-inode_of}
 use Rattle.model.specs.Lemmas.Names.{pointers_named}
 use Rattle.model.specs.Lemmas.Soundness.{IsInData, facts_of, inode_in_data}
 use Rattle.loose.specs.Laws.{SoundFits, FitsSoundly}
-use Rattle.loose.specs.Loose.{IsLoose, IsFit, Fits}
+use Rattle.loose.specs.Loose.{LiesInData, IsLoose, IsFit, Fits}
 use Rattle.loose.specs.Lemmas.Frames.{AllByRecursion-counted, named_in_data}
 use Rattle.loose.specs.Lemmas.Wholes.{HasFew, whole_filled, filled_whole}
 
 -- ---- a sound image
-
-abbrev LiesInData : Image → ℕ → Type 0
-LiesInData x a = (first_data_block x ≤ a) × (a < length x)
 
 pub loose_sound : (x : Image) → IsSound x → IsLoose x (places_of x)
 loose_sound x sound = record {

@@ -191,7 +191,7 @@ room_of_form : (f : Form) → room_for (depths f) * 1024 ≡ greatest_size f
 room_of_form One = refl
 room_of_form Two = refl
 
-thirteen_depths : (f : Form) → length (depths f) ≡ 13
+pub thirteen_depths : (f : Form) → length (depths f) ≡ 13
 thirteen_depths One = refl
 thirteen_depths Two = refl
 

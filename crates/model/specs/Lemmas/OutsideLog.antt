@@ -3,6 +3,8 @@ use Rattle.std.proofs.Common.{◌≡◌, ◌≢◌, ℕ, zero, suc, ◌+◌, ◌
 use Rattle.std.specs.Prelude.{All}
 use Rattle.std.specs.List.{flat_map, list_all, range_with_len, AllByRecursion}
 use Rattle.std.proofs.lemmas.Bool.{ne_eqb, cases_eq, lt-ltb, le-ltb}
+use Rattle.std.proofs.lemmas.List.{length-set, get_or-set_other}
+use Rattle.blocks.specs.Block.{zero_block}
 use Rattle.blocks.specs.Disk.{Image, block_at}
 use Rattle.model.specs.declared.types.image.Form.{Form}
 use Rattle.model.specs.declared.types.image.Form.TheVariants.{One}
@@ -11,11 +13,11 @@ use Rattle.model.specs.declared.types.image.Pointer.{Pointer}
 use Rattle.model.specs.declared.types.image.Super.{Super}
 use Rattle.model.specs.Fields.{u32_at, has_bit}
 use Rattle.model.specs.Layout.{super_in, super_of, form_of, magic_of, is_lawful_super, inode_count_of, first_data_block, meta_count, inode_of, inode_in, inode_bytes_in, inode_block, is_marked}
-use Rattle.model.specs.Log.{logged_count, recovered}
+use Rattle.model.specs.Log.{logged_count, recovered, cleared}
 use Rattle.model.specs.Places.{pointers_in, pointers_of, places_of, addresses_in}
 use Rattle.model.specs.Files.{file_of, file_at, files_of}
 use Rattle.model.specs.Soundness.{IsSound, IsLawfulInode, IsFilled, count_of, place_count}
-use Rattle.model.specs.Agreement.{Agrees, AgreesFor, is_outside_log}
+use Rattle.model.specs.Agreement.{Agrees, AgreesFor, IsSameOutsideLog, is_outside_log}
 use Rattle.model.specs.Laws.{SameOutsideLog, SameWhenRecovered}
 use Rattle.model.specs.Lemmas.Log.{length-recovered}
 use Rattle.model.specs.Lemmas.Recovery.{logged_count-left}
@@ -38,6 +40,17 @@ flat_map_range_same f g a (suc n) same =
 
 pub behind_log : (b : ℕ) → 33 ≤ b → is_outside_log b ≡ true
 behind_log b h = rw (le-ltb b 2 (omega arith), lt-ltb 32 b (omega arith)) refl
+
+-- the header lies in the log
+header_inside : (b : ℕ) → is_outside_log b ≡ true → b ≢ 2
+header_inside b out same = absurd (cc (subst (λ (a : ℕ). is_outside_log a ≡ true) same out))
+
+-- clearing it leaves the rest
+pub cleared_outside : (x : Image) → IsSameOutsideLog x (cleared x)
+cleared_outside x = record {
+  size = length-set x 2 zero_block;
+  agree = λ b out. get_or-set_other x 2 b zero_block [] (header_inside b out);
+}
 
 -- data blocks lie behind the log
 data_behind : (x : Image) (addresses : List ℕ) → AllByRecursion (IsInData x) addresses → list_all is_outside_log addresses ≡ true

@@ -10,7 +10,7 @@ returns-in_err-write_block-clause-order g c =
     let made = c.in_ok-write_behind.ensures in
     let write = c.in_err-write_block.ensures.writes in
     part_more d.image d.moment d.leaves g.met.D.Disk.only_now image.size image.ninodes (image.size - 1) 1 c.args.disk.now c.write_behind.new.disk c.write_block.new.disk
-    c.requires.some (omega (arith, c.requires.some)) (order_last image.size c.requires.some) made.last write.err write.time made.order
+    c.requires.some (omega (arith, c.requires.some)) (order_last image.size c.requires.some) made.ok.last write.err write.time made.order
 
 pub returns-clause-made : goal.returns-clause-made
 returns-clause-made g c =
@@ -19,9 +19,9 @@ returns-clause-made g c =
     let made = c.in_ok-write_behind.ensures in
     let write = c.in_ok-write_block.ensures.writes in
     record {
-      image = last_made image.size image.ninodes (d.image c.args.disk.now) (d.image c.write_behind.new.disk) (d.image c.write_block.new.disk) made.image c.requires.some write.ok;
-      writes = write.writes ∙ ap one_more made.writes ∙ counted_all (d.write_count c.args.disk.now) image.size (omega (arith, c.requires.some));
-      faults = write.faults ∙ made.faults;
+      image = last_made image.size image.ninodes (d.image c.args.disk.now) (d.image c.write_behind.new.disk) (d.image c.write_block.new.disk) made.ok.image c.requires.some write.ok;
+      writes = write.writes ∙ ap one_more made.ok.writes ∙ counted_all (d.write_count c.args.disk.now) image.size (omega (arith, c.requires.some));
+      faults = write.faults ∙ made.ok.faults;
     }
 
 pub returns-clause-order : goal.returns-clause-order
@@ -31,4 +31,4 @@ returns-clause-order g c =
     let made = c.in_ok-write_behind.ensures in
     let write = c.in_ok-write_block.ensures.writes in
     part_more d.image d.moment d.leaves g.met.D.Disk.only_now image.size image.ninodes (image.size - 1) 1 c.args.disk.now c.write_behind.new.disk c.write_block.new.disk
-    c.requires.some (omega (arith, c.requires.some)) (order_last image.size c.requires.some) made.last (inr write.ok) write.time made.order
+    c.requires.some (omega (arith, c.requires.some)) (order_last image.size c.requires.some) made.ok.last (inr write.ok) write.time made.order

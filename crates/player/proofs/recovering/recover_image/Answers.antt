@@ -28,12 +28,12 @@ recover-requires g c =
 pub returns-in-Err-clause-refused : goal.returns-in-Err-clause-refused
 returns-in-Err-clause-refused g c =
     refused_by g.D.Disk.image g.D.Disk.fault_count ℕ c.args.disk.now c.check.new.disk c.recover.new.disk c.in-Err.fault c.in_ok-report.ensures.ok c.check.ensures.reads.image c.in_ok-report.ensures.faults
-    c.in-Err.ensures.disk c.in-Err.ensures.bad c.in-Err.ensures.refused
+    c.in-Err.ensures.refused.fault c.in-Err.ensures.refused.bad c.in-Err.ensures.refused.memory
 
 pub returns-in-Err-clause-any_moment : goal.returns-in-Err-clause-any_moment
 returns-in-Err-clause-any_moment g c =
-    opened_leaves g.D.Disk g.met.D.Disk.only_now c.args.disk.now c.check.new.disk c.recover.new.disk c.check.ensures.reads c.recover.ensures.any_moment
+    opened_leaves g.D.Disk g.met.D.Disk.only_now c.args.disk.now c.check.new.disk c.recover.new.disk c.check.ensures.reads c.recover.ensures.stops.any_moment
 
 pub returns-in-Ok-clause-any_moment : goal.returns-in-Ok-clause-any_moment
 returns-in-Ok-clause-any_moment g c =
-    opened_leaves g.D.Disk g.met.D.Disk.only_now c.args.disk.now c.check.new.disk c.recover.new.disk c.check.ensures.reads c.recover.ensures.any_moment
+    opened_leaves g.D.Disk g.met.D.Disk.only_now c.args.disk.now c.check.new.disk c.recover.new.disk c.check.ensures.reads c.recover.ensures.stops.any_moment

@@ -3,7 +3,7 @@ use Rattle.std.specs.List.{list_all}
 use Rattle.std.specs.Prelude.{IsTrue}
 use Rattle.scripts.specs.Schedule.{is_word_of}
 use Rattle.std.proofs.lemmas.Result.{IfErr-weaker, on_ok_weaker}
-use Rattle.player.proofs.Refused.{on_refusal}
+use Rattle.player.specs.Lemmas.Refusals.{on_refusal}
 use Rattle.player.proofs.Openings.{replayed}
 use Rattle.player.proofs.replaying.replay_disk.Goals as goal
 

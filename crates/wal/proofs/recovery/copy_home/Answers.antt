@@ -30,30 +30,24 @@ loop-k-init g c =
       in_order = started d.moment d.leaves old (IsRecoveredInPart x) (λ z now. copied_in_part x x z 0 (omega arith) (copied_none x) (c.requires.settled z now));
     }
 
-pub returns-in_err-write-clause-any_moment : goal.returns-in_err-write-clause-any_moment
-returns-in_err-write-clause-any_moment g c =
+pub returns-in_err-write-clause-stops : goal.returns-in_err-write-clause-stops
+returns-in_err-write-clause-stops g c =
     let d = g.D.Disk in
     let x = d.image c.args.disk.now in
     let kept = c.loop-k.invariant in
     let lt : c.loop-k.k < length (homes_of x) = omega (arith, ap length c.requires.homes) in
     let home : get_or c.args.homes.now c.loop-k.k 0 ≡ home_at x c.loop-k.k = ap (λ (l : List ℕ). get_or l c.loop-k.k 0) c.requires.homes in
     let before = λ (z : Image) (now : d.leaves c.read.new.self (d.moment c.read.new.self) z). kept.besides z (now_stays d.moment d.leaves c.loop-k.disk c.read.new.self (g.met.D.Disk.counts_now c.read.new.self) c.read.ensures.time z now) in
-    let read = stays d.moment d.leaves c.args.disk.now c.loop-k.disk c.read.new.self (RecoversAs x) kept.any_moment c.read.ensures.time in
-    goes_on d.moment d.leaves c.args.disk.now c.read.new.self c.write.new.self (RecoversAs x) read c.write.ensures.time
-    (λ z now. recovers_besides x z c.requires.lawful (copy_besides x c.loop-k.k _ _ _ _ lt home before c.write.ensures.crash z now))
-
-pub returns-in_err-write-clause-in_order : goal.returns-in_err-write-clause-in_order
-returns-in_err-write-clause-in_order g c =
-    let d = g.D.Disk in
-    let x = d.image c.args.disk.now in
-    let kept = c.loop-k.invariant in
-    let lt : c.loop-k.k < length (homes_of x) = omega (arith, ap length c.requires.homes) in
-    let home : get_or c.args.homes.now c.loop-k.k 0 ≡ home_at x c.loop-k.k = ap (λ (l : List ℕ). get_or l c.loop-k.k 0) c.requires.homes in
-    let read = stays d.moment d.leaves c.args.disk.now c.loop-k.disk c.read.new.self (IsRecoveredInPart x) kept.in_order c.read.ensures.time in
     let left = subst (λ (y : Image). IsOldOrNew y (get_or c.args.homes.now c.loop-k.k 0) c.read.new.into (d.image c.write.new.self)) c.in_ok-read.ensures.image c.in_err-write.ensures.err in
-    goes_on d.moment d.leaves c.args.disk.now c.read.new.self c.write.new.self (IsRecoveredInPart x) read c.write.ensures.time
-    (λ z now. written_in_part x (d.image c.loop-k.disk) (d.image c.write.new.self) z c.loop-k.k _ _ c.requires.lawful lt home kept.copied
-    (ap (slice_get (d.image c.loop-k.disk)) (sym c.log_block.ensures) ∙ c.in_ok-read.ensures.ok) left (g.met.D.Disk.only_now c.write.new.self z now))
+    record {
+      in_order = goes_on d.moment d.leaves c.args.disk.now c.read.new.self c.write.new.self (IsRecoveredInPart x)
+          (stays d.moment d.leaves c.args.disk.now c.loop-k.disk c.read.new.self (IsRecoveredInPart x) kept.in_order c.read.ensures.time) c.write.ensures.time
+          (λ z now. written_in_part x (d.image c.loop-k.disk) (d.image c.write.new.self) z c.loop-k.k _ _ c.requires.lawful lt home kept.copied
+          (ap (slice_get (d.image c.loop-k.disk)) (sym c.log_block.ensures) ∙ c.in_ok-read.ensures.ok) left (g.met.D.Disk.only_now c.write.new.self z now));
+      any_moment = goes_on d.moment d.leaves c.args.disk.now c.read.new.self c.write.new.self (RecoversAs x)
+          (stays d.moment d.leaves c.args.disk.now c.loop-k.disk c.read.new.self (RecoversAs x) kept.any_moment c.read.ensures.time) c.write.ensures.time
+          (λ z now. recovers_besides x z c.requires.lawful (copy_besides x c.loop-k.k _ _ _ _ lt home before c.write.ensures.crash z now));
+    }
 
 pub loop-k-preserved : goal.loop-k-preserved
 loop-k-preserved g c =

@@ -1,5 +1,6 @@
 use Rattle.std.proofs.lemmas.Result.{IfErr-weaker, on_ok_weaker}
-use Rattle.xvfs.proofs.Plays.{on_refusal, some_words}
+use Rattle.player.specs.Lemmas.Refusals.{on_refusal}
+use Rattle.xvfs.proofs.Plays.{some_words}
 use Rattle.xvfs.proofs.images.replay_files.Goals as goal
 
 pub returns-clause-printed : goal.returns-clause-printed

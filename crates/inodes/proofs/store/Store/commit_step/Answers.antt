@@ -15,33 +15,25 @@ invariant_of-self g c =
     let new = c.commit_step.new.self in
     let n = c.self.inside.inode_count in
     let well : old.fault ≡ None = search rules in
-    let e = c.commit_step.ensures in
+    let e = c.commit_step.ensures.commits in
     let super = e.current.agree 1 refl in
     record {
       few = c.self.invariant.few;
       geometry = geometry_kept (current_of image old) (current_of image new) e.current.size super c.self.invariant.geometry;
       numbers = c.self.invariant.numbers ∙ sym (count_kept (current_of image old) (current_of image new) super);
-      agrees = if_none new.fault (agrees_committed (header_block old.log.homes) (image old.device) (image new.device) old.buffers new.buffers old.log new.log c.commit_step.result n c.self.inside.tasks e.step e.locks (where_none old.fault well c.self.invariant.agrees));
+      agrees = if_none new.fault (agrees_committed (header_block old.log.homes) (image old.device) (image new.device) old.buffers new.buffers old.log new.log c.commit_step.result n c.self.inside.tasks e.write.step e.locks (where_none old.fault well c.self.invariant.agrees));
     }
 
 pub returns : goal.returns
 unfolding FitsFiles
 returns g c =
     let image = g.D.Disk.image in
-    let e = c.commit_step.ensures in
+    let e = c.commit_step.ensures.commits in
     let old = c.self.inside.volume in
     let s : StoreState _ = record { volume = old; tasks = c.self.inside.tasks; inode_count = c.self.inside.inode_count } in
     let t : StoreState _ = record { volume = c.commit_step.new.self; tasks = c.self.inside.tasks; inode_count = c.self.inside.inode_count } in
     let promise : Commits g.D.Disk s c.commit_step.result t = record {
-      step = e.step;
-      fault = e.fault;
-      name = e.name;
-      same = e.current;
-      time = e.time;
-      keeps = e.recovers;
-      lawful = e.lawful;
-      writes = e.writes;
-      faults = e.faults;
+      volume = e;
       files = λ m fits. fits_outside m (current_of image old) (current_of image c.commit_step.new.self) e.current fits;
       tasks = refl;
       numbers = refl;

@@ -1,7 +1,7 @@
 use Rattle.std.proofs.Common.{rules, ◌≡◌, ◌<◌, length, sym, subst, arith, List}
 use Rattle.std.specs.Prelude.{None, Some}
 use Rattle.model.specs.declared.types.operations.Reply.{Reply}
-use Rattle.inodes.specs.declared.progress.Progress.TheVariants as progress
+use Rattle.blockmap.specs.declared.progress.Progress.TheVariants as progress
 use Rattle.model.specs.declared.types.operations.TaskProgress.TheVariants as task_progress
 use Rattle.inodes.specs.declared.tasks.Place.TheVariants as place
 use Rattle.inodes.specs.Tasks.{TaskState, task}
@@ -32,7 +32,7 @@ invariant_of-self g c =
     let stood : (task c.self.inside.tasks c.args.pid).place ≡ place.Creating c.args.search = search rules in
     let s : StoreState _ = record { volume = v; tasks = c.self.inside.tasks; inode_count = n } in
     subst (λ (ts : List TaskState). IsStore image (record { volume = c.step.new.volume; tasks = ts; inode_count = n })) (sym c.go.ensures)
-    (store_searched g.D.Disk s c.step.new.volume c.args.pid c.args.search c.step.new.self progress.Moved c.self.invariant well (where_none v.fault well c.image_known.ensures) lt stood c.in-Moved.ensures.search)
+    (store_searched g.D.Disk s c.step.new.volume c.args.pid c.args.search c.step.new.self progress.Moved c.self.invariant well (where_none v.fault well c.image_known.ensures) lt stood c.in-Moved.ensures)
 
 pub invariant_of-self-in-Over : goal.invariant_of-self-in-Over
 invariant_of-self-in-Over g c =
@@ -44,7 +44,7 @@ invariant_of-self-in-Over g c =
     let stood : (task c.self.inside.tasks c.args.pid).place ≡ place.Creating c.args.search = search rules in
     let s : StoreState _ = record { volume = v; tasks = c.self.inside.tasks; inode_count = n } in
     subst (λ (ts : List TaskState). IsStore image (record { volume = c.step.new.volume; tasks = ts; inode_count = n })) (sym c.go-in-Over.ensures)
-    (store_searched g.D.Disk s c.step.new.volume c.args.pid c.args.search c.step.new.self (progress.Over c.in-Over.made) c.self.invariant well (where_none v.fault well c.image_known.ensures) lt stood c.in-Over.ensures.search)
+    (store_searched g.D.Disk s c.step.new.volume c.args.pid c.args.search c.step.new.self (progress.Over c.in-Over.made) c.self.invariant well (where_none v.fault well c.image_known.ensures) lt stood c.in-Over.ensures)
 
 pub returns-in-Moved : goal.returns-in-Moved
 returns-in-Moved g c =
@@ -61,7 +61,7 @@ returns-in-Moved g c =
       step = λ op is. subst (λ (ts : List TaskState). Steps g.D.Disk c.args.self.now c.args.pid op (answer_of progress.Moved) (record { volume = c.step.new.volume; tasks = ts; inode_count = n })) (sym c.go.ensures)
           (subst (λ (k : StoreState _). Steps g.D.Disk k c.args.pid op (answer_of progress.Moved) (store_then s c.step.new.volume c.args.pid c.step.new.self progress.Moved)) c.self.view_is
           (search_steps g.D.Disk s c.step.new.volume c.args.pid c.args.search c.step.new.self op progress.Moved agrees c.self.invariant.numbers lt stood (subst (λ (k : StoreState _). (task k.tasks c.args.pid).op ≡ Some op) (sym c.self.view_is) is)
-          c.self.invariant.geometry (where_none v.fault well c.image_known.ensures) (omega (arith, lt, c.self.invariant.few, joint.log.pids)) e.step e.search));
+          c.self.invariant.geometry (where_none v.fault well c.image_known.ensures) (omega (arith, lt, c.self.invariant.few, joint.log.pids)) e));
     }
 
 pub returns-in-Sleeping : goal.returns-in-Sleeping
@@ -78,7 +78,7 @@ returns-in-Sleeping g c =
     record {
       step = λ op is. (subst (λ (k : StoreState _). Steps g.D.Disk k c.args.pid op (answer_of (progress.Sleeping c.in-Sleeping.why)) (store_then s c.step.new.volume c.args.pid c.step.new.self (progress.Sleeping c.in-Sleeping.why))) c.self.view_is
           (search_steps g.D.Disk s c.step.new.volume c.args.pid c.args.search c.step.new.self op (progress.Sleeping c.in-Sleeping.why) agrees c.self.invariant.numbers lt stood (subst (λ (k : StoreState _). (task k.tasks c.args.pid).op ≡ Some op) (sym c.self.view_is) is)
-          c.self.invariant.geometry (where_none v.fault well c.image_known.ensures) (omega (arith, lt, c.self.invariant.few, joint.log.pids)) e.step e.search));
+          c.self.invariant.geometry (where_none v.fault well c.image_known.ensures) (omega (arith, lt, c.self.invariant.few, joint.log.pids)) e));
     }
 
 pub returns-in-Over : goal.returns-in-Over
@@ -97,7 +97,7 @@ returns-in-Over g c =
           (subst (λ (ts : List TaskState). Steps g.D.Disk c.args.self.now c.args.pid op (answer_of (progress.Over c.in-Over.made)) (record { volume = c.step.new.volume; tasks = ts; inode_count = n })) (sym c.go-in-Over.ensures)
           (subst (λ (k : StoreState _). Steps g.D.Disk k c.args.pid op (answer_of (progress.Over c.in-Over.made)) (store_then s c.step.new.volume c.args.pid c.step.new.self (progress.Over c.in-Over.made))) c.self.view_is
           (search_steps g.D.Disk s c.step.new.volume c.args.pid c.args.search c.step.new.self op (progress.Over c.in-Over.made) agrees c.self.invariant.numbers lt stood (subst (λ (k : StoreState _). (task k.tasks c.args.pid).op ≡ Some op) (sym c.self.view_is) is)
-          c.self.invariant.geometry (where_none v.fault well c.image_known.ensures) (omega (arith, lt, c.self.invariant.few, joint.log.pids)) e.step e.search)));
+          c.self.invariant.geometry (where_none v.fault well c.image_known.ensures) (omega (arith, lt, c.self.invariant.few, joint.log.pids)) e)));
     }
 
 pub returns-in-Fault : goal.returns-in-Fault
@@ -114,5 +114,5 @@ returns-in-Fault g c =
     record {
       step = λ op is. (subst (λ (k : StoreState _). Steps g.D.Disk k c.args.pid op (answer_of (progress.Fault c.in-Fault.fault)) (store_then s c.step.new.volume c.args.pid c.step.new.self (progress.Fault c.in-Fault.fault))) c.self.view_is
           (search_steps g.D.Disk s c.step.new.volume c.args.pid c.args.search c.step.new.self op (progress.Fault c.in-Fault.fault) agrees c.self.invariant.numbers lt stood (subst (λ (k : StoreState _). (task k.tasks c.args.pid).op ≡ Some op) (sym c.self.view_is) is)
-          c.self.invariant.geometry (where_none v.fault well c.image_known.ensures) (omega (arith, lt, c.self.invariant.few, joint.log.pids)) e.step e.search));
+          c.self.invariant.geometry (where_none v.fault well c.image_known.ensures) (omega (arith, lt, c.self.invariant.few, joint.log.pids)) e));
     }

@@ -9,6 +9,6 @@ invariant_of-self g c =
     let ports = c.self.invariant.ports in
     record {
       right = c.self.invariant.right;
-      ports = ports_stay ghosts g.H.Herald k.intake c.poll.new.self k.herald k.herald k.store.volume.log.committed k.store.volume.log.committed k.processes k.processes ports c.poll.ensures.processes refl refl
-          (λ p busy. c.poll.ensures.room p (ports.room p busy)) c.poll.ensures.fits ports.told;
+      ports = ports_stay ghosts g.H.Herald k.intake c.poll.new.self k.herald k.herald k.store.volume.log.committed k.store.volume.log.committed k.processes k.processes ports c.poll.ensures.rest.processes refl refl
+          (λ p busy. c.poll.ensures.rest.room p (ports.room p busy)) c.poll.ensures.rest.fits ports.told;
     }

@@ -13,8 +13,8 @@ invariant_of-self g c =
     let ports = c.self.invariant.ports in
     record {
       right = c.self.invariant.right;
-      ports = ports_stay ghosts g.H.Herald k.intake c.submit.new.self k.herald k.herald k.store.volume.log.committed k.store.volume.log.committed k.processes k.processes ports c.submit.ensures.processes refl refl
-          (λ p busy. c.submit.ensures.room p (ports.room p busy)) c.submit.ensures.fits ports.told;
+      ports = ports_stay ghosts g.H.Herald k.intake c.submit.new.self k.herald k.herald k.store.volume.log.committed k.store.volume.log.committed k.processes k.processes ports c.submit.ensures.rest.processes refl refl
+          (λ p busy. c.submit.ensures.rest.room p (ports.room p busy)) c.submit.ensures.rest.fits ports.told;
     }
 
 pub returns-clause-number : goal.returns-clause-number
@@ -22,8 +22,8 @@ returns-clause-number g c =
     let lt : c.args.pid < length c.self.inside.processes.processes = search rules in
     let h = c.self.invariant.ports.histories c.args.pid lt in
     let begun = subst (λ (k : State _ _ _). (process k.world c.args.pid).begun ≡ length h.history.taken) c.self.view_is h.is.count in
-    where_both _ _ c.submit.result (let same = ap (λ (k : State _ _ _). length (waiting k.intake c.args.pid)) c.self.view_is in where_ok _ _ c.submit.result (λ n room. omega (arith, room, same)) c.submit.ensures.places)
-    (where_ok _ _ c.submit.result (λ n number. let here = number h.history h.fit in omega (arith, here, begun)) c.submit.ensures.number)
+    where_both _ _ c.submit.result (let same = ap (λ (k : State _ _ _). length (waiting k.intake c.args.pid)) c.self.view_is in where_ok _ _ c.submit.result (λ n handed. omega (arith, handed.places, same)) c.submit.ensures.ok)
+    (where_ok _ _ c.submit.result (λ n handed. let here = handed.number h.history h.fit in omega (arith, here, begun)) c.submit.ensures.ok)
 
 pub returns-clause-full : goal.returns-clause-full
 returns-clause-full g c =

@@ -1,16 +1,18 @@
 use Rattle.std.proofs.Common.{rules, refl, ◌≡◌, ◌<◌, ℕ, length, true, false, None, ap, subst, sym, ◌∙◌}
+use Rattle.std.specs.Prelude.{IsSome}
 use Rattle.wal.specs.declared.types.Committed.{Committed}
 use Rattle.wal.specs.declared.types.Committed.TheVariants as committed
 use Rattle.wal.specs.Machine.{LogState, is_quiet}
 use Rattle.wal.specs.Volume.{fault_of_step}
 use Rattle.inodes.specs.Lemmas.Faults.{where_none}
 use Rattle.inodes.specs.Steps.{Commits}
+use Rattle.inodes.specs.Store.{StoreState}
 use Rattle.inodes.specs.Tasks.{task}
 use Rattle.journal.specs.declared.types.At.{At}
 use Rattle.journal.specs.declared.types.At.TheVariants as at
 use Rattle.journal.specs.Alone.{is_committing_at}
 use Rattle.journal.specs.Lemmas.Alone.{goes_on, over_now, same_committed, durable_count}
-use Rattle.journal.specs.Processes.{World, process, answered}
+use Rattle.journal.specs.Processes.{World, process, last_answer}
 use Rattle.kernel.specs.declared.types.Step.TheVariants as step
 use Rattle.kernel.specs.Invariant.{IsRight, HasFacts, TaskStands}
 use Rattle.kernel.specs.State.{State}
@@ -21,153 +23,127 @@ use Rattle.kernel.proofs.Closing.{right_written, right_done, right_unwritten}
 use Rattle.journal.specs.Lemmas.Places.{committing_there}
 use Rattle.kernel.proofs.Ports.{ports_given, ports_counted, ports_stay}
 use Rattle.kernel.proofs.Right.{joint_now}
+use Rattle.kernel.proofs.stepping.Kernel.commit.Given.{Over}
+use Rattle.kernel.proofs.stepping.Kernel.commit.Goals.{After-known}
 use Rattle.kernel.proofs.stepping.Kernel.commit.Goals as goal
 
--- who commits has a commit under way
-has_busy : {D N : Type 0} (disk : Rattle.blocks.specs.declared.disk.Disk.Ghosts D N) (opening : D) (s : Rattle.inodes.specs.Store.StoreState D) (w : World) → IsRight disk opening s w → s.volume.fault ≡ None → (p : ℕ)
-    → is_committing_at (process w p).at ≡ true → is_quiet s.volume.log.commit ≡ false
-has_busy disk opening s w right well p commits = (where_none {T = HasFacts disk.image (disk.image opening) s w} s.volume.fault well right.facts).alone.busy p commits
+-- who makes a step of a commit: it stands so, a commit is under way, and it can be answered
+record Head {D : Type 0} (s : StoreState D) (w : World) (p : ℕ) : Type 0 where
+  well : s.volume.fault ≡ None
+  within : p < length w.processes
+  group : ℕ
+  place : ℕ
+  stands : (process w p).at ≡ at.Committing group place
+  busy : is_quiet s.volume.log.commit ≡ false
+  answer : IsSome (last_answer w (process w p).at)
 
--- and can be answered
-can_answer : {D N : Type 0} (disk : Rattle.blocks.specs.declared.disk.Disk.Ghosts D N) (opening : D) (s : Rattle.inodes.specs.Store.StoreState D) (w : World) → IsRight disk opening s w → s.volume.fault ≡ None → (p : ℕ)
-    → is_committing_at (process w p).at ≡ true → Rattle.std.specs.Prelude.IsSome (Rattle.journal.specs.Processes.last_answer w (process w p).at)
-can_answer disk opening s w right well p commits =
-    let there = committing_there (process w p).at commits in
-    let stands : TaskStands (task s.tasks p) (at.Committing there.0 there.1) = subst (λ (a : At). TaskStands (task s.tasks p) a) there.2 (right.paired.stand p) in
-    answer_commits disk opening s w p right well there.0 there.1 there.2 stands.1
+head : (g : Over) (c : After-known g) → Head c.self.inside.store c.self.inside.processes c.args.pid
+head g c =
+    let k = c.self.inside in
+    let disk = g.D.Disk in
+    let p = c.args.pid in
+    let right = c.self.invariant.right in
+    let well : k.store.volume.fault ≡ None = search rules in
+    let commits : is_committing_at (process k.processes p).at ≡ true = search rules in
+    let there = committing_there (process k.processes p).at commits in
+    let stands : TaskStands (task k.store.tasks p) (at.Committing there.0 there.1) = subst (λ (a : At). TaskStands (task k.store.tasks p) a) there.2 (right.paired.stand p) in
+    record {
+      well = well;
+      within = search rules;
+      group = there.0;
+      place = there.1;
+      stands = there.2;
+      busy = (where_none {T = HasFacts disk.image (disk.image k.opening.value) k.store k.processes} k.store.volume.fault well right.facts).alone.busy p commits;
+      answer = answer_commits disk k.opening.value k.store k.processes p right well there.0 there.1 there.2 stands.1;
+    }
 
 pub commit_step-committed-requires-clause-busy : goal.commit_step-committed-requires-clause-busy
-commit_step-committed-requires-clause-busy g c =
-    let k = c.self.inside in
-    let well : k.store.volume.fault ≡ None = search rules in
-    let commits : is_committing_at (process k.processes c.args.pid).at ≡ true = search rules in
-    has_busy g.D.Disk k.opening.value k.store k.processes c.self.invariant.right well c.args.pid commits
+commit_step-committed-requires-clause-busy g c = (head g (goal.at.commit_step-committed-requires-clause-busy g c).After-known).busy
 
 pub give-requires-clause-over : goal.give-requires-clause-over
-give-requires-clause-over g c =
-    let k = c.self.inside in
-    let well : k.store.volume.fault ≡ None = search rules in
-    let commits : is_committing_at (process k.processes c.args.pid).at ≡ true = search rules in
-    can_answer g.D.Disk k.opening.value k.store k.processes c.self.invariant.right well c.args.pid commits
+give-requires-clause-over g c = (head g (goal.at.give-requires-clause-over g c).After-known).answer
 
 pub invariant_of-self : goal.invariant_of-self
 invariant_of-self g c =
-    let k = c.self.inside in
-    let well : k.store.volume.fault ≡ None = search rules in
-    let lt : c.args.pid < length k.processes.processes = search rules in
-    let commits : is_committing_at (process k.processes c.args.pid).at ≡ true = search rules in
-    let there = committing_there (process k.processes c.args.pid).at commits in
-    let t = c.commit_step-committed.new.self in
-    let l = k.store.volume.log in
-    let busy : is_quiet l.commit ≡ false = has_busy g.D.Disk k.opening.value k.store k.processes c.self.invariant.right well c.args.pid commits in
+    let k = c.self.inside in let h = head g (goal.at.invariant_of-self g c).After-known in
+    let t = c.commit_step-committed.new.self in let l = k.store.volume.log in
     let made : Commits g.D.Disk k.store committed.More t = subst (λ (r : Committed). Commits g.D.Disk k.store r t) c.in-More.is c.commit_step-committed.ensures.commits in
-    let now : t.volume.fault ≡ fault_of_step committed.More = made.fault in
+    let now : t.volume.fault ≡ fault_of_step committed.More = made.volume.fault in
     record {
-      right = right_written g.D.Disk k.opening.value k.store k.processes c.self.invariant.right well c.args.pid lt there.0 there.1 there.2 t committed.More made g.met.D.Disk.has_now
-          (joint_now g.D.Disk.image t now c.known-2.ensures.volume) now made.step.1.log
-          (goes_on l.commit l l.opened busy (λ done. let both = sym made.step.0 ∙ done in absurd (cc both))) made.faults;
-      ports = ports_counted g.I.Intake g.H.Herald k.intake k.herald l.committed t.volume.log.committed k.processes c.self.invariant.ports (ap (λ (m : LogState). m.committed) made.step.1.log ∙ same_committed l.commit l l.opened (λ n durable. let both = sym made.step.0 ∙ durable in absurd (cc both)));
+      right = right_written g.D.Disk k.opening.value k.store k.processes c.self.invariant.right h.well c.args.pid h.within h.group h.place h.stands t committed.More made g.met.D.Disk.has_now
+          (joint_now g.D.Disk.image t now c.known-2.ensures.volume) now made.volume.write.step.1.log
+          (goes_on l.commit l l.opened h.busy (λ done. let both = sym made.volume.write.step.0 ∙ done in absurd (cc both))) made.volume.write.faults;
+      ports = ports_counted g.I.Intake g.H.Herald k.intake k.herald l.committed t.volume.log.committed k.processes c.self.invariant.ports (ap (λ (m : LogState). m.committed) made.volume.write.step.1.log ∙ same_committed l.commit l l.opened (λ n durable. let both = sym made.volume.write.step.0 ∙ durable in absurd (cc both)));
     }
 
 pub invariant_of-self-in-Durable : goal.invariant_of-self-in-Durable
 invariant_of-self-in-Durable g c =
-    let k = c.self.inside in
-    let well : k.store.volume.fault ≡ None = search rules in
-    let lt : c.args.pid < length k.processes.processes = search rules in
-    let commits : is_committing_at (process k.processes c.args.pid).at ≡ true = search rules in
-    let there = committing_there (process k.processes c.args.pid).at commits in
-    let t = c.commit_step-committed.new.self in
-    let l = k.store.volume.log in
-    let busy : is_quiet l.commit ≡ false = has_busy g.D.Disk k.opening.value k.store k.processes c.self.invariant.right well c.args.pid commits in
+    let k = c.self.inside in let h = head g (goal.at.invariant_of-self-in-Durable g c).After-known in
+    let t = c.commit_step-committed.new.self in let l = k.store.volume.log in
     let made : Commits g.D.Disk k.store (committed.Durable c.in-Durable.group) t = subst (λ (r : Committed). Commits g.D.Disk k.store r t) c.in-Durable.is c.commit_step-committed.ensures.commits in
-    let now : t.volume.fault ≡ fault_of_step (committed.Durable c.in-Durable.group) = made.fault in
+    let now : t.volume.fault ≡ fault_of_step (committed.Durable c.in-Durable.group) = made.volume.fault in
     record {
-      right = right_written g.D.Disk k.opening.value k.store k.processes c.self.invariant.right well c.args.pid lt there.0 there.1 there.2 t (committed.Durable c.in-Durable.group) made g.met.D.Disk.has_now
-          (joint_now g.D.Disk.image t now c.known-2.ensures.volume) now made.step.1.log
-          (goes_on l.commit l l.opened busy (λ done. let both = sym made.step.0 ∙ done in absurd (cc both))) made.faults;
-      ports = ports_stay g.I.Intake g.H.Herald k.intake k.intake k.herald c.durable.new.self l.committed t.volume.log.committed k.processes k.processes c.self.invariant.ports refl refl refl c.self.invariant.ports.room (λ p h fits. fits) (c.durable.ensures.count ∙ durable_count l t.volume.log c.in-Durable.group made.step.0 made.step.1.log);
+      right = right_written g.D.Disk k.opening.value k.store k.processes c.self.invariant.right h.well c.args.pid h.within h.group h.place h.stands t (committed.Durable c.in-Durable.group) made g.met.D.Disk.has_now
+          (joint_now g.D.Disk.image t now c.known-2.ensures.volume) now made.volume.write.step.1.log
+          (goes_on l.commit l l.opened h.busy (λ done. let both = sym made.volume.write.step.0 ∙ done in absurd (cc both))) made.volume.write.faults;
+      ports = ports_stay g.I.Intake g.H.Herald k.intake k.intake k.herald c.durable.new.self l.committed t.volume.log.committed k.processes k.processes c.self.invariant.ports refl refl refl c.self.invariant.ports.room (λ p h fits. fits) (c.durable.ensures.count ∙ durable_count l t.volume.log c.in-Durable.group made.volume.write.step.0 made.volume.write.step.1.log);
     }
 
 pub invariant_of-self-in-Done : goal.invariant_of-self-in-Done
 invariant_of-self-in-Done g c =
-    let k = c.self.inside in
-    let well : k.store.volume.fault ≡ None = search rules in
-    let lt : c.args.pid < length k.processes.processes = search rules in
-    let commits : is_committing_at (process k.processes c.args.pid).at ≡ true = search rules in
-    let there = committing_there (process k.processes c.args.pid).at commits in
-    let t = c.commit_step-committed.new.self in
-    let l = k.store.volume.log in
-    let busy : is_quiet l.commit ≡ false = has_busy g.D.Disk k.opening.value k.store k.processes c.self.invariant.right well c.args.pid commits in
+    let k = c.self.inside in let h = head g (goal.at.invariant_of-self-in-Done g c).After-known in
+    let t = c.commit_step-committed.new.self in let l = k.store.volume.log in
     let made : Commits g.D.Disk k.store committed.Done t = subst (λ (r : Committed). Commits g.D.Disk k.store r t) c.in-Done.is c.commit_step-committed.ensures.commits in
-    let now : t.volume.fault ≡ fault_of_step committed.Done = made.fault in
-    let some = can_answer g.D.Disk k.opening.value k.store k.processes c.self.invariant.right well c.args.pid commits in
-    let same : t.volume.log.committed ≡ l.committed = (ap (λ (m : LogState). m.committed) made.step.1.log ∙ same_committed l.commit l l.opened (λ n durable. let both = sym made.step.0 ∙ durable in absurd (cc both))) in
+    let now : t.volume.fault ≡ fault_of_step committed.Done = made.volume.fault in
+    let same : t.volume.log.committed ≡ l.committed = (ap (λ (m : LogState). m.committed) made.volume.write.step.1.log ∙ same_committed l.commit l l.opened (λ n durable. let both = sym made.volume.write.step.0 ∙ durable in absurd (cc both))) in
     record {
       right = subst (λ (w : World). IsRight g.D.Disk k.opening.value t w) (sym c.give.ensures.processes)
-          (right_done g.D.Disk k.opening.value k.store k.processes c.self.invariant.right well c.args.pid lt there.0 there.1 there.2 t committed.Done made g.met.D.Disk.has_now
-          (joint_now g.D.Disk.image t now c.known-2.ensures.volume) now made.step.1.log (over_now l.commit l l.opened made.step.0) made.faults);
+          (right_done g.D.Disk k.opening.value k.store k.processes c.self.invariant.right h.well c.args.pid h.within h.group h.place h.stands t committed.Done made g.met.D.Disk.has_now
+          (joint_now g.D.Disk.image t now c.known-2.ensures.volume) now made.volume.write.step.1.log (over_now l.commit l l.opened made.volume.write.step.0) made.volume.write.faults);
       ports = ports_given g.I.Intake g.H.Herald k.intake c.give.new.intake k.herald k.herald l.committed t.volume.log.committed k.processes c.give.new.processes c.args.pid
-          c.self.invariant.ports lt some c.give.ensures.processes c.give.ensures.gives (c.self.invariant.ports.told ∙ sym same);
+          c.self.invariant.ports h.within h.answer c.give.ensures.processes c.give.ensures.gives (c.self.invariant.ports.told ∙ sym same);
     }
 
 pub invariant_of-self-in-Fault : goal.invariant_of-self-in-Fault
 invariant_of-self-in-Fault g c =
-    let k = c.self.inside in
-    let well : k.store.volume.fault ≡ None = search rules in
-    let lt : c.args.pid < length k.processes.processes = search rules in
-    let commits : is_committing_at (process k.processes c.args.pid).at ≡ true = search rules in
-    let there = committing_there (process k.processes c.args.pid).at commits in
-    let t = c.commit_step-committed.new.self in
-    let l = k.store.volume.log in
-    let busy : is_quiet l.commit ≡ false = has_busy g.D.Disk k.opening.value k.store k.processes c.self.invariant.right well c.args.pid commits in
+    let k = c.self.inside in let h = head g (goal.at.invariant_of-self-in-Fault g c).After-known in
+    let t = c.commit_step-committed.new.self in let l = k.store.volume.log in
     let made : Commits g.D.Disk k.store (committed.Fault c.in-Fault.field-0) t = subst (λ (r : Committed). Commits g.D.Disk k.store r t) c.in-Fault.is c.commit_step-committed.ensures.commits in
-    let now : t.volume.fault ≡ fault_of_step (committed.Fault c.in-Fault.field-0) = made.fault in
+    let now : t.volume.fault ≡ fault_of_step (committed.Fault c.in-Fault.field-0) = made.volume.fault in
     record {
-      right = right_unwritten g.D.Disk k.opening.value k.store k.processes c.self.invariant.right well c.args.pid lt there.0 there.1 there.2 t (committed.Fault c.in-Fault.field-0) made g.met.D.Disk.has_now
-          c.in-Fault.field-0 refl made.step.log made.faults.0 made.faults.1;
-      ports = ports_counted g.I.Intake g.H.Herald k.intake k.herald l.committed t.volume.log.committed k.processes c.self.invariant.ports (ap (λ (m : LogState). m.committed) made.step.log);
+      right = right_unwritten g.D.Disk k.opening.value k.store k.processes c.self.invariant.right h.well c.args.pid h.within h.group h.place h.stands t (committed.Fault c.in-Fault.field-0) made g.met.D.Disk.has_now
+          c.in-Fault.field-0 refl made.volume.write.step.log made.volume.write.faults.0 made.volume.write.faults.1;
+      ports = ports_counted g.I.Intake g.H.Herald k.intake k.herald l.committed t.volume.log.committed k.processes c.self.invariant.ports (ap (λ (m : LogState). m.committed) made.volume.write.step.log);
     }
 
 pub returns-in-More : goal.returns-in-More
 returns-in-More g c =
-    let k = c.self.inside in
-    let well : k.store.volume.fault ≡ None = search rules in
-    let commits : is_committing_at (process k.processes c.args.pid).at ≡ true = search rules in
-    let there = committing_there (process k.processes c.args.pid).at commits in
+    let k = c.self.inside in let h = head g (goal.at.returns-in-More g c).After-known in
     let t = c.commit_step-committed.new.self in
     let made : Commits g.D.Disk k.store committed.More t = subst (λ (r : Committed). Commits g.D.Disk k.store r t) c.in-More.is c.commit_step-committed.ensures.commits in
     subst (λ (o : State _ _ _). Acts g.D.Disk g.I.Intake g.H.Herald c.args.pid step.Moved o (record { store = t; opening = k.opening.value; intake = k.intake; herald = k.herald; world = k.processes })) c.self.view_is
-    (acts_written g.D.Disk g.I.Intake g.H.Herald c.args.pid k.store t k.opening.value k.intake k.herald k.processes k.processes well there.0 there.1 k.intake k.herald committed.More there.2 made refl (sides_same g.I.Intake c.args.pid k.intake) refl)
+    (acts_written g.D.Disk g.I.Intake g.H.Herald c.args.pid k.store t k.opening.value k.intake k.herald k.processes k.processes h.well h.group h.place k.intake k.herald committed.More h.stands made refl (sides_same g.I.Intake c.args.pid k.intake) refl)
 
 pub returns-in-Durable : goal.returns-in-Durable
 returns-in-Durable g c =
-    let k = c.self.inside in
-    let well : k.store.volume.fault ≡ None = search rules in
-    let commits : is_committing_at (process k.processes c.args.pid).at ≡ true = search rules in
-    let there = committing_there (process k.processes c.args.pid).at commits in
+    let k = c.self.inside in let h = head g (goal.at.returns-in-Durable g c).After-known in
     let t = c.commit_step-committed.new.self in
     let made : Commits g.D.Disk k.store (committed.Durable c.in-Durable.group) t = subst (λ (r : Committed). Commits g.D.Disk k.store r t) c.in-Durable.is c.commit_step-committed.ensures.commits in
     subst (λ (o : State _ _ _). Acts g.D.Disk g.I.Intake g.H.Herald c.args.pid step.Moved o (record { store = t; opening = k.opening.value; intake = k.intake; herald = c.durable.new.self; world = k.processes })) c.self.view_is
-    (acts_written g.D.Disk g.I.Intake g.H.Herald c.args.pid k.store t k.opening.value k.intake k.herald k.processes k.processes well there.0 there.1 k.intake c.durable.new.self (committed.Durable c.in-Durable.group) there.2 made refl (sides_same g.I.Intake c.args.pid k.intake) refl)
+    (acts_written g.D.Disk g.I.Intake g.H.Herald c.args.pid k.store t k.opening.value k.intake k.herald k.processes k.processes h.well h.group h.place k.intake c.durable.new.self (committed.Durable c.in-Durable.group) h.stands made refl (sides_same g.I.Intake c.args.pid k.intake) refl)
 
 pub returns-in-Done : goal.returns-in-Done
 returns-in-Done g c =
-    let k = c.self.inside in
-    let well : k.store.volume.fault ≡ None = search rules in
-    let commits : is_committing_at (process k.processes c.args.pid).at ≡ true = search rules in
-    let there = committing_there (process k.processes c.args.pid).at commits in
+    let k = c.self.inside in let h = head g (goal.at.returns-in-Done g c).After-known in
     let t = c.commit_step-committed.new.self in
     let made : Commits g.D.Disk k.store committed.Done t = subst (λ (r : Committed). Commits g.D.Disk k.store r t) c.in-Done.is c.commit_step-committed.ensures.commits in
     subst (λ (o : State _ _ _). Acts g.D.Disk g.I.Intake g.H.Herald c.args.pid step.Answered o (record { store = t; opening = k.opening.value; intake = c.give.new.intake; herald = k.herald; world = c.give.new.processes })) c.self.view_is
-    (acts_written g.D.Disk g.I.Intake g.H.Herald c.args.pid k.store t k.opening.value k.intake k.herald k.processes c.give.new.processes well there.0 there.1 c.give.new.intake k.herald committed.Done there.2 made c.give.ensures.processes c.give.ensures.gives.keeps c.give.ensures.gives.ahead)
+    (acts_written g.D.Disk g.I.Intake g.H.Herald c.args.pid k.store t k.opening.value k.intake k.herald k.processes c.give.new.processes h.well h.group h.place c.give.new.intake k.herald committed.Done h.stands made c.give.ensures.processes c.give.ensures.gives.keeps c.give.ensures.gives.ahead)
 
 pub returns-in-Fault : goal.returns-in-Fault
 returns-in-Fault g c =
-    let k = c.self.inside in
-    let well : k.store.volume.fault ≡ None = search rules in
-    let commits : is_committing_at (process k.processes c.args.pid).at ≡ true = search rules in
-    let there = committing_there (process k.processes c.args.pid).at commits in
+    let k = c.self.inside in let h = head g (goal.at.returns-in-Fault g c).After-known in
     let t = c.commit_step-committed.new.self in
     let made : Commits g.D.Disk k.store (committed.Fault c.in-Fault.field-0) t = subst (λ (r : Committed). Commits g.D.Disk k.store r t) c.in-Fault.is c.commit_step-committed.ensures.commits in
     subst (λ (o : State _ _ _). Acts g.D.Disk g.I.Intake g.H.Herald c.args.pid step.Halted o (record { store = t; opening = k.opening.value; intake = k.intake; herald = k.herald; world = k.processes })) c.self.view_is
-    (acts_written g.D.Disk g.I.Intake g.H.Herald c.args.pid k.store t k.opening.value k.intake k.herald k.processes k.processes well there.0 there.1 k.intake k.herald (committed.Fault c.in-Fault.field-0) there.2 made refl (sides_same g.I.Intake c.args.pid k.intake) refl)
+    (acts_written g.D.Disk g.I.Intake g.H.Herald c.args.pid k.store t k.opening.value k.intake k.herald k.processes k.processes h.well h.group h.place k.intake k.herald (committed.Fault c.in-Fault.field-0) h.stands made refl (sides_same g.I.Intake c.args.pid k.intake) refl)

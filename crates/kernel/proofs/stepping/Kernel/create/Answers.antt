@@ -48,6 +48,9 @@ invariant_of-self-then-is_err g c =
           c.room.ensures.processes (ap (λ (w : World). w.processes) same) (ap (λ (w : World). w.journal.list) same) c.room.ensures.others (λ kept. c.room.ensures.room ∙ c.room.ensures.stays kept) c.room.ensures.fits;
     }
 
+pub begin-group-requires-clause-may : goal.begin-group-requires-clause-may
+begin-group-requires-clause-may g c = record { none = search rules; free = search rules; opened = search rules }
+
 pub returns-then-not-room : goal.returns-then-not-room
 returns-then-not-room g c =
     let k = c.self.inside in

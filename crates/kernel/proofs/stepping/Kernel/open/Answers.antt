@@ -29,11 +29,12 @@ pub recover-requires : goal.recover-requires
 recover-requires g c =
     ap (λ x. is_lawful_super c.in-Ok.report.sup (length x)) c.check.ensures.reads.image ∙ lawful_super (g.D.Disk.image c.args.disk) c.in-Ok.report.sup c.in-Ok.ensures.ok c.in-Ok.ensures.report.sup
 
-pub open-requires-clause-log : goal.open-requires-clause-log
-open-requires-clause-log g c =
+pub open-requires-clause-memory : goal.open-requires-clause-memory
+open-requires-clause-memory g c =
     let x = g.D.Disk.image c.args.disk in
     let size : length (g.D.Disk.image c.recover.new.disk) ≡ length x = ap (λ (y : Image). length y) c.in_default-recover.ensures.ok.image ∙ length-recovered (g.D.Disk.image c.check.new.disk) ∙ ap (λ (y : Image). length y) c.check.ensures.reads.image in
-    c.in-Ok-take_memory.ensures.log ∙ ap new_log (super_size x c.in-Ok.report.sup c.in-Ok.ensures.ok c.in-Ok.ensures.report.sup ∙ sym size)
+    let memory = c.in-Ok-take_memory.ensures.memory in
+    record { cache = memory.cache; log = memory.log ∙ ap new_log (super_size x c.in-Ok.report.sup c.in-Ok.ensures.ok c.in-Ok.ensures.report.sup ∙ sym size) }
 
 pub open-store-requires-clause-sound : goal.open-store-requires-clause-sound
 open-store-requires-clause-sound g c =
@@ -81,10 +82,10 @@ invariant_of-result g c =
 
 pub returns-in-Err-recover-clause-refused : goal.returns-in-Err-recover-clause-refused
 returns-in-Err-recover-clause-refused g c = record {
-  cause = (search rules, search rules, c.in-Ok.ensures.ok, recover_cause ℕ (g.D.Disk.image c.args.disk) (g.D.Disk.image c.check.new.disk) c.in-Err-recover.fault _ (g.D.Disk.fault_count c.check.new.disk) _ c.in-Ok.ensures.ok c.check.ensures.reads.image c.in-Ok.ensures.faults c.in-Err-recover.ensures.disk c.in-Err-recover.ensures.bad);
-  unwritten = recover_unwritten ℕ g.D.Disk c.args.disk c.check.new.disk c.recover.new.disk c.in-Err-recover.fault c.check.ensures.reads c.in-Err-recover.ensures.unwritten c.in-Err-recover.ensures.refused;
+  cause = (search rules, search rules, c.in-Ok.ensures.ok, recover_cause ℕ (g.D.Disk.image c.args.disk) (g.D.Disk.image c.check.new.disk) c.in-Err-recover.fault _ (g.D.Disk.fault_count c.check.new.disk) _ c.in-Ok.ensures.ok c.check.ensures.reads.image c.in-Ok.ensures.faults c.in-Err-recover.ensures.refused.fault c.in-Err-recover.ensures.refused.bad);
+  unwritten = recover_unwritten ℕ g.D.Disk c.args.disk c.check.new.disk c.recover.new.disk c.in-Err-recover.fault c.check.ensures.reads c.in-Err-recover.ensures.refused.unwritten c.in-Err-recover.ensures.refused.memory;
   name = c.recover.ensures.name ∙ c.check.ensures.reads.name;
-  leaves = opened_leaves g.D.Disk g.met.D.Disk.only_now c.args.disk c.check.new.disk c.recover.new.disk c.check.ensures.reads c.recover.ensures.any_moment;
+  leaves = opened_leaves g.D.Disk g.met.D.Disk.only_now c.args.disk c.check.new.disk c.recover.new.disk c.check.ensures.reads c.recover.ensures.stops.any_moment;
 }
 
 pub returns-clause-opened : goal.returns-clause-opened
@@ -113,5 +114,5 @@ returns-clause-opened g c =
       writes = search rules;
       faults = search rules;
       leaves = subst (λ (o : _). LeavesOnly g.D.Disk.moment g.D.Disk.leaves c.args.disk o (RecoversAs (g.D.Disk.image c.args.disk))) (sym opening)
-          (opened_leaves g.D.Disk g.met.D.Disk.only_now c.args.disk c.check.new.disk c.recover.new.disk c.check.ensures.reads c.recover.ensures.any_moment);
+          (opened_leaves g.D.Disk g.met.D.Disk.only_now c.args.disk c.check.new.disk c.recover.new.disk c.check.ensures.reads c.recover.ensures.stops.any_moment);
     }

@@ -1,7 +1,7 @@
-use Rattle.std.proofs.Common.{◌≡◌, ◌∙◌, rules, subst}
+use Rattle.std.proofs.Common.{◌≡◌, ◌∙◌, rules, subst, arith}
 use Rattle.kernel.specs.declared.types.Step.TheVariants as step
 use Rattle.player.specs.Stepping.{MakesPlainStep}
-use Rattle.player.proofs.Steps.{one_moved, stops, moves_all}
+use Rattle.player.proofs.Steps.{one_moved, stops, moves_few}
 use Rattle.player.proofs.Disks.{faulty}
 use Rattle.player.proofs.turns.Player.steps.Goals as goal
 
@@ -20,8 +20,11 @@ loop-step-preserved g c =
 
 pub returns-then-ne-clause-makes : goal.returns-then-ne-clause-makes
 returns-then-ne-clause-makes g c =
-    stops (faulty g.D.Disk) 2000 c.args.pid c.loop-step._step c.step-step.result c.args.self.now.kernel c.loop-step.self.kernel c.step-step.new.self.kernel c.loop-step.invariant.moves c.step-step.ensures.makes
-    (search rules) (search rules)
+    stops (faulty g.D.Disk) c.args.pid c.loop-step._step c.step-step.result c.args.self.now.kernel c.loop-step.self.kernel c.step-step.new.self.kernel c.loop-step.invariant.moves c.step-step.ensures.makes
+    (search rules)
 
-pub returns-clause-makes : goal.returns-clause-makes
-returns-clause-makes g c = moves_all (faulty g.D.Disk) 2000 c.args.pid c.loop-step._step c.args.self.now.kernel c.loop-step.self.kernel c.loop-step.invariant.moves (search rules)
+pub unreachable-requires : goal.unreachable-requires
+unreachable-requires g c =
+    let few = moves_few (faulty g.D.Disk) c.args.pid c.loop-step._step c.args.self.now.kernel c.loop-step.self.kernel c.loop-step.invariant.moves in
+    let all = c.loop-step-test.false in
+    omega (arith, few, all)

@@ -1,4 +1,4 @@
-use Rattle.std.proofs.Common.{◌≡◌, ◌∙◌, ap, subst}
+use Rattle.std.proofs.Common.{◌≡◌, ◌∙◌, ap, subst, rules}
 use Rattle.bcache.specs.declared.types.Buffer.{Buffer}
 use Rattle.blocks.specs.Disk.{block_at}
 use Rattle.bcache.specs.Buffers.{block_or_zero, filled}
@@ -8,30 +8,42 @@ use Rattle.wal.proofs.VolumeLemmas.{if_whole, joint_here, blocks_here, buffer_he
 use Rattle.wal.proofs.volume.Volume.fill.Goals as goal
 
 pub fill-requires-clause-inside : goal.fill-requires-clause-inside
-fill-requires-clause-inside g c = block_inside _ c.args.slot c.args.block (joint_here g.D.Disk.image _ _ c.self.view_is c.requires.fault c.self.invariant) (ap (λ (s : Buffer). s.block) (buffer_here _ _ c.args.slot c.self.view_is) ∙ c.requires.block)
+fill-requires-clause-inside g c = block_inside _ c.args.slot c.args.block (joint_here g.D.Disk.image _ _ c.self.view_is c.requires.fault c.self.invariant) (ap (λ (s : Buffer). s.block) (buffer_here _ _ c.args.slot c.self.view_is) ∙ c.requires.lacks.block)
 
 pub invariant_of-self : goal.invariant_of-self
 invariant_of-self g c =
     let slot = buffer_here _ _ c.args.slot c.self.view_is in
-    let block = ap (λ (s : Buffer). s.block) slot ∙ c.requires.block in
-    let valid = ap (λ (s : Buffer). s.valid) slot ∙ c.requires.valid in
+    let block = ap (λ (s : Buffer). s.block) slot ∙ c.requires.lacks.block in
+    let valid = ap (λ (s : Buffer). s.valid) slot ∙ c.requires.lacks.valid in
     let bytes = ap (λ o. filled c.self.inside.cache c.args.slot (block_at (g.D.Disk.image c.self.inside.disk) (block_or_zero o))) block in
     let joint = joint_here g.D.Disk.image _ _ c.self.view_is c.requires.fault c.self.invariant in
-    if_whole _ (joint_got _ _ c.args.slot c.args.block joint c.requires.slot block valid (c.in-Ok.ensures.ok ∙ bytes) c.in-Ok.ensures.reads.image).0
-    (blocks_filled (g.D.Disk.image c.self.inside.disk) _ _ c.args.slot c.args.block joint.cache c.requires.slot (blocks_here g.D.Disk.image _ _ c.self.view_is c.requires.fault c.self.invariant)
+    if_whole _ (joint_got _ _ c.args.slot c.args.block joint c.requires.lacks.slot block valid (c.in-Ok.ensures.ok ∙ bytes) c.in-Ok.ensures.reads.image).0
+    (blocks_filled (g.D.Disk.image c.self.inside.disk) _ _ c.args.slot c.args.block joint.cache c.requires.lacks.slot (blocks_here g.D.Disk.image _ _ c.self.view_is c.requires.fault c.self.invariant)
     (g.met.D.Disk.is_image c.self.inside.disk) (inside_here _ c.args.slot c.args.block joint block) (c.in-Ok.ensures.ok ∙ bytes))
 
-pub returns-in-Ok-clause-current : goal.returns-in-Ok-clause-current
-returns-in-Ok-clause-current g c =
+pub returns-in-Ok-clause-reads : goal.returns-in-Ok-clause-reads
+returns-in-Ok-clause-reads g c =
     let slot = buffer_here _ _ c.args.slot c.self.view_is in
-    let block = ap (λ (s : Buffer). s.block) slot ∙ c.requires.block in
-    let valid = ap (λ (s : Buffer). s.valid) slot ∙ c.requires.valid in
+    let block = ap (λ (s : Buffer). s.block) slot ∙ c.requires.lacks.block in
+    let valid = ap (λ (s : Buffer). s.valid) slot ∙ c.requires.lacks.valid in
     let bytes = ap (λ o. filled c.self.inside.cache c.args.slot (block_at (g.D.Disk.image c.self.inside.disk) (block_or_zero o))) block in
-    subst (λ s. seen (g.D.Disk.image c.fill.new.disk) c.fill.new.self ≡ seen (g.D.Disk.image s.device) s.buffers) c.self.view_is
-    (joint_got _ _ c.args.slot c.args.block (joint_here g.D.Disk.image _ _ c.self.view_is c.requires.fault c.self.invariant) c.requires.slot block valid (c.in-Ok.ensures.ok ∙ bytes) c.in-Ok.ensures.reads.image).1
+    record {
+      fault = search rules;
+      log = search rules;
+      current = subst (λ s. seen (g.D.Disk.image c.fill.new.disk) c.fill.new.self ≡ seen (g.D.Disk.image s.device) s.buffers) c.self.view_is
+          (joint_got _ _ c.args.slot c.args.block (joint_here g.D.Disk.image _ _ c.self.view_is c.requires.fault c.self.invariant) c.requires.lacks.slot block valid (c.in-Ok.ensures.ok ∙ bytes) c.in-Ok.ensures.reads.image).1;
+      device = search rules;
+      faults = search rules;
+    }
 
-pub returns-in-Err-clause-current : goal.returns-in-Err-clause-current
-returns-in-Err-clause-current g c =
-    let valid = ap (λ (s : Buffer). s.valid) (buffer_here _ _ c.args.slot c.self.view_is) ∙ c.requires.valid in
-    subst (λ s. seen (g.D.Disk.image c.fill.new.disk) c.fill.new.self ≡ seen (g.D.Disk.image s.device) s.buffers) c.self.view_is
-    (seen_unfilled c.self.inside.cache c.fill.new.self c.args.slot valid c.in-Err.ensures.err c.in-Err.ensures.reads.image)
+pub returns-in-Err-clause-reads : goal.returns-in-Err-clause-reads
+returns-in-Err-clause-reads g c =
+    let valid = ap (λ (s : Buffer). s.valid) (buffer_here _ _ c.args.slot c.self.view_is) ∙ c.requires.lacks.valid in
+    record {
+      fault = search rules;
+      log = search rules;
+      current = subst (λ s. seen (g.D.Disk.image c.fill.new.disk) c.fill.new.self ≡ seen (g.D.Disk.image s.device) s.buffers) c.self.view_is
+          (seen_unfilled c.self.inside.cache c.fill.new.self c.args.slot valid c.in-Err.ensures.err c.in-Err.ensures.reads.image);
+      device = search rules;
+      faults = search rules;
+    }

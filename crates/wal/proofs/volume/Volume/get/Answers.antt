@@ -21,52 +21,62 @@ invariant_of-self-in-Got-default-false g c =
     if_whole _ (joint_acquired _ _ c.args.pid c.args.block joint c.requires.behind (search rules) c.acquire.ensures.cache)
     (blocks_acquired _ _ c.args.pid c.args.block joint.cache (blocks_here g.D.Disk.image _ _ c.self.view_is c.requires.fault c.self.invariant) c.acquire.ensures.cache)
 
-pub fill-requires-clause-slot : goal.fill-requires-clause-slot
-fill-requires-clause-slot g c =
+pub fill-requires-clause-lacks : goal.fill-requires-clause-lacks
+fill-requires-clause-lacks g c =
     let arm = c.in-Got-default-false in
     let joint = joint_here g.D.Disk.image _ _ c.self.view_is c.requires.fault c.self.invariant in
     let has = acquired_now c.self.inside.cache c.acquire.new.self c.args.pid c.args.block arm.slot false arm.valid joint.cache arm.ensures.answer arm.valid-test c.acquire.ensures.cache in
-    has.slot
+    record { slot = has.slot; block = has.block; valid = has.valid }
 
-pub fill-requires-clause-block : goal.fill-requires-clause-block
-fill-requires-clause-block g c =
-    let arm = c.in-Got-default-false in
-    let joint = joint_here g.D.Disk.image _ _ c.self.view_is c.requires.fault c.self.invariant in
-    let has = acquired_now c.self.inside.cache c.acquire.new.self c.args.pid c.args.block arm.slot false arm.valid joint.cache arm.ensures.answer arm.valid-test c.acquire.ensures.cache in
-    has.block
-
-pub fill-requires-clause-valid : goal.fill-requires-clause-valid
-fill-requires-clause-valid g c =
-    let arm = c.in-Got-default-false in
-    let joint = joint_here g.D.Disk.image _ _ c.self.view_is c.requires.fault c.self.invariant in
-    let has = acquired_now c.self.inside.cache c.acquire.new.self c.args.pid c.args.block arm.slot false arm.valid joint.cache arm.ensures.answer arm.valid-test c.acquire.ensures.cache in
-    has.valid
-
-pub returns-in-Got-default-true-clause-got : goal.returns-in-Got-default-true-clause-got
-returns-in-Got-default-true-clause-got g c =
+pub returns-in-Got-default-true-clause-gets : goal.returns-in-Got-default-true-clause-gets
+returns-in-Got-default-true-clause-gets g c =
     let arm = c.in-Got-default-true in
     let joint = joint_here g.D.Disk.image _ _ c.self.view_is c.requires.fault c.self.invariant in
     let has = acquired_now c.self.inside.cache c.acquire.new.self c.args.pid c.args.block arm.slot true arm.valid joint.cache arm.ensures.answer arm.valid-test c.acquire.ensures.cache in
-    holds_now c.acquire.new.self c.args.pid c.args.block arm.slot (joint_acquired c.self.inside.cache c.acquire.new.self c.args.pid c.args.block joint c.requires.behind (search rules) c.acquire.ensures.cache) has.slot has.holder has.block has.valid
+    record {
+      answer = search rules;
+      buffers = search rules;
+      got = holds_now c.acquire.new.self c.args.pid c.args.block arm.slot (joint_acquired c.self.inside.cache c.acquire.new.self c.args.pid c.args.block joint c.requires.behind (search rules) c.acquire.ensures.cache) has.slot has.holder has.block has.valid;
+      sleeping = search rules;
+      failed = search rules;
+    }
 
-pub returns-in-Got-default-false-clause-got : goal.returns-in-Got-default-false-clause-got
-returns-in-Got-default-false-clause-got g c =
+pub returns-in-Got-default-false-clause-gets : goal.returns-in-Got-default-false-clause-gets
+returns-in-Got-default-false-clause-gets g c =
     let arm = c.in-Got-default-false in
     let joint = joint_here g.D.Disk.image _ _ c.self.view_is c.requires.fault c.self.invariant in
     let has = acquired_now c.self.inside.cache c.acquire.new.self c.args.pid c.args.block arm.slot false arm.valid joint.cache arm.ensures.answer arm.valid-test c.acquire.ensures.cache in
-    filled_holds c.acquire.new.self c.fill.new.self.buffers c.args.pid c.args.block arm.slot c.fill.result (joint_acquired c.self.inside.cache c.acquire.new.self c.args.pid c.args.block joint c.requires.behind (search rules) c.acquire.ensures.cache) has c.fill.ensures.answer c.fill.ensures.buffers c.fill.ensures.device.image
+    record {
+      answer = search rules;
+      buffers = search rules;
+      got = filled_holds c.acquire.new.self c.fill.new.self.buffers c.args.pid c.args.block arm.slot c.fill.result (joint_acquired c.self.inside.cache c.acquire.new.self c.args.pid c.args.block joint c.requires.behind (search rules) c.acquire.ensures.cache) has c.fill.ensures.answer c.fill.ensures.buffers c.fill.ensures.reads.device.image;
+      sleeping = search rules;
+      failed = search rules;
+    }
 
-pub returns-in-Got-default-true-clause-current : goal.returns-in-Got-default-true-clause-current
-returns-in-Got-default-true-clause-current g c =
+pub returns-in-Got-default-true-clause-reads : goal.returns-in-Got-default-true-clause-reads
+returns-in-Got-default-true-clause-reads g c =
     let x = g.D.Disk.image c.self.inside.disk in
-    subst (λ s. seen x c.acquire.new.self ≡ seen (g.D.Disk.image s.device) s.buffers) c.self.view_is
-    (seen_acquired c.self.inside.cache c.acquire.new.self c.args.pid c.args.block (joint_here g.D.Disk.image _ _ c.self.view_is c.requires.fault c.self.invariant) c.acquire.ensures.cache)
+    record {
+      fault = search rules;
+      log = search rules;
+      current = subst (λ s. seen x c.acquire.new.self ≡ seen (g.D.Disk.image s.device) s.buffers) c.self.view_is
+          (seen_acquired c.self.inside.cache c.acquire.new.self c.args.pid c.args.block (joint_here g.D.Disk.image _ _ c.self.view_is c.requires.fault c.self.invariant) c.acquire.ensures.cache);
+      device = search rules;
+      faults = search rules;
+    }
 
-pub returns-in-Got-default-false-clause-current : goal.returns-in-Got-default-false-clause-current
-returns-in-Got-default-false-clause-current g c =
+pub returns-in-Got-default-false-clause-reads : goal.returns-in-Got-default-false-clause-reads
+returns-in-Got-default-false-clause-reads g c =
     let x = g.D.Disk.image c.self.inside.disk in
-    subst (λ s. seen (g.D.Disk.image c.fill.new.self.device) c.fill.new.self.buffers ≡ seen (g.D.Disk.image s.device) s.buffers) c.self.view_is
-    (c.fill.ensures.current ∙ seen_acquired c.self.inside.cache c.acquire.new.self c.args.pid c.args.block (joint_here g.D.Disk.image _ _ c.self.view_is c.requires.fault c.self.invariant) c.acquire.ensures.cache)
+    record {
+      fault = search rules;
+      log = search rules;
+      current = subst (λ s. seen (g.D.Disk.image c.fill.new.self.device) c.fill.new.self.buffers ≡ seen (g.D.Disk.image s.device) s.buffers) c.self.view_is
+          (c.fill.ensures.reads.current ∙ seen_acquired c.self.inside.cache c.acquire.new.self c.args.pid c.args.block (joint_here g.D.Disk.image _ _ c.self.view_is c.requires.fault c.self.invariant) c.acquire.ensures.cache);
+      device = search rules;
+      faults = search rules;
+    }
 
 pub returns-in-Got-default-true-clause-locks : goal.returns-in-Got-default-true-clause-locks
 returns-in-Got-default-true-clause-locks g c =

@@ -8,8 +8,8 @@ use Rattle.wal.proofs.volume.Volume.open.Goals as goal
 
 pub invariant_of-result : goal.invariant_of-result
 invariant_of-result g c =
-    if_whole None (joint_opened (g.D.Disk.image c.args.disk) c.args.cache c.args.log c.requires.cache c.requires.log c.known.ensures.big c.known.ensures.small c.requires.none)
-    (subst AreBlocks (sym c.requires.cache) blocks_fresh)
+    if_whole None (joint_opened (g.D.Disk.image c.args.disk) c.args.cache c.args.log c.requires.memory.cache c.requires.memory.log c.known.ensures.big c.known.ensures.small c.requires.none)
+    (subst AreBlocks (sym c.requires.memory.cache) blocks_fresh)
 
 pub returns-clause-current : goal.returns-clause-current
-returns-clause-current g c = ap (seen (g.D.Disk.image c.args.disk)) c.requires.cache ∙ fresh_seen (g.D.Disk.image c.args.disk)
+returns-clause-current g c = ap (seen (g.D.Disk.image c.args.disk)) c.requires.memory.cache ∙ fresh_seen (g.D.Disk.image c.args.disk)

@@ -1,0 +1,47 @@
+-- What a step makes of a volume in which a machine gets a block, or is done with it.
+use Rattle.std.specs.Prelude.{◌≡◌, ℕ, Option, Some, None}
+use Rattle.blocks.specs.Disk.{Image}
+use Rattle.blocks.specs.declared.disk.Disk.{Ghosts}
+use Rattle.bcache.specs.Buffers.{Buffers, released}
+use Rattle.wal.specs.Held.{LocksAfter, GivesUpLock}
+use Rattle.wal.specs.Joint.{seen}
+use Rattle.wal.specs.Volume.{VolumeState, Holds, Gets, ReadsFor}
+use Rattle.wal.specs.declared.types.Get.{Get}
+use Rattle.wal.specs.declared.types.Get.TheVariants as get
+use Rattle.blockmap.specs.declared.progress.Progress.{Progress}
+use Rattle.blockmap.specs.declared.progress.Progress.TheVariants as progress
+
+-- what the volume's answer is to a machine
+abbrev pub progress_of : {T : Type 0} → Get → Progress T
+progress_of (get.Got i) = progress.Moved
+progress_of (get.Sleeping why) = progress.Sleeping why
+progress_of (get.Fault fault) = progress.Fault fault
+
+-- the slot that was got
+abbrev pub slot_of : Get → Option ℕ
+slot_of (get.Got i) = Some i
+slot_of (get.Sleeping why) = None
+slot_of (get.Fault fault) = None
+
+-- A machine of process p gets block b, and has it in slot s; or it has to wait, or the disk fails,
+-- and it has none.
+pub record GetsFor {D N T : Type 0} (disk : Ghosts D N) (v : VolumeState D) (p b : ℕ)
+    (r : Progress T) (s : Option ℕ) (w : VolumeState D) : Type 0 where
+  pub answer : Get
+  pub gives : r ≡ progress_of answer
+  pub slot : s ≡ slot_of answer
+  pub gets : Gets disk v p b answer w
+  pub reads : ReadsFor disk v answer w
+  pub locks : LocksAfter answer v.buffers w.buffers p b
+
+-- the block of slot i is released, and nothing else changes
+pub record Releases {D : Type 0} (image : D → Image) (v : VolumeState D) (p i : ℕ)
+    (w : VolumeState D) : Type 0 where
+  pub volume : w ≡ record v { buffers = released v.buffers i }
+  pub current : seen (image w.device) w.buffers ≡ seen (image v.device) v.buffers
+  pub locks : GivesUpLock v.buffers w.buffers p i
+
+-- a process holds a block that the buffers show as it is now, where it was got
+abbrev pub HoldsWhereGot : Image → Buffers → ℕ → ℕ → Option ℕ → Type 0
+HoldsWhereGot cur c p b None = Unit {0}
+HoldsWhereGot cur c p b (Some i) = Holds cur c p b i

@@ -1,0 +1,5 @@
+-- What follows from the definitions: the lemmas that the proofs of this crate and of those above it
+-- use.
+pub mod Addresses
+pub mod Reading
+pub mod Used

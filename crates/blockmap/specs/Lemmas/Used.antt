@@ -1,0 +1,40 @@
+-- Where an image stands for files, that of each used number may be read.
+use Rattle.std.proofs.Common.{◌≡◌, ◌≢◌, ℕ, ◌*◌, ◌<◌, ◌∙◌, refl, arith}
+use Rattle.std.specs.Prelude.{slice_index}
+use Rattle.std.proofs.lemmas.Bool.{eqb-true}
+use Rattle.blocks.specs.Disk.{Image}
+use Rattle.model.specs.declared.types.image.Dinode.{Dinode}
+use Rattle.model.specs.declared.types.image.Form.TheVariants.{One}
+use Rattle.model.specs.Layout.{form_of, inode_of, magic_at, magic_of}
+use Rattle.model.specs.Places.{address_in}
+use Rattle.model.specs.Soundness.{IsLawfulGeometry}
+use Rattle.loose.specs.Loose.{LiesInData, IsFit}
+use Rattle.loose.specs.Lemmas.Looks.{used_is_fit, used_has_blocks}
+use Rattle.blockmap.specs.Reading.{LiesBehindLog, UsedMayBeRead}
+use Rattle.blockmap.specs.Lemmas.Addresses.{address_behind}
+
+form_lawful : (x : Image) → IsLawfulGeometry x → form_of x ≡ One
+form_lawful x g = rw (eqb-true (magic_at x) (magic_of One) g.magic) refl
+
+behind_log : (x : Image) (b : ℕ) → LiesInData x b → LiesBehindLog x b
+behind_log x b there = let from = there.0 in (omega arith, there.1)
+
+-- what needs the block of addresses has one
+indirect_there : (x : Image) (d : Dinode) → form_of x ≡ One → IsFit x d → 12 * 1024 < d.size → slice_index d.addrs 12 ≢ 0
+indirect_there x d one fit needed none =
+    fit.whole 12 needed (address_behind x d 12 one fit.fields.count (omega arith) (omega arith) ∙ rw none refl)
+
+pub used_may_be_read : UsedMayBeRead
+used_may_be_read m x i f used =
+    let d = inode_of x i in
+    let one = form_lawful x f.geometry in
+    let fit = (used_is_fit m x i f used).fit in
+    let has = used_has_blocks m x i f used in
+    record {
+      form = one;
+      full = f.full;
+      fit = fit;
+      blocks = λ k needed. behind_log x (address_in x d k) (has.needed k needed);
+      indirect = λ needed.
+          behind_log x (slice_index d.addrs 12) (has.named 12 (omega arith) (indirect_there x d one fit needed));
+    }

@@ -1,0 +1,6 @@
+pub mod Getting
+pub mod Bmap
+pub mod Map
+pub mod Target
+pub mod Reading
+pub mod Lemmas

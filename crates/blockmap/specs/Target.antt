@@ -1,0 +1,81 @@
+-- What a machine gets or uses next, on its way to a block of a file.
+use Rattle.std.specs.Prelude.{◌≡◌, ◌<◌, ◌≤◌, ℕ, Bool, true, false, is_none, if◌then◌else◌, Option, None}
+use Rattle.blocks.specs.Disk.{Image}
+use Rattle.blocks.specs.declared.disk.Disk.{Ghosts}
+use Rattle.model.specs.declared.types.image.Dinode.{Dinode}
+use Rattle.wal.specs.Joint.{seen}
+use Rattle.wal.specs.Volume.{VolumeState}
+use Rattle.blockmap.specs.Bmap.{EntryState, IsReady, LooksUp, entry_in}
+use Rattle.blockmap.specs.Getting.{GetsFor, HoldsWhereGot}
+use Rattle.blockmap.specs.Map.{mapped, address_or_zero}
+use Rattle.blockmap.specs.declared.mapping.Mapped.{Mapped}
+use Rattle.blockmap.specs.declared.mapping.Mapped.TheVariants as mapped_as
+use Rattle.blockmap.specs.declared.progress.Progress.{Progress}
+use Rattle.blockmap.specs.declared.progress.Progress.TheVariants as progress
+use Rattle.blockmap.specs.declared.target.Target.{Target}
+use Rattle.blockmap.specs.declared.target.Target.TheVariants as target
+
+-- what leads to a block of a file
+abbrev pub target_mapped : Mapped → Target
+target_mapped (mapped_as.At found) = target.Block (address_or_zero found) None
+target_mapped (mapped_as.Behind entry) = target.Entry entry
+
+abbrev pub target_for : Dinode → ℕ → Target
+target_for d k = target_mapped (mapped d k)
+
+-- an entry has to be read
+abbrev pub is_entry : Target → Bool
+is_entry (target.Entry entry) = true
+is_entry (target.Block b slot) = false
+
+-- the slot that holds the target's block, where it was got
+abbrev pub got_slot : Target → Option ℕ
+got_slot (target.Entry entry) = None
+got_slot (target.Block b slot) = slot
+
+-- the target leads to block a, and the process holds what was got
+abbrev pub LeadsTo : {D : Type 0} → (D → Image) → VolumeState D → ℕ → ℕ → Target → Type 0
+LeadsTo image v p a (target.Entry entry) =
+    IsReady image v p entry × (entry_in (seen (image v.device) v.buffers) entry ≡ a)
+LeadsTo image v p a (target.Block b slot) =
+    (b ≡ a) × HoldsWhereGot (seen (image v.device) v.buffers) v.buffers p b slot
+
+-- the block may be sought over this volume
+abbrev pub IsSought : {D : Type 0} → (D → Image) → VolumeState D → ℕ → Target → Type 0
+IsSought image v p (target.Entry entry) = IsReady image v p entry
+IsSought image v p (target.Block b slot) = (slot ≡ None) × (33 ≤ b) × (b < v.log.size)
+
+-- what a step of an entry's reading is to the machine that seeks the block
+abbrev pub progress_behind : Progress (Option ℕ) → Progress (Unit {0})
+progress_behind progress.Moved = progress.Moved
+progress_behind (progress.Sleeping why) = progress.Sleeping why
+progress_behind (progress.Over found) = progress.Moved
+progress_behind (progress.Fault fault) = progress.Fault fault
+
+-- the target then: the block, once the entry was seen
+abbrev pub target_behind : Progress (Option ℕ) → EntryState → Target
+target_behind progress.Moved entry = target.Entry entry
+target_behind (progress.Sleeping why) entry = target.Entry entry
+target_behind (progress.Over found) entry = target.Block (address_or_zero found) None
+target_behind (progress.Fault fault) entry = target.Entry entry
+
+-- a step of the entry's reading
+pub record LooksUpFor {D N : Type 0} (disk : Ghosts D N) (v : VolumeState D) (p : ℕ)
+    (e : EntryState) (r : Progress (Unit {0})) (t : Target) (w : VolumeState D) : Type 0 where
+  pub answer : Progress (Option ℕ)
+  pub entry : EntryState
+  pub looks : LooksUp disk e.slot v p e answer entry w
+  pub gives : r ≡ progress_behind answer
+  pub target : t ≡ target_behind answer entry
+
+-- a step that seeks a target's block: one of the entry's reading, or it gets the block
+abbrev pub Seeks : {D N : Type 0} → Ghosts D N → Target → VolumeState D → ℕ
+    → Progress (Unit {0}) → Target → VolumeState D → Type 0
+Seeks disk (target.Entry entry) v p r t w = LooksUpFor disk v p entry r t w
+Seeks disk (target.Block b slot) v p r t w =
+    (got : Option ℕ) × (t ≡ target.Block b got) × GetsFor disk v p b r got w
+
+-- at most so many steps lead from a target to the use of its block, this one included
+abbrev pub steps_at : Target → ℕ
+steps_at (target.Entry entry) = if is_none entry.slot then 4 else 3
+steps_at (target.Block b slot) = if is_none slot then 2 else 1

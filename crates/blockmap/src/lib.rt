@@ -1,0 +1,32 @@
+//! From the blocks of a file to those of the image (the xv6 book, the chapter "File system": "Code:
+//! Inode content").
+//!
+//! What an operation does to blocks is done by machines. A machine is a plain value that says where
+//! its work stands, with a `step` of its own over a volume: one step gets a block, the next one uses
+//! it and releases it, and between two steps other processes make theirs. A step that has to wait
+//! changes nothing. What a step comes to is a `Progress`, and a step that gets a block promises what
+//! the volume's `get` does (`GetsFor`).
+//!
+//! An inode has the addresses of its file's first 12 blocks, and that of a block with the addresses
+//! of 256 more. So `map` answers at once for one of the first; behind them the entry has to be read,
+//! which `Bmap` does in two steps. A machine that works on a block of a file keeps a
+//! `Target`: what it gets or uses next, and `seek` makes the next step to the block. So far nothing
+//! writes, and an address that isn't there is not made.
+//!
+//! What is said of a file's bytes asks that the file may be read (`MayRead`). Where an image stands
+//! for files, that of each used number may (`laws`).
+#![tactic(auto)]
+
+mod bmap;
+mod getting;
+pub mod laws;
+mod mapping;
+mod progress;
+mod target;
+
+pub use bmap::Bmap;
+pub use getting::{get_block, release_block};
+pub use mapping::{Mapped, map};
+pub use model::types::Why;
+pub use progress::Progress;
+pub use target::{Target, seek, target_for};

@@ -1,0 +1,193 @@
+-- What a run of a creation's steps saw.
+use Rattle.std.proofs.Common.{◌≡◌, ℕ, suc, ◌≤◌, ltb, List, [], ◌∷◌, Option, Some, None, refl, sym, ◌∙◌, ap, subst, ⊎_elim, arith}
+use Rattle.std.specs.Prelude.{IsTrue, is_some}
+use Rattle.std.proofs.lemmas.Bool.{cases_eq, ltb-true}
+use Rattle.std.proofs.lemmas.List.{get_or-set_other}
+use Rattle.blocks.specs.declared.disk.Disk.{Ghosts}
+use Rattle.model.specs.declared.types.operations.Op.{Op}
+use Rattle.model.specs.declared.types.operations.Op.TheVariants.{Create}
+use Rattle.model.specs.declared.types.operations.TaskProgress.{TaskProgress}
+use Rattle.model.specs.declared.types.operations.TaskProgress.TheVariants as progress
+use Rattle.model.specs.Journal.{is_number}
+use Rattle.model.specs.Layout.{inode_block}
+use Rattle.model.specs.Lemmas.Log.{both_of}
+use Rattle.inodes.specs.declared.tasks.Place.{Place}
+use Rattle.inodes.specs.declared.tasks.Place.TheVariants as place
+use Rattle.inodes.specs.Ialloc.{SearchState, at_next_block}
+use Rattle.inodes.specs.Tasks.{TaskState, task, no_task}
+use Rattle.inodes.specs.Store.{StoreState, first_place, reply_of}
+use Rattle.inodes.specs.Steps.{Steps, Shown, Goes, GoesFrom, IsTurn, free_at, shown_of}
+use Rattle.inodes.specs.Runs.{StepMade, LeavesTask, IsRun, EndsWith, IsSearchRun, SeesTaken, WasSeenTaken, NoInodeSawAll, MadeSawLower, StepsLeaveOthers, CommitsLeaveAll, BoundsLeaveOthers}
+use Rattle.inodes.specs.Lemmas.Looks.{IsPassedBy, taken_by_look}
+
+-- a search that had its turn passed by a number: a look found this, and its block is not before
+-- that of the number
+abbrev IsPast : ℕ → SearchState → ℕ → Option ℕ → Shown → Type 0
+IsPast n m j o before = (free_at before.current n m ≡ o) × (inode_block j ≤ m.block)
+
+past_at_turn : (n p j : ℕ) (m : SearchState) (o : Option ℕ) (before now : Shown) →
+    IsTrue (is_number n j) → IsPassedBy o j → IsTurn n p m (Some (reply_of o)) before now →
+    IsPast n m j o before
+past_at_turn n p j m None before now number passed is =
+    let below = ltb-true j n (both_of (ltb 0 j) (ltb j n) number).1 in
+    (is.1.none, omega (arith, is.0, below))
+past_at_turn n p j m (Some i) before now number passed is =
+    (is.lowest, omega (arith, is.place, passed))
+
+module _ {D N : Type 0} (disk : Ghosts D N) (p n j : ℕ) (op : Op) (o : Option ℕ)
+    (number : IsTrue (is_number n j)) (passed : IsPassedBy o j) where
+  abbrev reply : TaskProgress
+  reply = progress.Turned (Some (reply_of o))
+
+  abbrev Seen : List (StepMade D) → Type 0
+  Seen steps = WasSeenTaken disk.image p steps j
+
+  abbrev IsAt : StoreState D → Place → Type 0
+  IsAt s a = (task s.tasks p).place ≡ a
+
+  abbrev before : StepMade D → Shown
+  before step = shown_of disk.image step.before.volume
+
+  abbrev now : StepMade D → Shown
+  now step = shown_of disk.image step.after.volume
+
+  -- where a step goes from a place, by a count of numbers
+  abbrev StepGoes : StepMade D → Place → ℕ → Type 0
+  StepGoes step a k = Goes a k p step.before.volume.buffers step.answer
+      (task step.after.tasks p).place (before step) (now step)
+
+  -- where a step of a search goes with an answer, by whether it had got its block
+  abbrev SearchGoes : StepMade D → Option ℕ → SearchState → TaskProgress → Type 0
+  SearchGoes step slot m r = GoesFrom slot n p m step.before.volume.buffers r
+      (task step.after.tasks p).place (before step) (now step)
+
+  -- a look that passed the number by
+  sees : (step : StepMade D) (m : SearchState) (i : ℕ) (found : Option ℕ) →
+      IsAt step.before (place.Creating m) → m.slot ≡ Some i →
+      free_at (before step).current n m ≡ found → IsPassedBy found j →
+      inode_block j ≡ m.block → SeesTaken disk.image p j step
+  sees step m i found stands got is by here = record {
+    search = m;
+    stands = stands;
+    got = ap is_some got;
+    looks = sym here;
+    taken = taken_by_look (before step).current n m.block j found is by number here;
+  }
+
+  seen_first : (step : StepMade D) (rest : List (StepMade D)) → SeesTaken disk.image p j step →
+      Seen (step ∷ rest)
+  seen_first step rest is = (0, step, omega arith, refl, is)
+
+  seen_later : (step : StepMade D) (rest : List (StepMade D)) → Seen rest → Seen (step ∷ rest)
+  seen_later step rest is = (suc is.0, is.1, omega (arith, is.2), is.3, is.4)
+
+  -- the step of a run, from where its task stands
+  goes_from : (s : StoreState D) (step : StepMade D) (a : Place) → s.inode_count ≡ n → IsAt s a →
+      LeavesTask s p step.before → Steps disk step.before p op step.answer step.after →
+      StepGoes step a n × IsAt step.before a × (step.after.inode_count ≡ n)
+  goes_from s step a count stands leaves steps =
+      let here : IsAt step.before a = ap (λ (t : TaskState). t.place) leaves.own ∙ stands in
+      let still : step.before.inode_count ≡ n = leaves.numbers ∙ count in
+      let goes = subst (λ (b : Place). StepGoes step b step.before.inode_count) here steps.goes in
+      (subst (λ (k : ℕ). StepGoes step a k) still goes, here, steps.tasks.numbers ∙ still)
+
+  -- a task that is over has no turn
+  no_turn : (steps : List (StepMade D)) (s : StoreState D) → s.inode_count ≡ n →
+      IsAt s place.Nowhere → IsRun disk p op s steps → EndsWith steps reply → ⊥
+  no_turn [] s count stands run ends = ends
+  no_turn (step ∷ []) s count stands run ends =
+      let goes = goes_from s step place.Nowhere count stands run.0 run.1 in
+      cc (sym goes.0.0 ∙ ends)
+  no_turn (step ∷ next ∷ rest) s count stands run ends =
+      let goes = goes_from s step place.Nowhere count stands run.0 run.1 in
+      no_turn (next ∷ rest) step.after goes.2 goes.0.1 run.2 ends
+
+  -- the step of the turn
+  seen_at_turn : (step : StepMade D) (m : SearchState) (slot : Option ℕ) → m.slot ≡ slot →
+      IsAt step.before (place.Creating m) → m.block ≤ inode_block j →
+      SearchGoes step slot m reply → SeesTaken disk.image p j step
+  seen_at_turn step m None got stands ahead goes = absurd goes.0
+  seen_at_turn step m (Some i) got stands ahead goes =
+      let past = past_at_turn n p j m o (before step) (now step) number passed goes.1 in
+      sees step m i o stands got past.0 passed (omega (arith, past.1, ahead))
+
+  -- a step before it, where the rest of the run sees what is still ahead
+  module _ (step : StepMade D) (rest : List (StepMade D)) (m : SearchState)
+      (stands : IsAt step.before (place.Creating m)) (ahead : m.block ≤ inode_block j)
+      (more : IsAt step.after place.Nowhere → ⊥)
+      (on : (k : SearchState) → IsAt step.after (place.Creating k) → k.block ≤ inode_block j →
+      Seen rest) where
+    seen_on : (slot : Option ℕ) (r : TaskProgress) → m.slot ≡ slot → SearchGoes step slot m r →
+        Seen (step ∷ rest)
+    seen_on None progress.Moved got goes = seen_later step rest (on _ goes.0.2 ahead)
+    seen_on None (progress.Turned told) got goes = absurd goes.0
+    seen_on None (progress.Decided told) got goes = absurd goes.0
+    seen_on None progress.Over got goes = absurd goes.0
+    seen_on None (progress.Sleeping why) got goes = seen_later step rest (on m goes.0.1 ahead)
+    seen_on None (progress.Fault fault) got goes = seen_later step rest (on m goes.0.1 ahead)
+    seen_on (Some i) progress.Moved got goes =
+        ⊎_elim
+        (λ here. seen_first step rest (sees step m i None stands got goes.1.none tt here))
+        (λ other.
+        seen_later step rest (on (at_next_block m) goes.0 (omega (arith, other, ahead))))
+        (cases_eq (inode_block j) m.block)
+    seen_on (Some i) (progress.Turned told) got goes = absurd (more goes.0)
+    seen_on (Some i) (progress.Decided told) got goes = absurd goes
+    seen_on (Some i) progress.Over got goes = absurd goes
+    seen_on (Some i) (progress.Sleeping why) got goes = absurd goes
+    seen_on (Some i) (progress.Fault fault) got goes = absurd goes
+
+  -- a run from a block that is not behind the number's
+  seen_in_run : (steps : List (StepMade D)) (s : StoreState D) (m : SearchState) →
+      s.inode_count ≡ n → IsAt s (place.Creating m) → m.block ≤ inode_block j →
+      IsRun disk p op s steps → EndsWith steps reply → Seen steps
+  seen_in_run [] s m count stands ahead run ends = absurd ends
+  seen_in_run (step ∷ []) s m count stands ahead run ends =
+      let goes = goes_from s step (place.Creating m) count stands run.0 run.1 in
+      seen_first step [] (seen_at_turn step m m.slot refl goes.1 ahead
+      (subst (λ (r : TaskProgress). SearchGoes step m.slot m r) ends goes.0))
+  seen_in_run (step ∷ next ∷ rest) s m count stands ahead run ends =
+      let goes = goes_from s step (place.Creating m) count stands run.0 run.1 in
+      seen_on step (next ∷ rest) m goes.1 ahead
+      (λ over. no_turn (next ∷ rest) step.after goes.2 over run.2 ends)
+      (λ k is low. seen_in_run (next ∷ rest) step.after k goes.2 is low run.2 ends)
+      m.slot step.answer refl goes.0
+
+-- the run of a search saw taken each number that it passed by
+seen_in_search : {D N : Type 0} (disk : Ghosts D N) (s : StoreState D) (p kind j : ℕ) (o : Option ℕ)
+    (steps : List (StepMade D)) → IsSearchRun disk p kind s steps (reply_of o) →
+    IsTrue (is_number s.inode_count j) → IsPassedBy o j → WasSeenTaken disk.image p steps j
+seen_in_search disk s p kind j o steps run number passed =
+    seen_in_run disk p s.inode_count j (Create kind) o number passed steps s _ refl run.begins
+    (omega arith) run.runs run.ends
+
+pub no_inode_saw_all : {D N : Type 0} (disk : Ghosts D N) → NoInodeSawAll disk
+no_inode_saw_all disk s p kind steps run i number =
+    seen_in_search disk s p kind i None steps run number tt
+
+pub made_saw_lower : {D N : Type 0} (disk : Ghosts D N) → MadeSawLower disk
+made_saw_lower disk s p kind i steps run j number lower =
+    seen_in_search disk s p kind j (Some i) steps run number lower
+
+pub steps_leave_others : {D N : Type 0} (disk : Ghosts D N) → StepsLeaveOthers disk
+steps_leave_others disk old new p q op r apart steps = record {
+  own = steps.tasks.others p (λ same. apart (sym same));
+  numbers = steps.tasks.numbers;
+}
+
+pub commits_leave_all : {D N : Type 0} (disk : Ghosts D N) → CommitsLeaveAll disk
+commits_leave_all disk old new p r commits = record {
+  own = ap (λ (ts : List TaskState). task ts p) commits.tasks;
+  numbers = commits.numbers;
+}
+
+pub bounds_leave_others : {D : Type 0} (old : StoreState D) (p : ℕ) → BoundsLeaveOthers old p
+bounds_leave_others old p = (
+  λ q op apart. record {
+    own = get_or-set_other old.tasks q p
+        (record { op = Some op; place = first_place op old.inode_count }) no_task
+        (λ same. apart (sym same));
+    numbers = refl;
+  },
+  λ log. record { own = refl; numbers = refl },
+)

@@ -1,0 +1,59 @@
+//! Laws of a store's tasks, of a reading and of the table of inodes, each the contract of a
+//! function that does nothing.
+ghost use Rattle.std.specs.Prelude.{ℕ};
+ghost use Rattle.inodes.specs.Store.{StoreState};
+ghost use Rattle.inodes.specs.Runs.{NoInodeSawAll, MadeSawLower, StepsLeaveOthers, CommitsLeaveAll, BoundsLeaveOthers};
+ghost use Rattle.inodes.specs.ReadRuns.{BegunMayStep, ReadsPart};
+ghost use Rattle.inodes.specs.Table.{HasPlace};
+ghost use Rattle.inodes.specs.Grips.{KeptByRefer, KeptByLock, KeptByRead, KeptByLeave, KeptByImage, IsTableAtOpening, HasPlaceForEach, LocksExclude, HolderIsAnother};
+
+use blocks::Disk;
+
+/// The cause of `NoInode` over a whole operation: each number that operations may name was seen
+/// taken by one of its steps, whatever other processes did between them. Where a number is made,
+/// each lower one was.
+pub fn search_saw<D: Disk>()
+    ensures none { NoInodeSawAll D.Disk }
+    ensures made { MadeSawLower D.Disk }
+{}
+
+/// A reading that was begun may make its first step, and a whole one gathers the bytes of the file
+/// from the offset on, as many as were asked for or as there are, where the file stays the same
+/// between its steps.
+pub fn reads_part<D: Disk>()
+    ensures begins { BegunMayStep D.Disk }
+    ensures part { ReadsPart D.Disk }
+{}
+
+/// What other processes and commits do leaves a process's task as it is.
+pub fn others_leave<D: Disk>()
+    ensures steps { StepsLeaveOthers D.Disk }
+    ensures commits { CommitsLeaveAll D.Disk }
+    ensures bounds { (old : StoreState D) (p : ℕ) → BoundsLeaveOthers old p }
+{}
+
+/// With fewer references than the table has places, there is a place for each inode number: so the
+/// 32 processes, of which each refers to one inode at most, always find one among 50.
+pub fn has_place()
+    ensures { HasPlace }
+{}
+
+/// The table of inodes agrees with what the processes have of it and with the current image, and
+/// goes on so at each call of a process, at each change of the image that leaves the used inodes,
+/// and from the opening on. What another process has locked stays.
+pub fn table_kept()
+    ensures refer { KeptByRefer }
+    ensures lock { KeptByLock }
+    ensures read { KeptByRead }
+    ensures leave { KeptByLeave }
+    ensures image { KeptByImage }
+    ensures opening { IsTableAtOpening }
+{}
+
+/// What follows for a process that takes an inode: there is a place for it, and no two processes
+/// have its lock.
+pub fn grips_say()
+    ensures place { HasPlaceForEach }
+    ensures exclude { LocksExclude }
+    ensures another { HolderIsAnother }
+{}
