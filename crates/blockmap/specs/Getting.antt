@@ -1,11 +1,12 @@
 -- What a step makes of a volume in which a machine gets a block, or is done with it.
-use Rattle.std.specs.Prelude.{◌≡◌, ℕ, Option, Some, None}
-use Rattle.blocks.specs.Disk.{Image}
+use Rattle.std.specs.Prelude.{◌≡◌, ℕ, List, slice_set, Option, Some, None}
+use Rattle.blocks.specs.Block.{overwritten}
+use Rattle.blocks.specs.Disk.{Image, block_at}
 use Rattle.blocks.specs.declared.disk.Disk.{Ghosts}
-use Rattle.bcache.specs.Buffers.{Buffers, released}
+use Rattle.bcache.specs.Buffers.{Buffers, buffer, block_or_zero, released}
 use Rattle.wal.specs.Held.{LocksAfter, GivesUpLock}
 use Rattle.wal.specs.Joint.{seen}
-use Rattle.wal.specs.Volume.{VolumeState, Holds, Gets, ReadsFor}
+use Rattle.wal.specs.Volume.{VolumeState, Holds, Gets, ReadsFor, after_change}
 use Rattle.wal.specs.declared.types.Get.{Get}
 use Rattle.wal.specs.declared.types.Get.TheVariants as get
 use Rattle.blockmap.specs.declared.progress.Progress.{Progress}
@@ -45,3 +46,19 @@ pub record Releases {D : Type 0} (image : D → Image) (v : VolumeState D) (p i 
 abbrev pub HoldsWhereGot : Image → Buffers → ℕ → ℕ → Option ℕ → Type 0
 HoldsWhereGot cur c p b None = Unit {0}
 HoldsWhereGot cur c p b (Some i) = Holds cur c p b i
+
+-- the block of a slot
+abbrev pub block_at_slot : {D : Type 0} → VolumeState D → ℕ → ℕ
+block_at_slot v i = block_or_zero (buffer v.buffers i).block
+
+-- The block of slot i is changed, logged and released, and nothing else changes: from that place on
+-- it has these bytes.
+pub record Puts {D : Type 0} (image : D → Image) (v : VolumeState D) (p i at : ℕ) (bytes : List ℕ)
+    (w : VolumeState D) : Type 0 where
+  pub volume : w ≡ record (after_change v p i at bytes) {
+    buffers = released (after_change v p i at bytes).buffers i;
+  }
+  pub current : seen (image w.device) w.buffers ≡ slice_set (seen (image v.device) v.buffers)
+      (block_at_slot v i)
+      (overwritten (block_at (seen (image v.device) v.buffers) (block_at_slot v i)) at bytes)
+  pub locks : GivesUpLock v.buffers w.buffers p i

@@ -1,4 +1,5 @@
 pub mod Getting
+pub mod Bfree
 pub mod Bmap
 pub mod Map
 pub mod Target

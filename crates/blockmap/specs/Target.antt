@@ -33,6 +33,16 @@ abbrev pub got_slot : Target → Option ℕ
 got_slot (target.Entry entry) = None
 got_slot (target.Block b slot) = slot
 
+-- the block that is got or used next
+abbrev pub block_of : Target → ℕ
+block_of (target.Entry entry) = entry.indirect
+block_of (target.Block b slot) = b
+
+-- the slot that holds it, where it was got
+abbrev pub slot_in : Target → Option ℕ
+slot_in (target.Entry entry) = entry.slot
+slot_in (target.Block b slot) = slot
+
 -- the target leads to block a, and the process holds what was got
 abbrev pub LeadsTo : {D : Type 0} → (D → Image) → VolumeState D → ℕ → ℕ → Target → Type 0
 LeadsTo image v p a (target.Entry entry) =

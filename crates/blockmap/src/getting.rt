@@ -1,7 +1,10 @@
 // The steps in which a machine gets a block, and is done with it.
-ghost use Rattle.std.specs.Prelude.{◌≡◌, ◌<◌, ◌≤◌, Some, None};
+ghost use Rattle.std.specs.Prelude.{◌≡◌, ◌<◌, ◌≤◌, ◌+◌, length, Some, None};
 ghost use Rattle.bcache.specs.Buffers.{buffer};
-ghost use Rattle.blockmap.specs.Getting.{GetsFor, Releases};
+ghost use Rattle.wal.specs.Joint.{seen};
+ghost use Rattle.wal.specs.Machine.{HasRoom, used_by};
+ghost use Rattle.wal.specs.Volume.{Holds};
+ghost use Rattle.blockmap.specs.Getting.{GetsFor, Releases, Puts, block_at_slot};
 
 use crate::Progress;
 use blocks::Disk;
@@ -38,5 +41,20 @@ pub fn release_block<D: Disk>(volume: &mut Volume<D>, pid: u32, slot: u32)
     requires held { (buffer volume.old.buffers slot).holder ≡ Some pid }
     ensures { Releases D.image volume.old pid slot volume.new }
 {
+    volume.release(pid, slot);
+}
+
+/// Writes bytes into the block of a slot that a process holds, from a place in the block on, logs it
+/// and releases it: the last step of a machine with a block that it changes.
+pub fn put_block<D: Disk>(volume: &mut Volume<D>, pid: u32, slot: u32, at: usize, bytes: &[u8])
+    requires fault { volume.old.fault ≡ None }
+    requires pid { pid < 32 }
+    requires room { HasRoom (used_by volume.old.log pid) }
+    requires holds { Holds (seen (D.image volume.old.device) volume.old.buffers)
+        volume.old.buffers pid (block_at_slot volume.old slot) slot }
+    requires fits { at + length bytes.now ≤ 1024 }
+    ensures { Puts D.image volume.old pid slot at bytes.now volume.new }
+{
+    volume.change(pid, slot, at, bytes);
     volume.release(pid, slot);
 }

@@ -10,13 +10,17 @@
 //! An inode has the addresses of its file's first 12 blocks, and that of a block with the addresses
 //! of 256 more. So `map` answers at once for one of the first; behind them the entry has to be read,
 //! which `Bmap` does in two steps. A machine that works on a block of a file keeps a
-//! `Target`: what it gets or uses next, and `seek` makes the next step to the block. So far nothing
-//! writes, and an address that isn't there is not made.
+//! `Target`: what it gets or uses next, and `seek` makes the next step to the block. An address
+//! that isn't there is not made yet.
+//!
+//! A machine that changes a block ends with `put_block`, which logs it. `Bfree` clears the bit of a
+//! block in the bitmap; no operation does so far.
 //!
 //! What is said of a file's bytes asks that the file may be read (`MayRead`). Where an image stands
 //! for files, that of each used number may (`laws`).
 #![tactic(auto)]
 
+mod bfree;
 mod bmap;
 mod getting;
 pub mod laws;
@@ -24,8 +28,9 @@ mod mapping;
 mod progress;
 mod target;
 
+pub use bfree::Bfree;
 pub use bmap::Bmap;
-pub use getting::{get_block, release_block};
+pub use getting::{get_block, put_block, release_block};
 pub use mapping::{Mapped, map};
 pub use model::types::Why;
 pub use progress::Progress;

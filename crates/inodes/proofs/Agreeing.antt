@@ -8,7 +8,11 @@ use Rattle.wal.specs.Machine.{LogState, used_by}
 use Rattle.inodes.specs.declared.tasks.Place.{Place}
 use Rattle.inodes.specs.declared.tasks.Place.TheVariants as place
 use Rattle.inodes.specs.Tasks.{TaskState, task, no_task}
-use Rattle.inodes.specs.Store.{HoldsAt, Stands, Agrees, slot_at}
+use Rattle.inodes.specs.Places.{slot_at}
+use Rattle.inodes.specs.Store.{HoldsAt, Stands, Agrees}
+use Rattle.inodes.specs.LockState.{slot_of}
+use Rattle.blockmap.specs.Target.{block_of, slot_in}
+use Rattle.model.specs.Layout.{inode_block}
 
 -- what the others hold and have in the log stays, while process p works
 pub record StaysForOthers (c d : Buffers) (l m : LogState) (p : ℕ) : Type 0 where
@@ -42,6 +46,10 @@ stands_other c d l m n p q t (place.Creating search) stays apart s = record {
   last = s.last;
   holds = holds_other c d l m p q search.block search.slot stays apart s.holds;
 }
+stands_other c d l m n p q t (place.Taking lock) stays apart s = holds_other c d l m p q (inode_block lock.number) (slot_of lock.at) stays apart s
+stands_other c d l m n p q t (place.Reading k reading) stays apart s = holds_other c d l m p q (block_of reading.target) (slot_in reading.target) stays apart s
+stands_other c d l m n p q t (place.Delivering k) stays apart s = tt
+stands_other c d l m n p q t (place.Leaving k) stays apart s = tt
 
 pub agrees_now : (c d : Buffers) (l m : LogState) (n p : ℕ) (ts : List TaskState) (t : TaskState) → TaskIsNow c d l m n p ts t → Agrees d m n (set ts p t)
 agrees_now c d l m n p ts t is = record {
@@ -76,3 +84,7 @@ agrees_still c d l m n ts holds locks used are = record {
     by_place : (q : ℕ) (t : TaskState) (a : Place) → Stands c l n q t.op a → Stands d m n q t.op a
     by_place q t place.Nowhere s = tt
     by_place q t (place.Creating search) s = record { op = s.op; used = used q ∙ s.used; count = s.count; kind = s.kind; behind = s.behind; last = s.last; holds = by_slot q search.block search.slot s.holds }
+    by_place q t (place.Taking lock) s = by_slot q (inode_block lock.number) (slot_of lock.at) s
+    by_place q t (place.Reading k reading) s = by_slot q (block_of reading.target) (slot_in reading.target) s
+    by_place q t (place.Delivering k) s = tt
+    by_place q t (place.Leaving k) s = tt

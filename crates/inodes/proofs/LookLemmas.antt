@@ -8,6 +8,7 @@ use Rattle.model.specs.Codec.{new_inode, with_inode}
 use Rattle.model.specs.Layout.{inode_in, inode_bytes_in, inode_block, inode_of}
 use Rattle.bcache.specs.Buffers.{Buffers, buffer}
 use Rattle.wal.specs.Volume.{Holds}
+use Rattle.blockmap.specs.Getting.{HoldsWhereGot}
 use Rattle.inodes.specs.Ialloc.{SearchState}
 use Rattle.blockmap.specs.declared.progress.Progress.{Progress}
 use Rattle.blockmap.specs.declared.progress.Progress.TheVariants as progress
@@ -17,12 +18,12 @@ use Rattle.wal.specs.Held.{GivesUpLock}
 use Rattle.wal.specs.Joint.{seen}
 use Rattle.wal.specs.Machine.{noted}
 use Rattle.wal.specs.Volume.{VolumeState}
-use Rattle.inodes.specs.Ialloc.{IsReady, MayStep, HoldsCurrent, OnMore, IsFree, SeesNoneFree, SearchSteps, finds, is_last_block, at_next_block, with_released, with_new_inode}
+use Rattle.inodes.specs.Ialloc.{IsReady, MayStep, OnMore, IsFree, SeesNoneFree, SearchSteps, finds, is_last_block, at_next_block, with_released, with_new_inode}
 use Rattle.inodes.specs.Lemmas.Looks.{found_number, taken_by_look}
 
 -- the process holds the block that it looks at
 pub held : (cur : Image) (c : Buffers) (size pid slot : ℕ) (m : SearchState) → IsReady cur c size pid m → m.slot ≡ Some slot → Holds cur c pid m.block slot
-held cur c size pid slot m ready is = subst (λ (o : Option ℕ). HoldsCurrent cur c pid m.block o) is ready.holds
+held cur c size pid slot m ready is = subst (λ (o : Option ℕ). HoldsWhereGot cur c pid m.block o) is ready.holds
 
 -- where it found a number, it holds that number's block
 pub held_number : (cur : Image) (c : Buffers) (size pid slot i : ℕ) (bytes : List ℕ) (m : SearchState) → IsReady cur c size pid m → m.slot ≡ Some slot → bytes ≡ (buffer c slot).bytes

@@ -25,6 +25,7 @@ use Rattle.blockmap.specs.declared.target.Target.{Target}
 use Rattle.blockmap.specs.declared.target.Target.TheVariants as target
 use Rattle.inodes.specs.Lemmas.ReadRuns.{Begins, begins}
 use Rattle.inodes.specs.ReadRuns.{BegunMayStep}
+use Rattle.inodes.specs.Ialloc.{OnMore}
 use Rattle.inodes.specs.Readi.{ReadState, IsReading, Gathers, IsMade, ReadSteps, Works}
 
 -- the log knows the size of the current image
@@ -101,7 +102,7 @@ got_at image v p a i (target.Block b slot) leads got = (
       (subst (λ (o : Option ℕ). HoldsWhereGot (seen (image v.device) v.buffers) v.buffers p b o) got leads.1),
 )
 
-few_steps : (t : Target) → steps_at t ≤ 4
+pub few_steps : (t : Target) → steps_at t ≤ 4
 few_steps (target.Entry entry) = by_slot entry.slot
   where
     by_slot : (o : Option ℕ) → steps_at (target.Entry (record entry { slot = o })) ≤ 4
@@ -155,10 +156,11 @@ module _ {D N : Type 0} (disk : Ghosts D N) (v : VolumeState D) (p i count : ℕ
         room = ap (λ (o : GatheredBytes). o.room) u.gathers ∙ ap (λ k. g.room - k) (ap length piece ∙ long);
       }
 
-  works : (n : ReadState) (r : Progress (Unit {0})) → n.next ≡ m.next + count → IsMade r → Works disk m.target v p m r w n
-  works n r next made =
+  works : (n : ReadState) (r : Progress (Unit {0})) → n.next ≡ m.next + count → IsMade r → OnMore r (n.target ≡ target_for m.inode (n.next / 1024))
+      → Works disk m.target v p m r w n
+  works n r next made goes =
       let some = some_bytes in
-      subst (λ (t : Target). Works disk t v p m r w n) (sym block.0) ((omega (arith, some, next), made, u.releases))
+      subst (λ (t : Target). Works disk t v p m r w n) (sym block.0) ((omega (arith, some, next), made, u.releases, goes))
 
   -- the last bytes
   pub uses_last : (n : ReadState) → n.inode ≡ m.inode → n.end ≡ m.end → n.next ≡ m.next + count → n.next ≡ n.end
@@ -167,7 +169,7 @@ module _ {D N : Type 0} (disk : Ghosts D N) (v : VolumeState D) (p i count : ℕ
     inode = inode;
     end = end;
     gathers = gathered n next;
-    works = works n (progress.Over tt) next tt;
+    works = works n (progress.Over tt) next tt tt;
     over = sym (eq-eqb n.next n.end last);
     asleep = λ cause no. absurd (cc no);
     more = tt;
@@ -194,7 +196,7 @@ module _ {D N : Type 0} (disk : Ghosts D N) (v : VolumeState D) (p i count : ℕ
         inode = inode;
         end = end;
         gathers = gathered n next;
-        works = works n progress.Moved next tt;
+        works = works n progress.Moved next tt leads;
         over = sym (ne_eqb n.next n.end more);
         asleep = λ cause no. absurd (cc no);
         more = record {

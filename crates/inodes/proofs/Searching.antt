@@ -12,12 +12,14 @@ use Rattle.wal.specs.Held.{HasLock, LeavesLocks, GetsLock, GivesUpLock}
 use Rattle.wal.specs.Joint.{Joint, seen}
 use Rattle.wal.specs.Machine.{LogState, used_by}
 use Rattle.wal.specs.Lemmas.Held.{held_is}
+use Rattle.blockmap.specs.Getting.{HoldsWhereGot}
 use Rattle.inodes.specs.Ialloc.{SearchState}
 use Rattle.inodes.specs.declared.tasks.Place.{Place}
 use Rattle.inodes.specs.declared.tasks.Place.TheVariants as place
-use Rattle.inodes.specs.Ialloc.{IsReady, HoldsCurrent, at_slot, at_next_block, is_last_block}
+use Rattle.inodes.specs.Ialloc.{IsReady, at_slot, at_next_block, is_last_block}
 use Rattle.inodes.specs.Tasks.{TaskState, task}
-use Rattle.inodes.specs.Store.{IsSearching, HoldsAt, Stands, Agrees, slot_at}
+use Rattle.inodes.specs.Places.{slot_at}
+use Rattle.inodes.specs.Store.{IsSearching, HoldsAt, Stands, Agrees}
 use Rattle.inodes.proofs.Agreeing.{StaysForOthers, TaskIsNow}
 
 -- a call that leaves the locks, and then one that gives a lock up
@@ -91,9 +93,10 @@ module _ (c d : Buffers) (l : LogState) (n p : ℕ) (ts : List TaskState) (m : S
       locks = λ b j has. nothing b j has;
     }
 
-slot_holds : (x : Image) (c : Buffers) (l : LogState) (p b : ℕ) (o : Option ℕ) → Joint x c l → HoldsAt c p b o → HoldsCurrent (seen x c) c p b o
-slot_holds x c l p b None joint has = tt
-slot_holds x c l p b (Some i) joint has = held_is p b i joint has
+-- who holds a block where it was got, has it as the buffers show it
+pub where_got : (x : Image) (c : Buffers) (l : LogState) (p b : ℕ) (o : Option ℕ) → Joint x c l → HoldsAt c p b o → HoldsWhereGot (seen x c) c p b o
+where_got x c l p b None joint has = tt
+where_got x c l p b (Some i) joint has = held_is p b i joint has
 
 -- the search may make its next step
 pub ready_of : (x : Image) (c : Buffers) (l : LogState) (n p : ℕ) (ts : List TaskState) (m : SearchState) → Agrees c l n ts → p < length ts → (task ts p).place ≡ place.Creating m → Joint x c l
@@ -114,5 +117,5 @@ ready_of x c l n p ts m agrees inside stood joint geometry numbers =
       some = omega (arith, some, numbers, s.count);
       few = omega (arith, few, numbers, s.count);
       within = omega (arith, room, size, some, numbers, s.count, long, joint.size);
-      holds = slot_holds x c l p m.block m.slot joint s.holds;
+      holds = where_got x c l p m.block m.slot joint s.holds;
     }

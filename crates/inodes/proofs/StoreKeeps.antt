@@ -1,5 +1,5 @@
 -- Each call of a store keeps what is true of every store.
-use Rattle.std.proofs.Common.{◌≡◌, ◌≢◌, ℕ, zero, suc, ◌<◌, ◌≤◌, ◌==◌, leb, List, length, set, replicate, refl, sym, ◌∙◌, ap, subst, arith, ⊎_elim, Option, Some, None}
+use Rattle.std.proofs.Common.{◌≡◌, ◌≢◌, ℕ, ◌<◌, ◌≤◌, ◌==◌, leb, List, length, set, replicate, refl, sym, ◌∙◌, ap, subst, arith, ⊎_elim, Option, Some, None}
 use Rattle.std.specs.Prelude.{IsTrue, IfNone}
 use Rattle.std.proofs.lemmas.Bool.{cases_eq, leb-true}
 use Rattle.blocks.specs.Disk.{Image, IsImage, block_at}
@@ -13,6 +13,7 @@ use Rattle.model.specs.declared.types.image.Form.TheVariants.{One}
 use Rattle.model.specs.Fields.{u32_at}
 use Rattle.model.specs.Layout.{super_of, super_in, inode_block, inode_count_of, is_lawful_super, magic_of}
 use Rattle.model.specs.Journal.{is_number}
+use Rattle.model.specs.Operations.{is_kind}
 use Rattle.model.specs.Soundness.{IsLawfulGeometry}
 use Rattle.model.specs.Lemmas.Log.{both_of}
 use Rattle.loose.specs.Lemmas.Claims.{claims}
@@ -34,10 +35,14 @@ use Rattle.blockmap.specs.declared.progress.Progress.TheVariants as search
 use Rattle.inodes.specs.declared.tasks.Place.{Place}
 use Rattle.inodes.specs.declared.tasks.Place.TheVariants as place
 use Rattle.inodes.specs.Ialloc.{SearchSteps, SearchGoes, SearchLocks, IsFree, current_after, log_after, fault_in, at_slot, at_next_block}
+use Rattle.inodes.specs.Table.{TableState}
 use Rattle.inodes.specs.Tasks.{TaskState, task, no_task}
-use Rattle.inodes.specs.Store.{StoreState, IsStore, Agrees, Stands, CanBegin, first_place, slot_at, current_of}
+use Rattle.inodes.specs.Looks.{AreLooking, LooksAt}
+use Rattle.inodes.specs.Places.{asked_by, grip_by, grip_of, slot_at}
+use Rattle.inodes.specs.Store.{StoreState, IsStore, Agrees, Stands, CanBegin, first_place, current_of}
 use Rattle.inodes.proofs.Agreeing.{agrees_now, agrees_still}
 use Rattle.inodes.specs.Lemmas.Faults.{where_none, if_none, if_some}
+use Rattle.inodes.proofs.LooksKept.{KeepsUsed, keeps_claimed, looks_kept, looks_set, none_at}
 use Rattle.inodes.proofs.Searching.{search as searching, task_got, task_next, task_over}
 use Rattle.inodes.proofs.StoreSteps.{tasks_then, store_then, many_then, within_image}
 
@@ -81,8 +86,8 @@ agrees_then {D} disk v u n p ts m new r agrees lt stood steps well = by_answer r
     by_answer (search.Fault fault) goes locks log asleep well = absurd (cc well)
 
 -- a task begins
-pub agrees_begun : (c : Buffers) (l : LogState) (n p : ℕ) (op : Op) (ts : List TaskState) → Agrees c l n ts → p < length ts → p < length l.used → (task ts p).place ≡ place.Nowhere → CanBegin op → Agrees c (begun l p) n (set ts p (record { op = Some op; place = first_place op n }))
-agrees_begun c l n p op ts agrees lt pid stood can = agrees_now c c l (begun l p) n p ts (record { op = Some op; place = first_place op n }) (record {
+pub agrees_begun : (c : Buffers) (l : LogState) (n p : ℕ) (op : Op) (ts : List TaskState) → Agrees c l n ts → p < length ts → p < length l.used → (task ts p).place ≡ place.Nowhere → CanBegin op → Agrees c (begun l p) n (set ts p (record { op = Some op; place = first_place op n; gathered = None }))
+agrees_begun c l n p op ts agrees lt pid stood can = agrees_now c c l (begun l p) n p ts (record { op = Some op; place = first_place op n; gathered = None }) (record {
   agrees = agrees;
   inside = lt;
   others = record { holds = λ q b i apart has. has; locks = λ q b i apart has. has; used = λ q apart. used_begun l p q apart };
@@ -111,6 +116,10 @@ agrees_ended c l n p ts agrees stood = record {
     by_place : (q : ℕ) → q ≢ p → (t : TaskState) (a : Place) → Stands c l n q t.op a → Stands c (ended l p) n q t.op a
     by_place q apart t place.Nowhere s = tt
     by_place q apart t (place.Creating m) s = record { op = s.op; used = used_ended l p q apart ∙ s.used; count = s.count; kind = s.kind; behind = s.behind; last = s.last; holds = s.holds }
+    by_place q apart t (place.Taking m) s = s
+    by_place q apart t (place.Reading k m) s = s
+    by_place q apart t (place.Delivering k) s = s
+    by_place q apart t (place.Leaving k) s = s
 
 -- a commit's write
 used_written : (k : Commit) (l : LogState) (q : ℕ) → used_by (written_at k l) q ≡ used_by l q
@@ -132,14 +141,9 @@ agrees_committed h x y c d l m r n ts made leaves agrees = agrees_still c d l m 
 -- no task is under way at the opening
 pub agrees_opened : (l : LogState) (n k : ℕ) → Agrees fresh_buffers l n (replicate k no_task)
 agrees_opened l n k = record {
-  stands = λ p. subst (λ (t : TaskState). Stands fresh_buffers l n p t.op t.place) (sym (none k p)) tt;
+  stands = λ p. subst (λ (t : TaskState). Stands fresh_buffers l n p t.op t.place) (sym (none_at k p)) tt;
   holders = λ p b i has. absurd (none_locked p b i has);
 }
-  where
-    none : (k p : ℕ) → task (replicate k no_task) p ≡ no_task
-    none zero p = refl
-    none (suc k) zero = refl
-    none (suc k) (suc p) = none k p
 
 -- a step of a search keeps the geometry
 geometry_then : (cur now : Image) (c : Buffers) (m : SearchState) (r : Progress (Option ℕ)) (new : SearchState) (o : Option ℕ) → IsLawfulGeometry cur → IsImage cur → m.inode_count ≡ inode_count_of cur → m.kind ≤ 3 → SearchGoes o cur c m r new
@@ -164,13 +168,44 @@ geometry_then cur now c m r new o g full count few goes current = by_answer r o 
     by_answer (search.Over (Some i)) (Some k) goes is = claimed i goes.2 is
     by_answer (search.Fault fault) o goes is = same is
 
+-- and what is true of operations that look at a file
+looks_then : (cur now : Image) (c : Buffers) (t : TableState) (ts : List TaskState) (p : ℕ) (m new : SearchState) (r : Progress (Option ℕ)) (o : Option ℕ) → AreLooking cur t ts → t.inode_count ≡ inode_count_of cur → p < length ts
+    → (task ts p).place ≡ place.Creating m → m.inode_count ≡ t.inode_count → IsTrue (is_kind m.kind) → SearchGoes o cur c m r new → now ≡ current_after cur m r → AreLooking now t (tasks_then ts p new r)
+looks_then cur now c t ts p m new r o are numbers lt stood count kind goes current = by_answer r o goes current
+  where
+    no_grip : None ≡ grip_of (task ts p)
+    no_grip = sym (ap (λ (a : Place). grip_by a (asked_by (task ts p).op)) stood)
+
+    placed : (x : Image) (a : Place) → AreLooking x t ts → grip_by a (asked_by (task ts p).op) ≡ None → LooksAt x t (record (task ts p) { place = a }) a → AreLooking x t (set ts p (record (task ts p) { place = a }))
+    placed x a still none stands = looks_set x t ts p (record (task ts p) { place = a }) still lt (none ∙ no_grip) stands
+
+    claimed : (i : ℕ) → IsFree cur m i → AreLooking (with_inode cur i (new_inode m.kind)) t ts
+    claimed i free =
+        let fits = are.files.1 in
+        let number : IsTrue (is_number (inode_count_of cur) i) = subst (λ (n : ℕ). IsTrue (is_number n i)) (count ∙ numbers) free.number in
+        let few = leb-true m.kind 3 (both_of (leb 1 m.kind) (leb m.kind 3) kind).1 in
+        let full = fits.full (inode_block i) (omega arith) (within_image cur i fits.geometry number) in
+        let keeps = keeps_claimed are.files.0 cur i m.kind fits number free.free kind (claims cur i m.kind fits.geometry number few full) in
+        looks_kept cur (with_inode cur i (new_inode m.kind)) t ts are (subst (λ (n : ℕ). KeepsUsed n cur (with_inode cur i (new_inode m.kind))) (sym numbers) keeps)
+
+    still : now ≡ cur → AreLooking now t ts
+    still is = subst (λ (x : Image). AreLooking x t ts) (sym is) are
+
+    by_answer : (r : Progress (Option ℕ)) (o : Option ℕ) → SearchGoes o cur c m r new → now ≡ current_after cur m r → AreLooking now t (tasks_then ts p new r)
+    by_answer search.Moved o goes is = placed now (place.Creating new) (still is) refl tt
+    by_answer (search.Sleeping cause) o goes is = still is
+    by_answer (search.Over None) o goes is = placed now place.Nowhere (still is) refl tt
+    by_answer (search.Over (Some i)) None goes is = absurd goes
+    by_answer (search.Over (Some i)) (Some k) goes is = placed now place.Nowhere (subst (λ (x : Image). AreLooking x t ts) (sym is) (claimed i goes.2)) refl tt
+    by_answer (search.Fault fault) o goes is = still is
+
 -- and all that is true of every store
 pub store_searched : {D N : Type 0} (disk : Ghosts D N) (s : StoreState D) (u : VolumeState D) (p : ℕ) (m new : SearchState) (r : Progress (Option ℕ)) → IsStore disk.image s → s.volume.fault ≡ None → IsImage (current_of disk.image s.volume)
     → p < length s.tasks → (task s.tasks p).place ≡ place.Creating m → SearchSteps disk m.slot s.volume u p m new r → IsStore disk.image (store_then s u p new r)
 store_searched disk s u p m new r is well full lt stood steps =
     let cur = current_of disk.image s.volume in
     let agrees = where_none s.volume.fault well is.agrees in
-    let mine = searching s.volume.buffers s.volume.buffers s.volume.log s.inode_count p s.tasks m agrees lt stood in
+    let mine = searching s.volume.buffers s.volume.buffers s.volume.log s.table.inode_count p s.tasks m agrees lt stood in
     let few = leb-true m.kind 3 (both_of (leb 1 m.kind) (leb m.kind 3) mine.kind).1 in
     let kept = geometry_then cur (current_of disk.image u) s.volume.buffers m r new m.slot is.geometry full (mine.count ∙ is.numbers) few steps.goes steps.current in
     record {
@@ -178,8 +213,9 @@ store_searched disk s u p m new r is well full lt stood steps =
       geometry = kept.0;
       numbers = is.numbers ∙ sym kept.1;
       agrees = by_fault (fault_in r) refl;
+      looks = if_none u.fault (looks_then cur (current_of disk.image u) s.volume.buffers s.table s.tasks p m new r m.slot (where_none s.volume.fault well is.looks) is.numbers lt stood mine.count mine.kind steps.goes steps.current);
     }
   where
-    by_fault : (o : Option DiskFault) → fault_in r ≡ o → IfNone u.fault (Agrees u.buffers u.log s.inode_count (tasks_then s.tasks p new r))
-    by_fault None e = if_none u.fault (agrees_then disk s.volume u s.inode_count p s.tasks m new r (where_none s.volume.fault well is.agrees) lt stood steps e)
-    by_fault (Some f) e = if_some (Agrees u.buffers u.log s.inode_count (tasks_then s.tasks p new r)) u.fault f (steps.fault ∙ e)
+    by_fault : (o : Option DiskFault) → fault_in r ≡ o → IfNone u.fault (Agrees u.buffers u.log s.table.inode_count (tasks_then s.tasks p new r))
+    by_fault None e = if_none u.fault (agrees_then disk s.volume u s.table.inode_count p s.tasks m new r (where_none s.volume.fault well is.agrees) lt stood steps e)
+    by_fault (Some f) e = if_some (Agrees u.buffers u.log s.table.inode_count (tasks_then s.tasks p new r)) u.fault f (steps.fault ∙ e)

@@ -1,7 +1,7 @@
 -- What a step of a search promises, of the store in which it is made.
 use Rattle.std.proofs.Common.{◌≡◌, ◌≢◌, ℕ, ◌+◌, ◌-◌, ◌*◌, ◌<◌, ◌≤◌, Bool, true, false, cond, leb, ltb, ⊎_elim, List, length, length-set, set, refl, sym, ◌∙◌, ap, subst, arith, Option, Some, None}
 use Rattle.std.specs.Prelude.{IsTrue, is_some}
-use Rattle.std.proofs.lemmas.Bool.{eqb-true, eqb-false, eq-eqb, leb-true, ltb-true, cases_eq, false≢true}
+use Rattle.std.proofs.lemmas.Bool.{eqb-true, eqb-false, eq-eqb, ne_eqb, leb-true, ltb-true, cases_eq, false≢true}
 use Rattle.std.proofs.lemmas.List.{get_or-set_same, get_or-set_other}
 use Rattle.blocks.specs.Disk.{Image, IsImage, block_at}
 use Rattle.blocks.specs.declared.disk.Disk.{Ghosts}
@@ -38,10 +38,15 @@ use Rattle.inodes.specs.declared.tasks.Place.TheVariants as place
 use Rattle.inodes.specs.Creation.{lowest_free}
 use Rattle.inodes.specs.Ialloc.{BuffersAfter, SearchSteps, SearchGoes, SearchLocks, IsFree, current_after, log_after, fault_in}
 use Rattle.inodes.specs.Tasks.{TaskState, task, no_task}
-use Rattle.inodes.specs.Store.{StoreState, FitsFiles, Agrees, IsSearching, current_of, slot_at, reply_of}
+use Rattle.inodes.specs.Goes.{Shown, shown_of, FindsNone, GetsBlock, LooksAtBlock, Goes, GoesFrom}
+use Rattle.inodes.specs.Looks.{AreLooking}
+use Rattle.inodes.specs.Places.{asked_by, block_at_place, looks_left, slot_at, steps_left}
+use Rattle.inodes.specs.Store.{StoreState, FitsFiles, Agrees, IsSearching, current_of, reply_of}
+use Rattle.inodes.specs.Lemmas.Bounds.{some_step}
+use Rattle.inodes.specs.Lemmas.Looks.{reading_number, reading_used}
 use Rattle.inodes.proofs.Searching.{search as searching}
 use Rattle.model.specs.Tasks.{FilesThen, Answers, reply_at_turn, fault_of_task, Marks}
-use Rattle.inodes.specs.Steps.{Steps, Shown, shown_of, FindsNone, GetsBlock, LooksAtBlock, Goes, GoesFrom, IsHeldByAnother, steps_left, looks_left, block_at_place}
+use Rattle.inodes.specs.Steps.{Steps, IsHeldByAnother, LeavesNumber, LeavesReadings, is_made}
 
 -- what a store answers for what its search came to
 abbrev pub answer_of : Progress (Option ℕ) → TaskProgress
@@ -118,7 +123,7 @@ fewer (Some s) n m new cur c is count last g =
     omega (arith, now, before, other, same, last)
 
 -- who waits for a buffer, waits for another's
-held_by : {D : Type 0} (s : StoreState D) (p : ℕ) (m : SearchState) (o : Option ℕ) → Agrees s.volume.buffers s.volume.log s.inode_count s.tasks → (task s.tasks p).place ≡ place.Creating m → m.slot ≡ o
+held_by : {D : Type 0} (s : StoreState D) (p : ℕ) (m : SearchState) (o : Option ℕ) → Agrees s.volume.buffers s.volume.log s.table.inode_count s.tasks → (task s.tasks p).place ≡ place.Creating m → m.slot ≡ o
     → (d : Buffers) (slot : Option ℕ) → SearchLocks o (search.Sleeping why.BufferHeld) s.volume.buffers d p m.block slot → IsHeldByAnother s p m.block
 held_by s p m None agrees stood none d slot waits = record {
   other = waits.0;
@@ -139,7 +144,7 @@ within_image x i g number =
     omega arith
 
 -- nothing is done to an image
-marks_same : (made : Option Reply) (x : Image) → ((i : ℕ) → is_making i made ≡ true → ⊥) → Marks made x x
+pub marks_same : (made : Option Reply) (x : Image) → ((i : ℕ) → is_making i made ≡ true → ⊥) → Marks made x x
 marks_same made x none = record {
   size = refl;
   untouched = record { boot = refl; super = refl; inode_zero = refl; inodes_past = λ i low high. refl; bits_past = λ b low high. refl };
@@ -176,7 +181,7 @@ groups_noted l p b lt = by_home (is_among b l.homes)
     by_home true = record { size = refl; outstanding = refl; opened = refl; committed = refl; commit = refl; used = λ q. refl }
     by_home false = record { size = refl; outstanding = refl; opened = refl; committed = refl; commit = refl; used = used }
 
-groups_same : (l : LogState) → SameGroups l l
+pub groups_same : (l : LogState) → SameGroups l l
 groups_same l = record { size = refl; outstanding = refl; opened = refl; committed = refl; commit = refl; used = λ q. refl }
 
 groups_after : (l : LogState) (p b : ℕ) (r : Progress (Option ℕ)) → p < length l.used → SameGroups l (log_after l p b r)
@@ -188,14 +193,14 @@ groups_after l p b (search.Fault fault) lt = groups_same l
 
 -- what a step of the search came to, in a store with these files
 module _ {D : Type 0} (image : D → Image) (s t : StoreState D) (p : ℕ) (m new : SearchState) (op : Op) (r : Progress (Option ℕ))
-    (agrees : Agrees s.volume.buffers s.volume.log s.inode_count s.tasks) (numbers : s.inode_count ≡ inode_count_of (current_of image s.volume)) (inside : p < length s.tasks)
+    (agrees : Agrees s.volume.buffers s.volume.log s.table.inode_count s.tasks) (numbers : s.table.inode_count ≡ inode_count_of (current_of image s.volume)) (inside : p < length s.tasks)
     (stood : (task s.tasks p).place ≡ place.Creating m) (is_op : (task s.tasks p).op ≡ Some op)
     (current : current_of image t.volume ≡ current_after (current_of image s.volume) m r) where
   abbrev cur : Image
   cur = current_of image s.volume
 
-  mine : IsSearching s.volume.buffers s.volume.log s.inode_count p (task s.tasks p).op m
-  mine = searching s.volume.buffers s.volume.buffers s.volume.log s.inode_count p s.tasks m agrees inside stood
+  mine : IsSearching s.volume.buffers s.volume.log s.table.inode_count p (task s.tasks p).op m
+  mine = searching s.volume.buffers s.volume.buffers s.volume.log s.table.inode_count p s.tasks m agrees inside stood
 
   same_op : op ≡ Create m.kind
   same_op = ap (λ (o : Option Op). elim o [ None ↦ Create m.kind | Some q ↦ q ]) (sym is_op ∙ mine.op)
@@ -237,8 +242,8 @@ module _ {D : Type 0} (image : D → Image) (s t : StoreState D) (p : ℕ) (m ne
     shows log = ap (λ (y : Image). record { current = y; log = t.volume.log }) current ∙ ap (λ (l : LogState). record { current = current_after cur m r; log = l }) log
 
     pub goes_now : (o : Option ℕ) → t.volume.log ≡ log_after s.volume.log p m.block r → BuffersAfter image o m s.volume p r t.volume.buffers → SearchGoes o cur s.volume.buffers m r new
-        → GoesFrom o s.inode_count p m s.volume.buffers (answer_of r) (place_then r m new) (shown_of image s.volume) (shown_of image t.volume)
-    goes_now o log buffers g = goes_from image s.volume p s.inode_count m new (shown_of image t.volume) t.volume.buffers mine.count numbers o r (shows log) made buffers g
+        → GoesFrom o s.table.inode_count p m s.volume.buffers (answer_of r) (place_then r m new) (shown_of image s.volume) (shown_of image t.volume)
+    goes_now o log buffers g = goes_from image s.volume p s.table.inode_count m new (shown_of image t.volume) t.volume.buffers mine.count numbers o r (shows log) made buffers g
 
     pub marks_now : (o : Option ℕ) → SearchGoes o cur s.volume.buffers m r new → Marks (reply_at_turn (answer_of r)) cur (current_of image t.volume)
     marks_now o g = by_answer r o g current
@@ -263,7 +268,7 @@ tasks_then ts p new (search.Fault fault) = ts
 
 -- and the store
 abbrev pub store_then : {D : Type 0} → StoreState D → VolumeState D → ℕ → SearchState → Progress (Option ℕ) → StoreState D
-store_then s u p new r = record { volume = u; tasks = tasks_then s.tasks p new r; inode_count = s.inode_count }
+store_then s u p new r = record { volume = u; tasks = tasks_then s.tasks p new r; table = s.table }
 
 others_then : (ts : List TaskState) (p : ℕ) (new : SearchState) (r : Progress (Option ℕ)) (q : ℕ) → q ≢ p → task (tasks_then ts p new r) q ≡ task ts q
 others_then ts p new search.Moved q apart = get_or-set_other ts p q (record (task ts p) { place = place.Creating new }) no_task apart
@@ -301,7 +306,7 @@ asleep_then s u p new (search.Sleeping other) same cause is = ap (λ (v : Volume
 asleep_then s u p new (search.Over made) same cause is = absurd (cc is)
 asleep_then s u p new (search.Fault fault) same cause is = absurd (cc is)
 
-held_then : {D : Type 0} (s : StoreState D) (p : ℕ) (m : SearchState) (r : Progress (Option ℕ)) → Agrees s.volume.buffers s.volume.log s.inode_count s.tasks → (task s.tasks p).place ≡ place.Creating m
+held_then : {D : Type 0} (s : StoreState D) (p : ℕ) (m : SearchState) (r : Progress (Option ℕ)) → Agrees s.volume.buffers s.volume.log s.table.inode_count s.tasks → (task s.tasks p).place ≡ place.Creating m
     → (d : Buffers) (slot : Option ℕ) → SearchLocks m.slot r s.volume.buffers d p m.block slot → answer_of r ≡ progress.Sleeping why.BufferHeld → IsHeldByAnother s p m.block
 held_then s p m search.Moved agrees stood d slot locks is = absurd (cc is)
 held_then s p m (search.Sleeping cause) agrees stood d slot locks is =
@@ -310,29 +315,67 @@ held_then s p m (search.Sleeping cause) agrees stood d slot locks is =
 held_then s p m (search.Over made) agrees stood d slot locks is = absurd (cc is)
 held_then s p m (search.Fault fault) agrees stood d slot locks is = absurd (cc is)
 
-falls_then : (n : ℕ) (m new : SearchState) (cur : Image) (c : Buffers) (r : Progress (Option ℕ)) → m.inode_count ≡ n → m.block ≤ inode_block (n - 1) → SearchGoes m.slot cur c m r new → answer_of r ≡ progress.Moved → steps_left (place_then r m new) n < steps_left (place.Creating m) n
+falls_then : (n : ℕ) (m new : SearchState) (cur : Image) (c : Buffers) (r : Progress (Option ℕ)) → m.inode_count ≡ n → m.block ≤ inode_block (n - 1) → SearchGoes m.slot cur c m r new → is_made (answer_of r) ≡ true → steps_left (place_then r m new) n < steps_left (place.Creating m) n
 falls_then n m new cur c search.Moved count last g is = fewer m.slot n m new cur c refl count last g
-falls_then n m new cur c (search.Sleeping cause) count last g is = absurd (cc is)
-falls_then n m new cur c (search.Over made) count last g is = absurd (cc is)
-falls_then n m new cur c (search.Fault fault) count last g is = absurd (cc is)
+falls_then n m new cur c (search.Sleeping cause) count last g is = absurd (false≢true is)
+falls_then n m new cur c (search.Over made) count last g is = let some = some_step (place.Creating m) n refl in omega (arith, some)
+falls_then n m new cur c (search.Fault fault) count last g is = absurd (false≢true is)
+
+-- no search waits for an inode
+no_inode_held : (o : Option ℕ) (c d : Buffers) (p b : ℕ) (slot : Option ℕ) (r : Progress (Option ℕ)) → SearchLocks o r c d p b slot → answer_of r ≡ progress.Sleeping why.InodeHeld → ⊥
+no_inode_held o c d p b slot search.Moved locks is = cc is
+no_inode_held o c d p b slot (search.Sleeping cause) locks is = waits o (subst (λ (w : Why). SearchLocks o (search.Sleeping w) c d p b slot) (let same : cause ≡ why.InodeHeld = cc is in same) locks)
+  where
+    waits : (o : Option ℕ) → SearchLocks o (search.Sleeping why.InodeHeld) c d p b slot → ⊥
+    waits None never = never
+    waits (Some i) never = never
+no_inode_held o c d p b slot (search.Over made) locks is = cc is
+no_inode_held o c d p b slot (search.Fault fault) locks is = cc is
+
+-- a creation's number is no reading's: that of a creation is 0, and what it makes was free
+apart_then : {D : Type 0} (image : D → Image) (s : StoreState D) (p : ℕ) (m new : SearchState) (c : Buffers) (o : Option ℕ) (r : Progress (Option ℕ)) → AreLooking (current_of image s.volume) s.table s.tasks
+    → SearchGoes o (current_of image s.volume) c m r new → LeavesReadings s p (Create m.kind) (answer_of r)
+apart_then image s p m new c o r looks goes q apart reads = by_answer r o goes
+  where
+    number : ℕ
+    number = asked_by (task s.tasks q).op
+
+    named : 0 ≢ number
+    named none =
+        let is = reading_number (current_of image s.volume) s.table s.tasks looks q reads in
+        let some = ltb-true 0 number (both_of (ltb 0 number) (ltb number s.table.inode_count) is).0 in
+        omega (arith, none, some)
+
+    taken : (i : ℕ) → (inode_of (current_of image s.volume) i).kind ≡ 0 → number ≢ i
+    taken i free same = reading_used (current_of image s.volume) s.table s.tasks looks q reads (ap (λ (j : ℕ). (inode_of (current_of image s.volume) j).kind) same ∙ free)
+
+    by_answer : (r : Progress (Option ℕ)) (o : Option ℕ) → SearchGoes o (current_of image s.volume) c m r new → LeavesNumber (Create m.kind) (reply_at_turn (answer_of r)) number
+    by_answer search.Moved o goes = tt
+    by_answer (search.Sleeping cause) o goes = tt
+    by_answer (search.Over None) o goes = (named, refl)
+    by_answer (search.Over (Some i)) None goes = absurd goes
+    by_answer (search.Over (Some i)) (Some k) goes = (named, ne_eqb number i (taken i goes.2.free))
+    by_answer (search.Fault fault) o goes = tt
 
 -- THE STEP: what a store promises of a step of its search
 pub search_steps : {D N : Type 0} (disk : Ghosts D N) (s : StoreState D) (u : VolumeState D) (p : ℕ) (m new : SearchState) (op : Op) (r : Progress (Option ℕ))
-    → Agrees s.volume.buffers s.volume.log s.inode_count s.tasks → s.inode_count ≡ inode_count_of (current_of disk.image s.volume) → p < length s.tasks
+    → Agrees s.volume.buffers s.volume.log s.table.inode_count s.tasks → s.table.inode_count ≡ inode_count_of (current_of disk.image s.volume) → p < length s.tasks
     → (task s.tasks p).place ≡ place.Creating m → (task s.tasks p).op ≡ Some op → IsLawfulGeometry (current_of disk.image s.volume) → IsImage (current_of disk.image s.volume)
-    → p < length s.volume.log.used → SearchSteps disk m.slot s.volume u p m new r
+    → AreLooking (current_of disk.image s.volume) s.table s.tasks → p < length s.volume.log.used → SearchSteps disk m.slot s.volume u p m new r
     → Steps disk s p op (answer_of r) (store_then s u p new r)
-search_steps disk s u p m new op r agrees numbers inside stood is_op geometry full pid steps =
+search_steps disk s u p m new op r agrees numbers inside stood is_op geometry full looks pid steps =
     let t = store_then s u p new r in
     let cur = current_of disk.image s.volume in
-    let mine = searching s.volume.buffers s.volume.buffers s.volume.log s.inode_count p s.tasks m agrees inside stood in
+    let mine = searching s.volume.buffers s.volume.buffers s.volume.log s.table.inode_count p s.tasks m agrees inside stood in
     let now = mine_then s.tasks p m new r inside stood in
     let few = leb-true m.kind 3 (both_of (leb 1 m.kind) (leb m.kind 3) mine.kind).1 in
     record {
       files = files_then disk.image s t p m new op r agrees numbers inside stood is_op steps.current m.slot steps.goes;
-      goes = subst (λ (a : Place). Goes a s.inode_count p s.volume.buffers (answer_of r) (task t.tasks p).place (shown_of disk.image s.volume) (shown_of disk.image u)) (sym stood)
-          (subst (λ (a : Place). GoesFrom m.slot s.inode_count p m s.volume.buffers (answer_of r) a (shown_of disk.image s.volume) (shown_of disk.image u)) (sym now.0)
-          (goes_now disk.image s t p m new op r agrees numbers inside stood is_op steps.current geometry full few m.slot steps.log steps.buffers steps.goes));
+      goes = subst (λ (a : Place). Goes disk a s p op (answer_of r) t) (sym stood) (
+        subst (λ (a : Place). GoesFrom m.slot s.table.inode_count p m s.volume.buffers (answer_of r) a (shown_of disk.image s.volume) (shown_of disk.image u)) (sym now.0)
+            (goes_now disk.image s t p m new op r agrees numbers inside stood is_op steps.current geometry full few m.slot steps.log steps.buffers steps.goes),
+        refl,
+      );
       tasks = record {
         op_stays = now.1;
         others = λ q apart. others_then s.tasks p new r q apart;
@@ -344,12 +387,14 @@ search_steps disk s u p m new op r agrees numbers inside stood is_op geometry fu
       waits = record {
         sleeping = λ cause is. asleep_then s u p new r steps.asleep cause is;
         held = λ is. subst (λ (a : Place). IsHeldByAnother s p (block_at_place a)) (sym stood) (held_then s p m r agrees stood u.buffers new.slot steps.locks is);
+        inode = λ is. absurd (no_inode_held m.slot s.volume.buffers u.buffers p m.block new.slot r steps.locks is);
       };
       reads = record {
         device = steps.device;
         fault = steps.fault ∙ sym (fault_then r);
         faults = steps.faults ∙ ap (λ (o : Option DiskFault). faults_after o (disk.fault_count s.volume.device)) (sym (fault_then r));
       };
-      falls = λ is. subst (λ (a : Place). steps_left (task t.tasks p).place s.inode_count < steps_left a s.inode_count) (sym stood)
-          (subst (λ (a : Place). steps_left a s.inode_count < steps_left (place.Creating m) s.inode_count) (sym now.0) (falls_then s.inode_count m new cur s.volume.buffers r mine.count mine.last steps.goes is));
+      apart = subst (λ (q : Op). LeavesReadings s p q (answer_of r)) (sym (same_op disk.image s t p m new op r agrees numbers inside stood is_op steps.current)) (apart_then disk.image s p m new s.volume.buffers m.slot r looks steps.goes);
+      falls = λ is unfinished. subst (λ (a : Place). steps_left (task t.tasks p).place s.table.inode_count < steps_left a s.table.inode_count) (sym stood)
+          (subst (λ (a : Place). steps_left a s.table.inode_count < steps_left (place.Creating m) s.table.inode_count) (sym now.0) (falls_then s.table.inode_count m new cur s.volume.buffers r mine.count mine.last steps.goes is));
     }

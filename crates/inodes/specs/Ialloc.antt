@@ -12,8 +12,9 @@ use Rattle.bcache.specs.Buffers.{Buffers, released}
 use Rattle.wal.specs.Held.{GetsLock, GivesUpLock, WaitsFor}
 use Rattle.wal.specs.Joint.{seen}
 use Rattle.wal.specs.Machine.{LogState, noted}
-use Rattle.wal.specs.Volume.{VolumeState, Holds, get_answer, after_get, after_change, FailsToFill, faults_after}
+use Rattle.wal.specs.Volume.{VolumeState, get_answer, after_get, after_change, FailsToFill, faults_after}
 use Rattle.wal.specs.declared.types.Get.TheVariants as get
+use Rattle.blockmap.specs.Getting.{HoldsWhereGot}
 use Rattle.blockmap.specs.declared.progress.Progress.{Progress}
 use Rattle.blockmap.specs.declared.progress.Progress.TheVariants as progress
 use Rattle.inodes.specs.Creation.{lowest_free}
@@ -28,11 +29,6 @@ pub record SearchState : Type 0 where
   pub block : ℕ
   pub slot : Option ℕ
 
--- the process holds a block that the buffers show as it is now, where it was got
-abbrev pub HoldsCurrent : Image → Buffers → ℕ → ℕ → Option ℕ → Type 0
-HoldsCurrent cur c pid b None = Unit {0}
-HoldsCurrent cur c pid b (Some i) = Holds cur c pid b i
-
 -- the search may look at its block, which is an inode block of the image
 pub record IsReady (cur : Image) (c : Buffers) (size pid : ℕ) (m : SearchState) : Type 0 where
   pub kind : m.kind ≤ 3
@@ -42,7 +38,7 @@ pub record IsReady (cur : Image) (c : Buffers) (size pid : ℕ) (m : SearchState
   pub some : 2 ≤ m.inode_count
   pub few : m.inode_count ≤ 1024
   pub within : inode_block (m.inode_count - 1) < size
-  pub holds : HoldsCurrent cur c pid m.block m.slot
+  pub holds : HoldsWhereGot cur c pid m.block m.slot
 
 -- and so it may make a step over this volume
 abbrev pub MayStep : {D : Type 0} → (D → Image) → VolumeState D → ℕ → SearchState → Type 0

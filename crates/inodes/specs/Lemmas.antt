@@ -4,6 +4,7 @@ pub mod Bounds
 pub mod Looks
 pub mod Faults
 pub mod Ends
+pub mod StepEnds
 pub mod Runs
 pub mod ReadRuns
 pub mod Table

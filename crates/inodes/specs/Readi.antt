@@ -66,7 +66,8 @@ is_done (progress.Sleeping why) = false
 is_done (progress.Over out) = true
 is_done (progress.Fault fault) = false
 
--- What a step does, by its target: it seeks the block, or uses it and releases it.
+-- What a step does, by its target: it seeks the block, or uses it and releases it, and goes on to the
+-- next one.
 abbrev pub Works : {D N : Type 0} → Ghosts D N → Target → VolumeState D → ℕ → ReadState
     → Progress (Unit {0}) → VolumeState D → ReadState → Type 0
 Works disk (target.Entry entry) v p m r w n =
@@ -75,6 +76,7 @@ Works disk (target.Block b None) v p m r w n =
     (n ≡ record m { target = n.target }) × Seeks disk (target.Block b None) v p r n.target w
 Works disk (target.Block b (Some i)) v p m r w n =
     (m.next < n.next) × IsMade r × Releases disk.image v p i w
+    × OnMore r (n.target ≡ target_for m.inode (n.next / 1024))
 
 -- the bytes from the one place to the other were gathered, in room that there was
 pub record Gathers (file : List ℕ) (m n : ReadState) (g h : GatheredBytes) : Type 0 where

@@ -29,7 +29,7 @@ pub record StepMade (D : Type 0) : Type 0 where
 -- the count of numbers.
 pub record LeavesTask {D : Type 0} (old : StoreState D) (p : ℕ) (new : StoreState D) : Type 0 where
   pub own : task new.tasks p ≡ task old.tasks p
-  pub numbers : new.inode_count ≡ old.inode_count
+  pub numbers : new.table.inode_count ≡ old.table.inode_count
 
 -- these are the steps of process p's task from store s on, in their order
 abbrev pub IsRun : {D N : Type 0} → Ghosts D N → ℕ → Op → StoreState D → List (StepMade D) → Type 0
@@ -47,7 +47,7 @@ EndsWith (step ∷ next ∷ rest) r = EndsWith (next ∷ rest) r
 -- THE RUN OF A SEARCH: a creation's steps, from its first place to the turn that gives its reply
 pub record IsSearchRun {D N : Type 0} (disk : Ghosts D N) (p kind : ℕ) (s : StoreState D)
     (steps : List (StepMade D)) (reply : Reply) : Type 0 where
-  pub begins : (task s.tasks p).place ≡ first_place (Create kind) s.inode_count
+  pub begins : (task s.tasks p).place ≡ first_place (Create kind) s.table.inode_count
   pub runs : IsRun disk p (Create kind) s steps
   pub ends : EndsWith steps (progress.Turned (Some reply))
 
@@ -67,13 +67,13 @@ WasSeenTaken image p steps i = Any (SeesTaken image p i) steps
 abbrev pub NoInodeSawAll : {D N : Type 0} → Ghosts D N → Type 0
 NoInodeSawAll {D} disk = (s : StoreState D) (p kind : ℕ) (steps : List (StepMade D)) →
     IsSearchRun disk p kind s steps NoInode →
-    (i : ℕ) → IsTrue (is_number s.inode_count i) → WasSeenTaken disk.image p steps i
+    (i : ℕ) → IsTrue (is_number s.table.inode_count i) → WasSeenTaken disk.image p steps i
 
 -- the run that made number i saw each lower one taken
 abbrev pub MadeSawLower : {D N : Type 0} → Ghosts D N → Type 0
 MadeSawLower {D} disk = (s : StoreState D) (p kind i : ℕ) (steps : List (StepMade D)) →
     IsSearchRun disk p kind s steps (Made i) →
-    (j : ℕ) → IsTrue (is_number s.inode_count j) → j < i → WasSeenTaken disk.image p steps j
+    (j : ℕ) → IsTrue (is_number s.table.inode_count j) → j < i → WasSeenTaken disk.image p steps j
 
 -- a step of another process leaves a task
 abbrev pub StepsLeaveOthers : {D N : Type 0} → Ghosts D N → Type 0

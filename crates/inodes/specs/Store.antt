@@ -15,17 +15,24 @@ use Rattle.wal.specs.Held.{HoldsBlock, HasLock}
 use Rattle.wal.specs.Joint.{seen}
 use Rattle.wal.specs.Machine.{LogState, used_by, begin_cause, begun, new_log}
 use Rattle.wal.specs.Volume.{VolumeState}
+use Rattle.model.specs.Gathered.{GatheredBytes}
+use Rattle.blockmap.specs.Target.{block_of, slot_in}
 use Rattle.inodes.specs.Ialloc.{SearchState}
+use Rattle.inodes.specs.declared.ilock.LockAt.TheVariants as lock_at
 use Rattle.inodes.specs.declared.tasks.Place.{Place}
 use Rattle.inodes.specs.declared.tasks.Place.TheVariants as place
+use Rattle.inodes.specs.LockState.{slot_of}
+use Rattle.inodes.specs.Looks.{AreLooking}
+use Rattle.inodes.specs.Places.{asked, slot_at}
+use Rattle.inodes.specs.Table.{TableState}
 use Rattle.inodes.specs.Tasks.{TaskState, task}
 
 pub record StoreState (D : Type 0) : Type 0 where
   pub volume : VolumeState D
   -- where each process stands
   pub tasks : List TaskState
-  -- the image's inode numbers, the unused number 0 included
-  pub inode_count : ℕ
+  -- the inodes in memory
+  pub table : TableState
 
 -- the image as it is now, with what stands in buffers alone
 abbrev pub current_of : {D : Type 0} → (D → Image) → VolumeState D → Image
@@ -59,7 +66,7 @@ pub record MayBegin (l : LogState) (p : ℕ) : Type 0 where
   pub free : begin_cause l ≡ None
   pub opened : HasGroupNumber l
 
--- operations that a store carries out
+-- changing operations that a store carries out
 abbrev pub CanBegin : Op → Type 0
 CanBegin (Create kind) = IsTrue (is_kind kind)
 CanBegin (Write i off bytes) = ⊥
@@ -68,7 +75,7 @@ CanBegin (Trunc i) = ⊥
 CanBegin (Remove i) = ⊥
 CanBegin (Stat i) = ⊥
 
--- where the task of an operation begins
+-- where the task of a changing operation begins
 abbrev pub first_place : Op → ℕ → Place
 first_place (Create kind) n = place.Creating (record {
   kind = kind;
@@ -90,7 +97,18 @@ reply_of None = NoInode
 -- a process's operation is open in the log, and its task begins
 abbrev pub with_begun : {D : Type 0} → StoreState D → ℕ → Op → StoreState D
 with_begun s p op = record (with_log s (begun s.volume.log p)) {
-  tasks = slice_set s.tasks p (record { op = Some op; place = first_place op s.inode_count });
+  tasks = slice_set s.tasks p
+      (record { op = Some op; place = first_place op s.table.inode_count; gathered = None });
+}
+
+-- the task of an operation that looks at a file begins, with room for the bytes that it asks for
+abbrev pub with_look : {D : Type 0} → StoreState D → ℕ → Op → Option GatheredBytes → StoreState D
+with_look s p op room = record s {
+  tasks = slice_set s.tasks p (record {
+    op = Some op;
+    place = place.Taking (record { number = asked op; at = lock_at.Reference });
+    gathered = room;
+  });
 }
 
 -- a disk that was just opened
@@ -101,11 +119,6 @@ fresh_volume image d = record {
   log = new_log (length (image d));
   fault = None;
 }
-
--- the slot that a task has got
-abbrev pub slot_at : Place → Option ℕ
-slot_at place.Nowhere = None
-slot_at (place.Creating m) = m.slot
 
 -- a process holds the block where it was got
 abbrev pub HoldsAt : Buffers → ℕ → ℕ → Option ℕ → Type 0
@@ -127,6 +140,10 @@ pub record IsSearching (c : Buffers) (l : LogState) (n p : ℕ) (o : Option Op) 
 abbrev pub Stands : Buffers → LogState → ℕ → ℕ → Option Op → Place → Type 0
 Stands c l n p o place.Nowhere = Unit {0}
 Stands c l n p o (place.Creating m) = IsSearching c l n p o m
+Stands c l n p o (place.Taking m) = HoldsAt c p (inode_block m.number) (slot_of m.at)
+Stands c l n p o (place.Reading k m) = HoldsAt c p (block_of m.target) (slot_in m.target)
+Stands c l n p o (place.Delivering k) = Unit {0}
+Stands c l n p o (place.Leaving k) = Unit {0}
 
 -- the tasks agree with buffers and log, while the disk has not failed
 pub record Agrees (c : Buffers) (l : LogState) (n : ℕ) (ts : List TaskState) : Type 0 where
@@ -138,5 +155,7 @@ pub record Agrees (c : Buffers) (l : LogState) (n : ℕ) (ts : List TaskState) :
 pub record IsStore {D : Type 0} (image : D → Image) (s : StoreState D) : Type 0 where
   pub few : length s.tasks ≤ 32
   pub geometry : IsLawfulGeometry (current_of image s.volume)
-  pub numbers : s.inode_count ≡ inode_count_of (current_of image s.volume)
-  pub agrees : IfNone s.volume.fault (Agrees s.volume.buffers s.volume.log s.inode_count s.tasks)
+  pub numbers : s.table.inode_count ≡ inode_count_of (current_of image s.volume)
+  pub agrees : IfNone s.volume.fault
+      (Agrees s.volume.buffers s.volume.log s.table.inode_count s.tasks)
+  pub looks : IfNone s.volume.fault (AreLooking (current_of image s.volume) s.table s.tasks)

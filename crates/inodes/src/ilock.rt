@@ -4,6 +4,7 @@ ghost use Rattle.model.specs.Layout.{inode_block, inode_of};
 ghost use Rattle.wal.specs.Joint.{seen};
 ghost use Rattle.wal.specs.Volume.{Holds};
 ghost use Rattle.inodes.specs.Table.{HasPlaceFor, holder_at, copy_at};
+ghost use Rattle.inodes.specs.LockState.{place_of};
 ghost use Rattle.inodes.specs.Ilock.{MayLock, IsAt, LockSteps, Refers, Locks, GetsInode, ReadsInode};
 ghost use Rattle.inodes.specs.declared.ilock.LockAt.TheVariants as lock_at;
 
@@ -79,6 +80,16 @@ impl Ilock {
                 place,
                 slot: Some(slot),
             } => self.look(table, volume, pid, place, slot),
+        }
+    }
+
+    /// The place of the inode in the table, once it has a reference; 0 before.
+    pub fn place(&self) -> usize
+        ensures { result ≡ place_of self.now.at }
+    {
+        match self.at {
+            LockAt::Reference => 0,
+            LockAt::Lock { place } | LockAt::Read { place, .. } => place,
         }
     }
 

@@ -8,11 +8,14 @@ ghost use Rattle.model.specs.Soundness.{IsSound};
 ghost use Rattle.wal.specs.Machine.{used_by, is_quiet, begun, ended, end_answer};
 ghost use Rattle.inodes.specs.Tasks.{task, no_task};
 ghost use Rattle.inodes.specs.Store.{IsStore, MayBegin, FitsFiles, KeepsFiles, fresh_volume, with_begun, with_log, first_place, reply_of, CanBegin};
-ghost use Rattle.inodes.specs.Steps.{Steps, Commits, is_over};
+ghost use Rattle.inodes.specs.Steps.{Steps, Commits};
+ghost use Rattle.inodes.specs.Places.{is_over};
+ghost use Rattle.inodes.specs.Table.{new_table};
 ghost use Rattle.inodes.specs.declared.tasks.Place.TheVariants as place;
 
-use crate::{Ialloc, Place, Progress, Tasks};
+use crate::{Ialloc, Inodes, Place, Progress, Tasks};
 use blocks::Disk;
+use layout::Super;
 use model::types::{Op, Reply, TaskProgress};
 use std::marker::Model;
 use wal::{Began, Committed, Ended, Volume};
@@ -21,9 +24,9 @@ use wal::{Began, Committed, Ended, Volume};
 /// which files the current image stands for (`FitsFiles`), and what each step makes of them.
 #[derive(Drop)]
 pub struct Store<D: Disk> {
-    volume: Volume<D>,
-    tasks: Tasks,
-    inode_count: u32,
+    pub(crate) volume: Volume<D>,
+    pub(crate) inodes: Inodes,
+    pub(crate) tasks: Tasks,
 }
 
 impl<D: Disk> Model for Store<D> {
@@ -34,32 +37,32 @@ impl<D: Disk> Model for Store<D> {
     ghost view = { λ s. record {
       volume = s.volume;
       tasks = s.tasks;
-      inode_count = s.inode_count;
+      table = s.inodes;
     } };
 
     ghost invariant = { λ s. IsStore D.image (record {
       volume = s.volume;
       tasks = s.tasks;
-      inode_count = s.inode_count;
+      table = s.inodes;
     }) };
 }
 
 impl<D: Disk> Store<D> {
-    /// A store over the fresh volume of a sound image, with no task under way.
-    pub fn open(volume: Volume<D>, tasks: Tasks, inode_count: u32) -> Store<D>
+    /// A store over the fresh volume of a sound image with this superblock, with no task under way.
+    pub fn open(volume: Volume<D>, tasks: Tasks, sup: &Super) -> Store<D>
         requires volume { volume ≡ fresh_volume D.image volume.device }
         requires sound { IsSound (D.image volume.device) }
         requires tasks { tasks ≡ replicate (length tasks) no_task }
         requires few { length tasks ≤ 32 }
-        requires numbers { inode_count ≡ inode_count_of (D.image volume.device) }
+        requires numbers { sup.now.ninodes ≡ inode_count_of (D.image volume.device) }
         ensures store { result
-            ≡ record { volume = volume; tasks = tasks; inode_count = inode_count } }
+            ≡ record { volume = volume; tasks = tasks; table = new_table sup.now.ninodes } }
         ensures files { FitsFiles D.image result (files_of (D.image volume.device)) }
     {
         Store {
             volume,
+            inodes: Inodes::new(sup),
             tasks,
-            inode_count,
         }
     }
 
@@ -68,6 +71,13 @@ impl<D: Disk> Store<D> {
         ensures { result.now ≡ self.now.volume }
     {
         &self.volume
+    }
+
+    /// The image's inode numbers, the unused number 0 included.
+    pub fn inode_count(&self) -> u32
+        ensures { result ≡ self.now.table.inode_count }
+    {
+        self.inodes.inode_count()
     }
 
     /// Does nothing: it says what is true of every store.
@@ -86,7 +96,11 @@ impl<D: Disk> Store<D> {
     {
         match self.tasks.place(pid) {
             Place::Nowhere => true,
-            Place::Creating(_) => false,
+            Place::Creating(_)
+            | Place::Taking(_)
+            | Place::Reading { .. }
+            | Place::Delivering { .. }
+            | Place::Leaving { .. } => false,
         }
     }
 
@@ -98,7 +112,8 @@ impl<D: Disk> Store<D> {
         volume.into_disk()
     }
 
-    /// Opens an operation of a process in the log, and begins its task. The number of its group.
+    /// Opens a changing operation of a process in the log, and begins its task. The number of its
+    /// group.
     pub fn begin(&mut self, pid: u32, op: &Op) -> u64
         requires fault { self.old.volume.fault ≡ None }
         requires pid { pid < length self.old.tasks }
@@ -110,8 +125,8 @@ impl<D: Disk> Store<D> {
         ensures files { KeepsFiles D.image self.old self.new }
     {
         self.volume.known();
-        let place = first_place(op, self.inode_count);
-        self.tasks.begin(pid, op, place);
+        let place = first_place(op, self.inodes.inode_count());
+        self.tasks.begin(pid, op, place, None);
         open_group(&mut self.volume, pid)
     }
 
@@ -135,10 +150,13 @@ impl<D: Disk> Store<D> {
         requires op { (task self.old.tasks pid).op ≡ Some op.now }
         ensures step { Steps D.Disk self.old pid op.now result self.new }
     {
-        let _ = op;
         match self.tasks.place(pid) {
             Place::Nowhere => TaskProgress::Over,
             Place::Creating(search) => self.search(pid, search),
+            Place::Taking(lock) => self.take(pid, op, lock),
+            Place::Reading { place, reading } => self.read(pid, place, reading),
+            Place::Delivering { place } => self.deliver(pid, place),
+            Place::Leaving { place } => self.leave(pid, place),
         }
     }
 

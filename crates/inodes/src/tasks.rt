@@ -1,9 +1,11 @@
 // What the processes' operations do next.
-ghost use Rattle.std.specs.Prelude.{◌≡◌, ◌<◌, length, replicate, slice_set, Some, IfOk};
+ghost use Rattle.std.specs.Prelude.{◌≡◌, ◌<◌, length, replicate, slice_set, Some, None, IsSome, IfOk};
+ghost use Rattle.inodes.specs.declared.tasks.Place.TheVariants as place;
 ghost use Rattle.inodes.specs.Tasks.{no_task, task};
 
-use crate::Ialloc;
+use crate::{Ialloc, Ilock, Readi};
 use blocks::NoMemory;
+use model::gathered::Gathered;
 use model::types::Op;
 use std::alloc::Global;
 use std::marker::Model;
@@ -16,6 +18,14 @@ pub enum Place {
     Nowhere,
     /// A creation looks for a free number.
     Creating(Ialloc),
+    /// An operation takes its inode.
+    Taking(Ilock),
+    /// The bytes of a file are read, whose inode stands at that place of the table.
+    Reading { place: usize, reading: Readi },
+    /// They all were read: next they are given out, and the inode at that place is given up.
+    Delivering { place: usize },
+    /// The reply is known: next the inode at that place is given up.
+    Leaving { place: usize },
 }
 
 // The task of a process. It remembers its operation, without taking bytes for it.
@@ -23,6 +33,7 @@ pub enum Place {
 struct Task {
     op: Option<Snapshot<Op>>,
     place: Place,
+    gathered: Option<Gathered>,
 }
 
 impl Model for Task {
@@ -31,7 +42,11 @@ impl Model for Task {
 
     ghost Value = { TaskState };
 
-    ghost view = { λ t. record { op = option_map (λ s. s.value) t.op; place = t.place } };
+    ghost view = { λ t. record {
+      op = option_map (λ s. s.value) t.op;
+      place = t.place;
+      gathered = t.gathered;
+    } };
 }
 
 /// The tasks of some processes, which are numbered from 0. Contracts see their list.
@@ -63,6 +78,7 @@ impl Tasks {
             tasks.push(Task {
                 op: None,
                 place: Place::Nowhere,
+                gathered: None,
             })?;
         }
         Ok(Tasks { tasks })
@@ -83,14 +99,17 @@ impl Tasks {
         self.tasks[pid as usize].place
     }
 
-    /// A process begins the task of this operation, at that place.
-    pub fn begin(&mut self, pid: u32, op: &Op, place: Place)
+    /// A process begins the task of this operation, at that place, with room for the bytes that it
+    /// asks for.
+    pub fn begin(&mut self, pid: u32, op: &Op, place: Place, room: Option<Gathered>)
         requires { pid < length self.old }
-        ensures { self.new ≡ slice_set self.old pid (record { op = Some op.now; place = place }) }
+        ensures { self.new ≡ slice_set self.old pid
+            (record { op = Some op.now; place = place; gathered = room }) }
     {
         self.tasks[pid as usize] = Task {
             op: Some(Snapshot::of(op)),
             place,
+            gathered: room,
         };
     }
 
@@ -100,5 +119,39 @@ impl Tasks {
         ensures { self.new ≡ slice_set self.old pid (record (task self.old pid) { place = place }) }
     {
         self.tasks[pid as usize].place = place;
+    }
+
+    /// Its task is over, and without bytes.
+    pub fn finish(&mut self, pid: u32)
+        requires { pid < length self.old }
+        ensures { self.new ≡ slice_set self.old pid
+            (record (task self.old pid) { place = place.Nowhere; gathered = None }) }
+    {
+        let task = &mut self.tasks[pid as usize];
+        task.place = Place::Nowhere;
+        task.gathered = None;
+    }
+
+    /// Takes the bytes of its task.
+    pub fn take_bytes(&mut self, pid: u32) -> Gathered
+        requires pid { pid < length self.old }
+        requires some { IsSome (task self.old pid).gathered }
+        ensures bytes { Some result ≡ (task self.old pid).gathered }
+        ensures tasks { self.new
+            ≡ slice_set self.old pid (record (task self.old pid) { gathered = None }) }
+    {
+        let Some(bytes) = self.tasks[pid as usize].gathered.take() else {
+            unreachable!();
+        };
+        bytes
+    }
+
+    /// Its task has these bytes.
+    pub fn keep_bytes(&mut self, pid: u32, bytes: Gathered)
+        requires { pid < length self.old }
+        ensures { self.new
+            ≡ slice_set self.old pid (record (task self.old pid) { gathered = Some bytes }) }
+    {
+        self.tasks[pid as usize].gathered = Some(bytes);
     }
 }

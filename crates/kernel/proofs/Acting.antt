@@ -22,22 +22,25 @@ use Rattle.wal.specs.Joint.{place_at}
 use Rattle.wal.specs.Machine.{end_answer}
 use Rattle.wal.specs.Step.{IsFault}
 use Rattle.wal.specs.Volume.{faults_after, fault_of_step}
-use Rattle.inodes.specs.declared.tasks.Place.{Place}
-use Rattle.inodes.specs.declared.tasks.Place.TheVariants as place
-use Rattle.inodes.specs.Steps.{Steps, Commits, Goes, GoesFrom, shown_of, block_at_place, is_over}
+use Rattle.inodes.specs.Goes.{Goes}
+use Rattle.inodes.specs.Lemmas.StepEnds.{fails_at}
+use Rattle.inodes.specs.Places.{block_at_place, is_over}
+use Rattle.inodes.specs.Steps.{Steps, Commits}
 use Rattle.inodes.specs.Store.{StoreState}
 use Rattle.inodes.specs.Tasks.{task}
 use Rattle.journal.specs.declared.types.At.{At}
 use Rattle.journal.specs.declared.types.At.TheVariants as at
 use Rattle.journal.specs.Alone.{is_committing_at}
 use Rattle.journal.specs.Bound.{is_busy_at}
+use Rattle.journal.specs.Journal.{entry_in}
 use Rattle.journal.specs.Processes.{World, process}
 use Rattle.kernel.specs.declared.types.Step.{Step}
 use Rattle.kernel.specs.declared.types.Step.TheVariants as step
 use Rattle.kernel.specs.Device.{UsesDisk, CountsItsFault, WritesOnce, block_at_step}
 use Rattle.std.specs.Option.{option_map}
 use Rattle.kernel.specs.declared.waiting.Waiting.{Waiting}
-use Rattle.kernel.specs.Next.{NextIf, NextAt, BeginsWith, Ends, step_of, step_of_end, step_of_write, world_after, world_written}
+use Rattle.kernel.specs.Next.{NextIf, NextAt, BeginsWith, Ends, step_of, step_behind, step_of_end, step_of_write, world_after, world_behind, world_written}
+use Rattle.kernel.specs.Begins.{Begins}
 use Rattle.kernel.specs.Ports.{KeepsOthers, Asks}
 use Rattle.kernel.specs.State.{State, waiting_of}
 use Rattle.kernel.specs.Steps.{Acts}
@@ -93,9 +96,10 @@ module _ {D N : Type 0} (disk : disk_trait.Ghosts D N) (s t : StoreState D) wher
         block = λ e. tells.block;
       }
 
-  -- a step of a task reads a block at most
-  pub reads : (p group : ℕ) (op : Op) (r : TaskProgress) → Steps disk s p op r t → UsesDisk disk (at.Before group op) p (step_of r) s t
-  reads p group op r steps =
+  -- a step of a task reads a block at most, whatever the kernel answers to what it comes to
+  pub reads : (a : At) (p : ℕ) (op : Op) (r : TaskProgress) (answer : TaskProgress → Step) → is_committing_at a ≡ false → block_at_step a s p ≡ block_at_place (task s.tasks p).place
+      → ((fault : DiskFault) → answer (progress.Fault fault) ≡ step.Halted) → ((q : TaskProgress) → fault_of_task q ≡ None → answer q ≢ step.Halted) → Steps disk s p op r t → UsesDisk disk a p (answer r) s t
+  reads a p op r answer quiet here halts runs steps =
       let tells = by_answer r steps.reads.fault steps.reads.faults steps.goes in
       record {
         halted = tells.halted;
@@ -103,32 +107,27 @@ module _ {D N : Type 0} (disk : disk_trait.Ghosts D N) (s t : StoreState D) wher
         time = elapses_none steps.reads.device.time;
         image = λ e. steps.reads.device.image;
         unwritten = λ e. steps.reads.device.writes;
-        written = λ e. absurd (false≢true e);
+        written = λ e. absurd (false≢true (sym quiet ∙ e));
         writes = inl steps.reads.device.writes;
         faults = λ e. tells.faults;
         block = λ e. tells.block;
       }
     where
       b : ℕ
-      b = block_at_place (task s.tasks p).place
+      b = block_at_step a s p
 
-      -- the block at which a task's read fails is that which its place names
-      fails_at : (pl next : Place) (fault : DiskFault) → Goes pl s.inode_count p s.volume.buffers (progress.Fault fault) next (shown_of disk.image s.volume) (shown_of disk.image t.volume) → fault.0 ≡ block_at_place pl
-      fails_at place.Nowhere next fault goes = let no = goes.0 in absurd (cc no)
-      fails_at (place.Creating m) next fault goes = by_slot m.slot goes
-        where
-          by_slot : (o : Option ℕ) → GoesFrom o s.inode_count p m s.volume.buffers (progress.Fault fault) next (shown_of disk.image s.volume) (shown_of disk.image t.volume) → fault.0 ≡ m.block
-          by_slot None goes = goes.0.0
-          by_slot (Some i) goes = absurd goes
+      none : (q : TaskProgress) → fault_of_task q ≡ None → t.volume.fault ≡ fault_of_task q → disk.fault_count t.volume.device ≡ faults_after (fault_of_task q) (disk.fault_count s.volume.device) → TellsFault disk b (answer q) s t
+      none q well is same = tells_none b (answer q) (runs q well) (is ∙ well) (same ∙ ap (λ (o : Option DiskFault). faults_after o (disk.fault_count s.volume.device)) well)
 
-      by_answer : (r : TaskProgress) → t.volume.fault ≡ fault_of_task r → disk.fault_count t.volume.device ≡ faults_after (fault_of_task r) (disk.fault_count s.volume.device)
-          → Goes (task s.tasks p).place s.inode_count p s.volume.buffers r (task t.tasks p).place (shown_of disk.image s.volume) (shown_of disk.image t.volume) → TellsFault disk b (step_of r) s t
-      by_answer progress.Moved is same goes = tells_none b step.Moved (λ e. cc e) is same
-      by_answer (progress.Turned reply) is same goes = tells_none b step.Moved (λ e. cc e) is same
-      by_answer (progress.Decided reply) is same goes = tells_none b step.Moved (λ e. cc e) is same
-      by_answer progress.Over is same goes = tells_none b step.Moved (λ e. cc e) is same
-      by_answer (progress.Sleeping why) is same goes = tells_none b (step.Sleeping why) (λ e. cc e) is same
-      by_answer (progress.Fault fault) is same goes = tells_fault b fault is (fails_at (task s.tasks p).place (task t.tasks p).place fault goes) (steps.reads.device.writes, same)
+      by_answer : (r : TaskProgress) → t.volume.fault ≡ fault_of_task r → disk.fault_count t.volume.device ≡ faults_after (fault_of_task r) (disk.fault_count s.volume.device) → Goes disk (task s.tasks p).place s p op r t
+          → TellsFault disk b (answer r) s t
+      by_answer progress.Moved is same goes = none progress.Moved refl is same
+      by_answer (progress.Turned reply) is same goes = none (progress.Turned reply) refl is same
+      by_answer (progress.Decided reply) is same goes = none (progress.Decided reply) refl is same
+      by_answer progress.Over is same goes = none progress.Over refl is same
+      by_answer (progress.Sleeping why) is same goes = none (progress.Sleeping why) refl is same
+      by_answer (progress.Fault fault) is same goes = subst (λ (q : Step). TellsFault disk b q s t) (sym (halts fault))
+          (tells_fault b fault is (fails_at disk s p op fault t (task s.tasks p).place goes ∙ sym here) (steps.reads.device.writes, same))
 
   -- a write of a commit
   pub writes : (p group k : ℕ) (r : Committed) → Commits disk s r t → UsesDisk disk (at.Committing group k) p (step_of_write r) s t
@@ -194,7 +193,30 @@ module _ {D N I M H : Type 0} (disk : disk_trait.Ghosts D N) (intake : intake_tr
       → Acts disk intake herald p (step_of r) (record { store = s; opening = d; intake = i; herald = h; world = w }) (record { store = t; opening = d; intake = i; herald = h; world = z })
   acts_worked group op r stands steps made =
       acts_busy disk intake herald p (record { store = s; opening = d; intake = i; herald = h; world = w }) (record { store = t; opening = d; intake = i; herald = h; world = z }) (step_of r) (at.Before group op) well stands
-      (record { progress = r; steps = steps; answer = refl; world = made }) (reads disk s t p group op r steps) refl (sides_same intake p i) refl
+      (record { progress = r; steps = steps; answer = refl; world = made }) (reads disk s t (at.Before group op) p op r step_of refl refl (λ fault. refl) runs steps) refl (sides_same intake p i) refl
+    where
+      runs : (q : TaskProgress) → fault_of_task q ≡ None → step_of q ≢ step.Halted
+      runs progress.Moved none e = cc e
+      runs (progress.Turned reply) none e = cc e
+      runs (progress.Decided reply) none e = cc e
+      runs progress.Over none e = cc e
+      runs (progress.Sleeping why) none e = cc e
+      runs (progress.Fault fault) none e = cc none
+
+  -- and behind it, after which the intake is j
+  pub acts_finished : (group k : ℕ) (j : I) (r : TaskProgress) → (process w p).at ≡ at.Behind group k → Steps disk s p (entry_in w.journal.list k).op r t → z ≡ world_behind r w p → KeepsOthers intake p i j → (intake.side j p).ahead ≡ (intake.side i p).ahead
+      → Acts disk intake herald p (step_behind r) (record { store = s; opening = d; intake = i; herald = h; world = w }) (record { store = t; opening = d; intake = j; herald = h; world = z })
+  acts_finished group k j r stands steps made sides ahead =
+      acts_busy disk intake herald p (record { store = s; opening = d; intake = i; herald = h; world = w }) (record { store = t; opening = d; intake = j; herald = h; world = z }) (step_behind r) (at.Behind group k) well stands
+      (record { progress = r; steps = steps; answer = refl; world = made }) (reads disk s t (at.Behind group k) p (entry_in w.journal.list k).op r step_behind refl refl (λ fault. refl) runs steps) refl sides ahead
+    where
+      runs : (q : TaskProgress) → fault_of_task q ≡ None → step_behind q ≢ step.Halted
+      runs progress.Moved none e = cc e
+      runs (progress.Turned reply) none e = cc e
+      runs (progress.Decided reply) none e = cc e
+      runs progress.Over none e = cc e
+      runs (progress.Sleeping why) none e = cc e
+      runs (progress.Fault fault) none e = cc none
 
   -- an end in the log, after which the intake is j and the herald g
   pub acts_ended : (group k : ℕ) (j : I) (g : H) (r : Step) → (process w p).at ≡ at.Ending group k → Ends s w p r t z → KeepsOthers intake p i j → (intake.side j p).ahead ≡ (intake.side i p).ahead
@@ -223,38 +245,38 @@ pub record BeginsStill (D : Type 0) (s : StoreState D) (ahead : List Op) (side :
 
 begins_still : {D : Type 0} (s t : StoreState D) (w z : World) (p : ℕ) (ahead : List Op) (side : Side) (what : Option Waiting) (r : Step) → BeginsWith what s w p ahead side r t z → BeginsStill D s ahead side r t
 begins_still {D} s t w z p ahead side what r (inl made) = record { runs = λ e. let no = sym made.answer ∙ e in cc no; fault = ap (λ (o : StoreState D). o.volume.fault) made.store; device = ap (λ (o : StoreState D). o.volume.device) made.store; waits = λ moved answered. absurd (moved made.answer) }
-begins_still {D} s t w z p ahead side what r (inr (inl made)) = record { runs = λ e. let no = sym made.answer ∙ e in cc no; fault = ap (λ (o : StoreState D). o.volume.fault) made.store; device = ap (λ (o : StoreState D). o.volume.device) made.store; waits = λ moved answered. absurd (answered made.answer) }
-begins_still {D} s t w z p ahead side what r (inr (inr made)) = record { runs = (not_taken what s.volume.log side.has_room r made.answer).runs; fault = ap (λ (o : StoreState D). o.volume.fault) made.same.0; device = ap (λ (o : StoreState D). o.volume.device) made.same.0; waits = λ moved answered. made.ahead_stays }
+begins_still {D} s t w z p ahead side what r (inr (inl made)) = record { runs = λ e. let no = sym made.answer ∙ e in cc no; fault = ap (λ (o : StoreState D). o.volume.fault) made.store; device = ap (λ (o : StoreState D). o.volume.device) made.store; waits = λ moved answered. absurd (moved made.answer) }
+begins_still {D} s t w z p ahead side what r (inr (inr (inl made))) = record { runs = λ e. let no = sym made.answer ∙ e in cc no; fault = ap (λ (o : StoreState D). o.volume.fault) made.store; device = ap (λ (o : StoreState D). o.volume.device) made.store; waits = λ moved answered. absurd (answered made.answer) }
+begins_still {D} s t w z p ahead side what r (inr (inr (inr made))) = record { runs = (not_taken what s.volume.log side.has_room r made.answer).runs; fault = ap (λ (o : StoreState D). o.volume.fault) made.same.0; device = ap (λ (o : StoreState D). o.volume.device) made.same.0; waits = λ moved answered. made.ahead_stays }
 
 module _ {D N I M H : Type 0} (disk : disk_trait.Ghosts D N) (intake : intake_trait.Ghosts I M) (herald : herald_trait.Ghosts H) (p : ℕ) (k asked looked m : State D I H) (well : k.store.volume.fault ≡ None)
     (stands : (process k.world p).at ≡ at.Idle) where
   -- nobody told of a shutdown, what waits was looked up, and the first of it begins
   pub acts_begun : (r : Step) (o : Option Waiting) → asked.store ≡ k.store → asked.opening ≡ k.opening → asked.intake ≡ k.intake → asked.world ≡ record k.world { is_shut = false }
       → (k.world.is_shut ≡ false) × (herald.told asked.herald ≡ false) → looked ≡ record asked { intake = looked.intake } → Asks intake p asked.intake looked.intake
-      → o ≡ option_map waiting_of (first_in (intake.side looked.intake p).ahead)
-      → BeginsWith o looked.store looked.world p (intake.side looked.intake p).ahead (intake.side m.intake p) r m.store m.world → KeepsOthers intake p looked.intake m.intake → m.herald ≡ looked.herald → m.opening ≡ looked.opening
-      → Acts disk intake herald p r k m
-  acts_begun r o store opening same world open_still is asks waits made sides told kept =
+      → o ≡ option_map (waiting_of looked.store.table.inode_count) (first_in (intake.side looked.intake p).ahead)
+      → Begins intake o p r looked m → Acts disk intake herald p r k m
+  acts_begun r o store opening same world open_still is asks waits made =
       let world_is : looked.world ≡ k.world = ap (λ (s : State D I H). s.world) is ∙ world ∙ ap (λ (b : Bool). record k.world { is_shut = b }) (sym open_still.0) in
       let store_is : looked.store ≡ k.store = ap (λ (s : State D I H). s.store) is ∙ store in
       let here : BeginsWith o k.store k.world p (intake.side looked.intake p).ahead (intake.side m.intake p) r m.store m.world =
       subst (λ (w : World). BeginsWith o k.store w p (intake.side looked.intake p).ahead (intake.side m.intake p) r m.store m.world) world_is
-      (subst (λ (s : StoreState D). BeginsWith o s looked.world p (intake.side looked.intake p).ahead (intake.side m.intake p) r m.store m.world) store_is made) in
+      (subst (λ (s : StoreState D). BeginsWith o s looked.world p (intake.side looked.intake p).ahead (intake.side m.intake p) r m.store m.world) store_is made.next) in
       let still = begins_still k.store m.store k.world m.world p (intake.side looked.intake p).ahead (intake.side m.intake p) o r here in
       let prefix : IsPrefix (intake.side k.intake p).ahead (intake.side looked.intake p).ahead = subst (λ (i : I). IsPrefix (intake.side i p).ahead (intake.side looked.intake p).ahead) same asks.prefix in
       acts_at disk intake herald p k m r at.Idle well stands
       (inr (record {
         unshut = open_still.0;
-        untold = ap herald.told told ∙ ap (λ (s : State D I H). herald.told s.herald) is ∙ open_still.1;
+        untold = ap herald.told made.herald ∙ ap (λ (s : State D I H). herald.told s.herald) is ∙ open_still.1;
         ahead = (intake.side looked.intake p).ahead;
         prefix = prefix;
-        begins = subst (λ (q : Option Waiting). BeginsWith q k.store k.world p (intake.side looked.intake p).ahead (intake.side m.intake p) r m.store m.world) waits here;
+        begins = subst (λ (q : Option Waiting). BeginsWith q k.store k.world p (intake.side looked.intake p).ahead (intake.side m.intake p) r m.store m.world) (waits ∙ ap (λ (s : StoreState D). option_map (waiting_of s.table.inode_count) (first_in (intake.side looked.intake p).ahead)) store_is) here;
       }))
       (rests disk k.store m.store at.Idle p r refl still.runs well still.fault still.device)
-      (kept ∙ ap (λ (s : State D I H). s.opening) is ∙ opening)
+      (made.opening ∙ ap (λ (s : State D I H). s.opening) is ∙ opening)
       (record {
-        names = λ q. sides.names q ∙ asks.keeps.names q ∙ ap (λ (i : I). intake.name i q) same;
-        others = λ q apart. sides.others q apart ∙ asks.keeps.others q apart ∙ ap (λ (i : I). intake.side i q) same;
+        names = λ q. made.sides.names q ∙ asks.keeps.names q ∙ ap (λ (i : I). intake.name i q) same;
+        others = λ q apart. made.sides.others q apart ∙ asks.keeps.others q apart ∙ ap (λ (i : I). intake.side i q) same;
       })
       (λ moved answered. subst (λ (l : List Op). IsPrefix (intake.side k.intake p).ahead l) (sym (still.waits moved answered)) prefix)
       (λ busy. absurd (false≢true busy))

@@ -1,65 +1,108 @@
 -- What is true of store and processes stays so where an operation begins or is answered at once.
-use Rattle.std.proofs.Common.{◌≡◌, ◌≢◌, ℕ, ◌+◌, ◌<◌, ◌≤◌, Bool, true, false, cond, eqb, [], ◌∷◌, ◌++◌, length, refl, sym, ◌∙◌, ap, subst, arith, ⊎_elim, Option, Some, None}
-use Rattle.std.specs.Prelude.{IsTrue}
-use Rattle.std.proofs.lemmas.Bool.{cases_eq}
+use Rattle.std.proofs.Common.{◌≡◌, ◌≢◌, ℕ, ◌+◌, ◌<◌, ◌≤◌, Bool, true, false, not, ◌||◌, cond, eqb, ltb, length, length-set, refl, sym, ◌∙◌, ap, subst, arith, ⊎_elim, Option, Some, None}
+use Rattle.std.proofs.lemmas.Bool.{cases_eq, false≢true, ltb-false, not-false}
+use Rattle.std.proofs.lemmas.List.{get_or-set_other}
 use Rattle.blocks.specs.declared.disk.Disk.{Ghosts}
 use Rattle.model.specs.declared.types.operations.Op.{Op}
 use Rattle.model.specs.declared.types.operations.Op.TheVariants.{Create, Write, Read, Trunc, Remove, Stat}
-use Rattle.model.specs.declared.types.operations.Reply.TheVariants.{BadType}
-use Rattle.model.specs.Journal.{is_changing, is_at_once}
+use Rattle.model.specs.Journal.{is_changing, is_at_once, is_number}
 use Rattle.model.specs.Layout.{inode_count_of}
 use Rattle.model.specs.Operations.{is_kind}
 use Rattle.std.specs.Option.{option_map}
 use Rattle.ports.specs.History.{Side, SameNames, OthersStay}
-use Rattle.wal.specs.Joint.{Joint}
 use Rattle.wal.specs.Machine.{LogState, begun, begin_cause}
 use Rattle.inodes.specs.Lemmas.Faults.{where_none}
-use Rattle.inodes.specs.Store.{StoreState, KeepsFiles, CanBegin, with_begun}
+use Rattle.inodes.specs.Looks.{CanLook, HasRoom}
+use Rattle.inodes.specs.Places.{is_over}
+use Rattle.inodes.specs.Store.{StoreState, KeepsFiles, CanBegin, first_place, with_begun, with_look}
+use Rattle.inodes.specs.Tasks.{task, no_task}
+use Rattle.journal.specs.AtOnce.{at_once_reply}
+use Rattle.journal.specs.declared.types.At.{At}
 use Rattle.journal.specs.declared.types.At.TheVariants as at
 use Rattle.journal.specs.declared.types.Process.{Process}
 use Rattle.journal.specs.Alone.{is_committing_at}
 use Rattle.journal.specs.Lemmas.Alone.{alone_begun, alone_taken}
+use Rattle.journal.specs.Lemmas.Answers.{change_fits}
 use Rattle.journal.specs.Lemmas.Events.{inv_at_once}
-use Rattle.journal.specs.Lemmas.LogEvents.{inv_begun}
-use Rattle.journal.specs.Lemmas.Nexts.{at_same}
+use Rattle.journal.specs.Journal.{IsItsRoom}
+use Rattle.journal.specs.Lemmas.LogEvents.{inv_begun, inv_taken}
+use Rattle.journal.specs.Lemmas.Nexts.{at_same, at_once_journal, others_back}
 use Rattle.journal.specs.Processes.{World, process, with_place, taken, refused}
 use Rattle.kernel.specs.declared.waiting.Waiting.{Waiting}
 use Rattle.kernel.specs.declared.waiting.Waiting.TheVariants as waiting
-use Rattle.kernel.specs.Invariant.{IsRight, HasFacts}
-use Rattle.kernel.specs.State.{ats_of, waiting_of}
+use Rattle.kernel.specs.Invariant.{IsRight, HasFacts, TaskStands}
+use Rattle.kernel.specs.State.{ats_of, kind_of, room_for, waiting_of}
 use Rattle.kernel.specs.View.{view_of}
-use Rattle.kernel.proofs.LogCalls.{logs_begun}
-use Rattle.kernel.proofs.Valid.{valid_joint}
+use Rattle.kernel.proofs.LogCalls.{logs_begun, logs_looked}
+use Rattle.kernel.proofs.Valid.{HasAgreed, valid_joint}
 use Rattle.journal.specs.Lemmas.Counting.{counted_taken, counted_refused}
-use Rattle.kernel.proofs.Pairing.{paired_goes, task_begun, others_begun, many_begun}
+use Rattle.kernel.proofs.Pairing.{paired_goes, keeps_behind, task_begun, begins_unturned}
 use Rattle.journal.specs.Lemmas.Places.{there_now, others_stay}
 use Rattle.kernel.proofs.Right.{right_well}
 
 -- a creation of a type that there is may begin, and changes files
-pub creation_begins : (n : ℕ) (op : Op) → waiting_of op ≡ waiting.Creation → CanBegin op × (is_changing n op ≡ true)
-creation_begins n (Create kind) e = by_kind (is_kind kind) refl e
+pub creation_begins : (n : ℕ) (op : Op) → waiting_of n op ≡ waiting.Creation → CanBegin op × (is_changing n op ≡ true)
+creation_begins n op e = by_once (is_at_once n op) refl e
   where
-    by_kind : (b : Bool) → is_kind kind ≡ b → cond b waiting.Creation waiting.Refused ≡ waiting.Creation → IsTrue (is_kind kind) × (is_changing n (Create kind) ≡ true)
-    by_kind true is e = (is, rw is refl)
-    by_kind false is e = absurd (cc e)
-creation_begins n (Write i off bytes) e = absurd (cc e)
-creation_begins n (Read i off m) e = absurd (cc e)
-creation_begins n (Trunc i) e = absurd (cc e)
-creation_begins n (Remove i) e = absurd (cc e)
-creation_begins n (Stat i) e = absurd (cc e)
+    by_kind : (o : Op) → is_at_once n o ≡ false → kind_of o ≡ waiting.Creation → CanBegin o × (is_changing n o ≡ true)
+    by_kind (Create kind) out e = let is = not-false (is_kind kind) out in (is, is)
+    by_kind (Write i off bytes) out e = absurd (cc e)
+    by_kind (Read i off m) out e = absurd (cc e)
+    by_kind (Trunc i) out e = absurd (cc e)
+    by_kind (Remove i) out e = absurd (cc e)
+    by_kind (Stat i) out e = absurd (cc e)
 
--- one of another type is answered at once, and changes nothing
-pub refusal_at_once : (n : ℕ) (op : Op) → waiting_of op ≡ waiting.Refused → (is_at_once n op ≡ true) × (is_changing n op ≡ false) × ((kind : ℕ) × (op ≡ Create kind))
-refusal_at_once n (Create kind) e = by_kind (is_kind kind) refl e
+    by_once : (b : Bool) → is_at_once n op ≡ b → cond b waiting.Refused (kind_of op) ≡ waiting.Creation → CanBegin op × (is_changing n op ≡ true)
+    by_once true once e = absurd (cc e)
+    by_once false once e = by_kind op once e
+
+-- an operation that looks at a file, and has room for so many bytes: it may begin, and changes nothing
+pub record IsLook (n : ℕ) (op : Op) (count : Option ℕ) : Type 0 where
+  pub can : CanLook n op
+  pub read : HasRoom op (room_for count)
+  pub answer : IsItsRoom (Some op) (room_for count)
+  pub still : is_changing n op ≡ false
+  pub later : is_at_once n op ≡ false
+
+pub look_begins : (n : ℕ) (op : Op) (count : Option ℕ) → waiting_of n op ≡ waiting.Look count → IsLook n op count
+look_begins n op count e = by_once (is_at_once n op) refl e
   where
-    by_kind : (b : Bool) → is_kind kind ≡ b → cond b waiting.Creation waiting.Refused ≡ waiting.Refused → (is_at_once n (Create kind) ≡ true) × (is_changing n (Create kind) ≡ false) × ((k : ℕ) × (Create kind ≡ Create k))
-    by_kind true is e = absurd (cc e)
-    by_kind false is e = (rw is refl, rw is refl, (kind, refl))
-refusal_at_once n (Write i off bytes) e = absurd (cc e)
-refusal_at_once n (Read i off m) e = absurd (cc e)
-refusal_at_once n (Trunc i) e = absurd (cc e)
-refusal_at_once n (Remove i) e = absurd (cc e)
-refusal_at_once n (Stat i) e = absurd (cc e)
+    counted : (o : Op) (c : Option ℕ) → c ≡ count → IsLook n o c → IsLook n o count
+    counted o c same is = subst (λ (d : Option ℕ). IsLook n o d) same is
+
+    neither : (a b : Bool) → (a || b) ≡ false → (a ≡ false) × (b ≡ false)
+    neither true b e = absurd (false≢true (sym e))
+    neither false b e = (refl, e)
+
+    by_kind : (o : Op) → is_at_once n o ≡ false → kind_of o ≡ waiting.Look count → IsLook n o count
+    by_kind (Create kind) out e = absurd (cc e)
+    by_kind (Write i off bytes) out e = absurd (cc e)
+    by_kind (Read i off m) out e =
+        let both = neither (ltb 3072 m) (not (is_number n i)) out in
+        counted (Read i off m) (Some m) (cc e) (record { can = (not-false (is_number n i) both.1, ltb-false 3072 m both.0); read = refl; answer = refl; still = refl; later = out })
+    by_kind (Trunc i) out e = absurd (cc e)
+    by_kind (Remove i) out e = absurd (cc e)
+    by_kind (Stat i) out e = counted (Stat i) None (cc e) (record { can = not-false (is_number n i) out; read = refl; answer = tt; still = refl; later = out })
+
+    by_once : (b : Bool) → is_at_once n op ≡ b → cond b waiting.Refused (kind_of op) ≡ waiting.Look count → IsLook n op count
+    by_once true once e = absurd (cc e)
+    by_once false once e = by_kind op once e
+
+-- what is refused is what is answered at once
+pub refused_at_once : (n : ℕ) (op : Op) → waiting_of n op ≡ waiting.Refused → is_at_once n op ≡ true
+refused_at_once n op e = by_once (is_at_once n op) refl e
+  where
+    never : (o : Op) → kind_of o ≡ waiting.Refused → ⊥
+    never (Create kind) e = cc e
+    never (Write i off bytes) e = cc e
+    never (Read i off m) e = cc e
+    never (Trunc i) e = cc e
+    never (Remove i) e = cc e
+    never (Stat i) e = cc e
+
+    by_once : (b : Bool) → is_at_once n op ≡ b → cond b waiting.Refused (kind_of op) ≡ waiting.Refused → is_at_once n op ≡ true
+    by_once true once e = once
+    by_once false once e = absurd (never op e)
 
 -- one group more at most
 opened_more : (l : LogState) (p : ℕ) → (begun l p).opened ≤ l.opened + 1
@@ -74,48 +117,77 @@ module _ {D N : Type 0} (disk : Ghosts D N) (opening : D) (s : StoreState D) (w 
   had : HasFacts disk.image (disk.image opening) s w
   had = where_none _ well right.facts
 
+  inside_tasks : p < length s.tasks
+  inside_tasks = let many = right.paired.many in omega (arith, lt, many)
+
+  over_here : is_over (task s.tasks p).place ≡ true
+  over_here = subst (λ (a : At). TaskStands w.journal.list (task s.tasks p) a) stands (right.paired.stand p).stands
+
+  -- an operation that looks at a file is taken, and none of the log's
+  pub right_looked : (op : Op) (count : Option ℕ) → waiting_of s.table.inode_count op ≡ waiting.Look count → HasAgreed disk.image (with_look s p op (room_for count)) → KeepsFiles disk.image s (with_look s p op (room_for count))
+      → IsRight disk opening (with_look s p op (room_for count)) (taken (with_place w) p 0 op (room_for count))
+  right_looked op count look agreed keeps =
+      let n = inode_count_of (disk.image opening) in
+      let room = room_for count in
+      let t = with_look s p op room in
+      let z = taken (with_place w) p 0 op room in
+      let u : Process = record { begun = (process w p).begun + 1; at = at.Before 0 op; room = room } in
+      let others : (q : ℕ) → q ≢ p → ats_of z q ≡ ats_of w q = λ q apart. ap (λ (r : Process). r.at) (others_stay w z p u refl q apart) in
+      let now : ats_of z p ≡ at.Before 0 op = ap (λ (r : Process). r.at) (there_now w z p u refl lt) in
+      let is = look_begins n op count (subst (λ (k : ℕ). waiting_of k op ≡ waiting.Look count) right.numbers look) in
+      right_well disk opening t z well right.numbers
+      (paired_goes s t w z p u right.paired lt refl (length-set s.tasks p _) (λ q apart. get_or-set_other s.tasks p q _ no_task apart) (keeps_behind w z p refl)
+      (task_begun s w.journal.list p 0 op _ room room inside_tasks refl is.answer))
+      (counted_taken s.volume.log.opened p w right.counted lt s.volume.log.opened 0 op room stands (omega arith))
+      (record {
+        facts = inv_taken (disk.image opening) (view_of disk.image s) (view_of disk.image t) w.journal.list (ats_of w) had.facts
+            (valid_joint disk.image t n right.numbers agreed) p (ats_of z) others op (logs_looked disk.image s t p keeps op room refl inside_tasks over_here) stands now is.still is.later;
+        alone = alone_taken (ats_of w) (ats_of z) s.volume.log had.alone p others (ap is_committing_at stands) (ap is_committing_at now);
+      })
+      (right.faults ∙ ap (λ (o : Option _). Rattle.wal.specs.Volume.faults_after o (disk.fault_count opening)) well)
+
   -- an operation is taken, and open in the log
-  pub right_taken : (op : Op) → waiting_of op ≡ waiting.Creation → begin_cause s.volume.log ≡ None
-      → Joint (disk.image s.volume.device) s.volume.buffers (begun s.volume.log p) → KeepsFiles disk.image s (with_begun s p op)
-      → IsRight disk opening (with_begun s p op) (taken (with_place w) p (begun s.volume.log p).opened op)
-  right_taken op creation free joint keeps =
+  pub right_taken : (op : Op) → waiting_of s.table.inode_count op ≡ waiting.Creation → begin_cause s.volume.log ≡ None
+      → HasAgreed disk.image (with_begun s p op) → KeepsFiles disk.image s (with_begun s p op)
+      → IsRight disk opening (with_begun s p op) (taken (with_place w) p (begun s.volume.log p).opened op None)
+  right_taken op creation free agreed keeps =
       let n = inode_count_of (disk.image opening) in
       let t = with_begun s p op in
-      let z = taken (with_place w) p (begun s.volume.log p).opened op in
-      let u : Process = record { begun = (process w p).begun + 1; at = at.Before (begun s.volume.log p).opened op } in
+      let z = taken (with_place w) p (begun s.volume.log p).opened op None in
+      let u : Process = record { begun = (process w p).begun + 1; at = at.Before (begun s.volume.log p).opened op; room = None } in
       let others : (q : ℕ) → q ≢ p → ats_of z q ≡ ats_of w q = λ q apart. ap (λ (r : Process). r.at) (others_stay w z p u refl q apart) in
       let now : ats_of z p ≡ at.Before (begun s.volume.log p).opened op = ap (λ (r : Process). r.at) (there_now w z p u refl lt) in
-      let begins = creation_begins n op creation in
+      let begins = creation_begins n op (subst (λ (k : ℕ). waiting_of k op ≡ waiting.Creation) right.numbers creation) in
       let inside : p < length s.volume.log.used = let few = right.paired.few in let pids = had.facts.valid.log.pids in omega (arith, lt, few, pids) in
       right_well disk opening t z well right.numbers
-      (paired_goes s t w z p u right.paired lt refl (many_begun s p op) (others_begun s p op)
-      (task_begun s p (begun s.volume.log p).opened op (let many = right.paired.many in omega (arith, lt, many)) begins.0))
-      (counted_taken s.volume.log.opened p w right.counted lt (begun s.volume.log p).opened (begun s.volume.log p).opened op stands (opened_more s.volume.log p))
+      (paired_goes s t w z p u right.paired lt refl (length-set s.tasks p _) (λ q apart. get_or-set_other s.tasks p q _ no_task apart) (keeps_behind w z p refl)
+      (task_begun s w.journal.list p (begun s.volume.log p).opened op (first_place op s.table.inode_count) None None inside_tasks (begins_unturned op s.table.inode_count begins.0) (change_fits n op None begins.1)))
+      (counted_taken s.volume.log.opened p w right.counted lt (begun s.volume.log p).opened (begun s.volume.log p).opened op None stands (opened_more s.volume.log p))
       (record {
         facts = inv_begun (disk.image opening) (view_of disk.image s) (view_of disk.image t) w.journal.list (ats_of w) had.facts
-            (valid_joint disk.image t n joint) p (ats_of z) others op (logs_begun disk.image s t p keeps op refl) stands now begins.1 inside;
+            (valid_joint disk.image t n right.numbers agreed) p (ats_of z) others op (logs_begun disk.image s t p keeps op refl inside_tasks over_here) stands now begins.1 inside;
         alone = alone_begun (ats_of w) (ats_of z) s.volume.log had.alone p others free (ap is_committing_at now);
       })
       (right.faults ∙ ap (λ (o : Option _). Rattle.wal.specs.Volume.faults_after o (disk.fault_count opening)) well)
 
   -- an operation is answered at once
-  pub right_refused : (op : Op) → waiting_of op ≡ waiting.Refused → IsRight disk opening s (refused (with_place w) p op BadType)
+  pub right_refused : (op : Op) → waiting_of s.table.inode_count op ≡ waiting.Refused → IsRight disk opening s (refused (with_place w) p op (at_once_reply op))
   right_refused op refusal =
-      let n = inode_count_of (disk.image opening) in
-      let z = refused (with_place w) p op BadType in
+      let z = refused (with_place w) p op (at_once_reply op) in
       let u : Process = record (process w p) { begun = (process w p).begun + 1 } in
       let others : (q : ℕ) → q ≢ p → ats_of z q ≡ ats_of w q = λ q apart. ap (λ (r : Process). r.at) (others_stay w z p u refl q apart) in
       let now : ats_of z p ≡ ats_of w p = ap (λ (r : Process). r.at) (there_now w z p u refl lt) in
       let same : (q : ℕ) → ats_of z q ≡ ats_of w q = λ q. ⊎_elim (λ (e : q ≡ p). ap (ats_of z) e ∙ now ∙ ap (ats_of w) (sym e)) (λ (e : q ≢ p). others q e) (cases_eq q p) in
-      let at_once = refusal_at_once n op refusal in
+      let n = inode_count_of (disk.image opening) in
+      let once = subst (λ (k : ℕ). is_at_once k op ≡ true) right.numbers (refused_at_once s.table.inode_count op refusal) in
       right_well disk opening s z well right.numbers
-      (paired_goes s s w z p u right.paired lt refl refl (λ q apart. refl) (right.paired.stand p))
-      (counted_refused s.volume.log.opened p w right.counted lt op BadType stands)
+      (paired_goes s s w z p u right.paired lt refl refl (λ q apart. refl)
+      (λ q apart g k e there. others_back (disk.image opening) (view_of disk.image s) w.journal.list z.journal.list (ats_of w) had.facts n p s.volume.log.committed (at_once_journal n p s.volume.log.committed ((process w p).begun + 1) w.journal.list op once) q apart g k e there)
+      (record { stands = subst (λ (a : At). TaskStands z.journal.list (task s.tasks p) a) (sym stands) over_here; room_is = (right.paired.stand p).room_is }))
+      (counted_refused s.volume.log.opened p w right.counted lt op (at_once_reply op) stands)
       (record {
         facts = at_same (disk.image opening) (view_of disk.image s) z.journal.list (ats_of w) (ats_of z) same
-            (subst (λ (o : Op). Rattle.journal.specs.Views.KernelFacts (disk.image opening) (view_of disk.image s) (w.journal.list ++ (record { pid = p; seq = (process w p).begun + 1; op = o; group = 0; reply = Some BadType }) ∷ []) (ats_of w)) (sym at_once.2.1)
-            (inv_at_once (disk.image opening) (view_of disk.image s) w.journal.list (ats_of w) had.facts p ((process w p).begun + 1) (Create at_once.2.0) stands
-            (subst (λ (o : Op). is_at_once n o ≡ true) at_once.2.1 at_once.0)));
+            (inv_at_once (disk.image opening) (view_of disk.image s) w.journal.list (ats_of w) had.facts p ((process w p).begun + 1) op stands once);
         alone = alone_taken (ats_of w) (ats_of z) s.volume.log had.alone p others (ap is_committing_at stands) (ap is_committing_at (now ∙ stands));
       })
       (right.faults ∙ ap (λ (o : Option _). Rattle.wal.specs.Volume.faults_after o (disk.fault_count opening)) well)
@@ -134,8 +206,8 @@ right_shut disk opening s w b right = record {
 }
 
 -- the first that waits is of this kind
-pub first_waits : {o : Option Op} (op : Op) (what : Waiting) → Some op ≡ o → option_map waiting_of o ≡ Some what → waiting_of op ≡ what
-first_waits {o} op what is waits = let now : Some (waiting_of op) ≡ Some what = ap (option_map waiting_of) is ∙ waits in cc now
+pub first_waits : {o : Option Op} (n : ℕ) (op : Op) (what : Waiting) → Some op ≡ o → option_map (waiting_of n) o ≡ Some what → waiting_of n op ≡ what
+first_waits {o} n op what is waits = let now : Some (waiting_of n op) ≡ Some what = ap (option_map (waiting_of n)) is ∙ waits in cc now
 
 -- two calls of an intake for one process, one after the other
 pub names_twice : {N : Type 0} (a b c : ℕ → N) → SameNames a b → SameNames b c → SameNames a c

@@ -1,9 +1,11 @@
 -- What is true of store and processes stays so where an operation ends in the log, and with each write of a commit.
 use Rattle.std.proofs.Common.{◌≡◌, ◌≢◌, ℕ, ◌<◌, true, false, List, [], ◌∷◌, length, set, refl, sym, ◌∙◌, ap, subst, arith, inl, inr, Option, Some, None}
+use Rattle.std.proofs.lemmas.Bool.{false≢true}
 use Rattle.std.proofs.lemmas.List.{set-get_or}
 use Rattle.blocks.specs.Disk.{one_more}
 use Rattle.blocks.specs.declared.disk.Disk.{Ghosts}
 use Rattle.blocks.specs.declared.errors.DiskFault.{DiskFault}
+use Rattle.model.specs.Gathered.{GatheredBytes}
 use Rattle.model.specs.Layout.{inode_count_of}
 use Rattle.model.specs.Log.{recovered}
 use Rattle.wal.specs.declared.types.Commit.{Commit}
@@ -17,6 +19,7 @@ use Rattle.wal.specs.Volume.{faults_after}
 use Rattle.inodes.specs.Lemmas.Faults.{where_none}
 use Rattle.inodes.specs.Steps.{Commits}
 use Rattle.inodes.specs.Store.{StoreState, KeepsFiles, with_log}
+use Rattle.inodes.specs.Table.{TableState}
 use Rattle.inodes.specs.Tasks.{TaskState, task}
 use Rattle.journal.specs.declared.types.At.{At}
 use Rattle.journal.specs.declared.types.At.TheVariants as at
@@ -27,17 +30,18 @@ use Rattle.journal.specs.Lemmas.Groups.{ended_opened, open_of, written_same}
 use Rattle.journal.specs.Lemmas.Known.{known_failed}
 use Rattle.journal.specs.Lemmas.LogEvents.{inv_end_leaves, inv_end_commits, inv_written}
 use Rattle.journal.specs.Processes.{World, process, idle, committing, committing_at, answered, is_before}
-use Rattle.journal.specs.Journal.{Entries}
+use Rattle.journal.specs.Bound.{is_busy_at}
+use Rattle.journal.specs.Journal.{Entries, IsItsRoom}
 use Rattle.journal.specs.Views.{IsValidView, KernelFacts, StandsAt}
-use Rattle.kernel.specs.Invariant.{IsRight, HasFacts, TaskStands}
+use Rattle.kernel.specs.Invariant.{IsRight, HasFacts, IsPaired, TaskStands}
 use Rattle.kernel.specs.State.{ats_of}
 use Rattle.kernel.specs.View.{view_of}
 use Rattle.journal.specs.Lemmas.Answers.{group_there}
 use Rattle.kernel.proofs.Committing.{writes_of}
 use Rattle.kernel.proofs.LogCalls.{logs_ended}
-use Rattle.kernel.proofs.Valid.{valid_joint}
+use Rattle.kernel.proofs.Valid.{HasAgreed, valid_joint}
 use Rattle.journal.specs.Lemmas.Counting.{counted_same}
-use Rattle.kernel.proofs.Pairing.{paired_goes}
+use Rattle.kernel.proofs.Pairing.{paired_goes, keeps_behind}
 use Rattle.journal.specs.Lemmas.Places.{there_now, others_stay}
 use Rattle.kernel.proofs.Right.{right_well, right_failed}
 
@@ -50,18 +54,22 @@ pub record GoesTo (w z : World) (p : ℕ) (a b : At) : Type 0 where
   pub stands : (process w p).at ≡ a
   pub was : is_before a ≡ false
   pub behind : is_before b ≡ false
-  pub processes : z.processes ≡ set w.processes p (record (process w p) { at = b })
+  pub kept : Option GatheredBytes
+  pub keeps : is_busy_at b ≡ true → (is_busy_at a ≡ true) × (kept ≡ (process w p).room)
+  pub processes : z.processes ≡ set w.processes p (record (process w p) { at = b; room = kept })
   pub journal : z.journal ≡ w.journal
 
 -- the operation is answered, or goes on to its group's commit
 pub goes_answered : (w : World) (p : ℕ) (a : At) → (process w p).at ≡ a → is_before a ≡ false → GoesTo w (answered w p) p a at.Idle
-goes_answered w p a stands was = record { stands = stands; was = was; behind = refl; processes = refl; journal = refl }
+goes_answered w p a stands was = record { stands = stands; was = was; behind = refl; kept = None; keeps = λ busy. absurd (false≢true busy); processes = refl; journal = refl }
 
 pub goes_committing : (w : World) (p group k : ℕ) → (process w p).at ≡ at.Ending group k → GoesTo w (committing w p) p (at.Ending group k) (at.Committing group k)
 goes_committing w p group k stands = record {
   stands = stands;
   was = refl;
   behind = refl;
+  kept = (process w p).room;
+  keeps = λ busy. (refl, refl);
   processes = ap (λ (a : At). set w.processes p (record (process w p) { at = committing_at a })) stands;
   journal = refl;
 }
@@ -79,25 +87,29 @@ module _ {D N : Type 0} (disk : Ghosts D N) (opening : D) (s : StoreState D) (w 
   inside : p < length s.volume.log.used
   inside = let few = right.paired.few in let pids = had.facts.valid.log.pids in omega (arith, lt, few, pids)
 
-  module _ (t : StoreState D) (tasks : t.tasks ≡ s.tasks) (numbers : t.inode_count ≡ s.inode_count) (well_now : t.volume.fault ≡ None) (opened : t.volume.log.opened ≡ s.volume.log.opened)
+  module _ (t : StoreState D) (tasks : t.tasks ≡ s.tasks) (numbers : t.table.inode_count ≡ s.table.inode_count) (well_now : t.volume.fault ≡ None) (opened : t.volume.log.opened ≡ s.volume.log.opened)
       (counts : disk.fault_count t.volume.device ≡ disk.fault_count s.volume.device) (z : World) (a b : At) (g : GoesTo w z p a b) where
     others : (q : ℕ) → q ≢ p → ats_of z q ≡ ats_of w q
-    others q apart = ap (λ (r : Process). r.at) (others_stay w z p (record (process w p) { at = b }) g.processes q apart)
+    others q apart = ap (λ (r : Process). r.at) (others_stay w z p (record (process w p) { at = b; room = g.kept }) g.processes q apart)
 
     now : ats_of z p ≡ b
-    now = ap (λ (r : Process). r.at) (there_now w z p (record (process w p) { at = b }) g.processes lt)
+    now = ap (λ (r : Process). r.at) (there_now w z p (record (process w p) { at = b; room = g.kept }) g.processes lt)
 
     -- so all is right where the facts are
-    goes_right : (TaskStands (task s.tasks p) a → TaskStands (task s.tasks p) b) → KernelFacts (disk.image opening) (view_of disk.image t) w.journal.list (ats_of z) → CommitsAlone (ats_of z) t.volume.log → IsRight disk opening t z
+    goes_right : (TaskStands w.journal.list (task s.tasks p) a → TaskStands z.journal.list (task s.tasks p) b) → KernelFacts (disk.image opening) (view_of disk.image t) w.journal.list (ats_of z) → CommitsAlone (ats_of z) t.volume.log → IsRight disk opening t z
     goes_right finished facts alone =
+        let had_task : IsPaired w.journal.list (task s.tasks p) a (process w p).room = subst (λ (c : At). IsPaired w.journal.list (task s.tasks p) c (process w p).room) g.stands (right.paired.stand p) in
         right_well disk opening t z well_now (numbers ∙ right.numbers)
-        (paired_goes s t w z p (record (process w p) { at = b }) right.paired lt g.processes (ap (λ (l : List TaskState). length l) tasks) (λ q apart. ap (λ (l : List TaskState). task l q) tasks)
-        (subst (λ (l : List TaskState). TaskStands (task l p) b) (sym tasks) (finished (subst (λ (c : At). TaskStands (task s.tasks p) c) g.stands (right.paired.stand p)))))
-        (counted_same s.volume.log.opened p w right.counted lt t.volume.log.opened z b (ap is_before g.stands ∙ g.was) g.behind g.processes g.journal opened)
+        (paired_goes s t w z p (record (process w p) { at = b; room = g.kept }) right.paired lt g.processes (ap (λ (l : List TaskState). length l) tasks) (λ q apart. ap (λ (l : List TaskState). task l q) tasks) (keeps_behind w z p (ap (λ (j : Entries). j.list) g.journal))
+        (subst (λ (l : List TaskState). IsPaired z.journal.list (task l p) b g.kept) (sym tasks) (record {
+          stands = finished had_task.stands;
+          room_is = λ busy. let kept = g.keeps busy in subst (λ (o : Option GatheredBytes). IsItsRoom (task s.tasks p).op o) (sym kept.1) (had_task.room_is kept.0);
+        })))
+        (counted_same s.volume.log.opened p w right.counted lt t.volume.log.opened z b g.kept (ap is_before g.stands ∙ g.was) g.behind g.processes (ap (λ (j : Entries). length j.list) g.journal) (ap (λ (j : Entries). j.room) g.journal) opened)
         (record { facts = subst (λ (j : Entries). KernelFacts (disk.image opening) (view_of disk.image t) j.list (ats_of z)) (sym g.journal) facts; alone = alone })
         (counts ∙ faults_well)
 
-  module _ (group k : ℕ) (stands : (process w p).at ≡ at.Ending group k) (joint : Joint (disk.image s.volume.device) s.volume.buffers (ended s.volume.log p)) (before : Joint (disk.image s.volume.device) s.volume.buffers s.volume.log)
+  module _ (group k : ℕ) (stands : (process w p).at ≡ at.Ending group k) (agreed : HasAgreed disk.image (with_log s (ended s.volume.log p))) (before : Joint (disk.image s.volume.device) s.volume.buffers s.volume.log)
       (keeps : KeepsFiles disk.image s (with_log s (ended s.volume.log p))) where
     abbrev t : StoreState D
     t = with_log s (ended s.volume.log p)
@@ -106,7 +118,7 @@ module _ {D N : Type 0} (disk : Ghosts D N) (opening : D) (s : StoreState D) (w 
     stood = subst (λ (a : At). StandsAt n (view_of disk.image s) w.journal.list p a) stands (had.facts.stands p)
 
     valid : IsValidView n (view_of disk.image t)
-    valid = valid_joint disk.image t n joint
+    valid = valid_joint disk.image t n right.numbers agreed
 
     opened_same : t.volume.log.opened ≡ s.volume.log.opened
     opened_same = ended_opened s.volume.log p
@@ -157,20 +169,23 @@ module _ {D N : Type 0} (disk : Ghosts D N) (opening : D) (s : StoreState D) (w 
     alone_here : is_committing_at (ats_of w p) ≡ true
     alone_here = ap is_committing_at stands
 
+    numbers_now : t.table.inode_count ≡ s.table.inode_count
+    numbers_now = ap (λ (o : TableState). o.inode_count) made.table
+
     none_open : s.volume.log.outstanding ≡ 0
     none_open = had.alone.none_open p alone_here
 
-    module _ (joint : Joint (disk.image t.volume.device) t.volume.buffers t.volume.log) (well_now : t.volume.fault ≡ None) where
+    module _ (agreed : HasAgreed disk.image t) (well_now : t.volume.fault ≡ None) where
       valid_now : IsValidView n (view_of disk.image t)
-      valid_now = valid_joint disk.image t n joint
+      valid_now = valid_joint disk.image t n (numbers_now ∙ right.numbers) agreed
 
       -- a write is made, and more are to come
       pub right_written : (t.volume.log ≡ written_at s.volume.log.commit s.volume.log) → is_quiet (written_at s.volume.log.commit s.volume.log).commit ≡ false → disk.fault_count t.volume.device ≡ disk.fault_count s.volume.device → IsRight disk opening t w
       right_written log more counts =
           let same = written_same s.volume.log.commit s.volume.log in
           let opened = ap (λ (l : LogState). l.opened) log ∙ same.opened in
-          let g : GoesTo w w p (at.Committing group k) (at.Committing group k) = record { stands = stands; was = refl; behind = refl; processes = sym (set-get_or w.processes p idle) ∙ ap (λ (a : At). set w.processes p (record (process w p) { at = a })) stands; journal = refl } in
-          goes_right t made.tasks made.numbers well_now opened counts w (at.Committing group k) (at.Committing group k) g (λ over. over)
+          let g : GoesTo w w p (at.Committing group k) (at.Committing group k) = record { stands = stands; was = refl; behind = refl; kept = (process w p).room; keeps = λ busy. (refl, refl); processes = sym (set-get_or w.processes p idle) ∙ ap (λ (a : At). set w.processes p (record (process w p) { at = a })) stands; journal = refl } in
+          goes_right t made.tasks numbers_now well_now opened counts w (at.Committing group k) (at.Committing group k) g (λ over. over)
           (inv_written (disk.image opening) (view_of disk.image s) (view_of disk.image t) w.journal.list (ats_of w) had.facts valid_now p (ats_of w) (λ q apart. refl) group k
           (writes_of disk s t r has_now (sym made.volume.fault ∙ well_now) made) stands none_open (inl stands))
           (subst (λ (l : LogState). CommitsAlone (ats_of w) l) (sym log) (alone_written (ats_of w) (ats_of w) s.volume.log had.alone p (λ q apart. refl) alone_here alone_here more))
@@ -181,9 +196,9 @@ module _ {D N : Type 0} (disk : Ghosts D N) (opening : D) (s : StoreState D) (w 
           let same = written_same s.volume.log.commit s.volume.log in
           let opened = ap (λ (l : LogState). l.opened) log ∙ same.opened in
           let g = goes_answered w p (at.Committing group k) stands refl in
-          let at_p = now t made.tasks made.numbers well_now opened counts (answered w p) (at.Committing group k) at.Idle g in
-          let others_at = others t made.tasks made.numbers well_now opened counts (answered w p) (at.Committing group k) at.Idle g in
-          goes_right t made.tasks made.numbers well_now opened counts (answered w p) (at.Committing group k) at.Idle g (λ st. st.0)
+          let at_p = now t made.tasks numbers_now well_now opened counts (answered w p) (at.Committing group k) at.Idle g in
+          let others_at = others t made.tasks numbers_now well_now opened counts (answered w p) (at.Committing group k) at.Idle g in
+          goes_right t made.tasks numbers_now well_now opened counts (answered w p) (at.Committing group k) at.Idle g (λ st. st.0)
           (inv_written (disk.image opening) (view_of disk.image s) (view_of disk.image t) w.journal.list (ats_of w) had.facts valid_now p (ats_of (answered w p)) others_at group k
           (writes_of disk s t r has_now (sym made.volume.fault ∙ well_now) made) stands none_open (inr at_p))
           (subst (λ (l : LogState). CommitsAlone (ats_of (answered w p)) l) (sym log) (alone_done (ats_of w) (ats_of (answered w p)) s.volume.log had.alone p others_at alone_here (ap is_committing_at at_p) last))
@@ -193,9 +208,9 @@ module _ {D N : Type 0} (disk : Ghosts D N) (opening : D) (s : StoreState D) (w 
         → disk.fault_count t.volume.device ≡ one_more (disk.fault_count s.volume.device) → IsRight disk opening t w
     right_unwritten fault is log place counts =
         let failed : t.volume.fault ≡ Some fault = made.volume.fault ∙ ap Rattle.wal.specs.Volume.fault_of_step is in
-        right_failed disk opening s t w fault right well failed made.numbers
-        (paired_goes s t w w p (process w p) right.paired lt (sym (set-get_or w.processes p idle)) (ap (λ (l : List TaskState). length l) made.tasks) (λ q apart. ap (λ (l : List TaskState). task l q) made.tasks)
-        (subst (λ (l : List TaskState). TaskStands (task l p) (process w p).at) (sym made.tasks) (right.paired.stand p)))
+        right_failed disk opening s t w fault right well failed numbers_now
+        (paired_goes s t w w p (process w p) right.paired lt (sym (set-get_or w.processes p idle)) (ap (λ (l : List TaskState). length l) made.tasks) (λ q apart. ap (λ (l : List TaskState). task l q) made.tasks) (keeps_behind w w p refl)
+        (subst (λ (l : List TaskState). IsPaired w.journal.list (task l p) (process w p).at (process w p).room) (sym made.tasks) (right.paired.stand p)))
         (ap (λ (l : LogState). l.opened) log)
         (known_failed (disk.image opening) (view_of disk.image s) w.journal.list (ats_of w) had.facts t.volume fault (disk.image t.volume.device) failed place log none_open
         (made.volume.write.recovers (disk.image t.volume.device) (has_now t.volume.device)) (made.volume.write.lawful (disk.image t.volume.device) (has_now t.volume.device)))

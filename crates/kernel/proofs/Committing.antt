@@ -32,6 +32,6 @@ module _ {D N : Type 0} (disk : Ghosts D N) (s t : StoreState D) where
         lawful = c.volume.write.lawful (disk.image t.volume.device) (has_now t.volume.device);
         keeps = made.keeps;
         same = c.volume.current;
-        holds = λ q. ap (λ (ts : List TaskState). held_at (task ts q).place) c.tasks;
+        holds = λ q. ap (λ (ts : List TaskState). held_at (task ts q)) c.tasks;
         files = c.files;
       }

@@ -7,11 +7,14 @@ use Rattle.std.proofs.lemmas.List.{get_or-set_same, get_or-set_other, set-get_or
 use Rattle.blocks.specs.Disk.{Image}
 use Rattle.blocks.specs.declared.disk.Disk.{Ghosts}
 use Rattle.blocks.specs.declared.errors.DiskFault.{DiskFault}
+use Rattle.model.specs.declared.types.operations.Entry.{Entry}
 use Rattle.model.specs.declared.types.operations.Op.{Op}
-use Rattle.model.specs.declared.types.operations.Reply.TheVariants.{BadType}
+use Rattle.model.specs.declared.types.operations.Op.TheVariants.{Create, Write, Read, Trunc, Remove, Stat}
+use Rattle.model.specs.declared.types.operations.Reply.{Reply}
 use Rattle.model.specs.declared.types.operations.TaskProgress.{TaskProgress}
 use Rattle.model.specs.declared.types.operations.TaskProgress.TheVariants as progress
 use Rattle.model.specs.declared.types.operations.Why.{Why}
+use Rattle.model.specs.Journal.{is_at_once, is_changing}
 use Rattle.model.specs.Layout.{inode_count_of}
 use Rattle.ports.specs.History.{Side, first_in}
 use Rattle.wal.specs.declared.types.Commit.{Commit}
@@ -22,36 +25,48 @@ use Rattle.wal.specs.declared.types.Ended.{Ended}
 use Rattle.wal.specs.declared.types.Ended.TheVariants as ended_as
 use Rattle.wal.specs.Joint.{written_at}
 use Rattle.wal.specs.Lemmas.Log.{few_homes, let_in}
-use Rattle.wal.specs.Machine.{LogState, ended, end_answer, is_quiet, used_by, IsLogAt}
+use Rattle.model.specs.Gathered.{GatheredBytes}
+use Rattle.wal.specs.Machine.{LogState, begun, ended, end_answer, is_quiet, used_by, IsLogAt}
 use Rattle.wal.specs.Step.{answer_at}
-use Rattle.inodes.specs.Steps.{Steps, Commits, is_over, shown_of, steps_left}
-use Rattle.inodes.specs.Store.{StoreState, first_place, with_begun}
+use Rattle.inodes.specs.declared.ilock.LockAt.TheVariants as lock_at
+use Rattle.inodes.specs.declared.tasks.Place.TheVariants as place
+use Rattle.inodes.specs.Places.{asked, is_over, is_reading, steps_left}
+use Rattle.inodes.specs.Steps.{Steps, Commits, is_made}
+use Rattle.inodes.specs.Store.{StoreState, current_of, first_place, with_begun, with_look}
+use Rattle.inodes.specs.Table.{TableState}
 use Rattle.inodes.specs.Tasks.{TaskState, task, no_task}
-use Rattle.journal.specs.Journal.{entry_of}
+use Rattle.journal.specs.AtOnce.{at_once_reply}
+use Rattle.journal.specs.Journal.{entry_of, entry_in}
 use Rattle.journal.specs.declared.types.At.{At}
 use Rattle.journal.specs.declared.types.At.TheVariants as at
 use Rattle.journal.specs.declared.types.Process.{Process}
 use Rattle.journal.specs.Alone.{is_committing_at}
 use Rattle.journal.specs.Bound.{all_steps_left, is_busy_at, writes_left}
-use Rattle.journal.specs.Grows.{Grows, JournalGoes}
+use Rattle.journal.specs.Grows.{Grows, IsTold, JournalGoes}
+use Rattle.journal.specs.Views.{HasEntry}
 use Rattle.journal.specs.Lemmas.Alone.{goes_on, none_commits, quiet_if_open}
+use Rattle.journal.specs.Lemmas.Answers.{entry_inside}
 use Rattle.journal.specs.Lemmas.Bounds.{some_write, steps_few, writes_fall}
+use Rattle.journal.specs.Lemmas.Events.{at_once_still}
 use Rattle.journal.specs.Lemmas.Groups.{open_of}
 use Rattle.journal.specs.Lemmas.Growing.{grows_goes, grows_none}
-use Rattle.journal.specs.Processes.{World, process, idle, answered, committing, committing_at, refusal, turned, turned_from}
+use Rattle.journal.specs.Processes.{World, process, idle, answered, committing, committing_at, decided, entry_place, place_behind, refusal, told_at, turned, turned_from}
 use Rattle.kernel.specs.declared.waiting.Waiting.{Waiting}
 use Rattle.kernel.specs.declared.waiting.Waiting.TheVariants as waiting
 use Rattle.kernel.specs.declared.types.Step.{Step}
 use Rattle.kernel.specs.declared.types.Step.TheVariants as step
-use Rattle.kernel.specs.Next.{IsNotTaken, BeginsWith, Works, Ends, Writes, NextAt, NextIf, Next, step_of, world_after, step_of_end, world_ended, step_of_write, world_written}
+use Rattle.kernel.specs.Next.{IsNotTaken, BeginsWith, Works, Finishes, Ends, Writes, NextAt, NextIf, Next, step_of, world_after, step_behind, world_behind, step_of_end, world_ended, step_of_write, world_written}
 use Rattle.kernel.specs.Progress.{is_heading, commits, CountsCommitted}
-use Rattle.kernel.specs.State.{waiting_of, ats_of}
-use Rattle.kernel.proofs.Beginnings.{refusal_at_once}
-use Rattle.kernel.proofs.Well.{IsWell, log_of, stands_at, later_before, open_before, unfinished}
-use Rattle.inodes.specs.Lemmas.Bounds.{few_steps, some_step}
+use Rattle.kernel.specs.Invariant.{IsBehind}
+use Rattle.kernel.specs.State.{waiting_of, ats_of, room_for}
+use Rattle.kernel.proofs.Beginnings.{refused_at_once}
+use Rattle.kernel.proofs.Valid.{unturned_unread}
+use Rattle.kernel.proofs.Well.{IsWell, log_of, stands_at, later_before, before_there, unturned_before, behind_there}
+use Rattle.kernel.proofs.Working.{reply_missing}
+use Rattle.inodes.specs.Lemmas.Bounds.{few_steps}
 use Rattle.journal.specs.Lemmas.Ends.{commits_now, ended_count}
-use Rattle.inodes.specs.Lemmas.Ends as working
-use Rattle.inodes.specs.Lemmas.Ends.{ends_of}
+use Rattle.inodes.specs.Lemmas.Looks.{reading_is}
+use Rattle.inodes.specs.Lemmas.StepEnds.{StepEnds, ends_of, logs_of}
 
 -- a write of a commit commits its group where it is that of the header
 written_count : (k : Commit) (l : LogState) → IsLogAt k l → (written_at k l).committed ≡ l.committed + cond (is_heading k) 1 0
@@ -87,18 +102,20 @@ not_taken what l room r is = by_case what is
     by_case (Some waiting.Other) is = subst Rests (sym is) (record { unmoved = λ e. cc e; runs = λ e. cc e; none = λ a l. refl })
     by_case (Some waiting.Refused) (inl full) = sleeps _ full.0
     by_case (Some waiting.Refused) (inr none) = lacks none.0
+    by_case (Some (waiting.Look count)) (inl full) = sleeps _ full.0
+    by_case (Some (waiting.Look count)) (inr none) = lacks none.0
     by_case (Some waiting.Creation) (inl full) = sleeps _ full.0
     by_case (Some waiting.Creation) (inr (inl out)) = sleeps out.0 out.1
     by_case (Some waiting.Creation) (inr (inr none)) = lacks none.0.0
 
 -- the steps that a process's task has left
 abbrev pub task_left : {D : Type 0} → StoreState D → ℕ → ℕ
-task_left s q = steps_left (task s.tasks q).place s.inode_count
+task_left s q = steps_left (task s.tasks q).place s.table.inode_count
 
 -- the other processes keep their tasks, and the log where they commit
 pub record LeavesOthers {D : Type 0} (p : ℕ) (s : StoreState D) (w : World) (t : StoreState D) : Type 0 where
   pub tasks : (q : ℕ) → q ≢ p → task t.tasks q ≡ task s.tasks q
-  pub numbers : t.inode_count ≡ s.inode_count
+  pub numbers : t.table.inode_count ≡ s.table.inode_count
   pub log : (q : ℕ) → q ≢ p → is_committing_at (process w q).at ≡ true → t.volume.log ≡ s.volume.log
 
 -- process p, which becomes u, has a step less left, or has begun with few; and it has some
@@ -127,7 +144,7 @@ module _ {D N : Type 0} (disk : Ghosts D N) (opening : Image) (p : ℕ) (s t : S
   Made r = Event n p s w t z r
 
   others_same : t ≡ s → LeavesOthers p s w t
-  others_same is = record { tasks = λ q apart. ap (λ (o : StoreState D). task o.tasks q) is; numbers = ap (λ (o : StoreState D). o.inode_count) is; log = λ q apart commits. ap (λ (o : StoreState D). o.volume.log) is }
+  others_same is = record { tasks = λ q apart. ap (λ (o : StoreState D). task o.tasks q) is; numbers = ap (λ (o : StoreState D). o.table.inode_count) is; log = λ q apart commits. ap (λ (o : StoreState D). o.volume.log) is }
 
   -- nothing happened, but that a shutdown may have been heard of
   rests : (r : Step) (b : Bool) → commits r (process w p).at s.volume.log ≡ false → r ≢ step.Moved → t ≡ s → z ≡ record w { is_shut = b } → (w.is_shut ≡ true → b ≡ true) → Made r
@@ -172,73 +189,174 @@ module _ {D N : Type 0} (disk : Ghosts D N) (opening : Image) (p : ℕ) (s t : S
         let lt : all_steps_left u.at (task_left t p) t.volume.log < all_steps_left (process w p).at (task_left s p) s.volume.log
         = subst (λ (c : At). all_steps_left c (task_left t p) t.volume.log < all_steps_left (process w p).at (task_left s p) s.volume.log) (sym to)
         (subst (λ (c : At). all_steps_left b (task_left t p) t.volume.log < all_steps_left c (task_left s p) s.volume.log) (sym stands) less) in
-        let most = steps_few (process w p).at (task_left s p) s.volume.log (log_of disk.image opening s w p is) (few_steps (task s.tasks p).place s.inode_count is.numbers) in
+        let most = steps_few (process w p).at (task_left s p) s.volume.log (log_of disk.image opening s w p is) (few_steps (current_of disk.image s.volume) s.table (task s.tasks p) (task s.tasks p).place is.numbers (is.looks.stand p)) in
         ((λ busy. lt), omega (arith, lt, most), subst (λ (c : At). 0 < all_steps_left c (task_left t p) t.volume.log) (sym to) some)
 
     -- nobody commits while the log is quiet
     alone : is_quiet s.volume.log.commit ≡ true → (q : ℕ) → q ≢ p → is_committing_at (process w q).at ≡ true → t.volume.log ≡ s.volume.log
     alone quiet q apart commits = absurd (false≢true (sym (none_commits (ats_of w) s.volume.log is.has.alone quiet q) ∙ commits))
 
+    -- who begins is alone to change its task
+    begins_others : (o : StoreState D) (u : TaskState) → t ≡ o → o.tasks ≡ set s.tasks p u → o.table ≡ s.table → ((q : ℕ) → q ≢ p → is_committing_at (process w q).at ≡ true → t.volume.log ≡ s.volume.log) → LeavesOthers p s w t
+    begins_others o u to tasks table log = record {
+      tasks = λ q apart. ap (λ (v : StoreState D). task v.tasks q) to ∙ ap (λ (ts : List TaskState). task ts q) tasks ∙ get_or-set_other s.tasks p q u no_task apart;
+      numbers = ap (λ (v : StoreState D). v.table.inode_count) to ∙ ap (λ (v : TableState). v.inode_count) table;
+      log = log;
+    }
+
+    -- and has few steps to make
+    begins_few : (o : StoreState D) (u : TaskState) (begun_now group : ℕ) (op : Op) (room : Option GatheredBytes) → t ≡ o → o.tasks ≡ set s.tasks p u → (process w p).at ≡ at.Idle → steps_left u.place o.table.inode_count < 1937 → HasFewer p s w t (record { begun = begun_now; at = at.Before group op; room = room })
+    begins_few o u begun_now group op room to tasks stands few =
+        let inside : p < length s.tasks = (let many = is.paired.many in let lt = is.inside in omega (arith, many, lt)) in
+        let left : task_left t p ≡ steps_left u.place o.table.inode_count
+        = ap (λ (v : StoreState D). task_left v p) to ∙ ap (λ (x : TaskState). steps_left x.place o.table.inode_count) (ap (λ (ts : List TaskState). task ts p) tasks ∙ get_or-set_same s.tasks p u no_task inside) in
+        ((λ busy. absurd (false≢true (ap is_busy_at (sym stands) ∙ busy))), omega (arith, left, few), omega arith)
+
+    begins_there : (op : Op) → steps_left (first_place op s.table.inode_count) s.table.inode_count < 1937
+    begins_there op = by_op op
+      where
+        by_op : (o : Op) → steps_left (first_place o s.table.inode_count) s.table.inode_count < 1937
+        by_op (Create kind) = let few = is.numbers in omega (arith, few)
+        by_op (Write i off bytes) = omega arith
+        by_op (Read i off m) = omega arith
+        by_op (Trunc i) = omega arith
+        by_op (Remove i) = omega arith
+        by_op (Stat i) = omega arith
+
     begins : (what : Option Waiting) (ahead : List Op) (r : Step) → (process w p).at ≡ at.Idle → w.is_shut ≡ false → BeginsWith what s w p ahead side r t z → Made r
     begins what ahead r stands free (inl made) =
-        let inside : p < length s.tasks = (let many = is.paired.many in let lt = is.inside in omega (arith, many, lt)) in
         let same = ap (λ (o : StoreState D). o.volume.log.committed) made.store in
-        let there : task (with_begun s p made.op).tasks p ≡ record { op = Some made.op; place = first_place made.op s.inode_count } = get_or-set_same s.tasks p _ no_task inside in
-        let left : task_left t p ≡ steps_left (first_place made.op s.inode_count) s.inode_count
-        = ap (λ (o : StoreState D). task_left o p) made.store ∙ ap (λ (u : TaskState). steps_left u.place s.inode_count) there in
-        let few = few_steps (first_place made.op s.inode_count) s.inode_count is.numbers in
         subst Made (sym made.answer)
         (goes step.Moved _ _ made.world refl refl (inl free) (inl refl) (counted_at at.Idle step.Moved stands (omega (arith, same)))
-        (record {
-          tasks = λ q apart. ap (λ (o : StoreState D). task o.tasks q) made.store ∙ get_or-set_other s.tasks p q _ no_task apart;
-          numbers = ap (λ (o : StoreState D). o.inode_count) made.store;
-          log = alone (ap is_quiet (let_in s.volume.log.commit _ s.volume.log.outstanding made.free).0);
-        })
-        (λ moved. ((λ busy. absurd (false≢true (ap is_busy_at (sym stands) ∙ busy))), omega (arith, left, few), omega arith)))
+        (begins_others (with_begun s p made.op) _ made.store refl refl (alone (ap is_quiet (let_in s.volume.log.commit _ s.volume.log.outstanding made.free).0)))
+        (λ moved. begins_few (with_begun s p made.op) (record { op = Some made.op; place = first_place made.op s.table.inode_count; gathered = None }) ((process w p).begun + 1) (begun s.volume.log p).opened made.op None made.store refl stands (begins_there made.op)))
     begins what ahead r stands free (inr (inl made)) =
+        let same = ap (λ (o : StoreState D). o.volume.log) made.store in
+        let committed = ap (λ (l : LogState). l.committed) same in
+        subst Made (sym made.answer)
+        (goes step.Moved _ _ made.world refl refl (inl free) (inl refl) (counted_at at.Idle step.Moved stands (omega (arith, committed)))
+        (begins_others (with_look s p made.op (room_for made.count)) _ made.store refl refl (λ q apart commits. same))
+        (λ moved. begins_few (with_look s p made.op (room_for made.count)) (record { op = Some made.op; place = place.Taking (record { number = asked made.op; at = lock_at.Reference }); gathered = room_for made.count }) ((process w p).begun + 1) 0 made.op (room_for made.count) made.store refl stands (omega arith)))
+    begins what ahead r stands free (inr (inr (inl made))) =
         let same = ap (λ (o : StoreState D). o.volume.log.committed) made.store in
         subst Made (sym made.answer)
         (goes step.Answered _ _ made.world refl refl (inl free)
-        (inr (inl (record { entry = refusal w p made.op BadType; mine = refl; later = λ changing. absurd (false≢true (sym ((refusal_at_once n made.op made.taken.1)).1 ∙ changing)); list = refl })))
+        (inr (inl (record { entry = refusal w p made.op (at_once_reply made.op); mine = refl; later = λ changing. absurd (false≢true (sym (at_once_still n made.op (subst (λ (c : ℕ). is_at_once c made.op ≡ true) is.count (refused_at_once s.table.inode_count made.op made.taken.1))) ∙ changing)); list = refl })))
         (counted_at at.Idle step.Answered stands (omega (arith, same))) (others_same made.store) (λ moved. absurd (cc moved)))
-    begins what ahead r stands free (inr (inr made)) =
+    begins what ahead r stands free (inr (inr (inr made))) =
         let waits = not_taken what s.volume.log side.has_room r made.answer in
         rests r w.is_shut (waits.none (process w p).at s.volume.log) waits.unmoved made.same.0 made.same.1 (λ shut. shut)
+
+    -- a task that is not over ends its step so
+    stops : (op : Op) → (task s.tasks p).op ≡ Some op → is_over (task s.tasks p).place ≡ false → (q : TaskProgress) → Steps disk s p op q t → StepEnds s.table.inode_count (task s.tasks p).place op q (task t.tasks p).place
+    stops op same more q done = ends_of disk s p op q t (task s.tasks p).place same (is.agrees.stands p) (is.looks.stand p) more done.goes
+
+    -- it is open in the log, where nobody commits then, or leaves the log
+    others_of : (op : Op) → is_over (task s.tasks p).place ≡ false → (q : TaskProgress) → Steps disk s p op q t → LeavesOthers p s w t
+    others_of op more q done = record {
+      tasks = done.tasks.others;
+      numbers = done.tasks.numbers;
+      log = ⊎_elim (λ used. alone (quiet_if_open s.volume.log p (log_of disk.image opening s w p is) used)) (λ same q apart commits. same) (logs_of disk s p op q t (task s.tasks p).place more (is.agrees.stands p) done.goes);
+    }
+
+    falls_here : (op : Op) → is_over (task s.tasks p).place ≡ false → (q : TaskProgress) → is_made q ≡ true → Steps disk s p op q t → task_left t p < task_left s p
+    falls_here op more q made done = subst (λ (m : ℕ). steps_left (task t.tasks p).place m < task_left s p) (sym done.tasks.numbers) (done.falls made more)
 
     works : (group : ℕ) (op : Op) (r : Step) → (process w p).at ≡ at.Before group op → Works disk s w p op r t z → Made r
     works group op r stands made = subst Made (sym made.answer) (by_progress made.progress made.steps made.world)
       where
-        searched : is_over (task s.tasks p).place ≡ false
-        searched = unfinished disk.image opening s w p is group op stands
+        there : ((task s.tasks p).op ≡ Some op) × (is_over (task s.tasks p).place ≡ false)
+        there = before_there disk.image opening s w p is group op stands
 
-        stops : (q : TaskProgress) → Steps disk s p op q t → working.Ends q (task t.tasks p).place
-        stops q done = ends_of (task s.tasks p).place (task t.tasks p).place s.inode_count p s.volume.buffers q (shown_of disk.image s.volume) (shown_of disk.image t.volume) searched done.goes
-
-        others : (q : TaskProgress) → Steps disk s p op q t → LeavesOthers p s w t
-        others q done = record { tasks = done.tasks.others; numbers = done.tasks.numbers; log = alone (quiet_if_open s.volume.log p (log_of disk.image opening s w p is) (open_before disk.image opening s w p is group op stands)) }
+        behind : (b : Bool) (left k : ℕ) → (all_steps_left (place_behind b group k) left t.volume.log ≤ left + 63) × (0 < all_steps_left (place_behind b group k) left t.volume.log)
+        behind true left k = (omega arith, omega arith)
+        behind false left k = (omega arith, omega arith)
 
         by_progress : (q : TaskProgress) → Steps disk s p op q t → z ≡ world_after q (is_over (task t.tasks p).place) w p → Made (step_of q)
         by_progress progress.Moved done to =
             let same = done.groups.committed in
-            let less : task_left t p < task_left s p = subst (λ (m : ℕ). steps_left (task t.tasks p).place m < task_left s p) (sym done.tasks.numbers) (done.falls refl) in
-            stays step.Moved to (counted_at (at.Before group op) step.Moved stands (omega (arith, same))) (others progress.Moved done)
+            let less = falls_here op there.1 progress.Moved refl done in
+            stays step.Moved to (counted_at (at.Before group op) step.Moved stands (omega (arith, same))) (others_of op there.1 progress.Moved done)
             (λ moved. fewer (process w p) (at.Before group op) (at.Before group op) stands stands (omega (arith, less)) (omega arith))
         by_progress (progress.Turned reply) done to =
             let same = done.groups.committed in
-            let over : is_over (task t.tasks p).place ≡ true = ((stops (progress.Turned reply) done).turned reply refl).0 in
-            let now : turned w p reply (is_over (task t.tasks p).place) ≡ turned_from (at.Before group op) w p reply true
-            = ap (λ (b : Bool). turned w p reply b) over ∙ ap (λ (a : At). turned_from a w p reply true) stands in
-            let some = some_step (task s.tasks p).place s.inode_count searched in
-            goes step.Moved (turned_from (at.Before group op) w p reply true) (record (process w p) { at = at.Ending group (length w.journal.list) }) (to ∙ now) refl refl (inr refl)
+            let over : Bool = is_over (task t.tasks p).place in
+            let k = length w.journal.list in
+            let now : turned w p reply over ≡ turned_from (at.Before group op) w p reply over = ap (λ (a : At). turned_from a w p reply over) stands in
+            let less = falls_here op there.1 (progress.Turned reply) refl done in
+            let left = behind over (task_left t p) k in
+            goes step.Moved (turned_from (at.Before group op) w p reply over) (record (process w p) { at = place_behind over group k }) (to ∙ now) refl refl (inr refl)
             (inr (inl (record { entry = entry_of p (process w p).begun op group reply; mine = refl; later = later_before disk.image opening s w p is group op stands; list = refl })))
-            (counted_at (at.Before group op) step.Moved stands (omega (arith, same))) (others (progress.Turned reply) done)
-            (λ moved. fewer (record (process w p) { at = at.Ending group (length w.journal.list) }) (at.Before group op) (at.Ending group (length w.journal.list)) stands refl (omega (arith, some)) (omega arith))
-        by_progress (progress.Decided reply) done to = absurd ((stops (progress.Decided reply) done).decided reply refl)
-        by_progress progress.Over done to = absurd ((stops progress.Over done).over refl)
+            (counted_at (at.Before group op) step.Moved stands (omega (arith, same))) (others_of op there.1 (progress.Turned reply) done)
+            (λ moved. fewer (record (process w p) { at = place_behind over group k }) (at.Before group op) (place_behind over group k) stands refl (omega (arith, less, left.0)) left.1)
+        by_progress (progress.Decided reply) done to = absurd (unread (stops op there.0 there.1 (progress.Decided reply) done).0)
+          where
+            unread : is_reading (task s.tasks p).place ≡ true → ⊥
+            unread reads = false≢true (sym (unturned_unread (task s.tasks p).place (unturned_before disk.image opening s w p is group op stands)) ∙ reads)
+        by_progress progress.Over done to = absurd (false≢true (sym (stops op there.0 there.1 progress.Over done).0 ∙ unturned_before disk.image opening s w p is group op stands))
         by_progress (progress.Sleeping cause) done to =
-            let same = done.groups.committed in stays (step.Sleeping cause) to (omega (arith, same)) (others (progress.Sleeping cause) done) (λ moved. absurd (cc moved))
+            let same = done.groups.committed in stays (step.Sleeping cause) to (omega (arith, same)) (others_of op there.1 (progress.Sleeping cause) done) (λ moved. absurd (cc moved))
         by_progress (progress.Fault fault) done to =
-            let same = done.groups.committed in stays step.Halted to (omega (arith, same)) (others (progress.Fault fault) done) (λ moved. absurd (cc moved))
+            let same = done.groups.committed in stays step.Halted to (omega (arith, same)) (others_of op there.1 (progress.Fault fault) done) (λ moved. absurd (cc moved))
+
+    finishes : (group k : ℕ) (r : Step) → (process w p).at ≡ at.Behind group k → Finishes disk s w p k r t z → Made r
+    finishes group k r stands made = subst Made (sym made.answer) (by_progress made.progress made.steps made.world)
+      where
+        op : Op
+        op = (entry_in w.journal.list k).op
+
+        there : (e : Entry) × HasEntry w.journal.list p k group e × IsBehind (task s.tasks p) group e
+        there = behind_there disk.image opening s w p is group k stands
+
+        inside : entry_in w.journal.list k ≡ there.0
+        inside = entry_inside w.journal.list k there.0 there.1.at
+
+        same_op : (task s.tasks p).op ≡ Some op
+        same_op = there.2.same ∙ ap (λ (e : Entry). Some e.op) (sym inside)
+
+        more : is_over (task s.tasks p).place ≡ false
+        more = there.2.unfinished
+
+        counted : (q : TaskProgress) → Steps disk s p op q t → t.volume.log.committed ≡ s.volume.log.committed
+        counted q done = done.groups.committed
+
+        -- a reading is told its bytes
+        tells : (reply : Reply) → Steps disk s p op (progress.Decided reply) t → IsTold n p s.volume.log.committed w.journal.list (set w.journal.list k (Rattle.journal.specs.Open.told (entry_in w.journal.list k) reply))
+        tells reply done =
+            let reads = (stops op same_op more (progress.Decided reply) done).0 in
+            let read = reading_is (current_of disk.image s.volume) s.table s.tasks is.looks p reads in
+            let op_is : there.0.op ≡ Read read.number read.offset read.count = (let both = sym there.2.same ∙ read.is in cc both) in
+            record {
+              place = k;
+              entry = there.0;
+              reply = reply;
+              at = there.1.at;
+              mine = there.1.mine;
+              none = reply_missing there.0.reply (sym there.2.reply ∙ reads);
+              later = λ changing. absurd (false≢true (sym (ap (is_changing n) op_is) ∙ changing));
+              list = ap (λ (e : Entry). set w.journal.list k (Rattle.journal.specs.Open.told e reply)) inside;
+            }
+
+        by_progress : (q : TaskProgress) → Steps disk s p op q t → z ≡ world_behind q w p → Made (step_behind q)
+        by_progress progress.Moved done to =
+            let same = done.groups.committed in
+            let less = falls_here op more progress.Moved refl done in
+            stays step.Moved to (counted_at (at.Behind group k) step.Moved stands (omega (arith, same))) (others_of op more progress.Moved done)
+            (λ moved. fewer (process w p) (at.Behind group k) (at.Behind group k) stands stands (omega (arith, less)) (omega arith))
+        by_progress (progress.Turned reply) done to = absurd (false≢true (sym there.2.turned ∙ (stops op same_op more (progress.Turned reply) done).0))
+        by_progress (progress.Decided reply) done to =
+            let same = done.groups.committed in
+            let now : answered (decided w p reply) p ≡ answered (told_at (Some k) w reply) p = ap (λ (a : At). answered (told_at (entry_place a) w reply) p) stands in
+            goes step.Answered (answered (told_at (Some k) w reply) p) (record (process w p) { at = at.Idle; room = None }) (to ∙ now) refl refl (inr refl) (inr (inr (tells reply done)))
+            (counted_at (at.Behind group k) step.Answered stands (omega (arith, same))) (others_of op more (progress.Decided reply) done) (λ moved. absurd (cc moved))
+        by_progress progress.Over done to =
+            let same = done.groups.committed in
+            goes step.Answered (answered w p) (record (process w p) { at = at.Idle; room = None }) to refl refl (inr refl) (inl refl)
+            (counted_at (at.Behind group k) step.Answered stands (omega (arith, same))) (others_of op more progress.Over done) (λ moved. absurd (cc moved))
+        by_progress (progress.Sleeping cause) done to =
+            let same = done.groups.committed in stays (step.Sleeping cause) to (omega (arith, same)) (others_of op more (progress.Sleeping cause) done) (λ moved. absurd (cc moved))
+        by_progress (progress.Fault fault) done to =
+            let same = done.groups.committed in stays step.Halted to (omega (arith, same)) (others_of op more (progress.Fault fault) done) (λ moved. absurd (cc moved))
 
     ends : (group k : ℕ) (r : Step) → (process w p).at ≡ at.Ending group k → Ends s w p r t z → Made r
     ends group k r stands made = subst Made (sym made.answer) (by_answer (end_answer s.volume.log) refl made.world)
@@ -255,7 +373,7 @@ module _ {D N : Type 0} (disk : Ghosts D N) (opening : Image) (p : ℕ) (s t : S
         others : LeavesOthers p s w t
         others = record {
           tasks = λ q apart. ap (λ (o : StoreState D). task o.tasks q) made.store;
-          numbers = ap (λ (o : StoreState D). o.inode_count) made.store;
+          numbers = ap (λ (o : StoreState D). o.table.inode_count) made.store;
           log = alone (quiet_if_open s.volume.log p (log_of disk.image opening s w p is) used);
         }
 
@@ -267,7 +385,7 @@ module _ {D N : Type 0} (disk : Ghosts D N) (opening : Image) (p : ℕ) (s t : S
             goes step.Moved (committing w p) (record (process w p) { at = committing_at (process w p).at }) to refl refl (inr refl) (inl refl) (counted_at (at.Ending group k) step.Moved stands counted) others
             (λ moved. fewer (record (process w p) { at = committing_at (process w p).at }) (at.Ending group k) (at.Committing group k) stands (ap committing_at stands) (omega (arith, left, few)) (omega (arith, left)))
         by_answer ended_as.Left e to =
-            goes step.Answered (answered w p) (record (process w p) { at = at.Idle }) to refl refl (inr refl) (inl refl) (counted_at (at.Ending group k) step.Answered stands counted) others (λ moved. absurd (cc moved))
+            goes step.Answered (answered w p) (record (process w p) { at = at.Idle; room = None }) to refl refl (inr refl) (inl refl) (counted_at (at.Ending group k) step.Answered stands counted) others (λ moved. absurd (cc moved))
 
     writes : (group k : ℕ) (r : Step) → (process w p).at ≡ at.Committing group k → Writes disk s w p r t z → Made r
     writes group k r stands made = subst Made (sym made.answer) (by_result made.result made.commits made.world)
@@ -279,7 +397,7 @@ module _ {D N : Type 0} (disk : Ghosts D N) (opening : Image) (p : ℕ) (s t : S
         others : (q : Committed) → Commits disk s q t → LeavesOthers p s w t
         others q done = record {
           tasks = λ q apart. ap (λ ts. task ts q) done.tasks;
-          numbers = done.numbers;
+          numbers = ap (λ (o : TableState). o.inode_count) done.table;
           log = λ q apart other. absurd (apart (is.has.alone.sole q p other (ap is_committing_at stands)));
         }
 
@@ -297,15 +415,15 @@ module _ {D N : Type 0} (disk : Ghosts D N) (opening : Image) (p : ℕ) (s t : S
         by_result committed.More done to = more committed.More done (λ over. let no = sym done.volume.write.step.0 ∙ over in absurd (cc no)) done.volume.write.step.1.log to
         by_result (committed.Durable g) done to = more (committed.Durable g) done (λ over. let no = sym done.volume.write.step.0 ∙ over in absurd (cc no)) done.volume.write.step.1.log to
         by_result committed.Done done to =
-            goes step.Answered (answered w p) (record (process w p) { at = at.Idle }) to refl refl (inr refl) (inl refl) (counted_at (at.Committing group k) step.Answered stands (counted done.volume.write.step.1.log)) (others committed.Done done) (λ moved. absurd (cc moved))
+            goes step.Answered (answered w p) (record (process w p) { at = at.Idle; room = None }) to refl refl (inr refl) (inl refl) (counted_at (at.Committing group k) step.Answered stands (counted done.volume.write.step.1.log)) (others committed.Done done) (λ moved. absurd (cc moved))
         by_result (committed.Fault fault) done to =
             let same = ap (λ (l : LogState). l.committed) done.volume.write.step.log in stays step.Halted to (omega (arith, same)) (others (committed.Fault fault) done) (λ moved. absurd (cc moved))
 
     event_at : (r : Step) (a : At) → (process w p).at ≡ a → NextAt disk a s w p before side told r t z → Made r
     event_at r at.Idle stands (inl heard) = subst Made (sym heard.answer) (rests step.ShutDown true refl (λ e. cc e) heard.store heard.world (λ shut. refl))
-    event_at r at.Idle stands (inr rest) = begins (option_map waiting_of (first_in rest.ahead)) rest.ahead r stands rest.unshut rest.begins
+    event_at r at.Idle stands (inr rest) = begins (option_map (waiting_of s.table.inode_count) (first_in rest.ahead)) rest.ahead r stands rest.unshut rest.begins
     event_at r (at.Before group op) stands made = works group op r stands made
-    event_at r (at.Behind group k) stands made = absurd made
+    event_at r (at.Behind group k) stands made = finishes group k r stands made
     event_at r (at.Ending group k) stands made = ends group k r stands made
     event_at r (at.Committing group k) stands made = writes group k r stands made
 

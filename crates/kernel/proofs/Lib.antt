@@ -8,11 +8,12 @@ pub mod Ports
 pub mod Right
 pub mod Beginnings
 pub mod Working
+pub mod Well
 pub mod Closing
 pub mod Acting
-pub mod Well
 pub mod Events
 pub mod Promising
 pub mod Turns
 pub mod AtOpening
 pub mod Openings
+mod UnderWay

@@ -1,27 +1,53 @@
--- The calls of a store that begin and end an operation in the log, as a journal sees them.
-use Rattle.std.proofs.Common.{◌≡◌, ℕ, ◌∙◌, sym, ap}
+-- The calls of a store that begin and end an operation, as a journal sees them.
+use Rattle.std.proofs.Common.{◌≡◌, ◌≢◌, ℕ, ◌<◌, true, false, List, length, set, refl, ◌∙◌, sym, ap, ⊎_elim, Option}
+use Rattle.std.proofs.lemmas.Bool.{cases_eq}
+use Rattle.std.proofs.lemmas.List.{get_or-set_same, get_or-set_other}
 use Rattle.blocks.specs.Disk.{Image}
 use Rattle.model.specs.declared.types.operations.Op.{Op}
+use Rattle.model.specs.declared.types.operations.Op.TheVariants.{Create, Write, Read, Trunc, Remove, Stat}
+use Rattle.model.specs.Gathered.{GatheredBytes}
 use Rattle.wal.specs.Machine.{LogState, begun, ended}
-use Rattle.inodes.specs.Tasks.{task}
-use Rattle.inodes.specs.Store.{StoreState, KeepsFiles, with_begun, with_log}
+use Rattle.wal.specs.Volume.{VolumeState}
+use Rattle.inodes.specs.Places.{is_over, is_reading}
+use Rattle.inodes.specs.Tasks.{TaskState, task, no_task}
+use Rattle.inodes.specs.Store.{StoreState, KeepsFiles, first_place, with_begun, with_log, with_look, current_of}
 use Rattle.journal.specs.Views.{CallsLog}
-use Rattle.kernel.specs.View.{view_of}
-use Rattle.kernel.proofs.Valid.{none_held}
+use Rattle.kernel.specs.View.{held_at, view_of}
+use Rattle.kernel.proofs.Valid.{over_unread, unread_holds}
+
+-- a task that begins reads nothing yet
+first_unread : (op : Op) (n : ℕ) → is_reading (first_place op n) ≡ false
+first_unread (Create kind) n = refl
+first_unread (Write i off bytes) n = refl
+first_unread (Read i off m) n = refl
+first_unread (Trunc i) n = refl
+first_unread (Remove i) n = refl
+first_unread (Stat i) n = refl
 
 module _ {D : Type 0} (image : D → Image) (old new : StoreState D) (p : ℕ) (files : KeepsFiles image old new) where
   -- whatever the log is then
-  calls : (l : LogState) → new.volume ≡ record old.volume { log = l } → CallsLog l (view_of image old) (view_of image new)
-  calls l is = record {
-    log = ap (λ v. v.log) is;
-    disk = ap (λ v. image v.device) is;
-    current = ap (λ v. Rattle.inodes.specs.Store.current_of image v) is;
-    holds = λ q. none_held (task new.tasks q).place ∙ sym (none_held (task old.tasks q).place);
+  calls : (l : LogState) → new.volume ≡ record old.volume { log = l } → ((q : ℕ) → held_at (task new.tasks q) ≡ held_at (task old.tasks q)) → CallsLog l (view_of image old) (view_of image new)
+  calls l is holds = record {
+    log = ap (λ (v : VolumeState D). v.log) is;
+    disk = ap (λ (v : VolumeState D). image v.device) is;
+    current = ap (λ (v : VolumeState D). current_of image v) is;
+    holds = holds;
     files = files;
   }
 
-  pub logs_begun : (op : Op) → new ≡ with_begun old p op → CallsLog (begun old.volume.log p) (view_of image old) (view_of image new)
-  logs_begun op is = calls (begun old.volume.log p) (ap (λ (s : StoreState D). s.volume) is)
+  -- a process whose task was over begins another
+  begins : (u : TaskState) → new.tasks ≡ set old.tasks p u → p < length old.tasks → is_over (task old.tasks p).place ≡ true → is_reading u.place ≡ false → (q : ℕ) → held_at (task new.tasks q) ≡ held_at (task old.tasks q)
+  begins u is lt over unread q = ⊎_elim
+      (λ (same : q ≡ p). ap (λ (r : ℕ). held_at (task new.tasks r)) same ∙ ap held_at (ap (λ (ts : List TaskState). task ts p) is ∙ get_or-set_same old.tasks p u no_task lt) ∙ unread_holds u unread
+      ∙ sym (unread_holds (task old.tasks p) (over_unread (task old.tasks p).place over)) ∙ ap (λ (r : ℕ). held_at (task old.tasks r)) (sym same))
+      (λ (apart : q ≢ p). ap held_at (ap (λ (ts : List TaskState). task ts q) is ∙ get_or-set_other old.tasks p q u no_task apart))
+      (cases_eq q p)
+
+  pub logs_begun : (op : Op) → new ≡ with_begun old p op → p < length old.tasks → is_over (task old.tasks p).place ≡ true → CallsLog (begun old.volume.log p) (view_of image old) (view_of image new)
+  logs_begun op is lt over = calls (begun old.volume.log p) (ap (λ (s : StoreState D). s.volume) is) (begins _ (ap (λ (s : StoreState D). s.tasks) is) lt over (first_unread op old.table.inode_count))
+
+  pub logs_looked : (op : Op) (room : Option GatheredBytes) → new ≡ with_look old p op room → p < length old.tasks → is_over (task old.tasks p).place ≡ true → CallsLog old.volume.log (view_of image old) (view_of image new)
+  logs_looked op room is lt over = calls old.volume.log (ap (λ (s : StoreState D). s.volume) is) (begins _ (ap (λ (s : StoreState D). s.tasks) is) lt over refl)
 
   pub logs_ended : new ≡ with_log old (ended old.volume.log p) → CallsLog (ended old.volume.log p) (view_of image old) (view_of image new)
-  logs_ended is = calls (ended old.volume.log p) (ap (λ (s : StoreState D). s.volume) is)
+  logs_ended is = calls (ended old.volume.log p) (ap (λ (s : StoreState D). s.volume) is) (λ q. ap (λ (s : StoreState D). held_at (task s.tasks q)) is)

@@ -1,5 +1,5 @@
 -- What a kernel that is opened has.
-use Rattle.std.proofs.Common.{get_or, ◌≡◌, ℕ, ◌+◌, ◌*◌, ◌<◌, ◌≤◌, true, false, cond, eqb, List, length, replicate, sym, ◌∙◌, ap, subst, arith, ⊎_elim, None, Err, inl, inr}
+use Rattle.std.proofs.Common.{get_or, ◌≡◌, ℕ, ◌+◌, ◌*◌, ◌<◌, ◌≤◌, true, false, cond, eqb, List, [], length, replicate, sym, ◌∙◌, ap, subst, arith, ⊎_elim, None, Err, inl, inr}
 use Rattle.std.specs.Prelude.{count_by, Result, Ok, IfOk, OnErr, ◌⊎◌}
 use Rattle.std.proofs.lemmas.Bool.{cases_lt, false≢true}
 use Rattle.std.proofs.lemmas.List.{get_or-replicate, get_or_past, length-replicate}
@@ -27,12 +27,13 @@ use Rattle.blocks.specs.Calls.{OnlyReads}
 use Rattle.blocks.specs.declared.disk.Disk.{Ghosts}
 use Rattle.kernel.specs.Opening.{MayWrite, IsRecoverCause}
 use Rattle.kernel.specs.declared.types.OpenFault.TheVariants.{Recover}
-use Rattle.inodes.specs.Steps.{is_over}
+use Rattle.inodes.specs.Places.{is_over}
 use Rattle.inodes.specs.Store.{StoreState}
+use Rattle.inodes.specs.Table.{new_table}
 use Rattle.inodes.specs.Tasks.{TaskState, task, no_task}
 use Rattle.journal.specs.declared.types.Process.{Process}
 use Rattle.journal.specs.Processes.{process, fresh_world, idle, is_before}
-use Rattle.kernel.specs.Invariant.{ArePaired, TaskStands}
+use Rattle.kernel.specs.Invariant.{ArePaired, IsPaired}
 use Rattle.journal.specs.Counting.{IsCounted}
 
 pub super_size : (x : Image) (sup : Super) → verdict x ≡ None → sup ≡ super_of x → sup.size ≡ length x
@@ -97,7 +98,7 @@ paired_new s n is some few = record {
   many = ap (λ (ts : List TaskState). length ts) is ∙ length-replicate n no_task ∙ sym (length-replicate n idle);
   some = omega (arith, some, length-replicate n idle);
   few = omega (arith, few, length-replicate n idle);
-  stand = λ p. subst (λ (q : Process). TaskStands (task s.tasks p) q.at) (sym (idle_at n p)) (ap (λ (t : TaskState). is_over t.place) (ap (λ (ts : List TaskState). task ts p) is ∙ same_at n p no_task));
+  stand = λ p. subst (λ (q : Process). IsPaired [] (task s.tasks p) q.at q.room) (sym (idle_at n p)) (record { stands = ap (λ (t : TaskState). is_over t.place) (ap (λ (ts : List TaskState). task ts p) is ∙ same_at n p no_task); room_is = λ busy. absurd (false≢true busy) });
 }
 
 -- what holds of each answer, and of each refusal
@@ -126,6 +127,6 @@ recover_unwritten T disk d e f recover.NoMemory reads looks same = inr (ap disk.
 
 -- a store by its parts
 pub store_is : {D : Type 0} (v u : VolumeState D) (ts us : List TaskState) (m n : ℕ) → v ≡ u → ts ≡ us → m ≡ n
-    → (let made : StoreState D = record { volume = v; tasks = ts; inode_count = m } in made) ≡ record { volume = u; tasks = us; inode_count = n }
-store_is v u ts us m n volume tasks numbers = ap (λ (w : VolumeState _). record { volume = w; tasks = ts; inode_count = m }) volume ∙ ap (λ (l : List TaskState). record { volume = u; tasks = l; inode_count = m }) tasks
-    ∙ ap (λ (k : ℕ). record { volume = u; tasks = us; inode_count = k }) numbers
+    → (let made : StoreState D = record { volume = v; tasks = ts; table = new_table m } in made) ≡ record { volume = u; tasks = us; table = new_table n }
+store_is v u ts us m n volume tasks numbers = ap (λ (w : VolumeState _). record { volume = w; tasks = ts; table = new_table m }) volume ∙ ap (λ (l : List TaskState). record { volume = u; tasks = l; table = new_table m }) tasks
+    ∙ ap (λ (k : ℕ). record { volume = u; tasks = us; table = new_table k }) numbers

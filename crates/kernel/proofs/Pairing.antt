@@ -1,55 +1,74 @@
 -- Each process has its task, also after an event.
-use Rattle.std.proofs.Common.{◌≡◌, ◌≢◌, ℕ, ◌<◌, true, false, List, length, length-set, get_or, set, refl, sym, ◌∙◌, ap, subst, arith, ⊎_elim, Option, Some, None}
+use Rattle.std.proofs.Common.{◌≡◌, ◌≢◌, ℕ, ◌<◌, Bool, true, List, length, length-set, set, refl, sym, ◌∙◌, ap, subst, arith, ⊎_elim, Option, Some}
 use Rattle.std.proofs.lemmas.Bool.{cases_eq}
-use Rattle.std.proofs.lemmas.List.{get_or-set_same, get_or-set_other}
+use Rattle.std.proofs.lemmas.List.{get_or-set_same}
+use Rattle.model.specs.Gathered.{GatheredBytes}
+use Rattle.model.specs.declared.types.operations.Entry.{Entry}
 use Rattle.model.specs.declared.types.operations.Op.{Op}
 use Rattle.model.specs.declared.types.operations.Op.TheVariants.{Create, Write, Read, Trunc, Remove, Stat}
-use Rattle.inodes.specs.Store.{StoreState, CanBegin, first_place, with_begun}
-use Rattle.inodes.specs.Steps.{is_over}
+use Rattle.inodes.specs.declared.tasks.Place.{Place}
+use Rattle.inodes.specs.Store.{StoreState, CanBegin, first_place}
+use Rattle.inodes.specs.Places.{is_unturned}
 use Rattle.inodes.specs.Tasks.{TaskState, task, no_task}
+use Rattle.journal.specs.declared.types.At.{At}
 use Rattle.journal.specs.declared.types.At.TheVariants as at
 use Rattle.journal.specs.declared.types.Process.{Process}
+use Rattle.journal.specs.Journal.{IsItsRoom}
+use Rattle.journal.specs.Open.{IsEntry}
 use Rattle.journal.specs.Processes.{World, process}
-use Rattle.kernel.specs.Invariant.{ArePaired, TaskStands}
+use Rattle.kernel.specs.Invariant.{ArePaired, IsPaired, TaskStands}
 use Rattle.journal.specs.Lemmas.Places.{there_now, others_stay}
+
+-- a process goes on with its task where its own entry stays
+stands_back : (es fs : List Entry) (v : TaskState) (a : At) → ((g k : ℕ) (e : Entry) → a ≡ at.Behind g k → IsEntry fs k e → IsEntry es k e) → TaskStands es v a → TaskStands fs v a
+stands_back es fs v at.Idle back had = had
+stands_back es fs v (at.Before group op) back had = had
+stands_back es fs v (at.Behind group k) back had = λ e there. had e (back group k e refl there)
+stands_back es fs v (at.Ending group k) back had = had
+stands_back es fs v (at.Committing group k) back had = had
+
+-- behind its turn, each other process than p has its entry where it had it
+abbrev pub KeepsBehind : World → World → ℕ → Type 0
+KeepsBehind w z p = (q : ℕ) → q ≢ p → (g k : ℕ) (e : Entry) → (process w q).at ≡ at.Behind g k → IsEntry z.journal.list k e → IsEntry w.journal.list k e
+
+-- so it is where the journal stays
+pub keeps_behind : (w z : World) (p : ℕ) → z.journal.list ≡ w.journal.list → KeepsBehind w z p
+keeps_behind w z p same q apart g k e stands there = subst (λ (es : List Entry). IsEntry es k e) same there
 
 module _ {D : Type 0} (s t : StoreState D) (w z : World) (p : ℕ) (u : Process) where
   -- process p and its task go on, and the others stay
   pub paired_goes : ArePaired s w → p < length w.processes → z.processes ≡ set w.processes p u → length t.tasks ≡ length s.tasks
-      → ((q : ℕ) → q ≢ p → task t.tasks q ≡ task s.tasks q) → TaskStands (task t.tasks p) u.at → ArePaired t z
-  paired_goes had lt is many others mine =
+      → ((q : ℕ) → q ≢ p → task t.tasks q ≡ task s.tasks q) → KeepsBehind w z p → IsPaired z.journal.list (task t.tasks p) u.at u.room → ArePaired t z
+  paired_goes had lt is many others back mine =
       let size : length z.processes ≡ length w.processes = ap (λ (ps : List Process). length ps) is ∙ length-set w.processes p u in
       record {
         many = many ∙ had.many ∙ sym size;
         some = omega (arith, size, had.some);
         few = omega (arith, size, had.few);
         stand = λ q. ⊎_elim
-            (λ (same : q ≡ p). subst (λ (r : ℕ). TaskStands (task t.tasks r) (process z r).at) (sym same) (subst (λ (v : Process). TaskStands (task t.tasks p) v.at) (sym (there_now w z p u is lt)) mine))
-            (λ (apart : q ≢ p). subst (λ (v : Process). TaskStands (task t.tasks q) v.at) (sym (others_stay w z p u is q apart)) (subst (λ (v : TaskState). TaskStands v (process w q).at) (sym (others q apart)) (had.stand q)))
+            (λ (same : q ≡ p). subst (λ (r : ℕ). IsPaired z.journal.list (task t.tasks r) (process z r).at (process z r).room) (sym same)
+            (subst (λ (v : Process). IsPaired z.journal.list (task t.tasks p) v.at v.room) (sym (there_now w z p u is lt)) mine))
+            (λ (apart : q ≢ p). subst (λ (v : Process). IsPaired z.journal.list (task t.tasks q) v.at v.room) (sym (others_stay w z p u is q apart))
+            (subst (λ (v : TaskState). IsPaired z.journal.list v (process w q).at (process w q).room) (sym (others q apart))
+            (record { stands = stands_back w.journal.list z.journal.list (task s.tasks q) (process w q).at (λ g k e. back q apart g k e) (had.stand q).stands; room_is = (had.stand q).room_is })))
             (cases_eq q p);
       }
 
--- a task that begins is not over
-begins_unfinished : (op : Op) (n : ℕ) → CanBegin op → is_over (first_place op n) ≡ false
-begins_unfinished (Create kind) n can = refl
-begins_unfinished (Write i off bytes) n can = absurd can
-begins_unfinished (Read i off m) n can = absurd can
-begins_unfinished (Trunc i) n can = absurd can
-begins_unfinished (Remove i) n can = absurd can
-begins_unfinished (Stat i) n can = absurd can
+-- a task that begins has not had its turn
+pub begins_unturned : (op : Op) (n : ℕ) → CanBegin op → is_unturned (first_place op n) ≡ true
+begins_unturned (Create kind) n can = refl
+begins_unturned (Write i off bytes) n can = absurd can
+begins_unturned (Read i off m) n can = absurd can
+begins_unturned (Trunc i) n can = absurd can
+begins_unturned (Remove i) n can = absurd can
+begins_unturned (Stat i) n can = absurd can
 
 -- the task of an operation that begins
-pub task_begun : {D : Type 0} (s : StoreState D) (p group : ℕ) (op : Op) → p < length s.tasks → CanBegin op → TaskStands (task (with_begun s p op).tasks p) (at.Before group op)
-task_begun s p group op lt can =
-    let now : task (with_begun s p op).tasks p ≡ record { op = Some op; place = first_place op s.inode_count } = get_or-set_same s.tasks p _ no_task lt in
-    (ap (λ (t : TaskState). t.op) now, ap (λ (t : TaskState). is_over t.place) now ∙ begins_unfinished op s.inode_count can)
-
-pub others_begun : {D : Type 0} (s : StoreState D) (p : ℕ) (op : Op) (q : ℕ) → q ≢ p → task (with_begun s p op).tasks q ≡ task s.tasks q
-others_begun s p op q apart = get_or-set_other s.tasks p q _ no_task apart
-
-pub many_begun : {D : Type 0} (s : StoreState D) (p : ℕ) (op : Op) → length (with_begun s p op).tasks ≡ length s.tasks
-many_begun s p op = length-set s.tasks p _
+pub task_begun : {D : Type 0} (s : StoreState D) (es : List Entry) (p group : ℕ) (op : Op) (a : Place) (bytes room : Option GatheredBytes) → p < length s.tasks → is_unturned a ≡ true → IsItsRoom (Some op) room
+    → IsPaired es (task (set s.tasks p (record { op = Some op; place = a; gathered = bytes })) p) (at.Before group op) room
+task_begun s es p group op a bytes room lt unturned its =
+    subst (λ (t : TaskState). IsPaired es t (at.Before group op) room) (sym (get_or-set_same s.tasks p (record { op = Some op; place = a; gathered = bytes }) no_task lt)) (record { stands = (refl, unturned); room_is = λ busy. its })
 
 -- a shutdown is nobody's
-pub paired_shut : {D : Type 0} (s : StoreState D) (w : World) (b : Rattle.std.proofs.Common.Bool) → ArePaired s w → ArePaired s (record w { is_shut = b })
+pub paired_shut : {D : Type 0} (s : StoreState D) (w : World) (b : Bool) → ArePaired s w → ArePaired s (record w { is_shut = b })
 paired_shut s w b had = record { many = had.many; some = had.some; few = had.few; stand = had.stand }

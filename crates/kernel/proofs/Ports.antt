@@ -2,7 +2,7 @@
 use Rattle.std.proofs.Common.{◌≡◌, ◌≢◌, ℕ, ◌+◌, ◌<◌, ◌≤◌, Bool, true, false, List, [], ◌∷◌, ◌++◌, length, get_or, set, refl, sym, ◌∙◌, ap, subst, ⊎_elim, Option, Some, None}
 use Rattle.std.specs.Prelude.{IsSome, replicate}
 use Rattle.std.proofs.lemmas.Bool.{cases_eq, cases_lt, false≢true}
-use Rattle.std.proofs.lemmas.List.{length-replicate, get_or-replicate, get_or_past}
+use Rattle.std.proofs.lemmas.List.{length-replicate, get_or-replicate, get_or_past, set-get_or}
 use Rattle.model.specs.declared.types.operations.Answer.{Answer}
 use Rattle.model.specs.declared.types.operations.Entry.{Entry}
 use Rattle.model.specs.declared.types.operations.Op.{Op}
@@ -10,17 +10,19 @@ use Rattle.model.specs.declared.types.operations.Reply.{Reply}
 use Rattle.ports.specs.declared.herald.Herald as herald_trait
 use Rattle.ports.specs.declared.intake.Intake as intake_trait
 use Rattle.ports.specs.History.{Side, History, OthersStay, AllFit, FitWith, nothing_yet, takes, gives}
+use Rattle.model.specs.Gathered.{GatheredBytes}
 use Rattle.journal.specs.Journal.{entry_of}
+use Rattle.journal.specs.Open.{IsEntry, told}
 use Rattle.journal.specs.declared.types.At.{At}
 use Rattle.journal.specs.declared.types.At.TheVariants as at
 use Rattle.journal.specs.declared.types.Process.{Process}
 use Rattle.journal.specs.Bound.{is_busy_at}
 use Rattle.journal.specs.Histories.{IsHistory}
-use Rattle.journal.specs.Processes.{World, process, idle, fresh_world, with_place, taken, refusal, refused, refusal_answer, place_behind, turned_from, turned, committing_at, committing, last_answer, answered}
-use Rattle.journal.specs.Lemmas.Histories.{history_new, history_more, history_taken, history_turned, history_turned_over, history_committing, history_at_once}
+use Rattle.journal.specs.Processes.{World, process, idle, fresh_world, with_place, taken, refusal, refused, refusal_answer, place_behind, turned_from, turned, committing_at, committing, last_answer, answered, decided, told_at, entry_place}
+use Rattle.journal.specs.Lemmas.Histories.{history_new, history_more, history_taken, history_turned, history_turned_over, history_committing, history_at_once, history_told, history_replied}
 use Rattle.kernel.specs.Invariant.{HasHistory, ArePorts}
 use Rattle.kernel.specs.Ports.{Gives}
-use Rattle.journal.specs.Lemmas.Answers.{history_given}
+use Rattle.journal.specs.Lemmas.Answers.{entry_inside, history_given}
 use Rattle.journal.specs.Lemmas.Places.{there_now, others_stay, as_many}
 
 -- a room of another process stays where its side does
@@ -130,11 +132,11 @@ module _ {I M H : Type 0} (intake : intake_trait.Ghosts I M) (herald : herald_tr
       }
 
   -- an operation was taken, after a place for its answer was kept
-  pub ports_taken : (i m j : I) (h : H) (c : ℕ) (w z : World) (p group : ℕ) (op : Op) → ArePorts intake herald i h c w → p < length w.processes → (process w p).at ≡ at.Idle → z ≡ taken (with_place w) p group op
+  pub ports_taken : (i m j : I) (h : H) (c : ℕ) (w z : World) (p group : ℕ) (op : Op) (kept : Option GatheredBytes) → ArePorts intake herald i h c w → p < length w.processes → (process w p).at ≡ at.Idle → z ≡ taken (with_place w) p group op kept
       → intake.process_count m ≡ intake.process_count i → OthersStay (intake.side i) (intake.side m) p → AllFit (intake.fits i) (intake.fits m)
       → intake.process_count j ≡ intake.process_count m → OthersStay (intake.side m) (intake.side j) p → FitWith (intake.fits m) (intake.fits j) p (takes (Some op))
       → (intake.side j p).has_room ≡ true → ArePorts intake herald j h c z
-  ports_taken i m j h c w z p group op had lt stands is many apart fit fewer others takes_it room = ports_go i j h h c c w z p (record { begun = (process w p).begun + 1; at = at.Before group op }) had
+  ports_taken i m j h c w z p group op kept had lt stands is many apart fit fewer others takes_it room = ports_go i j h h c c w z p (record { begun = (process w p).begun + 1; at = at.Before group op; room = kept }) had
       (record {
         inside = lt;
         processes = ap (λ (o : World). o.processes) is;
@@ -224,10 +226,35 @@ module _ {I M H : Type 0} (intake : intake_trait.Ghosts I M) (herald : herald_tr
         );
       }) had.told
 
+  -- one's entry was told its reply
+  pub ports_decided : (i : I) (h : H) (c : ℕ) (w : World) (p group k : ℕ) (e : Entry) (reply : Reply) → ArePorts intake herald i h c w → p < length w.processes → (process w p).at ≡ at.Behind group k → IsEntry w.journal.list k e → e.pid ≡ p
+      → ArePorts intake herald i h c (decided w p reply)
+  ports_decided i h c w p group k e reply had lt stands there mine =
+      let z = told_at (Some k) w reply in
+      let same : decided w p reply ≡ z = ap (λ (a : At). told_at (entry_place a) w reply) stands in
+      let list : z.journal.list ≡ set w.journal.list k (told e reply) = ap (λ (f : Entry). set w.journal.list k (told f reply)) (entry_inside w.journal.list k e there) in
+      subst (λ (o : World). ArePorts intake herald i h c o) (sym same) (ports_go i i h h c c w z p (process w p) had
+      (record {
+        inside = lt;
+        processes = sym (set-get_or w.processes p idle);
+        served = refl;
+        rooms = λ q other kept. kept;
+        room = λ busy. had.room p busy;
+        journal = λ q begun a f other history. subst (λ (l : List Entry). IsHistory l a begun q f) (sym list) (history_told w.journal.list k e reply a begun q f there (λ own. other (sym own ∙ mine)) history);
+        fits = λ q f other fits. fits;
+        mine = λ f history fits. (
+          f,
+          subst (λ (l : List Entry). IsHistory l (process w p).at (process w p).begun p f) (sym list)
+              (subst (λ (a : At). IsHistory (set w.journal.list k (told e reply)) a (process w p).begun p f) (sym stands)
+              (history_replied w.journal.list k (process w p).begun group p e reply f there (subst (λ (a : At). IsHistory w.journal.list a (process w p).begun p f) stands history))),
+          fits,
+        );
+      }) had.told)
+
   -- one was answered, which the herald may have heard of
   pub ports_answered : (i j : I) (h g : H) (c d : ℕ) (w z : World) (p : ℕ) (answer : Answer) → ArePorts intake herald i h c w → p < length w.processes → last_answer w (process w p).at ≡ Some answer → z ≡ answered w p → Gives intake w p i j → herald.count g ≡ d
       → ArePorts intake herald j g d z
-  ports_answered i j h g c d w z p answer had lt tells is given told = ports_go i j h g c d w z p (record (process w p) { at = at.Idle }) had
+  ports_answered i j h g c d w z p answer had lt tells is given told = ports_go i j h g c d w z p (record (process w p) { at = at.Idle; room = None }) had
       (record {
         inside = lt;
         processes = ap (λ (o : World). o.processes) is;

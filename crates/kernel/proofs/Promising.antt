@@ -8,7 +8,7 @@ use Rattle.ports.specs.declared.herald.Herald as herald_trait
 use Rattle.ports.specs.declared.intake.Intake as intake_trait
 use Rattle.wal.specs.Machine.{LogState}
 use Rattle.inodes.specs.Lemmas.Faults.{where_none}
-use Rattle.inodes.specs.Steps.{steps_left}
+use Rattle.inodes.specs.Places.{steps_left}
 use Rattle.inodes.specs.Store.{IsStore}
 use Rattle.inodes.specs.Tasks.{TaskState, task}
 use Rattle.journal.specs.declared.types.Process.{Process}
@@ -55,7 +55,7 @@ module _ {D I H : Type 0} (n p : ℕ) (r : Step) (k m : State D I H) (lt : p < l
   gives_none : GivesNone k p m
   gives_none q apart =
       let same : task_left m.store q ≡ task_left k.store q
-      = ap (λ (u : TaskState). steps_left u.place m.store.inode_count) (e.others.tasks q apart) ∙ ap (λ (c : ℕ). steps_left (task k.store.tasks q).place c) e.others.numbers in
+      = ap (λ (u : TaskState). steps_left u.place m.store.table.inode_count) (e.others.tasks q apart) ∙ ap (λ (c : ℕ). steps_left (task k.store.tasks q).place c) e.others.numbers in
       subst (λ (u : Process). all_steps_left u.at (task_left m.store q) m.store.volume.log ≤ left_of k q) (sym (others_are q apart))
       (left_same (process k.world q).at (task_left k.store q) (task_left m.store q) k.store.volume.log m.store.volume.log (omega (arith, same))
       (λ commits. let log = e.others.log q apart commits in (ap (λ (l : LogState). l.commit) log, ap (λ (l : LogState). length l.homes) log)))
@@ -69,7 +69,9 @@ module _ {D N I M H : Type 0} (disk : disk_trait.Ghosts D N) (intake : intake_tr
     paired = inv.right.paired;
     has = where_none k.store.volume.fault well inv.right.facts;
     agrees = where_none k.store.volume.fault well store.agrees;
+    looks = where_none k.store.volume.fault well store.looks;
     numbers = few_numbers disk.image k.store store;
+    count = inv.right.numbers;
   }
 
   pub makes_step : Inv disk intake herald k → IsStore disk.image k.store → p < length k.world.processes

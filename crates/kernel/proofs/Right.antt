@@ -1,13 +1,11 @@
 -- What is true of store and processes follows from a few facts.
 use Rattle.std.proofs.Common.{◌≡◌, ℕ, refl, sym, ◌∙◌, ap, subst, Option, Some, None}
-use Rattle.std.specs.Prelude.{IfNone}
-use Rattle.blocks.specs.Disk.{Image, one_more}
+use Rattle.blocks.specs.Disk.{one_more}
 use Rattle.blocks.specs.declared.disk.Disk.{Ghosts}
 use Rattle.blocks.specs.declared.errors.DiskFault.{DiskFault}
 use Rattle.model.specs.Layout.{inode_count_of}
-use Rattle.wal.specs.Joint.{Joint}
 use Rattle.wal.specs.Volume.{faults_after}
-use Rattle.inodes.specs.Lemmas.Faults.{where_none, if_none, if_some}
+use Rattle.inodes.specs.Lemmas.Faults.{if_none, if_some}
 use Rattle.inodes.specs.Store.{StoreState}
 use Rattle.journal.specs.Follows.{IsJournal}
 use Rattle.journal.specs.Keeps.{KeepsNow}
@@ -18,7 +16,7 @@ use Rattle.journal.specs.Counting.{IsCounted}
 
 module _ {D N : Type 0} (disk : Ghosts D N) (opening : D) where
   -- while the disk has not failed
-  pub right_well : (s : StoreState D) (w : World) → s.volume.fault ≡ None → s.inode_count ≡ inode_count_of (disk.image opening) → ArePaired s w → IsCounted s.volume.log.opened w
+  pub right_well : (s : StoreState D) (w : World) → s.volume.fault ≡ None → s.table.inode_count ≡ inode_count_of (disk.image opening) → ArePaired s w → IsCounted s.volume.log.opened w
       → HasFacts disk.image (disk.image opening) s w → disk.fault_count s.volume.device ≡ disk.fault_count opening → IsRight disk opening s w
   right_well s w well numbers paired counted has faults =
       let run = known_run _ _ _ _ has.facts in
@@ -34,7 +32,7 @@ module _ {D N : Type 0} (disk : Ghosts D N) (opening : D) where
       }
 
   -- and once it failed, with the same log
-  pub right_failed : (s t : StoreState D) (w : World) (fault : DiskFault) → IsRight disk opening s w → s.volume.fault ≡ None → t.volume.fault ≡ Some fault → t.inode_count ≡ s.inode_count → ArePaired t w
+  pub right_failed : (s t : StoreState D) (w : World) (fault : DiskFault) → IsRight disk opening s w → s.volume.fault ≡ None → t.volume.fault ≡ Some fault → t.table.inode_count ≡ s.table.inode_count → ArePaired t w
       → t.volume.log.opened ≡ s.volume.log.opened → KeepsNow t.volume (disk.image opening) w.journal.list (disk.image t.volume.device)
       → disk.fault_count t.volume.device ≡ one_more (disk.fault_count s.volume.device) → IsRight disk opening t w
   right_failed s t w fault right well failed numbers paired same keeps faults =
@@ -49,7 +47,3 @@ module _ {D N : Type 0} (disk : Ghosts D N) (opening : D) where
         keeps = keeps;
         faults = faults ∙ ap one_more before ∙ sym (ap (λ (o : Option DiskFault). faults_after o (disk.fault_count opening)) failed);
       }
-
--- disk, buffers and log agree while the disk has not failed
-pub joint_now : {D : Type 0} (image : D → Image) (s : StoreState D) → s.volume.fault ≡ None → IfNone s.volume.fault (Joint (image s.volume.device) s.volume.buffers s.volume.log) → Joint (image s.volume.device) s.volume.buffers s.volume.log
-joint_now image s well joint = where_none s.volume.fault well joint

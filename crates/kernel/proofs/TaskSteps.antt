@@ -1,24 +1,32 @@
 -- A step of a store's task is what a journal says of such a step.
-use Rattle.std.proofs.Common.{◌≡◌, ℕ, ◌∙◌, sym, ap, subst, Some, None}
-use Rattle.std.specs.Prelude.{if◌then◌else◌, ◌==◌, List}
+use Rattle.std.proofs.Common.{◌≡◌, ◌≢◌, ℕ, Bool, true, false, cond, eqb, ◌||◌, List, ◌∙◌, sym, ap, subst, ⊎_elim, Option, Some, None}
+use Rattle.std.specs.Option.{option_map}
+use Rattle.std.specs.Prelude.{if◌then◌else◌, ◌==◌, IsTrue}
+use Rattle.std.proofs.lemmas.Bool.{cases_eq, ne_eqb}
 use Rattle.blocks.specs.Disk.{Image}
 use Rattle.blocks.specs.declared.disk.Disk.{Ghosts}
 use Rattle.model.specs.declared.types.image.Form.{Form}
 use Rattle.model.specs.declared.types.image.Form.TheVariants.{One, Two}
 use Rattle.model.specs.declared.types.operations.Op.{Op}
+use Rattle.model.specs.declared.types.operations.Op.TheVariants.{Read}
 use Rattle.model.specs.declared.types.operations.Reply.{Reply}
 use Rattle.model.specs.declared.types.operations.TaskProgress.{TaskProgress}
 use Rattle.model.specs.declared.types.operations.TaskProgress.TheVariants as progress
 use Rattle.model.specs.Crash.{IsUntouched}
 use Rattle.model.specs.Fields.{u32_at}
+use Rattle.model.specs.Journal.{is_making, is_number}
 use Rattle.model.specs.Layout.{form_of, magic_of}
 use Rattle.model.specs.Tasks.{reply_at_turn}
-use Rattle.inodes.specs.Tasks.{TaskState, task}
+use Rattle.inodes.specs.Lemmas.StepEnds.{GoesOn}
+use Rattle.inodes.specs.Looks.{AreLooking, CanLook}
+use Rattle.inodes.specs.Places.{asked, asked_by, is_over, is_reading}
+use Rattle.inodes.specs.Tasks.{task}
 use Rattle.inodes.specs.Steps.{Steps}
 use Rattle.inodes.specs.Store.{StoreState, current_of}
-use Rattle.journal.specs.Views.{LeavesRest, Moves, Turns}
+use Rattle.journal.specs.Open.{Held, held_by, number_of}
+use Rattle.journal.specs.Views.{LeavesRest, Moves, Takes, Turns, Opens, Leaves}
 use Rattle.kernel.specs.View.{held_at, view_of}
-use Rattle.kernel.proofs.Valid.{none_held, nobody_holds}
+use Rattle.kernel.proofs.Valid.{unread_holds, over_unread, look_number, held_reads}
 
 -- what no operation touches has the form of the opening
 pub form_untouched : (opening x : Image) → IsUntouched opening x → form_of x ≡ form_of opening
@@ -29,25 +37,59 @@ module _ {D N : Type 0} (disk : Ghosts D N) (s t : StoreState D) (p : ℕ) (op :
   rest r step = record {
     disk = step.reads.device.image;
     groups = step.groups;
-    others = λ q apart. ap (λ (u : TaskState). held_at u.place) (step.tasks.others q apart);
+    others = λ q apart. ap held_at (step.tasks.others q apart);
     marks = step.marks;
   }
 
-  -- what it held, which is nothing
-  mine : held_at (task t.tasks p).place ≡ held_at (task s.tasks p).place
-  mine = none_held (task t.tasks p).place ∙ sym (none_held (task s.tasks p).place)
+  -- what it held
+  mine : (r : TaskProgress) → Steps disk s p op r t → is_reading (task t.tasks p).place ≡ is_reading (task s.tasks p).place → held_at (task t.tasks p) ≡ held_at (task s.tasks p)
+  mine r step same = ap (λ (b : Bool). cond b (option_map held_by (task t.tasks p).op) None) same ∙ ap (λ (o : Option Op). cond (is_reading (task s.tasks p).place) (option_map held_by o) None) step.tasks.op_stays
 
-  pub moves_of : Steps disk s p op progress.Moved t → Moves p (view_of disk.image s) (view_of disk.image t)
-  moves_of step = record { rest = rest progress.Moved step; mine = mine; files = step.files }
+  pub moves_of : GoesOn (task s.tasks p).place (task t.tasks p).place → Steps disk s p op progress.Moved t → Moves p (view_of disk.image s) (view_of disk.image t)
+  moves_of on step = record { rest = rest progress.Moved step; mine = mine progress.Moved step on.reading; files = step.files }
 
-  pub turns_of : (form : Form) (r : Reply) → form_of (current_of disk.image s.volume) ≡ form → Steps disk s p op (progress.Turned (Some r)) t
-      → Turns form p op r (view_of disk.image s) (view_of disk.image t)
-  turns_of form r same step = subst (λ (f : Form). Turns f p op r (view_of disk.image s) (view_of disk.image t)) same (record {
-    rest = rest (progress.Turned (Some r)) step;
-    apart = λ q h held. nobody_holds (task s.tasks q).place h held;
+  -- nothing is held where nothing is read any more
+  pub free_then : is_reading (task t.tasks p).place ≡ false → (view_of disk.image t).holds p ≡ None
+  free_then unread = unread_holds (task t.tasks p) unread
+
+  pub leaves_of : is_over (task t.tasks p).place ≡ true → Steps disk s p op progress.Over t → Leaves p (view_of disk.image s) (view_of disk.image t)
+  leaves_of over step = record { rest = rest progress.Over step; mine = free_then (over_unread (task t.tasks p).place over); files = step.files }
+
+  pub reads_rest : (r : Reply) → Steps disk s p op (progress.Decided r) t → LeavesRest None p (view_of disk.image s) (view_of disk.image t)
+  reads_rest r step = rest (progress.Decided r) step
+
+  -- a reading has its turn, and its reply is to come
+  pub opens_of : (n i off count : ℕ) → op ≡ Read i off count → CanLook n op → (task s.tasks p).op ≡ Some op → is_reading (task t.tasks p).place ≡ true → Steps disk s p op (progress.Turned None) t → Opens n p op (view_of disk.image s) (view_of disk.image t)
+  opens_of n i off count is can same reading step = record {
+    rest = rest (progress.Turned None) step;
+    late = ap Rattle.journal.specs.Open.is_late is;
+    number = subst (λ (k : ℕ). IsTrue (is_number n k)) (sym (look_number n op can)) (numbered op is can);
+    held = ap (λ (b : Bool). cond b (option_map held_by (task t.tasks p).op) None) reading ∙ ap (λ (o : Option Op). option_map held_by o) (step.tasks.op_stays ∙ same);
     files = step.files;
-  })
+  }
+    where
+      numbered : (o : Op) → o ≡ Read i off count → CanLook n o → IsTrue (is_number n (asked o))
+      numbered o is can = let its : CanLook n (Read i off count) = subst (CanLook n) is can in subst (λ (q : Op). IsTrue (is_number n (asked q))) (sym is) its.0
 
-  -- nothing is held behind a turn, which is the last step of a creation
-  pub free_then : (view_of disk.image t).holds p ≡ None
-  free_then = none_held (task t.tasks p).place
+  module _ (form : Form) (same : form_of (current_of disk.image s.volume) ≡ form) where
+    -- with its reply
+    pub takes_of : (r : Reply) → Steps disk s p op (progress.Decided r) t → Takes form (view_of disk.image s) (view_of disk.image t) op r
+    takes_of r step = subst (λ (f : Form). Takes f (view_of disk.image s) (view_of disk.image t) op r) same step.files
+
+    pub turns_of : (r : Reply) → number_of op ≡ asked op → is_reading (task s.tasks p).place ≡ false → AreLooking (current_of disk.image s.volume) s.table s.tasks → Steps disk s p op (progress.Turned (Some r)) t
+        → Turns form p op r (view_of disk.image s) (view_of disk.image t)
+    turns_of r number unread are step = subst (λ (f : Form). Turns f p op r (view_of disk.image s) (view_of disk.image t)) same (record {
+      rest = rest (progress.Turned (Some r)) step;
+      apart = λ q h held. ⊎_elim
+          (λ (own : q ≡ p). let no = sym (unread_holds (task s.tasks p) unread) ∙ ap (λ (o : ℕ). held_at (task s.tasks o)) (sym own) ∙ held in absurd (cc no))
+          (λ (other : q ≢ p). leaves q h other held)
+          (cases_eq q p);
+      files = step.files;
+    })
+      where
+        leaves : (q : ℕ) (h : Held) → q ≢ p → held_at (task s.tasks q) ≡ Some h → (eqb (number_of op) h.number || is_making h.number (Some r)) ≡ false
+        leaves q h other held =
+            let its = held_reads (current_of disk.image s.volume) s.table s.tasks are q h held in
+            let apart = step.apart q other its.reading in
+            ap (λ (k : ℕ). eqb k h.number || is_making h.number (Some r)) number ∙ ap (λ (k : ℕ). eqb (asked op) k || is_making k (Some r)) its.number
+            ∙ ap (λ (b : Bool). b || is_making (asked_by (task s.tasks q).op) (Some r)) (ne_eqb (asked op) (asked_by (task s.tasks q).op) apart.0) ∙ apart.1

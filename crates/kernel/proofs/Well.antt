@@ -1,26 +1,25 @@
 -- What a step of a process starts from, while the disk has not failed.
-use Rattle.std.proofs.Common.{◌≡◌, ℕ, ◌<◌, ◌≤◌, zero, suc, true, false, ltb, length, refl, sym, ◌∙◌, subst, arith, Option, None}
-use Rattle.std.specs.Prelude.{IsSome}
+use Rattle.std.proofs.Common.{◌≡◌, ℕ, ◌<◌, ◌≤◌, zero, suc, true, false, ltb, length, ◌∙◌, subst, arith, Some, None}
 use Rattle.std.proofs.lemmas.Bool.{false≢true}
 use Rattle.blocks.specs.Disk.{Image}
+use Rattle.model.specs.declared.types.operations.Entry.{Entry}
 use Rattle.model.specs.declared.types.operations.Op.{Op}
 use Rattle.model.specs.Journal.{is_changing}
 use Rattle.model.specs.Layout.{inode_count_of}
 use Rattle.model.specs.Lemmas.Soundness.{facts_of}
-use Rattle.wal.specs.Machine.{used_by, IsLogAt}
-use Rattle.wal.specs.Volume.{VolumeState}
-use Rattle.inodes.specs.declared.tasks.Place.{Place}
-use Rattle.inodes.specs.declared.tasks.Place.TheVariants as place
-use Rattle.inodes.specs.Steps.{is_over}
-use Rattle.inodes.specs.Store.{StoreState, IsStore, Agrees, Stands, current_of}
+use Rattle.wal.specs.Machine.{IsLogAt}
+use Rattle.inodes.specs.Looks.{AreLooking}
+use Rattle.inodes.specs.Places.{is_over, is_unturned}
+use Rattle.inodes.specs.Store.{StoreState, IsStore, Agrees, current_of}
 use Rattle.inodes.specs.Tasks.{task}
 use Rattle.journal.specs.declared.types.At.{At}
 use Rattle.journal.specs.declared.types.At.TheVariants as at
 use Rattle.journal.specs.Lemmas.Groups.{in_later}
 use Rattle.journal.specs.Processes.{World, process}
-use Rattle.journal.specs.Views.{InGroup, StandsAt}
-use Rattle.kernel.specs.Invariant.{ArePaired, HasFacts, TaskStands}
+use Rattle.journal.specs.Views.{InGroup, HasEntry, StandsAt}
+use Rattle.kernel.specs.Invariant.{ArePaired, HasFacts, IsBehind, TaskStands}
 use Rattle.kernel.specs.View.{view_of}
+use Rattle.kernel.proofs.Working.{unturned_more}
 
 -- a kernel whose disk has not failed, at a step of process p
 pub record IsWell {D : Type 0} (image : D → Image) (opening : Image) (s : StoreState D) (w : World) (p : ℕ) : Type 0 where
@@ -28,20 +27,17 @@ pub record IsWell {D : Type 0} (image : D → Image) (opening : Image) (s : Stor
   pub inside : p < length w.processes
   pub paired : ArePaired s w
   pub has : HasFacts image opening s w
-  pub agrees : Agrees s.volume.buffers s.volume.log s.inode_count s.tasks
-  pub numbers : s.inode_count ≤ 1024
+  pub agrees : Agrees s.volume.buffers s.volume.log s.table.inode_count s.tasks
+  pub looks : AreLooking (current_of image s.volume) s.table s.tasks
+  pub numbers : s.table.inode_count ≤ 1024
+  pub count : s.table.inode_count ≡ inode_count_of opening
 
 -- the number of a lawful image's inodes
-pub few_numbers : {D : Type 0} (image : D → Image) (s : StoreState D) → IsStore image s → s.inode_count ≤ 1024
+pub few_numbers : {D : Type 0} (image : D → Image) (s : StoreState D) → IsStore image s → s.table.inode_count ≤ 1024
 few_numbers image s is =
     let few = (facts_of (current_of image s.volume) is.geometry).few in
     let same = is.numbers in
     omega (arith, few, same)
-
--- a search has its operation open in the log
-searching : {D : Type 0} (v : VolumeState D) (n p : ℕ) (o : Option Op) (a : Place) → is_over a ≡ false → Stands v.buffers v.log n p o a → IsSome (used_by v.log p)
-searching v n p o place.Nowhere unfinished stands = absurd (false≢true (sym unfinished))
-searching v n p o (place.Creating m) unfinished stands = subst IsSome (sym stands.used) refl
 
 module _ {D : Type 0} (image : D → Image) (opening : Image) (s : StoreState D) (w : World) (p : ℕ) (is : IsWell image opening s w p) where
   pub log_of : IsLogAt s.volume.log.commit s.volume.log
@@ -51,13 +47,19 @@ module _ {D : Type 0} (image : D → Image) (opening : Image) (s : StoreState D)
   pub stands_at : (a : At) → (process w p).at ≡ a → StandsAt (inode_count_of opening) (view_of image s) w.journal.list p a
   stands_at a stands = subst (λ (b : At). StandsAt (inode_count_of opening) (view_of image s) w.journal.list p b) stands (is.has.facts.stands p)
 
-  -- an operation before its turn has its task, which is not over, and is open in the log
-  pub unfinished : (group : ℕ) (op : Op) → (process w p).at ≡ at.Before group op → is_over (task s.tasks p).place ≡ false
-  unfinished group op stands = (subst (λ (a : At). TaskStands (task s.tasks p) a) stands (is.paired.stand p)).1
+  -- an operation under way has its task, which is not over
+  pub before_there : (group : ℕ) (op : Op) → (process w p).at ≡ at.Before group op → ((task s.tasks p).op ≡ Some op) × (is_over (task s.tasks p).place ≡ false)
+  before_there group op stands =
+      let there : TaskStands w.journal.list (task s.tasks p) (at.Before group op) = subst (λ (a : At). TaskStands w.journal.list (task s.tasks p) a) stands (is.paired.stand p).stands in
+      (there.0, unturned_more (task s.tasks p).place there.1)
 
-  pub open_before : (group : ℕ) (op : Op) → (process w p).at ≡ at.Before group op → IsSome (used_by s.volume.log p)
-  open_before group op stands =
-      searching s.volume s.inode_count p (task s.tasks p).op (task s.tasks p).place (unfinished group op stands) (is.agrees.stands p)
+  pub unturned_before : (group : ℕ) (op : Op) → (process w p).at ≡ at.Before group op → is_unturned (task s.tasks p).place ≡ true
+  unturned_before group op stands = (subst (λ (a : At). TaskStands w.journal.list (task s.tasks p) a) stands (is.paired.stand p).stands).1
+
+  pub behind_there : (group k : ℕ) → (process w p).at ≡ at.Behind group k → (e : Entry) × HasEntry w.journal.list p k group e × IsBehind (task s.tasks p) group e
+  behind_there group k stands =
+      let there : TaskStands w.journal.list (task s.tasks p) (at.Behind group k) = subst (λ (a : At). TaskStands w.journal.list (task s.tasks p) a) stands (is.paired.stand p).stands in
+      let has = (stands_at (at.Behind group k) stands).1 in (has.0, has.1, there has.0 has.1.at)
 
   -- the group of a changing one is not committed
   pub later_before : (group : ℕ) (op : Op) → (process w p).at ≡ at.Before group op → is_changing (inode_count_of opening) op ≡ true → s.volume.log.committed < group

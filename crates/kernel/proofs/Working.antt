@@ -1,104 +1,328 @@
--- What is true of store and processes stays so with a step of a task before its turn.
-use Rattle.std.proofs.Common.{◌≡◌, ◌≢◌, ℕ, ◌<◌, true, false, length, refl, sym, ◌∙◌, ap, subst, inr, Option, Some, None}
+-- What is true of store and processes stays so with a step of a task.
+use Rattle.std.proofs.Common.{◌≡◌, ◌≢◌, ℕ, ◌<◌, Bool, true, false, List, [], ◌∷◌, ◌++◌, length, set, length-set, refl, sym, ◌∙◌, ap, subst, arith, inl, inr, Option, Some, None}
+use Rattle.std.specs.Prelude.{is_none}
+use Rattle.std.proofs.lemmas.Bool.{false≢true, ltb-false}
 use Rattle.std.proofs.lemmas.List.{set-get_or}
 use Rattle.blocks.specs.Disk.{Image}
 use Rattle.blocks.specs.declared.disk.Disk.{Ghosts}
 use Rattle.blocks.specs.declared.errors.DiskFault.{DiskFault}
+use Rattle.model.specs.declared.types.operations.Entry.{Entry}
 use Rattle.model.specs.declared.types.operations.Op.{Op}
+use Rattle.model.specs.declared.types.operations.Op.TheVariants.{Create, Write, Read, Trunc, Remove, Stat}
 use Rattle.model.specs.declared.types.operations.Reply.{Reply}
+use Rattle.model.specs.declared.types.operations.Reply.TheVariants.{Bytes}
 use Rattle.model.specs.declared.types.operations.TaskProgress.{TaskProgress}
 use Rattle.model.specs.declared.types.operations.TaskProgress.TheVariants as progress
 use Rattle.model.specs.Journal.{is_changing}
 use Rattle.model.specs.Layout.{inode_count_of, form_of}
-use Rattle.wal.specs.Joint.{Joint}
+use Rattle.model.specs.Tasks.{fault_of_task}
 use Rattle.wal.specs.Volume.{faults_after}
 use Rattle.inodes.specs.Lemmas.Faults.{where_none}
-use Rattle.inodes.specs.Steps.{Steps, is_over}
-use Rattle.inodes.specs.Store.{StoreState, IsStore, current_of}
+use Rattle.inodes.specs.Lemmas.StepEnds.{GoesOn, StepEnds, TurnEnds, ends_of}
+use Rattle.inodes.specs.Looks.{AreLooking, CanLook}
+use Rattle.inodes.specs.Places.{asked, is_over, is_reading, is_unturned}
+use Rattle.inodes.specs.Steps.{Steps}
+use Rattle.inodes.specs.Store.{StoreState, IsStore, CanBegin, current_of}
 use Rattle.inodes.specs.Tasks.{task}
+use Rattle.inodes.specs.declared.tasks.Place.{Place}
+use Rattle.inodes.specs.declared.tasks.Place.TheVariants as place
 use Rattle.journal.specs.declared.types.At.{At}
 use Rattle.journal.specs.declared.types.At.TheVariants as at
 use Rattle.journal.specs.declared.types.Process.{Process}
 use Rattle.journal.specs.Alone.{is_committing_at}
+use Rattle.journal.specs.Bound.{is_busy_at}
+use Rattle.journal.specs.Counting.{IsCounted}
+use Rattle.journal.specs.Grows.{JournalGoes}
+use Rattle.journal.specs.Journal.{IsItsRoom, entry_of, entry_in}
 use Rattle.journal.specs.Keeps.{KeepsNow}
 use Rattle.journal.specs.Lemmas.Alone.{alone_stepped}
+use Rattle.journal.specs.Lemmas.Answers.{entry_inside}
 use Rattle.journal.specs.Lemmas.Known.{known_keeps}
-use Rattle.journal.specs.Lemmas.Nexts.{task_next}
-use Rattle.journal.specs.Processes.{World, process, idle, turned, turned_from}
-use Rattle.kernel.specs.Invariant.{IsRight, HasFacts, ArePaired, TaskStands}
+use Rattle.journal.specs.Lemmas.Lists.{entry_new, entry_same}
+use Rattle.journal.specs.Lemmas.Nexts.{task_next, task_journal, others_back}
+use Rattle.journal.specs.Next.{TaskNext}
+use Rattle.journal.specs.Open.{number_of, told}
+use Rattle.journal.specs.Processes.{World, process, idle, turned, turned_from, place_behind, decided, told_at, entry_place, answered}
+use Rattle.journal.specs.Views.{View, HasEntry, StandsAt, IsValidView}
+use Rattle.kernel.specs.Invariant.{IsRight, HasFacts, ArePaired, IsBehind, TaskStands}
 use Rattle.kernel.specs.State.{ats_of}
 use Rattle.kernel.specs.View.{view_of}
-use Rattle.kernel.proofs.TaskSteps.{form_untouched, moves_of, turns_of, free_then}
-use Rattle.kernel.proofs.Valid.{valid_joint}
-use Rattle.journal.specs.Lemmas.Counting.{counted_turned}
-use Rattle.kernel.proofs.Pairing.{paired_goes}
+use Rattle.kernel.proofs.TaskSteps.{form_untouched, moves_of, turns_of, opens_of, takes_of, reads_rest, leaves_of, free_then}
+use Rattle.kernel.proofs.Valid.{HasAgreed, valid_joint, look_number, over_unread, unturned_unread}
+use Rattle.journal.specs.Lemmas.Counting.{counted_turned, counted_same}
+use Rattle.kernel.proofs.Pairing.{paired_goes, keeps_behind}
 use Rattle.journal.specs.Lemmas.Places.{there_now, others_stay}
 use Rattle.kernel.proofs.Right.{right_well, right_failed}
-use Rattle.inodes.specs.Lemmas.Ends.{Ends, ends_of, changing_of}
+
+-- a task that had no turn is not over, nor is one that reads
+pub unturned_more : (a : Place) → is_unturned a ≡ true → is_over a ≡ false
+unturned_more place.Nowhere is = absurd (false≢true is)
+unturned_more (place.Creating m) is = refl
+unturned_more (place.Taking m) is = refl
+unturned_more (place.Reading k m) is = refl
+unturned_more (place.Delivering k) is = refl
+unturned_more (place.Leaving k) is = refl
+
+reading_more : (a : Place) → is_reading a ≡ true → (is_over a ≡ false) × (is_unturned a ≡ false)
+reading_more place.Nowhere is = absurd (false≢true is)
+reading_more (place.Creating m) is = absurd (false≢true is)
+reading_more (place.Taking m) is = absurd (false≢true is)
+reading_more (place.Reading k m) is = (refl, refl)
+reading_more (place.Delivering k) is = (refl, refl)
+reading_more (place.Leaving k) is = absurd (false≢true is)
+
+-- what may begin changes files, and what looks changes none
+changes : (n : ℕ) (op : Op) → CanBegin op → (is_changing n op ≡ true) × (number_of op ≡ asked op)
+changes n (Create kind) can = (can, refl)
+changes n (Write i off bytes) can = absurd can
+changes n (Read i off m) can = absurd can
+changes n (Trunc i) can = absurd can
+changes n (Remove i) can = absurd can
+changes n (Stat i) can = absurd can
+
+pub looks_only : (n k : ℕ) (op : Op) → CanLook n op → is_changing k op ≡ false
+looks_only n k (Create kind) can = absurd can
+looks_only n k (Write i off bytes) can = absurd can
+looks_only n k (Read i off m) can = refl
+looks_only n k (Trunc i) can = absurd can
+looks_only n k (Remove i) can = absurd can
+looks_only n k (Stat i) can = refl
+
+pub reply_there : (o : Option Reply) → is_none o ≡ false → (r : Reply) × (o ≡ Some r)
+reply_there None is = absurd (false≢true (sym is))
+reply_there (Some r) is = (r, refl)
+
+pub reply_missing : (o : Option Reply) → is_none o ≡ true → o ≡ None
+reply_missing None is = refl
+reply_missing (Some r) is = absurd (false≢true is)
+
+quiet_behind : (b : Bool) (group k : ℕ) → is_committing_at (place_behind b group k) ≡ false
+quiet_behind true group k = refl
+quiet_behind false group k = refl
 
 module _ {D N : Type 0} (disk : Ghosts D N) (opening : D) (s : StoreState D) (w : World) (right : IsRight disk opening s w) (well : s.volume.fault ≡ None) (p : ℕ) (lt : p < length w.processes)
-    (group : ℕ) (op : Op) (stands : (process w p).at ≡ at.Before group op) (was : IsStore disk.image s) (t : StoreState D) where
+    (op : Op) (mine : (task s.tasks p).op ≡ Some op) (was : IsStore disk.image s) (t : StoreState D) where
   abbrev n : ℕ
   n = inode_count_of (disk.image opening)
+
+  abbrev form : Rattle.model.specs.declared.types.image.Form.Form
+  form = form_of (disk.image opening)
+
+  abbrev before : View
+  before = view_of disk.image s
+
+  abbrev now : View
+  now = view_of disk.image t
+
+  abbrev es : List Entry
+  es = w.journal.list
+
+  abbrev next : Place
+  next = (task t.tasks p).place
 
   had : HasFacts disk.image (disk.image opening) s w
   had = where_none _ well right.facts
 
-  mine : ((task s.tasks p).op ≡ Some op) × (is_over (task s.tasks p).place ≡ false)
-  mine = subst (λ (a : At). TaskStands (task s.tasks p) a) stands (right.paired.stand p)
+  looks : AreLooking (current_of disk.image s.volume) s.table s.tasks
+  looks = where_none _ well was.looks
 
-  pub ends_now : (r : TaskProgress) → Steps disk s p op r t → Ends r (task t.tasks p).place
-  ends_now r steps = ends_of (task s.tasks p).place (task t.tasks p).place s.inode_count p s.volume.buffers r _ _ mine.1 steps.goes
+  form_same : form_of (current_of disk.image s.volume) ≡ form
+  form_same = form_untouched (disk.image opening) (current_of disk.image s.volume) had.facts.recovers.marks.untouched
 
-  paired_here : (r : TaskProgress) → Steps disk s p op r t → is_over (task t.tasks p).place ≡ false → ArePaired t w
-  paired_here r steps more = paired_goes s t w w p (process w p) right.paired lt (sym (set-get_or w.processes p idle)) steps.tasks.many steps.tasks.others
-      (subst (λ (a : At). TaskStands (task t.tasks p) a) (sym stands) (steps.tasks.op_stays ∙ mine.0, more))
+  pub ends_now : (r : TaskProgress) → is_over (task s.tasks p).place ≡ false → Steps disk s p op r t → StepEnds s.table.inode_count (task s.tasks p).place op r next
+  ends_now r more steps = ends_of disk s p op r t (task s.tasks p).place mine ((where_none _ well was.agrees).stands p) (looks.stand p) more steps.goes
 
-  faults_same : (r : TaskProgress) → Steps disk s p op r t → Rattle.model.specs.Tasks.fault_of_task r ≡ None → disk.fault_count t.volume.device ≡ disk.fault_count opening
+  -- the room for its answer stays
+  room_stays : (r : TaskProgress) → Steps disk s p op r t → is_busy_at (process w p).at ≡ true → IsItsRoom (task t.tasks p).op (process w p).room
+  room_stays r steps busy = subst (λ (o : Option Op). IsItsRoom o (process w p).room) (sym steps.tasks.op_stays) ((right.paired.stand p).room_is busy)
+
+  stood : (a : At) → (process w p).at ≡ a → TaskStands es (task s.tasks p) a
+  stood a stands = subst (λ (b : At). TaskStands es (task s.tasks p) b) stands (right.paired.stand p).stands
+
+  -- a task that goes on stands where it stood
+  before_goes : (group : ℕ) (r : TaskProgress) → Steps disk s p op r t → is_unturned (task s.tasks p).place ≡ true → GoesOn (task s.tasks p).place next → TaskStands es (task t.tasks p) (at.Before group op)
+  before_goes group r steps unturned on = (steps.tasks.op_stays ∙ mine, on.unturned ∙ unturned)
+
+  behind_goes : (group k : ℕ) (r : TaskProgress) → Steps disk s p op r t → TaskStands es (task s.tasks p) (at.Behind group k) → GoesOn (task s.tasks p).place next → TaskStands es (task t.tasks p) (at.Behind group k)
+  behind_goes group k r steps behind on e there =
+      let b = behind e there in
+      record { same = steps.tasks.op_stays ∙ b.same; none = b.none; unfinished = on.unfinished; turned = on.unturned ∙ b.turned; reply = on.reading ∙ b.reply }
+
+  paired_here : (r : TaskProgress) (a : At) → (process w p).at ≡ a → is_busy_at a ≡ true → Steps disk s p op r t → TaskStands es (task t.tasks p) a → ArePaired t w
+  paired_here r a stands busy steps there = paired_goes s t w w p (process w p) right.paired lt (sym (set-get_or w.processes p idle)) steps.tasks.many steps.tasks.others (keeps_behind w w p refl)
+      (record { stands = subst (λ (b : At). TaskStands es (task t.tasks p) b) (sym stands) there; room_is = λ under. room_stays r steps under })
+
+  faults_same : (r : TaskProgress) → Steps disk s p op r t → fault_of_task r ≡ None → disk.fault_count t.volume.device ≡ disk.fault_count opening
   faults_same r steps none = steps.reads.faults ∙ ap (λ (o : Option DiskFault). faults_after o (disk.fault_count s.volume.device)) none ∙ right.faults ∙ ap (λ (o : Option DiskFault). faults_after o (disk.fault_count opening)) well
 
+  -- WHATEVER A STEP IS TO THE JOURNAL: process p, which stood at a, becomes u
+  module _ (r : TaskProgress) (steps : Steps disk s p op r t) (none : fault_of_task r ≡ None) (agreed : HasAgreed disk.image t) (z : World) (u : Process) (is : z.processes ≡ set w.processes p u) (a : At) (stands : (process w p).at ≡ a) where
+    others : (q : ℕ) → q ≢ p → ats_of z q ≡ ats_of w q
+    others q apart = ap (λ (v : Process). v.at) (others_stay w z p u is q apart)
+
+    at_p : ats_of z p ≡ u.at
+    at_p = ap (λ (v : Process). v.at) (there_now w z p u is lt)
+
+    valid : IsValidView n now
+    valid = valid_joint disk.image t n (steps.tasks.numbers ∙ right.numbers) agreed
+
+    right_stepped : (e : TaskProgress) → TaskNext a e n form p (process w p).begun before es now z.journal.list u.at → IsCounted t.volume.log.opened z
+        → TaskStands z.journal.list (task t.tasks p) u.at → (is_busy_at u.at ≡ true → IsItsRoom (task t.tasks p).op u.room) → is_committing_at a ≡ false → is_committing_at u.at ≡ false → IsRight disk opening t z
+    right_stepped e made counted there room quiet still =
+        let goes_on : TaskNext a e n form p (process w p).begun before es now z.journal.list (ats_of z p) = subst (λ (b : At). TaskNext a e n form p (process w p).begun before es now z.journal.list b) (sym at_p) made in
+        let goes : JournalGoes n p s.volume.log.committed es z.journal.list = task_journal (disk.image opening) before now es z.journal.list (ats_of w) (ats_of z) had.facts valid p (process w p).begun others a e stands goes_on in
+        right_well disk opening t z (steps.reads.fault ∙ none) (steps.tasks.numbers ∙ right.numbers)
+        (paired_goes s t w z p u right.paired lt is steps.tasks.many steps.tasks.others
+        (λ q apart g k f there. others_back (disk.image opening) before es z.journal.list (ats_of w) had.facts n p s.volume.log.committed goes q apart g k f there)
+        (record { stands = there; room_is = room }))
+        counted
+        (record {
+          facts = task_next (disk.image opening) before now es z.journal.list (ats_of w) (ats_of z) had.facts valid p (process w p).begun others a e stands goes_on;
+          alone = alone_stepped (ats_of w) (ats_of z) s.volume.log had.alone p others t.volume.log steps.groups (ap is_committing_at stands ∙ quiet) (ap is_committing_at at_p ∙ still);
+        })
+        (faults_same r steps none)
+
   -- the task moved
-  pub right_moved : Steps disk s p op progress.Moved t → Joint (disk.image t.volume.device) t.volume.buffers t.volume.log → IsRight disk opening t w
-  right_moved steps joint =
-      right_well disk opening t w steps.reads.fault (steps.tasks.numbers ∙ right.numbers)
-      (paired_here progress.Moved steps ((ends_now progress.Moved steps).moved refl))
-      (subst (λ (k : ℕ). Rattle.journal.specs.Counting.IsCounted k w) (sym steps.groups.opened) right.counted)
-      (record {
-        facts = task_next (disk.image opening) (view_of disk.image s) (view_of disk.image t) w.journal.list w.journal.list (ats_of w) (ats_of w) had.facts (valid_joint disk.image t n joint) p (process w p).begun (λ q apart. refl)
-            (at.Before group op) progress.Moved stands (moves_of disk s t p op steps, refl, stands);
-        alone = alone_stepped (ats_of w) (ats_of w) s.volume.log had.alone p (λ q apart. refl) t.volume.log steps.groups (ap is_committing_at stands) (ap is_committing_at stands);
-      })
-      (faults_same progress.Moved steps refl)
+  moved_with : (a : At) → (process w p).at ≡ a → is_busy_at a ≡ true → is_committing_at a ≡ false → Steps disk s p op progress.Moved t → HasAgreed disk.image t
+      → TaskNext a progress.Moved n form p (process w p).begun before es now es a → TaskStands es (task t.tasks p) a → IsRight disk opening t w
+  moved_with a stands busy quiet steps agreed made there =
+      right_stepped progress.Moved steps refl agreed w (process w p) (sym (set-get_or w.processes p idle)) a stands progress.Moved
+      (subst (λ (b : At). TaskNext a progress.Moved n form p (process w p).begun before es now es b) (sym stands) made)
+      (subst (λ (k : ℕ). IsCounted k w) (sym steps.groups.opened) right.counted)
+      (subst (λ (b : At). TaskStands es (task t.tasks p) b) (sym stands) there) (room_stays progress.Moved steps) quiet (ap is_committing_at stands ∙ quiet)
 
-  -- it had its turn, and is over
-  pub right_turned : (reply : Reply) → Steps disk s p op (progress.Turned (Some reply)) t → Joint (disk.image t.volume.device) t.volume.buffers t.volume.log
-      → IsRight disk opening t (turned w p (Some reply) true)
-  right_turned reply steps joint =
-      let z : World = turned_from (at.Before group op) w p (Some reply) true in
-      let u : Process = record (process w p) { at = at.Ending group (length w.journal.list) } in
-      let others : (q : ℕ) → q ≢ p → ats_of z q ≡ ats_of w q = λ q apart. ap (λ (r : Process). r.at) (others_stay w z p u refl q apart) in
-      let now : ats_of z p ≡ at.Ending group (length w.journal.list) = ap (λ (r : Process). r.at) (there_now w z p u refl lt) in
-      let same : turned w p (Some reply) true ≡ z = ap (λ (a : At). turned_from a w p (Some reply) true) stands in
-      let over = (ends_now (progress.Turned (Some reply)) steps).turned (Some reply) refl in
-      subst (λ (y : World). IsRight disk opening t y) (sym same)
-      (right_well disk opening t z steps.reads.fault (steps.tasks.numbers ∙ right.numbers)
-      (paired_goes s t w z p u right.paired lt refl steps.tasks.many steps.tasks.others over.0)
-      (subst (λ (y : World). Rattle.journal.specs.Counting.IsCounted t.volume.log.opened y) same (counted_turned s.volume.log.opened p w right.counted lt t.volume.log.opened group op (Some reply) true stands steps.groups.opened))
-      (record {
-        facts = task_next (disk.image opening) (view_of disk.image s) (view_of disk.image t) w.journal.list z.journal.list (ats_of w) (ats_of z) had.facts (valid_joint disk.image t n joint) p (process w p).begun others
-            (at.Before group op) (progress.Turned (Some reply)) stands
-            (turns_of disk s t p op (form_of (disk.image opening)) reply (form_untouched (disk.image opening) (current_of disk.image s.volume) had.facts.recovers.marks.untouched) steps, refl, inr (now, changing, free_then disk s t p op));
-        alone = alone_stepped (ats_of w) (ats_of z) s.volume.log had.alone p others t.volume.log steps.groups (ap is_committing_at stands) (ap is_committing_at now);
-      })
-      (faults_same (progress.Turned (Some reply)) steps refl))
-    where
-      -- only a changing operation's task stands there
-      changing : is_changing n op ≡ true
-      changing = changing_of n s.volume.buffers s.volume.log s.inode_count p op (task s.tasks p).op (task s.tasks p).place mine.0 mine.1 ((where_none _ well was.agrees).stands p)
+  fails_with : (a : At) → (process w p).at ≡ a → is_busy_at a ≡ true → (fault : DiskFault) → Steps disk s p op (progress.Fault fault) t → TaskStands es (task t.tasks p) a → IsRight disk opening t w
+  fails_with a stands busy fault steps there =
+      let kept : KeepsNow t.volume (disk.image opening) es (disk.image s.volume.device) = known_keeps (disk.image opening) before es (ats_of w) had.facts t.volume steps.groups.committed in
+      right_failed disk opening s t w fault right well steps.reads.fault steps.tasks.numbers (paired_here (progress.Fault fault) a stands busy steps there) steps.groups.opened
+      (subst (λ (x : Image). KeepsNow t.volume (disk.image opening) es x) (sym steps.reads.device.image) kept) steps.reads.faults
 
-  -- the disk failed
-  pub right_fault : (fault : DiskFault) → Steps disk s p op (progress.Fault fault) t → IsRight disk opening t w
-  right_fault fault steps =
-      let kept : KeepsNow t.volume (disk.image opening) w.journal.list (disk.image s.volume.device) = known_keeps (disk.image opening) (view_of disk.image s) w.journal.list (ats_of w) had.facts t.volume steps.groups.committed in
-      right_failed disk opening s t w fault right well steps.reads.fault steps.tasks.numbers (paired_here (progress.Fault fault) steps ((ends_now (progress.Fault fault) steps).failed fault refl)) steps.groups.opened
-      (subst (λ (x : Image). KeepsNow t.volume (disk.image opening) w.journal.list x) (sym steps.reads.device.image) kept) steps.reads.faults
+  -- BEFORE ITS TURN
+  module _ (group : ℕ) (stands : (process w p).at ≡ at.Before group op) where
+    unturned : is_unturned (task s.tasks p).place ≡ true
+    unturned = (stood (at.Before group op) stands).1
+
+    more : is_over (task s.tasks p).place ≡ false
+    more = unturned_more (task s.tasks p).place unturned
+
+    pub right_moved : Steps disk s p op progress.Moved t → HasAgreed disk.image t → IsRight disk opening t w
+    right_moved steps agreed =
+        let on = ends_now progress.Moved more steps in
+        moved_with (at.Before group op) stands refl refl steps agreed (moves_of disk s t p op on steps, refl, refl) (before_goes group progress.Moved steps unturned on)
+
+    pub right_fault : (fault : DiskFault) → Steps disk s p op (progress.Fault fault) t → IsRight disk opening t w
+    right_fault fault steps = fails_with (at.Before group op) stands refl fault steps (before_goes group (progress.Fault fault) steps unturned (ends_now (progress.Fault fault) more steps))
+
+    -- who looks is in no group
+    no_group : CanLook s.table.inode_count op → group ≡ 0
+    no_group can =
+        let is : StandsAt n before es p (at.Before group op) = subst (λ (a : At). StandsAt n before es p a) stands (had.facts.stands p) in
+        let low = ltb-false 0 group (is.2 ∙ looks_only s.table.inode_count n op can) in omega (arith, low)
+
+    -- it had its turn
+    module _ (reply : Option Reply) (steps : Steps disk s p op (progress.Turned reply) t) (agreed : HasAgreed disk.image t) where
+      abbrev e : Entry
+      e = entry_of p (process w p).begun op group reply
+
+      turned_with : (b : Bool) → is_over next ≡ b → TaskNext (at.Before group op) (progress.Turned reply) n form p (process w p).begun before es now (es ++ e ∷ []) (place_behind b group (length es))
+          → TaskStands (es ++ e ∷ []) (task t.tasks p) (place_behind b group (length es)) → IsRight disk opening t (turned w p reply (is_over next))
+      turned_with b over made there =
+          let z : World = turned_from (at.Before group op) w p reply b in
+          let u : Process = record (process w p) { at = place_behind b group (length es) } in
+          let same : turned w p reply (is_over next) ≡ z = ap (λ (c : Bool). turned w p reply c) over ∙ ap (λ (a : At). turned_from a w p reply b) stands in
+          let same_b : turned w p reply b ≡ z = ap (λ (a : At). turned_from a w p reply b) stands in
+          subst (λ (y : World). IsRight disk opening t y) (sym same)
+          (right_stepped (progress.Turned reply) steps refl agreed z u refl (at.Before group op) stands (progress.Turned reply) made
+          (subst (λ (y : World). IsCounted t.volume.log.opened y) same_b (counted_turned s.volume.log.opened p w right.counted lt t.volume.log.opened group op reply b stands steps.groups.opened))
+          there (λ busy. room_stays (progress.Turned reply) steps (ap is_busy_at stands)) refl (quiet_behind b group (length es)))
+
+      -- its task goes on
+      looked : CanLook s.table.inode_count op → is_over next ≡ false → is_unturned next ≡ false → is_reading next ≡ is_none reply → TaskStands (es ++ e ∷ []) (task t.tasks p) (at.Behind group (length es))
+      looked can unfinished past reads f there =
+          let same : e ≡ f = entry_same (es ++ e ∷ []) (length es) e f (entry_new es e) there in
+          subst (λ (g : Entry). IsBehind (task t.tasks p) group g) same (record { same = steps.tasks.op_stays ∙ mine; none = no_group can; unfinished = unfinished; turned = past; reply = reads })
+
+    pub right_turned : (reply : Option Reply) → Steps disk s p op (progress.Turned reply) t → HasAgreed disk.image t → IsRight disk opening t (turned w p reply (is_over next))
+    right_turned None steps agreed =
+        let ends = (ends_now (progress.Turned None) more steps).1 in
+        let past = reading_more next ends.2 in
+        turned_with None steps agreed false past.0
+        (opens_of disk s t p op n ends.1.0 ends.1.1 ends.1.2 ends.1.3 (subst (λ (k : ℕ). CanLook k op) right.numbers ends.0) mine ends.2 steps, refl, refl)
+        (looked None steps agreed ends.0 past.0 past.1 ends.2)
+    right_turned (Some told) steps agreed = by_end (ends_now (progress.Turned (Some told)) more steps).1
+      where
+        by_end : TurnEnds s.table.inode_count op (Some told) next → IsRight disk opening t (turned w p (Some told) (is_over next))
+        by_end (inl (can, over)) =
+            let c = changes n op can in
+            turned_with (Some told) steps agreed true over
+            (turns_of disk s t p op form form_same told c.1 (unturned_unread (task s.tasks p).place unturned) looks steps, refl, inr (refl, c.0, free_then disk s t p op (over_unread next over))) over
+        by_end (inr (can, (k, is))) =
+            turned_with (Some told) steps agreed false (ap is_over is)
+            (turns_of disk s t p op form form_same told (look_number s.table.inode_count op can) (unturned_unread (task s.tasks p).place unturned) looks steps, refl, inl refl)
+            (looked (Some told) steps agreed can (ap is_over is) (ap is_unturned is) (ap is_reading is))
+
+  -- BEHIND ITS TURN
+  module _ (group k : ℕ) (stands : (process w p).at ≡ at.Behind group k) where
+    behind : TaskStands es (task s.tasks p) (at.Behind group k)
+    behind = stood (at.Behind group k) stands
+
+    facts_of : StandsAt n before es p (at.Behind group k)
+    facts_of = subst (λ (a : At). StandsAt n before es p a) stands (had.facts.stands p)
+
+    abbrev own : Entry
+    own = facts_of.1.0
+
+    has : HasEntry es p k group own
+    has = facts_of.1.1
+
+    its : IsBehind (task s.tasks p) group own
+    its = behind own has.at
+
+    same_op : op ≡ own.op
+    same_op = let both : Some op ≡ Some own.op = sym mine ∙ its.same in cc both
+
+    pub right_moved_behind : Steps disk s p op progress.Moved t → HasAgreed disk.image t → IsRight disk opening t w
+    right_moved_behind steps agreed =
+        let on = ends_now progress.Moved its.unfinished steps in
+        moved_with (at.Behind group k) stands refl refl steps agreed (moves_of disk s t p op on steps, refl, refl) (behind_goes group k progress.Moved steps behind on)
+
+    pub right_fault_behind : (fault : DiskFault) → Steps disk s p op (progress.Fault fault) t → IsRight disk opening t w
+    right_fault_behind fault steps = fails_with (at.Behind group k) stands refl fault steps (behind_goes group k (progress.Fault fault) steps behind (ends_now (progress.Fault fault) its.unfinished steps))
+
+    -- its reading is over, and answered
+    pub right_decided : (reply : Reply) → Steps disk s p op (progress.Decided reply) t → HasAgreed disk.image t → IsRight disk opening t (answered (decided w p reply) p)
+    right_decided reply steps agreed =
+        let ends = ends_now (progress.Decided reply) its.unfinished steps in
+        let bytes = ends.2.0 in
+        let z : World = answered (told_at (Some k) w reply) p in
+        let u : Process = record (process w p) { at = at.Idle; room = None } in
+        let same : answered (decided w p reply) p ≡ z = ap (λ (a : At). answered (told_at (entry_place a) w reply) p) stands in
+        let list : z.journal.list ≡ set es k (told own (Bytes bytes)) = ap (λ (f : Entry). set es k (told f reply)) (entry_inside es k own has.at) ∙ ap (λ (r : Reply). set es k (told own r)) ends.2.1 in
+        let takes = subst (λ (r : Reply). Rattle.journal.specs.Views.Takes form before now own.op r) ends.2.1 (subst (λ (o : Op). Rattle.journal.specs.Views.Takes form before now o reply) same_op (takes_of disk s t p op form form_same reply steps)) in
+        subst (λ (y : World). IsRight disk opening t y) (sym same)
+        (right_stepped (progress.Decided reply) steps refl agreed z u refl (at.Behind group k) stands progress.Over (
+          own,
+          has.at,
+          inl (record {
+            bytes = bytes;
+            open_still = reply_missing own.reply (sym its.reply ∙ ends.0);
+            none = its.none;
+            rest = reads_rest disk s t p op reply steps;
+            free = free_then disk s t p op (over_unread next ends.1);
+            files = takes;
+            list = list;
+            now = refl;
+          }),
+        )
+        (counted_same s.volume.log.opened p w right.counted lt t.volume.log.opened z at.Idle None (ap Rattle.journal.specs.Processes.is_before stands) refl refl (length-set es k (told (entry_in es k) reply)) refl steps.groups.opened)
+        ends.1 (λ busy. absurd (false≢true busy)) refl refl)
+
+    -- another look is over, and answered
+    pub right_over : Steps disk s p op progress.Over t → HasAgreed disk.image t → IsRight disk opening t (answered w p)
+    right_over steps agreed =
+        let ends = ends_now progress.Over its.unfinished steps in
+        let reply = reply_there own.reply (sym its.reply ∙ ends.1) in
+        right_stepped progress.Over steps refl agreed (answered w p) (record (process w p) { at = at.Idle; room = None }) refl (at.Behind group k) stands progress.Over
+        (own, has.at, inr (inr (record { reply = reply.0; has = reply.1; none = its.none; leaves = leaves_of disk s t p op ends.2 steps; list = refl; now = refl })))
+        (counted_same s.volume.log.opened p w right.counted lt t.volume.log.opened (answered w p) at.Idle None (ap Rattle.journal.specs.Processes.is_before stands) refl refl refl refl steps.groups.opened)
+        ends.2 (λ busy. absurd (false≢true busy)) refl refl

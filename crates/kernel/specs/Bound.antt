@@ -1,6 +1,6 @@
 -- How many steps an operation has left at most.
 use Rattle.std.specs.Prelude.{◌≡◌, ◌≢◌, ◌<◌, ◌≤◌, ℕ, true}
-use Rattle.inodes.specs.Steps.{steps_left}
+use Rattle.inodes.specs.Places.{steps_left}
 use Rattle.inodes.specs.Tasks.{task}
 use Rattle.journal.specs.Bound.{all_steps_left, is_busy_at}
 use Rattle.journal.specs.Processes.{process}
@@ -10,7 +10,7 @@ use Rattle.kernel.specs.State.{State}
 abbrev pub left_of : {D I H : Type 0} → State D I H → ℕ → ℕ
 left_of k q =
     all_steps_left (process k.world q).at
-    (steps_left (task k.store.tasks q).place k.store.inode_count) k.store.volume.log
+    (steps_left (task k.store.tasks q).place k.store.table.inode_count) k.store.volume.log
 
 -- A step that moved process p took one of them, or began an operation that has fewer than 2,000
 -- left. Some are left: the operation goes on.

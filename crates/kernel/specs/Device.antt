@@ -5,7 +5,7 @@ use Rattle.blocks.specs.declared.disk.Disk.{Ghosts}
 use Rattle.blocks.specs.declared.errors.DiskFault.{DiskFault}
 use Rattle.wal.specs.Joint.{place_at}
 use Rattle.inodes.specs.Store.{StoreState}
-use Rattle.inodes.specs.Steps.{block_at_place}
+use Rattle.inodes.specs.Places.{block_at_place}
 use Rattle.inodes.specs.Tasks.{task}
 use Rattle.journal.specs.declared.types.At.{At}
 use Rattle.journal.specs.declared.types.At.TheVariants as at

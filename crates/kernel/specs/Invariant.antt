@@ -1,14 +1,16 @@
 -- What is true of every kernel, between two steps.
-use Rattle.std.specs.Prelude.{◌≡◌, ◌<◌, ◌≤◌, ℕ, true, false, length, IfNone, Some}
+use Rattle.std.specs.Prelude.{◌≡◌, ◌<◌, ◌≤◌, ℕ, true, false, is_none, List, length, IfNone, Option, Some}
 use Rattle.blocks.specs.Disk.{Image}
 use Rattle.blocks.specs.declared.disk.Disk as disk_trait
+use Rattle.model.specs.declared.types.operations.Entry.{Entry}
 use Rattle.model.specs.Files.{Files, files_of}
+use Rattle.model.specs.Gathered.{GatheredBytes}
 use Rattle.model.specs.Journal.{answered, replay}
 use Rattle.model.specs.Layout.{form_of, inode_count_of}
 use Rattle.wal.specs.Volume.{faults_after}
 use Rattle.inodes.specs.Store.{StoreState}
 use Rattle.inodes.specs.Tasks.{TaskState, task}
-use Rattle.inodes.specs.Steps.{is_over}
+use Rattle.inodes.specs.Places.{is_over, is_reading, is_unturned}
 use Rattle.ports.specs.History.{History}
 use Rattle.ports.specs.declared.herald.Herald as herald_trait
 use Rattle.ports.specs.declared.intake.Intake as intake_trait
@@ -18,28 +20,44 @@ use Rattle.journal.specs.Alone.{CommitsAlone}
 use Rattle.journal.specs.Views.{KernelFacts}
 use Rattle.journal.specs.Follows.{IsJournal}
 use Rattle.journal.specs.Histories.{IsHistory}
+use Rattle.journal.specs.Journal.{IsItsRoom}
 use Rattle.journal.specs.Keeps.{KeepsNow}
 use Rattle.journal.specs.Counting.{IsCounted}
+use Rattle.journal.specs.Open.{IsEntry}
 use Rattle.journal.specs.Processes.{World, process}
 use Rattle.journal.specs.Bound.{is_busy_at}
 use Rattle.kernel.specs.State.{State, ats_of}
 use Rattle.kernel.specs.View.{view_of}
 
+-- The task of an entry's operation goes on behind its turn; it is none of the log's. The entry has
+-- no reply exactly while the task reads.
+pub record IsBehind (t : TaskState) (group : ℕ) (e : Entry) : Type 0 where
+  pub same : t.op ≡ Some e.op
+  pub none : group ≡ 0
+  pub unfinished : is_over t.place ≡ false
+  pub turned : is_unturned t.place ≡ false
+  pub reply : is_reading t.place ≡ is_none e.reply
+
 -- a process's task stands where its operation does
-abbrev pub TaskStands : TaskState → At → Type 0
-TaskStands t at.Idle = is_over t.place ≡ true
-TaskStands t (at.Before group op) = (t.op ≡ Some op) × (is_over t.place ≡ false)
--- a creation is over at its turn
-TaskStands t (at.Behind group k) = ⊥
-TaskStands t (at.Ending group k) = is_over t.place ≡ true
-TaskStands t (at.Committing group k) = (is_over t.place ≡ true) × (0 < group)
+abbrev pub TaskStands : List Entry → TaskState → At → Type 0
+TaskStands es t at.Idle = is_over t.place ≡ true
+TaskStands es t (at.Before group op) = (t.op ≡ Some op) × (is_unturned t.place ≡ true)
+TaskStands es t (at.Behind group k) = (e : Entry) → IsEntry es k e → IsBehind t group e
+TaskStands es t (at.Ending group k) = is_over t.place ≡ true
+TaskStands es t (at.Committing group k) = (is_over t.place ≡ true) × (0 < group)
+
+-- and the operation under way has room for its answer
+pub record IsPaired (es : List Entry) (t : TaskState) (a : At) (room : Option GatheredBytes)
+    : Type 0 where
+  pub stands : TaskStands es t a
+  pub room_is : is_busy_at a ≡ true → IsItsRoom t.op room
 
 -- so many processes, each with its task
 pub record ArePaired {D : Type 0} (s : StoreState D) (w : World) : Type 0 where
   pub many : length s.tasks ≡ length w.processes
   pub some : 1 ≤ length w.processes
   pub few : length w.processes ≤ 32
-  pub stand : (p : ℕ) → TaskStands (task s.tasks p) (process w p).at
+  pub stand : (p : ℕ) → IsPaired w.journal.list (task s.tasks p) (process w p).at (process w p).room
 
 -- the facts of store and journal, while the disk has not failed
 pub record HasFacts {D : Type 0} (image : D → Image) (opening : Image) (s : StoreState D)
@@ -55,7 +73,7 @@ pub record CanReplay (opening : Image) (w : World) : Type 0 where
 -- what is true of store and processes
 pub record IsRight {D N : Type 0} (disk : disk_trait.Ghosts D N) (opening : D) (s : StoreState D)
     (w : World) : Type 0 where
-  pub numbers : s.inode_count ≡ inode_count_of (disk.image opening)
+  pub numbers : s.table.inode_count ≡ inode_count_of (disk.image opening)
   pub paired : ArePaired s w
   pub counted : IsCounted s.volume.log.opened w
   pub facts : IfNone s.volume.fault (HasFacts disk.image (disk.image opening) s w)

@@ -12,6 +12,8 @@ use Rattle.model.specs.Log.{cleared}
 use Rattle.model.specs.Verdict.{verdict}
 use Rattle.wal.specs.Machine.{is_quiet}
 use Rattle.wal.specs.Volume.{faults_after}
+use Rattle.inodes.specs.Looks.{HoldsInode}
+use Rattle.inodes.specs.Places.{asked}
 use Rattle.inodes.specs.Store.{current_of}
 use Rattle.ports.specs.History.{History}
 use Rattle.ports.specs.declared.herald.Herald as herald_trait
@@ -20,6 +22,7 @@ use Rattle.journal.specs.declared.types.At.TheVariants as at
 use Rattle.journal.specs.Follows.{IsJournal}
 use Rattle.journal.specs.Histories.{IsHistory}
 use Rattle.journal.specs.Keeps.{HasFilesAfter, KeepsBeginnings, KeepsNow}
+use Rattle.journal.specs.Open.{IsEntry}
 use Rattle.journal.specs.Processes.{process}
 use Rattle.kernel.specs.Invariant.{CanReplay, HasHistory}
 use Rattle.kernel.specs.State.{State, ats_of}
@@ -36,6 +39,16 @@ pub record IsCurrent {D I H : Type 0} (image : D → Image) (k : State D I H) : 
   pub settled : k.store.volume.log.outstanding ≡ 0 → is_quiet k.store.volume.log.commit ≡ true
       → k.store.volume.log.committed ≡ k.store.volume.log.opened
 
+-- who goes on behind its turn has the lock of its operation's inode, and keeps it until its finish
+abbrev pub HaveLocks : {D I H : Type 0} → State D I H → Type 0
+HaveLocks k = (p group place : ℕ) (e : Entry) → ats_of k.world p ≡ at.Behind group place
+    → IsEntry k.world.journal.list place e → HoldsInode k.store.table p (asked e.op)
+
+-- an entry without a reply is that of an operation under way, which goes on behind its turn
+abbrev pub AreUnderWay : {D I H : Type 0} → State D I H → Type 0
+AreUnderWay k = (place : ℕ) (e : Entry) → IsEntry k.world.journal.list place e → e.reply ≡ None
+    → (group : ℕ) × (ats_of k.world e.pid ≡ at.Behind group place)
+
 -- What any kernel is like. A stop leaves an image that keeps the committed groups.
 pub record Known {D N I M H : Type 0} (disk : disk_trait.Ghosts D N)
     (intake : intake_trait.Ghosts I M) (herald : herald_trait.Ghosts H)
@@ -45,6 +58,8 @@ pub record Known {D N I M H : Type 0} (disk : disk_trait.Ghosts D N)
   pub reopens : (x : Image)
       → disk.leaves k.store.volume.device (disk.moment k.store.volume.device) x → verdict x ≡ None
   pub current : IfNone k.store.volume.fault (IsCurrent disk.image k)
+  pub locks : IfNone k.store.volume.fault (HaveLocks k)
+  pub unanswered : IfNone k.store.volume.fault (AreUnderWay k)
   pub journal : IsJournal
       (inode_count_of (disk.image k.opening)) k.store.volume.log.opened k.world.journal.list
   pub order : KeepsBeginnings
@@ -63,7 +78,7 @@ pub record Known {D N I M H : Type 0} (disk : disk_trait.Ghosts D N)
   pub served : intake.process_count k.intake ≡ length k.world.processes
   pub some : 1 ≤ length k.world.processes
   pub few : length k.world.processes ≤ 32
-  pub numbers : k.store.inode_count ≡ inode_count_of (disk.image k.opening)
+  pub numbers : k.store.table.inode_count ≡ inode_count_of (disk.image k.opening)
   -- the disk counted no fault since the opening, or the one after which nothing is done any more
   pub faults : disk.fault_count k.store.volume.device
       ≡ faults_after k.store.volume.fault (disk.fault_count k.opening)

@@ -6,7 +6,6 @@ use mathlib.Core.List.{IsPrefix}
 use Rattle.blocks.specs.declared.disk.Disk.{Ghosts}
 use Rattle.blocks.specs.declared.errors.DiskFault.{DiskFault}
 use Rattle.model.specs.declared.types.operations.Op.{Op}
-use Rattle.model.specs.declared.types.operations.Reply.TheVariants.{BadType}
 use Rattle.model.specs.declared.types.operations.TaskProgress.{TaskProgress}
 use Rattle.model.specs.declared.types.operations.TaskProgress.TheVariants as progress
 use Rattle.model.specs.declared.types.operations.Why.{Why}
@@ -16,18 +15,21 @@ use Rattle.wal.specs.declared.types.Committed.TheVariants as committed
 use Rattle.wal.specs.declared.types.Ended.{Ended}
 use Rattle.wal.specs.declared.types.Ended.TheVariants as ended_as
 use Rattle.wal.specs.Machine.{LogState, begin_cause, begun, ended, end_answer}
-use Rattle.inodes.specs.Store.{StoreState, with_begun, with_log}
+use Rattle.inodes.specs.Store.{StoreState, with_begun, with_log, with_look}
 use Rattle.inodes.specs.Tasks.{task}
-use Rattle.inodes.specs.Steps.{Steps, Commits, is_over}
+use Rattle.inodes.specs.Places.{is_over}
+use Rattle.inodes.specs.Steps.{Steps, Commits}
 use Rattle.ports.specs.History.{Side, first_in}
+use Rattle.journal.specs.AtOnce.{at_once_reply}
 use Rattle.journal.specs.declared.types.At.{At}
 use Rattle.journal.specs.declared.types.At.TheVariants as at
-use Rattle.journal.specs.Processes.{World, process, with_place, taken, turned, refused, committing, answered}
+use Rattle.journal.specs.Journal.{entry_in}
+use Rattle.journal.specs.Processes.{World, process, with_place, taken, turned, decided, refused, committing, answered}
 use Rattle.kernel.specs.declared.waiting.Waiting.{Waiting}
 use Rattle.kernel.specs.declared.waiting.Waiting.TheVariants as waiting
 use Rattle.kernel.specs.declared.types.Step.{Step}
 use Rattle.kernel.specs.declared.types.Step.TheVariants as step
-use Rattle.kernel.specs.State.{waiting_of}
+use Rattle.kernel.specs.State.{waiting_of, room_for}
 
 -- store and processes stay
 abbrev pub Same : {D : Type 0} → StoreState D → World → StoreState D → World → Type 0
@@ -35,31 +37,45 @@ Same s w t z = (t ≡ s) × (z ≡ w)
 
 -- The operation is the first of those that waited, and was taken: `side` is the process's side of
 -- the intake then.
-abbrev pub IsTaken : List Op → Side → Waiting → Op → Type 0
-IsTaken ahead side what op = (ahead ≡ op ∷ side.ahead) × (waiting_of op ≡ what)
+abbrev pub IsTaken : ℕ → List Op → Side → Waiting → Op → Type 0
+IsTaken inode_count ahead side what op =
+    (ahead ≡ op ∷ side.ahead) × (waiting_of inode_count op ≡ what)
 
 -- a creation was taken, and its group is open
 pub record TakesCreation {D : Type 0} (what : Option Waiting) (s : StoreState D) (w : World) (p : ℕ)
     (ahead : List Op) (side : Side) (r : Step) (t : StoreState D) (z : World) : Type 0 where
   pub op : Op
   pub waits : what ≡ Some waiting.Creation
-  pub taken : IsTaken ahead side waiting.Creation op
+  pub taken : IsTaken s.table.inode_count ahead side waiting.Creation op
   pub room : side.has_room ≡ true
   pub free : begin_cause s.volume.log ≡ None
   pub answer : r ≡ step.Moved
   pub store : t ≡ with_begun s p op
   pub world : z
-      ≡ Rattle.journal.specs.Processes.taken (with_place w) p (begun s.volume.log p).opened op
+      ≡ Rattle.journal.specs.Processes.taken (with_place w) p (begun s.volume.log p).opened op None
 
--- a creation of a type that no file has was taken, and answered at once
+-- an operation that looks at a file was taken; it is none of the log's, and has room for what it
+-- reads and for its answer
+pub record TakesLook {D : Type 0} (what : Option Waiting) (s : StoreState D) (w : World) (p : ℕ)
+    (ahead : List Op) (side : Side) (r : Step) (t : StoreState D) (z : World) : Type 0 where
+  pub op : Op
+  pub count : Option ℕ
+  pub waits : what ≡ Some (waiting.Look count)
+  pub taken : IsTaken s.table.inode_count ahead side (waiting.Look count) op
+  pub room : side.has_room ≡ true
+  pub answer : r ≡ step.Moved
+  pub store : t ≡ with_look s p op (room_for count)
+  pub world : z ≡ Rattle.journal.specs.Processes.taken (with_place w) p 0 op (room_for count)
+
+-- an operation that is refused by itself alone was taken, and answered at once
 pub record TakesRefused {D : Type 0} (what : Option Waiting) (s : StoreState D) (w : World) (p : ℕ)
     (ahead : List Op) (side : Side) (r : Step) (t : StoreState D) (z : World) : Type 0 where
   pub op : Op
   pub waits : what ≡ Some waiting.Refused
-  pub taken : IsTaken ahead side waiting.Refused op
+  pub taken : IsTaken s.table.inode_count ahead side waiting.Refused op
   pub answer : r ≡ step.Answered
   pub store : t ≡ s
-  pub world : z ≡ refused (with_place w) p op BadType
+  pub world : z ≡ refused (with_place w) p op (at_once_reply op)
 
 -- there is room for an answer, but no memory
 abbrev pub HasNoMemory : Bool → Step → Type 0
@@ -79,6 +95,7 @@ abbrev pub IsNotTaken : Option Waiting → LogState → Bool → Step → Type 0
 IsNotTaken None l room r = r ≡ step.Idle
 IsNotTaken (Some waiting.Other) l room r = r ≡ step.NotYet
 IsNotTaken (Some waiting.Refused) l room r = HasNoRoom room r ⊎ HasNoMemory room r
+IsNotTaken (Some (waiting.Look count)) l room r = HasNoRoom room r ⊎ HasNoMemory room r
 IsNotTaken (Some waiting.Creation) l room r =
     HasNoRoom room r ⊎ (IsKeptOut l room r ⊎ (HasNoMemory room r × (begin_cause l ≡ None)))
 
@@ -94,7 +111,8 @@ abbrev pub BeginsWith : {D : Type 0} → Option Waiting → StoreState D → Wor
     → Step → StoreState D → World → Type 0
 BeginsWith what s w p ahead side r t z =
     TakesCreation what s w p ahead side r t z
-    ⊎ (TakesRefused what s w p ahead side r t z ⊎ TakesNone what s w ahead side r t z)
+    ⊎ (TakesLook what s w p ahead side r t z
+    ⊎ (TakesRefused what s w p ahead side r t z ⊎ TakesNone what s w ahead side r t z))
 
 -- no operation begins any more: the kernel was shut, or its herald told of a shutdown
 pub record HearsShutdown {D : Type 0} (s : StoreState D) (w : World) (told : Bool) (r : Step)
@@ -111,7 +129,8 @@ pub record HearsNone {D : Type 0} (s : StoreState D) (w : World) (p : ℕ) (befo
   pub untold : told ≡ false
   pub ahead : List Op
   pub prefix : IsPrefix before ahead
-  pub begins : BeginsWith (option_map waiting_of (first_in ahead)) s w p ahead side r t z
+  pub begins : BeginsWith
+      (option_map (waiting_of s.table.inode_count) (first_in ahead)) s w p ahead side r t z
 
 -- The beginning of what waits for a process, where these operations were ahead before the step, the
 -- intake's side is `side` after it, and `told` says whether the herald told of a shutdown.
@@ -145,6 +164,33 @@ pub record Works {D N : Type 0} (disk : Ghosts D N) (s : StoreState D) (w : Worl
   pub steps : Steps disk s p op progress t
   pub answer : r ≡ step_of progress
   pub world : z ≡ world_after progress (is_over (task t.tasks p).place) w p
+
+-- what a step behind a turn answers: with its last one the operation is answered
+abbrev pub step_behind : TaskProgress → Step
+step_behind progress.Moved = step.Moved
+step_behind (progress.Turned reply) = step.Moved
+step_behind (progress.Decided reply) = step.Answered
+step_behind progress.Over = step.Answered
+step_behind (progress.Sleeping cause) = step.Sleeping cause
+step_behind (progress.Fault fault) = step.Halted
+
+-- a read's entry is told its bytes then
+abbrev pub world_behind : TaskProgress → World → ℕ → World
+world_behind progress.Moved w p = w
+world_behind (progress.Turned reply) w p = w
+world_behind (progress.Decided reply) w p = answered (decided w p reply) p
+world_behind progress.Over w p = answered w p
+world_behind (progress.Sleeping cause) w p = w
+world_behind (progress.Fault fault) w p = w
+
+-- a step of the task of a process whose operation, which has this place in the journal, had its
+-- turn
+pub record Finishes {D N : Type 0} (disk : Ghosts D N) (s : StoreState D) (w : World) (p k : ℕ)
+    (r : Step) (t : StoreState D) (z : World) : Type 0 where
+  pub progress : TaskProgress
+  pub steps : Steps disk s p (entry_in w.journal.list k).op progress t
+  pub answer : r ≡ step_behind progress
+  pub world : z ≡ world_behind progress w p
 
 -- what a step answers, by what an end in the log came to
 abbrev pub step_of_end : Ended → Step
@@ -190,8 +236,7 @@ abbrev pub NextAt : {D N : Type 0} → Ghosts D N → At → StoreState D → Wo
     → Bool → Step → StoreState D → World → Type 0
 NextAt disk at.Idle s w p before side told r t z = BeginsNext s w p before side told r t z
 NextAt disk (at.Before group op) s w p before side told r t z = Works disk s w p op r t z
--- a creation is over at its turn
-NextAt disk (at.Behind group k) s w p before side told r t z = ⊥
+NextAt disk (at.Behind group k) s w p before side told r t z = Finishes disk s w p k r t z
 NextAt disk (at.Ending group k) s w p before side told r t z = Ends s w p r t z
 NextAt disk (at.Committing group k) s w p before side told r t z = Writes disk s w p r t z
 

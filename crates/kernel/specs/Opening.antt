@@ -10,6 +10,7 @@ use Rattle.wal.specs.Recovery.{RecoversAs, writes_to_recover}
 use Rattle.wal.specs.declared.faults.RecoverFault.{RecoverFault}
 use Rattle.wal.specs.declared.faults.RecoverFault.TheVariants as recover
 use Rattle.inodes.specs.Store.{fresh_volume}
+use Rattle.inodes.specs.Table.{new_table}
 use Rattle.inodes.specs.Tasks.{no_task}
 use Rattle.journal.specs.Processes.{fresh_world}
 use Rattle.kernel.specs.State.{State}
@@ -27,7 +28,7 @@ pub record IsOpened {D N I H : Type 0} (disk : Ghosts D N) (d : D) (i : I) (h : 
   pub store : k.store ≡ record {
     volume = fresh_volume disk.image k.opening;
     tasks = replicate processes no_task;
-    inode_count = inode_count_of (disk.image d);
+    table = new_table (inode_count_of (disk.image d));
   }
   pub world : k.world ≡ fresh_world processes
   pub intake : k.intake ≡ i

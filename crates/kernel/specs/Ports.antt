@@ -9,9 +9,10 @@ use Rattle.journal.specs.Processes.{World, process, last_answer}
 use Rattle.kernel.specs.declared.waiting.Waiting.{Waiting}
 use Rattle.kernel.specs.State.{waiting_of}
 
--- what the first operation that is known to wait for process p is to the kernel
-abbrev pub first_waiting : {I N : Type 0} → Ghosts I N → I → ℕ → Option Waiting
-first_waiting intake i p = option_map waiting_of (first_in (intake.side i p).ahead)
+-- what the first operation that is known to wait for process p is to a kernel with so many inodes
+abbrev pub first_waiting : {I N : Type 0} → Ghosts I N → ℕ → I → ℕ → Option Waiting
+first_waiting intake inode_count i p =
+    option_map (waiting_of inode_count) (first_in (intake.side i p).ahead)
 
 -- it is the same, but for process p's side
 pub record KeepsOthers {I N : Type 0} (intake : Ghosts I N) (p : ℕ) (old new : I) : Type 0 where

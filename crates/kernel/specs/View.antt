@@ -1,23 +1,22 @@
 -- A store as the facts of journal and store see it.
-use Rattle.std.specs.Prelude.{Option, None}
+use Rattle.std.specs.Option.{option_map}
+use Rattle.std.specs.Prelude.{if◌then◌else◌, Option, None}
 use Rattle.blocks.specs.Disk.{Image}
 use Rattle.inodes.specs.Store.{StoreState, FitsFiles, current_of}
-use Rattle.inodes.specs.Tasks.{task}
-use Rattle.inodes.specs.declared.tasks.Place.{Place}
-use Rattle.inodes.specs.declared.tasks.Place.TheVariants as place
-use Rattle.journal.specs.Open.{Held}
+use Rattle.inodes.specs.Places.{is_reading}
+use Rattle.inodes.specs.Tasks.{TaskState, task}
+use Rattle.journal.specs.Open.{Held, held_by}
 use Rattle.journal.specs.Views.{View}
 
--- what a task holds from its turn to its finish: creations hold no inode
-abbrev pub held_at : Place → Option Held
-held_at place.Nowhere = None
-held_at (place.Creating search) = None
+-- what a task holds from its turn to its finish: a read its inode, any other nothing
+abbrev pub held_at : TaskState → Option Held
+held_at t = if is_reading t.place then option_map held_by t.op else None
 
 abbrev pub view_of : {D : Type 0} → (D → Image) → StoreState D → View
 view_of image s = record {
   disk = image s.volume.device;
   current = current_of image s.volume;
   log = s.volume.log;
-  holds = λ q. held_at (task s.tasks q).place;
+  holds = λ q. held_at (task s.tasks q);
   fits = λ m. FitsFiles image s m;
 }

@@ -10,12 +10,17 @@
 //! process, in any order. A process has one operation under way at a time. Those of different
 //! processes go on side by side, and keep apart by the locks of buffers and by the log's groups.
 //!
-//! An operation that is refused by itself alone begins and is answered in one step. Any other
-//! belongs to the log's group that is open at its beginning. An operation's entry comes into the
-//! journal with its turn, which is one step: the refusal, or that in which a creation claims a
-//! number or finds that none is free. So the journal has the operations in the order in which they
-//! took effect. Next the operation ends in the log. It is answered then, or, where it was the last
-//! of its group, after the commit, which its process makes.
+//! An operation that is refused by itself alone begins and is answered in one step. A creation
+//! belongs to the log's group that is open at its beginning; a question for type and length, and a
+//! read, belong to none. An operation's entry comes into the journal with its turn, which is one
+//! step: the refusal, that in which a creation claims a number or finds that none is free, or that
+//! in which a look takes its inode. So the journal has the operations in the order in which they
+//! took effect. Next a creation ends in the log. It is answered then, or, where it was the last of
+//! its group, after the commit, which its process makes. A look goes on behind its turn: a read
+//! gathers its bytes, which its entry is told last, and each gives its inode up and is answered.
+//!
+//! Memory is taken at an operation's beginning alone: a place in the journal, and for a read room
+//! for its bytes, once for the journal and once for the answer.
 //!
 //! A stop keeps the groups that are committed, each whole, and nothing of a later one. So an answer
 //! outlives a stop once the group that it names is committed, which the herald hears.
@@ -24,6 +29,7 @@
 //! under way go on to their ends.
 #![tactic(auto)]
 
+mod beginning;
 mod opening;
 mod queues;
 mod runs;

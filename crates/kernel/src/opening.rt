@@ -87,9 +87,10 @@ impl<D: Disk, I: Intake, H: Herald> Kernel<D, I, H> {
             processes,
         } = memory;
         let opening = Snapshot::of(&disk);
-        let store = Store::open(Volume::open(disk, cache, log), tasks, sup.ninodes);
+        let store = Store::open(Volume::open(disk, cache, log), tasks, &sup);
         store.known();
         Ok(Kernel {
+            alloc,
             store,
             opening,
             intake,

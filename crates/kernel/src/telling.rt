@@ -1,5 +1,6 @@
 // What a kernel tells its herald, and gives its intake.
-ghost use Rattle.std.specs.Prelude.{◌≡◌, ◌⊎◌, ◌<◌, ◌+◌, length, IsSome, true};
+ghost use Rattle.std.specs.Prelude.{◌≡◌, ◌⊎◌, ◌<◌, ◌+◌, length, IsSome, IfSome, true};
+ghost use Rattle.journal.specs.Journal.{FitsRoom};
 ghost use Rattle.journal.specs.Processes.{process, last_answer, answered};
 ghost use Rattle.kernel.specs.Ports.{Gives};
 
@@ -23,6 +24,8 @@ pub fn give<I: Intake>(processes: &mut Processes, intake: &mut I, pid: u32)
     requires pid { pid < length processes.old.processes }
     requires served { pid < I.process_count intake.old }
     requires over { IsSome (last_answer processes.old (process processes.old pid).at) }
+    requires fits { IfSome (last_answer processes.old (process processes.old pid).at)
+        (λ answer. FitsRoom (process processes.old pid).room answer.reply) }
     requires room { (I.side intake.old pid).has_room ≡ true }
     ensures processes { processes.new ≡ answered processes.old pid }
     ensures gives { Gives I.Intake processes.old pid intake.old intake.new }

@@ -1,32 +1,76 @@
 // What an operation that waits is to the kernel.
-ghost use Rattle.std.specs.Prelude.{◌≡◌};
+ghost use Rattle.std.specs.Prelude.{◌≡◌, ◌↔◌, ◌<◌, true, length, IsTrue, Some};
+ghost use Rattle.model.specs.Journal.{is_number, is_at_once};
+ghost use Rattle.model.specs.Operations.{transfer_limit};
+ghost use Rattle.journal.specs.AtOnce.{at_once_reply};
+ghost use Rattle.journal.specs.Journal.{plain_reply};
 ghost use Rattle.kernel.specs.State.{waiting_of};
+ghost use Rattle.kernel.specs.declared.waiting.Waiting.TheVariants as waiting;
 
-use model::types::Op;
+use model::types::{Op, Reply};
+
+// The most bytes that one read or write moves.
+const TRANSFER_LIMIT: u32 = 3072;
 
 // What waits for a process.
 #[derive(Clone, Copy, Debug, PartialEq, Eq)]
 pub enum Waiting {
     // A creation of a file of a type that there is.
     Creation,
-    // A creation of a file of another type.
+    // A read of so many bytes of a file, or a question for its type and length.
+    Look(Option<u32>),
+    // What is answered at once, by itself alone.
     Refused,
     // What isn't carried out yet.
     Other,
 }
 
-// What an operation is to the kernel.
-pub fn waiting_of(op: &Op) -> Waiting
-    ensures { result ≡ waiting_of op.now }
+// What an operation is to the kernel, where there are so many inode numbers.
+pub fn waiting_of(op: &Op, inode_count: u32) -> Waiting
+    ensures waiting { result ≡ waiting_of inode_count op.now }
+    ensures refused { (result ≡ waiting.Refused) ↔ (is_at_once inode_count op.now ≡ true) }
+{
+    if is_at_once(op, inode_count) {
+        return Waiting::Refused;
+    }
+    match op {
+        Op::Create(_) => Waiting::Creation,
+        Op::Read(_, _, count) => Waiting::Look(Some(*count)),
+        Op::Stat(_) => Waiting::Look(None),
+        Op::Write(..) | Op::Trunc(_) | Op::Remove(_) => Waiting::Other,
+    }
+}
+
+// The refusal of an operation that is answered at once.
+pub fn at_once_reply(op: &Op) -> Reply
+    ensures reply { result ≡ at_once_reply op.now }
+    ensures plain { plain_reply (Some result) ≡ Some result }
 {
     match op {
-        Op::Create(kind) => {
-            if 1 <= *kind && *kind <= 3 {
-                Waiting::Creation
-            } else {
-                Waiting::Refused
-            }
-        }
-        Op::Write(..) | Op::Read(..) | Op::Trunc(_) | Op::Remove(_) | Op::Stat(_) => Waiting::Other,
+        Op::Create(_) => Reply::BadType,
+        Op::Write(_, _, bytes) if bytes.len() > TRANSFER_LIMIT as usize => Reply::TooLong,
+        Op::Read(_, _, count) if *count > TRANSFER_LIMIT => Reply::TooLong,
+        Op::Write(..) | Op::Read(..) | Op::Trunc(_) | Op::Remove(_) | Op::Stat(_) => Reply::NoFile,
     }
+}
+
+// Whether an operation is answered at once, whatever the files are.
+fn is_at_once(op: &Op, inode_count: u32) -> bool
+    ensures { result ≡ is_at_once inode_count op.now }
+{
+    match op {
+        Op::Create(kind) => !(1..=3).contains(kind),
+        Op::Write(i, _, bytes) => {
+            bytes.len() > TRANSFER_LIMIT as usize || !is_number(*i, inode_count)
+        }
+        Op::Read(i, _, count) => *count > TRANSFER_LIMIT || !is_number(*i, inode_count),
+        Op::Trunc(i) | Op::Remove(i) | Op::Stat(i) => !is_number(*i, inode_count),
+    }
+}
+
+// Whether operations may name this inode number.
+fn is_number(i: u32, inode_count: u32) -> bool
+    ensures { result ≡ is_number inode_count i }
+{
+    0 < i && i < inode_count
 }

@@ -7,3 +7,12 @@ pub mod OutsideLog
 pub mod Claims
 pub mod Made
 pub mod Looks
+pub mod HeldFrames
+pub mod AtRest
+pub mod GivenUp
+pub mod Turns
+pub mod WriteBacks
+pub mod HeldOutsideLog
+pub mod HeldLooks
+pub mod HeldMade
+pub mod HeldMarks

@@ -1,5 +1,6 @@
 //! Laws over loose images, each the contract of a function that does nothing.
 ghost use Rattle.loose.specs.Laws.{SoundFits, FitsSoundly, FitsWhenCleared, FitsOutsideLog, ClaimsOne, ClaimMakesFile, MadeFits};
+ghost use Rattle.loose.specs.HeldLaws.{FitsAtRest, RestsSoundly, DirectGivenUp, EntryGivenUp, EntryPassed, IndirectGivenUp, TurnHolds, TurnAnswers, WriteBackRests, ClaimFits, HeldOutsideLog, RestingTells, FreeTells, HeldHasBlocks, ClearedBitKeeps, WriteBackKeeps};
 ghost use Rattle.loose.specs.Looks.{UsedIsFit, UsedHasBlocks, StatTells, ReadTells, NoFileTells};
 
 /// A sound image of whole blocks stands for its own files.
@@ -61,4 +62,84 @@ pub fn read_tells()
 /// A free number has no file, and each operation on it says so.
 pub fn no_file_tells()
     ensures { NoFileTells }
+{}
+
+/// With no number held, an image stands for files exactly where it does so without claims.
+pub fn fits_at_rest()
+    ensures { FitsAtRest }
+{}
+
+/// So it is sound once its log is empty, and these are its files.
+pub fn rests_soundly()
+    ensures { RestsSoundly }
+{}
+
+/// A task gives up a data block that its copy of the inode names. Each other number keeps its file.
+pub fn direct_given_up()
+    ensures { DirectGivenUp }
+{}
+
+/// It gives up the next entry of its block of addresses.
+pub fn entry_given_up()
+    ensures { EntryGivenUp }
+{}
+
+/// An entry that is not there is passed over.
+pub fn entry_passed()
+    ensures { EntryPassed }
+{}
+
+/// Once all entries are given up, it gives up the block of addresses.
+pub fn indirect_given_up()
+    ensures { IndirectGivenUp }
+{}
+
+/// At the turn of a truncation or a removal its task holds the number.
+pub fn turn_holds()
+    ensures { TurnHolds }
+{}
+
+/// The files are then those after that operation.
+pub fn turn_answers()
+    ensures { TurnAnswers }
+{}
+
+/// Once its copy has no address left, the task writes it back, and the number is at rest.
+pub fn write_back_rests()
+    ensures { WriteBackRests }
+{}
+
+/// While others hold their numbers, a free number may be claimed for a new file.
+pub fn claim_fits()
+    ensures { ClaimFits }
+{}
+
+/// Images that are the same outside the log stand for the same files, with the same claims.
+pub fn held_outside()
+    ensures { HeldOutsideLog }
+{}
+
+/// A used number at rest has its file and answers looks, whoever holds other numbers.
+pub fn resting_tells()
+    ensures { RestingTells }
+{}
+
+/// A free number is at rest and has no file, and each operation on it says so.
+pub fn free_tells()
+    ensures { FreeTells }
+{}
+
+/// What a task has still to give up are data blocks that the bitmap has.
+pub fn held_has_blocks()
+    ensures { HeldHasBlocks }
+{}
+
+/// A cleared bit of a block changes nothing else that no file shows.
+pub fn cleared_bit_keeps()
+    ensures { ClearedBitKeeps }
+{}
+
+/// Nor does an inode that is written back, which keeps its labels.
+pub fn write_back_keeps()
+    ensures { WriteBackKeeps }
 {}

@@ -5,3 +5,7 @@ pub mod Reading
 pub mod Openings
 pub mod Steps
 mod Disks
+pub mod Looks
+pub mod Stages
+pub mod Asked
+pub mod Shown

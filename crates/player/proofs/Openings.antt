@@ -7,6 +7,7 @@ use Rattle.blocks.specs.declared.faulty.FaultyDisk.{FaultyDisk}
 use Rattle.blocks.specs.declared.faulty.Trap.{Trap}
 use Rattle.blocks.specs.Disk.{counted}
 use Rattle.inodes.specs.Store.{fresh_volume}
+use Rattle.inodes.specs.Table.{new_table}
 use Rattle.inodes.specs.Tasks.{no_task}
 use Rattle.kernel.specs.Opening.{IsOpened}
 use Rattle.model.specs.Layout.{inode_count_of}
@@ -31,7 +32,7 @@ opened_over disk d i h x tasks processes player same opened empty backlogs =
     record {
       sound = subst (λ y. verdict y ≡ None) same opened.sound;
       recovers = opened.opening ∙ ap recovered same;
-      store = subst (λ y. k.store ≡ record { volume = fresh_volume disk.image k.opening; tasks = replicate processes no_task; inode_count = inode_count_of y }) same opened.store;
+      store = subst (λ y. k.store ≡ record { volume = fresh_volume disk.image k.opening; tasks = replicate processes no_task; table = new_table (inode_count_of y) }) same opened.store;
       world = opened.world;
       queues = subst (λ q. (p : ℕ) → (waiting q p ≡ []) × (answers q p ≡ [])) (sym opened.intake) empty;
       backlogs = backlogs;

@@ -2,7 +2,7 @@
 use Rattle.std.specs.Prelude.{◌≡◌, ◌≢◌, Result, Ok, Err, OnOk, IfErr, Option, Some, None, option_map}
 use Rattle.blocks.specs.declared.errors.DiskFault.{DiskFault}
 use Rattle.player.specs.declared.refusal.Refusal.{Refusal}
-use Rattle.player.specs.declared.refusal.Refusal.TheVariants.{File, Mkfs, Check, Recover, Open, Script, Schedule, Disk, Input, Output}
+use Rattle.player.specs.declared.refusal.Refusal.TheVariants.{File, Mkfs, Check, Recover, Open, Script, Schedule, Disk, Cat, Input, Output}
 use Rattle.player.specs.Stepping.{fault_in}
 use Rattle.player.specs.Refusal.{OnRefusal}
 
@@ -27,4 +27,5 @@ on_fault (Err (Recover _)) found P Q f h is = h
 on_fault (Err (Open _)) found P Q f h is = h
 on_fault (Err (Script _)) found P Q f h is = h
 on_fault (Err (Schedule _)) found P Q f h is = h
+on_fault (Err (Cat _)) found P Q f h is = h
 on_fault (Err (Input _)) found P Q f h is = h

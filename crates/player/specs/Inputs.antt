@@ -2,6 +2,7 @@
 use Rattle.std.specs.Prelude.{◌≡◌, ◌⊎◌, ⊤, ℕ, Bool, true, false, not, List, Option, Some, None, option_map, find, IfSome}
 use Rattle.model.specs.declared.types.operations.Op.{Op}
 use Rattle.model.specs.declared.types.operations.Op.TheVariants.{Create, Write, Read, Trunc, Remove, Stat}
+use Rattle.model.specs.Journal.{is_at_once}
 use Rattle.scripts.specs.declared.script.Task.{Task}
 use Rattle.scripts.specs.declared.script.ScriptFault.{ScriptFault}
 use Rattle.scripts.specs.declared.script.ScriptFault.TheVariants.{NotYet}
@@ -13,27 +14,33 @@ use Rattle.scripts.specs.declared.schedule.Word.{Word}
 use Rattle.scripts.specs.Schedule.{schedule_of}
 use Rattle.scripts.specs.Schedule.{fault_of as fault_of_schedule}
 
-abbrev pub is_creation : Op → Bool
-is_creation (Create kind) = true
-is_creation (Write inode offset bytes) = false
-is_creation (Read inode offset count) = false
-is_creation (Trunc inode) = false
-is_creation (Remove inode) = false
-is_creation (Stat inode) = false
+-- no image has more inode numbers
+abbrev pub most_numbers : ℕ
+most_numbers = 1024
 
--- the line of the first operation that is no creation
+-- an operation that is carried out, or that is answered at once whatever the image is
+abbrev pub is_carried_out : Op → Bool
+is_carried_out (Create kind) = true
+is_carried_out (Write inode offset bytes) = is_at_once most_numbers (Write inode offset bytes)
+is_carried_out (Read inode offset count) = true
+is_carried_out (Trunc inode) = is_at_once most_numbers (Trunc inode)
+is_carried_out (Remove inode) = is_at_once most_numbers (Remove inode)
+is_carried_out (Stat inode) = true
+
+-- the line of the first operation that is not
 abbrev pub first_other : List Task → Option ℕ
-first_other tasks = option_map (λ task. task.line) (find (λ task. not (is_creation task.op)) tasks)
+first_other tasks =
+    option_map (λ task. task.line) (find (λ task. not (is_carried_out task.op)) tasks)
 
 abbrev pub fault_or : Option ScriptFault → Option ScriptFault → Option ScriptFault
 fault_or (Some fault) other = Some fault
 fault_or None other = other
 
--- why a text is no script of creations: it is none, else the first operation that is no creation
+-- why a text is no script that can be carried out: it is none, else the first operation that can't
 abbrev pub script_fault : List ℕ → Option ScriptFault
 script_fault text = fault_or (fault_of text) (option_map NotYet (first_other (tasks_of text)))
 
--- these are the operations of a text, which is a script of creations
+-- these are the operations of a text, which is a script that can be carried out
 abbrev pub IsScriptOf : List ℕ → List Task → Type 0
 IsScriptOf text tasks = (script_fault text ≡ None) × (tasks ≡ tasks_of text)
 
@@ -57,11 +64,11 @@ IsUnread schedule_fault.File = ⊤
 IsUnread schedule_fault.TooLarge = ⊥
 IsUnread (schedule_fault.BadWord _) = ⊥
 
--- a reader that has these bytes left, where they are known, gives a script of creations
+-- a reader that has these bytes left, where they are known, gives a script that can be carried out
 abbrev pub GivesScript : Option (List ℕ) → List Task → Type 0
 GivesScript left tasks = (text : List ℕ) × IsScriptOf text tasks × IfSome left (λ all. all ≡ text)
 
--- it gave no bytes, or those of no script of creations
+-- it gave no bytes, or those of no such script
 abbrev pub GivesNoScript : Option (List ℕ) → ScriptFault → Type 0
 GivesNoScript left fault =
     IsUnreadScript fault

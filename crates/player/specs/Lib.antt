@@ -8,4 +8,6 @@ pub mod Turns
 pub mod Backlog
 pub mod Stepping
 pub mod Opening
+pub mod Asking
+pub mod Showing
 pub mod Lemmas

@@ -8,6 +8,7 @@ use Rattle.blocks.specs.declared.faulty.FaultyDisk.{FaultyDisk}
 use Rattle.blocks.specs.declared.faulty.Kind.TheVariants.{WriteOld}
 use Rattle.blocks.specs.declared.faulty.Trap.{Trap}
 use Rattle.inodes.specs.Store.{fresh_volume}
+use Rattle.inodes.specs.Table.{new_table}
 use Rattle.inodes.specs.Tasks.{no_task}
 use Rattle.journal.specs.Processes.{fresh_world}
 use Rattle.blocks.specs.Disk.{counted}
@@ -31,7 +32,7 @@ pub record IsOpenedOver {D N : Type 0} (image : FaultyDisk D → Image) (x : Ima
   pub store : player.kernel.store ≡ record {
     volume = fresh_volume image player.kernel.opening;
     tasks = replicate processes no_task;
-    inode_count = inode_count_of x;
+    table = new_table (inode_count_of x);
   }
   pub world : player.kernel.world ≡ fresh_world processes
   pub queues : (p : ℕ)

@@ -4,8 +4,8 @@ use Rattle.kernel.specs.declared.types.OpenFault.{OpenFault}
 use Rattle.kernel.specs.declared.types.OpenFault.TheVariants as open_fault
 use Rattle.player.specs.declared.faults.KernelFault.TheVariants as kernel
 use Rattle.player.specs.declared.refusal.Refusal.{Refusal}
-use Rattle.player.specs.declared.refusal.Refusal.TheVariants.{File, Mkfs, Check, Recover, Open, Script, Schedule, Disk, Input, Output}
-use Rattle.player.specs.Telling.{Telling, check_telling, disk_telling, file_telling, input_telling, kernel_telling, mkfs_telling, plain, recover_telling, schedule_telling, script_telling}
+use Rattle.player.specs.declared.refusal.Refusal.TheVariants.{File, Mkfs, Check, Recover, Open, Script, Schedule, Disk, Cat, Input, Output}
+use Rattle.player.specs.Telling.{Telling, cat_telling, check_telling, disk_telling, file_telling, input_telling, kernel_telling, mkfs_telling, plain, recover_telling, schedule_telling, script_telling}
 
 abbrev pub layer_of : Refusal → List ℕ
 layer_of (File _) = codes "file"
@@ -16,6 +16,7 @@ layer_of (Open _) = codes "open"
 layer_of (Script _) = codes "script"
 layer_of (Schedule _) = codes "schedule"
 layer_of (Disk _) = codes "disk"
+layer_of (Cat _) = codes "cat"
 layer_of (Input _) = codes "input"
 layer_of Output = codes "output"
 
@@ -28,6 +29,7 @@ refusal_telling (Open fault) = kernel_telling fault
 refusal_telling (Script fault) = script_telling fault
 refusal_telling (Schedule fault) = schedule_telling fault
 refusal_telling (Disk fault) = disk_telling fault
+refusal_telling (Cat fault) = cat_telling fault
 refusal_telling (Input fault) = input_telling fault
 refusal_telling Output = plain 1 (codes "Write")
 
@@ -76,8 +78,18 @@ IsOfRecover _ = ⊥
 -- the disk, or of the output
 abbrev pub IsOfReplay : Refusal → Type 0
 IsOfReplay (Mkfs _) = ⊥
+IsOfReplay (Cat _) = ⊥
 IsOfReplay (Input _) = ⊥
 IsOfReplay _ = ⊤
+
+-- those of `cat`: of the file of the image, of the image, of the recovery, of the kernel's opening,
+-- of the disk, of the number, or of the output
+abbrev pub IsOfCat : Refusal → Type 0
+IsOfCat (Mkfs _) = ⊥
+IsOfCat (Script _) = ⊥
+IsOfCat (Schedule _) = ⊥
+IsOfCat (Input _) = ⊥
+IsOfCat _ = ⊤
 
 -- those of the words and lines that the program is given
 abbrev pub IsOfInput : Refusal → Type 0

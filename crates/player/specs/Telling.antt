@@ -13,6 +13,8 @@ use Rattle.scripts.specs.declared.script.ScriptFault.{ScriptFault}
 use Rattle.scripts.specs.declared.script.ScriptFault.TheVariants as script
 use Rattle.scripts.specs.declared.schedule.ScheduleFault.{ScheduleFault}
 use Rattle.scripts.specs.declared.schedule.ScheduleFault.TheVariants as schedule
+use Rattle.player.specs.declared.faults.CatFault.{CatFault}
+use Rattle.player.specs.declared.faults.CatFault.TheVariants as cat
 use Rattle.player.specs.declared.faults.InputFault.{InputFault}
 use Rattle.player.specs.declared.faults.InputFault.TheVariants as input
 use Rattle.player.specs.declared.faults.KernelFault.{KernelFault}
@@ -84,6 +86,10 @@ schedule_telling schedule.File = plain 4 (codes "File")
 
 abbrev pub disk_telling : DiskFault → Telling
 disk_telling fault = naming 1 (codes "DiskFault") fault.0
+
+abbrev pub cat_telling : CatFault → Telling
+cat_telling cat.NoFile = plain 1 (codes "NoFile")
+cat_telling cat.NoMemory = plain 2 (codes "NoMemory")
 
 abbrev pub input_telling : InputFault → Telling
 input_telling input.Read = plain 1 (codes "Read")

@@ -2,6 +2,7 @@
 ghost use Rattle.std.specs.Prelude.{◌≡◌, ◌≢◌};
 ghost use Rattle.std.specs.IoError.{error_kind};
 ghost use Rattle.player.specs.Telling.{
+  cat_telling,
   check_telling,
   disk_telling,
   file_telling,
@@ -67,6 +68,17 @@ pub enum KernelFault {
     /// There are not 1 to 32 processes.
     #[error("a kernel has 1 to 32 processes")]
     ProcRange,
+}
+
+/// Why a file isn't shown.
+#[derive(Clone, Copy, Debug, PartialEq, Eq, Error)]
+pub enum CatFault {
+    /// There is no file of that number.
+    #[error("there is no file of that number")]
+    NoFile,
+    /// Memory was refused.
+    #[error("memory was refused")]
+    NoMemory,
 }
 
 impl From<NoMemory> for KernelFault {
@@ -199,6 +211,17 @@ impl Fault for DiskFault {
 
     fn told(&self) -> Told {
         Told::naming(1, "DiskFault", self.0)
+    }
+}
+
+impl Fault for CatFault {
+    ghost telling = { cat_telling };
+
+    fn told(&self) -> Told {
+        match self {
+            CatFault::NoFile => Told::new(1, "NoFile"),
+            CatFault::NoMemory => Told::new(2, "NoMemory"),
+        }
     }
 }
 

@@ -3,7 +3,7 @@ ghost use Rattle.std.specs.Prelude.{◌≡◌, Some};
 ghost use Rattle.player.specs.Refusal.{layer_of, open_refusal, refusal_telling, refusal_text};
 ghost use Rattle.player.specs.Telling.{telling_of};
 
-use crate::faults::{InputFault, KernelFault};
+use crate::faults::{CatFault, InputFault, KernelFault};
 use crate::told::{Fault, Told};
 use blocks::{DiskFault, FileFault};
 use itoa::Buffer;
@@ -32,6 +32,8 @@ pub enum Refusal {
     Schedule(ScheduleFault),
     /// The disk failed in a step of the kernel.
     Disk(DiskFault),
+    /// The file can't be shown.
+    Cat(CatFault),
     /// The command lines can't be had.
     Input(InputFault),
     /// The output can't be written.
@@ -52,6 +54,7 @@ impl Refusal {
             Refusal::Script(_) => "script",
             Refusal::Schedule(_) => "schedule",
             Refusal::Disk(_) => "disk",
+            Refusal::Cat(_) => "cat",
             Refusal::Input(_) => "input",
             Refusal::Output => "output",
         }
@@ -70,6 +73,7 @@ impl Refusal {
             Refusal::Script(fault) => fault.told(),
             Refusal::Schedule(fault) => fault.told(),
             Refusal::Disk(fault) => fault.told(),
+            Refusal::Cat(fault) => fault.told(),
             Refusal::Input(fault) => fault.told(),
             Refusal::Output => Told::new(1, "Write"),
         }

@@ -17,15 +17,13 @@ use crate::backlog::{Backlog, backlogs_of};
 use crate::events::Event;
 use crate::faults::KernelFault;
 use crate::refusal::Refusal;
+use crate::stepping::make_steps;
 use blocks::{Disk, DiskFault, FaultyDisk, Kind};
 use kernel::{Kernel, Step};
 use model::types::Answer;
 use ports::{PlainHerald, QueueIntake};
 use scripts::{Task, Word};
 use std::alloc::Global;
-
-// More steps than any operation makes.
-const MOST_STEPS: u32 = 2000;
 
 /// A kernel over plain queues and a disk of which one write may be stopped, and the operations of a
 /// script that wait to be handed in.
@@ -140,7 +138,7 @@ impl<D: Disk + Drop> Player<D> {
             ≡ length self.old.kernel.world.processes }
     {
         self.hand_in(pid);
-        let step = self.steps(pid);
+        let step = make_steps(&mut self.kernel, pid);
         self.event(pid, step, stop)
     }
 
@@ -183,26 +181,6 @@ impl<D: Disk + Drop> Player<D> {
         ensures backlogs { self.new.backlogs ≡ self.old.backlogs }
     {
         self.kernel.step(pid)
-    }
-
-    // Makes steps of a process, until one doesn't move. What the last of them answers.
-    #[tactic(auto, using(crate::proofs::Steps::none_moved, crate::proofs::Steps::one_moved))]
-    fn steps(&mut self, pid: u32) -> Step
-        requires { pid < length self.old.kernel.world.processes }
-        ensures makes { MakesSteps ⟦<FaultyDisk<D> as Disk>⟧
-            pid result self.old.kernel self.new.kernel }
-        ensures processes { length self.new.kernel.world.processes
-            ≡ length self.old.kernel.world.processes }
-        ensures backlogs { self.new.backlogs ≡ self.old.backlogs }
-    {
-        for _step in 0..MOST_STEPS {
-            let step = self.step(pid);
-            if step != Step::Moved {
-                return step;
-            }
-        }
-        // No operation has so many steps.
-        unreachable!()
     }
 
     // What the turn of a process came to, whose last step answered so.

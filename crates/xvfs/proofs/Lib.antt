@@ -3,3 +3,4 @@ pub mod Reading
 pub mod CommandLines
 pub mod Undone
 pub mod Sequences
+pub mod Catting

@@ -6,10 +6,11 @@ use Rattle.xvfs.specs.declared.command.Failure.{Failure}
 use Rattle.xvfs.specs.declared.command.Failure.TheVariants.{Refused, Misused}
 use Rattle.player.specs.declared.refusal.Refusal.{Refusal}
 use Rattle.xvfs.specs.declared.words.Request.{Request}
-use Rattle.xvfs.specs.declared.words.Request.TheVariants.{Mkfs, Check, Recover, Replay}
+use Rattle.xvfs.specs.declared.words.Request.TheVariants.{Mkfs, Check, Recover, Cat, Replay}
 use Rattle.xvfs.specs.Requests.{IsNotDone, IsUndone, OnRefused}
 use Rattle.player.specs.Lemmas.Refusals.{on_refusal}
 use Rattle.xvfs.specs.Status.{status_of}
+use Rattle.xvfs.proofs.Catting.{cat_refused}
 
 pub refused_at_one : (words : List (List ℕ)) (old new : Option (List ℕ)) (none : Type 0) (f : Failure) → status_of (Err f) ≡ 1 → IsUndone words old new none f → (r : Refusal) × IsUndone words old new none (Refused r)
 refused_at_one words old new none (Refused r) one undone = (r, undone)
@@ -24,6 +25,7 @@ on_refused : (request : Request) (r : Refusal) (old new : Option (List ℕ)) (P 
 on_refused (Mkfs image size ninodes) r old new P Q f none = λ other. f (none other)
 on_refused (Check image) r old new P Q f none = λ other. f (none other)
 on_refused (Recover image) r old new P Q f none = λ other. f (none other)
+on_refused (Cat image inum) r old new P Q f none = cat_refused inum old new P Q f r none
 on_refused (Replay image script schedule stop) r old new P Q f none = on_refusal r _ _ P Q (λ run. run) f none
 
 undone_by : (words : List (List ℕ)) (old new : Option (List ℕ)) (P Q : Type 0) → (P → Q) → (f : Failure) → IsUndone words old new P f → IsUndone words old new Q f

@@ -4,7 +4,7 @@ use Rattle.clap.specs.Words.{App, HasKind, Kinds, Row, Rule, new_app, new_rule, 
 use Rattle.clap.specs.declared.error.Error.{Error}
 use Rattle.clap.specs.declared.error.kind.ErrorKind.TheVariants as kind
 use Rattle.xvfs.specs.declared.words.Request.{Request}
-use Rattle.xvfs.specs.declared.words.Request.TheVariants.{Mkfs, Check, Recover, Replay}
+use Rattle.xvfs.specs.declared.words.Request.TheVariants.{Mkfs, Check, Recover, Cat, Replay}
 use Rattle.clap.specs.declared.builder.command.Command.{Command}
 use Rattle.clap.specs.declared.builder.command.Command.TheViews.{out-Command}
 use Rattle.clap.specs.declared.builder.value_parser.ValueParser.TheVariants.{Signed, Unsigned}
@@ -33,6 +33,9 @@ abbrev pub mkfs_app : App
 mkfs_app = with_rule (with_rule (image_app (codes "mkfs")) (number_rule (codes "SIZE")))
     (number_rule (codes "NINODES"))
 
+abbrev pub cat_app : App
+cat_app = with_rule (image_app (codes "cat")) (number_rule (codes "INUM"))
+
 abbrev pub replay_app : App
 replay_app = with_rule (with_rule (with_rule (image_app (codes "replay"))
     (required_rule (codes "SCRIPT"))) (required_rule (codes "SCHEDULE"))) stop_rule
@@ -49,8 +52,9 @@ bare_app = record (new_app (codes "xvfs")) {
 
 abbrev pub xvfs_app : App
 xvfs_app =
-    with_subcommand (with_subcommand (with_subcommand (with_subcommand bare_app mkfs_app.top)
-    (image_app (codes "check")).top) (image_app (codes "recover")).top) replay_app.top
+    with_subcommand (with_subcommand (with_subcommand (with_subcommand (with_subcommand bare_app
+    mkfs_app.top) (image_app (codes "check")).top) (image_app (codes "recover")).top) cat_app.top)
+    replay_app.top
 
 -- a command of this shape, whose arguments are its own
 abbrev pub HasApp : App → Command → Type 0
@@ -68,6 +72,8 @@ AsksBy name rows (Mkfs image size ninodes) = (name ≡ codes "mkfs")
 AsksBy name rows (Check image) = (name ≡ codes "check")
     × (first_of (codes "IMAGE") rows ≡ Some image.now)
 AsksBy name rows (Recover image) = (name ≡ codes "recover")
+    × (first_of (codes "IMAGE") rows ≡ Some image.now)
+AsksBy name rows (Cat image inum) = (name ≡ codes "cat")
     × (first_of (codes "IMAGE") rows ≡ Some image.now)
 AsksBy name rows (Replay image script schedule stop) =
     (name ≡ codes "replay") × (first_of (codes "IMAGE") rows ≡ Some image.now)

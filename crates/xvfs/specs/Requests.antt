@@ -8,12 +8,12 @@ use Rattle.scripts.specs.declared.schedule.Word.{Word}
 use Rattle.xvfs.specs.declared.command.Failure.{Failure}
 use Rattle.xvfs.specs.declared.command.Failure.TheVariants.{Refused, Misused}
 use Rattle.xvfs.specs.declared.words.Request.{Request}
-use Rattle.xvfs.specs.declared.words.Request.TheVariants.{Mkfs, Check, Recover, Replay}
+use Rattle.xvfs.specs.declared.words.Request.TheVariants.{Mkfs, Check, Recover, Cat, Replay}
 use Rattle.player.specs.declared.refusal.Refusal.{Refusal}
 use Rattle.player.specs.declared.refusal.Refusal.TheVariants.{Output}
 use Rattle.player.specs.Output.{numbers_text}
 use Rattle.player.specs.Refusal.{OnRefusal}
-use Rattle.xvfs.specs.Printed.{PrintsCopied, PrintsReport}
+use Rattle.xvfs.specs.Printed.{OnCatRefusal, PrintsCopied, PrintsFile, PrintsReport}
 use Rattle.xvfs.specs.CommandLine.{AskFor, IsMistakeIn, mistakes_in}
 use Rattle.xvfs.specs.Status.{IsMisuse}
 use Rattle.xvfs.specs.Turns.{PrintsRun}
@@ -24,6 +24,7 @@ Answers (Mkfs image size ninodes) old new =
     Appends old new (numbers_text (planned_super size ninodes))
 Answers (Check image) old new = PrintsReport old new
 Answers (Recover image) old new = PrintsCopied old new
+Answers (Cat image inum) old new = PrintsFile inum old new
 Answers (Replay image script schedule stop) old new = (words : List Word)
     × PrintsRun (unwrap_or stop 0) words old new
 
@@ -32,6 +33,7 @@ abbrev pub OnRefused : Request → Refusal → Option (List ℕ) → Option (Lis
 OnRefused (Mkfs image size ninodes) r old new none = r ≢ Output → none
 OnRefused (Check image) r old new none = r ≢ Output → none
 OnRefused (Recover image) r old new none = r ≢ Output → none
+OnRefused (Cat image inum) r old new none = OnCatRefusal inum old new none r
 OnRefused (Replay image script schedule stop) r old new none =
     OnRefusal r ((words : List Word) × PrintsRun (unwrap_or stop 0) words old new) none
 

@@ -7,7 +7,7 @@ ghost use Rattle.clap.specs.declared.error.Error.{Error as SomeError};
 ghost use Rattle.player.specs.declared.refusal.Refusal.{Refusal as SomeRefusal};
 ghost use Rattle.xvfs.specs.Status.{Tells};
 
-use crate::images::{check_file, make_file, recover_file, replay_files};
+use crate::images::{cat_file, check_file, make_file, recover_file, replay_files};
 use crate::words::{Request, parse};
 use player::{Refusal, print_last};
 use std::convert::AsStr;
@@ -39,7 +39,7 @@ impl From<Refusal> for Failure {
 ///
 /// With 0 the words make a command, and `out` has its answer; or they ask for help or the version,
 /// whose text is clap's. With 1 they do too, and nothing was printed, but of a replay whose disk
-/// failed and of an output that failed. With 2 nothing is written to `out`, with 0 nothing to
+/// failed, of a file in whose reading that or memory failed, and of an output that failed. With 2 nothing is written to `out`, with 0 nothing to
 /// `err`. What else `err` gets no contract tells, since it may fail at any byte.
 pub fn command<R: Files + AllocGlobal, S: AsStr, O: Write, E: Write>(
     rt: &R,
@@ -142,6 +142,7 @@ fn dispatch<R: Files + AllocGlobal, O: Write>(
         } => make_file(rt, image, size, ninodes, out),
         Request::Check { image } => check_file(rt, image, out),
         Request::Recover { image } => recover_file(rt, image, out),
+        Request::Cat { image, inum } => cat_file(rt, image, inum, out),
         Request::Replay {
             image,
             script,

@@ -6,15 +6,15 @@ ghost use Rattle.layout.specs.declared.geometry.MkfsFault.TheVariants as fault;
 ghost use Rattle.model.specs.Layout.{is_inode_count, is_size, planned_super};
 ghost use Rattle.player.specs.declared.refusal.Refusal.TheVariants as refusal;
 ghost use Rattle.player.specs.Output.{numbers_text};
-ghost use Rattle.player.specs.Refusal.{IsOfCheck, IsOfMkfs, IsOfRecover, IsOfReplay, OnRefusal};
+ghost use Rattle.player.specs.Refusal.{IsOfCat, IsOfCheck, IsOfMkfs, IsOfRecover, IsOfReplay, OnRefusal};
 ghost use Rattle.scripts.specs.declared.schedule.Word.{Word};
-ghost use Rattle.xvfs.specs.Printed.{PrintsCopied, PrintsReport};
+ghost use Rattle.xvfs.specs.Printed.{OnCatRefusal, PrintsCopied, PrintsFile, PrintsReport};
 ghost use Rattle.xvfs.specs.Turns.{PrintsRun};
 
 use crate::inputs::{schedule_from, script_from};
 use blocks::FileDisk;
 use layout::plan;
-use player::{Refusal, check_disk, make_disk, recover_disk, replay_disk};
+use player::{Refusal, cat_disk, check_disk, make_disk, recover_disk, replay_disk};
 use scripts::processes;
 use std::io::Write;
 use std::rt::Files;
@@ -84,6 +84,26 @@ pub fn recover_file<R: Files + AllocGlobal, O: Write>(
 {
     let mut disk = FileDisk::open(rt, image).map_err(Refusal::File)?;
     recover_disk(rt.alloc(), &mut disk, out)
+}
+
+/// Recovers the image in the file at this path, and writes the bytes of its file of a number.
+///
+/// # Errors
+///
+/// A fault of `FileDisk::open` or of `cat_disk`.
+pub fn cat_file<R: Files + AllocGlobal, O: Write>(
+    rt: &R,
+    image: &str,
+    inum: u32,
+    out: &mut O,
+) -> Result<(), Refusal>
+    ensures printed { OnOk result (PrintsFile inum (O.contents out.old) (O.contents out.new)) }
+    ensures layers { IfErr result IsOfCat }
+    ensures refused { IfErr result (OnCatRefusal inum (O.contents out.old) (O.contents out.new)
+        (out.new ≡ out.old)) }
+{
+    let disk = FileDisk::open(rt, image).map_err(Refusal::File)?;
+    cat_disk(rt.alloc(), disk, inum, out)
 }
 
 /// Recovers the image in the file at this path, and makes the operations of a script in the turns

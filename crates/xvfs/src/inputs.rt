@@ -9,7 +9,7 @@ use scripts::{ScheduleFault, ScriptFault, Task, Word};
 use std::fs::File;
 use std::rt::Files;
 
-/// The operations of the script in the file at this path, in order: creations.
+/// The operations of the script in the file at this path, in order.
 ///
 /// # Errors
 ///
@@ -20,7 +20,7 @@ pub fn script_from<R: Files + AllocGlobal>(rt: &R, path: &str) -> Result<Vec<Tas
     ensures fault { IfErr result
         (λ fault. IsUnreadScript fault ⊎ ((text : List ℕ) × (script_fault text ≡ Some fault))) }
     ensures processes { IfOk result (λ tasks. All (λ task. task.pid < 32) tasks.items) }
-    ensures creations { IfOk result (λ tasks. first_other tasks.items ≡ None) }
+    ensures carried { IfOk result (λ tasks. first_other tasks.items ≡ None) }
 {
     let file = File::open(rt, path).map_err(|error| script_unread(error))?;
     player::script_from(rt.alloc(), file)

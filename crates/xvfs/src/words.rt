@@ -1,7 +1,7 @@
 // The words of a command line.
 ghost use Rattle.std.specs.Prelude.{◌≡◌, false, codes, map, IfErr, IfOk, IfSome};
 ghost use Rattle.clap.specs.Words.{rule_of, subcommand_rows_of};
-ghost use Rattle.xvfs.specs.CommandLine.{AskFor, Asks, HasApp, IsMistakeIn, image_app, mkfs_app, number_rule, replay_app, required_rule, stop_rule, xvfs_app};
+ghost use Rattle.xvfs.specs.CommandLine.{AskFor, Asks, HasApp, IsMistakeIn, bare_app, cat_app, image_app, mkfs_app, number_rule, replay_app, required_rule, stop_rule, xvfs_app};
 
 use clap::error::ErrorKind;
 use clap::{Arg, ArgMatches, Command, Error, value_parser};
@@ -29,6 +29,13 @@ pub enum Request<'a> {
     Recover {
         /// The path of its file.
         image: &'a str,
+    },
+    /// The bytes of a file of an image.
+    Cat {
+        /// The path of the image's file.
+        image: &'a str,
+        /// The file's number.
+        inum: u32,
     },
     /// A script's operations over an image.
     Replay {
@@ -75,6 +82,10 @@ fn request_of<'a>(matches: &ArgMatches<'a>) -> Option<Request<'a>>
         }),
         "check" => Some(Request::Check { image }),
         "recover" => Some(Request::Recover { image }),
+        "cat" => Some(Request::Cat {
+            image,
+            inum: values.get_one("INUM")?,
+        }),
         "replay" => Some(Request::Replay {
             image,
             script: values.get_str("SCRIPT")?,
@@ -88,18 +99,28 @@ fn request_of<'a>(matches: &ArgMatches<'a>) -> Option<Request<'a>>
 fn program<'a>(alloc: Global) -> Result<Command<'a>, AllocError>
     ensures { IfOk result (HasApp xvfs_app) }
 {
-    Command::new(alloc, "xvfs")
-        .version("0.1.0")
-        .about(
-            "Makes, checks, recovers and replays images of the xv6 file system; without words, does the command lines of standard input",
-        )
-        .bin_name("xvfs")?
-        .no_binary_name(true)
-        .subcommand_required(true)
+    bare_program(alloc)?
         .subcommand(mkfs_words(alloc)?)?
         .subcommand(check_words(alloc)?)?
         .subcommand(recover_words(alloc)?)?
+        .subcommand(cat_words(alloc)?)?
         .subcommand(replay_words(alloc)?)
+}
+
+// The program, without its commands.
+fn bare_program<'a>(alloc: Global) -> Result<Command<'a>, AllocError>
+    ensures { IfOk result (HasApp bare_app) }
+{
+    Ok(
+        Command::new(alloc, "xvfs")
+            .version("0.1.0")
+            .about(
+                "Makes, checks, recovers, reads and replays images of the xv6 file system; without words, does the command lines of standard input",
+            )
+            .bin_name("xvfs")?
+            .no_binary_name(true)
+            .subcommand_required(true),
+    )
 }
 
 fn mkfs_words<'a>(alloc: Global) -> Result<Command<'a>, AllocError>
@@ -142,6 +163,15 @@ fn recover_words<'a>(alloc: Global) -> Result<Command<'a>, AllocError>
     Command::new(alloc, "recover")
         .about("Checks an image, and copies the blocks of its log home")
         .arg(word(alloc, "IMAGE", "The path of the image's file"))
+}
+
+fn cat_words<'a>(alloc: Global) -> Result<Command<'a>, AllocError>
+    ensures { IfOk result (HasApp cat_app) }
+{
+    Command::new(alloc, "cat")
+        .about("Recovers an image, and writes the bytes of one of its files")
+        .arg(word(alloc, "IMAGE", "The path of the image's file"))?
+        .arg(number(alloc, "INUM", "The file's inode number"))
 }
 
 fn replay_words<'a>(alloc: Global) -> Result<Command<'a>, AllocError>

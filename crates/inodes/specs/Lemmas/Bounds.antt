@@ -1,19 +1,29 @@
 -- How many steps a task has left at most: so few that with those of its operation's end and of a
 -- commit they stay below 2000.
-use Rattle.std.proofs.Common.{◌≡◌, ℕ, ◌<◌, ◌≤◌, false, List, Option, Some, None, sym, arith}
+use Rattle.std.proofs.Common.{◌≡◌, ℕ, ◌+◌, ◌<◌, ◌≤◌, false, cond, List, Option, Some, None, sym, arith}
+use Rattle.std.specs.Prelude.{is_none}
 use Rattle.std.proofs.lemmas.Bool.{false≢true}
 use Rattle.blocks.specs.Disk.{Image}
+use Rattle.model.specs.declared.types.image.Dinode.{Dinode}
 use Rattle.model.specs.declared.types.operations.Op.{Op}
+use Rattle.model.specs.declared.types.operations.Op.TheVariants.{Create, Write, Read, Trunc, Remove, Stat}
 use Rattle.model.specs.Layout.{inode_count_of}
 use Rattle.model.specs.Lemmas.Soundness.{facts_of}
 use Rattle.model.specs.Soundness.{IsLawfulGeometry}
-use Rattle.bcache.specs.Buffers.{Buffers}
-use Rattle.wal.specs.Machine.{LogState}
+use Rattle.blockmap.specs.Target.{steps_at}
+use Rattle.blockmap.specs.declared.target.Target.{Target}
+use Rattle.blockmap.specs.declared.target.Target.TheVariants as target
+use Rattle.inodes.specs.declared.ilock.LockAt.{LockAt}
+use Rattle.inodes.specs.declared.ilock.LockAt.TheVariants as lock_at
 use Rattle.inodes.specs.declared.tasks.Place.{Place}
 use Rattle.inodes.specs.declared.tasks.Place.TheVariants as place
+use Rattle.inodes.specs.LockState.{locks_left}
+use Rattle.inodes.specs.Looks.{AreLooking, LooksAt, IsAtRead}
+use Rattle.inodes.specs.Places.{is_over, looks_left, steps_left}
+use Rattle.inodes.specs.Readi.{ReadState, reads_left}
+use Rattle.inodes.specs.Store.{CanBegin, first_place}
+use Rattle.inodes.specs.Table.{TableState, copy_at}
 use Rattle.inodes.specs.Tasks.{TaskState, task}
-use Rattle.inodes.specs.Store.{Agrees, CanBegin, first_place}
-use Rattle.inodes.specs.Steps.{is_over, looks_left, steps_left}
 
 few_looks : (o : Option ℕ) → looks_left o ≤ 2
 few_looks None = omega arith
@@ -23,27 +33,71 @@ one_look : (o : Option ℕ) → 1 ≤ looks_left o
 one_look None = omega arith
 one_look (Some slot) = omega arith
 
+few_locks : (a : LockAt) → locks_left a ≤ 4
+few_locks lock_at.Reference = omega arith
+few_locks (lock_at.Lock k) = omega arith
+few_locks (lock_at.Read k None) = omega arith
+few_locks (lock_at.Read k (Some slot)) = omega arith
+
+few_at_target : (t : Target) → steps_at t ≤ 4
+few_at_target (target.Entry e) = by_slot e.slot
+  where
+    by_slot : (o : Option ℕ) → cond (is_none o) 4 3 ≤ 4
+    by_slot None = omega arith
+    by_slot (Some slot) = omega arith
+few_at_target (target.Block b None) = omega arith
+few_at_target (target.Block b (Some slot)) = omega arith
+
+-- a reading's bytes lie in four blocks
+few_reads : (cur : Image) (n : ℕ) (inode : Option Dinode) (t : TaskState) (m : ReadState) →
+    IsAtRead cur n inode t m → reads_left m + 1 ≤ 17
+few_reads cur n inode t m is =
+    let few = is.op.may.1 in
+    let begun = is.read.begun in
+    let some = is.read.some in
+    let end = is.read.end in
+    let steps = few_at_target m.target in
+    omega (arith, few, begun, some, end, steps)
+
 -- there are 64 inode blocks at most, each of which takes two steps
-pub few_steps : (a : Place) (n : ℕ) → n ≤ 1024 → steps_left a n < 1937
-few_steps place.Nowhere n few = omega arith
-few_steps (place.Creating m) n few = let looks = few_looks m.slot in omega (arith, few, looks)
+pub few_steps : (cur : Image) (table : TableState) (t : TaskState) (a : Place) →
+    table.inode_count ≤ 1024 → LooksAt cur table t a → steps_left a table.inode_count < 1937
+few_steps cur table t place.Nowhere few looks = omega arith
+few_steps cur table t (place.Creating m) few looks =
+    let most = few_looks m.slot in
+    omega (arith, few, most)
+few_steps cur table t (place.Taking m) few looks = let most = few_locks m.at in omega (arith, most)
+few_steps cur table t (place.Reading k m) few looks =
+    let most = few_reads cur table.inode_count (copy_at table.places k) t m looks in
+    omega (arith, most)
+few_steps cur table t (place.Delivering k) few looks = omega arith
+few_steps cur table t (place.Leaving k) few looks = omega arith
 
 -- a task that is not over has a step left at least
 pub some_step : (a : Place) (n : ℕ) → is_over a ≡ false → 1 ≤ steps_left a n
 some_step place.Nowhere n unfinished = absurd (false≢true (sym unfinished))
 some_step (place.Creating m) n unfinished = let one = one_look m.slot in omega (arith, one)
+some_step (place.Taking m) n unfinished = omega arith
+some_step (place.Reading k m) n unfinished = omega arith
+some_step (place.Delivering k) n unfinished = omega arith
+some_step (place.Leaving k) n unfinished = omega arith
 
--- a task that begins
+-- a changing operation's task that begins
 pub few_at_first : (x : Image) (op : Op) (n : ℕ) → IsLawfulGeometry x → n ≡ inode_count_of x →
     CanBegin op → steps_left (first_place op n) n < 1937
-few_at_first x op n geometry numbers can =
+few_at_first x (Create kind) n geometry numbers can =
     let few = (facts_of x geometry).few in
-    few_steps (first_place op n) n (omega (arith, few, numbers))
+    omega (arith, few, numbers)
+few_at_first x (Write i off bytes) n geometry numbers can = absurd can
+few_at_first x (Read i off count) n geometry numbers can = absurd can
+few_at_first x (Trunc i) n geometry numbers can = absurd can
+few_at_first x (Remove i) n geometry numbers can = absurd can
+few_at_first x (Stat i) n geometry numbers can = absurd can
 
 -- and any that a store has
-pub few_in_task : (x : Image) (c : Buffers) (l : LogState) (n p : ℕ) (ts : List TaskState) →
-    IsLawfulGeometry x → n ≡ inode_count_of x → Agrees c l n ts →
-    steps_left (task ts p).place n < 1937
-few_in_task x c l n p ts geometry numbers agrees =
+pub few_in_task : (x : Image) (table : TableState) (p : ℕ) (ts : List TaskState) →
+    IsLawfulGeometry x → table.inode_count ≡ inode_count_of x → AreLooking x table ts →
+    steps_left (task ts p).place table.inode_count < 1937
+few_in_task x table p ts geometry numbers looks =
     let few = (facts_of x geometry).few in
-    few_steps (task ts p).place n (omega (arith, few, numbers))
+    few_steps x table (task ts p) (task ts p).place (omega (arith, few, numbers)) (looks.stand p)

@@ -1,6 +1,5 @@
--- How a task's steps end, whatever it works on.
+-- How the steps of a creation's search end.
 use Rattle.std.proofs.Common.{◌≡◌, ◌≢◌, ℕ, true, false, refl, sym, ◌∙◌, ap, subst, Option, Some, None}
-use Rattle.std.proofs.lemmas.Bool.{false≢true}
 use Rattle.blocks.specs.declared.errors.DiskFault.{DiskFault}
 use Rattle.bcache.specs.Buffers.{Buffers}
 use Rattle.model.specs.declared.types.operations.Op.{Op}
@@ -12,11 +11,12 @@ use Rattle.model.specs.Journal.{is_changing}
 use Rattle.wal.specs.Machine.{LogState}
 use Rattle.inodes.specs.declared.tasks.Place.{Place}
 use Rattle.inodes.specs.declared.tasks.Place.TheVariants as place
-use Rattle.inodes.specs.Steps.{Goes, GoesFrom, IsTurn, Shown, is_over}
-use Rattle.inodes.specs.Store.{Stands}
+use Rattle.inodes.specs.Goes.{GoesFrom, IsTurn, Shown}
+use Rattle.inodes.specs.Ialloc.{SearchState}
+use Rattle.inodes.specs.Places.{is_over}
+use Rattle.inodes.specs.Store.{IsSearching}
 
--- a task that is not over goes on with each step but its turn, and is over then; its reply is known
--- at its turn
+-- a search goes on with each step but its turn, and is over then; its reply is known at its turn
 pub record Ends (r : TaskProgress) (next : Place) : Type 0 where
   pub moved : r ≡ progress.Moved → is_over next ≡ false
   pub turned : (reply : Option Reply) → r ≡ progress.Turned reply
@@ -25,10 +25,9 @@ pub record Ends (r : TaskProgress) (next : Place) : Type 0 where
   pub over : r ≡ progress.Over → ⊥
   pub failed : (fault : DiskFault) → r ≡ progress.Fault fault → is_over next ≡ false
 
-pub ends_of : (pl next : Place) (n p : ℕ) (c : Buffers) (r : TaskProgress) (before now : Shown) →
-    is_over pl ≡ false → Goes pl n p c r next before now → Ends r next
-ends_of place.Nowhere next n p c r before now unfinished goes = absurd (false≢true (sym unfinished))
-ends_of (place.Creating m) next n p c r before now unfinished goes = by_slot m.slot r goes
+pub ends_of : (m : SearchState) (next : Place) (n p : ℕ) (c : Buffers) (r : TaskProgress)
+    (before now : Shown) → GoesFrom m.slot n p m c r next before now → Ends r next
+ends_of m next n p c r before now goes = by_slot m.slot r goes
   where
     ended : (reply : Option Reply) → next ≡ place.Nowhere → ((told : Reply) × (reply ≡ Some told)) →
         Ends (progress.Turned reply) next
@@ -76,12 +75,9 @@ ends_of (place.Creating m) next n p c r before now unfinished goes = by_slot m.s
     by_slot (Some i) (progress.Sleeping why) goes = absurd goes
     by_slot (Some i) (progress.Fault fault) goes = absurd goes
 
--- a task that goes on is that of a changing operation
+-- its operation is a changing one
 pub changing_of : (n : ℕ) (c : Buffers) (l : LogState) (count p : ℕ) (op : Op) (o : Option Op)
-    (pl : Place) → o ≡ Some op → is_over pl ≡ false → Stands c l count p o pl →
-    is_changing n op ≡ true
-changing_of n c l count p op o place.Nowhere same unfinished stands =
-    absurd (false≢true (sym unfinished))
-changing_of n c l count p op o (place.Creating m) same unfinished stands =
+    (m : SearchState) → o ≡ Some op → IsSearching c l count p o m → is_changing n op ≡ true
+changing_of n c l count p op o m same stands =
     let is : op ≡ Create m.kind = let both = sym same ∙ stands.op in cc both in
     ap (is_changing n) is ∙ rw stands.kind refl

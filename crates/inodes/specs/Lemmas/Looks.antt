@@ -1,12 +1,26 @@
--- The number that a look at an inode block finds.
-use Rattle.std.proofs.Common.{◌≡◌, ◌≢◌, ℕ, zero, suc, ◌+◌, ◌-◌, ◌*◌, ◌<◌, ◌≤◌, Bool, true, false, cond, eqb, List, Option, Some, None, refl, sym, ◌∙◌, ap, subst, ⊎_elim, arith}
+-- The number that a look at an inode block finds; and what is true of the readings of files that
+-- are under way.
+use Rattle.std.proofs.Common.{◌≡◌, ◌≢◌, ℕ, zero, suc, ◌+◌, ◌-◌, ◌*◌, ◌<◌, ◌≤◌, Bool, true, false, cond, eqb, List, Option, Some, None, length, refl, sym, ◌∙◌, ap, subst, ⊎_elim, arith}
 use Rattle.std.specs.List.{range_with_len, find}
+use Rattle.std.specs.Prelude.{IsTrue, drop, [], ◌∷◌}
 use Rattle.std.proofs.lemmas.Bool.{eqb-true, cases_eq, both_ways}
+use Rattle.std.proofs.lemmas.List.{length-take}
 use Rattle.blocks.specs.Disk.{Image, block_at}
+use Rattle.model.specs.declared.types.image.Dinode.{Dinode}
 use Rattle.model.specs.Layout.{inode_in, inode_bytes_in, inode_block, inode_of}
 use Rattle.model.specs.Journal.{is_number}
 use Rattle.model.specs.Lemmas.Log.{both_of}
+use Rattle.model.specs.Files.{bytes_in}
+use Rattle.model.specs.Gathered.{GatheredBytes}
 use Rattle.inodes.specs.Creation.{is_free_in, lowest_free}
+use Rattle.inodes.specs.declared.tasks.Place.{Place}
+use Rattle.inodes.specs.declared.tasks.Place.TheVariants as place
+use Rattle.inodes.specs.Grips.{grip, locked_grip}
+use Rattle.inodes.specs.Looks.{AreLooking, LooksAt, HasAllRead, HoldsInode, IsRead}
+use Rattle.inodes.specs.Places.{asked_by, grip_by, grip_of, grips_of, is_over, is_reading, is_unturned}
+use Rattle.inodes.specs.Table.{TableState, copy_at}
+use Rattle.inodes.specs.Tasks.{TaskState, task}
+use Rattle.inodes.specs.Lemmas.Grips.{locks_exclude}
 
 -- the number that is found passes, and lies in the range
 abbrev IsIn : (ℕ → Bool) → ℕ → ℕ → ℕ → Type 0
@@ -84,3 +98,123 @@ taken_by_look x n block j o found passed number place free =
     let fails = passed_by (is_free_in bytes n) ((block - 33) * 16) 16 j o found passed
     (omega (arith, place)) (omega (arith, place)) in
     both_ways (is_free_in bytes n j) fails passes
+
+-- ---- readings that had their turn, and whose reply is to come
+
+-- a process has of the table what its task has
+grip_of_task : (ts : List TaskState) (p : ℕ) → grip (grips_of ts) p ≡ grip_of (task ts p)
+grip_of_task [] p = refl
+grip_of_task (t ∷ ts) zero = refl
+grip_of_task (t ∷ ts) (suc p) = grip_of_task ts p
+
+-- a reading has locked the inode that it asks for
+locks_own : (a : Place) (i : ℕ) → is_reading a ≡ true →
+    (k : ℕ) × (grip_by a i ≡ Some (locked_grip k i))
+locks_own place.Nowhere i unlike = absurd (cc unlike)
+locks_own (place.Creating m) i unlike = absurd (cc unlike)
+locks_own (place.Taking m) i unlike = absurd (cc unlike)
+locks_own (place.Reading k m) i is = (k, refl)
+locks_own (place.Delivering k) i is = (k, refl)
+locks_own (place.Leaving k) i unlike = absurd (cc unlike)
+
+module _ (cur : Image) (t : TableState) (ts : List TaskState) (are : AreLooking cur t ts) where
+  -- its operation is a reading
+  pub reading_is : (p : ℕ) → is_reading (task ts p).place ≡ true → IsRead t.inode_count (task ts p)
+  reading_is p is = by_place (task ts p).place (are.stand p) is
+    where
+      by_place : (a : Place) → LooksAt cur t (task ts p) a → is_reading a ≡ true →
+          IsRead t.inode_count (task ts p)
+      by_place place.Nowhere stands unlike = absurd (cc unlike)
+      by_place (place.Creating m) stands unlike = absurd (cc unlike)
+      by_place (place.Taking m) stands unlike = absurd (cc unlike)
+      by_place (place.Reading k m) stands is = stands.op
+      by_place (place.Delivering k) stands is = stands.op
+      by_place (place.Leaving k) stands unlike = absurd (cc unlike)
+
+  -- of a number that operations may name
+  pub reading_number : (p : ℕ) → is_reading (task ts p).place ≡ true →
+      IsTrue (is_number t.inode_count (asked_by (task ts p).op))
+  reading_number p is =
+      let op = reading_is p is in
+      subst (λ (i : ℕ). IsTrue (is_number t.inode_count i)) (sym (ap asked_by op.is)) op.may.0
+
+  -- the place of its locked inode in the table
+  pub reading_locks : (p : ℕ) → is_reading (task ts p).place ≡ true →
+      (k : ℕ) × (grip (grips_of ts) p ≡ Some (locked_grip k (asked_by (task ts p).op)))
+  reading_locks p is =
+      let own = locks_own (task ts p).place (asked_by (task ts p).op) is in
+      (own.0, grip_of_task ts p ∙ own.1)
+
+  -- a copy of a locked inode is that of its number in the image, and used
+  pub copy_is : (p i k : ℕ) (d : Dinode) → grip (grips_of ts) p ≡ Some (locked_grip k i) →
+      copy_at t.places k ≡ Some d → (inode_of cur i ≡ d) × (d.kind ≢ 0)
+  copy_is p i k d has copy =
+      are.table.copies i k d (are.table.places p (locked_grip k i) has).1 copy
+
+  -- of a used inode
+  pub reading_used : (p : ℕ) → is_reading (task ts p).place ≡ true →
+      (inode_of cur (asked_by (task ts p).op)).kind ≢ 0
+  reading_used p is = by_place (task ts p).place (are.stand p) (grip_of_task ts p) is
+    where
+      used : (k : ℕ) (d : Dinode) →
+          grip (grips_of ts) p ≡ Some (locked_grip k (asked_by (task ts p).op)) →
+          copy_at t.places k ≡ Some d → (inode_of cur (asked_by (task ts p).op)).kind ≢ 0
+      used k d has copy free =
+          let its = copy_is p (asked_by (task ts p).op) k d has copy in
+          its.1 (ap (λ (c : Dinode). c.kind) (sym its.0) ∙ free)
+
+      by_place : (a : Place) → LooksAt cur t (task ts p) a →
+          grip (grips_of ts) p ≡ grip_by a (asked_by (task ts p).op) → is_reading a ≡ true →
+          (inode_of cur (asked_by (task ts p).op)).kind ≢ 0
+      by_place place.Nowhere stands has unlike = absurd (cc unlike)
+      by_place (place.Creating m) stands has unlike = absurd (cc unlike)
+      by_place (place.Taking m) stands has unlike = absurd (cc unlike)
+      by_place (place.Reading k m) stands has is = used k m.inode has stands.copy
+      by_place (place.Delivering k) stands has is = used k stands.dinode has stands.copy
+      by_place (place.Leaving k) stands has unlike = absurd (cc unlike)
+
+  -- no two of one number
+  pub readings_apart : (p q : ℕ) → is_reading (task ts p).place ≡ true →
+      is_reading (task ts q).place ≡ true → asked_by (task ts p).op ≡ asked_by (task ts q).op →
+      p ≡ q
+  readings_apart p q one other same =
+      let mine = reading_locks p one in
+      let theirs = reading_locks q other in
+      let i = asked_by (task ts q).op in
+      locks_exclude t (grips_of ts) cur p q i mine.0 theirs.0 are.table
+      (subst (λ (n : ℕ). grip (grips_of ts) p ≡ Some (locked_grip mine.0 n)) same mine.1) theirs.1
+
+  -- it gives out no more bytes than it asked for
+  pub delivers_few : (p k : ℕ) → (task ts p).place ≡ place.Delivering k →
+      (op : IsRead t.inode_count (task ts p)) → length op.gathered.bytes ≤ op.count
+  delivers_few p k at op =
+      let all : HasAllRead cur t.inode_count (copy_at t.places k) (task ts p) =
+      subst (λ (a : Place). LooksAt cur t (task ts p) a) at (are.stand p) in
+      let file = bytes_in cur all.dinode in
+      let bytes : op.gathered ≡ all.op.gathered = let both = sym op.has ∙ all.op.has in cc both in
+      let count : op.count ≡ all.op.count = let both = sym op.is ∙ all.op.is in cc both in
+      let long = ap (λ (g : GatheredBytes). length g.bytes) bytes ∙ ap length all.bytes
+      ∙ length-take all.op.count (drop all.op.offset file) in
+      omega (arith, long, count)
+
+  -- who had its turn holds the lock of its inode until its finish
+  pub holds_lock : (p : ℕ) → is_over (task ts p).place ≡ false →
+      is_unturned (task ts p).place ≡ false → HoldsInode t p (asked_by (task ts p).op)
+  holds_lock p on turned = by_place (task ts p).place (grip_of_task ts p) on turned
+    where
+      held : (k : ℕ) → grip (grips_of ts) p ≡ Some (locked_grip k (asked_by (task ts p).op)) →
+          HoldsInode t p (asked_by (task ts p).op)
+      held k has = record {
+        place = k;
+        number = (are.table.places p (locked_grip k (asked_by (task ts p).op)) has).1;
+        holder = are.table.locks p k (asked_by (task ts p).op) has;
+      }
+
+      by_place : (a : Place) → grip (grips_of ts) p ≡ grip_by a (asked_by (task ts p).op) →
+          is_over a ≡ false → is_unturned a ≡ false → HoldsInode t p (asked_by (task ts p).op)
+      by_place place.Nowhere has on turned = absurd (cc on)
+      by_place (place.Creating m) has on turned = absurd (cc turned)
+      by_place (place.Taking m) has on turned = absurd (cc turned)
+      by_place (place.Reading k m) has on turned = held k has
+      by_place (place.Delivering k) has on turned = held k has
+      by_place (place.Leaving k) has on turned = held k has

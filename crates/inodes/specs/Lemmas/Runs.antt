@@ -14,9 +14,11 @@ use Rattle.model.specs.Lemmas.Log.{both_of}
 use Rattle.inodes.specs.declared.tasks.Place.{Place}
 use Rattle.inodes.specs.declared.tasks.Place.TheVariants as place
 use Rattle.inodes.specs.Ialloc.{SearchState, at_next_block}
+use Rattle.inodes.specs.Table.{TableState}
 use Rattle.inodes.specs.Tasks.{TaskState, task, no_task}
+use Rattle.inodes.specs.Goes.{Shown, Goes, GoesFrom, IsTurn, free_at, shown_of}
 use Rattle.inodes.specs.Store.{StoreState, first_place, reply_of}
-use Rattle.inodes.specs.Steps.{Steps, Shown, Goes, GoesFrom, IsTurn, free_at, shown_of}
+use Rattle.inodes.specs.Steps.{Steps}
 use Rattle.inodes.specs.Runs.{StepMade, LeavesTask, IsRun, EndsWith, IsSearchRun, SeesTaken, WasSeenTaken, NoInodeSawAll, MadeSawLower, StepsLeaveOthers, CommitsLeaveAll, BoundsLeaveOthers}
 use Rattle.inodes.specs.Lemmas.Looks.{IsPassedBy, taken_by_look}
 
@@ -51,11 +53,6 @@ module _ {D N : Type 0} (disk : Ghosts D N) (p n j : ℕ) (op : Op) (o : Option 
   abbrev now : StepMade D → Shown
   now step = shown_of disk.image step.after.volume
 
-  -- where a step goes from a place, by a count of numbers
-  abbrev StepGoes : StepMade D → Place → ℕ → Type 0
-  StepGoes step a k = Goes a k p step.before.volume.buffers step.answer
-      (task step.after.tasks p).place (before step) (now step)
-
   -- where a step of a search goes with an answer, by whether it had got its block
   abbrev SearchGoes : StepMade D → Option ℕ → SearchState → TaskProgress → Type 0
   SearchGoes step slot m r = GoesFrom slot n p m step.before.volume.buffers r
@@ -82,25 +79,44 @@ module _ {D N : Type 0} (disk : Ghosts D N) (p n j : ℕ) (op : Op) (o : Option 
   seen_later step rest is = (suc is.0, is.1, omega (arith, is.2), is.3, is.4)
 
   -- the step of a run, from where its task stands
-  goes_from : (s : StoreState D) (step : StepMade D) (a : Place) → s.inode_count ≡ n → IsAt s a →
-      LeavesTask s p step.before → Steps disk step.before p op step.answer step.after →
-      StepGoes step a n × IsAt step.before a × (step.after.inode_count ≡ n)
+  record GoesOn (step : StepMade D) (a : Place) : Type 0 where
+    pub goes : Goes disk a step.before p op step.answer step.after
+    pub here : IsAt step.before a
+    pub count : step.before.table.inode_count ≡ n
+    pub still : step.after.table.inode_count ≡ n
+
+  goes_from : (s : StoreState D) (step : StepMade D) (a : Place) → s.table.inode_count ≡ n →
+      IsAt s a → LeavesTask s p step.before → Steps disk step.before p op step.answer step.after →
+      GoesOn step a
   goes_from s step a count stands leaves steps =
       let here : IsAt step.before a = ap (λ (t : TaskState). t.place) leaves.own ∙ stands in
-      let still : step.before.inode_count ≡ n = leaves.numbers ∙ count in
-      let goes = subst (λ (b : Place). StepGoes step b step.before.inode_count) here steps.goes in
-      (subst (λ (k : ℕ). StepGoes step a k) still goes, here, steps.tasks.numbers ∙ still)
+      let same : step.before.table.inode_count ≡ n = leaves.numbers ∙ count in
+      record {
+        goes = subst (λ (b : Place). Goes disk b step.before p op step.answer step.after) here
+            steps.goes;
+        here = here;
+        count = same;
+        still = steps.tasks.numbers ∙ same;
+      }
+
+  -- of a search
+  search_goes : (step : StepMade D) (m : SearchState) → GoesOn step (place.Creating m) →
+      SearchGoes step m.slot m step.answer
+  search_goes step m on =
+      subst (λ (k : ℕ). GoesFrom m.slot k p m step.before.volume.buffers step.answer
+      (task step.after.tasks p).place (before step) (now step)) on.count on.goes.0
 
   -- a task that is over has no turn
-  no_turn : (steps : List (StepMade D)) (s : StoreState D) → s.inode_count ≡ n →
+  no_turn : (steps : List (StepMade D)) (s : StoreState D) → s.table.inode_count ≡ n →
       IsAt s place.Nowhere → IsRun disk p op s steps → EndsWith steps reply → ⊥
   no_turn [] s count stands run ends = ends
   no_turn (step ∷ []) s count stands run ends =
-      let goes = goes_from s step place.Nowhere count stands run.0 run.1 in
-      cc (sym goes.0.0 ∙ ends)
+      let on = goes_from s step place.Nowhere count stands run.0 run.1 in
+      cc (sym on.goes.0 ∙ ends)
   no_turn (step ∷ next ∷ rest) s count stands run ends =
-      let goes = goes_from s step place.Nowhere count stands run.0 run.1 in
-      no_turn (next ∷ rest) step.after goes.2 goes.0.1 run.2 ends
+      let on = goes_from s step place.Nowhere count stands run.0 run.1 in
+      let over = ap (λ (t : StoreState D). (task t.tasks p).place) on.goes.1 ∙ on.here in
+      no_turn (next ∷ rest) step.after on.still over run.2 ends
 
   -- the step of the turn
   seen_at_turn : (step : StepMade D) (m : SearchState) (slot : Option ℕ) → m.slot ≡ slot →
@@ -139,26 +155,26 @@ module _ {D N : Type 0} (disk : Ghosts D N) (p n j : ℕ) (op : Op) (o : Option 
 
   -- a run from a block that is not behind the number's
   seen_in_run : (steps : List (StepMade D)) (s : StoreState D) (m : SearchState) →
-      s.inode_count ≡ n → IsAt s (place.Creating m) → m.block ≤ inode_block j →
+      s.table.inode_count ≡ n → IsAt s (place.Creating m) → m.block ≤ inode_block j →
       IsRun disk p op s steps → EndsWith steps reply → Seen steps
   seen_in_run [] s m count stands ahead run ends = absurd ends
   seen_in_run (step ∷ []) s m count stands ahead run ends =
-      let goes = goes_from s step (place.Creating m) count stands run.0 run.1 in
-      seen_first step [] (seen_at_turn step m m.slot refl goes.1 ahead
-      (subst (λ (r : TaskProgress). SearchGoes step m.slot m r) ends goes.0))
+      let on = goes_from s step (place.Creating m) count stands run.0 run.1 in
+      seen_first step [] (seen_at_turn step m m.slot refl on.here ahead
+      (subst (λ (r : TaskProgress). SearchGoes step m.slot m r) ends (search_goes step m on)))
   seen_in_run (step ∷ next ∷ rest) s m count stands ahead run ends =
-      let goes = goes_from s step (place.Creating m) count stands run.0 run.1 in
-      seen_on step (next ∷ rest) m goes.1 ahead
-      (λ over. no_turn (next ∷ rest) step.after goes.2 over run.2 ends)
-      (λ k is low. seen_in_run (next ∷ rest) step.after k goes.2 is low run.2 ends)
-      m.slot step.answer refl goes.0
+      let on = goes_from s step (place.Creating m) count stands run.0 run.1 in
+      seen_on step (next ∷ rest) m on.here ahead
+      (λ over. no_turn (next ∷ rest) step.after on.still over run.2 ends)
+      (λ k is low. seen_in_run (next ∷ rest) step.after k on.still is low run.2 ends)
+      m.slot step.answer refl (search_goes step m on)
 
 -- the run of a search saw taken each number that it passed by
 seen_in_search : {D N : Type 0} (disk : Ghosts D N) (s : StoreState D) (p kind j : ℕ) (o : Option ℕ)
     (steps : List (StepMade D)) → IsSearchRun disk p kind s steps (reply_of o) →
-    IsTrue (is_number s.inode_count j) → IsPassedBy o j → WasSeenTaken disk.image p steps j
+    IsTrue (is_number s.table.inode_count j) → IsPassedBy o j → WasSeenTaken disk.image p steps j
 seen_in_search disk s p kind j o steps run number passed =
-    seen_in_run disk p s.inode_count j (Create kind) o number passed steps s _ refl run.begins
+    seen_in_run disk p s.table.inode_count j (Create kind) o number passed steps s _ refl run.begins
     (omega arith) run.runs run.ends
 
 pub no_inode_saw_all : {D N : Type 0} (disk : Ghosts D N) → NoInodeSawAll disk
@@ -178,14 +194,15 @@ steps_leave_others disk old new p q op r apart steps = record {
 pub commits_leave_all : {D N : Type 0} (disk : Ghosts D N) → CommitsLeaveAll disk
 commits_leave_all disk old new p r commits = record {
   own = ap (λ (ts : List TaskState). task ts p) commits.tasks;
-  numbers = commits.numbers;
+  numbers = ap (λ (t : TableState). t.inode_count) commits.table;
 }
 
 pub bounds_leave_others : {D : Type 0} (old : StoreState D) (p : ℕ) → BoundsLeaveOthers old p
 bounds_leave_others old p = (
   λ q op apart. record {
     own = get_or-set_other old.tasks q p
-        (record { op = Some op; place = first_place op old.inode_count }) no_task
+        (record { op = Some op; place = first_place op old.table.inode_count; gathered = None })
+        no_task
         (λ same. apart (sym same));
     numbers = refl;
   },

@@ -1,9 +1,13 @@
 -- The answers that are given tell what the journal does.
-use Rattle.std.proofs.Common.{◌≡◌, ℕ, zero, suc, ◌<◌, Bool, true, false, cond, ltb, List, [], ◌∷◌, length, refl, sym, ◌∙◌, ap, subst, arith, Option, Some, None}
+use Rattle.std.proofs.Common.{◌≡◌, ℕ, zero, suc, ◌<◌, ◌≤◌, Bool, true, false, cond, ltb, List, [], ◌∷◌, length, take, drop, refl, sym, ◌∙◌, ap, subst, arith, Option, Some, None}
 use Rattle.std.proofs.lemmas.Bool.{lt-ltb, false≢true}
 use Rattle.std.proofs.lemmas.List.Elements.{All-get_or}
 use Rattle.std.specs.Option.{option_map}
-use Rattle.std.specs.Prelude.{All, IsSome, is_some}
+use Rattle.std.specs.Prelude.{All, IsSome, IfSome, is_some}
+use Rattle.std.specs.Str.{bytes_eq}
+use Rattle.std.proofs.Math.Nat.{min-le_left}
+use Rattle.std.proofs.lemmas.List.{length-take}
+use Rattle.std.proofs.lemmas.Slice.Eq.{bytes_eq-Decides}
 use Rattle.model.specs.declared.types.image.File.{File}
 use Rattle.model.specs.declared.types.image.Form.{Form}
 use Rattle.model.specs.declared.types.operations.Answer.{Answer}
@@ -14,14 +18,15 @@ use Rattle.model.specs.declared.types.operations.Reply.{Reply}
 use Rattle.model.specs.declared.types.operations.Reply.TheVariants.{Made, NoInode, Wrote, Bytes, Done, StatOf, NoFile, BadOffset, TooBig, TooLong, BadType}
 use Rattle.model.specs.Files.{Files, file_in}
 use Rattle.model.specs.Journal.{answered, replay, after_answer, is_changing}
-use Rattle.model.specs.Operations.{where_true, is_refusal, refusal_of, after_at, after_done, after_refusal, after}
-use Rattle.model.specs.Lemmas.Runs.{and_then_some}
+use Rattle.model.specs.Gathered.{GatheredBytes}
+use Rattle.model.specs.Operations.{where_true, is_refusal, refusal_of, part_of, after_at, after_done, after_refusal, after}
+use Rattle.model.specs.Lemmas.Runs.{and_then_some, where_true_some}
 use Rattle.ports.specs.History.{History, gives}
 use Rattle.wal.specs.Machine.{IsLogAt}
 use Rattle.journal.specs.declared.types.At.{At}
 use Rattle.journal.specs.declared.types.At.TheVariants as at
-use Rattle.journal.specs.Histories.{entry_answer, pending_at, Owes, Owed, IsHistory}
-use Rattle.journal.specs.Journal.{entry_in, plain_reply, answer_with, answer_of}
+use Rattle.journal.specs.Histories.{pending_at, Owes, Owed, IsHistory}
+use Rattle.journal.specs.Journal.{entry_in, plain_reply, answer_with, answer_of, HasRoom, FitsRoom, IsItsRoom}
 use Rattle.journal.specs.Keeps.{HasItsGroup}
 use Rattle.journal.specs.Open.{IsEntry}
 use Rattle.journal.specs.Processes.{World, process, answer_in, last_answer}
@@ -29,24 +34,6 @@ use Rattle.journal.specs.Views.{View, HasEntry, StandsAt}
 use Rattle.journal.specs.Lemmas.Groups.{in_later}
 use Rattle.journal.specs.Lemmas.Histories.{history_answered}
 use Rattle.journal.specs.Lemmas.Lists.{entry_next}
-
--- a reply that can be given once more is the entry's
-pub answer_told : (e : Entry) (a : Answer) → answer_of e ≡ Some a → entry_answer e ≡ Some a
-answer_told e a is = by_reply e.reply is
-  where
-    by_reply : (o : Option Reply) → option_map (answer_with e) (plain_reply o) ≡ Some a → option_map (λ (r : Reply). record { seq = e.seq; reply = r; group = e.group }) o ≡ Some a
-    by_reply None is = is
-    by_reply (Some (Made i)) is = is
-    by_reply (Some NoInode) is = is
-    by_reply (Some (Wrote k)) is = is
-    by_reply (Some (Bytes bytes)) is = absurd (cc is)
-    by_reply (Some Done) is = is
-    by_reply (Some (StatOf kind size)) is = is
-    by_reply (Some NoFile) is = is
-    by_reply (Some BadOffset) is = is
-    by_reply (Some TooBig) is = is
-    by_reply (Some TooLong) is = is
-    by_reply (Some BadType) is = is
 
 -- an entry within the list is the same, whatever stands behind the last
 pub entry_inside : (es : List Entry) (k : ℕ) (e : Entry) → IsEntry es k e → entry_in es k ≡ e
@@ -64,7 +51,7 @@ owed_given : (w : World) (p k begun : ℕ) (a : At) (answer : Answer) (h : Histo
     → IsHistory w.journal.list a begun p h → IsHistory w.journal.list at.Idle begun p (gives answer h)
 owed_given w p k begun a answer h shape none tells is =
     let o : Owes p k w.journal.list is.answered = subst (λ (P : List Entry → Type 0). P is.answered) shape is.owed in
-    history_answered w.journal.list k begun p a o.entry answer h shape none o.at (answer_told o.entry answer (sym (answer_inside w.journal.list k o.entry o.at) ∙ tells)) is
+    history_answered w.journal.list k begun p a o.entry answer h shape none o.at (sym (answer_inside w.journal.list k o.entry o.at) ∙ tells) is
 
 -- who is given the last answer owes none any more
 pub history_given : (w : World) (p begun : ℕ) (a : At) (answer : Answer) (h : History) → last_answer w a ≡ Some answer → IsHistory w.journal.list a begun p h → IsHistory w.journal.list at.Idle begun p (gives answer h)
@@ -125,19 +112,59 @@ no_bytes form m op bytes not = by_refusal (refusal_of form m op)
     by_refusal None = no_bytes_done m op bytes not
     by_refusal (Some refusal) = ap (λ (b : Bool). where_true b m) (no_bytes_refused refusal bytes)
 
--- the reply of what reads nothing can be given once more
-pub plain_after : (form : Form) (m new : Files) (op : Op) (r : Reply) → is_read op ≡ false → after form m op r ≡ Some new → plain_reply (Some r) ≡ Some r
-plain_after form m new op (Made i) not h = refl
-plain_after form m new op NoInode not h = refl
-plain_after form m new op (Wrote k) not h = refl
-plain_after form m new op (Bytes bytes) not h = let none = sym (no_bytes form m op bytes not) ∙ h in absurd (cc none)
-plain_after form m new op Done not h = refl
-plain_after form m new op (StatOf kind size) not h = refl
-plain_after form m new op NoFile not h = refl
-plain_after form m new op BadOffset not h = refl
-plain_after form m new op TooBig not h = refl
-plain_after form m new op TooLong not h = refl
-plain_after form m new op BadType not h = refl
+-- a read is answered with as many bytes as it asks for at most
+bytes_few : (form : Form) (m new : Files) (i off n : ℕ) (bytes : List ℕ) → after form m (Read i off n) (Bytes bytes) ≡ Some new → length bytes ≤ n
+unfolding after
+bytes_few form m new i off n bytes h = by_refusal (refusal_of form m (Read i off n)) h
+  where
+    by_file : (o : Option File) → after_at m i o (Read i off n) (Bytes bytes) ≡ Some new → length bytes ≤ n
+    by_file None h = absurd (cc h)
+    by_file (Some file) h =
+        let part : bytes ≡ take n (drop off file.bytes) = (bytes_eq-Decides bytes (part_of file.bytes off n)).0 (where_true_some (bytes_eq bytes (part_of file.bytes off n)) m new h).0 in
+        let size = ap (λ (l : List ℕ). length l) part ∙ length-take n (drop off file.bytes) in
+        let least = min-le_left n (length (drop off file.bytes)) in
+        omega (arith, size, least)
+
+    by_refusal : (o : Option Reply) → after_refusal o m (Read i off n) (Bytes bytes) ≡ Some new → length bytes ≤ n
+    by_refusal None h = by_file (file_in m i) h
+    by_refusal (Some refusal) h = let no = ap (λ (b : Bool). where_true b m) (sym (no_bytes_refused refusal bytes)) ∙ h in absurd (cc no)
+
+-- a reply without bytes needs no room
+pub plain_fits : (room : Option GatheredBytes) (r : Reply) → plain_reply (Some r) ≡ Some r → FitsRoom room r
+plain_fits room (Made i) plain = tt
+plain_fits room NoInode plain = tt
+plain_fits room (Wrote k) plain = tt
+plain_fits room (Bytes bytes) plain = absurd (cc plain)
+plain_fits room Done plain = tt
+plain_fits room (StatOf kind size) plain = tt
+plain_fits room NoFile plain = tt
+plain_fits room BadOffset plain = tt
+plain_fits room TooBig plain = tt
+plain_fits room TooLong plain = tt
+plain_fits room BadType plain = tt
+
+-- an operation's bytes fit its room
+bytes_fit : (form : Form) (m new : Files) (op : Op) (bytes : List ℕ) (room : Option GatheredBytes) → IsItsRoom (Some op) room → after form m op (Bytes bytes) ≡ Some new → HasRoom room bytes
+bytes_fit form m new (Create kind) bytes room its h = let no = sym (no_bytes form m (Create kind) bytes refl) ∙ h in absurd (cc no)
+bytes_fit form m new (Write i off others) bytes room its h = let no = sym (no_bytes form m (Write i off others) bytes refl) ∙ h in absurd (cc no)
+bytes_fit form m new (Read i off n) bytes room its h = subst (λ (o : Option GatheredBytes). HasRoom o bytes) (sym its) (refl, bytes_few form m new i off n bytes h)
+bytes_fit form m new (Trunc i) bytes room its h = let no = sym (no_bytes form m (Trunc i) bytes refl) ∙ h in absurd (cc no)
+bytes_fit form m new (Remove i) bytes room its h = let no = sym (no_bytes form m (Remove i) bytes refl) ∙ h in absurd (cc no)
+bytes_fit form m new (Stat i) bytes room its h = let no = sym (no_bytes form m (Stat i) bytes refl) ∙ h in absurd (cc no)
+
+-- so does its reply
+pub fits_after : (form : Form) (m new : Files) (op : Op) (r : Reply) (room : Option GatheredBytes) → IsItsRoom (Some op) room → after form m op r ≡ Some new → FitsRoom room r
+fits_after form m new op (Made i) room its h = tt
+fits_after form m new op NoInode room its h = tt
+fits_after form m new op (Wrote k) room its h = tt
+fits_after form m new op (Bytes bytes) room its h = bytes_fit form m new op bytes room its h
+fits_after form m new op Done room its h = tt
+fits_after form m new op (StatOf kind size) room its h = tt
+fits_after form m new op NoFile room its h = tt
+fits_after form m new op BadOffset room its h = tt
+fits_after form m new op TooBig room its h = tt
+fits_after form m new op TooLong room its h = tt
+fits_after form m new op BadType room its h = tt
 
 -- a run's first entry, and what comes behind it
 record Starts (form : Form) (start files : Files) (d : Entry) (es : List Entry) : Type 0 where
@@ -159,29 +186,24 @@ starts form start files d es run = by_reply d.reply refl
         let goes = and_then_some (after_answer form start d.op d.reply) (λ f. replay form f (answered es)) files (sym (ap (λ (o : Option Reply). replay form start (cond (is_some o) (d ∷ answered es) (answered es))) is) ∙ run) in
         record { next = goes.0; rest = goes.2; first = λ r told. ap (after_answer form start d.op) (sym told) ∙ goes.1 }
 
--- the reply of each entry of a run that reads nothing can be given once more
-pub plain_of_run : (form : Form) (start files : Files) (es : List Entry) (k : ℕ) (e : Entry) (r : Reply) → replay form start (answered es) ≡ Some files → IsEntry es k e → e.reply ≡ Some r → is_read e.op ≡ false → plain_reply (Some r) ≡ Some r
-plain_of_run form start files [] k e r run at told not = let lt = at.inside in absurd (omega (arith, lt))
-plain_of_run form start files (d ∷ es) zero e r run at told not =
+-- the reply of each entry of a run fits its operation's room
+pub fits_of_run : (form : Form) (start files : Files) (es : List Entry) (k : ℕ) (e : Entry) (r : Reply) (room : Option GatheredBytes) → replay form start (answered es) ≡ Some files → IsEntry es k e → e.reply ≡ Some r → IsItsRoom (Some e.op) room → FitsRoom room r
+fits_of_run form start files [] k e r room run at told its = let lt = at.inside in absurd (omega (arith, lt))
+fits_of_run form start files (d ∷ es) zero e r room run at told its =
     let s = starts form start files d es run in
-    plain_after form start s.next e.op r not (ap (λ (f : Entry). after form start f.op r) (sym at.is) ∙ s.first r (ap (λ (f : Entry). f.reply) at.is ∙ told))
-plain_of_run form start files (d ∷ es) (suc k) e r run at told not =
+    fits_after form start s.next e.op r room its (ap (λ (f : Entry). after form start f.op r) (sym at.is) ∙ s.first r (ap (λ (f : Entry). f.reply) at.is ∙ told))
+fits_of_run form start files (d ∷ es) (suc k) e r room run at told its =
     let s = starts form start files d es run in
-    plain_of_run form s.next files es k e r s.rest (entry_next d es k e at) told not
+    fits_of_run form s.next files es k e r room s.rest (entry_next d es k e at) told its
 
--- what may change a file reads nothing
-changing_reads_none : (n : ℕ) (op : Op) → is_changing n op ≡ true → is_read op ≡ false
-changing_reads_none n (Create kind) is = refl
-changing_reads_none n (Write i off bytes) is = refl
-changing_reads_none n (Read i off k) is = absurd (false≢true is)
-changing_reads_none n (Trunc i) is = refl
-changing_reads_none n (Remove i) is = refl
-changing_reads_none n (Stat i) is = refl
-
--- so it is with an operation that may change a file
-pub plain_of_replayed : (n : ℕ) (form : Form) (start files : Files) (es : List Entry) (k : ℕ) (e : Entry) (r : Reply) → replay form start (answered es) ≡ Some files → IsEntry es k e → e.reply ≡ Some r → is_changing n e.op ≡ true
-    → plain_reply (Some r) ≡ Some r
-plain_of_replayed n form start files es k e r run at told is = plain_of_run form start files es k e r run at told (changing_reads_none n e.op is)
+-- what may change a file needs no room
+pub change_fits : (n : ℕ) (op : Op) (room : Option GatheredBytes) → is_changing n op ≡ true → IsItsRoom (Some op) room
+change_fits n (Create kind) room is = tt
+change_fits n (Write i off bytes) room is = tt
+change_fits n (Read i off k) room is = absurd (false≢true is)
+change_fits n (Trunc i) room is = tt
+change_fits n (Remove i) room is = tt
+change_fits n (Stat i) room is = tt
 
 -- an entry of a group is of a changing operation
 pub changing_in_group : (n group k : ℕ) (es : List Entry) (e : Entry) → All (HasItsGroup n) es → IsEntry es k e → e.group ≡ group → 0 < group → is_changing n e.op ≡ true
@@ -189,10 +211,20 @@ changing_in_group n group k es e all at same some =
     let mine : HasItsGroup n e = subst (HasItsGroup n) at.is (All-get_or (HasItsGroup n) es k e at.inside all) in
     sym mine ∙ ap (ltb 0) same ∙ lt-ltb 0 group some
 
--- an entry that has its reply has its answer there, where the reply can be given once more
-pub answer_there : (es : List Entry) (k : ℕ) (e : Entry) (r : Reply) → IsEntry es k e → e.reply ≡ Some r → plain_reply (Some r) ≡ Some r → IsSome (answer_in es k)
-answer_there es k e r at told plain =
-    ap (λ (o : Option Answer). is_some o) (answer_inside es k e at ∙ ap (λ (o : Option Reply). option_map (answer_with e) (plain_reply o)) told ∙ ap (λ (o : Option Reply). option_map (answer_with e) o) plain)
+-- the answer at a place is there, and fits the room
+abbrev pub CanAnswer : Option Answer → Option GatheredBytes → Type 0
+CanAnswer o room = IsSome o × IfSome o (λ (a : Answer). FitsRoom room a.reply)
+
+-- an entry that has its reply can be answered
+pub answer_there : (form : Form) (start files : Files) (es : List Entry) (k : ℕ) (e : Entry) (room : Option GatheredBytes) → replay form start (answered es) ≡ Some files → IsEntry es k e → IsSome e.reply → IsItsRoom (Some e.op) room
+    → CanAnswer (answer_in es k) room
+answer_there form start files es k e room run at some its = by_reply e.reply refl some
+  where
+    by_reply : (o : Option Reply) → e.reply ≡ o → IsSome o → CanAnswer (answer_in es k) room
+    by_reply None is some = absurd (false≢true some)
+    by_reply (Some r) is some =
+        let there : answer_in es k ≡ Some (answer_with e r) = answer_inside es k e at ∙ ap (λ (o : Option Reply). option_map (answer_with e) o) is in
+        subst (λ (o : Option Answer). CanAnswer o room) (sym there) (refl, fits_of_run form start files es k e r room run at is its)
 
 -- an operation that ends next is open in the log, so its group has a number
 pub group_there : (n p group k : ℕ) (s : View) (es : List Entry) → IsLogAt s.log.commit s.log → StandsAt n s es p (at.Ending group k) → 0 < group
@@ -201,21 +233,17 @@ group_there n p group k s es log stands = let low = in_later s.log p group log s
 -- who is at an end, or commits, can be answered
 module _ (n : ℕ) (s : View) (form : Form) (start files : Files) (w : World) (p group k : ℕ) (run : replay form start (answered w.journal.list) ≡ Some files) (all : All (HasItsGroup n) w.journal.list) where
   -- the entry of a group's operation has its answer there
-  told_there : (e : Entry) → HasEntry w.journal.list p k group e → IsSome e.reply → 0 < group → IsSome (answer_in w.journal.list k)
-  told_there e has some later = by_reply e.reply refl some
-    where
-      by_reply : (o : Option Reply) → e.reply ≡ o → IsSome o → IsSome (answer_in w.journal.list k)
-      by_reply None is some = absurd (false≢true some)
-      by_reply (Some r) is some = answer_there w.journal.list k e r has.at is
-          (plain_of_replayed n form start files w.journal.list k e r run has.at is (changing_in_group n group k w.journal.list e all has.at has.same later))
+  told_there : (e : Entry) → HasEntry w.journal.list p k group e → IsSome e.reply → 0 < group → CanAnswer (answer_in w.journal.list k) (process w p).room
+  told_there e has some later = answer_there form start files w.journal.list k e (process w p).room run has.at some
+      (change_fits n e.op (process w p).room (changing_in_group n group k w.journal.list e all has.at has.same later))
 
-  pub answer_at_end : (process w p).at ≡ at.Ending group k → IsLogAt s.log.commit s.log → StandsAt n s w.journal.list p (process w p).at → IsSome (last_answer w (process w p).at)
+  pub answer_at_end : (process w p).at ≡ at.Ending group k → IsLogAt s.log.commit s.log → StandsAt n s w.journal.list p (process w p).at → CanAnswer (last_answer w (process w p).at) (process w p).room
   answer_at_end stands log is =
       let mine : StandsAt n s w.journal.list p (at.Ending group k) = subst (λ (a : At). StandsAt n s w.journal.list p a) stands is in
-      subst (λ (a : At). IsSome (last_answer w a)) (sym stands) (told_there mine.2.0 mine.2.1 mine.2.2 (group_there n p group k s w.journal.list log mine))
+      subst (λ (a : At). CanAnswer (last_answer w a) (process w p).room) (sym stands) (told_there mine.2.0 mine.2.1 mine.2.2 (group_there n p group k s w.journal.list log mine))
 
   -- behind its end the log doesn't say that its group has a number
-  pub answer_at_commit : (process w p).at ≡ at.Committing group k → 0 < group → StandsAt n s w.journal.list p (process w p).at → IsSome (last_answer w (process w p).at)
+  pub answer_at_commit : (process w p).at ≡ at.Committing group k → 0 < group → StandsAt n s w.journal.list p (process w p).at → CanAnswer (last_answer w (process w p).at) (process w p).room
   answer_at_commit stands later is =
       let mine : StandsAt n s w.journal.list p (at.Committing group k) = subst (λ (a : At). StandsAt n s w.journal.list p a) stands is in
-      subst (λ (a : At). IsSome (last_answer w a)) (sym stands) (told_there mine.2.0 mine.2.1 mine.2.2 later)
+      subst (λ (a : At). CanAnswer (last_answer w a) (process w p).room) (sym stands) (told_there mine.2.0 mine.2.1 mine.2.2 later)

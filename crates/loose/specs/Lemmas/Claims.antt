@@ -28,13 +28,13 @@ use Rattle.loose.specs.Loose.{AreFull, IsLoose, IsFit, IsAtRest, Fits}
 use Rattle.loose.specs.Lemmas.Frames.{AgreesAtData, agrees_for, rest_alike, addresses_alike, SameSuperAndMap, super_same, geometry_same, marks_same, loose_same, places_same}
 
 -- where a number's inode block lies
-record IsApart (x : Image) (i : ℕ) : Type 0 where
-  behind : 33 ≤ inode_block i
-  before_data : inode_block i < first_data_block x
-  before_map : inode_block i < (super_of x).bmapstart
-  within : inode_block i < length x
+pub record IsApart (x : Image) (i : ℕ) : Type 0 where
+  pub behind : 33 ≤ inode_block i
+  pub before_data : inode_block i < first_data_block x
+  pub before_map : inode_block i < (super_of x).bmapstart
+  pub within : inode_block i < length x
 
-apart : (x : Image) (i : ℕ) → IsLawfulGeometry x → i < inode_count_of x → IsApart x i
+pub apart : (x : Image) (i : ℕ) → IsLawfulGeometry x → i < inode_count_of x → IsApart x i
 apart x i g below =
     let f = facts_of x g in
     let room = f.room in
@@ -122,7 +122,7 @@ claims x i kind geometry number small full =
 -- ---- an image that stands for files
 
 -- zeroes lead to no block
-no_names : (x : Image) (form : Form) → names_along x (depths form) (replicate 13 0) ≡ []
+pub no_names : (x : Image) (form : Form) → names_along x (depths form) (replicate 13 0) ≡ []
 no_names x One = refl
 no_names x Two = refl
 

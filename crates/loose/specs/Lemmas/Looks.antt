@@ -12,10 +12,13 @@ use Rattle.model.specs.Fields.{words_of}
 use Rattle.model.specs.Layout.{reach, depths, form_of, inode_of, inode_count_of, first_data_block}
 use Rattle.model.specs.Operations.{after, part_of, transfer_limit}
 use Rattle.model.specs.Places.{pointers_under, pointers_behind, pointers_along, pointers_of, addresses_in, address_in}
+use Rattle.model.specs.Soundness.{count_of}
+use Rattle.model.specs.declared.types.operations.Op.TheVariants.{Read, Stat}
+use Rattle.model.specs.declared.types.operations.Reply.TheVariants.{Bytes, StatOf}
 use Rattle.model.specs.Lemmas.Frames.{all_pass-append, along_address, pointers_used}
 use Rattle.model.specs.Lemmas.Log.{both_of}
-use Rattle.loose.specs.Looks.{IsUsed, IsUnused, HasItsFile, UsedIsFit, UsedHasBlocks, StatTells, ReadTells, NoFileTells}
-use Rattle.loose.specs.Loose.{LiesInData, IsFit, Fits}
+use Rattle.loose.specs.Looks.{IsUsed, IsUnused, HasItsFile, HasDataBlocks, AnswersNoFile, UsedIsFit, UsedHasBlocks, StatTells, ReadTells, NoFileTells}
+use Rattle.loose.specs.Loose.{AreFull, LiesInData, IsFit, IsAtRest, Fits}
 use Rattle.loose.specs.Lemmas.Claims.{free_file}
 use Rattle.loose.specs.Lemmas.Frames.{list_all-counted, named_in_data}
 use Rattle.loose.specs.Lemmas.Wholes.{thirteen_depths}
@@ -94,17 +97,32 @@ lies x b h =
     let both = both_of (leb (first_data_block x) b) (ltb b (length x)) h in
     (leb-true (first_data_block x) b both.0, ltb-true b (length x) both.1)
 
-record IsBetween (x : Image) (i : ℕ) : Type 0 where
-  low : 1 ≤ i
-  high : i < inode_count_of x
+pub record IsBetween (x : Image) (i : ℕ) : Type 0 where
+  pub low : 1 ≤ i
+  pub high : i < inode_count_of x
 
-between : (x : Image) (i : ℕ) → (ltb 0 i && ltb i (inode_count_of x)) ≡ true → IsBetween x i
+pub between : (x : Image) (i : ℕ) → (ltb 0 i && ltb i (inode_count_of x)) ≡ true → IsBetween x i
 between x i h =
     let both = both_of (ltb 0 i) (ltb i (inode_count_of x)) h in
     let some = ltb-true 0 i both.0 in
     record { low = omega arith; high = ltb-true i (inode_count_of x) both.1 }
 
-module _ (m : Files) (x : Image) (i : ℕ) (f : Fits m x) (used : IsUsed x i) where
+-- the number is at rest, and what it names lies among the data
+pub record RestsIn (m : Files) (x : Image) (i : ℕ) : Type 0 where
+  pub full : AreFull x
+  pub rest : IsAtRest x i (file_in m i)
+  pub in_data : (b : ℕ) → 1 ≤ count_of b (addresses_in (pointers_of x i)) → LiesInData x b
+
+pub rests_in : (m : Files) (x : Image) (i : ℕ) → Fits m x → IsUsed x i → RestsIn m x i
+rests_in m x i f used =
+    let at = between x i used.0 in
+    record {
+      full = f.full;
+      rest = f.each i at.low at.high;
+      in_data = λ b some. named_in_data m x i b f at.low at.high some;
+    }
+
+module _ (m : Files) (x : Image) (i : ℕ) (f : RestsIn m x i) (used : IsUsed x i) where
   abbrev d : Dinode
   d = inode_of x i
 
@@ -112,14 +130,14 @@ module _ (m : Files) (x : Image) (i : ℕ) (f : Fits m x) (used : IsUsed x i) wh
   at_place = between x i used.0
 
   own_fit : IsFit x d
-  own_fit = (f.each i at_place.low at_place.high).fit used.1
+  own_fit = f.rest.fit used.1
 
   all_in_data : all_pass (is_in_data x) (pointers_along x d.size 0 (depths (form_of x)) d.addrs) ≡ true
   all_in_data =
       rw (pointers_used x d used.1) at
       (list_all-counted (is_in_data x) (addresses_in (pointers_of x i))
       (λ b some.
-      let there = named_in_data m x i b f at_place.low at_place.high some in
+      let there = f.in_data b some in
       rw (le-leb (first_data_block x) b there.0, lt-ltb b (length x) there.1) refl))
 
   needed_in_data : (k : ℕ) → k * 1024 < d.size → LiesInData x (address_in x d k)
@@ -147,35 +165,51 @@ module _ (m : Files) (x : Image) (i : ℕ) (f : Fits m x) (used : IsUsed x i) wh
       let low = at_place.low in
       rw (ne_eqb i 0 (λ e. omega (arith, low, e)), ne_eqb d.kind 0 used.1) refl
 
-  its_file : HasItsFile m x i
+  pub its_file : HasItsFile m x i
   its_file = record {
     fit = own_fit;
-    file = sym (f.each i at_place.low at_place.high).same ∙ own_file;
+    file = sym f.rest.same ∙ own_file;
     length = length-bytes_in x d full_blocks;
   }
 
+  pub its_blocks : HasDataBlocks x d
+  its_blocks = record { needed = needed_in_data; named = named }
+
+  pub stat_told : after (form_of x) m (Stat i) (StatOf d.kind d.size) ≡ Some m
+  unfolding after
+  stat_told =
+      let its = its_file in
+      rw (its.file, its.file, eq-eqb d.kind d.kind refl, eq-eqb d.size (length (bytes_in x d)) (sym its.length)) refl
+
+  pub read_told : (off n : ℕ) → n ≤ transfer_limit →
+      after (form_of x) m (Read i off n) (Bytes (part_of (bytes_in x d) off n)) ≡ Some m
+  unfolding after
+  read_told off n few =
+      let part = part_of (bytes_in x d) off n in
+      let its = its_file in
+      rw (le-ltb transfer_limit n few, its.file, its.file, (bytes_eq-Decides part part).1 refl) refl
+
 pub used_is_fit : UsedIsFit
-used_is_fit m x i f used = its_file m x i f used
+used_is_fit m x i f used = its_file m x i (rests_in m x i f used) used
 
 pub used_has_blocks : UsedHasBlocks
-used_has_blocks m x i f used = record {
-  needed = needed_in_data m x i f used;
-  named = named m x i f used;
-}
+used_has_blocks m x i f used = its_blocks m x i (rests_in m x i f used) used
 
 pub stat_tells : StatTells
-unfolding after
-stat_tells m x i f used =
-    let d = inode_of x i in
-    let its = its_file m x i f used in
-    rw (its.file, its.file, eq-eqb d.kind d.kind refl, eq-eqb d.size (length (bytes_in x d)) (sym its.length)) refl
+stat_tells m x i f used = stat_told m x i (rests_in m x i f used) used
 
 pub read_tells : ReadTells
+read_tells m x i off n f used few = read_told m x i (rests_in m x i f used) used off n few
+
+pub none_told : (m : Files) (x : Image) (i : ℕ) → file_in m i ≡ None → AnswersNoFile (form_of x) m i
 unfolding after
-read_tells m x i off n f used few =
-    let part = part_of (bytes_in x (inode_of x i)) off n in
-    let its = its_file m x i f used in
-    rw (le-ltb transfer_limit n few, its.file, its.file, (bytes_eq-Decides part part).1 refl) refl
+none_told m x i none = record {
+  write = λ off bytes few. rw (le-ltb transfer_limit (length bytes) few, none) refl;
+  read = λ off n few. rw (le-ltb transfer_limit n few, none) refl;
+  trunc = rw none refl;
+  remove = rw none refl;
+  stat = rw none refl;
+}
 
 no_file : (m : Files) (x : Image) (i : ℕ) → Fits m x → IsUnused x i → file_in m i ≡ None
 no_file m x i f free =
@@ -184,13 +218,4 @@ no_file m x i f free =
     sym (f.each i low there.high).same ∙ free_file x i (omega arith) free.1
 
 pub no_file_tells : NoFileTells
-unfolding after
-no_file_tells m x i f free =
-    let none = no_file m x i f free in
-    record {
-      write = λ off bytes few. rw (le-ltb transfer_limit (length bytes) few, none) refl;
-      read = λ off n few. rw (le-ltb transfer_limit n few, none) refl;
-      trunc = rw none refl;
-      remove = rw none refl;
-      stat = rw none refl;
-    }
+no_file_tells m x i f free = none_told m x i (no_file m x i f free)

@@ -15,7 +15,7 @@ use Rattle.loose.specs.Loose.{IsLoose, Fits}
 use Rattle.loose.specs.Lemmas.Frames.{AgreesAtData, agrees_for, rest_alike, addresses_alike, SameSuperAndMap, super_same, geometry_same, loose_same, places_same}
 use Rattle.loose.specs.Lemmas.Soundly.{sound_quiet}
 
-inode_outside : (x y : Image) (i : ℕ) → Agrees is_outside_log x y → inode_of y i ≡ inode_of x i
+pub inode_outside : (x y : Image) (i : ℕ) → Agrees is_outside_log x y → inode_of y i ≡ inode_of x i
 unfolding inode_of
 inode_outside x y i agree =
     ap (λ block. inode_in (inode_bytes_in block i)) (agree (inode_block i) (behind_log (inode_block i) (omega arith)))
@@ -29,7 +29,7 @@ base_outside m x y same f =
       map = same.agree (super_of x).bmapstart (behind_log (super_of x).bmapstart (omega arith));
     }
 
-data_outside : (x y : Image) → Agrees is_outside_log x y → AgreesAtData is_outside_log x y
+pub data_outside : (x y : Image) → Agrees is_outside_log x y → AgreesAtData is_outside_log x y
 data_outside x y agree = record {
   agree = agree;
   one = refl;

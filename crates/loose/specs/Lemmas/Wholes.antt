@@ -22,7 +22,7 @@ reach_pos : (depth : ℕ) → 0 < reach depth
 reach_pos zero = omega arith
 reach_pos (suc depth) = let p = reach_pos depth in let e = pow-suc 256 depth in omega arith
 
-names_used : (x : Image) (d : Dinode) → d.kind ≢ 0 → names_of x d ≡ names_along x (depths (form_of x)) d.addrs
+pub names_used : (x : Image) (d : Dinode) → d.kind ≢ 0 → names_of x d ≡ names_along x (depths (form_of x)) d.addrs
 unfolding names_of
 names_used x d used = rw (ne_eqb d.kind 0 used) refl
 

@@ -1,6 +1,6 @@
 -- What was printed where a replay was refused.
 use Rattle.player.specs.declared.refusal.Refusal.{Refusal}
-use Rattle.player.specs.declared.refusal.Refusal.TheVariants.{File, Mkfs, Check, Recover, Open, Script, Schedule, Disk, Input, Output}
+use Rattle.player.specs.declared.refusal.Refusal.TheVariants.{File, Mkfs, Check, Recover, Open, Script, Schedule, Disk, Cat, Input, Output}
 use Rattle.player.specs.Refusal.{OnRefusal}
 
 pub on_refusal : (r : Refusal) (P Q R S : Type 0) → (P → Q) → (R → S) →
@@ -14,4 +14,5 @@ on_refusal (Recover _) P Q R S f k h = k h
 on_refusal (Open _) P Q R S f k h = k h
 on_refusal (Script _) P Q R S f k h = k h
 on_refusal (Schedule _) P Q R S f k h = k h
+on_refusal (Cat _) P Q R S f k h = k h
 on_refusal (Input _) P Q R S f k h = k h

@@ -1,13 +1,13 @@
-use Rattle.std.proofs.Common.{codes, rules}
+use Rattle.std.proofs.Common.{codes}
 use Rattle.std.proofs.lemmas.Result.{IfOk-weaker}
-use Rattle.xvfs.specs.CommandLine.{HasApp, bare_app, image_app, mkfs_app, replay_app}
+use Rattle.xvfs.specs.CommandLine.{cat_app, image_app, mkfs_app, replay_app}
 use Rattle.xvfs.proofs.CommandLines.{one_command}
 use Rattle.xvfs.proofs.words.program.Goals as goal
 
 pub returns : goal.returns
 returns c =
-    let start : HasApp bare_app c.subcommand_required.result = search rules in
-    let one = one_command _ mkfs_app c.subcommand_required.result c.in_ok-mkfs_words.field-0 c.in_ok-subcommand.field-0 start c.in_ok-mkfs_words.ensures c.in_ok-subcommand.ensures in
+    let one = one_command _ mkfs_app c.in_ok-bare_program.field-0 c.in_ok-mkfs_words.field-0 c.in_ok-subcommand.field-0 c.in_ok-bare_program.ensures c.in_ok-mkfs_words.ensures c.in_ok-subcommand.ensures in
     let two = one_command _ (image_app (codes "check")) c.in_ok-subcommand.field-0 c.in_ok-check_words.field-0 c.in_ok-subcommand-2.field-0 one c.in_ok-check_words.ensures c.in_ok-subcommand-2.ensures in
     let three = one_command _ (image_app (codes "recover")) c.in_ok-subcommand-2.field-0 c.in_ok-recover_words.field-0 c.in_ok-subcommand-3.field-0 two c.in_ok-recover_words.ensures c.in_ok-subcommand-3.ensures in
-    IfOk-weaker c.subcommand-4.result _ _ (λ r adds. one_command _ replay_app c.in_ok-subcommand-3.field-0 c.in_ok-replay_words.field-0 r three c.in_ok-replay_words.ensures adds) c.subcommand-4.ensures
+    let four = one_command _ cat_app c.in_ok-subcommand-3.field-0 c.in_ok-cat_words.field-0 c.in_ok-subcommand-4.field-0 three c.in_ok-cat_words.ensures c.in_ok-subcommand-4.ensures in
+    IfOk-weaker c.subcommand-5.result _ _ (λ r adds. one_command _ replay_app c.in_ok-subcommand-4.field-0 c.in_ok-replay_words.field-0 r four c.in_ok-replay_words.ensures adds) c.subcommand-5.ensures

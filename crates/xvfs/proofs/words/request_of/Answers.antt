@@ -21,6 +21,12 @@ returns-in-recover c =
     asked _ _ c.in_ok-name.name.now (rows_of found) _ c.in_ok-name.ensures.name c.in_ok-name.ensures.rows
     (search rules, value_read found (codes "IMAGE") _ c.in_ok-image.ensures)
 
+pub returns-in_ok-get_one-in-cat : goal.returns-in_ok-get_one-in-cat
+returns-in_ok-get_one-in-cat c =
+    let found = found_of c.in_ok-name.values.now in
+    asked _ _ c.in_ok-name.name.now (rows_of found) _ c.in_ok-name.ensures.name c.in_ok-name.ensures.rows
+    (search rules, value_read found (codes "IMAGE") _ c.in_ok-image.ensures)
+
 pub returns-in_ok-get_str-in-replay-2 : goal.returns-in_ok-get_str-in-replay-2
 returns-in_ok-get_str-in-replay-2 c =
     let found = found_of c.in_ok-name.values.now in

@@ -1,4 +1,4 @@
-use Rattle.std.proofs.Common.{rules, ◌≡◌, ◌<◌, length, length-set, sym, ◌∙◌, ap, subst, arith, List}
+use Rattle.std.proofs.Common.{rules, ℕ, ◌≡◌, ◌<◌, length, length-set, sym, ◌∙◌, ap, subst, arith, List}
 use Rattle.std.specs.Prelude.{IfNone, None, Some, slice_set}
 use Rattle.model.specs.Layout.{inode_count_of}
 use Rattle.model.specs.Soundness.{IsLawfulGeometry}
@@ -6,9 +6,11 @@ use Rattle.loose.specs.Loose.{Fits}
 use Rattle.wal.specs.Machine.{begun}
 use Rattle.wal.specs.Volume.{VolumeState}
 use Rattle.inodes.specs.declared.tasks.Place.{Place}
+use Rattle.inodes.specs.Looks.{AreLooking}
 use Rattle.inodes.specs.Tasks.{TaskState}
 use Rattle.inodes.specs.Store.{StoreState, FitsFiles, Agrees, current_of, first_place}
 use Rattle.inodes.specs.Lemmas.Faults.{where_none, if_none}
+use Rattle.inodes.proofs.LooksKept.{looks_begun}
 use Rattle.inodes.proofs.StoreKeeps.{agrees_begun}
 use Rattle.inodes.proofs.store.Store.begin.Goals as goal
 
@@ -16,12 +18,13 @@ pub invariant_of-self : goal.invariant_of-self
 invariant_of-self g c =
     let image = g.D.Disk.image in
     let old = c.self.inside.volume in
-    let n = c.self.inside.inode_count in
+    let n = c.self.inside.inodes.inode_count in
     let well : old.fault ≡ None = search rules in
     let joint = where_none old.fault well c.known.ensures in
     let lt : c.args.pid < length c.self.inside.tasks = search rules in
-    let tasks : c.begin.new.self ≡ slice_set c.self.inside.tasks c.args.pid (record { op = Some c.args.op.now; place = first_place c.args.op.now n }) =
-    c.begin.ensures ∙ ap (λ (a : Place). slice_set c.self.inside.tasks c.args.pid (record { op = Some c.args.op.now; place = a })) c.first_place-place.ensures in
+    let tasks : c.begin.new.self ≡ slice_set c.self.inside.tasks c.args.pid (record { op = Some c.args.op.now; place = first_place c.args.op.now n; gathered = None }) =
+    c.begin.ensures ∙ ap (λ (a : Place). slice_set c.self.inside.tasks c.args.pid (record { op = Some c.args.op.now; place = a; gathered = None })) c.first_place-place.ensures
+    ∙ ap (λ (m : ℕ). slice_set c.self.inside.tasks c.args.pid (record { op = Some c.args.op.now; place = first_place c.args.op.now m; gathered = None })) c.inode_count.ensures in
     let volume = c.open_group.ensures.volume in
     record {
       few = let size = ap length tasks ∙ length-set c.self.inside.tasks c.args.pid _ in omega (arith, size, c.self.invariant.few);
@@ -30,6 +33,9 @@ invariant_of-self g c =
       agrees = subst (λ (v : VolumeState _). IfNone v.fault (Agrees v.buffers v.log n c.begin.new.self)) (sym volume)
           (subst (λ (ts : List TaskState). IfNone old.fault (Agrees old.buffers (begun old.log c.args.pid) n ts)) (sym tasks)
           (if_none old.fault (agrees_begun old.buffers old.log n c.args.pid c.args.op.now c.self.inside.tasks (where_none old.fault well c.self.invariant.agrees) lt (omega (arith, lt, c.self.invariant.few, joint.log.pids)) (search rules) c.requires.op)));
+      looks = subst (λ (v : VolumeState _). IfNone v.fault (AreLooking (current_of image v) c.self.inside.inodes c.begin.new.self)) (sym volume)
+          (subst (λ (ts : List TaskState). IfNone old.fault (AreLooking (current_of image old) c.self.inside.inodes ts)) (sym tasks)
+          (if_none old.fault (looks_begun (current_of image old) c.self.inside.inodes c.self.inside.tasks c.args.pid c.args.op.now (where_none old.fault well c.self.invariant.looks) lt (search rules) c.requires.op)));
     }
 
 pub returns-clause-files : goal.returns-clause-files

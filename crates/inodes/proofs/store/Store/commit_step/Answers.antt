@@ -6,6 +6,7 @@ use Rattle.inodes.specs.Store.{StoreState, FitsFiles, current_of}
 use Rattle.inodes.specs.Steps.{Commits}
 use Rattle.inodes.specs.Lemmas.Faults.{where_none, if_none}
 use Rattle.inodes.proofs.StoreKeeps.{geometry_kept, count_kept, agrees_committed}
+use Rattle.inodes.proofs.LooksKept.{looks_outside}
 use Rattle.inodes.proofs.store.Store.commit_step.Goals as goal
 
 pub invariant_of-self : goal.invariant_of-self
@@ -13,7 +14,7 @@ invariant_of-self g c =
     let image = g.D.Disk.image in
     let old = c.self.inside.volume in
     let new = c.commit_step.new.self in
-    let n = c.self.inside.inode_count in
+    let n = c.self.inside.inodes.inode_count in
     let well : old.fault ≡ None = search rules in
     let e = c.commit_step.ensures.commits in
     let super = e.current.agree 1 refl in
@@ -22,6 +23,7 @@ invariant_of-self g c =
       geometry = geometry_kept (current_of image old) (current_of image new) e.current.size super c.self.invariant.geometry;
       numbers = c.self.invariant.numbers ∙ sym (count_kept (current_of image old) (current_of image new) super);
       agrees = if_none new.fault (agrees_committed (header_block old.log.homes) (image old.device) (image new.device) old.buffers new.buffers old.log new.log c.commit_step.result n c.self.inside.tasks e.write.step e.locks (where_none old.fault well c.self.invariant.agrees));
+      looks = if_none new.fault (looks_outside (current_of image old) (current_of image new) c.self.inside.inodes c.self.inside.tasks (where_none old.fault well c.self.invariant.looks) c.self.invariant.numbers e.current);
     }
 
 pub returns : goal.returns
@@ -30,12 +32,12 @@ returns g c =
     let image = g.D.Disk.image in
     let e = c.commit_step.ensures.commits in
     let old = c.self.inside.volume in
-    let s : StoreState _ = record { volume = old; tasks = c.self.inside.tasks; inode_count = c.self.inside.inode_count } in
-    let t : StoreState _ = record { volume = c.commit_step.new.self; tasks = c.self.inside.tasks; inode_count = c.self.inside.inode_count } in
+    let s : StoreState _ = record { volume = old; tasks = c.self.inside.tasks; table = c.self.inside.inodes } in
+    let t : StoreState _ = record { volume = c.commit_step.new.self; tasks = c.self.inside.tasks; table = c.self.inside.inodes } in
     let promise : Commits g.D.Disk s c.commit_step.result t = record {
       volume = e;
       files = λ m fits. fits_outside m (current_of image old) (current_of image c.commit_step.new.self) e.current fits;
       tasks = refl;
-      numbers = refl;
+      table = refl;
     } in
     record { commits = subst (λ (k : StoreState _). Commits g.D.Disk k c.commit_step.result t) c.self.view_is promise }

@@ -4,6 +4,7 @@ use Rattle.model.specs.Layout.{inode_count_of}
 use Rattle.model.specs.Soundness.{IsLawfulGeometry}
 use Rattle.loose.specs.Loose.{Fits}
 use Rattle.wal.specs.Volume.{VolumeState}
+use Rattle.inodes.specs.Looks.{AreLooking}
 use Rattle.inodes.specs.Store.{StoreState, FitsFiles, Agrees, current_of}
 use Rattle.inodes.specs.Lemmas.Faults.{where_none, if_none}
 use Rattle.inodes.proofs.StoreKeeps.{agrees_ended}
@@ -13,7 +14,7 @@ pub invariant_of-self : goal.invariant_of-self
 invariant_of-self g c =
     let image = g.D.Disk.image in
     let old = c.self.inside.volume in
-    let n = c.self.inside.inode_count in
+    let n = c.self.inside.inodes.inode_count in
     let well : old.fault ≡ None = search rules in
     let volume = c.end.ensures.volume in
     record {
@@ -22,6 +23,7 @@ invariant_of-self g c =
       numbers = subst (λ (v : VolumeState _). n ≡ inode_count_of (current_of image v)) (sym volume) c.self.invariant.numbers;
       agrees = subst (λ (v : VolumeState _). IfNone v.fault (Agrees v.buffers v.log n c.self.inside.tasks)) (sym volume)
           (if_none old.fault (agrees_ended old.buffers old.log n c.args.pid c.self.inside.tasks (where_none old.fault well c.self.invariant.agrees) (search rules)));
+      looks = subst (λ (v : VolumeState _). IfNone v.fault (AreLooking (current_of image v) c.self.inside.inodes c.self.inside.tasks)) (sym volume) c.self.invariant.looks;
     }
 
 pub returns-clause-files : goal.returns-clause-files

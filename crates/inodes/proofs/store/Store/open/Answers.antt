@@ -10,8 +10,12 @@ use Rattle.bcache.specs.Buffers.{fresh_buffers}
 use Rattle.wal.specs.Machine.{new_log}
 use Rattle.wal.specs.Volume.{VolumeState}
 use Rattle.wal.specs.Lemmas.Volume.{fresh_seen}
+use Rattle.inodes.specs.Looks.{AreLooking}
+use Rattle.inodes.specs.Table.{TableState, new_table}
+use Rattle.inodes.specs.Lemmas.Faults.{if_none}
 use Rattle.inodes.specs.Tasks.{TaskState}
 use Rattle.inodes.specs.Store.{FitsFiles, Agrees, current_of}
+use Rattle.inodes.proofs.LooksKept.{looks_opened}
 use Rattle.inodes.proofs.StoreKeeps.{agrees_opened}
 use Rattle.inodes.proofs.store.Store.open.Goals as goal
 
@@ -19,14 +23,19 @@ pub invariant_of-result : goal.invariant_of-result
 invariant_of-result g c =
     let image = g.D.Disk.image in
     let d = c.args.volume.device in
+    let n = c.args.sup.now.ninodes in
     let now : current_of image c.args.volume ≡ image d = ap (λ (v : VolumeState _). current_of image v) c.requires.volume ∙ fresh_seen (image d) in
+    let fits = fits_sound (image d) (g.met.D.Disk.is_image d) c.requires.sound in
     record {
       few = c.requires.few;
       geometry = subst IsLawfulGeometry (sym now) c.requires.sound.geometry;
-      numbers = c.requires.numbers ∙ sym (ap inode_count_of now);
-      agrees = subst (λ (v : VolumeState _). IfNone v.fault (Agrees v.buffers v.log c.args.inode_count c.args.tasks)) (sym c.requires.volume)
-          (subst (λ (ts : List TaskState). Agrees fresh_buffers (new_log (length (image d))) c.args.inode_count ts) (sym c.requires.tasks)
-          (agrees_opened (new_log (length (image d))) c.args.inode_count (length c.args.tasks)));
+      numbers = ap (λ (t : TableState). t.inode_count) c.new.ensures ∙ c.requires.numbers ∙ sym (ap inode_count_of now);
+      agrees = subst (λ (v : VolumeState _). IfNone v.fault (Agrees v.buffers v.log c.new.result.inode_count c.args.tasks)) (sym c.requires.volume)
+          (subst (λ (ts : List TaskState). Agrees fresh_buffers (new_log (length (image d))) c.new.result.inode_count ts) (sym c.requires.tasks)
+          (agrees_opened (new_log (length (image d))) c.new.result.inode_count (length c.args.tasks)));
+      looks = subst (λ (t : TableState). IfNone c.args.volume.fault (AreLooking (current_of image c.args.volume) t c.args.tasks)) (sym c.new.ensures)
+          (if_none c.args.volume.fault (subst (λ (x : Image). AreLooking x (new_table n) c.args.tasks) (sym now)
+          (subst (λ (ts : List TaskState). AreLooking (image d) (new_table n) ts) (sym c.requires.tasks) (looks_opened (files_of (image d)) (image d) n (length c.args.tasks) fits c.requires.few))));
     }
 
 pub returns-clause-files : goal.returns-clause-files

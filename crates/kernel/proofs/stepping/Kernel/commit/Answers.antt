@@ -1,5 +1,4 @@
 use Rattle.std.proofs.Common.{rules, refl, ◌≡◌, ◌<◌, ℕ, length, true, false, None, ap, subst, sym, ◌∙◌}
-use Rattle.std.specs.Prelude.{IsSome}
 use Rattle.wal.specs.declared.types.Committed.{Committed}
 use Rattle.wal.specs.declared.types.Committed.TheVariants as committed
 use Rattle.wal.specs.Machine.{LogState, is_quiet}
@@ -12,6 +11,7 @@ use Rattle.journal.specs.declared.types.At.{At}
 use Rattle.journal.specs.declared.types.At.TheVariants as at
 use Rattle.journal.specs.Alone.{is_committing_at}
 use Rattle.journal.specs.Lemmas.Alone.{goes_on, over_now, same_committed, durable_count}
+use Rattle.journal.specs.Lemmas.Answers.{CanAnswer}
 use Rattle.journal.specs.Processes.{World, process, last_answer}
 use Rattle.kernel.specs.declared.types.Step.TheVariants as step
 use Rattle.kernel.specs.Invariant.{IsRight, HasFacts, TaskStands}
@@ -22,7 +22,7 @@ use Rattle.kernel.proofs.Answering.{answer_commits}
 use Rattle.kernel.proofs.Closing.{right_written, right_done, right_unwritten}
 use Rattle.journal.specs.Lemmas.Places.{committing_there}
 use Rattle.kernel.proofs.Ports.{ports_given, ports_counted, ports_stay}
-use Rattle.kernel.proofs.Right.{joint_now}
+use Rattle.kernel.proofs.Valid.{agreed_now}
 use Rattle.kernel.proofs.stepping.Kernel.commit.Given.{Over}
 use Rattle.kernel.proofs.stepping.Kernel.commit.Goals.{After-known}
 use Rattle.kernel.proofs.stepping.Kernel.commit.Goals as goal
@@ -35,7 +35,7 @@ record Head {D : Type 0} (s : StoreState D) (w : World) (p : ℕ) : Type 0 where
   place : ℕ
   stands : (process w p).at ≡ at.Committing group place
   busy : is_quiet s.volume.log.commit ≡ false
-  answer : IsSome (last_answer w (process w p).at)
+  answer : CanAnswer (last_answer w (process w p).at) (process w p).room
 
 head : (g : Over) (c : After-known g) → Head c.self.inside.store c.self.inside.processes c.args.pid
 head g c =
@@ -46,7 +46,7 @@ head g c =
     let well : k.store.volume.fault ≡ None = search rules in
     let commits : is_committing_at (process k.processes p).at ≡ true = search rules in
     let there = committing_there (process k.processes p).at commits in
-    let stands : TaskStands (task k.store.tasks p) (at.Committing there.0 there.1) = subst (λ (a : At). TaskStands (task k.store.tasks p) a) there.2 (right.paired.stand p) in
+    let stands : TaskStands k.processes.journal.list (task k.store.tasks p) (at.Committing there.0 there.1) = subst (λ (a : At). TaskStands k.processes.journal.list (task k.store.tasks p) a) there.2 (right.paired.stand p).stands in
     record {
       well = well;
       within = search rules;
@@ -61,7 +61,10 @@ pub commit_step-committed-requires-clause-busy : goal.commit_step-committed-requ
 commit_step-committed-requires-clause-busy g c = (head g (goal.at.commit_step-committed-requires-clause-busy g c).After-known).busy
 
 pub give-requires-clause-over : goal.give-requires-clause-over
-give-requires-clause-over g c = (head g (goal.at.give-requires-clause-over g c).After-known).answer
+give-requires-clause-over g c = (head g (goal.at.give-requires-clause-over g c).After-known).answer.0
+
+pub give-requires-clause-fits : goal.give-requires-clause-fits
+give-requires-clause-fits g c = (head g (goal.at.give-requires-clause-fits g c).After-known).answer.1
 
 pub invariant_of-self : goal.invariant_of-self
 invariant_of-self g c =
@@ -71,7 +74,7 @@ invariant_of-self g c =
     let now : t.volume.fault ≡ fault_of_step committed.More = made.volume.fault in
     record {
       right = right_written g.D.Disk k.opening.value k.store k.processes c.self.invariant.right h.well c.args.pid h.within h.group h.place h.stands t committed.More made g.met.D.Disk.has_now
-          (joint_now g.D.Disk.image t now c.known-2.ensures.volume) now made.volume.write.step.1.log
+          (agreed_now g.D.Disk.image t now c.known-2.ensures.volume c.known-2.ensures.store) now made.volume.write.step.1.log
           (goes_on l.commit l l.opened h.busy (λ done. let both = sym made.volume.write.step.0 ∙ done in absurd (cc both))) made.volume.write.faults;
       ports = ports_counted g.I.Intake g.H.Herald k.intake k.herald l.committed t.volume.log.committed k.processes c.self.invariant.ports (ap (λ (m : LogState). m.committed) made.volume.write.step.1.log ∙ same_committed l.commit l l.opened (λ n durable. let both = sym made.volume.write.step.0 ∙ durable in absurd (cc both)));
     }
@@ -84,7 +87,7 @@ invariant_of-self-in-Durable g c =
     let now : t.volume.fault ≡ fault_of_step (committed.Durable c.in-Durable.group) = made.volume.fault in
     record {
       right = right_written g.D.Disk k.opening.value k.store k.processes c.self.invariant.right h.well c.args.pid h.within h.group h.place h.stands t (committed.Durable c.in-Durable.group) made g.met.D.Disk.has_now
-          (joint_now g.D.Disk.image t now c.known-2.ensures.volume) now made.volume.write.step.1.log
+          (agreed_now g.D.Disk.image t now c.known-2.ensures.volume c.known-2.ensures.store) now made.volume.write.step.1.log
           (goes_on l.commit l l.opened h.busy (λ done. let both = sym made.volume.write.step.0 ∙ done in absurd (cc both))) made.volume.write.faults;
       ports = ports_stay g.I.Intake g.H.Herald k.intake k.intake k.herald c.durable.new.self l.committed t.volume.log.committed k.processes k.processes c.self.invariant.ports refl refl refl c.self.invariant.ports.room (λ p h fits. fits) (c.durable.ensures.count ∙ durable_count l t.volume.log c.in-Durable.group made.volume.write.step.0 made.volume.write.step.1.log);
     }
@@ -99,9 +102,9 @@ invariant_of-self-in-Done g c =
     record {
       right = subst (λ (w : World). IsRight g.D.Disk k.opening.value t w) (sym c.give.ensures.processes)
           (right_done g.D.Disk k.opening.value k.store k.processes c.self.invariant.right h.well c.args.pid h.within h.group h.place h.stands t committed.Done made g.met.D.Disk.has_now
-          (joint_now g.D.Disk.image t now c.known-2.ensures.volume) now made.volume.write.step.1.log (over_now l.commit l l.opened made.volume.write.step.0) made.volume.write.faults);
+          (agreed_now g.D.Disk.image t now c.known-2.ensures.volume c.known-2.ensures.store) now made.volume.write.step.1.log (over_now l.commit l l.opened made.volume.write.step.0) made.volume.write.faults);
       ports = ports_given g.I.Intake g.H.Herald k.intake c.give.new.intake k.herald k.herald l.committed t.volume.log.committed k.processes c.give.new.processes c.args.pid
-          c.self.invariant.ports h.within h.answer c.give.ensures.processes c.give.ensures.gives (c.self.invariant.ports.told ∙ sym same);
+          c.self.invariant.ports h.within h.answer.0 c.give.ensures.processes c.give.ensures.gives (c.self.invariant.ports.told ∙ sym same);
     }
 
 pub invariant_of-self-in-Fault : goal.invariant_of-self-in-Fault

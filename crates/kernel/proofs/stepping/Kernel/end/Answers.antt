@@ -1,11 +1,11 @@
 use Rattle.std.proofs.Common.{rules, refl, ◌≡◌, ◌<◌, ℕ, length, true, None, ap, subst, sym, ◌∙◌}
-use Rattle.std.specs.Prelude.{IsSome}
 use Rattle.blocks.specs.Disk.{Image}
 use Rattle.wal.specs.declared.types.Ended.TheVariants as ended_as
 use Rattle.wal.specs.Joint.{Joint}
 use Rattle.wal.specs.Machine.{ended, end_answer}
 use Rattle.inodes.specs.Store.{StoreState, KeepsFiles, with_log}
 use Rattle.journal.specs.declared.types.At.TheVariants as at
+use Rattle.journal.specs.Lemmas.Answers.{CanAnswer}
 use Rattle.journal.specs.Processes.{World, process, last_answer, is_ending}
 use Rattle.kernel.specs.declared.types.Step.TheVariants as step
 use Rattle.kernel.specs.Invariant.{IsRight}
@@ -18,7 +18,7 @@ use Rattle.journal.specs.Lemmas.Groups.{closed_uncommitted}
 use Rattle.kernel.proofs.Closing.{right_closed, right_left}
 use Rattle.journal.specs.Lemmas.Places.{ending_there}
 use Rattle.kernel.proofs.Ports.{ports_committing, ports_given, ports_counted}
-use Rattle.kernel.proofs.Right.{joint_now}
+use Rattle.kernel.proofs.Valid.{HasAgreed, agreed_now}
 use Rattle.kernel.proofs.stepping.Kernel.end.Given.{Over}
 use Rattle.kernel.proofs.stepping.Kernel.end.Goals.{After-known-2}
 use Rattle.kernel.proofs.stepping.Kernel.end.Goals as goal
@@ -30,9 +30,9 @@ record Head {D : Type 0} (image : D → Image) (s : StoreState D) (w : World) (p
   group : ℕ
   place : ℕ
   stands : (process w p).at ≡ at.Ending group place
-  answer : IsSome (last_answer w (process w p).at)
+  answer : CanAnswer (last_answer w (process w p).at) (process w p).room
   before : Joint (image s.volume.device) s.volume.buffers s.volume.log
-  joint : Joint (image s.volume.device) s.volume.buffers (ended s.volume.log p)
+  agreed : HasAgreed image (with_log s (ended s.volume.log p))
   keeps : KeepsFiles image s (with_log s (ended s.volume.log p))
 
 head : (g : Over) (c : After-known-2 g) → Head g.D.Disk.image c.self.inside.store c.self.inside.processes c.args.pid
@@ -52,13 +52,16 @@ head g c =
       place = there.1;
       stands = there.2;
       answer = answer_ends disk k.opening.value k.store k.processes p c.self.invariant.right well ends;
-      before = joint_now disk.image k.store well c.known.ensures.volume;
-      joint = subst (λ (o : StoreState _). Joint (disk.image o.volume.device) o.volume.buffers o.volume.log) is (joint_now disk.image t (ap (λ (o : StoreState _). o.volume.fault) is ∙ well) c.known-2.ensures.volume);
+      before = (agreed_now disk.image k.store well c.known.ensures.volume c.known.ensures.store).joint;
+      agreed = subst (λ (o : StoreState _). HasAgreed disk.image o) is (agreed_now disk.image t (ap (λ (o : StoreState _). o.volume.fault) is ∙ well) c.known-2.ensures.volume c.known-2.ensures.store);
       keeps = subst (λ (o : StoreState _). KeepsFiles disk.image k.store o) is c.end-ended.ensures.files;
     }
 
 pub give-requires-clause-over : goal.give-requires-clause-over
-give-requires-clause-over g c = (head g (goal.at.give-requires-clause-over g c).After-known-2).answer
+give-requires-clause-over g c = (head g (goal.at.give-requires-clause-over g c).After-known-2).answer.0
+
+pub give-requires-clause-fits : goal.give-requires-clause-fits
+give-requires-clause-fits g c = (head g (goal.at.give-requires-clause-fits g c).After-known-2).answer.1
 
 pub invariant_of-self : goal.invariant_of-self
 invariant_of-self g c =
@@ -71,7 +74,7 @@ invariant_of-self g c =
     record {
       right = subst (λ (o : StoreState _). IsRight g.D.Disk k.opening.value o c.commit.new.self) (sym is)
           (subst (λ (w : World). IsRight g.D.Disk k.opening.value s w) (sym c.commit.ensures)
-          (right_closed g.D.Disk k.opening.value k.store k.processes c.self.invariant.right h.well c.args.pid h.within h.group h.place h.stands h.joint h.before h.keeps answer));
+          (right_closed g.D.Disk k.opening.value k.store k.processes c.self.invariant.right h.well c.args.pid h.within h.group h.place h.stands h.agreed h.before h.keeps answer));
       ports = ports_committing g.I.Intake g.H.Herald k.intake k.herald t.volume.log.committed k.processes c.commit.new.self c.args.pid h.group h.place
           (ports_counted g.I.Intake g.H.Herald k.intake k.herald k.store.volume.log.committed t.volume.log.committed k.processes c.self.invariant.ports
           (ap (λ (o : StoreState _). o.volume.log.committed) is ∙ closed_uncommitted k.store.volume.log c.args.pid answer)) h.within h.stands c.commit.ensures;
@@ -89,9 +92,9 @@ invariant_of-self-in-Left g c =
     record {
       right = subst (λ (o : StoreState _). IsRight g.D.Disk k.opening.value o c.give.new.processes) (sym is)
           (subst (λ (w : World). IsRight g.D.Disk k.opening.value s w) (sym c.give.ensures.processes)
-          (right_left g.D.Disk k.opening.value k.store k.processes c.self.invariant.right h.well c.args.pid h.within h.group h.place h.stands h.joint h.before h.keeps answer));
+          (right_left g.D.Disk k.opening.value k.store k.processes c.self.invariant.right h.well c.args.pid h.within h.group h.place h.stands h.agreed h.before h.keeps answer));
       ports = ports_given g.I.Intake g.H.Herald k.intake c.give.new.intake k.herald c.tell.new.herald k.store.volume.log.committed t.volume.log.committed k.processes c.give.new.processes c.args.pid
-          c.self.invariant.ports h.within h.answer c.give.ensures.processes c.give.ensures.gives (c.tell.ensures.count ∙ now);
+          c.self.invariant.ports h.within h.answer.0 c.give.ensures.processes c.give.ensures.gives (c.tell.ensures.count ∙ now);
     }
 
 pub returns-in-Commit : goal.returns-in-Commit

@@ -8,6 +8,7 @@ use Rattle.journal.specs.Lemmas.Shapes.{rising_beginnings}
 use Rattle.kernel.specs.Known.{Known}
 use Rattle.kernel.specs.State.{State}
 use Rattle.kernel.proofs.Openings.{opens_again}
+use Rattle.kernel.proofs.UnderWay.{has_lock, under_way}
 use Rattle.kernel.proofs.stepping.Kernel.known.Goals as goal
 
 pub returns : goal.returns
@@ -25,6 +26,8 @@ returns g c =
         idle = λ all. known_files _ _ _ _ has.facts all;
         settled = λ none quiet. all_committed k.store.volume.log has.facts.valid.log none quiet;
       }) right.facts;
+      locks = if_well k.store.volume.fault (λ looks. has_lock g.D.Disk.image k.store k.processes right.paired looks) c.known.ensures.store.looks;
+      unanswered = if_well k.store.volume.fault (λ has. under_way g.D.Disk.image k.store k.processes right.paired (g.D.Disk.image k.opening.value) has) right.facts;
       journal = right.journal;
       order = rising_beginnings _ _ _ right.journal.groups right.journal.rising;
       replays = right.replays;

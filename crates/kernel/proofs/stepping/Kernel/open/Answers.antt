@@ -12,7 +12,7 @@ use Rattle.wal.specs.Volume.{VolumeState}
 use Rattle.inodes.specs.Store.{StoreState, FitsFiles, fresh_volume}
 use Rattle.model.specs.Files.{files_of}
 use Rattle.model.specs.declared.types.image.Super.{Super}
-use Rattle.kernel.proofs.Right.{joint_now}
+use Rattle.kernel.proofs.Valid.{agreed_now}
 use Rattle.inodes.specs.Tasks.{no_task}
 use Rattle.journal.specs.Processes.{World, fresh_world}
 use Rattle.kernel.specs.Invariant.{IsRight, ArePorts}
@@ -74,8 +74,8 @@ invariant_of-result g c =
     record {
       right = subst (λ (w : World). IsRight g.D.Disk c.of-opening.result.value s w) (sym world)
           (right_new g.D.Disk c.of-opening.result.value s c.args.processes (volume ∙ ap (fresh_volume g.D.Disk.image) (sym device)) (opening ∙ sym device) tasks
-          (ap (λ (o : StoreState _). o.inode_count) c.open-store.ensures.store ∙ opened_numbers x (g.D.Disk.image s.volume.device) c.in-Ok.report.sup c.in-Ok.ensures.ok c.in-Ok.ensures.report.sup now)
-          some few (subst IsSound (sym now) (verdict_sound x c.in-Ok.ensures.ok).2) (empty_left x (g.D.Disk.image s.volume.device) now) (joint_now g.D.Disk.image s well c.known.ensures.volume) fits);
+          (ap (λ (o : StoreState _). o.table.inode_count) c.open-store.ensures.store ∙ opened_numbers x (g.D.Disk.image s.volume.device) c.in-Ok.report.sup c.in-Ok.ensures.ok c.in-Ok.ensures.report.sup now)
+          some few (subst IsSound (sym now) (verdict_sound x c.in-Ok.ensures.ok).2) (empty_left x (g.D.Disk.image s.volume.device) now) (agreed_now g.D.Disk.image s well c.known.ensures.volume c.known.ensures.store) fits);
       ports = subst (λ (w : World). ArePorts g.I.Intake g.H.Herald c.args.intake c.args.herald s.volume.log.committed w) (sym world)
           (ports_new g.I.Intake g.H.Herald c.args.intake c.args.herald s.volume.log.committed c.args.processes c.requires.served (c.requires.told ∙ sym (ap (λ (v : VolumeState _). v.log.committed) volume)) c.requires.fits);
     }

@@ -1,0 +1,27 @@
+-- What processes have of the table of inodes, by their tasks.
+use Rattle.std.proofs.Common.{◌≡◌, ℕ, zero, suc, List, [], ◌∷◌, set, refl, sym, ◌∙◌, ap, Option}
+use Rattle.std.proofs.lemmas.List.{map-set, set-get_or}
+use Rattle.inodes.specs.Grips.{Grip, grip, with_grip}
+use Rattle.inodes.specs.Places.{grip_of, grips_of}
+use Rattle.inodes.specs.declared.tasks.Place.{Place}
+use Rattle.inodes.specs.Tasks.{TaskState, task, no_task}
+
+-- a process has what its task has
+pub grip_is : (ts : List TaskState) (p : ℕ) → grip (grips_of ts) p ≡ grip_of (task ts p)
+grip_is [] p = refl
+grip_is (t ∷ ts) zero = refl
+grip_is (t ∷ ts) (suc p) = grip_is ts p
+
+-- one task is another, and has another grip
+pub grips_set : (ts : List TaskState) (p : ℕ) (t : TaskState) → grips_of (set ts p t) ≡ with_grip (grips_of ts) p (grip_of t)
+grips_set ts p t = map-set grip_of ts p t
+
+-- with the same grip, all of them are the same
+pub grips_same : (ts : List TaskState) (p : ℕ) (t : TaskState) → grip_of t ≡ grip_of (task ts p) → grips_of (set ts p t) ≡ grips_of ts
+grips_same [] p t same = refl
+grips_same (s ∷ ts) zero t same = ap (λ (g : Option Grip). g ∷ grips_of ts) same
+grips_same (s ∷ ts) (suc p) t same = ap (λ (gs : List (Option Grip)). grip_of s ∷ gs) (grips_same ts p t same)
+
+-- a task that stays where it stands is the same
+pub same_task : (ts : List TaskState) (p : ℕ) (a : Place) → (task ts p).place ≡ a → ts ≡ set ts p (record (task ts p) { place = a })
+same_task ts p a stood = sym (ap (λ (b : Place). set ts p (record (task ts p) { place = b })) (sym stood) ∙ set-get_or ts p no_task)

@@ -1,0 +1,156 @@
+-- An operation that looks at a file gives up its inode, and is over.
+use Rattle.std.proofs.Common.{◌≡◌, ℕ, ◌<◌, true, List, length, set, refl, sym, ◌∙◌, ap, subst, arith, Some, None}
+use Rattle.std.specs.Prelude.{IsTrue}
+use Rattle.std.proofs.lemmas.Bool.{false≢true}
+use Rattle.std.proofs.lemmas.List.{get_or-set_same, set-set}
+use Rattle.blocks.specs.Disk.{Image}
+use Rattle.blocks.specs.declared.disk.Disk.{Ghosts}
+use Rattle.model.specs.declared.types.image.Dinode.{Dinode}
+use Rattle.model.specs.declared.types.operations.Op.{Op}
+use Rattle.model.specs.declared.types.operations.Op.TheVariants.{Read}
+use Rattle.model.specs.declared.types.operations.Reply.TheVariants.{Bytes}
+use Rattle.model.specs.declared.types.operations.TaskProgress.{TaskProgress}
+use Rattle.model.specs.declared.types.operations.TaskProgress.TheVariants as progress
+use Rattle.model.specs.Files.{Files, bytes_in}
+use Rattle.model.specs.Gathered.{GatheredBytes}
+use Rattle.model.specs.Journal.{is_number}
+use Rattle.model.specs.Layout.{form_of, inode_of, inode_count_of}
+use Rattle.model.specs.Operations.{after, part_of}
+use Rattle.model.specs.Tasks.{Answers, fault_of_task}
+use Rattle.loose.specs.Lemmas.Looks.{read_tells}
+use Rattle.inodes.specs.declared.tasks.Place.{Place}
+use Rattle.inodes.specs.declared.tasks.Place.TheVariants as place
+use Rattle.inodes.specs.Goes.{Goes, GivesUp}
+use Rattle.inodes.specs.Grips.{grip, locked_grip}
+use Rattle.inodes.specs.Lemmas.Faults.{where_none}
+use Rattle.inodes.specs.Lemmas.Grips.{kept_by_leave}
+use Rattle.inodes.specs.Lemmas.Looks.{copy_is}
+use Rattle.inodes.specs.Looks.{AreLooking, HasAllRead, LooksAt}
+use Rattle.inodes.specs.Places.{asked_by, slot_at, grip_by, grips_of, steps_left}
+use Rattle.inodes.specs.Steps.{Steps, Waits, is_made}
+use Rattle.inodes.specs.Store.{StoreState, IsStore, FitsFiles, current_of}
+use Rattle.inodes.specs.Table.{copy_at, left}
+use Rattle.inodes.specs.Tasks.{TaskState, task, no_task}
+use Rattle.inodes.proofs.Getting.{HasOne, has_same, reads_none}
+use Rattle.inodes.proofs.Gripping.{grip_is}
+use Rattle.inodes.proofs.Looking.{Looked, files_same, store_looked, steps_looked}
+
+-- a task that is over, without bytes
+abbrev pub finished : TaskState → TaskState
+finished t = record t { place = place.Nowhere; gathered = None }
+
+-- its bytes are taken from it first
+pub tasks_finished : (ts : List TaskState) (p : ℕ) → p < length ts
+    → (let us : List TaskState = set ts p (record (task ts p) { gathered = None }) in set us p (finished (task us p))) ≡ set ts p (finished (task ts p))
+tasks_finished ts p lt =
+    let t : TaskState = record (task ts p) { gathered = None } in
+    let same : task (set ts p t) p ≡ t = get_or-set_same ts p t no_task lt in
+    ap (λ (u : TaskState). set (set ts p t) p (finished u)) same ∙ set-set ts p t (finished t)
+
+module _ {D N : Type 0} (disk : Ghosts D N) (s : StoreState D) (p k : ℕ) (is : IsStore disk.image s) (well : s.volume.fault ≡ None) (inside : p < length s.tasks) where
+  abbrev cur : Image
+  cur = current_of disk.image s.volume
+
+  abbrev pub store_left : List TaskState → StoreState D
+  store_left ts = record { volume = s.volume; tasks = ts; table = left s.table k }
+
+  looking : AreLooking cur s.table s.tasks
+  looking = where_none s.volume.fault well is.looks
+
+  module _ (r : TaskProgress) (ts : List TaskState) (tasks : ts ≡ set s.tasks p (finished (task s.tasks p))) (fine : fault_of_task r ≡ None)
+      (free : slot_at (task s.tasks p).place ≡ None) (has : grip (grips_of s.tasks) p ≡ Some (locked_grip k (asked_by (task s.tasks p).op))) where
+    one : HasOne s.volume.buffers s.volume.buffers s.volume.log p 0 None
+    one = has_same s.volume.buffers s.volume.log s.table.inode_count p s.tasks (where_none s.volume.fault well is.agrees) 0 None free tt
+
+    pub looked : Looked disk s p r (store_left ts) (finished (task s.tasks p))
+    looked = record {
+      tasks = tasks;
+      op = refl;
+      count = refl;
+      reads = reads_none disk s (store_left ts) refl well r fine;
+      shown = refl;
+      now = λ none. record {
+        others = one.others;
+        locks = one.locks;
+        stands = tt;
+        table = kept_by_leave s.table (grips_of s.tasks) cur p k (asked_by (task s.tasks p).op) looking.table has;
+        looks = tt;
+      };
+    }
+
+    gives_up : GivesUp s p k (store_left ts)
+    gives_up = record {
+      next = ap (λ (t : TaskState). t.place) (ap (λ (l : List TaskState). task l p) tasks ∙ get_or-set_same s.tasks p (finished (task s.tasks p)) no_task inside);
+      table = refl;
+      volume = refl;
+    }
+
+    no_wait : is_made r ≡ true → Waits s p r (store_left ts)
+    no_wait made = record {
+      sleeping = λ cause waits. absurd (false≢true (sym (ap is_made waits) ∙ made));
+      held = λ waits. absurd (false≢true (sym (ap is_made waits) ∙ made));
+      inode = λ waits. absurd (false≢true (sym (ap is_made waits) ∙ made));
+    }
+
+  -- a reading gives out its bytes
+  module _ (stood : (task s.tasks p).place ≡ place.Delivering k) where
+    pub all_read : HasAllRead cur s.table.inode_count (copy_at s.table.places k) (task s.tasks p)
+    all_read = subst (λ (a : Place). LooksAt cur s.table (task s.tasks p) a) stood (looking.stand p)
+
+    has_delivering : grip (grips_of s.tasks) p ≡ Some (locked_grip k (asked_by (task s.tasks p).op))
+    has_delivering = grip_is s.tasks p ∙ ap (λ (a : Place). grip_by a (asked_by (task s.tasks p).op)) stood
+
+    module _ (bytes : GatheredBytes) (had : (task s.tasks p).gathered ≡ Some bytes) (ts : List TaskState) (tasks : ts ≡ set s.tasks p (finished (task s.tasks p))) where
+      abbrev answer : TaskProgress
+      answer = progress.Decided (Bytes bytes.bytes)
+
+      delivered : Looked disk s p answer (store_left ts) (finished (task s.tasks p))
+      delivered = looked answer ts tasks refl (ap slot_at stood) has_delivering
+
+      pub store_delivered : IsStore disk.image (store_left ts)
+      store_delivered = store_looked disk s p answer (store_left ts) (finished (task s.tasks p)) is well inside delivered
+
+      same_bytes : bytes.bytes ≡ part_of (bytes_in cur all_read.dinode) all_read.op.offset all_read.op.count
+      same_bytes = let same : bytes ≡ all_read.op.gathered = (let e = sym had ∙ all_read.op.has in cc e) in ap (λ (g : GatheredBytes). g.bytes) same ∙ all_read.bytes
+
+      files_read : (op : Op) → (task s.tasks p).op ≡ Some op → (files : Files) → FitsFiles disk.image s files → Answers (form_of cur) op (Bytes bytes.bytes) files (FitsFiles disk.image (store_left ts))
+      unfolding FitsFiles
+      files_read op is_op files fits =
+          let i = all_read.op.number in
+          let off = all_read.op.offset in
+          let n = all_read.op.count in
+          let same_op : op ≡ Read i off n = (let e = sym is_op ∙ all_read.op.is in cc e) in
+          let number : asked_by (task s.tasks p).op ≡ i = ap asked_by all_read.op.is in
+          let known = copy_is cur s.table s.tasks looking p (asked_by (task s.tasks p).op) k all_read.dinode has_delivering all_read.copy in
+          let its : inode_of cur i ≡ all_read.dinode = ap (inode_of cur) (sym number) ∙ known.0 in
+          let may : IsTrue (is_number (inode_count_of cur) i) = subst (λ (c : ℕ). IsTrue (is_number c i)) is.numbers all_read.op.may.0 in
+          let tells = read_tells files cur i off n fits (may, λ none. known.1 (ap (λ (d : Dinode). d.kind) (sym its) ∙ none)) all_read.op.may.1 in
+          let here : bytes.bytes ≡ part_of (bytes_in cur (inode_of cur i)) off n = same_bytes ∙ ap (λ (d : Dinode). part_of (bytes_in cur d) off n) (sym its) in
+          (files, ap (λ (q : Op). after (form_of cur) files q (Bytes bytes.bytes)) same_op ∙ ap (λ (l : List ℕ). after (form_of cur) files (Read i off n) (Bytes l)) here ∙ tells, fits)
+
+      pub steps_delivered : (op : Op) → (task s.tasks p).op ≡ Some op → Steps disk s p op answer (store_left ts)
+      steps_delivered op is_op = steps_looked disk s p answer (store_left ts) (finished (task s.tasks p)) is well inside delivered op (files_read op is_op)
+          (subst (λ (a : Place). Goes disk a s p op answer (store_left ts)) (sym stood) (record { bytes = bytes; had = had; gives = refl; up = gives_up answer ts tasks refl (ap slot_at stood) has_delivering }))
+          (λ i makes. absurd (cc makes)) (no_wait answer ts tasks refl (ap slot_at stood) has_delivering refl) (λ q other reads. tt)
+          (λ made going. subst (λ (a : Place). 0 < steps_left a s.table.inode_count) (sym stood) (omega arith))
+
+  -- an operation that was answered is over
+  module _ (stood : (task s.tasks p).place ≡ place.Leaving k) where
+    has_leaving : grip (grips_of s.tasks) p ≡ Some (locked_grip k (asked_by (task s.tasks p).op))
+    has_leaving = grip_is s.tasks p ∙ ap (λ (a : Place). grip_by a (asked_by (task s.tasks p).op)) stood
+
+    pub low_leaving : k < 50
+    low_leaving = (looking.table.places p (locked_grip k (asked_by (task s.tasks p).op)) has_leaving).0
+
+    module _ (ts : List TaskState) (tasks : ts ≡ set s.tasks p (finished (task s.tasks p))) where
+      over : Looked disk s p progress.Over (store_left ts) (finished (task s.tasks p))
+      over = looked progress.Over ts tasks refl (ap slot_at stood) has_leaving
+
+      pub store_over : IsStore disk.image (store_left ts)
+      store_over = store_looked disk s p progress.Over (store_left ts) (finished (task s.tasks p)) is well inside over
+
+      pub steps_over : (op : Op) → Steps disk s p op progress.Over (store_left ts)
+      steps_over op = steps_looked disk s p progress.Over (store_left ts) (finished (task s.tasks p)) is well inside over op (files_same disk s p progress.Over (store_left ts) (finished (task s.tasks p)) is well inside over)
+          (subst (λ (a : Place). Goes disk a s p op progress.Over (store_left ts)) (sym stood) (refl, gives_up progress.Over ts tasks refl (ap slot_at stood) has_leaving))
+          (λ i makes. absurd (cc makes)) (no_wait progress.Over ts tasks refl (ap slot_at stood) has_leaving refl) (λ q other reads. tt)
+          (λ made going. subst (λ (a : Place). 0 < steps_left a s.table.inode_count) (sym stood) (omega arith))

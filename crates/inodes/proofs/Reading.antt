@@ -1,0 +1,98 @@
+-- An operation that looks at a file reads its bytes.
+use Rattle.std.proofs.Common.{◌≡◌, ℕ, ◌*◌, ◌/◌, ◌<◌, true, length, sym, ◌∙◌, ap, subst, arith, Some, None}
+use Rattle.std.specs.Prelude.{IsTrue}
+use Rattle.blocks.specs.Disk.{Image}
+use Rattle.blocks.specs.declared.disk.Disk.{Ghosts}
+use Rattle.model.specs.Gathered.{GatheredBytes}
+use Rattle.model.specs.Journal.{is_number}
+use Rattle.model.specs.Layout.{inode_count_of}
+use Rattle.model.specs.Places.{address_in}
+use Rattle.bcache.specs.Lemmas.Current.{length-current}
+use Rattle.wal.specs.Joint.{Joint}
+use Rattle.blockmap.specs.Getting.{HoldsWhereGot}
+use Rattle.blockmap.specs.Lemmas.Used.{used_may_be_read}
+use Rattle.blockmap.specs.Reading.{MayRead}
+use Rattle.blockmap.specs.Target.{LeadsTo, block_of, slot_in}
+use Rattle.blockmap.specs.declared.target.Target.{Target}
+use Rattle.blockmap.specs.declared.target.Target.TheVariants as target
+use Rattle.inodes.specs.declared.tasks.Place.{Place}
+use Rattle.inodes.specs.declared.tasks.Place.TheVariants as place
+use Rattle.inodes.specs.Grips.{grip, locked_grip}
+use Rattle.inodes.specs.Lemmas.Faults.{where_none}
+use Rattle.inodes.specs.Lemmas.Looks.{copy_is, reading_number, reading_used}
+use Rattle.inodes.specs.Looks.{AreLooking, IsAtRead, LeadsToBlock, LooksAt}
+use Rattle.inodes.specs.Places.{asked_by, grip_by, grips_of, is_reading, slot_at}
+use Rattle.inodes.specs.Readi.{ReadState, IsReading, HasRoomLeft}
+use Rattle.inodes.specs.Store.{StoreState, IsStore, HoldsAt, Stands, Agrees, current_of}
+use Rattle.inodes.specs.Table.{copy_at}
+use Rattle.inodes.specs.Tasks.{task}
+use Rattle.inodes.proofs.Gripping.{grip_is}
+use Rattle.inodes.proofs.ReadLemmas.{leads_for}
+use Rattle.inodes.proofs.Searching.{where_got}
+
+-- in a store whose process p reads
+module _ {D N : Type 0} (disk : Ghosts D N) (s : StoreState D) (p k : ℕ) (m : ReadState) (is : IsStore disk.image s) (well : s.volume.fault ≡ None)
+    (stood : (task s.tasks p).place ≡ place.Reading k m) where
+  abbrev cur : Image
+  cur = current_of disk.image s.volume
+
+  -- the number of its inode
+  abbrev number : ℕ
+  number = asked_by (task s.tasks p).op
+
+  pub agrees : Agrees s.volume.buffers s.volume.log s.table.inode_count s.tasks
+  agrees = where_none s.volume.fault well is.agrees
+
+  pub looking : AreLooking cur s.table s.tasks
+  looking = where_none s.volume.fault well is.looks
+
+  pub at_read : IsAtRead cur s.table.inode_count (copy_at s.table.places k) (task s.tasks p) m
+  at_read = subst (λ (a : Place). LooksAt cur s.table (task s.tasks p) a) stood (looking.stand p)
+
+  pub has : grip (grips_of s.tasks) p ≡ Some (locked_grip k number)
+  has = grip_is s.tasks p ∙ ap (λ (a : Place). grip_by a number) stood
+
+  pub holds : HoldsAt s.volume.buffers p (block_of m.target) (slot_in m.target)
+  holds = subst (λ (a : Place). Stands s.volume.buffers s.volume.log s.table.inode_count p (task s.tasks p).op a) stood (agrees.stands p)
+
+  pub slot_is : slot_at (task s.tasks p).place ≡ slot_in m.target
+  slot_is = ap slot_at stood
+
+  reads : is_reading (task s.tasks p).place ≡ true
+  reads = ap is_reading stood
+
+  may_name : IsTrue (is_number (inode_count_of cur) number)
+  may_name = subst (λ (n : ℕ). IsTrue (is_number n number)) is.numbers (reading_number cur s.table s.tasks looking p reads)
+
+  -- the file of its inode may be read
+  pub may : MayRead cur m.inode
+  may = subst (MayRead cur) (copy_is cur s.table s.tasks looking p number k m.inode has at_read.copy).0
+      (used_may_be_read looking.files.0 cur number looking.files.1 (may_name, reading_used cur s.table s.tasks looking p reads))
+
+  -- it has room for the bytes that are left
+  pub room : (g : GatheredBytes) → (task s.tasks p).gathered ≡ Some g → HasRoomLeft m g
+  room g had =
+      let same : at_read.op.gathered ≡ g = let both = sym at_read.op.has ∙ had in cc both in
+      subst (HasRoomLeft m) same at_read.read.room
+
+  module _ (joint : Joint (disk.image s.volume.device) s.volume.buffers s.volume.log) where
+    pub size : s.volume.log.size ≡ length cur
+    size = let long = length-current (disk.image s.volume.device) s.volume.buffers in sym (long ∙ joint.size)
+
+    inside_file : m.next / 1024 * 1024 < m.inode.size
+    inside_file = let some = at_read.read.some in let end = at_read.read.end in omega (arith, some, end)
+
+    leads_by : (t : Target) → LeadsToBlock cur m.inode (m.next / 1024) t → HoldsWhereGot cur s.volume.buffers p (block_of t) (slot_in t) → LeadsTo disk.image s.volume p (address_in cur m.inode (m.next / 1024)) t
+    leads_by (target.Entry e) leads held =
+        let to = subst (λ (t : Target). LeadsTo disk.image s.volume p (address_in cur m.inode (m.next / 1024)) t) leads (leads_for disk.image s.volume p (m.next / 1024) m.inode may size inside_file) in
+        (record { behind = to.0.behind; within = to.0.within; entry = to.0.entry; holds = held }, to.1)
+    leads_by (target.Block b slot) leads held = (leads, held)
+
+    -- it may make its next step
+    pub is_ready : IsReading disk.image s.volume p m
+    is_ready = record {
+      may = may;
+      some = at_read.read.some;
+      inside = let end = at_read.read.end in omega (arith, end);
+      leads = leads_by m.target at_read.read.leads (where_got (disk.image s.volume.device) s.volume.buffers s.volume.log p (block_of m.target) (slot_in m.target) joint holds);
+    }

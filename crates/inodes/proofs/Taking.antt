@@ -1,0 +1,126 @@
+-- An operation that looks at a file takes its inode.
+use Rattle.std.proofs.Common.{◌≡◌, ℕ, ◌<◌, true, false, length, length-set, set, refl, sym, ◌∙◌, ap, subst, arith, Option, Some, None}
+use Rattle.std.specs.Prelude.{IsTrue}
+use Rattle.blocks.specs.Disk.{Image}
+use Rattle.blocks.specs.declared.disk.Disk.{Ghosts}
+use Rattle.model.specs.declared.types.operations.Op.{Op}
+use Rattle.model.specs.declared.types.operations.Op.TheVariants.{Create, Write, Read, Trunc, Remove, Stat}
+use Rattle.model.specs.Gathered.{GatheredBytes}
+use Rattle.model.specs.Journal.{is_number}
+use Rattle.model.specs.Layout.{inode_block, inode_count_of}
+use Rattle.bcache.specs.Lemmas.Current.{length-current}
+use Rattle.wal.specs.Joint.{Joint}
+use Rattle.blockmap.specs.Getting.{HoldsWhereGot}
+use Rattle.inodes.specs.declared.ilock.LockAt.{LockAt}
+use Rattle.inodes.specs.declared.ilock.LockAt.TheVariants as lock_at
+use Rattle.inodes.specs.declared.tasks.Place.{Place}
+use Rattle.inodes.specs.declared.tasks.Place.TheVariants as place
+use Rattle.inodes.specs.Grips.{Grip, grip, locked_grip, unlocked_grip}
+use Rattle.inodes.specs.Ilock.{MayLock, MayLockAt}
+use Rattle.inodes.specs.Lemmas.Faults.{where_none, if_none}
+use Rattle.inodes.specs.Lemmas.Grips.{has_place_for_each}
+use Rattle.inodes.specs.LockState.{LockState, slot_of}
+use Rattle.inodes.specs.Looks.{AreLooking, CanLook, HasRoom, IsTaking, LooksAt}
+use Rattle.inodes.specs.Places.{asked, asked_by, slot_at, grip_at, grip_by, grips_of}
+use Rattle.inodes.specs.Store.{StoreState, IsStore, HoldsAt, Stands, Agrees, current_of}
+use Rattle.inodes.specs.Tasks.{TaskState, task}
+use Rattle.inodes.proofs.Agreeing.{agrees_now, stays_same}
+use Rattle.inodes.proofs.Gripping.{grip_is}
+use Rattle.inodes.proofs.LooksKept.{looks_set}
+use Rattle.inodes.proofs.Searching.{where_got}
+use Rattle.inodes.proofs.StoreSteps.{within_image}
+
+-- the number of an operation that looks is one that operations may name
+pub number_of_look : (n : ℕ) (op : Op) → CanLook n op → IsTrue (is_number n (asked op))
+number_of_look n (Create kind) can = absurd can
+number_of_look n (Write i off bytes) can = absurd can
+number_of_look n (Read i off count) can = can.0
+number_of_look n (Trunc i) can = absurd can
+number_of_look n (Remove i) can = absurd can
+number_of_look n (Stat i) can = can
+
+-- in a store whose process p takes its inode
+module _ {D N : Type 0} (disk : Ghosts D N) (s : StoreState D) (p : ℕ) (op : Op) (m : LockState) (is : IsStore disk.image s) (well : s.volume.fault ≡ None)
+    (stood : (task s.tasks p).place ≡ place.Taking m) (is_op : (task s.tasks p).op ≡ Some op) where
+  abbrev cur : Image
+  cur = current_of disk.image s.volume
+
+  pub agrees : Agrees s.volume.buffers s.volume.log s.table.inode_count s.tasks
+  agrees = where_none s.volume.fault well is.agrees
+
+  pub looking : AreLooking cur s.table s.tasks
+  looking = where_none s.volume.fault well is.looks
+
+  pub taking : IsTaking s.table.inode_count (task s.tasks p) m
+  taking = subst (λ (a : Place). LooksAt cur s.table (task s.tasks p) a) stood (looking.stand p)
+
+  pub same_op : taking.op ≡ op
+  same_op = let both : Some taking.op ≡ Some op = sym taking.is ∙ is_op in cc both
+
+  pub look : CanLook s.table.inode_count op
+  look = subst (CanLook s.table.inode_count) same_op taking.look
+
+  pub number : m.number ≡ asked op
+  number = taking.number ∙ ap asked same_op
+
+  pub may_name : IsTrue (is_number s.table.inode_count m.number)
+  may_name = subst (λ (i : ℕ). IsTrue (is_number s.table.inode_count i)) (sym number) (number_of_look s.table.inode_count op look)
+
+  -- the image says so too
+  pub may_name_now : IsTrue (is_number (inode_count_of cur) m.number)
+  may_name_now = subst (λ (n : ℕ). IsTrue (is_number n m.number)) is.numbers may_name
+
+  pub has : grip (grips_of s.tasks) p ≡ grip_at m.at m.number
+  has = grip_is s.tasks p ∙ ap (λ (a : Place). grip_by a (asked_by (task s.tasks p).op)) stood
+
+  pub holds : HoldsAt s.volume.buffers p (inode_block m.number) (slot_of m.at)
+  holds = subst (λ (a : Place). Stands s.volume.buffers s.volume.log s.table.inode_count p (task s.tasks p).op a) stood (agrees.stands p)
+
+  pub slot_is : slot_at (task s.tasks p).place ≡ slot_of m.at
+  slot_is = ap slot_at stood
+
+  module _ (joint : Joint (disk.image s.volume.device) s.volume.buffers s.volume.log) where
+    within : inode_block m.number < s.volume.log.size
+    within = let inside = within_image cur m.number is.geometry may_name_now in let long = length-current (disk.image s.volume.device) s.volume.buffers in let size = joint.size in omega (arith, inside, long, size)
+
+    no_lock : (k : ℕ) → ((i : ℕ) × (grip (grips_of s.tasks) p ≡ Some (locked_grip k i))) → grip (grips_of s.tasks) p ≡ Some (unlocked_grip k m.number) → ⊥
+    no_lock k locks grips =
+        let both : Some (locked_grip k locks.0) ≡ Some (unlocked_grip k m.number) = sym locks.1 ∙ grips in
+        let same : true ≡ false = ap (λ (o : Option Grip). elim o [ None ↦ true | Some g ↦ g.is_locked ]) both in
+        absurd (cc same)
+
+    -- it may make its next step
+    pub may_lock : MayLock disk.image s.table s.volume p m
+    may_lock = by_place m.at has (where_got (disk.image s.volume.device) s.volume.buffers s.volume.log p (inode_block m.number) (slot_of m.at) joint holds)
+      where
+        by_place : (a : LockAt) → grip (grips_of s.tasks) p ≡ grip_at a m.number → HoldsWhereGot cur s.volume.buffers p (inode_block m.number) (slot_of a)
+            → MayLockAt disk.image s.table s.volume p m.number a
+        by_place lock_at.Reference grips held = has_place_for_each s.table (grips_of s.tasks) cur m.number looking.table
+        by_place (lock_at.Lock k) grips held =
+            let at = looking.table.places p (unlocked_grip k m.number) grips in
+            (record { place = at.0; number = at.1 }, λ holder. no_lock k (looking.table.holders p k holder) grips)
+        by_place (lock_at.Read k slot) grips held =
+            let at = looking.table.places p (locked_grip k m.number) grips in
+            (record { place = at.0; number = at.1 }, looking.table.locks p k m.number grips, record { within = within; holds = held })
+
+-- the task of an operation that looks
+abbrev pub look_task : Op → Option GatheredBytes → TaskState
+look_task op room = record { op = Some op; place = place.Taking (record { number = asked op; at = lock_at.Reference }); gathered = room }
+
+-- such a task begins
+pub store_looks : {D : Type 0} (image : D → Image) (s : StoreState D) (p : ℕ) (op : Op) (room : Option GatheredBytes) → IsStore image s → s.volume.fault ≡ None → p < length s.tasks → (task s.tasks p).place ≡ place.Nowhere
+    → CanLook s.table.inode_count op → HasRoom op room → IsStore image (record s { tasks = set s.tasks p (look_task op room) })
+store_looks image s p op room is well inside stood can has = record {
+  few = let size = length-set s.tasks p (look_task op room) in let few = is.few in omega (arith, size, few);
+  geometry = is.geometry;
+  numbers = is.numbers;
+  agrees = if_none s.volume.fault (agrees_now s.volume.buffers s.volume.buffers s.volume.log s.volume.log s.table.inode_count p s.tasks (look_task op room) (record {
+    agrees = where_none s.volume.fault well is.agrees;
+    inside = inside;
+    others = stays_same s.volume.buffers s.volume.log p;
+    stands = tt;
+    locks = λ b i lock. sym (ap slot_at stood) ∙ (where_none s.volume.fault well is.agrees).holders p b i lock;
+  }));
+  looks = if_none s.volume.fault (looks_set (current_of image s.volume) s.table s.tasks p (look_task op room) (where_none s.volume.fault well is.looks) inside (sym (ap (λ (a : Place). grip_by a (asked_by (task s.tasks p).op)) stood))
+      (record { op = op; is = refl; look = can; number = refl; room = has }));
+}

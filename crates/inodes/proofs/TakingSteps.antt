@@ -1,0 +1,602 @@
+-- Each step of taking an inode keeps what is true of every store, and does what a step promises.
+use Rattle.std.proofs.Common.{◌≡◌, ◌≢◌, ℕ, ◌<◌, ◌≤◌, ◌+◌, Bool, true, false, cond, not, eqb, List, length, set, refl, sym, ◌∙◌, ap, subst, arith, Option, Some, None}
+use Rattle.std.proofs.lemmas.Bool.{eqb-true, eqb-false, false≢true}
+use Rattle.std.proofs.lemmas.List.{set-get_or, length-map, get_or-set_same, get_or-set_other}
+use Rattle.blocks.specs.Disk.{Image}
+use Rattle.blocks.specs.declared.disk.Disk.{Ghosts}
+use Rattle.model.specs.declared.types.image.Dinode.{Dinode}
+use Rattle.model.specs.declared.types.operations.Op.{Op}
+use Rattle.model.specs.declared.types.operations.Reply.{Reply}
+use Rattle.model.specs.declared.types.operations.TaskProgress.{TaskProgress}
+use Rattle.model.specs.declared.types.operations.TaskProgress.TheVariants as progress
+use Rattle.model.specs.declared.types.operations.Why.{Why}
+use Rattle.model.specs.declared.types.operations.Why.TheVariants as why
+use Rattle.model.specs.Files.{Files}
+use Rattle.model.specs.Journal.{is_making}
+use Rattle.model.specs.Layout.{form_of, inode_block, inode_of}
+use Rattle.model.specs.Tasks.{FilesThen, reply_at_turn}
+use Rattle.wal.specs.Held.{HasLock, LocksAfter, WaitsFor}
+use Rattle.wal.specs.Joint.{Joint}
+use Rattle.wal.specs.Machine.{LogState}
+use Rattle.wal.specs.Volume.{VolumeState}
+use Rattle.wal.specs.declared.types.Get.{Get}
+use Rattle.wal.specs.declared.types.Get.TheVariants as get
+use Rattle.blockmap.specs.declared.progress.Progress.{Progress}
+use Rattle.blockmap.specs.declared.progress.Progress.TheVariants as machine
+use Rattle.blockmap.specs.Getting.{GetsFor, progress_of, slot_of as got_slot_of}
+use Rattle.inodes.specs.declared.ilock.LockAt.{LockAt}
+use Rattle.inodes.specs.declared.ilock.LockAt.TheVariants as lock_at
+use Rattle.inodes.specs.declared.tasks.Place.{Place}
+use Rattle.inodes.specs.declared.tasks.Place.TheVariants as place
+use Rattle.inodes.specs.Goes.{Goes, progress_of_lock, place_of_lock}
+use Rattle.inodes.specs.Grips.{Grip, KeepsTable, TableIs, grip, locked_grip, unlocked_grip, with_grip}
+use Rattle.inodes.specs.Ilock.{LockSteps, Locks, ReadsInode, at_lock}
+use Rattle.inodes.specs.Lemmas.Grips.{kept_by_refer, kept_by_lock, kept_by_read, locks_exclude, holder_is_another}
+use Rattle.inodes.specs.LockState.{LockState, place_of, slot_of, locks_left}
+use Rattle.inodes.specs.Looks.{LooksAt, IsTaking}
+use Rattle.inodes.specs.Places.{asked, asked_by, is_reading, slot_at, block_at_place, grip_at, grip_by, grip_of, grips_of, steps_left}
+use Rattle.inodes.specs.Steps.{Steps, Waits, LeavesReadings, LeavesNumber, IsHeldByAnother, IsInodeHeld, is_made}
+use Rattle.inodes.specs.Store.{StoreState, IsStore, FitsFiles, HoldsAt, current_of}
+use Rattle.inodes.specs.declared.table.InMemory.{InMemory}
+use Rattle.inodes.specs.Table.{TableState, entry_at, is_of, holder_at, copy_at, copy_in, place_for, with_holder, with_copy, referred, locked, kept}
+use Rattle.inodes.specs.Tasks.{TaskState, task, no_task}
+use Rattle.inodes.specs.Turning.{IsReadable, if_used, reply_when_taken, place_when_taken}
+use Rattle.inodes.specs.Ialloc.{SearchState}
+use Rattle.inodes.specs.Lemmas.Looks.{reading_locks}
+use Rattle.inodes.proofs.Agreeing.{StaysForOthers}
+use Rattle.inodes.proofs.Getting.{HasOne, has_same, has_left, reads_none, reads_got, shows_got, sleeps_got, held_got, has_then}
+use Rattle.inodes.proofs.Gripping.{grip_is}
+use Rattle.inodes.proofs.Looking.{Looked, files_same, store_looked, steps_looked}
+use Rattle.inodes.proofs.Taking.{agrees, looking, taking, look, number, has, slot_is, may_name}
+use Rattle.inodes.proofs.Turning.{readable, makes_none, grip_at_turn, slot_at_turn, left_at_turn, stands_free, files_at_turn, looks_at_turn}
+
+module _ {D N : Type 0} (disk : Ghosts D N) (s : StoreState D) (p : ℕ) (op : Op) (m : LockState) (is : IsStore disk.image s) (well : s.volume.fault ≡ None) (inside : p < length s.tasks)
+    (stood : (task s.tasks p).place ≡ place.Taking m) (is_op : (task s.tasks p).op ≡ Some op) (joint : Joint (disk.image s.volume.device) s.volume.buffers s.volume.log) where
+  abbrev cur : Image
+  cur = current_of disk.image s.volume
+
+  abbrev inode : Dinode
+  inode = inode_of cur m.number
+
+  -- its task then
+  abbrev pub task_then : LockState → Progress Bool → TaskState
+  task_then n q = record (task s.tasks p) { place = place_of_lock inode op m n q }
+
+  abbrev pub store_then : VolumeState D → List TaskState → TableState → StoreState D
+  store_then w ts tab = record { volume = w; tasks = ts; table = tab }
+
+  -- what a step makes of the store, beside where it goes
+  pub record Made (q : Progress Bool) (n : LockState) (w : VolumeState D) (tab : TableState) (ts : List TaskState) : Type 0 where
+    pub looked : Looked disk s p (progress_of_lock inode op q) (store_then w ts tab) (task_then n q)
+    pub files : (files : Files) → FitsFiles disk.image s files → FilesThen (form_of cur) op (progress_of_lock inode op q) files (FitsFiles disk.image (store_then w ts tab))
+    pub waits : Waits s p (progress_of_lock inode op q) (store_then w ts tab)
+    pub apart : LeavesReadings s p op (progress_of_lock inode op q)
+    pub falls : is_made (progress_of_lock inode op q) ≡ true → steps_left (place_of_lock inode op m n q) s.table.inode_count < locks_left m.at + 17
+
+  abbrev pub Makes : Progress Bool → LockState → VolumeState D → TableState → Type 0
+  Makes q n w tab = (ts : List TaskState) → ts ≡ set s.tasks p (task_then n q) → Made q n w tab ts
+
+  -- nothing is said of others where no reply is
+  no_reply : (q : Progress Bool) → reply_at_turn (progress_of_lock inode op q) ≡ None → LeavesReadings s p op (progress_of_lock inode op q)
+  no_reply q none other apart reads = subst (λ (o : Option Reply). LeavesNumber op o (asked_by (task s.tasks other).op)) (sym none) tt
+
+  -- nobody waits where a step is made
+  no_wait : (q : Progress Bool) (t : StoreState D) → is_made (progress_of_lock inode op q) ≡ true → Waits s p (progress_of_lock inode op q) t
+  no_wait q t made = record {
+    sleeping = λ cause waits. absurd (asleep cause waits);
+    held = λ waits. absurd (asleep why.BufferHeld waits);
+    inode = λ waits. absurd (asleep why.InodeHeld waits);
+  }
+    where
+      asleep : (cause : Why) → progress_of_lock inode op q ≡ progress.Sleeping cause → ⊥
+      asleep cause waits = false≢true (sym (ap is_made waits) ∙ made)
+
+  own_slot : slot_at (task s.tasks p).place ≡ slot_of m.at
+  own_slot = slot_is disk s p op m is well stood is_op
+
+  grip_now : (a : LockAt) → m.at ≡ a → grip (grips_of s.tasks) p ≡ grip_at a m.number
+  grip_now a at = has disk s p op m is well stood is_op ∙ ap (λ (b : LockAt). grip_at b m.number) at
+
+  -- it takes its inode still
+  still_taking : (n : LockState) → n.number ≡ m.number → IsTaking s.table.inode_count (record (task s.tasks p) { place = place.Taking n }) n
+  still_taking n same = let t = taking disk s p op m is well stood is_op in record { op = t.op; is = t.is; look = t.look; number = same ∙ t.number; room = t.room }
+
+  few : p < length (grips_of s.tasks)
+  few = subst (λ (n : ℕ). p < n) (sym (length-map s.tasks grip_of)) inside
+
+  table_now : TableIs s.table (grips_of s.tasks) cur
+  table_now = (looking disk s p op m is well stood is_op).table
+
+  -- no buffer is touched by who has none
+  has_none : slot_of m.at ≡ None → HasOne s.volume.buffers s.volume.buffers s.volume.log p (inode_block m.number) None
+  has_none none = has_same s.volume.buffers s.volume.log s.table.inode_count p s.tasks (agrees disk s p op m is well stood is_op) (inode_block m.number) None (own_slot ∙ none) tt
+
+  -- a step that is made, and has no turn
+  moves : (q : Progress Bool) (n : LockState) (w : VolumeState D) (tab : TableState) (ts : List TaskState) → progress_of_lock inode op q ≡ progress.Moved → Looked disk s p (progress_of_lock inode op q) (store_then w ts tab) (task_then n q)
+      → steps_left (place_of_lock inode op m n q) s.table.inode_count < locks_left m.at + 17 → Made q n w tab ts
+  moves q n w tab ts moved looked falls = record {
+    looked = looked;
+    files = λ files fits. subst (λ (r : TaskProgress). FilesThen (form_of cur) op r files (FitsFiles disk.image (store_then w ts tab))) (sym moved)
+        (files_same disk s p (progress_of_lock inode op q) (store_then w ts tab) (task_then n q) is well inside looked files fits);
+    waits = no_wait q (store_then w ts tab) (ap is_made moved);
+    apart = no_reply q (ap reply_at_turn moved);
+    falls = λ made. falls;
+  }
+
+  some_left : (a : LockAt) → 1 ≤ locks_left a
+  some_left lock_at.Reference = omega arith
+  some_left (lock_at.Lock k) = omega arith
+  some_left (lock_at.Read k None) = omega arith
+  some_left (lock_at.Read k (Some i)) = omega arith
+
+  -- a reference is taken
+  refers : m.at ≡ lock_at.Reference → (k : ℕ) → place_for s.table.places m.number ≡ Some k → Makes machine.Moved (at_lock m (lock_at.Lock k)) s.volume (referred s.table m.number k)
+  refers at k found ts tasks =
+      let one = has_none (ap slot_of at) in
+      moves machine.Moved (at_lock m (lock_at.Lock k)) s.volume (referred s.table m.number k) ts refl (record {
+        tasks = tasks;
+        op = refl;
+        count = refl;
+        reads = reads_none disk s (store_then s.volume ts (referred s.table m.number k)) refl well progress.Moved refl;
+        shown = refl;
+        now = λ fine. record {
+          others = one.others;
+          locks = one.locks;
+          stands = one.holds;
+          table = kept_by_refer s.table (grips_of s.tasks) cur p m.number k table_now few (grip_now lock_at.Reference at) (may_name disk s p op m is well stood is_op) found;
+          looks = still_taking (at_lock m (lock_at.Lock k)) refl;
+        };
+      }) (subst (λ (a : LockAt). 3 + 17 < locks_left a + 17) (sym at) (omega arith))
+
+  -- the lock is taken, and the inode was not read yet
+  locks_it : (k : ℕ) → m.at ≡ lock_at.Lock k → holder_at s.table.places k ≡ None → Makes machine.Moved (at_lock m (lock_at.Read k None)) s.volume (locked s.table k p)
+  locks_it k at free ts tasks =
+      let one = has_none (ap slot_of at) in
+      moves machine.Moved (at_lock m (lock_at.Read k None)) s.volume (locked s.table k p) ts refl (record {
+        tasks = tasks;
+        op = refl;
+        count = refl;
+        reads = reads_none disk s (store_then s.volume ts (locked s.table k p)) refl well progress.Moved refl;
+        shown = refl;
+        now = λ fine. record {
+          others = one.others;
+          locks = one.locks;
+          stands = one.holds;
+          table = kept_by_lock s.table (grips_of s.tasks) cur p k m.number table_now (grip_now (lock_at.Lock k) at) free;
+          looks = still_taking (at_lock m (lock_at.Read k None)) refl;
+        };
+      }) (subst (λ (a : LockAt). 2 + 17 < locks_left a + 17) (sym at) (omega arith))
+
+  -- who had to wait, or failed, stands where it stood
+  stands_still : (q : Progress Bool) (n : LockState) → place_of_lock inode op m n q ≡ place.Taking m → task_then n q ≡ task s.tasks p
+  stands_still q n same = ap (λ (a : Place). record (task s.tasks p) { place = a }) (same ∙ sym stood)
+
+  same_grips : (g : Option Grip) → grip (grips_of s.tasks) p ≡ g → with_grip (grips_of s.tasks) p g ≡ grips_of s.tasks
+  same_grips g same = ap (with_grip (grips_of s.tasks) p) (sym same) ∙ set-get_or (grips_of s.tasks) p None
+
+  same_table : (g : Option Grip) → grip (grips_of s.tasks) p ≡ g → KeepsTable s.table s.table p (grips_of s.tasks) (with_grip (grips_of s.tasks) p g) cur
+  same_table g same = record {
+    table = subst (λ (gs : List (Option Grip)). TableIs s.table gs cur) (sym (same_grips g same)) table_now;
+    others = λ q k i other locks. record { number = λ j. refl; holder = refl; copy = refl };
+  }
+
+  -- nothing is changed
+  stays : (q : Progress Bool) (n : LockState) (ts : List TaskState) → place_of_lock inode op m n q ≡ place.Taking m → ts ≡ set s.tasks p (task_then n q) → store_then s.volume ts s.table ≡ s
+  stays q n ts same tasks = ap (λ (l : List TaskState). record s { tasks = l }) (tasks ∙ ap (set s.tasks p) (stands_still q n same) ∙ set-get_or s.tasks p no_task)
+
+  -- another has the lock
+  sleeps : (k q : ℕ) → m.at ≡ lock_at.Lock k → holder_at s.table.places k ≡ Some q → Makes (machine.Sleeping why.InodeHeld) m s.volume s.table
+  sleeps k q at holder ts tasks =
+      let one = has_none (ap slot_of at) in
+      let another = holder_is_another s.table (grips_of s.tasks) cur p q m.number k table_now (grip_now (lock_at.Lock k) at) holder in
+      let same : store_then s.volume ts s.table ≡ s = stays (machine.Sleeping why.InodeHeld) m ts refl tasks in
+      let looked : Looked disk s p (progress.Sleeping why.InodeHeld) (store_then s.volume ts s.table) (task_then m (machine.Sleeping why.InodeHeld)) = record {
+        tasks = tasks;
+        op = refl;
+        count = refl;
+        reads = reads_none disk s (store_then s.volume ts s.table) refl well (progress.Sleeping why.InodeHeld) refl;
+        shown = refl;
+        now = λ fine. record {
+          others = one.others;
+          locks = subst (λ (o : Option ℕ). (a i : ℕ) → HasLock s.volume.buffers p a i → o ≡ Some i) (sym (ap slot_of at)) one.locks;
+          stands = subst (λ (o : Option ℕ). HoldsAt s.volume.buffers p (inode_block m.number) o) (sym (ap slot_of at)) tt;
+          table = same_table (grip_by (place.Taking m) (asked_by (task s.tasks p).op)) (grip_now m.at refl);
+          looks = still_taking m refl;
+        };
+      } in
+      record {
+        looked = looked;
+        files = λ files fits. files_same disk s p (progress.Sleeping why.InodeHeld) (store_then s.volume ts s.table) (task_then m (machine.Sleeping why.InodeHeld)) is well inside looked files fits;
+        waits = record {
+          sleeping = λ cause waits. same;
+          held = λ waits. absurd (cc waits);
+          inode = λ waits. record {
+            other = q;
+            place = k;
+            number = m.number;
+            apart = another.0;
+            wanted = sym (grip_is s.tasks p) ∙ grip_now (lock_at.Lock k) at;
+            locked = sym (grip_is s.tasks q) ∙ another.1;
+          };
+        };
+        apart = no_reply (machine.Sleeping why.InodeHeld) refl;
+        falls = λ made. absurd (cc made);
+      }
+
+  -- THE TURN, with the inode locked at place k of the table
+  pub record IsTaken (n : LockState) (k : ℕ) (w : VolumeState D) (tab : TableState) (used : Bool) : Type 0 where
+    pub place : place_of n.at ≡ k
+    pub is_used : used ≡ true → inode.kind ≢ 0
+    pub is_free : used ≡ false → inode.kind ≡ 0
+    pub copy : used ≡ true → copy_at tab.places k ≡ Some inode
+    pub count : tab.inode_count ≡ s.table.inode_count
+    pub table : KeepsTable s.table tab p (grips_of s.tasks) (with_grip (grips_of s.tasks) p (Some (locked_grip k m.number))) cur
+    pub device : w.device ≡ s.volume.device
+    pub well_then : w.fault ≡ None
+    pub log : w.log ≡ s.volume.log
+    pub current : current_of disk.image w ≡ cur
+    pub one : HasOne s.volume.buffers w.buffers s.volume.log p (inode_block m.number) None
+
+  asks : m.number ≡ asked op
+  asks = number disk s p op m is well stood is_op
+
+  own_number : asked_by (task s.tasks p).op ≡ m.number
+  own_number = ap asked_by is_op ∙ sym asks
+
+  not_searching : (k : ℕ) (used : Bool) (search : SearchState) → place_when_taken (if_used used inode) k op ≡ place.Creating search → ⊥
+  not_searching k used search same = let no : Some (locked_grip k 0) ≡ None = sym (grip_at_turn inode k 0 op used) ∙ ap (λ (a : Place). grip_by a 0) same in absurd (cc no)
+
+  -- the inode of another's reading is another one
+  turn_apart : (tab : TableState) (k : ℕ) (r : Option Reply) → TableIs tab (with_grip (grips_of s.tasks) p (Some (locked_grip k m.number))) cur → ((i : ℕ) → is_making i r ≡ true → ⊥)
+      → (q : ℕ) → q ≢ p → is_reading (task s.tasks q).place ≡ true → LeavesNumber op r (asked_by (task s.tasks q).op)
+  turn_apart tab k None table makes q other reads = tt
+  turn_apart tab k (Some reply) table makes q other reads = (λ same. other (sym (alone same)), not_true (is_making (asked_by (task s.tasks q).op) (Some reply)) (makes (asked_by (task s.tasks q).op)))
+    where
+      not_true : (b : Bool) → (b ≡ true → ⊥) → b ≡ false
+      not_true true never = absurd (never refl)
+      not_true false never = refl
+
+      alone : asked op ≡ asked_by (task s.tasks q).op → p ≡ q
+      alone same =
+          let theirs = reading_locks cur s.table s.tasks (looking disk s p op m is well stood is_op) q reads in
+          let gs = grips_of s.tasks in
+          let now : grip (with_grip gs p (Some (locked_grip k m.number))) p ≡ Some (locked_grip k m.number) = get_or-set_same gs p (Some (locked_grip k m.number)) None few in
+          let then_theirs : grip (with_grip gs p (Some (locked_grip k m.number))) q ≡ Some (locked_grip theirs.0 m.number) =
+          get_or-set_other gs p q (Some (locked_grip k m.number)) None other ∙ theirs.1 ∙ ap (λ (i : ℕ). Some (locked_grip theirs.0 i)) (sym same ∙ sym asks) in
+          locks_exclude tab (with_grip gs p (Some (locked_grip k m.number))) cur p q m.number k theirs.0 table now then_theirs
+
+  turns : (n : LockState) (k : ℕ) (w : VolumeState D) (tab : TableState) (used : Bool) → IsTaken n k w tab used → Makes (machine.Over used) n w tab
+  turns n k w tab used t ts tasks =
+      let r = reply_when_taken (if_used used inode) op in
+      let there : place_of_lock inode op m n (machine.Over used) ≡ place_when_taken (if_used used inode) k op = ap (λ (j : ℕ). place_when_taken (if_used used inode) j op) t.place in
+      let free : slot_at (place_of_lock inode op m n (machine.Over used)) ≡ None = ap slot_at there ∙ slot_at_turn inode k op used in
+      let gripped : grip_of (task_then n (machine.Over used)) ≡ Some (locked_grip k m.number) =
+      ap (λ (a : Place). grip_by a (asked_by (task s.tasks p).op)) there ∙ ap (grip_by (place_when_taken (if_used used inode) k op)) own_number ∙ grip_at_turn inode k m.number op used in
+      let looked : Looked disk s p (progress.Turned r) (store_then w ts tab) (task_then n (machine.Over used)) = record {
+        tasks = tasks;
+        op = refl;
+        count = t.count;
+        reads = reads_none disk s (store_then w ts tab) t.device t.well_then (progress.Turned r) refl;
+        shown = ap (λ (x : Image). record { current = x; log = w.log }) t.current ∙ ap (λ (l : LogState). record { current = cur; log = l }) t.log;
+        now = λ fine. record {
+          others = subst (λ (l : LogState). StaysForOthers s.volume.buffers w.buffers s.volume.log l p) (sym t.log) t.one.others;
+          locks = λ b i has. free ∙ t.one.locks b i has;
+          stands = stands_free w.buffers w.log s.table.inode_count p (task s.tasks p).op (place_of_lock inode op m n (machine.Over used)) free (λ search same. not_searching k used search (sym there ∙ same));
+          table = subst (λ (g : Option Grip). KeepsTable s.table tab p (grips_of s.tasks) (with_grip (grips_of s.tasks) p g) cur) (sym gripped) t.table;
+          looks = subst (λ (a : Place). LooksAt cur tab (task_then n (machine.Over used)) a) (sym there)
+              (looks_at_turn disk s p op m is well stood is_op joint tab k t.count used t.is_used t.copy (task_then n (machine.Over used)) is_op refl);
+        };
+      } in
+      record {
+        looked = looked;
+        files = files_at_turn disk s p op m is well stood is_op joint (store_then w ts tab) (files_same disk s p (progress.Turned r) (store_then w ts tab) (task_then n (machine.Over used)) is well inside looked) used t.is_used t.is_free;
+        waits = no_wait (machine.Over used) (store_then w ts tab) refl;
+        apart = turn_apart tab k r t.table.table (makes_none inode op used);
+        falls = λ made. subst (λ (a : Place). steps_left a s.table.inode_count < locks_left m.at + 17) (sym there)
+            (let most = left_at_turn inode k s.table.inode_count s.table.inode_count op used (look disk s p op m is well stood is_op) in let some = some_left m.at in omega (arith, most, some));
+      }
+
+  entry_inside : (k : ℕ) (g : Grip) → grip (grips_of s.tasks) p ≡ Some g → g.place ≡ k → (k < length s.table.places) × (is_of g.number (entry_at s.table.places k) ≡ true)
+  entry_inside k g gripped same =
+      let at = table_now.places p g gripped in
+      let size = table_now.size in
+      let low = at.0 in
+      (omega (arith, size, low, same), subst (λ (j : ℕ). is_of g.number (entry_at s.table.places j) ≡ true) same at.1)
+
+  -- the inode was read before, and only its lock is taken
+  locks_known : (k : ℕ) (d : Dinode) → m.at ≡ lock_at.Lock k → holder_at s.table.places k ≡ None → copy_at s.table.places k ≡ Some d → IsTaken m k s.volume (locked s.table k p) true
+  locks_known k d at free copy =
+      let gripped = grip_now (lock_at.Lock k) at in
+      let entry = entry_inside k (unlocked_grip k m.number) gripped refl in
+      let known = table_now.copies m.number k d entry.1 copy in
+      record {
+        place = ap place_of at;
+        is_used = λ used none. known.1 (ap (λ (e : Dinode). e.kind) (sym known.0) ∙ none);
+        is_free = λ used. absurd (cc used);
+        copy = λ used. ap copy_in (get_or-set_same s.table.places k (with_holder (entry_at s.table.places k) p) None entry.0) ∙ same_copy (entry_at s.table.places k) ∙ copy ∙ ap Some (sym known.0);
+        count = refl;
+        table = kept_by_lock s.table (grips_of s.tasks) cur p k m.number table_now gripped free;
+        device = refl;
+        well_then = well;
+        log = refl;
+        current = refl;
+        one = has_none (ap slot_of at);
+      }
+    where
+      same_copy : (e : Option InMemory) → copy_in (with_holder e p) ≡ copy_in e
+      same_copy None = refl
+      same_copy (Some e) = refl
+
+  -- the inode is read in its block, which is released
+  reads_it : (k i : ℕ) (q : Progress Bool) (tab : TableState) (w : VolumeState D) → m.at ≡ lock_at.Read k (Some i) → ReadsInode disk.image s.volume p k i inode s.table q tab w
+      → (used : Bool) → not (eqb inode.kind 0) ≡ used → (q ≡ machine.Over used) × IsTaken m k w tab used
+  reads_it k i q tab w at reads used is_used = (
+    reads.answer ∙ ap machine.Over is_used,
+    record {
+      place = ap place_of at;
+      is_used = λ yes. eqb-false inode.kind 0 (not_then (eqb inode.kind 0) true (is_used ∙ yes));
+      is_free = λ free. eqb-true inode.kind 0 (not_then (eqb inode.kind 0) false (is_used ∙ free));
+      copy = λ yes. ap (λ (t : TableState). copy_at t.places k) (kept_table true (is_used ∙ yes)) ∙ ap copy_in (get_or-set_same s.table.places k (with_copy (entry_at s.table.places k) inode) None entry.0)
+          ∙ new_copy (entry_at s.table.places k) entry.1;
+      count = ap (λ (t : TableState). t.inode_count) (kept_table used is_used) ∙ count_of_kept used;
+      table = subst (λ (t : TableState). KeepsTable s.table t p (grips_of s.tasks) (with_grip (grips_of s.tasks) p (Some (locked_grip k m.number))) cur) (sym (kept_table used is_used)) (keeps used is_used);
+      device = ap (λ (v : VolumeState D). v.device) reads.block.volume;
+      well_then = ap (λ (v : VolumeState D). v.fault) reads.block.volume ∙ well;
+      log = ap (λ (v : VolumeState D). v.log) reads.block.volume;
+      current = reads.block.current;
+      one = has_left s.volume.buffers s.volume.log s.table.inode_count p s.tasks (agrees disk s p op m is well stood is_op) w.buffers (inode_block m.number) i (own_slot ∙ ap slot_of at) reads.block.locks;
+    },
+  )
+    where
+      gripped : grip (grips_of s.tasks) p ≡ Some (locked_grip k m.number)
+      gripped = grip_now (lock_at.Read k (Some i)) at
+
+      entry : (k < length s.table.places) × (is_of m.number (entry_at s.table.places k) ≡ true)
+      entry = entry_inside k (locked_grip k m.number) gripped refl
+
+      not_then : (b c : Bool) → not b ≡ c → b ≡ not c
+      not_then true c same = ap not same
+      not_then false c same = ap not same
+
+      table_by : Bool → TableState
+      table_by true = kept s.table k inode
+      table_by false = s.table
+
+      count_of_kept : (b : Bool) → (table_by b).inode_count ≡ s.table.inode_count
+      count_of_kept true = refl
+      count_of_kept false = refl
+
+      kept_by : (b : Bool) → cond b s.table (kept s.table k inode) ≡ table_by (not b)
+      kept_by true = refl
+      kept_by false = refl
+
+      kept_table : (b : Bool) → not (eqb inode.kind 0) ≡ b → tab ≡ table_by b
+      kept_table b same = reads.table ∙ kept_by (eqb inode.kind 0) ∙ ap table_by same
+
+      new_copy : (e : Option InMemory) → is_of m.number e ≡ true → copy_in (with_copy e inode) ≡ Some inode
+      new_copy None same = absurd (cc same)
+      new_copy (Some e) same = refl
+
+      keeps : (b : Bool) → not (eqb inode.kind 0) ≡ b → KeepsTable s.table (table_by b) p (grips_of s.tasks) (with_grip (grips_of s.tasks) p (Some (locked_grip k m.number))) cur
+      keeps true same = subst (λ (gs : List (Option Grip)). KeepsTable s.table (kept s.table k inode) p (grips_of s.tasks) gs cur) (sym (same_grips (Some (locked_grip k m.number)) gripped))
+          (kept_by_read s.table (grips_of s.tasks) cur p k m.number inode table_now gripped refl (eqb-false inode.kind 0 (not_then (eqb inode.kind 0) true same)))
+      keeps false same = same_table (Some (locked_grip k m.number)) gripped
+
+  -- the inode's block is got, or has to be waited for, or can't be read
+  module _ (k : ℕ) (at : m.at ≡ lock_at.Read k None) (slot : Option ℕ) (w : VolumeState D) (ts : List TaskState) where
+    abbrev next : LockState
+    next = at_lock m (lock_at.Read k slot)
+
+    abbrev then_at : StoreState D
+    then_at = store_then w ts s.table
+
+    no_slot : slot_at (task s.tasks p).place ≡ None
+    no_slot = own_slot ∙ ap slot_of at
+
+    gets : (q : Progress Bool) → GetsFor disk s.volume p (inode_block m.number) q slot w → ts ≡ set s.tasks p (task_then next q) → Made q next w s.table ts
+    gets machine.Moved got tasks =
+        let are = agrees disk s p op m is well stood is_op in
+        let one = has_then disk s then_at p (inode_block m.number) machine.Moved slot got are no_slot refl in
+        let log = got.reads.log in
+        moves machine.Moved next w s.table ts refl (record {
+          tasks = tasks;
+          op = refl;
+          count = refl;
+          reads = reads_got disk s then_at p (inode_block m.number) machine.Moved slot got are no_slot progress.Moved refl;
+          shown = shows_got disk s then_at p (inode_block m.number) machine.Moved slot got are no_slot;
+          now = λ fine. record {
+            others = subst (λ (l : LogState). StaysForOthers s.volume.buffers w.buffers s.volume.log l p) (sym log) one.others;
+            locks = one.locks;
+            stands = one.holds;
+            table = same_table (Some (locked_grip k m.number)) (grip_now (lock_at.Read k None) at);
+            looks = still_taking next refl;
+          };
+        }) (subst (λ (a : LockAt). locks_left (lock_at.Read k slot) + 17 < locks_left a + 17) (sym at) (got_fewer got.answer got.gives got.slot))
+      where
+        got_fewer : (a : Get) → machine.Moved ≡ (let made : Progress Bool = progress_of a in made) → slot ≡ got_slot_of a → locks_left (lock_at.Read k slot) + 17 < 2 + 17
+        got_fewer (get.Got i) moved is_slot = subst (λ (o : Option ℕ). locks_left (lock_at.Read k o) + 17 < 2 + 17) (sym is_slot) (omega arith)
+        got_fewer (get.Sleeping cause) moved is_slot = absurd (cc moved)
+        got_fewer (get.Fault fault) moved is_slot = absurd (cc moved)
+    gets (machine.Sleeping cause) got tasks =
+        let are = agrees disk s p op m is well stood is_op in
+        let slept = sleeps_got disk s then_at p (inode_block m.number) (machine.Sleeping cause) slot got are no_slot cause refl in
+        let one = has_none (ap slot_of at) in
+        let looked : Looked disk s p (progress.Sleeping cause) then_at (task_then next (machine.Sleeping cause)) = record {
+          tasks = tasks;
+          op = refl;
+          count = refl;
+          reads = reads_got disk s then_at p (inode_block m.number) (machine.Sleeping cause) slot got are no_slot (progress.Sleeping cause) refl;
+          shown = shows_got disk s then_at p (inode_block m.number) (machine.Sleeping cause) slot got are no_slot;
+          now = λ fine. record {
+            others = subst (λ (v : VolumeState D). StaysForOthers s.volume.buffers v.buffers s.volume.log v.log p) (sym slept.0) one.others;
+            locks = subst (λ (v : VolumeState D). (a i : ℕ) → HasLock v.buffers p a i → slot_of m.at ≡ Some i) (sym slept.0)
+                (subst (λ (o : Option ℕ). (a i : ℕ) → HasLock s.volume.buffers p a i → o ≡ Some i) (sym (ap slot_of at)) one.locks);
+            stands = subst (λ (o : Option ℕ). HoldsAt w.buffers p (inode_block m.number) o) (sym (ap slot_of at)) tt;
+            table = same_table (grip_by (place.Taking m) (asked_by (task s.tasks p).op)) (grip_now m.at refl);
+            looks = still_taking m refl;
+          };
+        } in
+        record {
+          looked = looked;
+          files = λ files fits. files_same disk s p (progress.Sleeping cause) then_at (task_then next (machine.Sleeping cause)) is well inside looked files fits;
+          waits = record {
+            sleeping = λ other waits. ap (λ (v : VolumeState D). store_then v ts s.table) slept.0 ∙ stays (machine.Sleeping cause) next ts refl tasks;
+            held = λ waits.
+                let same : cause ≡ why.BufferHeld = cc waits in
+                subst (λ (b : ℕ). IsHeldByAnother s p b) (sym (ap block_at_place stood)) (held_got disk s then_at p (inode_block m.number) (machine.Sleeping cause) slot got are no_slot (ap machine.Sleeping same));
+            inode = λ waits. let same : cause ≡ why.InodeHeld = cc waits in never_inode got.answer got.gives same got.locks;
+          };
+          apart = no_reply (machine.Sleeping cause) refl;
+          falls = λ made. absurd (cc made);
+        }
+      where
+        never_inode : (a : Get) → (let made : Progress Bool = machine.Sleeping cause in made) ≡ progress_of a → cause ≡ why.InodeHeld → LocksAfter a s.volume.buffers w.buffers p (inode_block m.number) → IsInodeHeld s p
+        never_inode (get.Got i) gives same locks = absurd (cc gives)
+        never_inode (get.Sleeping other) gives same locks = let here : other ≡ why.InodeHeld = (let e : other ≡ cause = cc (sym gives) in e ∙ same) in absurd ((subst (λ (c : Why). WaitsFor c s.volume.buffers (inode_block m.number)) here locks.0))
+        never_inode (get.Fault fault) gives same locks = absurd (cc gives)
+    gets (machine.Over used) got tasks = absurd (never got.answer got.gives)
+      where
+        never : (a : Get) → (let made : Progress Bool = machine.Over used in made) ≡ progress_of a → ⊥
+        never (get.Got i) gives = absurd (cc gives)
+        never (get.Sleeping cause) gives = absurd (cc gives)
+        never (get.Fault fault) gives = absurd (cc gives)
+    gets (machine.Fault fault) got tasks =
+        let are = agrees disk s p op m is well stood is_op in
+        let looked : Looked disk s p (progress.Fault fault) then_at (task_then next (machine.Fault fault)) = record {
+          tasks = tasks;
+          op = refl;
+          count = refl;
+          reads = reads_got disk s then_at p (inode_block m.number) (machine.Fault fault) slot got are no_slot (progress.Fault fault) refl;
+          shown = shows_got disk s then_at p (inode_block m.number) (machine.Fault fault) slot got are no_slot;
+          now = λ fine. absurd (cc fine);
+        } in
+        record {
+          looked = looked;
+          files = λ files fits. files_same disk s p (progress.Fault fault) then_at (task_then next (machine.Fault fault)) is well inside looked files fits;
+          waits = record { sleeping = λ cause waits. absurd (cc waits); held = λ waits. absurd (cc waits); inode = λ waits. absurd (cc waits) };
+          apart = no_reply (machine.Fault fault) refl;
+          falls = λ made. absurd (cc made);
+        }
+
+  -- the last step, with the place of the inode
+  taken_by : (a : LockAt) → m.at ≡ a → (used : Bool) (n : LockState) (w : VolumeState D) (tab : TableState) → LockSteps disk a s.table s.volume p m (machine.Over used) tab w n
+      → (k : ℕ) × IsTaken n k w tab used
+  taken_by lock_at.Reference at used n w tab steps = absurd (cc (steps.0.2))
+  taken_by (lock_at.Lock k) at used n w tab steps = by_holder (holder_at s.table.places k) (copy_at s.table.places k) refl refl steps.0
+    where
+      by_holder : (o : Option ℕ) (copy : Option Dinode) → holder_at s.table.places k ≡ o → copy_at s.table.places k ≡ copy → Locks o copy s.table p k m (machine.Over used) tab n → (j : ℕ) × IsTaken n j w tab used
+      by_holder (Some other) copy held is_copy locks = absurd (cc (locks.0))
+      by_holder None (Some d) held is_copy locks =
+          let same : used ≡ true = (let e = locks.0 in cc e) in (
+            k,
+            subst (λ (v : VolumeState D). IsTaken n k v tab used) (sym steps.1)
+                (subst (λ (b : Bool). IsTaken n k s.volume tab b) (sym same)
+                (subst (λ (t : TableState). IsTaken n k s.volume t true) (sym locks.1)
+                (subst (λ (l : LockState). IsTaken l k s.volume (locked s.table k p) true) (sym locks.2) (locks_known k d at held is_copy)))),
+          )
+      by_holder None None held is_copy locks = absurd (cc (locks.0))
+  taken_by (lock_at.Read k None) at used n w tab steps = absurd (never steps.0.1.answer steps.0.1.gives)
+    where
+      never : (a : Get) → (let made : Progress Bool = machine.Over used in made) ≡ progress_of a → ⊥
+      never (get.Got i) gives = absurd (cc gives)
+      never (get.Sleeping cause) gives = absurd (cc gives)
+      never (get.Fault fault) gives = absurd (cc gives)
+  taken_by (lock_at.Read k (Some i)) at used n w tab steps =
+      let is_used = not (eqb inode.kind 0) in
+      let made = reads_it k i (machine.Over used) tab w at steps.0 is_used refl in
+      let same : used ≡ is_used = (let e = made.0 in cc e) in
+      (k, subst (λ (l : LockState). IsTaken l k w tab used) (sym steps.1) (subst (λ (b : Bool). IsTaken m k w tab b) (sym same) made.1))
+
+  module _ (used : Bool) (n : LockState) (w : VolumeState D) (tab : TableState) (steps : LockSteps disk m.at s.table s.volume p m (machine.Over used) tab w n) where
+    taken : (k : ℕ) × IsTaken n k w tab used
+    taken = taken_by m.at refl used n w tab steps
+
+    pub place_taken : place_of n.at < 50
+    place_taken =
+        let hs = with_grip (grips_of s.tasks) p (Some (locked_grip taken.0 m.number)) in
+        let low = taken.1.table.table.places p (locked_grip taken.0 m.number) (get_or-set_same (grips_of s.tasks) p (Some (locked_grip taken.0 m.number)) None few) in
+        subst (λ (k : ℕ). k < 50) (sym taken.1.place) low.0
+
+    pub inode_taken : cond used (copy_at tab.places (place_of n.at)) None ≡ if_used used inode
+    inode_taken = ap (λ (k : ℕ). cond used (copy_at tab.places k) None) taken.1.place ∙ by_use used taken.1.copy
+      where
+        by_use : (b : Bool) → (b ≡ true → copy_at tab.places taken.0 ≡ Some inode) → cond b (copy_at tab.places taken.0) None ≡ if_used b inode
+        by_use true copy = copy refl
+        by_use false copy = refl
+
+    pub readable_taken : IsReadable (if_used used inode)
+    readable_taken = readable disk s p op m is well stood is_op joint used taken.1.is_used
+
+  -- ANY STEP
+  takes_by : (a : LockAt) → m.at ≡ a → (q : Progress Bool) (n : LockState) (w : VolumeState D) (tab : TableState) → LockSteps disk a s.table s.volume p m q tab w n → Makes q n w tab
+  takes_by lock_at.Reference at q n w tab steps =
+      let k = steps.0.0 in
+      subst (λ (v : VolumeState D). Makes q n v tab) (sym steps.1)
+      (subst (λ (r : Progress Bool). Makes r n s.volume tab) (sym steps.0.2)
+      (subst (λ (t : TableState). Makes machine.Moved n s.volume t) (sym steps.0.3)
+      (subst (λ (l : LockState). Makes machine.Moved l s.volume (referred s.table m.number k)) (sym steps.0.4)
+      (refers at k steps.0.1))))
+  takes_by (lock_at.Lock k) at q n w tab steps = by_holder (holder_at s.table.places k) (copy_at s.table.places k) refl refl steps.0
+    where
+      by_holder : (o : Option ℕ) (copy : Option Dinode) → holder_at s.table.places k ≡ o → copy_at s.table.places k ≡ copy → Locks o copy s.table p k m q tab n → Makes q n w tab
+      by_holder (Some other) copy held is_copy locks =
+          subst (λ (v : VolumeState D). Makes q n v tab) (sym steps.1)
+          (subst (λ (r : Progress Bool). Makes r n s.volume tab) (sym locks.0)
+          (subst (λ (t : TableState). Makes (machine.Sleeping why.InodeHeld) n s.volume t) (sym locks.1)
+          (subst (λ (l : LockState). Makes (machine.Sleeping why.InodeHeld) l s.volume s.table) (sym locks.2)
+          (sleeps k other at held))))
+      by_holder None (Some d) held is_copy locks =
+          subst (λ (v : VolumeState D). Makes q n v tab) (sym steps.1)
+          (subst (λ (r : Progress Bool). Makes r n s.volume tab) (sym locks.0)
+          (subst (λ (t : TableState). Makes (machine.Over true) n s.volume t) (sym locks.1)
+          (subst (λ (l : LockState). Makes (machine.Over true) l s.volume (locked s.table k p)) (sym locks.2)
+          (turns m k s.volume (locked s.table k p) true (locks_known k d at held is_copy)))))
+      by_holder None None held is_copy locks =
+          subst (λ (v : VolumeState D). Makes q n v tab) (sym steps.1)
+          (subst (λ (r : Progress Bool). Makes r n s.volume tab) (sym locks.0)
+          (subst (λ (t : TableState). Makes machine.Moved n s.volume t) (sym locks.1)
+          (subst (λ (l : LockState). Makes machine.Moved l s.volume (locked s.table k p)) (sym locks.2)
+          (locks_it k at held))))
+  takes_by (lock_at.Read k None) at q n w tab steps =
+      subst (λ (t : TableState). Makes q n w t) (sym steps.1)
+      (subst (λ (l : LockState). Makes q l w s.table) (sym steps.0.2)
+      (λ ts tasks. gets k at steps.0.0 w ts q steps.0.1 tasks))
+  takes_by (lock_at.Read k (Some i)) at q n w tab steps =
+      let used = not (eqb inode.kind 0) in
+      let made = reads_it k i q tab w at steps.0 used refl in
+      subst (λ (l : LockState). Makes q l w tab) (sym steps.1)
+      (subst (λ (r : Progress Bool). Makes r m w tab) (sym made.0) (turns m k w tab used made.1))
+
+  module _ (q : Progress Bool) (n : LockState) (w : VolumeState D) (tab : TableState) (ts : List TaskState) (steps : LockSteps disk m.at s.table s.volume p m q tab w n) (tasks : ts ≡ set s.tasks p (task_then n q)) where
+    made : Made q n w tab ts
+    made = takes_by m.at refl q n w tab steps ts tasks
+
+    -- what is true of every store
+    pub store_taken : IsStore disk.image (store_then w ts tab)
+    store_taken = store_looked disk s p (progress_of_lock inode op q) (store_then w ts tab) (task_then n q) is well inside made.looked
+
+    -- and what a step promises
+    pub steps_taken : Steps disk s p op (progress_of_lock inode op q) (store_then w ts tab)
+    steps_taken = steps_looked disk s p (progress_of_lock inode op q) (store_then w ts tab) (task_then n q) is well inside made.looked op made.files
+        (subst (λ (a : Place). Goes disk a s p op (progress_of_lock inode op q) (store_then w ts tab)) (sym stood) (
+          record {
+            answer = q;
+            now = n;
+            locks = steps;
+            gives = refl;
+            next = ap (λ (t : TaskState). t.place) now_is;
+            bytes = ap (λ (t : TaskState). t.gathered) now_is;
+          },
+          made.looked.shown,
+        ))
+        (by_answer q) made.waits made.apart
+        (λ is_step going. subst (λ (a : Place). steps_left (place_of_lock inode op m n q) s.table.inode_count < steps_left a s.table.inode_count) (sym stood) (made.falls is_step))
+      where
+        now_is : task ts p ≡ task_then n q
+        now_is = ap (λ (l : List TaskState). task l p) tasks ∙ get_or-set_same s.tasks p (task_then n q) no_task inside
+
+        by_answer : (r : Progress Bool) (i : ℕ) → is_making i (reply_at_turn (progress_of_lock inode op r)) ≡ true → ⊥
+        by_answer machine.Moved i makes = absurd (cc makes)
+        by_answer (machine.Sleeping cause) i makes = absurd (cc makes)
+        by_answer (machine.Over used) i makes = makes_none inode op used i makes
+        by_answer (machine.Fault fault) i makes = absurd (cc makes)

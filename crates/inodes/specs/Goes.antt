@@ -1,0 +1,195 @@
+-- Where a step of a task goes, and what it makes of table, current image and log.
+use Rattle.std.specs.Prelude.{◌≡◌, ℕ, ◌-◌, Bool, Option, Some, None}
+use Rattle.blocks.specs.Disk.{Image, block_at}
+use Rattle.blocks.specs.declared.disk.Disk.{Ghosts}
+use Rattle.model.specs.declared.types.image.Dinode.{Dinode}
+use Rattle.model.specs.declared.types.operations.Op.{Op}
+use Rattle.model.specs.declared.types.operations.Reply.{Reply}
+use Rattle.model.specs.declared.types.operations.Reply.TheVariants.{Made, NoInode, Wrote, Bytes, Done, StatOf, NoFile, BadOffset, TooBig, TooLong, BadType}
+use Rattle.model.specs.declared.types.operations.TaskProgress.{TaskProgress}
+use Rattle.model.specs.declared.types.operations.TaskProgress.TheVariants as progress
+use Rattle.model.specs.Codec.{new_inode, with_inode}
+use Rattle.model.specs.Gathered.{GatheredBytes}
+use Rattle.model.specs.Layout.{inode_block, inode_of, HasNoFreeInode}
+use Rattle.bcache.specs.Buffers.{Buffers}
+use Rattle.wal.specs.Machine.{LogState, noted}
+use Rattle.wal.specs.Volume.{VolumeState, get_answer}
+use Rattle.wal.specs.declared.types.Get.TheVariants as get
+use Rattle.blockmap.specs.declared.progress.Progress.{Progress}
+use Rattle.blockmap.specs.declared.progress.Progress.TheVariants as machine
+use Rattle.inodes.specs.declared.tasks.Place.{Place}
+use Rattle.inodes.specs.declared.tasks.Place.TheVariants as place
+use Rattle.inodes.specs.Creation.{lowest_free}
+use Rattle.inodes.specs.Ialloc.{SearchState, at_slot, at_next_block}
+use Rattle.inodes.specs.Ilock.{LockSteps}
+use Rattle.inodes.specs.LockState.{LockState, place_of}
+use Rattle.inodes.specs.Readi.{ReadState, ReadSteps}
+use Rattle.inodes.specs.Store.{StoreState, current_of}
+use Rattle.inodes.specs.Table.{left}
+use Rattle.inodes.specs.Tasks.{task}
+use Rattle.inodes.specs.Turning.{if_used, reply_when_taken, place_when_taken}
+
+-- what a step may change beside buffers and tasks: the current image and the log
+pub record Shown : Type 0 where
+  pub current : Image
+  pub log : LogState
+
+abbrev pub shown_of : {D : Type 0} → (D → Image) → VolumeState D → Shown
+shown_of image v = record { current = current_of image v; log = v.log }
+
+-- the lowest number that is free in the block that a search looks at
+abbrev pub free_at : Image → ℕ → SearchState → Option ℕ
+free_at cur n m = lowest_free (block_at cur m.block) n m.block
+
+-- process p's creation writes a new inode at number i, and logs its block
+abbrev pub with_claimed : Shown → ℕ → SearchState → ℕ → Shown
+with_claimed v p m i = record {
+  current = with_inode v.current i (new_inode m.kind);
+  log = noted v.log p m.block;
+}
+
+-- a look claims number i, which is the lowest that is free, and changes nothing else
+pub record Claims (n p : ℕ) (m : SearchState) (i : ℕ) (before now : Shown) : Type 0 where
+  pub lowest : free_at before.current n m ≡ Some i
+  pub place : inode_block i ≡ m.block
+  pub free : (inode_of before.current i).kind ≡ 0
+  pub inode : inode_of now.current i ≡ new_inode m.kind
+  pub shown : now ≡ with_claimed before p m i
+
+-- a look finds none, and changes nothing
+pub record FindsNone (n : ℕ) (m : SearchState) (before now : Shown) : Type 0 where
+  pub none : free_at before.current n m ≡ None
+  pub full : HasNoFreeInode now.current m.block
+  pub shown : now ≡ before
+
+-- The reply at the turn of a creation that looks at a block: the number that it claims, or that
+-- none is free in the block, which is the last one.
+abbrev pub IsTurn : ℕ → ℕ → SearchState → Option Reply → Shown → Shown → Type 0
+IsTurn n p m None before now = ⊥
+IsTurn n p m (Some (Made i)) before now = Claims n p m i before now
+IsTurn n p m (Some NoInode) before now = (m.block ≡ inode_block (n - 1)) × FindsNone n m before now
+IsTurn n p m (Some (Wrote k)) before now = ⊥
+IsTurn n p m (Some (Bytes bytes)) before now = ⊥
+IsTurn n p m (Some Done) before now = ⊥
+IsTurn n p m (Some (StatOf kind size)) before now = ⊥
+IsTurn n p m (Some NoFile) before now = ⊥
+IsTurn n p m (Some BadOffset) before now = ⊥
+IsTurn n p m (Some TooBig) before now = ⊥
+IsTurn n p m (Some TooLong) before now = ⊥
+IsTurn n p m (Some BadType) before now = ⊥
+
+-- the step that gets the block that a search looks at, by what the buffers say to that
+abbrev pub GetsBlock : Buffers → SearchState → TaskProgress → Place → Type 0
+GetsBlock c m progress.Moved next =
+    (i : ℕ) × (get_answer c m.block ≡ get.Got i) × (next ≡ place.Creating (at_slot m i))
+GetsBlock c m (progress.Turned reply) next = ⊥
+GetsBlock c m (progress.Decided reply) next = ⊥
+GetsBlock c m progress.Over next = ⊥
+GetsBlock c m (progress.Sleeping why) next =
+    (get_answer c m.block ≡ get.Sleeping why) × (next ≡ place.Creating m)
+GetsBlock c m (progress.Fault fault) next = (fault.0 ≡ m.block) × (next ≡ place.Creating m)
+
+-- the step that looks at it
+abbrev pub LooksAtBlock : ℕ → ℕ → SearchState → TaskProgress → Place → Shown → Shown → Type 0
+LooksAtBlock n p m progress.Moved next before now =
+    (next ≡ place.Creating (at_next_block m)) × FindsNone n m before now
+LooksAtBlock n p m (progress.Turned reply) next before now =
+    (next ≡ place.Nowhere) × IsTurn n p m reply before now
+LooksAtBlock n p m (progress.Decided reply) next before now = ⊥
+LooksAtBlock n p m progress.Over next before now = ⊥
+LooksAtBlock n p m (progress.Sleeping why) next before now = ⊥
+LooksAtBlock n p m (progress.Fault fault) next before now = ⊥
+
+-- a search gets its block without a change to image or log; and where it got it, looks at it
+abbrev pub GoesFrom : Option ℕ → ℕ → ℕ → SearchState → Buffers → TaskProgress → Place
+    → Shown → Shown → Type 0
+GoesFrom None n p m c r next before now = GetsBlock c m r next × (now ≡ before)
+GoesFrom (Some i) n p m c r next before now = LooksAtBlock n p m r next before now
+
+-- what a step of taking an inode is to the task, where the current image has this inode
+abbrev pub progress_of_lock : Dinode → Op → Progress Bool → TaskProgress
+progress_of_lock d op machine.Moved = progress.Moved
+progress_of_lock d op (machine.Sleeping why) = progress.Sleeping why
+progress_of_lock d op (machine.Over used) = progress.Turned (reply_when_taken (if_used used d) op)
+progress_of_lock d op (machine.Fault fault) = progress.Fault fault
+
+-- and where the task stands then
+abbrev pub place_of_lock : Dinode → Op → LockState → LockState → Progress Bool → Place
+place_of_lock d op m n machine.Moved = place.Taking n
+place_of_lock d op m n (machine.Sleeping why) = place.Taking m
+place_of_lock d op m n (machine.Over used) =
+    place_when_taken (if_used used d) (place_of n.at) op
+place_of_lock d op m n (machine.Fault fault) = place.Taking m
+
+-- A step that takes the inode of an operation: with the last one it has its turn, and knows the
+-- inode that the current image has.
+pub record TakesInode {D N : Type 0} (disk : Ghosts D N) (s : StoreState D) (p : ℕ) (op : Op)
+    (m : LockState) (r : TaskProgress) (t : StoreState D) : Type 0 where
+  pub answer : Progress Bool
+  pub now : LockState
+  pub locks : LockSteps disk m.at s.table s.volume p m answer t.table t.volume now
+  pub gives : r ≡ progress_of_lock (inode_of (current_of disk.image s.volume) m.number) op answer
+  pub next : (task t.tasks p).place
+      ≡ place_of_lock (inode_of (current_of disk.image s.volume) m.number) op m now answer
+  pub bytes : (task t.tasks p).gathered ≡ (task s.tasks p).gathered
+
+-- what a step of a reading is to the task
+abbrev pub progress_of_read : Progress (Unit {0}) → TaskProgress
+progress_of_read machine.Moved = progress.Moved
+progress_of_read (machine.Sleeping why) = progress.Sleeping why
+progress_of_read (machine.Over out) = progress.Moved
+progress_of_read (machine.Fault fault) = progress.Fault fault
+
+-- and where the task stands then
+abbrev pub place_of_reading : ℕ → ReadState → ReadState → Progress (Unit {0}) → Place
+place_of_reading k m n machine.Moved = place.Reading k n
+place_of_reading k m n (machine.Sleeping why) = place.Reading k m
+place_of_reading k m n (machine.Over out) = place.Delivering k
+place_of_reading k m n (machine.Fault fault) = place.Reading k m
+
+-- a step of a reading, whose inode stands at place k of the table
+pub record ReadsOn {D N : Type 0} (disk : Ghosts D N) (s : StoreState D) (p k : ℕ) (m : ReadState)
+    (r : TaskProgress) (t : StoreState D) : Type 0 where
+  pub answer : Progress (Unit {0})
+  pub now : ReadState
+  pub before : GatheredBytes
+  pub bytes : GatheredBytes
+  pub had : (task s.tasks p).gathered ≡ Some before
+  pub reads : ReadSteps disk s.volume p m before answer t.volume now bytes
+  pub gives : r ≡ progress_of_read answer
+  pub next : (task t.tasks p).place ≡ place_of_reading k m now answer
+  pub has : (task t.tasks p).gathered ≡ Some bytes
+  pub table : t.table ≡ s.table
+
+-- the task gives up the inode at place k, and is over
+pub record GivesUp {D : Type 0} (s : StoreState D) (p k : ℕ) (t : StoreState D) : Type 0 where
+  pub next : (task t.tasks p).place ≡ place.Nowhere
+  pub table : t.table ≡ left s.table k
+  pub volume : t.volume ≡ s.volume
+
+-- a reading gives out its bytes
+pub record Delivers {D : Type 0} (s : StoreState D) (p k : ℕ) (r : TaskProgress) (t : StoreState D)
+    : Type 0 where
+  pub bytes : GatheredBytes
+  pub had : (task s.tasks p).gathered ≡ Some bytes
+  pub gives : r ≡ progress.Decided (Bytes bytes.bytes)
+  pub up : GivesUp s p k t
+
+-- image and log stay as they are
+abbrev pub ShowsSame : {D : Type 0} → (D → Image) → StoreState D → StoreState D → Type 0
+ShowsSame image s t = shown_of image t.volume ≡ shown_of image s.volume
+
+-- where a step of process p's task goes by where it stood, and what it makes of table, image and
+-- log
+abbrev pub Goes : {D N : Type 0} → Ghosts D N → Place → StoreState D → ℕ → Op → TaskProgress
+    → StoreState D → Type 0
+Goes disk place.Nowhere s p op r t = (r ≡ progress.Over) × (t ≡ s)
+Goes disk (place.Creating m) s p op r t =
+    GoesFrom m.slot s.table.inode_count p m s.volume.buffers r (task t.tasks p).place
+    (shown_of disk.image s.volume) (shown_of disk.image t.volume)
+    × (t.table ≡ s.table)
+Goes disk (place.Taking m) s p op r t =
+    TakesInode disk s p op m r t × ShowsSame disk.image s t
+Goes disk (place.Reading k m) s p op r t = ReadsOn disk s p k m r t × ShowsSame disk.image s t
+Goes disk (place.Delivering k) s p op r t = Delivers s p k r t
+Goes disk (place.Leaving k) s p op r t = (r ≡ progress.Over) × GivesUp s p k t

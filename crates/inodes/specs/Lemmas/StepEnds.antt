@@ -1,0 +1,234 @@
+-- How the steps of any task end.
+use Rattle.std.proofs.Common.{◌≡◌, ◌⊎◌, inl, inr, ℕ, Bool, true, false, List, refl, sym, ◌∙◌, ap, subst, Option, Some, None}
+use Rattle.std.specs.Prelude.{IsSome}
+use Rattle.std.proofs.lemmas.Bool.{false≢true}
+use Rattle.blocks.specs.declared.disk.Disk.{Ghosts}
+use Rattle.blocks.specs.declared.errors.DiskFault.{DiskFault}
+use Rattle.model.specs.declared.types.image.Dinode.{Dinode}
+use Rattle.model.specs.declared.types.operations.Op.{Op}
+use Rattle.model.specs.declared.types.operations.Op.TheVariants.{Create, Write, Read, Trunc, Remove, Stat}
+use Rattle.model.specs.declared.types.operations.Reply.{Reply}
+use Rattle.model.specs.declared.types.operations.Reply.TheVariants.{Bytes}
+use Rattle.model.specs.declared.types.operations.TaskProgress.{TaskProgress}
+use Rattle.model.specs.declared.types.operations.TaskProgress.TheVariants as progress
+use Rattle.model.specs.Layout.{inode_of, inode_block}
+use Rattle.wal.specs.Machine.{used_by}
+use Rattle.wal.specs.Volume.{VolumeState}
+use Rattle.wal.specs.declared.types.Get.{Get}
+use Rattle.wal.specs.declared.types.Get.TheVariants as get
+use Rattle.blockmap.specs.Bmap.{EntryState, LooksUp}
+use Rattle.blockmap.specs.Getting.{GetsFor}
+use Rattle.blockmap.specs.Target.{block_of, progress_behind}
+use Rattle.blockmap.specs.declared.progress.Progress.{Progress}
+use Rattle.blockmap.specs.declared.progress.Progress.TheVariants as machine
+use Rattle.blockmap.specs.declared.target.Target.{Target}
+use Rattle.blockmap.specs.declared.target.Target.TheVariants as target
+use Rattle.inodes.specs.declared.ilock.LockAt.{LockAt}
+use Rattle.inodes.specs.declared.ilock.LockAt.TheVariants as lock_at
+use Rattle.inodes.specs.declared.tasks.Place.{Place}
+use Rattle.inodes.specs.declared.tasks.Place.TheVariants as place
+use Rattle.inodes.specs.Goes.{Goes, GoesFrom, Shown, shown_of, progress_of_lock, place_of_lock, progress_of_read, place_of_reading}
+use Rattle.inodes.specs.Ilock.{LockSteps, Locks}
+use Rattle.inodes.specs.LockState.{LockState, place_of}
+use Rattle.inodes.specs.Looks.{CanLook, LooksAt}
+use Rattle.inodes.specs.Places.{is_over, is_reading, is_unturned, block_at_place}
+use Rattle.inodes.specs.Readi.{ReadState, Works}
+use Rattle.inodes.specs.Store.{StoreState, CanBegin, Stands, current_of}
+use Rattle.inodes.specs.Table.{TableState, holder_at, copy_at}
+use Rattle.inodes.specs.Tasks.{task}
+use Rattle.inodes.specs.Turning.{if_used, reply_when_taken, place_when_taken, place_of_read}
+use Rattle.inodes.specs.Readi.{first_read}
+
+-- the task goes on, and has had its turn or not as before
+pub record GoesOn (a next : Place) : Type 0 where
+  pub unfinished : is_over next ≡ false
+  pub unturned : is_unturned next ≡ is_unturned a
+  pub reading : is_reading next ≡ is_reading a
+
+-- With its turn a creation is over; an operation that looks at a file has its reply and is to leave
+-- its inode, or it is a reading, whose reply comes later.
+abbrev pub TurnEnds : ℕ → Op → Option Reply → Place → Type 0
+TurnEnds n op None next =
+    CanLook n op × ((i : ℕ) × (off : ℕ) × (count : ℕ) × (op ≡ Read i off count))
+    × (is_reading next ≡ true)
+TurnEnds n op (Some reply) next =
+    (CanBegin op × (is_over next ≡ true)) ⊎ (CanLook n op × ((k : ℕ) × (next ≡ place.Leaving k)))
+
+-- by what the step answers
+abbrev pub StepEnds : ℕ → Place → Op → TaskProgress → Place → Type 0
+StepEnds n a op progress.Moved next = GoesOn a next
+StepEnds n a op (progress.Turned reply) next = (is_unturned a ≡ true) × TurnEnds n op reply next
+StepEnds n a op (progress.Decided reply) next =
+    (is_reading a ≡ true) × (is_over next ≡ true) × ((bytes : List ℕ) × (reply ≡ Bytes bytes))
+StepEnds n a op progress.Over next =
+    (is_unturned a ≡ false) × (is_reading a ≡ false) × (is_over next ≡ true)
+StepEnds n a op (progress.Sleeping why) next = GoesOn a next
+StepEnds n a op (progress.Fault fault) next = GoesOn a next
+
+-- where it goes is known
+on_at : (a b next : Place) → next ≡ b → GoesOn a b → GoesOn a next
+on_at a b next is on = subst (GoesOn a) (sym is) on
+
+-- a search goes on
+on_search : (a next : Place) → is_unturned a ≡ true → is_reading a ≡ false →
+    is_over next ≡ false → is_unturned next ≡ true → is_reading next ≡ false → GoesOn a next
+on_search a next one other more still apart =
+    record { unfinished = more; unturned = still ∙ sym one; reading = apart ∙ sym other }
+
+-- an operation that looks has taken its inode, or found it free
+look_turns : (n : ℕ) (o : Option Dinode) (k : ℕ) (op : Op) → CanLook n op →
+    TurnEnds n op (reply_when_taken o op) (place_when_taken o k op)
+look_turns n None k op can = inr (can, (k, refl))
+look_turns n (Some d) k (Create kind) can = absurd can
+look_turns n (Some d) k (Write i off bytes) can = absurd can
+look_turns n (Some d) k (Read i off count) can =
+    (can, (i, off, count, refl), by_bytes (first_read d off count))
+  where
+    by_bytes : (o : Option ReadState) → is_reading (place_of_read k o) ≡ true
+    by_bytes None = refl
+    by_bytes (Some m) = refl
+look_turns n (Some d) k (Trunc i) can = absurd can
+look_turns n (Some d) k (Remove i) can = absurd can
+look_turns n (Some d) k (Stat i) can = inr (can, (k, refl))
+
+module _ {D N : Type 0} (disk : Ghosts D N) (s : StoreState D) (p : ℕ) (op : Op) (r : TaskProgress) (t : StoreState D) where
+  abbrev n : ℕ
+  n = s.table.inode_count
+
+  abbrev next : Place
+  next = (task t.tasks p).place
+
+  -- the end of the step, at the answer that it gives
+  ends_with : (a : Place) (q : TaskProgress) → r ≡ q → StepEnds n a op q next → StepEnds n a op r next
+  ends_with a q is ends = subst (λ (o : TaskProgress). StepEnds n a op o next) (sym is) ends
+
+  pub ends_of : (a : Place) → (task s.tasks p).op ≡ Some op →
+      Stands s.volume.buffers s.volume.log n p (task s.tasks p).op a →
+      LooksAt (current_of disk.image s.volume) s.table (task s.tasks p) a → is_over a ≡ false →
+      Goes disk a s p op r t → StepEnds n a op r next
+  ends_of place.Nowhere same stands looks unfinished goes = absurd (false≢true (sym unfinished))
+  ends_of (place.Creating m) same stands looks unfinished goes = by_slot m.slot r goes.0
+    where
+      begins : CanBegin op
+      begins = let is : Create m.kind ≡ op = (let both = sym stands.op ∙ same in cc both) in subst CanBegin is stands.kind
+
+      here : (b : Place) → next ≡ b → is_over b ≡ false → is_unturned b ≡ true → is_reading b ≡ false → GoesOn (place.Creating m) next
+      here b is more still apart = on_at (place.Creating m) b next is (on_search (place.Creating m) b refl refl more still apart)
+
+      by_slot : (o : Option ℕ) (q : TaskProgress) →
+          GoesFrom o n p m s.volume.buffers q next (shown_of disk.image s.volume) (shown_of disk.image t.volume) →
+          StepEnds n (place.Creating m) op q next
+      by_slot None progress.Moved goes = here _ goes.0.2 refl refl refl
+      by_slot None (progress.Turned reply) goes = absurd goes.0
+      by_slot None (progress.Decided reply) goes = absurd goes.0
+      by_slot None progress.Over goes = absurd goes.0
+      by_slot None (progress.Sleeping why) goes = here _ goes.0.1 refl refl refl
+      by_slot None (progress.Fault fault) goes = here _ goes.0.1 refl refl refl
+      by_slot (Some i) progress.Moved goes = here _ goes.0 refl refl refl
+      by_slot (Some i) (progress.Turned None) goes = absurd goes.1
+      by_slot (Some i) (progress.Turned (Some reply)) goes = (refl, inl (begins, ap is_over goes.0))
+      by_slot (Some i) (progress.Decided reply) goes = absurd goes
+      by_slot (Some i) progress.Over goes = absurd goes
+      by_slot (Some i) (progress.Sleeping why) goes = absurd goes
+      by_slot (Some i) (progress.Fault fault) goes = absurd goes
+  ends_of (place.Taking m) same stands looks unfinished goes = by_answer goes.0.answer goes.0.gives goes.0.next
+    where
+      d : Dinode
+      d = inode_of (current_of disk.image s.volume) m.number
+
+      can : CanLook n op
+      can = let is : looks.op ≡ op = (let both = sym looks.is ∙ same in cc both) in subst (CanLook n) is looks.look
+
+      by_answer : (x : Progress Bool) → r ≡ progress_of_lock d op x → next ≡ place_of_lock d op m goes.0.now x →
+          StepEnds n (place.Taking m) op r next
+      by_answer machine.Moved is to = ends_with (place.Taking m) progress.Moved is (on_at (place.Taking m) _ next to (record { unfinished = refl; unturned = refl; reading = refl }))
+      by_answer (machine.Sleeping why) is to = ends_with (place.Taking m) (progress.Sleeping why) is (on_at (place.Taking m) _ next to (record { unfinished = refl; unturned = refl; reading = refl }))
+      by_answer (machine.Over used) is to = ends_with (place.Taking m) (progress.Turned (reply_when_taken (if_used used d) op)) is
+          (refl, subst (TurnEnds n op (reply_when_taken (if_used used d) op)) (sym to) (look_turns n (if_used used d) (place_of goes.0.now.at) op can))
+      by_answer (machine.Fault fault) is to = ends_with (place.Taking m) (progress.Fault fault) is (on_at (place.Taking m) _ next to (record { unfinished = refl; unturned = refl; reading = refl }))
+  ends_of (place.Reading k m) same stands looks unfinished goes = by_answer goes.0.answer goes.0.gives goes.0.next
+    where
+      by_answer : (x : Progress (Unit {0})) → r ≡ progress_of_read x → next ≡ place_of_reading k m goes.0.now x →
+          StepEnds n (place.Reading k m) op r next
+      by_answer machine.Moved is to = ends_with (place.Reading k m) progress.Moved is (on_at (place.Reading k m) _ next to (record { unfinished = refl; unturned = refl; reading = refl }))
+      by_answer (machine.Sleeping why) is to = ends_with (place.Reading k m) (progress.Sleeping why) is (on_at (place.Reading k m) _ next to (record { unfinished = refl; unturned = refl; reading = refl }))
+      by_answer (machine.Over out) is to = ends_with (place.Reading k m) progress.Moved is (on_at (place.Reading k m) _ next to (record { unfinished = refl; unturned = refl; reading = refl }))
+      by_answer (machine.Fault fault) is to = ends_with (place.Reading k m) (progress.Fault fault) is (on_at (place.Reading k m) _ next to (record { unfinished = refl; unturned = refl; reading = refl }))
+  ends_of (place.Delivering k) same stands looks unfinished goes =
+      ends_with (place.Delivering k) (progress.Decided (Bytes goes.bytes.bytes)) goes.gives (refl, ap is_over goes.up.next, (goes.bytes.bytes, refl))
+  ends_of (place.Leaving k) same stands looks unfinished goes =
+      ends_with (place.Leaving k) progress.Over goes.0 (refl, refl, ap is_over goes.1.next)
+
+  -- a creation is open in the log; any other task leaves the log as it is
+  pub logs_of : (a : Place) → is_over a ≡ false → Stands s.volume.buffers s.volume.log n p (task s.tasks p).op a →
+      Goes disk a s p op r t → IsSome (used_by s.volume.log p) ⊎ (t.volume.log ≡ s.volume.log)
+  logs_of place.Nowhere unfinished stands goes = absurd (false≢true (sym unfinished))
+  logs_of (place.Creating m) unfinished stands goes = inl (subst IsSome (sym stands.used) refl)
+  logs_of (place.Taking m) unfinished stands goes = inr (ap (λ (o : Shown). o.log) goes.1)
+  logs_of (place.Reading k m) unfinished stands goes = inr (ap (λ (o : Shown). o.log) goes.1)
+  logs_of (place.Delivering k) unfinished stands goes = inr (ap (λ (v : VolumeState D). v.log) goes.up.volume)
+  logs_of (place.Leaving k) unfinished stands goes = inr (ap (λ (v : VolumeState D). v.log) goes.1.volume)
+
+-- the block at which a machine fails that gets it
+gets_fails : {D N T : Type 0} (disk : Ghosts D N) (v : VolumeState D) (p b : ℕ) (fault : DiskFault) (slot : Option ℕ) (w : VolumeState D) → GetsFor {T = T} disk v p b (machine.Fault fault) slot w → fault.0 ≡ b
+gets_fails {T = T} disk v p b fault slot w got = by_answer got.answer got.gives got.gets.failed
+  where
+    by_answer : (x : Get) → machine.Fault fault ≡ Rattle.blockmap.specs.Getting.progress_of {T = T} x → Rattle.wal.specs.Volume.OnFault x (Rattle.wal.specs.Volume.FailsToFill v.buffers w.buffers p b) → fault.0 ≡ b
+    by_answer (get.Got i) is failed = absurd (cc is)
+    by_answer (get.Sleeping why) is failed = absurd (cc is)
+    by_answer (get.Fault other) is failed = let same : fault ≡ other = cc is in ap (λ (f : DiskFault). f.0) same ∙ failed.block
+
+module _ {D N : Type 0} (disk : Ghosts D N) (s : StoreState D) (p : ℕ) (op : Op) (fault : DiskFault) (t : StoreState D) where
+  -- a machine that reads an entry
+  entry_fails : (e : EntryState) (x : Progress (Option ℕ)) (e2 : EntryState) → LooksUp disk e.slot s.volume p e x e2 t.volume → machine.Fault fault ≡ progress_behind x → fault.0 ≡ e.indirect
+  entry_fails e x e2 looks is = by_slot e.slot x looks is
+    where
+      by_slot : (o : Option ℕ) (x : Progress (Option ℕ)) → LooksUp disk o s.volume p e x e2 t.volume → machine.Fault fault ≡ progress_behind x → fault.0 ≡ e.indirect
+      by_slot None machine.Moved looks is = absurd (cc is)
+      by_slot None (machine.Sleeping why) looks is = absurd (cc is)
+      by_slot None (machine.Over found) looks is = absurd (cc is)
+      by_slot None (machine.Fault other) looks is = let same : fault ≡ other = cc is in ap (λ (f : DiskFault). f.0) same ∙ gets_fails disk s.volume p e.indirect other e2.slot t.volume looks.1
+      by_slot (Some i) x looks is = let no = is ∙ ap progress_behind looks.0 in absurd (cc no)
+
+  reading_fails : (a : Target) (m x : ReadState) → Works disk a s.volume p m (machine.Fault fault) t.volume x → fault.0 ≡ block_of a
+  reading_fails (target.Entry e) m x works = entry_fails e works.1.answer works.1.entry works.1.looks works.1.gives
+  reading_fails (target.Block b None) m x works = gets_fails disk s.volume p b fault works.1.0 t.volume works.1.2
+  reading_fails (target.Block b (Some i)) m x works = absurd works.1
+
+  taking_fails : (a : LockAt) (m x : LockState) (u : TableState) → LockSteps disk a s.table s.volume p m (machine.Fault fault) u t.volume x → fault.0 ≡ inode_block m.number
+  taking_fails lock_at.Reference m x u locks = let no = locks.0.2 in absurd (cc no)
+  taking_fails (lock_at.Lock k) m x u locks = by_holder (holder_at s.table.places k) (copy_at s.table.places k) locks.0
+    where
+      by_holder : (o : Option ℕ) (c : Option Dinode) → Locks o c s.table p k m (machine.Fault fault) u x → fault.0 ≡ inode_block m.number
+      by_holder (Some q) c is = let no = is.0 in absurd (cc no)
+      by_holder None (Some d) is = let no = is.0 in absurd (cc no)
+      by_holder None None is = let no = is.0 in absurd (cc no)
+  taking_fails (lock_at.Read k None) m x u locks = gets_fails disk s.volume p (inode_block m.number) fault locks.0.0 t.volume locks.0.1
+  taking_fails (lock_at.Read k (Some i)) m x u locks = let no = locks.0.answer in absurd (cc no)
+
+  -- the block at which a task's step fails is that which its place names
+  pub fails_at : (a : Place) → Goes disk a s p op (progress.Fault fault) t → fault.0 ≡ block_at_place a
+  fails_at place.Nowhere goes = let no = goes.0 in absurd (cc no)
+  fails_at (place.Creating m) goes = by_slot m.slot goes.0
+    where
+      by_slot : (o : Option ℕ) → GoesFrom o s.table.inode_count p m s.volume.buffers (progress.Fault fault) (task t.tasks p).place (shown_of disk.image s.volume) (shown_of disk.image t.volume) → fault.0 ≡ m.block
+      by_slot None goes = goes.0.0
+      by_slot (Some i) goes = absurd goes
+  fails_at (place.Taking m) goes = by_answer goes.0.answer goes.0.gives goes.0.locks
+    where
+      by_answer : (x : Progress Bool) → progress.Fault fault ≡ progress_of_lock (inode_of (current_of disk.image s.volume) m.number) op x → LockSteps disk m.at s.table s.volume p m x t.table t.volume goes.0.now → fault.0 ≡ inode_block m.number
+      by_answer machine.Moved is locks = absurd (cc is)
+      by_answer (machine.Sleeping why) is locks = absurd (cc is)
+      by_answer (machine.Over used) is locks = absurd (cc is)
+      by_answer (machine.Fault other) is locks = let same : fault ≡ other = cc is in
+          taking_fails m.at m goes.0.now t.table (subst (λ (f : DiskFault). LockSteps disk m.at s.table s.volume p m (machine.Fault f) t.table t.volume goes.0.now) (sym same) locks)
+  fails_at (place.Reading k m) goes = by_answer goes.0.answer goes.0.gives goes.0.reads.works
+    where
+      by_answer : (x : Progress (Unit {0})) → progress.Fault fault ≡ progress_of_read x → Works disk m.target s.volume p m x t.volume goes.0.now → fault.0 ≡ block_of m.target
+      by_answer machine.Moved is works = absurd (cc is)
+      by_answer (machine.Sleeping why) is works = absurd (cc is)
+      by_answer (machine.Over out) is works = absurd (cc is)
+      by_answer (machine.Fault other) is works = let same : fault ≡ other = cc is in
+          reading_fails m.target m goes.0.now (subst (λ (f : DiskFault). Works disk m.target s.volume p m (machine.Fault f) t.volume goes.0.now) (sym same) works)
+  fails_at (place.Delivering k) goes = let no = goes.gives in absurd (cc no)
+  fails_at (place.Leaving k) goes = let no = goes.0 in absurd (cc no)

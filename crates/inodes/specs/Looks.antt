@@ -1,0 +1,122 @@
+-- Operations that look at a file: what is true of their tasks, of the table and of the current
+-- image between any two steps.
+use Rattle.std.specs.Prelude.{◌≡◌, ◌<◌, ◌≤◌, ℕ, ◌+◌, ◌-◌, ◌/◌, min, IsTrue, List, [], Option, Some, None}
+use Rattle.blocks.specs.Disk.{Image}
+use Rattle.model.specs.declared.types.image.Dinode.{Dinode}
+use Rattle.model.specs.declared.types.operations.Op.{Op}
+use Rattle.model.specs.declared.types.operations.Op.TheVariants.{Create, Write, Read, Trunc, Remove, Stat}
+use Rattle.model.specs.Files.{Files, bytes_in}
+use Rattle.model.specs.Gathered.{GatheredBytes}
+use Rattle.model.specs.Journal.{is_number}
+use Rattle.model.specs.Operations.{part_of, transfer_limit}
+use Rattle.model.specs.Places.{address_in}
+use Rattle.loose.specs.Loose.{Fits}
+use Rattle.blockmap.specs.Bmap.{with_slot}
+use Rattle.blockmap.specs.Target.{target_for}
+use Rattle.blockmap.specs.declared.target.Target.{Target}
+use Rattle.blockmap.specs.declared.target.Target.TheVariants as target
+use Rattle.inodes.specs.declared.tasks.Place.{Place}
+use Rattle.inodes.specs.declared.tasks.Place.TheVariants as place
+use Rattle.inodes.specs.Grips.{HasNumber, TableIs}
+use Rattle.inodes.specs.LockState.{LockState}
+use Rattle.inodes.specs.Places.{asked, grips_of}
+use Rattle.inodes.specs.Readi.{ReadState}
+use Rattle.inodes.specs.Table.{TableState, copy_at, holder_at}
+use Rattle.inodes.specs.Tasks.{TaskState, task}
+
+-- an operation that looks at the file of a number that operations may name, and asks for no more
+-- bytes than there may be at once
+abbrev pub CanLook : ℕ → Op → Type 0
+CanLook n (Create kind) = ⊥
+CanLook n (Write i off bytes) = ⊥
+CanLook n (Read i off count) = IsTrue (is_number n i) × (count ≤ transfer_limit)
+CanLook n (Trunc i) = ⊥
+CanLook n (Remove i) = ⊥
+CanLook n (Stat i) = IsTrue (is_number n i)
+
+-- a reading has room for as many bytes as it asks for, and none so far
+abbrev pub HasRoom : Op → Option GatheredBytes → Type 0
+HasRoom (Create kind) g = g ≡ None
+HasRoom (Write i off bytes) g = g ≡ None
+HasRoom (Read i off count) g = g ≡ Some (record { bytes = []; room = count })
+HasRoom (Trunc i) g = g ≡ None
+HasRoom (Remove i) g = g ≡ None
+HasRoom (Stat i) g = g ≡ None
+
+-- an operation that looks takes its inode
+pub record IsTaking (n : ℕ) (t : TaskState) (m : LockState) : Type 0 where
+  pub op : Op
+  pub is : t.op ≡ Some op
+  pub look : CanLook n op
+  pub number : m.number ≡ asked op
+  pub room : HasRoom op t.gathered
+
+-- the target leads to block k of an inode's file
+abbrev pub LeadsToBlock : Image → Dinode → ℕ → Target → Type 0
+LeadsToBlock cur d k (target.Entry e) = target_for d k ≡ target.Entry (with_slot e None)
+LeadsToBlock cur d k (target.Block b slot) = b ≡ address_in cur d k
+
+-- A reading of that many bytes from an offset on has come to its next place: it has the bytes
+-- before it.
+pub record HasRead (cur : Image) (off count : ℕ) (m : ReadState) (g : GatheredBytes) : Type 0 where
+  pub begun : off ≤ m.next
+  pub some : m.next < m.end
+  pub end : m.end ≡ min m.inode.size (off + count)
+  pub bytes : g.bytes ≡ part_of (bytes_in cur m.inode) off (m.next - off)
+  pub room : m.end - m.next ≤ g.room
+  pub leads : LeadsToBlock cur m.inode (m.next / 1024) m.target
+
+-- the task is that of a reading, which asks for no more bytes than there may be at once
+pub record IsRead (n : ℕ) (t : TaskState) : Type 0 where
+  pub number : ℕ
+  pub offset : ℕ
+  pub count : ℕ
+  pub is : t.op ≡ Some (Read number offset count)
+  pub may : CanLook n (Read number offset count)
+  pub gathered : GatheredBytes
+  pub has : t.gathered ≡ Some gathered
+
+-- a reading is at work on the inode that stands at place k of the table
+pub record IsAtRead (cur : Image) (n : ℕ) (inode : Option Dinode) (t : TaskState) (m : ReadState)
+    : Type 0 where
+  pub op : IsRead n t
+  pub copy : inode ≡ Some m.inode
+  pub read : HasRead cur op.offset op.count m op.gathered
+
+-- it has all bytes
+pub record HasAllRead (cur : Image) (n : ℕ) (inode : Option Dinode) (t : TaskState) : Type 0 where
+  pub op : IsRead n t
+  pub dinode : Dinode
+  pub copy : inode ≡ Some dinode
+  pub bytes : op.gathered.bytes ≡ part_of (bytes_in cur dinode) op.offset op.count
+
+-- an operation that looks was answered
+pub record WasAnswered (n : ℕ) (t : TaskState) : Type 0 where
+  pub op : Op
+  pub is : t.op ≡ Some op
+  pub look : CanLook n op
+
+-- what is true of a task by its place, beside what it holds
+abbrev pub LooksAt : Image → TableState → TaskState → Place → Type 0
+LooksAt cur i t place.Nowhere = Unit {0}
+LooksAt cur i t (place.Creating m) = Unit {0}
+LooksAt cur i t (place.Taking m) = IsTaking i.inode_count t m
+LooksAt cur i t (place.Reading k m) = IsAtRead cur i.inode_count (copy_at i.places k) t m
+LooksAt cur i t (place.Delivering k) = HasAllRead cur i.inode_count (copy_at i.places k) t
+LooksAt cur i t (place.Leaving k) = WasAnswered i.inode_count t
+
+-- the image stands for some files
+abbrev pub HasFiles : Image → Type 0
+HasFiles x = (files : Files) × Fits files x
+
+-- THE TABLE agrees with tasks and current image, and each task with what it has read
+pub record AreLooking (cur : Image) (i : TableState) (ts : List TaskState) : Type 0 where
+  pub files : HasFiles cur
+  pub table : TableIs i (grips_of ts) cur
+  pub stand : (p : ℕ) → LooksAt cur i (task ts p) (task ts p).place
+
+-- process p has the lock of number i's inode, which stands in the table
+pub record HoldsInode (t : TableState) (p i : ℕ) : Type 0 where
+  pub place : ℕ
+  pub number : HasNumber t.places place i
+  pub holder : holder_at t.places place ≡ Some p

@@ -1,0 +1,108 @@
+-- What a task's place says of its process.
+use Rattle.std.specs.Prelude.{ℕ, ◌+◌, ◌-◌, ◌*◌, Bool, true, false, List, map, Option, Some, None}
+use Rattle.model.specs.declared.types.operations.Op.{Op}
+use Rattle.model.specs.declared.types.operations.Op.TheVariants.{Create, Write, Read, Trunc, Remove, Stat}
+use Rattle.model.specs.Layout.{inode_block}
+use Rattle.blockmap.specs.Target.{block_of, slot_in}
+use Rattle.inodes.specs.declared.ilock.LockAt.{LockAt}
+use Rattle.inodes.specs.declared.ilock.LockAt.TheVariants as lock_at
+use Rattle.inodes.specs.declared.tasks.Place.{Place}
+use Rattle.inodes.specs.declared.tasks.Place.TheVariants as place
+use Rattle.inodes.specs.Grips.{Grip, unlocked_grip, locked_grip}
+use Rattle.inodes.specs.LockState.{slot_of, locks_left}
+use Rattle.inodes.specs.Readi.{reads_left}
+use Rattle.inodes.specs.Tasks.{TaskState}
+
+-- the number of the inode that an operation asks for; 0 for a creation, which asks for none
+abbrev pub asked : Op → ℕ
+asked (Create kind) = 0
+asked (Write i off bytes) = i
+asked (Read i off n) = i
+asked (Trunc i) = i
+asked (Remove i) = i
+asked (Stat i) = i
+
+abbrev pub asked_by : Option Op → ℕ
+asked_by None = 0
+asked_by (Some op) = asked op
+
+-- a task that stands there is over
+abbrev pub is_over : Place → Bool
+is_over place.Nowhere = true
+is_over (place.Creating m) = false
+is_over (place.Taking m) = false
+is_over (place.Reading k m) = false
+is_over (place.Delivering k) = false
+is_over (place.Leaving k) = false
+
+-- a task that stands there has not had its turn
+abbrev pub is_unturned : Place → Bool
+is_unturned place.Nowhere = false
+is_unturned (place.Creating m) = true
+is_unturned (place.Taking m) = true
+is_unturned (place.Reading k m) = false
+is_unturned (place.Delivering k) = false
+is_unturned (place.Leaving k) = false
+
+-- the slot that a task has got
+abbrev pub slot_at : Place → Option ℕ
+slot_at place.Nowhere = None
+slot_at (place.Creating m) = m.slot
+slot_at (place.Taking m) = slot_of m.at
+slot_at (place.Reading k m) = slot_in m.target
+slot_at (place.Delivering k) = None
+slot_at (place.Leaving k) = None
+
+-- the block that a task gets or uses next
+abbrev pub block_at_place : Place → ℕ
+block_at_place place.Nowhere = 0
+block_at_place (place.Creating m) = m.block
+block_at_place (place.Taking m) = inode_block m.number
+block_at_place (place.Reading k m) = block_of m.target
+block_at_place (place.Delivering k) = 0
+block_at_place (place.Leaving k) = 0
+
+-- what a process has of an inode that it takes
+abbrev pub grip_at : LockAt → ℕ → Option Grip
+grip_at lock_at.Reference i = None
+grip_at (lock_at.Lock k) i = Some (unlocked_grip k i)
+grip_at (lock_at.Read k slot) i = Some (locked_grip k i)
+
+-- what a process has of the table, whose operation asks for number i
+abbrev pub grip_by : Place → ℕ → Option Grip
+grip_by place.Nowhere i = None
+grip_by (place.Creating m) i = None
+grip_by (place.Taking m) i = grip_at m.at m.number
+grip_by (place.Reading k m) i = Some (locked_grip k i)
+grip_by (place.Delivering k) i = Some (locked_grip k i)
+grip_by (place.Leaving k) i = Some (locked_grip k i)
+
+abbrev pub grip_of : TaskState → Option Grip
+grip_of t = grip_by t.place (asked_by t.op)
+
+abbrev pub grips_of : List TaskState → List (Option Grip)
+grips_of ts = map grip_of ts
+
+-- a reading that had its turn, and whose reply is to come
+abbrev pub is_reading : Place → Bool
+is_reading place.Nowhere = false
+is_reading (place.Creating m) = false
+is_reading (place.Taking m) = false
+is_reading (place.Reading k m) = true
+is_reading (place.Delivering k) = true
+is_reading (place.Leaving k) = false
+
+-- the steps of a search at the block that it looks at: it has to be got, and looked at
+abbrev pub looks_left : Option ℕ → ℕ
+looks_left None = 2
+looks_left (Some slot) = 1
+
+-- the steps that a task has left at most; a reading has 16 for its bytes, which lie in four blocks,
+-- and one in which it gives them out
+abbrev pub steps_left : Place → ℕ → ℕ
+steps_left place.Nowhere n = 0
+steps_left (place.Creating m) n = 2 * (inode_block (n - 1) - m.block) + looks_left m.slot
+steps_left (place.Taking m) n = locks_left m.at + 17
+steps_left (place.Reading k m) n = reads_left m + 1
+steps_left (place.Delivering k) n = 1
+steps_left (place.Leaving k) n = 1

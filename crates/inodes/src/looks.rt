@@ -1,0 +1,161 @@
+// The steps of operations that look at a file.
+ghost use Rattle.std.specs.Prelude.{◌≡◌, ◌<◌, length, Some, None, if◌then◌else◌};
+ghost use Rattle.model.specs.declared.types.operations.Op.{Op};
+ghost use Rattle.inodes.specs.Looks.{CanLook, HasRoom};
+ghost use Rattle.inodes.specs.Places.{asked};
+ghost use Rattle.inodes.specs.Store.{KeepsFiles, with_look};
+ghost use Rattle.inodes.specs.Steps.{Steps};
+ghost use Rattle.inodes.specs.Table.{copy_at};
+ghost use Rattle.inodes.specs.Tasks.{task};
+ghost use Rattle.inodes.specs.Turning.{IsReadable, place_when_taken, reply_when_taken};
+ghost use Rattle.inodes.specs.declared.tasks.Place.TheVariants as stands_at;
+
+use crate::{Ilock, Inodes, Place, Progress, Readi, Store};
+use blocks::Disk;
+use model::gathered::Gathered;
+use model::types::{Dinode, Op, Reply, TaskProgress};
+
+impl<D: Disk> Store<D> {
+    /// Begins the task of an operation that looks at a file, and opens nothing in the log. A reading
+    /// hands in room for the bytes that it asks for.
+    pub fn begin_look(&mut self, pid: u32, op: &Op, room: Option<Gathered>)
+        requires fault { self.old.volume.fault ≡ None }
+        requires pid { pid < length self.old.tasks }
+        requires idle { (task self.old.tasks pid).place ≡ stands_at.Nowhere }
+        requires op { CanLook self.old.table.inode_count op.now }
+        requires room { HasRoom op.now room }
+        ensures store { self.new ≡ with_look self.old pid op.now room }
+        ensures files { KeepsFiles D.image self.old self.new }
+    {
+        let lock = Ilock::new(asked(op));
+        self.tasks.begin(pid, op, Place::Taking(lock), room);
+    }
+
+    // The next step of taking the inode that an operation asks for.
+    pub(crate) fn take(&mut self, pid: u32, op: &Op, mut lock: Ilock) -> TaskProgress
+        requires fault { self.old.volume.fault ≡ None }
+        requires pid { pid < length self.old.tasks }
+        requires op { (task self.old.tasks pid).op ≡ Some op.now }
+        requires at { (task self.old.tasks pid).place ≡ stands_at.Taking lock }
+        ensures step { Steps D.Disk self.old pid op.now result self.new }
+    {
+        self.volume.known();
+        match lock.step(&mut self.inodes, &mut self.volume, pid) {
+            Progress::Moved => {
+                self.tasks.go(pid, Place::Taking(lock));
+                TaskProgress::Moved
+            }
+            Progress::Sleeping(why) => TaskProgress::Sleeping(why),
+            Progress::Over(is_used) => {
+                let place = lock.place();
+                let inode = inode_at(&self.inodes, place, is_used);
+                self.tasks.go(pid, place_when_taken(&inode, place, op));
+                TaskProgress::Turned(reply_when_taken(&inode, op))
+            }
+            Progress::Fault(fault) => TaskProgress::Fault(fault),
+        }
+    }
+
+    // The next step of a reading.
+    pub(crate) fn read(&mut self, pid: u32, place: usize, mut reading: Readi) -> TaskProgress
+        requires fault { self.old.volume.fault ≡ None }
+        requires pid { pid < length self.old.tasks }
+        requires at { (task self.old.tasks pid).place ≡ stands_at.Reading place reading }
+        ensures step { (op : Op) → (task self.old.tasks pid).op ≡ Some op
+            → Steps D.Disk self.old pid op result self.new }
+    {
+        self.volume.known();
+        let mut bytes = self.tasks.take_bytes(pid);
+        let progress = reading.step(&mut self.volume, pid, &mut bytes);
+        self.tasks.keep_bytes(pid, bytes);
+        match progress {
+            Progress::Moved => {
+                self.tasks.go(pid, Place::Reading { place, reading });
+                TaskProgress::Moved
+            }
+            Progress::Sleeping(why) => TaskProgress::Sleeping(why),
+            Progress::Over(()) => {
+                self.tasks.go(pid, Place::Delivering { place });
+                TaskProgress::Moved
+            }
+            Progress::Fault(fault) => TaskProgress::Fault(fault),
+        }
+    }
+
+    // A reading gives its inode up, and answers its bytes.
+    pub(crate) fn deliver(&mut self, pid: u32, place: usize) -> TaskProgress
+        requires fault { self.old.volume.fault ≡ None }
+        requires pid { pid < length self.old.tasks }
+        requires at { (task self.old.tasks pid).place ≡ stands_at.Delivering place }
+        ensures step { (op : Op) → (task self.old.tasks pid).op ≡ Some op
+            → Steps D.Disk self.old pid op result self.new }
+    {
+        self.inodes.leave(place);
+        let bytes = self.tasks.take_bytes(pid);
+        self.tasks.finish(pid);
+        TaskProgress::Decided(Reply::Bytes(bytes.into_content()))
+    }
+
+    // An operation that was answered gives its inode up.
+    pub(crate) fn leave(&mut self, pid: u32, place: usize) -> TaskProgress
+        requires fault { self.old.volume.fault ≡ None }
+        requires pid { pid < length self.old.tasks }
+        requires at { (task self.old.tasks pid).place ≡ stands_at.Leaving place }
+        ensures step { (op : Op) → (task self.old.tasks pid).op ≡ Some op
+            → Steps D.Disk self.old pid op result self.new }
+    {
+        self.inodes.leave(place);
+        self.tasks.finish(pid);
+        TaskProgress::Over
+    }
+}
+
+// The inode that was taken at a place of the table, if it is used.
+fn inode_at(inodes: &Inodes, place: usize, is_used: bool) -> Option<Dinode>
+    requires { place < 50 }
+    ensures { result ≡ (if is_used then copy_at inodes.now.places place else None) }
+{
+    if is_used { inodes.copy(place) } else { None }
+}
+
+// The number of the inode that an operation asks for; 0 for a creation, which asks for none.
+fn asked(op: &Op) -> u32
+    ensures { result ≡ asked op.now }
+{
+    match op {
+        Op::Create(_) => 0,
+        Op::Write(number, ..)
+        | Op::Read(number, ..)
+        | Op::Trunc(number)
+        | Op::Remove(number)
+        | Op::Stat(number) => *number,
+    }
+}
+
+// The reply at the turn of an operation that has taken its inode, or found it free; None where it
+// comes later.
+fn reply_when_taken(inode: &Option<Dinode>, op: &Op) -> Option<Reply>
+    ensures { result ≡ reply_when_taken inode.now op.now }
+{
+    let Some(inode) = inode else {
+        return Some(Reply::NoFile);
+    };
+    match op {
+        Op::Stat(_) => Some(Reply::StatOf(inode.kind, inode.size)),
+        Op::Create(_) | Op::Write(..) | Op::Read(..) | Op::Trunc(_) | Op::Remove(_) => None,
+    }
+}
+
+// Where it goes then, with the inode at that place of the table.
+fn place_when_taken(inode: &Option<Dinode>, place: usize, op: &Op) -> Place
+    requires { IsReadable inode.now }
+    ensures { result ≡ place_when_taken inode.now place op.now }
+{
+    let (Some(inode), Op::Read(_, offset, count)) = (inode, op) else {
+        return Place::Leaving { place };
+    };
+    match Readi::new(inode, *offset, *count) {
+        Some(reading) => Place::Reading { place, reading },
+        None => Place::Delivering { place },
+    }
+}

@@ -1,0 +1,75 @@
+-- What is known of operations behind their turn.
+use Rattle.std.proofs.Common.{◌≡◌, ◌≢◌, ℕ, true, false, cond, Bool, List, refl, sym, ◌∙◌, ap, subst, Option, Some, None}
+use Rattle.std.specs.Option.{option_map}
+use Rattle.std.specs.Prelude.{is_none}
+use Rattle.blocks.specs.Disk.{Image}
+use Rattle.model.specs.declared.types.operations.Entry.{Entry}
+use Rattle.model.specs.declared.types.operations.Op.{Op}
+use Rattle.model.specs.Layout.{inode_count_of}
+use Rattle.inodes.specs.Lemmas.Looks.{holds_lock}
+use Rattle.inodes.specs.Looks.{AreLooking, HoldsInode}
+use Rattle.inodes.specs.Places.{asked, asked_by, is_over, is_reading, is_unturned}
+use Rattle.inodes.specs.Store.{StoreState, current_of}
+use Rattle.inodes.specs.Tasks.{TaskState, task}
+use Rattle.inodes.specs.declared.tasks.Place.{Place}
+use Rattle.inodes.specs.declared.tasks.Place.TheVariants as place
+use Rattle.journal.specs.declared.types.At.{At}
+use Rattle.journal.specs.declared.types.At.TheVariants as at
+use Rattle.journal.specs.Lemmas.Lists.{last_one}
+use Rattle.journal.specs.Lemmas.Opens.{open_entry, open_last}
+use Rattle.journal.specs.Open.{Held, IsEntry, held_by}
+use Rattle.journal.specs.Processes.{World, process}
+use Rattle.journal.specs.Views.{StandsAt}
+use Rattle.kernel.specs.Invariant.{ArePaired, HasFacts, TaskStands}
+use Rattle.kernel.specs.State.{ats_of}
+use Rattle.kernel.specs.View.{held_at, view_of}
+
+module _ {D : Type 0} (image : D → Image) (s : StoreState D) (w : World) (paired : ArePaired s w) where
+  -- who is behind its turn has its inode's lock
+  pub has_lock : AreLooking (current_of image s.volume) s.table s.tasks → (p group k : ℕ) (e : Entry) → ats_of w p ≡ at.Behind group k → IsEntry w.journal.list k e → HoldsInode s.table p (asked e.op)
+  has_lock looks p group k e stands is =
+      let behind = subst (λ (a : At). TaskStands w.journal.list (task s.tasks p) a) stands (paired.stand p).stands e is in
+      subst (λ (o : Option Op). HoldsInode s.table p (asked_by o)) behind.same (holds_lock (current_of image s.volume) s.table s.tasks looks p behind.unfinished behind.turned)
+
+  -- who holds a number reads, and is neither over nor before its turn
+  reads : (t : TaskState) (h : Held) → held_at t ≡ Some h → is_reading t.place ≡ true
+  reads t h holds = by_test (is_reading t.place) holds
+    where
+      by_test : (b : Bool) → cond b (option_map held_by t.op) None ≡ Some h → b ≡ true
+      by_test true holds = refl
+      by_test false holds = absurd (cc holds)
+
+  not_over : (a : Place) → is_reading a ≡ true → is_over a ≡ true → ⊥
+  not_over place.Nowhere reads over = absurd (cc reads)
+  not_over (place.Creating m) reads over = absurd (cc reads)
+  not_over (place.Taking m) reads over = absurd (cc reads)
+  not_over (place.Reading k m) reads over = absurd (cc over)
+  not_over (place.Delivering k) reads over = absurd (cc over)
+  not_over (place.Leaving k) reads over = absurd (cc reads)
+
+  not_before : (a : Place) → is_reading a ≡ true → is_unturned a ≡ true → ⊥
+  not_before place.Nowhere reads before = absurd (cc reads)
+  not_before (place.Creating m) reads before = absurd (cc reads)
+  not_before (place.Taking m) reads before = absurd (cc reads)
+  not_before (place.Reading k m) reads before = absurd (cc before)
+  not_before (place.Delivering k) reads before = absurd (cc before)
+  not_before (place.Leaving k) reads before = absurd (cc reads)
+
+  -- an entry without a reply is under way
+  pub under_way : (opening : Image) → HasFacts image opening s w → (k : ℕ) (e : Entry) → IsEntry w.journal.list k e → e.reply ≡ None → (group : ℕ) × (ats_of w e.pid ≡ at.Behind group k)
+  under_way opening has k e is none = by_place (ats_of w e.pid) refl (paired.stand e.pid).stands (has.facts.stands e.pid)
+    where
+      held : held_at (task s.tasks e.pid) ≡ Some (held_by e.op)
+      held = (open_entry _ _ w.journal.list k e has.facts.follows.are is none).1
+
+      reading : is_reading (task s.tasks e.pid).place ≡ true
+      reading = reads (task s.tasks e.pid) (held_by e.op) held
+
+      by_place : (a : At) → ats_of w e.pid ≡ a → TaskStands w.journal.list (task s.tasks e.pid) a → StandsAt (inode_count_of opening) (view_of image s) w.journal.list e.pid a → (group : ℕ) × (ats_of w e.pid ≡ at.Behind group k)
+      by_place at.Idle here stands at_entry = absurd (not_over (task s.tasks e.pid).place reading stands)
+      by_place (at.Before group op) here stands at_entry = absurd (not_before (task s.tasks e.pid).place reading stands.1)
+      by_place (at.Behind group j) here stands at_entry =
+          let same : j ≡ k = last_one e.pid w.journal.list j k at_entry.1.1.last (open_last _ _ w.journal.list k e has.facts.follows.are is none) in
+          (group, here ∙ ap (at.Behind group) same)
+      by_place (at.Ending group j) here stands at_entry = absurd (not_over (task s.tasks e.pid).place reading stands)
+      by_place (at.Committing group j) here stands at_entry = absurd (not_over (task s.tasks e.pid).place reading stands.0)

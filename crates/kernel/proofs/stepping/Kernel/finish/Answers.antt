@@ -1,0 +1,181 @@
+use Rattle.std.proofs.Common.{rules, refl, ◌≡◌, ◌<◌, true, length, None, Some, ◌∙◌, sym, ap, subst, ℕ}
+use Rattle.std.proofs.lemmas.Bool.{false≢true}
+use Rattle.blocks.specs.declared.disk.Disk.{Ghosts}
+use Rattle.model.specs.declared.types.operations.Op.{Op}
+use Rattle.model.specs.declared.types.operations.Reply.{Reply}
+use Rattle.model.specs.declared.types.operations.TaskProgress.{TaskProgress}
+use Rattle.model.specs.declared.types.operations.TaskProgress.TheVariants as progress
+use Rattle.model.specs.Tasks.{fault_of_task}
+use Rattle.inodes.specs.Steps.{Steps}
+use Rattle.inodes.specs.Store.{StoreState}
+use Rattle.inodes.specs.Tasks.{task}
+use Rattle.journal.specs.Journal.{entry_in}
+use Rattle.journal.specs.Lemmas.Answers.{CanAnswer}
+use Rattle.journal.specs.Processes.{World, process, is_behind, last_answer, decided, answered}
+use Rattle.kernel.specs.Invariant.{IsRight, ArePorts}
+use Rattle.kernel.specs.Next.{step_behind, world_behind}
+use Rattle.kernel.specs.Ports.{KeepsOthers}
+use Rattle.kernel.specs.State.{State}
+use Rattle.kernel.specs.Steps.{Acts}
+use Rattle.kernel.proofs.Acting.{acts_finished, sides_same}
+use Rattle.kernel.proofs.Answering.{IsThere, is_there, op_is, mine_is, answer_over, answer_told, some_reply}
+use Rattle.kernel.proofs.Ports.{ports_decided, ports_given}
+use Rattle.kernel.proofs.Valid.{HasAgreed, agreed_now}
+use Rattle.kernel.proofs.Working.{ends_now, right_moved_behind, right_fault_behind, right_decided, right_over}
+use Rattle.kernel.proofs.stepping.Kernel.finish.Given.{Over}
+use Rattle.kernel.proofs.stepping.Kernel.finish.Goals.{After-known-2}
+use Rattle.kernel.proofs.stepping.Kernel.finish.Goals as goal
+
+-- whose task made a step, which came to this: its operation had its turn
+record Head {D N : Type 0} (disk : Ghosts D N) (s t : StoreState D) (w : World) (p : ℕ) (op : Op) (came : TaskProgress) : Type 0 where
+  well : s.volume.fault ≡ None
+  within : p < length w.processes
+  there : IsThere s w p
+  mine : (task s.tasks p).op ≡ Some op
+  same : op ≡ (entry_in w.journal.list there.k).op
+  steps : (r : TaskProgress) → came ≡ r → Steps disk s p op r t
+  agreed : (r : TaskProgress) → came ≡ r → fault_of_task r ≡ None → HasAgreed disk.image t
+
+head : (g : Over) (c : After-known-2 g) → Head g.D.Disk c.self.inside.store c.step-progress.new.self c.self.inside.processes c.args.pid c.operation-op.result.now c.step-progress.result
+head g c =
+    let k = c.self.inside in
+    let t = c.step-progress.new.self in
+    let well : k.store.volume.fault ≡ None = search rules in
+    let behind : is_behind (process k.processes c.args.pid).at ≡ true = search rules in
+    let there = is_there g.D.Disk k.opening.value k.store k.processes c.args.pid c.self.invariant.right well behind in
+    let steps : (r : TaskProgress) → c.step-progress.result ≡ r → Steps g.D.Disk k.store c.args.pid c.operation-op.result.now r t = λ r is. subst (λ (q : TaskProgress). Steps g.D.Disk k.store c.args.pid c.operation-op.result.now q t) is c.step-progress.ensures.step in
+    record {
+      well = well;
+      within = search rules;
+      there = there;
+      mine = mine_is g.D.Disk k.opening.value k.store k.processes c.args.pid c.self.invariant.right well there c.operation-op.result.now c.operation-op.ensures;
+      same = op_is g.D.Disk k.opening.value k.store k.processes c.args.pid c.self.invariant.right well there c.operation-op.result.now c.operation-op.ensures;
+      steps = steps;
+      agreed = λ r is none. agreed_now g.D.Disk.image t ((steps r is).reads.fault ∙ none) c.known-2.ensures.volume c.known-2.ensures.store;
+    }
+
+-- what it made of the kernel, after which the intake is j
+acts : (g : Over) (c : After-known-2 g) (r : TaskProgress) (j : _) (z : World) → c.step-progress.result ≡ r → z ≡ world_behind r c.self.inside.processes c.args.pid
+    → KeepsOthers g.I.Intake c.args.pid c.self.inside.intake j → (g.I.Intake.side j c.args.pid).ahead ≡ (g.I.Intake.side c.self.inside.intake c.args.pid).ahead
+    → Acts g.D.Disk g.I.Intake g.H.Herald c.args.pid (step_behind r) c.args.self.now (record { store = c.step-progress.new.self; opening = c.self.inside.opening.value; intake = j; herald = c.self.inside.herald; world = z })
+acts g c r j z is made sides ahead =
+    let k = c.self.inside in
+    let h = head g c in
+    subst (λ (o : State _ _ _). Acts g.D.Disk g.I.Intake g.H.Herald c.args.pid (step_behind r) o (record { store = c.step-progress.new.self; opening = k.opening.value; intake = j; herald = k.herald; world = z })) c.self.view_is
+    (acts_finished g.D.Disk g.I.Intake g.H.Herald c.args.pid k.store c.step-progress.new.self k.opening.value k.intake k.herald k.processes z h.well h.there.group h.there.k j r h.there.stands
+    (subst (λ (o : Op). Steps g.D.Disk k.store c.args.pid o r c.step-progress.new.self) h.same (h.steps r is)) made sides ahead)
+
+-- a reading was told its bytes, and answered
+told : (g : Over) (c : After-known-2 g) (reply : Reply) → c.step-progress.result ≡ progress.Decided reply → IsRight g.D.Disk c.self.inside.opening.value c.step-progress.new.self (answered (decided c.self.inside.processes c.args.pid reply) c.args.pid)
+told g c reply is =
+    let k = c.self.inside in
+    let h = head g c in
+    right_decided g.D.Disk k.opening.value k.store k.processes c.self.invariant.right h.well c.args.pid h.within c.operation-op.result.now h.mine c.known.ensures.store c.step-progress.new.self h.there.group h.there.k h.there.stands reply
+    (h.steps (progress.Decided reply) is) (h.agreed (progress.Decided reply) is refl)
+
+can_told : (g : Over) (c : After-known-2 g) (reply : Reply) (z : World) → c.step-progress.result ≡ progress.Decided reply → z ≡ decided c.self.inside.processes c.args.pid reply → CanAnswer (last_answer z (process z c.args.pid).at) (process z c.args.pid).room
+can_told g c reply z is made =
+    let k = c.self.inside in
+    let h = head g c in
+    subst (λ (o : World). CanAnswer (last_answer o (process o c.args.pid).at) (process o c.args.pid).room) (sym made)
+    (answer_told g.D.Disk k.opening.value k.store k.processes c.args.pid c.self.invariant.right h.well h.there reply c.step-progress.new.self (h.steps (progress.Decided reply) is).reads.fault (told g c reply is))
+
+-- another look has its reply
+can_leave : (g : Over) (c : After-known-2 g) → c.step-progress.result ≡ progress.Over → CanAnswer (last_answer c.self.inside.processes (process c.self.inside.processes c.args.pid).at) (process c.self.inside.processes c.args.pid).room
+can_leave g c is =
+    let k = c.self.inside in
+    let h = head g c in
+    let ends = ends_now g.D.Disk k.opening.value k.store k.processes c.self.invariant.right h.well c.args.pid h.within c.operation-op.result.now h.mine c.known.ensures.store c.step-progress.new.self progress.Over h.there.its.unfinished (h.steps progress.Over is) in
+    answer_over g.D.Disk k.opening.value k.store k.processes c.args.pid c.self.invariant.right h.well h.there (some_reply h.there.entry.reply (sym h.there.its.reply ∙ ends.1))
+
+pub step-progress-requires-clause-op : goal.step-progress-requires-clause-op
+step-progress-requires-clause-op g c =
+    let k = c.self.inside in
+    let well : k.store.volume.fault ≡ None = search rules in
+    let behind : is_behind (process k.processes c.args.pid).at ≡ true = search rules in
+    let there = is_there g.D.Disk k.opening.value k.store k.processes c.args.pid c.self.invariant.right well behind in
+    mine_is g.D.Disk k.opening.value k.store k.processes c.args.pid c.self.invariant.right well there c.operation-op.result.now c.operation-op.ensures
+
+pub give-requires-clause-over : goal.give-requires-clause-over
+give-requires-clause-over g c = (can_told g (goal.at.give-requires-clause-over g c).After-known-2 c.in-Decided.reply c.decide.new.self c.in-Decided.is c.decide.ensures).0
+
+pub give-requires-clause-fits : goal.give-requires-clause-fits
+give-requires-clause-fits g c = (can_told g (goal.at.give-requires-clause-fits g c).After-known-2 c.in-Decided.reply c.decide.new.self c.in-Decided.is c.decide.ensures).1
+
+pub give-requires-in-Over-clause-over : goal.give-requires-in-Over-clause-over
+give-requires-in-Over-clause-over g c = (can_leave g (goal.at.give-requires-in-Over-clause-over g c).After-known-2 c.in-Over.is).0
+
+pub give-requires-in-Over-clause-fits : goal.give-requires-in-Over-clause-fits
+give-requires-in-Over-clause-fits g c = (can_leave g (goal.at.give-requires-in-Over-clause-fits g c).After-known-2 c.in-Over.is).1
+
+pub invariant_of-self : goal.invariant_of-self
+invariant_of-self g c =
+    let k = c.self.inside in
+    let h = head g (goal.at.invariant_of-self g c).After-known-2 in
+    let steps = h.steps progress.Moved c.in-Moved.is in
+    record {
+      right = right_moved_behind g.D.Disk k.opening.value k.store k.processes c.self.invariant.right h.well c.args.pid h.within c.operation-op.result.now h.mine c.known.ensures.store c.step-progress.new.self h.there.group h.there.k h.there.stands steps (h.agreed progress.Moved c.in-Moved.is refl);
+      ports = subst (λ (n : ℕ). ArePorts g.I.Intake g.H.Herald k.intake k.herald n k.processes) (sym steps.groups.committed) c.self.invariant.ports;
+    }
+
+pub invariant_of-self-in-Decided : goal.invariant_of-self-in-Decided
+invariant_of-self-in-Decided g c =
+    let k = c.self.inside in
+    let past = (goal.at.invariant_of-self-in-Decided g c).After-known-2 in
+    let h = head g past in
+    let reply = c.in-Decided.reply in
+    let steps = h.steps (progress.Decided reply) c.in-Decided.is in
+    let inside : c.args.pid < length c.decide.new.self.processes = search rules in
+    record {
+      right = subst (λ (z : World). IsRight g.D.Disk k.opening.value c.step-progress.new.self z) (sym (c.give.ensures.processes ∙ ap (λ (w : World). answered w c.args.pid) c.decide.ensures)) (told g past reply c.in-Decided.is);
+      ports = ports_given g.I.Intake g.H.Herald k.intake c.give.new.intake k.herald k.herald k.store.volume.log.committed c.step-progress.new.self.volume.log.committed c.decide.new.self c.give.new.processes c.args.pid
+          (subst (λ (w : World). ArePorts g.I.Intake g.H.Herald k.intake k.herald k.store.volume.log.committed w) (sym c.decide.ensures)
+          (ports_decided g.I.Intake g.H.Herald k.intake k.herald k.store.volume.log.committed k.processes c.args.pid h.there.group h.there.k h.there.entry reply c.self.invariant.ports h.within h.there.stands h.there.has.at h.there.has.mine))
+          inside (can_told g past reply c.decide.new.self c.in-Decided.is c.decide.ensures).0 c.give.ensures.processes c.give.ensures.gives (c.self.invariant.ports.told ∙ sym steps.groups.committed);
+    }
+
+pub invariant_of-self-in-Over : goal.invariant_of-self-in-Over
+invariant_of-self-in-Over g c =
+    let k = c.self.inside in
+    let past = (goal.at.invariant_of-self-in-Over g c).After-known-2 in
+    let h = head g past in
+    let steps = h.steps progress.Over c.in-Over.is in
+    record {
+      right = subst (λ (z : World). IsRight g.D.Disk k.opening.value c.step-progress.new.self z) (sym c.give-in-Over.ensures.processes)
+          (right_over g.D.Disk k.opening.value k.store k.processes c.self.invariant.right h.well c.args.pid h.within c.operation-op.result.now h.mine c.known.ensures.store c.step-progress.new.self h.there.group h.there.k h.there.stands steps (h.agreed progress.Over c.in-Over.is refl));
+      ports = ports_given g.I.Intake g.H.Herald k.intake c.give-in-Over.new.intake k.herald k.herald k.store.volume.log.committed c.step-progress.new.self.volume.log.committed k.processes c.give-in-Over.new.processes c.args.pid
+          c.self.invariant.ports h.within (can_leave g past c.in-Over.is).0 c.give-in-Over.ensures.processes c.give-in-Over.ensures.gives (c.self.invariant.ports.told ∙ sym steps.groups.committed);
+    }
+
+pub invariant_of-self-in-Fault : goal.invariant_of-self-in-Fault
+invariant_of-self-in-Fault g c =
+    let k = c.self.inside in
+    let h = head g (goal.at.invariant_of-self-in-Fault g c).After-known-2 in
+    let steps = h.steps (progress.Fault c.in-Fault.field-0) c.in-Fault.is in
+    record {
+      right = right_fault_behind g.D.Disk k.opening.value k.store k.processes c.self.invariant.right h.well c.args.pid h.within c.operation-op.result.now h.mine c.known.ensures.store c.step-progress.new.self h.there.group h.there.k h.there.stands c.in-Fault.field-0 steps;
+      ports = subst (λ (n : ℕ). ArePorts g.I.Intake g.H.Herald k.intake k.herald n k.processes) (sym steps.groups.committed) c.self.invariant.ports;
+    }
+
+pub unreachable-requires : goal.unreachable-requires
+unreachable-requires g c =
+    let k = c.self.inside in
+    let h = head g (goal.at.unreachable-requires g c).After-known-2 in
+    let ends = ends_now g.D.Disk k.opening.value k.store k.processes c.self.invariant.right h.well c.args.pid h.within c.operation-op.result.now h.mine c.known.ensures.store c.step-progress.new.self (progress.Turned c.in-Turned.field-0) h.there.its.unfinished (h.steps (progress.Turned c.in-Turned.field-0) c.in-Turned.is) in
+    false≢true (sym h.there.its.turned ∙ ends.0)
+
+pub returns-in-Moved : goal.returns-in-Moved
+returns-in-Moved g c = acts g (goal.at.returns-in-Moved g c).After-known-2 progress.Moved c.self.inside.intake c.self.inside.processes c.in-Moved.is refl (sides_same g.I.Intake c.args.pid c.self.inside.intake) refl
+
+pub returns-in-Decided : goal.returns-in-Decided
+returns-in-Decided g c = acts g (goal.at.returns-in-Decided g c).After-known-2 (progress.Decided c.in-Decided.reply) c.give.new.intake c.give.new.processes c.in-Decided.is
+    (c.give.ensures.processes ∙ ap (λ (w : World). answered w c.args.pid) c.decide.ensures) c.give.ensures.gives.keeps c.give.ensures.gives.ahead
+
+pub returns-in-Over : goal.returns-in-Over
+returns-in-Over g c = acts g (goal.at.returns-in-Over g c).After-known-2 progress.Over c.give-in-Over.new.intake c.give-in-Over.new.processes c.in-Over.is c.give-in-Over.ensures.processes c.give-in-Over.ensures.gives.keeps c.give-in-Over.ensures.gives.ahead
+
+pub returns-in-Sleeping : goal.returns-in-Sleeping
+returns-in-Sleeping g c = acts g (goal.at.returns-in-Sleeping g c).After-known-2 (progress.Sleeping c.in-Sleeping.why) c.self.inside.intake c.self.inside.processes c.in-Sleeping.is refl (sides_same g.I.Intake c.args.pid c.self.inside.intake) refl
+
+pub returns-in-Fault : goal.returns-in-Fault
+returns-in-Fault g c = acts g (goal.at.returns-in-Fault g c).After-known-2 (progress.Fault c.in-Fault.field-0) c.self.inside.intake c.self.inside.processes c.in-Fault.is refl (sides_same g.I.Intake c.args.pid c.self.inside.intake) refl

@@ -1,0 +1,73 @@
+-- The log has no part in which files an image stands for, be numbers held or not.
+use Rattle.std.proofs.Common.{◌≡◌, ◌≢◌, ℕ, suc, ◌<◌, length, None, refl, ap, ◌∙◌, arith}
+use Rattle.blocks.specs.Disk.{Image}
+use Rattle.model.specs.Agreement.{IsSameOutsideLog, is_outside_log}
+use Rattle.model.specs.Files.{Files, file_in}
+use Rattle.model.specs.Layout.{super_of, inode_count_of}
+use Rattle.model.specs.Soundness.{count_of}
+use Rattle.model.specs.Lemmas.OutsideLog.{behind_log}
+use Rattle.model.specs.Lemmas.Soundness.{facts_of}
+use Rattle.loose.specs.Held.{Claims, FitsHeld, owned}
+use Rattle.loose.specs.HeldLaws.{HasSameFile, HeldOutsideLog}
+use Rattle.loose.specs.Loose.{AreFull}
+use Rattle.loose.specs.Looks.{IsUsed}
+use Rattle.loose.specs.Lemmas.Frames.{SameSuperAndMap, loose_same}
+use Rattle.loose.specs.Lemmas.HeldFrames.{ChangesOne, loose_alike, names_same, fine_same, in_data, owned_kept, fits_then, same_file}
+use Rattle.loose.specs.Lemmas.OutsideLog.{inode_outside, data_outside}
+
+module _ (m : Files) (x y : Image) (claims : Claims) (same : IsSameOutsideLog x y) (f : FitsHeld m x claims) where
+  -- whichever number is taken for the one that changes
+  change : (i : ℕ) → i ≢ 0 → ChangesOne is_outside_log m x claims i m y claims
+  change i some = record {
+    fits = f;
+    agree = data_outside x y same.agree;
+    size = same.size;
+    inodes = λ j inside ne. inode_outside x y j same.agree;
+    claims_same = λ j ne. refl;
+    count = refl;
+    files = λ j ne. refl;
+    some = some;
+  }
+
+  first : ChangesOne is_outside_log m x claims 1 m y claims
+  first = change 1 (λ e. omega arith)
+
+  base : SameSuperAndMap x y
+  base =
+      let bitmap = (facts_of x f.geometry).map in
+      record {
+        size = same.size;
+        super = same.agree 1 refl;
+        map = same.agree (super_of x).bmapstart (behind_log (super_of x).bmapstart (omega arith));
+      }
+
+  two : 1 < inode_count_of x
+  two = let some = (facts_of x f.geometry).some in omega arith
+
+  same_owned : (c : ℕ) → count_of c (owned x claims) ≡ count_of c (owned y claims)
+  same_owned c =
+      let inside = two in
+      let kept = owned_kept is_outside_log m x claims 1 m y claims first c (omega arith) inside in
+      let own = ap (count_of c) (names_same is_outside_log x y 1 (claims 1) (data_outside x y same.agree) (inode_outside x y 1 same.agree)
+      (in_data is_outside_log m x claims 1 m y claims first 1 (omega arith) inside)) in
+      omega arith
+
+  full_kept : AreFull y
+  full_kept b low within =
+      let size = same.size in
+      ap length (same.agree b (behind_log b low)) ∙ f.full b low (omega arith)
+
+  fits_outside : FitsHeld m y claims
+  fits_outside =
+      let inside = two in
+      (fits_then is_outside_log m x claims 1 m y claims first full_kept
+      (loose_alike y (owned x claims) (owned y claims) same_owned (loose_same x y (owned x claims) base f.loose))
+      (fine_same is_outside_log x y 1 (claims 1) (file_in m 1) (data_outside x y same.agree) (inode_outside x y 1 same.agree)
+      (in_data is_outside_log m x claims 1 m y claims first 1 (omega arith) inside) (f.each 1 (omega arith) inside))).fits
+
+  file_kept : (j : ℕ) → claims j ≡ None → IsUsed x j → HasSameFile x y j
+  file_kept j rest used =
+      same_file is_outside_log m x claims (suc j) m y claims (change (suc j) (λ e. omega arith)) j (λ e. omega arith) rest used
+
+pub held_outside : HeldOutsideLog
+held_outside m x y claims same f = (fits_outside m x y claims same f, file_kept m x y claims same f)

@@ -1,0 +1,196 @@
+-- What becomes of the claims where the image stays: a turn, and an entry that is passed over.
+use Rattle.std.proofs.Common.{◌≡◌, ◌≢◌, ℕ, zero, suc, ◌+◌, ◌<◌, ◌≤◌, true, List, [], ◌∷◌, ◌++◌, length, get_or, set, take, replicate, Option, Some, None, refl, sym, ap, subst, ◌∙◌, ⊎_elim, arith}
+use Rattle.std.specs.List.{flat_map}
+use Rattle.std.proofs.lemmas.Bool.{ne_eqb, eqb-true, cases_eq}
+use Rattle.std.proofs.lemmas.List.{append-nil, length-set, get_or-set_same, get_or-set_other}
+use Rattle.blocks.specs.Disk.{Image, block_at}
+use Rattle.model.specs.declared.types.image.Dinode.{Dinode}
+use Rattle.model.specs.declared.types.image.Form.{Form}
+use Rattle.model.specs.declared.types.image.Form.TheVariants.{One}
+use Rattle.model.specs.Fields.{words_of}
+use Rattle.model.specs.Files.{Files, file_in, file_at, file_of, bytes_in}
+use Rattle.model.specs.Layout.{depths, form_of, magic_at, magic_of, inode_of, inode_count_of}
+use Rattle.model.specs.Names.{names_under, names_along}
+use Rattle.model.specs.Operations.{after}
+use Rattle.model.specs.Places.{pointers_in, addresses_in}
+use Rattle.model.specs.Soundness.{IsLawfulGeometry, count_of}
+use Rattle.model.specs.Lemmas.Names.{pointers_named}
+use Rattle.loose.specs.Held.{Held, Claims, FitsHeld, IsFine, names_claimed, names_left, entries_left, owned, present, file_left}
+use Rattle.loose.specs.HeldLaws.{FitsThen, EntryPassed, TurnHolds, TurnAnswers, entry_at}
+use Rattle.loose.specs.Loose.{IsAtRest}
+use Rattle.loose.specs.Looks.{IsUsed}
+use Rattle.loose.specs.Lemmas.Frames.{AgreesAtData}
+use Rattle.loose.specs.Lemmas.GivenUp.{held_of, held_further, names_parts, entry_less}
+use Rattle.loose.specs.Lemmas.HeldFrames.{ChangesOne, loose_alike, owned_kept, fits_then}
+use Rattle.loose.specs.Lemmas.Looks.{between}
+use Rattle.loose.specs.Lemmas.Wholes.{names_used}
+
+agrees_itself : (x : Image) → AgreesAtData (λ _. true) x x
+agrees_itself x = record { agree = λ b pass. refl; one = refl; from_data = λ b from. refl }
+
+-- the image stays, and so do the blocks that the number owns
+record ChangesClaim (m : Files) (x : Image) (claims : Claims) (i : ℕ) (n : Files) (new : Claims) : Type 0 where
+  fits : FitsHeld m x claims
+  low : 1 ≤ i
+  high : i < inode_count_of x
+  claims_same : (j : ℕ) → j ≢ i → new j ≡ claims j
+  count : length n ≡ length m
+  files : (j : ℕ) → j ≢ i → file_in n j ≡ file_in m j
+  alike : (c : ℕ) → count_of c (names_claimed x i (new i)) ≡ count_of c (names_claimed x i (claims i))
+  fine : IsFine x i (new i) (file_in n i)
+
+module _ (m : Files) (x : Image) (claims : Claims) (i : ℕ) (n : Files) (new : Claims) (h : ChangesClaim m x claims i n new) where
+  change : ChangesOne (λ _. true) m x claims i n x new
+  change =
+      let low = h.low in
+      record {
+        fits = h.fits;
+        agree = agrees_itself x;
+        size = refl;
+        inodes = λ j inside ne. refl;
+        claims_same = h.claims_same;
+        count = h.count;
+        files = h.files;
+        some = λ e. omega arith;
+      }
+
+  same_owned : (c : ℕ) → count_of c (owned x claims) ≡ count_of c (owned x new)
+  same_owned c =
+      let kept = owned_kept (λ _. true) m x claims i n x new change c h.low h.high in
+      let alike = h.alike c in
+      omega arith
+
+  changes_claim : FitsThen n x claims i x new
+  changes_claim =
+      fits_then (λ _. true) m x claims i n x new change h.fits.full
+      (loose_alike x (owned x claims) (owned x new) same_owned h.fits.loose) h.fine
+
+-- ---- an entry that is not there
+
+passed_alike : (x : Image) (h : Held) (c : ℕ) → entry_at x h h.given_up ≡ 0 →
+    count_of c (names_left x h.copy (h.given_up + 1)) ≡ count_of c (names_left x h.copy h.given_up)
+passed_alike x h c none =
+    let a = get_or h.copy.addrs 12 0 in
+    let e = h.given_up in
+    let next : e + 1 ≡ suc e = omega arith in
+    let same = ap (λ q. count_of c (names_left x h.copy q)) next in
+    let old = names_parts x h.copy e c in
+    let rest = names_parts x h.copy (suc e) c in
+    ⊎_elim
+    (λ (z : a ≡ 0).
+    let empty : entries_left x a (suc e) ≡ entries_left x a e = rw z refl in
+    let both = ap (count_of c) empty in omega arith)
+    (λ (some : a ≢ 0).
+    let less = entry_less x a e c some in
+    let nothing : count_of c (present (get_or (words_of (block_at x a)) e 0 ∷ [])) ≡ 0 = ap (λ w. count_of c (present (w ∷ []))) none in
+    omega arith)
+    (cases_eq a 0)
+
+pub entry_passed : EntryPassed
+entry_passed m x claims new i h g none now =
+    let at = between x i g.number in
+    let e = h.given_up + 1 in
+    let t : Held = record h { given_up = e } in
+    (changes_claim m x claims i m new (record {
+      fits = g.fits;
+      low = at.low;
+      high = at.high;
+      claims_same = now.others;
+      count = refl;
+      files = λ j ne. refl;
+      alike = λ c.
+          ap (λ (o : Option Held). count_of c (names_claimed x i o)) now.own ∙ passed_alike x h c none
+          ∙ sym (ap (λ (o : Option Held). count_of c (names_claimed x i o)) g.holds);
+      fine = subst (λ (o : Option Held). IsFine x i o (file_in m i)) (sym now.own)
+          (held_further x i e h (file_in m i) (held_of m x claims i h g));
+    })).fits
+
+-- ---- a turn
+
+one_form : (x : Image) → IsLawfulGeometry x → form_of x ≡ One
+one_form x g =
+    let is = eqb-true (magic_at x) (magic_of One) g.magic in
+    rw (is) refl
+
+under_direct : (x : Image) (words : List ℕ) → flat_map (λ a. names_under x 0 a) words ≡ present words
+under_direct x [] = refl
+under_direct x (w ∷ words) =
+    ⊎_elim
+    (λ (z : w ≡ 0). rw z (under_direct x words))
+    (λ (some : w ≢ 0). rw (ne_eqb w 0 some) (ap (λ (l : List ℕ). w ∷ l) (under_direct x words)))
+    (cases_eq w 0)
+
+along_present : (x : Image) (n : ℕ) (addrs : List ℕ) →
+    names_along x (replicate n 0 ++ 1 ∷ []) addrs ≡ present (take n addrs) ++ names_under x 1 (get_or addrs n 0)
+along_present x zero [] = refl
+along_present x zero (a ∷ addrs) = append-nil (names_under x 1 a)
+along_present x (suc n) [] = refl
+along_present x (suc n) (a ∷ addrs) =
+    ⊎_elim
+    (λ (z : a ≡ 0). rw z (along_present x n addrs))
+    (λ (some : a ≢ 0). rw (ne_eqb a 0 some) (ap (λ (l : List ℕ). a ∷ l) (along_present x n addrs)))
+    (cases_eq a 0)
+
+entries_all : (x : Image) (a : ℕ) → names_under x 1 a ≡ entries_left x a 0
+entries_all x a =
+    ⊎_elim
+    (λ (z : a ≡ 0). rw z refl)
+    (λ (some : a ≢ 0). rw (ne_eqb a 0 some) (ap (λ (l : List ℕ). a ∷ l) (under_direct x (words_of (block_at x a)))))
+    (cases_eq a 0)
+
+-- a whole inode names what a task with it as its copy has left
+whole_names : (x : Image) (d : Dinode) → IsLawfulGeometry x → d.kind ≢ 0 → names_left x d 0 ≡ addresses_in (pointers_in x d)
+whole_names x d g used =
+    sym (pointers_named x d ∙ names_used x d used
+    ∙ ap (λ (f : Form). names_along x (depths f) d.addrs) (one_form x g)
+    ∙ along_present x 12 d.addrs
+    ∙ ap (λ (l : List ℕ). present (take 12 d.addrs) ++ l) (entries_all x (get_or d.addrs 12 0)))
+
+at_rest_of : (m : Files) (x : Image) (claims : Claims) (i : ℕ) → FitsHeld m x claims → IsUsed x i → claims i ≡ None → IsAtRest x i (file_in m i)
+at_rest_of m x claims i f used none =
+    let at = between x i used.0 in
+    subst (λ (o : Option Held). IsFine x i o (file_in m i)) none (f.each i at.low at.high)
+
+pub turn_holds : TurnHolds
+turn_holds m x claims new i last f used none last_is now =
+    let at = between x i used.0 in
+    let d = inode_of x i in
+    let t : Held = record { copy = d; given_up = 0; last_kind = last } in
+    let high = at.high in
+    let fit = (at_rest_of m x claims i f used none).fit used.1 in
+    let inside : i < length m = omega (arith, high, f.count) in
+    changes_claim m x claims i (set m i (file_left last)) new (record {
+      fits = f;
+      low = at.low;
+      high = at.high;
+      claims_same = now.others;
+      count = length-set m i (file_left last);
+      files = λ j ne. get_or-set_other m i j (file_left last) None ne;
+      alike = λ c.
+          ap (λ (o : Option Held). count_of c (names_claimed x i o)) now.own ∙ ap (count_of c) (whole_names x d f.geometry used.1)
+          ∙ sym (ap (λ (o : Option Held). count_of c (names_claimed x i o)) none);
+      fine = subst (λ (o : Option Held). IsFine x i o (file_in (set m i (file_left last)) i)) (sym now.own)
+          (record {
+            fields = fit.fields;
+            used = fit.used;
+            kind = fit.kind;
+            same_kind = refl;
+            labels = refl;
+            last = last_is;
+            told = get_or-set_same m i (file_left last) None inside;
+          });
+    })
+
+pub used_file : (x : Image) (i : ℕ) → 1 ≤ i → (inode_of x i).kind ≢ 0 → file_at x i ≡ Some (record { kind = (inode_of x i).kind; bytes = bytes_in x (inode_of x i) })
+unfolding file_of
+used_file x i low used = rw (ne_eqb i 0 (λ e. omega (arith, low, e)), ne_eqb (inode_of x i).kind 0 used) refl
+
+pub turn_answers : TurnAnswers
+unfolding after
+turn_answers m x claims i f used none =
+    let at = between x i used.0 in
+    let d = inode_of x i in
+    let file = sym (at_rest_of m x claims i f used none).same ∙ used_file x i at.low used.1 in (
+      rw (file, file, ne_eqb d.kind 0 used.1) refl,
+      rw (file, file) refl,
+    )

@@ -1,0 +1,271 @@
+-- What an operation of a kernel's only process is answered.
+use Rattle.std.proofs.Common.{◌≡◌, ◌≢◌, ◌∙◌, ◌<◌, ◌≤◌, ℕ, ◌+◌, ◌^◌, ◌-◌, zero, suc, true, false, ◌&&◌, List, [], ◌∷◌, ◌++◌, length, map, Option, Some, None, refl, sym, ap, subst, arith}
+use Rattle.std.specs.Prelude.{min, ◌==◌, option_map, slice_get}
+use Rattle.std.specs.List.{list_all, filter}
+use Rattle.std.proofs.lemmas.Bool.{and_parts}
+use Rattle.std.proofs.lemmas.List.{length-append, length-map, map-append}
+use Rattle.std.proofs.lemmas.List.Folds.{list_all-append}
+use Rattle.blocks.specs.Disk.{Image}
+use Rattle.blocks.specs.declared.disk.Disk.{Ghosts}
+use Rattle.model.specs.declared.types.operations.Answer.{Answer}
+use Rattle.model.specs.declared.types.operations.Entry.{Entry}
+use Rattle.model.specs.declared.types.operations.Op.{Op}
+use Rattle.model.specs.declared.types.operations.Reply.{Reply}
+use Rattle.model.specs.Files.{files_of}
+use Rattle.model.specs.Journal.{answered, own, replay}
+use Rattle.model.specs.Layout.{form_of}
+use Rattle.ports.specs.History.{History, first_in, nothing_yet}
+use Rattle.ports.specs.declared.herald.PlainHerald.{PlainHerald}
+use Rattle.kernel.specs.Opening.{IsOpened}
+use Rattle.player.specs.Showing.{IsReaderOf}
+use Rattle.ports.specs.Lanes.{polled_after}
+use Rattle.ports.specs.Queues.{QueueFits, FitsAt, waiting, answers, polled, submitted, waiting_at, answers_at, polled_at, submitted_at, queue_name}
+use Rattle.ports.specs.declared.lane.Lane.{Lane}
+use Rattle.ports.specs.declared.queues.QueueIntake.{QueueIntake}
+use Rattle.journal.specs.declared.types.At.TheVariants as at
+use Rattle.journal.specs.declared.types.At.{At}
+use Rattle.journal.specs.Histories.{IsHistory, Owed, entry_answer, pending_at}
+use Rattle.journal.specs.Processes.{process}
+use Rattle.kernel.specs.Known.{Known}
+use Rattle.kernel.specs.declared.types.Step.{Step}
+use Rattle.kernel.specs.declared.types.Step.TheVariants as step
+use Rattle.player.specs.Asking.{IsAnswer, Rests, is_look, is_own_look}
+use Rattle.player.specs.Stepping.{Plain, MakesPlainStep, MakesSteps, Moves, plain_herald, plain_queues}
+use Rattle.player.proofs.Looks.{last_answer_is}
+use Rattle.player.proofs.Stages.{HasMore, StageAt, OverAt, busy_stands, step_moves, step_answers}
+
+-- the operation of a kernel's only process waits, or is under way, as it was handed in to k
+record Stage {D : Type 0} (op : Op) (k m : Plain D) : Type 0 where
+  one : length m.world.processes ≡ 1
+  opening : m.opening ≡ k.opening
+  names : queue_name m.intake 0 ≡ queue_name k.intake 0
+  stands : StageAt op k.world.journal.list (process m.world 0).at (waiting m.intake 0) m.world.journal.list
+
+-- it is over
+record Over {D : Type 0} (op : Op) (k m : Plain D) : Type 0 where
+  one : length m.world.processes ≡ 1
+  opening : m.opening ≡ k.opening
+  names : queue_name m.intake 0 ≡ queue_name k.intake 0
+  over : OverAt op k.world.journal.list m.world
+
+stage_moves : {D N : Type 0} (disk : Ghosts D N) (op : Op) (k m n : Plain D) → Stage op k m → MakesPlainStep disk 0 step.Moved m n → Stage op k n
+stage_moves disk op k m n stage made = record {
+  one = made.many ∙ stage.one;
+  opening = made.acts.opening ∙ stage.opening;
+  names = made.acts.sides.names 0 ∙ stage.names;
+  stands = busy_stands op k.world.journal.list n.world.journal.list (process n.world 0).at (waiting n.intake 0)
+      (step_moves disk op k.world.journal.list m.store m.world (let one = stage.one in omega (arith, one)) (waiting m.intake 0) (plain_queues.side n.intake 0) false n.store n.world m.store.volume.fault made.acts.next stage.stands);
+}
+
+stages_move : {D N : Type 0} (disk : Ghosts D N) (op : Op) (count : ℕ) (k m n : Plain D) → Stage op k m → Moves disk 0 count m n → Stage op k n
+unfolding Moves
+stages_move disk op zero k m n stage moves = subst (λ o. Stage op k o) (sym moves) stage
+stages_move disk op (suc count) k m n stage (mid, made, moves) = stages_move disk op count k mid n (stage_moves disk op k m mid stage made) moves
+
+stage_over : {D N : Type 0} (disk : Ghosts D N) (op : Op) (k m n : Plain D) → Stage op k m → MakesPlainStep disk 0 step.Answered m n → Over op k n
+stage_over disk op k m n stage made = record {
+  one = made.many ∙ stage.one;
+  opening = made.acts.opening ∙ stage.opening;
+  names = made.acts.sides.names 0 ∙ stage.names;
+  over = step_answers disk op k.world.journal.list m.store m.world (let one = stage.one in omega (arith, one)) (waiting m.intake 0) (plain_queues.side n.intake 0) false n.store n.world m.store.volume.fault made.acts.next stage.stands;
+}
+
+over_then : {D N : Type 0} (disk : Ghosts D N) (op : Op) (k m : Plain D) → Stage op k k → MakesSteps disk 0 step.Answered k m → Over op k m
+over_then disk op k m stage makes = stage_over disk op k makes.mid m (stages_move disk op makes.moved k k makes.mid stage makes.moves) makes.made
+
+-- steps of a process leave the disk at the opening
+pub opening_stays : {D N : Type 0} (disk : Ghosts D N) (p count : ℕ) (k m : Plain D) → Moves disk p count k m → m.opening ≡ k.opening
+unfolding Moves
+opening_stays disk p zero k m moves = ap (λ o. o.opening) moves
+opening_stays disk p (suc count) k m (mid, made, moves) = opening_stays disk p count mid m moves ∙ made.acts.opening
+
+-- entries that are all the first process's
+own_all : (es : List Entry) → list_all is_own_look es ≡ true → own 0 es ≡ es
+own_all [] looks = refl
+own_all (e ∷ es) looks =
+    let parts = and_parts (is_own_look e) (list_all is_own_look es) looks in
+    let mine = (and_parts (e.pid == 0) (is_look e.op) parts.0).0 in
+    rw mine (ap (λ (l : List Entry). e ∷ l) (own_all es parts.1))
+
+-- what the queues of the only process count
+record Counts (i : QueueIntake) (es : List Entry) : Type 0 where
+  handed : submitted i 0 ≡ length es + length (waiting i 0)
+  given : List Answer
+  before : List Answer
+  split : given ≡ before ++ answers i 0
+  fetched : polled i 0 ≡ min (length before) (2 ^ 64 - 1)
+  told : map (λ (a : Answer). Some a) given ≡ map entry_answer es
+
+lane_is : (lanes : List Lane) → length lanes ≡ 1 → (l : Lane) × (slice_get lanes 0 ≡ Some l)
+lane_is [] one = absurd (cc one)
+lane_is (l ∷ rest) one = (l, refl)
+
+fits_in : (o : Option Lane) (l : Lane) (h : History) → o ≡ Some l → FitsAt o h
+    → (submitted_at o ≡ length h.taken + length (waiting_at o)) × ((before : List Answer) × (h.given ≡ before ++ answers_at o) × (polled_at o ≡ min (length before) (2 ^ 64 - 1)))
+fits_in None l h is fits = absurd (cc is)
+fits_in (Some lane) l h is fits = (fits.submitted, fits.given)
+
+owed_idle : (a : At) (es given : List Entry) → a ≡ at.Idle → Owed a 0 es given → own 0 es ≡ given
+owed_idle a es given idle owed = subst (λ (b : At). Owed b 0 es given) idle owed
+
+counts : {D N : Type 0} (disk : Ghosts D N) (k : Plain D) → Known disk plain_queues plain_herald k → length k.world.processes ≡ 1 → (process k.world 0).at ≡ at.Idle → list_all is_own_look k.world.journal.list ≡ true → Counts k.intake k.world.journal.list
+counts disk k known one idle looks =
+    let es = k.world.journal.list in
+    let has = known.histories 0 (omega (arith, one)) in
+    let lane = lane_is k.intake.lanes.items (known.served ∙ one) in
+    let fits = fits_in (slice_get k.intake.lanes.items 0) lane.0 has.history lane.1 has.fit in
+    let own_is = own_all es looks in
+    let entries : has.is.answered ≡ es = sym (owed_idle (process k.world 0).at es has.is.answered idle has.is.owed) ∙ own_is in
+    let taken : length has.history.taken ≡ length es = ap (λ (l : List Op). length l) has.is.taken ∙ ap (λ (a : At). length (map (λ (e : Entry). e.op) (own 0 es) ++ pending_at a)) idle
+    ∙ length-append (map (λ (e : Entry). e.op) (own 0 es)) [] ∙ ap (λ (n : ℕ). n + 0) (length-map (own 0 es) (λ (e : Entry). e.op) ∙ ap (λ (l : List Entry). length l) own_is) ∙ omega arith in
+    record {
+      handed = fits.0 ∙ ap (λ (n : ℕ). n + length (waiting k.intake 0)) taken;
+      given = has.history.given;
+      before = fits.1.0;
+      split = fits.1.1;
+      fetched = fits.1.2;
+      told = has.is.given ∙ ap (λ (l : List Entry). map entry_answer l) entries;
+    }
+
+last_of : {A : Type 0} → List A → A → A
+last_of [] d = d
+last_of (x ∷ xs) d = last_of xs x
+
+last_of_snoc : {A : Type 0} (xs : List A) (x d : A) → last_of (xs ++ x ∷ []) d ≡ x
+unfolding last_of
+last_of_snoc [] x d = refl
+last_of_snoc (y ∷ xs) x d = last_of_snoc xs x y
+
+-- a list of one
+only_one : {A : Type 0} (xs : List A) → length xs ≡ 1 → (x : A) × (xs ≡ x ∷ [])
+only_one [] one = absurd (cc one)
+only_one (x ∷ []) one = (x, refl)
+only_one (x ∷ (y ∷ xs)) one = absurd (cc one)
+
+none_left : {A : Type 0} (xs : List A) → length xs ≡ 0 → xs ≡ []
+none_left [] none = refl
+none_left (x ∷ xs) none = absurd (cc none)
+
+replied : (e : Entry) (a : Answer) → Some a ≡ entry_answer e → e.reply ≡ Some a.reply
+replied e a is = by_reply e.reply is
+  where
+    by_reply : (o : Option Reply) → Some a ≡ option_map (λ (r : Reply). record { seq = e.seq; reply = r; group = e.group }) o → o ≡ Some a.reply
+    by_reply None is = absurd (cc is)
+    by_reply (Some r) is = let same : a ≡ record { seq = e.seq; reply = r; group = e.group } = cc is in sym (ap (λ (b : Answer). Some b.reply) same)
+
+-- what waits to be fetched, once the operation is over
+pub record IsAnswered {D : Type 0} (image : D → Image) (op : Op) (k m : Plain D) : Type 0 where
+  pub one : length m.world.processes ≡ 1
+  pub idle : (process m.world 0).at ≡ at.Idle
+  pub looks : list_all is_own_look m.world.journal.list ≡ true
+  pub opening : m.opening ≡ k.opening
+  pub waits : waiting m.intake 0 ≡ []
+  pub before : polled m.intake 0 + 1 ≡ length m.world.journal.list
+  pub few : length m.world.journal.list ≤ 2 ^ 64 - 1
+  pub answer : Answer
+  pub only : answers m.intake 0 ≡ answer ∷ []
+  pub is : IsAnswer (image k.opening) op answer.reply
+
+pub is_answered : {D N : Type 0} (disk : Ghosts D N) (op : Op) (k m : Plain D) → Known disk plain_queues plain_herald k → Known disk plain_queues plain_herald m → length k.world.processes ≡ 1 → (process k.world 0).at ≡ at.Idle → list_all is_own_look k.world.journal.list ≡ true
+    → waiting k.intake 0 ≡ op ∷ [] → polled k.intake 0 ≡ length k.world.journal.list → length k.world.journal.list < 2 ^ 64 - 1 → is_look op ≡ true → MakesSteps disk 0 step.Answered k m → IsAnswered disk.image op k m
+is_answered disk op k m known_k known_m one idle looks waits fetched few look makes =
+    let es = k.world.journal.list in
+    let over = over_then disk op k m (record { one = one; opening = refl; names = refl; stands = subst (λ (a : At). StageAt op es a (waiting k.intake 0) es) (sym idle) (waits, refl) }) makes in
+    let e = over.over.more.entry in
+    let list : m.world.journal.list ≡ es ++ e ∷ [] = over.over.more.is in
+    let one_look : is_own_look e ≡ true = rw (over.over.more.mine, over.over.more.same, look) refl in
+    let now_looks : list_all is_own_look m.world.journal.list ≡ true = ap (λ (l : List Entry). list_all is_own_look l) list ∙ list_all-append is_own_look es (e ∷ []) ∙ rw (looks, one_look) refl in
+    let was = counts disk k known_k one idle looks in
+    let now = counts disk m known_m over.one over.over.idle now_looks in
+    let long : length m.world.journal.list ≡ length es + 1 = ap (λ (l : List Entry). length l) list ∙ length-append es (e ∷ []) in
+    let same_handed : submitted m.intake 0 ≡ submitted k.intake 0 = ap (λ (n : ℕ × ℕ). n.0) over.names in
+    let same_polled : polled m.intake 0 ≡ polled k.intake 0 = ap (λ (n : ℕ × ℕ). n.1) over.names in
+    let handed_one : length (waiting k.intake 0) ≡ 1 = ap (λ (l : List Op). length l) waits in
+    let handed_k = was.handed in
+    let handed_m = now.handed in
+    let none_waits = none_left (waiting m.intake 0) (omega (arith, handed_k, handed_m, handed_one, same_handed, long)) in
+    let given_long : length now.given ≡ length m.world.journal.list = sym (length-map now.given (λ (a : Answer). Some a)) ∙ ap (λ (l : List (Option Answer)). length l) now.told ∙ length-map m.world.journal.list entry_answer in
+    let given_parts : length now.given ≡ length now.before + length (answers m.intake 0) = ap (λ (l : List Answer). length l) now.split ∙ length-append now.before (answers m.intake 0) in
+    let polled_m : min (length now.before) (2 ^ 64 - 1) ≡ length es = sym now.fetched ∙ same_polled ∙ fetched in
+    let one_waits : length (answers m.intake 0) ≡ 1 = grind (arith, polled_m, few, given_long, given_parts, long) in
+    let answer = only_one (answers m.intake 0) one_waits in
+    let given_is : map (λ (a : Answer). Some a) now.given ≡ map (λ (a : Answer). Some a) now.before ++ Some answer.0 ∷ [] = ap (map (λ (a : Answer). Some a)) (now.split ∙ ap (λ (l : List Answer). now.before ++ l) answer.1) ∙ map-append (λ (a : Answer). Some a) now.before (answer.0 ∷ []) in
+    let told_is : map entry_answer m.world.journal.list ≡ map entry_answer es ++ entry_answer e ∷ [] = ap (map entry_answer) list ∙ map-append entry_answer es (e ∷ []) in
+    let last : Some answer.0 ≡ entry_answer e = sym (last_of_snoc (map (λ (a : Answer). Some a) now.before) (Some answer.0) None) ∙ ap (λ (l : List (Option Answer)). last_of l None) (sym given_is ∙ now.told ∙ told_is) ∙ last_of_snoc (map entry_answer es) (entry_answer e) None in
+    let opening = over.opening in
+    let image = disk.image in
+    record {
+      one = over.one;
+      idle = over.over.idle;
+      looks = now_looks;
+      opening = opening;
+      waits = none_waits;
+      before = (let p = same_polled ∙ fetched in omega (arith, p, long));
+      few = omega (arith, few, long);
+      answer = answer.0;
+      only = answer.1;
+      is = subst (λ (o : Op). IsAnswer (image k.opening) o answer.0.reply) over.over.more.same
+          (last_answer_is (form_of (image k.opening)) (files_of (image k.opening)) known_m.replays.files es e answer.0.reply looks (subst (λ (o : Op). is_look o ≡ true) (sym over.over.more.same) look) (replied e answer.0 last)
+          (subst (λ d. replay (form_of (image d)) (files_of (image d)) (answered (es ++ e ∷ [])) ≡ Some known_m.replays.files) opening (subst (λ (l : List Entry). replay (form_of (image m.opening)) (files_of (image m.opening)) (answered l) ≡ Some known_m.replays.files) list known_m.replays.run)));
+    }
+
+-- as many operations began as the journal has entries
+begun_is : {D N : Type 0} (disk : Ghosts D N) (k : Plain D) → Known disk plain_queues plain_herald k → length k.world.processes ≡ 1 → (process k.world 0).at ≡ at.Idle → list_all is_own_look k.world.journal.list ≡ true → (process k.world 0).begun ≡ length k.world.journal.list
+begun_is disk k known one idle looks =
+    let has = known.histories 0 (omega (arith, one)) in
+    has.is.count ∙ ap (λ (l : List Op). length l) has.is.taken ∙ ap (λ (a : At). length (map (λ (e : Entry). e.op) (own 0 k.world.journal.list) ++ pending_at a)) idle
+    ∙ length-append (map (λ (e : Entry). e.op) (own 0 k.world.journal.list)) [] ∙ ap (λ (n : ℕ). n + 0) (length-map (own 0 k.world.journal.list) (λ (e : Entry). e.op) ∙ ap (λ (l : List Entry). length l) (own_all k.world.journal.list looks)) ∙ omega arith
+
+-- from the submission to the last step
+pub asked : {D N : Type 0} (disk : Ghosts D N) (op : Op) (r : Step) (n : ℕ) (k l m : Plain D) → Rests k → is_look op ≡ true → l ≡ record k { intake = l.intake } → waiting l.intake 0 ≡ waiting k.intake 0 ++ op ∷ [] → n ≡ (process k.world 0).begun + length (waiting l.intake 0) → n < 2 ^ 64
+    → polled l.intake 0 ≡ polled k.intake 0 → Known disk plain_queues plain_herald l → Known disk plain_queues plain_herald m → MakesSteps disk 0 r l m → r ≡ step.Answered → IsAnswered disk.image op l m
+asked disk op r n k l m rests look same waits number bound fetched known_l known_m makes answered_so =
+    let world : l.world ≡ k.world = ap (λ s. s.world) same in
+    let one = ap (λ w. length w.processes) world ∙ rests.one in
+    let idle = ap (λ w. (process w 0).at) world ∙ rests.idle in
+    let looks = ap (λ w. list_all is_own_look w.journal.list) world ∙ rests.looks in
+    let waits_one = waits ∙ ap (λ (xs : List Op). xs ++ op ∷ []) rests.waits in
+    let has_one : length (waiting l.intake 0) ≡ 1 = ap (λ (xs : List Op). length xs) waits_one in
+    let begun = sym (ap (λ w. (process w 0).begun) world) ∙ begun_is disk l known_l one idle looks in
+    is_answered disk op l m known_l known_m one idle looks waits_one (fetched ∙ rests.fetched ∙ ap (λ w. length w.journal.list) (sym world)) (omega (arith, number, bound, begun, has_one)) look
+    (subst (λ x. MakesSteps disk 0 x l m) answered_so makes)
+
+-- once the answer is fetched, the kernel rests
+pub rests_again : {D : Type 0} (image : D → Image) (op : Op) (k m n : Plain D) → IsAnswered image op k m → n.world ≡ m.world → waiting n.intake 0 ≡ waiting m.intake 0 → polled n.intake 0 ≡ polled_after (first_in (answers m.intake 0)) (polled m.intake 0) → Rests n
+rests_again image op k m n is world waits fetched =
+    let one_more : polled n.intake 0 ≡ min (polled m.intake 0 + 1) (2 ^ 64 - 1) = fetched ∙ ap (λ (l : List Answer). polled_after (first_in l) (polled m.intake 0)) is.only in
+    let before = is.before in
+    let few = is.few in
+    let all : polled n.intake 0 ≡ length m.world.journal.list = grind (arith, one_more, before, few) in
+    record {
+      one = ap (λ w. length w.processes) world ∙ is.one;
+      idle = ap (λ w. (process w 0).at) world ∙ is.idle;
+      looks = ap (λ w. list_all is_own_look w.journal.list) world ∙ is.looks;
+      waits = waits ∙ is.waits;
+      fetched = all ∙ ap (λ w. length w.journal.list) (sym world);
+    }
+
+-- a kernel of one process that was opened with empty queues rests
+pub rests_first : {D N : Type 0} (disk : Ghosts D N) (d : D) (i : QueueIntake) (h : PlainHerald) (k : Plain D) → IsOpened disk d i h 1 k → waiting i 0 ≡ [] → QueueFits i 0 nothing_yet → IsReaderOf disk.image disk.fault_count d k
+rests_first disk d i h k opened empty fits =
+    let world = opened.world in
+    record {
+      sound = opened.sound;
+      recovers = opened.opening;
+      faultless = opened.faults;
+      rests = record {
+        one = ap (λ w. length w.processes) world;
+        idle = ap (λ w. (process w 0).at) world;
+        looks = ap (λ w. list_all is_own_look w.journal.list) world;
+        waits = ap (λ q. waiting q 0) opened.intake ∙ empty;
+        fetched = ap (λ q. polled q 0) opened.intake ∙ none_polled (slice_get i.lanes.items 0) fits ∙ ap (λ w. length w.journal.list) (sym world);
+      };
+    }
+  where
+    none_polled : (o : Option Lane) → FitsAt o nothing_yet → polled_at o ≡ 0
+    none_polled None fits = refl
+    none_polled (Some l) fits =
+        let given = fits.given in
+        let none : length given.0 + length l.answers.items ≡ 0 = sym (length-append given.0 l.answers.items) ∙ ap (λ (xs : List Answer). length xs) (sym given.1) in
+        let count = given.2 in
+        grind (arith, none, count)

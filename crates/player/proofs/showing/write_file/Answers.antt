@@ -1,0 +1,17 @@
+use Rattle.std.proofs.Common.{◌≡◌, ◌∙◌, ◌*◌, Some, rules, subst, sym, ap}
+use Rattle.std.specs.Io.KnownBytes.{Appends}
+use Rattle.player.specs.Asking.{part_at}
+use Rattle.player.proofs.Shown.{one_more}
+use Rattle.player.proofs.showing.write_file.Goals as goal
+
+pub loop-piece-preserved : goal.loop-piece-preserved
+loop-piece-preserved g c =
+    let image = g.D.Disk.image in
+    let opening = c.loop-piece.invariant.opening in
+    let given : Some c.in-Some.bytes ≡ part_at (image c.loop-piece.kernel.opening) c.args.number (c.loop-piece.piece * 3072) 3072 = search rules in
+    let wrote : Appends (g.O.Write.contents c.loop-piece.out) (g.O.Write.contents c.write_bytes.new.out) c.in-Some.bytes = search rules in
+    record {
+      rests = search rules;
+      opening = c.piece_of.ensures.opening ∙ opening;
+      written = one_more (image c.args.kernel.now.opening) c.args.number c.loop-piece.piece c.in-Some.bytes _ _ _ (given ∙ ap (λ d. part_at (image d) c.args.number (c.loop-piece.piece * 3072) 3072) opening) c.loop-piece.invariant.written wrote;
+    }

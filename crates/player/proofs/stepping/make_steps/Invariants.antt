@@ -1,0 +1,10 @@
+use Rattle.std.proofs.Common.{◌≡◌, length}
+use Rattle.player.specs.Stepping.{Moves}
+use Rattle.player.proofs.stepping.make_steps.Given as goal
+
+-- the steps so far moved
+abbrev pub invariant-loop-step : goal.invariant-loop-step
+invariant-loop-step g l = record {
+  moves : Moves g.D.Disk l.pid l._step l.initial.kernel l.kernel;
+  processes : length l.kernel.world.processes ≡ length l.initial.kernel.world.processes;
+}

@@ -1,0 +1,116 @@
+// What the only process of a kernel asks it.
+ghost use Rattle.std.specs.Prelude.{◌≡◌, ◌≢◌, ◌≤◌, IsTrue, IfOk, IfErr, OnOk};
+ghost use Rattle.kernel.specs.declared.types.Step.TheVariants as step_is;
+ghost use Rattle.player.specs.Asking.{IsAnswer, IsUnanswered, Rests, bytes_told, is_look, part_at, size_at, size_in};
+
+use crate::faults::CatFault;
+use crate::refusal::Refusal;
+use crate::stepping::make_steps;
+use blocks::Disk;
+use kernel::{Kernel, Step};
+use model::content::Content;
+use model::types::{Op, Reply};
+use ports::{PlainHerald, QueueIntake};
+
+/// The length of the file of a number; None where there is no such file.
+///
+/// # Errors
+///
+/// As of `ask`.
+#[tactic(auto, using(crate::proofs::Looks::stat_says))]
+pub fn size_of<D: Disk>(
+    kernel: &mut Kernel<D, QueueIntake, PlainHerald>,
+    number: u32,
+) -> Result<Option<u32>, Refusal>
+    requires { Rests kernel.old }
+    ensures rests { OnOk result (Rests kernel.new) }
+    ensures opening { kernel.new.opening ≡ kernel.old.opening }
+    ensures size { IfOk result (λ size. size ≡ size_at (D.image kernel.old.opening) number) }
+    ensures refused { IfErr result (IsUnanswered D.fault_count kernel.old.opening) }
+{
+    let reply = ask(kernel, Op::Stat(number))?;
+    Ok(size_in(&reply))
+}
+
+/// So many bytes of the file of a number from an offset on, or those that there are; None where
+/// there is no such file.
+///
+/// # Errors
+///
+/// As of `ask`.
+#[tactic(auto, using(crate::proofs::Looks::read_says))]
+pub fn piece_of<D: Disk>(
+    kernel: &mut Kernel<D, QueueIntake, PlainHerald>,
+    number: u32,
+    offset: u32,
+    count: u32,
+) -> Result<Option<Content>, Refusal>
+    requires rests { Rests kernel.old }
+    requires few { count ≤ 3072 }
+    ensures rests { OnOk result (Rests kernel.new) }
+    ensures opening { kernel.new.opening ≡ kernel.old.opening }
+    ensures bytes { IfOk result (λ bytes.
+        bytes ≡ part_at (D.image kernel.old.opening) number offset count) }
+    ensures refused { IfErr result (IsUnanswered D.fault_count kernel.old.opening) }
+{
+    let reply = ask(kernel, Op::Read(number, offset, count))?;
+    Ok(bytes_told(reply))
+}
+
+// Hands in an operation that looks at a file, and makes steps until it is answered.
+//
+// `Disk` where the disk failed; `Cat` with `NoMemory` where memory was refused.
+fn ask<D: Disk>(kernel: &mut Kernel<D, QueueIntake, PlainHerald>, op: Op) -> Result<Reply, Refusal>
+    requires rests { Rests kernel.old }
+    requires look { IsTrue (is_look op) }
+    ensures rests { OnOk result (Rests kernel.new) }
+    ensures opening { kernel.new.opening ≡ kernel.old.opening }
+    ensures answer { IfOk result (IsAnswer (D.image kernel.old.opening) op) }
+    ensures refused { IfErr result (IsUnanswered D.fault_count kernel.old.opening) }
+{
+    let Ok(_number) = kernel.submit(0, op) else {
+        return Err(Refusal::Cat(CatFault::NoMemory));
+    };
+    kernel.known();
+    let step = make_steps(kernel, 0);
+    kernel.known();
+    if step != Step::Answered {
+        return Err(why_unanswered(kernel));
+    }
+    match kernel.poll(0) {
+        Some(answer) => Ok(answer.reply),
+        None => unreachable!(),
+    }
+}
+
+// Why no answer came: the disk failed, or memory was refused. (The only process of a kernel waits
+// for nobody.)
+fn why_unanswered<D: Disk>(kernel: &Kernel<D, QueueIntake, PlainHerald>) -> Refusal
+    ensures { IsUnanswered D.fault_count kernel.now.opening result }
+{
+    kernel.known();
+    match kernel.fault() {
+        Some(fault) => Refusal::Disk(fault),
+        None => Refusal::Cat(CatFault::NoMemory),
+    }
+}
+
+// The length that a reply tells.
+fn size_in(reply: &Reply) -> Option<u32>
+    ensures { result ≡ size_in reply.now }
+{
+    match reply {
+        Reply::StatOf(_, size) => Some(*size),
+        _ => None,
+    }
+}
+
+// The bytes that a reply gives.
+fn bytes_told(reply: Reply) -> Option<Content>
+    ensures { result ≡ bytes_told reply }
+{
+    match reply {
+        Reply::Bytes(bytes) => Some(bytes),
+        _ => None,
+    }
+}
