@@ -5,11 +5,9 @@ use mir.Syntax.{w8}
 use Rattle.blocks.specs.Disk.{Image, block_at}
 use Rattle.blocks.specs.declared.disk.Disk.{Ghosts}
 use Rattle.model.specs.Codec.{without_bit}
-use Rattle.wal.specs.Held.{GivesUpLock}
 use Rattle.wal.specs.Joint.{seen}
-use Rattle.wal.specs.Machine.{noted}
 use Rattle.wal.specs.Volume.{VolumeState}
-use Rattle.blockmap.specs.Getting.{GetsFor, HoldsWhereGot}
+use Rattle.blockmap.specs.Getting.{GetsFor, HoldsWhereGot, WritesBlock}
 use Rattle.blockmap.specs.declared.progress.Progress.{Progress}
 use Rattle.blockmap.specs.declared.progress.Progress.TheVariants as progress
 
@@ -38,15 +36,11 @@ pub record MayFree {D : Type 0} (image : D → Image) (v : VolumeState D) (p : �
 abbrev pub with_freed : Image → ℕ → ℕ → Image
 with_freed x bitmap b = slice_set x bitmap (without_bit (block_at x bitmap) b)
 
--- the bit is cleared, the bitmap's block is logged and released, and nothing else changes
-pub record ClearsBit {D N : Type 0} (disk : Ghosts D N) (v : VolumeState D) (p i : ℕ)
-    (m : FreeState) (w : VolumeState D) : Type 0 where
-  pub current : seen (disk.image w.device) w.buffers
-      ≡ with_freed (seen (disk.image v.device) v.buffers) m.bitmap m.block
-  pub log : w.log ≡ noted v.log p m.bitmap
-  pub device : w.device ≡ v.device
-  pub fault : w.fault ≡ v.fault
-  pub locks : GivesUpLock v.buffers w.buffers p i
+-- the bit is cleared in the bitmap's block, which slot i holds
+abbrev pub ClearsBit : {D N : Type 0} → Ghosts D N → VolumeState D → ℕ → ℕ → FreeState
+    → VolumeState D → Type 0
+ClearsBit disk v p i m w = WritesBlock disk v p i m.bitmap
+    (with_freed (seen (disk.image v.device) v.buffers) m.bitmap m.block) w
 
 -- WHAT A STEP DOES, by whether the bitmap's block was got: it gets it, or clears the bit.
 abbrev pub Frees : {D N : Type 0} → Ghosts D N → Option ℕ → VolumeState D → ℕ → FreeState

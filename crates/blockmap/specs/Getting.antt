@@ -6,6 +6,7 @@ use Rattle.blocks.specs.declared.disk.Disk.{Ghosts}
 use Rattle.bcache.specs.Buffers.{Buffers, buffer, block_or_zero, released}
 use Rattle.wal.specs.Held.{LocksAfter, GivesUpLock}
 use Rattle.wal.specs.Joint.{seen}
+use Rattle.wal.specs.Machine.{noted}
 use Rattle.wal.specs.Volume.{VolumeState, Holds, Gets, ReadsFor, after_change}
 use Rattle.wal.specs.declared.types.Get.{Get}
 use Rattle.wal.specs.declared.types.Get.TheVariants as get
@@ -61,4 +62,14 @@ pub record Puts {D : Type 0} (image : D → Image) (v : VolumeState D) (p i at :
   pub current : seen (image w.device) w.buffers ≡ slice_set (seen (image v.device) v.buffers)
       (block_at_slot v i)
       (overwritten (block_at (seen (image v.device) v.buffers) (block_at_slot v i)) at bytes)
+  pub locks : GivesUpLock v.buffers w.buffers p i
+
+-- Block b, which slot i holds, is written, so that the current image is y; it is logged and
+-- released, and nothing else changes.
+pub record WritesBlock {D N : Type 0} (disk : Ghosts D N) (v : VolumeState D) (p i b : ℕ)
+    (y : Image) (w : VolumeState D) : Type 0 where
+  pub current : seen (disk.image w.device) w.buffers ≡ y
+  pub log : w.log ≡ noted v.log p b
+  pub device : w.device ≡ v.device
+  pub fault : w.fault ≡ v.fault
   pub locks : GivesUpLock v.buffers w.buffers p i

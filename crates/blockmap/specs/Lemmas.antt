@@ -2,4 +2,4 @@
 -- use.
 pub mod Addresses
 pub mod Reading
-pub mod Used
+pub mod Resting

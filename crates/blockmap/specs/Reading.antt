@@ -1,13 +1,14 @@
 -- What the reading of a file's bytes rests on.
-use Rattle.std.specs.Prelude.{◌≡◌, ◌<◌, ◌≤◌, ℕ, ◌*◌, length, slice_index}
+use Rattle.std.specs.Prelude.{◌≡◌, ◌<◌, ◌≤◌, ℕ, ◌*◌, length, slice_index, None}
 use Rattle.blocks.specs.Disk.{Image}
 use Rattle.model.specs.declared.types.image.Dinode.{Dinode}
 use Rattle.model.specs.declared.types.image.Form.TheVariants.{One}
 use Rattle.model.specs.Layout.{form_of, inode_of}
 use Rattle.model.specs.Files.{Files}
 use Rattle.model.specs.Places.{address_in}
+use Rattle.loose.specs.Held.{Claims, FitsHeld}
 use Rattle.loose.specs.Looks.{IsUsed}
-use Rattle.loose.specs.Loose.{AreFull, IsFit, Fits}
+use Rattle.loose.specs.Loose.{AreFull, IsFit}
 
 -- a block of the image behind the log
 abbrev pub LiesBehindLog : Image → ℕ → Type 0
@@ -22,6 +23,7 @@ pub record MayRead (x : Image) (d : Dinode) : Type 0 where
   pub blocks : (k : ℕ) → k * 1024 < d.size → LiesBehindLog x (address_in x d k)
   pub indirect : 12 * 1024 < d.size → LiesBehindLog x (slice_index d.addrs 12)
 
--- where an image stands for files, that of each used number may be read
-abbrev pub UsedMayBeRead : Type 0
-UsedMayBeRead = (m : Files) (x : Image) (i : ℕ) → Fits m x → IsUsed x i → MayRead x (inode_of x i)
+-- where an image stands for files, that of each used number which no task holds may be read
+abbrev pub RestingMayBeRead : Type 0
+RestingMayBeRead = (m : Files) (x : Image) (claims : Claims) (i : ℕ) → FitsHeld m x claims →
+    IsUsed x i → claims i ≡ None → MayRead x (inode_of x i)

@@ -1,7 +1,7 @@
 //! Laws over what may be read, each the contract of a function that does nothing.
-ghost use Rattle.blockmap.specs.Reading.{UsedMayBeRead};
+ghost use Rattle.blockmap.specs.Reading.{RestingMayBeRead};
 
-/// Where an image stands for files, that of each used number may be read.
-pub fn used_may_be_read()
-    ensures { UsedMayBeRead }
+/// Where an image stands for files, that of each used number which no task holds may be read.
+pub fn resting_may_be_read()
+    ensures { RestingMayBeRead }
 {}

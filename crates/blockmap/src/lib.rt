@@ -14,10 +14,10 @@
 //! that isn't there is not made yet.
 //!
 //! A machine that changes a block ends with `put_block`, which logs it. `Bfree` clears the bit of a
-//! block in the bitmap; no operation does so far.
+//! block in the bitmap, as a truncation or a removal does for each block that it gives up.
 //!
 //! What is said of a file's bytes asks that the file may be read (`MayRead`). Where an image stands
-//! for files, that of each used number may (`laws`).
+//! for files, that of each used number which no task holds may (`laws`).
 #![tactic(auto)]
 
 mod bfree;

@@ -1,15 +1,19 @@
 -- One task goes on, and all of them agree with buffers and log as before.
-use Rattle.std.proofs.Common.{◌≡◌, ◌≢◌, ℕ, ◌<◌, List, length, set, refl, sym, ◌∙◌, ap, subst, ⊎_elim, Option, Some, None}
+use Rattle.std.proofs.Common.{◌≡◌, ◌≢◌, ℕ, ◌<◌, inl, inr, true, List, length, set, refl, sym, ◌∙◌, subst, ⊎_elim, Option, Some, None}
+use Rattle.std.specs.Prelude.{slice_index}
 use Rattle.std.proofs.lemmas.Bool.{cases_eq}
 use Rattle.std.proofs.lemmas.List.{get_or-set_same, get_or-set_other}
 use Rattle.bcache.specs.Buffers.{Buffers}
 use Rattle.wal.specs.Held.{HoldsBlock, HasLock}
-use Rattle.wal.specs.Machine.{LogState, used_by}
+use Rattle.wal.specs.Machine.{LogState, is_among, used_by}
+use Rattle.model.specs.declared.types.operations.Op.{Op}
+use Rattle.model.specs.declared.types.operations.Op.TheVariants.{Create, Write, Read, Trunc, Remove, Stat}
 use Rattle.inodes.specs.declared.tasks.Place.{Place}
 use Rattle.inodes.specs.declared.tasks.Place.TheVariants as place
 use Rattle.inodes.specs.Tasks.{TaskState, task, no_task}
-use Rattle.inodes.specs.Places.{slot_at}
-use Rattle.inodes.specs.Store.{HoldsAt, Stands, Agrees}
+use Rattle.inodes.specs.Places.{HasSlot, block_of_trunc}
+use Rattle.inodes.specs.Holding.{kept_slot, used_slot}
+use Rattle.inodes.specs.Store.{HoldsAt, HasLogged, IsOpenFor, Stands, Agrees}
 use Rattle.inodes.specs.LockState.{slot_of}
 use Rattle.blockmap.specs.Target.{block_of, slot_in}
 use Rattle.model.specs.Layout.{inode_block}
@@ -19,9 +23,10 @@ pub record StaysForOthers (c d : Buffers) (l m : LogState) (p : ℕ) : Type 0 wh
   pub holds : (q b i : ℕ) → q ≢ p → HoldsBlock c q b i → HoldsBlock d q b i
   pub locks : (q b i : ℕ) → q ≢ p → HasLock d q b i → HasLock c q b i
   pub used : (q : ℕ) → q ≢ p → used_by m q ≡ used_by l q
+  pub among : (b : ℕ) → is_among b l.homes ≡ true → is_among b m.homes ≡ true
 
 pub stays_same : (c : Buffers) (l : LogState) (p : ℕ) → StaysForOthers c c l l p
-stays_same c l p = record { holds = λ q b i apart has. has; locks = λ q b i apart has. has; used = λ q apart. refl }
+stays_same c l p = record { holds = λ q b i apart has. has; locks = λ q b i apart has. has; used = λ q apart. refl; among = λ b has. has }
 
 -- process p's task is t now
 pub record TaskIsNow (c d : Buffers) (l m : LogState) (n p : ℕ) (ts : List TaskState) (t : TaskState) : Type 0 where
@@ -29,11 +34,24 @@ pub record TaskIsNow (c d : Buffers) (l m : LogState) (n p : ℕ) (ts : List Tas
   pub inside : p < length ts
   pub others : StaysForOthers c d l m p
   pub stands : Stands d m n p t.op t.place
-  pub locks : (b i : ℕ) → HasLock d p b i → slot_at t.place ≡ Some i
+  pub locks : (b i : ℕ) → HasLock d p b i → HasSlot t.place i
 
 holds_other : (c d : Buffers) (l m : LogState) (p q b : ℕ) (o : Option ℕ) → StaysForOthers c d l m p → q ≢ p → HoldsAt c q b o → HoldsAt d q b o
 holds_other c d l m p q b None stays apart has = tt
 holds_other c d l m p q b (Some i) stays apart has = stays.holds q b i apart has
+
+-- what a process has open stays open, where it added as much as before
+pub open_still : (l m : LogState) (q : ℕ) (o : Option Op) → used_by m q ≡ used_by l q → IsOpenFor l q o → IsOpenFor m q o
+open_still l m q None used is = tt
+open_still l m q (Some (Create kind)) used is = tt
+open_still l m q (Some (Write i off bytes)) used is = used ∙ is
+open_still l m q (Some (Read i off n)) used is = tt
+open_still l m q (Some (Trunc i)) used is = used ∙ is
+open_still l m q (Some (Remove i)) used is = used ∙ is
+open_still l m q (Some (Stat i)) used is = tt
+
+pub logged_still : (l m : LogState) (q b : ℕ) → used_by m q ≡ used_by l q → (used_by l q ≡ Some 1 → is_among b l.homes ≡ true → is_among b m.homes ≡ true) → HasLogged l q b → HasLogged m q b
+logged_still l m q b used among has = ⊎_elim (λ (none : used_by l q ≡ Some 0). inl (used ∙ none)) (λ one. inr (used ∙ one.0, among one.0 one.1)) has
 
 stands_other : (c d : Buffers) (l m : LogState) (n p q : ℕ) (t : TaskState) (a : Place) → StaysForOthers c d l m p → q ≢ p → Stands c l n q t.op a → Stands d m n q t.op a
 stands_other c d l m n p q t place.Nowhere stays apart s = tt
@@ -46,9 +64,14 @@ stands_other c d l m n p q t (place.Creating search) stays apart s = record {
   last = s.last;
   holds = holds_other c d l m p q search.block search.slot stays apart s.holds;
 }
-stands_other c d l m n p q t (place.Taking lock) stays apart s = holds_other c d l m p q (inode_block lock.number) (slot_of lock.at) stays apart s
+stands_other c d l m n p q t (place.Taking lock) stays apart s = (holds_other c d l m p q (inode_block lock.number) (slot_of lock.at) stays apart s.0, open_still l m q t.op (stays.used q apart) s.1)
 stands_other c d l m n p q t (place.Reading k reading) stays apart s = holds_other c d l m p q (block_of reading.target) (slot_in reading.target) stays apart s
 stands_other c d l m n p q t (place.Delivering k) stays apart s = tt
+stands_other c d l m n p q t (place.Truncating k trunc) stays apart s = record {
+  logged = logged_still l m q trunc.bitmap (stays.used q apart) (λ one has. stays.among trunc.bitmap has) s.logged;
+  kept = holds_other c d l m p q (slice_index trunc.inode.addrs 12) (kept_slot trunc.at) stays apart s.kept;
+  used = holds_other c d l m p q (block_of_trunc trunc trunc.at) (used_slot trunc.at) stays apart s.used;
+}
 stands_other c d l m n p q t (place.Leaving k) stays apart s = tt
 
 pub agrees_now : (c d : Buffers) (l m : LogState) (n p : ℕ) (ts : List TaskState) (t : TaskState) → TaskIsNow c d l m n p ts t → Agrees d m n (set ts p t)
@@ -58,8 +81,8 @@ agrees_now c d l m n p ts t is = record {
       (λ (apart : q ≢ p). subst (λ (s : TaskState). Stands d m n q s.op s.place) (sym (theirs q apart)) (stands_other c d l m n p q (task ts q) (task ts q).place is.others apart (is.agrees.stands q)))
       (cases_eq q p);
   holders = λ q b i has. ⊎_elim
-      (λ (same : q ≡ p). ap (λ (r : ℕ). slot_at (task (set ts p t) r).place) same ∙ ap (λ (s : TaskState). slot_at s.place) mine ∙ is.locks b i (subst (λ (r : ℕ). HasLock d r b i) same has))
-      (λ (apart : q ≢ p). ap (λ (s : TaskState). slot_at s.place) (theirs q apart) ∙ is.agrees.holders q b i (is.others.locks q b i apart has))
+      (λ (same : q ≡ p). subst (λ (r : ℕ). HasSlot (task (set ts p t) r).place i) (sym same) (subst (λ (s : TaskState). HasSlot s.place i) (sym mine) (is.locks b i (subst (λ (r : ℕ). HasLock d r b i) same has))))
+      (λ (apart : q ≢ p). subst (λ (s : TaskState). HasSlot s.place i) (sym (theirs q apart)) (is.agrees.holders q b i (is.others.locks q b i apart has)))
       (cases_eq q p);
 }
   where
@@ -69,10 +92,10 @@ agrees_now c d l m n p ts t is = record {
     theirs : (q : ℕ) → q ≢ p → task (set ts p t) q ≡ task ts q
     theirs q apart = get_or-set_other ts p q t no_task apart
 
--- nobody's task goes on, and each process keeps what it has
+-- nobody's task goes on, and each process keeps what it has; where one has something open, what is logged stays
 pub agrees_still : (c d : Buffers) (l m : LogState) (n : ℕ) (ts : List TaskState) → ((q b i : ℕ) → HoldsBlock c q b i → HoldsBlock d q b i) → ((q b i : ℕ) → HasLock d q b i → HasLock c q b i)
-    → ((q : ℕ) → used_by m q ≡ used_by l q) → Agrees c l n ts → Agrees d m n ts
-agrees_still c d l m n ts holds locks used are = record {
+    → ((q : ℕ) → used_by m q ≡ used_by l q) → ((q k b : ℕ) → used_by l q ≡ Some k → is_among b l.homes ≡ true → is_among b m.homes ≡ true) → Agrees c l n ts → Agrees d m n ts
+agrees_still c d l m n ts holds locks used among are = record {
   stands = λ q. by_place q (task ts q) (task ts q).place (are.stands q);
   holders = λ q b i has. are.holders q b i (locks q b i has);
 }
@@ -84,7 +107,12 @@ agrees_still c d l m n ts holds locks used are = record {
     by_place : (q : ℕ) (t : TaskState) (a : Place) → Stands c l n q t.op a → Stands d m n q t.op a
     by_place q t place.Nowhere s = tt
     by_place q t (place.Creating search) s = record { op = s.op; used = used q ∙ s.used; count = s.count; kind = s.kind; behind = s.behind; last = s.last; holds = by_slot q search.block search.slot s.holds }
-    by_place q t (place.Taking lock) s = by_slot q (inode_block lock.number) (slot_of lock.at) s
+    by_place q t (place.Taking lock) s = (by_slot q (inode_block lock.number) (slot_of lock.at) s.0, open_still l m q t.op (used q) s.1)
     by_place q t (place.Reading k reading) s = by_slot q (block_of reading.target) (slot_in reading.target) s
     by_place q t (place.Delivering k) s = tt
+    by_place q t (place.Truncating k trunc) s = record {
+      logged = logged_still l m q trunc.bitmap (used q) (λ one has. among q 1 trunc.bitmap one has) s.logged;
+      kept = by_slot q (slice_index trunc.inode.addrs 12) (kept_slot trunc.at) s.kept;
+      used = by_slot q (block_of_trunc trunc trunc.at) (used_slot trunc.at) s.used;
+    }
     by_place q t (place.Leaving k) s = tt

@@ -18,7 +18,7 @@ use Rattle.blockmap.specs.declared.progress.Progress.{Progress}
 use Rattle.blockmap.specs.declared.progress.Progress.TheVariants as machine
 use Rattle.blockmap.specs.Getting.{GetsFor, progress_of, slot_of}
 use Rattle.inodes.specs.Goes.{ShowsSame}
-use Rattle.inodes.specs.Places.{slot_at}
+use Rattle.inodes.specs.Places.{HasSlot}
 use Rattle.inodes.specs.Steps.{Reads, IsHeldByAnother}
 use Rattle.inodes.specs.Store.{StoreState, HoldsAt, Agrees, current_of}
 use Rattle.inodes.specs.Tasks.{TaskState, task}
@@ -37,23 +37,41 @@ fault_of (machine.Sleeping cause) = None
 fault_of (machine.Over out) = None
 fault_of (machine.Fault fault) = Some fault
 
+-- the task of process p has got this slot alone
+abbrev pub HasOnly : List TaskState → ℕ → Option ℕ → Type 0
+HasOnly ts p slot = (i : ℕ) → HasSlot (task ts p).place i → slot ≡ Some i
+
+-- the others have what they had, where it gets a lock
+pub stays_got : (c d : Buffers) (l : LogState) (p b i : ℕ) → GetsLock c d p b i → StaysForOthers c d l l p
+stays_got c d l p b i gets = record {
+  holds = λ q a j apart has. gets.held q a j has;
+  locks = λ q a j apart has. ⊎_elim (λ (was : HasLock c q a j). was) (λ mine. absurd (apart mine.0)) (gets.takes q a j has);
+  used = λ q apart. refl;
+  among = λ a has. has;
+}
+
+-- and where it gives one up
+pub stays_left : (c d : Buffers) (l : LogState) (p i : ℕ) → GivesUpLock c d p i → StaysForOthers c d l l p
+stays_left c d l p i gives = record {
+  holds = λ q a j apart has. gives.others q a j (inl apart) has;
+  locks = λ q a j apart has. gives.none q a j has;
+  used = λ q apart. refl;
+  among = λ a has. has;
+}
+
 module _ (c : Buffers) (l : LogState) (n p : ℕ) (ts : List TaskState) (agrees : Agrees c l n ts) where
   -- it has what its task has
-  has_own : (slot : Option ℕ) (b i : ℕ) → slot_at (task ts p).place ≡ slot → HasLock c p b i → slot ≡ Some i
-  has_own slot b i at has = sym at ∙ agrees.holders p b i has
+  has_own : (slot : Option ℕ) (b i : ℕ) → HasOnly ts p slot → HasLock c p b i → slot ≡ Some i
+  has_own slot b i only has = only i (agrees.holders p b i has)
 
   -- nothing is done to the buffers
-  pub has_same : (b : ℕ) (slot : Option ℕ) → slot_at (task ts p).place ≡ slot → HoldsAt c p b slot → HasOne c c l p b slot
-  has_same b slot at holds = record { others = stays_same c l p; locks = λ a i has. has_own slot a i at has; holds = holds }
+  pub has_same : (b : ℕ) (slot : Option ℕ) → HasOnly ts p slot → HoldsAt c p b slot → HasOne c c l p b slot
+  has_same b slot only holds = record { others = stays_same c l p; locks = λ a i has. has_own slot a i only has; holds = holds }
 
   -- it got its block
-  pub has_got : (d : Buffers) (b i : ℕ) → slot_at (task ts p).place ≡ None → GetsLock c d p b i → HasOne c d l p b (Some i)
+  pub has_got : (d : Buffers) (b i : ℕ) → HasOnly ts p None → GetsLock c d p b i → HasOne c d l p b (Some i)
   has_got d b i none gets = record {
-    others = record {
-      holds = λ q a j apart has. gets.held q a j has;
-      locks = λ q a j apart has. ⊎_elim (λ (was : HasLock c q a j). was) (λ mine. absurd (apart mine.0)) (gets.takes q a j has);
-      used = λ q apart. refl;
-    };
+    others = stays_got c d l p b i gets;
     locks = λ a j has. ⊎_elim
         (λ (was : HasLock c p a j). let no = has_own None a j none was in absurd (cc no))
         (λ mine. ap Some (sym mine.2))
@@ -62,13 +80,9 @@ module _ (c : Buffers) (l : LogState) (n p : ℕ) (ts : List TaskState) (agrees 
   }
 
   -- it released it
-  pub has_left : (d : Buffers) (b i : ℕ) → slot_at (task ts p).place ≡ Some i → GivesUpLock c d p i → HasOne c d l p b None
+  pub has_left : (d : Buffers) (b i : ℕ) → HasOnly ts p (Some i) → GivesUpLock c d p i → HasOne c d l p b None
   has_left d b i got gives = record {
-    others = record {
-      holds = λ q a j apart has. gives.others q a j (inl apart) has;
-      locks = λ q a j apart has. gives.none q a j has;
-      used = λ q apart. refl;
-    };
+    others = stays_left c d l p i gives;
     locks = λ a j has.
         let same : Some i ≡ Some j = has_own (Some i) a j got (gives.none p a j has) in
         let here : j ≡ i = cc same in
@@ -77,19 +91,19 @@ module _ (c : Buffers) (l : LogState) (n p : ℕ) (ts : List TaskState) (agrees 
   }
 
 -- who waits for a buffer, waits for another's
-pub waits_for : {D : Type 0} (s : StoreState D) (p b : ℕ) → Agrees s.volume.buffers s.volume.log s.table.inode_count s.tasks → slot_at (task s.tasks p).place ≡ None
+pub waits_for : {D : Type 0} (s : StoreState D) (p b : ℕ) → Agrees s.volume.buffers s.volume.log s.table.inode_count s.tasks → HasOnly s.tasks p None
     → IsLocked s.volume.buffers b → IsHeldByAnother s p b
 waits_for s p b agrees none locked = record {
   other = locked.0;
   slot = locked.1;
-  apart = λ same. let no : None ≡ Some locked.1 = sym none ∙ ap (λ (q : ℕ). slot_at (task s.tasks q).place) (sym same) ∙ agrees.holders locked.0 b locked.1 locked.2 in absurd (cc no);
+  apart = λ same. let no : None ≡ Some locked.1 = none locked.1 (subst (λ (q : ℕ). HasSlot (task s.tasks q).place locked.1) same (agrees.holders locked.0 b locked.1 locked.2)) in absurd (cc no);
   lock = locked.2;
   got = agrees.holders locked.0 b locked.1 locked.2;
 }
 
 -- a block is got, or the process has to wait, or the disk fails
 module _ {D N T : Type 0} (disk : Ghosts D N) (s t : StoreState D) (p b : ℕ) (r : Progress T) (slot : Option ℕ) (gets : GetsFor disk s.volume p b r slot t.volume)
-    (agrees : Agrees s.volume.buffers s.volume.log s.table.inode_count s.tasks) (none : slot_at (task s.tasks p).place ≡ None) where
+    (agrees : Agrees s.volume.buffers s.volume.log s.table.inode_count s.tasks) (none : HasOnly s.tasks p None) where
   pub shows_got : ShowsSame disk.image s t
   shows_got = ap (λ (x : Image). record { current = x; log = t.volume.log }) gets.reads.current ∙ ap (λ (l : LogState). record { current = current_of disk.image s.volume; log = l }) gets.reads.log
 

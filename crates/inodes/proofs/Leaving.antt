@@ -1,4 +1,4 @@
--- An operation that looks at a file gives up its inode, and is over.
+-- An operation gives up its inode, and is over.
 use Rattle.std.proofs.Common.{◌≡◌, ℕ, ◌<◌, true, List, length, set, refl, sym, ◌∙◌, ap, subst, arith, Some, None}
 use Rattle.std.specs.Prelude.{IsTrue}
 use Rattle.std.proofs.lemmas.Bool.{false≢true}
@@ -17,7 +17,7 @@ use Rattle.model.specs.Journal.{is_number}
 use Rattle.model.specs.Layout.{form_of, inode_of, inode_count_of}
 use Rattle.model.specs.Operations.{after, part_of}
 use Rattle.model.specs.Tasks.{Answers, fault_of_task}
-use Rattle.loose.specs.Lemmas.Looks.{read_tells}
+use Rattle.loose.specs.Lemmas.HeldLooks.{resting_tells}
 use Rattle.inodes.specs.declared.tasks.Place.{Place}
 use Rattle.inodes.specs.declared.tasks.Place.TheVariants as place
 use Rattle.inodes.specs.Goes.{Goes, GivesUp}
@@ -26,14 +26,18 @@ use Rattle.inodes.specs.Lemmas.Faults.{where_none}
 use Rattle.inodes.specs.Lemmas.Grips.{kept_by_leave}
 use Rattle.inodes.specs.Lemmas.Looks.{copy_is}
 use Rattle.inodes.specs.Looks.{AreLooking, HasAllRead, LooksAt}
-use Rattle.inodes.specs.Places.{asked_by, slot_at, grip_by, grips_of, steps_left}
+use Rattle.inodes.specs.Places.{asked_by, HasSlot, grip_by, grips_of, steps_left}
 use Rattle.inodes.specs.Steps.{Steps, Waits, is_made}
 use Rattle.inodes.specs.Store.{StoreState, IsStore, FitsFiles, current_of}
 use Rattle.inodes.specs.Table.{copy_at, left}
 use Rattle.inodes.specs.Tasks.{TaskState, task, no_task}
 use Rattle.inodes.proofs.Getting.{HasOne, has_same, reads_none}
 use Rattle.inodes.proofs.Gripping.{grip_is}
-use Rattle.inodes.proofs.Looking.{Looked, files_same, store_looked, steps_looked}
+use Rattle.inodes.proofs.Looking.{Looked, Stepped, files_same, stepped_looked, store_stepped, steps_stepped}
+use Rattle.inodes.specs.Holding.{claim_by, claims_of}
+use Rattle.inodes.proofs.Taking.{none_of_zero}
+use Rattle.inodes.proofs.Unclaimed.{unclaimed}
+use Rattle.loose.specs.Held.{FitsHeld}
 
 -- a task that is over, without bytes
 abbrev pub finished : TaskState → TaskState
@@ -58,17 +62,19 @@ module _ {D N : Type 0} (disk : Ghosts D N) (s : StoreState D) (p k : ℕ) (is :
   looking = where_none s.volume.fault well is.looks
 
   module _ (r : TaskProgress) (ts : List TaskState) (tasks : ts ≡ set s.tasks p (finished (task s.tasks p))) (fine : fault_of_task r ≡ None)
-      (free : slot_at (task s.tasks p).place ≡ None) (has : grip (grips_of s.tasks) p ≡ Some (locked_grip k (asked_by (task s.tasks p).op))) where
+      (free : (i : ℕ) → HasSlot (task s.tasks p).place i → None ≡ Some i) (holds : (j : ℕ) → claim_by (task s.tasks p).place j ≡ None) (has : grip (grips_of s.tasks) p ≡ Some (locked_grip k (asked_by (task s.tasks p).op))) where
     one : HasOne s.volume.buffers s.volume.buffers s.volume.log p 0 None
     one = has_same s.volume.buffers s.volume.log s.table.inode_count p s.tasks (where_none s.volume.fault well is.agrees) 0 None free tt
 
-    pub looked : Looked disk s p r (store_left ts) (finished (task s.tasks p))
+    pub looked : Looked disk s p 0 r (store_left ts) (finished (task s.tasks p))
     looked = record {
       tasks = tasks;
       op = refl;
       count = refl;
       reads = reads_none disk s (store_left ts) refl well r fine;
       shown = refl;
+      alone = λ q j apart locks. none_of_zero cur s.table s.tasks looking q j locks;
+      claims = λ j other. sym (holds j);
       now = λ none. record {
         others = one.others;
         locks = one.locks;
@@ -77,6 +83,10 @@ module _ {D N : Type 0} (disk : Ghosts D N) (s : StoreState D) (p k : ℕ) (is :
         looks = tt;
       };
     }
+
+    -- the files stay
+    files_left : (op : Op) (files : Files) → FitsFiles disk.image s files → FitsFiles disk.image (store_left ts) files
+    files_left op files fits = files_same disk s p 0 op r (store_left ts) (finished (task s.tasks p)) is well inside looked (sym (holds 0)) files fits
 
     gives_up : GivesUp s p k (store_left ts)
     gives_up = record {
@@ -100,21 +110,24 @@ module _ {D N : Type 0} (disk : Ghosts D N) (s : StoreState D) (p k : ℕ) (is :
     has_delivering : grip (grips_of s.tasks) p ≡ Some (locked_grip k (asked_by (task s.tasks p).op))
     has_delivering = grip_is s.tasks p ∙ ap (λ (a : Place). grip_by a (asked_by (task s.tasks p).op)) stood
 
+    free_delivering : (i : ℕ) → HasSlot (task s.tasks p).place i → None ≡ Some i
+    free_delivering i got = subst (λ (a : Place). HasSlot a i) stood got
+
+    holds_delivering : (j : ℕ) → claim_by (task s.tasks p).place j ≡ None
+    holds_delivering j = ap (λ (a : Place). claim_by a j) stood
+
     module _ (bytes : GatheredBytes) (had : (task s.tasks p).gathered ≡ Some bytes) (ts : List TaskState) (tasks : ts ≡ set s.tasks p (finished (task s.tasks p))) where
       abbrev answer : TaskProgress
       answer = progress.Decided (Bytes bytes.bytes)
 
-      delivered : Looked disk s p answer (store_left ts) (finished (task s.tasks p))
-      delivered = looked answer ts tasks refl (ap slot_at stood) has_delivering
-
-      pub store_delivered : IsStore disk.image (store_left ts)
-      store_delivered = store_looked disk s p answer (store_left ts) (finished (task s.tasks p)) is well inside delivered
-
       same_bytes : bytes.bytes ≡ part_of (bytes_in cur all_read.dinode) all_read.op.offset all_read.op.count
       same_bytes = let same : bytes ≡ all_read.op.gathered = (let e = sym had ∙ all_read.op.has in cc e) in ap (λ (g : GatheredBytes). g.bytes) same ∙ all_read.bytes
 
-      files_read : (op : Op) → (task s.tasks p).op ≡ Some op → (files : Files) → FitsFiles disk.image s files → Answers (form_of cur) op (Bytes bytes.bytes) files (FitsFiles disk.image (store_left ts))
+      fits_before : (files : Files) → FitsFiles disk.image s files → FitsHeld files cur (claims_of s.tasks)
       unfolding FitsFiles
+      fits_before files fits = fits
+
+      files_read : (op : Op) → (task s.tasks p).op ≡ Some op → (files : Files) → FitsFiles disk.image s files → Answers (form_of cur) op (Bytes bytes.bytes) files (FitsFiles disk.image (store_left ts))
       files_read op is_op files fits =
           let i = all_read.op.number in
           let off = all_read.op.offset in
@@ -124,14 +137,23 @@ module _ {D N : Type 0} (disk : Ghosts D N) (s : StoreState D) (p k : ℕ) (is :
           let known = copy_is cur s.table s.tasks looking p (asked_by (task s.tasks p).op) k all_read.dinode has_delivering all_read.copy in
           let its : inode_of cur i ≡ all_read.dinode = ap (inode_of cur) (sym number) ∙ known.0 in
           let may : IsTrue (is_number (inode_count_of cur) i) = subst (λ (c : ℕ). IsTrue (is_number c i)) is.numbers all_read.op.may.0 in
-          let tells = read_tells files cur i off n fits (may, λ none. known.1 (ap (λ (d : Dinode). d.kind) (sym its) ∙ none)) all_read.op.may.1 in
+          let none : claims_of s.tasks i ≡ None = ap (claims_of s.tasks) (sym number) ∙ unclaimed cur s.table s.tasks looking p k (asked_by (task s.tasks p).op) (sym (grip_is s.tasks p) ∙ has_delivering) (holds_delivering (asked_by (task s.tasks p).op)) in
+          let tells = (resting_tells files cur (claims_of s.tasks) i (fits_before files fits) (may, λ free. known.1 (ap (λ (d : Dinode). d.kind) (sym its) ∙ free)) none).read off n all_read.op.may.1 in
           let here : bytes.bytes ≡ part_of (bytes_in cur (inode_of cur i)) off n = same_bytes ∙ ap (λ (d : Dinode). part_of (bytes_in cur d) off n) (sym its) in
-          (files, ap (λ (q : Op). after (form_of cur) files q (Bytes bytes.bytes)) same_op ∙ ap (λ (l : List ℕ). after (form_of cur) files (Read i off n) (Bytes l)) here ∙ tells, fits)
+          (files, ap (λ (q : Op). after (form_of cur) files q (Bytes bytes.bytes)) same_op ∙ ap (λ (l : List ℕ). after (form_of cur) files (Read i off n) (Bytes l)) here ∙ tells, files_left answer ts tasks refl free_delivering holds_delivering has_delivering op files fits)
+
+      delivered : (op : Op) → (task s.tasks p).op ≡ Some op → Stepped disk s p 0 op answer (store_left ts) (finished (task s.tasks p))
+      delivered op is_op = stepped_looked disk s p 0 op answer (store_left ts) (finished (task s.tasks p)) is well inside (looked answer ts tasks refl free_delivering holds_delivering has_delivering) (files_read op is_op) (λ i makes. absurd (cc makes))
+
+      pub store_delivered : IsStore disk.image (store_left ts)
+      store_delivered =
+          let op = Read all_read.op.number all_read.op.offset all_read.op.count in
+          store_stepped disk s p 0 op answer (store_left ts) (finished (task s.tasks p)) is well inside (delivered op all_read.op.is)
 
       pub steps_delivered : (op : Op) → (task s.tasks p).op ≡ Some op → Steps disk s p op answer (store_left ts)
-      steps_delivered op is_op = steps_looked disk s p answer (store_left ts) (finished (task s.tasks p)) is well inside delivered op (files_read op is_op)
-          (subst (λ (a : Place). Goes disk a s p op answer (store_left ts)) (sym stood) (record { bytes = bytes; had = had; gives = refl; up = gives_up answer ts tasks refl (ap slot_at stood) has_delivering }))
-          (λ i makes. absurd (cc makes)) (no_wait answer ts tasks refl (ap slot_at stood) has_delivering refl) (λ q other reads. tt)
+      steps_delivered op is_op = steps_stepped disk s p 0 op answer (store_left ts) (finished (task s.tasks p)) is well inside (delivered op is_op)
+          (subst (λ (a : Place). Goes disk a s p op answer (store_left ts)) (sym stood) (record { bytes = bytes; had = had; gives = refl; up = gives_up answer ts tasks refl free_delivering holds_delivering has_delivering }))
+          (no_wait answer ts tasks refl free_delivering holds_delivering has_delivering refl) (λ q other reads. tt)
           (λ made going. subst (λ (a : Place). 0 < steps_left a s.table.inode_count) (sym stood) (omega arith))
 
   -- an operation that was answered is over
@@ -139,18 +161,25 @@ module _ {D N : Type 0} (disk : Ghosts D N) (s : StoreState D) (p k : ℕ) (is :
     has_leaving : grip (grips_of s.tasks) p ≡ Some (locked_grip k (asked_by (task s.tasks p).op))
     has_leaving = grip_is s.tasks p ∙ ap (λ (a : Place). grip_by a (asked_by (task s.tasks p).op)) stood
 
+    free_leaving : (i : ℕ) → HasSlot (task s.tasks p).place i → None ≡ Some i
+    free_leaving i got = subst (λ (a : Place). HasSlot a i) stood got
+
+    holds_leaving : (j : ℕ) → claim_by (task s.tasks p).place j ≡ None
+    holds_leaving j = ap (λ (a : Place). claim_by a j) stood
+
     pub low_leaving : k < 50
     low_leaving = (looking.table.places p (locked_grip k (asked_by (task s.tasks p).op)) has_leaving).0
 
     module _ (ts : List TaskState) (tasks : ts ≡ set s.tasks p (finished (task s.tasks p))) where
-      over : Looked disk s p progress.Over (store_left ts) (finished (task s.tasks p))
-      over = looked progress.Over ts tasks refl (ap slot_at stood) has_leaving
+      over : (op : Op) → Stepped disk s p 0 op progress.Over (store_left ts) (finished (task s.tasks p))
+      over op = stepped_looked disk s p 0 op progress.Over (store_left ts) (finished (task s.tasks p)) is well inside (looked progress.Over ts tasks refl free_leaving holds_leaving has_leaving)
+          (files_left progress.Over ts tasks refl free_leaving holds_leaving has_leaving op) (λ i makes. absurd (cc makes))
 
       pub store_over : IsStore disk.image (store_left ts)
-      store_over = store_looked disk s p progress.Over (store_left ts) (finished (task s.tasks p)) is well inside over
+      store_over = store_stepped disk s p 0 (Read 0 0 0) progress.Over (store_left ts) (finished (task s.tasks p)) is well inside (over (Read 0 0 0))
 
       pub steps_over : (op : Op) → Steps disk s p op progress.Over (store_left ts)
-      steps_over op = steps_looked disk s p progress.Over (store_left ts) (finished (task s.tasks p)) is well inside over op (files_same disk s p progress.Over (store_left ts) (finished (task s.tasks p)) is well inside over)
-          (subst (λ (a : Place). Goes disk a s p op progress.Over (store_left ts)) (sym stood) (refl, gives_up progress.Over ts tasks refl (ap slot_at stood) has_leaving))
-          (λ i makes. absurd (cc makes)) (no_wait progress.Over ts tasks refl (ap slot_at stood) has_leaving refl) (λ q other reads. tt)
+      steps_over op = steps_stepped disk s p 0 op progress.Over (store_left ts) (finished (task s.tasks p)) is well inside (over op)
+          (subst (λ (a : Place). Goes disk a s p op progress.Over (store_left ts)) (sym stood) (refl, gives_up progress.Over ts tasks refl free_leaving holds_leaving has_leaving))
+          (no_wait progress.Over ts tasks refl free_leaving holds_leaving has_leaving refl) (λ q other reads. tt)
           (λ made going. subst (λ (a : Place). 0 < steps_left a s.table.inode_count) (sym stood) (omega arith))

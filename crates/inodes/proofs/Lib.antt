@@ -1,12 +1,23 @@
 pub mod LookLemmas
 pub mod ReadLemmas
+pub mod NextAddress
+pub mod Truncs
+mod Frames
 mod Agreeing
 mod Gripping
+mod Unclaimed
 mod LooksKept
+mod TruncNext
+mod TruncSlots
+mod Truncating
+mod TruncFiles
+mod TruncSteps
+mod TruncDoes
 mod Searching
 mod SearchNow
 mod StoreSteps
 mod StoreKeeps
+mod Shares
 mod Looking
 mod Getting
 mod Taking

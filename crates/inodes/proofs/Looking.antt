@@ -1,4 +1,4 @@
--- What a step of an operation that looks at a file makes of a store.
+-- What a step of a task makes of a store.
 use Rattle.std.proofs.Common.{◌≡◌, ◌≢◌, ℕ, ◌<◌, true, false, List, length, length-set, set, refl, sym, ◌∙◌, ap, subst, arith, ⊎_elim, Option, Some, None}
 use Rattle.std.specs.Prelude.{IfNone}
 use Rattle.std.proofs.lemmas.Bool.{cases_eq}
@@ -8,57 +8,97 @@ use Rattle.blocks.specs.declared.disk.Disk.{Ghosts}
 use Rattle.blocks.specs.declared.errors.DiskFault.{DiskFault}
 use Rattle.model.specs.declared.types.operations.Op.{Op}
 use Rattle.model.specs.declared.types.image.Dinode.{Dinode}
-use Rattle.loose.specs.Loose.{Fits}
+use Rattle.model.specs.declared.types.image.Form.{Form}
 use Rattle.model.specs.declared.types.operations.TaskProgress.{TaskProgress}
+use Rattle.model.specs.declared.types.operations.TaskProgress.TheVariants as progress
 use Rattle.model.specs.Files.{Files}
 use Rattle.model.specs.Journal.{is_making}
 use Rattle.model.specs.Layout.{form_of, inode_count_of}
-use Rattle.model.specs.Soundness.{IsLawfulGeometry}
 use Rattle.model.specs.Tasks.{FilesThen, fault_of_task, reply_at_turn, Marks}
+use Rattle.loose.specs.Held.{FitsHeld}
+use Rattle.loose.specs.Lemmas.HeldFrames.{held_alike}
 use Rattle.wal.specs.Held.{HasLock}
 use Rattle.wal.specs.Machine.{LogState, SameGroups}
 use Rattle.inodes.specs.declared.tasks.Place.{Place}
 use Rattle.inodes.specs.declared.tasks.Place.TheVariants as place
 use Rattle.inodes.specs.Goes.{Shown, Goes, ShowsSame}
 use Rattle.inodes.specs.Grips.{Grip, KeepsTable, TableIs, locked_grip, with_grip}
+use Rattle.inodes.specs.Lemmas.Holding.{claim_stays}
 use Rattle.inodes.specs.Lemmas.Faults.{where_none, if_none, if_some}
-use Rattle.inodes.specs.Looks.{AreLooking, LooksAt, IsTaking, IsAtRead, HasAllRead, WasAnswered}
-use Rattle.inodes.specs.Places.{asked_by, is_over, slot_at, grip_by, grip_of, grips_of, steps_left}
+use Rattle.inodes.specs.Looks.{AreLooking, HasFiles, LooksAt, IsTaking, IsAtRead, HasAllRead, WasAnswered}
+use Rattle.inodes.specs.Holding.{IsTruncating, claim_by, claims_of}
+use Rattle.inodes.specs.Places.{HasSlot, asked_by, grip_by, grip_of, grips_of, is_over, steps_left}
 use Rattle.inodes.specs.Steps.{Steps, Waits, Reads, LeavesReadings, is_made}
 use Rattle.inodes.specs.Store.{StoreState, IsStore, FitsFiles, Agrees, Stands, current_of}
 use Rattle.inodes.specs.Table.{copy_at}
 use Rattle.inodes.specs.Tasks.{TaskState, task, no_task}
 use Rattle.inodes.proofs.Agreeing.{StaysForOthers, agrees_now}
 use Rattle.inodes.proofs.Gripping.{grip_is, grips_set}
-use Rattle.inodes.proofs.StoreSteps.{marks_same, groups_same}
+use Rattle.inodes.proofs.Frames.{groups_same, marks_same}
+use Rattle.inodes.proofs.LooksKept.{KeepsUsed, keeps_same, stands_still}
+use Rattle.inodes.proofs.Shares.{shares}
 
 -- Process p's task is u now, where the disk has not failed.
-pub record IsLookedAt {D : Type 0} (image : D → Image) (s t : StoreState D) (p : ℕ) (u : TaskState) : Type 0 where
+pub record IsNow {D : Type 0} (image : D → Image) (s t : StoreState D) (p : ℕ) (u : TaskState) : Type 0 where
   pub others : StaysForOthers s.volume.buffers t.volume.buffers s.volume.log t.volume.log p
-  pub locks : (b i : ℕ) → HasLock t.volume.buffers p b i → slot_at u.place ≡ Some i
+  pub locks : (b i : ℕ) → HasLock t.volume.buffers p b i → HasSlot u.place i
   pub stands : Stands t.volume.buffers t.volume.log s.table.inode_count p u.op u.place
-  pub table : KeepsTable s.table t.table p (grips_of s.tasks) (with_grip (grips_of s.tasks) p (grip_of u)) (current_of image s.volume)
-  pub looks : LooksAt (current_of image s.volume) t.table u u.place
+  pub table : KeepsTable s.table t.table p (grips_of s.tasks) (with_grip (grips_of s.tasks) p (grip_of u)) (current_of image t.volume)
+  pub looks : LooksAt (current_of image t.volume) t.table u u.place
 
--- A step of process p left its task as u.
-pub record Looked {D N : Type 0} (disk : Ghosts D N) (s : StoreState D) (p : ℕ) (r : TaskProgress) (t : StoreState D) (u : TaskState) : Type 0 where
+-- A step of process p, which has to do with number i, left its task as u.
+pub record Stepped {D N : Type 0} (disk : Ghosts D N) (s : StoreState D) (p i : ℕ) (its : Op) (r : TaskProgress) (t : StoreState D) (u : TaskState) : Type 0 where
+  pub tasks : t.tasks ≡ set s.tasks p u
+  pub op : u.op ≡ (task s.tasks p).op
+  pub count : t.table.inode_count ≡ s.table.inode_count
+  pub numbers : inode_count_of (current_of disk.image t.volume) ≡ inode_count_of (current_of disk.image s.volume)
+  pub reads : Reads disk s r t
+  pub groups : SameGroups s.volume.log t.volume.log
+  pub marks : Marks (reply_at_turn r) (current_of disk.image s.volume) (current_of disk.image t.volume)
+  pub files : (files : Files) → FitsFiles disk.image s files → FilesThen (form_of (current_of disk.image s.volume)) its r files (FitsFiles disk.image t)
+  -- no other process has that number's lock, and the task holds no other number
+  pub alone : (q k : ℕ) → q ≢ p → grip_of (task s.tasks q) ≡ Some (locked_grip k i) → ⊥
+  pub claims : (j : ℕ) → j ≢ i → claim_by u.place j ≡ claim_by (task s.tasks p).place j
+  pub keeps : KeepsUsed s.table.inode_count i (claims_of s.tasks) (current_of disk.image s.volume) (current_of disk.image t.volume)
+  pub now : fault_of_task r ≡ None → IsNow disk.image s t p u
+
+-- A step of process p, after which image and log show the same, left its task as u.
+pub record Looked {D N : Type 0} (disk : Ghosts D N) (s : StoreState D) (p i : ℕ) (r : TaskProgress) (t : StoreState D) (u : TaskState) : Type 0 where
   pub tasks : t.tasks ≡ set s.tasks p u
   pub op : u.op ≡ (task s.tasks p).op
   pub count : t.table.inode_count ≡ s.table.inode_count
   pub reads : Reads disk s r t
   pub shown : ShowsSame disk.image s t
-  pub now : fault_of_task r ≡ None → IsLookedAt disk.image s t p u
+  pub alone : (q k : ℕ) → q ≢ p → grip_of (task s.tasks q) ≡ Some (locked_grip k i) → ⊥
+  pub claims : (j : ℕ) → j ≢ i → claim_by u.place j ≡ claim_by (task s.tasks p).place j
+  pub now : fault_of_task r ≡ None → IsNow disk.image s t p u
 
-module _ {D N : Type 0} (disk : Ghosts D N) (s : StoreState D) (p : ℕ) (r : TaskProgress) (t : StoreState D) (u : TaskState)
-    (is : IsStore disk.image s) (well : s.volume.fault ≡ None) (inside : p < length s.tasks) (looked : Looked disk s p r t u) where
+-- a store that stands for files stands for them in its current image, by the claims of its tasks
+fits_of : {D : Type 0} (image : D → Image) (s : StoreState D) (files : Files) → FitsFiles image s files → FitsHeld files (current_of image s.volume) (claims_of s.tasks)
+unfolding FitsFiles
+fits_of image s files fits = fits
+
+of_fits : {D : Type 0} (image : D → Image) (s : StoreState D) (files : Files) → FitsHeld files (current_of image s.volume) (claims_of s.tasks) → FitsFiles image s files
+unfolding FitsFiles
+of_fits image s files fits = fits
+
+-- there are files after a step
+files_then : (P : Files → Type 0) (form : Form) (op : Op) (r : TaskProgress) (files : Files) → FilesThen form op r files P → (then : Files) × P then
+files_then P form op progress.Moved files then = (files, then)
+files_then P form op (progress.Turned None) files then = (files, then)
+files_then P form op (progress.Turned (Some reply)) files then = (then.0, then.2)
+files_then P form op (progress.Decided reply) files then = (then.0, then.2)
+files_then P form op progress.Over files then = (files, then)
+files_then P form op (progress.Sleeping why) files then = (files, then)
+files_then P form op (progress.Fault fault) files then = (files, then)
+
+module _ {D N : Type 0} (disk : Ghosts D N) (s : StoreState D) (p i : ℕ) (op : Op) (r : TaskProgress) (t : StoreState D) (u : TaskState)
+    (is : IsStore disk.image s) (well : s.volume.fault ≡ None) (inside : p < length s.tasks) where
   abbrev cur : Image
   cur = current_of disk.image s.volume
 
-  same_current : current_of disk.image t.volume ≡ cur
-  same_current = ap (λ (w : Shown). w.current) looked.shown
-
-  same_log : t.volume.log ≡ s.volume.log
-  same_log = ap (λ (w : Shown). w.log) looked.shown
+  abbrev new : Image
+  new = current_of disk.image t.volume
 
   mine : task (set s.tasks p u) p ≡ u
   mine = get_or-set_same s.tasks p u no_task inside
@@ -69,7 +109,7 @@ module _ {D N : Type 0} (disk : Ghosts D N) (s : StoreState D) (p : ℕ) (r : Ta
   were : AreLooking cur s.table s.tasks
   were = where_none s.volume.fault well is.looks
 
-  agrees_then : IsLookedAt disk.image s t p u → Agrees t.volume.buffers t.volume.log s.table.inode_count (set s.tasks p u)
+  agrees_then : IsNow disk.image s t p u → Agrees t.volume.buffers t.volume.log s.table.inode_count (set s.tasks p u)
   agrees_then now = agrees_now s.volume.buffers t.volume.buffers s.volume.log t.volume.log s.table.inode_count p s.tasks u (record {
     agrees = where_none s.volume.fault well is.agrees;
     inside = inside;
@@ -79,79 +119,118 @@ module _ {D N : Type 0} (disk : Ghosts D N) (s : StoreState D) (p : ℕ) (r : Ta
   })
 
   -- a place that another has locked keeps its copy
-  copy_stays : (now : IsLookedAt disk.image s t p u) (q k i : ℕ) → q ≢ p → grip_of (task s.tasks q) ≡ Some (locked_grip k i) → copy_at t.table.places k ≡ copy_at s.table.places k
-  copy_stays now q k i apart has = (now.table.others q k i apart (grip_is s.tasks q ∙ has)).copy
+  copy_stays : (now : IsNow disk.image s t p u) (q k j : ℕ) → q ≢ p → grip_of (task s.tasks q) ≡ Some (locked_grip k j) → copy_at t.table.places k ≡ copy_at s.table.places k
+  copy_stays now q k j apart has = (now.table.others q k j apart (grip_is s.tasks q ∙ has)).copy
 
-  -- what another has read stays so
-  looks_other : (now : IsLookedAt disk.image s t p u) (q : ℕ) (v : TaskState) (a : Place) → q ≢ p → task s.tasks q ≡ v → v.place ≡ a → LooksAt cur s.table v a → LooksAt cur t.table v a
-  looks_other now q v place.Nowhere apart is_task at looks = tt
-  looks_other now q v (place.Creating m) apart is_task at looks = tt
-  looks_other now q v (place.Taking m) apart is_task at looks = subst (λ (n : ℕ). IsTaking n v m) (sym looked.count) looks
-  looks_other now q v (place.Reading k m) apart is_task at looks =
+  -- what another has read stays so, with the table as it is now
+  looks_other : (now : IsNow disk.image s t p u) → t.table.inode_count ≡ s.table.inode_count → (q : ℕ) (v : TaskState) (a : Place) → q ≢ p → task s.tasks q ≡ v → v.place ≡ a → LooksAt new s.table v a → LooksAt new t.table v a
+  looks_other now count q v place.Nowhere apart is_task at looks = tt
+  looks_other now count q v (place.Creating m) apart is_task at looks = tt
+  looks_other now count q v (place.Taking m) apart is_task at looks = subst (λ (n : ℕ). IsTaking n v m) (sym count) looks
+  looks_other now count q v (place.Reading k m) apart is_task at looks =
       let has : grip_of (task s.tasks q) ≡ Some (locked_grip k (asked_by v.op)) = ap grip_of is_task ∙ ap (λ (a : Place). grip_by a (asked_by v.op)) at in
-      subst (λ (n : ℕ). IsAtRead cur n (copy_at t.table.places k) v m) (sym looked.count)
-      (subst (λ (c : Option Dinode). IsAtRead cur s.table.inode_count c v m) (sym (copy_stays now q k (asked_by v.op) apart has)) looks)
-  looks_other now q v (place.Delivering k) apart is_task at looks =
+      subst (λ (n : ℕ). IsAtRead new n (copy_at t.table.places k) v m) (sym count)
+      (subst (λ (c : Option Dinode). IsAtRead new s.table.inode_count c v m) (sym (copy_stays now q k (asked_by v.op) apart has)) looks)
+  looks_other now count q v (place.Delivering k) apart is_task at looks =
       let has : grip_of (task s.tasks q) ≡ Some (locked_grip k (asked_by v.op)) = ap grip_of is_task ∙ ap (λ (a : Place). grip_by a (asked_by v.op)) at in
-      subst (λ (n : ℕ). HasAllRead cur n (copy_at t.table.places k) v) (sym looked.count)
-      (subst (λ (c : Option Dinode). HasAllRead cur s.table.inode_count c v) (sym (copy_stays now q k (asked_by v.op) apart has)) looks)
-  looks_other now q v (place.Leaving k) apart is_task at looks = subst (λ (n : ℕ). WasAnswered n v) (sym looked.count) looks
+      subst (λ (n : ℕ). HasAllRead new n (copy_at t.table.places k) v) (sym count)
+      (subst (λ (c : Option Dinode). HasAllRead new s.table.inode_count c v) (sym (copy_stays now q k (asked_by v.op) apart has)) looks)
+  looks_other now count q v (place.Truncating k m) apart is_task at looks = subst (λ (n : ℕ). IsTruncating new n v m) (sym count) looks
+  looks_other now count q v (place.Leaving k) apart is_task at looks = subst (λ (n : ℕ). WasAnswered n v) (sym count) looks
 
-  looking_then : IsLookedAt disk.image s t p u → AreLooking cur t.table (set s.tasks p u)
-  looking_then now = record {
-    files = were.files;
-    table = subst (λ (gs : List (Option Grip)). TableIs t.table gs cur) (sym (grips_set s.tasks p u)) now.table.table;
-    stand = λ q. ⊎_elim
-        (λ (same : q ≡ p). subst (λ (v : TaskState). LooksAt cur t.table v v.place) (sym (ap (task (set s.tasks p u)) same ∙ mine)) now.looks)
-        (λ (apart : q ≢ p). subst (λ (v : TaskState). LooksAt cur t.table v v.place) (sym (theirs q apart))
-        (looks_other now q (task s.tasks q) (task s.tasks q).place apart refl refl (were.stand q)))
-        (cases_eq q p);
-  }
+  module _ (stepped : Stepped disk s p i op r t u) where
+    -- the files that it stands for then
+    held_then : HasFiles new (claims_of t.tasks)
+    held_then =
+        let then = files_then (FitsFiles disk.image t) (form_of cur) op r were.files.0 (stepped.files were.files.0 (of_fits disk.image s were.files.0 were.files.1)) in
+        (then.0, fits_of disk.image t then.0 then.1)
 
-  -- all that is true of every store
-  pub store_looked : IsStore disk.image t
-  store_looked = record {
-    few = let size = ap length looked.tasks ∙ length-set s.tasks p u in let few = is.few in omega (arith, size, few);
-    geometry = subst IsLawfulGeometry (sym same_current) is.geometry;
-    numbers = looked.count ∙ is.numbers ∙ sym (ap inode_count_of same_current);
-    agrees = by_fault (fault_of_task r) refl;
-    looks = looks_by (fault_of_task r) refl;
-  }
-    where
-      by_fault : (o : Option DiskFault) → fault_of_task r ≡ o → IfNone t.volume.fault (Agrees t.volume.buffers t.volume.log t.table.inode_count t.tasks)
-      by_fault None e = if_none t.volume.fault (subst (λ (ts : List TaskState). Agrees t.volume.buffers t.volume.log t.table.inode_count ts) (sym looked.tasks)
-          (subst (λ (n : ℕ). Agrees t.volume.buffers t.volume.log n (set s.tasks p u)) (sym looked.count) (agrees_then (looked.now e))))
-      by_fault (Some f) e = if_some (Agrees t.volume.buffers t.volume.log t.table.inode_count t.tasks) t.volume.fault f (looked.reads.fault ∙ e)
+    looking_then : IsNow disk.image s t p u → AreLooking new t.table (set s.tasks p u)
+    looking_then now = record {
+      files = subst (λ (ts : List TaskState). HasFiles new (claims_of ts)) stepped.tasks held_then;
+      table = subst (λ (gs : List (Option Grip)). TableIs t.table gs new) (sym (grips_set s.tasks p u)) now.table.table;
+      stand = λ q. ⊎_elim
+          (λ (same : q ≡ p). subst (λ (v : TaskState). LooksAt new t.table v v.place) (sym (ap (task (set s.tasks p u)) same ∙ mine)) now.looks)
+          (λ (apart : q ≢ p). subst (λ (v : TaskState). LooksAt new t.table v v.place) (sym (theirs q apart))
+          (looks_other now stepped.count q (task s.tasks q) (task s.tasks q).place apart refl refl
+          (stands_still cur new s.table s.tasks i were is.numbers stepped.keeps q (task s.tasks q).place (λ k. stepped.alone q k apart) refl (were.stand q))))
+          (cases_eq q p);
+    }
 
-      looks_by : (o : Option DiskFault) → fault_of_task r ≡ o → IfNone t.volume.fault (AreLooking (current_of disk.image t.volume) t.table t.tasks)
-      looks_by None e = if_none t.volume.fault (subst (λ (x : Image). AreLooking x t.table t.tasks) (sym same_current)
-          (subst (λ (ts : List TaskState). AreLooking cur t.table ts) (sym looked.tasks) (looking_then (looked.now e))))
-      looks_by (Some f) e = if_some (AreLooking (current_of disk.image t.volume) t.table t.tasks) t.volume.fault f (looked.reads.fault ∙ e)
+    -- all that is true of every store
+    pub store_stepped : IsStore disk.image t
+    store_stepped = record {
+      few = let size = ap length stepped.tasks ∙ length-set s.tasks p u in let few = is.few in omega (arith, size, few);
+      geometry = held_then.1.geometry;
+      numbers = stepped.count ∙ is.numbers ∙ sym stepped.numbers;
+      agrees = by_fault (fault_of_task r) refl;
+      looks = looks_by (fault_of_task r) refl;
+    }
+      where
+        by_fault : (o : Option DiskFault) → fault_of_task r ≡ o → IfNone t.volume.fault (Agrees t.volume.buffers t.volume.log t.table.inode_count t.tasks)
+        by_fault None e = if_none t.volume.fault (subst (λ (ts : List TaskState). Agrees t.volume.buffers t.volume.log t.table.inode_count ts) (sym stepped.tasks)
+            (subst (λ (n : ℕ). Agrees t.volume.buffers t.volume.log n (set s.tasks p u)) (sym stepped.count) (agrees_then (stepped.now e))))
+        by_fault (Some f) e = if_some (Agrees t.volume.buffers t.volume.log t.table.inode_count t.tasks) t.volume.fault f (stepped.reads.fault ∙ e)
 
-  -- what it stood for, it stands for
-  pub files_same : (files : Files) → FitsFiles disk.image s files → FitsFiles disk.image t files
-  unfolding FitsFiles
-  files_same files fits = subst (λ (x : Image). Fits files x) (sym same_current) fits
+        looks_by : (o : Option DiskFault) → fault_of_task r ≡ o → IfNone t.volume.fault (AreLooking new t.table t.tasks)
+        looks_by None e = if_none t.volume.fault (subst (λ (ts : List TaskState). AreLooking new t.table ts) (sym stepped.tasks) (looking_then (stepped.now e)))
+        looks_by (Some f) e = if_some (AreLooking new t.table t.tasks) t.volume.fault f (stepped.reads.fault ∙ e)
 
-  -- THE STEP
-  pub steps_looked : (op : Op) → ((files : Files) → FitsFiles disk.image s files → FilesThen (form_of cur) op r files (FitsFiles disk.image t)) → Goes disk (task s.tasks p).place s p op r t
-      → ((i : ℕ) → is_making i (reply_at_turn r) ≡ true → ⊥) → Waits s p r t → LeavesReadings s p op r
-      → (is_made r ≡ true → is_over (task s.tasks p).place ≡ false → steps_left u.place s.table.inode_count < steps_left (task s.tasks p).place s.table.inode_count)
-      → Steps disk s p op r t
-  steps_looked op files goes makes waits apart falls = record {
-    files = files;
-    goes = goes;
-    tasks = record {
-      op_stays = ap (λ (v : TaskState). v.op) (ap (λ (ts : List TaskState). task ts p) looked.tasks ∙ mine) ∙ looked.op;
-      others = λ q other. ap (λ (ts : List TaskState). task ts q) looked.tasks ∙ theirs q other;
-      many = ap length looked.tasks ∙ length-set s.tasks p u;
-      numbers = looked.count;
-    };
-    groups = subst (λ (l : LogState). SameGroups s.volume.log l) (sym same_log) (groups_same s.volume.log);
-    marks = subst (λ (x : Image). Marks (reply_at_turn r) cur x) (sym same_current) (marks_same (reply_at_turn r) cur makes);
-    waits = waits;
-    reads = looked.reads;
-    apart = apart;
-    falls = λ made going. subst (λ (v : TaskState). steps_left v.place s.table.inode_count < steps_left (task s.tasks p).place s.table.inode_count)
-        (sym (ap (λ (ts : List TaskState). task ts p) looked.tasks ∙ mine)) (falls made going);
-  }
+    -- THE STEP
+    pub steps_stepped : Goes disk (task s.tasks p).place s p op r t → Waits s p r t → LeavesReadings s p op r
+        → (is_made r ≡ true → is_over (task s.tasks p).place ≡ false → steps_left u.place s.table.inode_count < steps_left (task s.tasks p).place s.table.inode_count)
+        → Steps disk s p op r t
+    steps_stepped goes waits apart falls = record {
+      files = stepped.files;
+      goes = goes;
+      tasks = record {
+        op_stays = ap (λ (v : TaskState). v.op) (ap (λ (ts : List TaskState). task ts p) stepped.tasks ∙ mine) ∙ stepped.op;
+        others = λ q other. ap (λ (ts : List TaskState). task ts q) stepped.tasks ∙ theirs q other;
+        many = ap length stepped.tasks ∙ length-set s.tasks p u;
+        numbers = stepped.count;
+      };
+      groups = stepped.groups;
+      marks = stepped.marks;
+      waits = waits;
+      reads = stepped.reads;
+      apart = apart;
+      shares = shares disk.image s t p i u were is.numbers stepped.tasks stepped.alone stepped.claims stepped.keeps;
+      falls = λ made going. subst (λ (v : TaskState). steps_left v.place s.table.inode_count < steps_left (task s.tasks p).place s.table.inode_count)
+          (sym (ap (λ (ts : List TaskState). task ts p) stepped.tasks ∙ mine)) (falls made going);
+    }
+
+  module _ (looked : Looked disk s p i r t u) where
+    same_current : new ≡ cur
+    same_current = ap (λ (w : Shown). w.current) looked.shown
+
+    same_log : t.volume.log ≡ s.volume.log
+    same_log = ap (λ (w : Shown). w.log) looked.shown
+
+    -- what it stood for, it stands for, where of that number too the task holds what it held
+    pub files_same : claim_by u.place i ≡ claim_by (task s.tasks p).place i → (files : Files) → FitsFiles disk.image s files → FitsFiles disk.image t files
+    files_same same files fits =
+        let each : (j : ℕ) → claims_of t.tasks j ≡ claims_of s.tasks j = λ j. ap (λ (ts : List TaskState). claims_of ts j) looked.tasks ∙ claim_stays s.tasks p j u
+        (⊎_elim
+        (λ (own : j ≡ i). subst (λ (k : ℕ). claim_by u.place k ≡ claim_by (task s.tasks p).place k) (sym own) same)
+        (λ (other : j ≢ i). looked.claims j other)
+        (cases_eq j i)) in
+        of_fits disk.image t files (held_alike files new (claims_of s.tasks) (claims_of t.tasks) each
+        (subst (λ (x : Image). FitsHeld files x (claims_of s.tasks)) (sym same_current) (fits_of disk.image s files fits)))
+
+    -- such a step makes no number
+    pub stepped_looked : ((files : Files) → FitsFiles disk.image s files → FilesThen (form_of (current_of disk.image s.volume)) op r files (FitsFiles disk.image t))
+        → ((j : ℕ) → is_making j (reply_at_turn r) ≡ true → ⊥) → Stepped disk s p i op r t u
+    stepped_looked files makes = record {
+      tasks = looked.tasks;
+      op = looked.op;
+      count = looked.count;
+      numbers = ap inode_count_of same_current;
+      reads = looked.reads;
+      groups = subst (λ (l : LogState). SameGroups s.volume.log l) (sym same_log) (groups_same s.volume.log);
+      marks = subst (λ (x : Image). Marks (reply_at_turn r) cur x) (sym same_current) (marks_same (reply_at_turn r) cur makes);
+      files = files;
+      alone = looked.alone;
+      claims = looked.claims;
+      keeps = subst (λ (x : Image). KeepsUsed s.table.inode_count i (claims_of s.tasks) cur x) (sym same_current) (keeps_same s.table.inode_count i (claims_of s.tasks) cur);
+      now = looked.now;
+    }

@@ -10,7 +10,7 @@ use Rattle.model.specs.Places.{address_in}
 use Rattle.bcache.specs.Lemmas.Current.{length-current}
 use Rattle.wal.specs.Joint.{Joint}
 use Rattle.blockmap.specs.Getting.{HoldsWhereGot}
-use Rattle.blockmap.specs.Lemmas.Used.{used_may_be_read}
+use Rattle.blockmap.specs.Lemmas.Resting.{resting_may_be_read}
 use Rattle.blockmap.specs.Reading.{MayRead}
 use Rattle.blockmap.specs.Target.{LeadsTo, block_of, slot_in}
 use Rattle.blockmap.specs.declared.target.Target.{Target}
@@ -21,11 +21,13 @@ use Rattle.inodes.specs.Grips.{grip, locked_grip}
 use Rattle.inodes.specs.Lemmas.Faults.{where_none}
 use Rattle.inodes.specs.Lemmas.Looks.{copy_is, reading_number, reading_used}
 use Rattle.inodes.specs.Looks.{AreLooking, IsAtRead, LeadsToBlock, LooksAt}
-use Rattle.inodes.specs.Places.{asked_by, grip_by, grips_of, is_reading, slot_at}
+use Rattle.inodes.specs.Places.{asked_by, grip_by, grips_of, is_reading, HasSlot}
 use Rattle.inodes.specs.Readi.{ReadState, IsReading, HasRoomLeft}
 use Rattle.inodes.specs.Store.{StoreState, IsStore, HoldsAt, Stands, Agrees, current_of}
 use Rattle.inodes.specs.Table.{copy_at}
 use Rattle.inodes.specs.Tasks.{task}
+use Rattle.inodes.specs.Holding.{claim_by, claims_of}
+use Rattle.inodes.proofs.Unclaimed.{unclaimed}
 use Rattle.inodes.proofs.Gripping.{grip_is}
 use Rattle.inodes.proofs.ReadLemmas.{leads_for}
 use Rattle.inodes.proofs.Searching.{where_got}
@@ -55,8 +57,12 @@ module _ {D N : Type 0} (disk : Ghosts D N) (s : StoreState D) (p k : ℕ) (m : 
   pub holds : HoldsAt s.volume.buffers p (block_of m.target) (slot_in m.target)
   holds = subst (λ (a : Place). Stands s.volume.buffers s.volume.log s.table.inode_count p (task s.tasks p).op a) stood (agrees.stands p)
 
-  pub slot_is : slot_at (task s.tasks p).place ≡ slot_in m.target
-  slot_is = ap slot_at stood
+  pub slot_is : (i : ℕ) → HasSlot (task s.tasks p).place i → slot_in m.target ≡ Some i
+  slot_is i got = subst (λ (a : Place). HasSlot a i) stood got
+
+  -- no task holds its number
+  pub nobody : claims_of s.tasks number ≡ None
+  nobody = unclaimed cur s.table s.tasks looking p k number (sym (grip_is s.tasks p) ∙ has) (ap (λ (a : Place). claim_by a number) stood)
 
   reads : is_reading (task s.tasks p).place ≡ true
   reads = ap is_reading stood
@@ -67,7 +73,7 @@ module _ {D N : Type 0} (disk : Ghosts D N) (s : StoreState D) (p k : ℕ) (m : 
   -- the file of its inode may be read
   pub may : MayRead cur m.inode
   may = subst (MayRead cur) (copy_is cur s.table s.tasks looking p number k m.inode has at_read.copy).0
-      (used_may_be_read looking.files.0 cur number looking.files.1 (may_name, reading_used cur s.table s.tasks looking p reads))
+      (resting_may_be_read looking.files.0 cur (claims_of s.tasks) number looking.files.1 (may_name, reading_used cur s.table s.tasks looking p reads) nobody)
 
   -- it has room for the bytes that are left
   pub room : (g : GatheredBytes) → (task s.tasks p).gathered ≡ Some g → HasRoomLeft m g

@@ -6,6 +6,7 @@ use Rattle.blocks.specs.Disk.{Image}
 use Rattle.blocks.specs.declared.disk.Disk.{Ghosts}
 use Rattle.model.specs.declared.types.image.Dinode.{Dinode}
 use Rattle.model.specs.declared.types.operations.Op.{Op}
+use Rattle.model.specs.declared.types.operations.Op.TheVariants.{Read}
 use Rattle.model.specs.declared.types.operations.Reply.{Reply}
 use Rattle.model.specs.declared.types.operations.TaskProgress.TheVariants as progress
 use Rattle.model.specs.declared.types.operations.Why.{Why}
@@ -40,7 +41,7 @@ use Rattle.inodes.specs.Goes.{Goes, Shown, ShowsSame, progress_of_read, place_of
 use Rattle.inodes.specs.Grips.{Grip, KeepsTable, TableIs, grip, locked_grip, with_grip}
 use Rattle.inodes.specs.Ialloc.{OnMore}
 use Rattle.inodes.specs.Looks.{HasAllRead, IsAtRead, IsRead, LeadsToBlock, LooksAt}
-use Rattle.inodes.specs.Places.{asked_by, slot_at, block_at_place, grip_by, grip_of, grips_of, steps_left}
+use Rattle.inodes.specs.Places.{asked_by, HasSlot, block_at_place, grip_by, grip_of, grips_of, steps_left}
 use Rattle.inodes.specs.Readi.{ReadState, ReadSteps, IsReading, IsMade, Works, is_done, reads_left}
 use Rattle.inodes.specs.Steps.{Steps, Waits, Reads, LeavesNumber, IsHeldByAnother, is_made}
 use Rattle.inodes.specs.Store.{StoreState, IsStore, FitsFiles, HoldsAt, Stands, Agrees, current_of}
@@ -48,7 +49,9 @@ use Rattle.inodes.specs.Table.{copy_at}
 use Rattle.inodes.specs.Tasks.{TaskState, task, no_task}
 use Rattle.inodes.proofs.Agreeing.{StaysForOthers}
 use Rattle.inodes.proofs.Getting.{HasOne, has_left, reads_none, reads_got, shows_got, sleeps_got, held_got, has_then, fault_of}
-use Rattle.inodes.proofs.Looking.{Looked, files_same, store_looked, steps_looked}
+use Rattle.inodes.proofs.Looking.{Looked, Stepped, files_same, stepped_looked, store_stepped, steps_stepped}
+use Rattle.inodes.specs.Holding.{claim_by}
+use Rattle.inodes.proofs.Taking.{none_of_zero}
 use Rattle.inodes.proofs.Reading.{agrees, looking, at_read, has, slot_is, may, room, is_ready, size}
 use Rattle.inodes.proofs.Starting.{leads_at_once, new_target}
 
@@ -87,6 +90,26 @@ fault_is machine.Moved = refl
 fault_is (machine.Sleeping cause) = refl
 fault_is (machine.Over out) = refl
 fault_is (machine.Fault fault) = refl
+
+-- the slot that it has got where it goes
+abbrev slot_there : ReadState → ReadState → Progress (Unit {0}) → Option ℕ
+slot_there m n machine.Moved = slot_in n.target
+slot_there m n (machine.Sleeping cause) = slot_in m.target
+slot_there m n (machine.Over out) = None
+slot_there m n (machine.Fault fault) = slot_in m.target
+
+has_there : (k : ℕ) (m n : ReadState) (q : Progress (Unit {0})) (i : ℕ) → slot_there m n q ≡ Some i → HasSlot (place_of_reading k m n q) i
+has_there k m n machine.Moved i got = got
+has_there k m n (machine.Sleeping cause) i got = got
+has_there k m n (machine.Over out) i got = got
+has_there k m n (machine.Fault fault) i got = got
+
+-- it holds no number there
+holds_there : (k : ℕ) (m n : ReadState) (q : Progress (Unit {0})) (j : ℕ) → claim_by (place_of_reading k m n q) j ≡ None
+holds_there k m n machine.Moved j = refl
+holds_there k m n (machine.Sleeping cause) j = refl
+holds_there k m n (machine.Over out) j = refl
+holds_there k m n (machine.Fault fault) j = refl
 
 -- the process has its inode wherever it goes
 grip_then : (k i : ℕ) (m n : ReadState) (q : Progress (Unit {0})) → grip_by (place_of_reading k m n q) i ≡ Some (locked_grip k i)
@@ -165,7 +188,7 @@ module _ {D N : Type 0} (disk : Ghosts D N) (s : StoreState D) (p k : ℕ) (m : 
 
     -- What a step makes of buffers and device, where the reading goes on, and for whom it waits.
     record Does : Type 0 where
-      pub one : fault_of q ≡ None → HasOne s.volume.buffers w.buffers s.volume.log p (block_at_place next) (slot_at next)
+      pub one : fault_of q ≡ None → HasOne s.volume.buffers w.buffers s.volume.log p (block_at_place next) (slot_there m n q)
       pub reads : Reads disk s (progress_of_read q) then_at
       pub shown : ShowsSame disk.image s then_at
       pub held : q ≡ machine.Sleeping why.BufferHeld → IsHeldByAnother s p (block_of m.target)
@@ -178,8 +201,8 @@ module _ {D N : Type 0} (disk : Ghosts D N) (s : StoreState D) (p k : ℕ) (m : 
       are : Agrees s.volume.buffers s.volume.log s.table.inode_count s.tasks
       are = agrees disk s p k m is well stood
 
-      no_slot : slot_at (task s.tasks p).place ≡ None
-      no_slot = slot_is disk s p k m is well stood ∙ none
+      no_slot : (i : ℕ) → HasSlot (task s.tasks p).place i → None ≡ Some i
+      no_slot i has_it = sym none ∙ slot_is disk s p k m is well stood i has_it
 
       one_got : fault_of q ≡ None → HasOne s.volume.buffers w.buffers s.volume.log p b slot
       one_got fine = has_then disk s then_at p b q slot gets are no_slot fine
@@ -190,7 +213,7 @@ module _ {D N : Type 0} (disk : Ghosts D N) (s : StoreState D) (p k : ℕ) (m : 
       never_over (get.Fault fault) out gives over = absurd (cc (sym gives ∙ over))
 
       one_by : (r : Progress (Unit {0})) → q ≡ r → (block_of n.target ≡ b) × (slot_in n.target ≡ slot) → fault_of r ≡ None
-          → HasOne s.volume.buffers w.buffers s.volume.log p (block_at_place (place_of_reading k m n r)) (slot_at (place_of_reading k m n r))
+          → HasOne s.volume.buffers w.buffers s.volume.log p (block_at_place (place_of_reading k m n r)) (slot_there m n r)
       one_by machine.Moved same now fine = subst (λ (a : ℕ). HasOne s.volume.buffers w.buffers s.volume.log p a (slot_in n.target)) (sym now.0)
           (subst (λ (o : Option ℕ). HasOne s.volume.buffers w.buffers s.volume.log p b o) (sym now.1) (one_got (ap fault_of same)))
       one_by (machine.Sleeping cause) same now fine =
@@ -222,10 +245,10 @@ module _ {D N : Type 0} (disk : Ghosts D N) (s : StoreState D) (p k : ℕ) (m : 
       well_then : w.fault ≡ None
       well_then = ap (λ (v : VolumeState D). v.fault) leaves.volume ∙ well
 
-      uses : fault_of q ≡ None → ((cause : Why) → q ≡ machine.Sleeping cause → ⊥) → slot_at next ≡ None → (q ≡ machine.Moved → LeadsToBlock cur m.inode (n.next / 1024) n.target) → Does
+      uses : fault_of q ≡ None → ((cause : Why) → q ≡ machine.Sleeping cause → ⊥) → slot_there m n q ≡ None → (q ≡ machine.Moved → LeadsToBlock cur m.inode (n.next / 1024) n.target) → Does
       uses fine awake free leads = record {
         one = λ well_still. subst (λ (o : Option ℕ). HasOne s.volume.buffers w.buffers s.volume.log p (block_at_place next) o) (sym free)
-            (has_left s.volume.buffers s.volume.log s.table.inode_count p s.tasks (agrees disk s p k m is well stood) w.buffers (block_at_place next) i (slot_is disk s p k m is well stood ∙ got) leaves.locks);
+            (has_left s.volume.buffers s.volume.log s.table.inode_count p s.tasks (agrees disk s p k m is well stood) w.buffers (block_at_place next) i (λ j has_it. sym got ∙ slot_is disk s p k m is well stood j has_it) leaves.locks);
         reads = reads_none disk s then_at device well_then (progress_of_read q) (fault_is q ∙ fine);
         shown = ap (λ (x : Image). record { current = x; log = w.log }) leaves.current ∙ ap (λ (l : LogState). record { current = cur; log = l }) log;
         held = λ waits. absurd (awake why.BufferHeld waits);
@@ -269,7 +292,7 @@ module _ {D N : Type 0} (disk : Ghosts D N) (s : StoreState D) (p k : ℕ) (m : 
         let now : n.target ≡ target.Block (address_or_zero (some_address a)) None = f.target ∙ ap (λ (r : Progress (Option ℕ)). target_behind r f.entry) looks.0 in
         let to : LeadsTo disk.image s.volume p (address_in cur m.inode (m.next / 1024)) (target.Entry e) = subst (λ (t : Target). LeadsTo disk.image s.volume p (address_in cur m.inode (m.next / 1024)) t) at (is_ready disk s p k m is well stood joint).leads in
         uses i (ap slot_in at ∙ got) looks.2 (ap fault_of moved) (λ cause waits. absurd (cc (sym moved ∙ waits)))
-        (ap (λ (r : Progress (Unit {0})). slot_at (place_of_reading k m n r)) moved ∙ ap slot_in now)
+        (ap (slot_there m n) moved ∙ ap slot_in now)
         (λ moves. led_to (target.Block (address_or_zero (some_address a)) None) stays now (address_or_zero_of a ∙ to.1))
 
     does_by : (t : Target) → m.target ≡ t → Works disk t s.volume p m q w n → Does
@@ -293,13 +316,13 @@ module _ {D N : Type 0} (disk : Ghosts D N) (s : StoreState D) (p k : ℕ) (m : 
             let last = reading.read.end in
             let low : n.next / 1024 * 1024 < m.inode.size = omega (arith, some, end, last) in
             uses i (ap slot_in at) works.2 (ap fault_of same) (λ cause waits. absurd (cc (sym same ∙ waits)))
-            (ap (λ (a : Progress (Unit {0})). slot_at (place_of_reading k m n a)) same ∙ ap slot_in more ∙ new_target m.inode (n.next / 1024))
+            (ap (slot_there m n) same ∙ ap slot_in more ∙ new_target m.inode (n.next / 1024))
             (λ moves. subst (λ (t : Target). LeadsToBlock cur m.inode (n.next / 1024) t) (sym more)
             (leads_at_once disk.image s.volume p (n.next / 1024) m.inode (may disk s p k m is well stood) (size disk s p k m is well stood joint) low))
         uses_block (machine.Sleeping cause) same made more = absurd made
         uses_block (machine.Over out) same made more =
             uses i (ap slot_in at) works.2 (ap fault_of same) (λ cause waits. absurd (cc (sym same ∙ waits)))
-            (ap (λ (a : Progress (Unit {0})). slot_at (place_of_reading k m n a)) same)
+            (ap (slot_there m n) same)
             (λ moves. absurd (cc (sym same ∙ moves)))
         uses_block (machine.Fault fault) same made more = absurd made
 
@@ -314,6 +337,9 @@ module _ {D N : Type 0} (disk : Ghosts D N) (s : StoreState D) (p k : ℕ) (m : 
     -- it is still that of its reading
     abbrev still_read : IsRead s.table.inode_count (task_then n q h)
     still_read = let op = reading.op in record { number = op.number; offset = op.offset; count = op.count; is = op.is; may = op.may; gathered = h; has = refl }
+
+    abbrev op_read : Op
+    op_read = Read reading.op.number reading.op.offset reading.op.count
 
     abbrev off : ℕ
     off = reading.op.offset
@@ -387,7 +413,7 @@ module _ {D N : Type 0} (disk : Ghosts D N) (s : StoreState D) (p k : ℕ) (m : 
     looks_by (machine.Over out) same fine = has_read (eqb-true n.next n.end (sym steps.over ∙ ap is_done same))
     looks_by (machine.Fault fault) same fine = absurd (cc fine)
 
-    stands_by : (r : Progress (Unit {0})) → HoldsAt w.buffers p (block_at_place (place_of_reading k m n r)) (slot_at (place_of_reading k m n r)) → Stands w.buffers w.log s.table.inode_count p (task s.tasks p).op (place_of_reading k m n r)
+    stands_by : (r : Progress (Unit {0})) → HoldsAt w.buffers p (block_at_place (place_of_reading k m n r)) (slot_there m n r) → Stands w.buffers w.log s.table.inode_count p (task s.tasks p).op (place_of_reading k m n r)
     stands_by machine.Moved holds = holds
     stands_by (machine.Sleeping cause) holds = holds
     stands_by (machine.Over out) holds = tt
@@ -396,23 +422,31 @@ module _ {D N : Type 0} (disk : Ghosts D N) (s : StoreState D) (p k : ℕ) (m : 
     same_log : w.log ≡ s.volume.log
     same_log = ap (λ (v : Shown). v.log) does.shown
 
+    same_image : current_of disk.image w ≡ cur
+    same_image = ap (λ (v : Shown). v.current) does.shown
+
     module _ (tasks : ts ≡ set s.tasks p (task_then n q h)) where
-      looked : Looked disk s p (progress_of_read q) then_at (task_then n q h)
+      holds_still : (j : ℕ) → claim_by (task_then n q h).place j ≡ claim_by (task s.tasks p).place j
+      holds_still j = holds_there k m n q j ∙ sym (ap (λ (a : Place). claim_by a j) stood)
+
+      looked : Looked disk s p 0 (progress_of_read q) then_at (task_then n q h)
       looked = record {
         tasks = tasks;
         op = refl;
         count = refl;
         reads = does.reads;
         shown = does.shown;
+        alone = λ other j apart locks. none_of_zero cur s.table s.tasks (looking disk s p k m is well stood) other j locks;
+        claims = λ j other. holds_still j;
         now = λ fine.
             let well_then : fault_of q ≡ None = sym (fault_is q) ∙ fine in
             let one = does.one well_then in
             record {
               others = subst (λ (l : LogState). StaysForOthers s.volume.buffers w.buffers s.volume.log l p) (sym same_log) one.others;
-              locks = one.locks;
+              locks = λ b i lock. has_there k m n q i (one.locks b i lock);
               stands = stands_by q one.holds;
-              table = same_table (task_then n q h) (grip_then k (asked_by (task s.tasks p).op) m n q);
-              looks = looks_by q refl well_then;
+              table = subst (λ (x : Image). KeepsTable s.table s.table p (grips_of s.tasks) (with_grip (grips_of s.tasks) p (grip_of (task_then n q h))) x) (sym same_image) (same_table (task_then n q h) (grip_then k (asked_by (task s.tasks p).op) m n q));
+              looks = subst (λ (x : Image). LooksAt x s.table (task_then n q h) (place_of_reading k m n q)) (sym same_image) (looks_by q refl well_then);
             };
       }
 
@@ -444,14 +478,28 @@ module _ {D N : Type 0} (disk : Ghosts D N) (s : StoreState D) (p k : ℕ) (m : 
       falls_by (machine.Over out) same made = let some = some_steps m.target in omega (arith, some)
       falls_by (machine.Fault fault) same made = absurd (cc made)
 
+      files_by : (o : Op) (r : Progress (Unit {0})) (files : Files) → FitsFiles disk.image then_at files → FilesThen (form_of cur) o (progress_of_read r) files (FitsFiles disk.image then_at)
+      files_by o machine.Moved files fits = fits
+      files_by o (machine.Sleeping cause) files fits = fits
+      files_by o (machine.Over out) files fits = fits
+      files_by o (machine.Fault fault) files fits = fits
+
+      makes_none : (i : ℕ) (r : Option Reply) → r ≡ None → is_making i r ≡ true → ⊥
+      makes_none i None none makes = absurd (cc makes)
+      makes_none i (Some reply) none makes = absurd (cc none)
+
+      stepped : (op : Op) → Stepped disk s p 0 op (progress_of_read q) then_at (task_then n q h)
+      stepped op = stepped_looked disk s p 0 op (progress_of_read q) then_at (task_then n q h) is well inside looked
+          (λ files fits. files_by op q files (files_same disk s p 0 op (progress_of_read q) then_at (task_then n q h) is well inside looked (holds_still 0) files fits))
+          (λ i makes. makes_none i (reply_at_turn (progress_of_read q)) (no_reply q) makes)
+
       -- what is true of every store
       pub store_read : IsStore disk.image then_at
-      store_read = store_looked disk s p (progress_of_read q) then_at (task_then n q h) is well inside looked
+      store_read = store_stepped disk s p 0 op_read (progress_of_read q) then_at (task_then n q h) is well inside (stepped op_read)
 
       -- and what a step promises
       pub steps_read : (op : Op) → Steps disk s p op (progress_of_read q) then_at
-      steps_read op = steps_looked disk s p (progress_of_read q) then_at (task_then n q h) is well inside looked op
-          (λ files fits. files_by op q files (files_same disk s p (progress_of_read q) then_at (task_then n q h) is well inside looked files fits))
+      steps_read op = steps_stepped disk s p 0 op (progress_of_read q) then_at (task_then n q h) is well inside (stepped op)
           (subst (λ (a : Place). Goes disk a s p op (progress_of_read q) then_at) (sym stood) (
             record {
               answer = q;
@@ -467,20 +515,9 @@ module _ {D N : Type 0} (disk : Ghosts D N) (s : StoreState D) (p k : ℕ) (m : 
             },
             does.shown,
           ))
-          (λ i makes. absurd (makes_none i (reply_at_turn (progress_of_read q)) (no_reply q) makes))
           waits_so
           (λ other apart reads. subst (λ (o : Option Reply). LeavesNumber op o (asked_by (task s.tasks other).op)) (sym (no_reply q)) tt)
           (λ made going. subst (λ (a : Place). steps_left next s.table.inode_count < steps_left a s.table.inode_count) (sym stood) (falls_by q refl made))
         where
           now_is : task ts p ≡ task_then n q h
           now_is = ap (λ (l : List TaskState). task l p) tasks ∙ get_or-set_same s.tasks p (task_then n q h) no_task inside
-
-          files_by : (o : Op) (r : Progress (Unit {0})) (files : Files) → FitsFiles disk.image then_at files → FilesThen (form_of cur) o (progress_of_read r) files (FitsFiles disk.image then_at)
-          files_by o machine.Moved files fits = fits
-          files_by o (machine.Sleeping cause) files fits = fits
-          files_by o (machine.Over out) files fits = fits
-          files_by o (machine.Fault fault) files fits = fits
-
-          makes_none : (i : ℕ) (r : Option Reply) → r ≡ None → is_making i r ≡ true → ⊥
-          makes_none i None none makes = absurd (cc makes)
-          makes_none i (Some reply) none makes = absurd (cc none)

@@ -1,21 +1,52 @@
 -- A store makes a step of a creation's search, and what its contract speaks of is the same store.
-use Rattle.std.proofs.Common.{◌≡◌, ◌<◌, ℕ, length, sym, subst, arith, Option, Some, None}
+use Rattle.std.proofs.Common.{◌≡◌, ◌<◌, ◌≤◌, ℕ, leb, ltb, length, List, refl, sym, ◌∙◌, ap, subst, arith, Option, Some, None}
 use Rattle.std.specs.Prelude.{IfNone}
+use Rattle.std.proofs.lemmas.Bool.{leb-true, ltb-true}
+use Rattle.std.proofs.lemmas.List.{get_or-set_same}
 use Rattle.blocks.specs.Disk.{IsImage}
 use Rattle.blocks.specs.declared.disk.Disk.{Ghosts}
+use Rattle.blocks.specs.Disk.{Image}
+use Rattle.blocks.specs.declared.errors.DiskFault.{DiskFault}
 use Rattle.model.specs.declared.types.operations.Op.{Op}
+use Rattle.model.specs.declared.types.operations.Op.TheVariants.{Create}
+use Rattle.model.specs.Lemmas.Log.{both_of}
+use Rattle.model.specs.Tasks.{fault_of_task}
 use Rattle.wal.specs.Joint.{Joint}
-use Rattle.wal.specs.Volume.{VolumeState}
+use Rattle.wal.specs.Machine.{LogState, SameGroups}
+use Rattle.wal.specs.Volume.{VolumeState, faults_after}
 use Rattle.blockmap.specs.declared.progress.Progress.{Progress}
+use Rattle.inodes.specs.declared.tasks.Place.{Place}
 use Rattle.inodes.specs.declared.tasks.Place.TheVariants as place
+use Rattle.inodes.specs.Goes.{Goes, GoesFrom, shown_of}
+use Rattle.inodes.specs.Grips.{Grip, TableIs, locked_grip}
+use Rattle.inodes.specs.Holding.{claims_of}
 use Rattle.inodes.specs.Ialloc.{SearchState, SearchSteps, MayStep}
-use Rattle.inodes.specs.Steps.{Steps}
-use Rattle.inodes.specs.Store.{StoreState, IsStore, current_of}
-use Rattle.inodes.specs.Tasks.{task}
+use Rattle.inodes.specs.Looks.{AreLooking}
+use Rattle.inodes.specs.Places.{block_at_place, grip_of, grips_of, steps_left}
+use Rattle.inodes.specs.Steps.{Steps, IsHeldByAnother, LeavesReadings}
+use Rattle.inodes.specs.Store.{StoreState, IsStore, IsSearching, Agrees, FitsFiles, current_of}
+use Rattle.inodes.specs.Table.{TableState}
+use Rattle.inodes.specs.Tasks.{TaskState, task, no_task}
 use Rattle.inodes.specs.Lemmas.Faults.{where_none}
-use Rattle.inodes.proofs.Searching.{ready_of}
-use Rattle.inodes.proofs.StoreKeeps.{store_searched}
-use Rattle.inodes.proofs.StoreSteps.{answer_of, search_steps, store_then}
+use Rattle.inodes.specs.Lemmas.Grips.{kept_by_image}
+use Rattle.inodes.proofs.Gripping.{grip_is, grips_same, grips_set}
+use Rattle.inodes.proofs.Looking.{IsNow, Stepped, steps_stepped, store_stepped}
+use Rattle.inodes.proofs.LooksKept.{KeepsUsed}
+use Rattle.inodes.proofs.Searching.{ready_of, search as searching}
+use Rattle.inodes.proofs.StoreKeeps.{geometry_then, task_then}
+use Rattle.inodes.proofs.StoreSteps.{answer_of, apart_then, asleep_then, claims_then, fault_then, falls_then, files_then, goes_now, groups_after, held_then, keeps_now, looks_at_then, marks_now, no_inode_held, place_then, same_op, set_then, store_then, unclaimed_then, ungripped_then}
+
+-- nobody locks number 0
+zero_unlocked : (cur : Image) (t : TableState) (ts : List TaskState) → AreLooking cur t ts → (q k : ℕ) → grip_of (task ts q) ≡ Some (locked_grip k 0) → ⊥
+zero_unlocked cur t ts are q k has =
+    let number = are.table.numbers 0 k (are.table.places q (locked_grip k 0) (grip_is ts q ∙ has)).1 in
+    let low = ltb-true 0 0 (both_of (ltb 0 0) (ltb 0 t.inode_count) number).0 in
+    absurd (omega (arith, low))
+
+-- the files that a store stands for
+files_fit : {D : Type 0} (image : D → Image) (s : StoreState D) (looks : AreLooking (current_of image s.volume) s.table s.tasks) → FitsFiles image s looks.files.0
+unfolding FitsFiles
+files_fit image s looks = looks.files.1
 
 -- what a step of process p's search is asked of the store `now`, which is s
 module _ {D N : Type 0} (disk : Ghosts D N) (s now : StoreState D) (p : ℕ) (m : SearchState) (is : IsStore disk.image s) (view : s ≡ now)
@@ -37,16 +68,104 @@ module _ {D N : Type 0} (disk : Ghosts D N) (s now : StoreState D) (p : ℕ) (m 
   pub ready_now : MayStep disk.image s.volume p m
   ready_now = ready_of (disk.image s.volume.device) s.volume.buffers s.volume.log s.table.inode_count p s.tasks m (where_none s.volume.fault well is.agrees) lt stood joint is.geometry is.numbers
 
-  module _ (full : IfNone s.volume.fault (IsImage (current_of disk.image s.volume))) (u : VolumeState D) (new : SearchState) (r : Progress (Option ℕ)) (steps : SearchSteps disk m.slot s.volume u p m new r) where
-    pub store_now : IsStore disk.image (store_then s u p new r)
-    store_now = store_searched disk s u p m new r is well (where_none s.volume.fault well full) lt stood steps
+  looks : AreLooking (current_of disk.image s.volume) s.table s.tasks
+  looks = where_none s.volume.fault well is.looks
 
-    pub steps_now : (op : Op) → (task now.tasks p).op ≡ Some op → Steps disk now p op (answer_of r) (store_then s u p new r)
-    steps_now op asks =
-        let few = is.few in
+  agrees : Agrees s.volume.buffers s.volume.log s.table.inode_count s.tasks
+  agrees = where_none s.volume.fault well is.agrees
+
+  module _ (full : IfNone s.volume.fault (IsImage (current_of disk.image s.volume))) (u : VolumeState D) (new : SearchState) (r : Progress (Option ℕ)) (steps : SearchSteps disk m.slot s.volume u p m new r) where
+    abbrev t : StoreState D
+    t = store_then s u p new r
+
+    abbrev its : TaskState
+    its = record (task s.tasks p) { place = place_then r m new }
+
+    mine : IsSearching s.volume.buffers s.volume.log s.table.inode_count p (task s.tasks p).op m
+    mine = searching s.volume.buffers s.volume.buffers s.volume.log s.table.inode_count p s.tasks m agrees lt stood
+
+    few : m.kind ≤ 3
+    few = leb-true m.kind 3 (both_of (leb 1 m.kind) (leb m.kind 3) mine.kind).1
+
+    filled : IsImage (current_of disk.image s.volume)
+    filled = where_none s.volume.fault well full
+
+    pid : p < length s.volume.log.used
+    pid =
+        let many = is.few in
         let room = joint.log.pids in
         let under = lt in
+        omega (arith, under, many, room)
+
+    module _ (op : Op) (is_op : (task s.tasks p).op ≡ Some op) where
+      claimed_same : (j : ℕ) → claims_of t.tasks j ≡ claims_of s.tasks j
+      claimed_same j = claims_then s.tasks p m new r stood j
+
+      keeps : KeepsUsed s.table.inode_count 0 (claims_of s.tasks) (current_of disk.image s.volume) (current_of disk.image u)
+      keeps = keeps_now disk.image s t p m new op r agrees is.numbers lt stood is_op steps.current claimed_same is.geometry filled few m.slot looks.files.0 (files_fit disk.image s looks) steps.goes
+
+      here : fault_of_task (answer_of r) ≡ None → IsNow disk.image s t p its
+      here fine =
+          let now = task_then disk s.volume u s.table.inode_count p s.tasks m new r agrees lt stood steps (sym (fault_then r) ∙ fine) in
+          record {
+            others = now.others;
+            locks = now.locks;
+            stands = now.stands;
+            table = record {
+              table = subst (λ (gs : List (Option Grip)). TableIs s.table gs (current_of disk.image u))
+                  (sym (sym (grips_set s.tasks p its) ∙ grips_same s.tasks p its (ungripped_then (task s.tasks p) m new r stood)))
+                  (kept_by_image s.table (grips_of s.tasks) (current_of disk.image s.volume) (current_of disk.image u) looks.table keeps.inodes);
+              others = λ q k i apart has. record { number = λ j. refl; holder = refl; copy = refl };
+            };
+            looks = looks_at_then (current_of disk.image u) s.table its m new r;
+          }
+
+      stepped : Stepped disk s p 0 op (answer_of r) t its
+      stepped = record {
+        tasks = set_then s.tasks p m new r stood;
+        op = refl;
+        count = refl;
+        numbers = (geometry_then (current_of disk.image s.volume) (current_of disk.image u) s.volume.buffers m r new m.slot is.geometry filled (mine.count ∙ is.numbers) few steps.goes steps.current).1;
+        reads = record {
+          device = steps.device;
+          fault = steps.fault ∙ sym (fault_then r);
+          faults = steps.faults ∙ ap (λ (o : Option DiskFault). faults_after o (disk.fault_count s.volume.device)) (sym (fault_then r));
+        };
+        groups = subst (λ (l : LogState). SameGroups s.volume.log l) (sym steps.log) (groups_after s.volume.log p m.block r pid);
+        marks = marks_now disk.image s t p m new op r agrees is.numbers lt stood is_op steps.current claimed_same is.geometry filled few m.slot steps.goes;
+        files = files_then disk.image s t p m new op r agrees is.numbers lt stood is_op steps.current claimed_same m.slot steps.goes;
+        alone = λ q k apart has. zero_unlocked (current_of disk.image s.volume) s.table s.tasks looks q k has;
+        claims = λ j other. unclaimed_then s.tasks p m new r stood j;
+        keeps = keeps;
+        now = here;
+      }
+
+      store_searched : IsStore disk.image t
+      store_searched = store_stepped disk s p 0 op (answer_of r) t its is well lt stepped
+
+      search_steps : Steps disk s p op (answer_of r) t
+      search_steps = steps_stepped disk s p 0 op (answer_of r) t its is well lt stepped
+          (subst (λ (a : Place). Goes disk a s p op (answer_of r) t) (sym stood) (
+            subst (λ (a : Place). GoesFrom m.slot s.table.inode_count p m s.volume.buffers (answer_of r) a (shown_of disk.image s.volume) (shown_of disk.image u)) (sym placed)
+                (goes_now disk.image s t p m new op r agrees is.numbers lt stood is_op steps.current claimed_same is.geometry filled few m.slot steps.log steps.buffers steps.goes),
+            refl,
+          ))
+          (record {
+            sleeping = λ cause waits. asleep_then s u p new r steps.asleep cause waits;
+            held = λ waits. subst (λ (a : Place). IsHeldByAnother s p (block_at_place a)) (sym stood) (held_then s p m r agrees stood u.buffers new.slot steps.locks waits);
+            inode = λ waits. absurd (no_inode_held m.slot s.volume.buffers u.buffers p m.block new.slot r steps.locks waits);
+          })
+          (subst (λ (q : Op). LeavesReadings s p q (answer_of r)) (sym (same_op disk.image s t p m new op r agrees is.numbers lt stood is_op steps.current claimed_same)) (apart_then disk.image s p m new s.volume.buffers m.slot r looks steps.goes))
+          (λ made unfinished. subst (λ (a : Place). steps_left (place_then r m new) s.table.inode_count < steps_left a s.table.inode_count) (sym stood)
+          (falls_then s.table.inode_count m new (current_of disk.image s.volume) s.volume.buffers r mine.count mine.last steps.goes made))
+        where
+          placed : (task t.tasks p).place ≡ place_then r m new
+          placed = ap (λ (ts : List TaskState). (task ts p).place) (set_then s.tasks p m new r stood) ∙ ap (λ (o : TaskState). o.place) (get_or-set_same s.tasks p its no_task lt)
+
+    pub store_now : IsStore disk.image t
+    store_now = store_searched (Create m.kind) mine.op
+
+    pub steps_now : (op : Op) → (task now.tasks p).op ≡ Some op → Steps disk now p op (answer_of r) t
+    steps_now op asks =
         let same = subst (λ (o : StoreState D). (task o.tasks p).op ≡ Some op) (sym view) asks in
-        subst (λ (o : StoreState D). Steps disk o p op (answer_of r) (store_then s u p new r)) view
-        (search_steps disk s u p m new op r (where_none s.volume.fault well is.agrees) is.numbers lt stood same is.geometry (where_none s.volume.fault well full)
-        (where_none s.volume.fault well is.looks) (omega (arith, under, few, room)) steps)
+        subst (λ (o : StoreState D). Steps disk o p op (answer_of r) t) view (search_steps op same)

@@ -12,15 +12,17 @@ use Rattle.wal.specs.Held.{HasLock, LeavesLocks, GetsLock, GivesUpLock}
 use Rattle.wal.specs.Joint.{Joint, seen}
 use Rattle.wal.specs.Machine.{LogState, used_by}
 use Rattle.wal.specs.Lemmas.Held.{held_is}
+use Rattle.wal.specs.Lemmas.Rooms.{GrowsHomes}
 use Rattle.blockmap.specs.Getting.{HoldsWhereGot}
 use Rattle.inodes.specs.Ialloc.{SearchState}
 use Rattle.inodes.specs.declared.tasks.Place.{Place}
 use Rattle.inodes.specs.declared.tasks.Place.TheVariants as place
 use Rattle.inodes.specs.Ialloc.{IsReady, at_slot, at_next_block, is_last_block}
 use Rattle.inodes.specs.Tasks.{TaskState, task}
-use Rattle.inodes.specs.Places.{slot_at}
+use Rattle.inodes.specs.Places.{HasSlot}
 use Rattle.inodes.specs.Store.{IsSearching, HoldsAt, Stands, Agrees}
-use Rattle.inodes.proofs.Agreeing.{StaysForOthers, TaskIsNow}
+use Rattle.inodes.proofs.Agreeing.{StaysForOthers, TaskIsNow, stays_same}
+use Rattle.inodes.proofs.Getting.{stays_got}
 
 -- a call that leaves the locks, and then one that gives a lock up
 pub gives_up_then : (c d e : Buffers) (p i : ℕ) → LeavesLocks c d → GivesUpLock d e p i → GivesUpLock c e p i
@@ -36,18 +38,18 @@ module _ (c d : Buffers) (l : LogState) (n p : ℕ) (ts : List TaskState) (m : S
 
   -- what the process has, it has in the search's slot
   own : (o : Option ℕ) (b j : ℕ) → m.slot ≡ o → HasLock c p b j → o ≡ Some j
-  own o b j is has = sym is ∙ sym (ap slot_at stood) ∙ agrees.holders p b j has
+  own o b j is has = sym is ∙ subst (λ (a : Place). HasSlot a j) stood (agrees.holders p b j has)
+
+  -- it stays where it stands
+  pub task_waits : TaskIsNow c c l l n p ts (record (task ts p) { place = place.Creating m })
+  task_waits = record { agrees = agrees; inside = inside; others = stays_same c l p; stands = search; locks = λ b j has. own m.slot b j refl has }
 
   -- it got its block
   pub task_got : (i : ℕ) → m.slot ≡ None → GetsLock c d p m.block i → TaskIsNow c d l l n p ts (record (task ts p) { place = place.Creating (at_slot m i) })
   task_got i none gets = record {
     agrees = agrees;
     inside = inside;
-    others = record {
-      holds = λ q b j apart has. gets.held q b j has;
-      locks = λ q b j apart has. ⊎_elim (λ (was : HasLock c q b j). was) (λ mine. absurd (apart mine.0)) (gets.takes q b j has);
-      used = λ q apart. refl;
-    };
+    others = stays_got c d l p m.block i gets;
     stands = record { op = search.op; used = search.used; count = search.count; kind = search.kind; behind = search.behind; last = search.last; holds = gets.holds };
     locks = λ b j has. ⊎_elim
         (λ (was : HasLock c p b j). let no = own None b j none was in absurd (cc no))
@@ -63,11 +65,12 @@ module _ (c d : Buffers) (l : LogState) (n p : ℕ) (ts : List TaskState) (m : S
         let here : j ≡ i = cc same in
         absurd (gives.free p b (subst (λ (k : ℕ). HasLock d p b k) here has))
 
-    others : (k : LogState) → ((q : ℕ) → q ≢ p → used_by k q ≡ used_by l q) → StaysForOthers c d l k p
-    others k used = record {
+    others : (k : LogState) → GrowsHomes l k → ((q : ℕ) → q ≢ p → used_by k q ≡ used_by l q) → StaysForOthers c d l k p
+    others k grows used = record {
       holds = λ q b j apart has. gives.others q b j (inl apart) has;
       locks = λ q b j apart has. gives.none q b j has;
       used = used;
+      among = grows;
     }
 
     -- it goes on to the next block
@@ -78,17 +81,17 @@ module _ (c d : Buffers) (l : LogState) (n p : ℕ) (ts : List TaskState) (m : S
         record {
           agrees = agrees;
           inside = inside;
-          others = others l (λ q apart. refl);
+          others = others l (λ h among. among) (λ q apart. refl);
           stands = record { op = search.op; used = search.used; count = search.count; kind = search.kind; behind = omega (arith, search.behind); last = let low = search.last in omega (arith, low, other, same); holds = tt };
           locks = λ b j has. nothing b j has;
         }
 
     -- it is over
-    pub task_over : (k : LogState) → ((q : ℕ) → q ≢ p → used_by k q ≡ used_by l q) → TaskIsNow c d l k n p ts (record (task ts p) { place = place.Nowhere })
-    task_over k used = record {
+    pub task_over : (k : LogState) → GrowsHomes l k → ((q : ℕ) → q ≢ p → used_by k q ≡ used_by l q) → TaskIsNow c d l k n p ts (record (task ts p) { place = place.Nowhere })
+    task_over k grows used = record {
       agrees = agrees;
       inside = inside;
-      others = others k used;
+      others = others k grows used;
       stands = tt;
       locks = λ b j has. nothing b j has;
     }

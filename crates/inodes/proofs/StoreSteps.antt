@@ -1,11 +1,8 @@
 -- What a step of a search promises, of the store in which it is made.
-use Rattle.std.proofs.Common.{◌≡◌, ◌≢◌, ℕ, ◌+◌, ◌-◌, ◌*◌, ◌<◌, ◌≤◌, Bool, true, false, cond, leb, ltb, ⊎_elim, List, length, length-set, set, refl, sym, ◌∙◌, ap, subst, arith, Option, Some, None}
-use Rattle.std.specs.Prelude.{IsTrue, is_some}
-use Rattle.std.proofs.lemmas.Bool.{eqb-true, eqb-false, eq-eqb, ne_eqb, leb-true, ltb-true, cases_eq, false≢true}
-use Rattle.std.proofs.lemmas.List.{get_or-set_same, get_or-set_other}
+use Rattle.std.proofs.Common.{◌≡◌, ◌≢◌, ℕ, ◌+◌, ◌-◌, ◌*◌, ◌<◌, ◌≤◌, true, ltb, List, length, set, refl, sym, ◌∙◌, ap, subst, arith, Option, Some, None}
+use Rattle.std.specs.Prelude.{IsTrue}
+use Rattle.std.proofs.lemmas.Bool.{eqb-true, eqb-false, eq-eqb, ne_eqb, ltb-true, false≢true}
 use Rattle.blocks.specs.Disk.{Image, IsImage, block_at}
-use Rattle.blocks.specs.declared.disk.Disk.{Ghosts}
-use Rattle.blocks.specs.declared.errors.DiskFault.{DiskFault}
 use Rattle.bcache.specs.Buffers.{Buffers}
 use Rattle.model.specs.declared.types.operations.Op.{Op}
 use Rattle.model.specs.declared.types.operations.Op.TheVariants.{Create}
@@ -21,13 +18,15 @@ use Rattle.model.specs.Journal.{is_making, is_number}
 use Rattle.model.specs.Layout.{form_of, inode_block, inode_of, inode_count_of, HasNoFreeInode}
 use Rattle.model.specs.Lemmas.Log.{both_of}
 use Rattle.model.specs.Lemmas.Runs.{after-no_inode}
-use Rattle.model.specs.Lemmas.Soundness.{facts_of}
 use Rattle.model.specs.Soundness.{IsLawfulGeometry}
 use Rattle.loose.specs.Claims.{HasClaimed, with_new_file}
-use Rattle.loose.specs.Loose.{Fits}
-use Rattle.loose.specs.Lemmas.Claims.{claims, fits_claimed}
-use Rattle.wal.specs.Machine.{LogState, SameGroups, used_by, is_among, noted, appended, one_used}
-use Rattle.wal.specs.Volume.{VolumeState, faults_after}
+use Rattle.loose.specs.Held.{FitsHeld}
+use Rattle.loose.specs.Lemmas.Claims.{claims}
+use Rattle.loose.specs.Lemmas.HeldFrames.{held_alike}
+use Rattle.loose.specs.Lemmas.HeldLooks.{free_tells}
+use Rattle.loose.specs.Lemmas.WriteBacks.{claim_fits}
+use Rattle.wal.specs.Machine.{LogState, SameGroups}
+use Rattle.wal.specs.Volume.{VolumeState}
 use Rattle.inodes.specs.Ialloc.{SearchState}
 use Rattle.blockmap.specs.declared.progress.Progress.{Progress}
 use Rattle.blockmap.specs.declared.progress.Progress.TheVariants as search
@@ -36,17 +35,23 @@ use Rattle.model.specs.declared.types.operations.TaskProgress.TheVariants as pro
 use Rattle.inodes.specs.declared.tasks.Place.{Place}
 use Rattle.inodes.specs.declared.tasks.Place.TheVariants as place
 use Rattle.inodes.specs.Creation.{lowest_free}
-use Rattle.inodes.specs.Ialloc.{BuffersAfter, SearchSteps, SearchGoes, SearchLocks, IsFree, current_after, log_after, fault_in}
-use Rattle.inodes.specs.Tasks.{TaskState, task, no_task}
-use Rattle.inodes.specs.Goes.{Shown, shown_of, FindsNone, GetsBlock, LooksAtBlock, Goes, GoesFrom}
-use Rattle.inodes.specs.Looks.{AreLooking}
-use Rattle.inodes.specs.Places.{asked_by, block_at_place, looks_left, slot_at, steps_left}
+use Rattle.inodes.specs.Ialloc.{BuffersAfter, SearchGoes, SearchLocks, IsFree, current_after, log_after, fault_in}
+use Rattle.inodes.specs.Tasks.{TaskState, task}
+use Rattle.inodes.specs.Goes.{Shown, shown_of, FindsNone, GetsBlock, LooksAtBlock, GoesFrom}
+use Rattle.inodes.specs.Looks.{AreLooking, LooksAt}
+use Rattle.inodes.specs.Table.{TableState}
+use Rattle.inodes.specs.Holding.{claim_by, claims_of}
+use Rattle.inodes.specs.Lemmas.Holding.{claim_stays}
+use Rattle.inodes.specs.Places.{HasSlot, asked_by, grip_by, grip_of, looks_left, steps_left}
 use Rattle.inodes.specs.Store.{StoreState, FitsFiles, Agrees, IsSearching, current_of, reply_of}
 use Rattle.inodes.specs.Lemmas.Bounds.{some_step}
 use Rattle.inodes.specs.Lemmas.Looks.{reading_number, reading_used}
+use Rattle.inodes.proofs.Frames.{groups_noted, groups_same, marks_same, within_image}
+use Rattle.inodes.proofs.Gripping.{same_task}
+use Rattle.inodes.proofs.LooksKept.{KeepsUsed, keeps_claimed, keeps_same}
 use Rattle.inodes.proofs.Searching.{search as searching}
 use Rattle.model.specs.Tasks.{FilesThen, Answers, reply_at_turn, fault_of_task, Marks}
-use Rattle.inodes.specs.Steps.{Steps, IsHeldByAnother, LeavesNumber, LeavesReadings, is_made}
+use Rattle.inodes.specs.Steps.{IsHeldByAnother, LeavesNumber, LeavesReadings, is_made}
 
 -- what a store answers for what its search came to
 abbrev pub answer_of : Progress (Option ℕ) → TaskProgress
@@ -128,29 +133,11 @@ held_by : {D : Type 0} (s : StoreState D) (p : ℕ) (m : SearchState) (o : Optio
 held_by s p m None agrees stood none d slot waits = record {
   other = waits.0;
   slot = waits.1;
-  apart = λ same. let no : None ≡ Some waits.1 = sym (ap slot_at stood ∙ none) ∙ ap (λ (q : ℕ). slot_at (task s.tasks q).place) (sym same) ∙ agrees.holders waits.0 m.block waits.1 waits.2 in absurd (cc no);
+  apart = λ same. let got : m.slot ≡ Some waits.1 = subst (λ (a : Place). HasSlot a waits.1) stood (subst (λ (q : ℕ). HasSlot (task s.tasks q).place waits.1) same (agrees.holders waits.0 m.block waits.1 waits.2)) in let no : None ≡ Some waits.1 = sym none ∙ got in absurd (cc no);
   lock = waits.2;
   got = agrees.holders waits.0 m.block waits.1 waits.2;
 }
 held_by s p m (Some i) agrees stood got d slot waits = absurd waits
-
--- a number's inode block lies in the image
-pub within_image : (x : Image) (i : ℕ) → IsLawfulGeometry x → IsTrue (is_number (inode_count_of x) i) → inode_block i < length x
-within_image x i g number =
-    let f = facts_of x g in
-    let below = ltb-true i (inode_count_of x) (both_of (ltb 0 i) (ltb i (inode_count_of x)) number).1 in
-    let room = f.room in
-    let size = f.size in
-    omega arith
-
--- nothing is done to an image
-pub marks_same : (made : Option Reply) (x : Image) → ((i : ℕ) → is_making i made ≡ true → ⊥) → Marks made x x
-marks_same made x none = record {
-  size = refl;
-  untouched = record { boot = refl; super = refl; inode_zero = refl; inodes_past = λ i low high. refl; bits_past = λ b low high. refl };
-  others = λ i number other used. (used, refl);
-  fresh = λ i number makes. absurd (none i makes);
-}
 
 -- a number was claimed
 marks_claimed : (x y : Image) (i kind : ℕ) → HasClaimed x i kind y → Marks (Some (Made i)) x y
@@ -163,28 +150,7 @@ marks_claimed x y i kind claimed = record {
   fresh = λ j number makes. subst (λ (k : ℕ). labels_of y k ≡ (0, 0, 1)) (sym (eqb-true j i makes)) claimed.own_labels;
 }
 
--- the log has the same groups, whatever an operation logs
-groups_noted : (l : LogState) (p b : ℕ) → p < length l.used → SameGroups l (noted l p b)
-groups_noted l p b lt = by_home (is_among b l.homes)
-  where
-    one_more : (o : Option ℕ) → is_some (one_used o) ≡ is_some o
-    one_more None = refl
-    one_more (Some u) = refl
-
-    used : (q : ℕ) → is_some (used_by (appended l p b) q) ≡ is_some (used_by l q)
-    used q = ⊎_elim
-        (λ (same : q ≡ p). subst (λ (k : ℕ). is_some (used_by (appended l p b) k) ≡ is_some (used_by l k)) (sym same) (ap is_some (get_or-set_same l.used p (one_used (used_by l p)) None lt) ∙ one_more (used_by l p)))
-        (λ (apart : q ≢ p). ap is_some (get_or-set_other l.used p q (one_used (used_by l p)) None apart))
-        (cases_eq q p)
-
-    by_home : (t : Bool) → SameGroups l (cond t l (appended l p b))
-    by_home true = record { size = refl; outstanding = refl; opened = refl; committed = refl; commit = refl; used = λ q. refl }
-    by_home false = record { size = refl; outstanding = refl; opened = refl; committed = refl; commit = refl; used = used }
-
-pub groups_same : (l : LogState) → SameGroups l l
-groups_same l = record { size = refl; outstanding = refl; opened = refl; committed = refl; commit = refl; used = λ q. refl }
-
-groups_after : (l : LogState) (p b : ℕ) (r : Progress (Option ℕ)) → p < length l.used → SameGroups l (log_after l p b r)
+pub groups_after : (l : LogState) (p b : ℕ) (r : Progress (Option ℕ)) → p < length l.used → SameGroups l (log_after l p b r)
 groups_after l p b search.Moved lt = groups_same l
 groups_after l p b (search.Sleeping cause) lt = groups_same l
 groups_after l p b (search.Over None) lt = groups_same l
@@ -195,14 +161,14 @@ groups_after l p b (search.Fault fault) lt = groups_same l
 module _ {D : Type 0} (image : D → Image) (s t : StoreState D) (p : ℕ) (m new : SearchState) (op : Op) (r : Progress (Option ℕ))
     (agrees : Agrees s.volume.buffers s.volume.log s.table.inode_count s.tasks) (numbers : s.table.inode_count ≡ inode_count_of (current_of image s.volume)) (inside : p < length s.tasks)
     (stood : (task s.tasks p).place ≡ place.Creating m) (is_op : (task s.tasks p).op ≡ Some op)
-    (current : current_of image t.volume ≡ current_after (current_of image s.volume) m r) where
+    (current : current_of image t.volume ≡ current_after (current_of image s.volume) m r) (claimed_same : (j : ℕ) → claims_of t.tasks j ≡ claims_of s.tasks j) where
   abbrev cur : Image
   cur = current_of image s.volume
 
-  mine : IsSearching s.volume.buffers s.volume.log s.table.inode_count p (task s.tasks p).op m
+  pub mine : IsSearching s.volume.buffers s.volume.log s.table.inode_count p (task s.tasks p).op m
   mine = searching s.volume.buffers s.volume.buffers s.volume.log s.table.inode_count p s.tasks m agrees inside stood
 
-  same_op : op ≡ Create m.kind
+  pub same_op : op ≡ Create m.kind
   same_op = ap (λ (o : Option Op). elim o [ None ↦ Create m.kind | Some q ↦ q ]) (sym is_op ∙ mine.op)
 
   -- a free number may be named
@@ -211,14 +177,16 @@ module _ {D : Type 0} (image : D → Image) (s t : StoreState D) (p : ℕ) (m ne
 
   still : (files : Files) → current_of image t.volume ≡ cur → FitsFiles image s files → FitsFiles image t files
   unfolding FitsFiles
-  still files same fits = subst (λ (y : Image). Fits files y) (sym same) fits
+  still files same fits = subst (λ (y : Image). FitsHeld files y (claims_of t.tasks)) (sym same) (held_alike files cur (claims_of s.tasks) (claims_of t.tasks) claimed_same fits)
 
   claims_file : (files : Files) (i : ℕ) → IsFree cur m i → current_of image t.volume ≡ with_inode cur i (new_inode m.kind) → FitsFiles image s files
       → Answers (form_of cur) (Create m.kind) (Made i) files (FitsFiles image t)
   unfolding FitsFiles
   claims_file files i free now fits =
-      let done = fits_claimed files cur i m.kind fits (number_of i free) free.free mine.kind in
-      (with_new_file files i m.kind, done.1, subst (λ (y : Image). Fits (with_new_file files i m.kind) y) (sym now) done.0)
+      let none = (free_tells files cur (claims_of s.tasks) i fits (number_of i free, free.free)).0 in
+      let done = claim_fits files cur (claims_of s.tasks) i m.kind fits (number_of i free) none free.free mine.kind in
+      let new = with_new_file files i m.kind in
+      (new, done.1, subst (λ (y : Image). FitsHeld new y (claims_of t.tasks)) (sym now) (held_alike new (with_inode cur i (new_inode m.kind)) (claims_of s.tasks) (claims_of t.tasks) claimed_same done.0.fits))
 
   pub files_then : (o : Option ℕ) → SearchGoes o cur s.volume.buffers m r new → (files : Files) → FitsFiles image s files → FilesThen (form_of cur) op (answer_of r) files (FitsFiles image t)
   files_then o g files fits = subst (λ (q : Op). FilesThen (form_of cur) q (answer_of r) files (FitsFiles image t)) (sym same_op) (by_answer r o g current)
@@ -245,6 +213,30 @@ module _ {D : Type 0} (image : D → Image) (s t : StoreState D) (p : ℕ) (m ne
         → GoesFrom o s.table.inode_count p m s.volume.buffers (answer_of r) (place_then r m new) (shown_of image s.volume) (shown_of image t.volume)
     goes_now o log buffers g = goes_from image s.volume p s.table.inode_count m new (shown_of image t.volume) t.volume.buffers mine.count numbers o r (shows log) made buffers g
 
+    fits_held : (files : Files) → FitsFiles image s files → FitsHeld files cur (claims_of s.tasks)
+    unfolding FitsFiles
+    fits_held files fits = fits
+
+    -- the used numbers stay, and the blocks of data
+    pub keeps_now : (o : Option ℕ) → (files : Files) → FitsFiles image s files → SearchGoes o cur s.volume.buffers m r new → KeepsUsed s.table.inode_count 0 (claims_of s.tasks) cur (current_of image t.volume)
+    keeps_now o files fits g = by_answer r o g current
+      where
+        here : current_of image t.volume ≡ cur → KeepsUsed s.table.inode_count 0 (claims_of s.tasks) cur (current_of image t.volume)
+        here now = subst (λ (y : Image). KeepsUsed s.table.inode_count 0 (claims_of s.tasks) cur y) (sym now) (keeps_same s.table.inode_count 0 (claims_of s.tasks) cur)
+
+        new_one : (i : ℕ) → IsFree cur m i → current_of image t.volume ≡ with_inode cur i (new_inode m.kind) → KeepsUsed s.table.inode_count 0 (claims_of s.tasks) cur (current_of image t.volume)
+        new_one i free now = subst (λ (y : Image). KeepsUsed s.table.inode_count 0 (claims_of s.tasks) cur y) (sym now)
+            (subst (λ (n : ℕ). KeepsUsed n 0 (claims_of s.tasks) cur (with_inode cur i (new_inode m.kind))) (sym numbers)
+            (keeps_claimed files cur (claims_of s.tasks) i m.kind (fits_held files fits) (number_of i free) free.free mine.kind (claimed i free)))
+
+        by_answer : (r : Progress (Option ℕ)) (o : Option ℕ) → SearchGoes o cur s.volume.buffers m r new → current_of image t.volume ≡ current_after cur m r → KeepsUsed s.table.inode_count 0 (claims_of s.tasks) cur (current_of image t.volume)
+        by_answer search.Moved o g now = here now
+        by_answer (search.Sleeping cause) o g now = here now
+        by_answer (search.Over None) o g now = here now
+        by_answer (search.Over (Some i)) None g now = absurd g
+        by_answer (search.Over (Some i)) (Some k) g now = new_one i g.2 now
+        by_answer (search.Fault fault) o g now = here now
+
     pub marks_now : (o : Option ℕ) → SearchGoes o cur s.volume.buffers m r new → Marks (reply_at_turn (answer_of r)) cur (current_of image t.volume)
     marks_now o g = by_answer r o g current
       where
@@ -270,43 +262,57 @@ tasks_then ts p new (search.Fault fault) = ts
 abbrev pub store_then : {D : Type 0} → StoreState D → VolumeState D → ℕ → SearchState → Progress (Option ℕ) → StoreState D
 store_then s u p new r = record { volume = u; tasks = tasks_then s.tasks p new r; table = s.table }
 
-others_then : (ts : List TaskState) (p : ℕ) (new : SearchState) (r : Progress (Option ℕ)) (q : ℕ) → q ≢ p → task (tasks_then ts p new r) q ≡ task ts q
-others_then ts p new search.Moved q apart = get_or-set_other ts p q (record (task ts p) { place = place.Creating new }) no_task apart
-others_then ts p new (search.Sleeping cause) q apart = refl
-others_then ts p new (search.Over made) q apart = get_or-set_other ts p q (record (task ts p) { place = place.Nowhere }) no_task apart
-others_then ts p new (search.Fault fault) q apart = refl
+-- its task alone goes on
+pub set_then : (ts : List TaskState) (p : ℕ) (m new : SearchState) (r : Progress (Option ℕ)) → (task ts p).place ≡ place.Creating m → tasks_then ts p new r ≡ set ts p (record (task ts p) { place = place_then r m new })
+set_then ts p m new search.Moved stood = refl
+set_then ts p m new (search.Sleeping cause) stood = same_task ts p (place.Creating m) stood
+set_then ts p m new (search.Over made) stood = refl
+set_then ts p m new (search.Fault fault) stood = same_task ts p (place.Creating m) stood
 
-pub many_then : (ts : List TaskState) (p : ℕ) (new : SearchState) (r : Progress (Option ℕ)) → length (tasks_then ts p new r) ≡ length ts
-many_then ts p new search.Moved = length-set ts p (record (task ts p) { place = place.Creating new })
-many_then ts p new (search.Sleeping cause) = refl
-many_then ts p new (search.Over made) = length-set ts p (record (task ts p) { place = place.Nowhere })
-many_then ts p new (search.Fault fault) = refl
+-- a search holds no number
+pub unclaimed_then : (ts : List TaskState) (p : ℕ) (m new : SearchState) (r : Progress (Option ℕ)) → (task ts p).place ≡ place.Creating m → (j : ℕ) → claim_by (place_then r m new) j ≡ claim_by (task ts p).place j
+unclaimed_then ts p m new r stood j = by_answer r ∙ sym (ap (λ (a : Place). claim_by a j) stood)
+  where
+    by_answer : (r : Progress (Option ℕ)) → claim_by (place_then r m new) j ≡ None
+    by_answer search.Moved = refl
+    by_answer (search.Sleeping cause) = refl
+    by_answer (search.Over made) = refl
+    by_answer (search.Fault fault) = refl
 
-mine_then : (ts : List TaskState) (p : ℕ) (m new : SearchState) (r : Progress (Option ℕ)) → p < length ts → (task ts p).place ≡ place.Creating m
-    → ((task (tasks_then ts p new r) p).place ≡ place_then r m new) × ((task (tasks_then ts p new r) p).op ≡ (task ts p).op)
-mine_then ts p m new search.Moved lt stood =
-    let is = get_or-set_same ts p (record (task ts p) { place = place.Creating new }) no_task lt in
-    (ap (λ (t : TaskState). t.place) is, ap (λ (t : TaskState). t.op) is)
-mine_then ts p m new (search.Sleeping cause) lt stood = (stood, refl)
-mine_then ts p m new (search.Over made) lt stood =
-    let is = get_or-set_same ts p (record (task ts p) { place = place.Nowhere }) no_task lt in
-    (ap (λ (t : TaskState). t.place) is, ap (λ (t : TaskState). t.op) is)
-mine_then ts p m new (search.Fault fault) lt stood = (stood, refl)
+pub claims_then : (ts : List TaskState) (p : ℕ) (m new : SearchState) (r : Progress (Option ℕ)) → (task ts p).place ≡ place.Creating m → (j : ℕ) → claims_of (tasks_then ts p new r) j ≡ claims_of ts j
+claims_then ts p m new r stood j =
+    ap (λ (us : List TaskState). claims_of us j) (set_then ts p m new r stood) ∙ claim_stays ts p j (record (task ts p) { place = place_then r m new }) (unclaimed_then ts p m new r stood j)
 
-fault_then : (r : Progress (Option ℕ)) → fault_of_task (answer_of r) ≡ fault_in r
+-- and nothing of the table
+pub ungripped_then : (t : TaskState) (m new : SearchState) (r : Progress (Option ℕ)) → t.place ≡ place.Creating m → grip_of (record t { place = place_then r m new }) ≡ grip_of t
+ungripped_then t m new r stood = by_answer r ∙ sym (ap (λ (a : Place). grip_by a (asked_by t.op)) stood)
+  where
+    by_answer : (r : Progress (Option ℕ)) → grip_by (place_then r m new) (asked_by t.op) ≡ None
+    by_answer search.Moved = refl
+    by_answer (search.Sleeping cause) = refl
+    by_answer (search.Over made) = refl
+    by_answer (search.Fault fault) = refl
+
+pub looks_at_then : (x : Image) (table : TableState) (t : TaskState) (m new : SearchState) (r : Progress (Option ℕ)) → LooksAt x table t (place_then r m new)
+looks_at_then x table t m new search.Moved = tt
+looks_at_then x table t m new (search.Sleeping cause) = tt
+looks_at_then x table t m new (search.Over made) = tt
+looks_at_then x table t m new (search.Fault fault) = tt
+
+pub fault_then : (r : Progress (Option ℕ)) → fault_of_task (answer_of r) ≡ fault_in r
 fault_then search.Moved = refl
 fault_then (search.Sleeping cause) = refl
 fault_then (search.Over made) = refl
 fault_then (search.Fault fault) = refl
 
-asleep_then : {D : Type 0} (s : StoreState D) (u : VolumeState D) (p : ℕ) (new : SearchState) (r : Progress (Option ℕ)) → ((cause : Why) → r ≡ search.Sleeping cause → u ≡ s.volume)
+pub asleep_then : {D : Type 0} (s : StoreState D) (u : VolumeState D) (p : ℕ) (new : SearchState) (r : Progress (Option ℕ)) → ((cause : Why) → r ≡ search.Sleeping cause → u ≡ s.volume)
     → (cause : Why) → answer_of r ≡ progress.Sleeping cause → store_then s u p new r ≡ s
 asleep_then s u p new search.Moved same cause is = absurd (cc is)
 asleep_then s u p new (search.Sleeping other) same cause is = ap (λ (v : VolumeState _). record s { volume = v }) (same other refl)
 asleep_then s u p new (search.Over made) same cause is = absurd (cc is)
 asleep_then s u p new (search.Fault fault) same cause is = absurd (cc is)
 
-held_then : {D : Type 0} (s : StoreState D) (p : ℕ) (m : SearchState) (r : Progress (Option ℕ)) → Agrees s.volume.buffers s.volume.log s.table.inode_count s.tasks → (task s.tasks p).place ≡ place.Creating m
+pub held_then : {D : Type 0} (s : StoreState D) (p : ℕ) (m : SearchState) (r : Progress (Option ℕ)) → Agrees s.volume.buffers s.volume.log s.table.inode_count s.tasks → (task s.tasks p).place ≡ place.Creating m
     → (d : Buffers) (slot : Option ℕ) → SearchLocks m.slot r s.volume.buffers d p m.block slot → answer_of r ≡ progress.Sleeping why.BufferHeld → IsHeldByAnother s p m.block
 held_then s p m search.Moved agrees stood d slot locks is = absurd (cc is)
 held_then s p m (search.Sleeping cause) agrees stood d slot locks is =
@@ -315,14 +321,14 @@ held_then s p m (search.Sleeping cause) agrees stood d slot locks is =
 held_then s p m (search.Over made) agrees stood d slot locks is = absurd (cc is)
 held_then s p m (search.Fault fault) agrees stood d slot locks is = absurd (cc is)
 
-falls_then : (n : ℕ) (m new : SearchState) (cur : Image) (c : Buffers) (r : Progress (Option ℕ)) → m.inode_count ≡ n → m.block ≤ inode_block (n - 1) → SearchGoes m.slot cur c m r new → is_made (answer_of r) ≡ true → steps_left (place_then r m new) n < steps_left (place.Creating m) n
+pub falls_then : (n : ℕ) (m new : SearchState) (cur : Image) (c : Buffers) (r : Progress (Option ℕ)) → m.inode_count ≡ n → m.block ≤ inode_block (n - 1) → SearchGoes m.slot cur c m r new → is_made (answer_of r) ≡ true → steps_left (place_then r m new) n < steps_left (place.Creating m) n
 falls_then n m new cur c search.Moved count last g is = fewer m.slot n m new cur c refl count last g
 falls_then n m new cur c (search.Sleeping cause) count last g is = absurd (false≢true is)
 falls_then n m new cur c (search.Over made) count last g is = let some = some_step (place.Creating m) n refl in omega (arith, some)
 falls_then n m new cur c (search.Fault fault) count last g is = absurd (false≢true is)
 
 -- no search waits for an inode
-no_inode_held : (o : Option ℕ) (c d : Buffers) (p b : ℕ) (slot : Option ℕ) (r : Progress (Option ℕ)) → SearchLocks o r c d p b slot → answer_of r ≡ progress.Sleeping why.InodeHeld → ⊥
+pub no_inode_held : (o : Option ℕ) (c d : Buffers) (p b : ℕ) (slot : Option ℕ) (r : Progress (Option ℕ)) → SearchLocks o r c d p b slot → answer_of r ≡ progress.Sleeping why.InodeHeld → ⊥
 no_inode_held o c d p b slot search.Moved locks is = cc is
 no_inode_held o c d p b slot (search.Sleeping cause) locks is = waits o (subst (λ (w : Why). SearchLocks o (search.Sleeping w) c d p b slot) (let same : cause ≡ why.InodeHeld = cc is in same) locks)
   where
@@ -333,7 +339,7 @@ no_inode_held o c d p b slot (search.Over made) locks is = cc is
 no_inode_held o c d p b slot (search.Fault fault) locks is = cc is
 
 -- a creation's number is no reading's: that of a creation is 0, and what it makes was free
-apart_then : {D : Type 0} (image : D → Image) (s : StoreState D) (p : ℕ) (m new : SearchState) (c : Buffers) (o : Option ℕ) (r : Progress (Option ℕ)) → AreLooking (current_of image s.volume) s.table s.tasks
+pub apart_then : {D : Type 0} (image : D → Image) (s : StoreState D) (p : ℕ) (m new : SearchState) (c : Buffers) (o : Option ℕ) (r : Progress (Option ℕ)) → AreLooking (current_of image s.volume) s.table s.tasks
     → SearchGoes o (current_of image s.volume) c m r new → LeavesReadings s p (Create m.kind) (answer_of r)
 apart_then image s p m new c o r looks goes q apart reads = by_answer r o goes
   where
@@ -356,45 +362,3 @@ apart_then image s p m new c o r looks goes q apart reads = by_answer r o goes
     by_answer (search.Over (Some i)) None goes = absurd goes
     by_answer (search.Over (Some i)) (Some k) goes = (named, ne_eqb number i (taken i goes.2.free))
     by_answer (search.Fault fault) o goes = tt
-
--- THE STEP: what a store promises of a step of its search
-pub search_steps : {D N : Type 0} (disk : Ghosts D N) (s : StoreState D) (u : VolumeState D) (p : ℕ) (m new : SearchState) (op : Op) (r : Progress (Option ℕ))
-    → Agrees s.volume.buffers s.volume.log s.table.inode_count s.tasks → s.table.inode_count ≡ inode_count_of (current_of disk.image s.volume) → p < length s.tasks
-    → (task s.tasks p).place ≡ place.Creating m → (task s.tasks p).op ≡ Some op → IsLawfulGeometry (current_of disk.image s.volume) → IsImage (current_of disk.image s.volume)
-    → AreLooking (current_of disk.image s.volume) s.table s.tasks → p < length s.volume.log.used → SearchSteps disk m.slot s.volume u p m new r
-    → Steps disk s p op (answer_of r) (store_then s u p new r)
-search_steps disk s u p m new op r agrees numbers inside stood is_op geometry full looks pid steps =
-    let t = store_then s u p new r in
-    let cur = current_of disk.image s.volume in
-    let mine = searching s.volume.buffers s.volume.buffers s.volume.log s.table.inode_count p s.tasks m agrees inside stood in
-    let now = mine_then s.tasks p m new r inside stood in
-    let few = leb-true m.kind 3 (both_of (leb 1 m.kind) (leb m.kind 3) mine.kind).1 in
-    record {
-      files = files_then disk.image s t p m new op r agrees numbers inside stood is_op steps.current m.slot steps.goes;
-      goes = subst (λ (a : Place). Goes disk a s p op (answer_of r) t) (sym stood) (
-        subst (λ (a : Place). GoesFrom m.slot s.table.inode_count p m s.volume.buffers (answer_of r) a (shown_of disk.image s.volume) (shown_of disk.image u)) (sym now.0)
-            (goes_now disk.image s t p m new op r agrees numbers inside stood is_op steps.current geometry full few m.slot steps.log steps.buffers steps.goes),
-        refl,
-      );
-      tasks = record {
-        op_stays = now.1;
-        others = λ q apart. others_then s.tasks p new r q apart;
-        many = many_then s.tasks p new r;
-        numbers = refl;
-      };
-      groups = subst (λ (l : LogState). SameGroups s.volume.log l) (sym steps.log) (groups_after s.volume.log p m.block r pid);
-      marks = marks_now disk.image s t p m new op r agrees numbers inside stood is_op steps.current geometry full few m.slot steps.goes;
-      waits = record {
-        sleeping = λ cause is. asleep_then s u p new r steps.asleep cause is;
-        held = λ is. subst (λ (a : Place). IsHeldByAnother s p (block_at_place a)) (sym stood) (held_then s p m r agrees stood u.buffers new.slot steps.locks is);
-        inode = λ is. absurd (no_inode_held m.slot s.volume.buffers u.buffers p m.block new.slot r steps.locks is);
-      };
-      reads = record {
-        device = steps.device;
-        fault = steps.fault ∙ sym (fault_then r);
-        faults = steps.faults ∙ ap (λ (o : Option DiskFault). faults_after o (disk.fault_count s.volume.device)) (sym (fault_then r));
-      };
-      apart = subst (λ (q : Op). LeavesReadings s p q (answer_of r)) (sym (same_op disk.image s t p m new op r agrees numbers inside stood is_op steps.current)) (apart_then disk.image s p m new s.volume.buffers m.slot r looks steps.goes);
-      falls = λ is unfinished. subst (λ (a : Place). steps_left (task t.tasks p).place s.table.inode_count < steps_left a s.table.inode_count) (sym stood)
-          (subst (λ (a : Place). steps_left a s.table.inode_count < steps_left (place.Creating m) s.table.inode_count) (sym now.0) (falls_then s.table.inode_count m new cur s.volume.buffers r mine.count mine.last steps.goes is));
-    }

@@ -1,6 +1,7 @@
--- An operation that looks at a file takes its inode.
-use Rattle.std.proofs.Common.{◌≡◌, ℕ, ◌<◌, true, false, length, length-set, set, refl, sym, ◌∙◌, ap, subst, arith, Option, Some, None}
+-- An operation takes its inode.
+use Rattle.std.proofs.Common.{◌≡◌, ℕ, ◌<◌, true, false, ltb, length, length-set, List, set, refl, sym, ◌∙◌, ap, subst, arith, Option, Some, None}
 use Rattle.std.specs.Prelude.{IsTrue}
+use Rattle.std.proofs.lemmas.Bool.{false≢true}
 use Rattle.blocks.specs.Disk.{Image}
 use Rattle.blocks.specs.declared.disk.Disk.{Ghosts}
 use Rattle.model.specs.declared.types.operations.Op.{Op}
@@ -20,24 +21,54 @@ use Rattle.inodes.specs.Ilock.{MayLock, MayLockAt}
 use Rattle.inodes.specs.Lemmas.Faults.{where_none, if_none}
 use Rattle.inodes.specs.Lemmas.Grips.{has_place_for_each}
 use Rattle.inodes.specs.LockState.{LockState, slot_of}
-use Rattle.inodes.specs.Looks.{AreLooking, CanLook, HasRoom, IsTaking, LooksAt}
-use Rattle.inodes.specs.Places.{asked, asked_by, slot_at, grip_at, grip_by, grips_of}
-use Rattle.inodes.specs.Store.{StoreState, IsStore, HoldsAt, Stands, Agrees, current_of}
+use Rattle.inodes.specs.Looks.{AreLooking, CanLook, CanTake, HasRoom, IsTaking, LooksAt}
+use Rattle.inodes.specs.Places.{asked, asked_by, HasSlot, grip_at, grip_by, grip_of, grips_of}
+use Rattle.inodes.specs.Store.{StoreState, IsStore, FitsFiles, HoldsAt, IsOpenFor, Stands, Agrees, current_of}
+use Rattle.inodes.specs.Table.{TableState}
 use Rattle.inodes.specs.Tasks.{TaskState, task}
+use Rattle.inodes.specs.Holding.{claim_by, claims_of}
+use Rattle.inodes.specs.Lemmas.Holding.{claim_stays}
+use Rattle.loose.specs.Lemmas.HeldFrames.{held_alike}
+use Rattle.model.specs.Files.{Files}
+use Rattle.model.specs.Lemmas.Log.{both_of}
+use Rattle.wal.specs.Machine.{LogState}
 use Rattle.inodes.proofs.Agreeing.{agrees_now, stays_same}
 use Rattle.inodes.proofs.Gripping.{grip_is}
 use Rattle.inodes.proofs.LooksKept.{looks_set}
 use Rattle.inodes.proofs.Searching.{where_got}
-use Rattle.inodes.proofs.StoreSteps.{within_image}
+use Rattle.inodes.proofs.Frames.{within_image}
 
--- the number of an operation that looks is one that operations may name
-pub number_of_look : (n : ℕ) (op : Op) → CanLook n op → IsTrue (is_number n (asked op))
-number_of_look n (Create kind) can = absurd can
-number_of_look n (Write i off bytes) can = absurd can
-number_of_look n (Read i off count) can = can.0
-number_of_look n (Trunc i) can = absurd can
-number_of_look n (Remove i) can = absurd can
-number_of_look n (Stat i) can = can
+-- the number of an operation that takes its inode is one that operations may name
+pub number_of_take : (n : ℕ) (op : Op) → CanTake n op → IsTrue (is_number n (asked op))
+number_of_take n (Create kind) can = absurd can
+number_of_take n (Write i off bytes) can = absurd can
+number_of_take n (Read i off count) can = can.0
+number_of_take n (Trunc i) can = can
+number_of_take n (Remove i) can = can
+number_of_take n (Stat i) can = can
+
+-- one that looks at a file takes its inode, and needs nothing open in the log
+pub look_takes : (n : ℕ) (op : Op) → CanLook n op → CanTake n op
+look_takes n (Create kind) can = absurd can
+look_takes n (Write i off bytes) can = absurd can
+look_takes n (Read i off count) can = can
+look_takes n (Trunc i) can = absurd can
+look_takes n (Remove i) can = absurd can
+look_takes n (Stat i) can = can
+
+look_open : (l : LogState) (p n : ℕ) (op : Op) → CanLook n op → IsOpenFor l p (Some op)
+look_open l p n (Create kind) can = absurd can
+look_open l p n (Write i off bytes) can = absurd can
+look_open l p n (Read i off count) can = tt
+look_open l p n (Trunc i) can = absurd can
+look_open l p n (Remove i) can = absurd can
+look_open l p n (Stat i) can = tt
+
+-- nobody has locked number 0
+pub none_of_zero : (cur : Image) (t : TableState) (ts : List TaskState) → AreLooking cur t ts → (q k : ℕ) → grip_of (task ts q) ≡ Some (locked_grip k 0) → ⊥
+none_of_zero cur t ts are q k has =
+    let at = are.table.places q (locked_grip k 0) (grip_is ts q ∙ has) in
+    false≢true (both_of (ltb 0 0) (ltb 0 t.inode_count) (are.table.numbers 0 k at.1)).0
 
 -- in a store whose process p takes its inode
 module _ {D N : Type 0} (disk : Ghosts D N) (s : StoreState D) (p : ℕ) (op : Op) (m : LockState) (is : IsStore disk.image s) (well : s.volume.fault ≡ None)
@@ -57,14 +88,14 @@ module _ {D N : Type 0} (disk : Ghosts D N) (s : StoreState D) (p : ℕ) (op : O
   pub same_op : taking.op ≡ op
   same_op = let both : Some taking.op ≡ Some op = sym taking.is ∙ is_op in cc both
 
-  pub look : CanLook s.table.inode_count op
-  look = subst (CanLook s.table.inode_count) same_op taking.look
+  pub can_take : CanTake s.table.inode_count op
+  can_take = subst (CanTake s.table.inode_count) same_op taking.can
 
   pub number : m.number ≡ asked op
   number = taking.number ∙ ap asked same_op
 
   pub may_name : IsTrue (is_number s.table.inode_count m.number)
-  may_name = subst (λ (i : ℕ). IsTrue (is_number s.table.inode_count i)) (sym number) (number_of_look s.table.inode_count op look)
+  may_name = subst (λ (i : ℕ). IsTrue (is_number s.table.inode_count i)) (sym number) (number_of_take s.table.inode_count op can_take)
 
   -- the image says so too
   pub may_name_now : IsTrue (is_number (inode_count_of cur) m.number)
@@ -73,11 +104,18 @@ module _ {D N : Type 0} (disk : Ghosts D N) (s : StoreState D) (p : ℕ) (op : O
   pub has : grip (grips_of s.tasks) p ≡ grip_at m.at m.number
   has = grip_is s.tasks p ∙ ap (λ (a : Place). grip_by a (asked_by (task s.tasks p).op)) stood
 
-  pub holds : HoldsAt s.volume.buffers p (inode_block m.number) (slot_of m.at)
-  holds = subst (λ (a : Place). Stands s.volume.buffers s.volume.log s.table.inode_count p (task s.tasks p).op a) stood (agrees.stands p)
+  stands : HoldsAt s.volume.buffers p (inode_block m.number) (slot_of m.at) × IsOpenFor s.volume.log p (task s.tasks p).op
+  stands = subst (λ (a : Place). Stands s.volume.buffers s.volume.log s.table.inode_count p (task s.tasks p).op a) stood (agrees.stands p)
 
-  pub slot_is : slot_at (task s.tasks p).place ≡ slot_of m.at
-  slot_is = ap slot_at stood
+  pub holds : HoldsAt s.volume.buffers p (inode_block m.number) (slot_of m.at)
+  holds = stands.0
+
+  -- a changing operation is open in the log
+  pub is_open : IsOpenFor s.volume.log p (task s.tasks p).op
+  is_open = stands.1
+
+  pub slot_is : (i : ℕ) → HasSlot (task s.tasks p).place i → slot_of m.at ≡ Some i
+  slot_is i got = subst (λ (a : Place). HasSlot a i) stood got
 
   module _ (joint : Joint (disk.image s.volume.device) s.volume.buffers s.volume.log) where
     within : inode_block m.number < s.volume.log.size
@@ -107,7 +145,10 @@ module _ {D N : Type 0} (disk : Ghosts D N) (s : StoreState D) (p : ℕ) (op : O
 abbrev pub look_task : Op → Option GatheredBytes → TaskState
 look_task op room = record { op = Some op; place = place.Taking (record { number = asked op; at = lock_at.Reference }); gathered = room }
 
--- such a task begins
+-- such a task begins: it holds no number, as none did before
+nothing_claimed : (ts : List TaskState) (p : ℕ) (op : Op) (room : Option GatheredBytes) → (task ts p).place ≡ place.Nowhere → (j : ℕ) → claim_by (look_task op room).place j ≡ claim_by (task ts p).place j
+nothing_claimed ts p op room stood j = sym (ap (λ (a : Place). claim_by a j) stood)
+
 pub store_looks : {D : Type 0} (image : D → Image) (s : StoreState D) (p : ℕ) (op : Op) (room : Option GatheredBytes) → IsStore image s → s.volume.fault ≡ None → p < length s.tasks → (task s.tasks p).place ≡ place.Nowhere
     → CanLook s.table.inode_count op → HasRoom op room → IsStore image (record s { tasks = set s.tasks p (look_task op room) })
 store_looks image s p op room is well inside stood can has = record {
@@ -118,9 +159,16 @@ store_looks image s p op room is well inside stood can has = record {
     agrees = where_none s.volume.fault well is.agrees;
     inside = inside;
     others = stays_same s.volume.buffers s.volume.log p;
-    stands = tt;
-    locks = λ b i lock. sym (ap slot_at stood) ∙ (where_none s.volume.fault well is.agrees).holders p b i lock;
+    stands = (tt, look_open s.volume.log p s.table.inode_count op can);
+    locks = λ b i lock. subst (λ (a : Place). HasSlot a i) stood ((where_none s.volume.fault well is.agrees).holders p b i lock);
   }));
   looks = if_none s.volume.fault (looks_set (current_of image s.volume) s.table s.tasks p (look_task op room) (where_none s.volume.fault well is.looks) inside (sym (ap (λ (a : Place). grip_by a (asked_by (task s.tasks p).op)) stood))
-      (record { op = op; is = refl; look = can; number = refl; room = has }));
+      (record { op = op; is = refl; can = look_takes s.table.inode_count op can; number = refl; room = has })
+      (nothing_claimed s.tasks p op room stood));
 }
+
+-- and the files are the same
+pub files_look : {D : Type 0} (image : D → Image) (s : StoreState D) (p : ℕ) (op : Op) (room : Option GatheredBytes) → (task s.tasks p).place ≡ place.Nowhere → (files : Files) → FitsFiles image s files
+    → FitsFiles image (record s { tasks = set s.tasks p (look_task op room) }) files
+unfolding FitsFiles
+files_look image s p op room stood files fits = held_alike files (current_of image s.volume) (claims_of s.tasks) (claims_of (set s.tasks p (look_task op room))) (λ j. claim_stays s.tasks p j (look_task op room) (nothing_claimed s.tasks p op room stood j)) fits

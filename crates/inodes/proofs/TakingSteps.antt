@@ -7,13 +7,13 @@ use Rattle.blocks.specs.declared.disk.Disk.{Ghosts}
 use Rattle.model.specs.declared.types.image.Dinode.{Dinode}
 use Rattle.model.specs.declared.types.operations.Op.{Op}
 use Rattle.model.specs.declared.types.operations.Reply.{Reply}
-use Rattle.model.specs.declared.types.operations.TaskProgress.{TaskProgress}
 use Rattle.model.specs.declared.types.operations.TaskProgress.TheVariants as progress
 use Rattle.model.specs.declared.types.operations.Why.{Why}
 use Rattle.model.specs.declared.types.operations.Why.TheVariants as why
 use Rattle.model.specs.Files.{Files}
 use Rattle.model.specs.Journal.{is_making}
 use Rattle.model.specs.Layout.{form_of, inode_block, inode_of}
+use Rattle.model.specs.Lemmas.Soundness.{facts_of}
 use Rattle.model.specs.Tasks.{FilesThen, reply_at_turn}
 use Rattle.wal.specs.Held.{HasLock, LocksAfter, WaitsFor}
 use Rattle.wal.specs.Joint.{Joint}
@@ -28,27 +28,27 @@ use Rattle.inodes.specs.declared.ilock.LockAt.{LockAt}
 use Rattle.inodes.specs.declared.ilock.LockAt.TheVariants as lock_at
 use Rattle.inodes.specs.declared.tasks.Place.{Place}
 use Rattle.inodes.specs.declared.tasks.Place.TheVariants as place
-use Rattle.inodes.specs.Goes.{Goes, progress_of_lock, place_of_lock}
+use Rattle.inodes.specs.Goes.{Goes, ShowsSame, progress_of_lock, place_of_lock}
 use Rattle.inodes.specs.Grips.{Grip, KeepsTable, TableIs, grip, locked_grip, unlocked_grip, with_grip}
 use Rattle.inodes.specs.Ilock.{LockSteps, Locks, ReadsInode, at_lock}
-use Rattle.inodes.specs.Lemmas.Grips.{kept_by_refer, kept_by_lock, kept_by_read, locks_exclude, holder_is_another}
+use Rattle.inodes.specs.Lemmas.Grips.{kept_by_refer, kept_by_lock, kept_by_renew, locks_exclude, holder_is_another}
 use Rattle.inodes.specs.LockState.{LockState, place_of, slot_of, locks_left}
 use Rattle.inodes.specs.Looks.{LooksAt, IsTaking}
-use Rattle.inodes.specs.Places.{asked, asked_by, is_reading, slot_at, block_at_place, grip_at, grip_by, grip_of, grips_of, steps_left}
+use Rattle.inodes.specs.Places.{asked, asked_by, is_reading, HasSlot, block_at_place, grip_at, grip_by, grip_of, grips_of, steps_left}
 use Rattle.inodes.specs.Steps.{Steps, Waits, LeavesReadings, LeavesNumber, IsHeldByAnother, IsInodeHeld, is_made}
-use Rattle.inodes.specs.Store.{StoreState, IsStore, FitsFiles, HoldsAt, current_of}
+use Rattle.inodes.specs.Store.{StoreState, IsStore, FitsFiles, HoldsAt, IsOpenFor, Stands, current_of}
 use Rattle.inodes.specs.declared.table.InMemory.{InMemory}
 use Rattle.inodes.specs.Table.{TableState, entry_at, is_of, holder_at, copy_at, copy_in, place_for, with_holder, with_copy, referred, locked, kept}
 use Rattle.inodes.specs.Tasks.{TaskState, task, no_task}
 use Rattle.inodes.specs.Turning.{IsReadable, if_used, reply_when_taken, place_when_taken}
-use Rattle.inodes.specs.Ialloc.{SearchState}
 use Rattle.inodes.specs.Lemmas.Looks.{reading_locks}
 use Rattle.inodes.proofs.Agreeing.{StaysForOthers}
 use Rattle.inodes.proofs.Getting.{HasOne, has_same, has_left, reads_none, reads_got, shows_got, sleeps_got, held_got, has_then}
 use Rattle.inodes.proofs.Gripping.{grip_is}
-use Rattle.inodes.proofs.Looking.{Looked, files_same, store_looked, steps_looked}
-use Rattle.inodes.proofs.Taking.{agrees, looking, taking, look, number, has, slot_is, may_name}
-use Rattle.inodes.proofs.Turning.{readable, makes_none, grip_at_turn, slot_at_turn, left_at_turn, stands_free, files_at_turn, looks_at_turn}
+use Rattle.inodes.proofs.Looking.{Looked, Stepped, files_same, stepped_looked, store_stepped, steps_stepped}
+use Rattle.inodes.specs.Holding.{claim_by}
+use Rattle.inodes.proofs.Taking.{agrees, looking, taking, can_take, number, has, slot_is, is_open, may_name, none_of_zero}
+use Rattle.inodes.proofs.Turning.{readable, makes_none, grip_at_turn, claims_at_turn, left_at_turn, stands_at_turn, files_at_turn, looks_at_turn}
 
 module _ {D N : Type 0} (disk : Ghosts D N) (s : StoreState D) (p : ℕ) (op : Op) (m : LockState) (is : IsStore disk.image s) (well : s.volume.fault ≡ None) (inside : p < length s.tasks)
     (stood : (task s.tasks p).place ≡ place.Taking m) (is_op : (task s.tasks p).op ≡ Some op) (joint : Joint (disk.image s.volume.device) s.volume.buffers s.volume.log) where
@@ -60,18 +60,19 @@ module _ {D N : Type 0} (disk : Ghosts D N) (s : StoreState D) (p : ℕ) (op : O
 
   -- its task then
   abbrev pub task_then : LockState → Progress Bool → TaskState
-  task_then n q = record (task s.tasks p) { place = place_of_lock inode op m n q }
+  task_then n q = record (task s.tasks p) { place = place_of_lock s.table.inode_count inode op m n q }
 
   abbrev pub store_then : VolumeState D → List TaskState → TableState → StoreState D
   store_then w ts tab = record { volume = w; tasks = ts; table = tab }
 
   -- what a step makes of the store, beside where it goes
   pub record Made (q : Progress Bool) (n : LockState) (w : VolumeState D) (tab : TableState) (ts : List TaskState) : Type 0 where
-    pub looked : Looked disk s p (progress_of_lock inode op q) (store_then w ts tab) (task_then n q)
-    pub files : (files : Files) → FitsFiles disk.image s files → FilesThen (form_of cur) op (progress_of_lock inode op q) files (FitsFiles disk.image (store_then w ts tab))
+    pub about : ℕ
+    pub stepped : Stepped disk s p about op (progress_of_lock inode op q) (store_then w ts tab) (task_then n q)
+    pub shown : ShowsSame disk.image s (store_then w ts tab)
     pub waits : Waits s p (progress_of_lock inode op q) (store_then w ts tab)
     pub apart : LeavesReadings s p op (progress_of_lock inode op q)
-    pub falls : is_made (progress_of_lock inode op q) ≡ true → steps_left (place_of_lock inode op m n q) s.table.inode_count < locks_left m.at + 17
+    pub falls : is_made (progress_of_lock inode op q) ≡ true → steps_left (place_of_lock s.table.inode_count inode op m n q) s.table.inode_count < locks_left m.at + 543
 
   abbrev pub Makes : Progress Bool → LockState → VolumeState D → TableState → Type 0
   Makes q n w tab = (ts : List TaskState) → ts ≡ set s.tasks p (task_then n q) → Made q n w tab ts
@@ -91,15 +92,27 @@ module _ {D N : Type 0} (disk : Ghosts D N) (s : StoreState D) (p : ℕ) (op : O
       asleep : (cause : Why) → progress_of_lock inode op q ≡ progress.Sleeping cause → ⊥
       asleep cause waits = false≢true (sym (ap is_made waits) ∙ made)
 
-  own_slot : slot_at (task s.tasks p).place ≡ slot_of m.at
-  own_slot = slot_is disk s p op m is well stood is_op
+  own_slot : (o : Option ℕ) → slot_of m.at ≡ o → (i : ℕ) → HasSlot (task s.tasks p).place i → o ≡ Some i
+  own_slot o at i got = sym at ∙ slot_is disk s p op m is well stood is_op i got
+
+  -- the operation is open in the log as before
+  still_open : (l : LogState) → l ≡ s.volume.log → IsOpenFor l p (task s.tasks p).op
+  still_open l same = subst (λ (k : LogState). IsOpenFor k p (task s.tasks p).op) (sym same) (is_open disk s p op m is well stood is_op)
+
+  -- nobody has locked number 0
+  nobody : (q k : ℕ) → q ≢ p → grip_of (task s.tasks q) ≡ Some (locked_grip k 0) → ⊥
+  nobody q k apart locks = none_of_zero cur s.table s.tasks (looking disk s p op m is well stood is_op) q k locks
+
+  -- who takes its inode holds nothing
+  holds_nothing : (j : ℕ) → None ≡ claim_by (task s.tasks p).place j
+  holds_nothing j = sym (ap (λ (a : Place). claim_by a j) stood)
 
   grip_now : (a : LockAt) → m.at ≡ a → grip (grips_of s.tasks) p ≡ grip_at a m.number
   grip_now a at = has disk s p op m is well stood is_op ∙ ap (λ (b : LockAt). grip_at b m.number) at
 
   -- it takes its inode still
   still_taking : (n : LockState) → n.number ≡ m.number → IsTaking s.table.inode_count (record (task s.tasks p) { place = place.Taking n }) n
-  still_taking n same = let t = taking disk s p op m is well stood is_op in record { op = t.op; is = t.is; look = t.look; number = same ∙ t.number; room = t.room }
+  still_taking n same = let t = taking disk s p op m is well stood is_op in record { op = t.op; is = t.is; can = t.can; number = same ∙ t.number; room = t.room }
 
   few : p < length (grips_of s.tasks)
   few = subst (λ (n : ℕ). p < n) (sym (length-map s.tasks grip_of)) inside
@@ -109,17 +122,45 @@ module _ {D N : Type 0} (disk : Ghosts D N) (s : StoreState D) (p : ℕ) (op : O
 
   -- no buffer is touched by who has none
   has_none : slot_of m.at ≡ None → HasOne s.volume.buffers s.volume.buffers s.volume.log p (inode_block m.number) None
-  has_none none = has_same s.volume.buffers s.volume.log s.table.inode_count p s.tasks (agrees disk s p op m is well stood is_op) (inode_block m.number) None (own_slot ∙ none) tt
+  has_none none = has_same s.volume.buffers s.volume.log s.table.inode_count p s.tasks (agrees disk s p op m is well stood is_op) (inode_block m.number) None (own_slot None none) tt
+
+  -- a step makes no number
+  makes_never : (q : Progress Bool) (i : ℕ) → is_making i (reply_at_turn (progress_of_lock inode op q)) ≡ true → ⊥
+  makes_never machine.Moved i makes = absurd (cc makes)
+  makes_never (machine.Sleeping cause) i makes = absurd (cc makes)
+  makes_never (machine.Over used) i makes = makes_none inode op used i makes
+  makes_never (machine.Fault fault) i makes = absurd (cc makes)
+
+  -- where it has no turn, the files stay, and it holds nothing still
+  files_by : (q : Progress Bool) → ((used : Bool) → q ≡ machine.Over used → ⊥) → (files : Files) (t : StoreState D) → FitsFiles disk.image t files → FilesThen (form_of cur) op (progress_of_lock inode op q) files (FitsFiles disk.image t)
+  files_by machine.Moved never files t fits = fits
+  files_by (machine.Sleeping cause) never files t fits = fits
+  files_by (machine.Over used) never files t fits = absurd (never used refl)
+  files_by (machine.Fault fault) never files t fits = fits
+
+  holds_still : (q : Progress Bool) (n : LockState) → ((used : Bool) → q ≡ machine.Over used → ⊥) → (j : ℕ) → claim_by (task_then n q).place j ≡ claim_by (task s.tasks p).place j
+  holds_still machine.Moved n never j = holds_nothing j
+  holds_still (machine.Sleeping cause) n never j = holds_nothing j
+  holds_still (machine.Over used) n never j = absurd (never used refl)
+  holds_still (machine.Fault fault) n never j = holds_nothing j
+
+  abbrev LookedNow : Progress Bool → LockState → VolumeState D → TableState → List TaskState → Type 0
+  LookedNow q n w tab ts = Looked disk s p 0 (progress_of_lock inode op q) (store_then w ts tab) (task_then n q)
+
+  stepped_on : (q : Progress Bool) (n : LockState) (w : VolumeState D) (tab : TableState) (ts : List TaskState) → ((used : Bool) → q ≡ machine.Over used → ⊥) → LookedNow q n w tab ts
+      → Stepped disk s p 0 op (progress_of_lock inode op q) (store_then w ts tab) (task_then n q)
+  stepped_on q n w tab ts never looked = stepped_looked disk s p 0 op (progress_of_lock inode op q) (store_then w ts tab) (task_then n q) is well inside looked
+      (λ files fits. files_by q never files (store_then w ts tab) (files_same disk s p 0 op (progress_of_lock inode op q) (store_then w ts tab) (task_then n q) is well inside looked (holds_still q n never 0) files fits))
+      (makes_never q)
 
   -- a step that is made, and has no turn
-  moves : (q : Progress Bool) (n : LockState) (w : VolumeState D) (tab : TableState) (ts : List TaskState) → progress_of_lock inode op q ≡ progress.Moved → Looked disk s p (progress_of_lock inode op q) (store_then w ts tab) (task_then n q)
-      → steps_left (place_of_lock inode op m n q) s.table.inode_count < locks_left m.at + 17 → Made q n w tab ts
-  moves q n w tab ts moved looked falls = record {
-    looked = looked;
-    files = λ files fits. subst (λ (r : TaskProgress). FilesThen (form_of cur) op r files (FitsFiles disk.image (store_then w ts tab))) (sym moved)
-        (files_same disk s p (progress_of_lock inode op q) (store_then w ts tab) (task_then n q) is well inside looked files fits);
-    waits = no_wait q (store_then w ts tab) (ap is_made moved);
-    apart = no_reply q (ap reply_at_turn moved);
+  moves : (n : LockState) (w : VolumeState D) (tab : TableState) (ts : List TaskState) → LookedNow machine.Moved n w tab ts → steps_left (place.Taking n) s.table.inode_count < locks_left m.at + 543 → Made machine.Moved n w tab ts
+  moves n w tab ts looked falls = record {
+    about = 0;
+    stepped = stepped_on machine.Moved n w tab ts (λ used over. absurd (cc over)) looked;
+    shown = looked.shown;
+    waits = no_wait machine.Moved (store_then w ts tab) refl;
+    apart = no_reply machine.Moved refl;
     falls = λ made. falls;
   }
 
@@ -133,42 +174,46 @@ module _ {D N : Type 0} (disk : Ghosts D N) (s : StoreState D) (p : ℕ) (op : O
   refers : m.at ≡ lock_at.Reference → (k : ℕ) → place_for s.table.places m.number ≡ Some k → Makes machine.Moved (at_lock m (lock_at.Lock k)) s.volume (referred s.table m.number k)
   refers at k found ts tasks =
       let one = has_none (ap slot_of at) in
-      moves machine.Moved (at_lock m (lock_at.Lock k)) s.volume (referred s.table m.number k) ts refl (record {
+      moves (at_lock m (lock_at.Lock k)) s.volume (referred s.table m.number k) ts (record {
         tasks = tasks;
         op = refl;
         count = refl;
         reads = reads_none disk s (store_then s.volume ts (referred s.table m.number k)) refl well progress.Moved refl;
         shown = refl;
+        alone = nobody;
+        claims = λ j other. holds_nothing j;
         now = λ fine. record {
           others = one.others;
           locks = one.locks;
-          stands = one.holds;
+          stands = (one.holds, still_open s.volume.log refl);
           table = kept_by_refer s.table (grips_of s.tasks) cur p m.number k table_now few (grip_now lock_at.Reference at) (may_name disk s p op m is well stood is_op) found;
           looks = still_taking (at_lock m (lock_at.Lock k)) refl;
         };
-      }) (subst (λ (a : LockAt). 3 + 17 < locks_left a + 17) (sym at) (omega arith))
+      }) (subst (λ (a : LockAt). 3 + 543 < locks_left a + 543) (sym at) (omega arith))
 
   -- the lock is taken, and the inode was not read yet
   locks_it : (k : ℕ) → m.at ≡ lock_at.Lock k → holder_at s.table.places k ≡ None → Makes machine.Moved (at_lock m (lock_at.Read k None)) s.volume (locked s.table k p)
   locks_it k at free ts tasks =
       let one = has_none (ap slot_of at) in
-      moves machine.Moved (at_lock m (lock_at.Read k None)) s.volume (locked s.table k p) ts refl (record {
+      moves (at_lock m (lock_at.Read k None)) s.volume (locked s.table k p) ts (record {
         tasks = tasks;
         op = refl;
         count = refl;
         reads = reads_none disk s (store_then s.volume ts (locked s.table k p)) refl well progress.Moved refl;
         shown = refl;
+        alone = nobody;
+        claims = λ j other. holds_nothing j;
         now = λ fine. record {
           others = one.others;
           locks = one.locks;
-          stands = one.holds;
+          stands = (one.holds, still_open s.volume.log refl);
           table = kept_by_lock s.table (grips_of s.tasks) cur p k m.number table_now (grip_now (lock_at.Lock k) at) free;
           looks = still_taking (at_lock m (lock_at.Read k None)) refl;
         };
-      }) (subst (λ (a : LockAt). 2 + 17 < locks_left a + 17) (sym at) (omega arith))
+      }) (subst (λ (a : LockAt). 2 + 543 < locks_left a + 543) (sym at) (omega arith))
 
   -- who had to wait, or failed, stands where it stood
-  stands_still : (q : Progress Bool) (n : LockState) → place_of_lock inode op m n q ≡ place.Taking m → task_then n q ≡ task s.tasks p
+  stands_still : (q : Progress Bool) (n : LockState) → place_of_lock s.table.inode_count inode op m n q ≡ place.Taking m → task_then n q ≡ task s.tasks p
   stands_still q n same = ap (λ (a : Place). record (task s.tasks p) { place = a }) (same ∙ sym stood)
 
   same_grips : (g : Option Grip) → grip (grips_of s.tasks) p ≡ g → with_grip (grips_of s.tasks) p g ≡ grips_of s.tasks
@@ -181,7 +226,7 @@ module _ {D N : Type 0} (disk : Ghosts D N) (s : StoreState D) (p : ℕ) (op : O
   }
 
   -- nothing is changed
-  stays : (q : Progress Bool) (n : LockState) (ts : List TaskState) → place_of_lock inode op m n q ≡ place.Taking m → ts ≡ set s.tasks p (task_then n q) → store_then s.volume ts s.table ≡ s
+  stays : (q : Progress Bool) (n : LockState) (ts : List TaskState) → place_of_lock s.table.inode_count inode op m n q ≡ place.Taking m → ts ≡ set s.tasks p (task_then n q) → store_then s.volume ts s.table ≡ s
   stays q n ts same tasks = ap (λ (l : List TaskState). record s { tasks = l }) (tasks ∙ ap (set s.tasks p) (stands_still q n same) ∙ set-get_or s.tasks p no_task)
 
   -- another has the lock
@@ -190,23 +235,26 @@ module _ {D N : Type 0} (disk : Ghosts D N) (s : StoreState D) (p : ℕ) (op : O
       let one = has_none (ap slot_of at) in
       let another = holder_is_another s.table (grips_of s.tasks) cur p q m.number k table_now (grip_now (lock_at.Lock k) at) holder in
       let same : store_then s.volume ts s.table ≡ s = stays (machine.Sleeping why.InodeHeld) m ts refl tasks in
-      let looked : Looked disk s p (progress.Sleeping why.InodeHeld) (store_then s.volume ts s.table) (task_then m (machine.Sleeping why.InodeHeld)) = record {
+      let looked : LookedNow (machine.Sleeping why.InodeHeld) m s.volume s.table ts = record {
         tasks = tasks;
         op = refl;
         count = refl;
         reads = reads_none disk s (store_then s.volume ts s.table) refl well (progress.Sleeping why.InodeHeld) refl;
         shown = refl;
+        alone = nobody;
+        claims = λ j other. holds_nothing j;
         now = λ fine. record {
           others = one.others;
           locks = subst (λ (o : Option ℕ). (a i : ℕ) → HasLock s.volume.buffers p a i → o ≡ Some i) (sym (ap slot_of at)) one.locks;
-          stands = subst (λ (o : Option ℕ). HoldsAt s.volume.buffers p (inode_block m.number) o) (sym (ap slot_of at)) tt;
+          stands = (subst (λ (o : Option ℕ). HoldsAt s.volume.buffers p (inode_block m.number) o) (sym (ap slot_of at)) tt, still_open s.volume.log refl);
           table = same_table (grip_by (place.Taking m) (asked_by (task s.tasks p).op)) (grip_now m.at refl);
           looks = still_taking m refl;
         };
       } in
       record {
-        looked = looked;
-        files = λ files fits. files_same disk s p (progress.Sleeping why.InodeHeld) (store_then s.volume ts s.table) (task_then m (machine.Sleeping why.InodeHeld)) is well inside looked files fits;
+        about = 0;
+        stepped = stepped_on (machine.Sleeping why.InodeHeld) m s.volume s.table ts (λ used over. absurd (cc over)) looked;
+        shown = looked.shown;
         waits = record {
           sleeping = λ cause waits. same;
           held = λ waits. absurd (cc waits);
@@ -226,6 +274,7 @@ module _ {D N : Type 0} (disk : Ghosts D N) (s : StoreState D) (p : ℕ) (op : O
   -- THE TURN, with the inode locked at place k of the table
   pub record IsTaken (n : LockState) (k : ℕ) (w : VolumeState D) (tab : TableState) (used : Bool) : Type 0 where
     pub place : place_of n.at ≡ k
+    pub alone : (q j : ℕ) → q ≢ p → grip_of (task s.tasks q) ≡ Some (locked_grip j m.number) → ⊥
     pub is_used : used ≡ true → inode.kind ≢ 0
     pub is_free : used ≡ false → inode.kind ≡ 0
     pub copy : used ≡ true → copy_at tab.places k ≡ Some inode
@@ -242,9 +291,6 @@ module _ {D N : Type 0} (disk : Ghosts D N) (s : StoreState D) (p : ℕ) (op : O
 
   own_number : asked_by (task s.tasks p).op ≡ m.number
   own_number = ap asked_by is_op ∙ sym asks
-
-  not_searching : (k : ℕ) (used : Bool) (search : SearchState) → place_when_taken (if_used used inode) k op ≡ place.Creating search → ⊥
-  not_searching k used search same = let no : Some (locked_grip k 0) ≡ None = sym (grip_at_turn inode k 0 op used) ∙ ap (λ (a : Place). grip_by a 0) same in absurd (cc no)
 
   -- the inode of another's reading is another one
   turn_apart : (tab : TableState) (k : ℕ) (r : Option Reply) → TableIs tab (with_grip (grips_of s.tasks) p (Some (locked_grip k m.number))) cur → ((i : ℕ) → is_making i r ≡ true → ⊥)
@@ -268,32 +314,41 @@ module _ {D N : Type 0} (disk : Ghosts D N) (s : StoreState D) (p : ℕ) (op : O
   turns : (n : LockState) (k : ℕ) (w : VolumeState D) (tab : TableState) (used : Bool) → IsTaken n k w tab used → Makes (machine.Over used) n w tab
   turns n k w tab used t ts tasks =
       let r = reply_when_taken (if_used used inode) op in
-      let there : place_of_lock inode op m n (machine.Over used) ≡ place_when_taken (if_used used inode) k op = ap (λ (j : ℕ). place_when_taken (if_used used inode) j op) t.place in
-      let free : slot_at (place_of_lock inode op m n (machine.Over used)) ≡ None = ap slot_at there ∙ slot_at_turn inode k op used in
-      let gripped : grip_of (task_then n (machine.Over used)) ≡ Some (locked_grip k m.number) =
-      ap (λ (a : Place). grip_by a (asked_by (task s.tasks p).op)) there ∙ ap (grip_by (place_when_taken (if_used used inode) k op)) own_number ∙ grip_at_turn inode k m.number op used in
-      let looked : Looked disk s p (progress.Turned r) (store_then w ts tab) (task_then n (machine.Over used)) = record {
+      let c = s.table.inode_count in
+      let u : TaskState = task_then n (machine.Over used) in
+      let there : place_of_lock c inode op m n (machine.Over used) ≡ place_when_taken c (if_used used inode) k op = ap (λ (j : ℕ). place_when_taken c (if_used used inode) j op) t.place in
+      let gripped : grip_of u ≡ Some (locked_grip k m.number) =
+      ap (λ (a : Place). grip_by a (asked_by (task s.tasks p).op)) there ∙ ap (grip_by (place_when_taken c (if_used used inode) k op)) own_number ∙ grip_at_turn c inode k m.number op used in
+      let looked : Looked disk s p m.number (progress.Turned r) (store_then w ts tab) u = record {
         tasks = tasks;
         op = refl;
         count = t.count;
         reads = reads_none disk s (store_then w ts tab) t.device t.well_then (progress.Turned r) refl;
         shown = ap (λ (x : Image). record { current = x; log = w.log }) t.current ∙ ap (λ (l : LogState). record { current = cur; log = l }) t.log;
+        alone = t.alone;
+        claims = λ j other. ap (λ (a : Place). claim_by a j) there ∙ claims_at_turn c inode k op used j (λ same. other (same ∙ sym asks)) ∙ holds_nothing j;
         now = λ fine. record {
           others = subst (λ (l : LogState). StaysForOthers s.volume.buffers w.buffers s.volume.log l p) (sym t.log) t.one.others;
-          locks = λ b i has. free ∙ t.one.locks b i has;
-          stands = stands_free w.buffers w.log s.table.inode_count p (task s.tasks p).op (place_of_lock inode op m n (machine.Over used)) free (λ search same. not_searching k used search (sym there ∙ same));
-          table = subst (λ (g : Option Grip). KeepsTable s.table tab p (grips_of s.tasks) (with_grip (grips_of s.tasks) p g) cur) (sym gripped) t.table;
-          looks = subst (λ (a : Place). LooksAt cur tab (task_then n (machine.Over used)) a) (sym there)
-              (looks_at_turn disk s p op m is well stood is_op joint tab k t.count used t.is_used t.copy (task_then n (machine.Over used)) is_op refl);
+          locks = λ b i has. let no : None ≡ Some i = t.one.locks b i has in absurd (cc no);
+          stands = subst (λ (a : Place). Stands w.buffers w.log c p (task s.tasks p).op a) (sym there)
+              (stands_at_turn w.buffers w.log c p (task s.tasks p).op c inode k op used (subst (λ (o : Option Op). IsOpenFor w.log p o) is_op (still_open w.log t.log)));
+          table = subst (λ (x : Image). KeepsTable s.table tab p (grips_of s.tasks) (with_grip (grips_of s.tasks) p (grip_of u)) x) (sym t.current)
+              (subst (λ (g : Option Grip). KeepsTable s.table tab p (grips_of s.tasks) (with_grip (grips_of s.tasks) p g) cur) (sym gripped) t.table);
+          looks = subst (λ (x : Image). LooksAt x tab u (place_of_lock c inode op m n (machine.Over used))) (sym t.current)
+              (subst (λ (a : Place). LooksAt cur tab u a) (sym there) (looks_at_turn disk s p op m is well stood is_op inside joint t.alone tab k t.count used t.is_used t.copy u is_op refl));
         };
       } in
       record {
-        looked = looked;
-        files = files_at_turn disk s p op m is well stood is_op joint (store_then w ts tab) (files_same disk s p (progress.Turned r) (store_then w ts tab) (task_then n (machine.Over used)) is well inside looked) used t.is_used t.is_free;
+        about = m.number;
+        stepped = stepped_looked disk s p m.number op (progress.Turned r) (store_then w ts tab) u is well inside looked
+            (files_at_turn disk s p op m is well stood is_op inside joint t.alone (store_then w ts tab) u k tasks t.current
+            (λ none files fits. files_same disk s p m.number op (progress.Turned r) (store_then w ts tab) u is well inside looked (none ∙ holds_nothing m.number) files fits) used t.is_used t.is_free there)
+            (makes_never (machine.Over used));
+        shown = looked.shown;
         waits = no_wait (machine.Over used) (store_then w ts tab) refl;
         apart = turn_apart tab k r t.table.table (makes_none inode op used);
-        falls = λ made. subst (λ (a : Place). steps_left a s.table.inode_count < locks_left m.at + 17) (sym there)
-            (let most = left_at_turn inode k s.table.inode_count s.table.inode_count op used (look disk s p op m is well stood is_op) in let some = some_left m.at in omega (arith, most, some));
+        falls = λ made. subst (λ (a : Place). steps_left a s.table.inode_count < locks_left m.at + 543) (sym there)
+            (let most = left_at_turn inode k s.table.inode_count s.table.inode_count op used (can_take disk s p op m is well stood is_op) in let some = some_left m.at in omega (arith, most, some));
       }
 
   entry_inside : (k : ℕ) (g : Grip) → grip (grips_of s.tasks) p ≡ Some g → g.place ≡ k → (k < length s.table.places) × (is_of g.number (entry_at s.table.places k) ≡ true)
@@ -311,6 +366,12 @@ module _ {D N : Type 0} (disk : Ghosts D N) (s : StoreState D) (p : ℕ) (op : O
       let known = table_now.copies m.number k d entry.1 copy in
       record {
         place = ap place_of at;
+        alone = λ q j apart locks.
+            let theirs : grip (grips_of s.tasks) q ≡ Some (locked_grip j m.number) = grip_is s.tasks q ∙ locks in
+            let held = table_now.locks q j m.number theirs in
+            let same : j ≡ k = table_now.once m.number j k (table_now.places q (locked_grip j m.number) theirs).1 entry.1 in
+            let no : None ≡ Some q = sym free ∙ ap (holder_at s.table.places) (sym same) ∙ held in
+            absurd (cc no);
         is_used = λ used none. known.1 (ap (λ (e : Dinode). e.kind) (sym known.0) ∙ none);
         is_free = λ used. absurd (cc used);
         copy = λ used. ap copy_in (get_or-set_same s.table.places k (with_holder (entry_at s.table.places k) p) None entry.0) ∙ same_copy (entry_at s.table.places k) ∙ copy ∙ ap Some (sym known.0);
@@ -334,9 +395,10 @@ module _ {D N : Type 0} (disk : Ghosts D N) (s : StoreState D) (p : ℕ) (op : O
     reads.answer ∙ ap machine.Over is_used,
     record {
       place = ap place_of at;
+      alone = λ q j apart locks. apart (sym (locks_exclude s.table (grips_of s.tasks) cur p q m.number k j table_now gripped (grip_is s.tasks q ∙ locks)));
       is_used = λ yes. eqb-false inode.kind 0 (not_then (eqb inode.kind 0) true (is_used ∙ yes));
       is_free = λ free. eqb-true inode.kind 0 (not_then (eqb inode.kind 0) false (is_used ∙ free));
-      copy = λ yes. ap (λ (t : TableState). copy_at t.places k) (kept_table true (is_used ∙ yes)) ∙ ap copy_in (get_or-set_same s.table.places k (with_copy (entry_at s.table.places k) inode) None entry.0)
+      copy = λ yes. ap (λ (t : TableState). copy_at t.places k) (kept_table true (is_used ∙ yes)) ∙ ap copy_in (get_or-set_same s.table.places k (with_copy (entry_at s.table.places k) (Some inode)) None entry.0)
           ∙ new_copy (entry_at s.table.places k) entry.1;
       count = ap (λ (t : TableState). t.inode_count) (kept_table used is_used) ∙ count_of_kept used;
       table = subst (λ (t : TableState). KeepsTable s.table t p (grips_of s.tasks) (with_grip (grips_of s.tasks) p (Some (locked_grip k m.number))) cur) (sym (kept_table used is_used)) (keeps used is_used);
@@ -344,7 +406,7 @@ module _ {D N : Type 0} (disk : Ghosts D N) (s : StoreState D) (p : ℕ) (op : O
       well_then = ap (λ (v : VolumeState D). v.fault) reads.block.volume ∙ well;
       log = ap (λ (v : VolumeState D). v.log) reads.block.volume;
       current = reads.block.current;
-      one = has_left s.volume.buffers s.volume.log s.table.inode_count p s.tasks (agrees disk s p op m is well stood is_op) w.buffers (inode_block m.number) i (own_slot ∙ ap slot_of at) reads.block.locks;
+      one = has_left s.volume.buffers s.volume.log s.table.inode_count p s.tasks (agrees disk s p op m is well stood is_op) w.buffers (inode_block m.number) i (own_slot (Some i) (ap slot_of at)) reads.block.locks;
     },
   )
     where
@@ -373,13 +435,14 @@ module _ {D N : Type 0} (disk : Ghosts D N) (s : StoreState D) (p : ℕ) (op : O
       kept_table : (b : Bool) → not (eqb inode.kind 0) ≡ b → tab ≡ table_by b
       kept_table b same = reads.table ∙ kept_by (eqb inode.kind 0) ∙ ap table_by same
 
-      new_copy : (e : Option InMemory) → is_of m.number e ≡ true → copy_in (with_copy e inode) ≡ Some inode
+      new_copy : (e : Option InMemory) → is_of m.number e ≡ true → copy_in (with_copy e (Some inode)) ≡ Some inode
       new_copy None same = absurd (cc same)
       new_copy (Some e) same = refl
 
       keeps : (b : Bool) → not (eqb inode.kind 0) ≡ b → KeepsTable s.table (table_by b) p (grips_of s.tasks) (with_grip (grips_of s.tasks) p (Some (locked_grip k m.number))) cur
       keeps true same = subst (λ (gs : List (Option Grip)). KeepsTable s.table (kept s.table k inode) p (grips_of s.tasks) gs cur) (sym (same_grips (Some (locked_grip k m.number)) gripped))
-          (kept_by_read s.table (grips_of s.tasks) cur p k m.number inode table_now gripped refl (eqb-false inode.kind 0 (not_then (eqb inode.kind 0) true same)))
+          (kept_by_renew s.table (grips_of s.tasks) cur cur p k m.number (Some inode) table_now gripped (λ j number apart used. refl)
+          (λ d is_d. let its : inode ≡ d = cc is_d in (its, λ none. eqb-false inode.kind 0 (not_then (eqb inode.kind 0) true same) (ap (λ (e : Dinode). e.kind) its ∙ none))))
       keeps false same = same_table (Some (locked_grip k m.number)) gripped
 
   -- the inode's block is got, or has to be waited for, or can't be read
@@ -390,55 +453,61 @@ module _ {D N : Type 0} (disk : Ghosts D N) (s : StoreState D) (p : ℕ) (op : O
     abbrev then_at : StoreState D
     then_at = store_then w ts s.table
 
-    no_slot : slot_at (task s.tasks p).place ≡ None
-    no_slot = own_slot ∙ ap slot_of at
+    no_slot : (i : ℕ) → HasSlot (task s.tasks p).place i → None ≡ Some i
+    no_slot = own_slot None (ap slot_of at)
 
     gets : (q : Progress Bool) → GetsFor disk s.volume p (inode_block m.number) q slot w → ts ≡ set s.tasks p (task_then next q) → Made q next w s.table ts
     gets machine.Moved got tasks =
         let are = agrees disk s p op m is well stood is_op in
         let one = has_then disk s then_at p (inode_block m.number) machine.Moved slot got are no_slot refl in
         let log = got.reads.log in
-        moves machine.Moved next w s.table ts refl (record {
+        moves next w s.table ts (record {
           tasks = tasks;
           op = refl;
           count = refl;
           reads = reads_got disk s then_at p (inode_block m.number) machine.Moved slot got are no_slot progress.Moved refl;
           shown = shows_got disk s then_at p (inode_block m.number) machine.Moved slot got are no_slot;
+          alone = nobody;
+          claims = λ j other. holds_nothing j;
           now = λ fine. record {
             others = subst (λ (l : LogState). StaysForOthers s.volume.buffers w.buffers s.volume.log l p) (sym log) one.others;
             locks = one.locks;
-            stands = one.holds;
-            table = same_table (Some (locked_grip k m.number)) (grip_now (lock_at.Read k None) at);
+            stands = (one.holds, still_open w.log log);
+            table = subst (λ (x : Image). KeepsTable s.table s.table p (grips_of s.tasks) (with_grip (grips_of s.tasks) p (Some (locked_grip k m.number))) x) (sym got.reads.current) (same_table (Some (locked_grip k m.number)) (grip_now (lock_at.Read k None) at));
             looks = still_taking next refl;
           };
-        }) (subst (λ (a : LockAt). locks_left (lock_at.Read k slot) + 17 < locks_left a + 17) (sym at) (got_fewer got.answer got.gives got.slot))
+        }) (subst (λ (a : LockAt). locks_left (lock_at.Read k slot) + 543 < locks_left a + 543) (sym at) (got_fewer got.answer got.gives got.slot))
       where
-        got_fewer : (a : Get) → machine.Moved ≡ (let made : Progress Bool = progress_of a in made) → slot ≡ got_slot_of a → locks_left (lock_at.Read k slot) + 17 < 2 + 17
-        got_fewer (get.Got i) moved is_slot = subst (λ (o : Option ℕ). locks_left (lock_at.Read k o) + 17 < 2 + 17) (sym is_slot) (omega arith)
+        got_fewer : (a : Get) → machine.Moved ≡ (let made : Progress Bool = progress_of a in made) → slot ≡ got_slot_of a → locks_left (lock_at.Read k slot) + 543 < 2 + 543
+        got_fewer (get.Got i) moved is_slot = subst (λ (o : Option ℕ). locks_left (lock_at.Read k o) + 543 < 2 + 543) (sym is_slot) (omega arith)
         got_fewer (get.Sleeping cause) moved is_slot = absurd (cc moved)
         got_fewer (get.Fault fault) moved is_slot = absurd (cc moved)
     gets (machine.Sleeping cause) got tasks =
         let are = agrees disk s p op m is well stood is_op in
         let slept = sleeps_got disk s then_at p (inode_block m.number) (machine.Sleeping cause) slot got are no_slot cause refl in
         let one = has_none (ap slot_of at) in
-        let looked : Looked disk s p (progress.Sleeping cause) then_at (task_then next (machine.Sleeping cause)) = record {
+        let looked : LookedNow (machine.Sleeping cause) next w s.table ts = record {
           tasks = tasks;
           op = refl;
           count = refl;
           reads = reads_got disk s then_at p (inode_block m.number) (machine.Sleeping cause) slot got are no_slot (progress.Sleeping cause) refl;
           shown = shows_got disk s then_at p (inode_block m.number) (machine.Sleeping cause) slot got are no_slot;
+          alone = nobody;
+          claims = λ j other. holds_nothing j;
           now = λ fine. record {
             others = subst (λ (v : VolumeState D). StaysForOthers s.volume.buffers v.buffers s.volume.log v.log p) (sym slept.0) one.others;
             locks = subst (λ (v : VolumeState D). (a i : ℕ) → HasLock v.buffers p a i → slot_of m.at ≡ Some i) (sym slept.0)
                 (subst (λ (o : Option ℕ). (a i : ℕ) → HasLock s.volume.buffers p a i → o ≡ Some i) (sym (ap slot_of at)) one.locks);
-            stands = subst (λ (o : Option ℕ). HoldsAt w.buffers p (inode_block m.number) o) (sym (ap slot_of at)) tt;
-            table = same_table (grip_by (place.Taking m) (asked_by (task s.tasks p).op)) (grip_now m.at refl);
+            stands = (subst (λ (o : Option ℕ). HoldsAt w.buffers p (inode_block m.number) o) (sym (ap slot_of at)) tt, still_open w.log got.reads.log);
+            table = subst (λ (x : Image). KeepsTable s.table s.table p (grips_of s.tasks) (with_grip (grips_of s.tasks) p (grip_by (place.Taking m) (asked_by (task s.tasks p).op))) x) (sym got.reads.current)
+                (same_table (grip_by (place.Taking m) (asked_by (task s.tasks p).op)) (grip_now m.at refl));
             looks = still_taking m refl;
           };
         } in
         record {
-          looked = looked;
-          files = λ files fits. files_same disk s p (progress.Sleeping cause) then_at (task_then next (machine.Sleeping cause)) is well inside looked files fits;
+          about = 0;
+          stepped = stepped_on (machine.Sleeping cause) next w s.table ts (λ used over. absurd (cc over)) looked;
+          shown = looked.shown;
           waits = record {
             sleeping = λ other waits. ap (λ (v : VolumeState D). store_then v ts s.table) slept.0 ∙ stays (machine.Sleeping cause) next ts refl tasks;
             held = λ waits.
@@ -462,17 +531,20 @@ module _ {D N : Type 0} (disk : Ghosts D N) (s : StoreState D) (p : ℕ) (op : O
         never (get.Fault fault) gives = absurd (cc gives)
     gets (machine.Fault fault) got tasks =
         let are = agrees disk s p op m is well stood is_op in
-        let looked : Looked disk s p (progress.Fault fault) then_at (task_then next (machine.Fault fault)) = record {
+        let looked : LookedNow (machine.Fault fault) next w s.table ts = record {
           tasks = tasks;
           op = refl;
           count = refl;
           reads = reads_got disk s then_at p (inode_block m.number) (machine.Fault fault) slot got are no_slot (progress.Fault fault) refl;
           shown = shows_got disk s then_at p (inode_block m.number) (machine.Fault fault) slot got are no_slot;
+          alone = nobody;
+          claims = λ j other. holds_nothing j;
           now = λ fine. absurd (cc fine);
         } in
         record {
-          looked = looked;
-          files = λ files fits. files_same disk s p (progress.Fault fault) then_at (task_then next (machine.Fault fault)) is well inside looked files fits;
+          about = 0;
+          stepped = stepped_on (machine.Fault fault) next w s.table ts (λ used over. absurd (cc over)) looked;
+          shown = looked.shown;
           waits = record { sleeping = λ cause waits. absurd (cc waits); held = λ waits. absurd (cc waits); inode = λ waits. absurd (cc waits) };
           apart = no_reply (machine.Fault fault) refl;
           falls = λ made. absurd (cc made);
@@ -524,8 +596,15 @@ module _ {D N : Type 0} (disk : Ghosts D N) (s : StoreState D) (p : ℕ) (op : O
         by_use true copy = copy refl
         by_use false copy = refl
 
+    pub count_taken : tab.inode_count ≡ s.table.inode_count
+    count_taken = taken.1.count
+
+    -- an image has few numbers
+    pub few_numbers : tab.inode_count ≤ 1024
+    few_numbers = let few = (facts_of cur is.geometry).few in let same = taken.1.count in let numbers = is.numbers in omega (arith, few, same, numbers)
+
     pub readable_taken : IsReadable (if_used used inode)
-    readable_taken = readable disk s p op m is well stood is_op joint used taken.1.is_used
+    readable_taken = readable disk s p op m is well stood is_op inside joint taken.1.alone used taken.1.is_used
 
   -- ANY STEP
   takes_by : (a : LockAt) → m.at ≡ a → (q : Progress Bool) (n : LockState) (w : VolumeState D) (tab : TableState) → LockSteps disk a s.table s.volume p m q tab w n → Makes q n w tab
@@ -573,11 +652,11 @@ module _ {D N : Type 0} (disk : Ghosts D N) (s : StoreState D) (p : ℕ) (op : O
 
     -- what is true of every store
     pub store_taken : IsStore disk.image (store_then w ts tab)
-    store_taken = store_looked disk s p (progress_of_lock inode op q) (store_then w ts tab) (task_then n q) is well inside made.looked
+    store_taken = store_stepped disk s p made.about op (progress_of_lock inode op q) (store_then w ts tab) (task_then n q) is well inside made.stepped
 
     -- and what a step promises
     pub steps_taken : Steps disk s p op (progress_of_lock inode op q) (store_then w ts tab)
-    steps_taken = steps_looked disk s p (progress_of_lock inode op q) (store_then w ts tab) (task_then n q) is well inside made.looked op made.files
+    steps_taken = steps_stepped disk s p made.about op (progress_of_lock inode op q) (store_then w ts tab) (task_then n q) is well inside made.stepped
         (subst (λ (a : Place). Goes disk a s p op (progress_of_lock inode op q) (store_then w ts tab)) (sym stood) (
           record {
             answer = q;
@@ -587,16 +666,10 @@ module _ {D N : Type 0} (disk : Ghosts D N) (s : StoreState D) (p : ℕ) (op : O
             next = ap (λ (t : TaskState). t.place) now_is;
             bytes = ap (λ (t : TaskState). t.gathered) now_is;
           },
-          made.looked.shown,
+          made.shown,
         ))
-        (by_answer q) made.waits made.apart
-        (λ is_step going. subst (λ (a : Place). steps_left (place_of_lock inode op m n q) s.table.inode_count < steps_left a s.table.inode_count) (sym stood) (made.falls is_step))
+        made.waits made.apart
+        (λ is_step going. subst (λ (a : Place). steps_left (place_of_lock s.table.inode_count inode op m n q) s.table.inode_count < steps_left a s.table.inode_count) (sym stood) (made.falls is_step))
       where
         now_is : task ts p ≡ task_then n q
         now_is = ap (λ (l : List TaskState). task l p) tasks ∙ get_or-set_same s.tasks p (task_then n q) no_task inside
-
-        by_answer : (r : Progress Bool) (i : ℕ) → is_making i (reply_at_turn (progress_of_lock inode op r)) ≡ true → ⊥
-        by_answer machine.Moved i makes = absurd (cc makes)
-        by_answer (machine.Sleeping cause) i makes = absurd (cc makes)
-        by_answer (machine.Over used) i makes = makes_none inode op used i makes
-        by_answer (machine.Fault fault) i makes = absurd (cc makes)

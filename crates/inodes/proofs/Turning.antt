@@ -1,19 +1,22 @@
--- The turn of an operation that looks at a file.
-use Rattle.std.proofs.Common.{◌≡◌, ◌≢◌, ℕ, ◌≤◌, ◌/◌, Bool, true, false, [], length, refl, sym, ◌∙◌, ap, subst, arith, Option, Some, None}
+-- The turn of an operation that takes its inode.
+use Rattle.std.proofs.Common.{◌≡◌, ◌≢◌, ◌⊎◌, inl, inr, ℕ, ◌≤◌, ◌<◌, ◌/◌, Bool, true, false, cond, List, [], length, set, refl, sym, ◌∙◌, ap, subst, ⊎_elim, arith, Option, Some, None}
+use Rattle.std.specs.Prelude.{IsTrue, slice_index}
+use Rattle.std.proofs.lemmas.Bool.{cases_eq, eq-eqb, ne_eqb}
 use Rattle.blocks.specs.Disk.{Image}
 use Rattle.blocks.specs.declared.disk.Disk.{Ghosts}
 use Rattle.model.specs.declared.types.image.Dinode.{Dinode}
 use Rattle.model.specs.declared.types.operations.Op.{Op}
 use Rattle.model.specs.declared.types.operations.Op.TheVariants.{Create, Write, Read, Trunc, Remove, Stat}
-use Rattle.model.specs.declared.types.operations.Reply.TheVariants.{StatOf, NoFile}
+use Rattle.model.specs.declared.types.operations.Reply.TheVariants.{StatOf, NoFile, Done}
 use Rattle.model.specs.Files.{Files}
-use Rattle.model.specs.Journal.{is_making}
-use Rattle.model.specs.Layout.{form_of, greatest_size, inode_block, inode_of}
+use Rattle.model.specs.Journal.{is_making, is_number}
+use Rattle.model.specs.Layout.{form_of, greatest_size, inode_of}
 use Rattle.model.specs.Operations.{after}
 use Rattle.model.specs.Tasks.{TurnsTo}
-use Rattle.loose.specs.Loose.{Fits}
-use Rattle.loose.specs.Lemmas.Looks.{stat_tells, no_file_tells}
-use Rattle.blockmap.specs.Lemmas.Used.{used_may_be_read}
+use Rattle.loose.specs.Held.{Held, FitsHeld, IsClaimedNow, file_left}
+use Rattle.loose.specs.Lemmas.HeldLooks.{resting_tells, free_tells}
+use Rattle.loose.specs.Lemmas.Turns.{turn_holds, turn_answers}
+use Rattle.blockmap.specs.Lemmas.Resting.{resting_may_be_read}
 use Rattle.blockmap.specs.Reading.{MayRead}
 use Rattle.blockmap.specs.Target.{block_of, slot_in}
 use Rattle.bcache.specs.Buffers.{Buffers}
@@ -23,18 +26,22 @@ use Rattle.wal.specs.Machine.{LogState}
 use Rattle.inodes.specs.declared.tasks.Place.{Place}
 use Rattle.inodes.specs.declared.tasks.Place.TheVariants as place
 use Rattle.inodes.specs.Grips.{locked_grip}
-use Rattle.inodes.specs.Ialloc.{SearchState}
+use Rattle.inodes.specs.Holding.{IsTruncating, bitmap_block, claim_by, claims_of}
+use Rattle.inodes.specs.Itrunc.{first_trunc}
 use Rattle.inodes.specs.LockState.{LockState}
+use Rattle.inodes.specs.Lemmas.Holding.{HoldsAlone, claimed_now, none_held}
 use Rattle.inodes.specs.Lemmas.ReadRuns.{begins}
-use Rattle.inodes.specs.Looks.{CanLook, HasRoom, LooksAt, WasAnswered}
-use Rattle.inodes.specs.Places.{asked, slot_at, grip_by, steps_left}
+use Rattle.inodes.specs.Looks.{CanLook, CanTake, HasRoom, LooksAt, WasAnswered}
+use Rattle.inodes.specs.Places.{asked, block_of_trunc, grip_by, grip_of, steps_left}
 use Rattle.inodes.specs.Readi.{ReadState, first_read}
-use Rattle.inodes.specs.Store.{StoreState, IsStore, FitsFiles, HoldsAt, Stands, current_of}
+use Rattle.inodes.specs.Store.{StoreState, IsStore, FitsFiles, HoldsAt, IsOpenFor, Stands, current_of}
 use Rattle.inodes.specs.Table.{TableState, copy_at}
 use Rattle.inodes.specs.Tasks.{TaskState, task}
 use Rattle.inodes.specs.Turning.{IsReadable, if_used, reply_of_look, reply_when_taken, place_of_look, place_when_taken, place_of_read}
 use Rattle.inodes.proofs.Starting.{new_target, has_begun, has_none, few_reads}
-use Rattle.inodes.proofs.Taking.{taking, looking, look, number, same_op, may_name_now}
+use Rattle.inodes.proofs.Taking.{taking, looking, can_take, number, same_op, may_name, may_name_now}
+use Rattle.inodes.proofs.Unclaimed.{holds_alone_of}
+use Rattle.inodes.proofs.TruncNext.{first_given, first_slots, next_left}
 
 -- a turn makes no number
 pub makes_none : (d : Dinode) (op : Op) (used : Bool) (i : ℕ) → is_making i (reply_when_taken (if_used used d) op) ≡ true → ⊥
@@ -51,54 +58,86 @@ grip_of_read : (k i : ℕ) (o : Option ReadState) → grip_by (place_of_read k o
 grip_of_read k i None = refl
 grip_of_read k i (Some m) = refl
 
--- and so where any operation goes at its turn
-pub grip_at_turn : (d : Dinode) (k i : ℕ) (op : Op) (used : Bool) → grip_by (place_when_taken (if_used used d) k op) i ≡ Some (locked_grip k i)
-grip_at_turn d k i op false = refl
-grip_at_turn d k i (Create kind) true = refl
-grip_at_turn d k i (Write j off bytes) true = refl
-grip_at_turn d k i (Read j off n) true = grip_of_read k i (first_read d off n)
-grip_at_turn d k i (Trunc j) true = refl
-grip_at_turn d k i (Remove j) true = refl
-grip_at_turn d k i (Stat j) true = refl
+-- and so where any operation goes at its turn, over an image of c numbers
+pub grip_at_turn : (c : ℕ) (d : Dinode) (k i : ℕ) (op : Op) (used : Bool) → grip_by (place_when_taken c (if_used used d) k op) i ≡ Some (locked_grip k i)
+grip_at_turn c d k i op false = refl
+grip_at_turn c d k i (Create kind) true = refl
+grip_at_turn c d k i (Write j off bytes) true = refl
+grip_at_turn c d k i (Read j off n) true = grip_of_read k i (first_read d off n)
+grip_at_turn c d k i (Trunc j) true = refl
+grip_at_turn c d k i (Remove j) true = refl
+grip_at_turn c d k i (Stat j) true = refl
 
-slot_of_read : (d : Dinode) (k off n : ℕ) (o : Option ReadState) → first_read d off n ≡ o → slot_at (place_of_read k o) ≡ None
-slot_of_read d k off n None first = refl
-slot_of_read d k off n (Some m) first = ap slot_in (begins d off n m first).target ∙ new_target d (off / 1024)
+slot_of_read : (d : Dinode) (k off n : ℕ) (o : Option ReadState) → first_read d off n ≡ o → (m : ReadState) → o ≡ Some m → slot_in m.target ≡ None
+slot_of_read d k off n o first m is = ap slot_in (begins d off n m (first ∙ is)).target ∙ new_target d (off / 1024)
 
-pub slot_at_turn : (d : Dinode) (k : ℕ) (op : Op) (used : Bool) → slot_at (place_when_taken (if_used used d) k op) ≡ None
-slot_at_turn d k op false = refl
-slot_at_turn d k (Create kind) true = refl
-slot_at_turn d k (Write j off bytes) true = refl
-slot_at_turn d k (Read j off n) true = slot_of_read d k off n (first_read d off n) refl
-slot_at_turn d k (Trunc j) true = refl
-slot_at_turn d k (Remove j) true = refl
-slot_at_turn d k (Stat j) true = refl
-
-left_of_read : (d : Dinode) (k off n c : ℕ) (o : Option ReadState) → n ≤ 3072 → first_read d off n ≡ o → steps_left (place_of_read k o) c ≤ 17
+left_of_read : (d : Dinode) (k off n c : ℕ) (o : Option ReadState) → n ≤ 3072 → first_read d off n ≡ o → steps_left (place_of_read k o) c ≤ 543
 left_of_read d k off n c None few first = omega arith
 left_of_read d k off n c (Some m) few first = let at = few_reads d off n m few first in omega (arith, at)
 
-pub left_at_turn : (d : Dinode) (k n c : ℕ) (op : Op) (used : Bool) → CanLook n op → steps_left (place_when_taken (if_used used d) k op) c ≤ 17
+left_of_trunc : (c : ℕ) (d : Dinode) (k j : ℕ) (removes : Bool) → steps_left (place.Truncating k (first_trunc j d removes (bitmap_block c))) c ≤ 543
+left_of_trunc c d k j removes = let few = next_left j d (bitmap_block c) 0 0 in omega (arith, few)
+
+pub left_at_turn : (d : Dinode) (k n c : ℕ) (op : Op) (used : Bool) → CanTake n op → steps_left (place_when_taken c (if_used used d) k op) c ≤ 543
 left_at_turn d k n c op false can = omega arith
 left_at_turn d k n c (Create kind) true can = omega arith
 left_at_turn d k n c (Write j off bytes) true can = omega arith
 left_at_turn d k n c (Read j off count) true can = left_of_read d k off count c (first_read d off count) can.1 refl
-left_at_turn d k n c (Trunc j) true can = omega arith
-left_at_turn d k n c (Remove j) true can = omega arith
+left_at_turn d k n c (Trunc j) true can = left_of_trunc c d k j false
+left_at_turn d k n c (Remove j) true can = left_of_trunc c d k j true
 left_at_turn d k n c (Stat j) true can = omega arith
 
--- nothing is got where no slot is
-pub stands_free : (c : Buffers) (l : LogState) (n p : ℕ) (o : Option Op) (a : Place) → slot_at a ≡ None → ((search : SearchState) → a ≡ place.Creating search → ⊥) → Stands c l n p o a
-stands_free c l n p o place.Nowhere none other = tt
-stands_free c l n p o (place.Creating m) none other = absurd (other m refl)
-stands_free c l n p o (place.Taking m) none other = subst (λ (s : Option ℕ). HoldsAt c p (inode_block m.number) s) (sym none) tt
-stands_free c l n p o (place.Reading k m) none other = subst (λ (s : Option ℕ). HoldsAt c p (block_of m.target) s) (sym none) tt
-stands_free c l n p o (place.Delivering k) none other = tt
-stands_free c l n p o (place.Leaving k) none other = tt
+-- it holds no other number
+none_of_read : (k j : ℕ) (o : Option ReadState) → claim_by (place_of_read k o) j ≡ None
+none_of_read k j None = refl
+none_of_read k j (Some m) = refl
+
+pub claims_at_turn : (c : ℕ) (d : Dinode) (k : ℕ) (op : Op) (used : Bool) (j : ℕ) → j ≢ asked op → claim_by (place_when_taken c (if_used used d) k op) j ≡ None
+claims_at_turn c d k op false j other = refl
+claims_at_turn c d k (Create kind) true j other = refl
+claims_at_turn c d k (Write i off bytes) true j other = refl
+claims_at_turn c d k (Read i off n) true j other = none_of_read k j (first_read d off n)
+claims_at_turn c d k (Trunc i) true j other = rw (ne_eqb i j (λ same. other (sym same))) refl
+claims_at_turn c d k (Remove i) true j other = rw (ne_eqb i j (λ same. other (sym same))) refl
+claims_at_turn c d k (Stat i) true j other = refl
+
+-- what it holds of its own
+abbrev held_at_turn : Dinode → Bool → Held
+held_at_turn d removes = record { copy = d; given_up = 0; last_kind = cond removes 0 d.kind }
+
+claim_at_turn : (c : ℕ) (d : Dinode) (k i : ℕ) (removes : Bool) → claim_by (place.Truncating k (first_trunc i d removes (bitmap_block c))) i ≡ Some (held_at_turn d removes)
+claim_at_turn c d k i removes = rw (eq-eqb i i refl) refl
+
+-- nothing is got there
+stands_of_read : (b : Buffers) (l : LogState) (n p : ℕ) (t : Option Op) (d : Dinode) (k off count : ℕ) (o : Option ReadState) → first_read d off count ≡ o → Stands b l n p t (place_of_read k o)
+stands_of_read b l n p t d k off count None first = tt
+stands_of_read b l n p t d k off count (Some m) first = subst (λ (s : Option ℕ). HoldsAt b p (block_of m.target) s) (sym (slot_of_read d k off count (Some m) first m refl)) tt
+
+pub stands_at_turn : (b : Buffers) (l : LogState) (n p : ℕ) (t : Option Op) (c : ℕ) (d : Dinode) (k : ℕ) (op : Op) (used : Bool) → IsOpenFor l p (Some op) → Stands b l n p t (place_when_taken c (if_used used d) k op)
+stands_at_turn b l n p t c d k op false open_for = tt
+stands_at_turn b l n p t c d k (Create kind) true open_for = tt
+stands_at_turn b l n p t c d k (Write i off bytes) true open_for = tt
+stands_at_turn b l n p t c d k (Read i off count) true open_for = stands_of_read b l n p t d k off count (first_read d off count) refl
+stands_at_turn b l n p t c d k (Trunc i) true open_for =
+    let first = first_slots i (bitmap_block c) d false in
+    record {
+      logged = inl open_for;
+      kept = subst (λ (s : Option ℕ). HoldsAt b p (slice_index d.addrs 12) s) (sym first.0) tt;
+      used = subst (λ (s : Option ℕ). HoldsAt b p (block_of_trunc (first_trunc i d false (bitmap_block c)) (first_trunc i d false (bitmap_block c)).at) s) (sym first.1) tt;
+    }
+stands_at_turn b l n p t c d k (Remove i) true open_for =
+    let first = first_slots i (bitmap_block c) d true in
+    record {
+      logged = inl open_for;
+      kept = subst (λ (s : Option ℕ). HoldsAt b p (slice_index d.addrs 12) s) (sym first.0) tt;
+      used = subst (λ (s : Option ℕ). HoldsAt b p (block_of_trunc (first_trunc i d true (bitmap_block c)) (first_trunc i d true (bitmap_block c)).at) s) (sym first.1) tt;
+    }
+stands_at_turn b l n p t c d k (Stat i) true open_for = tt
 
 -- in a store whose process p takes its inode, which the image has as d
 module _ {D N : Type 0} (disk : Ghosts D N) (s : StoreState D) (p : ℕ) (op : Op) (m : LockState) (is : IsStore disk.image s) (well : s.volume.fault ≡ None)
-    (stood : (task s.tasks p).place ≡ place.Taking m) (is_op : (task s.tasks p).op ≡ Some op) (joint : Joint (disk.image s.volume.device) s.volume.buffers s.volume.log) where
+    (stood : (task s.tasks p).place ≡ place.Taking m) (is_op : (task s.tasks p).op ≡ Some op) (inside : p < length s.tasks) (joint : Joint (disk.image s.volume.device) s.volume.buffers s.volume.log)
+    (alone : (q k : ℕ) → q ≢ p → grip_of (task s.tasks q) ≡ Some (locked_grip k m.number) → ⊥) where
   abbrev cur : Image
   cur = current_of disk.image s.volume
 
@@ -108,14 +147,27 @@ module _ {D N : Type 0} (disk : Ghosts D N) (s : StoreState D) (p : ℕ) (op : O
   room : HasRoom op (task s.tasks p).gathered
   room = subst (λ (q : Op). HasRoom q (task s.tasks p).gathered) (same_op disk s p op m is well stood is_op) (taking disk s p op m is well stood is_op).room
 
-  can : CanLook s.table.inode_count op
-  can = look disk s p op m is well stood is_op
+  can : CanTake s.table.inode_count op
+  can = can_take disk s p op m is well stood is_op
 
   asks : m.number ≡ asked op
   asks = number disk s p op m is well stood is_op
 
+  -- nobody holds its number
+  pub holds_alone : HoldsAlone s.tasks p m.number
+  holds_alone = holds_alone_of cur s.table s.tasks (looking disk s p op m is well stood is_op) p m.number alone
+
+  pub holds_nothing : (j : ℕ) → claim_by (task s.tasks p).place j ≡ None
+  holds_nothing j = ap (λ (a : Place). claim_by a j) stood
+
+  none : claims_of s.tasks m.number ≡ None
+  none = none_held s.tasks m.number (λ q. ⊎_elim
+      (λ (same : q ≡ p). ap (λ (r : ℕ). claim_by (task s.tasks r).place m.number) same ∙ holds_nothing m.number)
+      (λ (apart : q ≢ p). holds_alone q apart)
+      (cases_eq q p))
+
   may : inode.kind ≢ 0 → MayRead cur inode
-  may used = let files = (looking disk s p op m is well stood is_op).files in used_may_be_read files.0 cur m.number files.1 (may_name_now disk s p op m is well stood is_op, used)
+  may used = let files = (looking disk s p op m is well stood is_op).files in resting_may_be_read files.0 cur (claims_of s.tasks) m.number files.1 (may_name_now disk s p op m is well stood is_op, used) none
 
   -- a used inode's file may be read
   pub readable : (used : Bool) → (used ≡ true → inode.kind ≢ 0) → IsReadable (if_used used inode)
@@ -130,56 +182,92 @@ module _ {D N : Type 0} (disk : Ghosts D N) (s : StoreState D) (p : ℕ) (op : O
   size = let long = length-current (disk.image s.volume.device) s.volume.buffers in sym (long ∙ joint.size)
 
   -- the files are then what the reply says
-  module _ (t : StoreState D) (same : (files : Files) → FitsFiles disk.image s files → FitsFiles disk.image t files) where
-    used_turn : (q : Op) → CanLook s.table.inode_count q → m.number ≡ asked q → inode.kind ≢ 0 → (files : Files) → Fits files cur → FitsFiles disk.image t files
+  module _ (t : StoreState D) (u : TaskState) (k : ℕ) (tasks : t.tasks ≡ set s.tasks p u) (current : current_of disk.image t.volume ≡ cur)
+      (same : claim_by u.place m.number ≡ None → (files : Files) → FitsFiles disk.image s files → FitsFiles disk.image t files) where
+    fits_then : (files : Files) → FitsHeld files cur (claims_of (set s.tasks p u)) → FitsFiles disk.image t files
+    unfolding FitsFiles
+    fits_then files fits = subst (λ (x : Image). FitsHeld files x (claims_of t.tasks)) (sym current) (subst (λ (ts : List TaskState). FitsHeld files cur (claims_of ts)) (sym tasks) fits)
+
+    fits_before : (files : Files) → FitsFiles disk.image s files → FitsHeld files cur (claims_of s.tasks)
+    unfolding FitsFiles
+    fits_before files fits = fits
+
+    -- the number is held now
+    frees : (removes : Bool) → u.place ≡ place.Truncating k (first_trunc m.number inode removes (bitmap_block s.table.inode_count)) → inode.kind ≢ 0 → (files : Files) → FitsHeld files cur (claims_of s.tasks)
+        → FitsFiles disk.image t (set files m.number (file_left (cond removes 0 inode.kind)))
+    frees removes there used files fits =
+        let own : claim_by u.place m.number ≡ Some (held_at_turn inode removes) = ap (λ (a : Place). claim_by a m.number) there ∙ claim_at_turn s.table.inode_count inode k m.number removes in
+        let others : (j : ℕ) → j ≢ m.number → claim_by u.place j ≡ claim_by (task s.tasks p).place j = λ j other. ap (λ (a : Place). claim_by a j) there ∙ rw (ne_eqb m.number j (λ e. other (sym e))) refl ∙ sym (holds_nothing j) in
+        let now : IsClaimedNow (claims_of s.tasks) m.number (Some (held_at_turn inode removes)) (claims_of (set s.tasks p u)) =
+        subst (λ (o : Option Held). IsClaimedNow (claims_of s.tasks) m.number o (claims_of (set s.tasks p u))) own (claimed_now s.tasks p m.number u inside holds_alone others) in
+        fits_then (set files m.number (file_left (cond removes 0 inode.kind)))
+        (turn_holds files cur (claims_of s.tasks) (claims_of (set s.tasks p u)) m.number (cond removes 0 inode.kind) fits (may_name_now disk s p op m is well stood is_op, used) none (last removes) now).fits
+      where
+        last : (b : Bool) → (cond b 0 inode.kind ≡ 0) ⊎ (cond b 0 inode.kind ≡ inode.kind)
+        last true = inl refl
+        last false = inr refl
+
+    used_turn : (q : Op) → CanTake s.table.inode_count q → m.number ≡ asked q → u.place ≡ place_of_look s.table.inode_count inode k q → inode.kind ≢ 0 → (files : Files) → FitsFiles disk.image s files
         → TurnsTo (form_of cur) q (reply_of_look inode q) files (FitsFiles disk.image t)
-    used_turn (Create kind) allowed named used files fits then_fits = absurd allowed
-    used_turn (Write i off bytes) allowed named used files fits then_fits = absurd allowed
-    used_turn (Read i off n) allowed named used files fits then_fits = then_fits
-    used_turn (Trunc i) allowed named used files fits then_fits = absurd allowed
-    used_turn (Remove i) allowed named used files fits then_fits = absurd allowed
-    used_turn (Stat i) allowed named used files fits then_fits = (
+    used_turn (Create kind) allowed named there used files fits = absurd allowed
+    used_turn (Write i off bytes) allowed named there used files fits = absurd allowed
+    used_turn (Read i off n) allowed named there used files fits = same (ap (λ (a : Place). claim_by a m.number) there ∙ none_of_read k m.number (first_read inode off n)) files fits
+    used_turn (Trunc i) allowed named there used files fits =
+        let before = fits_before files fits in (
+          set files m.number (file_left inode.kind),
+          subst (λ (j : ℕ). after (form_of cur) files (Trunc j) Done ≡ Some (set files m.number (file_left inode.kind))) named
+              (turn_answers files cur (claims_of s.tasks) m.number before (may_name_now disk s p op m is well stood is_op, used) none).0,
+          frees false (there ∙ ap (λ (j : ℕ). place.Truncating k (first_trunc j inode false (bitmap_block s.table.inode_count))) (sym named)) used files before,
+        )
+    used_turn (Remove i) allowed named there used files fits =
+        let before = fits_before files fits in (
+          set files m.number (file_left 0),
+          subst (λ (j : ℕ). after (form_of cur) files (Remove j) Done ≡ Some (set files m.number (file_left 0))) named
+              (turn_answers files cur (claims_of s.tasks) m.number before (may_name_now disk s p op m is well stood is_op, used) none).1,
+          frees true (there ∙ ap (λ (j : ℕ). place.Truncating k (first_trunc j inode true (bitmap_block s.table.inode_count))) (sym named)) used files before,
+        )
+    used_turn (Stat i) allowed named there used files fits = (
       files,
       subst (λ (j : ℕ). after (form_of cur) files (Stat j) (StatOf inode.kind inode.size) ≡ Some files) named
-          (stat_tells files cur m.number fits (may_name_now disk s p op m is well stood is_op, used)),
-      then_fits,
+          (resting_tells files cur (claims_of s.tasks) m.number (fits_before files fits) (may_name_now disk s p op m is well stood is_op, used) none).stat,
+      same (ap (λ (a : Place). claim_by a m.number) there) files fits,
     )
 
-    free_turn : (q : Op) → CanLook s.table.inode_count q → m.number ≡ asked q → inode.kind ≡ 0 → (files : Files) → Fits files cur → FitsFiles disk.image t files
+    free_turn : (q : Op) → CanTake s.table.inode_count q → m.number ≡ asked q → u.place ≡ place.Leaving k → inode.kind ≡ 0 → (files : Files) → FitsFiles disk.image s files
         → TurnsTo (form_of cur) q (Some NoFile) files (FitsFiles disk.image t)
-    free_turn (Create kind) allowed named free files fits then_fits = absurd allowed
-    free_turn (Write i off bytes) allowed named free files fits then_fits = absurd allowed
-    free_turn (Read i off n) allowed named free files fits then_fits = (
+    free_turn q allowed named there free files fits = (
       files,
-      subst (λ (j : ℕ). after (form_of cur) files (Read j off n) NoFile ≡ Some files) named
-          ((no_file_tells files cur m.number fits (may_name_now disk s p op m is well stood is_op, free)).read off n allowed.1),
-      then_fits,
+      by_op q allowed named,
+      same (ap (λ (a : Place). claim_by a m.number) there) files fits,
     )
-    free_turn (Trunc i) allowed named free files fits then_fits = absurd allowed
-    free_turn (Remove i) allowed named free files fits then_fits = absurd allowed
-    free_turn (Stat i) allowed named free files fits then_fits = (
-      files,
-      subst (λ (j : ℕ). after (form_of cur) files (Stat j) NoFile ≡ Some files) named
-          (no_file_tells files cur m.number fits (may_name_now disk s p op m is well stood is_op, free)).stat,
-      then_fits,
-    )
+      where
+        by_op : (o : Op) → CanTake s.table.inode_count o → m.number ≡ asked o → after (form_of cur) files o NoFile ≡ Some files
+        by_op (Create kind) can_it named_it = absurd can_it
+        by_op (Write i off bytes) can_it named_it = absurd can_it
+        by_op (Read i off n) can_it named_it = subst (λ (j : ℕ). after (form_of cur) files (Read j off n) NoFile ≡ Some files) named_it
+            ((free_tells files cur (claims_of s.tasks) m.number (fits_before files fits) (may_name_now disk s p op m is well stood is_op, free)).1.read off n can_it.1)
+        by_op (Trunc i) can_it named_it = subst (λ (j : ℕ). after (form_of cur) files (Trunc j) NoFile ≡ Some files) named_it
+            (free_tells files cur (claims_of s.tasks) m.number (fits_before files fits) (may_name_now disk s p op m is well stood is_op, free)).1.trunc
+        by_op (Remove i) can_it named_it = subst (λ (j : ℕ). after (form_of cur) files (Remove j) NoFile ≡ Some files) named_it
+            (free_tells files cur (claims_of s.tasks) m.number (fits_before files fits) (may_name_now disk s p op m is well stood is_op, free)).1.remove
+        by_op (Stat i) can_it named_it = subst (λ (j : ℕ). after (form_of cur) files (Stat j) NoFile ≡ Some files) named_it
+            (free_tells files cur (claims_of s.tasks) m.number (fits_before files fits) (may_name_now disk s p op m is well stood is_op, free)).1.stat
 
-    pub files_at_turn : (used : Bool) → (used ≡ true → inode.kind ≢ 0) → (used ≡ false → inode.kind ≡ 0) → (files : Files) → FitsFiles disk.image s files
+    pub files_at_turn : (used : Bool) → (used ≡ true → inode.kind ≢ 0) → (used ≡ false → inode.kind ≡ 0) → u.place ≡ place_when_taken s.table.inode_count (if_used used inode) k op → (files : Files) → FitsFiles disk.image s files
         → TurnsTo (form_of cur) op (reply_when_taken (if_used used inode) op) files (FitsFiles disk.image t)
-    unfolding FitsFiles
-    files_at_turn true is_used is_free files fits = used_turn op can asks (is_used refl) files fits (same files fits)
-    files_at_turn false is_used is_free files fits = free_turn op can asks (is_free refl) files fits (same files fits)
+    files_at_turn true is_used is_free there files fits = used_turn op can asks there (is_used refl) files fits
+    files_at_turn false is_used is_free there files fits = free_turn op can asks there (is_free refl) files fits
 
   -- and what is true of its task
   module _ (tab : TableState) (k : ℕ) (count : tab.inode_count ≡ s.table.inode_count) where
     answered : (u : TaskState) → u.op ≡ Some op → WasAnswered tab.inode_count u
-    answered u has = record { op = op; is = has; look = subst (λ (n : ℕ). CanLook n op) (sym count) can }
+    answered u has = record { op = op; is = has; can = subst (λ (n : ℕ). CanTake n op) (sym count) can }
 
     reads : (q : Op) → op ≡ q → (off n i : ℕ) → q ≡ Read i off n → (o : Option ReadState) → first_read inode off n ≡ o → inode.kind ≢ 0 → copy_at tab.places k ≡ Some inode
         → (u : TaskState) → u.op ≡ Some op → u.gathered ≡ (task s.tasks p).gathered → LooksAt cur tab u (place_of_read k o)
     reads q same off n i reading None first used copy u has gathered =
         let here : op ≡ Read i off n = same ∙ reading in
-        let look : CanLook s.table.inode_count (Read i off n) = subst (CanLook s.table.inode_count) here can in
+        let look : CanLook s.table.inode_count (Read i off n) = subst (CanTake s.table.inode_count) here can in
         let had : (task s.tasks p).gathered ≡ Some (record { bytes = []; room = n }) = subst (λ (o : Op). HasRoom o (task s.tasks p).gathered) here room in
         record {
           op = record {
@@ -197,7 +285,7 @@ module _ {D N : Type 0} (disk : Ghosts D N) (s : StoreState D) (p : ℕ) (op : O
         }
     reads q same off n i reading (Some r) first used copy u has gathered =
         let here : op ≡ Read i off n = same ∙ reading in
-        let look : CanLook s.table.inode_count (Read i off n) = subst (CanLook s.table.inode_count) here can in
+        let look : CanLook s.table.inode_count (Read i off n) = subst (CanTake s.table.inode_count) here can in
         let had : (task s.tasks p).gathered ≡ Some (record { bytes = []; room = n }) = subst (λ (o : Op). HasRoom o (task s.tasks p).gathered) here room in
         record {
           op = record {
@@ -213,15 +301,24 @@ module _ {D N : Type 0} (disk : Ghosts D N) (s : StoreState D) (p : ℕ) (op : O
           read = has_begun disk.image s.volume p inode off n r (record { bytes = []; room = n }) (may used) size first refl;
         }
 
-    looks_used : (q : Op) → op ≡ q → inode.kind ≢ 0 → copy_at tab.places k ≡ Some inode → (u : TaskState) → u.op ≡ Some op → u.gathered ≡ (task s.tasks p).gathered → LooksAt cur tab u (place_of_look inode k q)
+    truncates : (removes : Bool) (i : ℕ) → op ≡ cond removes (Remove i) (Trunc i) → i ≡ asked op → inode.kind ≢ 0 → (u : TaskState) → u.op ≡ Some op
+        → IsTruncating cur tab.inode_count u (first_trunc i inode removes (bitmap_block s.table.inode_count))
+    truncates removes i same named used u has = record {
+      op = has ∙ ap Some same;
+      number = subst (λ (j : ℕ). IsTrue (is_number tab.inode_count j)) (asks ∙ sym named) (subst (λ (n : ℕ). IsTrue (is_number n m.number)) (sym count) (may_name disk s p op m is well stood is_op));
+      bitmap = ap bitmap_block (sym count);
+      given = first_given cur i (bitmap_block s.table.inode_count) inode removes (may used).fit.fields.count;
+    }
+
+    looks_used : (q : Op) → op ≡ q → inode.kind ≢ 0 → copy_at tab.places k ≡ Some inode → (u : TaskState) → u.op ≡ Some op → u.gathered ≡ (task s.tasks p).gathered → LooksAt cur tab u (place_of_look s.table.inode_count inode k q)
     looks_used (Create kind) same used copy u has gathered = answered u has
     looks_used (Write i off bytes) same used copy u has gathered = answered u has
     looks_used (Read i off n) same used copy u has gathered = reads (Read i off n) same off n i refl (first_read inode off n) refl used copy u has gathered
-    looks_used (Trunc i) same used copy u has gathered = answered u has
-    looks_used (Remove i) same used copy u has gathered = answered u has
+    looks_used (Trunc i) same used copy u has gathered = truncates false i same (sym (ap asked same)) used u has
+    looks_used (Remove i) same used copy u has gathered = truncates true i same (sym (ap asked same)) used u has
     looks_used (Stat i) same used copy u has gathered = answered u has
 
     pub looks_at_turn : (used : Bool) → (used ≡ true → inode.kind ≢ 0) → (used ≡ true → copy_at tab.places k ≡ Some inode) → (u : TaskState) → u.op ≡ Some op → u.gathered ≡ (task s.tasks p).gathered
-        → LooksAt cur tab u (place_when_taken (if_used used inode) k op)
+        → LooksAt cur tab u (place_when_taken s.table.inode_count (if_used used inode) k op)
     looks_at_turn true is_used copy u has gathered = looks_used op refl (is_used refl) (copy refl) u has gathered
     looks_at_turn false is_used copy u has gathered = answered u has

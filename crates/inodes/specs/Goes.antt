@@ -22,10 +22,11 @@ use Rattle.inodes.specs.declared.tasks.Place.TheVariants as place
 use Rattle.inodes.specs.Creation.{lowest_free}
 use Rattle.inodes.specs.Ialloc.{SearchState, at_slot, at_next_block}
 use Rattle.inodes.specs.Ilock.{LockSteps}
+use Rattle.inodes.specs.Itrunc.{TruncState, TruncSteps, inode_left}
 use Rattle.inodes.specs.LockState.{LockState, place_of}
 use Rattle.inodes.specs.Readi.{ReadState, ReadSteps}
 use Rattle.inodes.specs.Store.{StoreState, current_of}
-use Rattle.inodes.specs.Table.{left}
+use Rattle.inodes.specs.Table.{TableState, left, renewed}
 use Rattle.inodes.specs.Tasks.{task}
 use Rattle.inodes.specs.Turning.{if_used, reply_when_taken, place_when_taken}
 
@@ -114,12 +115,12 @@ progress_of_lock d op (machine.Over used) = progress.Turned (reply_when_taken (i
 progress_of_lock d op (machine.Fault fault) = progress.Fault fault
 
 -- and where the task stands then
-abbrev pub place_of_lock : Dinode → Op → LockState → LockState → Progress Bool → Place
-place_of_lock d op m n machine.Moved = place.Taking n
-place_of_lock d op m n (machine.Sleeping why) = place.Taking m
-place_of_lock d op m n (machine.Over used) =
-    place_when_taken (if_used used d) (place_of n.at) op
-place_of_lock d op m n (machine.Fault fault) = place.Taking m
+abbrev pub place_of_lock : ℕ → Dinode → Op → LockState → LockState → Progress Bool → Place
+place_of_lock count d op m n machine.Moved = place.Taking n
+place_of_lock count d op m n (machine.Sleeping why) = place.Taking m
+place_of_lock count d op m n (machine.Over used) =
+    place_when_taken count (if_used used d) (place_of n.at) op
+place_of_lock count d op m n (machine.Fault fault) = place.Taking m
 
 -- A step that takes the inode of an operation: with the last one it has its turn, and knows the
 -- inode that the current image has.
@@ -130,7 +131,8 @@ pub record TakesInode {D N : Type 0} (disk : Ghosts D N) (s : StoreState D) (p :
   pub locks : LockSteps disk m.at s.table s.volume p m answer t.table t.volume now
   pub gives : r ≡ progress_of_lock (inode_of (current_of disk.image s.volume) m.number) op answer
   pub next : (task t.tasks p).place
-      ≡ place_of_lock (inode_of (current_of disk.image s.volume) m.number) op m now answer
+      ≡ place_of_lock s.table.inode_count (inode_of (current_of disk.image s.volume) m.number)
+      op m now answer
   pub bytes : (task t.tasks p).gathered ≡ (task s.tasks p).gathered
 
 -- what a step of a reading is to the task
@@ -160,6 +162,38 @@ pub record ReadsOn {D N : Type 0} (disk : Ghosts D N) (s : StoreState D) (p k : 
   pub next : (task t.tasks p).place ≡ place_of_reading k m now answer
   pub has : (task t.tasks p).gathered ≡ Some bytes
   pub table : t.table ≡ s.table
+
+-- what a step of freeing a file's blocks is to the task
+abbrev pub progress_of_trunc : Progress (Unit {0}) → TaskProgress
+progress_of_trunc machine.Moved = progress.Moved
+progress_of_trunc (machine.Sleeping why) = progress.Sleeping why
+progress_of_trunc (machine.Over out) = progress.Moved
+progress_of_trunc (machine.Fault fault) = progress.Fault fault
+
+-- where the task stands then
+abbrev pub place_of_trunc : ℕ → TruncState → TruncState → Progress (Unit {0}) → Place
+place_of_trunc k m n machine.Moved = place.Truncating k n
+place_of_trunc k m n (machine.Sleeping why) = place.Truncating k m
+place_of_trunc k m n (machine.Over out) = place.Leaving k
+place_of_trunc k m n (machine.Fault fault) = place.Truncating k m
+
+-- and the table: with the last step the inode is read no more from it, or is what was written
+abbrev pub table_of_trunc : TableState → ℕ → TruncState → Progress (Unit {0}) → TableState
+table_of_trunc t k m machine.Moved = t
+table_of_trunc t k m (machine.Sleeping why) = t
+table_of_trunc t k m (machine.Over out) = renewed t k (inode_left m)
+table_of_trunc t k m (machine.Fault fault) = t
+
+-- a step of freeing a file's blocks, whose inode stands at place k of the table
+pub record Truncates {D N : Type 0} (disk : Ghosts D N) (s : StoreState D) (p k : ℕ)
+    (m : TruncState) (r : TaskProgress) (t : StoreState D) : Type 0 where
+  pub answer : Progress (Unit {0})
+  pub now : TruncState
+  pub truncs : TruncSteps disk m.at s.volume p m answer now t.volume
+  pub gives : r ≡ progress_of_trunc answer
+  pub next : (task t.tasks p).place ≡ place_of_trunc k m now answer
+  pub table : t.table ≡ table_of_trunc s.table k m answer
+  pub bytes : (task t.tasks p).gathered ≡ (task s.tasks p).gathered
 
 -- the task gives up the inode at place k, and is over
 pub record GivesUp {D : Type 0} (s : StoreState D) (p k : ℕ) (t : StoreState D) : Type 0 where
@@ -192,4 +226,5 @@ Goes disk (place.Taking m) s p op r t =
     TakesInode disk s p op m r t × ShowsSame disk.image s t
 Goes disk (place.Reading k m) s p op r t = ReadsOn disk s p k m r t × ShowsSame disk.image s t
 Goes disk (place.Delivering k) s p op r t = Delivers s p k r t
+Goes disk (place.Truncating k m) s p op r t = Truncates disk s p k m r t
 Goes disk (place.Leaving k) s p op r t = (r ≡ progress.Over) × GivesUp s p k t

@@ -6,7 +6,7 @@ use Rattle.model.specs.declared.types.image.Dinode.{Dinode}
 use Rattle.model.specs.Journal.{is_number}
 use Rattle.model.specs.Layout.{inode_of}
 use Rattle.inodes.specs.declared.table.InMemory.{InMemory}
-use Rattle.inodes.specs.Table.{TableState, AreCounted, HasPlaceFor, new_table, entry_at, is_of, place_for, holder_in, holder_at, copy_in, copy_at, referred, locked, kept, left}
+use Rattle.inodes.specs.Table.{TableState, AreCounted, HasPlaceFor, new_table, entry_at, is_of, place_for, holder_in, holder_at, copy_in, copy_at, referred, locked, renewed, left}
 
 -- an inode to which a process refers
 pub record Grip : Type 0 where
@@ -89,11 +89,21 @@ KeptByLock = (t : TableState) (gs : List (Option Grip)) (cur : Image) (p k i : �
     → TableIs t gs cur → grip gs p ≡ Some (unlocked_grip k i) → holder_at t.places k ≡ None
     → KeepsTable t (locked t k p) p gs (with_grip gs p (Some (locked_grip k i))) cur
 
--- who read a used inode keeps it
-abbrev pub KeptByRead : Type 0
-KeptByRead = (t : TableState) (gs : List (Option Grip)) (cur : Image) (p k i : ℕ) (d : Dinode)
-    → TableIs t gs cur → grip gs p ≡ Some (locked_grip k i) → d ≡ inode_of cur i → d.kind ≢ 0
-    → KeepsTable t (kept t k d) p gs gs cur
+-- the used inodes of n numbers but i are the same in both images
+abbrev pub KeepsUsedInodes : ℕ → ℕ → Image → Image → Type 0
+KeepsUsedInodes n i old new = (j : ℕ) → IsTrue (is_number n j) → j ≢ i → (inode_of old j).kind ≢ 0
+    → inode_of new j ≡ inode_of old j
+
+-- a copy of number i is that inode in an image, and used
+abbrev pub IsCopy : Image → ℕ → Option Dinode → Type 0
+IsCopy x i c = (d : Dinode) → c ≡ Some d → (inode_of x i ≡ d) × (d.kind ≢ 0)
+
+-- who has an inode's lock keeps what it read of it, or wrote
+abbrev pub KeptByRenew : Type 0
+KeptByRenew = (t : TableState) (gs : List (Option Grip)) (old new : Image) (p k i : ℕ)
+    (c : Option Dinode) → TableIs t gs old → grip gs p ≡ Some (locked_grip k i)
+    → KeepsUsedInodes t.inode_count i old new → IsCopy new i c
+    → KeepsTable t (renewed t k c) p gs gs new
 
 -- who gives up lock and reference has no grip
 abbrev pub KeptByLeave : Type 0
@@ -101,15 +111,10 @@ KeptByLeave = (t : TableState) (gs : List (Option Grip)) (cur : Image) (p k i : 
     → TableIs t gs cur → grip gs p ≡ Some (locked_grip k i)
     → KeepsTable t (left t k) p gs (with_grip gs p None) cur
 
--- the used inodes of n numbers are the same in both images
-abbrev pub KeepsUsedInodes : ℕ → Image → Image → Type 0
-KeepsUsedInodes n old new = (i : ℕ) → IsTrue (is_number n i) → (inode_of old i).kind ≢ 0
-    → inode_of new i ≡ inode_of old i
-
 -- the current image changes, but no used inode
 abbrev pub KeptByImage : Type 0
 KeptByImage = (t : TableState) (gs : List (Option Grip)) (old new : Image)
-    → TableIs t gs old → KeepsUsedInodes t.inode_count old new → TableIs t gs new
+    → TableIs t gs old → KeepsUsedInodes t.inode_count 0 old new → TableIs t gs new
 
 -- at the opening nobody refers to an inode
 abbrev pub IsTableAtOpening : Type 0

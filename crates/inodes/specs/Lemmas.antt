@@ -3,9 +3,9 @@
 pub mod Bounds
 pub mod Looks
 pub mod Faults
-pub mod Ends
 pub mod StepEnds
 pub mod Runs
 pub mod ReadRuns
 pub mod Table
 pub mod Grips
+pub mod Holding

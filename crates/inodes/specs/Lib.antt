@@ -1,8 +1,11 @@
 pub mod Creation
 pub mod Goes
 pub mod Grips
+pub mod Holding
 pub mod Ialloc
 pub mod Ilock
+pub mod Itrunc
+pub mod Iupdate
 pub mod Lemmas
 pub mod LockState
 pub mod Looks

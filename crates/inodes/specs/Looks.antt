@@ -1,5 +1,5 @@
--- Operations that look at a file: what is true of their tasks, of the table and of the current
--- image between any two steps.
+-- Operations that take an inode: what is true of their tasks, of the table and of the current image
+-- between any two steps.
 use Rattle.std.specs.Prelude.{◌≡◌, ◌<◌, ◌≤◌, ℕ, ◌+◌, ◌-◌, ◌/◌, min, IsTrue, List, [], Option, Some, None}
 use Rattle.blocks.specs.Disk.{Image}
 use Rattle.model.specs.declared.types.image.Dinode.{Dinode}
@@ -10,7 +10,7 @@ use Rattle.model.specs.Gathered.{GatheredBytes}
 use Rattle.model.specs.Journal.{is_number}
 use Rattle.model.specs.Operations.{part_of, transfer_limit}
 use Rattle.model.specs.Places.{address_in}
-use Rattle.loose.specs.Loose.{Fits}
+use Rattle.loose.specs.Held.{Claims, FitsHeld}
 use Rattle.blockmap.specs.Bmap.{with_slot}
 use Rattle.blockmap.specs.Target.{target_for}
 use Rattle.blockmap.specs.declared.target.Target.{Target}
@@ -18,6 +18,7 @@ use Rattle.blockmap.specs.declared.target.Target.TheVariants as target
 use Rattle.inodes.specs.declared.tasks.Place.{Place}
 use Rattle.inodes.specs.declared.tasks.Place.TheVariants as place
 use Rattle.inodes.specs.Grips.{HasNumber, TableIs}
+use Rattle.inodes.specs.Holding.{IsTruncating, claims_of}
 use Rattle.inodes.specs.LockState.{LockState}
 use Rattle.inodes.specs.Places.{asked, grips_of}
 use Rattle.inodes.specs.Readi.{ReadState}
@@ -34,6 +35,16 @@ CanLook n (Trunc i) = ⊥
 CanLook n (Remove i) = ⊥
 CanLook n (Stat i) = IsTrue (is_number n i)
 
+-- an operation that takes the inode of a number that operations may name: one that looks at its
+-- file, or frees its blocks
+abbrev pub CanTake : ℕ → Op → Type 0
+CanTake n (Create kind) = ⊥
+CanTake n (Write i off bytes) = ⊥
+CanTake n (Read i off count) = IsTrue (is_number n i) × (count ≤ transfer_limit)
+CanTake n (Trunc i) = IsTrue (is_number n i)
+CanTake n (Remove i) = IsTrue (is_number n i)
+CanTake n (Stat i) = IsTrue (is_number n i)
+
 -- a reading has room for as many bytes as it asks for, and none so far
 abbrev pub HasRoom : Op → Option GatheredBytes → Type 0
 HasRoom (Create kind) g = g ≡ None
@@ -43,11 +54,11 @@ HasRoom (Trunc i) g = g ≡ None
 HasRoom (Remove i) g = g ≡ None
 HasRoom (Stat i) g = g ≡ None
 
--- an operation that looks takes its inode
+-- an operation takes its inode
 pub record IsTaking (n : ℕ) (t : TaskState) (m : LockState) : Type 0 where
   pub op : Op
   pub is : t.op ≡ Some op
-  pub look : CanLook n op
+  pub can : CanTake n op
   pub number : m.number ≡ asked op
   pub room : HasRoom op t.gathered
 
@@ -90,11 +101,11 @@ pub record HasAllRead (cur : Image) (n : ℕ) (inode : Option Dinode) (t : TaskS
   pub copy : inode ≡ Some dinode
   pub bytes : op.gathered.bytes ≡ part_of (bytes_in cur dinode) op.offset op.count
 
--- an operation that looks was answered
+-- an operation that took its inode has its reply
 pub record WasAnswered (n : ℕ) (t : TaskState) : Type 0 where
   pub op : Op
   pub is : t.op ≡ Some op
-  pub look : CanLook n op
+  pub can : CanTake n op
 
 -- what is true of a task by its place, beside what it holds
 abbrev pub LooksAt : Image → TableState → TaskState → Place → Type 0
@@ -103,15 +114,16 @@ LooksAt cur i t (place.Creating m) = Unit {0}
 LooksAt cur i t (place.Taking m) = IsTaking i.inode_count t m
 LooksAt cur i t (place.Reading k m) = IsAtRead cur i.inode_count (copy_at i.places k) t m
 LooksAt cur i t (place.Delivering k) = HasAllRead cur i.inode_count (copy_at i.places k) t
+LooksAt cur i t (place.Truncating k m) = IsTruncating cur i.inode_count t m
 LooksAt cur i t (place.Leaving k) = WasAnswered i.inode_count t
 
--- the image stands for some files
-abbrev pub HasFiles : Image → Type 0
-HasFiles x = (files : Files) × Fits files x
+-- the image stands for some files, where tasks hold numbers so
+abbrev pub HasFiles : Image → Claims → Type 0
+HasFiles x claims = (files : Files) × FitsHeld files x claims
 
 -- THE TABLE agrees with tasks and current image, and each task with what it has read
 pub record AreLooking (cur : Image) (i : TableState) (ts : List TaskState) : Type 0 where
-  pub files : HasFiles cur
+  pub files : HasFiles cur (claims_of ts)
   pub table : TableIs i (grips_of ts) cur
   pub stand : (p : ℕ) → LooksAt cur i (task ts p) (task ts p).place
 

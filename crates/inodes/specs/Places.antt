@@ -1,5 +1,5 @@
 -- What a task's place says of its process.
-use Rattle.std.specs.Prelude.{ℕ, ◌+◌, ◌-◌, ◌*◌, Bool, true, false, List, map, Option, Some, None}
+use Rattle.std.specs.Prelude.{◌≡◌, ◌⊎◌, ℕ, ◌+◌, ◌-◌, ◌*◌, Bool, true, false, List, map, slice_index, Option, Some, None}
 use Rattle.model.specs.declared.types.operations.Op.{Op}
 use Rattle.model.specs.declared.types.operations.Op.TheVariants.{Create, Write, Read, Trunc, Remove, Stat}
 use Rattle.model.specs.Layout.{inode_block}
@@ -8,7 +8,11 @@ use Rattle.inodes.specs.declared.ilock.LockAt.{LockAt}
 use Rattle.inodes.specs.declared.ilock.LockAt.TheVariants as lock_at
 use Rattle.inodes.specs.declared.tasks.Place.{Place}
 use Rattle.inodes.specs.declared.tasks.Place.TheVariants as place
+use Rattle.inodes.specs.declared.itrunc.TruncAt.{TruncAt}
+use Rattle.inodes.specs.declared.itrunc.TruncAt.TheVariants as trunc_at
 use Rattle.inodes.specs.Grips.{Grip, unlocked_grip, locked_grip}
+use Rattle.inodes.specs.Holding.{kept_slot, used_slot, truncs_left}
+use Rattle.inodes.specs.Itrunc.{TruncState}
 use Rattle.inodes.specs.LockState.{slot_of, locks_left}
 use Rattle.inodes.specs.Readi.{reads_left}
 use Rattle.inodes.specs.Tasks.{TaskState}
@@ -33,6 +37,7 @@ is_over (place.Creating m) = false
 is_over (place.Taking m) = false
 is_over (place.Reading k m) = false
 is_over (place.Delivering k) = false
+is_over (place.Truncating k m) = false
 is_over (place.Leaving k) = false
 
 -- a task that stands there has not had its turn
@@ -42,16 +47,27 @@ is_unturned (place.Creating m) = true
 is_unturned (place.Taking m) = true
 is_unturned (place.Reading k m) = false
 is_unturned (place.Delivering k) = false
+is_unturned (place.Truncating k m) = false
 is_unturned (place.Leaving k) = false
 
--- the slot that a task has got
-abbrev pub slot_at : Place → Option ℕ
-slot_at place.Nowhere = None
-slot_at (place.Creating m) = m.slot
-slot_at (place.Taking m) = slot_of m.at
-slot_at (place.Reading k m) = slot_in m.target
-slot_at (place.Delivering k) = None
-slot_at (place.Leaving k) = None
+-- a task that stands there has got slot i
+abbrev pub HasSlot : Place → ℕ → Type 0
+HasSlot place.Nowhere i = None ≡ Some i
+HasSlot (place.Creating m) i = m.slot ≡ Some i
+HasSlot (place.Taking m) i = slot_of m.at ≡ Some i
+HasSlot (place.Reading k m) i = slot_in m.target ≡ Some i
+HasSlot (place.Delivering k) i = None ≡ Some i
+HasSlot (place.Truncating k m) i = (kept_slot m.at ≡ Some i) ⊎ (used_slot m.at ≡ Some i)
+HasSlot (place.Leaving k) i = None ≡ Some i
+
+-- the block that the freeing of a file's blocks gets or uses next
+abbrev pub block_of_trunc : TruncState → TruncAt → ℕ
+block_of_trunc m (trunc_at.Direct k f) = f.bitmap
+block_of_trunc m trunc_at.Getting = slice_index m.inode.addrs 12
+block_of_trunc m (trunc_at.Entry i f) = f.bitmap
+block_of_trunc m (trunc_at.Releasing i) = 0
+block_of_trunc m (trunc_at.Indirect f) = f.bitmap
+block_of_trunc m (trunc_at.Writing u) = inode_block u.number
 
 -- the block that a task gets or uses next
 abbrev pub block_at_place : Place → ℕ
@@ -60,6 +76,7 @@ block_at_place (place.Creating m) = m.block
 block_at_place (place.Taking m) = inode_block m.number
 block_at_place (place.Reading k m) = block_of m.target
 block_at_place (place.Delivering k) = 0
+block_at_place (place.Truncating k m) = block_of_trunc m m.at
 block_at_place (place.Leaving k) = 0
 
 -- what a process has of an inode that it takes
@@ -75,6 +92,7 @@ grip_by (place.Creating m) i = None
 grip_by (place.Taking m) i = grip_at m.at m.number
 grip_by (place.Reading k m) i = Some (locked_grip k i)
 grip_by (place.Delivering k) i = Some (locked_grip k i)
+grip_by (place.Truncating k m) i = Some (locked_grip k i)
 grip_by (place.Leaving k) i = Some (locked_grip k i)
 
 abbrev pub grip_of : TaskState → Option Grip
@@ -90,6 +108,7 @@ is_reading (place.Creating m) = false
 is_reading (place.Taking m) = false
 is_reading (place.Reading k m) = true
 is_reading (place.Delivering k) = true
+is_reading (place.Truncating k m) = false
 is_reading (place.Leaving k) = false
 
 -- the steps of a search at the block that it looks at: it has to be got, and looked at
@@ -97,12 +116,13 @@ abbrev pub looks_left : Option ℕ → ℕ
 looks_left None = 2
 looks_left (Some slot) = 1
 
--- the steps that a task has left at most; a reading has 16 for its bytes, which lie in four blocks,
--- and one in which it gives them out
+-- the steps that a task has left at most, the one included in which it gives its inode up; behind
+-- the turn a truncation has the most
 abbrev pub steps_left : Place → ℕ → ℕ
 steps_left place.Nowhere n = 0
 steps_left (place.Creating m) n = 2 * (inode_block (n - 1) - m.block) + looks_left m.slot
-steps_left (place.Taking m) n = locks_left m.at + 17
+steps_left (place.Taking m) n = locks_left m.at + 543
 steps_left (place.Reading k m) n = reads_left m + 1
 steps_left (place.Delivering k) n = 1
+steps_left (place.Truncating k m) n = truncs_left m + 1
 steps_left (place.Leaving k) n = 1

@@ -1,6 +1,7 @@
 -- What a step of a task promises.
 use Rattle.std.specs.Prelude.{◌≡◌, ◌≢◌, ◌<◌, ℕ, Bool, true, false, length, Option, Some, None}
 use Rattle.blocks.specs.Calls.{OnlyReads}
+use Rattle.blocks.specs.Disk.{Image}
 use Rattle.blocks.specs.declared.disk.Disk.{Ghosts}
 use Rattle.model.specs.declared.types.operations.Op.{Op}
 use Rattle.model.specs.declared.types.operations.Reply.{Reply}
@@ -10,15 +11,18 @@ use Rattle.model.specs.declared.types.operations.Why.{Why}
 use Rattle.model.specs.declared.types.operations.Why.TheVariants as why
 use Rattle.model.specs.Files.{Files}
 use Rattle.model.specs.Journal.{is_making}
-use Rattle.model.specs.Layout.{form_of}
+use Rattle.model.specs.Layout.{form_of, inode_of}
 use Rattle.model.specs.Tasks.{FilesThen, fault_of_task, reply_at_turn, Marks}
+use Rattle.loose.specs.Held.{Held, names_left}
+use Rattle.loose.specs.HeldLaws.{HasSameFile}
 use Rattle.wal.specs.declared.types.Committed.{Committed}
 use Rattle.wal.specs.Held.{HasLock}
 use Rattle.wal.specs.Machine.{SameGroups}
 use Rattle.wal.specs.Volume.{VolumeCommits, faults_after}
 use Rattle.inodes.specs.Goes.{Goes}
 use Rattle.inodes.specs.Grips.{unlocked_grip, locked_grip}
-use Rattle.inodes.specs.Places.{asked, asked_by, is_over, is_reading, slot_at, block_at_place, grip_of, steps_left}
+use Rattle.inodes.specs.Holding.{claims_of}
+use Rattle.inodes.specs.Places.{asked, asked_by, is_over, is_reading, HasSlot, block_at_place, grip_of, steps_left}
 use Rattle.inodes.specs.Store.{StoreState, FitsFiles, KeepsFiles, current_of}
 use Rattle.inodes.specs.Tasks.{task}
 
@@ -28,7 +32,7 @@ pub record IsHeldByAnother {D : Type 0} (s : StoreState D) (p b : ℕ) : Type 0 
   pub slot : ℕ
   pub apart : other ≢ p
   pub lock : HasLock s.volume.buffers other b slot
-  pub got : slot_at (task s.tasks other).place ≡ Some slot
+  pub got : HasSlot (task s.tasks other).place slot
 
 -- the inode that process p takes is locked by another process
 pub record IsInodeHeld {D : Type 0} (s : StoreState D) (p : ℕ) : Type 0 where
@@ -64,6 +68,26 @@ abbrev pub LeavesReadings : {D : Type 0} → StoreState D → ℕ → Op → Tas
 LeavesReadings s p op r = (q : ℕ) → q ≢ p → is_reading (task s.tasks q).place ≡ true
     → LeavesNumber op (reply_at_turn r) (asked_by (task s.tasks q).op)
 
+-- what stays of a number: its file where no task holds it, and else what is left of its blocks
+abbrev pub SameShare : Image → Image → ℕ → Option Held → Type 0
+SameShare x y i None = HasSameFile x y i
+SameShare x y i (Some h) =
+    names_left y h.copy h.given_up ≡ names_left x h.copy h.given_up
+
+-- THE SHARE of who has locked a used inode stays: the inode, what is held of it, and its blocks
+pub record LeavesShare {D : Type 0} (image : D → Image) (old : StoreState D) (i : ℕ)
+    (new : StoreState D) : Type 0 where
+  pub inode : inode_of (current_of image new.volume) i ≡ inode_of (current_of image old.volume) i
+  pub claim : claims_of new.tasks i ≡ claims_of old.tasks i
+  pub same : SameShare (current_of image old.volume) (current_of image new.volume) i
+      (claims_of old.tasks i)
+
+-- a step of process p leaves those of the others
+abbrev pub LeavesShares : {D : Type 0} → (D → Image) → StoreState D → ℕ → StoreState D → Type 0
+LeavesShares image old p new = (q k i : ℕ) → q ≢ p
+    → grip_of (task old.tasks q) ≡ Some (locked_grip k i)
+    → (inode_of (current_of image old.volume) i).kind ≢ 0 → LeavesShare image old i new
+
 -- a step was made
 abbrev pub is_made : TaskProgress → Bool
 is_made progress.Moved = true
@@ -96,6 +120,7 @@ pub record Steps {D N : Type 0} (disk : Ghosts D N) (old : StoreState D) (p : �
   pub waits : Waits old p r new
   pub reads : Reads disk old r new
   pub apart : LeavesReadings old p op r
+  pub shares : LeavesShares disk.image old p new
   pub falls : is_made r ≡ true → is_over (task old.tasks p).place ≡ false
       → steps_left (task new.tasks p).place old.table.inode_count
       < steps_left (task old.tasks p).place old.table.inode_count

@@ -1,5 +1,5 @@
 -- A volume with the tasks of processes, and what is true of it between any two steps.
-use Rattle.std.specs.Prelude.{◌≡◌, ◌<◌, ◌≤◌, ◌^◌, ℕ, ◌+◌, ◌-◌, IsTrue, IfNone, List, length, slice_set, Option, Some, None}
+use Rattle.std.specs.Prelude.{◌≡◌, ◌⊎◌, true, slice_index, ◌<◌, ◌≤◌, ◌^◌, ℕ, ◌+◌, ◌-◌, IsTrue, IfNone, List, length, slice_set, Option, Some, None}
 use Rattle.blocks.specs.Disk.{Image}
 use Rattle.model.specs.declared.types.operations.Op.{Op}
 use Rattle.model.specs.declared.types.operations.Op.TheVariants.{Create, Write, Read, Trunc, Remove, Stat}
@@ -7,13 +7,14 @@ use Rattle.model.specs.declared.types.operations.Reply.{Reply}
 use Rattle.model.specs.declared.types.operations.Reply.TheVariants.{Made, NoInode}
 use Rattle.model.specs.Files.{Files}
 use Rattle.model.specs.Layout.{inode_block, inode_count_of}
+use Rattle.model.specs.Journal.{is_number}
 use Rattle.model.specs.Operations.{is_kind}
 use Rattle.model.specs.Soundness.{IsLawfulGeometry}
-use Rattle.loose.specs.Loose.{Fits}
+use Rattle.loose.specs.Held.{FitsHeld}
 use Rattle.bcache.specs.Buffers.{Buffers, fresh_buffers}
 use Rattle.wal.specs.Held.{HoldsBlock, HasLock}
 use Rattle.wal.specs.Joint.{seen}
-use Rattle.wal.specs.Machine.{LogState, used_by, begin_cause, begun, new_log}
+use Rattle.wal.specs.Machine.{LogState, used_by, is_among, begin_cause, begun, new_log}
 use Rattle.wal.specs.Volume.{VolumeState}
 use Rattle.model.specs.Gathered.{GatheredBytes}
 use Rattle.blockmap.specs.Target.{block_of, slot_in}
@@ -21,9 +22,11 @@ use Rattle.inodes.specs.Ialloc.{SearchState}
 use Rattle.inodes.specs.declared.ilock.LockAt.TheVariants as lock_at
 use Rattle.inodes.specs.declared.tasks.Place.{Place}
 use Rattle.inodes.specs.declared.tasks.Place.TheVariants as place
+use Rattle.inodes.specs.Holding.{claims_of, kept_slot, used_slot}
+use Rattle.inodes.specs.Itrunc.{TruncState}
 use Rattle.inodes.specs.LockState.{slot_of}
 use Rattle.inodes.specs.Looks.{AreLooking}
-use Rattle.inodes.specs.Places.{asked, slot_at}
+use Rattle.inodes.specs.Places.{asked, HasSlot, block_of_trunc}
 use Rattle.inodes.specs.Table.{TableState}
 use Rattle.inodes.specs.Tasks.{TaskState, task}
 
@@ -40,7 +43,7 @@ current_of image v = seen (image v.device) v.buffers
 
 -- THE FILES: the current image stands for these, with the operations that had their turn done
 unfoldable pub FitsFiles : {D : Type 0} → (D → Image) → StoreState D → Files → Type 0
-FitsFiles image s files = Fits files (current_of image s.volume)
+FitsFiles image s files = FitsHeld files (current_of image s.volume) (claims_of s.tasks)
 
 -- whatever files it stood for, it stands for
 abbrev pub KeepsFiles : {D : Type 0} → (D → Image) → StoreState D → StoreState D → Type 0
@@ -66,14 +69,18 @@ pub record MayBegin (l : LogState) (p : ℕ) : Type 0 where
   pub free : begin_cause l ≡ None
   pub opened : HasGroupNumber l
 
--- changing operations that a store carries out
-abbrev pub CanBegin : Op → Type 0
-CanBegin (Create kind) = IsTrue (is_kind kind)
-CanBegin (Write i off bytes) = ⊥
-CanBegin (Read i off n) = ⊥
-CanBegin (Trunc i) = ⊥
-CanBegin (Remove i) = ⊥
-CanBegin (Stat i) = ⊥
+-- changing operations that a store carries out, over an image of n inode numbers
+abbrev pub CanBegin : ℕ → Op → Type 0
+CanBegin n (Create kind) = IsTrue (is_kind kind)
+CanBegin n (Write i off bytes) = ⊥
+CanBegin n (Read i off count) = ⊥
+CanBegin n (Trunc i) = IsTrue (is_number n i)
+CanBegin n (Remove i) = IsTrue (is_number n i)
+CanBegin n (Stat i) = ⊥
+
+-- the place of an operation that takes the inode of a number
+abbrev pub first_taking : ℕ → Place
+first_taking i = place.Taking (record { number = i; at = lock_at.Reference })
 
 -- where the task of a changing operation begins
 abbrev pub first_place : Op → ℕ → Place
@@ -85,8 +92,8 @@ first_place (Create kind) n = place.Creating (record {
 })
 first_place (Write i off bytes) n = place.Nowhere
 first_place (Read i off m) n = place.Nowhere
-first_place (Trunc i) n = place.Nowhere
-first_place (Remove i) n = place.Nowhere
+first_place (Trunc i) n = first_taking i
+first_place (Remove i) n = first_taking i
 first_place (Stat i) n = place.Nowhere
 
 -- what a creation answers whose search came to a number, or to none
@@ -106,7 +113,7 @@ abbrev pub with_look : {D : Type 0} → StoreState D → ℕ → Op → Option G
 with_look s p op room = record s {
   tasks = slice_set s.tasks p (record {
     op = Some op;
-    place = place.Taking (record { number = asked op; at = lock_at.Reference });
+    place = first_taking (asked op);
     gathered = room;
   });
 }
@@ -136,20 +143,44 @@ pub record IsSearching (c : Buffers) (l : LogState) (n p : ℕ) (o : Option Op) 
   pub last : m.block ≤ inode_block (n - 1)
   pub holds : HoldsAt c p m.block m.slot
 
+-- a changing operation that takes its inode is open in the log, and added nothing yet
+abbrev pub IsOpenFor : LogState → ℕ → Option Op → Type 0
+IsOpenFor l p None = Unit {0}
+IsOpenFor l p (Some (Create kind)) = Unit {0}
+IsOpenFor l p (Some (Write i off bytes)) = used_by l p ≡ Some 0
+IsOpenFor l p (Some (Read i off n)) = Unit {0}
+IsOpenFor l p (Some (Trunc i)) = used_by l p ≡ Some 0
+IsOpenFor l p (Some (Remove i)) = used_by l p ≡ Some 0
+IsOpenFor l p (Some (Stat i)) = Unit {0}
+
+-- an operation that frees blocks added the bitmap's block at most
+abbrev pub HasLogged : LogState → ℕ → ℕ → Type 0
+HasLogged l p bitmap =
+    (used_by l p ≡ Some 0)
+    ⊎ ((used_by l p ≡ Some 1) × (is_among bitmap l.homes ≡ true))
+
+-- it holds what it has got: the block of addresses, and what it uses next
+pub record HoldsForFreeing (c : Buffers) (l : LogState) (p : ℕ) (m : TruncState) : Type 0 where
+  pub logged : HasLogged l p m.bitmap
+  pub kept : HoldsAt c p (slice_index m.inode.addrs 12) (kept_slot m.at)
+  pub used : HoldsAt c p (block_of_trunc m m.at) (used_slot m.at)
+
 -- what is true of a process, by where its task stands
 abbrev pub Stands : Buffers → LogState → ℕ → ℕ → Option Op → Place → Type 0
 Stands c l n p o place.Nowhere = Unit {0}
 Stands c l n p o (place.Creating m) = IsSearching c l n p o m
-Stands c l n p o (place.Taking m) = HoldsAt c p (inode_block m.number) (slot_of m.at)
+Stands c l n p o (place.Taking m) =
+    HoldsAt c p (inode_block m.number) (slot_of m.at) × IsOpenFor l p o
 Stands c l n p o (place.Reading k m) = HoldsAt c p (block_of m.target) (slot_in m.target)
 Stands c l n p o (place.Delivering k) = Unit {0}
+Stands c l n p o (place.Truncating k m) = HoldsForFreeing c l p m
 Stands c l n p o (place.Leaving k) = Unit {0}
 
 -- the tasks agree with buffers and log, while the disk has not failed
 pub record Agrees (c : Buffers) (l : LogState) (n : ℕ) (ts : List TaskState) : Type 0 where
   pub stands : (p : ℕ) → Stands c l n p (task ts p).op (task ts p).place
   -- who has a buffer's lock is a process whose task has got it
-  pub holders : (p b i : ℕ) → HasLock c p b i → slot_at (task ts p).place ≡ Some i
+  pub holders : (p b i : ℕ) → HasLock c p b i → HasSlot (task ts p).place i
 
 -- What is true of every store, beside its files.
 pub record IsStore {D : Type 0} (image : D → Image) (s : StoreState D) : Type 0 where

@@ -75,12 +75,16 @@ with_holder (Some e) p = Some (record e { holder = Some p })
 abbrev pub locked : TableState → ℕ → ℕ → TableState
 locked t k p = with_entry t k (with_holder (entry_at t.places k) p)
 
-abbrev pub with_copy : Option InMemory → Dinode → Option InMemory
-with_copy None d = None
-with_copy (Some e) d = Some (record e { copy = Some d })
+abbrev pub with_copy : Option InMemory → Option Dinode → Option InMemory
+with_copy None c = None
+with_copy (Some e) c = Some (record e { copy = c })
+
+-- a place with another copy, or without one
+abbrev pub renewed : TableState → ℕ → Option Dinode → TableState
+renewed t k c = with_entry t k (with_copy (entry_at t.places k) c)
 
 abbrev pub kept : TableState → ℕ → Dinode → TableState
-kept t k d = with_entry t k (with_copy (entry_at t.places k) d)
+kept t k d = renewed t k (Some d)
 
 -- without its lock, and with one reference less; free without the last
 abbrev pub without_reference : Option InMemory → Option InMemory

@@ -1,7 +1,7 @@
 // A creation's search for a free inode number.
 ghost use Rattle.std.specs.Prelude.{◌≡◌, ◌<◌, ◌≤◌, ◌-◌, Some, None, if◌then◌else◌};
 ghost use Rattle.model.specs.Layout.{inode_block};
-ghost use Rattle.model.specs.Codec.{dinode_bytes, new_inode, with_inode};
+ghost use Rattle.model.specs.Codec.{new_inode, with_inode};
 ghost use Rattle.wal.specs.Machine.{used_by, HasRoom};
 ghost use Rattle.wal.specs.Held.{GivesUpLock};
 ghost use Rattle.wal.specs.Joint.{seen};
@@ -11,8 +11,8 @@ ghost use Rattle.inodes.specs.Ialloc.{MayStep, SearchSteps, is_last_block, at_ne
 
 use crate::Progress;
 use blocks::{Block, Disk};
-use byteorder::{ByteOrder, LittleEndian};
 use layout::inode;
+use model::types::Dinode;
 use std::marker::Model;
 use wal::{Get, Volume};
 
@@ -165,7 +165,7 @@ fn claim<D: Disk>(volume: &mut Volume<D>, pid: u32, slot: u32, i: u32, kind: u16
         ≡ with_inode (seen (D.image volume.old.device) volume.old.buffers) i (new_inode kind) }
 {
     let at = (i % 16 * 64) as usize;
-    volume.change(pid, slot, at, &new_inode_bytes(kind));
+    volume.change(pid, slot, at, &inode::bytes(&new_inode(kind)));
     volume.release(pid, slot);
 }
 
@@ -186,13 +186,16 @@ fn lowest_free(bytes: &Block, inode_count: u32, block: u32) -> Option<u32>
     (first..first + 16).find(|i| is_free(bytes, *i, inode_count))
 }
 
-// The bytes of the inode of a new file.
-#[tactic(auto, unfolding(model::specs::Codec::dinode_bytes))]
-fn new_inode_bytes(kind: u16) -> [u8; 64]
-    ensures { result ≡ dinode_bytes (new_inode kind) }
+// The inode of a new file.
+fn new_inode(kind: u16) -> Dinode
+    ensures { result ≡ new_inode kind }
 {
-    let mut bytes = [0; 64];
-    LittleEndian::write_u16(&mut bytes, kind);
-    bytes[6] = 1;
-    bytes
+    Dinode {
+        kind,
+        major: 0,
+        minor: 0,
+        nlink: 1,
+        size: 0,
+        addrs: [0; 13],
+    }
 }

@@ -153,7 +153,7 @@ impl Ilock {
         if inode.kind == 0 {
             return Progress::Over(false);
         }
-        table.keep(place, inode);
+        table.renew(place, Some(inode));
         Progress::Over(true)
     }
 }

@@ -5,7 +5,7 @@ ghost use Rattle.inodes.specs.Store.{StoreState};
 ghost use Rattle.inodes.specs.Runs.{NoInodeSawAll, MadeSawLower, StepsLeaveOthers, CommitsLeaveAll, BoundsLeaveOthers};
 ghost use Rattle.inodes.specs.ReadRuns.{BegunMayStep, ReadsPart};
 ghost use Rattle.inodes.specs.Table.{HasPlace};
-ghost use Rattle.inodes.specs.Grips.{KeptByRefer, KeptByLock, KeptByRead, KeptByLeave, KeptByImage, IsTableAtOpening, HasPlaceForEach, LocksExclude, HolderIsAnother};
+ghost use Rattle.inodes.specs.Grips.{KeptByRefer, KeptByLock, KeptByRenew, KeptByLeave, KeptByImage, IsTableAtOpening, HasPlaceForEach, LocksExclude, HolderIsAnother};
 
 use blocks::Disk;
 
@@ -44,7 +44,7 @@ pub fn has_place()
 pub fn table_kept()
     ensures refer { KeptByRefer }
     ensures lock { KeptByLock }
-    ensures read { KeptByRead }
+    ensures renew { KeptByRenew }
     ensures leave { KeptByLeave }
     ensures image { KeptByImage }
     ensures opening { IsTableAtOpening }

@@ -15,6 +15,8 @@
 
 mod ialloc;
 mod ilock;
+mod itrunc;
+mod iupdate;
 pub mod laws;
 mod looks;
 mod readi;
@@ -25,6 +27,8 @@ mod tasks;
 pub use blockmap::Progress;
 pub use ialloc::Ialloc;
 pub use ilock::{Ilock, LockAt};
+pub use itrunc::{Itrunc, TruncAt};
+pub use iupdate::Iupdate;
 pub use readi::Readi;
 pub use store::Store;
 pub use table::{InMemory, Inodes};

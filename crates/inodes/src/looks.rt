@@ -1,5 +1,5 @@
-// The steps of operations that look at a file.
-ghost use Rattle.std.specs.Prelude.{◌≡◌, ◌<◌, length, Some, None, if◌then◌else◌};
+// The steps of operations that take an inode.
+ghost use Rattle.std.specs.Prelude.{◌≡◌, ◌<◌, ◌≤◌, length, Some, None, if◌then◌else◌};
 ghost use Rattle.model.specs.declared.types.operations.Op.{Op};
 ghost use Rattle.inodes.specs.Looks.{CanLook, HasRoom};
 ghost use Rattle.inodes.specs.Places.{asked};
@@ -7,10 +7,10 @@ ghost use Rattle.inodes.specs.Store.{KeepsFiles, with_look};
 ghost use Rattle.inodes.specs.Steps.{Steps};
 ghost use Rattle.inodes.specs.Table.{copy_at};
 ghost use Rattle.inodes.specs.Tasks.{task};
-ghost use Rattle.inodes.specs.Turning.{IsReadable, place_when_taken, reply_when_taken};
+ghost use Rattle.inodes.specs.Turning.{IsReadable, place_of_read, place_when_taken, reply_when_taken};
 ghost use Rattle.inodes.specs.declared.tasks.Place.TheVariants as stands_at;
 
-use crate::{Ilock, Inodes, Place, Progress, Readi, Store};
+use crate::{Ilock, Inodes, Itrunc, Place, Progress, Readi, Store};
 use blocks::Disk;
 use model::gathered::Gathered;
 use model::types::{Dinode, Op, Reply, TaskProgress};
@@ -49,7 +49,9 @@ impl<D: Disk> Store<D> {
             Progress::Over(is_used) => {
                 let place = lock.place();
                 let inode = inode_at(&self.inodes, place, is_used);
-                self.tasks.go(pid, place_when_taken(&inode, place, op));
+                let inode_count = self.inodes.inode_count();
+                self.tasks
+                    .go(pid, place_when_taken(&inode, place, op, inode_count));
                 TaskProgress::Turned(reply_when_taken(&inode, op))
             }
             Progress::Fault(fault) => TaskProgress::Fault(fault),
@@ -94,6 +96,30 @@ impl<D: Disk> Store<D> {
         let bytes = self.tasks.take_bytes(pid);
         self.tasks.finish(pid);
         TaskProgress::Decided(Reply::Bytes(bytes.into_content()))
+    }
+
+    // The next step of freeing a file's blocks.
+    pub(crate) fn truncate(&mut self, pid: u32, place: usize, mut trunc: Itrunc) -> TaskProgress
+        requires fault { self.old.volume.fault ≡ None }
+        requires pid { pid < length self.old.tasks }
+        requires at { (task self.old.tasks pid).place ≡ stands_at.Truncating place trunc }
+        ensures step { (op : Op) → (task self.old.tasks pid).op ≡ Some op
+            → Steps D.Disk self.old pid op result self.new }
+    {
+        self.volume.known();
+        match trunc.step(&mut self.volume, pid) {
+            Progress::Moved => {
+                self.tasks.go(pid, Place::Truncating { place, trunc });
+                TaskProgress::Moved
+            }
+            Progress::Sleeping(why) => TaskProgress::Sleeping(why),
+            Progress::Over(()) => {
+                self.inodes.renew(place, trunc.left());
+                self.tasks.go(pid, Place::Leaving { place });
+                TaskProgress::Moved
+            }
+            Progress::Fault(fault) => TaskProgress::Fault(fault),
+        }
     }
 
     // An operation that was answered gives its inode up.
@@ -142,19 +168,40 @@ fn reply_when_taken(inode: &Option<Dinode>, op: &Op) -> Option<Reply>
     };
     match op {
         Op::Stat(_) => Some(Reply::StatOf(inode.kind, inode.size)),
-        Op::Create(_) | Op::Write(..) | Op::Read(..) | Op::Trunc(_) | Op::Remove(_) => None,
+        Op::Trunc(_) | Op::Remove(_) => Some(Reply::Done),
+        Op::Create(_) | Op::Write(..) | Op::Read(..) => None,
     }
 }
 
-// Where it goes then, with the inode at that place of the table.
-fn place_when_taken(inode: &Option<Dinode>, place: usize, op: &Op) -> Place
-    requires { IsReadable inode.now }
-    ensures { result ≡ place_when_taken inode.now place op.now }
+// Where it goes then, with the inode at that place of the table, over an image of so many numbers.
+fn place_when_taken(inode: &Option<Dinode>, place: usize, op: &Op, inode_count: u32) -> Place
+    requires inode { IsReadable inode.now }
+    requires count { inode_count ≤ 1024 }
+    ensures { result ≡ place_when_taken inode_count inode.now place op.now }
 {
-    let (Some(inode), Op::Read(_, offset, count)) = (inode, op) else {
+    let Some(inode) = inode else {
         return Place::Leaving { place };
     };
-    match Readi::new(inode, *offset, *count) {
+    let bitmap = 34 + inode_count / 16;
+    match op {
+        Op::Read(_, offset, count) => place_of_read(place, Readi::new(inode, *offset, *count)),
+        Op::Trunc(number) => {
+            let trunc = Itrunc::new(*number, inode, false, bitmap);
+            Place::Truncating { place, trunc }
+        }
+        Op::Remove(number) => {
+            let trunc = Itrunc::new(*number, inode, true, bitmap);
+            Place::Truncating { place, trunc }
+        }
+        Op::Create(_) | Op::Write(..) | Op::Stat(_) => Place::Leaving { place },
+    }
+}
+
+// A reading begins with its bytes, or has all of them.
+fn place_of_read(place: usize, reading: Option<Readi>) -> Place
+    ensures { result ≡ place_of_read place reading }
+{
+    match reading {
         Some(reading) => Place::Reading { place, reading },
         None => Place::Delivering { place },
     }

@@ -13,7 +13,7 @@ ghost use Rattle.inodes.specs.Places.{is_over};
 ghost use Rattle.inodes.specs.Table.{new_table};
 ghost use Rattle.inodes.specs.declared.tasks.Place.TheVariants as place;
 
-use crate::{Ialloc, Inodes, Place, Progress, Tasks};
+use crate::{Ialloc, Ilock, Inodes, Place, Progress, Tasks};
 use blocks::Disk;
 use layout::Super;
 use model::types::{Op, Reply, TaskProgress};
@@ -100,6 +100,7 @@ impl<D: Disk> Store<D> {
             | Place::Taking(_)
             | Place::Reading { .. }
             | Place::Delivering { .. }
+            | Place::Truncating { .. }
             | Place::Leaving { .. } => false,
         }
     }
@@ -118,7 +119,7 @@ impl<D: Disk> Store<D> {
         requires fault { self.old.volume.fault ≡ None }
         requires pid { pid < length self.old.tasks }
         requires idle { (task self.old.tasks pid).place ≡ place.Nowhere }
-        requires op { CanBegin op.now }
+        requires op { CanBegin self.old.table.inode_count op.now }
         requires may { MayBegin self.old.volume.log pid }
         ensures group { result ≡ (begun self.old.volume.log pid).opened }
         ensures store { self.new ≡ with_begun self.old pid op.now }
@@ -156,6 +157,7 @@ impl<D: Disk> Store<D> {
             Place::Taking(lock) => self.take(pid, op, lock),
             Place::Reading { place, reading } => self.read(pid, place, reading),
             Place::Delivering { place } => self.deliver(pid, place),
+            Place::Truncating { place, trunc } => self.truncate(pid, place, trunc),
             Place::Leaving { place } => self.leave(pid, place),
         }
     }
@@ -190,6 +192,7 @@ impl<D: Disk> Store<D> {
         requires busy { is_quiet self.old.volume.log.commit ≡ false }
         ensures commits { Commits D.Disk self.old result self.new }
     {
+        self.volume.known();
         self.volume.commit_step()
     }
 }
@@ -200,7 +203,8 @@ fn first_place(op: &Op, inode_count: u32) -> Place
 {
     match op {
         Op::Create(kind) => Place::Creating(Ialloc::new(*kind, inode_count)),
-        Op::Write(..) | Op::Read(..) | Op::Trunc(_) | Op::Remove(_) | Op::Stat(_) => Place::Nowhere,
+        Op::Trunc(number) | Op::Remove(number) => Place::Taking(Ilock::new(*number)),
+        Op::Write(..) | Op::Read(..) | Op::Stat(_) => Place::Nowhere,
     }
 }
 

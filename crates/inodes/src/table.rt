@@ -1,6 +1,6 @@
 // The inodes in memory.
 ghost use Rattle.std.specs.Prelude.{◌≡◌, ◌<◌, ◌+◌, ◌^◌, ℕ, IsSome, IfSome, Some, is_none, length, position, if◌then◌else◌};
-ghost use Rattle.inodes.specs.Table.{TableState, new_table, HasPlaceFor, place_for, entry_at, holder_at, copy_at, is_of, with_reference, without_reference, referred, locked, kept, left};
+ghost use Rattle.inodes.specs.Table.{TableState, new_table, HasPlaceFor, place_for, entry_at, holder_at, copy_at, is_of, with_reference, without_reference, referred, locked, renewed, left};
 
 use layout::Super;
 use model::types::Dinode;
@@ -102,16 +102,16 @@ impl Inodes {
         true
     }
 
-    /// Keeps the inode that was read to a place.
-    pub fn keep(&mut self, place: usize, copy: Dinode)
+    /// The inode of a place is this one from now on; None where it is to be read anew.
+    pub fn renew(&mut self, place: usize, copy: Option<Dinode>)
         requires place { place < 50 }
         requires inode { IsSome (entry_at self.old.places place) }
-        ensures { self.new ≡ kept self.old place copy }
+        ensures { self.new ≡ renewed self.old place copy }
     {
         let Some(inode) = &mut self.places[place] else {
             unreachable!();
         };
-        inode.copy = Some(copy);
+        inode.copy = copy;
     }
 
     /// The holder of an inode's sleep lock gives up lock and reference (`iunlock`, `iput`). With the

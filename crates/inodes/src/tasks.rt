@@ -3,7 +3,7 @@ ghost use Rattle.std.specs.Prelude.{◌≡◌, ◌<◌, length, replicate, slice
 ghost use Rattle.inodes.specs.declared.tasks.Place.TheVariants as place;
 ghost use Rattle.inodes.specs.Tasks.{no_task, task};
 
-use crate::{Ialloc, Ilock, Readi};
+use crate::{Ialloc, Ilock, Itrunc, Readi};
 use blocks::NoMemory;
 use model::gathered::Gathered;
 use model::types::Op;
@@ -24,6 +24,9 @@ pub enum Place {
     Reading { place: usize, reading: Readi },
     /// They all were read: next they are given out, and the inode at that place is given up.
     Delivering { place: usize },
+    /// The blocks of a file are freed and its inode written back, which stands at that place of the
+    /// table; the reply is known.
+    Truncating { place: usize, trunc: Itrunc },
     /// The reply is known: next the inode at that place is given up.
     Leaving { place: usize },
 }

@@ -1,5 +1,5 @@
 -- What each event of a process is, as a step's acts.
-use Rattle.std.proofs.Common.{◌≡◌, ◌≢◌, ◌↔◌, inl, inr, ℕ, Bool, true, false, List, [], refl, sym, ◌∙◌, ap, subst, Option, Some, None}
+use Rattle.std.proofs.Common.{◌≡◌, ◌≢◌, ◌↔◌, inl, inr, ℕ, zero, suc, Bool, true, false, List, [], refl, sym, ◌∙◌, ap, subst, Option, Some, None}
 use Rattle.std.specs.Prelude.{IsSome, IfSome}
 use Rattle.std.proofs.lemmas.Bool.{false≢true}
 use Rattle.std.proofs.lemmas.List.{append-nil}
@@ -39,7 +39,7 @@ use Rattle.kernel.specs.declared.types.Step.TheVariants as step
 use Rattle.kernel.specs.Device.{UsesDisk, CountsItsFault, WritesOnce, block_at_step}
 use Rattle.std.specs.Option.{option_map}
 use Rattle.kernel.specs.declared.waiting.Waiting.{Waiting}
-use Rattle.kernel.specs.Next.{NextIf, NextAt, BeginsWith, Ends, step_of, step_behind, step_of_end, step_of_write, world_after, world_behind, world_written}
+use Rattle.kernel.specs.Next.{NextIf, NextAt, BeginsWith, Ends, step_of, step_behind, step_of_last, step_of_end, step_of_write, world_after, world_behind, world_written}
 use Rattle.kernel.specs.Begins.{Begins}
 use Rattle.kernel.specs.Ports.{KeepsOthers, Asks}
 use Rattle.kernel.specs.State.{State, waiting_of}
@@ -204,17 +204,21 @@ module _ {D N I M H : Type 0} (disk : disk_trait.Ghosts D N) (intake : intake_tr
       runs (progress.Fault fault) none e = cc none
 
   -- and behind it, after which the intake is j
-  pub acts_finished : (group k : ℕ) (j : I) (r : TaskProgress) → (process w p).at ≡ at.Behind group k → Steps disk s p (entry_in w.journal.list k).op r t → z ≡ world_behind r w p → KeepsOthers intake p i j → (intake.side j p).ahead ≡ (intake.side i p).ahead
-      → Acts disk intake herald p (step_behind r) (record { store = s; opening = d; intake = i; herald = h; world = w }) (record { store = t; opening = d; intake = j; herald = h; world = z })
+  pub acts_finished : (group k : ℕ) (j : I) (r : TaskProgress) → (process w p).at ≡ at.Behind group k → Steps disk s p (entry_in w.journal.list k).op r t → z ≡ world_behind group r w p → KeepsOthers intake p i j → (intake.side j p).ahead ≡ (intake.side i p).ahead
+      → Acts disk intake herald p (step_behind group r) (record { store = s; opening = d; intake = i; herald = h; world = w }) (record { store = t; opening = d; intake = j; herald = h; world = z })
   acts_finished group k j r stands steps made sides ahead =
-      acts_busy disk intake herald p (record { store = s; opening = d; intake = i; herald = h; world = w }) (record { store = t; opening = d; intake = j; herald = h; world = z }) (step_behind r) (at.Behind group k) well stands
-      (record { progress = r; steps = steps; answer = refl; world = made }) (reads disk s t (at.Behind group k) p (entry_in w.journal.list k).op r step_behind refl refl (λ fault. refl) runs steps) refl sides ahead
+      acts_busy disk intake herald p (record { store = s; opening = d; intake = i; herald = h; world = w }) (record { store = t; opening = d; intake = j; herald = h; world = z }) (step_behind group r) (at.Behind group k) well stands
+      (record { progress = r; steps = steps; answer = refl; world = made }) (reads disk s t (at.Behind group k) p (entry_in w.journal.list k).op r (step_behind group) refl refl (λ fault. refl) runs steps) refl sides ahead
     where
-      runs : (q : TaskProgress) → fault_of_task q ≡ None → step_behind q ≢ step.Halted
+      by_group : (g : ℕ) → step_of_last g ≢ step.Halted
+      by_group zero e = cc e
+      by_group (suc g) e = cc e
+
+      runs : (q : TaskProgress) → fault_of_task q ≡ None → step_behind group q ≢ step.Halted
       runs progress.Moved none e = cc e
       runs (progress.Turned reply) none e = cc e
       runs (progress.Decided reply) none e = cc e
-      runs progress.Over none e = cc e
+      runs progress.Over none e = by_group group e
       runs (progress.Sleeping why) none e = cc e
       runs (progress.Fault fault) none e = cc none
 

@@ -32,7 +32,7 @@ pub record IsThere {D : Type 0} (s : StoreState D) (w : World) (p : ℕ) : Type 
   pub stands : (process w p).at ≡ at.Behind group k
   pub entry : Entry
   pub has : HasEntry w.journal.list p k group entry
-  pub its : IsBehind (task s.tasks p) group entry
+  pub its : IsBehind (task s.tasks p) entry
 
 pub some_reply : (o : Option Reply) → is_none o ≡ false → IsSome o
 some_reply None is = absurd (false≢true (sym is))

@@ -40,19 +40,19 @@ use Rattle.kernel.proofs.Pairing.{paired_goes, keeps_behind, task_begun, begins_
 use Rattle.journal.specs.Lemmas.Places.{there_now, others_stay}
 use Rattle.kernel.proofs.Right.{right_well}
 
--- a creation of a type that there is may begin, and changes files
-pub creation_begins : (n : ℕ) (op : Op) → waiting_of n op ≡ waiting.Creation → CanBegin op × (is_changing n op ≡ true)
-creation_begins n op e = by_once (is_at_once n op) refl e
+-- an operation that changes files, and is not refused at once, may begin
+pub change_begins : (n : ℕ) (op : Op) → waiting_of n op ≡ waiting.Change → CanBegin n op × (is_changing n op ≡ true)
+change_begins n op e = by_once (is_at_once n op) refl e
   where
-    by_kind : (o : Op) → is_at_once n o ≡ false → kind_of o ≡ waiting.Creation → CanBegin o × (is_changing n o ≡ true)
+    by_kind : (o : Op) → is_at_once n o ≡ false → kind_of o ≡ waiting.Change → CanBegin n o × (is_changing n o ≡ true)
     by_kind (Create kind) out e = let is = not-false (is_kind kind) out in (is, is)
     by_kind (Write i off bytes) out e = absurd (cc e)
     by_kind (Read i off m) out e = absurd (cc e)
-    by_kind (Trunc i) out e = absurd (cc e)
-    by_kind (Remove i) out e = absurd (cc e)
+    by_kind (Trunc i) out e = let is = not-false (is_number n i) out in (is, is)
+    by_kind (Remove i) out e = let is = not-false (is_number n i) out in (is, is)
     by_kind (Stat i) out e = absurd (cc e)
 
-    by_once : (b : Bool) → is_at_once n op ≡ b → cond b waiting.Refused (kind_of op) ≡ waiting.Creation → CanBegin op × (is_changing n op ≡ true)
+    by_once : (b : Bool) → is_at_once n op ≡ b → cond b waiting.Refused (kind_of op) ≡ waiting.Change → CanBegin n op × (is_changing n op ≡ true)
     by_once true once e = absurd (cc e)
     by_once false once e = by_kind op once e
 
@@ -147,21 +147,21 @@ module _ {D N : Type 0} (disk : Ghosts D N) (opening : D) (s : StoreState D) (w 
       (right.faults ∙ ap (λ (o : Option _). Rattle.wal.specs.Volume.faults_after o (disk.fault_count opening)) well)
 
   -- an operation is taken, and open in the log
-  pub right_taken : (op : Op) → waiting_of s.table.inode_count op ≡ waiting.Creation → begin_cause s.volume.log ≡ None
+  pub right_taken : (op : Op) → waiting_of s.table.inode_count op ≡ waiting.Change → begin_cause s.volume.log ≡ None
       → HasAgreed disk.image (with_begun s p op) → KeepsFiles disk.image s (with_begun s p op)
       → IsRight disk opening (with_begun s p op) (taken (with_place w) p (begun s.volume.log p).opened op None)
-  right_taken op creation free agreed keeps =
+  right_taken op change free agreed keeps =
       let n = inode_count_of (disk.image opening) in
       let t = with_begun s p op in
       let z = taken (with_place w) p (begun s.volume.log p).opened op None in
       let u : Process = record { begun = (process w p).begun + 1; at = at.Before (begun s.volume.log p).opened op; room = None } in
       let others : (q : ℕ) → q ≢ p → ats_of z q ≡ ats_of w q = λ q apart. ap (λ (r : Process). r.at) (others_stay w z p u refl q apart) in
       let now : ats_of z p ≡ at.Before (begun s.volume.log p).opened op = ap (λ (r : Process). r.at) (there_now w z p u refl lt) in
-      let begins = creation_begins n op (subst (λ (k : ℕ). waiting_of k op ≡ waiting.Creation) right.numbers creation) in
+      let begins = change_begins n op (subst (λ (k : ℕ). waiting_of k op ≡ waiting.Change) right.numbers change) in
       let inside : p < length s.volume.log.used = let few = right.paired.few in let pids = had.facts.valid.log.pids in omega (arith, lt, few, pids) in
       right_well disk opening t z well right.numbers
       (paired_goes s t w z p u right.paired lt refl (length-set s.tasks p _) (λ q apart. get_or-set_other s.tasks p q _ no_task apart) (keeps_behind w z p refl)
-      (task_begun s w.journal.list p (begun s.volume.log p).opened op (first_place op s.table.inode_count) None None inside_tasks (begins_unturned op s.table.inode_count begins.0) (change_fits n op None begins.1)))
+      (task_begun s w.journal.list p (begun s.volume.log p).opened op (first_place op s.table.inode_count) None None inside_tasks (begins_unturned op s.table.inode_count (subst (λ (k : ℕ). CanBegin k op) (sym right.numbers) begins.0)) (change_fits n op None begins.1)))
       (counted_taken s.volume.log.opened p w right.counted lt (begun s.volume.log p).opened (begun s.volume.log p).opened op None stands (opened_more s.volume.log p))
       (record {
         facts = inv_begun (disk.image opening) (view_of disk.image s) (view_of disk.image t) w.journal.list (ats_of w) had.facts

@@ -1,5 +1,5 @@
 -- What each event of a process makes of store and processes.
-use Rattle.std.proofs.Common.{set, ◌≡◌, ◌≢◌, ◌⊎◌, ⊎_elim, inl, inr, ℕ, ◌+◌, ◌-◌, ◌<◌, ◌≤◌, Bool, true, false, cond, List, length, refl, sym, ◌∙◌, ap, subst, arith, Option, Some, None}
+use Rattle.std.proofs.Common.{set, ◌≡◌, ◌≢◌, ◌⊎◌, ⊎_elim, inl, inr, ℕ, zero, suc, ◌+◌, ◌-◌, ◌<◌, ◌≤◌, Bool, true, false, cond, List, length, refl, sym, ◌∙◌, ap, subst, arith, Option, Some, None}
 use Rattle.std.specs.Option.{option_map}
 use Rattle.std.specs.Prelude.{IsSome}
 use Rattle.std.proofs.lemmas.Bool.{false≢true}
@@ -50,12 +50,12 @@ use Rattle.journal.specs.Lemmas.Bounds.{some_write, steps_few, writes_fall}
 use Rattle.journal.specs.Lemmas.Events.{at_once_still}
 use Rattle.journal.specs.Lemmas.Groups.{open_of}
 use Rattle.journal.specs.Lemmas.Growing.{grows_goes, grows_none}
-use Rattle.journal.specs.Processes.{World, process, idle, answered, committing, committing_at, decided, entry_place, place_behind, refusal, told_at, turned, turned_from}
+use Rattle.journal.specs.Processes.{World, process, idle, answered, at_place, committing, committing_at, decided, entry_place, over as goes_to_end, over_at, place_behind, refusal, told_at, turned, turned_from}
 use Rattle.kernel.specs.declared.waiting.Waiting.{Waiting}
 use Rattle.kernel.specs.declared.waiting.Waiting.TheVariants as waiting
 use Rattle.kernel.specs.declared.types.Step.{Step}
 use Rattle.kernel.specs.declared.types.Step.TheVariants as step
-use Rattle.kernel.specs.Next.{IsNotTaken, BeginsWith, Works, Finishes, Ends, Writes, NextAt, NextIf, Next, step_of, world_after, step_behind, world_behind, step_of_end, world_ended, step_of_write, world_written}
+use Rattle.kernel.specs.Next.{IsNotTaken, BeginsWith, Works, Finishes, Ends, Writes, NextAt, NextIf, Next, step_of, world_after, step_behind, world_behind, step_of_last, world_of_last, step_of_end, world_ended, step_of_write, world_written}
 use Rattle.kernel.specs.Progress.{is_heading, commits, CountsCommitted}
 use Rattle.kernel.specs.Invariant.{IsBehind}
 use Rattle.kernel.specs.State.{waiting_of, ats_of, room_for}
@@ -104,9 +104,9 @@ not_taken what l room r is = by_case what is
     by_case (Some waiting.Refused) (inr none) = lacks none.0
     by_case (Some (waiting.Look count)) (inl full) = sleeps _ full.0
     by_case (Some (waiting.Look count)) (inr none) = lacks none.0
-    by_case (Some waiting.Creation) (inl full) = sleeps _ full.0
-    by_case (Some waiting.Creation) (inr (inl out)) = sleeps out.0 out.1
-    by_case (Some waiting.Creation) (inr (inr none)) = lacks none.0.0
+    by_case (Some waiting.Change) (inl full) = sleeps _ full.0
+    by_case (Some waiting.Change) (inr (inl out)) = sleeps out.0 out.1
+    by_case (Some waiting.Change) (inr (inr none)) = lacks none.0.0
 
 -- the steps that a process's task has left
 abbrev pub task_left : {D : Type 0} → StoreState D → ℕ → ℕ
@@ -299,13 +299,13 @@ module _ {D N : Type 0} (disk : Ghosts D N) (opening : Image) (p : ℕ) (s t : S
         by_progress (progress.Fault fault) done to =
             let same = done.groups.committed in stays step.Halted to (omega (arith, same)) (others_of op there.1 (progress.Fault fault) done) (λ moved. absurd (cc moved))
 
-    finishes : (group k : ℕ) (r : Step) → (process w p).at ≡ at.Behind group k → Finishes disk s w p k r t z → Made r
+    finishes : (group k : ℕ) (r : Step) → (process w p).at ≡ at.Behind group k → Finishes disk s w p group k r t z → Made r
     finishes group k r stands made = subst Made (sym made.answer) (by_progress made.progress made.steps made.world)
       where
         op : Op
         op = (entry_in w.journal.list k).op
 
-        there : (e : Entry) × HasEntry w.journal.list p k group e × IsBehind (task s.tasks p) group e
+        there : (e : Entry) × HasEntry w.journal.list p k group e × IsBehind (task s.tasks p) e
         there = behind_there disk.image opening s w p is group k stands
 
         inside : entry_in w.journal.list k ≡ there.0
@@ -337,7 +337,7 @@ module _ {D N : Type 0} (disk : Ghosts D N) (opening : Image) (p : ℕ) (s t : S
               list = ap (λ (e : Entry). set w.journal.list k (Rattle.journal.specs.Open.told e reply)) inside;
             }
 
-        by_progress : (q : TaskProgress) → Steps disk s p op q t → z ≡ world_behind q w p → Made (step_behind q)
+        by_progress : (q : TaskProgress) → Steps disk s p op q t → z ≡ world_behind group q w p → Made (step_behind group q)
         by_progress progress.Moved done to =
             let same = done.groups.committed in
             let less = falls_here op more progress.Moved refl done in
@@ -349,10 +349,20 @@ module _ {D N : Type 0} (disk : Ghosts D N) (opening : Image) (p : ℕ) (s t : S
             let now : answered (decided w p reply) p ≡ answered (told_at (Some k) w reply) p = ap (λ (a : At). answered (told_at (entry_place a) w reply) p) stands in
             goes step.Answered (answered (told_at (Some k) w reply) p) (record (process w p) { at = at.Idle; room = None }) (to ∙ now) refl refl (inr refl) (inr (inr (tells reply done)))
             (counted_at (at.Behind group k) step.Answered stands (omega (arith, same))) (others_of op more (progress.Decided reply) done) (λ moved. absurd (cc moved))
-        by_progress progress.Over done to =
-            let same = done.groups.committed in
-            goes step.Answered (answered w p) (record (process w p) { at = at.Idle; room = None }) to refl refl (inr refl) (inl refl)
-            (counted_at (at.Behind group k) step.Answered stands (omega (arith, same))) (others_of op more progress.Over done) (λ moved. absurd (cc moved))
+        by_progress progress.Over done to = by_group group stands to
+          where
+            by_group : (g : ℕ) → (process w p).at ≡ at.Behind g k → z ≡ world_of_last g w p → Made (step_of_last g)
+            by_group zero at_behind to =
+                let same = done.groups.committed in
+                goes step.Answered (answered w p) (record (process w p) { at = at.Idle; room = None }) to refl refl (inr refl) (inl refl)
+                (counted_at (at.Behind zero k) step.Answered at_behind (omega (arith, same))) (others_of op more progress.Over done) (λ moved. absurd (cc moved))
+            by_group (suc g) at_behind to =
+                let same = done.groups.committed in
+                let less = falls_here op more progress.Over refl done in
+                let now : goes_to_end w p ≡ at_place w p (at.Ending (suc g) k) = ap (λ (a : At). at_place w p (over_at a)) at_behind in
+                goes step.Moved (at_place w p (at.Ending (suc g) k)) (record (process w p) { at = at.Ending (suc g) k }) (to ∙ now) refl refl (inr refl) (inl refl)
+                (counted_at (at.Behind (suc g) k) step.Moved at_behind (omega (arith, same))) (others_of op more progress.Over done)
+                (λ moved. fewer (record (process w p) { at = at.Ending (suc g) k }) (at.Behind (suc g) k) (at.Ending (suc g) k) at_behind refl (omega (arith, less)) (omega arith))
         by_progress (progress.Sleeping cause) done to =
             let same = done.groups.committed in stays (step.Sleeping cause) to (omega (arith, same)) (others_of op more (progress.Sleeping cause) done) (λ moved. absurd (cc moved))
         by_progress (progress.Fault fault) done to =

@@ -18,8 +18,8 @@ use Rattle.journal.specs.declared.types.At.TheVariants as at
 use Rattle.journal.specs.declared.types.Process.{Process}
 use Rattle.journal.specs.Bound.{is_busy_at}
 use Rattle.journal.specs.Histories.{IsHistory}
-use Rattle.journal.specs.Processes.{World, process, idle, fresh_world, with_place, taken, refusal, refused, refusal_answer, place_behind, turned_from, turned, committing_at, committing, last_answer, answered, decided, told_at, entry_place}
-use Rattle.journal.specs.Lemmas.Histories.{history_new, history_more, history_taken, history_turned, history_turned_over, history_committing, history_at_once, history_told, history_replied}
+use Rattle.journal.specs.Processes.{World, process, idle, fresh_world, with_place, taken, refusal, refused, refusal_answer, place_behind, turned_from, turned, committing_at, committing, last_answer, answered, decided, told_at, entry_place, at_place, over, over_at}
+use Rattle.journal.specs.Lemmas.Histories.{history_new, history_more, history_taken, history_turned, history_turned_over, history_ending, history_committing, history_at_once, history_told, history_replied}
 use Rattle.kernel.specs.Invariant.{HasHistory, ArePorts}
 use Rattle.kernel.specs.Ports.{Gives}
 use Rattle.journal.specs.Lemmas.Answers.{entry_inside, history_given}
@@ -206,25 +206,34 @@ module _ {I M H : Type 0} (intake : intake_trait.Ghosts I M) (herald : herald_tr
       behind true f history = history_turned_over w.journal.list (process w p).begun group p (entry_of p (process w p).begun op group reply) f refl refl history
       behind false f history = history_turned w.journal.list (process w p).begun group p (entry_of p (process w p).begun op group reply) f refl refl history
 
-  -- one goes on from its end to its group's commit
-  pub ports_committing : (i : I) (h : H) (c : ℕ) (w z : World) (p group k : ℕ) → ArePorts intake herald i h c w → p < length w.processes → (process w p).at ≡ at.Ending group k → z ≡ committing w p → ArePorts intake herald i h c z
-  ports_committing i h c w z p group k had lt stands is = ports_go i i h h c c w z p (record (process w p) { at = committing_at (process w p).at }) had
+  -- one under way goes on to another place, with the same history
+  ports_placed : (i : I) (h : H) (c : ℕ) (w z : World) (p : ℕ) (a b : At) → ArePorts intake herald i h c w → p < length w.processes → (process w p).at ≡ a → is_busy_at a ≡ true → z ≡ at_place w p b
+      → ((f : History) → IsHistory w.journal.list a (process w p).begun p f → IsHistory w.journal.list b (process w p).begun p f) → ArePorts intake herald i h c z
+  ports_placed i h c w z p a b had lt stands busy is goes = ports_go i i h h c c w z p (record (process w p) { at = b }) had
       (record {
         inside = lt;
         processes = ap (λ (o : World). o.processes) is;
         served = refl;
         rooms = λ q other kept. kept;
-        room = λ busy. had.room p (ap is_busy_at stands);
+        room = λ under. had.room p (ap is_busy_at stands ∙ busy);
         journal = λ q begun a f other history. subst (λ (o : World). IsHistory o.journal.list a begun q f) (sym is) history;
         fits = λ q f other fits. fits;
         mine = λ f history fits. (
           f,
-          subst (λ (o : World). IsHistory o.journal.list (committing_at (process w p).at) (process w p).begun p f) (sym is)
-              (subst (λ (a : At). IsHistory w.journal.list (committing_at a) (process w p).begun p f) (sym stands)
-              (history_committing w.journal.list k (process w p).begun group p f (subst (λ (a : At). IsHistory w.journal.list a (process w p).begun p f) stands history))),
+          subst (λ (o : World). IsHistory o.journal.list b (process w p).begun p f) (sym is) (goes f (subst (λ (o : At). IsHistory w.journal.list o (process w p).begun p f) stands history)),
           fits,
         );
       }) had.told
+
+  -- one whose task is over ends in the log next
+  pub ports_ending : (i : I) (h : H) (c : ℕ) (w z : World) (p group k : ℕ) → ArePorts intake herald i h c w → p < length w.processes → (process w p).at ≡ at.Behind group k → z ≡ over w p → ArePorts intake herald i h c z
+  ports_ending i h c w z p group k had lt stands is = ports_placed i h c w z p (at.Behind group k) (at.Ending group k) had lt stands refl (is ∙ ap (λ (a : At). at_place w p (over_at a)) stands)
+      (λ f history. history_ending w.journal.list k (process w p).begun group p f history)
+
+  -- and goes on from its end to its group's commit
+  pub ports_committing : (i : I) (h : H) (c : ℕ) (w z : World) (p group k : ℕ) → ArePorts intake herald i h c w → p < length w.processes → (process w p).at ≡ at.Ending group k → z ≡ committing w p → ArePorts intake herald i h c z
+  ports_committing i h c w z p group k had lt stands is = ports_placed i h c w z p (at.Ending group k) (at.Committing group k) had lt stands refl (is ∙ ap (λ (a : At). at_place w p (committing_at a)) stands)
+      (λ f history. history_committing w.journal.list k (process w p).begun group p f history)
 
   -- one's entry was told its reply
   pub ports_decided : (i : I) (h : H) (c : ℕ) (w : World) (p group k : ℕ) (e : Entry) (reply : Reply) → ArePorts intake herald i h c w → p < length w.processes → (process w p).at ≡ at.Behind group k → IsEntry w.journal.list k e → e.pid ≡ p

@@ -1,7 +1,6 @@
 -- What is known of operations behind their turn.
-use Rattle.std.proofs.Common.{◌≡◌, ◌≢◌, ℕ, true, false, cond, Bool, List, refl, sym, ◌∙◌, ap, subst, Option, Some, None}
+use Rattle.std.proofs.Common.{◌≡◌, ℕ, true, false, cond, Bool, refl, ◌∙◌, ap, subst, Option, Some, None}
 use Rattle.std.specs.Option.{option_map}
-use Rattle.std.specs.Prelude.{is_none}
 use Rattle.blocks.specs.Disk.{Image}
 use Rattle.model.specs.declared.types.operations.Entry.{Entry}
 use Rattle.model.specs.declared.types.operations.Op.{Op}
@@ -18,7 +17,7 @@ use Rattle.journal.specs.declared.types.At.TheVariants as at
 use Rattle.journal.specs.Lemmas.Lists.{last_one}
 use Rattle.journal.specs.Lemmas.Opens.{open_entry, open_last}
 use Rattle.journal.specs.Open.{Held, IsEntry, held_by}
-use Rattle.journal.specs.Processes.{World, process}
+use Rattle.journal.specs.Processes.{World}
 use Rattle.journal.specs.Views.{StandsAt}
 use Rattle.kernel.specs.Invariant.{ArePaired, HasFacts, TaskStands}
 use Rattle.kernel.specs.State.{ats_of}
@@ -45,6 +44,7 @@ module _ {D : Type 0} (image : D → Image) (s : StoreState D) (w : World) (pair
   not_over (place.Taking m) reads over = absurd (cc reads)
   not_over (place.Reading k m) reads over = absurd (cc over)
   not_over (place.Delivering k) reads over = absurd (cc over)
+  not_over (place.Truncating k m) reads over = absurd (cc reads)
   not_over (place.Leaving k) reads over = absurd (cc reads)
 
   not_before : (a : Place) → is_reading a ≡ true → is_unturned a ≡ true → ⊥
@@ -53,6 +53,7 @@ module _ {D : Type 0} (image : D → Image) (s : StoreState D) (w : World) (pair
   not_before (place.Taking m) reads before = absurd (cc reads)
   not_before (place.Reading k m) reads before = absurd (cc before)
   not_before (place.Delivering k) reads before = absurd (cc before)
+  not_before (place.Truncating k m) reads before = absurd (cc reads)
   not_before (place.Leaving k) reads before = absurd (cc reads)
 
   -- an entry without a reply is under way

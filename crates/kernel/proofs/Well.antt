@@ -56,7 +56,7 @@ module _ {D : Type 0} (image : D → Image) (opening : Image) (s : StoreState D)
   pub unturned_before : (group : ℕ) (op : Op) → (process w p).at ≡ at.Before group op → is_unturned (task s.tasks p).place ≡ true
   unturned_before group op stands = (subst (λ (a : At). TaskStands w.journal.list (task s.tasks p) a) stands (is.paired.stand p).stands).1
 
-  pub behind_there : (group k : ℕ) → (process w p).at ≡ at.Behind group k → (e : Entry) × HasEntry w.journal.list p k group e × IsBehind (task s.tasks p) group e
+  pub behind_there : (group k : ℕ) → (process w p).at ≡ at.Behind group k → (e : Entry) × HasEntry w.journal.list p k group e × IsBehind (task s.tasks p) e
   behind_there group k stands =
       let there : TaskStands w.journal.list (task s.tasks p) (at.Behind group k) = subst (λ (a : At). TaskStands w.journal.list (task s.tasks p) a) stands (is.paired.stand p).stands in
       let has = (stands_at (at.Behind group k) stands).1 in (has.0, has.1, there has.0 has.1.at)

@@ -1,7 +1,7 @@
 -- What is true of store and processes stays so with a step of a task.
-use Rattle.std.proofs.Common.{◌≡◌, ◌≢◌, ℕ, ◌<◌, Bool, true, false, List, [], ◌∷◌, ◌++◌, length, set, length-set, refl, sym, ◌∙◌, ap, subst, arith, inl, inr, Option, Some, None}
+use Rattle.std.proofs.Common.{◌≡◌, ◌≢◌, ⊎_elim, ℕ, ◌<◌, ◌≤◌, Bool, true, false, List, [], ◌∷◌, ◌++◌, length, set, length-set, refl, sym, ◌∙◌, ap, subst, arith, inl, inr, Option, Some, None}
 use Rattle.std.specs.Prelude.{is_none}
-use Rattle.std.proofs.lemmas.Bool.{false≢true, ltb-false}
+use Rattle.std.proofs.lemmas.Bool.{cases_lt, false≢true}
 use Rattle.std.proofs.lemmas.List.{set-get_or}
 use Rattle.blocks.specs.Disk.{Image}
 use Rattle.blocks.specs.declared.disk.Disk.{Ghosts}
@@ -18,6 +18,7 @@ use Rattle.model.specs.Layout.{inode_count_of, form_of}
 use Rattle.model.specs.Tasks.{fault_of_task}
 use Rattle.wal.specs.Volume.{faults_after}
 use Rattle.inodes.specs.Lemmas.Faults.{where_none}
+use Rattle.inodes.specs.Lemmas.Looks.{reading_is}
 use Rattle.inodes.specs.Lemmas.StepEnds.{GoesOn, StepEnds, TurnEnds, ends_of}
 use Rattle.inodes.specs.Looks.{AreLooking, CanLook}
 use Rattle.inodes.specs.Places.{asked, is_over, is_reading, is_unturned}
@@ -36,19 +37,19 @@ use Rattle.journal.specs.Grows.{JournalGoes}
 use Rattle.journal.specs.Journal.{IsItsRoom, entry_of, entry_in}
 use Rattle.journal.specs.Keeps.{KeepsNow}
 use Rattle.journal.specs.Lemmas.Alone.{alone_stepped}
-use Rattle.journal.specs.Lemmas.Answers.{entry_inside}
+use Rattle.journal.specs.Lemmas.Answers.{changing_in_group, entry_inside}
 use Rattle.journal.specs.Lemmas.Known.{known_keeps}
 use Rattle.journal.specs.Lemmas.Lists.{entry_new, entry_same}
 use Rattle.journal.specs.Lemmas.Nexts.{task_next, task_journal, others_back}
 use Rattle.journal.specs.Next.{TaskNext}
 use Rattle.journal.specs.Open.{number_of, told}
-use Rattle.journal.specs.Processes.{World, process, idle, turned, turned_from, place_behind, decided, told_at, entry_place, answered}
+use Rattle.journal.specs.Processes.{World, process, idle, turned, turned_from, place_behind, decided, told_at, entry_place, answered, at_place, over, over_at}
 use Rattle.journal.specs.Views.{View, HasEntry, StandsAt, IsValidView}
 use Rattle.kernel.specs.Invariant.{IsRight, HasFacts, ArePaired, IsBehind, TaskStands}
 use Rattle.kernel.specs.State.{ats_of}
 use Rattle.kernel.specs.View.{view_of}
 use Rattle.kernel.proofs.TaskSteps.{form_untouched, moves_of, turns_of, opens_of, takes_of, reads_rest, leaves_of, free_then}
-use Rattle.kernel.proofs.Valid.{HasAgreed, valid_joint, look_number, over_unread, unturned_unread}
+use Rattle.kernel.proofs.Valid.{HasAgreed, valid_joint, over_unread, take_number, unturned_unread}
 use Rattle.journal.specs.Lemmas.Counting.{counted_turned, counted_same}
 use Rattle.kernel.proofs.Pairing.{paired_goes, keeps_behind}
 use Rattle.journal.specs.Lemmas.Places.{there_now, others_stay}
@@ -61,6 +62,7 @@ unturned_more (place.Creating m) is = refl
 unturned_more (place.Taking m) is = refl
 unturned_more (place.Reading k m) is = refl
 unturned_more (place.Delivering k) is = refl
+unturned_more (place.Truncating k m) is = refl
 unturned_more (place.Leaving k) is = refl
 
 reading_more : (a : Place) → is_reading a ≡ true → (is_over a ≡ false) × (is_unturned a ≡ false)
@@ -69,15 +71,16 @@ reading_more (place.Creating m) is = absurd (false≢true is)
 reading_more (place.Taking m) is = absurd (false≢true is)
 reading_more (place.Reading k m) is = (refl, refl)
 reading_more (place.Delivering k) is = (refl, refl)
+reading_more (place.Truncating k m) is = absurd (false≢true is)
 reading_more (place.Leaving k) is = absurd (false≢true is)
 
 -- what may begin changes files, and what looks changes none
-changes : (n : ℕ) (op : Op) → CanBegin op → (is_changing n op ≡ true) × (number_of op ≡ asked op)
+changes : (n : ℕ) (op : Op) → CanBegin n op → (is_changing n op ≡ true) × (number_of op ≡ asked op)
 changes n (Create kind) can = (can, refl)
 changes n (Write i off bytes) can = absurd can
 changes n (Read i off m) can = absurd can
-changes n (Trunc i) can = absurd can
-changes n (Remove i) can = absurd can
+changes n (Trunc i) can = (can, refl)
+changes n (Remove i) can = (can, refl)
 changes n (Stat i) can = absurd can
 
 pub looks_only : (n k : ℕ) (op : Op) → CanLook n op → is_changing k op ≡ false
@@ -146,7 +149,7 @@ module _ {D N : Type 0} (disk : Ghosts D N) (opening : D) (s : StoreState D) (w 
   behind_goes : (group k : ℕ) (r : TaskProgress) → Steps disk s p op r t → TaskStands es (task s.tasks p) (at.Behind group k) → GoesOn (task s.tasks p).place next → TaskStands es (task t.tasks p) (at.Behind group k)
   behind_goes group k r steps behind on e there =
       let b = behind e there in
-      record { same = steps.tasks.op_stays ∙ b.same; none = b.none; unfinished = on.unfinished; turned = on.unturned ∙ b.turned; reply = on.reading ∙ b.reply }
+      record { same = steps.tasks.op_stays ∙ b.same; unfinished = on.unfinished; turned = on.unturned ∙ b.turned; reply = on.reading ∙ b.reply }
 
   paired_here : (r : TaskProgress) (a : At) → (process w p).at ≡ a → is_busy_at a ≡ true → Steps disk s p op r t → TaskStands es (task t.tasks p) a → ArePaired t w
   paired_here r a stands busy steps there = paired_goes s t w w p (process w p) right.paired lt (sym (set-get_or w.processes p idle)) steps.tasks.many steps.tasks.others (keeps_behind w w p refl)
@@ -213,12 +216,6 @@ module _ {D N : Type 0} (disk : Ghosts D N) (opening : D) (s : StoreState D) (w 
     pub right_fault : (fault : DiskFault) → Steps disk s p op (progress.Fault fault) t → IsRight disk opening t w
     right_fault fault steps = fails_with (at.Before group op) stands refl fault steps (before_goes group (progress.Fault fault) steps unturned (ends_now (progress.Fault fault) more steps))
 
-    -- who looks is in no group
-    no_group : CanLook s.table.inode_count op → group ≡ 0
-    no_group can =
-        let is : StandsAt n before es p (at.Before group op) = subst (λ (a : At). StandsAt n before es p a) stands (had.facts.stands p) in
-        let low = ltb-false 0 group (is.2 ∙ looks_only s.table.inode_count n op can) in omega (arith, low)
-
     -- it had its turn
     module _ (reply : Option Reply) (steps : Steps disk s p op (progress.Turned reply) t) (agreed : HasAgreed disk.image t) where
       abbrev e : Entry
@@ -237,10 +234,10 @@ module _ {D N : Type 0} (disk : Ghosts D N) (opening : D) (s : StoreState D) (w 
           there (λ busy. room_stays (progress.Turned reply) steps (ap is_busy_at stands)) refl (quiet_behind b group (length es)))
 
       -- its task goes on
-      looked : CanLook s.table.inode_count op → is_over next ≡ false → is_unturned next ≡ false → is_reading next ≡ is_none reply → TaskStands (es ++ e ∷ []) (task t.tasks p) (at.Behind group (length es))
-      looked can unfinished past reads f there =
+      looked : is_over next ≡ false → is_unturned next ≡ false → is_reading next ≡ is_none reply → TaskStands (es ++ e ∷ []) (task t.tasks p) (at.Behind group (length es))
+      looked unfinished past reads f there =
           let same : e ≡ f = entry_same (es ++ e ∷ []) (length es) e f (entry_new es e) there in
-          subst (λ (g : Entry). IsBehind (task t.tasks p) group g) same (record { same = steps.tasks.op_stays ∙ mine; none = no_group can; unfinished = unfinished; turned = past; reply = reads })
+          subst (λ (g : Entry). IsBehind (task t.tasks p) g) same (record { same = steps.tasks.op_stays ∙ mine; unfinished = unfinished; turned = past; reply = reads })
 
     pub right_turned : (reply : Option Reply) → Steps disk s p op (progress.Turned reply) t → HasAgreed disk.image t → IsRight disk opening t (turned w p reply (is_over next))
     right_turned None steps agreed =
@@ -248,18 +245,18 @@ module _ {D N : Type 0} (disk : Ghosts D N) (opening : D) (s : StoreState D) (w 
         let past = reading_more next ends.2 in
         turned_with None steps agreed false past.0
         (opens_of disk s t p op n ends.1.0 ends.1.1 ends.1.2 ends.1.3 (subst (λ (k : ℕ). CanLook k op) right.numbers ends.0) mine ends.2 steps, refl, refl)
-        (looked None steps agreed ends.0 past.0 past.1 ends.2)
+        (looked None steps agreed past.0 past.1 ends.2)
     right_turned (Some told) steps agreed = by_end (ends_now (progress.Turned (Some told)) more steps).1
       where
         by_end : TurnEnds s.table.inode_count op (Some told) next → IsRight disk opening t (turned w p (Some told) (is_over next))
         by_end (inl (can, over)) =
-            let c = changes n op can in
+            let c = changes n op (subst (λ (k : ℕ). CanBegin k op) right.numbers can) in
             turned_with (Some told) steps agreed true over
             (turns_of disk s t p op form form_same told c.1 (unturned_unread (task s.tasks p).place unturned) looks steps, refl, inr (refl, c.0, free_then disk s t p op (over_unread next over))) over
-        by_end (inr (can, (k, is))) =
-            turned_with (Some told) steps agreed false (ap is_over is)
-            (turns_of disk s t p op form form_same told (look_number s.table.inode_count op can) (unturned_unread (task s.tasks p).place unturned) looks steps, refl, inl refl)
-            (looked (Some told) steps agreed can (ap is_over is) (ap is_unturned is) (ap is_reading is))
+        by_end (inr (can, on)) =
+            turned_with (Some told) steps agreed false on.unfinished
+            (turns_of disk s t p op form form_same told (take_number s.table.inode_count op can) (unturned_unread (task s.tasks p).place unturned) looks steps, refl, inl refl)
+            (looked (Some told) steps agreed on.unfinished on.turned on.unread)
 
   -- BEHIND ITS TURN
   module _ (group k : ℕ) (stands : (process w p).at ≡ at.Behind group k) where
@@ -275,11 +272,25 @@ module _ {D N : Type 0} (disk : Ghosts D N) (opening : D) (s : StoreState D) (w 
     has : HasEntry es p k group own
     has = facts_of.1.1
 
-    its : IsBehind (task s.tasks p) group own
+    its : IsBehind (task s.tasks p) own
     its = behind own has.at
 
     same_op : op ≡ own.op
     same_op = let both : Some op ≡ Some own.op = sym mine ∙ its.same in cc both
+
+    -- who is in a group changes files
+    grouped : 0 < group → is_changing n own.op ≡ true
+    grouped later = changing_in_group n group k es own had.facts.journal.changing has.at has.same later
+
+    -- so who reads is in none
+    reads_alone : is_reading (task s.tasks p).place ≡ true → group ≡ 0
+    reads_alone reads = ⊎_elim
+        (λ (later : 0 < group).
+        let read = reading_is (current_of disk.image s.volume) s.table s.tasks looks p reads in
+        let is : own.op ≡ Read read.number read.offset read.count = (let both = sym its.same ∙ read.is in cc both) in
+        absurd (false≢true (sym (ap (is_changing n) is) ∙ grouped later)))
+        (λ (none : group ≤ 0). omega (arith, none))
+        (cases_lt 0 group)
 
     pub right_moved_behind : Steps disk s p op progress.Moved t → HasAgreed disk.image t → IsRight disk opening t w
     right_moved_behind steps agreed =
@@ -306,7 +317,7 @@ module _ {D N : Type 0} (disk : Ghosts D N) (opening : D) (s : StoreState D) (w 
           inl (record {
             bytes = bytes;
             open_still = reply_missing own.reply (sym its.reply ∙ ends.0);
-            none = its.none;
+            none = reads_alone ends.0;
             rest = reads_rest disk s t p op reply steps;
             free = free_then disk s t p op (over_unread next ends.1);
             files = takes;
@@ -317,12 +328,25 @@ module _ {D N : Type 0} (disk : Ghosts D N) (opening : D) (s : StoreState D) (w 
         (counted_same s.volume.log.opened p w right.counted lt t.volume.log.opened z at.Idle None (ap Rattle.journal.specs.Processes.is_before stands) refl refl (length-set es k (told (entry_in es k) reply)) refl steps.groups.opened)
         ends.1 (λ busy. absurd (false≢true busy)) refl refl)
 
-    -- another look is over, and answered
-    pub right_over : Steps disk s p op progress.Over t → HasAgreed disk.image t → IsRight disk opening t (answered w p)
-    right_over steps agreed =
+    -- another operation of no group is over, and answered
+    pub right_over : group ≡ 0 → Steps disk s p op progress.Over t → HasAgreed disk.image t → IsRight disk opening t (answered w p)
+    right_over none steps agreed =
         let ends = ends_now progress.Over its.unfinished steps in
         let reply = reply_there own.reply (sym its.reply ∙ ends.1) in
         right_stepped progress.Over steps refl agreed (answered w p) (record (process w p) { at = at.Idle; room = None }) refl (at.Behind group k) stands progress.Over
-        (own, has.at, inr (inr (record { reply = reply.0; has = reply.1; none = its.none; leaves = leaves_of disk s t p op ends.2 steps; list = refl; now = refl })))
+        (own, has.at, inr (inr (record { reply = reply.0; has = reply.1; none = none; leaves = leaves_of disk s t p op ends.2 steps; list = refl; now = refl })))
         (counted_same s.volume.log.opened p w right.counted lt t.volume.log.opened (answered w p) at.Idle None (ap Rattle.journal.specs.Processes.is_before stands) refl refl refl refl steps.groups.opened)
         ends.2 (λ busy. absurd (false≢true busy)) refl refl
+
+    -- one of a group is over, and ends in the log next
+    pub right_ends : 0 < group → Steps disk s p op progress.Over t → HasAgreed disk.image t → IsRight disk opening t (over w p)
+    right_ends later steps agreed =
+        let ends = ends_now progress.Over its.unfinished steps in
+        let reply = reply_there own.reply (sym its.reply ∙ ends.1) in
+        let z : World = at_place w p (at.Ending group k) in
+        let same : over w p ≡ z = ap (λ (a : At). at_place w p (over_at a)) stands in
+        subst (λ (y : World). IsRight disk opening t y) (sym same)
+        (right_stepped progress.Over steps refl agreed z (record (process w p) { at = at.Ending group k }) refl (at.Behind group k) stands progress.Over
+        (own, has.at, inr (inl (record { reply = reply.0; has = reply.1; changing = grouped later; leaves = leaves_of disk s t p op ends.2 steps; list = refl; now = refl })))
+        (counted_same s.volume.log.opened p w right.counted lt t.volume.log.opened z (at.Ending group k) (process w p).room (ap Rattle.journal.specs.Processes.is_before stands) refl refl refl refl steps.groups.opened)
+        ends.2 (λ busy. room_stays progress.Over steps (ap is_busy_at stands)) refl refl)

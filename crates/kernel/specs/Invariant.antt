@@ -29,11 +29,10 @@ use Rattle.journal.specs.Bound.{is_busy_at}
 use Rattle.kernel.specs.State.{State, ats_of}
 use Rattle.kernel.specs.View.{view_of}
 
--- The task of an entry's operation goes on behind its turn; it is none of the log's. The entry has
--- no reply exactly while the task reads.
-pub record IsBehind (t : TaskState) (group : ℕ) (e : Entry) : Type 0 where
+-- The task of an entry's operation goes on behind its turn. The entry has no reply exactly while the
+-- task reads.
+pub record IsBehind (t : TaskState) (e : Entry) : Type 0 where
   pub same : t.op ≡ Some e.op
-  pub none : group ≡ 0
   pub unfinished : is_over t.place ≡ false
   pub turned : is_unturned t.place ≡ false
   pub reply : is_reading t.place ≡ is_none e.reply
@@ -42,7 +41,7 @@ pub record IsBehind (t : TaskState) (group : ℕ) (e : Entry) : Type 0 where
 abbrev pub TaskStands : List Entry → TaskState → At → Type 0
 TaskStands es t at.Idle = is_over t.place ≡ true
 TaskStands es t (at.Before group op) = (t.op ≡ Some op) × (is_unturned t.place ≡ true)
-TaskStands es t (at.Behind group k) = (e : Entry) → IsEntry es k e → IsBehind t group e
+TaskStands es t (at.Behind group k) = (e : Entry) → IsEntry es k e → IsBehind t e
 TaskStands es t (at.Ending group k) = is_over t.place ≡ true
 TaskStands es t (at.Committing group k) = (is_over t.place ≡ true) × (0 < group)
 

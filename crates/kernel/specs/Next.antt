@@ -1,7 +1,7 @@
 -- One step of a process: what becomes of store and processes, by where the process stands and what
 -- the step answers.
 use Rattle.std.specs.Option.{option_map}
-use Rattle.std.specs.Prelude.{◌≡◌, ◌⊎◌, ℕ, ◌∷◌, Bool, false, true, List, Option, Some, None}
+use Rattle.std.specs.Prelude.{◌≡◌, ◌⊎◌, ℕ, zero, suc, ◌∷◌, Bool, false, true, List, Option, Some, None}
 use mathlib.Core.List.{IsPrefix}
 use Rattle.blocks.specs.declared.disk.Disk.{Ghosts}
 use Rattle.blocks.specs.declared.errors.DiskFault.{DiskFault}
@@ -24,7 +24,7 @@ use Rattle.journal.specs.AtOnce.{at_once_reply}
 use Rattle.journal.specs.declared.types.At.{At}
 use Rattle.journal.specs.declared.types.At.TheVariants as at
 use Rattle.journal.specs.Journal.{entry_in}
-use Rattle.journal.specs.Processes.{World, process, with_place, taken, turned, decided, refused, committing, answered}
+use Rattle.journal.specs.Processes.{World, process, with_place, taken, turned, decided, refused, over, committing, answered}
 use Rattle.kernel.specs.declared.waiting.Waiting.{Waiting}
 use Rattle.kernel.specs.declared.waiting.Waiting.TheVariants as waiting
 use Rattle.kernel.specs.declared.types.Step.{Step}
@@ -41,12 +41,12 @@ abbrev pub IsTaken : ℕ → List Op → Side → Waiting → Op → Type 0
 IsTaken inode_count ahead side what op =
     (ahead ≡ op ∷ side.ahead) × (waiting_of inode_count op ≡ what)
 
--- a creation was taken, and its group is open
-pub record TakesCreation {D : Type 0} (what : Option Waiting) (s : StoreState D) (w : World) (p : ℕ)
+-- an operation that changes files was taken, and its group is open
+pub record TakesChange {D : Type 0} (what : Option Waiting) (s : StoreState D) (w : World) (p : ℕ)
     (ahead : List Op) (side : Side) (r : Step) (t : StoreState D) (z : World) : Type 0 where
   pub op : Op
-  pub waits : what ≡ Some waiting.Creation
-  pub taken : IsTaken s.table.inode_count ahead side waiting.Creation op
+  pub waits : what ≡ Some waiting.Change
+  pub taken : IsTaken s.table.inode_count ahead side waiting.Change op
   pub room : side.has_room ≡ true
   pub free : begin_cause s.volume.log ≡ None
   pub answer : r ≡ step.Moved
@@ -96,7 +96,7 @@ IsNotTaken None l room r = r ≡ step.Idle
 IsNotTaken (Some waiting.Other) l room r = r ≡ step.NotYet
 IsNotTaken (Some waiting.Refused) l room r = HasNoRoom room r ⊎ HasNoMemory room r
 IsNotTaken (Some (waiting.Look count)) l room r = HasNoRoom room r ⊎ HasNoMemory room r
-IsNotTaken (Some waiting.Creation) l room r =
+IsNotTaken (Some waiting.Change) l room r =
     HasNoRoom room r ⊎ (IsKeptOut l room r ⊎ (HasNoMemory room r × (begin_cause l ≡ None)))
 
 -- nothing was taken, and nothing changed
@@ -110,7 +110,7 @@ pub record TakesNone {D : Type 0} (what : Option Waiting) (s : StoreState D) (w 
 abbrev pub BeginsWith : {D : Type 0} → Option Waiting → StoreState D → World → ℕ → List Op → Side
     → Step → StoreState D → World → Type 0
 BeginsWith what s w p ahead side r t z =
-    TakesCreation what s w p ahead side r t z
+    TakesChange what s w p ahead side r t z
     ⊎ (TakesLook what s w p ahead side r t z
     ⊎ (TakesRefused what s w p ahead side r t z ⊎ TakesNone what s w ahead side r t z))
 
@@ -165,32 +165,42 @@ pub record Works {D N : Type 0} (disk : Ghosts D N) (s : StoreState D) (w : Worl
   pub answer : r ≡ step_of progress
   pub world : z ≡ world_after progress (is_over (task t.tasks p).place) w p
 
--- what a step behind a turn answers: with its last one the operation is answered
-abbrev pub step_behind : TaskProgress → Step
-step_behind progress.Moved = step.Moved
-step_behind (progress.Turned reply) = step.Moved
-step_behind (progress.Decided reply) = step.Answered
-step_behind progress.Over = step.Answered
-step_behind (progress.Sleeping cause) = step.Sleeping cause
-step_behind (progress.Fault fault) = step.Halted
+-- with the last step of its task an operation of no group is answered; one of a group goes on
+abbrev pub step_of_last : ℕ → Step
+step_of_last zero = step.Answered
+step_of_last (suc group) = step.Moved
+
+-- and it ends in the log next
+abbrev pub world_of_last : ℕ → World → ℕ → World
+world_of_last zero w p = answered w p
+world_of_last (suc group) w p = over w p
+
+-- what a step behind the turn of an operation of this group answers
+abbrev pub step_behind : ℕ → TaskProgress → Step
+step_behind group progress.Moved = step.Moved
+step_behind group (progress.Turned reply) = step.Moved
+step_behind group (progress.Decided reply) = step.Answered
+step_behind group progress.Over = step_of_last group
+step_behind group (progress.Sleeping cause) = step.Sleeping cause
+step_behind group (progress.Fault fault) = step.Halted
 
 -- a read's entry is told its bytes then
-abbrev pub world_behind : TaskProgress → World → ℕ → World
-world_behind progress.Moved w p = w
-world_behind (progress.Turned reply) w p = w
-world_behind (progress.Decided reply) w p = answered (decided w p reply) p
-world_behind progress.Over w p = answered w p
-world_behind (progress.Sleeping cause) w p = w
-world_behind (progress.Fault fault) w p = w
+abbrev pub world_behind : ℕ → TaskProgress → World → ℕ → World
+world_behind group progress.Moved w p = w
+world_behind group (progress.Turned reply) w p = w
+world_behind group (progress.Decided reply) w p = answered (decided w p reply) p
+world_behind group progress.Over w p = world_of_last group w p
+world_behind group (progress.Sleeping cause) w p = w
+world_behind group (progress.Fault fault) w p = w
 
 -- a step of the task of a process whose operation, which has this place in the journal, had its
 -- turn
-pub record Finishes {D N : Type 0} (disk : Ghosts D N) (s : StoreState D) (w : World) (p k : ℕ)
-    (r : Step) (t : StoreState D) (z : World) : Type 0 where
+pub record Finishes {D N : Type 0} (disk : Ghosts D N) (s : StoreState D) (w : World)
+    (p group k : ℕ) (r : Step) (t : StoreState D) (z : World) : Type 0 where
   pub progress : TaskProgress
   pub steps : Steps disk s p (entry_in w.journal.list k).op progress t
-  pub answer : r ≡ step_behind progress
-  pub world : z ≡ world_behind progress w p
+  pub answer : r ≡ step_behind group progress
+  pub world : z ≡ world_behind group progress w p
 
 -- what a step answers, by what an end in the log came to
 abbrev pub step_of_end : Ended → Step
@@ -236,7 +246,7 @@ abbrev pub NextAt : {D N : Type 0} → Ghosts D N → At → StoreState D → Wo
     → Bool → Step → StoreState D → World → Type 0
 NextAt disk at.Idle s w p before side told r t z = BeginsNext s w p before side told r t z
 NextAt disk (at.Before group op) s w p before side told r t z = Works disk s w p op r t z
-NextAt disk (at.Behind group k) s w p before side told r t z = Finishes disk s w p k r t z
+NextAt disk (at.Behind group k) s w p before side told r t z = Finishes disk s w p group k r t z
 NextAt disk (at.Ending group k) s w p before side told r t z = Ends s w p r t z
 NextAt disk (at.Committing group k) s w p before side told r t z = Writes disk s w p r t z
 

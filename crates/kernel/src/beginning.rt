@@ -32,7 +32,7 @@ impl<D: Disk, I: Intake, H: Herald> Kernel<D, I, H> {
             None => Step::Idle,
             Some(Waiting::Other) => Step::NotYet,
             Some(Waiting::Refused) => self.refuse(pid),
-            Some(Waiting::Creation) => self.create(pid),
+            Some(Waiting::Change) => self.change(pid),
             Some(Waiting::Look(count)) => self.look(pid, count),
         }
     }
@@ -71,14 +71,14 @@ impl<D: Disk, I: Intake, H: Herald> Kernel<D, I, H> {
         Some(waiting_of(op, inode_count))
     }
 
-    // Begins a creation that waits, where it may.
-    fn create(&mut self, pid: u32) -> Step
+    // Begins what waits and changes files, where it may.
+    fn change(&mut self, pid: u32) -> Step
         requires pid { pid < length self.old.world.processes }
         requires fault { self.old.store.volume.fault ≡ None }
         requires at { (process self.old.world pid).at ≡ at.Idle }
         requires waits { first_waiting I.Intake self.old.store.table.inode_count self.old.intake pid
-            ≡ Some waiting.Creation }
-        ensures { Begins I.Intake (Some waiting.Creation) pid result self.old self.new }
+            ≡ Some waiting.Change }
+        ensures { Begins I.Intake (Some waiting.Change) pid result self.old self.new }
     {
         self.store.known();
         if !self.intake.room(pid) {

@@ -10,14 +10,17 @@
 //! process, in any order. A process has one operation under way at a time. Those of different
 //! processes go on side by side, and keep apart by the locks of buffers and by the log's groups.
 //!
-//! An operation that is refused by itself alone begins and is answered in one step. A creation
-//! belongs to the log's group that is open at its beginning; a question for type and length, and a
-//! read, belong to none. An operation's entry comes into the journal with its turn, which is one
-//! step: the refusal, that in which a creation claims a number or finds that none is free, or that
-//! in which a look takes its inode. So the journal has the operations in the order in which they
-//! took effect. Next a creation ends in the log. It is answered then, or, where it was the last of
-//! its group, after the commit, which its process makes. A look goes on behind its turn: a read
-//! gathers its bytes, which its entry is told last, and each gives its inode up and is answered.
+//! An operation that is refused by itself alone begins and is answered in one step. A creation, a
+//! truncation and a removal belong to the log's group that is open at their beginning; a question
+//! for type and length, and a read, belong to none. An operation's entry comes into the journal with
+//! its turn, which is one step: the refusal, that in which a creation claims a number or finds that
+//! none is free, or that in which any other takes its inode. So the journal has the operations in
+//! the order in which they took effect. Next a creation ends in the log. It is answered then, or,
+//! where it was the last of its group, after the commit, which its process makes. The others go on
+//! behind their turn: a read gathers its bytes, which its entry is told last; a truncation or a
+//! removal, whose entry has its reply, frees the blocks of its file one by one and writes the inode
+//! back. With its last step each gives its inode up. Then a look is answered, and who changed files
+//! ends in the log as a creation does.
 //!
 //! Memory is taken at an operation's beginning alone: a place in the journal, and for a read room
 //! for its bytes, once for the journal and once for the answer.

@@ -67,8 +67,9 @@ impl<D: Disk, I: Intake, H: Herald> Kernel<D, I, H> {
     ///
     /// After a fault of the disk it is `Halted`, and nothing is done. A process with no operation
     /// under way answers, in this order: `ShutDown`, `Idle`, `NotYet`, `Sleeping(AnswersFull)`,
-    /// for a creation `Sleeping` with the log's cause, `NoMemory`; else the operation is taken, and
-    /// the step is `Moved`, or `Answered` where it is refused at once. No other step takes memory.
+    /// for what changes files `Sleeping` with the log's cause, `NoMemory`; else the operation is
+    /// taken, and the step is `Moved`, or `Answered` where it is refused at once. No other step takes
+    /// memory.
     pub fn step(&mut self, pid: u32) -> Step
         requires pid { pid < length self.old.world.processes }
         ensures { MakesStep D.Disk I.Intake H.Herald pid result self.old self.new }
@@ -124,7 +125,8 @@ impl<D: Disk, I: Intake, H: Herald> Kernel<D, I, H> {
         }
     }
 
-    // Makes the next step of a task whose operation had its turn, and answers what is over.
+    // Makes the next step of a task whose operation had its turn. What is over then and in no group
+    // of the log is answered.
     fn finish(&mut self, pid: u32) -> Step
         requires pid { pid < length self.old.world.processes }
         requires fault { self.old.store.volume.fault ≡ None }
@@ -132,6 +134,10 @@ impl<D: Disk, I: Intake, H: Herald> Kernel<D, I, H> {
         ensures { Acts D.Disk I.Intake H.Herald pid result self.old self.new }
     {
         self.store.known();
+        let At::Behind { group, .. } = self.processes.at(pid) else {
+            unreachable!();
+        };
+        let group = *group;
         let op = self.processes.operation(pid);
         let progress = self.store.step(pid, op);
         self.store.known();
@@ -142,9 +148,14 @@ impl<D: Disk, I: Intake, H: Herald> Kernel<D, I, H> {
                 give(&mut self.processes, &mut self.intake, pid);
                 Step::Answered
             }
-            TaskProgress::Over => {
+            TaskProgress::Over if group == 0 => {
                 give(&mut self.processes, &mut self.intake, pid);
                 Step::Answered
+            }
+            // It is in a group, and ends there.
+            TaskProgress::Over => {
+                self.processes.go_to_end(pid);
+                Step::Moved
             }
             // It had its turn.
             TaskProgress::Turned(_) => unreachable!(),

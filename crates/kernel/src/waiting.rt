@@ -15,8 +15,9 @@ const TRANSFER_LIMIT: u32 = 3072;
 // What waits for a process.
 #[derive(Clone, Copy, Debug, PartialEq, Eq)]
 pub enum Waiting {
-    // A creation of a file of a type that there is.
-    Creation,
+    // What changes files, in a group of the log: a creation of a file of a type that there is, or
+    // an operation that frees a file's blocks.
+    Change,
     // A read of so many bytes of a file, or a question for its type and length.
     Look(Option<u32>),
     // What is answered at once, by itself alone.
@@ -34,10 +35,10 @@ pub fn waiting_of(op: &Op, inode_count: u32) -> Waiting
         return Waiting::Refused;
     }
     match op {
-        Op::Create(_) => Waiting::Creation,
+        Op::Create(_) | Op::Trunc(_) | Op::Remove(_) => Waiting::Change,
         Op::Read(_, _, count) => Waiting::Look(Some(*count)),
         Op::Stat(_) => Waiting::Look(None),
-        Op::Write(..) | Op::Trunc(_) | Op::Remove(_) => Waiting::Other,
+        Op::Write(..) => Waiting::Other,
     }
 }
 

@@ -8,16 +8,16 @@
 //! in the image, and a used inode has a type and a size that there are, and each block that the
 //! size needs.
 //!
-//! The operations so far are creations alone, which own no block and write an inode whole in one
-//! step. Each number is at rest, the owned blocks are those that the inodes name, and the image
-//! stands for the files of its numbers (`Fits`).
+//! A creation owns no block and writes an inode whole in one step. Where no number is held, each is
+//! at rest, the owned blocks are those that the inodes name, and the image stands for the files of
+//! its numbers (`Fits`).
 //!
-//! A truncation or a removal will give up its file's blocks one by one behind its turn. From the
-//! turn on its task holds the number (`Held`): the files have the result, the image still has the
-//! old inode, and owned is what the task's copy of the inode still names. `FitsHeld` says which
-//! files an image stands for where tasks hold numbers so; with none held it is `Fits`. Its laws go
-//! from the turn over each block that is given up to the inode that is written back, beside
-//! creations, looks and other tasks. No operation uses them yet.
+//! A truncation or a removal gives up its file's blocks one by one behind its turn. From the turn
+//! on its task holds the number (`Held`): the files have the result, the image still has the old
+//! inode, and owned is what the task's copy of the inode still names. `FitsHeld` says which files
+//! an image stands for where tasks hold numbers so; with none held it is `Fits`. Its laws go from
+//! the turn over each block that is given up to the inode that is written back, beside creations,
+//! looks and other tasks.
 //!
 //! The laws say that a sound image stands for its own files; that an image which stands for files
 //! is sound, with them as its files, once its log is empty; that the log's blocks have no part in

@@ -25,13 +25,13 @@ use Rattle.journal.specs.declared.types.Process.{Process}
 use Rattle.journal.specs.Journal.{entry_in, entry_of, journal_with}
 use Rattle.journal.specs.AtOnce.{at_once_reply}
 use Rattle.journal.specs.Open.{told}
-use Rattle.journal.specs.Processes.{World, process, with_place, taken, turned_from, told_at, entry_place, committing_at, at_place, place_behind, refused, refusal, answered}
+use Rattle.journal.specs.Processes.{World, process, with_place, taken, turned_from, told_at, entry_place, committing_at, over_at, at_place, place_behind, refused, refusal, answered}
 use Rattle.journal.specs.Lemmas.Places.{there_now}
 use Rattle.kernel.specs.declared.types.Step.{Step}
 use Rattle.kernel.specs.declared.types.Step.TheVariants as step
 use Rattle.kernel.specs.declared.waiting.Waiting.{Waiting}
 use Rattle.kernel.specs.declared.waiting.Waiting.TheVariants as waiting_as
-use Rattle.kernel.specs.Next.{NextIf, NextAt, BeginsNext, HearsShutdown, HearsNone, TakesCreation, TakesLook, TakesRefused, TakesNone, IsNotTaken, Works, Finishes, Ends, Writes, world_after, world_behind, world_ended, world_written, step_of, step_behind, step_of_end, step_of_write}
+use Rattle.kernel.specs.Next.{NextIf, NextAt, BeginsNext, HearsShutdown, HearsNone, TakesChange, TakesLook, TakesRefused, TakesNone, IsNotTaken, Works, Finishes, Ends, Writes, world_after, world_behind, world_ended, world_written, step_of, step_behind, step_of_end, step_of_write}
 
 -- the journal has one entry more, of the first process's operation, at that place
 pub record HasMore (op : Op) (es : List Entry) (k : ℕ) (list : List Entry) : Type 0 where
@@ -69,14 +69,14 @@ not_taken_moved None l room is = cc is
 not_taken_moved (Some waiting_as.Other) l room is = cc is
 not_taken_moved (Some waiting_as.Refused) l room is = ⊎_elim (λ h. let e = h.0 in cc e) (λ h. let e = h.0 in cc e) is
 not_taken_moved (Some (waiting_as.Look count)) l room is = ⊎_elim (λ h. let e = h.0 in cc e) (λ h. let e = h.0 in cc e) is
-not_taken_moved (Some waiting_as.Creation) l room is = ⊎_elim (λ h. let e = h.0 in cc e) (λ o. ⊎_elim (λ h. let e = h.1 in cc e) (λ h. let e = h.0.0 in cc e) o) is
+not_taken_moved (Some waiting_as.Change) l room is = ⊎_elim (λ h. let e = h.0 in cc e) (λ o. ⊎_elim (λ h. let e = h.1 in cc e) (λ h. let e = h.0.0 in cc e) o) is
 
 not_taken_answered : (what : Option Waiting) (l : LogState) (room : Bool) → IsNotTaken what l room step.Answered → ⊥
 not_taken_answered None l room is = cc is
 not_taken_answered (Some waiting_as.Other) l room is = cc is
 not_taken_answered (Some waiting_as.Refused) l room is = ⊎_elim (λ h. let e = h.0 in cc e) (λ h. let e = h.0 in cc e) is
 not_taken_answered (Some (waiting_as.Look count)) l room is = ⊎_elim (λ h. let e = h.0 in cc e) (λ h. let e = h.0 in cc e) is
-not_taken_answered (Some waiting_as.Creation) l room is = ⊎_elim (λ h. let e = h.0 in cc e) (λ o. ⊎_elim (λ h. let e = h.1 in cc e) (λ h. let e = h.0.0 in cc e) o) is
+not_taken_answered (Some waiting_as.Change) l room is = ⊎_elim (λ h. let e = h.0 in cc e) (λ o. ⊎_elim (λ h. let e = h.1 in cc e) (λ h. let e = h.0.0 in cc e) o) is
 
 -- the first of those that wait is that which waited
 first_is : (op o : Op) (before ahead rest : List Op) → before ≡ op ∷ [] → IsPrefix before ahead → ahead ≡ o ∷ rest → o ≡ op
@@ -114,7 +114,7 @@ module _ {D N : Type 0} (disk : Ghosts D N) (op : Op) (es : List Entry) (s : Sto
   begun_moved (inl shut) was list = let e = shut.answer in absurd (cc e)
   begun_moved (inr none) was list = ⊎_elim created (λ o. ⊎_elim looked (λ q. ⊎_elim refused_at_once none_taken q) o) none.begins
     where
-      created : TakesCreation (option_map (waiting_of s.table.inode_count) (first_in none.ahead)) s w 0 none.ahead side step.Moved t z → BusyAt op es (process z 0).at z.journal.list
+      created : TakesChange (option_map (waiting_of s.table.inode_count) (first_in none.ahead)) s w 0 none.ahead side step.Moved t z → BusyAt op es (process z 0).at z.journal.list
       created takes = went _ (ap (λ (v : World). v.processes) takes.world) (at.Before _ takes.op) refl (first_is op takes.op before none.ahead side.ahead was none.prefix takes.taken.0, ap (λ (v : World). v.journal.list) takes.world ∙ list)
 
       looked : TakesLook (option_map (waiting_of s.table.inode_count) (first_in none.ahead)) s w 0 none.ahead side step.Moved t z → BusyAt op es (process z 0).at z.journal.list
@@ -151,11 +151,13 @@ module _ {D N : Type 0} (disk : Ghosts D N) (op : Op) (es : List Entry) (s : Sto
   worked_answered (progress.Sleeping cause) answer = cc answer
   worked_answered (progress.Fault fault) answer = cc answer
 
-  finished_moved : (group k : ℕ) (r : TaskProgress) → (process w 0).at ≡ at.Behind group k → step.Moved ≡ step_behind r → z ≡ world_behind r w 0 → HasMore op es k w.journal.list → BusyAt op es (process z 0).at z.journal.list
+  finished_moved : (group k : ℕ) (r : TaskProgress) → (process w 0).at ≡ at.Behind group k → step.Moved ≡ step_behind group r → z ≡ world_behind group r w 0 → HasMore op es k w.journal.list → BusyAt op es (process z 0).at z.journal.list
   finished_moved group k progress.Moved stands answer is more = stays (at.Behind group k) is stands more
   finished_moved group k (progress.Turned reply) stands answer is more = stays (at.Behind group k) is stands more
   finished_moved group k (progress.Decided reply) stands answer is more = absurd (cc answer)
-  finished_moved group k progress.Over stands answer is more = absurd (cc answer)
+  finished_moved zero k progress.Over stands answer is more = absurd (cc answer)
+  finished_moved (suc group) k progress.Over stands answer is more =
+      went (record (process w 0) { at = over_at (process w 0).at }) (ap (λ (v : World). v.processes) is) (at.Ending (suc group) k) (ap over_at stands) (subst (λ (l : List Entry). HasMore op es k l) (sym (ap (λ (v : World). v.journal.list) is)) more)
   finished_moved group k (progress.Sleeping cause) stands answer is more = absurd (cc answer)
   finished_moved group k (progress.Fault fault) stands answer is more = absurd (cc answer)
 
@@ -166,12 +168,13 @@ module _ {D N : Type 0} (disk : Ghosts D N) (op : Op) (es : List Entry) (s : Sto
     more = record { entry = more.entry; place = refl; is = ap (λ (y : World). y.journal.list) is ∙ more.is; mine = more.mine; same = more.same };
   }
 
-  finished_answered : (group k : ℕ) (r : TaskProgress) → (process w 0).at ≡ at.Behind group k → step.Answered ≡ step_behind r → z ≡ world_behind r w 0 → HasMore op es k w.journal.list → OverAt op es z
+  finished_answered : (group k : ℕ) (r : TaskProgress) → (process w 0).at ≡ at.Behind group k → step.Answered ≡ step_behind group r → z ≡ world_behind group r w 0 → HasMore op es k w.journal.list → OverAt op es z
   finished_answered group k progress.Moved stands answer is more = absurd (cc answer)
   finished_answered group k (progress.Turned reply) stands answer is more = absurd (cc answer)
   finished_answered group k (progress.Decided reply) stands answer is more =
       was_answered (told_at (Some k) w reply) k refl (subst (λ (a : At). z ≡ answered (told_at (entry_place a) w reply) 0) stands is) (told_more op es w.journal.list k reply more)
-  finished_answered group k progress.Over stands answer is more = was_answered w k refl is more
+  finished_answered zero k progress.Over stands answer is more = was_answered w k refl is more
+  finished_answered (suc group) k progress.Over stands answer is more = absurd (cc answer)
   finished_answered group k (progress.Sleeping cause) stands answer is more = absurd (cc answer)
   finished_answered group k (progress.Fault fault) stands answer is more = absurd (cc answer)
 
@@ -200,7 +203,7 @@ module _ {D N : Type 0} (disk : Ghosts D N) (op : Op) (es : List Entry) (s : Sto
   begun_answered (inl shut) idle was list = let e = shut.answer in absurd (cc e)
   begun_answered (inr none) idle was list = ⊎_elim created (λ o. ⊎_elim looked (λ q. ⊎_elim refused_at_once none_taken q) o) none.begins
     where
-      created : TakesCreation (option_map (waiting_of s.table.inode_count) (first_in none.ahead)) s w 0 none.ahead side step.Answered t z → OverAt op es z
+      created : TakesChange (option_map (waiting_of s.table.inode_count) (first_in none.ahead)) s w 0 none.ahead side step.Answered t z → OverAt op es z
       created takes = let e = takes.answer in absurd (cc e)
 
       looked : TakesLook (option_map (waiting_of s.table.inode_count) (first_in none.ahead)) s w 0 none.ahead side step.Answered t z → OverAt op es z

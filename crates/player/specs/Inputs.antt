@@ -23,8 +23,8 @@ abbrev pub is_carried_out : Op → Bool
 is_carried_out (Create kind) = true
 is_carried_out (Write inode offset bytes) = is_at_once most_numbers (Write inode offset bytes)
 is_carried_out (Read inode offset count) = true
-is_carried_out (Trunc inode) = is_at_once most_numbers (Trunc inode)
-is_carried_out (Remove inode) = is_at_once most_numbers (Remove inode)
+is_carried_out (Trunc inode) = true
+is_carried_out (Remove inode) = true
 is_carried_out (Stat inode) = true
 
 -- the line of the first operation that is not

@@ -28,7 +28,7 @@ const MOST_NUMBERS: u32 = 1024;
 /// # Errors
 ///
 /// `File` where it can't be read; else a fault of `read_script`; else `NotYet` with the first line
-/// of another operation, a write, a truncation or a removal. `NoMemory` where memory is refused.
+/// of another operation, a write. `NoMemory` where memory is refused.
 pub fn script_from<I: Read + Drop>(alloc: Global, input: I) -> Result<Vec<Task>, ScriptFault>
     ensures tasks { IfOk result (λ tasks. GivesScript (I.remaining input) tasks.items) }
     ensures fault { IfErr result (GivesNoScript (I.remaining input)) }
@@ -122,9 +122,8 @@ fn is_carried_out(op: &Op) -> bool
     ensures { result ≡ is_carried_out op.now }
 {
     match op {
-        Op::Create(_) | Op::Read(..) | Op::Stat(_) => true,
+        Op::Create(_) | Op::Read(..) | Op::Trunc(_) | Op::Remove(_) | Op::Stat(_) => true,
         Op::Write(number, _, bytes) => bytes.len() > TRANSFER_LIMIT || !may_have(*number),
-        Op::Trunc(number) | Op::Remove(number) => !may_have(*number),
     }
 }
 

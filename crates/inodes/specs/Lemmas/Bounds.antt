@@ -17,6 +17,10 @@ use Rattle.inodes.specs.declared.ilock.LockAt.{LockAt}
 use Rattle.inodes.specs.declared.ilock.LockAt.TheVariants as lock_at
 use Rattle.inodes.specs.declared.tasks.Place.{Place}
 use Rattle.inodes.specs.declared.tasks.Place.TheVariants as place
+use Rattle.inodes.specs.declared.itrunc.TruncAt.{TruncAt}
+use Rattle.inodes.specs.declared.itrunc.TruncAt.TheVariants as trunc_at
+use Rattle.inodes.specs.Holding.{HasGivenUp, frees_left, uses_left}
+use Rattle.inodes.specs.Itrunc.{TruncState}
 use Rattle.inodes.specs.LockState.{locks_left}
 use Rattle.inodes.specs.Looks.{AreLooking, LooksAt, IsAtRead}
 use Rattle.inodes.specs.Places.{is_over, looks_left, steps_left}
@@ -59,6 +63,21 @@ few_reads cur n inode t m is =
     let steps = few_at_target m.target in
     omega (arith, few, begun, some, end, steps)
 
+few_uses : (o : Option ℕ) → uses_left o ≤ 2
+few_uses None = omega arith
+few_uses (Some slot) = omega arith
+
+-- who frees a file's blocks has so few steps left: two for each of 269 blocks, one that gets the
+-- block of addresses, one that releases it, and two for the inode
+pub few_frees : (cur : Image) (m : TruncState) (a : TruncAt) → HasGivenUp cur m a →
+    frees_left m.given_up a ≤ 542
+few_frees cur m (trunc_at.Direct k f) given = let most = few_uses f.slot in omega (arith, most)
+few_frees cur m trunc_at.Getting given = omega arith
+few_frees cur m (trunc_at.Entry i f) given = let most = few_uses f.slot in omega (arith, most)
+few_frees cur m (trunc_at.Releasing i) given = omega arith
+few_frees cur m (trunc_at.Indirect f) given = let most = few_uses f.slot in omega (arith, most)
+few_frees cur m (trunc_at.Writing u) given = let most = few_uses u.slot in omega (arith, most)
+
 -- there are 64 inode blocks at most, each of which takes two steps
 pub few_steps : (cur : Image) (table : TableState) (t : TaskState) (a : Place) →
     table.inode_count ≤ 1024 → LooksAt cur table t a → steps_left a table.inode_count < 1937
@@ -71,6 +90,9 @@ few_steps cur table t (place.Reading k m) few looks =
     let most = few_reads cur table.inode_count (copy_at table.places k) t m looks in
     omega (arith, most)
 few_steps cur table t (place.Delivering k) few looks = omega arith
+few_steps cur table t (place.Truncating k m) few looks =
+    let most = few_frees cur m m.at looks.given in
+    omega (arith, most)
 few_steps cur table t (place.Leaving k) few looks = omega arith
 
 -- a task that is not over has a step left at least
@@ -80,18 +102,19 @@ some_step (place.Creating m) n unfinished = let one = one_look m.slot in omega (
 some_step (place.Taking m) n unfinished = omega arith
 some_step (place.Reading k m) n unfinished = omega arith
 some_step (place.Delivering k) n unfinished = omega arith
+some_step (place.Truncating k m) n unfinished = omega arith
 some_step (place.Leaving k) n unfinished = omega arith
 
 -- a changing operation's task that begins
 pub few_at_first : (x : Image) (op : Op) (n : ℕ) → IsLawfulGeometry x → n ≡ inode_count_of x →
-    CanBegin op → steps_left (first_place op n) n < 1937
+    CanBegin n op → steps_left (first_place op n) n < 1937
 few_at_first x (Create kind) n geometry numbers can =
     let few = (facts_of x geometry).few in
     omega (arith, few, numbers)
 few_at_first x (Write i off bytes) n geometry numbers can = absurd can
 few_at_first x (Read i off count) n geometry numbers can = absurd can
-few_at_first x (Trunc i) n geometry numbers can = absurd can
-few_at_first x (Remove i) n geometry numbers can = absurd can
+few_at_first x (Trunc i) n geometry numbers can = omega arith
+few_at_first x (Remove i) n geometry numbers can = omega arith
 few_at_first x (Stat i) n geometry numbers can = absurd can
 
 -- and any that a store has

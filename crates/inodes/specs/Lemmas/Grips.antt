@@ -11,8 +11,8 @@ use Rattle.model.specs.Layout.{inode_of}
 use Rattle.model.specs.Soundness.{count_of}
 use Rattle.bcache.specs.Lemmas.Order.{none_passes}
 use Rattle.inodes.specs.declared.table.InMemory.{InMemory}
-use Rattle.inodes.specs.Table.{TableState, AreCounted, HasPlaceFor, entry_at, is_of, or_else, place_for, holder_in, holder_at, copy_in, references_in, references_at, with_reference, with_holder, with_copy, without_reference}
-use Rattle.inodes.specs.Grips.{Grip, IsTable, TableIs, KeepsTable, Stays, HasNumber, KeptByRefer, KeptByLock, KeptByRead, KeptByLeave, KeptByImage, IsTableAtOpening, HasPlaceForEach, LocksExclude, HolderIsAnother, grip, named, locked_grip, unlocked_grip}
+use Rattle.inodes.specs.Table.{TableState, AreCounted, HasPlaceFor, entry_at, is_of, or_else, place_for, holder_in, holder_at, copy_in, copy_at, references_in, references_at, with_reference, with_holder, with_copy, without_reference}
+use Rattle.inodes.specs.Grips.{Grip, IsTable, TableIs, IsCopy, KeepsTable, Stays, HasNumber, KeptByRefer, KeptByLock, KeptByRenew, KeptByLeave, KeptByImage, IsTableAtOpening, HasPlaceForEach, LocksExclude, HolderIsAnother, grip, named, locked_grip, unlocked_grip}
 use Rattle.inodes.specs.Lemmas.Table.{has_place}
 
 -- the references of a place that one process has
@@ -347,36 +347,33 @@ module _ (t : TableState) (gs : List (Option Grip)) (cur : Image) (p k i : ℕ) 
   no_other : grip gs p ≡ Some (locked_grip k i) → (q j : ℕ) → q ≢ p → grip gs q ≡ Some (locked_grip k j) → ⊥
   no_other has q j apart theirs = apart (one_holder ps n gs cur p q k i j is has theirs)
 
-  -- an inode that was read
-  keeps_copy : (x : InMemory) (d : Dinode) → d ≡ inode_of cur i → d.kind ≢ 0 → entry_at ps k ≡ Some x → grip gs p ≡ Some (locked_grip k i) → Changed (Some x) (with_copy (Some x) d) (Some (locked_grip k i))
-  keeps_copy x d read in_use was has = let at = is.places p (locked_grip k i) has in let number = ap (is_of i) (sym was) ∙ at.1 in record {
+  -- another copy, or none
+  keeps_copy : (x : InMemory) (c : Option Dinode) → IsCopy cur i c → entry_at ps k ≡ Some x → grip gs p ≡ Some (locked_grip k i) → Changed (Some x) (with_copy (Some x) c) (Some (locked_grip k i))
+  keeps_copy x c is_copy was has = let at = is.places p (locked_grip k i) has in let number = ap (is_of i) (sym was) ∙ at.1 in record {
     is = is;
     within = at.0;
     process = inside gs p (locked_grip k i) has;
     was = was;
     before = λ h other. ap (λ (f : Grip). f.place) (only_grip gs p (locked_grip k i) h has other);
-    after = λ h given_it. given (with_copy (Some x) d) (locked_grip k i) h number given_it;
+    after = λ h given_it. given (with_copy (Some x) c) (locked_grip k i) h number given_it;
     count = ap (λ (o : Option Grip). x.references + names k o) has;
     used = λ some. subst (λ o. IsSome o → references_in o ≢ 0) was (is.counted.used k) some;
     numbers = kept_numbers ps n gs cur k (Some x) is was;
     keeps = λ q h apart theirs there. kept_grips ps n gs cur k q (Some x) h is was theirs there;
     locks = λ j locked. ap holder_in (sym was) ∙ is.locks p k i has;
     holders = λ q holds. let both = sym holds ∙ ap holder_in (sym was) ∙ is.locks p k i has in let same : q ≡ p = cc both in inl (same, (i, refl));
-    copies = λ j c other copy. let same : d ≡ c = cc copy in let one = same_number i j (Some x) number other in (
-      ap (inode_of cur) one ∙ sym read ∙ same,
-      subst (λ (b : Dinode). b.kind ≢ 0) same in_use,
-    );
+    copies = λ j d other copy. let one = same_number i j (Some x) number other in let read = is_copy d copy in (ap (inode_of cur) one ∙ read.0, read.1);
     stays = λ q j apart theirs. absurd (no_other has q j apart theirs);
   }
 
-  keeps_it : (d : Dinode) → grip gs p ≡ Some (locked_grip k i) → d ≡ inode_of cur i → d.kind ≢ 0 → KeepsTable t (record t { places = set ps k (with_copy (entry_at ps k) d) }) p gs gs cur
-  keeps_it d has read in_use = by (entry_at ps k) refl
+  keeps_it : (c : Option Dinode) → grip gs p ≡ Some (locked_grip k i) → IsCopy cur i c → KeepsTable t (record t { places = set ps k (with_copy (entry_at ps k) c) }) p gs gs cur
+  keeps_it c has is_copy = by (entry_at ps k) refl
     where
-      by : (o : Option InMemory) → entry_at ps k ≡ o → KeepsTable t (record t { places = set ps k (with_copy o d) }) p gs gs cur
+      by : (o : Option InMemory) → entry_at ps k ≡ o → KeepsTable t (record t { places = set ps k (with_copy o c) }) p gs gs cur
       by None was = absurd (cc (kept_grips ps n gs cur k p None (locked_grip k i) is was has refl))
-      by (Some x) was = subst (λ hs. KeepsTable t (record t { places = set ps k (with_copy (Some x) d) }) p gs hs cur)
+      by (Some x) was = subst (λ hs. KeepsTable t (record t { places = set ps k (with_copy (Some x) c) }) p gs hs cur)
           (ap (set gs p) (sym has) ∙ set-get_or gs p None)
-          (kept_so (Some x) (with_copy (Some x) d) (Some (locked_grip k i)) (keeps_copy x d read in_use was has))
+          (kept_so (Some x) (with_copy (Some x) c) (Some (locked_grip k i)) (keeps_copy x c is_copy was has))
 
   -- a place that others still refer to
   leaves_others : (x : InMemory) → 1 < x.references → entry_at ps k ≡ Some x → grip gs p ≡ Some (locked_grip k i) → Changed (Some x) (Some (record x { references = x.references - 1; holder = None })) None
@@ -448,14 +445,12 @@ kept_by_refer t gs cur p i k is process none number found = refers t gs cur p k 
 pub kept_by_lock : KeptByLock
 kept_by_lock t gs cur p k i is has free = locks_it t gs cur p k i is has free
 
-pub kept_by_read : KeptByRead
-kept_by_read t gs cur p k i d is has read in_use = keeps_it t gs cur p k i is d has read in_use
-
 pub kept_by_leave : KeptByLeave
 kept_by_leave t gs cur p k i is has = leaves t gs cur p k i is has
 
-pub kept_by_image : KeptByImage
-kept_by_image t gs old new is same = record {
+-- the current image changes, but no inode of which there is a copy
+other_image : (l : List (Option InMemory)) (n : ℕ) (gs : List (Option Grip)) (old new : Image) → IsTable l n gs old → ((i k : ℕ) (d : Dinode) → HasNumber l k i → copy_at l k ≡ Some d → inode_of new i ≡ inode_of old i) → IsTable l n gs new
+other_image l n gs old new is same = record {
   size = is.size;
   few = is.few;
   counted = is.counted;
@@ -464,9 +459,83 @@ kept_by_image t gs old new is same = record {
   numbers = is.numbers;
   locks = is.locks;
   holders = is.holders;
-  copies = λ i k d has copy. let at = is.copies i k d has copy in
-      (same i (is.numbers i k has) (λ free. at.1 (ap (λ (c : Dinode). c.kind) (sym at.0) ∙ free)) ∙ at.0, at.1);
+  copies = λ i k d has copy. let at = is.copies i k d has copy in (same i k d has copy ∙ at.0, at.1);
 }
+
+-- a copy's inode is used in the current image
+used_copy : (l : List (Option InMemory)) (n : ℕ) (gs : List (Option Grip)) (cur : Image) (i k : ℕ) (d : Dinode) → IsTable l n gs cur → HasNumber l k i → copy_at l k ≡ Some d → (inode_of cur i).kind ≢ 0
+used_copy l n gs cur i k d is has copy free = let at = is.copies i k d has copy in at.1 (ap (λ (c : Dinode). c.kind) (sym at.0) ∙ free)
+
+-- number 0 is none that operations may name
+named_number : (n i : ℕ) → IsTrue (is_number n i) → i ≢ 0
+named_number n i may none = absurd (cc (subst (λ (j : ℕ). IsTrue (is_number n j)) none may))
+
+pub kept_by_image : KeptByImage
+kept_by_image t gs old new is same = other_image t.places t.inode_count gs old new is
+    (λ i k d has copy. same i (is.numbers i k has) (named_number t.inode_count i (is.numbers i k has)) (used_copy t.places t.inode_count gs old i k d is has copy))
+
+-- a place is written twice
+set_twice : {X : Type 0} (xs : List X) (k : ℕ) (x y : X) → set (set xs k x) k y ≡ set xs k y
+set_twice [] k x y = refl
+set_twice (z ∷ xs) zero x y = refl
+set_twice (z ∷ xs) (suc k) x y = ap (λ l. z ∷ l) (set_twice xs k x y)
+
+with_copy_twice : (o : Option InMemory) (b c : Option Dinode) → with_copy (with_copy o b) c ≡ with_copy o c
+with_copy_twice None b c = refl
+with_copy_twice (Some x) b c = refl
+
+copy_of_with : (o : Option InMemory) (c : Option Dinode) (d : Dinode) → copy_in (with_copy o c) ≡ Some d → c ≡ Some d
+copy_of_with None c d copy = absurd (cc copy)
+copy_of_with (Some x) c d copy = copy
+
+stays_twice : (o e f : Option InMemory) → Stays o e → Stays e f → Stays o f
+stays_twice o e f one two = record {
+  number = λ i. two.number i ∙ one.number i;
+  holder = two.holder ∙ one.holder;
+  copy = two.copy ∙ one.copy;
+}
+
+-- the places where place k forgets its copy, and where it has another one then
+abbrev forgotten : List (Option InMemory) → ℕ → List (Option InMemory)
+forgotten ps k = set ps k (with_copy (entry_at ps k) None)
+
+abbrev twice : List (Option InMemory) → ℕ → Option Dinode → List (Option InMemory)
+twice ps k c = set (forgotten ps k) k (with_copy (entry_at (forgotten ps k) k) c)
+
+-- first the copy is forgotten, then the image changes, then there is the new copy
+pub kept_by_renew : KeptByRenew
+kept_by_renew t gs old new p k i c is has same copy = record {
+  table = subst (λ ps. IsTable ps t.inode_count gs new) places again.table;
+  others = λ q l j apart theirs. subst (λ ps. Stays (entry_at t.places l) (entry_at ps l)) places
+      (stays_twice (entry_at t.places l) (entry_at (forgotten t.places k) l) (entry_at (twice t.places k c) l) (first.others q l j apart theirs) (again.others q l j apart theirs));
+}
+  where
+    at : (k < 50) × HasNumber t.places k i
+    at = is.places p (locked_grip k i) has
+
+    here : entry_at (forgotten t.places k) k ≡ with_copy (entry_at t.places k) None
+    here = get_or-set_same t.places k (with_copy (entry_at t.places k) None) None (let size = is.size in let lt = at.0 in omega (arith, size, lt))
+
+    first : KeepsTable t (record t { places = forgotten t.places k }) p gs gs old
+    first = keeps_it t gs old p k i is None has (λ d none. absurd (cc none))
+
+    -- the number's only place has no copy now
+    another : (j l : ℕ) (d : Dinode) → HasNumber (forgotten t.places k) l j → copy_at (forgotten t.places k) l ≡ Some d → j ≢ i
+    another j l d stands with same_number_there =
+        let place : l ≡ k = first.table.once i l k (subst (HasNumber (forgotten t.places k) l) same_number_there stands) (first.table.places p (locked_grip k i) has).1 in
+        let none : Option.None ≡ Some d = copy_of_with (entry_at t.places k) None d (ap copy_in (sym here) ∙ ap (copy_at (forgotten t.places k)) (sym place) ∙ with) in
+        absurd (cc none)
+
+    between : IsTable (forgotten t.places k) t.inode_count gs new
+    between = other_image (forgotten t.places k) t.inode_count gs old new first.table
+        (λ j l d stands there. same j (first.table.numbers j l stands) (another j l d stands there) (used_copy (forgotten t.places k) t.inode_count gs old j l d first.table stands there))
+
+    again : KeepsTable (record t { places = forgotten t.places k }) (record t { places = twice t.places k c }) p gs gs new
+    again = keeps_it (record t { places = forgotten t.places k }) gs new p k i between c has copy
+
+    places : twice t.places k c ≡ set t.places k (with_copy (entry_at t.places k) c)
+    places = ap (λ o. set (forgotten t.places k) k (with_copy o c)) here ∙ ap (set (forgotten t.places k) k) (with_copy_twice (entry_at t.places k) None c)
+        ∙ set_twice t.places k (with_copy (entry_at t.places k) None) (with_copy (entry_at t.places k) c)
 
 -- a table without inodes, of processes without grips
 empty_table : (ps : List (Option InMemory)) (n : ℕ) (gs : List (Option Grip)) (cur : Image) → length ps ≡ 50 → length gs ≤ 32 → ((k : ℕ) → entry_at ps k ≡ None) → ((p : ℕ) → grip gs p ≡ None) → named gs ≡ [] → IsTable ps n gs cur

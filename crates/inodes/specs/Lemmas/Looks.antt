@@ -7,6 +7,7 @@ use Rattle.std.proofs.lemmas.Bool.{eqb-true, cases_eq, both_ways}
 use Rattle.std.proofs.lemmas.List.{length-take}
 use Rattle.blocks.specs.Disk.{Image, block_at}
 use Rattle.model.specs.declared.types.image.Dinode.{Dinode}
+use Rattle.model.specs.declared.types.operations.Op.TheVariants.{Trunc, Remove}
 use Rattle.model.specs.Layout.{inode_in, inode_bytes_in, inode_block, inode_of}
 use Rattle.model.specs.Journal.{is_number}
 use Rattle.model.specs.Lemmas.Log.{both_of}
@@ -17,7 +18,9 @@ use Rattle.inodes.specs.declared.tasks.Place.{Place}
 use Rattle.inodes.specs.declared.tasks.Place.TheVariants as place
 use Rattle.inodes.specs.Grips.{grip, locked_grip}
 use Rattle.inodes.specs.Looks.{AreLooking, LooksAt, HasAllRead, HoldsInode, IsRead}
-use Rattle.inodes.specs.Places.{asked_by, grip_by, grip_of, grips_of, is_over, is_reading, is_unturned}
+use Rattle.inodes.specs.Holding.{IsTruncating, trunc_op}
+use Rattle.inodes.specs.Itrunc.{TruncState}
+use Rattle.inodes.specs.Places.{asked, asked_by, grip_by, grip_of, grips_of, is_over, is_reading, is_unturned}
 use Rattle.inodes.specs.Table.{TableState, copy_at}
 use Rattle.inodes.specs.Tasks.{TaskState, task}
 use Rattle.inodes.specs.Lemmas.Grips.{locks_exclude}
@@ -115,7 +118,16 @@ locks_own (place.Creating m) i unlike = absurd (cc unlike)
 locks_own (place.Taking m) i unlike = absurd (cc unlike)
 locks_own (place.Reading k m) i is = (k, refl)
 locks_own (place.Delivering k) i is = (k, refl)
+locks_own (place.Truncating k m) i unlike = absurd (cc unlike)
 locks_own (place.Leaving k) i unlike = absurd (cc unlike)
+
+-- the operation that frees a file's blocks asks for its number
+asked_to_free : (m : TruncState) → asked (trunc_op m) ≡ m.number
+asked_to_free m = by_end m.removes
+  where
+    by_end : (removes : Bool) → asked (cond removes (Remove m.number) (Trunc m.number)) ≡ m.number
+    by_end true = refl
+    by_end false = refl
 
 module _ (cur : Image) (t : TableState) (ts : List TaskState) (are : AreLooking cur t ts) where
   -- its operation is a reading
@@ -129,6 +141,7 @@ module _ (cur : Image) (t : TableState) (ts : List TaskState) (are : AreLooking 
       by_place (place.Taking m) stands unlike = absurd (cc unlike)
       by_place (place.Reading k m) stands is = stands.op
       by_place (place.Delivering k) stands is = stands.op
+      by_place (place.Truncating k m) stands unlike = absurd (cc unlike)
       by_place (place.Leaving k) stands unlike = absurd (cc unlike)
 
   -- of a number that operations may name
@@ -171,6 +184,7 @@ module _ (cur : Image) (t : TableState) (ts : List TaskState) (are : AreLooking 
       by_place (place.Taking m) stands has unlike = absurd (cc unlike)
       by_place (place.Reading k m) stands has is = used k m.inode has stands.copy
       by_place (place.Delivering k) stands has is = used k stands.dinode has stands.copy
+      by_place (place.Truncating k m) stands has unlike = absurd (cc unlike)
       by_place (place.Leaving k) stands has unlike = absurd (cc unlike)
 
   -- no two of one number
@@ -217,4 +231,28 @@ module _ (cur : Image) (t : TableState) (ts : List TaskState) (are : AreLooking 
       by_place (place.Taking m) has on turned = absurd (cc turned)
       by_place (place.Reading k m) has on turned = held k has
       by_place (place.Delivering k) has on turned = held k has
+      by_place (place.Truncating k m) has on turned = held k has
       by_place (place.Leaving k) has on turned = held k has
+
+  -- ---- the freeing of a file's blocks
+
+  pub truncating_is : (p k : ℕ) (m : TruncState) → (task ts p).place ≡ place.Truncating k m →
+      IsTruncating cur t.inode_count (task ts p) m
+  truncating_is p k m at = subst (λ (a : Place). LooksAt cur t (task ts p) a) at (are.stand p)
+
+  -- its operation asks for its number
+  pub trunc_number : (p k : ℕ) (m : TruncState) → (task ts p).place ≡ place.Truncating k m →
+      asked_by (task ts p).op ≡ m.number
+  trunc_number p k m at = ap asked_by (truncating_is p k m at).op ∙ asked_to_free m
+
+  -- which operations may name
+  pub trunc_names : (p k : ℕ) (m : TruncState) → (task ts p).place ≡ place.Truncating k m →
+      IsTrue (is_number t.inode_count m.number)
+  trunc_names p k m at = (truncating_is p k m at).number
+
+  -- and it has locked it
+  pub trunc_locks : (p k : ℕ) (m : TruncState) → (task ts p).place ≡ place.Truncating k m →
+      grip_of (task ts p) ≡ Some (locked_grip k m.number)
+  trunc_locks p k m at =
+      ap (λ (a : Place). grip_by a (asked_by (task ts p).op)) at
+      ∙ ap (λ (i : ℕ). Some (locked_grip k i)) (trunc_number p k m at)

@@ -1,6 +1,6 @@
 -- How the steps of any task end.
-use Rattle.std.proofs.Common.{◌≡◌, ◌⊎◌, inl, inr, ℕ, Bool, true, false, List, refl, sym, ◌∙◌, ap, subst, Option, Some, None}
-use Rattle.std.specs.Prelude.{IsSome}
+use Rattle.std.proofs.Common.{◌≡◌, ◌⊎◌, ⊎_elim, inl, inr, ℕ, Bool, true, false, List, refl, sym, ◌∙◌, ap, subst, Option, Some, None}
+use Rattle.std.specs.Prelude.{IsSome, slice_index}
 use Rattle.std.proofs.lemmas.Bool.{false≢true}
 use Rattle.blocks.specs.declared.disk.Disk.{Ghosts}
 use Rattle.blocks.specs.declared.errors.DiskFault.{DiskFault}
@@ -16,6 +16,7 @@ use Rattle.wal.specs.Machine.{used_by}
 use Rattle.wal.specs.Volume.{VolumeState}
 use Rattle.wal.specs.declared.types.Get.{Get}
 use Rattle.wal.specs.declared.types.Get.TheVariants as get
+use Rattle.blockmap.specs.Bfree.{FreeState, Frees}
 use Rattle.blockmap.specs.Bmap.{EntryState, LooksUp}
 use Rattle.blockmap.specs.Getting.{GetsFor}
 use Rattle.blockmap.specs.Target.{block_of, progress_behind}
@@ -27,11 +28,15 @@ use Rattle.inodes.specs.declared.ilock.LockAt.{LockAt}
 use Rattle.inodes.specs.declared.ilock.LockAt.TheVariants as lock_at
 use Rattle.inodes.specs.declared.tasks.Place.{Place}
 use Rattle.inodes.specs.declared.tasks.Place.TheVariants as place
-use Rattle.inodes.specs.Goes.{Goes, GoesFrom, Shown, shown_of, progress_of_lock, place_of_lock, progress_of_read, place_of_reading}
+use Rattle.inodes.specs.Goes.{Goes, GoesFrom, Shown, shown_of, progress_of_lock, place_of_lock, progress_of_read, place_of_reading, progress_of_trunc, place_of_trunc}
 use Rattle.inodes.specs.Ilock.{LockSteps, Locks}
+use Rattle.inodes.specs.declared.itrunc.TruncAt.{TruncAt}
+use Rattle.inodes.specs.declared.itrunc.TruncAt.TheVariants as trunc_at
+use Rattle.inodes.specs.Itrunc.{FreesOne, TruncState, TruncSteps, last_inode_of, progress_among}
+use Rattle.inodes.specs.Iupdate.{UpdateState, Updates}
 use Rattle.inodes.specs.LockState.{LockState, place_of}
-use Rattle.inodes.specs.Looks.{CanLook, LooksAt}
-use Rattle.inodes.specs.Places.{is_over, is_reading, is_unturned, block_at_place}
+use Rattle.inodes.specs.Looks.{CanLook, CanTake, LooksAt}
+use Rattle.inodes.specs.Places.{is_over, is_reading, is_unturned, block_at_place, block_of_trunc}
 use Rattle.inodes.specs.Readi.{ReadState, Works}
 use Rattle.inodes.specs.Store.{StoreState, CanBegin, Stands, current_of}
 use Rattle.inodes.specs.Table.{TableState, holder_at, copy_at}
@@ -45,14 +50,20 @@ pub record GoesOn (a next : Place) : Type 0 where
   pub unturned : is_unturned next ≡ is_unturned a
   pub reading : is_reading next ≡ is_reading a
 
--- With its turn a creation is over; an operation that looks at a file has its reply and is to leave
--- its inode, or it is a reading, whose reply comes later.
+-- it had its turn, reads nothing, and goes on
+pub record GoesOnTurned (next : Place) : Type 0 where
+  pub unfinished : is_over next ≡ false
+  pub turned : is_unturned next ≡ false
+  pub unread : is_reading next ≡ false
+
+-- With its turn a creation is over; an operation that takes an inode has its reply and goes on, or
+-- it is a reading, whose reply comes later.
 abbrev pub TurnEnds : ℕ → Op → Option Reply → Place → Type 0
 TurnEnds n op None next =
     CanLook n op × ((i : ℕ) × (off : ℕ) × (count : ℕ) × (op ≡ Read i off count))
     × (is_reading next ≡ true)
 TurnEnds n op (Some reply) next =
-    (CanBegin op × (is_over next ≡ true)) ⊎ (CanLook n op × ((k : ℕ) × (next ≡ place.Leaving k)))
+    (CanBegin n op × (is_over next ≡ true)) ⊎ (CanTake n op × GoesOnTurned next)
 
 -- by what the step answers
 abbrev pub StepEnds : ℕ → Place → Op → TaskProgress → Place → Type 0
@@ -75,21 +86,24 @@ on_search : (a next : Place) → is_unturned a ≡ true → is_reading a ≡ fal
 on_search a next one other more still apart =
     record { unfinished = more; unturned = still ∙ sym one; reading = apart ∙ sym other }
 
--- an operation that looks has taken its inode, or found it free
-look_turns : (n : ℕ) (o : Option Dinode) (k : ℕ) (op : Op) → CanLook n op →
-    TurnEnds n op (reply_when_taken o op) (place_when_taken o k op)
-look_turns n None k op can = inr (can, (k, refl))
-look_turns n (Some d) k (Create kind) can = absurd can
-look_turns n (Some d) k (Write i off bytes) can = absurd can
-look_turns n (Some d) k (Read i off count) can =
+-- an operation has taken its inode, or found it free
+takes_turn : (n : ℕ) (o : Option Dinode) (k : ℕ) (op : Op) → CanTake n op →
+    TurnEnds n op (reply_when_taken o op) (place_when_taken n o k op)
+takes_turn n None k op can = inr (can, record { unfinished = refl; turned = refl; unread = refl })
+takes_turn n (Some d) k (Create kind) can = absurd can
+takes_turn n (Some d) k (Write i off bytes) can = absurd can
+takes_turn n (Some d) k (Read i off count) can =
     (can, (i, off, count, refl), by_bytes (first_read d off count))
   where
     by_bytes : (o : Option ReadState) → is_reading (place_of_read k o) ≡ true
     by_bytes None = refl
     by_bytes (Some m) = refl
-look_turns n (Some d) k (Trunc i) can = absurd can
-look_turns n (Some d) k (Remove i) can = absurd can
-look_turns n (Some d) k (Stat i) can = inr (can, (k, refl))
+takes_turn n (Some d) k (Trunc i) can =
+    inr (can, record { unfinished = refl; turned = refl; unread = refl })
+takes_turn n (Some d) k (Remove i) can =
+    inr (can, record { unfinished = refl; turned = refl; unread = refl })
+takes_turn n (Some d) k (Stat i) can =
+    inr (can, record { unfinished = refl; turned = refl; unread = refl })
 
 module _ {D N : Type 0} (disk : Ghosts D N) (s : StoreState D) (p : ℕ) (op : Op) (r : TaskProgress) (t : StoreState D) where
   abbrev n : ℕ
@@ -109,8 +123,8 @@ module _ {D N : Type 0} (disk : Ghosts D N) (s : StoreState D) (p : ℕ) (op : O
   ends_of place.Nowhere same stands looks unfinished goes = absurd (false≢true (sym unfinished))
   ends_of (place.Creating m) same stands looks unfinished goes = by_slot m.slot r goes.0
     where
-      begins : CanBegin op
-      begins = let is : Create m.kind ≡ op = (let both = sym stands.op ∙ same in cc both) in subst CanBegin is stands.kind
+      begins : CanBegin n op
+      begins = let is : Create m.kind ≡ op = (let both = sym stands.op ∙ same in cc both) in subst (CanBegin n) is stands.kind
 
       here : (b : Place) → next ≡ b → is_over b ≡ false → is_unturned b ≡ true → is_reading b ≡ false → GoesOn (place.Creating m) next
       here b is more still apart = on_at (place.Creating m) b next is (on_search (place.Creating m) b refl refl more still apart)
@@ -136,15 +150,15 @@ module _ {D N : Type 0} (disk : Ghosts D N) (s : StoreState D) (p : ℕ) (op : O
       d : Dinode
       d = inode_of (current_of disk.image s.volume) m.number
 
-      can : CanLook n op
-      can = let is : looks.op ≡ op = (let both = sym looks.is ∙ same in cc both) in subst (CanLook n) is looks.look
+      can : CanTake n op
+      can = let is : looks.op ≡ op = (let both = sym looks.is ∙ same in cc both) in subst (CanTake n) is looks.can
 
-      by_answer : (x : Progress Bool) → r ≡ progress_of_lock d op x → next ≡ place_of_lock d op m goes.0.now x →
+      by_answer : (x : Progress Bool) → r ≡ progress_of_lock d op x → next ≡ place_of_lock n d op m goes.0.now x →
           StepEnds n (place.Taking m) op r next
       by_answer machine.Moved is to = ends_with (place.Taking m) progress.Moved is (on_at (place.Taking m) _ next to (record { unfinished = refl; unturned = refl; reading = refl }))
       by_answer (machine.Sleeping why) is to = ends_with (place.Taking m) (progress.Sleeping why) is (on_at (place.Taking m) _ next to (record { unfinished = refl; unturned = refl; reading = refl }))
       by_answer (machine.Over used) is to = ends_with (place.Taking m) (progress.Turned (reply_when_taken (if_used used d) op)) is
-          (refl, subst (TurnEnds n op (reply_when_taken (if_used used d) op)) (sym to) (look_turns n (if_used used d) (place_of goes.0.now.at) op can))
+          (refl, subst (TurnEnds n op (reply_when_taken (if_used used d) op)) (sym to) (takes_turn n (if_used used d) (place_of goes.0.now.at) op can))
       by_answer (machine.Fault fault) is to = ends_with (place.Taking m) (progress.Fault fault) is (on_at (place.Taking m) _ next to (record { unfinished = refl; unturned = refl; reading = refl }))
   ends_of (place.Reading k m) same stands looks unfinished goes = by_answer goes.0.answer goes.0.gives goes.0.next
     where
@@ -156,10 +170,18 @@ module _ {D N : Type 0} (disk : Ghosts D N) (s : StoreState D) (p : ℕ) (op : O
       by_answer (machine.Fault fault) is to = ends_with (place.Reading k m) (progress.Fault fault) is (on_at (place.Reading k m) _ next to (record { unfinished = refl; unturned = refl; reading = refl }))
   ends_of (place.Delivering k) same stands looks unfinished goes =
       ends_with (place.Delivering k) (progress.Decided (Bytes goes.bytes.bytes)) goes.gives (refl, ap is_over goes.up.next, (goes.bytes.bytes, refl))
+  ends_of (place.Truncating k m) same stands looks unfinished goes = by_answer goes.answer goes.gives goes.next
+    where
+      by_answer : (x : Progress (Unit {0})) → r ≡ progress_of_trunc x → next ≡ place_of_trunc k m goes.now x →
+          StepEnds n (place.Truncating k m) op r next
+      by_answer machine.Moved is to = ends_with (place.Truncating k m) progress.Moved is (on_at (place.Truncating k m) _ next to (record { unfinished = refl; unturned = refl; reading = refl }))
+      by_answer (machine.Sleeping why) is to = ends_with (place.Truncating k m) (progress.Sleeping why) is (on_at (place.Truncating k m) _ next to (record { unfinished = refl; unturned = refl; reading = refl }))
+      by_answer (machine.Over out) is to = ends_with (place.Truncating k m) progress.Moved is (on_at (place.Truncating k m) _ next to (record { unfinished = refl; unturned = refl; reading = refl }))
+      by_answer (machine.Fault fault) is to = ends_with (place.Truncating k m) (progress.Fault fault) is (on_at (place.Truncating k m) _ next to (record { unfinished = refl; unturned = refl; reading = refl }))
   ends_of (place.Leaving k) same stands looks unfinished goes =
       ends_with (place.Leaving k) progress.Over goes.0 (refl, refl, ap is_over goes.1.next)
 
-  -- a creation is open in the log; any other task leaves the log as it is
+  -- what changes blocks is open in the log; any other task leaves the log as it is
   pub logs_of : (a : Place) → is_over a ≡ false → Stands s.volume.buffers s.volume.log n p (task s.tasks p).op a →
       Goes disk a s p op r t → IsSome (used_by s.volume.log p) ⊎ (t.volume.log ≡ s.volume.log)
   logs_of place.Nowhere unfinished stands goes = absurd (false≢true (sym unfinished))
@@ -167,6 +189,8 @@ module _ {D N : Type 0} (disk : Ghosts D N) (s : StoreState D) (p : ℕ) (op : O
   logs_of (place.Taking m) unfinished stands goes = inr (ap (λ (o : Shown). o.log) goes.1)
   logs_of (place.Reading k m) unfinished stands goes = inr (ap (λ (o : Shown). o.log) goes.1)
   logs_of (place.Delivering k) unfinished stands goes = inr (ap (λ (v : VolumeState D). v.log) goes.up.volume)
+  logs_of (place.Truncating k m) unfinished stands goes =
+      inl (⊎_elim (λ (none : used_by s.volume.log p ≡ Some 0). subst IsSome (sym none) refl) (λ one. subst IsSome (sym one.0) refl) stands.logged)
   logs_of (place.Leaving k) unfinished stands goes = inr (ap (λ (v : VolumeState D). v.log) goes.1.volume)
 
 -- the block at which a machine fails that gets it
@@ -206,6 +230,29 @@ module _ {D N : Type 0} (disk : Ghosts D N) (s : StoreState D) (p : ℕ) (op : O
   taking_fails (lock_at.Read k None) m x u locks = gets_fails disk s.volume p (inode_block m.number) fault locks.0.0 t.volume locks.0.1
   taking_fails (lock_at.Read k (Some i)) m x u locks = let no = locks.0.answer in absurd (cc no)
 
+  -- a machine that frees a block
+  frees_fails : (f : FreeState) (m : TruncState) (here : FreeState → TruncAt) (behind n : TruncState) → FreesOne disk s.volume p m f here behind (machine.Fault fault) n t.volume → fault.0 ≡ f.bitmap
+  frees_fails f m here behind n frees = by_slot f.slot frees.answer frees.gives frees.frees
+    where
+      by_slot : (o : Option ℕ) (x : Progress (Unit {0})) → machine.Fault fault ≡ progress_among x → Frees disk o s.volume p f x frees.now t.volume → fault.0 ≡ f.bitmap
+      by_slot None machine.Moved is gets = absurd (cc is)
+      by_slot None (machine.Sleeping why) is gets = absurd (cc is)
+      by_slot None (machine.Over out) is gets = absurd (cc is)
+      by_slot None (machine.Fault other) is gets = let same : fault ≡ other = cc is in ap (λ (f : DiskFault). f.0) same ∙ gets_fails disk s.volume p f.bitmap other frees.now.slot t.volume gets.1
+      by_slot (Some i) x is clears = let no = is ∙ ap progress_among clears.0 in absurd (cc no)
+
+  updates_fails : (o : Option ℕ) (u x : UpdateState) (d : Dinode) → Updates disk o s.volume p u d (machine.Fault fault) x t.volume → fault.0 ≡ inode_block u.number
+  updates_fails None u x d gets = gets_fails disk s.volume p (inode_block u.number) fault x.slot t.volume gets.1
+  updates_fails (Some i) u x d writes = let no = writes.0 in absurd (cc no)
+
+  truncating_fails : (a : TruncAt) (m x : TruncState) → TruncSteps disk a s.volume p m (machine.Fault fault) x t.volume → fault.0 ≡ block_of_trunc m a
+  truncating_fails (trunc_at.Direct k f) m x truncs = frees_fails f m _ _ x truncs
+  truncating_fails trunc_at.Getting m x truncs = gets_fails disk s.volume p (slice_index m.inode.addrs 12) fault truncs.0 t.volume truncs.1
+  truncating_fails (trunc_at.Entry i f) m x truncs = frees_fails f m _ _ x truncs
+  truncating_fails (trunc_at.Releasing i) m x truncs = let no = truncs.0 in absurd (cc no)
+  truncating_fails (trunc_at.Indirect f) m x truncs = frees_fails f m _ _ x truncs
+  truncating_fails (trunc_at.Writing u) m x truncs = updates_fails u.slot u truncs.0 (last_inode_of m) truncs.1
+
   -- the block at which a task's step fails is that which its place names
   pub fails_at : (a : Place) → Goes disk a s p op (progress.Fault fault) t → fault.0 ≡ block_at_place a
   fails_at place.Nowhere goes = let no = goes.0 in absurd (cc no)
@@ -231,4 +278,12 @@ module _ {D N : Type 0} (disk : Ghosts D N) (s : StoreState D) (p : ℕ) (op : O
       by_answer (machine.Fault other) is works = let same : fault ≡ other = cc is in
           reading_fails m.target m goes.0.now (subst (λ (f : DiskFault). Works disk m.target s.volume p m (machine.Fault f) t.volume goes.0.now) (sym same) works)
   fails_at (place.Delivering k) goes = let no = goes.gives in absurd (cc no)
+  fails_at (place.Truncating k m) goes = by_answer goes.answer goes.gives goes.truncs
+    where
+      by_answer : (x : Progress (Unit {0})) → progress.Fault fault ≡ progress_of_trunc x → TruncSteps disk m.at s.volume p m x goes.now t.volume → fault.0 ≡ block_of_trunc m m.at
+      by_answer machine.Moved is truncs = absurd (cc is)
+      by_answer (machine.Sleeping why) is truncs = absurd (cc is)
+      by_answer (machine.Over out) is truncs = absurd (cc is)
+      by_answer (machine.Fault other) is truncs = let same : fault ≡ other = cc is in
+          truncating_fails m.at m goes.now (subst (λ (f : DiskFault). TruncSteps disk m.at s.volume p m (machine.Fault f) goes.now t.volume) (sym same) truncs)
   fails_at (place.Leaving k) goes = let no = goes.0 in absurd (cc no)

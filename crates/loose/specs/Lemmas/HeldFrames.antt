@@ -15,6 +15,7 @@ use Rattle.model.specs.Places.{pointers_of, addresses_in}
 use Rattle.model.specs.Soundness.{IsLawfulGeometry, count_of}
 use Rattle.model.specs.Lemmas.Counts.{count_flat, count_flat_one, count_of-append}
 use Rattle.model.specs.Lemmas.Frames.{address_agree, bytes_agree}
+use Rattle.model.specs.Lemmas.OutsideLog.{flat_map_range_same}
 use Rattle.loose.specs.Held.{Held, Claims, FitsHeld, IsFine, names_claimed, entries_left, owned, present}
 use Rattle.loose.specs.HeldLaws.{FitsThen, HasSameFile}
 use Rattle.loose.specs.Loose.{AreFull, LiesInData, IsLoose}
@@ -33,6 +34,22 @@ loose_alike x these others same h = record {
   marked = λ b l. h.marked b l ∙ ap (λ n. ltb b (first_data_block x) || ltb 0 n) (same b);
 }
 
+-- claims that are equal at each number serve alike
+pub held_alike : (m : Files) (x : Image) (claims new : Claims) → ((i : ℕ) → new i ≡ claims i) → FitsHeld m x claims → FitsHeld m x new
+held_alike m x claims new same f =
+    let names : owned x new ≡ owned x claims
+    = flat_map_range_same (λ i. names_claimed x i (claims i)) (λ i. names_claimed x i (new i)) 1 (inode_count_of x - 1)
+    (λ i low high. ap (names_claimed x i) (same i)) in
+    record {
+      geometry = f.geometry;
+      full = f.full;
+      loose = subst (IsLoose x) (sym names) f.loose;
+      count = f.count;
+      zero = f.zero;
+      each = λ i low high.
+          subst (λ (c : Option Held). IsFine x i c (file_in m i)) (sym (same i)) (f.each i low high);
+    }
+
 -- what a number owns lies among the data
 pub claimed_in_data : (m : Files) (x : Image) (claims : Claims) (i b : ℕ) → FitsHeld m x claims → 1 ≤ i → i < inode_count_of x →
     1 ≤ count_of b (names_claimed x i (claims i)) → LiesInData x b
@@ -45,14 +62,13 @@ claimed_in_data m x claims i b f low high some =
 abbrev pub AreInData : Image → List ℕ → Type 0
 AreInData x names = (b : ℕ) → 1 ≤ count_of b names → LiesInData x b
 
-entries_same : (test : ℕ → Bool) (x y : Image) (address given_up : ℕ) → AgreesAtData test x y →
-    (address ≢ 0 → LiesInData x address) → entries_left y address given_up ≡ entries_left x address given_up
-entries_same test x y address given_up h there =
+pub entries_same : (x y : Image) (address given_up : ℕ) → (address ≢ 0 → block_at y address ≡ block_at x address) →
+    entries_left y address given_up ≡ entries_left x address given_up
+entries_same x y address given_up same =
     ⊎_elim
     (λ (z : address ≡ 0). rw z refl)
     (λ (some : address ≢ 0).
-    ap (λ (bytes : List ℕ). cond (eqb address 0) [] (address ∷ present (drop given_up (words_of bytes))))
-    (h.agree address (h.from_data address (there some).0)))
+    ap (λ (bytes : List ℕ). cond (eqb address 0) [] (address ∷ present (drop given_up (words_of bytes)))) (same some))
     (cases_eq address 0)
 
 pub first_entry : (x : Image) (front : List ℕ) (address given_up : ℕ) → address ≢ 0 →
@@ -78,7 +94,8 @@ names_same test x y i (Some t) h same there =
     let a = get_or t.copy.addrs 12 0 in
     let front = present (take 12 t.copy.addrs) in
     ap (λ (l : List ℕ). front ++ l)
-    (entries_same test x y a t.given_up h (λ some. there a (first_entry x front a t.given_up some)))
+    (entries_same x y a t.given_up
+    (λ some. h.agree a (h.from_data a (there a (first_entry x front a t.given_up some)).0)))
 
 agrees_at : (test : ℕ → Bool) (x y : Image) (i : ℕ) → AgreesAtData test x y → AreInData x (addresses_in (pointers_of x i)) →
     AgreesFor test x y (inode_of x i)

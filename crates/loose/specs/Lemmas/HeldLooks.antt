@@ -1,5 +1,5 @@
 -- What looks answer while tasks hold files, and what a task has still to give up.
-use Rattle.std.proofs.Common.{◌≡◌, ◌≢◌, ℕ, zero, suc, ◌+◌, ◌-◌, ◌≤◌, cond, eqb, ltb, List, [], ◌∷◌, get_or, take, drop, Option, Some, None, refl, sym, ap, subst, ◌∙◌, arith}
+use Rattle.std.proofs.Common.{◌≡◌, ◌≢◌, ℕ, zero, suc, ◌+◌, ◌-◌, ◌≤◌, cond, eqb, ltb, List, [], ◌∷◌, ◌++◌, get_or, take, drop, Option, Some, None, refl, sym, ap, subst, ◌∙◌, arith}
 use Rattle.std.proofs.lemmas.Bool.{ne_eqb, eq-eqb, lt-ltb, or_right}
 use Rattle.blocks.specs.Disk.{Image, block_at}
 use Rattle.model.specs.Fields.{words_of}
@@ -9,11 +9,11 @@ use Rattle.model.specs.Soundness.{count_of}
 use Rattle.model.specs.Lemmas.Counts.{count_flat}
 use Rattle.loose.specs.Held.{Held, Claims, FitsHeld, IsFine, names_claimed, names_left, owned, present}
 use Rattle.loose.specs.HeldLaws.{IsHeldIn, IsMarkedData, RestingTells, FreeTells, HeldHasBlocks, entry_at}
-use Rattle.loose.specs.Loose.{IsAtRest}
+use Rattle.loose.specs.Loose.{LiesInData, IsAtRest}
 use Rattle.loose.specs.Looks.{IsUsed}
 use Rattle.loose.specs.Lemmas.Claims.{free_file}
 use Rattle.loose.specs.Lemmas.GivenUp.{names_parts, entries_there, present_head, present_set}
-use Rattle.loose.specs.Lemmas.HeldFrames.{claimed_in_data, first_entry}
+use Rattle.loose.specs.Lemmas.HeldFrames.{claimed_in_data, entries_same, first_entry}
 use Rattle.loose.specs.Lemmas.Looks.{between, RestsIn, its_file, its_blocks, stat_told, read_told, none_told}
 
 -- ---- numbers at rest
@@ -110,3 +110,12 @@ held_has_blocks m x claims i h g =
           let more : count_of b (a ∷ present (drop h.given_up words)) ≡ cond (eqb a b) 1 0 + count_of b (present (drop h.given_up words)) = refl in
           owned_marked m x claims i b h g (omega arith);
     }
+
+-- where the data blocks stay, so does what is left of a task's blocks
+pub names_left_same : (m : Files) (x y : Image) (claims : Claims) (i : ℕ) (h : Held) → IsHeldIn m x claims i h →
+    ((b : ℕ) → LiesInData x b → block_at y b ≡ block_at x b) →
+    names_left y h.copy h.given_up ≡ names_left x h.copy h.given_up
+names_left_same m x y claims i h g same =
+    let a = get_or h.copy.addrs 12 0 in
+    ap (λ (l : List ℕ). present (take 12 h.copy.addrs) ++ l)
+    (entries_same x y a h.given_up (λ some. same a ((held_has_blocks m x claims i h g).indirect some).0))

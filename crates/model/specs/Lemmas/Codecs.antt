@@ -231,32 +231,6 @@ unfolding block_of_words
 block_of_words_after first words few =
     overwritten-join zero_block (little_bytes 4 first) (bytes_of_words words) 0 4 refl (omega (arith, length-bytes_of_words words, length-zero_block))
 
--- an inode, written field by field
-pub dinode_written : (old : List ℕ) (at kind major minor nlink size : ℕ) (addrs : List ℕ) → length old ≡ 1024 → at + 64 ≤ 1024 → length addrs ≡ 13 →
-    overwritten (overwritten (overwritten (overwritten (overwritten (overwritten old
-    at (little_bytes 2 kind)) (at + 2) (little_bytes 2 major)) (at + 4) (little_bytes 2 minor)) (at + 6) (little_bytes 2 nlink))
-    (at + 8) (little_bytes 4 size)) (at + 12) (bytes_of_words addrs)
-    ≡ overwritten old at (dinode_bytes (record { kind = kind; major = major; minor = minor; nlink = nlink; size = size; addrs = addrs }))
-unfolding dinode_bytes
-dinode_written old at kind major minor nlink size addrs h room count =
-    let len = length-bytes_of_words addrs in
-    let a = little_bytes 2 kind in
-    let b = little_bytes 2 major in
-    let c = little_bytes 2 minor in
-    let d = little_bytes 2 nlink in
-    let e = little_bytes 4 size in
-    let f = bytes_of_words addrs in
-    let ab = overwritten-join old a b at (at + 2) refl (omega arith) in
-    let abc = overwritten-join old (a ++ b) c at (at + 4) refl (omega arith) in
-    let abcd = overwritten-join old (a ++ b ++ c) d at (at + 6) refl (omega arith) in
-    let abcde = overwritten-join old (a ++ b ++ c ++ d) e at (at + 8) refl (omega arith) in
-    let all = overwritten-join old (a ++ b ++ c ++ d ++ e) f at (at + 12) refl (omega arith) in
-    ap (λ (l : List ℕ). overwritten (overwritten (overwritten (overwritten l (at + 4) c) (at + 6) d) (at + 8) e) (at + 12) f) ab
-    ∙ ap (λ (l : List ℕ). overwritten (overwritten (overwritten l (at + 6) d) (at + 8) e) (at + 12) f) abc
-    ∙ ap (λ (l : List ℕ). overwritten (overwritten l (at + 8) e) (at + 12) f) abcd
-    ∙ ap (λ (l : List ℕ). overwritten l (at + 12) f) abcde
-    ∙ all
-
 -- ---- the superblock
 
 magic_small : (form : Form) → magic_of form < 2 ^ 32

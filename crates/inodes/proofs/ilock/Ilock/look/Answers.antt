@@ -31,8 +31,8 @@ pub returns : goal.returns
 returns g c =
     let v = c.args.volume.now in
     let read = inode_read (seen (g.D.Disk.image v.device) v.buffers) v.buffers c.args.pid c.args.slot c.data.result.now c.read_at-inode.result _ c.args.self.now c.self.view_is c.requires.holds c.data.ensures.bytes c.read_at-inode.ensures.value in
-    subst (λ (d : Dinode). ReadsInode g.D.Disk.image v c.args.pid c.args.place c.args.slot d c.args.table.now (progress.Over true) c.keep.new.self c.release_block.new.volume) read (record {
+    subst (λ (d : Dinode). ReadsInode g.D.Disk.image v c.args.pid c.args.place c.args.slot d c.args.table.now (progress.Over true) c.renew.new.self c.release_block.new.volume) read (record {
       answer = rw (ne_eqb _ 0 c.if-inode-eq0.false) refl;
-      table = rw (ne_eqb _ 0 c.if-inode-eq0.false) c.keep.ensures;
+      table = rw (ne_eqb _ 0 c.if-inode-eq0.false) c.renew.ensures;
       block = c.release_block.ensures;
     })

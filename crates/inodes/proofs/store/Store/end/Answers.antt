@@ -2,8 +2,9 @@ use Rattle.std.proofs.Common.{rules, ◌≡◌, sym, subst}
 use Rattle.std.specs.Prelude.{IfNone, None}
 use Rattle.model.specs.Layout.{inode_count_of}
 use Rattle.model.specs.Soundness.{IsLawfulGeometry}
-use Rattle.loose.specs.Loose.{Fits}
+use Rattle.loose.specs.Held.{FitsHeld}
 use Rattle.wal.specs.Volume.{VolumeState}
+use Rattle.inodes.specs.Holding.{claims_of}
 use Rattle.inodes.specs.Looks.{AreLooking}
 use Rattle.inodes.specs.Store.{StoreState, FitsFiles, Agrees, current_of}
 use Rattle.inodes.specs.Lemmas.Faults.{where_none, if_none}
@@ -30,4 +31,5 @@ pub returns-clause-files : goal.returns-clause-files
 unfolding FitsFiles
 returns-clause-files g c = λ files fits.
     let image = g.D.Disk.image in
-    subst (λ (v : VolumeState _). Fits files (current_of image v)) (sym c.end.ensures.volume) (subst (λ (s : StoreState _). Fits files (current_of image s.volume)) (sym c.self.view_is) fits)
+    subst (λ (v : VolumeState _). FitsHeld files (current_of image v) (claims_of c.self.inside.tasks)) (sym c.end.ensures.volume)
+    (subst (λ (s : StoreState _). FitsHeld files (current_of image s.volume) (claims_of s.tasks)) (sym c.self.view_is) fits)

@@ -1,21 +1,22 @@
-use Rattle.std.proofs.Common.{◌≡◌, length, sym, ◌∙◌, ap, subst, List}
+use Rattle.std.proofs.Common.{◌≡◌, length, replicate, sym, ◌∙◌, ap, subst, List}
 use Rattle.std.specs.Prelude.{IfNone}
 use Rattle.blocks.specs.Disk.{Image}
 use Rattle.model.specs.Files.{files_of}
 use Rattle.model.specs.Layout.{inode_count_of}
 use Rattle.model.specs.Soundness.{IsLawfulGeometry}
-use Rattle.loose.specs.Loose.{Fits}
+use Rattle.loose.specs.Held.{FitsHeld}
 use Rattle.loose.specs.Lemmas.Soundly.{fits_sound}
 use Rattle.bcache.specs.Buffers.{fresh_buffers}
 use Rattle.wal.specs.Machine.{new_log}
 use Rattle.wal.specs.Volume.{VolumeState}
 use Rattle.wal.specs.Lemmas.Volume.{fresh_seen}
+use Rattle.inodes.specs.Holding.{claims_of}
 use Rattle.inodes.specs.Looks.{AreLooking}
 use Rattle.inodes.specs.Table.{TableState, new_table}
 use Rattle.inodes.specs.Lemmas.Faults.{if_none}
-use Rattle.inodes.specs.Tasks.{TaskState}
+use Rattle.inodes.specs.Tasks.{TaskState, no_task}
 use Rattle.inodes.specs.Store.{FitsFiles, Agrees, current_of}
-use Rattle.inodes.proofs.LooksKept.{looks_opened}
+use Rattle.inodes.proofs.LooksKept.{held_opened, looks_opened}
 use Rattle.inodes.proofs.StoreKeeps.{agrees_opened}
 use Rattle.inodes.proofs.store.Store.open.Goals as goal
 
@@ -44,4 +45,6 @@ returns-clause-files g c =
     let image = g.D.Disk.image in
     let d = c.args.volume.device in
     let now : current_of image c.args.volume ≡ image d = ap (λ (v : VolumeState _). current_of image v) c.requires.volume ∙ fresh_seen (image d) in
-    subst (λ (y : Image). Fits (files_of (image d)) y) (sym now) (fits_sound (image d) (g.met.D.Disk.is_image d) c.requires.sound)
+    subst (λ (ts : List TaskState). FitsHeld (files_of (image d)) (current_of image c.args.volume) (claims_of ts)) (sym c.requires.tasks)
+    (subst (λ (y : Image). FitsHeld (files_of (image d)) y (claims_of (replicate (length c.args.tasks) no_task))) (sym now)
+    (held_opened (files_of (image d)) (image d) (length c.args.tasks) (fits_sound (image d) (g.met.D.Disk.is_image d) c.requires.sound)))

@@ -12,3 +12,6 @@ returns-in-Delivering g c = record { step = c.deliver.ensures.step c.args.op.now
 
 pub returns-in-Leaving : goal.returns-in-Leaving
 returns-in-Leaving g c = record { step = c.leave.ensures.step c.args.op.now c.requires.op }
+
+pub returns-in-Truncating : goal.returns-in-Truncating
+returns-in-Truncating g c = record { step = c.truncate.ensures.step c.args.op.now c.requires.op }

@@ -1,4 +1,4 @@
-use Rattle.std.proofs.Common.{rules, ◌≡◌, ◌<◌, ℕ, cond, length, set, sym, ap, ◌∙◌, subst, Option, Some, None}
+use Rattle.std.proofs.Common.{rules, ◌≡◌, ◌<◌, ◌≤◌, ℕ, cond, length, set, sym, ap, ◌∙◌, subst, Option, Some, None}
 use Rattle.model.specs.declared.types.image.Dinode.{Dinode}
 use Rattle.model.specs.Layout.{inode_of}
 use Rattle.model.specs.declared.types.operations.Reply.{Reply}
@@ -15,7 +15,7 @@ use Rattle.inodes.specs.Tasks.{task}
 use Rattle.inodes.specs.Turning.{IsReadable, if_used, reply_when_taken, place_when_taken}
 use Rattle.inodes.proofs.Taking.{may_lock}
 use Rattle.inodes.proofs.Gripping.{same_task}
-use Rattle.inodes.proofs.TakingSteps.{store_taken, steps_taken, place_taken, inode_taken, readable_taken}
+use Rattle.inodes.proofs.TakingSteps.{store_taken, steps_taken, place_taken, inode_taken, readable_taken, count_taken, few_numbers}
 use Rattle.inodes.proofs.store.Store.take.Goals as goal
 
 pub step-requires-clause-ready : goal.step-requires-clause-ready
@@ -38,6 +38,16 @@ invariant_of-self g c =
     let joint = where_none s.volume.fault well c.known.ensures in
     store_taken g.D.Disk s c.args.pid c.args.op.now c.args.lock c.self.invariant well lt stood is_op joint progress.Moved c.step.new.self c.step.new.volume c.step.new.table c.go.new.self c.in-Moved.ensures c.go.ensures
 
+pub invariant_of-self-in-Sleeping : goal.invariant_of-self-in-Sleeping
+invariant_of-self-in-Sleeping g c =
+    let s : StoreState _ = record { volume = c.self.inside.volume; tasks = c.self.inside.tasks; table = c.self.inside.inodes } in
+    let well : s.volume.fault ≡ None = search rules in
+    let lt : c.args.pid < length s.tasks = search rules in
+    let stood : (task s.tasks c.args.pid).place ≡ place.Taking c.args.lock = search rules in
+    let is_op : (task s.tasks c.args.pid).op ≡ Some c.args.op.now = search rules in
+    let joint = where_none s.volume.fault well c.known.ensures in
+    store_taken g.D.Disk s c.args.pid c.args.op.now c.args.lock c.self.invariant well lt stood is_op joint (progress.Sleeping c.in-Sleeping.why) c.step.new.self c.step.new.volume c.step.new.table s.tasks c.in-Sleeping.ensures (same_task s.tasks c.args.pid (place.Taking c.args.lock) stood)
+
 pub inode_at-inode-requires : goal.inode_at-inode-requires
 inode_at-inode-requires g c =
     let s : StoreState _ = record { volume = c.self.inside.volume; tasks = c.self.inside.tasks; table = c.self.inside.inodes } in
@@ -59,7 +69,10 @@ place_when_taken-requires g c =
     let taken = inode_taken g.D.Disk s c.args.pid c.args.op.now c.args.lock c.self.invariant well lt stood is_op joint c.in-Over.is_used c.step.new.self c.step.new.volume c.step.new.table c.in-Over.ensures in
     let is : c.inode_at-inode.result ≡ if_used c.in-Over.is_used (inode_of (current_of g.D.Disk.image s.volume) c.args.lock.number)
     = c.inode_at-inode.ensures ∙ ap (λ (k : ℕ). cond c.in-Over.is_used (copy_at c.step.new.table.places k) None) c.place-place.ensures ∙ taken in
-    subst IsReadable (sym is) (readable_taken g.D.Disk s c.args.pid c.args.op.now c.args.lock c.self.invariant well lt stood is_op joint c.in-Over.is_used c.step.new.self c.step.new.volume c.step.new.table c.in-Over.ensures)
+    record {
+      inode = subst IsReadable (sym is) (readable_taken g.D.Disk s c.args.pid c.args.op.now c.args.lock c.self.invariant well lt stood is_op joint c.in-Over.is_used c.step.new.self c.step.new.volume c.step.new.table c.in-Over.ensures);
+      count = subst (λ (n : ℕ). n ≤ 1024) (sym c.inode_count-inode_count.ensures) (few_numbers g.D.Disk s c.args.pid c.args.op.now c.args.lock c.self.invariant well lt stood is_op joint c.in-Over.is_used c.step.new.self c.step.new.volume c.step.new.table c.in-Over.ensures);
+    }
 
 pub invariant_of-self-in-Over : goal.invariant_of-self-in-Over
 invariant_of-self-in-Over g c =
@@ -72,9 +85,10 @@ invariant_of-self-in-Over g c =
     let taken = inode_taken g.D.Disk s c.args.pid c.args.op.now c.args.lock c.self.invariant well lt stood is_op joint c.in-Over.is_used c.step.new.self c.step.new.volume c.step.new.table c.in-Over.ensures in
     let is : c.inode_at-inode.result ≡ if_used c.in-Over.is_used (inode_of (current_of g.D.Disk.image s.volume) c.args.lock.number)
     = c.inode_at-inode.ensures ∙ ap (λ (k : ℕ). cond c.in-Over.is_used (copy_at c.step.new.table.places k) None) c.place-place.ensures ∙ taken in
-    let there : c.place_when_taken.result ≡ place_when_taken (if_used c.in-Over.is_used (inode_of (current_of g.D.Disk.image s.volume) c.args.lock.number)) (place_of c.step.new.self.at) c.args.op.now
-    = c.place_when_taken.ensures ∙ ap (λ (o : Option Dinode). place_when_taken o c.place-place.result c.args.op.now) is
-    ∙ ap (λ (k : ℕ). place_when_taken (if_used c.in-Over.is_used (inode_of (current_of g.D.Disk.image s.volume) c.args.lock.number)) k c.args.op.now) c.place-place.ensures in
+    let there : c.place_when_taken.result ≡ place_when_taken s.table.inode_count (if_used c.in-Over.is_used (inode_of (current_of g.D.Disk.image s.volume) c.args.lock.number)) (place_of c.step.new.self.at) c.args.op.now
+    = c.place_when_taken.ensures ∙ ap (λ (n : ℕ). place_when_taken n c.inode_at-inode.result c.place-place.result c.args.op.now) (c.inode_count-inode_count.ensures ∙ count_taken g.D.Disk s c.args.pid c.args.op.now c.args.lock c.self.invariant well lt stood is_op joint c.in-Over.is_used c.step.new.self c.step.new.volume c.step.new.table c.in-Over.ensures)
+    ∙ ap (λ (o : Option Dinode). place_when_taken s.table.inode_count o c.place-place.result c.args.op.now) is
+    ∙ ap (λ (k : ℕ). place_when_taken s.table.inode_count (if_used c.in-Over.is_used (inode_of (current_of g.D.Disk.image s.volume) c.args.lock.number)) k c.args.op.now) c.place-place.ensures in
     store_taken g.D.Disk s c.args.pid c.args.op.now c.args.lock c.self.invariant well lt stood is_op joint (progress.Over c.in-Over.is_used) c.step.new.self c.step.new.volume c.step.new.table c.go-in-Over.new.self c.in-Over.ensures
     (c.go-in-Over.ensures ∙ ap (λ (a : Place). set s.tasks c.args.pid (record (task s.tasks c.args.pid) { place = a })) there)
 
@@ -116,9 +130,10 @@ returns-in-Over g c =
     let taken = inode_taken g.D.Disk s c.args.pid c.args.op.now c.args.lock c.self.invariant well lt stood is_op joint c.in-Over.is_used c.step.new.self c.step.new.volume c.step.new.table c.in-Over.ensures in
     let is : c.inode_at-inode.result ≡ if_used c.in-Over.is_used d
     = c.inode_at-inode.ensures ∙ ap (λ (k : ℕ). cond c.in-Over.is_used (copy_at c.step.new.table.places k) None) c.place-place.ensures ∙ taken in
-    let there : c.place_when_taken.result ≡ place_when_taken (if_used c.in-Over.is_used d) (place_of c.step.new.self.at) c.args.op.now
-    = c.place_when_taken.ensures ∙ ap (λ (o : Option Dinode). place_when_taken o c.place-place.result c.args.op.now) is
-    ∙ ap (λ (k : ℕ). place_when_taken (if_used c.in-Over.is_used d) k c.args.op.now) c.place-place.ensures in
+    let there : c.place_when_taken.result ≡ place_when_taken s.table.inode_count (if_used c.in-Over.is_used d) (place_of c.step.new.self.at) c.args.op.now
+    = c.place_when_taken.ensures ∙ ap (λ (n : ℕ). place_when_taken n c.inode_at-inode.result c.place-place.result c.args.op.now) (c.inode_count-inode_count.ensures ∙ count_taken g.D.Disk s c.args.pid c.args.op.now c.args.lock c.self.invariant well lt stood is_op joint c.in-Over.is_used c.step.new.self c.step.new.volume c.step.new.table c.in-Over.ensures)
+    ∙ ap (λ (o : Option Dinode). place_when_taken s.table.inode_count o c.place-place.result c.args.op.now) is
+    ∙ ap (λ (k : ℕ). place_when_taken s.table.inode_count (if_used c.in-Over.is_used d) k c.args.op.now) c.place-place.ensures in
     let says : c.reply_when_taken.result ≡ reply_when_taken (if_used c.in-Over.is_used d) c.args.op.now
     = c.reply_when_taken.ensures ∙ ap (λ (o : Option Dinode). reply_when_taken o c.args.op.now) is in
     record {

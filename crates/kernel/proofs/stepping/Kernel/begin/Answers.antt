@@ -37,5 +37,5 @@ returns-in-Some-Other g c = begun g (goal.at.returns-in-Some-Other g c).After-wa
 pub returns-in-Some-Refused : goal.returns-in-Some-Refused
 returns-in-Some-Refused g c = begun g (goal.at.returns-in-Some-Refused g c).After-waiting c.refuse.result c.refuse.new.self (let is : c.waiting.result ≡ Some waiting.Refused = search rules in rw is c.refuse.ensures)
 
-pub returns-in-Some-Creation : goal.returns-in-Some-Creation
-returns-in-Some-Creation g c = begun g (goal.at.returns-in-Some-Creation g c).After-waiting c.create.result c.create.new.self (let is : c.waiting.result ≡ Some waiting.Creation = search rules in rw is c.create.ensures)
+pub returns-in-Some-Change : goal.returns-in-Some-Change
+returns-in-Some-Change g c = begun g (goal.at.returns-in-Some-Change g c).After-waiting c.change.result c.change.new.self (let is : c.waiting.result ≡ Some waiting.Change = search rules in rw is c.change.ensures)

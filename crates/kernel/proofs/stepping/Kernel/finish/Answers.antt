@@ -1,5 +1,4 @@
-use Rattle.std.proofs.Common.{rules, refl, ◌≡◌, ◌<◌, true, length, None, Some, ◌∙◌, sym, ap, subst, ℕ}
-use Rattle.std.proofs.lemmas.Bool.{false≢true}
+use Rattle.std.proofs.Common.{rules, refl, ◌≡◌, ◌<◌, true, length, None, Some, ◌∙◌, sym, ap, subst, ℕ, suc, ◌-◌, arith}
 use Rattle.blocks.specs.declared.disk.Disk.{Ghosts}
 use Rattle.model.specs.declared.types.operations.Op.{Op}
 use Rattle.model.specs.declared.types.operations.Reply.{Reply}
@@ -9,19 +8,21 @@ use Rattle.model.specs.Tasks.{fault_of_task}
 use Rattle.inodes.specs.Steps.{Steps}
 use Rattle.inodes.specs.Store.{StoreState}
 use Rattle.inodes.specs.Tasks.{task}
+use Rattle.journal.specs.declared.types.At.{At}
+use Rattle.journal.specs.declared.types.At.TheVariants as at
 use Rattle.journal.specs.Journal.{entry_in}
 use Rattle.journal.specs.Lemmas.Answers.{CanAnswer}
 use Rattle.journal.specs.Processes.{World, process, is_behind, last_answer, decided, answered}
 use Rattle.kernel.specs.Invariant.{IsRight, ArePorts}
-use Rattle.kernel.specs.Next.{step_behind, world_behind}
+use Rattle.kernel.specs.Next.{step_behind, step_of_last, world_behind, world_of_last}
 use Rattle.kernel.specs.Ports.{KeepsOthers}
 use Rattle.kernel.specs.State.{State}
 use Rattle.kernel.specs.Steps.{Acts}
 use Rattle.kernel.proofs.Acting.{acts_finished, sides_same}
 use Rattle.kernel.proofs.Answering.{IsThere, is_there, op_is, mine_is, answer_over, answer_told, some_reply}
-use Rattle.kernel.proofs.Ports.{ports_decided, ports_given}
+use Rattle.kernel.proofs.Ports.{ports_decided, ports_ending, ports_given}
 use Rattle.kernel.proofs.Valid.{HasAgreed, agreed_now}
-use Rattle.kernel.proofs.Working.{ends_now, right_moved_behind, right_fault_behind, right_decided, right_over}
+use Rattle.kernel.proofs.Working.{ends_now, right_moved_behind, right_fault_behind, right_decided, right_ends, right_over}
 use Rattle.kernel.proofs.stepping.Kernel.finish.Given.{Over}
 use Rattle.kernel.proofs.stepping.Kernel.finish.Goals.{After-known-2}
 use Rattle.kernel.proofs.stepping.Kernel.finish.Goals as goal
@@ -55,13 +56,13 @@ head g c =
     }
 
 -- what it made of the kernel, after which the intake is j
-acts : (g : Over) (c : After-known-2 g) (r : TaskProgress) (j : _) (z : World) → c.step-progress.result ≡ r → z ≡ world_behind r c.self.inside.processes c.args.pid
+acts : (g : Over) (c : After-known-2 g) (r : TaskProgress) (j : _) (z : World) → c.step-progress.result ≡ r → z ≡ world_behind (head g c).there.group r c.self.inside.processes c.args.pid
     → KeepsOthers g.I.Intake c.args.pid c.self.inside.intake j → (g.I.Intake.side j c.args.pid).ahead ≡ (g.I.Intake.side c.self.inside.intake c.args.pid).ahead
-    → Acts g.D.Disk g.I.Intake g.H.Herald c.args.pid (step_behind r) c.args.self.now (record { store = c.step-progress.new.self; opening = c.self.inside.opening.value; intake = j; herald = c.self.inside.herald; world = z })
+    → Acts g.D.Disk g.I.Intake g.H.Herald c.args.pid (step_behind (head g c).there.group r) c.args.self.now (record { store = c.step-progress.new.self; opening = c.self.inside.opening.value; intake = j; herald = c.self.inside.herald; world = z })
 acts g c r j z is made sides ahead =
     let k = c.self.inside in
     let h = head g c in
-    subst (λ (o : State _ _ _). Acts g.D.Disk g.I.Intake g.H.Herald c.args.pid (step_behind r) o (record { store = c.step-progress.new.self; opening = k.opening.value; intake = j; herald = k.herald; world = z })) c.self.view_is
+    subst (λ (o : State _ _ _). Acts g.D.Disk g.I.Intake g.H.Herald c.args.pid (step_behind (head g c).there.group r) o (record { store = c.step-progress.new.self; opening = k.opening.value; intake = j; herald = k.herald; world = z })) c.self.view_is
     (acts_finished g.D.Disk g.I.Intake g.H.Herald c.args.pid k.store c.step-progress.new.self k.opening.value k.intake k.herald k.processes z h.well h.there.group h.there.k j r h.there.stands
     (subst (λ (o : Op). Steps g.D.Disk k.store c.args.pid o r c.step-progress.new.self) h.same (h.steps r is)) made sides ahead)
 
@@ -134,17 +135,51 @@ invariant_of-self-in-Decided g c =
           inside (can_told g past reply c.decide.new.self c.in-Decided.is c.decide.ensures).0 c.give.ensures.processes c.give.ensures.gives (c.self.invariant.ports.told ∙ sym steps.groups.committed);
     }
 
-pub invariant_of-self-in-Over : goal.invariant_of-self-in-Over
-invariant_of-self-in-Over g c =
+-- the group that was looked up is its own
+own_group : (g : Over) (c : After-known-2 g) (group k : ℕ) {a : At} → a ≡ (process c.self.inside.processes c.args.pid).at → a ≡ at.Behind group k → (head g c).there.group ≡ group
+own_group g c group k is told = let both : at.Behind (head g c).there.group (head g c).there.k ≡ at.Behind group k = sym (head g c).there.stands ∙ sym is ∙ told in cc both
+
+some_group : (group : ℕ) → (group ≡ 0 → ⊥) → 0 < group
+some_group group some = omega (arith, some)
+
+pub invariant_of-self-then-group-eq0 : goal.invariant_of-self-then-group-eq0
+invariant_of-self-then-group-eq0 g c =
     let k = c.self.inside in
-    let past = (goal.at.invariant_of-self-in-Over g c).After-known-2 in
+    let past = (goal.at.invariant_of-self-then-group-eq0 g c).After-known-2 in
     let h = head g past in
     let steps = h.steps progress.Over c.in-Over.is in
+    let none : h.there.group ≡ 0 = own_group g past c.in-Behind.group c.in-Behind.entry c.at.ensures c.in-Behind.is ∙ c.if-group-eq0.true in
     record {
       right = subst (λ (z : World). IsRight g.D.Disk k.opening.value c.step-progress.new.self z) (sym c.give-in-Over.ensures.processes)
-          (right_over g.D.Disk k.opening.value k.store k.processes c.self.invariant.right h.well c.args.pid h.within c.operation-op.result.now h.mine c.known.ensures.store c.step-progress.new.self h.there.group h.there.k h.there.stands steps (h.agreed progress.Over c.in-Over.is refl));
+          (right_over g.D.Disk k.opening.value k.store k.processes c.self.invariant.right h.well c.args.pid h.within c.operation-op.result.now h.mine c.known.ensures.store c.step-progress.new.self h.there.group h.there.k h.there.stands none steps (h.agreed progress.Over c.in-Over.is refl));
       ports = ports_given g.I.Intake g.H.Herald k.intake c.give-in-Over.new.intake k.herald k.herald k.store.volume.log.committed c.step-progress.new.self.volume.log.committed k.processes c.give-in-Over.new.processes c.args.pid
           c.self.invariant.ports h.within (can_leave g past c.in-Over.is).0 c.give-in-Over.ensures.processes c.give-in-Over.ensures.gives (c.self.invariant.ports.told ∙ sym steps.groups.committed);
+    }
+
+pub invariant_of-self-in-Over-2 : goal.invariant_of-self-in-Over-2
+invariant_of-self-in-Over-2 g c =
+    let k = c.self.inside in
+    let past = (goal.at.invariant_of-self-in-Over-2 g c).After-known-2 in
+    let h = head g past in
+    let steps = h.steps progress.Over c.in-Over.is in
+    let same = own_group g past c.in-Behind.group c.in-Behind.entry c.at.ensures c.in-Behind.is in
+    record {
+      right = subst (λ (z : World). IsRight g.D.Disk k.opening.value c.step-progress.new.self z) (sym c.go_to_end.ensures)
+          (right_ends g.D.Disk k.opening.value k.store k.processes c.self.invariant.right h.well c.args.pid h.within c.operation-op.result.now h.mine c.known.ensures.store c.step-progress.new.self h.there.group h.there.k h.there.stands
+          (some_group h.there.group (λ none. c.if-group-eq0.false (sym same ∙ none))) steps (h.agreed progress.Over c.in-Over.is refl));
+      ports = subst (λ (n : ℕ). ArePorts g.I.Intake g.H.Herald k.intake k.herald n c.go_to_end.new.self) (sym steps.groups.committed)
+          (ports_ending g.I.Intake g.H.Herald k.intake k.herald k.store.volume.log.committed k.processes c.go_to_end.new.self c.args.pid h.there.group h.there.k c.self.invariant.ports h.within h.there.stands c.go_to_end.ensures);
+    }
+
+pub invariant_of-self-in-Sleeping : goal.invariant_of-self-in-Sleeping
+invariant_of-self-in-Sleeping g c =
+    let k = c.self.inside in
+    let h = head g (goal.at.invariant_of-self-in-Sleeping g c).After-known-2 in
+    let steps = h.steps (progress.Sleeping c.in-Sleeping.why) c.in-Sleeping.is in
+    let same : c.step-progress.new.self ≡ k.store = steps.waits.sleeping c.in-Sleeping.why refl in
+    record {
+      right = subst (λ (s : StoreState _). IsRight g.D.Disk k.opening.value s k.processes) (sym same) c.self.invariant.right;
+      ports = subst (λ (s : StoreState _). ArePorts g.I.Intake g.H.Herald k.intake k.herald s.volume.log.committed k.processes) (sym same) c.self.invariant.ports;
     }
 
 pub invariant_of-self-in-Fault : goal.invariant_of-self-in-Fault
@@ -157,13 +192,6 @@ invariant_of-self-in-Fault g c =
       ports = subst (λ (n : ℕ). ArePorts g.I.Intake g.H.Herald k.intake k.herald n k.processes) (sym steps.groups.committed) c.self.invariant.ports;
     }
 
-pub unreachable-requires : goal.unreachable-requires
-unreachable-requires g c =
-    let k = c.self.inside in
-    let h = head g (goal.at.unreachable-requires g c).After-known-2 in
-    let ends = ends_now g.D.Disk k.opening.value k.store k.processes c.self.invariant.right h.well c.args.pid h.within c.operation-op.result.now h.mine c.known.ensures.store c.step-progress.new.self (progress.Turned c.in-Turned.field-0) h.there.its.unfinished (h.steps (progress.Turned c.in-Turned.field-0) c.in-Turned.is) in
-    false≢true (sym h.there.its.turned ∙ ends.0)
-
 pub returns-in-Moved : goal.returns-in-Moved
 returns-in-Moved g c = acts g (goal.at.returns-in-Moved g c).After-known-2 progress.Moved c.self.inside.intake c.self.inside.processes c.in-Moved.is refl (sides_same g.I.Intake c.args.pid c.self.inside.intake) refl
 
@@ -171,8 +199,28 @@ pub returns-in-Decided : goal.returns-in-Decided
 returns-in-Decided g c = acts g (goal.at.returns-in-Decided g c).After-known-2 (progress.Decided c.in-Decided.reply) c.give.new.intake c.give.new.processes c.in-Decided.is
     (c.give.ensures.processes ∙ ap (λ (w : World). answered w c.args.pid) c.decide.ensures) c.give.ensures.gives.keeps c.give.ensures.gives.ahead
 
+-- with the last step of a task of that group
+acts_last : (g : Over) (c : After-known-2 g) (group : ℕ) (j : _) (z : World) → (head g c).there.group ≡ group → c.step-progress.result ≡ progress.Over → z ≡ world_of_last group c.self.inside.processes c.args.pid
+    → KeepsOthers g.I.Intake c.args.pid c.self.inside.intake j → (g.I.Intake.side j c.args.pid).ahead ≡ (g.I.Intake.side c.self.inside.intake c.args.pid).ahead
+    → Acts g.D.Disk g.I.Intake g.H.Herald c.args.pid (step_of_last group) c.args.self.now (record { store = c.step-progress.new.self; opening = c.self.inside.opening.value; intake = j; herald = c.self.inside.herald; world = z })
+acts_last g c group j z same is made sides ahead =
+    subst (λ (n : ℕ). Acts g.D.Disk g.I.Intake g.H.Herald c.args.pid (step_of_last n) c.args.self.now (record { store = c.step-progress.new.self; opening = c.self.inside.opening.value; intake = j; herald = c.self.inside.herald; world = z })) same
+    (acts g c progress.Over j z is (made ∙ ap (λ (n : ℕ). world_of_last n c.self.inside.processes c.args.pid) (sym same)) sides ahead)
+
 pub returns-in-Over : goal.returns-in-Over
-returns-in-Over g c = acts g (goal.at.returns-in-Over g c).After-known-2 progress.Over c.give-in-Over.new.intake c.give-in-Over.new.processes c.in-Over.is c.give-in-Over.ensures.processes c.give-in-Over.ensures.gives.keeps c.give-in-Over.ensures.gives.ahead
+returns-in-Over g c =
+    let past = (goal.at.returns-in-Over g c).After-known-2 in
+    acts_last g past 0 c.give-in-Over.new.intake c.give-in-Over.new.processes (own_group g past c.in-Behind.group c.in-Behind.entry c.at.ensures c.in-Behind.is ∙ c.if-group-eq0.true) c.in-Over.is
+    c.give-in-Over.ensures.processes c.give-in-Over.ensures.gives.keeps c.give-in-Over.ensures.gives.ahead
+
+pub returns-in-Over-2 : goal.returns-in-Over-2
+returns-in-Over-2 g c =
+    let past = (goal.at.returns-in-Over-2 g c).After-known-2 in
+    let same = own_group g past c.in-Behind.group c.in-Behind.entry c.at.ensures c.in-Behind.is in
+    let some = some_group c.in-Behind.group c.if-group-eq0.false in
+    let next : suc (c.in-Behind.group - 1) ≡ c.in-Behind.group = omega (arith, some) in
+    acts_last g past (suc (c.in-Behind.group - 1)) c.self.inside.intake c.go_to_end.new.self (same ∙ sym next) c.in-Over.is
+    c.go_to_end.ensures (sides_same g.I.Intake c.args.pid c.self.inside.intake) refl
 
 pub returns-in-Sleeping : goal.returns-in-Sleeping
 returns-in-Sleeping g c = acts g (goal.at.returns-in-Sleeping g c).After-known-2 (progress.Sleeping c.in-Sleeping.why) c.self.inside.intake c.self.inside.processes c.in-Sleeping.is refl (sides_same g.I.Intake c.args.pid c.self.inside.intake) refl

@@ -17,12 +17,12 @@ use Rattle.kernel.specs.Begins.{Begins}
 use Rattle.kernel.specs.Invariant.{IsRight, ArePorts, TaskStands}
 use Rattle.kernel.specs.Ports.{first_waiting}
 use Rattle.kernel.specs.State.{State, waiting_of}
-use Rattle.kernel.proofs.Beginnings.{right_taken, creation_begins, first_waits, names_twice, others_twice}
+use Rattle.kernel.proofs.Beginnings.{right_taken, change_begins, first_waits, names_twice, others_twice}
 use Rattle.kernel.proofs.Ports.{ports_asked, ports_taken}
 use Rattle.kernel.proofs.Valid.{HasAgreed, agreed_now, over_nowhere}
-use Rattle.kernel.proofs.stepping.Kernel.create.Given.{Over}
-use Rattle.kernel.proofs.stepping.Kernel.create.Goals.{After-take}
-use Rattle.kernel.proofs.stepping.Kernel.create.Goals as goal
+use Rattle.kernel.proofs.stepping.Kernel.change.Given.{Over}
+use Rattle.kernel.proofs.stepping.Kernel.change.Goals.{After-take}
+use Rattle.kernel.proofs.stepping.Kernel.change.Goals as goal
 
 pub invariant_of-self : goal.invariant_of-self
 invariant_of-self g c =
@@ -59,7 +59,7 @@ pub returns-then-not-room : goal.returns-then-not-room
 returns-then-not-room g c =
     let k = c.self.inside in
     let none : c.room.result ≡ false = search rules in
-    subst (λ (o : State _ _ _). Begins g.I.Intake (Some waiting.Creation) c.args.pid (step.Sleeping why.AnswersFull) o (record { store = k.store; opening = k.opening.value; intake = c.room.new.self; herald = k.herald; world = k.processes })) c.self.view_is
+    subst (λ (o : State _ _ _). Begins g.I.Intake (Some waiting.Change) c.args.pid (step.Sleeping why.AnswersFull) o (record { store = k.store; opening = k.opening.value; intake = c.room.new.self; herald = k.herald; world = k.processes })) c.self.view_is
     (record { next = inr (inr (inr (record { same = (refl, refl); ahead_stays = c.room.ensures.ahead; answer = inl (refl, c.room.ensures.room ∙ none) }))); sides = record { names = c.room.ensures.names; others = c.room.ensures.others }; herald = refl; opening = refl })
 
 pub returns-in-Some : goal.returns-in-Some
@@ -67,7 +67,7 @@ returns-in-Some g c =
     let k = c.self.inside in
     let room : c.room.result ≡ true = search rules in
     let cause : begin_cause k.store.volume.log ≡ Some c.in-Some.cause = search rules in
-    subst (λ (o : State _ _ _). Begins g.I.Intake (Some waiting.Creation) c.args.pid (step.Sleeping c.in-Some.cause) o (record { store = k.store; opening = k.opening.value; intake = c.room.new.self; herald = k.herald; world = k.processes })) c.self.view_is
+    subst (λ (o : State _ _ _). Begins g.I.Intake (Some waiting.Change) c.args.pid (step.Sleeping c.in-Some.cause) o (record { store = k.store; opening = k.opening.value; intake = c.room.new.self; herald = k.herald; world = k.processes })) c.self.view_is
     (record { next = inr (inr (inr (record { same = (refl, refl); ahead_stays = c.room.ensures.ahead; answer = inr (inl (c.in-Some.cause, refl, cause, c.room.ensures.room ∙ room)) }))); sides = record { names = c.room.ensures.names; others = c.room.ensures.others }; herald = refl; opening = refl })
 
 pub returns-then-is_err : goal.returns-then-is_err
@@ -76,15 +76,15 @@ returns-then-is_err g c =
     let room : c.room.result ≡ true = search rules in
     let free : begin_cause k.store.volume.log ≡ None = search rules in
     let same : c.reserve.new.self ≡ k.processes = search rules in
-    subst (λ (o : State _ _ _). Begins g.I.Intake (Some waiting.Creation) c.args.pid step.NoMemory o (record { store = k.store; opening = k.opening.value; intake = c.room.new.self; herald = k.herald; world = c.reserve.new.self })) c.self.view_is
+    subst (λ (o : State _ _ _). Begins g.I.Intake (Some waiting.Change) c.args.pid step.NoMemory o (record { store = k.store; opening = k.opening.value; intake = c.room.new.self; herald = k.herald; world = c.reserve.new.self })) c.self.view_is
     (record { next = inr (inr (inr (record { same = (refl, same); ahead_stays = c.room.ensures.ahead; answer = inr (inr ((refl, c.room.ensures.room ∙ room), free)) }))); sides = record { names = c.room.ensures.names; others = c.room.ensures.others }; herald = refl; opening = refl })
 
--- what was taken is a creation
-creates : (g : Over) (c : After-take g) (op : Op) → c.take.result ≡ Some op → waiting_of c.self.inside.store.table.inode_count op ≡ waiting.Creation
+-- what was taken changes files
+creates : (g : Over) (c : After-take g) (op : Op) → c.take.result ≡ Some op → waiting_of c.self.inside.store.table.inode_count op ≡ waiting.Change
 creates g c op taken_is =
     let k = c.self.inside in
-    let waits : option_map (waiting_of k.store.table.inode_count) (first_in (g.I.Intake.side k.intake c.args.pid).ahead) ≡ Some waiting.Creation = subst (λ (o : State _ _ _). first_waiting g.I.Intake o.store.table.inode_count o.intake c.args.pid ≡ Some waiting.Creation) (sym c.self.view_is) c.requires.waits in
-    first_waits k.store.table.inode_count op waiting.Creation (sym taken_is ∙ c.take.ensures.shown ∙ ap first_in c.room.ensures.ahead) waits
+    let waits : option_map (waiting_of k.store.table.inode_count) (first_in (g.I.Intake.side k.intake c.args.pid).ahead) ≡ Some waiting.Change = subst (λ (o : State _ _ _). first_waiting g.I.Intake o.store.table.inode_count o.intake c.args.pid ≡ Some waiting.Change) (sym c.self.view_is) c.requires.waits in
+    first_waits k.store.table.inode_count op waiting.Change (sym taken_is ∙ c.take.ensures.shown ∙ ap first_in c.room.ensures.ahead) waits
 
 pub begin-group-requires-clause-idle : goal.begin-group-requires-clause-idle
 begin-group-requires-clause-idle g c =
@@ -95,7 +95,7 @@ begin-group-requires-clause-idle g c =
 pub begin-group-requires-clause-op : goal.begin-group-requires-clause-op
 begin-group-requires-clause-op g c =
     let taken_is : c.take.result ≡ Some c.in-Some-take.op = search rules in
-    (creation_begins c.self.inside.store.table.inode_count c.in-Some-take.op (creates g (goal.at.begin-group-requires-clause-op g c).After-take c.in-Some-take.op taken_is)).0
+    (change_begins c.self.inside.store.table.inode_count c.in-Some-take.op (creates g (goal.at.begin-group-requires-clause-op g c).After-take c.in-Some-take.op taken_is)).0
 
 pub take-requires-2-clause-begun : goal.take-requires-2-clause-begun
 take-requires-2-clause-begun g c =
@@ -147,5 +147,5 @@ returns g c =
     c.take-2.ensures ∙ ap (λ (w : World). taken w c.args.pid c.begin-group.result op None) kept ∙ ap (λ (n : ℕ). taken (with_place k.processes) c.args.pid n op None) c.begin-group.ensures.group in
     let side = g.I.Intake.side in
     let ahead : (side k.intake c.args.pid).ahead ≡ op ∷ (side c.take.new.self c.args.pid).ahead = sym c.room.ensures.ahead ∙ c.take.ensures.ahead ∙ ap (λ (o : Option Op). option_to_list o ++ (side c.take.new.self c.args.pid).ahead) taken_is in
-    subst (λ (o : State _ _ _). Begins g.I.Intake (Some waiting.Creation) c.args.pid step.Moved o (record { store = c.begin-group.new.self; opening = k.opening.value; intake = c.take.new.self; herald = k.herald; world = c.take-2.new.self })) c.self.view_is
+    subst (λ (o : State _ _ _). Begins g.I.Intake (Some waiting.Change) c.args.pid step.Moved o (record { store = c.begin-group.new.self; opening = k.opening.value; intake = c.take.new.self; herald = k.herald; world = c.take-2.new.self })) c.self.view_is
     (record { next = inl (record { op = op; waits = refl; taken = (ahead, creates g (goal.at.returns g c).After-take op taken_is); room = c.take.ensures.room ∙ c.room.ensures.room ∙ room; free = free; answer = refl; store = c.begin-group.ensures.store; world = made }); sides = record { names = names_twice (g.I.Intake.name k.intake) (g.I.Intake.name c.room.new.self) (g.I.Intake.name c.take.new.self) c.room.ensures.names c.take.ensures.names; others = others_twice (side k.intake) (side c.room.new.self) (side c.take.new.self) c.args.pid c.room.ensures.others c.take.ensures.others }; herald = refl; opening = refl })

@@ -1,4 +1,4 @@
--- Where an image stands for files, that of each used number may be read.
+-- Where an image stands for files, that of each used number which no task holds may be read.
 use Rattle.std.proofs.Common.{◌≡◌, ◌≢◌, ℕ, ◌*◌, ◌<◌, ◌∙◌, refl, arith}
 use Rattle.std.specs.Prelude.{slice_index}
 use Rattle.std.proofs.lemmas.Bool.{eqb-true}
@@ -9,8 +9,8 @@ use Rattle.model.specs.Layout.{form_of, inode_of, magic_at, magic_of}
 use Rattle.model.specs.Places.{address_in}
 use Rattle.model.specs.Soundness.{IsLawfulGeometry}
 use Rattle.loose.specs.Loose.{LiesInData, IsFit}
-use Rattle.loose.specs.Lemmas.Looks.{used_is_fit, used_has_blocks}
-use Rattle.blockmap.specs.Reading.{LiesBehindLog, UsedMayBeRead}
+use Rattle.loose.specs.Lemmas.HeldLooks.{resting_tells}
+use Rattle.blockmap.specs.Reading.{LiesBehindLog, RestingMayBeRead}
 use Rattle.blockmap.specs.Lemmas.Addresses.{address_behind}
 
 form_lawful : (x : Image) → IsLawfulGeometry x → form_of x ≡ One
@@ -24,12 +24,13 @@ indirect_there : (x : Image) (d : Dinode) → form_of x ≡ One → IsFit x d �
 indirect_there x d one fit needed none =
     fit.whole 12 needed (address_behind x d 12 one fit.fields.count (omega arith) (omega arith) ∙ rw none refl)
 
-pub used_may_be_read : UsedMayBeRead
-used_may_be_read m x i f used =
+pub resting_may_be_read : RestingMayBeRead
+resting_may_be_read m x claims i f used rests =
     let d = inode_of x i in
     let one = form_lawful x f.geometry in
-    let fit = (used_is_fit m x i f used).fit in
-    let has = used_has_blocks m x i f used in
+    let tells = resting_tells m x claims i f used rests in
+    let fit = tells.its.fit in
+    let has = tells.blocks in
     record {
       form = one;
       full = f.full;

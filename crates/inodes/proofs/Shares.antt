@@ -1,0 +1,44 @@
+-- What a step of one process leaves to those that have locked other numbers.
+use Rattle.std.proofs.Common.{◌≡◌, ◌≢◌, ℕ, List, set, refl, ◌∙◌, ap, subst, Option, Some, None}
+use Rattle.std.specs.Prelude.{IsTrue}
+use Rattle.blocks.specs.Disk.{Image}
+use Rattle.model.specs.Journal.{is_number}
+use Rattle.model.specs.Layout.{inode_count_of, inode_of}
+use Rattle.loose.specs.Held.{Held}
+use Rattle.loose.specs.Lemmas.HeldLooks.{names_left_same}
+use Rattle.inodes.specs.Grips.{locked_grip}
+use Rattle.inodes.specs.Holding.{claim_by, claims_of}
+use Rattle.inodes.specs.Looks.{AreLooking}
+use Rattle.inodes.specs.Places.{grip_of}
+use Rattle.inodes.specs.Steps.{LeavesShares, SameShare}
+use Rattle.inodes.specs.Store.{StoreState, current_of}
+use Rattle.inodes.specs.Table.{TableState}
+use Rattle.inodes.specs.Tasks.{TaskState, task}
+use Rattle.inodes.specs.Lemmas.Holding.{claim_stays}
+use Rattle.inodes.proofs.Gripping.{grip_is}
+use Rattle.inodes.proofs.LooksKept.{KeepsUsed}
+use Rattle.inodes.proofs.Unclaimed.{LocksAlone}
+
+-- in an image that keeps what is used, so does what is held of a number
+module _ (old new : Image) (t : TableState) (ts : List TaskState) (i : ℕ) (are : AreLooking old t ts) (numbers : t.inode_count ≡ inode_count_of old) (keeps : KeepsUsed t.inode_count i (claims_of ts) old new) where
+  pub share_same : (j : ℕ) (o : Option Held) → claims_of ts j ≡ o → IsTrue (is_number t.inode_count j) → j ≢ i → (inode_of old j).kind ≢ 0 → SameShare old new j o
+  share_same j None none number other used = keeps.contents j number other used none
+  share_same j (Some h) holds number other used = names_left_same are.files.0 old new (claims_of ts) j h (record {
+    fits = are.files.1;
+    number = subst (λ (n : ℕ). IsTrue (is_number n j)) numbers number;
+    holds = holds;
+  }) keeps.blocks
+
+-- process p's task is u now, which had to do with number i alone
+module _ {D : Type 0} (image : D → Image) (s t : StoreState D) (p i : ℕ) (u : TaskState) (are : AreLooking (current_of image s.volume) s.table s.tasks) (numbers : s.table.inode_count ≡ inode_count_of (current_of image s.volume))
+    (tasks : t.tasks ≡ set s.tasks p u) (alone : LocksAlone s.tasks p i) (claims : (j : ℕ) → j ≢ i → claim_by u.place j ≡ claim_by (task s.tasks p).place j)
+    (keeps : KeepsUsed s.table.inode_count i (claims_of s.tasks) (current_of image s.volume) (current_of image t.volume)) where
+  pub shares : LeavesShares image s p t
+  shares q k j apart locked used =
+      let other : j ≢ i = λ same. alone q k apart (subst (λ (n : ℕ). grip_of (task s.tasks q) ≡ Some (locked_grip k n)) same locked) in
+      let number = are.table.numbers j k (are.table.places q (locked_grip k j) (grip_is s.tasks q ∙ locked)).1 in
+      record {
+        inode = keeps.inodes j number other used;
+        claim = ap (λ (ts : List TaskState). claims_of ts j) tasks ∙ claim_stays s.tasks p j u (claims j other);
+        same = share_same (current_of image s.volume) (current_of image t.volume) s.table s.tasks i are numbers keeps j (claims_of s.tasks j) refl number other used;
+      }

@@ -1,0 +1,64 @@
+// An inode is written back.
+ghost use Rattle.std.specs.Prelude.{◌≡◌, ◌<◌, None, length};
+ghost use Rattle.wal.specs.Machine.{HasRoom, used_by};
+ghost use Rattle.inodes.specs.Iupdate.{MayUpdate, Updates};
+
+use blockmap::{Progress, get_block, put_block};
+use blocks::Disk;
+use layout::inode;
+use model::types::Dinode;
+use std::marker::Model;
+use wal::Volume;
+
+/// The steps in which an inode is written back (`iupdate`; the xv6 book, the chapter "File system":
+/// "Code: Inodes"): one gets the block that holds it, the other one writes it there.
+#[derive(Clone, Copy, Debug, PartialEq, Eq)]
+pub struct Iupdate {
+    /// The inode's number.
+    number: u32,
+    /// The slot that holds its block, where it was got.
+    slot: Option<u32>,
+}
+
+impl Model for Iupdate {
+    ghost use Rattle.inodes.specs.Iupdate.{UpdateState};
+
+    ghost Value = { UpdateState };
+
+    ghost view = { λ m. record { number = m.number; slot = m.slot } };
+
+    ghost inverse = { λ m. record { number = m.number; slot = m.slot } };
+}
+
+impl Iupdate {
+    /// Begins to write the inode of a number back.
+    pub fn new(number: u32) -> Iupdate
+        ensures { result ≡ record { number = number; slot = None } }
+    {
+        Iupdate { number, slot: None }
+    }
+
+    /// Makes the next step, with the inode as it is to be. `Over` where it is written, and its block
+    /// logged. `Sleeping` where the block's buffer is held by another process, or none is to be had.
+    pub fn step<D: Disk>(
+        &mut self,
+        volume: &mut Volume<D>,
+        pid: u32,
+        dinode: &Dinode,
+    ) -> Progress<()>
+        requires fault { volume.old.fault ≡ None }
+        requires pid { pid < 32 }
+        requires room { HasRoom (used_by volume.old.log pid) }
+        requires addrs { length dinode.now.addrs ≡ 13 }
+        requires ready { MayUpdate D.image volume.old pid self.old }
+        ensures { Updates D.Disk self.old.slot volume.old pid self.old dinode.now
+            result self.new volume.new }
+    {
+        let Some(slot) = self.slot else {
+            return get_block(volume, pid, 33 + self.number / 16, &mut self.slot);
+        };
+        let at = (self.number % 16 * 64) as usize;
+        put_block(volume, pid, slot, at, &inode::bytes(dinode));
+        Progress::Over(())
+    }
+}
