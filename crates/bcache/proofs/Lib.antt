@@ -1,2 +1,4 @@
 pub mod OrderLemmas
 pub mod SlotLemmas
+pub mod NextLemmas
+pub mod LinkLemmas

@@ -1,86 +1,68 @@
--- The recency order: it stays one, its slots are those of the cache, and its victim.
-use Rattle.std.proofs.Common.{◌≡◌, ◌≢◌, inl, inr, ℕ, zero, suc, ◌+◌, ◌-◌, ◌<◌, ◌≤◌, ◌==◌, not, Bool, true, false, cond, eqb, List, [], ◌∷◌, length, map, get_or, refl, sym, ◌∙◌, ap, subst, zero-add, arith, Option, Some, None}
-use Rattle.std.specs.Prelude.{position, IfSome}
-use Rattle.std.specs.List.{filter, range_with_len, remove}
-use Rattle.std.proofs.lemmas.Bool.{cases_eq, eqb-true, eq-eqb, ne_eqb, both_ways}
-use Rattle.std.proofs.lemmas.List.Quantifiers.{position-Some}
+-- The recency order: which slots stand in it, and its victim.
+use Rattle.std.proofs.Common.{◌≡◌, ◌≢◌, inl, inr, ℕ, zero, suc, ◌+◌, ◌<◌, ◌≤◌, ◌==◌, not, Bool, true, false, cond, eqb, List, [], ◌∷◌, ◌++◌, length, map, get_or, drop, refl, sym, ◌∙◌, ap, subst, zero-add, arith, Option, Some, None}
+use Rattle.std.specs.Prelude.{position, reverse, IfSome}
+use Rattle.std.specs.List.{filter}
+use Rattle.std.proofs.lemmas.Bool.{cases_eq, cases_Bool, eq-eqb, ne_eqb, both_ways}
+use Rattle.std.proofs.Math.Seq.{drop-cons}
+use Rattle.std.proofs.lemmas.List.{get_or-map, reverse-append}
 use Rattle.model.specs.Soundness.{count_of}
-use Rattle.bcache.specs.Order.{IsOrder, first_order, moved_to_front, victim_in, later_or}
+use Rattle.bcache.specs.declared.types.Buffer.{Buffer}
+use Rattle.bcache.specs.Current.{references_of}
+use Rattle.bcache.specs.Order.{IsOrder, victim_in, later_or}
 use Rattle.model.specs.Lemmas.Counts.{count_of-get_or}
-use Rattle.bcache.specs.Lemmas.Order.{none_passes, order_moved, victim_below}
+use Rattle.bcache.specs.Lemmas.Order.{none_passes, victim_below}
 
 -- a number that stands nowhere is at no place
-absent_at : (i k d : ℕ) (o : List ℕ) → k < length o → count_of i o ≡ 0 → get_or o k d ≢ i
+pub absent_at : (i k d : ℕ) (o : List ℕ) → k < length o → count_of i o ≡ 0 → get_or o k d ≢ i
 absent_at i k d o lt none same = let some : 1 ≤ count_of (get_or o k d) o = count_of-get_or o k d lt in let here : count_of (get_or o k d) o ≡ 0 = ap (λ (j : ℕ). count_of j o) same ∙ none in omega arith
 
-others_absent : (i : ℕ) (o : List ℕ) → count_of i o ≡ 0 → filter (λ s. not (s == i)) o ≡ o
+pub others_absent : (i : ℕ) (o : List ℕ) → count_of i o ≡ 0 → filter (λ s. not (s == i)) o ≡ o
 others_absent i [] none = refl
 others_absent i (a ∷ o) none = elim (cases_eq a i) [
   | inl same ↦ absurd (let one : 1 + count_of i o ≡ 0 = rw (eq-eqb a i same) at none in omega arith)
   | inr ne ↦ let rest : 0 + count_of i o ≡ 0 = rw (ne_eqb a i ne) at none in rw (ne_eqb a i ne) (ap (λ (l : List ℕ). a ∷ l) (others_absent i o (omega arith)))
 ]
 
--- without the one place of a number there are the others
-others_removed : (i k : ℕ) (o : List ℕ) → k < length o → get_or o k 0 ≡ i → count_of i o ≡ 1 → remove o k ≡ filter (λ s. not (s == i)) o
-others_removed i k [] lt here one = absurd (omega arith)
-others_removed i zero (a ∷ o) lt here one =
-    let rest : 1 + count_of i o ≡ 1 = rw (eq-eqb a i here) at one in
-    rw (eq-eqb a i here) (sym (others_absent i o (omega arith)))
-others_removed i (suc k) (a ∷ o) lt here one = elim (cases_eq a i) [
-  | inl same ↦ absurd (
-      let rest : 1 + count_of i o ≡ 1 = rw (eq-eqb a i same) at one in
-      absent_at i k 0 o (omega arith) (omega arith) here)
-  | inr ne ↦
-      let rest : 0 + count_of i o ≡ 1 = rw (ne_eqb a i ne) at one in
-      rw (ne_eqb a i ne) (ap (λ (l : List ℕ). a ∷ l) (others_removed i k o (omega arith) here (omega arith)))
-]
-
--- the new order, as the code makes it
-pub moved_is : (o : List ℕ) (i k : ℕ) → IsOrder o → i < 40 → position (λ s. s == i) o ≡ Some k → i ∷ remove o k ≡ moved_to_front o i
-moved_is o i k is lt e =
-    let f = position-Some (λ s. s == i) o k 0 e in
-    ap (λ (l : List ℕ). i ∷ l) (others_removed i k o f.0 (eqb-true _ _ f.1) (is.each i lt))
-
-pub order_moved_by : (o new : List ℕ) (i k : ℕ) → IsOrder o → i < 40 → position (λ s. s == i) o ≡ Some k → new ≡ i ∷ remove o k → IsOrder new
-order_moved_by o new i k is lt e made = subst IsOrder (sym (made ∙ moved_is o i k is lt e)) (order_moved o i is lt)
-
 -- each slot stands in it
-absent : (i : ℕ) (o : List ℕ) → ((k : ℕ) → k < length o → eqb (get_or o k 0) i ≡ false) → count_of i o ≡ 0
+pub absent : (i : ℕ) (o : List ℕ) → ((k : ℕ) → k < length o → eqb (get_or o k 0) i ≡ false) → count_of i o ≡ 0
 absent i [] out = refl
 absent i (a ∷ o) out = let here : eqb a i ≡ false = out 0 (omega arith) in rw here (zero-add _ ∙ absent i o (λ k lt. out (suc k) (omega arith)))
 
 pub has_place : (o : List ℕ) (i : ℕ) → IsOrder o → i < 40 → position (λ s. s == i) o ≢ None
 has_place o i is lt none = let zero : count_of i o ≡ 0 = absent i o (λ k below. none_passes (λ s. s == i) o k 0 none below) in let one = is.each i lt in omega arith
 
-pub first_made : first_order ≡ map (λ k. 39 - k) (range_with_len 0 40)
-first_made = refl
+-- the victim, by a walk from the last
+abbrev pub first_unused : List ℕ → List ℕ → Option ℕ
+first_unused references [] = None
+first_unused references (slot ∷ rest) = cond (eqb (get_or references slot 0) 0) (Some slot) (first_unused references rest)
 
--- the victim, by a walk from the front
-abbrev pub last_unused : List ℕ → List ℕ → Option ℕ → Option ℕ
-last_unused references [] last = last
-last_unused references (slot ∷ order) last = last_unused references order (cond (eqb (get_or references slot 0) 0) (Some slot) last)
-
-abbrev or_last : Option ℕ → Option ℕ → Option ℕ
-or_last None last = last
-or_last (Some later) last = Some later
-
-pub victim_walked : (references order : List ℕ) (last : Option ℕ) → last_unused references order last ≡ or_last (victim_in references order) last
-victim_walked references [] last = refl
-victim_walked references (slot ∷ order) last =
-    victim_walked references order (cond (eqb (get_or references slot 0) 0) (Some slot) last)
-    ∙ joins (victim_in references order) (eqb (get_or references slot 0) 0)
+first_unused-append : (references front : List ℕ) (slot : ℕ) → first_unused references (front ++ slot ∷ []) ≡ later_or (first_unused references front) (eqb (get_or references slot 0) 0) slot
+first_unused-append references [] slot = by (eqb (get_or references slot 0) 0)
   where
-    joins : (later : Option ℕ) (free : Bool) → or_last later (cond free (Some slot) last) ≡ or_last (later_or later free slot) last
-    joins (Some later) free = refl
-    joins None true = refl
-    joins None false = refl
+    by : (free : Bool) → cond free (Some slot) None ≡ later_or None free slot
+    by true = refl
+    by false = refl
+first_unused-append references (a ∷ front) slot = elim (cases_Bool (eqb (get_or references a 0) 0)) [
+  | inl free ↦ rw free refl
+  | inr used ↦ rw used (first_unused-append references front slot)
+]
 
-pub victim_is : (references order : List ℕ) → last_unused references order None ≡ victim_in references order
-victim_is references order = victim_walked references order None ∙ by (victim_in references order)
-  where
-    by : (v : Option ℕ) → or_last v None ≡ v
-    by None = refl
-    by (Some slot) = refl
+pub victim_back : (references order : List ℕ) → first_unused references (reverse order) ≡ victim_in references order
+victim_back references [] = refl
+victim_back references (slot ∷ order) =
+    ap (first_unused references) (reverse-append (slot ∷ []) order) ∙ first_unused-append references (reverse order) slot
+    ∙ ap (λ (v : Option ℕ). later_or v (eqb (get_or references slot 0) 0) slot) (victim_back references order)
+
+-- a slot that has references is passed over
+pub used_passed : (references rest : List ℕ) (k slot : ℕ) (found : Option ℕ) → k < length rest → slot ≡ get_or rest k 40 → eqb (get_or references slot 0) 0 ≡ false →
+    first_unused references (drop k rest) ≡ found → first_unused references (drop (suc k) rest) ≡ found
+used_passed references rest k slot found lt here used so_far =
+    let test : eqb (get_or references (get_or rest k 40) 0) 0 ≡ false = subst (λ (n : ℕ). eqb (get_or references n 0) 0 ≡ false) here used in
+    sym (ap (first_unused references) (drop-cons rest k 40 lt) ∙ rw test refl) ∙ so_far
+
+pub references_read : (buffers : List Buffer) (slot : ℕ) (buffer : Buffer) → slot < length buffers → buffer ≡ get_or buffers slot buffer →
+    get_or (map references_of buffers) slot 0 ≡ references_of buffer
+references_read buffers slot buffer lt is = get_or-map references_of buffers slot buffer 0 lt ∙ ap references_of (sym is)
 
 -- where there is none, each slot of the order has references
 pub victim_none : (references order : List ℕ) → victim_in references order ≡ None → (k : ℕ) → k < length order → get_or references (get_or order k 0) 0 ≢ 0

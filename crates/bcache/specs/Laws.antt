@@ -4,6 +4,7 @@ use Rattle.blocks.specs.Disk.{Image, block_at}
 use Rattle.bcache.specs.declared.types.Buffer.{Buffer}
 use Rattle.bcache.specs.Current.{references_of, shows, current}
 use Rattle.bcache.specs.Order.{buffer_count}
+use Rattle.bcache.specs.Links.{no_slot, links_of}
 use Rattle.bcache.specs.declared.types.Busy.TheVariants as busy
 use Rattle.bcache.specs.declared.types.Acquired.TheVariants as acquired
 use Rattle.bcache.specs.Buffers.{Buffers, buffer, IsCache, found, acquire_answer, locked, taken, filled, changed, released, pinned, unpinned, after_acquire, fresh_buffers}
@@ -104,3 +105,10 @@ CallsKeepCache = (c : Buffers) (pid b i : ℕ) (bytes : List ℕ) → IsCache c 
 
 abbrev pub FreshIsCache : Type 0
 FreshIsCache = IsCache fresh_buffers
+
+-- at the start slot 39 is the first one, before slot 38, and slot 0 the last
+pub record FreshLinks : Type 0 where
+  pub first : (links_of fresh_buffers.order).first ≡ 39
+  pub last : (links_of fresh_buffers.order).last ≡ 0
+  pub before_first : slice_index (links_of fresh_buffers.order).before 39 ≡ no_slot
+  pub after_first : slice_index (links_of fresh_buffers.order).after 39 ≡ 38

@@ -1,4 +1,5 @@
 pub mod Order
+pub mod Links
 pub mod Current
 pub mod Buffers
 pub mod Laws

@@ -1,16 +1,17 @@
 // The cache.
-ghost use Rattle.std.specs.Prelude.{◌≡◌, ◌<◌, ◌≤◌, ◌+◌, ◌^◌, length, slice_index, Some, None, IfOk, OnOk, OnErr, IfErr, IfSome, IsSome, position};
+ghost use Rattle.std.specs.Prelude.{◌≡◌, ℕ, ◌<◌, ◌≤◌, ◌+◌, ◌^◌, length, slice_index, Some, None, IfOk, OnOk, OnErr, IfErr, IfSome, IsSome, position, reverse};
 ghost use Rattle.std.specs.Borrow.{Lends, sem};
 ghost use Rattle.blocks.specs.Block.{IsBlock, overwritten};
 ghost use Rattle.blocks.specs.Calls.{OnlyReads};
 ghost use Rattle.blocks.specs.Disk.{CountsFault, block_at};
 ghost use Rattle.blocks.specs.contracts.block.Block.{the_row as block_row};
 ghost use Rattle.bcache.specs.Current.{is_of};
+ghost use Rattle.bcache.specs.Links.{changed_entries, links_of, walk};
 ghost use Rattle.bcache.specs.Buffers.{IsCache, buffer, found, victim, acquire_answer, after_acquire, taken, filled, changed, released, pinned, unpinned, lock_answer, after_lock, take_answer, after_take, block_or_zero, EndsUnfilled, fresh_buffers, empty_buffer};
 ghost use Rattle.bcache.specs.contracts.cache.Cache.{the_row};
 
 use crate::order::Order;
-use crate::{Acquired, Buffer, Busy};
+use crate::{Acquired, Buffer, Busy, Links};
 use blocks::{Block, Disk, DiskFault, NoMemory};
 use std::alloc::Global;
 use std::marker::Model;
@@ -81,6 +82,19 @@ impl Cache {
         ensures { result ≡ slice_index self.now.order place }
     {
         self.order.at(place)
+    }
+
+    /// The links that hold the recency order: read from its front by `after` they are the order, and
+    /// from its end by `before` the order reversed. Each walk ends at 40. The release of a slot
+    /// leaves all but at most five of the 80 entries as they are.
+    pub fn links(&self) -> &Links
+        ensures links { result.now ≡ links_of self.now.order }
+        ensures forward { walk result.now.after result.now.first ≡ self.now.order }
+        ensures backward { walk result.now.before result.now.last ≡ reverse self.now.order }
+        ensures entries { (slot : ℕ) → slot < 40
+            → changed_entries result.now (links_of (released self.now slot).order) ≤ 5 }
+    {
+        self.order.links()
     }
 
     /// The block that a slot is for; None where it was never taken.

@@ -1,5 +1,5 @@
 //! Laws of the cache and of the current image, each the contract of a function that does nothing.
-ghost use Rattle.bcache.specs.Laws.{ReferencedIsKept, NoBufferIsFull, TakesLastUnused, FillingKeeps, UnfilledKeeps, ChangingSets, RecyclingKeeps, ShownWriteKeeps, UnshownWriteSets, CountsKeepCurrent, CallsKeepCache, FreshIsCache};
+ghost use Rattle.bcache.specs.Laws.{ReferencedIsKept, NoBufferIsFull, TakesLastUnused, FillingKeeps, UnfilledKeeps, ChangingSets, RecyclingKeeps, ShownWriteKeeps, UnshownWriteSets, CountsKeepCurrent, CallsKeepCache, FreshIsCache, FreshLinks};
 
 /// A slot with references keeps its block, its bytes and its pins, whatever block is acquired.
 pub fn referenced_is_kept()
@@ -61,4 +61,9 @@ pub fn calls_keep_cache()
 /// So is it at the start.
 pub fn fresh_is_cache()
     ensures { FreshIsCache }
+{}
+
+/// The links at the start: slot 39 is the first one, before slot 38, and slot 0 the last.
+pub fn fresh_links()
+    ensures { FreshLinks }
 {}

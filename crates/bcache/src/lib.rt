@@ -15,14 +15,17 @@
 //! changed block that has not been written home, also when nobody holds its lock.
 //!
 //! A block that has no buffer gets one without references: of those, the one that stands last in
-//! the order, where `release` puts a buffer first. Where all 40 have references the process has to
-//! wait (`NoBuffer`; xv6 panics there). Waiting changes nothing: who waits asks again later.
+//! the order, where `release` puts a buffer first. The order is kept as links from slot to slot
+//! (`Links`). Where all 40 have references the process has to wait (`NoBuffer`; xv6 panics there).
+//! Waiting changes nothing: who waits asks again later.
 #![tactic(auto)]
 
 mod cache;
 pub mod laws;
+mod links;
 mod order;
 mod types;
 
 pub use cache::Cache;
+pub use links::Links;
 pub use types::{Acquired, Buffer, Busy};

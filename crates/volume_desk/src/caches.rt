@@ -26,6 +26,11 @@ pub fn call(
             write(alloc, cache, pid.parse()?, slot.parse()?, at.parse()?, hex)
         }
         ["first", count] => first(alloc, cache, count.parse()?),
+        ["ends"] => {
+            let links = cache.links();
+            Ok(Some(format!(in alloc; "{} {}", links.first, links.last)?))
+        }
+        ["beside", slot] => beside(alloc, cache, slot.parse()?),
         ["data", slot, count] => data(alloc, cache, slot.parse()?, count.parse()?),
         _ => Ok(None),
     }
@@ -85,6 +90,16 @@ fn first(alloc: Global, cache: &Cache, count: u32) -> anyhow::Result<Option<Stri
         slots.push(cache.slot_at(place))?;
     }
     Ok(Some(format!(in alloc; "{slots:?}")?))
+}
+
+// The slots before and after a slot in the order.
+fn beside(alloc: Global, cache: &Cache, slot: usize) -> anyhow::Result<Option<String>> {
+    if slot >= 40 {
+        return Ok(None);
+    }
+    let links = cache.links();
+    let (before, after) = (links.before[slot], links.after[slot]);
+    Ok(Some(format!(in alloc; "{before} {after}")?))
 }
 
 fn data(alloc: Global, cache: &Cache, slot: u32, count: usize) -> anyhow::Result<Option<String>> {

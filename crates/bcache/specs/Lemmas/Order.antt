@@ -16,14 +16,14 @@ none_passes p xs j d none lt = fails_before_first p xs j d (elim (cases_lt (posi
 ])
 
 -- another number stands among the others as often as before
-count_of-others : (b i : ℕ) (o : List ℕ) → b ≢ i → count_of b (filter (λ s. not (s == i)) o) ≡ count_of b o
+pub count_of-others : (b i : ℕ) (o : List ℕ) → b ≢ i → count_of b (filter (λ s. not (s == i)) o) ≡ count_of b o
 count_of-others b i [] other = refl
 count_of-others b i (a ∷ o) other = elim (cases_eq a i) [
   | inl same ↦ rw (eq-eqb a i same, ne_eqb a b (λ e. other (sym e ∙ same))) (count_of-others b i o other ∙ sym (zero-add (count_of b o)))
   | inr ne ↦ rw (ne_eqb a i ne) (ap (λ (n : ℕ). cond (eqb a b) 1 0 + n) (count_of-others b i o other))
 ]
 
-count_of-without : (i : ℕ) (o : List ℕ) → count_of i (filter (λ s. not (s == i)) o) ≡ 0
+pub count_of-without : (i : ℕ) (o : List ℕ) → count_of i (filter (λ s. not (s == i)) o) ≡ 0
 count_of-without i [] = refl
 count_of-without i (a ∷ o) = elim (cases_eq a i) [
   | inl same ↦ rw (eq-eqb a i same) (count_of-without i o)

@@ -1,5 +1,20 @@
-use Rattle.bcache.specs.Lemmas.Order.{slot_below}
+use Rattle.std.proofs.Common.{get_or, ap, ◌∙◌, arith, ℕ}
+use Rattle.bcache.specs.Links.{order_of}
+use Rattle.bcache.proofs.LinkLemmas.{after_placed, placed_low}
 use Rattle.bcache.proofs.order.Order.at.Goals as goal
 
+pub bounds-self-inside-slot : goal.bounds-self-inside-slot
+bounds-self-inside-slot c =
+    let low = placed_low (order_of c.self.inside.links) c.loop-passed.passed c.self.invariant.order (omega arith) in
+    omega (arith, low, c.loop-passed.invariant)
+
+pub loop-passed-preserved : goal.loop-passed-preserved
+loop-passed-preserved c =
+    ap (λ (n : ℕ). get_or c.self.inside.links.after n 0) c.loop-passed.invariant
+    ∙ after_placed c.self.inside.links c.loop-passed.passed c.self.invariant (omega arith)
+    ∙ ap (λ (n : ℕ). get_or (order_of c.self.inside.links) n 40) (omega arith)
+
 pub returns-clause-within : goal.returns-clause-within
-returns-clause-within c = rw c.deref.ensures.0 (slot_below _ _ c.self.invariant c.requires)
+returns-clause-within c =
+    let low = placed_low (order_of c.self.inside.links) c.loop-passed.passed c.self.invariant.order (omega arith) in
+    omega (arith, low, c.loop-passed.invariant)
