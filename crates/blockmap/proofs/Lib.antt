@@ -1,1 +1,2 @@
 mod Freeing
+mod Taking

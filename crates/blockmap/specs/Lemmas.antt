@@ -1,5 +1,8 @@
 -- What follows from the definitions: the lemmas that the proofs of this crate and of those above it
 -- use.
 pub mod Addresses
+pub mod Bitmap
+pub mod Leading
+pub mod Putting
 pub mod Reading
 pub mod Resting

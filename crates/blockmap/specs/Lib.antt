@@ -1,6 +1,8 @@
 pub mod Getting
 pub mod Bfree
+pub mod Balloc
 pub mod Bmap
+pub mod BmapAlloc
 pub mod Map
 pub mod Target
 pub mod Reading

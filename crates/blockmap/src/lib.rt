@@ -10,28 +10,39 @@
 //! An inode has the addresses of its file's first 12 blocks, and that of a block with the addresses
 //! of 256 more. So `map` answers at once for one of the first; behind them the entry has to be read,
 //! which `Bmap` does in two steps. A machine that works on a block of a file keeps a
-//! `Target`: what it gets or uses next, and `seek` makes the next step to the block. An address
-//! that isn't there is not made yet.
+//! `Target`: what it gets or uses next, and `seek` makes the next step to the block. A reader makes
+//! no address that isn't there.
 //!
-//! A machine that changes a block ends with `put_block`, which logs it. `Bfree` clears the bit of a
-//! block in the bitmap, as a truncation or a removal does for each block that it gives up.
+//! A writer does (`map_for_writing`): the steps of `BmapAlloc` read the entry as `Bmap` does, and
+//! take what is missing, be it the file's block or the block of addresses. The writer's copy of the
+//! inode is given to each step, which names there what was taken for the inode itself. Where they
+//! are over with a block, the inode leads to it in the image as it is then.
+//!
+//! A machine that changes a block ends with `put_block`, which logs it. `Balloc` takes a block: it
+//! sets the lowest clear bit of the bitmap, and then zeroes the block of that bit. `Bfree` clears
+//! the bit of a block in the bitmap, as a truncation or a removal does for each block that it gives
+//! up. Which bit is the lowest clear one is said by a law (`laws`).
 //!
 //! What is said of a file's bytes asks that the file may be read (`MayRead`). Where an image stands
 //! for files, that of each used number which no task holds may (`laws`).
 #![tactic(auto)]
 
+mod balloc;
 mod bfree;
 mod bmap;
+mod bmap_alloc;
 mod getting;
 pub mod laws;
 mod mapping;
 mod progress;
 mod target;
 
+pub use balloc::{AllocAt, Balloc};
 pub use bfree::Bfree;
 pub use bmap::Bmap;
+pub use bmap_alloc::{BmapAlloc, MapAt};
 pub use getting::{get_block, put_block, release_block};
-pub use mapping::{Mapped, map};
+pub use mapping::{Mapped, MappedForWriting, map, map_for_writing};
 pub use model::types::Why;
 pub use progress::Progress;
 pub use target::{Target, seek, target_for};

@@ -4,10 +4,10 @@ ghost use Rattle.blocks.specs.Disk.{Image};
 ghost use Rattle.model.specs.declared.types.image.Form.TheVariants.{One};
 ghost use Rattle.model.specs.Layout.{form_of};
 ghost use Rattle.model.specs.Places.{address_in};
-ghost use Rattle.blockmap.specs.Map.{mapped, address_mapped};
+ghost use Rattle.blockmap.specs.Map.{mapped, address_mapped, mapped_for_writing, IsThere};
 
-use crate::Bmap;
 use crate::bmap::some_address;
+use crate::{Bmap, BmapAlloc};
 use model::types::Dinode;
 
 /// Where an inode's addresses lead from one of its file's blocks.
@@ -34,4 +34,27 @@ pub fn map(inode: &Dinode, k: u32) -> Mapped
         return Mapped::At(None);
     }
     Mapped::Behind(Bmap::new(inode.addrs[12], k - 12))
+}
+
+/// Where a writer finds a block of a file.
+#[derive(Clone, Copy, Debug, PartialEq, Eq)]
+pub enum MappedForWriting {
+    /// It is this block, which the inode itself names.
+    At(u32),
+    /// These steps lead to it, and make what isn't there.
+    Behind(BmapAlloc),
+}
+
+/// Where a writer finds block `k` of an inode's file, from 0 to 267, in an image of that many
+/// blocks with that block of the bitmap.
+pub fn map_for_writing(inode: &Dinode, k: u32, bitmap: u32, size: u32) -> MappedForWriting
+    requires addrs { length inode.now.addrs ≡ 13 }
+    requires within { k < 268 }
+    ensures map { result ≡ mapped_for_writing inode.now k bitmap size }
+    ensures there { (x : Image) → form_of x ≡ One → IsThere x inode.now k result }
+{
+    if k < 12 && inode.addrs[k as usize] != 0 {
+        return MappedForWriting::At(inode.addrs[k as usize]);
+    }
+    MappedForWriting::Behind(BmapAlloc::begin(inode, k, bitmap, size))
 }
