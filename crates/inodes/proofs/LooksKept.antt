@@ -1,5 +1,5 @@
 -- What is true of operations that look at a file stays, whatever the others do.
-use Rattle.std.proofs.Common.{◌≡◌, ◌≢◌, ℕ, zero, suc, ◌-◌, ◌/◌, ◌≤◌, ◌<◌, ltb, List, [], ◌∷◌, length, set, replicate, refl, sym, ◌∙◌, ap, subst, ⊎_elim, arith, Option, Some, None}
+use Rattle.std.proofs.Common.{◌≡◌, ◌≢◌, ℕ, zero, suc, ◌-◌, ◌/◌, ◌≤◌, ◌<◌, ltb, List, ◌∷◌, length, set, replicate, refl, sym, ◌∙◌, ap, subst, ⊎_elim, arith, Option, Some, None}
 use Rattle.std.specs.Prelude.{IsTrue, slice_index}
 use Rattle.std.proofs.lemmas.Bool.{cases_eq, ltb-true}
 use Rattle.std.proofs.lemmas.List.{get_or-set_same, get_or-set_other}
@@ -8,27 +8,27 @@ use Rattle.model.specs.declared.types.image.Dinode.{Dinode}
 use Rattle.model.specs.declared.types.operations.Op.{Op}
 use Rattle.model.specs.declared.types.operations.Op.TheVariants.{Create, Write, Read, Trunc, Remove, Stat}
 use Rattle.model.specs.Agreement.{IsSameOutsideLog}
-use Rattle.model.specs.Codec.{IsDinode, new_inode, with_inode, with_inode_bytes}
+use Rattle.model.specs.Codec.{IsDinode, new_inode, with_inode, without_bit}
 use Rattle.model.specs.Fields.{words_of}
 use Rattle.model.specs.Files.{Files, bytes_in, file_in}
 use Rattle.model.specs.Journal.{is_number}
-use Rattle.model.specs.Layout.{inode_block, inode_count_of, inode_of}
+use Rattle.model.specs.Layout.{inode_block, inode_count_of, inode_of, super_of}
 use Rattle.model.specs.Operations.{is_kind, part_of}
 use Rattle.model.specs.Places.{address_in}
 use Rattle.model.specs.Lemmas.Inodes.{IsPlaced, inode_of-with_inode_other}
 use Rattle.model.specs.Lemmas.Log.{both_of}
 use Rattle.loose.specs.Claims.{HasClaimed}
-use Rattle.loose.specs.Held.{Held, Claims, FitsHeld, IsClaimedNow, last_inode, unmarked}
-use Rattle.loose.specs.HeldLaws.{FitsThen, HasSameFile, IsHeldIn}
-use Rattle.loose.specs.Loose.{Fits, LiesInData}
+use Rattle.loose.specs.Held.{Held, Claims, FitsHeld, IsClaimedNow, last_inode, unmarked, frees, Claim}
+use Rattle.loose.specs.HeldLaws.{FitsThen, HasSameFile, IsHeldIn, StaysHeld}
+use Rattle.loose.specs.Loose.{Fits}
 use Rattle.loose.specs.Lemmas.AtRest.{fits_at_rest}
 use Rattle.loose.specs.Lemmas.Claims.{IsApart, apart as apart_from}
-use Rattle.loose.specs.Lemmas.GivenUp.{IsMapped, mapped, agrees, inode_same, held_of as is_held}
-use Rattle.loose.specs.Lemmas.HeldFrames.{held_alike}
-use Rattle.loose.specs.Lemmas.HeldLooks.{free_tells, held_has_blocks}
+use Rattle.loose.specs.Lemmas.GivenUp.{held_of as is_held}
+use Rattle.loose.specs.Lemmas.HeldFrames.{held_alike, stays_same}
+use Rattle.loose.specs.Lemmas.HeldLooks.{free_tells}
 use Rattle.loose.specs.Lemmas.HeldOutsideLog.{held_outside}
 use Rattle.loose.specs.Lemmas.Looks.{between}
-use Rattle.loose.specs.Lemmas.OutsideLog.{data_outside, inode_outside}
+use Rattle.loose.specs.Lemmas.OutsideLog.{inode_outside}
 use Rattle.loose.specs.Lemmas.WriteBacks.{claim_fits, last_fields, write_back_rests}
 use Rattle.blockmap.specs.declared.target.Target.{Target}
 use Rattle.blockmap.specs.declared.target.Target.TheVariants as target
@@ -45,19 +45,20 @@ use Rattle.inodes.specs.Store.{CanBegin, first_place}
 use Rattle.inodes.specs.Table.{TableState, copy_at, new_table}
 use Rattle.inodes.specs.Tasks.{TaskState, task, no_task}
 use Rattle.inodes.specs.Lemmas.Grips.{is_table_at_opening, kept_by_image}
-use Rattle.inodes.specs.Lemmas.Holding.{claim_stays}
+use Rattle.inodes.specs.Lemmas.Holding.{claim_stays, own_holds}
 use Rattle.inodes.specs.Lemmas.Looks.{copy_is, trunc_names}
 use Rattle.inodes.proofs.Gripping.{grip_is, grips_same}
-use Rattle.inodes.proofs.Unclaimed.{own_claim, unclaimed}
+use Rattle.inodes.proofs.Unclaimed.{own_claim, unclaimed, claim_locks}
+use Rattle.loose.specs.Lemmas.Remapped.{IsMapped, mapped, inode_same}
 
 -- ---- the current image is another one
 
--- Each used number but i has the inode that it had, and its file where no task holds it; and the
--- blocks of data stay.
+-- Each used number but i has the inode that it had, and its file where no task holds it, and what
+-- a task holds where one does.
 pub record KeepsUsed (n i : ℕ) (claims : Claims) (old new : Image) : Type 0 where
   pub inodes : KeepsUsedInodes n i old new
   pub contents : (j : ℕ) → IsTrue (is_number n j) → j ≢ i → (inode_of old j).kind ≢ 0 → claims j ≡ None → HasSameFile old new j
-  pub blocks : (b : ℕ) → LiesInData old b → block_at new b ≡ block_at old b
+  pub held : (j : ℕ) (c : Claim) → IsTrue (is_number n j) → j ≢ i → claims j ≡ Some c → StaysHeld old new c
 
 -- ---- which images keep what is used
 
@@ -66,15 +67,19 @@ pub keeps_same : (n i : ℕ) (claims : Claims) (x : Image) → KeepsUsed n i cla
 keeps_same n i claims x = record {
   inodes = λ j number apart used. refl;
   contents = λ j number apart used none. record { inode = refl; addresses = λ k. refl; bytes = refl };
-  blocks = λ b lies. refl;
+  held = λ j c number apart holds. stays_same x c;
 }
+
+-- a number is not 0
+some_number : (x : Image) (j : ℕ) → IsTrue (is_number (inode_count_of x) j) → j ≢ 0
+some_number x j number none = let low = (between x j number).low in omega (arith, low, none)
 
 -- one that is the same outside the log
 pub keeps_outside : (files : Files) (x y : Image) (claims : Claims) (i : ℕ) → FitsHeld files x claims → IsSameOutsideLog x y → KeepsUsed (inode_count_of x) i claims x y
 keeps_outside files x y claims i fits same = record {
   inodes = λ j number apart used. inode_outside x y j same.agree;
-  contents = λ j number apart used none. (held_outside files x y claims same fits).1 j none (number, used);
-  blocks = λ b lies. let kept = data_outside x y same.agree in kept.agree b (kept.from_data b lies.0);
+  contents = λ j number apart used none. (held_outside files x y claims same fits).others j (some_number x j number) none (number, used);
+  held = λ j c number apart holds. (held_outside files x y claims same fits).held j c (some_number x j number) number holds;
 }
 
 -- one in which a free number is claimed
@@ -83,29 +88,36 @@ pub keeps_claimed : (files : Files) (x : Image) (claims : Claims) (i kind : ℕ)
 keeps_claimed files x claims i kind fits number free is claimed = record {
   inodes = λ j names apart used. claimed.others j (other j used);
   contents = λ j names apart used none. (claim_fits files x claims i kind fits number (free_tells files x claims i fits (number, free)).0 free is).0.others j (other j used) none (names, used);
-  blocks = λ b lies. claimed.elsewhere b (λ same. let before = (apart_from x i fits.geometry (between x i number).high).before_data in let from = lies.0 in omega (arith, same, before, from));
+  held = λ j c names apart holds.
+      (claim_fits files x claims i kind fits number none_holds free is).0.held j c (not_held j c holds) names holds;
 }
   where
+    none_holds : claims i ≡ None
+    none_holds = (free_tells files x claims i fits (number, free)).0
+
+    not_held : (j : ℕ) (c : Claim) → claims j ≡ Some c → j ≢ i
+    not_held j c holds same = absurd (cc (sym holds ∙ ap claims same ∙ none_holds))
+
     other : (j : ℕ) → (inode_of x j).kind ≢ 0 → j ≢ i
     other j used same = used (ap (λ (k : ℕ). (inode_of x k).kind) same ∙ free)
 
 -- one in which a block's bit is cleared that the task of number i gave up
 pub keeps_freed : (files m : Files) (x : Image) (claims new : Claims) (i b : ℕ) → FitsHeld files x claims → FitsThen m x claims i (unmarked x b) new → KeepsUsed (inode_count_of x) i claims x (unmarked x b)
 keeps_freed files m x claims new i b fits then = record {
-  inodes = λ j number apart used. inode_same x b map j (apart_from x j fits.geometry (between x j number).high).before_map;
+  inodes = λ j number apart used. inode_same x (without_bit (block_at x (super_of x).bmapstart) b) map j (apart_from x j fits.geometry (between x j number).high).before_map;
   contents = λ j number apart used none. then.others j apart none (number, used);
-  blocks = λ c lies. let same = agrees x b map in same.agree c (same.from_data c lies.0);
+  held = λ j c number apart holds. then.held j c apart number holds;
 }
   where
     map : IsMapped x
     map = mapped x fits.geometry fits.full
 
 -- one in which the inode of number i is written back
-pub keeps_written : (files : Files) (x : Image) (claims new : Claims) (i : ℕ) (h : Held) → IsHeldIn files x claims i h → h.copy.addrs ≡ replicate 13 0 → IsClaimedNow claims i None new → KeepsUsed (inode_count_of x) i claims x (with_inode x i (last_inode h))
+pub keeps_written : (files : Files) (x : Image) (claims new : Claims) (i : ℕ) (h : Held) → IsHeldIn files x claims i (frees h) → h.copy.addrs ≡ replicate 13 0 → IsClaimedNow claims i None new → KeepsUsed (inode_count_of x) i claims x (with_inode x i (last_inode h))
 keeps_written files x claims new i h held bare now = record {
   inodes = λ j number apart used. inode_of-with_inode_other x i j (last_inode h) placed fields apart;
   contents = λ j number apart used none. (write_back_rests files x claims new i h held bare now).others j apart none (number, used);
-  blocks = λ b lies. get_or-set_other x (inode_block i) b (with_inode_bytes (block_at x (inode_block i)) i (last_inode h)) [] (λ same. let before = there.before_data in let from = lies.0 in omega (arith, same, before, from));
+  held = λ j c number apart holds. (write_back_rests files x claims new i h held bare now).held j c apart number holds;
 }
   where
     there : IsApart x i
@@ -144,23 +156,22 @@ module _ (old new : Image) (t : TableState) (ts : List TaskState) (i : ℕ) (are
   leads_still d k (target.Block b slot) same leads = leads ∙ sym (same.addresses k)
 
   -- the block of addresses that a task frees lies among the data
-  entries_still : (p k : ℕ) (m : TruncState) → (task ts p).place ≡ place.Truncating k m → slice_index m.inode.addrs 12 ≢ 0 → entries_in new m ≡ entries_in old m
-  entries_still p k m at some =
-      let blocks = held_has_blocks are.files.0 old (claims_of ts) m.number (held_of m) (record {
-        fits = are.files.1;
-        number = subst (λ (n : ℕ). IsTrue (is_number n m.number)) numbers (trunc_names old t ts are p k m at);
-        holds = own_claim old t ts are p k m at;
-      }) in
-      ap words_of (keeps.blocks (slice_index m.inode.addrs 12) (blocks.indirect some).0)
+  entries_still : (p k : ℕ) (m : TruncState) → ((k : ℕ) → grip_of (task ts p) ≡ Some (locked_grip k i) → ⊥) → (task ts p).place ≡ place.Truncating k m
+      → slice_index m.inode.addrs 12 ≢ 0 → entries_in new m ≡ entries_in old m
+  entries_still p k m free at some =
+      let locked = claim_locks old t ts are p m.number (frees (held_of m)) (ap (λ (a : Place). claim_by a m.number) at ∙ own_holds k m) in
+      let apart : m.number ≢ i = λ same. free locked.0 (locked.1 ∙ ap (λ (n : ℕ). Some (locked_grip locked.0 n)) same) in
+      ap words_of
+      ((keeps.held m.number (frees (held_of m)) (trunc_names old t ts are p k m at) apart (own_claim old t ts are p k m at)).indirect some)
 
-  given_still : (p k : ℕ) (m : TruncState) (a : TruncAt) → (task ts p).place ≡ place.Truncating k m → HasGivenUp old m a → HasGivenUp new m a
-  given_still p k m (trunc_at.Direct e f) at given = given
-  given_still p k m trunc_at.Getting at given = given
-  given_still p k m (trunc_at.Entry s f) at given =
-      (given.0, given.1, given.2, subst (λ (entries : List ℕ). IsFreeing m f (slice_index entries m.given_up)) (sym (entries_still p k m at given.2)) given.3)
-  given_still p k m (trunc_at.Releasing s) at given = given
-  given_still p k m (trunc_at.Indirect f) at given = given
-  given_still p k m (trunc_at.Writing u) at given = given
+  given_still : (p k : ℕ) (m : TruncState) (a : TruncAt) → ((k : ℕ) → grip_of (task ts p) ≡ Some (locked_grip k i) → ⊥) → (task ts p).place ≡ place.Truncating k m → HasGivenUp old m a → HasGivenUp new m a
+  given_still p k m (trunc_at.Direct e f) free at given = given
+  given_still p k m trunc_at.Getting free at given = given
+  given_still p k m (trunc_at.Entry s f) free at given =
+      (given.0, given.1, given.2, subst (λ (entries : List ℕ). IsFreeing m f (slice_index entries m.given_up)) (sym (entries_still p k m free at given.2)) given.3)
+  given_still p k m (trunc_at.Releasing s) free at given = given
+  given_still p k m (trunc_at.Indirect f) free at given = given
+  given_still p k m (trunc_at.Writing u) free at given = given
 
   -- of a task that has not locked number i
   pub stands_still : (p : ℕ) (a : Place) → ((k : ℕ) → grip_of (task ts p) ≡ Some (locked_grip k i) → ⊥) → (task ts p).place ≡ a → LooksAt old t (task ts p) a → LooksAt new t (task ts p) a
@@ -198,7 +209,7 @@ module _ (old new : Image) (t : TableState) (ts : List TaskState) (i : ℕ) (are
     op = stands.op;
     number = stands.number;
     bitmap = stands.bitmap;
-    given = given_still p k m m.at at stands.given;
+    given = given_still p k m m.at free at stands.given;
   }
   stands_still p (place.Leaving k) free at stands = stands
 
@@ -221,7 +232,7 @@ module _ (old new : Image) (t : TableState) (ts : List TaskState) (are : AreLook
 pub looks_outside : (cur now : Image) (t : TableState) (ts : List TaskState) → AreLooking cur t ts → t.inode_count ≡ inode_count_of cur → IsSameOutsideLog cur now → AreLooking now t ts
 looks_outside cur now t ts are numbers same =
     let claims = claims_of ts in
-    looks_kept cur now t ts are numbers (are.files.0, (held_outside are.files.0 cur now claims same are.files.1).0)
+    looks_kept cur now t ts are numbers (are.files.0, (held_outside are.files.0 cur now claims same are.files.1).fits)
     (subst (λ (n : ℕ). KeepsUsed n 0 claims cur now) (sym numbers) (keeps_outside are.files.0 cur now claims 0 are.files.1 same))
 
 -- ---- one task is another, with the same grip, and holds what it held

@@ -15,7 +15,7 @@ use Rattle.bcache.specs.Lemmas.Current.{length-current}
 use Rattle.wal.specs.Joint.{Joint, seen}
 use Rattle.wal.specs.Volume.{VolumeState, Holds}
 use Rattle.blockmap.specs.Getting.{HoldsWhereGot, Releases}
-use Rattle.blockmap.specs.Lemmas.Addresses.{address_or_zero_of, address_direct, address_behind}
+use Rattle.blockmap.specs.Lemmas.Addresses.{address_or_zero_of}
 use Rattle.blockmap.specs.Lemmas.Reading.{length-bytes, length-part, part_in_block}
 use Rattle.blockmap.specs.Reading.{MayRead}
 use Rattle.blockmap.specs.Target.{IsSought, LeadsTo, got_slot, steps_at, target_for}
@@ -27,6 +27,7 @@ use Rattle.inodes.specs.Lemmas.ReadRuns.{Begins, begins}
 use Rattle.inodes.specs.ReadRuns.{BegunMayStep}
 use Rattle.inodes.specs.Ialloc.{OnMore}
 use Rattle.inodes.specs.Readi.{ReadState, IsReading, Gathers, IsMade, ReadSteps, Works}
+use Rattle.loose.specs.Lemmas.Addresses.{address_direct, address_behind}
 
 -- the log knows the size of the current image
 pub size_of_log : {D : Type 0} (image : D → Image) (v : VolumeState D) → v.fault ≡ None

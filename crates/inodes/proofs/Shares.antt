@@ -4,8 +4,7 @@ use Rattle.std.specs.Prelude.{IsTrue}
 use Rattle.blocks.specs.Disk.{Image}
 use Rattle.model.specs.Journal.{is_number}
 use Rattle.model.specs.Layout.{inode_count_of, inode_of}
-use Rattle.loose.specs.Held.{Held}
-use Rattle.loose.specs.Lemmas.HeldLooks.{names_left_same}
+use Rattle.loose.specs.Held.{Claim}
 use Rattle.inodes.specs.Grips.{locked_grip}
 use Rattle.inodes.specs.Holding.{claim_by, claims_of}
 use Rattle.inodes.specs.Looks.{AreLooking}
@@ -21,13 +20,9 @@ use Rattle.inodes.proofs.Unclaimed.{LocksAlone}
 
 -- in an image that keeps what is used, so does what is held of a number
 module _ (old new : Image) (t : TableState) (ts : List TaskState) (i : ℕ) (are : AreLooking old t ts) (numbers : t.inode_count ≡ inode_count_of old) (keeps : KeepsUsed t.inode_count i (claims_of ts) old new) where
-  pub share_same : (j : ℕ) (o : Option Held) → claims_of ts j ≡ o → IsTrue (is_number t.inode_count j) → j ≢ i → (inode_of old j).kind ≢ 0 → SameShare old new j o
+  pub share_same : (j : ℕ) (o : Option Claim) → claims_of ts j ≡ o → IsTrue (is_number t.inode_count j) → j ≢ i → (inode_of old j).kind ≢ 0 → SameShare old new j o
   share_same j None none number other used = keeps.contents j number other used none
-  share_same j (Some h) holds number other used = names_left_same are.files.0 old new (claims_of ts) j h (record {
-    fits = are.files.1;
-    number = subst (λ (n : ℕ). IsTrue (is_number n j)) numbers number;
-    holds = holds;
-  }) keeps.blocks
+  share_same j (Some c) holds number other used = (keeps.held j c number other holds).names
 
 -- process p's task is u now, which had to do with number i alone
 module _ {D : Type 0} (image : D → Image) (s t : StoreState D) (p i : ℕ) (u : TaskState) (are : AreLooking (current_of image s.volume) s.table s.tasks) (numbers : s.table.inode_count ≡ inode_count_of (current_of image s.volume))

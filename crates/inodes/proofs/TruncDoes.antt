@@ -14,11 +14,11 @@ use Rattle.model.specs.Journal.{is_number}
 use Rattle.model.specs.Layout.{inode_block, inode_count_of, inode_of}
 use Rattle.model.specs.Lemmas.Inodes.{inode_of-with_inode}
 use Rattle.model.specs.Tasks.{Marks}
-use Rattle.loose.specs.Held.{Held, Claims, FitsHeld, IsClaimedNow, last_inode, unmarked}
+use Rattle.loose.specs.Held.{Held, Claims, FitsHeld, IsClaimedNow, last_inode, unmarked, frees, Claim}
 use Rattle.loose.specs.HeldLaws.{FitsThen, IsHeldIn, entry_at}
 use Rattle.loose.specs.Loose.{LiesInData}
 use Rattle.loose.specs.Lemmas.Claims.{apart}
-use Rattle.loose.specs.Lemmas.GivenUp.{agrees, direct_given_up, entry_given_up, indirect_given_up, inode_same}
+use Rattle.loose.specs.Lemmas.GivenUp.{direct_given_up, entry_given_up, indirect_given_up, bits}
 use Rattle.loose.specs.Lemmas.HeldMarks.{cleared_bit_keeps, write_back_keeps}
 use Rattle.loose.specs.Lemmas.Looks.{between}
 use Rattle.loose.specs.Lemmas.WriteBacks.{last_fields, write_back_rests}
@@ -57,6 +57,7 @@ use Rattle.inodes.proofs.TruncNext.{PassesTo, direct_given, entries_given, entri
 use Rattle.inodes.proofs.TruncSlots.{Gains, Slots, gains, held_for, never_inode, never_over, reads_for, sleeps, slots_as, slots_kept, slots_left, slots_none, slots_put, slots_used}
 use Rattle.inodes.proofs.TruncSteps.{Does, GoesOn, StandsAs, fault_is, store_then}
 use Rattle.inodes.proofs.Truncating as of
+use Rattle.loose.specs.Lemmas.Remapped.{agrees, inode_same}
 
 -- ---- the log
 
@@ -134,7 +135,7 @@ module _ {D N : Type 0} (disk : Ghosts D N) (s : StoreState D) (p k : ℕ) (m : 
       let pids = joint.log.pids in
       omega (arith, few, pids, inside)
 
-  held_in : (files : Files) → FitsHeld files cur claims → IsHeldIn files cur claims m.number (held_of m)
+  held_in : (files : Files) → FitsHeld files cur claims → IsHeldIn files cur claims m.number (frees (held_of m))
   held_in files fits = of.held_in disk s p k m is well stood files fits
 
   abbrev files_now : Files
@@ -149,8 +150,8 @@ module _ {D N : Type 0} (disk : Ghosts D N) (s : StoreState D) (p k : ℕ) (m : 
   logged : HasLogged s.volume.log p m.bitmap
   logged = (of.holds disk s p k m is well stood).logged
 
-  claim_at : (o : TruncState) → o.number ≡ m.number → claim_by (place.Truncating k o) m.number ≡ Some (held_of o)
-  claim_at o same = subst (λ (i : ℕ). claim_by (place.Truncating k o) i ≡ Some (held_of o)) same (own_holds k o)
+  claim_at : (o : TruncState) → o.number ≡ m.number → claim_by (place.Truncating k o) m.number ≡ Some (frees (held_of o))
+  claim_at o same = subst (λ (i : ℕ). claim_by (place.Truncating k o) i ≡ Some (frees (held_of o))) same (own_holds k o)
 
   -- ---- the image stays
 
@@ -171,7 +172,7 @@ module _ {D N : Type 0} (disk : Ghosts D N) (s : StoreState D) (p k : ℕ) (m : 
     freed = unmarked cur b
 
     used_still : (i : ℕ) → KeepsUsedInodes s.table.inode_count i cur freed
-    used_still i j names other used = inode_same cur b (of.map disk s p k m is well stood) j
+    used_still i j names other used = inode_same cur (bits cur b (of.map disk s p k m is well stood)) (of.map disk s p k m is well stood) j
         (apart cur j is.geometry (between cur j (subst (λ (n : ℕ). IsTrue (is_number n j)) is.numbers names)).high).before_map
 
     table_freed : KeepsTable s.table s.table p gs gs freed
@@ -182,7 +183,7 @@ module _ {D N : Type 0} (disk : Ghosts D N) (s : StoreState D) (p k : ℕ) (m : 
 
     data_still : (a : ℕ) → LiesInData cur a → block_at freed a ≡ block_at cur a
     data_still a lies =
-        let same = agrees cur b (of.map disk s p k m is well stood) in
+        let same = agrees cur (bits cur b (of.map disk s p k m is well stood)) (of.map disk s p k m is well stood) in
         same.agree a (same.from_data a lies.0)
 
   module _ (q : Progress (Unit {0})) (n : TruncState) (w : VolumeState D) (ts : List TaskState) where
@@ -199,7 +200,7 @@ module _ {D N : Type 0} (disk : Ghosts D N) (s : StoreState D) (p k : ℕ) (m : 
       pub next : TruncState
       pub n_is : n ≡ next
       pub on : GoesOn disk s p k m q next w ts
-      pub passes : (new : Claims) → IsClaimedNow claims m.number (Some (held_of next)) new → (files : Files) → FitsHeld files cur claims → FitsHeld files cur new
+      pub passes : (new : Claims) → IsClaimedNow claims m.number (Some (frees (held_of next))) new → (files : Files) → FitsHeld files cur claims → FitsHeld files cur new
 
     module _ (b : ℕ) (slot : Option ℕ) (gets : GetsFor disk s.volume p b q slot w) where
       never : (out : Unit {0}) → q ≡ machine.Over out → ⊥
@@ -225,14 +226,14 @@ module _ {D N : Type 0} (disk : Ghosts D N) (s : StoreState D) (p k : ℕ) (m : 
             → (files : Files) → FitsHeld files cur claims → FitsHeld files cur new
         files_by machine.Moved here new claimed files fits =
             let g = got here in
-            let same : claim_by (place.Truncating k n) m.number ≡ Some (held_of g.next) = ap (λ (o : TruncState). claim_by (place.Truncating k o) m.number) g.n_is
+            let same : claim_by (place.Truncating k n) m.number ≡ Some (frees (held_of g.next)) = ap (λ (o : TruncState). claim_by (place.Truncating k o) m.number) g.n_is
             ∙ claim_at g.next (ap (λ (o : TruncState). o.number) g.on.same) in
-            g.passes new (subst (λ (c : Option Held). IsClaimedNow claims m.number c new) same claimed) files fits
+            g.passes new (subst (λ (c : Option Claim). IsClaimedNow claims m.number c new) same claimed) files fits
         files_by (machine.Sleeping cause) here new claimed files fits =
-            fits_still files cur claims new m.number (held_of m) (held_in files fits) (subst (λ (c : Option Held). IsClaimedNow claims m.number c new) (own_holds k m) claimed)
+            fits_still files cur claims new m.number (held_of m) (held_in files fits) (subst (λ (c : Option Claim). IsClaimedNow claims m.number c new) (own_holds k m) claimed)
         files_by (machine.Over out) here new claimed files fits = absurd (never out here)
         files_by (machine.Fault fault) here new claimed files fits =
-            fits_still files cur claims new m.number (held_of m) (held_in files fits) (subst (λ (c : Option Held). IsClaimedNow claims m.number c new) (own_holds k m) claimed)
+            fits_still files cur claims new m.number (held_of m) (held_in files fits) (subst (λ (c : Option Claim). IsClaimedNow claims m.number c new) (own_holds k m) claimed)
 
         does_get : block_of_trunc m m.at ≡ b → used_slot m.at ≡ None → ((j : ℕ) → kept_slot m.at ≡ Some j → own ≢ b) → Does disk s p k m q n w ts
         does_get at none other = record {
@@ -282,7 +283,7 @@ module _ {D N : Type 0} (disk : Ghosts D N) (s : StoreState D) (p k : ℕ) (m : 
       pub same_behind : behind ≡ record m { inode = behind.inode; given_up = behind.given_up; at = behind.at }
       pub slots_behind : (d : Buffers) → Slots d p own (kept_slot m.at) (block_of_trunc behind behind.at) None
           → Slots d p (get_or behind.inode.addrs 12 0) (kept_slot behind.at) (block_of_trunc behind behind.at) (used_slot behind.at)
-      pub event : (files : Files) → FitsHeld files cur claims → (new : Claims) → IsClaimedNow claims m.number (Some (held_of behind)) new
+      pub event : (files : Files) → FitsHeld files cur claims → (new : Claims) → IsClaimedNow claims m.number (Some (frees (held_of behind))) new
           → FitsThen files cur claims m.number (unmarked cur f.block) new
       pub given_behind : HasGivenUp (unmarked cur f.block) behind behind.at
       pub less_behind : truncs_left behind < truncs_left m
@@ -338,15 +339,15 @@ module _ {D N : Type 0} (disk : Ghosts D N) (s : StoreState D) (p k : ℕ) (m : 
         groups = groups_then i f.bitmap (with_freed cur f.bitmap f.block) writes;
         marks = subst (Marks None cur) (sym shown) (cleared_bit_keeps files_now cur claims f.block fits_now freeing.lies.1);
         keeps = subst (KeepsUsed s.table.inode_count m.number claims cur) (sym shown) (subst (λ (c : ℕ). KeepsUsed c m.number claims cur (unmarked cur f.block)) (sym is.numbers)
-            (keeps_freed files_now files_now cur claims (with_claim claims m.number (Some (held_of behind))) m.number f.block fits_now
-            (freeing.event files_now fits_now (with_claim claims m.number (Some (held_of behind))) (with_claim_is claims m.number (Some (held_of behind))))));
+            (keeps_freed files_now files_now cur claims (with_claim claims m.number (Some (frees (held_of behind)))) m.number f.block fits_now
+            (freeing.event files_now fits_now (with_claim claims m.number (Some (frees (held_of behind)))) (with_claim_is claims m.number (Some (frees (held_of behind)))))));
         table = subst (λ (r : Progress (Unit {0})). KeepsTable s.table (table_of_trunc s.table k m r) p gs gs now) (sym moved)
             (subst (λ (x : Image). KeepsTable s.table s.table p gs gs x) (sym shown) (table_freed f.block));
         files = λ new claimed files fits.
             let number : n.number ≡ m.number = ap (λ (o : TruncState). o.number) next ∙ ap (λ (o : TruncState). o.number) freeing.same_behind in
-            let same : claim_by (place_of_trunc k m n q) m.number ≡ Some (held_of behind) = ap (λ (r : Progress (Unit {0})). claim_by (place_of_trunc k m n r) m.number) moved
-            ∙ claim_at n number ∙ ap (λ (o : TruncState). Some (held_of o)) next in
-            subst (λ (x : Image). FitsHeld files x new) (sym shown) (freeing.event files fits new (subst (λ (c : Option Held). IsClaimedNow claims m.number c new) same claimed)).fits;
+            let same : claim_by (place_of_trunc k m n q) m.number ≡ Some (frees (held_of behind)) = ap (λ (r : Progress (Unit {0})). claim_by (place_of_trunc k m n r) m.number) moved
+            ∙ claim_at n number ∙ ap (λ (o : TruncState). Some (frees (held_of o))) next in
+            subst (λ (x : Image). FitsHeld files x new) (sym shown) (freeing.event files fits new (subst (λ (c : Option Claim). IsClaimedNow claims m.number c new) same claimed)).fits;
         others = λ fine. others_then i f.bitmap (with_freed cur f.bitmap f.block) writes;
         stands = subst (StandsAs disk s p k m q n w ts) (sym moved) (subst (λ (o : TruncState). GoesOn disk s p k m q o w ts) (sym next) (record {
           same = freeing.same_behind;
@@ -370,8 +371,8 @@ module _ {D N : Type 0} (disk : Ghosts D N) (s : StoreState D) (p k : ℕ) (m : 
       does_free one = by_slot f.slot refl one.frees
         where
           by_slot : (o : Option ℕ) → f.slot ≡ o → Frees disk o s.volume p f one.answer one.now w → Does disk s p k m q n w ts
-          by_slot None none frees = frees_get one.answer one.now one.gives one.next none frees.0 frees.1
-          by_slot (Some i) at frees = frees_write i (one.gives ∙ ap progress_among frees.0) (one.next ∙ ap (trunc_among m (here one.now) behind) frees.0) at frees.2
+          by_slot None none does = frees_get one.answer one.now one.gives one.next none does.0 does.1
+          by_slot (Some i) at does = frees_write i (one.gives ∙ ap progress_among does.0) (one.next ∙ ap (trunc_among m (here one.now) behind) does.0) at does.2
 
     -- ---- by its place
 
@@ -426,13 +427,13 @@ module _ {D N : Type 0} (disk : Ghosts D N) (s : StoreState D) (p k : ℕ) (m : 
       pass = entries_pass m i (entries_in cur m) (m.given_up + 1) (let low = given.0 in omega (arith, low))
 
       -- the entry, and those that are not there up to the next one
-      entry_event : (files : Files) → FitsHeld files cur claims → (new : Claims) → IsClaimedNow claims m.number (Some (held_of behind)) new
+      entry_event : (files : Files) → FitsHeld files cur claims → (new : Claims) → IsClaimedNow claims m.number (Some (frees (held_of behind))) new
           → FitsThen files cur claims m.number (unmarked cur (entry_at cur (held_of m) m.given_up)) new
       entry_event files fits new claimed =
           let h : Held = held_of m in
           let one : Held = record h { given_up = m.given_up + 1 } in
-          let mid : Claims = with_claim claims m.number (Some one) in
-          let first_is = with_claim_is claims m.number (Some one) in
+          let mid : Claims = with_claim claims m.number (Some (frees one)) in
+          let first_is = with_claim_is claims m.number (Some (frees one)) in
           let first = entry_given_up files cur claims mid m.number h (held_in files fits) given.2 freeing.some first_is in
           let y : Image = unmarked cur (entry_at cur h m.given_up) in
           let count : inode_count_of cur ≡ inode_count_of y = sym fits.count ∙ first.fits.count in
@@ -442,10 +443,11 @@ module _ {D N : Type 0} (disk : Ghosts D N) (s : StoreState D) (p k : ℕ) (m : 
                 (record { fits = first.fits; number = subst (λ (n : ℕ). IsTrue (is_number n m.number)) count (of.number disk s p k m is well stood); holds = first_is.own })
                 pass.low (λ e low high. ap (λ (l : List ℕ). get_or l e 0) words ∙ pass.none e low high)
                 (record {
-                  own = claimed.own ∙ ap (λ (o : TruncState). Some (held_of o)) going;
+                  own = claimed.own ∙ ap (λ (o : TruncState). Some (frees (held_of o))) going;
                   others = λ j other. claimed.others j other ∙ sym (first_is.others j other);
                 });
             others = first.others;
+            held = first.held;
           }
 
       entry_freed : IsFreed f (trunc_at.Entry i) behind
@@ -531,7 +533,7 @@ module _ {D N : Type 0} (disk : Ghosts D N) (s : StoreState D) (p k : ℕ) (m : 
               };
               passes = λ new claimed files fits. passed_to files cur claims new m.number to.given_up (held_of m) (held_in files fits) (omega (arith, none_given))
                   (λ e low high. pass.none e (omega arith) high)
-                  (subst (λ (c : Option Held). IsClaimedNow claims m.number c new) (ap (λ (o : TruncState). Some (held_of o)) going) claimed);
+                  (subst (λ (c : Option Claim). IsClaimedNow claims m.number c new) (ap (λ (o : TruncState). Some (frees (held_of o))) going) claimed);
             }
 
     -- it is released
@@ -544,10 +546,10 @@ module _ {D N : Type 0} (disk : Ghosts D N) (s : StoreState D) (p k : ℕ) (m : 
       keeps = keeps_still now leaves.current;
       table = table_still now (table_of_trunc s.table k m q) leaves.current (ap (table_of_trunc s.table k m) moved);
       files = λ new claimed files fits.
-          let same : claim_by (place_of_trunc k m n q) m.number ≡ Some (held_of m) = ap (λ (r : Progress (Unit {0})). claim_by (place_of_trunc k m n r) m.number) moved
-          ∙ claim_at n (ap (λ (o : TruncState). o.number) next) ∙ ap (λ (o : TruncState). Some (held_of o)) next in
+          let same : claim_by (place_of_trunc k m n q) m.number ≡ Some (frees (held_of m)) = ap (λ (r : Progress (Unit {0})). claim_by (place_of_trunc k m n r) m.number) moved
+          ∙ claim_at n (ap (λ (o : TruncState). o.number) next) ∙ ap (λ (o : TruncState). Some (frees (held_of o))) next in
           subst (λ (x : Image). FitsHeld files x new) (sym leaves.current)
-          (fits_still files cur claims new m.number (held_of m) (held_in files fits) (subst (λ (c : Option Held). IsClaimedNow claims m.number c new) same claimed));
+          (fits_still files cur claims new m.number (held_of m) (held_in files fits) (subst (λ (c : Option Claim). IsClaimedNow claims m.number c new) same claimed));
       others = λ fine. subst (λ (l : LogState). StaysForOthers s.volume.buffers w.buffers s.volume.log l p) (sym log) (stays_left s.volume.buffers w.buffers s.volume.log p i leaves.locks);
       stands = subst (StandsAs disk s p k m q n w ts) (sym moved) (subst (λ (o : TruncState). GoesOn disk s p k m q o w ts) (sym next) (record {
         same = refl;
@@ -619,7 +621,7 @@ module _ {D N : Type 0} (disk : Ghosts D N) (s : StoreState D) (p k : ℕ) (m : 
       files = λ new claimed files fits.
           let same : claim_by (place_of_trunc k m n q) m.number ≡ None = ap (λ (r : Progress (Unit {0})). claim_by (place_of_trunc k m n r) m.number) over in
           subst (λ (x : Image). FitsHeld files x new) (sym shown)
-          (write_back_rests files cur claims new m.number (held_of m) (held_in files fits) given.1 (subst (λ (c : Option Held). IsClaimedNow claims m.number c new) same claimed)).fits;
+          (write_back_rests files cur claims new m.number (held_of m) (held_in files fits) given.1 (subst (λ (c : Option Claim). IsClaimedNow claims m.number c new) same claimed)).fits;
       others = λ fine. others_then i (inode_block u.number) (with_inode cur u.number (last_inode_of m)) writes;
       stands = subst (StandsAs disk s p k m q n w ts) (sym over) (λ b j lock. ⊎_elim
           (λ (kept : None ≡ Some j). absurd (cc kept))

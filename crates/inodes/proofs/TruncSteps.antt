@@ -16,7 +16,7 @@ use Rattle.model.specs.Files.{Files}
 use Rattle.model.specs.Journal.{is_number}
 use Rattle.model.specs.Layout.{form_of}
 use Rattle.model.specs.Tasks.{FilesThen, Marks, fault_of_task, reply_at_turn}
-use Rattle.loose.specs.Held.{Claims, FitsHeld, IsClaimedNow}
+use Rattle.loose.specs.Held.{Claims, FitsHeld, IsClaimedNow, frees}
 use Rattle.wal.specs.Held.{HasLock}
 use Rattle.wal.specs.Machine.{SameGroups}
 use Rattle.wal.specs.Volume.{VolumeState}
@@ -78,7 +78,7 @@ asleep_as cause (machine.Fault fault) waits = absurd (cc waits)
 
 -- it holds no other number
 no_claim : (k j : ℕ) (m : TruncState) → m.number ≢ j → claim_by (place.Truncating k m) j ≡ None
-no_claim k j m apart = cond-false (eqb m.number j) (Some (held_of m)) None (ne_eqb m.number j apart)
+no_claim k j m apart = cond-false (eqb m.number j) (Some (frees (held_of m))) None (ne_eqb m.number j apart)
 
 -- what each image stood for, the next one stands for
 files_then : {D : Type 0} (image : D → Image) (s t : StoreState D) (form : Form) (op : Op) (q : Progress (Unit {0}))

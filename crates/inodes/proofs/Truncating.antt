@@ -8,11 +8,10 @@ use Rattle.model.specs.Files.{Files, file_in}
 use Rattle.model.specs.Journal.{is_number}
 use Rattle.model.specs.Layout.{inode_block, inode_count_of, super_of}
 use Rattle.model.specs.Lemmas.Soundness.{facts_of}
-use Rattle.loose.specs.Held.{Held, Claims, FitsHeld, IsFine, IsHeld}
+use Rattle.loose.specs.Held.{Claims, FitsHeld, IsFine, IsHeld, frees, Claim}
 use Rattle.loose.specs.HeldLaws.{HasMarkedBlocks, IsHeldIn}
 use Rattle.loose.specs.Loose.{LiesInData}
 use Rattle.loose.specs.Lemmas.Claims.{IsApart, apart}
-use Rattle.loose.specs.Lemmas.GivenUp.{IsMapped, mapped}
 use Rattle.loose.specs.Lemmas.HeldLooks.{held_has_blocks}
 use Rattle.loose.specs.Lemmas.Looks.{between}
 use Rattle.wal.specs.Joint.{Joint}
@@ -38,6 +37,7 @@ use Rattle.inodes.proofs.Gripping.{grip_is}
 use Rattle.inodes.proofs.Searching.{where_got}
 use Rattle.inodes.proofs.TruncSlots.{Slots}
 use Rattle.inodes.proofs.Unclaimed.{LocksAlone, locks_alone, own_claim}
+use Rattle.loose.specs.Lemmas.Remapped.{IsMapped, mapped}
 
 -- a place of a number has an inode
 has_inode : (e : Option InMemory) (i : ℕ) → is_of i e ≡ true → IsSome e
@@ -76,7 +76,7 @@ module _ {D N : Type 0} (disk : Ghosts D N) (s : StoreState D) (p k : ℕ) (m : 
   pub alone : LocksAlone s.tasks p m.number
   alone = locks_alone cur s.table s.tasks looking p k m.number gripped
 
-  pub claimed : claims_of s.tasks m.number ≡ Some (held_of m)
+  pub claimed : claims_of s.tasks m.number ≡ Some (frees (held_of m))
   claimed = own_claim cur s.table s.tasks looking p k m stood
 
   pub holds : HoldsForFreeing s.volume.buffers s.volume.log p m
@@ -88,16 +88,16 @@ module _ {D N : Type 0} (disk : Ghosts D N) (s : StoreState D) (p k : ℕ) (m : 
   pub number : IsTrue (is_number (inode_count_of cur) m.number)
   number = subst (λ (n : ℕ). IsTrue (is_number n m.number)) is.numbers work.number
 
-  pub held_in : (files : Files) → FitsHeld files cur claims → IsHeldIn files cur claims m.number (held_of m)
+  pub held_in : (files : Files) → FitsHeld files cur claims → IsHeldIn files cur claims m.number (frees (held_of m))
   held_in files fits = record { fits = fits; number = number; holds = claimed }
 
-  pub held : IsHeldIn looking.files.0 cur claims m.number (held_of m)
+  pub held : IsHeldIn looking.files.0 cur claims m.number (frees (held_of m))
   held = held_in looking.files.0 looking.files.1
 
   pub is_held : IsHeld cur m.number (held_of m) (file_in looking.files.0 m.number)
   is_held =
       let at = between cur m.number number in
-      subst (λ (c : Option Held). IsFine cur m.number c (file_in looking.files.0 m.number)) claimed (looking.files.1.each m.number at.low at.high)
+      subst (λ (c : Option Claim). IsFine cur m.number c (file_in looking.files.0 m.number)) claimed (looking.files.1.each m.number at.low at.high)
 
   pub long : length m.inode.addrs ≡ 13
   long = is_held.fields.count
@@ -146,8 +146,8 @@ module _ {D N : Type 0} (disk : Ghosts D N) (s : StoreState D) (p k : ℕ) (m : 
     within : (b : ℕ) → b < length cur → b < s.volume.log.size
     within b low = let same = size in omega (arith, low, same)
 
-    frees : (f : FreeState) (b : ℕ) → IsFreeing m f b → LiesInData cur b → HoldsWhereGot cur s.volume.buffers p f.bitmap f.slot → MayFree disk.image s.volume p f
-    frees f b is lies held =
+    may_free : (f : FreeState) (b : ℕ) → IsFreeing m f b → LiesInData cur b → HoldsWhereGot cur s.volume.buffers p f.bitmap f.slot → MayFree disk.image s.volume p f
+    may_free f b is lies held =
         let at : f.bitmap ≡ (super_of cur).bmapstart = is.bitmap ∙ bitmap in
         let behind = map.behind in
         let low = map.within in
@@ -163,17 +163,17 @@ module _ {D N : Type 0} (disk : Ghosts D N) (s : StoreState D) (p k : ℕ) (m : 
         }
 
     may_at : (a : TruncAt) → HasGivenUp cur m a → HoldsWhereGot cur s.volume.buffers p own (kept_slot a) → HoldsWhereGot cur s.volume.buffers p (block_of_trunc m a) (used_slot a) → MayTruncAt disk.image s.volume p m a
-    may_at (trunc_at.Direct j f) given kept used = (given.0, frees f (get_or m.inode.addrs j 0) given.3 (blocks.direct j given.0 given.3.some).0 used)
+    may_at (trunc_at.Direct j f) given kept used = (given.0, may_free f (get_or m.inode.addrs j 0) given.3 (blocks.direct j given.0 given.3.some).0 used)
     may_at trunc_at.Getting given kept used = within own (blocks.indirect given.2).0.1
     may_at (trunc_at.Entry i f) given kept used =
         let lies = (blocks.entries given.2 m.given_up (omega arith) given.3.some).0 in (
-          frees f (get_or (entries_in cur m) m.given_up 0) given.3 lies used,
+          may_free f (get_or (entries_in cur m) m.given_up 0) given.3 lies used,
           given.0,
           λ same. not_bitmap own (blocks.indirect given.2).0 (sym same ∙ given.3.bitmap),
           kept,
         )
     may_at (trunc_at.Releasing i) given kept used = kept
-    may_at (trunc_at.Indirect f) given kept used = frees f own given.2 (blocks.indirect given.2.some).0 used
+    may_at (trunc_at.Indirect f) given kept used = may_free f own given.2 (blocks.indirect given.2.some).0 used
     may_at (trunc_at.Writing u) given kept used = record {
       within = within (inode_block u.number) (subst (λ (i : ℕ). inode_block i < length cur) (sym given.0) inode_apart.within);
       holds = used;

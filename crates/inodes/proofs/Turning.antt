@@ -13,7 +13,7 @@ use Rattle.model.specs.Journal.{is_making, is_number}
 use Rattle.model.specs.Layout.{form_of, greatest_size, inode_of}
 use Rattle.model.specs.Operations.{after}
 use Rattle.model.specs.Tasks.{TurnsTo}
-use Rattle.loose.specs.Held.{Held, FitsHeld, IsClaimedNow, file_left}
+use Rattle.loose.specs.Held.{Held, FitsHeld, IsClaimedNow, file_left, Claim, frees}
 use Rattle.loose.specs.Lemmas.HeldLooks.{resting_tells, free_tells}
 use Rattle.loose.specs.Lemmas.Turns.{turn_holds, turn_answers}
 use Rattle.blockmap.specs.Lemmas.Resting.{resting_may_be_read}
@@ -105,7 +105,7 @@ claims_at_turn c d k (Stat i) true j other = refl
 abbrev held_at_turn : Dinode → Bool → Held
 held_at_turn d removes = record { copy = d; given_up = 0; last_kind = cond removes 0 d.kind }
 
-claim_at_turn : (c : ℕ) (d : Dinode) (k i : ℕ) (removes : Bool) → claim_by (place.Truncating k (first_trunc i d removes (bitmap_block c))) i ≡ Some (held_at_turn d removes)
+claim_at_turn : (c : ℕ) (d : Dinode) (k i : ℕ) (removes : Bool) → claim_by (place.Truncating k (first_trunc i d removes (bitmap_block c))) i ≡ Some (frees (held_at_turn d removes))
 claim_at_turn c d k i removes = rw (eq-eqb i i refl) refl
 
 -- nothing is got there
@@ -193,13 +193,13 @@ module _ {D N : Type 0} (disk : Ghosts D N) (s : StoreState D) (p : ℕ) (op : O
     fits_before files fits = fits
 
     -- the number is held now
-    frees : (removes : Bool) → u.place ≡ place.Truncating k (first_trunc m.number inode removes (bitmap_block s.table.inode_count)) → inode.kind ≢ 0 → (files : Files) → FitsHeld files cur (claims_of s.tasks)
+    begins_freeing : (removes : Bool) → u.place ≡ place.Truncating k (first_trunc m.number inode removes (bitmap_block s.table.inode_count)) → inode.kind ≢ 0 → (files : Files) → FitsHeld files cur (claims_of s.tasks)
         → FitsFiles disk.image t (set files m.number (file_left (cond removes 0 inode.kind)))
-    frees removes there used files fits =
-        let own : claim_by u.place m.number ≡ Some (held_at_turn inode removes) = ap (λ (a : Place). claim_by a m.number) there ∙ claim_at_turn s.table.inode_count inode k m.number removes in
+    begins_freeing removes there used files fits =
+        let own : claim_by u.place m.number ≡ Some (frees (held_at_turn inode removes)) = ap (λ (a : Place). claim_by a m.number) there ∙ claim_at_turn s.table.inode_count inode k m.number removes in
         let others : (j : ℕ) → j ≢ m.number → claim_by u.place j ≡ claim_by (task s.tasks p).place j = λ j other. ap (λ (a : Place). claim_by a j) there ∙ rw (ne_eqb m.number j (λ e. other (sym e))) refl ∙ sym (holds_nothing j) in
-        let now : IsClaimedNow (claims_of s.tasks) m.number (Some (held_at_turn inode removes)) (claims_of (set s.tasks p u)) =
-        subst (λ (o : Option Held). IsClaimedNow (claims_of s.tasks) m.number o (claims_of (set s.tasks p u))) own (claimed_now s.tasks p m.number u inside holds_alone others) in
+        let now : IsClaimedNow (claims_of s.tasks) m.number (Some (frees (held_at_turn inode removes))) (claims_of (set s.tasks p u)) =
+        subst (λ (o : Option Claim). IsClaimedNow (claims_of s.tasks) m.number o (claims_of (set s.tasks p u))) own (claimed_now s.tasks p m.number u inside holds_alone others) in
         fits_then (set files m.number (file_left (cond removes 0 inode.kind)))
         (turn_holds files cur (claims_of s.tasks) (claims_of (set s.tasks p u)) m.number (cond removes 0 inode.kind) fits (may_name_now disk s p op m is well stood is_op, used) none (last removes) now).fits
       where
@@ -217,14 +217,14 @@ module _ {D N : Type 0} (disk : Ghosts D N) (s : StoreState D) (p : ℕ) (op : O
           set files m.number (file_left inode.kind),
           subst (λ (j : ℕ). after (form_of cur) files (Trunc j) Done ≡ Some (set files m.number (file_left inode.kind))) named
               (turn_answers files cur (claims_of s.tasks) m.number before (may_name_now disk s p op m is well stood is_op, used) none).0,
-          frees false (there ∙ ap (λ (j : ℕ). place.Truncating k (first_trunc j inode false (bitmap_block s.table.inode_count))) (sym named)) used files before,
+          begins_freeing false (there ∙ ap (λ (j : ℕ). place.Truncating k (first_trunc j inode false (bitmap_block s.table.inode_count))) (sym named)) used files before,
         )
     used_turn (Remove i) allowed named there used files fits =
         let before = fits_before files fits in (
           set files m.number (file_left 0),
           subst (λ (j : ℕ). after (form_of cur) files (Remove j) Done ≡ Some (set files m.number (file_left 0))) named
               (turn_answers files cur (claims_of s.tasks) m.number before (may_name_now disk s p op m is well stood is_op, used) none).1,
-          frees true (there ∙ ap (λ (j : ℕ). place.Truncating k (first_trunc j inode true (bitmap_block s.table.inode_count))) (sym named)) used files before,
+          begins_freeing true (there ∙ ap (λ (j : ℕ). place.Truncating k (first_trunc j inode true (bitmap_block s.table.inode_count))) (sym named)) used files before,
         )
     used_turn (Stat i) allowed named there used files fits = (
       files,

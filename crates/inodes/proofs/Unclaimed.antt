@@ -1,7 +1,7 @@
 -- Who has locked a number knows what tasks hold of it.
 use Rattle.std.proofs.Common.{◌≡◌, ◌≢◌, ℕ, List, refl, sym, ◌∙◌, ap, subst, Option, Some, None}
 use Rattle.blocks.specs.Disk.{Image}
-use Rattle.loose.specs.Held.{Held}
+use Rattle.loose.specs.Held.{Claim, frees}
 use Rattle.inodes.specs.declared.tasks.Place.{Place}
 use Rattle.inodes.specs.declared.tasks.Place.TheVariants as place
 use Rattle.inodes.specs.Grips.{locked_grip}
@@ -22,7 +22,7 @@ LocksAlone ts p i = (q k : ℕ) → q ≢ p → grip_of (task ts q) ≡ Some (lo
 
 module _ (cur : Image) (t : TableState) (ts : List TaskState) (are : AreLooking cur t ts) where
   -- who holds a number has locked it
-  pub claim_locks : (q i : ℕ) (h : Held) → claim_by (task ts q).place i ≡ Some h → (k : ℕ) × (grip_of (task ts q) ≡ Some (locked_grip k i))
+  pub claim_locks : (q i : ℕ) (h : Claim) → claim_by (task ts q).place i ≡ Some h → (k : ℕ) × (grip_of (task ts q) ≡ Some (locked_grip k i))
   claim_locks q i h claimed =
       let is = holding_is (task ts q).place i h claimed in
       (is.entry, subst (λ (j : ℕ). grip_of (task ts q) ≡ Some (locked_grip is.entry j)) is.number (trunc_locks cur t ts are q is.entry is.trunc is.at))
@@ -31,7 +31,7 @@ module _ (cur : Image) (t : TableState) (ts : List TaskState) (are : AreLooking 
   pub holds_alone_of : (p i : ℕ) → LocksAlone ts p i → HoldsAlone ts p i
   holds_alone_of p i alone q apart = by_claim (claim_by (task ts q).place i) refl
     where
-      by_claim : (o : Option Held) → claim_by (task ts q).place i ≡ o → o ≡ None
+      by_claim : (o : Option Claim) → claim_by (task ts q).place i ≡ o → o ≡ None
       by_claim None none = refl
       by_claim (Some h) claimed = let locked = claim_locks q i h claimed in absurd (alone q locked.0 apart locked.1)
 
@@ -51,5 +51,5 @@ module _ (cur : Image) (t : TableState) (ts : List TaskState) (are : AreLooking 
   unclaimed p k i mine none = claim_of_locked p k i mine ∙ none
 
   -- and else what is left of them
-  pub own_claim : (p k : ℕ) (m : TruncState) → (task ts p).place ≡ place.Truncating k m → claims_of ts m.number ≡ Some (held_of m)
+  pub own_claim : (p k : ℕ) (m : TruncState) → (task ts p).place ≡ place.Truncating k m → claims_of ts m.number ≡ Some (frees (held_of m))
   own_claim p k m at = claim_of_locked p k m.number (trunc_locks cur t ts are p k m at) ∙ ap (λ (a : Place). claim_by a m.number) at ∙ own_holds k m

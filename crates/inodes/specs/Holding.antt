@@ -4,7 +4,7 @@ use Rattle.blocks.specs.Disk.{Image}
 use Rattle.model.specs.declared.types.operations.Op.{Op}
 use Rattle.model.specs.declared.types.operations.Op.TheVariants.{Trunc, Remove}
 use Rattle.model.specs.Journal.{is_number}
-use Rattle.loose.specs.Held.{Held, Claims}
+use Rattle.loose.specs.Held.{Held, Claims, Claim, frees}
 use Rattle.blockmap.specs.Bfree.{FreeState}
 use Rattle.inodes.specs.declared.itrunc.TruncAt.{TruncAt}
 use Rattle.inodes.specs.declared.itrunc.TruncAt.TheVariants as trunc_at
@@ -23,13 +23,13 @@ held_of m = record {
 }
 
 -- what a task at a place holds of number i
-abbrev pub claim_by : Place → ℕ → Option Held
+abbrev pub claim_by : Place → ℕ → Option Claim
 claim_by place.Nowhere i = None
 claim_by (place.Creating m) i = None
 claim_by (place.Taking m) i = None
 claim_by (place.Reading k m) i = None
 claim_by (place.Delivering k) i = None
-claim_by (place.Truncating k m) i = if m.number == i then Some (held_of m) else None
+claim_by (place.Truncating k m) i = if m.number == i then Some (frees (held_of m)) else None
 claim_by (place.Leaving k) i = None
 
 -- for each number what the task holds that holds it; none where no task does

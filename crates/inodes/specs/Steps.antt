@@ -13,7 +13,7 @@ use Rattle.model.specs.Files.{Files}
 use Rattle.model.specs.Journal.{is_making}
 use Rattle.model.specs.Layout.{form_of, inode_of}
 use Rattle.model.specs.Tasks.{FilesThen, fault_of_task, reply_at_turn, Marks}
-use Rattle.loose.specs.Held.{Held, names_left}
+use Rattle.loose.specs.Held.{Claim, names_claimed}
 use Rattle.loose.specs.HeldLaws.{HasSameFile}
 use Rattle.wal.specs.declared.types.Committed.{Committed}
 use Rattle.wal.specs.Held.{HasLock}
@@ -68,11 +68,10 @@ abbrev pub LeavesReadings : {D : Type 0} → StoreState D → ℕ → Op → Tas
 LeavesReadings s p op r = (q : ℕ) → q ≢ p → is_reading (task s.tasks q).place ≡ true
     → LeavesNumber op (reply_at_turn r) (asked_by (task s.tasks q).op)
 
--- what stays of a number: its file where no task holds it, and else what is left of its blocks
-abbrev pub SameShare : Image → Image → ℕ → Option Held → Type 0
+-- what stays of a number: its file where no task holds it, and else the blocks that the task owns
+abbrev pub SameShare : Image → Image → ℕ → Option Claim → Type 0
 SameShare x y i None = HasSameFile x y i
-SameShare x y i (Some h) =
-    names_left y h.copy h.given_up ≡ names_left x h.copy h.given_up
+SameShare x y i (Some c) = names_claimed y i (Some c) ≡ names_claimed x i (Some c)
 
 -- THE SHARE of who has locked a used inode stays: the inode, what is held of it, and its blocks
 pub record LeavesShare {D : Type 0} (image : D → Image) (old : StoreState D) (i : ℕ)

@@ -1,6 +1,7 @@
 -- Laws over images in which tasks hold files.
 use Rattle.std.specs.Prelude.{◌≡◌, ◌≢◌, ◌↔◌, ◌⊎◌, ℕ, ◌+◌, ◌<◌, ◌≤◌, IsTrue, true, length, replicate, slice_index, slice_set, Some, None}
 use Rattle.blocks.specs.Disk.{Image, block_at}
+use Rattle.model.specs.declared.types.image.Dinode.{Dinode}
 use Rattle.model.specs.declared.types.operations.Op.TheVariants.{Create, Read, Trunc, Remove, Stat}
 use Rattle.model.specs.declared.types.operations.Reply.TheVariants.{Done, Made, Bytes, StatOf}
 use Rattle.model.specs.Agreement.{IsSameOutsideLog}
@@ -15,7 +16,7 @@ use Rattle.model.specs.Places.{address_in}
 use Rattle.model.specs.Soundness.{IsSound}
 use Rattle.model.specs.Tasks.{Marks}
 use Rattle.loose.specs.Claims.{with_new_file}
-use Rattle.loose.specs.Held.{Held, Claims, FitsHeld, AreAtRest, IsClaimedNow, unmarked, without_address, last_inode, file_left}
+use Rattle.loose.specs.Held.{Held, Claim, frees, grows, Claims, FitsHeld, AreAtRest, IsClaimedNow, unmarked, without_address, last_inode, file_left, names_held}
 use Rattle.loose.specs.Loose.{LiesInData, Fits}
 use Rattle.loose.specs.Looks.{IsUsed, IsUnused, HasItsFile, HasDataBlocks, AnswersNoFile}
 
@@ -39,19 +40,45 @@ pub record HasSameFile (x y : Image) (i : ℕ) : Type 0 where
   pub addresses : (k : ℕ) → address_in y (inode_of x i) k ≡ address_in x (inode_of x i) k
   pub bytes : bytes_in y (inode_of x i) ≡ bytes_in x (inode_of x i)
 
--- y stands for the files m with the new claims, and each used number at rest but i has its file
+-- the block of addresses that a copy names, where it names one, is the same
+abbrev pub KeepsAddresses : Image → Image → Dinode → Type 0
+KeepsAddresses x y d = slice_index d.addrs 12 ≢ 0 →
+    block_at y (slice_index d.addrs 12) ≡ block_at x (slice_index d.addrs 12)
+
+-- the task's copy of its inode
+abbrev pub copy_in : Claim → Dinode
+copy_in (frees h) = h.copy
+copy_in (grows g) = g.copy
+
+-- the file of a task that writes is the same
+abbrev pub KeepsGrown : Image → Image → Claim → Type 0
+KeepsGrown x y (frees h) = Unit {0}
+KeepsGrown x y (grows g) =
+    ((k : ℕ) → address_in y g.copy k ≡ address_in x g.copy k)
+    × (bytes_in y g.copy ≡ bytes_in x g.copy)
+
+-- what a task holds is the same: its blocks, and where its copy leads
+pub record StaysHeld (x y : Image) (c : Claim) : Type 0 where
+  pub names : names_held y c ≡ names_held x c
+  pub indirect : KeepsAddresses x y (copy_in c)
+  pub grown : KeepsGrown x y c
+
+-- y stands for the files m with the new claims. Each used number at rest but i has its file, and
+-- each task that holds another number what it held
 pub record FitsThen (m : Files) (x : Image) (claims : Claims) (i : ℕ) (y : Image) (new : Claims) :
     Type 0 where
   pub fits : FitsHeld m y new
   pub others : (j : ℕ) → j ≢ i → claims j ≡ None → IsUsed x j → HasSameFile x y j
+  pub held : (j : ℕ) (c : Claim) → j ≢ i → IsTrue (is_number (inode_count_of x) j) →
+      claims j ≡ Some c → StaysHeld x y c
 
 -- ---- the block that a task gives up: its bit is cleared
 
--- the image stands for files, and a task holds number i
-pub record IsHeldIn (m : Files) (x : Image) (claims : Claims) (i : ℕ) (h : Held) : Type 0 where
+-- the image stands for files, and a task holds number i so
+pub record IsHeldIn (m : Files) (x : Image) (claims : Claims) (i : ℕ) (c : Claim) : Type 0 where
   pub fits : FitsHeld m x claims
   pub number : IsTrue (is_number (inode_count_of x) i)
-  pub holds : claims i ≡ Some h
+  pub holds : claims i ≡ Some c
 
 -- an entry of the block of addresses of a task's copy
 abbrev pub entry_at : Image → Held → ℕ → ℕ
@@ -60,29 +87,30 @@ entry_at x h e = slice_index (words_of (block_at x (slice_index h.copy.addrs 12)
 -- a data block that the copy names is given up: the address in the copy becomes 0
 abbrev pub DirectGivenUp : Type 0
 DirectGivenUp = (m : Files) (x : Image) (claims new : Claims) (i k : ℕ) (h : Held) →
-    IsHeldIn m x claims i h → k < 12 → slice_index h.copy.addrs k ≢ 0 →
-    IsClaimedNow claims i (Some (without_address h k)) new →
+    IsHeldIn m x claims i (frees h) → k < 12 → slice_index h.copy.addrs k ≢ 0 →
+    IsClaimedNow claims i (Some (frees (without_address h k))) new →
     FitsThen m x claims i (unmarked x (slice_index h.copy.addrs k)) new
 
 -- an entry of the block of addresses, the next in order
 abbrev pub EntryGivenUp : Type 0
 EntryGivenUp = (m : Files) (x : Image) (claims new : Claims) (i : ℕ) (h : Held) →
-    IsHeldIn m x claims i h → slice_index h.copy.addrs 12 ≢ 0 → entry_at x h h.given_up ≢ 0 →
-    IsClaimedNow claims i (Some (record h { given_up = h.given_up + 1 })) new →
+    IsHeldIn m x claims i (frees h) → slice_index h.copy.addrs 12 ≢ 0 →
+    entry_at x h h.given_up ≢ 0 →
+    IsClaimedNow claims i (Some (frees (record h { given_up = h.given_up + 1 }))) new →
     FitsThen m x claims i (unmarked x (entry_at x h h.given_up)) new
 
 -- an entry that is not there is passed over, and the image stays
 abbrev pub EntryPassed : Type 0
 EntryPassed = (m : Files) (x : Image) (claims new : Claims) (i : ℕ) (h : Held) →
-    IsHeldIn m x claims i h → entry_at x h h.given_up ≡ 0 →
-    IsClaimedNow claims i (Some (record h { given_up = h.given_up + 1 })) new →
+    IsHeldIn m x claims i (frees h) → entry_at x h h.given_up ≡ 0 →
+    IsClaimedNow claims i (Some (frees (record h { given_up = h.given_up + 1 }))) new →
     FitsHeld m x new
 
 -- the block of addresses itself, once all entries are given up
 abbrev pub IndirectGivenUp : Type 0
 IndirectGivenUp = (m : Files) (x : Image) (claims new : Claims) (i : ℕ) (h : Held) →
-    IsHeldIn m x claims i h → slice_index h.copy.addrs 12 ≢ 0 → 256 ≤ h.given_up →
-    IsClaimedNow claims i (Some (without_address h 12)) new →
+    IsHeldIn m x claims i (frees h) → slice_index h.copy.addrs 12 ≢ 0 → 256 ≤ h.given_up →
+    IsClaimedNow claims i (Some (frees (without_address h 12))) new →
     FitsThen m x claims i (unmarked x (slice_index h.copy.addrs 12)) new
 
 -- ---- the turn, and the end
@@ -92,7 +120,7 @@ abbrev pub TurnHolds : Type 0
 TurnHolds = (m : Files) (x : Image) (claims new : Claims) (i last_kind : ℕ) → FitsHeld m x claims →
     IsUsed x i → claims i ≡ None → (last_kind ≡ 0) ⊎ (last_kind ≡ (inode_of x i).kind) →
     IsClaimedNow claims i
-    (Some (record { copy = inode_of x i; given_up = 0; last_kind = last_kind })) new →
+    (Some (frees (record { copy = inode_of x i; given_up = 0; last_kind = last_kind }))) new →
     FitsThen (slice_set m i (file_left last_kind)) x claims i x new
 
 -- these are the files after that operation
@@ -105,7 +133,8 @@ TurnAnswers = (m : Files) (x : Image) (claims : Claims) (i : ℕ) → FitsHeld m
 -- a copy without addresses is written back: the number is at rest, with the same files
 abbrev pub WriteBackRests : Type 0
 WriteBackRests = (m : Files) (x : Image) (claims new : Claims) (i : ℕ) (h : Held) →
-    IsHeldIn m x claims i h → h.copy.addrs ≡ replicate 13 0 → IsClaimedNow claims i None new →
+    IsHeldIn m x claims i (frees h) → h.copy.addrs ≡ replicate 13 0 →
+    IsClaimedNow claims i None new →
     FitsThen m x claims i (with_inode x i (last_inode h)) new
 
 -- ---- while others hold their numbers
@@ -121,8 +150,7 @@ ClaimFits = (m : Files) (x : Image) (claims : Claims) (i kind : ℕ) → FitsHel
 -- the log has no part in it
 abbrev pub HeldOutsideLog : Type 0
 HeldOutsideLog = (m : Files) (x y : Image) (claims : Claims) → IsSameOutsideLog x y →
-    FitsHeld m x claims →
-    FitsHeld m y claims × ((j : ℕ) → claims j ≡ None → IsUsed x j → HasSameFile x y j)
+    FitsHeld m x claims → FitsThen m x claims 0 y claims
 
 -- a used number at rest has its file, leads to data blocks, and answers looks
 pub record TellsItsFile (m : Files) (x : Image) (i : ℕ) : Type 0 where
@@ -158,7 +186,7 @@ pub record HasMarkedBlocks (x : Image) (h : Held) : Type 0 where
 
 abbrev pub HeldHasBlocks : Type 0
 HeldHasBlocks = (m : Files) (x : Image) (claims : Claims) (i : ℕ) (h : Held) →
-    IsHeldIn m x claims i h → HasMarkedBlocks x h
+    IsHeldIn m x claims i (frees h) → HasMarkedBlocks x h
 
 -- ---- what no file shows
 
@@ -170,4 +198,4 @@ ClearedBitKeeps = (m : Files) (x : Image) (claims : Claims) (b : ℕ) → FitsHe
 -- where a copy is written back: the labels stay
 abbrev pub WriteBackKeeps : Type 0
 WriteBackKeeps = (m : Files) (x : Image) (claims : Claims) (i : ℕ) (h : Held) →
-    IsHeldIn m x claims i h → Marks None x (with_inode x i (last_inode h))
+    IsHeldIn m x claims i (frees h) → Marks None x (with_inode x i (last_inode h))

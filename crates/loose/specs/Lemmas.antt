@@ -8,7 +8,9 @@ pub mod Claims
 pub mod Made
 pub mod Looks
 pub mod HeldFrames
+pub mod Addresses
 pub mod AtRest
+pub mod Remapped
 pub mod GivenUp
 pub mod Turns
 pub mod WriteBacks
@@ -16,3 +18,12 @@ pub mod HeldOutsideLog
 pub mod HeldLooks
 pub mod HeldMade
 pub mod HeldMarks
+pub mod Growing
+pub mod BlocksTaken
+pub mod SameBytes
+pub mod Placing
+pub mod Apart
+pub mod EntryPlacing
+pub mod GrowthBlocks
+pub mod BytesWritten
+pub mod GrowthEnds

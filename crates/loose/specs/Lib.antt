@@ -4,4 +4,5 @@ pub mod Claims
 pub mod Laws
 pub mod Looks
 pub mod HeldLaws
+pub mod GrowthLaws
 pub mod Lemmas

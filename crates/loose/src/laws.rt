@@ -1,6 +1,7 @@
 //! Laws over loose images, each the contract of a function that does nothing.
 ghost use Rattle.loose.specs.Laws.{SoundFits, FitsSoundly, FitsWhenCleared, FitsOutsideLog, ClaimsOne, ClaimMakesFile, MadeFits};
 ghost use Rattle.loose.specs.HeldLaws.{FitsAtRest, RestsSoundly, DirectGivenUp, EntryGivenUp, EntryPassed, IndirectGivenUp, TurnHolds, TurnAnswers, WriteBackRests, ClaimFits, HeldOutsideLog, RestingTells, FreeTells, HeldHasBlocks, ClearedBitKeeps, WriteBackKeeps};
+ghost use Rattle.loose.specs.GrowthLaws.{TurnGrows, RestingRefuses, BlockTaken, TakenZeroed, DirectPlaced, IndirectPlaced, EntryPlaced, BytesWritten, GrowthRests, GrowthAnswers, GrowthHasBlocks, SetBitKeeps, DataKeeps, GrowthKeeps};
 ghost use Rattle.loose.specs.Looks.{UsedIsFit, UsedHasBlocks, StatTells, ReadTells, NoFileTells};
 
 /// A sound image of whole blocks stands for its own files.
@@ -142,4 +143,74 @@ pub fn cleared_bit_keeps()
 /// Nor does an inode that is written back, which keeps its labels.
 pub fn write_back_keeps()
     ensures { WriteBackKeeps }
+{}
+
+/// At the turn of a write its task holds the number.
+pub fn turn_grows()
+    ensures { TurnGrows }
+{}
+
+/// What a write answers that begins behind the file's end, or that no file has room for.
+pub fn resting_refuses()
+    ensures { RestingRefuses }
+{}
+
+/// A task that writes takes a block whose bit is clear.
+pub fn block_taken()
+    ensures { BlockTaken }
+{}
+
+/// It fills the block that it took with zeroes.
+pub fn taken_zeroed()
+    ensures { TakenZeroed }
+{}
+
+/// Its copy of the inode names the block.
+pub fn direct_placed()
+    ensures { DirectPlaced }
+{}
+
+/// Its copy names the block as that of addresses.
+pub fn indirect_placed()
+    ensures { IndirectPlaced }
+{}
+
+/// Its block of addresses names the block.
+pub fn entry_placed()
+    ensures { EntryPlaced }
+{}
+
+/// It writes the next bytes into a block of its file.
+pub fn bytes_written()
+    ensures { BytesWritten }
+{}
+
+/// In the end it writes its copy back, and the number is at rest with the bytes in its file.
+pub fn growth_rests()
+    ensures { GrowthRests }
+{}
+
+/// The files are then those after that write.
+pub fn growth_answers()
+    ensures { GrowthAnswers }
+{}
+
+/// What a task that writes holds are data blocks that the bitmap has, no two of them one.
+pub fn growth_has_blocks()
+    ensures { GrowthHasBlocks }
+{}
+
+/// A set bit of a block changes nothing else that no file shows.
+pub fn set_bit_keeps()
+    ensures { SetBitKeeps }
+{}
+
+/// Nor does a data block that is written.
+pub fn data_keeps()
+    ensures { DataKeeps }
+{}
+
+/// Nor does a copy that is written back.
+pub fn growth_keeps()
+    ensures { GrowthKeeps }
 {}

@@ -14,10 +14,18 @@
 //!
 //! A truncation or a removal gives up its file's blocks one by one behind its turn. From the turn
 //! on its task holds the number (`Held`): the files have the result, the image still has the old
-//! inode, and owned is what the task's copy of the inode still names. `FitsHeld` says which files
-//! an image stands for where tasks hold numbers so; with none held it is `Fits`. Its laws go from
-//! the turn over each block that is given up to the inode that is written back, beside creations,
-//! looks and other tasks.
+//! inode, and owned is what the task's copy of the inode still names.
+//!
+//! A write makes its file longer, or puts bytes over its own. From the turn on its task holds the
+//! number too (`Growth`), but the files have the old file until the write is done: how much could
+//! be written is known only then. The image still has the old inode. The task's copy has the
+//! addresses of the blocks that it took, and those blocks have the old file with the written bytes
+//! over it. Owned is what the copy names, and a block that was taken and that nothing names yet.
+//!
+//! `FitsHeld` says which files an image stands for where tasks hold numbers (`Claim`); with none
+//! held it is `Fits`. Its laws go from the turn over each block that is given up, taken, named or
+//! written to the inode that is written back, beside creations, looks and other tasks: what those
+//! hold, and the file of a number at rest, stay as they are (`FitsThen`).
 //!
 //! The laws say that a sound image stands for its own files; that an image which stands for files
 //! is sound, with them as its files, once its log is empty; that the log's blocks have no part in

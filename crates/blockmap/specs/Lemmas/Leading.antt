@@ -12,7 +12,7 @@ use Rattle.model.specs.Layout.{form_of}
 use Rattle.model.specs.Places.{address_in}
 use Rattle.model.specs.Lemmas.Codecs.{entry-with_entry}
 use Rattle.blockmap.specs.BmapAlloc.{indirect_of}
-use Rattle.blockmap.specs.Lemmas.Addresses.{address_direct, address_behind}
+use Rattle.loose.specs.Lemmas.Addresses.{address_direct, address_behind}
 
 -- an inode that names a block itself leads to it
 pub leads_direct : (x : Image) (d : Dinode) (k b : ℕ) → length d.addrs ≡ 13 → k < 12 →

@@ -1,20 +1,16 @@
 -- Where an image stands for files, that of each used number which no task holds may be read.
 use Rattle.std.proofs.Common.{◌≡◌, ◌≢◌, ℕ, ◌*◌, ◌<◌, ◌∙◌, refl, arith}
 use Rattle.std.specs.Prelude.{slice_index}
-use Rattle.std.proofs.lemmas.Bool.{eqb-true}
 use Rattle.blocks.specs.Disk.{Image}
 use Rattle.model.specs.declared.types.image.Dinode.{Dinode}
 use Rattle.model.specs.declared.types.image.Form.TheVariants.{One}
-use Rattle.model.specs.Layout.{form_of, inode_of, magic_at, magic_of}
+use Rattle.model.specs.Layout.{form_of, inode_of}
 use Rattle.model.specs.Places.{address_in}
-use Rattle.model.specs.Soundness.{IsLawfulGeometry}
 use Rattle.loose.specs.Loose.{LiesInData, IsFit}
 use Rattle.loose.specs.Lemmas.HeldLooks.{resting_tells}
 use Rattle.blockmap.specs.Reading.{LiesBehindLog, RestingMayBeRead}
-use Rattle.blockmap.specs.Lemmas.Addresses.{address_behind}
-
-form_lawful : (x : Image) → IsLawfulGeometry x → form_of x ≡ One
-form_lawful x g = rw (eqb-true (magic_at x) (magic_of One) g.magic) refl
+use Rattle.loose.specs.Lemmas.Addresses.{address_behind}
+use Rattle.loose.specs.Lemmas.HeldFrames.{one_form}
 
 behind_log : (x : Image) (b : ℕ) → LiesInData x b → LiesBehindLog x b
 behind_log x b there = let from = there.0 in (omega arith, there.1)
@@ -27,7 +23,7 @@ indirect_there x d one fit needed none =
 pub resting_may_be_read : RestingMayBeRead
 resting_may_be_read m x claims i f used rests =
     let d = inode_of x i in
-    let one = form_lawful x f.geometry in
+    let one = one_form x f.geometry in
     let tells = resting_tells m x claims i f used rests in
     let fit = tells.its.fit in
     let has = tells.blocks in

@@ -2,7 +2,7 @@
 use Rattle.std.proofs.Common.{◌≡◌, ◌≢◌, ℕ, zero, suc, ◌<◌, Bool, true, false, cond, eqb, List, [], ◌∷◌, length, set, refl, ◌∙◌, ap, arith, Option, Some, None}
 use Rattle.std.proofs.lemmas.Bool.{eqb-true, eq-eqb}
 use Rattle.std.proofs.lemmas.List.{get_or-set_same, get_or-set_other}
-use Rattle.loose.specs.Held.{Held, IsClaimedNow}
+use Rattle.loose.specs.Held.{IsClaimedNow, Claim, frees}
 use Rattle.inodes.specs.declared.tasks.Place.{Place}
 use Rattle.inodes.specs.declared.tasks.Place.TheVariants as place
 use Rattle.inodes.specs.Holding.{claim_by, claims_of, held_of}
@@ -17,14 +17,14 @@ HoldsAlone ts p i = (q : ℕ) → q ≢ p → claim_by (task ts q).place i ≡ N
 -- ---- what one task holds
 
 -- who holds a number frees the blocks of its file
-pub record IsHolding (a : Place) (i : ℕ) (h : Held) : Type 0 where
+pub record IsHolding (a : Place) (i : ℕ) (c : Claim) : Type 0 where
   pub entry : ℕ
   pub trunc : TruncState
   pub at : a ≡ place.Truncating entry trunc
   pub number : trunc.number ≡ i
-  pub holds : held_of trunc ≡ h
+  pub holds : frees (held_of trunc) ≡ c
 
-pub holding_is : (a : Place) (i : ℕ) (h : Held) → claim_by a i ≡ Some h → IsHolding a i h
+pub holding_is : (a : Place) (i : ℕ) (h : Claim) → claim_by a i ≡ Some h → IsHolding a i h
 holding_is place.Nowhere i h claimed = absurd (cc claimed)
 holding_is (place.Creating m) i h claimed = absurd (cc claimed)
 holding_is (place.Taking m) i h claimed = absurd (cc claimed)
@@ -32,35 +32,35 @@ holding_is (place.Reading k m) i h claimed = absurd (cc claimed)
 holding_is (place.Delivering k) i h claimed = absurd (cc claimed)
 holding_is (place.Truncating k m) i h claimed = by_number (eqb m.number i) refl claimed
   where
-    by_number : (same : Bool) → eqb m.number i ≡ same → cond same (Some (held_of m)) None ≡ Some h →
+    by_number : (same : Bool) → eqb m.number i ≡ same → cond same (Some (frees (held_of m))) None ≡ Some h →
         IsHolding (place.Truncating k m) i h
     by_number true same claimed = record {
       entry = k;
       trunc = m;
       at = refl;
       number = eqb-true m.number i same;
-      holds = let is : held_of m ≡ h = cc claimed in is;
+      holds = let is : frees (held_of m) ≡ h = cc claimed in is;
     }
     by_number false other claimed = absurd (cc claimed)
 holding_is (place.Leaving k) i h claimed = absurd (cc claimed)
 
 -- the freeing of a file's blocks holds its number
 pub own_holds : (k : ℕ) (m : TruncState) →
-    claim_by (place.Truncating k m) m.number ≡ Some (held_of m)
+    claim_by (place.Truncating k m) m.number ≡ Some (frees (held_of m))
 own_holds k m = rw (eq-eqb m.number m.number refl) refl
 
 -- ---- what all of them hold
 
 -- what is held of a number, a task holds that frees the blocks of its file
-pub record IsHolder (ts : List TaskState) (i : ℕ) (h : Held) : Type 0 where
+pub record IsHolder (ts : List TaskState) (i : ℕ) (c : Claim) : Type 0 where
   pub process : ℕ
   pub entry : ℕ
   pub trunc : TruncState
   pub at : (task ts process).place ≡ place.Truncating entry trunc
   pub number : trunc.number ≡ i
-  pub holds : held_of trunc ≡ h
+  pub holds : frees (held_of trunc) ≡ c
 
-first_or_later : (t : TaskState) (ts : List TaskState) (i : ℕ) (h : Held) (o : Option Held) →
+first_or_later : (t : TaskState) (ts : List TaskState) (i : ℕ) (h : Claim) (o : Option Claim) →
     claim_by t.place i ≡ o → (claims_of ts i ≡ Some h → IsHolder ts i h) →
     or_else o (claims_of ts i) ≡ Some h → IsHolder (t ∷ ts) i h
 first_or_later t ts i h None none later claimed =
@@ -82,7 +82,7 @@ first_or_later t ts i h (Some held) has later claimed =
       holds = is.holds;
     }
 
-pub holder_of : (ts : List TaskState) (i : ℕ) (h : Held) → claims_of ts i ≡ Some h →
+pub holder_of : (ts : List TaskState) (i : ℕ) (h : Claim) → claims_of ts i ≡ Some h →
     IsHolder ts i h
 holder_of [] i h claimed = absurd (cc claimed)
 holder_of (t ∷ ts) i h claimed =
@@ -93,10 +93,10 @@ pub none_held : (ts : List TaskState) (i : ℕ) →
     ((q : ℕ) → claim_by (task ts q).place i ≡ None) → claims_of ts i ≡ None
 none_held [] i none = refl
 none_held (t ∷ ts) i none =
-    ap (λ (o : Option Held). or_else o (claims_of ts i)) (none 0)
+    ap (λ (o : Option Claim). or_else o (claims_of ts i)) (none 0)
     ∙ none_held ts i (λ q. none (suc q))
 
-else_none : (o : Option Held) → or_else o None ≡ o
+else_none : (o : Option Claim) → or_else o None ≡ o
 else_none None = refl
 else_none (Some h) = refl
 
@@ -109,7 +109,7 @@ claim_of_one (t ∷ ts) zero i alone =
     (none_held ts i (λ q. alone (suc q) (λ (e : suc q ≡ 0). omega (arith, e))))
     ∙ else_none (claim_by t.place i)
 claim_of_one (t ∷ ts) (suc p) i alone =
-    ap (λ (o : Option Held). or_else o (claims_of ts i))
+    ap (λ (o : Option Claim). or_else o (claims_of ts i))
     (alone 0 (λ (e : 0 ≡ suc p). omega (arith, e)))
     ∙ claim_of_one ts p i
     (λ q apart. alone (suc q) (λ (e : suc q ≡ suc p). apart (omega (arith, e))))
@@ -118,7 +118,7 @@ claim_of_one (t ∷ ts) (suc p) i alone =
 pub claim_stays : (ts : List TaskState) (p i : ℕ) (t : TaskState) →
     claim_by t.place i ≡ claim_by (task ts p).place i → claims_of (set ts p t) i ≡ claims_of ts i
 claim_stays [] p i t same = refl
-claim_stays (s ∷ ts) zero i t same = ap (λ (o : Option Held). or_else o (claims_of ts i)) same
+claim_stays (s ∷ ts) zero i t same = ap (λ (o : Option Claim). or_else o (claims_of ts i)) same
 claim_stays (s ∷ ts) (suc p) i t same =
     ap (or_else (claim_by s.place i)) (claim_stays ts p i t same)
 

@@ -5,7 +5,7 @@ use Rattle.model.specs.Files.{Files, file_in}
 use Rattle.model.specs.Layout.{inode_count_of}
 use Rattle.model.specs.Places.{pointers_of, places_of, addresses_in}
 use Rattle.model.specs.Lemmas.OutsideLog.{flat_map_range_same}
-use Rattle.loose.specs.Held.{Held, Claims, AreAtRest, FitsHeld, IsFine, names_claimed, owned}
+use Rattle.loose.specs.Held.{Claims, AreAtRest, FitsHeld, IsFine, names_claimed, owned, Claim}
 use Rattle.loose.specs.HeldLaws.{FitsAtRest, RestsSoundly}
 use Rattle.loose.specs.Loose.{IsLoose, Fits}
 use Rattle.loose.specs.Lemmas.Soundly.{sound_quiet}
@@ -24,7 +24,7 @@ module _ (m : Files) (x : Image) (claims : Claims) (rest : AreAtRest x claims) w
     count = f.count;
     zero = f.zero;
     each = λ i low high.
-        subst (λ (c : Option Held). IsFine x i c (file_in m i)) (sym (rest i low high)) (f.each i low high);
+        subst (λ (c : Option Claim). IsFine x i c (file_in m i)) (sym (rest i low high)) (f.each i low high);
   }
 
   fits_from_held : FitsHeld m x claims → Fits m x
@@ -35,7 +35,7 @@ module _ (m : Files) (x : Image) (claims : Claims) (rest : AreAtRest x claims) w
     count = f.count;
     zero = f.zero;
     each = λ i low high.
-        subst (λ (c : Option Held). IsFine x i c (file_in m i)) (rest i low high) (f.each i low high);
+        subst (λ (c : Option Claim). IsFine x i c (file_in m i)) (rest i low high) (f.each i low high);
   }
 
 pub fits_at_rest : FitsAtRest

@@ -65,7 +65,7 @@ agrees_for test m x y i f h low high = record {
 
 -- ---- one number
 
-fit_alike : (test : ℕ → Bool) (x y : Image) (d : Dinode) → AgreesFor test x y d → IsFit x d → IsFit y d
+pub fit_alike : (test : ℕ → Bool) (x y : Image) (d : Dinode) → AgreesFor test x y d → IsFit x d → IsFit y d
 fit_alike test x y d h fit = record {
   fields = fit.fields;
   used = fit.used;

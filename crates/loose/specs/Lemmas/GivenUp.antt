@@ -1,129 +1,62 @@
 -- What a cleared bit makes of the bitmap, and of an image in which tasks hold files.
-use Rattle.std.proofs.Common.{◌≡◌, ◌≢◌, ℕ, zero, suc, ◌+◌, ◌^◌, ◌<◌, ◌≤◌, Bool, true, false, ◌||◌, not, cond, eqb, ltb, List, [], ◌∷◌, length, get_or, set, take, drop, Option, Some, refl, sym, ap, subst, ◌∙◌, ⊎_elim, zero-add, arith}
+use Rattle.std.proofs.Common.{◌≡◌, ◌≢◌, ℕ, zero, suc, ◌+◌, ◌^◌, ◌<◌, ◌≤◌, false, ◌||◌, cond, eqb, ltb, List, [], ◌∷◌, length, get_or, set, take, drop, Option, Some, refl, sym, ap, subst, ◌∙◌, ⊎_elim, zero-add, arith}
 use Rattle.std.proofs.lemmas.Bool.{ne_eqb, eq-eqb, cases_eq, cases_lt, le-ltb, or_from}
 use Rattle.std.proofs.lemmas.List.{length-set, get_or-set_same, get_or-set_other, set_past, take-set-le}
 use Rattle.std.proofs.Math.ListN.{drop_of_length-le}
 use Rattle.blocks.specs.Disk.{Image, block_at}
 use Rattle.model.specs.declared.types.image.Dinode.{Dinode}
 use Rattle.model.specs.declared.types.image.File.{File}
-use Rattle.model.specs.declared.types.image.Super.{Super}
 use Rattle.model.specs.Codec.{without_bit}
-use Rattle.model.specs.Fields.{has_bit, words_of}
+use Rattle.model.specs.Fields.{words_of}
 use Rattle.model.specs.Files.{Files, file_in}
-use Rattle.model.specs.Layout.{super_in, super_of, inode_of, inode_in, inode_bytes_in, inode_block, inode_count_of, first_data_block, meta_count, is_marked}
-use Rattle.model.specs.Soundness.{IsLawfulGeometry, count_of}
+use Rattle.model.specs.Layout.{super_of, inode_of, inode_count_of, first_data_block, is_marked}
+use Rattle.model.specs.Soundness.{count_of}
 use Rattle.model.specs.Lemmas.Bits.{has_bit-without_bit_same, has_bit-without_bit_other, length-without_bit}
 use Rattle.model.specs.Lemmas.Codecs.{length-words_of-block}
 use Rattle.model.specs.Lemmas.Counts.{count_of-append}
-use Rattle.model.specs.Lemmas.Frames.{Agrees-set}
-use Rattle.model.specs.Lemmas.Soundness.{facts_of}
-use Rattle.loose.specs.Held.{Held, Claims, IsHeld, IsFine, IsClaimedNow, names_claimed, names_left, entries_left, owned, present, unmarked, without_address}
+use Rattle.loose.specs.Held.{Held, Claims, IsHeld, IsFine, IsClaimedNow, names_claimed, names_left, entries_left, owned, present, unmarked, without_address, frees, Claim}
 use Rattle.loose.specs.HeldLaws.{FitsThen, IsHeldIn, DirectGivenUp, EntryGivenUp, IndirectGivenUp, entry_at}
-use Rattle.loose.specs.Loose.{AreFull, IsLoose}
+use Rattle.loose.specs.Loose.{IsLoose}
 use Rattle.loose.specs.Lemmas.Claims.{apart}
-use Rattle.loose.specs.Lemmas.Frames.{AgreesAtData}
-use Rattle.loose.specs.Lemmas.HeldFrames.{AreInData, ChangesOne, loose_alike, names_same, fine_same, owned_kept, fits_then, claimed_in_data, first_entry}
+use Rattle.loose.specs.Lemmas.HeldFrames.{ChangesOne, loose_alike, names_same, fine_same, owned_kept, fits_then, claimed_in_data, first_entry, at_data, Passes, data_passes}
 use Rattle.loose.specs.Lemmas.Looks.{between}
+use Rattle.loose.specs.Lemmas.Remapped.{IsMapped, inode_same, marks, size_same, mapped, agrees, full_after, start_same, test}
 
--- ---- the bitmap
-
--- where the bitmap lies
-pub record IsMapped (x : Image) : Type 0 where
-  pub behind : 33 ≤ (super_of x).bmapstart
-  pub before_data : (super_of x).bmapstart < first_data_block x
-  pub within : (super_of x).bmapstart < length x
-  pub full : length (block_at x (super_of x).bmapstart) ≡ 1024
-  pub room : length x ≤ 8191
-
-pub mapped : (x : Image) → IsLawfulGeometry x → AreFull x → IsMapped x
-mapped x g full =
-    let f = facts_of x g in
-    let room = f.room in
-    let size = f.size in
-    let small = f.small in
-    let map = f.map in
-    record {
-      behind = omega arith;
-      before_data = omega arith;
-      within = omega arith;
-      full = full (super_of x).bmapstart (omega arith) (omega arith);
-      room = omega arith;
-    }
-
-counted_here : (b : ℕ) (names : List ℕ) → count_of b (b ∷ names) ≡ 1 + count_of b names
+pub counted_here : (b : ℕ) (names : List ℕ) → count_of b (b ∷ names) ≡ 1 + count_of b names
 counted_here b names = rw (eq-eqb b b refl) refl
 
-counted_other : (b c : ℕ) (names : List ℕ) → c ≢ b → count_of c (b ∷ names) ≡ count_of c names
+pub counted_other : (b c : ℕ) (names : List ℕ) → c ≢ b → count_of c (b ∷ names) ≡ count_of c names
 counted_other b c names ne = rw (ne_eqb b c (λ e. ne (sym e))) (zero-add (count_of c names))
 
 -- what holds of b and of each other number
-at_each : (P : ℕ → Type 0) (b : ℕ) → P b → ((c : ℕ) → c ≢ b → P c) → (c : ℕ) → P c
+pub at_each : (P : ℕ → Type 0) (b : ℕ) → P b → ((c : ℕ) → c ≢ b → P c) → (c : ℕ) → P c
 at_each P b here other c = ⊎_elim (λ (e : c ≡ b). subst P (sym e) here) (λ (ne : c ≢ b). other c ne) (cases_eq c b)
 
 module _ (x : Image) (b : ℕ) (map : IsMapped x) where
   abbrev y : Image
   y = unmarked x b
 
-  abbrev test : ℕ → Bool
-  test c = not (eqb c (super_of x).bmapstart)
-
-  pub away : (c : ℕ) → c ≢ (super_of x).bmapstart → test c ≡ true
-  away c ne = ap not (ne_eqb c (super_of x).bmapstart ne)
-
-  pub agrees : AgreesAtData test x y
-  agrees =
-      let behind = map.behind in
-      let before = map.before_data in
-      record {
-        agree = Agrees-set x (super_of x).bmapstart (without_bit (block_at x (super_of x).bmapstart) b);
-        one = away 1 (λ e. omega arith);
-        from_data = λ c from. away c (λ e. omega arith);
-      }
-
-  super_same : super_of y ≡ super_of x
-  super_same = ap super_in (agrees.agree 1 agrees.one)
-
-  pub size_same : length y ≡ length x
-  size_same = length-set x (super_of x).bmapstart (without_bit (block_at x (super_of x).bmapstart) b)
-
-  start_same : first_data_block y ≡ first_data_block x
-  start_same = ap (λ (s : Super). meta_count s.size s.ninodes) super_same
-
-  bitmap_is : block_at y (super_of x).bmapstart ≡ without_bit (block_at x (super_of x).bmapstart) b
-  bitmap_is = get_or-set_same x (super_of x).bmapstart (without_bit (block_at x (super_of x).bmapstart) b) [] map.within
-
-  marks : (c : ℕ) → is_marked y c ≡ has_bit (without_bit (block_at x (super_of x).bmapstart) b) c
-  marks c = ap (λ (s : Super). has_bit (block_at y s.bmapstart) c) super_same ∙ ap (λ bytes. has_bit bytes c) bitmap_is
+  -- the bitmap with that bit cleared
+  abbrev pub bits : List ℕ
+  bits = without_bit (block_at x (super_of x).bmapstart) b
 
   cleared : b < length x → is_marked y b ≡ false
   cleared low =
       let room = map.room in
       let full = map.full in
-      marks b ∙ has_bit-without_bit_same (block_at x (super_of x).bmapstart) b (omega arith)
+      marks x bits map b ∙ has_bit-without_bit_same (block_at x (super_of x).bmapstart) b (omega arith)
 
   pub others_marked : (c : ℕ) → c ≢ b → is_marked y c ≡ is_marked x c
-  others_marked c ne = marks c ∙ has_bit-without_bit_other (block_at x (super_of x).bmapstart) b c ne
+  others_marked c ne = marks x bits map c ∙ has_bit-without_bit_other (block_at x (super_of x).bmapstart) b c ne
 
-  full_after : AreFull x → AreFull y
-  full_after full c low within =
-      let size = size_same in
-      ⊎_elim
-      (λ (e : c ≡ (super_of x).bmapstart).
-      ap (λ (d : ℕ). length (block_at y d)) e ∙ ap length bitmap_is
-      ∙ length-without_bit (block_at x (super_of x).bmapstart) b ∙ map.full)
-      (λ (ne : c ≢ (super_of x).bmapstart). ap length (agrees.agree c (away c ne)) ∙ full c low (omega arith))
-      (cases_eq c (super_of x).bmapstart)
-
-  pub inode_same : (j : ℕ) → inode_block j < (super_of x).bmapstart → inode_of y j ≡ inode_of x j
-  unfolding inode_of
-  inode_same j before =
-      ap (λ block. inode_in (inode_bytes_in block j)) (agrees.agree (inode_block j) (away (inode_block j) (λ e. omega arith)))
+  pub whole : length bits ≡ 1024
+  whole = length-without_bit (block_at x (super_of x).bmapstart) b ∙ map.full
 
   -- a block that is no longer owned is no longer marked
   loose_freed : (owned : List ℕ) → IsLoose x (b ∷ owned) → IsLoose y owned
   loose_freed owned l =
-      let size = size_same in
-      let start = start_same in
+      let size = size_same x bits map in
+      let start = start_same x bits map in
       let one = counted_here b owned in
       let here = l.in_data b (λ z. omega arith) in
       let once = l.once b in
@@ -148,8 +81,8 @@ module _ (x : Image) (b : ℕ) (map : IsMapped x) where
 -- ---- a task gives up one of its blocks
 
 record GivesUp (m : Files) (x : Image) (claims new : Claims) (i b : ℕ) (h t : Held) : Type 0 where
-  held : IsHeldIn m x claims i h
-  now : IsClaimedNow claims i (Some t) new
+  held : IsHeldIn m x claims i (frees h)
+  now : IsClaimedNow claims i (Some (frees t)) new
   fine : IsHeld x i t (file_in m i)
   gone : (c : ℕ) → count_of c (names_left x h.copy h.given_up) ≡ count_of c (b ∷ names_left x t.copy t.given_up)
 
@@ -161,7 +94,7 @@ module _ (m : Files) (x : Image) (claims new : Claims) (i b : ℕ) (h t : Held) 
   z = unmarked x b
 
   inode_kept : (j : ℕ) → j < inode_count_of x → inode_of z j ≡ inode_of x j
-  inode_kept j low = inode_same x b map j (apart x j g.held.fits.geometry low).before_map
+  inode_kept j low = inode_same x (bits x b map) map j (apart x j g.held.fits.geometry low).before_map
 
   low : 1 ≤ i
   low = (between x i g.held.number).low
@@ -169,13 +102,14 @@ module _ (m : Files) (x : Image) (claims new : Claims) (i b : ℕ) (h t : Held) 
   high : i < inode_count_of x
   high = (between x i g.held.number).high
 
-  change : ChangesOne (test x b map) m x claims i m z new
+  change : ChangesOne (test x (bits x b map) map) m x claims i m z new
   change =
       let some = low in
       record {
         fits = g.held.fits;
-        agree = agrees x b map;
-        size = size_same x b map;
+        agree = at_data (test x (bits x b map) map) x z (agrees x (bits x b map) map);
+        passes = λ j first last ne. data_passes (test x (bits x b map) map) m x z claims g.held.fits (agrees x (bits x b map) map) j first last;
+        size = size_same x (bits x b map) map;
         inodes = λ j inside ne. inode_kept j inside;
         claims_same = g.now.others;
         count = refl;
@@ -186,54 +120,56 @@ module _ (m : Files) (x : Image) (claims new : Claims) (i b : ℕ) (h t : Held) 
   more : (c : ℕ) → count_of c (names_left x t.copy t.given_up) ≤ count_of c (names_claimed x i (claims i))
   more c =
       let was : count_of c (names_claimed x i (claims i)) ≡ count_of c (names_left x h.copy h.given_up)
-      = ap (λ (o : Option Held). count_of c (names_claimed x i o)) g.held.holds in
+      = ap (λ (o : Option Claim). count_of c (names_claimed x i o)) g.held.holds in
       let gone = g.gone c in
       let sum : count_of c (b ∷ names_left x t.copy t.given_up) ≡ cond (eqb b c) 1 0 + count_of c (names_left x t.copy t.given_up) = refl in
       omega arith
 
-  still_in_data : AreInData x (names_claimed x i (Some t))
-  still_in_data c some = let few = more c in claimed_in_data m x claims i c g.held.fits low high (omega arith)
+  still_passes : Passes (test x (bits x b map) map) (names_claimed x i (Some (frees t)))
+  still_passes c some =
+      let few = more c in
+      (agrees x (bits x b map) map).from_data c (claimed_in_data m x claims i c g.held.fits low high (omega arith)).0
 
   own_names : names_claimed z i (new i) ≡ names_left x t.copy t.given_up
   own_names =
       ap (names_claimed z i) g.now.own
-      ∙ names_same (test x b map) x z i (Some t) (agrees x b map) (inode_kept i high) still_in_data
+      ∙ names_same (test x (bits x b map) map) x z i (Some (frees t)) change.agree (inode_kept i high) still_passes
 
   owned_less : (c : ℕ) → count_of c (owned x claims) ≡ count_of c (b ∷ owned z new)
   owned_less c =
       let was : count_of c (names_claimed x i (claims i)) ≡ count_of c (names_left x h.copy h.given_up)
-      = ap (λ (o : Option Held). count_of c (names_claimed x i o)) g.held.holds in
+      = ap (λ (o : Option Claim). count_of c (names_claimed x i o)) g.held.holds in
       let gone = g.gone c in
       let own = ap (count_of c) own_names in
-      let kept = owned_kept (test x b map) m x claims i m z new change c low high in
+      let kept = owned_kept (test x (bits x b map) map) m x claims i m z new change c low high in
       let one : count_of c (b ∷ names_left x t.copy t.given_up) ≡ cond (eqb b c) 1 0 + count_of c (names_left x t.copy t.given_up) = refl in
       let two : count_of c (b ∷ owned z new) ≡ cond (eqb b c) 1 0 + count_of c (owned z new) = refl in
       omega arith
 
   gives_up : FitsThen m x claims i z new
   gives_up =
-      fits_then (test x b map) m x claims i m z new change
-      (full_after x b map g.held.fits.full)
+      fits_then (test x (bits x b map) map) m x claims i m z new change
+      (full_after x (bits x b map) map (whole x b map) g.held.fits.full)
       (loose_freed x b map (owned z new) (loose_alike x (owned x claims) (b ∷ owned z new) owned_less g.held.fits.loose))
-      (subst (λ (c : Option Held). IsFine z i c (file_in m i)) (sym g.now.own)
-      (fine_same (test x b map) x z i (Some t) (file_in m i) (agrees x b map) (inode_kept i high) still_in_data g.fine))
+      (subst (λ (c : Option Claim). IsFine z i c (file_in m i)) (sym g.now.own)
+      (fine_same (test x (bits x b map) map) x z i (Some (frees t)) (file_in m i) change.agree (inode_kept i high) still_passes g.fine))
 
 -- ---- what a task names, with one block less
 
-pub held_of : (m : Files) (x : Image) (claims : Claims) (i : ℕ) (h : Held) → IsHeldIn m x claims i h → IsHeld x i h (file_in m i)
+pub held_of : (m : Files) (x : Image) (claims : Claims) (i : ℕ) (h : Held) → IsHeldIn m x claims i (frees h) → IsHeld x i h (file_in m i)
 held_of m x claims i h g =
     let at = between x i g.number in
-    subst (λ (c : Option Held). IsFine x i c (file_in m i)) g.holds (g.fits.each i at.low at.high)
+    subst (λ (c : Option Claim). IsFine x i c (file_in m i)) g.holds (g.fits.each i at.low at.high)
 
-set_below : (xs : List ℕ) (k : ℕ) → ((j : ℕ) → get_or xs j 0 < 2 ^ 32) → (j : ℕ) → get_or (set xs k 0) j 0 < 2 ^ 32
-set_below xs k each j =
+pub set_below : (xs : List ℕ) (k v : ℕ) → v < 2 ^ 32 → ((j : ℕ) → get_or xs j 0 < 2 ^ 32) → (j : ℕ) → get_or (set xs k v) j 0 < 2 ^ 32
+set_below xs k v small each j =
     ⊎_elim
     (λ (e : j ≡ k).
     ⊎_elim
-    (λ (within : k < length xs). rw (e, get_or-set_same xs k 0 0 within) (omega arith))
-    (λ (past : length xs ≤ k). rw (set_past xs k 0 past) (each j))
+    (λ (within : k < length xs). rw (e, get_or-set_same xs k v 0 within) small)
+    (λ (past : length xs ≤ k). rw (set_past xs k v past) (each j))
     (cases_lt k (length xs)))
-    (λ (ne : j ≢ k). rw (get_or-set_other xs k j 0 0 ne) (each j))
+    (λ (ne : j ≢ k). rw (get_or-set_other xs k j v 0 ne) (each j))
     (cases_eq j k)
 
 held_without : (x : Image) (i k : ℕ) (h : Held) (file : Option File) → IsHeld x i h file → IsHeld x i (without_address h k) file
@@ -245,7 +181,7 @@ held_without x i k h file held = record {
     nlink = held.fields.nlink;
     size = held.fields.size;
     count = length-set h.copy.addrs k 0 ∙ held.fields.count;
-    addrs = set_below h.copy.addrs k held.fields.addrs;
+    addrs = set_below h.copy.addrs k 0 (omega arith) held.fields.addrs;
   };
   used = held.used;
   kind = held.kind;
@@ -278,7 +214,7 @@ present_head a rest c =
     let q = ap (count_of c) all in omega arith)
     (cases_eq a 0)
 
-present_one : (b c : ℕ) (names : List ℕ) → b ≢ 0 → count_of c (b ∷ names) ≡ count_of c (present (b ∷ [])) + count_of c names
+pub present_one : (b c : ℕ) (names : List ℕ) → b ≢ 0 → count_of c (b ∷ names) ≡ count_of c (present (b ∷ [])) + count_of c names
 present_one b c names some =
     let one : present (b ∷ []) ≡ b ∷ [] = rw (ne_eqb b 0 some) refl in
     let both = count_of-append c (b ∷ []) names in
@@ -369,7 +305,7 @@ indirect_given_up m x claims new i h g some all now =
     let count = held.fields.count in
     let at = between x i g.number in
     let there = claimed_in_data m x claims i a g.fits at.low at.high
-    (subst (λ (o : Option Held). 1 ≤ count_of a (names_claimed x i o)) (sym g.holds)
+    (subst (λ (o : Option Claim). 1 ≤ count_of a (names_claimed x i o)) (sym g.holds)
     (first_entry x (present (take 12 addrs)) a h.given_up some)) in
     let from = there.0 in
     let words = length-words_of-block (block_at x a) (g.fits.full a (omega arith) there.1) in

@@ -1,5 +1,5 @@
 -- What stays of the claims in an image that agrees with another at its data blocks.
-use Rattle.std.proofs.Common.{◌≡◌, ◌≢◌, ℕ, ◌+◌, ◌-◌, ◌<◌, ◌≤◌, Bool, ◌||◌, cond, eqb, ltb, List, [], ◌∷◌, ◌++◌, length, get_or, take, drop, Option, Some, None, refl, sym, ap, subst, ◌∙◌, ⊎_elim, arith}
+use Rattle.std.proofs.Common.{◌≡◌, ◌≢◌, ℕ, ◌+◌, ◌-◌, ◌<◌, ◌≤◌, Bool, ◌||◌, cond, eqb, ltb, List, [], ◌∷◌, ◌++◌, length, get_or, take, drop, Option, Some, None, refl, sym, ap, subst, ◌∙◌, ⊎_elim, arith, true, eqb-true, replicate, IsTrue, append-nil, zero, suc, set, get_or-set_other}
 use Rattle.std.specs.List.{flat_map, range_with_len}
 use Rattle.std.proofs.lemmas.Bool.{ne_eqb, eq-eqb, cases_eq}
 use Rattle.blocks.specs.Disk.{Image, block_at}
@@ -7,21 +7,27 @@ use Rattle.model.specs.declared.types.image.Dinode.{Dinode}
 use Rattle.model.specs.declared.types.image.File.{File}
 use Rattle.model.specs.declared.types.image.Form.TheVariants.{One}
 use Rattle.model.specs.declared.types.image.Super.{Super}
-use Rattle.model.specs.Agreement.{AgreesFor}
+use Rattle.model.specs.Agreement.{AgreesFor, Agrees}
 use Rattle.model.specs.Fields.{u32_at, words_of}
 use Rattle.model.specs.Files.{Files, file_in}
-use Rattle.model.specs.Layout.{super_in, super_of, magic_of, is_lawful_super, inode_of, inode_count_of, first_data_block, meta_count}
-use Rattle.model.specs.Places.{pointers_of, addresses_in}
+use Rattle.model.specs.Layout.{super_in, super_of, magic_of, is_lawful_super, inode_of, inode_count_of, first_data_block, meta_count, form_of, magic_at, depths, inode_block, inode_in, inode_bytes_in}
+use Rattle.model.specs.Places.{addresses_in, pointers_in}
 use Rattle.model.specs.Soundness.{IsLawfulGeometry, count_of}
-use Rattle.model.specs.Lemmas.Counts.{count_flat, count_flat_one, count_of-append}
-use Rattle.model.specs.Lemmas.Frames.{address_agree, bytes_agree}
+use Rattle.model.specs.Lemmas.Counts.{count_flat, count_flat_one, count_of-append, count_two}
+use Rattle.model.specs.Lemmas.Frames.{address_agree, bytes_agree, pointers_agree}
 use Rattle.model.specs.Lemmas.OutsideLog.{flat_map_range_same}
-use Rattle.loose.specs.Held.{Held, Claims, FitsHeld, IsFine, names_claimed, entries_left, owned, present}
-use Rattle.loose.specs.HeldLaws.{FitsThen, HasSameFile}
+use Rattle.loose.specs.Held.{Claims, FitsHeld, IsFine, names_claimed, entries_left, owned, present, Claim, names_left, frees, grows, listed, IsGrowing, Growth}
+use Rattle.loose.specs.HeldLaws.{FitsThen, HasSameFile, KeepsAddresses, StaysHeld, IsHeldIn, copy_in, KeepsGrown}
 use Rattle.loose.specs.Loose.{AreFull, LiesInData, IsLoose}
 use Rattle.loose.specs.Looks.{IsUsed}
-use Rattle.loose.specs.Lemmas.Frames.{list_all-counted, AgreesAtData, rest_alike, addresses_alike}
+use Rattle.loose.specs.Lemmas.Frames.{list_all-counted, AgreesAtData, rest_alike, fit_alike}
 use Rattle.loose.specs.Lemmas.Looks.{between}
+use Rattle.model.specs.Crash.{labels_of}
+use Rattle.model.specs.Names.{names_under, names_along}
+use Rattle.model.specs.Lemmas.Names.{pointers_named}
+use Rattle.loose.specs.Lemmas.Wholes.{names_used}
+use Rattle.model.specs.Journal.{is_number}
+use Rattle.model.specs.declared.types.image.Form.{Form}
 
 -- two lists have each number equally often
 abbrev pub AreAlike : List ℕ → List ℕ → Type 0
@@ -47,7 +53,7 @@ held_alike m x claims new same f =
       count = f.count;
       zero = f.zero;
       each = λ i low high.
-          subst (λ (c : Option Held). IsFine x i c (file_in m i)) (sym (same i)) (f.each i low high);
+          subst (λ (c : Option Claim). IsFine x i c (file_in m i)) (sym (same i)) (f.each i low high);
     }
 
 -- what a number owns lies among the data
@@ -82,48 +88,130 @@ first_entry x front address given_up some =
     = ap (count_of address) all ∙ rw (eq-eqb address address refl) refl in
     omega arith
 
-pub names_same : (test : ℕ → Bool) (x y : Image) (i : ℕ) (c : Option Held) → AgreesAtData test x y → inode_of y i ≡ inode_of x i →
-    AreInData x (names_claimed x i c) → names_claimed y i c ≡ names_claimed x i c
+-- images that agree at a test's blocks, the superblock among them
+pub record AgreesAt (test : ℕ → Bool) (x y : Image) : Type 0 where
+  pub agree : Agrees test x y
+  pub one : test 1 ≡ true
+
+-- each block of a list passes a test
+abbrev pub Passes : (ℕ → Bool) → List ℕ → Type 0
+Passes test names = (b : ℕ) → 1 ≤ count_of b names → test b ≡ true
+
+pub at_data : (test : ℕ → Bool) (x y : Image) → AgreesAtData test x y → AgreesAt test x y
+at_data test x y h = record { agree = h.agree; one = h.one }
+
+pub agrees_of : (test : ℕ → Bool) (x y : Image) (d : Dinode) → AgreesAt test x y → Passes test (addresses_in (pointers_in x d)) →
+    AgreesFor test x y d
+agrees_of test x y d h there = record {
+  agree = h.agree;
+  one = h.one;
+  names = list_all-counted test (addresses_in (pointers_in x d)) there;
+}
+
+-- of a list and another behind it, what the second one has passes
+passes_behind : (test : ℕ → Bool) (front names : List ℕ) → Passes test (front ++ names) → Passes test names
+passes_behind test front names there b some =
+    let both = count_of-append b front names in
+    there b (omega (arith, both, some))
+
+pub names_same : (test : ℕ → Bool) (x y : Image) (i : ℕ) (c : Option Claim) → AgreesAt test x y → inode_of y i ≡ inode_of x i →
+    Passes test (names_claimed x i c) → names_claimed y i c ≡ names_claimed x i c
 names_same test x y i None h same there =
-    addresses_alike test x y i same (record {
-      agree = h.agree;
-      one = h.one;
-      names = list_all-counted test (addresses_in (pointers_of x i)) (λ b some. h.from_data b (there b some).0);
-    })
-names_same test x y i (Some t) h same there =
+    ap addresses_in (ap (pointers_in y) same ∙ pointers_agree test x y (inode_of x i) (agrees_of test x y (inode_of x i) h there))
+names_same test x y i (Some (frees t)) h same there =
     let a = get_or t.copy.addrs 12 0 in
     let front = present (take 12 t.copy.addrs) in
     ap (λ (l : List ℕ). front ++ l)
-    (entries_same x y a t.given_up
-    (λ some. h.agree a (h.from_data a (there a (first_entry x front a t.given_up some)).0)))
+    (entries_same x y a t.given_up (λ some. h.agree a (there a (first_entry x front a t.given_up some))))
+names_same test x y i (Some (grows g)) h same there =
+    ap (λ (l : List ℕ). listed g.taken ++ l)
+    (ap addresses_in
+    (pointers_agree test x y g.copy
+    (agrees_of test x y g.copy h (passes_behind test (listed g.taken) (addresses_in (pointers_in x g.copy)) there))))
 
-agrees_at : (test : ℕ → Bool) (x y : Image) (i : ℕ) → AgreesAtData test x y → AreInData x (addresses_in (pointers_of x i)) →
-    AgreesFor test x y (inode_of x i)
-agrees_at test x y i h there = record {
-  agree = h.agree;
-  one = h.one;
-  names = list_all-counted test (addresses_in (pointers_of x i)) (λ b some. h.from_data b (there b some).0);
-}
+pub labels_same : (x y : Image) (i : ℕ) (labels : ℕ × ℕ × ℕ) → inode_of y i ≡ inode_of x i → labels_of x i ≡ labels → labels_of y i ≡ labels
+labels_same x y i labels same was = ap (λ (d : Dinode). (d.major, d.minor, d.nlink)) same ∙ was
 
-pub fine_same : (test : ℕ → Bool) (x y : Image) (i : ℕ) (c : Option Held) (file : Option File) → AgreesAtData test x y →
-    inode_of y i ≡ inode_of x i → AreInData x (names_claimed x i c) → IsFine x i c file → IsFine y i c file
-fine_same test x y i None file h same there rest = rest_alike test x y i file same (agrees_at test x y i h there) rest
-fine_same test x y i (Some t) file h same there held = record {
+-- what a task writes stays where the blocks to which its copy leads do
+pub grown_same : (test : ℕ → Bool) (x y : Image) (i : ℕ) (g : Growth) (file : Option File) → AgreesAt test x y →
+    inode_of y i ≡ inode_of x i → Passes test (addresses_in (pointers_in x g.copy)) → IsGrowing x i g file → IsGrowing y i g file
+grown_same test x y i g file h same there held =
+    let agrees = agrees_of test x y g.copy h there in
+    record {
+      fit = fit_alike test x y g.copy agrees held.fit;
+      same_kind = ap (λ (d : Dinode). d.kind) same ∙ held.same_kind;
+      labels = labels_same x y i (g.copy.major, g.copy.minor, g.copy.nlink) same held.labels;
+      old = held.old;
+      was = held.was;
+      kind = held.kind;
+      reaches = held.reaches;
+      bytes = bytes_agree test x y g.copy agrees held.fit.used ∙ held.bytes;
+    }
+
+pub fine_same : (test : ℕ → Bool) (x y : Image) (i : ℕ) (c : Option Claim) (file : Option File) → AgreesAt test x y →
+    inode_of y i ≡ inode_of x i → Passes test (names_claimed x i c) → IsFine x i c file → IsFine y i c file
+fine_same test x y i None file h same there rest =
+    rest_alike test x y i file same (agrees_of test x y (inode_of x i) h there) rest
+fine_same test x y i (Some (frees t)) file h same there held = record {
   fields = held.fields;
   used = held.used;
   kind = held.kind;
   same_kind = ap (λ (d : Dinode). d.kind) same ∙ held.same_kind;
-  labels = ap (λ (d : Dinode). (d.major, d.minor, d.nlink)) same ∙ held.labels;
+  labels = labels_same x y i (t.copy.major, t.copy.minor, t.copy.nlink) same held.labels;
   last = held.last;
   told = held.told;
 }
+fine_same test x y i (Some (grows g)) file h same there held =
+    grown_same test x y i g file h same (passes_behind test (listed g.taken) (addresses_in (pointers_in x g.copy)) there) held
+
+-- ---- what an inode names
+
+pub one_form : (x : Image) → IsLawfulGeometry x → form_of x ≡ One
+one_form x g =
+    let is = eqb-true (magic_at x) (magic_of One) g.magic in
+    rw (is) refl
+
+under_direct : (x : Image) (words : List ℕ) → flat_map (λ a. names_under x 0 a) words ≡ present words
+under_direct x [] = refl
+under_direct x (w ∷ words) =
+    ⊎_elim
+    (λ (z : w ≡ 0). rw z (under_direct x words))
+    (λ (some : w ≢ 0). rw (ne_eqb w 0 some) (ap (λ (l : List ℕ). w ∷ l) (under_direct x words)))
+    (cases_eq w 0)
+
+along_present : (x : Image) (n : ℕ) (addrs : List ℕ) →
+    names_along x (replicate n 0 ++ 1 ∷ []) addrs ≡ present (take n addrs) ++ names_under x 1 (get_or addrs n 0)
+along_present x zero [] = refl
+along_present x zero (a ∷ addrs) = append-nil (names_under x 1 a)
+along_present x (suc n) [] = refl
+along_present x (suc n) (a ∷ addrs) =
+    ⊎_elim
+    (λ (z : a ≡ 0). rw z (along_present x n addrs))
+    (λ (some : a ≢ 0). rw (ne_eqb a 0 some) (ap (λ (l : List ℕ). a ∷ l) (along_present x n addrs)))
+    (cases_eq a 0)
+
+entries_all : (x : Image) (a : ℕ) → names_under x 1 a ≡ entries_left x a 0
+entries_all x a =
+    ⊎_elim
+    (λ (z : a ≡ 0). rw z refl)
+    (λ (some : a ≢ 0). rw (ne_eqb a 0 some) (ap (λ (l : List ℕ). a ∷ l) (under_direct x (words_of (block_at x a)))))
+    (cases_eq a 0)
+
+-- a whole inode names what a task with it as its copy has left
+pub whole_names : (x : Image) (d : Dinode) → IsLawfulGeometry x → d.kind ≢ 0 → names_left x d 0 ≡ addresses_in (pointers_in x d)
+whole_names x d g used =
+    sym (pointers_named x d ∙ names_used x d used
+    ∙ ap (λ (f : Form). names_along x (depths f) d.addrs) (one_form x g)
+    ∙ along_present x 12 d.addrs
+    ∙ ap (λ (l : List ℕ). present (take 12 d.addrs) ++ l) (entries_all x (get_or d.addrs 12 0)))
 
 -- ---- one number changes
 
 pub record ChangesOne (test : ℕ → Bool) (m : Files) (x : Image) (claims : Claims) (i : ℕ) (n : Files) (y : Image) (new : Claims) : Type 0
   where
     pub fits : FitsHeld m x claims
-    pub agree : AgreesAtData test x y
+    pub agree : AgreesAt test x y
+    pub passes : (j : ℕ) → 1 ≤ j → j < inode_count_of x → j ≢ i → Passes test (names_claimed x j (claims j))
     pub size : length y ≡ length x
     pub inodes : (j : ℕ) → j < inode_count_of x → j ≢ i → inode_of y j ≡ inode_of x j
     pub claims_same : (j : ℕ) → j ≢ i → new j ≡ claims j
@@ -148,13 +236,10 @@ module _ (test : ℕ → Bool) (m : Files) (x : Image) (claims : Claims) (i : �
     fields = ap (λ s. is_lawful_super s (length y)) super_kept ∙ ap (is_lawful_super (super_of x)) h.size ∙ h.fits.geometry.fields;
   }
 
-  pub in_data : (j : ℕ) → 1 ≤ j → j < inode_count_of x → AreInData x (names_claimed x j (claims j))
-  in_data j low high b some = claimed_in_data m x claims j b h.fits low high some
-
   other_names : (j : ℕ) → 1 ≤ j → j < inode_count_of x → j ≢ i → names_claimed y j (new j) ≡ names_claimed x j (claims j)
   other_names j low high ne =
       ap (names_claimed y j) (h.claims_same j ne)
-      ∙ names_same test x y j (claims j) h.agree (h.inodes j high ne) (in_data j low high)
+      ∙ names_same test x y j (claims j) h.agree (h.inodes j high ne) (h.passes j low high ne)
 
   pub owned_kept : (c : ℕ) → 1 ≤ i → i < inode_count_of x →
       count_of c (owned y new) + count_of c (names_claimed x i (claims i)) ≡ count_of c (owned x claims) + count_of c (names_claimed y i (new i))
@@ -169,19 +254,54 @@ module _ (test : ℕ → Bool) (m : Files) (x : Image) (claims : Claims) (i : �
 
   other_fine : (j : ℕ) → 1 ≤ j → j < inode_count_of x → j ≢ i → IsFine y j (new j) (file_in n j)
   other_fine j low high ne =
-      subst (λ (c : Option Held). IsFine y j c (file_in n j)) (sym (h.claims_same j ne))
+      subst (λ (c : Option Claim). IsFine y j c (file_in n j)) (sym (h.claims_same j ne))
       (subst (IsFine y j (claims j)) (sym (h.files j ne))
-      (fine_same test x y j (claims j) (file_in m j) h.agree (h.inodes j high ne) (in_data j low high) (h.fits.each j low high)))
+      (fine_same test x y j (claims j) (file_in m j) h.agree (h.inodes j high ne) (h.passes j low high ne) (h.fits.each j low high)))
+
+  -- what number j claims passes
+  claim_passes : (j : ℕ) (c : Option Claim) → j ≢ i → IsTrue (is_number (inode_count_of x) j) → claims j ≡ c →
+      Passes test (names_claimed x j c)
+  claim_passes j c ne number is =
+      let at = between x j number in
+      subst (λ (o : Option Claim). Passes test (names_claimed x j o)) is (h.passes j at.low at.high ne)
 
   pub same_file : (j : ℕ) → j ≢ i → claims j ≡ None → IsUsed x j → HasSameFile x y j
   same_file j ne rest used =
       let at = between x j used.0 in
-      let agrees = agrees_at test x y j h.agree
-      (subst (λ (c : Option Held). AreInData x (names_claimed x j c)) rest (in_data j at.low at.high)) in
+      let agrees = agrees_of test x y (inode_of x j) h.agree (claim_passes j None ne used.0 rest) in
       record {
         inode = h.inodes j at.high ne;
         addresses = λ k. (address_agree test x y (inode_of x j) agrees used.1 k).0;
         bytes = bytes_agree test x y (inode_of x j) agrees used.1;
+      }
+
+  -- a block that the copy names for its addresses is among those that it claims
+  kept_addresses : (d : Dinode) (given_up : ℕ) → Passes test (names_left x d given_up) → KeepsAddresses x y d
+  kept_addresses d given_up there some =
+      let a = get_or d.addrs 12 0 in
+      h.agree.agree a (there a (first_entry x (present (take 12 d.addrs)) a given_up some))
+
+  -- where a task's copy leads, and its file
+  held_leads : (j : ℕ) (c : Claim) → j ≢ i → IsTrue (is_number (inode_count_of x) j) → claims j ≡ Some c →
+      KeepsAddresses x y (copy_in c) × KeepsGrown x y c
+  held_leads j (frees t) ne number holds =
+      (kept_addresses t.copy t.given_up (claim_passes j (Some (frees t)) ne number holds), tt)
+  held_leads j (grows g) ne number holds =
+      let at = between x j number in
+      let there = passes_behind test (listed g.taken) (addresses_in (pointers_in x g.copy)) (claim_passes j (Some (grows g)) ne number holds) in
+      let fine : IsGrowing x j g (file_in m j) = subst (λ (o : Option Claim). IsFine x j o (file_in m j)) holds (h.fits.each j at.low at.high) in
+      let agrees = agrees_of test x y g.copy h.agree there in (
+        kept_addresses g.copy 0 (subst (Passes test) (sym (whole_names x g.copy h.fits.geometry fine.fit.used)) there),
+        ((λ k. (address_agree test x y g.copy agrees fine.fit.used k).0), bytes_agree test x y g.copy agrees fine.fit.used),
+      )
+
+  pub stays_held : (j : ℕ) (c : Claim) → j ≢ i → IsTrue (is_number (inode_count_of x) j) → claims j ≡ Some c → StaysHeld x y c
+  stays_held j c ne number holds =
+      let leads = held_leads j c ne number holds in
+      record {
+        names = names_same test x y j (Some c) h.agree (h.inodes j (between x j number).high ne) (claim_passes j (Some c) ne number holds);
+        indirect = leads.0;
+        grown = leads.1;
       }
 
   pub fits_then : AreFull y → IsLoose y (owned y new) → IsFine y i (new i) (file_in n i) → FitsThen n x claims i y new
@@ -201,4 +321,47 @@ module _ (test : ℕ → Bool) (m : Files) (x : Image) (claims : Claims) (i : �
               (cases_eq j i);
         };
         others = same_file;
+        held = stays_held;
       }
+
+-- where the data blocks stay, what each number owns passes
+pub data_passes : (test : ℕ → Bool) (m : Files) (x y : Image) (claims : Claims) → FitsHeld m x claims → AgreesAtData test x y →
+    (j : ℕ) → 1 ≤ j → j < inode_count_of x → Passes test (names_claimed x j (claims j))
+data_passes test m x y claims f h j low high b some = h.from_data b (claimed_in_data m x claims j b f low high some).0
+
+-- a block that one number owns, no other does
+pub owned_by_one : (m : Files) (x : Image) (claims : Claims) (i j b : ℕ) → FitsHeld m x claims → 1 ≤ i → i < inode_count_of x →
+    1 ≤ j → j < inode_count_of x → j ≢ i → 1 ≤ count_of b (names_claimed x i (claims i)) →
+    count_of b (names_claimed x j (claims j)) ≡ 0
+owned_by_one m x claims i j b f low high first last ne mine =
+    let once = f.loose.once b in
+    let both = count_two (λ k. names_claimed x k (claims k)) b 1 (inode_count_of x - 1) i j low (omega (arith, high)) first (omega (arith, last)) (λ e. ne (sym e)) in
+    omega (arith, once, both, mine)
+
+-- what the task holds that writes into a number's file
+pub growing_of : (m : Files) (x : Image) (claims : Claims) (i : ℕ) (g : Growth) → IsHeldIn m x claims i (grows g) → IsGrowing x i g (file_in m i)
+growing_of m x claims i g h =
+    let at = between x i h.number in
+    subst (λ (c : Option Claim). IsFine x i c (file_in m i)) h.holds (h.fits.each i at.low at.high)
+
+-- an inode whose block stays
+pub inode_elsewhere : (x : Image) (j b : ℕ) (bytes : List ℕ) → inode_block j ≢ b → inode_of (set x b bytes) j ≡ inode_of x j
+unfolding inode_of
+inode_elsewhere x j b bytes ne = ap (λ block. inode_in (inode_bytes_in block j)) (get_or-set_other x b (inode_block j) bytes [] ne)
+
+-- what a number owns, it owns once
+pub owned_once : (m : Files) (x : Image) (claims : Claims) (i b : ℕ) → FitsHeld m x claims → 1 ≤ i → i < inode_count_of x →
+    count_of b (names_claimed x i (claims i)) ≤ 1
+owned_once m x claims i b f low high =
+    let once = f.loose.once b in
+    let few : count_of b (names_claimed x i (claims i)) ≤ count_of b (owned x claims)
+    = count_flat (λ j. names_claimed x j (claims j)) b 1 (inode_count_of x - 1) i low (omega (arith, high)) in
+    omega (arith, once, few)
+
+-- in the same image each task holds the same
+pub stays_same : (x : Image) (c : Claim) → StaysHeld x x c
+stays_same x c = record { names = refl; indirect = λ some. refl; grown = grown c }
+  where
+    grown : (c : Claim) → KeepsGrown x x c
+    grown (frees h) = tt
+    grown (grows g) = ((λ k. refl), refl)

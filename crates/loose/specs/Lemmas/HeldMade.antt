@@ -10,20 +10,25 @@ use Rattle.model.specs.Files.{Files, file_at}
 use Rattle.model.specs.Journal.{is_number}
 use Rattle.model.specs.Layout.{inode_of, inode_count_of, inode_block}
 use Rattle.loose.specs.Claims.{with_new_file}
-use Rattle.loose.specs.Held.{Claims, FitsHeld}
+use Rattle.loose.specs.Held.{Claims, FitsHeld, frees, grows}
 use Rattle.loose.specs.Loose.{Fits}
 use Rattle.loose.specs.Lemmas.AtRest.{fits_at_rest}
 use Rattle.loose.specs.Lemmas.Claims.{claims, apart}
 use Rattle.loose.specs.Lemmas.Made.{witness}
 use Rattle.loose.specs.Lemmas.Turns.{turn_holds, used_file}
 use Rattle.loose.specs.Lemmas.WriteBacks.{claim_fits}
+use Rattle.loose.specs.Lemmas.BlocksTaken.{turn_grows}
 
 abbrev nobody : Claims
 nobody i = None
 
 -- who removes number 1
 abbrev remover : Dinode → Claims
-remover d i = cond (eqb i 1) (Some (record { copy = d; given_up = 0; last_kind = 0 })) None
+remover d i = cond (eqb i 1) (Some (frees (record { copy = d; given_up = 0; last_kind = 0 }))) None
+
+-- who writes into it
+abbrev writer : Dinode → Claims
+writer d i = cond (eqb i 1) (Some (grows (record { copy = d; taken = None; offset = 0; written = [] }))) None
 
 -- an image that stands for files, with number 1 free
 module _ (m : Files) (x : Image) (f : Fits m x) (none : file_at x 1 ≡ None) (some : 1 < inode_count_of x) where
@@ -64,6 +69,13 @@ module _ (m : Files) (x : Image) (f : Fits m x) (none : file_at x 1 ≡ None) (s
       (lt-ltb 1 (inode_count_of y) numbers, λ z. omega (arith, ap (λ (d : Dinode). d.kind) own, z)) refl (inl refl)
       (record { own = refl; others = λ j ne. rw (ne_eqb j 1 ne) refl })).fits
 
+  -- and one who writes into it from its start on
+  pub written_into : FitsHeld (with_new_file m 1 2) y (writer (inode_of y 1))
+  written_into =
+      (turn_grows (with_new_file m 1 2) y nobody (writer (inode_of y 1)) 1 0 made
+      (lt-ltb 1 (inode_count_of y) numbers, λ z. omega (arith, ap (λ (d : Dinode). d.kind) own, z)) refl (omega arith)
+      (record { own = refl; others = λ j ne. rw (ne_eqb j 1 ne) refl })).fits
+
 -- so it is in one of 400 blocks with 32 numbers
 pub held_witness : FitsHeld (set (with_new_file (replicate 32 None) 1 2) 1 None) (with_inode (made_image One 400 32) 1 (new_inode 2))
     (remover (inode_of (with_inode (made_image One 400 32) 1 (new_inode 2)) 1))
@@ -71,3 +83,10 @@ held_witness =
     let x = made_image One 400 32 in
     let some : 1 < inode_count_of x = let count = witness.count in omega arith in
     removed (replicate 32 None) x witness ((witness.each 1 (omega arith) some).same) some
+
+pub grown_witness : FitsHeld (with_new_file (replicate 32 None) 1 2) (with_inode (made_image One 400 32) 1 (new_inode 2))
+    (writer (inode_of (with_inode (made_image One 400 32) 1 (new_inode 2)) 1))
+grown_witness =
+    let x = made_image One 400 32 in
+    let some : 1 < inode_count_of x = let count = witness.count in omega arith in
+    written_into (replicate 32 None) x witness ((witness.each 1 (omega arith) some).same) some

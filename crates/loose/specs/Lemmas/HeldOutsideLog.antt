@@ -1,5 +1,5 @@
 -- The log has no part in which files an image stands for, be numbers held or not.
-use Rattle.std.proofs.Common.{◌≡◌, ◌≢◌, ℕ, suc, ◌<◌, length, None, refl, ap, ◌∙◌, arith}
+use Rattle.std.proofs.Common.{◌≡◌, ◌≢◌, ℕ, suc, ◌<◌, length, refl, ap, ◌∙◌, arith, ◌≤◌}
 use Rattle.blocks.specs.Disk.{Image}
 use Rattle.model.specs.Agreement.{IsSameOutsideLog, is_outside_log}
 use Rattle.model.specs.Files.{Files, file_in}
@@ -7,20 +7,23 @@ use Rattle.model.specs.Layout.{super_of, inode_count_of}
 use Rattle.model.specs.Soundness.{count_of}
 use Rattle.model.specs.Lemmas.OutsideLog.{behind_log}
 use Rattle.model.specs.Lemmas.Soundness.{facts_of}
-use Rattle.loose.specs.Held.{Claims, FitsHeld, owned}
-use Rattle.loose.specs.HeldLaws.{HasSameFile, HeldOutsideLog}
+use Rattle.loose.specs.Held.{Claims, FitsHeld, owned, names_claimed}
+use Rattle.loose.specs.HeldLaws.{HeldOutsideLog, FitsThen}
 use Rattle.loose.specs.Loose.{AreFull}
-use Rattle.loose.specs.Looks.{IsUsed}
 use Rattle.loose.specs.Lemmas.Frames.{SameSuperAndMap, loose_same}
-use Rattle.loose.specs.Lemmas.HeldFrames.{ChangesOne, loose_alike, names_same, fine_same, in_data, owned_kept, fits_then, same_file}
+use Rattle.loose.specs.Lemmas.HeldFrames.{ChangesOne, loose_alike, names_same, fine_same, owned_kept, fits_then, same_file, at_data, Passes, data_passes, stays_held}
 use Rattle.loose.specs.Lemmas.OutsideLog.{inode_outside, data_outside}
 
 module _ (m : Files) (x y : Image) (claims : Claims) (same : IsSameOutsideLog x y) (f : FitsHeld m x claims) where
+  all_pass : (j : ℕ) → 1 ≤ j → j < inode_count_of x → Passes is_outside_log (names_claimed x j (claims j))
+  all_pass = data_passes is_outside_log m x y claims f (data_outside x y same.agree)
+
   -- whichever number is taken for the one that changes
   change : (i : ℕ) → i ≢ 0 → ChangesOne is_outside_log m x claims i m y claims
   change i some = record {
     fits = f;
-    agree = data_outside x y same.agree;
+    agree = at_data is_outside_log x y (data_outside x y same.agree);
+    passes = λ j first last ne. all_pass j first last;
     size = same.size;
     inodes = λ j inside ne. inode_outside x y j same.agree;
     claims_same = λ j ne. refl;
@@ -48,8 +51,8 @@ module _ (m : Files) (x y : Image) (claims : Claims) (same : IsSameOutsideLog x 
   same_owned c =
       let inside = two in
       let kept = owned_kept is_outside_log m x claims 1 m y claims first c (omega arith) inside in
-      let own = ap (count_of c) (names_same is_outside_log x y 1 (claims 1) (data_outside x y same.agree) (inode_outside x y 1 same.agree)
-      (in_data is_outside_log m x claims 1 m y claims first 1 (omega arith) inside)) in
+      let own = ap (count_of c) (names_same is_outside_log x y 1 (claims 1) first.agree (inode_outside x y 1 same.agree)
+      (all_pass 1 (omega arith) inside)) in
       omega arith
 
   full_kept : AreFull y
@@ -62,12 +65,22 @@ module _ (m : Files) (x y : Image) (claims : Claims) (same : IsSameOutsideLog x 
       let inside = two in
       (fits_then is_outside_log m x claims 1 m y claims first full_kept
       (loose_alike y (owned x claims) (owned y claims) same_owned (loose_same x y (owned x claims) base f.loose))
-      (fine_same is_outside_log x y 1 (claims 1) (file_in m 1) (data_outside x y same.agree) (inode_outside x y 1 same.agree)
-      (in_data is_outside_log m x claims 1 m y claims first 1 (omega arith) inside) (f.each 1 (omega arith) inside))).fits
+      (fine_same is_outside_log x y 1 (claims 1) (file_in m 1) first.agree (inode_outside x y 1 same.agree)
+      (all_pass 1 (omega arith) inside) (f.each 1 (omega arith) inside))).fits
 
-  file_kept : (j : ℕ) → claims j ≡ None → IsUsed x j → HasSameFile x y j
-  file_kept j rest used =
-      same_file is_outside_log m x claims (suc j) m y claims (change (suc j) (λ e. omega arith)) j (λ e. omega arith) rest used
+  -- as if the number behind j changed
+  as_behind : (j : ℕ) → FitsThen m x claims (suc j) y claims
+  as_behind j =
+      let one = change (suc j) (λ e. omega arith) in
+      record {
+        fits = fits_outside;
+        others = same_file is_outside_log m x claims (suc j) m y claims one;
+        held = stays_held is_outside_log m x claims (suc j) m y claims one;
+      }
 
 pub held_outside : HeldOutsideLog
-held_outside m x y claims same f = (fits_outside m x y claims same f, file_kept m x y claims same f)
+held_outside m x y claims same f = record {
+  fits = fits_outside m x y claims same f;
+  others = λ j ne rest used. (as_behind m x y claims same f j).others j (λ e. omega arith) rest used;
+  held = λ j c ne number holds. (as_behind m x y claims same f j).held j c (λ e. omega arith) number holds;
+}

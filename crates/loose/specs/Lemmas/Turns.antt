@@ -1,43 +1,35 @@
 -- What becomes of the claims where the image stays: a turn, and an entry that is passed over.
-use Rattle.std.proofs.Common.{◌≡◌, ◌≢◌, ℕ, zero, suc, ◌+◌, ◌<◌, ◌≤◌, true, List, [], ◌∷◌, ◌++◌, length, get_or, set, take, replicate, Option, Some, None, refl, sym, ap, subst, ◌∙◌, ⊎_elim, arith}
-use Rattle.std.specs.List.{flat_map}
-use Rattle.std.proofs.lemmas.Bool.{ne_eqb, eqb-true, cases_eq}
-use Rattle.std.proofs.lemmas.List.{append-nil, length-set, get_or-set_same, get_or-set_other}
+use Rattle.std.proofs.Common.{◌≡◌, ◌≢◌, ℕ, suc, ◌+◌, ◌<◌, ◌≤◌, true, [], ◌∷◌, length, get_or, set, Option, Some, None, refl, sym, ap, subst, ◌∙◌, ⊎_elim, arith}
+use Rattle.std.proofs.lemmas.Bool.{ne_eqb, cases_eq}
+use Rattle.std.proofs.lemmas.List.{length-set, get_or-set_same, get_or-set_other}
 use Rattle.blocks.specs.Disk.{Image, block_at}
-use Rattle.model.specs.declared.types.image.Dinode.{Dinode}
-use Rattle.model.specs.declared.types.image.Form.{Form}
-use Rattle.model.specs.declared.types.image.Form.TheVariants.{One}
 use Rattle.model.specs.Fields.{words_of}
 use Rattle.model.specs.Files.{Files, file_in, file_at, file_of, bytes_in}
-use Rattle.model.specs.Layout.{depths, form_of, magic_at, magic_of, inode_of, inode_count_of}
-use Rattle.model.specs.Names.{names_under, names_along}
+use Rattle.model.specs.Layout.{inode_of, inode_count_of}
 use Rattle.model.specs.Operations.{after}
-use Rattle.model.specs.Places.{pointers_in, addresses_in}
-use Rattle.model.specs.Soundness.{IsLawfulGeometry, count_of}
-use Rattle.model.specs.Lemmas.Names.{pointers_named}
-use Rattle.loose.specs.Held.{Held, Claims, FitsHeld, IsFine, names_claimed, names_left, entries_left, owned, present, file_left}
+use Rattle.model.specs.Soundness.{count_of}
+use Rattle.loose.specs.Held.{Held, Claims, FitsHeld, IsFine, names_claimed, names_left, entries_left, owned, present, file_left, Claim}
 use Rattle.loose.specs.HeldLaws.{FitsThen, EntryPassed, TurnHolds, TurnAnswers, entry_at}
 use Rattle.loose.specs.Loose.{IsAtRest}
 use Rattle.loose.specs.Looks.{IsUsed}
 use Rattle.loose.specs.Lemmas.Frames.{AgreesAtData}
 use Rattle.loose.specs.Lemmas.GivenUp.{held_of, held_further, names_parts, entry_less}
-use Rattle.loose.specs.Lemmas.HeldFrames.{ChangesOne, loose_alike, owned_kept, fits_then}
+use Rattle.loose.specs.Lemmas.HeldFrames.{ChangesOne, loose_alike, owned_kept, fits_then, at_data, whole_names}
 use Rattle.loose.specs.Lemmas.Looks.{between}
-use Rattle.loose.specs.Lemmas.Wholes.{names_used}
 
 agrees_itself : (x : Image) → AgreesAtData (λ _. true) x x
 agrees_itself x = record { agree = λ b pass. refl; one = refl; from_data = λ b from. refl }
 
 -- the image stays, and so do the blocks that the number owns
-record ChangesClaim (m : Files) (x : Image) (claims : Claims) (i : ℕ) (n : Files) (new : Claims) : Type 0 where
-  fits : FitsHeld m x claims
-  low : 1 ≤ i
-  high : i < inode_count_of x
-  claims_same : (j : ℕ) → j ≢ i → new j ≡ claims j
-  count : length n ≡ length m
-  files : (j : ℕ) → j ≢ i → file_in n j ≡ file_in m j
-  alike : (c : ℕ) → count_of c (names_claimed x i (new i)) ≡ count_of c (names_claimed x i (claims i))
-  fine : IsFine x i (new i) (file_in n i)
+pub record ChangesClaim (m : Files) (x : Image) (claims : Claims) (i : ℕ) (n : Files) (new : Claims) : Type 0 where
+  pub fits : FitsHeld m x claims
+  pub low : 1 ≤ i
+  pub high : i < inode_count_of x
+  pub claims_same : (j : ℕ) → j ≢ i → new j ≡ claims j
+  pub count : length n ≡ length m
+  pub files : (j : ℕ) → j ≢ i → file_in n j ≡ file_in m j
+  pub alike : (c : ℕ) → count_of c (names_claimed x i (new i)) ≡ count_of c (names_claimed x i (claims i))
+  pub fine : IsFine x i (new i) (file_in n i)
 
 module _ (m : Files) (x : Image) (claims : Claims) (i : ℕ) (n : Files) (new : Claims) (h : ChangesClaim m x claims i n new) where
   change : ChangesOne (λ _. true) m x claims i n x new
@@ -45,7 +37,8 @@ module _ (m : Files) (x : Image) (claims : Claims) (i : ℕ) (n : Files) (new : 
       let low = h.low in
       record {
         fits = h.fits;
-        agree = agrees_itself x;
+        agree = at_data (λ _. true) x x (agrees_itself x);
+        passes = λ j first last ne b some. refl;
         size = refl;
         inodes = λ j inside ne. refl;
         claims_same = h.claims_same;
@@ -60,7 +53,7 @@ module _ (m : Files) (x : Image) (claims : Claims) (i : ℕ) (n : Files) (new : 
       let alike = h.alike c in
       omega arith
 
-  changes_claim : FitsThen n x claims i x new
+  pub changes_claim : FitsThen n x claims i x new
   changes_claim =
       fits_then (λ _. true) m x claims i n x new change h.fits.full
       (loose_alike x (owned x claims) (owned x new) same_owned h.fits.loose) h.fine
@@ -99,57 +92,18 @@ entry_passed m x claims new i h g none now =
       count = refl;
       files = λ j ne. refl;
       alike = λ c.
-          ap (λ (o : Option Held). count_of c (names_claimed x i o)) now.own ∙ passed_alike x h c none
-          ∙ sym (ap (λ (o : Option Held). count_of c (names_claimed x i o)) g.holds);
-      fine = subst (λ (o : Option Held). IsFine x i o (file_in m i)) (sym now.own)
+          ap (λ (o : Option Claim). count_of c (names_claimed x i o)) now.own ∙ passed_alike x h c none
+          ∙ sym (ap (λ (o : Option Claim). count_of c (names_claimed x i o)) g.holds);
+      fine = subst (λ (o : Option Claim). IsFine x i o (file_in m i)) (sym now.own)
           (held_further x i e h (file_in m i) (held_of m x claims i h g));
     })).fits
 
 -- ---- a turn
 
-one_form : (x : Image) → IsLawfulGeometry x → form_of x ≡ One
-one_form x g =
-    let is = eqb-true (magic_at x) (magic_of One) g.magic in
-    rw (is) refl
-
-under_direct : (x : Image) (words : List ℕ) → flat_map (λ a. names_under x 0 a) words ≡ present words
-under_direct x [] = refl
-under_direct x (w ∷ words) =
-    ⊎_elim
-    (λ (z : w ≡ 0). rw z (under_direct x words))
-    (λ (some : w ≢ 0). rw (ne_eqb w 0 some) (ap (λ (l : List ℕ). w ∷ l) (under_direct x words)))
-    (cases_eq w 0)
-
-along_present : (x : Image) (n : ℕ) (addrs : List ℕ) →
-    names_along x (replicate n 0 ++ 1 ∷ []) addrs ≡ present (take n addrs) ++ names_under x 1 (get_or addrs n 0)
-along_present x zero [] = refl
-along_present x zero (a ∷ addrs) = append-nil (names_under x 1 a)
-along_present x (suc n) [] = refl
-along_present x (suc n) (a ∷ addrs) =
-    ⊎_elim
-    (λ (z : a ≡ 0). rw z (along_present x n addrs))
-    (λ (some : a ≢ 0). rw (ne_eqb a 0 some) (ap (λ (l : List ℕ). a ∷ l) (along_present x n addrs)))
-    (cases_eq a 0)
-
-entries_all : (x : Image) (a : ℕ) → names_under x 1 a ≡ entries_left x a 0
-entries_all x a =
-    ⊎_elim
-    (λ (z : a ≡ 0). rw z refl)
-    (λ (some : a ≢ 0). rw (ne_eqb a 0 some) (ap (λ (l : List ℕ). a ∷ l) (under_direct x (words_of (block_at x a)))))
-    (cases_eq a 0)
-
--- a whole inode names what a task with it as its copy has left
-whole_names : (x : Image) (d : Dinode) → IsLawfulGeometry x → d.kind ≢ 0 → names_left x d 0 ≡ addresses_in (pointers_in x d)
-whole_names x d g used =
-    sym (pointers_named x d ∙ names_used x d used
-    ∙ ap (λ (f : Form). names_along x (depths f) d.addrs) (one_form x g)
-    ∙ along_present x 12 d.addrs
-    ∙ ap (λ (l : List ℕ). present (take 12 d.addrs) ++ l) (entries_all x (get_or d.addrs 12 0)))
-
-at_rest_of : (m : Files) (x : Image) (claims : Claims) (i : ℕ) → FitsHeld m x claims → IsUsed x i → claims i ≡ None → IsAtRest x i (file_in m i)
+pub at_rest_of : (m : Files) (x : Image) (claims : Claims) (i : ℕ) → FitsHeld m x claims → IsUsed x i → claims i ≡ None → IsAtRest x i (file_in m i)
 at_rest_of m x claims i f used none =
     let at = between x i used.0 in
-    subst (λ (o : Option Held). IsFine x i o (file_in m i)) none (f.each i at.low at.high)
+    subst (λ (o : Option Claim). IsFine x i o (file_in m i)) none (f.each i at.low at.high)
 
 pub turn_holds : TurnHolds
 turn_holds m x claims new i last f used none last_is now =
@@ -167,9 +121,9 @@ turn_holds m x claims new i last f used none last_is now =
       count = length-set m i (file_left last);
       files = λ j ne. get_or-set_other m i j (file_left last) None ne;
       alike = λ c.
-          ap (λ (o : Option Held). count_of c (names_claimed x i o)) now.own ∙ ap (count_of c) (whole_names x d f.geometry used.1)
-          ∙ sym (ap (λ (o : Option Held). count_of c (names_claimed x i o)) none);
-      fine = subst (λ (o : Option Held). IsFine x i o (file_in (set m i (file_left last)) i)) (sym now.own)
+          ap (λ (o : Option Claim). count_of c (names_claimed x i o)) now.own ∙ ap (count_of c) (whole_names x d f.geometry used.1)
+          ∙ sym (ap (λ (o : Option Claim). count_of c (names_claimed x i o)) none);
+      fine = subst (λ (o : Option Claim). IsFine x i o (file_in (set m i (file_left last)) i)) (sym now.own)
           (record {
             fields = fit.fields;
             used = fit.used;

@@ -1,4 +1,4 @@
--- What an inode without blocks at a number's place makes of an image in which tasks hold files.
+-- What an inode at a number's place makes of an image in which tasks hold files.
 use Rattle.std.proofs.Common.{◌≡◌, ◌≢◌, ℕ, ◌*◌, ◌%◌, ◌<◌, ◌≤◌, Bool, true, not, eqb, leb, List, [], length, replicate, Option, Some, None, refl, sym, ap, subst, ◌∙◌, ⊎_elim, arith}
 use Rattle.std.proofs.lemmas.Bool.{ne_eqb, cases_eq, leb-true}
 use Rattle.std.proofs.lemmas.List.{length-set, get_or-set_same, get_or-set_other}
@@ -12,37 +12,36 @@ use Rattle.model.specs.Names.{names_along, names_of}
 use Rattle.model.specs.Places.{pointers_in, addresses_in}
 use Rattle.model.specs.Soundness.{count_of}
 use Rattle.model.specs.Lemmas.Codecs.{length-overwritten, length-dinode_bytes}
-use Rattle.model.specs.Lemmas.Frames.{Agrees-set, pointers_free}
+use Rattle.model.specs.Lemmas.Frames.{Agrees-set, pointers_free, pointers_agree, file_agree}
 use Rattle.model.specs.Lemmas.Inodes.{IsPlaced, is_dinode-new_inode, inode_of-with_inode, inode_of-with_inode_other}
 use Rattle.model.specs.Lemmas.Log.{both_of}
 use Rattle.model.specs.Lemmas.Names.{pointers_named}
 use Rattle.model.specs.Lemmas.Runs.{after-made}
 use Rattle.loose.specs.Claims.{with_new_file}
-use Rattle.loose.specs.Held.{Held, Claims, FitsHeld, IsHeld, IsFine, IsClaimedNow, names_claimed, names_left, owned, file_left, last_inode}
+use Rattle.loose.specs.Held.{Held, Claims, FitsHeld, IsHeld, IsFine, IsClaimedNow, names_claimed, names_left, owned, file_left, last_inode, Claim}
 use Rattle.loose.specs.HeldLaws.{FitsThen, WriteBackRests, ClaimFits}
 use Rattle.loose.specs.Loose.{AreFull, IsFit, IsAtRest}
 use Rattle.loose.specs.Lemmas.Claims.{IsApart, apart, no_names, free_file}
-use Rattle.loose.specs.Lemmas.Frames.{AgreesAtData, SameSuperAndMap, loose_same}
+use Rattle.loose.specs.Lemmas.Frames.{AgreesAtData, SameSuperAndMap, loose_same, fit_alike}
 use Rattle.loose.specs.Lemmas.GivenUp.{held_of}
-use Rattle.loose.specs.Lemmas.HeldFrames.{ChangesOne, loose_alike, owned_kept, fits_then}
+use Rattle.loose.specs.Lemmas.HeldFrames.{ChangesOne, loose_alike, owned_kept, fits_then, at_data, data_passes, agrees_of}
 use Rattle.loose.specs.Lemmas.Looks.{between}
+use Rattle.model.specs.Agreement.{AgreesFor}
 
--- an inode without blocks is written at a number that owns none, which is then at rest
-record WritesBare (m : Files) (x : Image) (claims : Claims) (i : ℕ) (n : Files) (new : Claims) (d : Dinode) : Type 0 where
-  fits : FitsHeld m x claims
-  low : 1 ≤ i
-  high : i < inode_count_of x
-  owns : names_claimed x i (claims i) ≡ []
-  now : IsClaimedNow claims i None new
-  fields : IsDinode d
-  kind : d.kind ≤ 3
-  size : d.size ≡ 0
-  bare : d.addrs ≡ replicate 13 0
-  count : length n ≡ length m
-  own : file_in n i ≡ file_left d.kind
-  files : (j : ℕ) → j ≢ i → file_in n j ≡ file_in m j
+-- an inode is written at a number, which owns what the inode names, and is then at rest
+pub record WritesBack (m : Files) (x : Image) (claims : Claims) (i : ℕ) (n : Files) (new : Claims) (d : Dinode) : Type 0 where
+  pub fits : FitsHeld m x claims
+  pub low : 1 ≤ i
+  pub high : i < inode_count_of x
+  pub now : IsClaimedNow claims i None new
+  pub fields : IsDinode d
+  pub names : (c : ℕ) → count_of c (addresses_in (pointers_in x d)) ≡ count_of c (names_claimed x i (claims i))
+  pub fit : d.kind ≢ 0 → IsFit x d
+  pub count : length n ≡ length m
+  pub own : file_in n i ≡ file_of x d
+  pub files : (j : ℕ) → j ≢ i → file_in n j ≡ file_in m j
 
-module _ (m : Files) (x : Image) (claims : Claims) (i : ℕ) (n : Files) (new : Claims) (d : Dinode) (h : WritesBare m x claims i n new d) where
+module _ (m : Files) (x : Image) (claims : Claims) (i : ℕ) (n : Files) (new : Claims) (d : Dinode) (h : WritesBack m x claims i n new d) where
   abbrev y : Image
   y = with_inode x i d
 
@@ -89,7 +88,8 @@ module _ (m : Files) (x : Image) (claims : Claims) (i : ℕ) (n : Files) (new : 
       let low = h.low in
       record {
         fits = h.fits;
-        agree = data_same;
+        agree = at_data test x y data_same;
+        passes = λ j first last ne. data_passes test m x y claims h.fits data_same j first last;
         size = base.size;
         inodes = λ j inside ne. inode_of-with_inode_other x i j d placed h.fields ne;
         claims_same = h.now.others;
@@ -98,25 +98,23 @@ module _ (m : Files) (x : Image) (claims : Claims) (i : ℕ) (n : Files) (new : 
         some = λ e. omega arith;
       }
 
-  bare_names : names_of y d ≡ []
-  unfolding names_of
-  bare_names =
-      ⊎_elim
-      (λ (z : d.kind ≡ 0). rw z refl)
-      (λ (used : d.kind ≢ 0).
-      rw (ne_eqb d.kind 0 used)
-      (ap (λ (l : List ℕ). names_along y (depths (form_of y)) l) h.bare ∙ no_names y (form_of y)))
-      (cases_eq d.kind 0)
+  -- what the inode names lies among the data, and stays
+  leads_same : AgreesFor test x y d
+  leads_same =
+      agrees_of test x y d change.agree
+      (λ b some.
+      let same = h.names b in
+      data_passes test m x y claims h.fits data_same i h.low h.high b (omega (arith, same, some)))
 
-  own_names : names_claimed y i (new i) ≡ []
+  own_names : names_claimed y i (new i) ≡ addresses_in (pointers_in x d)
   own_names =
       ap (names_claimed y i) h.now.own
-      ∙ ap (λ (e : Dinode). addresses_in (pointers_in y e)) own_inode ∙ pointers_named y d ∙ bare_names
+      ∙ ap (λ (e : Dinode). addresses_in (pointers_in y e)) own_inode ∙ ap addresses_in (pointers_agree test x y d leads_same)
 
   same_owned : (c : ℕ) → count_of c (owned x claims) ≡ count_of c (owned y new)
   same_owned c =
       let kept = owned_kept test m x claims i n y new change c h.low h.high in
-      let before = ap (count_of c) h.owns in
+      let names = h.names c in
       let behind = ap (count_of c) own_names in
       omega arith
 
@@ -134,34 +132,48 @@ module _ (m : Files) (x : Image) (claims : Claims) (i : ℕ) (n : Files) (new : 
       (λ (ne : b ≢ inode_block i). ap length (other_block b ne) ∙ h.fits.full b low (omega arith))
       (cases_eq b (inode_block i))
 
-  bare_file : file_at y i ≡ file_left d.kind
-  unfolding file_of bytes_in
-  bare_file =
+  own_file : file_at y i ≡ file_of x d
+  own_file =
       let low = h.low in
-      rw (ne_eqb i 0 (λ e. omega arith), own_inode, h.size) refl
-
-  bare_fit : d.kind ≢ 0 → IsFit y d
-  bare_fit used =
-      let size = h.size in
-      record {
-        fields = h.fields;
-        used = used;
-        kind = h.kind;
-        size = omega arith;
-        whole = λ k low nothing. omega arith;
-      }
+      rw (ne_eqb i 0 (λ e. omega arith), own_inode) (file_agree test x y d leads_same)
 
   own_rest : IsAtRest y i (file_in n i)
   own_rest = record {
-    same = bare_file ∙ sym h.own;
-    fit = subst (λ (e : Dinode). e.kind ≢ 0 → IsFit y e) (sym own_inode) bare_fit;
+    same = own_file ∙ sym h.own;
+    fit = subst (λ (e : Dinode). e.kind ≢ 0 → IsFit y e) (sym own_inode) (λ used. fit_alike test x y d leads_same (h.fit used));
   }
 
-  writes_bare : FitsThen n x claims i y new
-  writes_bare =
+  pub writes_back : FitsThen n x claims i y new
+  writes_back =
       fits_then test m x claims i n y new change full_after
       (loose_alike y (owned x claims) (owned y new) same_owned (loose_same x y (owned x claims) base h.fits.loose))
-      (subst (λ (c : Option Held). IsFine y i c (file_in n i)) (sym h.now.own) own_rest)
+      (subst (λ (c : Option Claim). IsFine y i c (file_in n i)) (sym h.now.own) own_rest)
+
+-- ---- an inode without blocks
+
+bare_names : (x : Image) (d : Dinode) → d.addrs ≡ replicate 13 0 → addresses_in (pointers_in x d) ≡ []
+unfolding names_of
+bare_names x d bare =
+    pointers_named x d
+    ∙ ⊎_elim
+    (λ (z : d.kind ≡ 0). rw z refl)
+    (λ (used : d.kind ≢ 0).
+    rw (ne_eqb d.kind 0 used)
+    (ap (λ (l : List ℕ). names_along x (depths (form_of x)) l) bare ∙ no_names x (form_of x)))
+    (cases_eq d.kind 0)
+
+bare_file : (x : Image) (d : Dinode) → d.size ≡ 0 → file_of x d ≡ file_left d.kind
+unfolding file_of bytes_in
+bare_file x d size = rw size refl
+
+bare_fit : (x : Image) (d : Dinode) → IsDinode d → d.kind ≤ 3 → d.size ≡ 0 → d.kind ≢ 0 → IsFit x d
+bare_fit x d fields kind size used = record {
+  fields = fields;
+  used = used;
+  kind = kind;
+  size = omega arith;
+  whole = λ k low nothing. omega arith;
+}
 
 -- ---- the write-back
 
@@ -192,18 +204,19 @@ write_back_rests m x claims new i h g bare now =
     let at = between x i g.number in
     let held = held_of m x claims i h g in
     let small = last_kind_small h x i (file_in m i) held in
-    writes_bare m x claims i m new (last_inode h) (record {
+    let fields = last_fields h x i (file_in m i) held in
+    writes_back m x claims i m new (last_inode h) (record {
       fits = g.fits;
       low = at.low;
       high = at.high;
-      owns = ap (names_claimed x i) g.holds ∙ nothing_left x h.copy h.given_up bare;
       now = now;
-      fields = last_fields h x i (file_in m i) held;
-      kind = small;
-      size = refl;
-      bare = bare;
+      fields = fields;
+      names = λ c.
+          ap (count_of c) (bare_names x (last_inode h) bare)
+          ∙ sym (ap (count_of c) (ap (names_claimed x i) g.holds ∙ nothing_left x h.copy h.given_up bare));
+      fit = bare_fit x (last_inode h) fields small refl;
       count = refl;
-      own = held.told;
+      own = held.told ∙ sym (bare_file x (last_inode h) refl);
       files = λ j ne. refl;
     })
 
@@ -219,19 +232,20 @@ claim_fits m x claims i kind f number none free is =
     let high = at.high in
     let new : Option File = Some (record { kind = kind; bytes = [] }) in
     let inside : i < length m = omega (arith, high, f.count) in
-    let rest : IsAtRest x i (file_in m i) = subst (λ (o : Option Held). IsFine x i o (file_in m i)) none (f.each i low high) in (
-      writes_bare m x claims i (with_new_file m i kind) claims (new_inode kind) (record {
+    let rest : IsAtRest x i (file_in m i) = subst (λ (o : Option Claim). IsFine x i o (file_in m i)) none (f.each i low high) in (
+      writes_back m x claims i (with_new_file m i kind) claims (new_inode kind) (record {
         fits = f;
         low = low;
         high = high;
-        owns = ap (names_claimed x i) none ∙ ap addresses_in (pointers_free x (inode_of x i) free);
         now = record { own = none; others = λ j ne. refl };
         fields = is_dinode-new_inode kind last;
-        kind = last;
-        size = refl;
-        bare = refl;
+        names = λ c.
+            ap (count_of c) (bare_names x (new_inode kind) refl)
+            ∙ sym (ap (count_of c) (ap (names_claimed x i) none ∙ ap addresses_in (pointers_free x (inode_of x i) free)));
+        fit = bare_fit x (new_inode kind) (is_dinode-new_inode kind last) last refl;
         count = length-set m i new;
-        own = get_or-set_same m i new None inside ∙ sym (made_left kind (λ e. omega arith));
+        own = get_or-set_same m i new None inside
+            ∙ sym (bare_file x (new_inode kind) refl ∙ made_left kind (λ e. omega arith));
         files = λ j ne. get_or-set_other m i j new None ne;
       }),
       after-made (form_of x) m kind i is (omega arith) inside (sym rest.same ∙ free_file x i (omega arith) free),

@@ -2,8 +2,9 @@ use Rattle.std.proofs.Common.{refl, sym, ◌∙◌, ap}
 use Rattle.std.proofs.lemmas.Bool.{eq-eqb, ne_eqb}
 use Rattle.blockmap.specs.Bmap.{EntryState, entry_in}
 use Rattle.blockmap.specs.Map.{address_or_zero}
-use Rattle.blockmap.specs.Lemmas.Addresses.{address_or_zero_of, address_direct, address_behind}
+use Rattle.blockmap.specs.Lemmas.Addresses.{address_or_zero_of}
 use Rattle.blockmap.proofs.mapping.map.Goals as goal
+use Rattle.loose.specs.Lemmas.Addresses.{address_direct, address_behind}
 
 pub returns-then-k-lt12-clause-address : goal.returns-then-k-lt12-clause-address
 returns-then-k-lt12-clause-address c = λ x one.

@@ -1,4 +1,4 @@
-use Rattle.blockmap.specs.Lemmas.Addresses.{address_direct}
+use Rattle.loose.specs.Lemmas.Addresses.{address_direct}
 use Rattle.blockmap.proofs.mapping.map_for_writing.Goals as goal
 
 pub returns-then-inode-k-ne0-clause-there : goal.returns-then-inode-k-ne0-clause-there

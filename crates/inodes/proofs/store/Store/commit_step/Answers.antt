@@ -40,7 +40,7 @@ returns g c =
     let t : StoreState _ = record { volume = c.commit_step.new.self; tasks = c.self.inside.tasks; table = c.self.inside.inodes } in
     let promise : Commits g.D.Disk s c.commit_step.result t = record {
       volume = e;
-      files = λ m fits. (held_outside m (current_of image old) (current_of image c.commit_step.new.self) (claims_of c.self.inside.tasks) e.current fits).0;
+      files = λ m fits. (held_outside m (current_of image old) (current_of image c.commit_step.new.self) (claims_of c.self.inside.tasks) e.current fits).fits;
       tasks = refl;
       table = refl;
     } in

@@ -1,0 +1,5 @@
+use Rattle.loose.specs.Lemmas.EntryPlacing.{entry_placed}
+use Rattle.loose.proofs.laws.entry_placed.Goals as goal
+
+pub returns : goal.returns
+returns c = entry_placed
