@@ -18,3 +18,4 @@ pub mod Store
 pub mod Table
 pub mod Tasks
 pub mod Turning
+pub mod Writei

@@ -23,6 +23,7 @@ mod readi;
 mod store;
 mod table;
 mod tasks;
+mod writei;
 
 pub use blockmap::Progress;
 pub use ialloc::Ialloc;
@@ -33,3 +34,4 @@ pub use readi::Readi;
 pub use store::Store;
 pub use table::{InMemory, Inodes};
 pub use tasks::{Place, Tasks};
+pub use writei::{Extent, WriteAt, Writei};
