@@ -27,3 +27,4 @@ mod TakingSteps
 mod Leaving
 mod Reading
 mod ReadingSteps
+mod WriteFiles

@@ -1,5 +1,6 @@
 pub mod Creation
 pub mod Goes
+pub mod Growing
 pub mod Grips
 pub mod Holding
 pub mod Ialloc

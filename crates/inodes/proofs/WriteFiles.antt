@@ -1,0 +1,173 @@
+-- What the steps of a write make of its claim, by the laws over images in which tasks write files.
+use Rattle.std.proofs.Common.{◌≡◌, ◌≢◌, ℕ, ◌+◌, ◌*◌, ◌%◌, ◌<◌, ◌≤◌, List, ◌++◌, length, take, drop, max, Option, Some, None, false, refl, sym, ap, ap₂, subst, ◌∙◌, ⊎_elim, arith, IsTrue, slice_index, ◌⊎◌, [], inl, inr}
+use Rattle.blockmap.specs.Balloc.{AllocState, IsLowestClear, lowest_in, with_taken}
+use Rattle.loose.specs.Held.{Claims, Growth, IsClaimedNow, grows, reaching, taking, zeroed, placing}
+use Rattle.model.specs.declared.types.image.File.{File}
+use Rattle.model.specs.Files.{Files, file_in}
+use Rattle.loose.specs.HeldLaws.{FitsThen, IsHeldIn}
+use Rattle.blocks.specs.Disk.{Image, block_at}
+use Rattle.model.specs.declared.types.operations.Op.TheVariants.{Write}
+use Rattle.inodes.specs.Writei.{WriteState, next_byte, piece_of, with_piece, with_written, piece}
+use Rattle.model.specs.declared.types.operations.Reply.TheVariants.{Wrote}
+use Rattle.model.specs.Places.{address_in}
+use Rattle.loose.specs.Lemmas.BlocksTaken.{block_taken, taken_zeroed}
+use Rattle.loose.specs.Lemmas.BytesWritten.{bytes_written}
+use Rattle.std.proofs.lemmas.Bool.{cases_lt}
+use Rattle.loose.specs.Lemmas.Placing.{direct_placed, indirect_placed, taken_lies}
+use Rattle.std.proofs.lemmas.List.{drop-take, get_or-set_same, length-drop, length-take-le, take-append-drop, take-take}
+use Rattle.loose.specs.GrowthLaws.{WritesNext as FillsNext, files_grown}
+use Rattle.model.specs.Layout.{form_of, greatest_size, inode_count_of, is_marked, super_of}
+use Rattle.loose.specs.Lemmas.HeldFrames.{growing_of}
+use Rattle.loose.specs.Lemmas.GrowthEnds.{growth_answers}
+use Rattle.loose.specs.Lemmas.GrowthBlocks.{growth_has_blocks}
+use Rattle.inodes.specs.Growing.{growth_of, next_block, taken_by}
+use Rattle.model.specs.Fields.{has_bit}
+use Rattle.model.specs.Journal.{is_number}
+use Rattle.blockmap.specs.Lemmas.Bitmap.{lowest_clear_is_lowest}
+use Rattle.model.specs.Operations.{after, part_of}
+use Rattle.blocks.specs.Block.{zero_block}
+
+-- ---- a block is taken
+
+-- the lowest clear bit below the image's size
+module _ (files : Files) (x : Image) (claims new : Claims) (i b : ℕ) (g : Growth) (t : AllocState) where
+  pub takes_lowest : IsHeldIn files x claims i (grows g) → g.taken ≡ None → t.bitmap ≡ (super_of x).bmapstart → t.size ≡ length x →
+      lowest_in x t ≡ Some b → IsClaimedNow claims i (Some (grows (taking g b))) new →
+      FitsThen files x claims i (with_taken x t.bitmap b) new
+  takes_lowest held none at long found now =
+      let first : IsLowestClear (block_at x t.bitmap) t.size (Some b) = subst (IsLowestClear (block_at x t.bitmap) t.size) found (lowest_clear_is_lowest (block_at x t.bitmap) t.size) in
+      let inside = first.0 in
+      let clear : is_marked x b ≡ false = ap (λ a. has_bit (block_at x a) b) (sym at) ∙ first.1 in
+      subst (λ a. FitsThen files x claims i (with_taken x a b) new) (sym at)
+      (block_taken files x claims new i b g held none (omega (arith, inside, long)) clear now)
+
+  -- ---- it is zeroed, and named in the same step
+
+  pub zeroes_taken : IsHeldIn files x claims i (grows g) → g.taken ≡ Some b → FitsThen files x claims i (zeroed x b) claims
+  zeroes_taken held is = taken_zeroed files x claims i b g held is
+
+  -- the task holds its number in the image with the zeroed block
+  still_held : (held : IsHeldIn files x claims i (grows g)) → (is : g.taken ≡ Some b) → IsHeldIn files (zeroed x b) claims i (grows g)
+  still_held held is =
+      let then = zeroes_taken held is in
+      let count : inode_count_of x ≡ inode_count_of (zeroed x b) = sym held.fits.count ∙ then.fits.count in
+      record {
+        fits = then.fits;
+        number = subst (λ (n : ℕ). IsTrue (is_number n i)) count held.number;
+        holds = held.holds;
+      }
+
+  pub zeroes_direct : (k : ℕ) → IsHeldIn files x claims i (grows g) → g.taken ≡ Some b → k < 12 → slice_index g.copy.addrs k ≡ 0 →
+      IsClaimedNow claims i (Some (grows (placing g k b))) new → FitsThen files x claims i (zeroed x b) new
+  zeroes_direct k held is low none now =
+      let then = zeroes_taken held is in
+      record {
+        fits = direct_placed files (zeroed x b) claims new i k b g (still_held held is) is low none now;
+        others = then.others;
+        held = then.held;
+      }
+
+  pub zeroes_indirect : IsHeldIn files x claims i (grows g) → g.taken ≡ Some b → slice_index g.copy.addrs 12 ≡ 0 →
+      IsClaimedNow claims i (Some (grows (placing g 12 b))) new → FitsThen files x claims i (zeroed x b) new
+  zeroes_indirect held is none now =
+      let then = zeroes_taken held is in
+      let inside = (taken_lies files x claims i b g held is).1 in
+      record {
+        fits = indirect_placed files (zeroed x b) claims new i b g (still_held held is) is none
+            (get_or-set_same x b zero_block [] inside) now;
+        others = then.others;
+        held = then.held;
+      }
+
+-- ---- bytes are written
+
+-- one piece more
+take_more : (bytes : List ℕ) (m n : ℕ) → take (m + n) bytes ≡ take m bytes ++ part_of bytes m n
+take_more bytes m n =
+    sym (take-append-drop m (take (m + n) bytes))
+    ∙ ap (λ l. l ++ drop m (take (m + n) bytes)) (take-take m (m + n) bytes (omega arith))
+    ∙ ap (λ l. take m bytes ++ l) (drop-take m n bytes)
+
+-- the writing may go on with the next piece
+pub record WritesPiece (x : Image) (m : WriteState) (bytes : List ℕ) (b : ℕ) : Type 0 where
+  pub left : m.done < m.count
+  pub all : length bytes ≡ m.count
+  pub fits : m.offset + m.count ≤ greatest_size (form_of x)
+  pub block : address_in x m.inode (next_block m) ≡ b
+  pub there : b ≢ 0
+
+module _ (files : Files) (x : Image) (claims new : Claims) (i b : ℕ) (m : WriteState) (bytes : List ℕ) (w : WritesPiece x m bytes b) where
+  long : length (take m.done bytes) ≡ m.done
+  long = let left = w.left in let all = w.all in length-take-le m.done bytes (omega (arith, left, all))
+
+  whole : length (piece_of m bytes) ≡ piece m
+  whole =
+      let left = w.left in
+      let all = w.all in
+      length-take-le (piece m) (drop m.done bytes) (omega (arith, left, all, length-drop m.done bytes))
+
+  writes_next : (g : Growth) → g ≡ growth_of m bytes → FillsNext x g (next_block m) (next_byte m % 1024) b (piece_of m bytes)
+  writes_next g is = subst (λ h. FillsNext x h (next_block m) (next_byte m % 1024) b (piece_of m bytes)) (sym is)
+      (let left = w.left in let fits = w.fits in let count = whole in let done = long in
+      record {
+        place = omega (arith, done);
+        inside = omega (arith, count);
+        some = omega (arith, count, left);
+        fits = omega (arith, done, count, left, fits);
+        block = w.block;
+        there = w.there;
+      })
+
+  -- what it holds then
+  abbrev later_on : WriteState
+  later_on = with_piece m
+
+  grown : (taken_by m.at ≡ None) → taken_by later_on.at ≡ None →
+      growth_of later_on bytes
+      ≡ reaching (growth_of m bytes) (max m.inode.size (next_block m * 1024 + next_byte m % 1024 + length (piece_of m bytes))) (piece_of m bytes)
+  grown none later =
+      let end : next_byte m + piece m ≡ next_block m * 1024 + next_byte m % 1024 + length (piece_of m bytes) = let count = whole in omega (arith, count) in
+      ap₂ (λ (o : Option ℕ) (l : List ℕ). record { copy = later_on.inode; taken = o; offset = m.offset; written = l }) (later ∙ sym none) (take_more bytes m.done (piece m))
+      ∙ ap (λ (n : ℕ). record { copy = record m.inode { size = max m.inode.size n }; taken = taken_by m.at; offset = m.offset; written = take m.done bytes ++ piece_of m bytes }) end
+
+  pub piece_written : taken_by m.at ≡ None → taken_by later_on.at ≡ None → IsHeldIn files x claims i (grows (growth_of m bytes)) →
+      IsClaimedNow claims i (Some (grows (growth_of later_on bytes))) new → FitsThen files x claims i (with_written x m bytes b) new
+  piece_written none later held now =
+      bytes_written files x claims new i (next_block m) (next_byte m % 1024) b (piece_of m bytes) (growth_of m bytes) held
+      (writes_next (growth_of m bytes) refl)
+      (subst (λ h. IsClaimedNow claims i (Some (grows h)) new) (grown none later) now)
+
+-- ---- the end
+
+-- where no block was left, what was written ends where a block begins
+module _ (files : Files) (x : Image) (claims : Claims) (i : ℕ) (m : WriteState) (bytes : List ℕ) where
+  pub ends_evenly : (old : File) → file_in files i ≡ Some old → IsHeldIn files x claims i (grows (growth_of m bytes)) → m.done ≤ length bytes →
+      address_in x m.inode (next_block m) ≡ 0 → next_byte m % 1024 ≡ 0
+  ends_evenly old is held few none =
+      let growing = growing_of files x claims i (growth_of m bytes) held in
+      let size = (growth_has_blocks files x claims i (growth_of m bytes) old held is).size in
+      let count = length-take-le m.done bytes few in
+      let past : m.inode.size ≤ next_block m * 1024 = ⊎_elim
+      (λ (need : next_block m * 1024 < m.inode.size). absurd (growing.fit.whole (next_block m) need none))
+      (λ (le : m.inode.size ≤ next_block m * 1024). le)
+      (cases_lt (next_block m * 1024) m.inode.size) in
+      omega (arith, size, count, past)
+
+  pub answers_written : (old : File) → file_in files i ≡ Some old → IsHeldIn files x claims i (grows (growth_of m bytes)) →
+      m.done ≤ length bytes → length bytes ≤ 3072 → m.offset + length bytes ≤ greatest_size (form_of x) →
+      (m.done ≡ length bytes) ⊎ (address_in x m.inode (next_block m) ≡ 0) →
+      after (form_of x) files (Write i m.offset bytes) (Wrote m.done) ≡ Some (files_grown files i old (growth_of m bytes))
+  answers_written old is held few short fits end =
+      growth_answers files x claims i (growth_of m bytes) old m.offset m.done bytes held
+      (record {
+        offset = refl;
+        written = refl;
+        most = few;
+        few = short;
+        fits = fits;
+        ends = ⊎_elim
+            (λ (all : m.done ≡ length bytes). inl all)
+            (λ (none : address_in x m.inode (next_block m) ≡ 0). inr (ends_evenly old is held few none, none))
+            end;
+      })
+      is

@@ -1,0 +1,87 @@
+-- What the writing of a file's bytes holds of its number, and how far it has come.
+use Rattle.std.specs.Prelude.{◌≡◌, ◌≢◌, ◌⊎◌, ◌<◌, ◌≤◌, ℕ, ◌-◌, ◌/◌, List, take, slice_index, Option, Some, None}
+use Rattle.blocks.specs.Disk.{Image, block_at}
+use Rattle.model.specs.declared.types.image.Dinode.{Dinode}
+use Rattle.model.specs.Fields.{words_of}
+use Rattle.model.specs.Places.{address_in}
+use Rattle.loose.specs.Held.{Growth}
+use Rattle.blockmap.specs.Balloc.{AllocState}
+use Rattle.blockmap.specs.BmapAlloc.{MapState, indirect_of}
+use Rattle.blockmap.specs.declared.balloc.AllocAt.{AllocAt}
+use Rattle.blockmap.specs.declared.balloc.AllocAt.TheVariants as alloc_at
+use Rattle.blockmap.specs.declared.bmap_alloc.MapAt.{MapAt}
+use Rattle.blockmap.specs.declared.bmap_alloc.MapAt.TheVariants as map_at
+use Rattle.inodes.specs.Writei.{WriteState, next_byte}
+use Rattle.inodes.specs.declared.writei.Extent.{Extent}
+use Rattle.inodes.specs.declared.writei.WriteAt.{WriteAt}
+use Rattle.inodes.specs.declared.writei.WriteAt.TheVariants as write_at
+
+-- ---- what it holds
+
+-- the block that was taken and that nothing names yet
+abbrev pub taken_at : AllocAt → Option ℕ
+taken_at (alloc_at.Looking slot) = None
+taken_at (alloc_at.Zeroing b slot) = Some b
+
+abbrev pub taken_on_way : MapAt → Option ℕ
+taken_on_way (map_at.Direct t) = taken_at t.at
+taken_on_way (map_at.Indirect t) = taken_at t.at
+taken_on_way (map_at.Entry slot) = None
+taken_on_way (map_at.Behind i t) = taken_at t.at
+taken_on_way (map_at.Setting i found) = found
+
+abbrev pub taken_by : WriteAt → Option ℕ
+taken_by (write_at.Mapping way) = taken_on_way way.at
+taken_by (write_at.Block b slot) = None
+taken_by (write_at.Updating u) = None
+
+-- the claim of a task that writes these bytes
+abbrev pub growth_of : WriteState → List ℕ → Growth
+growth_of m bytes = record {
+  copy = m.inode;
+  taken = taken_by m.at;
+  offset = m.offset;
+  written = take m.done bytes;
+}
+
+-- ---- how far it has come
+
+-- the file's block of the next byte
+abbrev pub next_block : WriteState → ℕ
+next_block m = next_byte m / 1024
+
+-- a block is taken where the writing takes them
+pub record TakesIn (e : Extent) (t : AllocState) : Type 0 where
+  pub bitmap : t.bitmap ≡ e.bitmap
+  pub size : t.size ≡ e.size
+
+-- the entry of block k of the file, which has a block of addresses, names no block
+abbrev pub HasNoEntry : Image → Dinode → ℕ → Type 0
+HasNoEntry cur d k =
+    (12 ≤ k) × (indirect_of d ≢ 0)
+    × (slice_index (words_of (block_at cur (indirect_of d))) (k - 12) ≡ 0)
+
+-- what isn't there, by where the way stands
+abbrev pub IsOnWay : Image → Dinode → Extent → ℕ → MapAt → Type 0
+IsOnWay cur d e k (map_at.Direct t) = (k < 12) × (slice_index d.addrs k ≡ 0) × TakesIn e t
+IsOnWay cur d e k (map_at.Indirect t) = (12 ≤ k) × (indirect_of d ≡ 0) × TakesIn e t
+IsOnWay cur d e k (map_at.Entry slot) = (12 ≤ k) × (indirect_of d ≢ 0)
+IsOnWay cur d e k (map_at.Behind i t) = HasNoEntry cur d k × TakesIn e t
+IsOnWay cur d e k (map_at.Setting i found) = HasNoEntry cur d k
+
+-- the way leads to the block of the next byte
+pub record IsMapping (cur : Image) (m : WriteState) (way : MapState) : Type 0 where
+  pub block : way.k ≡ next_block m
+  pub bitmap : way.bitmap ≡ m.extent.bitmap
+  pub size : way.size ≡ m.extent.size
+  pub at : IsOnWay cur m.inode m.extent way.k way.at
+
+-- The writing has come so far: to the block of the next byte, or to its end, where all bytes are
+-- written, or no block was left for the next ones.
+abbrev pub HasComeTo : Image → WriteState → WriteAt → Type 0
+HasComeTo cur m (write_at.Mapping way) = (m.done < m.count) × IsMapping cur m way
+HasComeTo cur m (write_at.Block b slot) =
+    (m.done < m.count) × (address_in cur m.inode (next_block m) ≡ b) × (b ≢ 0)
+HasComeTo cur m (write_at.Updating u) =
+    (u.number ≡ m.number)
+    × ((m.done ≡ m.count) ⊎ (address_in cur m.inode (next_block m) ≡ 0))
