@@ -1,5 +1,5 @@
 -- What the steps of a write make of its claim, by the laws over images in which tasks write files.
-use Rattle.std.proofs.Common.{◌≡◌, ◌≢◌, ℕ, ◌+◌, ◌*◌, ◌%◌, ◌<◌, ◌≤◌, List, ◌++◌, length, take, drop, max, Option, Some, None, false, refl, sym, ap, ap₂, subst, ◌∙◌, ⊎_elim, arith, IsTrue, slice_index, ◌⊎◌, [], inl, inr}
+use Rattle.std.proofs.Common.{zero-add, ◌≡◌, ◌≢◌, ℕ, ◌+◌, ◌*◌, ◌%◌, ◌<◌, ◌≤◌, List, ◌++◌, length, take, drop, max, Option, Some, None, false, refl, sym, ap, ap₂, subst, ◌∙◌, ⊎_elim, arith, IsTrue, slice_index, ◌⊎◌, [], inl, inr}
 use Rattle.blockmap.specs.Balloc.{AllocState, IsLowestClear, lowest_in, with_taken}
 use Rattle.loose.specs.Held.{Claims, Growth, IsClaimedNow, grows, reaching, taking, zeroed, placing}
 use Rattle.model.specs.declared.types.image.File.{File}
@@ -14,7 +14,7 @@ use Rattle.loose.specs.Lemmas.BlocksTaken.{block_taken, taken_zeroed}
 use Rattle.loose.specs.Lemmas.BytesWritten.{bytes_written}
 use Rattle.std.proofs.lemmas.Bool.{cases_lt}
 use Rattle.loose.specs.Lemmas.Placing.{direct_placed, indirect_placed, taken_lies}
-use Rattle.std.proofs.lemmas.List.{drop-take, get_or-set_same, length-drop, length-take-le, take-append-drop, take-take}
+use Rattle.std.proofs.lemmas.List.{get_or-set_same, length-drop, length-take-le}
 use Rattle.loose.specs.GrowthLaws.{WritesNext as FillsNext, files_grown}
 use Rattle.model.specs.Layout.{form_of, greatest_size, inode_count_of, is_marked, super_of}
 use Rattle.loose.specs.Lemmas.HeldFrames.{growing_of}
@@ -24,6 +24,7 @@ use Rattle.inodes.specs.Growing.{growth_of, next_block, taken_by}
 use Rattle.model.specs.Fields.{has_bit}
 use Rattle.model.specs.Journal.{is_number}
 use Rattle.blockmap.specs.Lemmas.Bitmap.{lowest_clear_is_lowest}
+use Rattle.blockmap.specs.Lemmas.Reading.{part_in_two}
 use Rattle.model.specs.Operations.{after, part_of}
 use Rattle.blocks.specs.Block.{zero_block}
 
@@ -81,13 +82,6 @@ module _ (files : Files) (x : Image) (claims new : Claims) (i b : ℕ) (g : Grow
 
 -- ---- bytes are written
 
--- one piece more
-take_more : (bytes : List ℕ) (m n : ℕ) → take (m + n) bytes ≡ take m bytes ++ part_of bytes m n
-take_more bytes m n =
-    sym (take-append-drop m (take (m + n) bytes))
-    ∙ ap (λ l. l ++ drop m (take (m + n) bytes)) (take-take m (m + n) bytes (omega arith))
-    ∙ ap (λ l. take m bytes ++ l) (drop-take m n bytes)
-
 -- the writing may go on with the next piece
 pub record WritesPiece (x : Image) (m : WriteState) (bytes : List ℕ) (b : ℕ) : Type 0 where
   pub left : m.done < m.count
@@ -127,7 +121,7 @@ module _ (files : Files) (x : Image) (claims new : Claims) (i b : ℕ) (m : Writ
       ≡ reaching (growth_of m bytes) (max m.inode.size (next_block m * 1024 + next_byte m % 1024 + length (piece_of m bytes))) (piece_of m bytes)
   grown none later =
       let end : next_byte m + piece m ≡ next_block m * 1024 + next_byte m % 1024 + length (piece_of m bytes) = let count = whole in omega (arith, count) in
-      ap₂ (λ (o : Option ℕ) (l : List ℕ). record { copy = later_on.inode; taken = o; offset = m.offset; written = l }) (later ∙ sym none) (take_more bytes m.done (piece m))
+      ap₂ (λ (o : Option ℕ) (l : List ℕ). record { copy = later_on.inode; taken = o; offset = m.offset; written = l }) (later ∙ sym none) (part_in_two bytes 0 m.done (piece m) ∙ ap (λ (k : ℕ). take m.done bytes ++ part_of bytes k (piece m)) (zero-add m.done))
       ∙ ap (λ (n : ℕ). record { copy = record m.inode { size = max m.inode.size n }; taken = taken_by m.at; offset = m.offset; written = take m.done bytes ++ piece_of m bytes }) end
 
   pub piece_written : taken_by m.at ≡ None → taken_by later_on.at ≡ None → IsHeldIn files x claims i (grows (growth_of m bytes)) →
