@@ -62,7 +62,7 @@ module _ {D N : Type 0} (disk : Ghosts D N) (s : StoreState D) (p k : ℕ) (is :
   looking = where_none s.volume.fault well is.looks
 
   module _ (r : TaskProgress) (ts : List TaskState) (tasks : ts ≡ set s.tasks p (finished (task s.tasks p))) (fine : fault_of_task r ≡ None)
-      (free : (i : ℕ) → HasSlot (task s.tasks p).place i → None ≡ Some i) (holds : (j : ℕ) → claim_by (task s.tasks p).place j ≡ None) (has : grip (grips_of s.tasks) p ≡ Some (locked_grip k (asked_by (task s.tasks p).op))) where
+      (free : (i : ℕ) → HasSlot (task s.tasks p).place i → None ≡ Some i) (holds : (j : ℕ) → claim_of (task s.tasks p) j ≡ None) (has : grip (grips_of s.tasks) p ≡ Some (locked_grip k (asked_by (task s.tasks p).op))) where
     one : HasOne s.volume.buffers s.volume.buffers s.volume.log p 0 None
     one = has_same s.volume.buffers s.volume.log s.table.inode_count p s.tasks (where_none s.volume.fault well is.agrees) 0 None free tt
 
@@ -113,8 +113,8 @@ module _ {D N : Type 0} (disk : Ghosts D N) (s : StoreState D) (p k : ℕ) (is :
     free_delivering : (i : ℕ) → HasSlot (task s.tasks p).place i → None ≡ Some i
     free_delivering i got = subst (λ (a : Place). HasSlot a i) stood got
 
-    holds_delivering : (j : ℕ) → claim_by (task s.tasks p).place j ≡ None
-    holds_delivering j = ap (λ (a : Place). claim_by a j) stood
+    holds_delivering : (j : ℕ) → claim_of (task s.tasks p) j ≡ None
+    holds_delivering j = ap (λ (a : Place). claim_by (task s.tasks p).op a j) stood
 
     module _ (bytes : GatheredBytes) (had : (task s.tasks p).gathered ≡ Some bytes) (ts : List TaskState) (tasks : ts ≡ set s.tasks p (finished (task s.tasks p))) where
       abbrev answer : TaskProgress
@@ -164,8 +164,8 @@ module _ {D N : Type 0} (disk : Ghosts D N) (s : StoreState D) (p k : ℕ) (is :
     free_leaving : (i : ℕ) → HasSlot (task s.tasks p).place i → None ≡ Some i
     free_leaving i got = subst (λ (a : Place). HasSlot a i) stood got
 
-    holds_leaving : (j : ℕ) → claim_by (task s.tasks p).place j ≡ None
-    holds_leaving j = ap (λ (a : Place). claim_by a j) stood
+    holds_leaving : (j : ℕ) → claim_of (task s.tasks p) j ≡ None
+    holds_leaving j = ap (λ (a : Place). claim_by (task s.tasks p).op a j) stood
 
     pub low_leaving : k < 50
     low_leaving = (looking.table.places p (locked_grip k (asked_by (task s.tasks p).op)) has_leaving).0

@@ -58,7 +58,7 @@ pub record Stepped {D N : Type 0} (disk : Ghosts D N) (s : StoreState D) (p i : 
   pub files : (files : Files) → FitsFiles disk.image s files → FilesThen (form_of (current_of disk.image s.volume)) its r files (FitsFiles disk.image t)
   -- no other process has that number's lock, and the task holds no other number
   pub alone : (q k : ℕ) → q ≢ p → grip_of (task s.tasks q) ≡ Some (locked_grip k i) → ⊥
-  pub claims : (j : ℕ) → j ≢ i → claim_by u.place j ≡ claim_by (task s.tasks p).place j
+  pub claims : (j : ℕ) → j ≢ i → claim_of u j ≡ claim_of (task s.tasks p) j
   pub keeps : KeepsUsed s.table.inode_count i (claims_of s.tasks) (current_of disk.image s.volume) (current_of disk.image t.volume)
   pub now : fault_of_task r ≡ None → IsNow disk.image s t p u
 
@@ -70,7 +70,7 @@ pub record Looked {D N : Type 0} (disk : Ghosts D N) (s : StoreState D) (p i : �
   pub reads : Reads disk s r t
   pub shown : ShowsSame disk.image s t
   pub alone : (q k : ℕ) → q ≢ p → grip_of (task s.tasks q) ≡ Some (locked_grip k i) → ⊥
-  pub claims : (j : ℕ) → j ≢ i → claim_by u.place j ≡ claim_by (task s.tasks p).place j
+  pub claims : (j : ℕ) → j ≢ i → claim_of u j ≡ claim_of (task s.tasks p) j
   pub now : fault_of_task r ≡ None → IsNow disk.image s t p u
 
 -- a store that stands for files stands for them in its current image, by the claims of its tasks
@@ -207,11 +207,11 @@ module _ {D N : Type 0} (disk : Ghosts D N) (s : StoreState D) (p i : ℕ) (op :
     same_log = ap (λ (w : Shown). w.log) looked.shown
 
     -- what it stood for, it stands for, where of that number too the task holds what it held
-    pub files_same : claim_by u.place i ≡ claim_by (task s.tasks p).place i → (files : Files) → FitsFiles disk.image s files → FitsFiles disk.image t files
+    pub files_same : claim_of u i ≡ claim_of (task s.tasks p) i → (files : Files) → FitsFiles disk.image s files → FitsFiles disk.image t files
     files_same same files fits =
         let each : (j : ℕ) → claims_of t.tasks j ≡ claims_of s.tasks j = λ j. ap (λ (ts : List TaskState). claims_of ts j) looked.tasks ∙ claim_stays s.tasks p j u
         (⊎_elim
-        (λ (own : j ≡ i). subst (λ (k : ℕ). claim_by u.place k ≡ claim_by (task s.tasks p).place k) (sym own) same)
+        (λ (own : j ≡ i). subst (λ (k : ℕ). claim_of u k ≡ claim_of (task s.tasks p) k) (sym own) same)
         (λ (other : j ≢ i). looked.claims j other)
         (cases_eq j i)) in
         of_fits disk.image t files (held_alike files new (claims_of s.tasks) (claims_of t.tasks) each

@@ -139,7 +139,7 @@ record LeadsSame (old new : Image) (d : Dinode) : Type 0 where
 
 module _ (old new : Image) (t : TableState) (ts : List TaskState) (i : ℕ) (are : AreLooking old t ts) (numbers : t.inode_count ≡ inode_count_of old) (keeps : KeepsUsed t.inode_count i (claims_of ts) old new) where
   -- a copy of a locked inode does so, where no task holds its number
-  copy_keeps : (p j k : ℕ) (d : Dinode) → j ≢ i → grip_of (task ts p) ≡ Some (locked_grip k j) → claim_by (task ts p).place j ≡ None → copy_at t.places k ≡ Some d → LeadsSame old new d
+  copy_keeps : (p j k : ℕ) (d : Dinode) → j ≢ i → grip_of (task ts p) ≡ Some (locked_grip k j) → claim_of (task ts p) j ≡ None → copy_at t.places k ≡ Some d → LeadsSame old new d
   copy_keeps p j k d apart locked none copy =
       let has : grip (grips_of ts) p ≡ Some (locked_grip k j) = grip_is ts p ∙ locked in
       let its = copy_is old t ts are p j k d has copy in
@@ -159,7 +159,7 @@ module _ (old new : Image) (t : TableState) (ts : List TaskState) (i : ℕ) (are
   entries_still : (p k : ℕ) (m : TruncState) → ((k : ℕ) → grip_of (task ts p) ≡ Some (locked_grip k i) → ⊥) → (task ts p).place ≡ place.Truncating k m
       → slice_index m.inode.addrs 12 ≢ 0 → entries_in new m ≡ entries_in old m
   entries_still p k m free at some =
-      let locked = claim_locks old t ts are p m.number (frees (held_of m)) (ap (λ (a : Place). claim_by a m.number) at ∙ own_holds k m) in
+      let locked = claim_locks old t ts are p m.number (frees (held_of m)) (ap (λ (a : Place). claim_by (task ts p).op a m.number) at ∙ own_holds k m) in
       let apart : m.number ≢ i = λ same. free locked.0 (locked.1 ∙ ap (λ (n : ℕ). Some (locked_grip locked.0 n)) same) in
       ap words_of
       ((keeps.held m.number (frees (held_of m)) (trunc_names old t ts are p k m at) apart (own_claim old t ts are p k m at)).indirect some)
@@ -181,7 +181,7 @@ module _ (old new : Image) (t : TableState) (ts : List TaskState) (i : ℕ) (are
   stands_still p (place.Reading k m) free at stands =
       let j = asked_by (task ts p).op in
       let locked : grip_of (task ts p) ≡ Some (locked_grip k j) = ap (λ (a : Place). grip_by a j) at in
-      let same = copy_keeps p j k m.inode (λ one. free k (locked ∙ ap (λ (n : ℕ). Some (locked_grip k n)) one)) locked (ap (λ (a : Place). claim_by a j) at) stands.copy in
+      let same = copy_keeps p j k m.inode (λ one. free k (locked ∙ ap (λ (n : ℕ). Some (locked_grip k n)) one)) locked (ap (λ (a : Place). claim_by (task ts p).op a j) at) stands.copy in
       let read = stands.read in
       record {
         op = stands.op;
@@ -198,7 +198,7 @@ module _ (old new : Image) (t : TableState) (ts : List TaskState) (i : ℕ) (are
   stands_still p (place.Delivering k) free at stands =
       let j = asked_by (task ts p).op in
       let locked : grip_of (task ts p) ≡ Some (locked_grip k j) = ap (λ (a : Place). grip_by a j) at in
-      let same = copy_keeps p j k stands.dinode (λ one. free k (locked ∙ ap (λ (n : ℕ). Some (locked_grip k n)) one)) locked (ap (λ (a : Place). claim_by a j) at) stands.copy in
+      let same = copy_keeps p j k stands.dinode (λ one. free k (locked ∙ ap (λ (n : ℕ). Some (locked_grip k n)) one)) locked (ap (λ (a : Place). claim_by (task ts p).op a j) at) stands.copy in
       record {
         op = stands.op;
         dinode = stands.dinode;
@@ -238,7 +238,7 @@ looks_outside cur now t ts are numbers same =
 -- ---- one task is another, with the same grip, and holds what it held
 
 pub looks_set : (cur : Image) (t : TableState) (ts : List TaskState) (p : ℕ) (s : TaskState) → AreLooking cur t ts → p < length ts → grip_of s ≡ grip_of (task ts p) → LooksAt cur t s s.place
-    → ((j : ℕ) → claim_by s.place j ≡ claim_by (task ts p).place j) → AreLooking cur t (set ts p s)
+    → ((j : ℕ) → claim_of s j ≡ claim_of (task ts p) j) → AreLooking cur t (set ts p s)
 looks_set cur t ts p s are inside same stands claims = record {
   files = (are.files.0, held_alike are.files.0 cur (claims_of ts) (claims_of (set ts p s)) (λ j. claim_stays ts p j s (claims j)) are.files.1);
   table = subst (λ (gs : List (Option Grip)). TableIs t gs cur) (sym (grips_same ts p s same)) are.table;
@@ -253,10 +253,10 @@ module _ (cur : Image) (t : TableState) (ts : List TaskState) (p : ℕ) (are : A
   no_grip : grip_of (task ts p) ≡ None
   no_grip = ap (λ (a : Place). grip_by a (asked_by (task ts p).op)) stood
 
-  no_claim : (j : ℕ) → claim_by (task ts p).place j ≡ None
-  no_claim j = ap (λ (a : Place). claim_by a j) stood
+  no_claim : (j : ℕ) → claim_of (task ts p) j ≡ None
+  no_claim j = ap (λ (a : Place). claim_by (task ts p).op a j) stood
 
-  begun : (s : TaskState) → grip_of s ≡ None → LooksAt cur t s s.place → ((j : ℕ) → claim_by s.place j ≡ None) → AreLooking cur t (set ts p s)
+  begun : (s : TaskState) → grip_of s ≡ None → LooksAt cur t s s.place → ((j : ℕ) → claim_of s j ≡ None) → AreLooking cur t (set ts p s)
   begun s none stands holds = looks_set cur t ts p s are inside (none ∙ sym no_grip) stands (λ j. holds j ∙ sym (no_claim j))
 
   begun_by : (op : Op) → CanBegin t.inode_count op → AreLooking cur t (set ts p (record { op = Some op; place = first_place op t.inode_count; gathered = None }))

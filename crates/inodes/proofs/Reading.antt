@@ -62,7 +62,7 @@ module _ {D N : Type 0} (disk : Ghosts D N) (s : StoreState D) (p k : ℕ) (m : 
 
   -- no task holds its number
   pub nobody : claims_of s.tasks number ≡ None
-  nobody = unclaimed cur s.table s.tasks looking p k number (sym (grip_is s.tasks p) ∙ has) (ap (λ (a : Place). claim_by a number) stood)
+  nobody = unclaimed cur s.table s.tasks looking p k number (sym (grip_is s.tasks p) ∙ has) (ap (λ (a : Place). claim_by (task s.tasks p).op a number) stood)
 
   reads : is_reading (task s.tasks p).place ≡ true
   reads = ap is_reading stood

@@ -105,7 +105,7 @@ has_there k m n (machine.Over out) i got = got
 has_there k m n (machine.Fault fault) i got = got
 
 -- it holds no number there
-holds_there : (k : ℕ) (m n : ReadState) (q : Progress (Unit {0})) (j : ℕ) → claim_by (place_of_reading k m n q) j ≡ None
+holds_there : (k : ℕ) (m n : ReadState) (q : Progress (Unit {0})) (o : Option Op) (j : ℕ) → claim_by o (place_of_reading k m n q) j ≡ None
 holds_there k m n machine.Moved j = refl
 holds_there k m n (machine.Sleeping cause) j = refl
 holds_there k m n (machine.Over out) j = refl
@@ -426,8 +426,8 @@ module _ {D N : Type 0} (disk : Ghosts D N) (s : StoreState D) (p k : ℕ) (m : 
     same_image = ap (λ (v : Shown). v.current) does.shown
 
     module _ (tasks : ts ≡ set s.tasks p (task_then n q h)) where
-      holds_still : (j : ℕ) → claim_by (task_then n q h).place j ≡ claim_by (task s.tasks p).place j
-      holds_still j = holds_there k m n q j ∙ sym (ap (λ (a : Place). claim_by a j) stood)
+      holds_still : (j : ℕ) → claim_of (task_then n q h) j ≡ claim_of (task s.tasks p) j
+      holds_still j = holds_there k m n q (task s.tasks p).op j ∙ sym (ap (λ (a : Place). claim_by (task s.tasks p).op a j) stood)
 
       looked : Looked disk s p 0 (progress_of_read q) then_at (task_then n q h)
       looked = record {

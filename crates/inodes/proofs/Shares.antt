@@ -26,7 +26,7 @@ module _ (old new : Image) (t : TableState) (ts : List TaskState) (i : ℕ) (are
 
 -- process p's task is u now, which had to do with number i alone
 module _ {D : Type 0} (image : D → Image) (s t : StoreState D) (p i : ℕ) (u : TaskState) (are : AreLooking (current_of image s.volume) s.table s.tasks) (numbers : s.table.inode_count ≡ inode_count_of (current_of image s.volume))
-    (tasks : t.tasks ≡ set s.tasks p u) (alone : LocksAlone s.tasks p i) (claims : (j : ℕ) → j ≢ i → claim_by u.place j ≡ claim_by (task s.tasks p).place j)
+    (tasks : t.tasks ≡ set s.tasks p u) (alone : LocksAlone s.tasks p i) (claims : (j : ℕ) → j ≢ i → claim_of u j ≡ claim_of (task s.tasks p) j)
     (keeps : KeepsUsed s.table.inode_count i (claims_of s.tasks) (current_of image s.volume) (current_of image t.volume)) where
   pub shares : LeavesShares image s p t
   shares q k j apart locked used =

@@ -108,9 +108,9 @@ agrees_begun c l n p op ts agrees lt pid stood can = agrees_now c c l (begun l p
 
 -- which holds nothing yet
 pub begun_claims : (ts : List TaskState) (p : ℕ) (op : Op) (n : ℕ) → (task ts p).place ≡ place.Nowhere → (j : ℕ) → claims_of (set ts p (record { op = Some op; place = first_place op n; gathered = None })) j ≡ claims_of ts j
-begun_claims ts p op n stood j = claim_stays ts p j (record { op = Some op; place = first_place op n; gathered = None }) (by_op op ∙ sym (ap (λ (a : Place). claim_by a j) stood))
+begun_claims ts p op n stood j = claim_stays ts p j (record { op = Some op; place = first_place op n; gathered = None }) (by_op op ∙ sym (ap (λ (a : Place). claim_by (task ts p).op a j) stood))
   where
-    by_op : (op : Op) → claim_by (first_place op n) j ≡ None
+    by_op : (op : Op) → claim_by (Some op) (first_place op n) j ≡ None
     by_op (Create kind) = refl
     by_op (Write i off bytes) = refl
     by_op (Read i off m) = refl

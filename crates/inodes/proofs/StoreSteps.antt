@@ -270,10 +270,10 @@ set_then ts p m new (search.Over made) stood = refl
 set_then ts p m new (search.Fault fault) stood = same_task ts p (place.Creating m) stood
 
 -- a search holds no number
-pub unclaimed_then : (ts : List TaskState) (p : ℕ) (m new : SearchState) (r : Progress (Option ℕ)) → (task ts p).place ≡ place.Creating m → (j : ℕ) → claim_by (place_then r m new) j ≡ claim_by (task ts p).place j
-unclaimed_then ts p m new r stood j = by_answer r ∙ sym (ap (λ (a : Place). claim_by a j) stood)
+pub unclaimed_then : (ts : List TaskState) (p : ℕ) (m new : SearchState) (r : Progress (Option ℕ)) → (task ts p).place ≡ place.Creating m → (j : ℕ) → claim_by (task ts p).op (place_then r m new) j ≡ claim_of (task ts p) j
+unclaimed_then ts p m new r stood j = by_answer r ∙ sym (ap (λ (a : Place). claim_by (task ts p).op a j) stood)
   where
-    by_answer : (r : Progress (Option ℕ)) → claim_by (place_then r m new) j ≡ None
+    by_answer : (r : Progress (Option ℕ)) → claim_by (task ts p).op (place_then r m new) j ≡ None
     by_answer search.Moved = refl
     by_answer (search.Sleeping cause) = refl
     by_answer (search.Over made) = refl

@@ -146,8 +146,8 @@ abbrev pub look_task : Op → Option GatheredBytes → TaskState
 look_task op room = record { op = Some op; place = place.Taking (record { number = asked op; at = lock_at.Reference }); gathered = room }
 
 -- such a task begins: it holds no number, as none did before
-nothing_claimed : (ts : List TaskState) (p : ℕ) (op : Op) (room : Option GatheredBytes) → (task ts p).place ≡ place.Nowhere → (j : ℕ) → claim_by (look_task op room).place j ≡ claim_by (task ts p).place j
-nothing_claimed ts p op room stood j = sym (ap (λ (a : Place). claim_by a j) stood)
+nothing_claimed : (ts : List TaskState) (p : ℕ) (op : Op) (room : Option GatheredBytes) → (task ts p).place ≡ place.Nowhere → (j : ℕ) → claim_of (look_task op room) j ≡ claim_of (task ts p) j
+nothing_claimed ts p op room stood j = sym (ap (λ (a : Place). claim_by (task ts p).op a j) stood)
 
 pub store_looks : {D : Type 0} (image : D → Image) (s : StoreState D) (p : ℕ) (op : Op) (room : Option GatheredBytes) → IsStore image s → s.volume.fault ≡ None → p < length s.tasks → (task s.tasks p).place ≡ place.Nowhere
     → CanLook s.table.inode_count op → HasRoom op room → IsStore image (record s { tasks = set s.tasks p (look_task op room) })

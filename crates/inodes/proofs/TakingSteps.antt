@@ -104,8 +104,8 @@ module _ {D N : Type 0} (disk : Ghosts D N) (s : StoreState D) (p : ℕ) (op : O
   nobody q k apart locks = none_of_zero cur s.table s.tasks (looking disk s p op m is well stood is_op) q k locks
 
   -- who takes its inode holds nothing
-  holds_nothing : (j : ℕ) → None ≡ claim_by (task s.tasks p).place j
-  holds_nothing j = sym (ap (λ (a : Place). claim_by a j) stood)
+  holds_nothing : (j : ℕ) → None ≡ claim_of (task s.tasks p) j
+  holds_nothing j = sym (ap (λ (a : Place). claim_by (task s.tasks p).op a j) stood)
 
   grip_now : (a : LockAt) → m.at ≡ a → grip (grips_of s.tasks) p ≡ grip_at a m.number
   grip_now a at = has disk s p op m is well stood is_op ∙ ap (λ (b : LockAt). grip_at b m.number) at
@@ -138,7 +138,7 @@ module _ {D N : Type 0} (disk : Ghosts D N) (s : StoreState D) (p : ℕ) (op : O
   files_by (machine.Over used) never files t fits = absurd (never used refl)
   files_by (machine.Fault fault) never files t fits = fits
 
-  holds_still : (q : Progress Bool) (n : LockState) → ((used : Bool) → q ≡ machine.Over used → ⊥) → (j : ℕ) → claim_by (task_then n q).place j ≡ claim_by (task s.tasks p).place j
+  holds_still : (q : Progress Bool) (n : LockState) → ((used : Bool) → q ≡ machine.Over used → ⊥) → (j : ℕ) → claim_of (task_then n q) j ≡ claim_of (task s.tasks p) j
   holds_still machine.Moved n never j = holds_nothing j
   holds_still (machine.Sleeping cause) n never j = holds_nothing j
   holds_still (machine.Over used) n never j = absurd (never used refl)

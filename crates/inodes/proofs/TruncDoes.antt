@@ -150,8 +150,8 @@ module _ {D N : Type 0} (disk : Ghosts D N) (s : StoreState D) (p k : ℕ) (m : 
   logged : HasLogged s.volume.log p m.bitmap
   logged = (of.holds disk s p k m is well stood).logged
 
-  claim_at : (o : TruncState) → o.number ≡ m.number → claim_by (place.Truncating k o) m.number ≡ Some (frees (held_of o))
-  claim_at o same = subst (λ (i : ℕ). claim_by (place.Truncating k o) i ≡ Some (frees (held_of o))) same (own_holds k o)
+  claim_at : (o : TruncState) → o.number ≡ m.number → claim_by None (place.Truncating k o) m.number ≡ Some (frees (held_of o))
+  claim_at o same = subst (λ (i : ℕ). claim_by None (place.Truncating k o) i ≡ Some (frees (held_of o))) same (own_holds k o)
 
   -- ---- the image stays
 
@@ -222,11 +222,11 @@ module _ {D N : Type 0} (disk : Ghosts D N) (s : StoreState D) (p k : ℕ) (m : 
         stands_by (machine.Over out) here = absurd (never out here)
         stands_by (machine.Fault fault) here = tt
 
-        files_by : (r : Progress (Unit {0})) → q ≡ r → (new : Claims) → IsClaimedNow claims m.number (claim_by (place_of_trunc k m n r) m.number) new
+        files_by : (r : Progress (Unit {0})) → q ≡ r → (new : Claims) → IsClaimedNow claims m.number (claim_by (task s.tasks p).op (place_of_trunc k m n r) m.number) new
             → (files : Files) → FitsHeld files cur claims → FitsHeld files cur new
         files_by machine.Moved here new claimed files fits =
             let g = got here in
-            let same : claim_by (place.Truncating k n) m.number ≡ Some (frees (held_of g.next)) = ap (λ (o : TruncState). claim_by (place.Truncating k o) m.number) g.n_is
+            let same : claim_by None (place.Truncating k n) m.number ≡ Some (frees (held_of g.next)) = ap (λ (o : TruncState). claim_by None (place.Truncating k o) m.number) g.n_is
             ∙ claim_at g.next (ap (λ (o : TruncState). o.number) g.on.same) in
             g.passes new (subst (λ (c : Option Claim). IsClaimedNow claims m.number c new) same claimed) files fits
         files_by (machine.Sleeping cause) here new claimed files fits =
@@ -345,7 +345,7 @@ module _ {D N : Type 0} (disk : Ghosts D N) (s : StoreState D) (p k : ℕ) (m : 
             (subst (λ (x : Image). KeepsTable s.table s.table p gs gs x) (sym shown) (table_freed f.block));
         files = λ new claimed files fits.
             let number : n.number ≡ m.number = ap (λ (o : TruncState). o.number) next ∙ ap (λ (o : TruncState). o.number) freeing.same_behind in
-            let same : claim_by (place_of_trunc k m n q) m.number ≡ Some (frees (held_of behind)) = ap (λ (r : Progress (Unit {0})). claim_by (place_of_trunc k m n r) m.number) moved
+            let same : claim_by (task s.tasks p).op (place_of_trunc k m n q) m.number ≡ Some (frees (held_of behind)) = ap (λ (r : Progress (Unit {0})). claim_by (task s.tasks p).op (place_of_trunc k m n r) m.number) moved
             ∙ claim_at n number ∙ ap (λ (o : TruncState). Some (frees (held_of o))) next in
             subst (λ (x : Image). FitsHeld files x new) (sym shown) (freeing.event files fits new (subst (λ (c : Option Claim). IsClaimedNow claims m.number c new) same claimed)).fits;
         others = λ fine. others_then i f.bitmap (with_freed cur f.bitmap f.block) writes;
@@ -546,7 +546,7 @@ module _ {D N : Type 0} (disk : Ghosts D N) (s : StoreState D) (p k : ℕ) (m : 
       keeps = keeps_still now leaves.current;
       table = table_still now (table_of_trunc s.table k m q) leaves.current (ap (table_of_trunc s.table k m) moved);
       files = λ new claimed files fits.
-          let same : claim_by (place_of_trunc k m n q) m.number ≡ Some (frees (held_of m)) = ap (λ (r : Progress (Unit {0})). claim_by (place_of_trunc k m n r) m.number) moved
+          let same : claim_by (task s.tasks p).op (place_of_trunc k m n q) m.number ≡ Some (frees (held_of m)) = ap (λ (r : Progress (Unit {0})). claim_by (task s.tasks p).op (place_of_trunc k m n r) m.number) moved
           ∙ claim_at n (ap (λ (o : TruncState). o.number) next) ∙ ap (λ (o : TruncState). Some (frees (held_of o))) next in
           subst (λ (x : Image). FitsHeld files x new) (sym leaves.current)
           (fits_still files cur claims new m.number (held_of m) (held_in files fits) (subst (λ (c : Option Claim). IsClaimedNow claims m.number c new) same claimed));
@@ -619,7 +619,7 @@ module _ {D N : Type 0} (disk : Ghosts D N) (s : StoreState D) (p k : ℕ) (m : 
           (kept_by_renew s.table gs cur (with_inode cur m.number (last_inode (held_of m))) p k m.number (inode_left m) (of.looking disk s p k m is well stood).table (of.has disk s p k m is well stood)
           written_keeps.inodes (copy_left m.removes refl own_written)));
       files = λ new claimed files fits.
-          let same : claim_by (place_of_trunc k m n q) m.number ≡ None = ap (λ (r : Progress (Unit {0})). claim_by (place_of_trunc k m n r) m.number) over in
+          let same : claim_by (task s.tasks p).op (place_of_trunc k m n q) m.number ≡ None = ap (λ (r : Progress (Unit {0})). claim_by (task s.tasks p).op (place_of_trunc k m n r) m.number) over in
           subst (λ (x : Image). FitsHeld files x new) (sym shown)
           (write_back_rests files cur claims new m.number (held_of m) (held_in files fits) given.1 (subst (λ (c : Option Claim). IsClaimedNow claims m.number c new) same claimed)).fits;
       others = λ fine. others_then i (inode_block u.number) (with_inode cur u.number (last_inode_of m)) writes;

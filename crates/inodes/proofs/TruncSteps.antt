@@ -77,7 +77,7 @@ asleep_as cause (machine.Over out) waits = absurd (cc waits)
 asleep_as cause (machine.Fault fault) waits = absurd (cc waits)
 
 -- it holds no other number
-no_claim : (k j : ℕ) (m : TruncState) → m.number ≢ j → claim_by (place.Truncating k m) j ≡ None
+no_claim : (k j : ℕ) (m : TruncState) → m.number ≢ j → claim_by None (place.Truncating k m) j ≡ None
 no_claim k j m apart = cond-false (eqb m.number j) (Some (frees (held_of m))) None (ne_eqb m.number j apart)
 
 -- what each image stood for, the next one stands for
@@ -136,7 +136,7 @@ module _ {D N : Type 0} (disk : Ghosts D N) (s : StoreState D) (p k : ℕ) (m : 
       pub marks : Marks None cur now
       pub keeps : KeepsUsed s.table.inode_count m.number claims cur now
       pub table : KeepsTable s.table (table_of_trunc s.table k m q) p (grips_of s.tasks) (grips_of s.tasks) now
-      pub files : (new : Claims) → IsClaimedNow claims m.number (claim_by (place_of_trunc k m n q) m.number) new → (files : Files) → FitsHeld files cur claims → FitsHeld files now new
+      pub files : (new : Claims) → IsClaimedNow claims m.number (claim_by (task s.tasks p).op (place_of_trunc k m n q) m.number) new → (files : Files) → FitsHeld files cur claims → FitsHeld files now new
       pub others : fault_of q ≡ None → StaysForOthers s.volume.buffers w.buffers s.volume.log w.log p
       pub stands : StandsAs q
       pub asleep : (cause : Why) → q ≡ machine.Sleeping cause → w ≡ s.volume
@@ -162,17 +162,17 @@ module _ {D N : Type 0} (disk : Ghosts D N) (s : StoreState D) (p k : ℕ) (m : 
 
       -- ---- what it holds
 
-      claim_then : (r : Progress (Unit {0})) → StandsAs r → (j : ℕ) → j ≢ m.number → claim_by (place_of_trunc k m n r) j ≡ None
+      claim_then : (r : Progress (Unit {0})) → StandsAs r → (j : ℕ) → j ≢ m.number → claim_by (task s.tasks p).op (place_of_trunc k m n r) j ≡ None
       claim_then machine.Moved on j apart = no_claim k j n (λ same. apart (sym same ∙ ap (λ (o : TruncState). o.number) on.same))
       claim_then (machine.Sleeping cause) on j apart = no_claim k j m (λ same. apart (sym same))
       claim_then (machine.Over out) on j apart = refl
       claim_then (machine.Fault fault) on j apart = no_claim k j m (λ same. apart (sym same))
 
-      same_claim : (j : ℕ) → j ≢ m.number → claim_by u.place j ≡ claim_by (task s.tasks p).place j
-      same_claim j apart = claim_then q does.stands j apart ∙ sym (ap (λ (a : Place). claim_by a j) stood ∙ no_claim k j m (λ same. apart (sym same)))
+      same_claim : (j : ℕ) → j ≢ m.number → claim_of u j ≡ claim_of (task s.tasks p) j
+      same_claim j apart = claim_then q does.stands j apart ∙ sym (ap (λ (a : Place). claim_by (task s.tasks p).op a j) stood ∙ no_claim k j m (λ same. apart (sym same)))
 
-      claimed_then : IsClaimedNow claims m.number (claim_by u.place m.number) (claims_of ts)
-      claimed_then = subst (λ (l : List TaskState). IsClaimedNow claims m.number (claim_by u.place m.number) (claims_of l)) (sym tasks)
+      claimed_then : IsClaimedNow claims m.number (claim_of u m.number) (claims_of ts)
+      claimed_then = subst (λ (l : List TaskState). IsClaimedNow claims m.number (claim_of u m.number) (claims_of l)) (sym tasks)
           (claimed_now s.tasks p m.number u inside (holds_alone cur s.table s.tasks (looking disk s p k m is well stood) p k m.number (gripped disk s p k m is well stood)) same_claim)
 
       fits_then : (files : Files) → FitsHeld files cur claims → FitsHeld files now (claims_of ts)

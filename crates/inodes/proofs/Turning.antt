@@ -88,7 +88,7 @@ left_at_turn d k n c (Remove j) true can = left_of_trunc c d k j true
 left_at_turn d k n c (Stat j) true can = omega arith
 
 -- it holds no other number
-none_of_read : (k j : ℕ) (o : Option ReadState) → claim_by (place_of_read k o) j ≡ None
+none_of_read : (k j : ℕ) (op : Option Op) (o : Option ReadState) → claim_by op (place_of_read k o) j ≡ None
 none_of_read k j None = refl
 none_of_read k j (Some m) = refl
 
@@ -105,7 +105,7 @@ claims_at_turn c d k (Stat i) true j other = refl
 abbrev held_at_turn : Dinode → Bool → Held
 held_at_turn d removes = record { copy = d; given_up = 0; last_kind = cond removes 0 d.kind }
 
-claim_at_turn : (c : ℕ) (d : Dinode) (k i : ℕ) (removes : Bool) → claim_by (place.Truncating k (first_trunc i d removes (bitmap_block c))) i ≡ Some (frees (held_at_turn d removes))
+claim_at_turn : (c : ℕ) (d : Dinode) (k i : ℕ) (removes : Bool) → claim_by None (place.Truncating k (first_trunc i d removes (bitmap_block c))) i ≡ Some (frees (held_at_turn d removes))
 claim_at_turn c d k i removes = rw (eq-eqb i i refl) refl
 
 -- nothing is got there
@@ -157,12 +157,12 @@ module _ {D N : Type 0} (disk : Ghosts D N) (s : StoreState D) (p : ℕ) (op : O
   pub holds_alone : HoldsAlone s.tasks p m.number
   holds_alone = holds_alone_of cur s.table s.tasks (looking disk s p op m is well stood is_op) p m.number alone
 
-  pub holds_nothing : (j : ℕ) → claim_by (task s.tasks p).place j ≡ None
-  holds_nothing j = ap (λ (a : Place). claim_by a j) stood
+  pub holds_nothing : (j : ℕ) → claim_of (task s.tasks p) j ≡ None
+  holds_nothing j = ap (λ (a : Place). claim_by (task s.tasks p).op a j) stood
 
   none : claims_of s.tasks m.number ≡ None
   none = none_held s.tasks m.number (λ q. ⊎_elim
-      (λ (same : q ≡ p). ap (λ (r : ℕ). claim_by (task s.tasks r).place m.number) same ∙ holds_nothing m.number)
+      (λ (same : q ≡ p). ap (λ (r : ℕ). claim_of (task s.tasks r) m.number) same ∙ holds_nothing m.number)
       (λ (apart : q ≢ p). holds_alone q apart)
       (cases_eq q p))
 
@@ -183,7 +183,7 @@ module _ {D N : Type 0} (disk : Ghosts D N) (s : StoreState D) (p : ℕ) (op : O
 
   -- the files are then what the reply says
   module _ (t : StoreState D) (u : TaskState) (k : ℕ) (tasks : t.tasks ≡ set s.tasks p u) (current : current_of disk.image t.volume ≡ cur)
-      (same : claim_by u.place m.number ≡ None → (files : Files) → FitsFiles disk.image s files → FitsFiles disk.image t files) where
+      (same : claim_of u m.number ≡ None → (files : Files) → FitsFiles disk.image s files → FitsFiles disk.image t files) where
     fits_then : (files : Files) → FitsHeld files cur (claims_of (set s.tasks p u)) → FitsFiles disk.image t files
     unfolding FitsFiles
     fits_then files fits = subst (λ (x : Image). FitsHeld files x (claims_of t.tasks)) (sym current) (subst (λ (ts : List TaskState). FitsHeld files cur (claims_of ts)) (sym tasks) fits)
@@ -196,8 +196,8 @@ module _ {D N : Type 0} (disk : Ghosts D N) (s : StoreState D) (p : ℕ) (op : O
     begins_freeing : (removes : Bool) → u.place ≡ place.Truncating k (first_trunc m.number inode removes (bitmap_block s.table.inode_count)) → inode.kind ≢ 0 → (files : Files) → FitsHeld files cur (claims_of s.tasks)
         → FitsFiles disk.image t (set files m.number (file_left (cond removes 0 inode.kind)))
     begins_freeing removes there used files fits =
-        let own : claim_by u.place m.number ≡ Some (frees (held_at_turn inode removes)) = ap (λ (a : Place). claim_by a m.number) there ∙ claim_at_turn s.table.inode_count inode k m.number removes in
-        let others : (j : ℕ) → j ≢ m.number → claim_by u.place j ≡ claim_by (task s.tasks p).place j = λ j other. ap (λ (a : Place). claim_by a j) there ∙ rw (ne_eqb m.number j (λ e. other (sym e))) refl ∙ sym (holds_nothing j) in
+        let own : claim_of u m.number ≡ Some (frees (held_at_turn inode removes)) = ap (λ (a : Place). claim_by u.op a m.number) there ∙ claim_at_turn s.table.inode_count inode k m.number removes in
+        let others : (j : ℕ) → j ≢ m.number → claim_of u j ≡ claim_of (task s.tasks p) j = λ j other. ap (λ (a : Place). claim_by u.op a j) there ∙ rw (ne_eqb m.number j (λ e. other (sym e))) refl ∙ sym (holds_nothing j) in
         let now : IsClaimedNow (claims_of s.tasks) m.number (Some (frees (held_at_turn inode removes))) (claims_of (set s.tasks p u)) =
         subst (λ (o : Option Claim). IsClaimedNow (claims_of s.tasks) m.number o (claims_of (set s.tasks p u))) own (claimed_now s.tasks p m.number u inside holds_alone others) in
         fits_then (set files m.number (file_left (cond removes 0 inode.kind)))
@@ -211,7 +211,7 @@ module _ {D N : Type 0} (disk : Ghosts D N) (s : StoreState D) (p : ℕ) (op : O
         → TurnsTo (form_of cur) q (reply_of_look inode q) files (FitsFiles disk.image t)
     used_turn (Create kind) allowed named there used files fits = absurd allowed
     used_turn (Write i off bytes) allowed named there used files fits = absurd allowed
-    used_turn (Read i off n) allowed named there used files fits = same (ap (λ (a : Place). claim_by a m.number) there ∙ none_of_read k m.number (first_read inode off n)) files fits
+    used_turn (Read i off n) allowed named there used files fits = same (ap (λ (a : Place). claim_by u.op a m.number) there ∙ none_of_read k m.number (first_read inode off n)) files fits
     used_turn (Trunc i) allowed named there used files fits =
         let before = fits_before files fits in (
           set files m.number (file_left inode.kind),
@@ -230,7 +230,7 @@ module _ {D N : Type 0} (disk : Ghosts D N) (s : StoreState D) (p : ℕ) (op : O
       files,
       subst (λ (j : ℕ). after (form_of cur) files (Stat j) (StatOf inode.kind inode.size) ≡ Some files) named
           (resting_tells files cur (claims_of s.tasks) m.number (fits_before files fits) (may_name_now disk s p op m is well stood is_op, used) none).stat,
-      same (ap (λ (a : Place). claim_by a m.number) there) files fits,
+      same (ap (λ (a : Place). claim_by u.op a m.number) there) files fits,
     )
 
     free_turn : (q : Op) → CanTake s.table.inode_count q → m.number ≡ asked q → u.place ≡ place.Leaving k → inode.kind ≡ 0 → (files : Files) → FitsFiles disk.image s files
@@ -238,7 +238,7 @@ module _ {D N : Type 0} (disk : Ghosts D N) (s : StoreState D) (p : ℕ) (op : O
     free_turn q allowed named there free files fits = (
       files,
       by_op q allowed named,
-      same (ap (λ (a : Place). claim_by a m.number) there) files fits,
+      same (ap (λ (a : Place). claim_by u.op a m.number) there) files fits,
     )
       where
         by_op : (o : Op) → CanTake s.table.inode_count o → m.number ≡ asked o → after (form_of cur) files o NoFile ≡ Some files

@@ -22,16 +22,16 @@ LocksAlone ts p i = (q k : ℕ) → q ≢ p → grip_of (task ts q) ≡ Some (lo
 
 module _ (cur : Image) (t : TableState) (ts : List TaskState) (are : AreLooking cur t ts) where
   -- who holds a number has locked it
-  pub claim_locks : (q i : ℕ) (h : Claim) → claim_by (task ts q).place i ≡ Some h → (k : ℕ) × (grip_of (task ts q) ≡ Some (locked_grip k i))
+  pub claim_locks : (q i : ℕ) (h : Claim) → claim_of (task ts q) i ≡ Some h → (k : ℕ) × (grip_of (task ts q) ≡ Some (locked_grip k i))
   claim_locks q i h claimed =
       let is = holding_is (task ts q).place i h claimed in
       (is.entry, subst (λ (j : ℕ). grip_of (task ts q) ≡ Some (locked_grip is.entry j)) is.number (trunc_locks cur t ts are q is.entry is.trunc is.at))
 
   -- so the one who may have locked it may hold it
   pub holds_alone_of : (p i : ℕ) → LocksAlone ts p i → HoldsAlone ts p i
-  holds_alone_of p i alone q apart = by_claim (claim_by (task ts q).place i) refl
+  holds_alone_of p i alone q apart = by_claim (claim_of (task ts q) i) refl
     where
-      by_claim : (o : Option Claim) → claim_by (task ts q).place i ≡ o → o ≡ None
+      by_claim : (o : Option Claim) → claim_of (task ts q) i ≡ o → o ≡ None
       by_claim None none = refl
       by_claim (Some h) claimed = let locked = claim_locks q i h claimed in absurd (alone q locked.0 apart locked.1)
 
@@ -43,13 +43,13 @@ module _ (cur : Image) (t : TableState) (ts : List TaskState) (are : AreLooking 
   holds_alone p k i mine = holds_alone_of p i (locks_alone p k i mine)
 
   -- what is held of a number is what that process holds of it
-  pub claim_of_locked : (p k i : ℕ) → grip_of (task ts p) ≡ Some (locked_grip k i) → claims_of ts i ≡ claim_by (task ts p).place i
+  pub claim_of_locked : (p k i : ℕ) → grip_of (task ts p) ≡ Some (locked_grip k i) → claims_of ts i ≡ claim_of (task ts p) i
   claim_of_locked p k i mine = claim_of_one ts p i (holds_alone p k i mine)
 
   -- nothing, where it does not free the blocks of its file
-  pub unclaimed : (p k i : ℕ) → grip_of (task ts p) ≡ Some (locked_grip k i) → claim_by (task ts p).place i ≡ None → claims_of ts i ≡ None
+  pub unclaimed : (p k i : ℕ) → grip_of (task ts p) ≡ Some (locked_grip k i) → claim_of (task ts p) i ≡ None → claims_of ts i ≡ None
   unclaimed p k i mine none = claim_of_locked p k i mine ∙ none
 
   -- and else what is left of them
   pub own_claim : (p k : ℕ) (m : TruncState) → (task ts p).place ≡ place.Truncating k m → claims_of ts m.number ≡ Some (frees (held_of m))
-  own_claim p k m at = claim_of_locked p k m.number (trunc_locks cur t ts are p k m at) ∙ ap (λ (a : Place). claim_by a m.number) at ∙ own_holds k m
+  own_claim p k m at = claim_of_locked p k m.number (trunc_locks cur t ts are p k m at) ∙ ap (λ (a : Place). claim_by (task ts p).op a m.number) at ∙ own_holds k m

@@ -29,6 +29,10 @@ use Rattle.inodes.specs.Store.{StoreState, current_of}
 use Rattle.inodes.specs.Table.{TableState, left, renewed}
 use Rattle.inodes.specs.Tasks.{task}
 use Rattle.inodes.specs.Turning.{if_used, reply_when_taken, place_when_taken}
+use Rattle.inodes.specs.Writei.{WriteState, WriteSteps}
+use Rattle.inodes.specs.Writing.{extent_of}
+use Rattle.inodes.specs.Growing.{bytes_of}
+use Rattle.inodes.specs.declared.writei.Extent.{Extent}
 
 -- what a step may change beside buffers and tasks: the current image and the log
 pub record Shown : Type 0 where
@@ -115,12 +119,12 @@ progress_of_lock d op (machine.Over used) = progress.Turned (reply_when_taken (i
 progress_of_lock d op (machine.Fault fault) = progress.Fault fault
 
 -- and where the task stands then
-abbrev pub place_of_lock : ℕ → Dinode → Op → LockState → LockState → Progress Bool → Place
-place_of_lock count d op m n machine.Moved = place.Taking n
-place_of_lock count d op m n (machine.Sleeping why) = place.Taking m
-place_of_lock count d op m n (machine.Over used) =
-    place_when_taken count (if_used used d) (place_of n.at) op
-place_of_lock count d op m n (machine.Fault fault) = place.Taking m
+abbrev pub place_of_lock : Extent → Dinode → Op → LockState → LockState → Progress Bool → Place
+place_of_lock e d op m n machine.Moved = place.Taking n
+place_of_lock e d op m n (machine.Sleeping why) = place.Taking m
+place_of_lock e d op m n (machine.Over used) =
+    place_when_taken e (if_used used d) (place_of n.at) op
+place_of_lock e d op m n (machine.Fault fault) = place.Taking m
 
 -- A step that takes the inode of an operation: with the last one it has its turn, and knows the
 -- inode that the current image has.
@@ -131,8 +135,8 @@ pub record TakesInode {D N : Type 0} (disk : Ghosts D N) (s : StoreState D) (p :
   pub locks : LockSteps disk m.at s.table s.volume p m answer t.table t.volume now
   pub gives : r ≡ progress_of_lock (inode_of (current_of disk.image s.volume) m.number) op answer
   pub next : (task t.tasks p).place
-      ≡ place_of_lock s.table.inode_count (inode_of (current_of disk.image s.volume) m.number)
-      op m now answer
+      ≡ place_of_lock (extent_of s.table.inode_count s.volume.log.size)
+      (inode_of (current_of disk.image s.volume) m.number) op m now answer
   pub bytes : (task t.tasks p).gathered ≡ (task s.tasks p).gathered
 
 -- what a step of a reading is to the task
@@ -195,6 +199,38 @@ pub record Truncates {D N : Type 0} (disk : Ghosts D N) (s : StoreState D) (p k 
   pub table : t.table ≡ table_of_trunc s.table k m answer
   pub bytes : (task t.tasks p).gathered ≡ (task s.tasks p).gathered
 
+-- what a step of writing a file's bytes is to the task: with the last one so many were written
+abbrev pub progress_of_write : ℕ → Progress (Unit {0}) → TaskProgress
+progress_of_write done machine.Moved = progress.Moved
+progress_of_write done (machine.Sleeping why) = progress.Sleeping why
+progress_of_write done (machine.Over out) = progress.Decided (Wrote done)
+progress_of_write done (machine.Fault fault) = progress.Fault fault
+
+-- where the task stands then
+abbrev pub place_of_writing : ℕ → WriteState → WriteState → Progress (Unit {0}) → Place
+place_of_writing k m n machine.Moved = place.Writing k n
+place_of_writing k m n (machine.Sleeping why) = place.Writing k m
+place_of_writing k m n (machine.Over out) = place.Leaving k
+place_of_writing k m n (machine.Fault fault) = place.Writing k m
+
+-- and the table: with the last step it has the inode that was written
+abbrev pub table_of_writing : TableState → ℕ → WriteState → Progress (Unit {0}) → TableState
+table_of_writing t k m machine.Moved = t
+table_of_writing t k m (machine.Sleeping why) = t
+table_of_writing t k m (machine.Over out) = renewed t k (Some m.inode)
+table_of_writing t k m (machine.Fault fault) = t
+
+-- a step of writing the operation's bytes into a file, whose inode stands at place k of the table
+pub record WritesOn {D N : Type 0} (disk : Ghosts D N) (s : StoreState D) (p k : ℕ) (op : Op)
+    (m : WriteState) (r : TaskProgress) (t : StoreState D) : Type 0 where
+  pub answer : Progress (Unit {0})
+  pub now : WriteState
+  pub writes : WriteSteps disk m.at s.volume p m (bytes_of op) answer now t.volume
+  pub gives : r ≡ progress_of_write m.done answer
+  pub next : (task t.tasks p).place ≡ place_of_writing k m now answer
+  pub table : t.table ≡ table_of_writing s.table k m answer
+  pub bytes : (task t.tasks p).gathered ≡ (task s.tasks p).gathered
+
 -- the task gives up the inode at place k, and is over
 pub record GivesUp {D : Type 0} (s : StoreState D) (p k : ℕ) (t : StoreState D) : Type 0 where
   pub next : (task t.tasks p).place ≡ place.Nowhere
@@ -227,4 +263,5 @@ Goes disk (place.Taking m) s p op r t =
 Goes disk (place.Reading k m) s p op r t = ReadsOn disk s p k m r t × ShowsSame disk.image s t
 Goes disk (place.Delivering k) s p op r t = Delivers s p k r t
 Goes disk (place.Truncating k m) s p op r t = Truncates disk s p k m r t
+Goes disk (place.Writing k m) s p op r t = WritesOn disk s p k op m r t
 Goes disk (place.Leaving k) s p op r t = (r ≡ progress.Over) × GivesUp s p k t

@@ -1,7 +1,9 @@
 -- What the writing of a file's bytes holds of its number, and how far it has come.
-use Rattle.std.specs.Prelude.{◌≡◌, ◌≢◌, ◌⊎◌, ◌<◌, ◌≤◌, ℕ, ◌-◌, ◌/◌, List, take, slice_index, Option, Some, None}
+use Rattle.std.specs.Prelude.{◌≡◌, ◌≢◌, ◌⊎◌, ◌<◌, ◌≤◌, ℕ, ◌-◌, ◌/◌, List, [], take, slice_index, Option, Some, None}
 use Rattle.blocks.specs.Disk.{Image, block_at}
 use Rattle.model.specs.declared.types.image.Dinode.{Dinode}
+use Rattle.model.specs.declared.types.operations.Op.{Op}
+use Rattle.model.specs.declared.types.operations.Op.TheVariants.{Create, Write, Read, Trunc, Remove, Stat}
 use Rattle.model.specs.Fields.{words_of}
 use Rattle.model.specs.Places.{address_in}
 use Rattle.loose.specs.Held.{Growth}
@@ -15,6 +17,19 @@ use Rattle.inodes.specs.Writei.{WriteState, next_byte}
 use Rattle.inodes.specs.declared.writei.Extent.{Extent}
 use Rattle.inodes.specs.declared.writei.WriteAt.{WriteAt}
 use Rattle.inodes.specs.declared.writei.WriteAt.TheVariants as write_at
+
+-- the bytes that an operation writes; those of any other are none
+abbrev pub bytes_of : Op → List ℕ
+bytes_of (Create kind) = []
+bytes_of (Write i off bytes) = bytes
+bytes_of (Read i off n) = []
+bytes_of (Trunc i) = []
+bytes_of (Remove i) = []
+bytes_of (Stat i) = []
+
+abbrev pub bytes_by : Option Op → List ℕ
+bytes_by None = []
+bytes_by (Some op) = bytes_of op
 
 -- ---- what it holds
 

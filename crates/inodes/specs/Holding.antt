@@ -1,15 +1,17 @@
--- The tasks that give up a file's blocks, behind their turn: what each still holds.
+-- What tasks hold of a file's number behind their turn; and of those that give up its blocks, how far
+-- each has come.
 use Rattle.std.specs.Prelude.{◌≡◌, ◌≢◌, ◌<◌, ℕ, ◌+◌, ◌-◌, ◌*◌, ◌/◌, ◌==◌, if◌then◌else◌, IsTrue, List, [], ◌∷◌, replicate, slice_index, Option, Some, None}
 use Rattle.blocks.specs.Disk.{Image}
 use Rattle.model.specs.declared.types.operations.Op.{Op}
 use Rattle.model.specs.declared.types.operations.Op.TheVariants.{Trunc, Remove}
 use Rattle.model.specs.Journal.{is_number}
-use Rattle.loose.specs.Held.{Held, Claims, Claim, frees}
+use Rattle.loose.specs.Held.{Held, Claims, Claim, frees, grows}
 use Rattle.blockmap.specs.Bfree.{FreeState}
 use Rattle.inodes.specs.declared.itrunc.TruncAt.{TruncAt}
 use Rattle.inodes.specs.declared.itrunc.TruncAt.TheVariants as trunc_at
 use Rattle.inodes.specs.declared.tasks.Place.{Place}
 use Rattle.inodes.specs.declared.tasks.Place.TheVariants as place
+use Rattle.inodes.specs.Growing.{bytes_by, growth_of}
 use Rattle.inodes.specs.Itrunc.{TruncState, entries_in}
 use Rattle.inodes.specs.Table.{or_else}
 use Rattle.inodes.specs.Tasks.{TaskState}
@@ -22,20 +24,25 @@ held_of m = record {
   last_kind = if m.removes then 0 else m.inode.kind;
 }
 
--- what a task at a place holds of number i
-abbrev pub claim_by : Place → ℕ → Option Claim
-claim_by place.Nowhere i = None
-claim_by (place.Creating m) i = None
-claim_by (place.Taking m) i = None
-claim_by (place.Reading k m) i = None
-claim_by (place.Delivering k) i = None
-claim_by (place.Truncating k m) i = if m.number == i then Some (frees (held_of m)) else None
-claim_by (place.Leaving k) i = None
+-- what a task with this operation holds of number i, by its place
+abbrev pub claim_by : Option Op → Place → ℕ → Option Claim
+claim_by op place.Nowhere i = None
+claim_by op (place.Creating m) i = None
+claim_by op (place.Taking m) i = None
+claim_by op (place.Reading k m) i = None
+claim_by op (place.Delivering k) i = None
+claim_by op (place.Truncating k m) i = if m.number == i then Some (frees (held_of m)) else None
+claim_by op (place.Writing k m) i =
+    if m.number == i then Some (grows (growth_of m (bytes_by op))) else None
+claim_by op (place.Leaving k) i = None
+
+abbrev pub claim_of : TaskState → ℕ → Option Claim
+claim_of t i = claim_by t.op t.place i
 
 -- for each number what the task holds that holds it; none where no task does
 abbrev pub claims_of : List TaskState → Claims
 claims_of [] i = None
-claims_of (t ∷ ts) i = or_else (claim_by t.place i) (claims_of ts i)
+claims_of (t ∷ ts) i = or_else (claim_of t i) (claims_of ts i)
 
 -- the operation that frees a file's blocks
 abbrev pub trunc_op : TruncState → Op

@@ -20,3 +20,4 @@ pub mod Table
 pub mod Tasks
 pub mod Turning
 pub mod Writei
+pub mod Writing

@@ -1,6 +1,6 @@
 -- Operations that take an inode: what is true of their tasks, of the table and of the current image
 -- between any two steps.
-use Rattle.std.specs.Prelude.{◌≡◌, ◌<◌, ◌≤◌, ℕ, ◌+◌, ◌-◌, ◌/◌, min, IsTrue, List, [], Option, Some, None}
+use Rattle.std.specs.Prelude.{◌≡◌, ◌⊎◌, ◌<◌, ◌≤◌, ℕ, ◌+◌, ◌-◌, ◌/◌, min, IsTrue, List, [], length, Option, Some, None}
 use Rattle.blocks.specs.Disk.{Image}
 use Rattle.model.specs.declared.types.image.Dinode.{Dinode}
 use Rattle.model.specs.declared.types.operations.Op.{Op}
@@ -24,6 +24,7 @@ use Rattle.inodes.specs.Places.{asked, grips_of}
 use Rattle.inodes.specs.Readi.{ReadState}
 use Rattle.inodes.specs.Table.{TableState, copy_at, holder_at}
 use Rattle.inodes.specs.Tasks.{TaskState, task}
+use Rattle.inodes.specs.Writing.{IsWriting}
 
 -- an operation that looks at the file of a number that operations may name, and asks for no more
 -- bytes than there may be at once
@@ -36,10 +37,10 @@ CanLook n (Remove i) = ⊥
 CanLook n (Stat i) = IsTrue (is_number n i)
 
 -- an operation that takes the inode of a number that operations may name: one that looks at its
--- file, or frees its blocks
+-- file, or frees its blocks, or writes no more bytes than there may be at once
 abbrev pub CanTake : ℕ → Op → Type 0
 CanTake n (Create kind) = ⊥
-CanTake n (Write i off bytes) = ⊥
+CanTake n (Write i off bytes) = IsTrue (is_number n i) × (length bytes ≤ transfer_limit)
 CanTake n (Read i off count) = IsTrue (is_number n i) × (count ≤ transfer_limit)
 CanTake n (Trunc i) = IsTrue (is_number n i)
 CanTake n (Remove i) = IsTrue (is_number n i)
@@ -87,6 +88,18 @@ pub record IsRead (n : ℕ) (t : TaskState) : Type 0 where
   pub gathered : GatheredBytes
   pub has : t.gathered ≡ Some gathered
 
+-- the task is that of a write, of no more bytes than there may be at once
+pub record IsWrite (n : ℕ) (t : TaskState) : Type 0 where
+  pub number : ℕ
+  pub offset : ℕ
+  pub bytes : List ℕ
+  pub is : t.op ≡ Some (Write number offset bytes)
+  pub may : IsTrue (is_number n number) × (length bytes ≤ transfer_limit)
+
+-- a task whose reply is to come behind its turn
+abbrev pub IsLate : ℕ → TaskState → Type 0
+IsLate n t = IsRead n t ⊎ IsWrite n t
+
 -- a reading is at work on the inode that stands at place k of the table
 pub record IsAtRead (cur : Image) (n : ℕ) (inode : Option Dinode) (t : TaskState) (m : ReadState)
     : Type 0 where
@@ -115,6 +128,7 @@ LooksAt cur i t (place.Taking m) = IsTaking i.inode_count t m
 LooksAt cur i t (place.Reading k m) = IsAtRead cur i.inode_count (copy_at i.places k) t m
 LooksAt cur i t (place.Delivering k) = HasAllRead cur i.inode_count (copy_at i.places k) t
 LooksAt cur i t (place.Truncating k m) = IsTruncating cur i.inode_count t m
+LooksAt cur i t (place.Writing k m) = IsWriting cur i.inode_count t m
 LooksAt cur i t (place.Leaving k) = WasAnswered i.inode_count t
 
 -- the image stands for some files, where tasks hold numbers so

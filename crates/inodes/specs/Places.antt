@@ -16,6 +16,7 @@ use Rattle.inodes.specs.Itrunc.{TruncState}
 use Rattle.inodes.specs.LockState.{slot_of, locks_left}
 use Rattle.inodes.specs.Readi.{reads_left}
 use Rattle.inodes.specs.Tasks.{TaskState}
+use Rattle.inodes.specs.Writing.{block_of_write, kept_by_write, used_by_write, writes_left}
 
 -- the number of the inode that an operation asks for; 0 for a creation, which asks for none
 abbrev pub asked : Op → ℕ
@@ -38,6 +39,7 @@ is_over (place.Taking m) = false
 is_over (place.Reading k m) = false
 is_over (place.Delivering k) = false
 is_over (place.Truncating k m) = false
+is_over (place.Writing k m) = false
 is_over (place.Leaving k) = false
 
 -- a task that stands there has not had its turn
@@ -48,6 +50,7 @@ is_unturned (place.Taking m) = true
 is_unturned (place.Reading k m) = false
 is_unturned (place.Delivering k) = false
 is_unturned (place.Truncating k m) = false
+is_unturned (place.Writing k m) = false
 is_unturned (place.Leaving k) = false
 
 -- a task that stands there has got slot i
@@ -58,6 +61,8 @@ HasSlot (place.Taking m) i = slot_of m.at ≡ Some i
 HasSlot (place.Reading k m) i = slot_in m.target ≡ Some i
 HasSlot (place.Delivering k) i = None ≡ Some i
 HasSlot (place.Truncating k m) i = (kept_slot m.at ≡ Some i) ⊎ (used_slot m.at ≡ Some i)
+HasSlot (place.Writing k m) i =
+    (kept_by_write m.at ≡ Some i) ⊎ (used_by_write m.at ≡ Some i)
 HasSlot (place.Leaving k) i = None ≡ Some i
 
 -- the block that the freeing of a file's blocks gets or uses next
@@ -77,6 +82,7 @@ block_at_place (place.Taking m) = inode_block m.number
 block_at_place (place.Reading k m) = block_of m.target
 block_at_place (place.Delivering k) = 0
 block_at_place (place.Truncating k m) = block_of_trunc m m.at
+block_at_place (place.Writing k m) = block_of_write m m.at
 block_at_place (place.Leaving k) = 0
 
 -- what a process has of an inode that it takes
@@ -93,6 +99,7 @@ grip_by (place.Taking m) i = grip_at m.at m.number
 grip_by (place.Reading k m) i = Some (locked_grip k i)
 grip_by (place.Delivering k) i = Some (locked_grip k i)
 grip_by (place.Truncating k m) i = Some (locked_grip k i)
+grip_by (place.Writing k m) i = Some (locked_grip k i)
 grip_by (place.Leaving k) i = Some (locked_grip k i)
 
 abbrev pub grip_of : TaskState → Option Grip
@@ -101,7 +108,7 @@ grip_of t = grip_by t.place (asked_by t.op)
 abbrev pub grips_of : List TaskState → List (Option Grip)
 grips_of ts = map grip_of ts
 
--- a reading that had its turn, and whose reply is to come
+-- a task that had its turn, and whose reply is to come
 abbrev pub is_reading : Place → Bool
 is_reading place.Nowhere = false
 is_reading (place.Creating m) = false
@@ -109,6 +116,7 @@ is_reading (place.Taking m) = false
 is_reading (place.Reading k m) = true
 is_reading (place.Delivering k) = true
 is_reading (place.Truncating k m) = false
+is_reading (place.Writing k m) = true
 is_reading (place.Leaving k) = false
 
 -- the steps of a search at the block that it looks at: it has to be got, and looked at
@@ -125,4 +133,5 @@ steps_left (place.Taking m) n = locks_left m.at + 543
 steps_left (place.Reading k m) n = reads_left m + 1
 steps_left (place.Delivering k) n = 1
 steps_left (place.Truncating k m) n = truncs_left m + 1
+steps_left (place.Writing k m) n = writes_left m + 1
 steps_left (place.Leaving k) n = 1

@@ -8,7 +8,7 @@ use Rattle.model.specs.declared.types.operations.Reply.TheVariants.{Made, NoInod
 use Rattle.model.specs.Files.{Files}
 use Rattle.model.specs.Layout.{inode_block, inode_count_of}
 use Rattle.model.specs.Journal.{is_number}
-use Rattle.model.specs.Operations.{is_kind}
+use Rattle.model.specs.Operations.{is_kind, transfer_limit}
 use Rattle.model.specs.Soundness.{IsLawfulGeometry}
 use Rattle.loose.specs.Held.{FitsHeld}
 use Rattle.bcache.specs.Buffers.{Buffers, fresh_buffers}
@@ -17,6 +17,7 @@ use Rattle.wal.specs.Joint.{seen}
 use Rattle.wal.specs.Machine.{LogState, used_by, is_among, begin_cause, begun, new_log}
 use Rattle.wal.specs.Volume.{VolumeState}
 use Rattle.model.specs.Gathered.{GatheredBytes}
+use Rattle.blockmap.specs.BmapAlloc.{indirect_of}
 use Rattle.blockmap.specs.Target.{block_of, slot_in}
 use Rattle.inodes.specs.Ialloc.{SearchState}
 use Rattle.inodes.specs.declared.ilock.LockAt.TheVariants as lock_at
@@ -29,6 +30,8 @@ use Rattle.inodes.specs.Looks.{AreLooking}
 use Rattle.inodes.specs.Places.{asked, HasSlot, block_of_trunc}
 use Rattle.inodes.specs.Table.{TableState}
 use Rattle.inodes.specs.Tasks.{TaskState, task}
+use Rattle.inodes.specs.Writei.{WriteState}
+use Rattle.inodes.specs.Writing.{HasLoggedWrite, block_of_write, kept_by_write, used_by_write}
 
 pub record StoreState (D : Type 0) : Type 0 where
   pub volume : VolumeState D
@@ -72,7 +75,7 @@ pub record MayBegin (l : LogState) (p : ℕ) : Type 0 where
 -- changing operations that a store carries out, over an image of n inode numbers
 abbrev pub CanBegin : ℕ → Op → Type 0
 CanBegin n (Create kind) = IsTrue (is_kind kind)
-CanBegin n (Write i off bytes) = ⊥
+CanBegin n (Write i off bytes) = IsTrue (is_number n i) × (length bytes ≤ transfer_limit)
 CanBegin n (Read i off count) = ⊥
 CanBegin n (Trunc i) = IsTrue (is_number n i)
 CanBegin n (Remove i) = IsTrue (is_number n i)
@@ -90,7 +93,7 @@ first_place (Create kind) n = place.Creating (record {
   block = 33;
   slot = None;
 })
-first_place (Write i off bytes) n = place.Nowhere
+first_place (Write i off bytes) n = first_taking i
 first_place (Read i off m) n = place.Nowhere
 first_place (Trunc i) n = first_taking i
 first_place (Remove i) n = first_taking i
@@ -165,6 +168,12 @@ pub record HoldsForFreeing (c : Buffers) (l : LogState) (p : ℕ) (m : TruncStat
   pub kept : HoldsAt c p (slice_index m.inode.addrs 12) (kept_slot m.at)
   pub used : HoldsAt c p (block_of_trunc m m.at) (used_slot m.at)
 
+-- and so does one that writes a file's bytes
+pub record HoldsForWriting (c : Buffers) (l : LogState) (p : ℕ) (m : WriteState) : Type 0 where
+  pub logged : HasLoggedWrite l p m
+  pub kept : HoldsAt c p (indirect_of m.inode) (kept_by_write m.at)
+  pub used : HoldsAt c p (block_of_write m m.at) (used_by_write m.at)
+
 -- what is true of a process, by where its task stands
 abbrev pub Stands : Buffers → LogState → ℕ → ℕ → Option Op → Place → Type 0
 Stands c l n p o place.Nowhere = Unit {0}
@@ -174,6 +183,7 @@ Stands c l n p o (place.Taking m) =
 Stands c l n p o (place.Reading k m) = HoldsAt c p (block_of m.target) (slot_in m.target)
 Stands c l n p o (place.Delivering k) = Unit {0}
 Stands c l n p o (place.Truncating k m) = HoldsForFreeing c l p m
+Stands c l n p o (place.Writing k m) = HoldsForWriting c l p m
 Stands c l n p o (place.Leaving k) = Unit {0}
 
 -- the tasks agree with buffers and log, while the disk has not failed

@@ -1,24 +1,33 @@
 -- Where an operation goes that has taken its inode.
-use Rattle.std.specs.Prelude.{◌≡◌, ◌≤◌, ℕ, length, Option, Some, None, IfSome, Bool, true, false}
+use Rattle.std.specs.Prelude.{◌≡◌, ◌≤◌, ℕ, ◌+◌, nat_lt, if◌then◌else◌, length, Option, Some, None, IfSome, Bool, true, false}
 use Rattle.model.specs.declared.types.image.Dinode.{Dinode}
 use Rattle.model.specs.declared.types.operations.Op.{Op}
 use Rattle.model.specs.declared.types.operations.Op.TheVariants.{Create, Write, Read, Trunc, Remove, Stat}
 use Rattle.model.specs.declared.types.operations.Reply.{Reply}
-use Rattle.model.specs.declared.types.operations.Reply.TheVariants.{Done, StatOf, NoFile}
+use Rattle.model.specs.declared.types.operations.Reply.TheVariants.{Done, StatOf, NoFile, BadOffset, TooBig}
 use Rattle.inodes.specs.declared.tasks.Place.{Place}
 use Rattle.inodes.specs.declared.tasks.Place.TheVariants as place
-use Rattle.inodes.specs.Holding.{bitmap_block}
+use Rattle.inodes.specs.declared.writei.Extent.{Extent}
 use Rattle.inodes.specs.Itrunc.{first_trunc}
 use Rattle.inodes.specs.Readi.{ReadState, first_read}
+use Rattle.inodes.specs.Writei.{WriteState, first_write}
 
 -- an inode whose file may be read, if there is one
 abbrev pub IsReadable : Option Dinode → Type 0
 IsReadable inode = IfSome inode (λ d. (length d.addrs ≡ 13) × (d.size ≤ 274432))
 
--- the reply of an operation that has taken a used inode; a reading's comes later
+-- the refusal of a write of n bytes that begins behind the file's end, or that no file has room for
+abbrev pub write_refusal : Dinode → ℕ → ℕ → Option Reply
+write_refusal d off n =
+    if nat_lt d.size off then Some BadOffset
+    else if nat_lt 274432 (off + n) then Some TooBig
+    else None
+
+-- the reply of an operation that has taken a used inode; a reading's comes later, and that of a
+-- write that is not refused
 abbrev pub reply_of_look : Dinode → Op → Option Reply
 reply_of_look d (Create kind) = None
-reply_of_look d (Write i off bytes) = None
+reply_of_look d (Write i off bytes) = write_refusal d off (length bytes)
 reply_of_look d (Read i off n) = None
 reply_of_look d (Trunc i) = Some Done
 reply_of_look d (Remove i) = Some Done
@@ -34,21 +43,28 @@ abbrev pub place_of_read : ℕ → Option ReadState → Place
 place_of_read k None = place.Delivering k
 place_of_read k (Some m) = place.Reading k m
 
--- it is answered, or reads, or frees the blocks of its file, of an image of n inode numbers
-abbrev pub place_of_look : ℕ → Dinode → ℕ → Op → Place
-place_of_look n d k (Create kind) = place.Leaving k
-place_of_look n d k (Write i off bytes) = place.Leaving k
-place_of_look n d k (Read i off count) = place_of_read k (first_read d off count)
-place_of_look n d k (Trunc i) =
-    place.Truncating k (first_trunc i d false (bitmap_block n))
-place_of_look n d k (Remove i) =
-    place.Truncating k (first_trunc i d true (bitmap_block n))
-place_of_look n d k (Stat i) = place.Leaving k
+-- a write is refused, or begins with its bytes
+abbrev pub place_by_refusal : ℕ → WriteState → Option Reply → Place
+place_by_refusal k m None = place.Writing k m
+place_by_refusal k m (Some reply) = place.Leaving k
+
+abbrev pub place_of_write : ℕ → ℕ → Dinode → ℕ → ℕ → Extent → Place
+place_of_write k i d off n e = place_by_refusal k (first_write i d off n e) (write_refusal d off n)
+
+-- it is answered, or reads, or frees the blocks of its file, or writes into it, over an image that
+-- takes its blocks there
+abbrev pub place_of_look : Extent → Dinode → ℕ → Op → Place
+place_of_look e d k (Create kind) = place.Leaving k
+place_of_look e d k (Write i off bytes) = place_of_write k i d off (length bytes) e
+place_of_look e d k (Read i off count) = place_of_read k (first_read d off count)
+place_of_look e d k (Trunc i) = place.Truncating k (first_trunc i d false e.bitmap)
+place_of_look e d k (Remove i) = place.Truncating k (first_trunc i d true e.bitmap)
+place_of_look e d k (Stat i) = place.Leaving k
 
 -- where it goes, with the inode at that place of the table
-abbrev pub place_when_taken : ℕ → Option Dinode → ℕ → Op → Place
-place_when_taken n None k op = place.Leaving k
-place_when_taken n (Some d) k op = place_of_look n d k op
+abbrev pub place_when_taken : Extent → Option Dinode → ℕ → Op → Place
+place_when_taken e None k op = place.Leaving k
+place_when_taken e (Some d) k op = place_of_look e d k op
 
 -- the inode, if it is used
 abbrev pub if_used : Bool → Dinode → Option Dinode

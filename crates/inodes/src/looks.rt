@@ -3,17 +3,22 @@ ghost use Rattle.std.specs.Prelude.{◌≡◌, ◌<◌, ◌≤◌, length, Some,
 ghost use Rattle.model.specs.declared.types.operations.Op.{Op};
 ghost use Rattle.inodes.specs.Looks.{CanLook, HasRoom};
 ghost use Rattle.inodes.specs.Places.{asked};
+ghost use Rattle.inodes.specs.Growing.{bytes_of};
+ghost use Rattle.inodes.specs.Writing.{extent_of};
 ghost use Rattle.inodes.specs.Store.{KeepsFiles, with_look};
 ghost use Rattle.inodes.specs.Steps.{Steps};
 ghost use Rattle.inodes.specs.Table.{copy_at};
 ghost use Rattle.inodes.specs.Tasks.{task};
-ghost use Rattle.inodes.specs.Turning.{IsReadable, place_of_read, place_when_taken, reply_when_taken};
+ghost use Rattle.inodes.specs.Turning.{IsReadable, place_of_read, place_of_write, place_when_taken, reply_when_taken, write_refusal};
 ghost use Rattle.inodes.specs.declared.tasks.Place.TheVariants as stands_at;
 
-use crate::{Ilock, Inodes, Itrunc, Place, Progress, Readi, Store};
+use crate::{Extent, Ilock, Inodes, Itrunc, Place, Progress, Readi, Store, Writei};
 use blocks::Disk;
 use model::gathered::Gathered;
 use model::types::{Dinode, Op, Reply, TaskProgress};
+
+// The bytes that a file has at most.
+const GREATEST_SIZE: u64 = 274_432;
 
 impl<D: Disk> Store<D> {
     /// Begins the task of an operation that looks at a file, and opens nothing in the log. A reading
@@ -49,9 +54,9 @@ impl<D: Disk> Store<D> {
             Progress::Over(is_used) => {
                 let place = lock.place();
                 let inode = inode_at(&self.inodes, place, is_used);
-                let inode_count = self.inodes.inode_count();
+                let extent = extent_of(self.inodes.inode_count(), self.volume.log().size());
                 self.tasks
-                    .go(pid, place_when_taken(&inode, place, op, inode_count));
+                    .go(pid, place_when_taken(&inode, place, op, extent));
                 TaskProgress::Turned(reply_when_taken(&inode, op))
             }
             Progress::Fault(fault) => TaskProgress::Fault(fault),
@@ -122,6 +127,36 @@ impl<D: Disk> Store<D> {
         }
     }
 
+    // The next step of writing a file's bytes. With the inode's writing back the reply is known.
+    pub(crate) fn write(
+        &mut self,
+        pid: u32,
+        op: &Op,
+        place: usize,
+        mut writing: Writei,
+    ) -> TaskProgress
+        requires fault { self.old.volume.fault ≡ None }
+        requires pid { pid < length self.old.tasks }
+        requires op { (task self.old.tasks pid).op ≡ Some op.now }
+        requires at { (task self.old.tasks pid).place ≡ stands_at.Writing place writing }
+        ensures step { Steps D.Disk self.old pid op.now result self.new }
+    {
+        self.volume.known();
+        match writing.step(&mut self.volume, pid, bytes_of(op)) {
+            Progress::Moved => {
+                self.tasks.go(pid, Place::Writing { place, writing });
+                TaskProgress::Moved
+            }
+            Progress::Sleeping(why) => TaskProgress::Sleeping(why),
+            Progress::Over(()) => {
+                self.inodes.renew(place, Some(writing.inode()));
+                self.tasks.go(pid, Place::Leaving { place });
+                TaskProgress::Decided(Reply::Wrote(writing.done()))
+            }
+            Progress::Fault(fault) => TaskProgress::Fault(fault),
+        }
+    }
+
     // An operation that was answered gives its inode up.
     pub(crate) fn leave(&mut self, pid: u32, place: usize) -> TaskProgress
         requires fault { self.old.volume.fault ≡ None }
@@ -169,20 +204,56 @@ fn reply_when_taken(inode: &Option<Dinode>, op: &Op) -> Option<Reply>
     match op {
         Op::Stat(_) => Some(Reply::StatOf(inode.kind, inode.size)),
         Op::Trunc(_) | Op::Remove(_) => Some(Reply::Done),
-        Op::Create(_) | Op::Write(..) | Op::Read(..) => None,
+        Op::Write(_, offset, bytes) => write_refusal(inode, *offset, bytes.len()),
+        Op::Create(_) | Op::Read(..) => None,
     }
 }
 
-// Where it goes then, with the inode at that place of the table, over an image of so many numbers.
-fn place_when_taken(inode: &Option<Dinode>, place: usize, op: &Op, inode_count: u32) -> Place
+// The refusal of a write of that many bytes that begins behind the file's end, or that no file has
+// room for.
+fn write_refusal(inode: &Dinode, offset: u32, count: usize) -> Option<Reply>
+    ensures { result ≡ write_refusal inode.now offset count }
+{
+    if offset > inode.size {
+        return Some(Reply::BadOffset);
+    }
+    if u64::from(offset) + count as u64 > GREATEST_SIZE {
+        return Some(Reply::TooBig);
+    }
+    None
+}
+
+// The bytes that an operation writes; those of any other are none.
+fn bytes_of(op: &Op) -> &[u8]
+    ensures { result.now ≡ bytes_of op.now }
+{
+    match op {
+        Op::Write(_, _, bytes) => bytes.as_slice(),
+        Op::Create(_) | Op::Read(..) | Op::Trunc(_) | Op::Remove(_) | Op::Stat(_) => &[],
+    }
+}
+
+// Where blocks are taken in an image of so many inode numbers and blocks.
+fn extent_of(inode_count: u32, size: u32) -> Extent
+    requires { inode_count ≤ 1024 }
+    ensures { result ≡ extent_of inode_count size }
+{
+    Extent {
+        bitmap: 34 + inode_count / 16,
+        size,
+    }
+}
+
+// Where it goes then, with the inode at that place of the table, over an image that takes its
+// blocks there.
+fn place_when_taken(inode: &Option<Dinode>, place: usize, op: &Op, extent: Extent) -> Place
     requires inode { IsReadable inode.now }
-    requires count { inode_count ≤ 1024 }
-    ensures { result ≡ place_when_taken inode_count inode.now place op.now }
+    ensures { result ≡ place_when_taken extent inode.now place op.now }
 {
     let Some(inode) = inode else {
         return Place::Leaving { place };
     };
-    let bitmap = 34 + inode_count / 16;
+    let bitmap = extent.bitmap;
     match op {
         Op::Read(_, offset, count) => place_of_read(place, Readi::new(inode, *offset, *count)),
         Op::Trunc(number) => {
@@ -193,8 +264,30 @@ fn place_when_taken(inode: &Option<Dinode>, place: usize, op: &Op, inode_count: 
             let trunc = Itrunc::new(*number, inode, true, bitmap);
             Place::Truncating { place, trunc }
         }
-        Op::Create(_) | Op::Write(..) | Op::Stat(_) => Place::Leaving { place },
+        Op::Write(number, offset, bytes) => {
+            place_of_write(place, *number, inode, *offset, bytes.len(), extent)
+        }
+        Op::Create(_) | Op::Stat(_) => Place::Leaving { place },
     }
+}
+
+// A write is refused, or begins with its bytes.
+fn place_of_write(
+    place: usize,
+    number: u32,
+    inode: &Dinode,
+    offset: u32,
+    count: usize,
+    extent: Extent,
+) -> Place
+    requires addrs { length inode.now.addrs ≡ 13 }
+    ensures { result ≡ place_of_write place number inode.now offset count extent }
+{
+    if write_refusal(inode, offset, count).is_some() {
+        return Place::Leaving { place };
+    }
+    let writing = Writei::new(number, inode, offset, count as u32, extent);
+    Place::Writing { place, writing }
 }
 
 // A reading begins with its bytes, or has all of them.

@@ -101,6 +101,7 @@ impl<D: Disk> Store<D> {
             | Place::Reading { .. }
             | Place::Delivering { .. }
             | Place::Truncating { .. }
+            | Place::Writing { .. }
             | Place::Leaving { .. } => false,
         }
     }
@@ -158,6 +159,7 @@ impl<D: Disk> Store<D> {
             Place::Reading { place, reading } => self.read(pid, place, reading),
             Place::Delivering { place } => self.deliver(pid, place),
             Place::Truncating { place, trunc } => self.truncate(pid, place, trunc),
+            Place::Writing { place, writing } => self.write(pid, op, place, writing),
             Place::Leaving { place } => self.leave(pid, place),
         }
     }
@@ -203,8 +205,10 @@ fn first_place(op: &Op, inode_count: u32) -> Place
 {
     match op {
         Op::Create(kind) => Place::Creating(Ialloc::new(*kind, inode_count)),
-        Op::Trunc(number) | Op::Remove(number) => Place::Taking(Ilock::new(*number)),
-        Op::Write(..) | Op::Read(..) | Op::Stat(_) => Place::Nowhere,
+        Op::Write(number, ..) | Op::Trunc(number) | Op::Remove(number) => {
+            Place::Taking(Ilock::new(*number))
+        }
+        Op::Read(..) | Op::Stat(_) => Place::Nowhere,
     }
 }
 

@@ -3,7 +3,7 @@ ghost use Rattle.std.specs.Prelude.{◌≡◌, ◌<◌, length, replicate, slice
 ghost use Rattle.inodes.specs.declared.tasks.Place.TheVariants as place;
 ghost use Rattle.inodes.specs.Tasks.{no_task, task};
 
-use crate::{Ialloc, Ilock, Itrunc, Readi};
+use crate::{Ialloc, Ilock, Itrunc, Readi, Writei};
 use blocks::NoMemory;
 use model::gathered::Gathered;
 use model::types::Op;
@@ -27,6 +27,9 @@ pub enum Place {
     /// The blocks of a file are freed and its inode written back, which stands at that place of the
     /// table; the reply is known.
     Truncating { place: usize, trunc: Itrunc },
+    /// The bytes of a file are written, whose inode stands at that place of the table, and then the
+    /// inode is written back. With that the reply is known.
+    Writing { place: usize, writing: Writei },
     /// The reply is known: next the inode at that place is given up.
     Leaving { place: usize },
 }

@@ -12,7 +12,7 @@ use Rattle.inodes.specs.Tasks.{TaskState, task, no_task}
 
 -- the task of process p alone may hold number i
 abbrev pub HoldsAlone : List TaskState → ℕ → ℕ → Type 0
-HoldsAlone ts p i = (q : ℕ) → q ≢ p → claim_by (task ts q).place i ≡ None
+HoldsAlone ts p i = (q : ℕ) → q ≢ p → claim_of (task ts q) i ≡ None
 
 -- ---- what one task holds
 
@@ -61,7 +61,7 @@ pub record IsHolder (ts : List TaskState) (i : ℕ) (c : Claim) : Type 0 where
   pub holds : frees (held_of trunc) ≡ c
 
 first_or_later : (t : TaskState) (ts : List TaskState) (i : ℕ) (h : Claim) (o : Option Claim) →
-    claim_by t.place i ≡ o → (claims_of ts i ≡ Some h → IsHolder ts i h) →
+    claim_of t i ≡ o → (claims_of ts i ≡ Some h → IsHolder ts i h) →
     or_else o (claims_of ts i) ≡ Some h → IsHolder (t ∷ ts) i h
 first_or_later t ts i h None none later claimed =
     let is = later claimed in record {
@@ -86,11 +86,11 @@ pub holder_of : (ts : List TaskState) (i : ℕ) (h : Claim) → claims_of ts i �
     IsHolder ts i h
 holder_of [] i h claimed = absurd (cc claimed)
 holder_of (t ∷ ts) i h claimed =
-    first_or_later t ts i h (claim_by t.place i) refl (λ later. holder_of ts i h later) claimed
+    first_or_later t ts i h (claim_of t i) refl (λ later. holder_of ts i h later) claimed
 
 -- where no task holds it, nothing is held of it
 pub none_held : (ts : List TaskState) (i : ℕ) →
-    ((q : ℕ) → claim_by (task ts q).place i ≡ None) → claims_of ts i ≡ None
+    ((q : ℕ) → claim_of (task ts q) i ≡ None) → claims_of ts i ≡ None
 none_held [] i none = refl
 none_held (t ∷ ts) i none =
     ap (λ (o : Option Claim). or_else o (claims_of ts i)) (none 0)
@@ -102,12 +102,12 @@ else_none (Some h) = refl
 
 -- the claim of the one task that may hold a number is the claim of all
 pub claim_of_one : (ts : List TaskState) (p i : ℕ) → HoldsAlone ts p i →
-    claims_of ts i ≡ claim_by (task ts p).place i
+    claims_of ts i ≡ claim_of (task ts p) i
 claim_of_one [] p i alone = refl
 claim_of_one (t ∷ ts) zero i alone =
-    ap (or_else (claim_by t.place i))
+    ap (or_else (claim_of t i))
     (none_held ts i (λ q. alone (suc q) (λ (e : suc q ≡ 0). omega (arith, e))))
-    ∙ else_none (claim_by t.place i)
+    ∙ else_none (claim_of t i)
 claim_of_one (t ∷ ts) (suc p) i alone =
     ap (λ (o : Option Claim). or_else o (claims_of ts i))
     (alone 0 (λ (e : 0 ≡ suc p). omega (arith, e)))
@@ -116,22 +116,22 @@ claim_of_one (t ∷ ts) (suc p) i alone =
 
 -- one task is another, with the same claim of a number
 pub claim_stays : (ts : List TaskState) (p i : ℕ) (t : TaskState) →
-    claim_by t.place i ≡ claim_by (task ts p).place i → claims_of (set ts p t) i ≡ claims_of ts i
+    claim_of t i ≡ claim_of (task ts p) i → claims_of (set ts p t) i ≡ claims_of ts i
 claim_stays [] p i t same = refl
 claim_stays (s ∷ ts) zero i t same = ap (λ (o : Option Claim). or_else o (claims_of ts i)) same
 claim_stays (s ∷ ts) (suc p) i t same =
-    ap (or_else (claim_by s.place i)) (claim_stays ts p i t same)
+    ap (or_else (claim_of s i)) (claim_stays ts p i t same)
 
 -- one task is another, and nobody else may hold number i; of the others it holds what it held
 pub claimed_now : (ts : List TaskState) (p i : ℕ) (t : TaskState) → p < length ts →
     HoldsAlone ts p i →
-    ((j : ℕ) → j ≢ i → claim_by t.place j ≡ claim_by (task ts p).place j) →
-    IsClaimedNow (claims_of ts) i (claim_by t.place i) (claims_of (set ts p t))
+    ((j : ℕ) → j ≢ i → claim_of t j ≡ claim_of (task ts p) j) →
+    IsClaimedNow (claims_of ts) i (claim_of t i) (claims_of (set ts p t))
 claimed_now ts p i t inside alone others = record {
   own = claim_of_one (set ts p t) p i
       (λ q apart.
-      ap (λ (s : TaskState). claim_by s.place i) (get_or-set_other ts p q t no_task apart)
+      ap (λ (s : TaskState). claim_of s i) (get_or-set_other ts p q t no_task apart)
       ∙ alone q apart)
-      ∙ ap (λ (s : TaskState). claim_by s.place i) (get_or-set_same ts p t no_task inside);
+      ∙ ap (λ (s : TaskState). claim_of s i) (get_or-set_same ts p t no_task inside);
   others = λ j apart. claim_stays ts p j t (others j apart);
 }
