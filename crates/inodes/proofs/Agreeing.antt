@@ -1,5 +1,5 @@
 -- One task goes on, and all of them agree with buffers and log as before.
-use Rattle.std.proofs.Common.{◌≡◌, ◌≢◌, ℕ, ◌<◌, inl, inr, true, List, length, set, refl, sym, ◌∙◌, subst, ⊎_elim, Option, Some, None}
+use Rattle.std.proofs.Common.{eqb, cond, Bool, false, ◌≡◌, ◌≤◌, ◌≢◌, ℕ, ◌<◌, inl, inr, true, List, length, set, refl, sym, ◌∙◌, subst, ⊎_elim, Option, Some, None, arith, Bool, cond, eqb}
 use Rattle.std.specs.Prelude.{slice_index}
 use Rattle.std.proofs.lemmas.Bool.{cases_eq}
 use Rattle.std.proofs.lemmas.List.{get_or-set_same, get_or-set_other}
@@ -17,6 +17,10 @@ use Rattle.inodes.specs.Store.{HoldsAt, HasLogged, IsOpenFor, Stands, Agrees}
 use Rattle.inodes.specs.LockState.{slot_of}
 use Rattle.blockmap.specs.Target.{block_of, slot_in}
 use Rattle.model.specs.Layout.{inode_block}
+use Rattle.blocks.specs.Disk.{counted}
+use Rattle.inodes.specs.Writei.{WriteState}
+use Rattle.blockmap.specs.BmapAlloc.{indirect_of}
+use Rattle.inodes.specs.Writing.{HasLoggedWrite, kept_by_write, at_hand, block_of_write, used_by_write}
 
 -- what the others hold and have in the log stays, while process p works
 pub record StaysForOthers (c d : Buffers) (l m : LogState) (p : ℕ) : Type 0 where
@@ -53,6 +57,27 @@ open_still l m q (Some (Stat i)) used is = tt
 pub logged_still : (l m : LogState) (q b : ℕ) → used_by m q ≡ used_by l q → (used_by l q ≡ Some 1 → is_among b l.homes ≡ true → is_among b m.homes ≡ true) → HasLogged l q b → HasLogged m q b
 logged_still l m q b used among has = ⊎_elim (λ (none : used_by l q ≡ Some 0). inl (used ∙ none)) (λ one. inr (used ∙ one.0, among one.0 one.1)) has
 
+-- a block counts as long as it is a home
+counts_more : (l m : LogState) (b : ℕ) → (is_among b l.homes ≡ true → is_among b m.homes ≡ true) → counted l b ≤ counted m b
+counts_more l m b among = by_zero (eqb b 0)
+  where
+    by_home : (t : Bool) → is_among b l.homes ≡ t → cond t 1 0 ≤ cond (is_among b m.homes) 1 0
+    by_home true home = rw (among home) (omega arith)
+    by_home false other = omega arith
+
+    by_zero : (z : Bool) → cond z 0 (cond (is_among b l.homes) 1 0) ≤ cond z 0 (cond (is_among b m.homes) 1 0)
+    by_zero true = omega arith
+    by_zero false = by_home (is_among b l.homes) refl
+
+pub logged_write_still : (l m : LogState) (q : ℕ) (w : WriteState) → used_by m q ≡ used_by l q → ((homes b : ℕ) → used_by l q ≡ Some homes → is_among b l.homes ≡ true → is_among b m.homes ≡ true)
+    → HasLoggedWrite l q w → HasLoggedWrite m q w
+logged_write_still l m q w used among has =
+    let few = has.few in
+    let map = counts_more l m w.extent.bitmap (among has.homes w.extent.bitmap has.used) in
+    let addresses = counts_more l m (indirect_of w.inode) (among has.homes (indirect_of w.inode) has.used) in
+    let hand = counts_more l m (at_hand w.at) (among has.homes (at_hand w.at) has.used) in
+    record { homes = has.homes; used = used ∙ has.used; few = omega (arith, few, map, addresses, hand) }
+
 stands_other : (c d : Buffers) (l m : LogState) (n p q : ℕ) (t : TaskState) (a : Place) → StaysForOthers c d l m p → q ≢ p → Stands c l n q t.op a → Stands d m n q t.op a
 stands_other c d l m n p q t place.Nowhere stays apart s = tt
 stands_other c d l m n p q t (place.Creating search) stays apart s = record {
@@ -71,6 +96,11 @@ stands_other c d l m n p q t (place.Truncating k trunc) stays apart s = record {
   logged = logged_still l m q trunc.bitmap (stays.used q apart) (λ one has. stays.among trunc.bitmap has) s.logged;
   kept = holds_other c d l m p q (slice_index trunc.inode.addrs 12) (kept_slot trunc.at) stays apart s.kept;
   used = holds_other c d l m p q (block_of_trunc trunc trunc.at) (used_slot trunc.at) stays apart s.used;
+}
+stands_other c d l m n p q t (place.Writing k w) stays apart s = record {
+  logged = logged_write_still l m q w (stays.used q apart) (λ homes b had has. stays.among b has) s.logged;
+  kept = holds_other c d l m p q (indirect_of w.inode) (kept_by_write w.at) stays apart s.kept;
+  used = holds_other c d l m p q (block_of_write w w.at) (used_by_write w.at) stays apart s.used;
 }
 stands_other c d l m n p q t (place.Leaving k) stays apart s = tt
 
@@ -114,5 +144,10 @@ agrees_still c d l m n ts holds locks used among are = record {
       logged = logged_still l m q trunc.bitmap (used q) (λ one has. among q 1 trunc.bitmap one has) s.logged;
       kept = by_slot q (slice_index trunc.inode.addrs 12) (kept_slot trunc.at) s.kept;
       used = by_slot q (block_of_trunc trunc trunc.at) (used_slot trunc.at) s.used;
+    }
+    by_place q t (place.Writing k w) s = record {
+      logged = logged_write_still l m q w (used q) (λ homes b had has. among q homes b had has) s.logged;
+      kept = by_slot q (indirect_of w.inode) (kept_by_write w.at) s.kept;
+      used = by_slot q (block_of_write w w.at) (used_by_write w.at) s.used;
     }
     by_place q t (place.Leaving k) s = tt

@@ -34,7 +34,7 @@ use Rattle.inodes.specs.Tasks.{TaskState, task, no_task}
 use Rattle.inodes.proofs.Getting.{HasOne, has_same, reads_none}
 use Rattle.inodes.proofs.Gripping.{grip_is}
 use Rattle.inodes.proofs.Looking.{Looked, Stepped, files_same, stepped_looked, store_stepped, steps_stepped}
-use Rattle.inodes.specs.Holding.{claim_by, claims_of}
+use Rattle.inodes.specs.Holding.{claim_by, claims_of, claim_of}
 use Rattle.inodes.proofs.Taking.{none_of_zero}
 use Rattle.inodes.proofs.Unclaimed.{unclaimed}
 use Rattle.loose.specs.Held.{FitsHeld}

@@ -27,4 +27,5 @@ mod TakingSteps
 mod Leaving
 mod Reading
 mod ReadingSteps
+mod WriteComes
 mod WriteFiles

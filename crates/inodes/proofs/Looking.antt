@@ -26,7 +26,7 @@ use Rattle.inodes.specs.Grips.{Grip, KeepsTable, TableIs, locked_grip, with_grip
 use Rattle.inodes.specs.Lemmas.Holding.{claim_stays}
 use Rattle.inodes.specs.Lemmas.Faults.{where_none, if_none, if_some}
 use Rattle.inodes.specs.Looks.{AreLooking, HasFiles, LooksAt, IsTaking, IsAtRead, HasAllRead, WasAnswered}
-use Rattle.inodes.specs.Holding.{IsTruncating, claim_by, claims_of}
+use Rattle.inodes.specs.Holding.{IsTruncating, claim_by, claims_of, claim_of}
 use Rattle.inodes.specs.Places.{HasSlot, asked_by, grip_by, grip_of, grips_of, is_over, steps_left}
 use Rattle.inodes.specs.Steps.{Steps, Waits, Reads, LeavesReadings, is_made}
 use Rattle.inodes.specs.Store.{StoreState, IsStore, FitsFiles, Agrees, Stands, current_of}
@@ -37,6 +37,7 @@ use Rattle.inodes.proofs.Gripping.{grip_is, grips_set}
 use Rattle.inodes.proofs.Frames.{groups_same, marks_same}
 use Rattle.inodes.proofs.LooksKept.{KeepsUsed, keeps_same, stands_still}
 use Rattle.inodes.proofs.Shares.{shares}
+use Rattle.inodes.specs.Writing.{IsWriting}
 
 -- Process p's task is u now, where the disk has not failed.
 pub record IsNow {D : Type 0} (image : D → Image) (s t : StoreState D) (p : ℕ) (u : TaskState) : Type 0 where
@@ -136,6 +137,7 @@ module _ {D N : Type 0} (disk : Ghosts D N) (s : StoreState D) (p i : ℕ) (op :
       subst (λ (n : ℕ). HasAllRead new n (copy_at t.table.places k) v) (sym count)
       (subst (λ (c : Option Dinode). HasAllRead new s.table.inode_count c v) (sym (copy_stays now q k (asked_by v.op) apart has)) looks)
   looks_other now count q v (place.Truncating k m) apart is_task at looks = subst (λ (n : ℕ). IsTruncating new n v m) (sym count) looks
+  looks_other now count q v (place.Writing k m) apart is_task at looks = subst (λ (n : ℕ). IsWriting new n v m) (sym count) looks
   looks_other now count q v (place.Leaving k) apart is_task at looks = subst (λ (n : ℕ). WasAnswered n v) (sym count) looks
 
   module _ (stepped : Stepped disk s p i op r t u) where

@@ -2,13 +2,13 @@
 use Rattle.std.proofs.Common.{◌≡◌, ◌≢◌, ℕ, zero, suc, ◌-◌, ◌/◌, ◌≤◌, ◌<◌, ltb, List, ◌∷◌, length, set, replicate, refl, sym, ◌∙◌, ap, subst, ⊎_elim, arith, Option, Some, None}
 use Rattle.std.specs.Prelude.{IsTrue, slice_index}
 use Rattle.std.proofs.lemmas.Bool.{cases_eq, ltb-true}
-use Rattle.std.proofs.lemmas.List.{get_or-set_same, get_or-set_other}
+use Rattle.std.proofs.lemmas.List.{length-set, get_or-set_same, get_or-set_other, length-set}
 use Rattle.blocks.specs.Disk.{Image, block_at}
 use Rattle.model.specs.declared.types.image.Dinode.{Dinode}
 use Rattle.model.specs.declared.types.operations.Op.{Op}
 use Rattle.model.specs.declared.types.operations.Op.TheVariants.{Create, Write, Read, Trunc, Remove, Stat}
 use Rattle.model.specs.Agreement.{IsSameOutsideLog}
-use Rattle.model.specs.Codec.{IsDinode, new_inode, with_inode, without_bit}
+use Rattle.model.specs.Codec.{IsDinode, new_inode, with_inode, with_inode_bytes, without_bit}
 use Rattle.model.specs.Fields.{words_of}
 use Rattle.model.specs.Files.{Files, bytes_in, file_in}
 use Rattle.model.specs.Journal.{is_number}
@@ -18,7 +18,7 @@ use Rattle.model.specs.Places.{address_in}
 use Rattle.model.specs.Lemmas.Inodes.{IsPlaced, inode_of-with_inode_other}
 use Rattle.model.specs.Lemmas.Log.{both_of}
 use Rattle.loose.specs.Claims.{HasClaimed}
-use Rattle.loose.specs.Held.{Held, Claims, FitsHeld, IsClaimedNow, last_inode, unmarked, frees, Claim}
+use Rattle.loose.specs.Held.{Held, Claims, FitsHeld, IsClaimedNow, last_inode, unmarked, frees, Claim, grows}
 use Rattle.loose.specs.HeldLaws.{FitsThen, HasSameFile, IsHeldIn, StaysHeld}
 use Rattle.loose.specs.Loose.{Fits}
 use Rattle.loose.specs.Lemmas.AtRest.{fits_at_rest}
@@ -37,7 +37,7 @@ use Rattle.inodes.specs.declared.itrunc.TruncAt.TheVariants as trunc_at
 use Rattle.inodes.specs.declared.tasks.Place.{Place}
 use Rattle.inodes.specs.declared.tasks.Place.TheVariants as place
 use Rattle.inodes.specs.Grips.{Grip, KeepsUsedInodes, TableIs, grip, locked_grip}
-use Rattle.inodes.specs.Holding.{HasGivenUp, IsFreeing, claim_by, claims_of, held_of}
+use Rattle.inodes.specs.Holding.{HasGivenUp, IsFreeing, claim_by, claims_of, held_of, claim_of}
 use Rattle.inodes.specs.Itrunc.{TruncState, entries_in}
 use Rattle.inodes.specs.Looks.{AreLooking, HasFiles, LeadsToBlock, LooksAt}
 use Rattle.inodes.specs.Places.{asked_by, grip_by, grip_of, grips_of}
@@ -46,16 +46,20 @@ use Rattle.inodes.specs.Table.{TableState, copy_at, new_table}
 use Rattle.inodes.specs.Tasks.{TaskState, task, no_task}
 use Rattle.inodes.specs.Lemmas.Grips.{is_table_at_opening, kept_by_image}
 use Rattle.inodes.specs.Lemmas.Holding.{claim_stays, own_holds}
-use Rattle.inodes.specs.Lemmas.Looks.{copy_is, trunc_names}
+use Rattle.inodes.specs.Lemmas.Looks.{copy_is, trunc_names, write_locks}
 use Rattle.inodes.proofs.Gripping.{grip_is, grips_same}
-use Rattle.inodes.proofs.Unclaimed.{own_claim, unclaimed, claim_locks}
+use Rattle.inodes.proofs.Unclaimed.{own_claim, unclaimed, claim_locks, own_growth}
 use Rattle.loose.specs.Lemmas.Remapped.{IsMapped, mapped, inode_same}
+use Rattle.inodes.specs.Growing.{growth_of, bytes_by}
+use Rattle.inodes.specs.Writing.{extent_of}
+use Rattle.inodes.proofs.WriteComes.{come_still}
 
 -- ---- the current image is another one
 
--- Each used number but i has the inode that it had, and its file where no task holds it, and what
+-- The image is as long as it was, and each used number but i has the inode that it had, and its file where no task holds it, and what
 -- a task holds where one does.
 pub record KeepsUsed (n i : ℕ) (claims : Claims) (old new : Image) : Type 0 where
+  pub size : length new ≡ length old
   pub inodes : KeepsUsedInodes n i old new
   pub contents : (j : ℕ) → IsTrue (is_number n j) → j ≢ i → (inode_of old j).kind ≢ 0 → claims j ≡ None → HasSameFile old new j
   pub held : (j : ℕ) (c : Claim) → IsTrue (is_number n j) → j ≢ i → claims j ≡ Some c → StaysHeld old new c
@@ -65,6 +69,7 @@ pub record KeepsUsed (n i : ℕ) (claims : Claims) (old new : Image) : Type 0 wh
 -- the same one
 pub keeps_same : (n i : ℕ) (claims : Claims) (x : Image) → KeepsUsed n i claims x x
 keeps_same n i claims x = record {
+  size = refl;
   inodes = λ j number apart used. refl;
   contents = λ j number apart used none. record { inode = refl; addresses = λ k. refl; bytes = refl };
   held = λ j c number apart holds. stays_same x c;
@@ -77,6 +82,7 @@ some_number x j number none = let low = (between x j number).low in omega (arith
 -- one that is the same outside the log
 pub keeps_outside : (files : Files) (x y : Image) (claims : Claims) (i : ℕ) → FitsHeld files x claims → IsSameOutsideLog x y → KeepsUsed (inode_count_of x) i claims x y
 keeps_outside files x y claims i fits same = record {
+  size = same.size;
   inodes = λ j number apart used. inode_outside x y j same.agree;
   contents = λ j number apart used none. (held_outside files x y claims same fits).others j (some_number x j number) none (number, used);
   held = λ j c number apart holds. (held_outside files x y claims same fits).held j c (some_number x j number) number holds;
@@ -86,6 +92,7 @@ keeps_outside files x y claims i fits same = record {
 pub keeps_claimed : (files : Files) (x : Image) (claims : Claims) (i kind : ℕ) → FitsHeld files x claims → IsTrue (is_number (inode_count_of x) i) → (inode_of x i).kind ≡ 0 → IsTrue (is_kind kind) → HasClaimed x i kind (with_inode x i (new_inode kind))
     → KeepsUsed (inode_count_of x) 0 claims x (with_inode x i (new_inode kind))
 keeps_claimed files x claims i kind fits number free is claimed = record {
+  size = length-set x (inode_block i) (with_inode_bytes (block_at x (inode_block i)) i (new_inode kind));
   inodes = λ j names apart used. claimed.others j (other j used);
   contents = λ j names apart used none. (claim_fits files x claims i kind fits number (free_tells files x claims i fits (number, free)).0 free is).0.others j (other j used) none (names, used);
   held = λ j c names apart holds.
@@ -104,6 +111,7 @@ keeps_claimed files x claims i kind fits number free is claimed = record {
 -- one in which a block's bit is cleared that the task of number i gave up
 pub keeps_freed : (files m : Files) (x : Image) (claims new : Claims) (i b : ℕ) → FitsHeld files x claims → FitsThen m x claims i (unmarked x b) new → KeepsUsed (inode_count_of x) i claims x (unmarked x b)
 keeps_freed files m x claims new i b fits then = record {
+  size = length-set x (super_of x).bmapstart (without_bit (block_at x (super_of x).bmapstart) b);
   inodes = λ j number apart used. inode_same x (without_bit (block_at x (super_of x).bmapstart) b) map j (apart_from x j fits.geometry (between x j number).high).before_map;
   contents = λ j number apart used none. then.others j apart none (number, used);
   held = λ j c number apart holds. then.held j c apart number holds;
@@ -115,6 +123,7 @@ keeps_freed files m x claims new i b fits then = record {
 -- one in which the inode of number i is written back
 pub keeps_written : (files : Files) (x : Image) (claims new : Claims) (i : ℕ) (h : Held) → IsHeldIn files x claims i (frees h) → h.copy.addrs ≡ replicate 13 0 → IsClaimedNow claims i None new → KeepsUsed (inode_count_of x) i claims x (with_inode x i (last_inode h))
 keeps_written files x claims new i h held bare now = record {
+  size = length-set x (inode_block i) (with_inode_bytes (block_at x (inode_block i)) i (last_inode h));
   inodes = λ j number apart used. inode_of-with_inode_other x i j (last_inode h) placed fields apart;
   contents = λ j number apart used none. (write_back_rests files x claims new i h held bare now).others j apart none (number, used);
   held = λ j c number apart holds. (write_back_rests files x claims new i h held bare now).held j c apart number holds;
@@ -211,6 +220,21 @@ module _ (old new : Image) (t : TableState) (ts : List TaskState) (i : ℕ) (are
     bitmap = stands.bitmap;
     given = given_still p k m m.at free at stands.given;
   }
+  stands_still p (place.Writing k m) free at stands =
+      let locked = write_locks old t ts are p k m at in
+      let apart : m.number ≢ i = λ same. free k (locked ∙ ap (λ (n : ℕ). Some (locked_grip k n)) same) in
+      let its = keeps.held m.number (grows (growth_of m (bytes_by (task ts p).op))) stands.number apart (own_growth old t ts are p k m at) in
+      record {
+        bytes = stands.bytes;
+        op = stands.op;
+        number = stands.number;
+        few = stands.few;
+        all = stands.all;
+        done = stands.done;
+        fits = stands.fits;
+        extent = stands.extent ∙ ap (extent_of t.inode_count) (sym keeps.size);
+        come = come_still old new m its.indirect its.grown.0 m.at stands.come;
+      }
   stands_still p (place.Leaving k) free at stands = stands
 
 -- where all used inodes stay
@@ -261,7 +285,8 @@ module _ (cur : Image) (t : TableState) (ts : List TaskState) (p : ℕ) (are : A
 
   begun_by : (op : Op) → CanBegin t.inode_count op → AreLooking cur t (set ts p (record { op = Some op; place = first_place op t.inode_count; gathered = None }))
   begun_by (Create kind) can = begun (record { op = Some (Create kind); place = first_place (Create kind) t.inode_count; gathered = None }) refl tt (λ j. refl)
-  begun_by (Write i off bytes) can = absurd can
+  begun_by (Write i off bytes) can =
+      begun (record { op = Some (Write i off bytes); place = first_place (Write i off bytes) t.inode_count; gathered = None }) refl (record { op = Write i off bytes; is = refl; can = can; number = refl; room = refl }) (λ j. refl)
   begun_by (Read i off n) can = absurd can
   begun_by (Trunc i) can =
       begun (record { op = Some (Trunc i); place = first_place (Trunc i) t.inode_count; gathered = None }) refl (record { op = Trunc i; is = refl; can = can; number = refl; room = refl }) (λ j. refl)

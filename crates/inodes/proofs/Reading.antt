@@ -19,7 +19,7 @@ use Rattle.inodes.specs.declared.tasks.Place.{Place}
 use Rattle.inodes.specs.declared.tasks.Place.TheVariants as place
 use Rattle.inodes.specs.Grips.{grip, locked_grip}
 use Rattle.inodes.specs.Lemmas.Faults.{where_none}
-use Rattle.inodes.specs.Lemmas.Looks.{copy_is, reading_number, reading_used}
+use Rattle.inodes.specs.Lemmas.Looks.{copy_is, reading_number}
 use Rattle.inodes.specs.Looks.{AreLooking, IsAtRead, LeadsToBlock, LooksAt}
 use Rattle.inodes.specs.Places.{asked_by, grip_by, grips_of, is_reading, HasSlot}
 use Rattle.inodes.specs.Readi.{ReadState, IsReading, HasRoomLeft}
@@ -27,7 +27,7 @@ use Rattle.inodes.specs.Store.{StoreState, IsStore, HoldsAt, Stands, Agrees, cur
 use Rattle.inodes.specs.Table.{copy_at}
 use Rattle.inodes.specs.Tasks.{task}
 use Rattle.inodes.specs.Holding.{claim_by, claims_of}
-use Rattle.inodes.proofs.Unclaimed.{unclaimed}
+use Rattle.inodes.proofs.Unclaimed.{unclaimed, late_used}
 use Rattle.inodes.proofs.Gripping.{grip_is}
 use Rattle.inodes.proofs.ReadLemmas.{leads_for}
 use Rattle.inodes.proofs.Searching.{where_got}
@@ -73,7 +73,7 @@ module _ {D N : Type 0} (disk : Ghosts D N) (s : StoreState D) (p k : ℕ) (m : 
   -- the file of its inode may be read
   pub may : MayRead cur m.inode
   may = subst (MayRead cur) (copy_is cur s.table s.tasks looking p number k m.inode has at_read.copy).0
-      (resting_may_be_read looking.files.0 cur (claims_of s.tasks) number looking.files.1 (may_name, reading_used cur s.table s.tasks looking p reads) nobody)
+      (resting_may_be_read looking.files.0 cur (claims_of s.tasks) number looking.files.1 (may_name, late_used cur s.table s.tasks looking is.numbers p reads) nobody)
 
   -- it has room for the bytes that are left
   pub room : (g : GatheredBytes) → (task s.tasks p).gathered ≡ Some g → HasRoomLeft m g

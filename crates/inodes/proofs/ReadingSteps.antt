@@ -50,7 +50,7 @@ use Rattle.inodes.specs.Tasks.{TaskState, task, no_task}
 use Rattle.inodes.proofs.Agreeing.{StaysForOthers}
 use Rattle.inodes.proofs.Getting.{HasOne, has_left, reads_none, reads_got, shows_got, sleeps_got, held_got, has_then, fault_of}
 use Rattle.inodes.proofs.Looking.{Looked, Stepped, files_same, stepped_looked, store_stepped, steps_stepped}
-use Rattle.inodes.specs.Holding.{claim_by}
+use Rattle.inodes.specs.Holding.{claim_by, claim_of}
 use Rattle.inodes.proofs.Taking.{none_of_zero}
 use Rattle.inodes.proofs.Reading.{agrees, looking, at_read, has, slot_is, may, room, is_ready, size}
 use Rattle.inodes.proofs.Starting.{leads_at_once, new_target}
@@ -106,10 +106,10 @@ has_there k m n (machine.Fault fault) i got = got
 
 -- it holds no number there
 holds_there : (k : ℕ) (m n : ReadState) (q : Progress (Unit {0})) (o : Option Op) (j : ℕ) → claim_by o (place_of_reading k m n q) j ≡ None
-holds_there k m n machine.Moved j = refl
-holds_there k m n (machine.Sleeping cause) j = refl
-holds_there k m n (machine.Over out) j = refl
-holds_there k m n (machine.Fault fault) j = refl
+holds_there k m n machine.Moved o j = refl
+holds_there k m n (machine.Sleeping cause) o j = refl
+holds_there k m n (machine.Over out) o j = refl
+holds_there k m n (machine.Fault fault) o j = refl
 
 -- the process has its inode wherever it goes
 grip_then : (k i : ℕ) (m n : ReadState) (q : Progress (Unit {0})) → grip_by (place_of_reading k m n q) i ≡ Some (locked_grip k i)

@@ -39,7 +39,7 @@ use Rattle.inodes.specs.Holding.{claim_by, claims_of}
 use Rattle.inodes.specs.Lemmas.Holding.{claim_stays}
 use Rattle.inodes.specs.Places.{HasSlot}
 use Rattle.inodes.specs.Store.{Agrees, Stands, CanBegin, first_place, current_of}
-use Rattle.inodes.proofs.Agreeing.{TaskIsNow, agrees_now, agrees_still, logged_still, open_still}
+use Rattle.inodes.proofs.Agreeing.{TaskIsNow, agrees_now, agrees_still, logged_still, open_still, logged_write_still}
 use Rattle.inodes.proofs.LooksKept.{none_at}
 use Rattle.inodes.proofs.Searching.{task_got, task_next, task_over, task_waits}
 use Rattle.inodes.proofs.Frames.{within_image}
@@ -100,7 +100,7 @@ agrees_begun c l n p op ts agrees lt pid stood can = agrees_now c c l (begun l p
   where
     begins : (op : Op) → CanBegin n op → Stands c (begun l p) n p (Some op) (first_place op n)
     begins (Create kind) can = record { op = refl; used = used_first l p pid; count = refl; kind = can; behind = omega arith; last = omega arith; holds = tt }
-    begins (Write i off bytes) can = absurd can
+    begins (Write i off bytes) can = (tt, used_first l p pid)
     begins (Read i off m) can = absurd can
     begins (Trunc i) can = (tt, used_first l p pid)
     begins (Remove i) can = (tt, used_first l p pid)
@@ -135,6 +135,7 @@ agrees_ended c l n p ts agrees stood = record {
     by_place q apart t (place.Reading k m) s = s
     by_place q apart t (place.Delivering k) s = s
     by_place q apart t (place.Truncating k m) s = record { logged = logged_still l (ended l p) q m.bitmap (used_ended l p q apart) (λ one has. ended_grows l p m.bitmap has) s.logged; kept = s.kept; used = s.used }
+    by_place q apart t (place.Writing k m) s = record { logged = logged_write_still l (ended l p) q m (used_ended l p q apart) (λ homes b had has. ended_grows l p b has) s.logged; kept = s.kept; used = s.used }
     by_place q apart t (place.Leaving k) s = s
 
 -- a commit's write

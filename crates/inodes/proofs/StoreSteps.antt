@@ -40,18 +40,19 @@ use Rattle.inodes.specs.Tasks.{TaskState, task}
 use Rattle.inodes.specs.Goes.{Shown, shown_of, FindsNone, GetsBlock, LooksAtBlock, GoesFrom}
 use Rattle.inodes.specs.Looks.{AreLooking, LooksAt}
 use Rattle.inodes.specs.Table.{TableState}
-use Rattle.inodes.specs.Holding.{claim_by, claims_of}
+use Rattle.inodes.specs.Holding.{claim_by, claims_of, claim_of}
 use Rattle.inodes.specs.Lemmas.Holding.{claim_stays}
 use Rattle.inodes.specs.Places.{HasSlot, asked_by, grip_by, grip_of, looks_left, steps_left}
 use Rattle.inodes.specs.Store.{StoreState, FitsFiles, Agrees, IsSearching, current_of, reply_of}
 use Rattle.inodes.specs.Lemmas.Bounds.{some_step}
-use Rattle.inodes.specs.Lemmas.Looks.{reading_number, reading_used}
+use Rattle.inodes.specs.Lemmas.Looks.{reading_number}
 use Rattle.inodes.proofs.Frames.{groups_noted, groups_same, marks_same, within_image}
 use Rattle.inodes.proofs.Gripping.{same_task}
 use Rattle.inodes.proofs.LooksKept.{KeepsUsed, keeps_claimed, keeps_same}
 use Rattle.inodes.proofs.Searching.{search as searching}
 use Rattle.model.specs.Tasks.{FilesThen, Answers, reply_at_turn, fault_of_task, Marks}
 use Rattle.inodes.specs.Steps.{IsHeldByAnother, LeavesNumber, LeavesReadings, is_made}
+use Rattle.inodes.proofs.Unclaimed.{late_used}
 
 -- what a store answers for what its search came to
 abbrev pub answer_of : Progress (Option ℕ) → TaskProgress
@@ -339,9 +340,9 @@ no_inode_held o c d p b slot (search.Over made) locks is = cc is
 no_inode_held o c d p b slot (search.Fault fault) locks is = cc is
 
 -- a creation's number is no reading's: that of a creation is 0, and what it makes was free
-pub apart_then : {D : Type 0} (image : D → Image) (s : StoreState D) (p : ℕ) (m new : SearchState) (c : Buffers) (o : Option ℕ) (r : Progress (Option ℕ)) → AreLooking (current_of image s.volume) s.table s.tasks
+pub apart_then : {D : Type 0} (image : D → Image) (s : StoreState D) (p : ℕ) (m new : SearchState) (c : Buffers) (o : Option ℕ) (r : Progress (Option ℕ)) → AreLooking (current_of image s.volume) s.table s.tasks → s.table.inode_count ≡ inode_count_of (current_of image s.volume)
     → SearchGoes o (current_of image s.volume) c m r new → LeavesReadings s p (Create m.kind) (answer_of r)
-apart_then image s p m new c o r looks goes q apart reads = by_answer r o goes
+apart_then image s p m new c o r looks numbers goes q apart reads = by_answer r o goes
   where
     number : ℕ
     number = asked_by (task s.tasks q).op
@@ -353,7 +354,7 @@ apart_then image s p m new c o r looks goes q apart reads = by_answer r o goes
         omega (arith, none, some)
 
     taken : (i : ℕ) → (inode_of (current_of image s.volume) i).kind ≡ 0 → number ≢ i
-    taken i free same = reading_used (current_of image s.volume) s.table s.tasks looks q reads (ap (λ (j : ℕ). (inode_of (current_of image s.volume) j).kind) same ∙ free)
+    taken i free same = late_used (current_of image s.volume) s.table s.tasks looks numbers q reads (ap (λ (j : ℕ). (inode_of (current_of image s.volume) j).kind) same ∙ free)
 
     by_answer : (r : Progress (Option ℕ)) (o : Option ℕ) → SearchGoes o (current_of image s.volume) c m r new → LeavesNumber (Create m.kind) (reply_at_turn (answer_of r)) number
     by_answer search.Moved o goes = tt

@@ -26,7 +26,7 @@ use Rattle.inodes.specs.Places.{asked, asked_by, HasSlot, grip_at, grip_by, grip
 use Rattle.inodes.specs.Store.{StoreState, IsStore, FitsFiles, HoldsAt, IsOpenFor, Stands, Agrees, current_of}
 use Rattle.inodes.specs.Table.{TableState}
 use Rattle.inodes.specs.Tasks.{TaskState, task}
-use Rattle.inodes.specs.Holding.{claim_by, claims_of}
+use Rattle.inodes.specs.Holding.{claim_by, claims_of, claim_of}
 use Rattle.inodes.specs.Lemmas.Holding.{claim_stays}
 use Rattle.loose.specs.Lemmas.HeldFrames.{held_alike}
 use Rattle.model.specs.Files.{Files}
@@ -41,7 +41,7 @@ use Rattle.inodes.proofs.Frames.{within_image}
 -- the number of an operation that takes its inode is one that operations may name
 pub number_of_take : (n : ℕ) (op : Op) → CanTake n op → IsTrue (is_number n (asked op))
 number_of_take n (Create kind) can = absurd can
-number_of_take n (Write i off bytes) can = absurd can
+number_of_take n (Write i off bytes) can = can.0
 number_of_take n (Read i off count) can = can.0
 number_of_take n (Trunc i) can = can
 number_of_take n (Remove i) can = can

@@ -46,9 +46,10 @@ use Rattle.inodes.proofs.Agreeing.{StaysForOthers}
 use Rattle.inodes.proofs.Getting.{HasOne, has_same, has_left, reads_none, reads_got, shows_got, sleeps_got, held_got, has_then}
 use Rattle.inodes.proofs.Gripping.{grip_is}
 use Rattle.inodes.proofs.Looking.{Looked, Stepped, files_same, stepped_looked, store_stepped, steps_stepped}
-use Rattle.inodes.specs.Holding.{claim_by}
+use Rattle.inodes.specs.Holding.{claim_by, claim_of}
 use Rattle.inodes.proofs.Taking.{agrees, looking, taking, can_take, number, has, slot_is, is_open, may_name, none_of_zero}
 use Rattle.inodes.proofs.Turning.{readable, makes_none, grip_at_turn, claims_at_turn, left_at_turn, stands_at_turn, files_at_turn, looks_at_turn}
+use Rattle.inodes.specs.Writing.{extent_of}
 
 module _ {D N : Type 0} (disk : Ghosts D N) (s : StoreState D) (p : ℕ) (op : Op) (m : LockState) (is : IsStore disk.image s) (well : s.volume.fault ≡ None) (inside : p < length s.tasks)
     (stood : (task s.tasks p).place ≡ place.Taking m) (is_op : (task s.tasks p).op ≡ Some op) (joint : Joint (disk.image s.volume.device) s.volume.buffers s.volume.log) where
@@ -60,7 +61,7 @@ module _ {D N : Type 0} (disk : Ghosts D N) (s : StoreState D) (p : ℕ) (op : O
 
   -- its task then
   abbrev pub task_then : LockState → Progress Bool → TaskState
-  task_then n q = record (task s.tasks p) { place = place_of_lock s.table.inode_count inode op m n q }
+  task_then n q = record (task s.tasks p) { place = place_of_lock (extent_of s.table.inode_count s.volume.log.size) inode op m n q }
 
   abbrev pub store_then : VolumeState D → List TaskState → TableState → StoreState D
   store_then w ts tab = record { volume = w; tasks = ts; table = tab }
@@ -72,7 +73,7 @@ module _ {D N : Type 0} (disk : Ghosts D N) (s : StoreState D) (p : ℕ) (op : O
     pub shown : ShowsSame disk.image s (store_then w ts tab)
     pub waits : Waits s p (progress_of_lock inode op q) (store_then w ts tab)
     pub apart : LeavesReadings s p op (progress_of_lock inode op q)
-    pub falls : is_made (progress_of_lock inode op q) ≡ true → steps_left (place_of_lock s.table.inode_count inode op m n q) s.table.inode_count < locks_left m.at + 543
+    pub falls : is_made (progress_of_lock inode op q) ≡ true → steps_left (place_of_lock (extent_of s.table.inode_count s.volume.log.size) inode op m n q) s.table.inode_count < locks_left m.at + 543
 
   abbrev pub Makes : Progress Bool → LockState → VolumeState D → TableState → Type 0
   Makes q n w tab = (ts : List TaskState) → ts ≡ set s.tasks p (task_then n q) → Made q n w tab ts
@@ -213,7 +214,7 @@ module _ {D N : Type 0} (disk : Ghosts D N) (s : StoreState D) (p : ℕ) (op : O
       }) (subst (λ (a : LockAt). 2 + 543 < locks_left a + 543) (sym at) (omega arith))
 
   -- who had to wait, or failed, stands where it stood
-  stands_still : (q : Progress Bool) (n : LockState) → place_of_lock s.table.inode_count inode op m n q ≡ place.Taking m → task_then n q ≡ task s.tasks p
+  stands_still : (q : Progress Bool) (n : LockState) → place_of_lock (extent_of s.table.inode_count s.volume.log.size) inode op m n q ≡ place.Taking m → task_then n q ≡ task s.tasks p
   stands_still q n same = ap (λ (a : Place). record (task s.tasks p) { place = a }) (same ∙ sym stood)
 
   same_grips : (g : Option Grip) → grip (grips_of s.tasks) p ≡ g → with_grip (grips_of s.tasks) p g ≡ grips_of s.tasks
@@ -226,7 +227,7 @@ module _ {D N : Type 0} (disk : Ghosts D N) (s : StoreState D) (p : ℕ) (op : O
   }
 
   -- nothing is changed
-  stays : (q : Progress Bool) (n : LockState) (ts : List TaskState) → place_of_lock s.table.inode_count inode op m n q ≡ place.Taking m → ts ≡ set s.tasks p (task_then n q) → store_then s.volume ts s.table ≡ s
+  stays : (q : Progress Bool) (n : LockState) (ts : List TaskState) → place_of_lock (extent_of s.table.inode_count s.volume.log.size) inode op m n q ≡ place.Taking m → ts ≡ set s.tasks p (task_then n q) → store_then s.volume ts s.table ≡ s
   stays q n ts same tasks = ap (λ (l : List TaskState). record s { tasks = l }) (tasks ∙ ap (set s.tasks p) (stands_still q n same) ∙ set-get_or s.tasks p no_task)
 
   -- another has the lock
@@ -316,9 +317,9 @@ module _ {D N : Type 0} (disk : Ghosts D N) (s : StoreState D) (p : ℕ) (op : O
       let r = reply_when_taken (if_used used inode) op in
       let c = s.table.inode_count in
       let u : TaskState = task_then n (machine.Over used) in
-      let there : place_of_lock c inode op m n (machine.Over used) ≡ place_when_taken c (if_used used inode) k op = ap (λ (j : ℕ). place_when_taken c (if_used used inode) j op) t.place in
+      let there : place_of_lock (extent_of c s.volume.log.size) inode op m n (machine.Over used) ≡ place_when_taken (extent_of c s.volume.log.size) (if_used used inode) k op = ap (λ (j : ℕ). place_when_taken (extent_of c s.volume.log.size) (if_used used inode) j op) t.place in
       let gripped : grip_of u ≡ Some (locked_grip k m.number) =
-      ap (λ (a : Place). grip_by a (asked_by (task s.tasks p).op)) there ∙ ap (grip_by (place_when_taken c (if_used used inode) k op)) own_number ∙ grip_at_turn c inode k m.number op used in
+      ap (λ (a : Place). grip_by a (asked_by (task s.tasks p).op)) there ∙ ap (grip_by (place_when_taken (extent_of c s.volume.log.size) (if_used used inode) k op)) own_number ∙ grip_at_turn (extent_of c s.volume.log.size) inode k m.number op used in
       let looked : Looked disk s p m.number (progress.Turned r) (store_then w ts tab) u = record {
         tasks = tasks;
         op = refl;
@@ -326,15 +327,15 @@ module _ {D N : Type 0} (disk : Ghosts D N) (s : StoreState D) (p : ℕ) (op : O
         reads = reads_none disk s (store_then w ts tab) t.device t.well_then (progress.Turned r) refl;
         shown = ap (λ (x : Image). record { current = x; log = w.log }) t.current ∙ ap (λ (l : LogState). record { current = cur; log = l }) t.log;
         alone = t.alone;
-        claims = λ j other. ap (λ (a : Place). claim_by a j) there ∙ claims_at_turn c inode k op used j (λ same. other (same ∙ sym asks)) ∙ holds_nothing j;
+        claims = λ j other. ap (λ (a : Place). claim_by u.op a j) there ∙ claims_at_turn u.op (extent_of c s.volume.log.size) inode k op used j (λ same. other (same ∙ sym asks)) ∙ holds_nothing j;
         now = λ fine. record {
           others = subst (λ (l : LogState). StaysForOthers s.volume.buffers w.buffers s.volume.log l p) (sym t.log) t.one.others;
           locks = λ b i has. let no : None ≡ Some i = t.one.locks b i has in absurd (cc no);
           stands = subst (λ (a : Place). Stands w.buffers w.log c p (task s.tasks p).op a) (sym there)
-              (stands_at_turn w.buffers w.log c p (task s.tasks p).op c inode k op used (subst (λ (o : Option Op). IsOpenFor w.log p o) is_op (still_open w.log t.log)));
+              (stands_at_turn w.buffers w.log c p (task s.tasks p).op (extent_of c s.volume.log.size) inode k op used (can_take disk s p op m is well stood is_op) (subst (λ (o : Option Op). IsOpenFor w.log p o) is_op (still_open w.log t.log)));
           table = subst (λ (x : Image). KeepsTable s.table tab p (grips_of s.tasks) (with_grip (grips_of s.tasks) p (grip_of u)) x) (sym t.current)
               (subst (λ (g : Option Grip). KeepsTable s.table tab p (grips_of s.tasks) (with_grip (grips_of s.tasks) p g) cur) (sym gripped) t.table);
-          looks = subst (λ (x : Image). LooksAt x tab u (place_of_lock c inode op m n (machine.Over used))) (sym t.current)
+          looks = subst (λ (x : Image). LooksAt x tab u (place_of_lock (extent_of c s.volume.log.size) inode op m n (machine.Over used))) (sym t.current)
               (subst (λ (a : Place). LooksAt cur tab u a) (sym there) (looks_at_turn disk s p op m is well stood is_op inside joint t.alone tab k t.count used t.is_used t.copy u is_op refl));
         };
       } in
@@ -348,7 +349,7 @@ module _ {D N : Type 0} (disk : Ghosts D N) (s : StoreState D) (p : ℕ) (op : O
         waits = no_wait (machine.Over used) (store_then w ts tab) refl;
         apart = turn_apart tab k r t.table.table (makes_none inode op used);
         falls = λ made. subst (λ (a : Place). steps_left a s.table.inode_count < locks_left m.at + 543) (sym there)
-            (let most = left_at_turn inode k s.table.inode_count s.table.inode_count op used (can_take disk s p op m is well stood is_op) in let some = some_left m.at in omega (arith, most, some));
+            (let most = left_at_turn inode k s.table.inode_count s.table.inode_count (extent_of s.table.inode_count s.volume.log.size) op used (can_take disk s p op m is well stood is_op) in let some = some_left m.at in omega (arith, most, some));
       }
 
   entry_inside : (k : ℕ) (g : Grip) → grip (grips_of s.tasks) p ≡ Some g → g.place ≡ k → (k < length s.table.places) × (is_of g.number (entry_at s.table.places k) ≡ true)
@@ -669,7 +670,7 @@ module _ {D N : Type 0} (disk : Ghosts D N) (s : StoreState D) (p : ℕ) (op : O
           made.shown,
         ))
         made.waits made.apart
-        (λ is_step going. subst (λ (a : Place). steps_left (place_of_lock s.table.inode_count inode op m n q) s.table.inode_count < steps_left a s.table.inode_count) (sym stood) (made.falls is_step))
+        (λ is_step going. subst (λ (a : Place). steps_left (place_of_lock (extent_of s.table.inode_count s.volume.log.size) inode op m n q) s.table.inode_count < steps_left a s.table.inode_count) (sym stood) (made.falls is_step))
       where
         now_is : task ts p ≡ task_then n q
         now_is = ap (λ (l : List TaskState). task l p) tasks ∙ get_or-set_same s.tasks p (task_then n q) no_task inside

@@ -26,7 +26,7 @@ use Rattle.inodes.specs.declared.tasks.Place.{Place}
 use Rattle.inodes.specs.declared.tasks.Place.TheVariants as place
 use Rattle.inodes.specs.Goes.{Goes, place_of_trunc, progress_of_trunc, table_of_trunc}
 use Rattle.inodes.specs.Grips.{Grip, KeepsTable, locked_grip, with_grip}
-use Rattle.inodes.specs.Holding.{HasGivenUp, IsTruncating, claim_by, claims_of, held_of, kept_slot, trunc_op, truncs_left, used_slot}
+use Rattle.inodes.specs.Holding.{HasGivenUp, IsTruncating, claim_by, claims_of, held_of, kept_slot, trunc_op, truncs_left, used_slot, claim_of}
 use Rattle.inodes.specs.Itrunc.{TruncState, TruncSteps}
 use Rattle.inodes.specs.Looks.{CanTake, LooksAt}
 use Rattle.inodes.specs.Places.{HasSlot, asked_by, block_at_place, block_of_trunc, grip_by, grip_of, grips_of, steps_left}

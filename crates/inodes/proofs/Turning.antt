@@ -1,19 +1,19 @@
 -- The turn of an operation that takes its inode.
-use Rattle.std.proofs.Common.{◌≡◌, ◌≢◌, ◌⊎◌, inl, inr, ℕ, ◌≤◌, ◌<◌, ◌/◌, Bool, true, false, cond, List, [], length, set, refl, sym, ◌∙◌, ap, subst, ⊎_elim, arith, Option, Some, None}
+use Rattle.std.proofs.Common.{◌+◌, ◌≡◌, ◌≢◌, ◌⊎◌, inl, inr, ℕ, ◌≤◌, ◌<◌, ◌/◌, Bool, true, false, cond, List, [], length, set, refl, sym, ◌∙◌, ap, subst, ⊎_elim, arith, Option, Some, None, ltb}
 use Rattle.std.specs.Prelude.{IsTrue, slice_index}
-use Rattle.std.proofs.lemmas.Bool.{cases_eq, eq-eqb, ne_eqb}
+use Rattle.std.proofs.lemmas.Bool.{cases_eq, eq-eqb, ne_eqb, ltb-false, ltb-true}
 use Rattle.blocks.specs.Disk.{Image}
 use Rattle.blocks.specs.declared.disk.Disk.{Ghosts}
 use Rattle.model.specs.declared.types.image.Dinode.{Dinode}
 use Rattle.model.specs.declared.types.operations.Op.{Op}
 use Rattle.model.specs.declared.types.operations.Op.TheVariants.{Create, Write, Read, Trunc, Remove, Stat}
-use Rattle.model.specs.declared.types.operations.Reply.TheVariants.{StatOf, NoFile, Done}
+use Rattle.model.specs.declared.types.operations.Reply.TheVariants.{StatOf, NoFile, Done, BadOffset, TooBig}
 use Rattle.model.specs.Files.{Files}
 use Rattle.model.specs.Journal.{is_making, is_number}
 use Rattle.model.specs.Layout.{form_of, greatest_size, inode_of}
-use Rattle.model.specs.Operations.{after}
+use Rattle.model.specs.Operations.{after, transfer_limit}
 use Rattle.model.specs.Tasks.{TurnsTo}
-use Rattle.loose.specs.Held.{Held, FitsHeld, IsClaimedNow, file_left, Claim, frees}
+use Rattle.loose.specs.Held.{grows, Growth, Held, FitsHeld, IsClaimedNow, file_left, Claim, frees, Growth, grows}
 use Rattle.loose.specs.Lemmas.HeldLooks.{resting_tells, free_tells}
 use Rattle.loose.specs.Lemmas.Turns.{turn_holds, turn_answers}
 use Rattle.blockmap.specs.Lemmas.Resting.{resting_may_be_read}
@@ -22,14 +22,14 @@ use Rattle.blockmap.specs.Target.{block_of, slot_in}
 use Rattle.bcache.specs.Buffers.{Buffers}
 use Rattle.bcache.specs.Lemmas.Current.{length-current}
 use Rattle.wal.specs.Joint.{Joint}
-use Rattle.wal.specs.Machine.{LogState}
+use Rattle.wal.specs.Machine.{LogState, used_by}
 use Rattle.inodes.specs.declared.tasks.Place.{Place}
 use Rattle.inodes.specs.declared.tasks.Place.TheVariants as place
 use Rattle.inodes.specs.Grips.{locked_grip}
-use Rattle.inodes.specs.Holding.{IsTruncating, bitmap_block, claim_by, claims_of}
+use Rattle.inodes.specs.Holding.{IsTruncating, bitmap_block, claim_by, claims_of, claim_of}
 use Rattle.inodes.specs.Itrunc.{first_trunc}
 use Rattle.inodes.specs.LockState.{LockState}
-use Rattle.inodes.specs.Lemmas.Holding.{HoldsAlone, claimed_now, none_held}
+use Rattle.inodes.specs.Lemmas.Holding.{HoldsAlone, claimed_now, none_held, own_grows}
 use Rattle.inodes.specs.Lemmas.ReadRuns.{begins}
 use Rattle.inodes.specs.Looks.{CanLook, CanTake, HasRoom, LooksAt, WasAnswered}
 use Rattle.inodes.specs.Places.{asked, block_of_trunc, grip_by, grip_of, steps_left}
@@ -37,17 +37,32 @@ use Rattle.inodes.specs.Readi.{ReadState, first_read}
 use Rattle.inodes.specs.Store.{StoreState, IsStore, FitsFiles, HoldsAt, IsOpenFor, Stands, current_of}
 use Rattle.inodes.specs.Table.{TableState, copy_at}
 use Rattle.inodes.specs.Tasks.{TaskState, task}
-use Rattle.inodes.specs.Turning.{IsReadable, if_used, reply_of_look, reply_when_taken, place_of_look, place_when_taken, place_of_read}
+use Rattle.inodes.specs.Turning.{IsReadable, if_used, reply_of_look, reply_when_taken, place_of_look, place_when_taken, place_of_read, write_refusal, place_by_refusal}
 use Rattle.inodes.proofs.Starting.{new_target, has_begun, has_none, few_reads}
 use Rattle.inodes.proofs.Taking.{taking, looking, can_take, number, same_op, may_name, may_name_now}
 use Rattle.inodes.proofs.Unclaimed.{holds_alone_of}
 use Rattle.inodes.proofs.TruncNext.{first_given, first_slots, next_left}
+use Rattle.inodes.specs.Writei.{WriteState, first_write}
+use Rattle.inodes.specs.declared.writei.Extent.{Extent}
+use Rattle.model.specs.declared.types.operations.Reply.{Reply}
+use Rattle.inodes.specs.Writing.{extent_of, block_of_write}
+use Rattle.inodes.proofs.WriteComes.{fresh_next, comes_next}
+use Rattle.inodes.specs.Lemmas.Bounds.{few_writes}
+use Rattle.blockmap.specs.BmapAlloc.{indirect_of}
+use Rattle.inodes.specs.Growing.{growth_of, bytes_by}
+use Rattle.loose.specs.Lemmas.GrowthEnds.{resting_refuses}
+use Rattle.loose.specs.Lemmas.BlocksTaken.{turn_grows}
 
 -- a turn makes no number
 pub makes_none : (d : Dinode) (op : Op) (used : Bool) (i : ℕ) → is_making i (reply_when_taken (if_used used d) op) ≡ true → ⊥
 makes_none d op false i makes = absurd (cc makes)
 makes_none d (Create kind) true i makes = absurd (cc makes)
-makes_none d (Write j off bytes) true i makes = absurd (cc makes)
+makes_none d (Write j off bytes) true i makes = by_size (ltb d.size off) (ltb 274432 (off + length bytes)) makes
+  where
+    by_size : (a b : Bool) → is_making i (cond a (Some BadOffset) (cond b (Some TooBig) None)) ≡ true → ⊥
+    by_size true b makes = absurd (cc makes)
+    by_size false true makes = absurd (cc makes)
+    by_size false false makes = absurd (cc makes)
 makes_none d (Read j off n) true i makes = absurd (cc makes)
 makes_none d (Trunc j) true i makes = absurd (cc makes)
 makes_none d (Remove j) true i makes = absurd (cc makes)
@@ -58,11 +73,16 @@ grip_of_read : (k i : ℕ) (o : Option ReadState) → grip_by (place_of_read k o
 grip_of_read k i None = refl
 grip_of_read k i (Some m) = refl
 
--- and so where any operation goes at its turn, over an image of c numbers
-pub grip_at_turn : (c : ℕ) (d : Dinode) (k i : ℕ) (op : Op) (used : Bool) → grip_by (place_when_taken c (if_used used d) k op) i ≡ Some (locked_grip k i)
+-- so has a write
+grip_of_write : (k i : ℕ) (m : WriteState) (o : Option Reply) → grip_by (place_by_refusal k m o) i ≡ Some (locked_grip k i)
+grip_of_write k i m None = refl
+grip_of_write k i m (Some reply) = refl
+
+-- and so where any operation goes at its turn
+pub grip_at_turn : (c : Extent) (d : Dinode) (k i : ℕ) (op : Op) (used : Bool) → grip_by (place_when_taken c (if_used used d) k op) i ≡ Some (locked_grip k i)
 grip_at_turn c d k i op false = refl
 grip_at_turn c d k i (Create kind) true = refl
-grip_at_turn c d k i (Write j off bytes) true = refl
+grip_at_turn c d k i (Write j off bytes) true = grip_of_write k i (first_write j d off (length bytes) c) (write_refusal d off (length bytes))
 grip_at_turn c d k i (Read j off n) true = grip_of_read k i (first_read d off n)
 grip_at_turn c d k i (Trunc j) true = refl
 grip_at_turn c d k i (Remove j) true = refl
@@ -75,64 +95,89 @@ left_of_read : (d : Dinode) (k off n c : ℕ) (o : Option ReadState) → n ≤ 3
 left_of_read d k off n c None few first = omega arith
 left_of_read d k off n c (Some m) few first = let at = few_reads d off n m few first in omega (arith, at)
 
-left_of_trunc : (c : ℕ) (d : Dinode) (k j : ℕ) (removes : Bool) → steps_left (place.Truncating k (first_trunc j d removes (bitmap_block c))) c ≤ 543
-left_of_trunc c d k j removes = let few = next_left j d (bitmap_block c) 0 0 in omega (arith, few)
+left_of_trunc : (b c : ℕ) (d : Dinode) (k j : ℕ) (removes : Bool) → steps_left (place.Truncating k (first_trunc j d removes b)) c ≤ 543
+left_of_trunc b c d k j removes = let few = next_left j d b 0 0 in omega (arith, few)
 
-pub left_at_turn : (d : Dinode) (k n c : ℕ) (op : Op) (used : Bool) → CanTake n op → steps_left (place_when_taken c (if_used used d) k op) c ≤ 543
-left_at_turn d k n c op false can = omega arith
-left_at_turn d k n c (Create kind) true can = omega arith
-left_at_turn d k n c (Write j off bytes) true can = omega arith
-left_at_turn d k n c (Read j off count) true can = left_of_read d k off count c (first_read d off count) can.1 refl
-left_at_turn d k n c (Trunc j) true can = left_of_trunc c d k j false
-left_at_turn d k n c (Remove j) true can = left_of_trunc c d k j true
-left_at_turn d k n c (Stat j) true can = omega arith
+left_of_write : (c k i : ℕ) (d : Dinode) (off n : ℕ) (e : Extent) (o : Option Reply) → n ≤ 3072 → steps_left (place_by_refusal k (first_write i d off n e) o) c ≤ 543
+left_of_write c k i d off n e None few =
+    let m : WriteState = first_write i d off n e in
+    let most = few_writes m m.at few in
+    omega (arith, most)
+left_of_write c k i d off n e (Some reply) few = omega arith
+
+pub left_at_turn : (d : Dinode) (k n c : ℕ) (e : Extent) (op : Op) (used : Bool) → CanTake n op → steps_left (place_when_taken e (if_used used d) k op) c ≤ 543
+left_at_turn d k n c e op false can = omega arith
+left_at_turn d k n c e (Create kind) true can = omega arith
+left_at_turn d k n c e (Write j off bytes) true can = left_of_write c k j d off (length bytes) e (write_refusal d off (length bytes)) can.1
+left_at_turn d k n c e (Read j off count) true can = left_of_read d k off count c (first_read d off count) can.1 refl
+left_at_turn d k n c e (Trunc j) true can = left_of_trunc e.bitmap c d k j false
+left_at_turn d k n c e (Remove j) true can = left_of_trunc e.bitmap c d k j true
+left_at_turn d k n c e (Stat j) true can = omega arith
 
 -- it holds no other number
 none_of_read : (k j : ℕ) (op : Option Op) (o : Option ReadState) → claim_by op (place_of_read k o) j ≡ None
-none_of_read k j None = refl
-none_of_read k j (Some m) = refl
+none_of_read k j op None = refl
+none_of_read k j op (Some m) = refl
 
-pub claims_at_turn : (c : ℕ) (d : Dinode) (k : ℕ) (op : Op) (used : Bool) (j : ℕ) → j ≢ asked op → claim_by (place_when_taken c (if_used used d) k op) j ≡ None
-claims_at_turn c d k op false j other = refl
-claims_at_turn c d k (Create kind) true j other = refl
-claims_at_turn c d k (Write i off bytes) true j other = refl
-claims_at_turn c d k (Read i off n) true j other = none_of_read k j (first_read d off n)
-claims_at_turn c d k (Trunc i) true j other = rw (ne_eqb i j (λ same. other (sym same))) refl
-claims_at_turn c d k (Remove i) true j other = rw (ne_eqb i j (λ same. other (sym same))) refl
-claims_at_turn c d k (Stat i) true j other = refl
+none_of_write : (k i j : ℕ) (op : Option Op) (d : Dinode) (off n : ℕ) (e : Extent) (o : Option Reply) → j ≢ i → claim_by op (place_by_refusal k (first_write i d off n e) o) j ≡ None
+none_of_write k i j op d off n e None other = rw (ne_eqb i j (λ same. other (sym same))) refl
+none_of_write k i j op d off n e (Some reply) other = refl
+
+pub claims_at_turn : (o : Option Op) (c : Extent) (d : Dinode) (k : ℕ) (op : Op) (used : Bool) (j : ℕ) → j ≢ asked op → claim_by o (place_when_taken c (if_used used d) k op) j ≡ None
+claims_at_turn o c d k op false j other = refl
+claims_at_turn o c d k (Create kind) true j other = refl
+claims_at_turn o c d k (Write i off bytes) true j other = none_of_write k i j o d off (length bytes) c (write_refusal d off (length bytes)) other
+claims_at_turn o c d k (Read i off n) true j other = none_of_read k j o (first_read d off n)
+claims_at_turn o c d k (Trunc i) true j other = rw (ne_eqb i j (λ same. other (sym same))) refl
+claims_at_turn o c d k (Remove i) true j other = rw (ne_eqb i j (λ same. other (sym same))) refl
+claims_at_turn o c d k (Stat i) true j other = refl
 
 -- what it holds of its own
 abbrev held_at_turn : Dinode → Bool → Held
 held_at_turn d removes = record { copy = d; given_up = 0; last_kind = cond removes 0 d.kind }
 
-claim_at_turn : (c : ℕ) (d : Dinode) (k i : ℕ) (removes : Bool) → claim_by None (place.Truncating k (first_trunc i d removes (bitmap_block c))) i ≡ Some (frees (held_at_turn d removes))
-claim_at_turn c d k i removes = rw (eq-eqb i i refl) refl
+claim_at_turn : (b : ℕ) (d : Dinode) (k i : ℕ) (removes : Bool) → claim_by None (place.Truncating k (first_trunc i d removes b)) i ≡ Some (frees (held_at_turn d removes))
+claim_at_turn b d k i removes = rw (eq-eqb i i refl) refl
 
 -- nothing is got there
 stands_of_read : (b : Buffers) (l : LogState) (n p : ℕ) (t : Option Op) (d : Dinode) (k off count : ℕ) (o : Option ReadState) → first_read d off count ≡ o → Stands b l n p t (place_of_read k o)
 stands_of_read b l n p t d k off count None first = tt
 stands_of_read b l n p t d k off count (Some m) first = subst (λ (s : Option ℕ). HoldsAt b p (block_of m.target) s) (sym (slot_of_read d k off count (Some m) first m refl)) tt
 
-pub stands_at_turn : (b : Buffers) (l : LogState) (n p : ℕ) (t : Option Op) (c : ℕ) (d : Dinode) (k : ℕ) (op : Op) (used : Bool) → IsOpenFor l p (Some op) → Stands b l n p t (place_when_taken c (if_used used d) k op)
-stands_at_turn b l n p t c d k op false open_for = tt
-stands_at_turn b l n p t c d k (Create kind) true open_for = tt
-stands_at_turn b l n p t c d k (Write i off bytes) true open_for = tt
-stands_at_turn b l n p t c d k (Read i off count) true open_for = stands_of_read b l n p t d k off count (first_read d off count) refl
-stands_at_turn b l n p t c d k (Trunc i) true open_for =
-    let first = first_slots i (bitmap_block c) d false in
+-- a write that begins has logged nothing, and got nothing
+stands_of_write : (b : Buffers) (l : LogState) (n p : ℕ) (t : Option Op) (k i : ℕ) (d : Dinode) (off count : ℕ) (e : Extent) (o : Option Reply) → count ≤ 3072 → used_by l p ≡ Some 0
+    → Stands b l n p t (place_by_refusal k (first_write i d off count e) o)
+stands_of_write b l n p t k i d off count e None few used =
+    let m : WriteState = first_write i d off count e in
+    let fresh = fresh_next m i d off count e in
+    let blocks = fresh.blocks in
+    record {
+      logged = record { homes = 0; used = used; few = omega (arith, few, blocks) };
+      kept = subst (λ (s : Option ℕ). HoldsAt b p (indirect_of d) s) (sym fresh.kept) tt;
+      used = subst (λ (s : Option ℕ). HoldsAt b p (block_of_write m m.at) s) (sym fresh.used) tt;
+    }
+stands_of_write b l n p t k i d off count e (Some reply) few used = tt
+
+pub stands_at_turn : (b : Buffers) (l : LogState) (n p : ℕ) (t : Option Op) (c : Extent) (d : Dinode) (k : ℕ) (op : Op) (used : Bool) → CanTake n op → IsOpenFor l p (Some op) → Stands b l n p t (place_when_taken c (if_used used d) k op)
+stands_at_turn b l n p t c d k op false can open_for = tt
+stands_at_turn b l n p t c d k (Create kind) true can open_for = tt
+stands_at_turn b l n p t c d k (Write i off bytes) true can open_for = stands_of_write b l n p t k i d off (length bytes) c (write_refusal d off (length bytes)) can.1 open_for
+stands_at_turn b l n p t c d k (Read i off count) true can open_for = stands_of_read b l n p t d k off count (first_read d off count) refl
+stands_at_turn b l n p t c d k (Trunc i) true can open_for =
+    let first = first_slots i c.bitmap d false in
     record {
       logged = inl open_for;
       kept = subst (λ (s : Option ℕ). HoldsAt b p (slice_index d.addrs 12) s) (sym first.0) tt;
-      used = subst (λ (s : Option ℕ). HoldsAt b p (block_of_trunc (first_trunc i d false (bitmap_block c)) (first_trunc i d false (bitmap_block c)).at) s) (sym first.1) tt;
+      used = subst (λ (s : Option ℕ). HoldsAt b p (block_of_trunc (first_trunc i d false c.bitmap) (first_trunc i d false c.bitmap).at) s) (sym first.1) tt;
     }
-stands_at_turn b l n p t c d k (Remove i) true open_for =
-    let first = first_slots i (bitmap_block c) d true in
+stands_at_turn b l n p t c d k (Remove i) true can open_for =
+    let first = first_slots i c.bitmap d true in
     record {
       logged = inl open_for;
       kept = subst (λ (s : Option ℕ). HoldsAt b p (slice_index d.addrs 12) s) (sym first.0) tt;
-      used = subst (λ (s : Option ℕ). HoldsAt b p (block_of_trunc (first_trunc i d true (bitmap_block c)) (first_trunc i d true (bitmap_block c)).at) s) (sym first.1) tt;
+      used = subst (λ (s : Option ℕ). HoldsAt b p (block_of_trunc (first_trunc i d true c.bitmap) (first_trunc i d true c.bitmap).at) s) (sym first.1) tt;
     }
-stands_at_turn b l n p t c d k (Stat i) true open_for = tt
+stands_at_turn b l n p t c d k (Stat i) true can open_for = tt
 
 -- in a store whose process p takes its inode, which the image has as d
 module _ {D N : Type 0} (disk : Ghosts D N) (s : StoreState D) (p : ℕ) (op : Op) (m : LockState) (is : IsStore disk.image s) (well : s.volume.fault ≡ None)
@@ -178,6 +223,10 @@ module _ {D N : Type 0} (disk : Ghosts D N) (s : StoreState D) (p : ℕ) (op : O
       (read.fit.fields.count, omega (arith, most, one))
   readable false is_used = tt
 
+  -- where blocks are taken
+  abbrev extent : Extent
+  extent = extent_of s.table.inode_count s.volume.log.size
+
   size : s.volume.log.size ≡ length cur
   size = let long = length-current (disk.image s.volume.device) s.volume.buffers in sym (long ∙ joint.size)
 
@@ -193,10 +242,10 @@ module _ {D N : Type 0} (disk : Ghosts D N) (s : StoreState D) (p : ℕ) (op : O
     fits_before files fits = fits
 
     -- the number is held now
-    begins_freeing : (removes : Bool) → u.place ≡ place.Truncating k (first_trunc m.number inode removes (bitmap_block s.table.inode_count)) → inode.kind ≢ 0 → (files : Files) → FitsHeld files cur (claims_of s.tasks)
+    begins_freeing : (removes : Bool) → u.place ≡ place.Truncating k (first_trunc m.number inode removes extent.bitmap) → inode.kind ≢ 0 → (files : Files) → FitsHeld files cur (claims_of s.tasks)
         → FitsFiles disk.image t (set files m.number (file_left (cond removes 0 inode.kind)))
     begins_freeing removes there used files fits =
-        let own : claim_of u m.number ≡ Some (frees (held_at_turn inode removes)) = ap (λ (a : Place). claim_by u.op a m.number) there ∙ claim_at_turn s.table.inode_count inode k m.number removes in
+        let own : claim_of u m.number ≡ Some (frees (held_at_turn inode removes)) = ap (λ (a : Place). claim_by u.op a m.number) there ∙ claim_at_turn extent.bitmap inode k m.number removes in
         let others : (j : ℕ) → j ≢ m.number → claim_of u j ≡ claim_of (task s.tasks p) j = λ j other. ap (λ (a : Place). claim_by u.op a j) there ∙ rw (ne_eqb m.number j (λ e. other (sym e))) refl ∙ sym (holds_nothing j) in
         let now : IsClaimedNow (claims_of s.tasks) m.number (Some (frees (held_at_turn inode removes))) (claims_of (set s.tasks p u)) =
         subst (λ (o : Option Claim). IsClaimedNow (claims_of s.tasks) m.number o (claims_of (set s.tasks p u))) own (claimed_now s.tasks p m.number u inside holds_alone others) in
@@ -207,24 +256,73 @@ module _ {D N : Type 0} (disk : Ghosts D N) (s : StoreState D) (p : ℕ) (op : O
         last true = inl refl
         last false = inr refl
 
-    used_turn : (q : Op) → CanTake s.table.inode_count q → m.number ≡ asked q → u.place ≡ place_of_look s.table.inode_count inode k q → inode.kind ≢ 0 → (files : Files) → FitsFiles disk.image s files
+    -- so it is by the writing of its bytes, which begins with none
+    begins_growing : (i off : ℕ) (bytes : List ℕ) → i ≡ m.number → u.place ≡ place.Writing k (first_write i inode off (length bytes) extent) → inode.kind ≢ 0 → off ≤ inode.size → (files : Files) → FitsFiles disk.image s files
+        → FitsFiles disk.image t files
+    begins_growing i off bytes same_number there used within files fits =
+        let w : WriteState = first_write i inode off (length bytes) extent in
+        let before = fits_before files fits in
+        let fresh = fresh_next w i inode off (length bytes) extent in
+        let g : Growth = record { copy = inode; taken = None; offset = off; written = [] } in
+        let grown : growth_of w (bytes_by u.op) ≡ g = ap (λ (o : Option ℕ). record { copy = inode; taken = o; offset = off; written = [] }) fresh.taken in
+        let own : claim_of u m.number ≡ Some (grows g) =
+        ap (λ (a : Place). claim_by u.op a m.number) there ∙ ap (λ (j : ℕ). claim_by u.op (place.Writing k w) j) (sym same_number) ∙ own_grows u.op k w ∙ ap (λ (h : Growth). Some (grows h)) grown in
+        let others : (j : ℕ) → j ≢ m.number → claim_of u j ≡ claim_of (task s.tasks p) j =
+        λ j other. ap (λ (a : Place). claim_by u.op a j) there ∙ rw (ne_eqb i j (λ e. other (sym e ∙ same_number))) refl ∙ sym (holds_nothing j) in
+        let now : IsClaimedNow (claims_of s.tasks) m.number (Some (grows g)) (claims_of (set s.tasks p u)) =
+        subst (λ (o : Option Claim). IsClaimedNow (claims_of s.tasks) m.number o (claims_of (set s.tasks p u))) own (claimed_now s.tasks p m.number u inside holds_alone others) in
+        fits_then files
+        (turn_grows files cur (claims_of s.tasks) (claims_of (set s.tasks p u)) m.number off before (may_name_now disk s p op m is well stood is_op, used) none within now).fits
+
+    -- a write is refused, or begins
+    write_turn : (i off : ℕ) (bytes : List ℕ) → length bytes ≤ transfer_limit → i ≡ m.number → inode.kind ≢ 0 → (files : Files) → FitsFiles disk.image s files
+        → (a : Bool) → ltb inode.size off ≡ a → (b : Bool) → ltb 274432 (off + length bytes) ≡ b
+        → u.place ≡ place_by_refusal k (first_write i inode off (length bytes) extent) (write_refusal inode off (length bytes))
+        → TurnsTo (form_of cur) (Write i off bytes) (write_refusal inode off (length bytes)) files (FitsFiles disk.image t)
+    write_turn i off bytes few same_number used files fits true behind b big there =
+        let says : write_refusal inode off (length bytes) ≡ Some BadOffset = rw behind refl in
+        let before = fits_before files fits in
+        subst (λ (o : Option Reply). TurnsTo (form_of cur) (Write i off bytes) o files (FitsFiles disk.image t)) (sym says) (
+          files,
+          subst (λ (j : ℕ). after (form_of cur) files (Write j off bytes) BadOffset ≡ Some files) (sym same_number)
+              ((resting_refuses files cur (claims_of s.tasks) m.number off bytes before (may_name_now disk s p op m is well stood is_op, used) none few).0 (ltb-true inode.size off behind)),
+          same (ap (λ (a : Place). claim_by u.op a m.number) (there ∙ ap (place_by_refusal k (first_write i inode off (length bytes) extent)) says)) files fits,
+        )
+    write_turn i off bytes few same_number used files fits false behind true big there =
+        let says : write_refusal inode off (length bytes) ≡ Some TooBig = rw (behind, big) refl in
+        let before = fits_before files fits in
+        let one : greatest_size (form_of cur) ≡ 274432 = ap greatest_size (may used).form in
+        subst (λ (o : Option Reply). TurnsTo (form_of cur) (Write i off bytes) o files (FitsFiles disk.image t)) (sym says) (
+          files,
+          subst (λ (j : ℕ). after (form_of cur) files (Write j off bytes) TooBig ≡ Some files) (sym same_number)
+              ((resting_refuses files cur (claims_of s.tasks) m.number off bytes before (may_name_now disk s p op m is well stood is_op, used) none few).1 (ltb-false inode.size off behind)
+              (subst (λ (n : ℕ). n < off + length bytes) (sym one) (ltb-true 274432 (off + length bytes) big))),
+          same (ap (λ (a : Place). claim_by u.op a m.number) (there ∙ ap (place_by_refusal k (first_write i inode off (length bytes) extent)) says)) files fits,
+        )
+    write_turn i off bytes few same_number used files fits false behind false big there =
+        let says : write_refusal inode off (length bytes) ≡ None = rw (behind, big) refl in
+        subst (λ (o : Option Reply). TurnsTo (form_of cur) (Write i off bytes) o files (FitsFiles disk.image t)) (sym says)
+        (begins_growing i off bytes same_number (there ∙ ap (place_by_refusal k (first_write i inode off (length bytes) extent)) says) used (ltb-false inode.size off behind) files fits)
+
+    used_turn : (q : Op) → CanTake s.table.inode_count q → m.number ≡ asked q → u.place ≡ place_of_look extent inode k q → inode.kind ≢ 0 → (files : Files) → FitsFiles disk.image s files
         → TurnsTo (form_of cur) q (reply_of_look inode q) files (FitsFiles disk.image t)
     used_turn (Create kind) allowed named there used files fits = absurd allowed
-    used_turn (Write i off bytes) allowed named there used files fits = absurd allowed
-    used_turn (Read i off n) allowed named there used files fits = same (ap (λ (a : Place). claim_by u.op a m.number) there ∙ none_of_read k m.number (first_read inode off n)) files fits
+    used_turn (Write i off bytes) allowed named there used files fits =
+        write_turn i off bytes allowed.1 (sym named) used files fits (ltb inode.size off) refl (ltb 274432 (off + length bytes)) refl there
+    used_turn (Read i off n) allowed named there used files fits = same (ap (λ (a : Place). claim_by u.op a m.number) there ∙ none_of_read k m.number u.op (first_read inode off n)) files fits
     used_turn (Trunc i) allowed named there used files fits =
         let before = fits_before files fits in (
           set files m.number (file_left inode.kind),
           subst (λ (j : ℕ). after (form_of cur) files (Trunc j) Done ≡ Some (set files m.number (file_left inode.kind))) named
               (turn_answers files cur (claims_of s.tasks) m.number before (may_name_now disk s p op m is well stood is_op, used) none).0,
-          begins_freeing false (there ∙ ap (λ (j : ℕ). place.Truncating k (first_trunc j inode false (bitmap_block s.table.inode_count))) (sym named)) used files before,
+          begins_freeing false (there ∙ ap (λ (j : ℕ). place.Truncating k (first_trunc j inode false extent.bitmap)) (sym named)) used files before,
         )
     used_turn (Remove i) allowed named there used files fits =
         let before = fits_before files fits in (
           set files m.number (file_left 0),
           subst (λ (j : ℕ). after (form_of cur) files (Remove j) Done ≡ Some (set files m.number (file_left 0))) named
               (turn_answers files cur (claims_of s.tasks) m.number before (may_name_now disk s p op m is well stood is_op, used) none).1,
-          begins_freeing true (there ∙ ap (λ (j : ℕ). place.Truncating k (first_trunc j inode true (bitmap_block s.table.inode_count))) (sym named)) used files before,
+          begins_freeing true (there ∙ ap (λ (j : ℕ). place.Truncating k (first_trunc j inode true extent.bitmap)) (sym named)) used files before,
         )
     used_turn (Stat i) allowed named there used files fits = (
       files,
@@ -243,7 +341,8 @@ module _ {D N : Type 0} (disk : Ghosts D N) (s : StoreState D) (p : ℕ) (op : O
       where
         by_op : (o : Op) → CanTake s.table.inode_count o → m.number ≡ asked o → after (form_of cur) files o NoFile ≡ Some files
         by_op (Create kind) can_it named_it = absurd can_it
-        by_op (Write i off bytes) can_it named_it = absurd can_it
+        by_op (Write i off bytes) can_it named_it = subst (λ (j : ℕ). after (form_of cur) files (Write j off bytes) NoFile ≡ Some files) named_it
+            ((free_tells files cur (claims_of s.tasks) m.number (fits_before files fits) (may_name_now disk s p op m is well stood is_op, free)).1.write off bytes can_it.1)
         by_op (Read i off n) can_it named_it = subst (λ (j : ℕ). after (form_of cur) files (Read j off n) NoFile ≡ Some files) named_it
             ((free_tells files cur (claims_of s.tasks) m.number (fits_before files fits) (may_name_now disk s p op m is well stood is_op, free)).1.read off n can_it.1)
         by_op (Trunc i) can_it named_it = subst (λ (j : ℕ). after (form_of cur) files (Trunc j) NoFile ≡ Some files) named_it
@@ -253,7 +352,7 @@ module _ {D N : Type 0} (disk : Ghosts D N) (s : StoreState D) (p : ℕ) (op : O
         by_op (Stat i) can_it named_it = subst (λ (j : ℕ). after (form_of cur) files (Stat j) NoFile ≡ Some files) named_it
             (free_tells files cur (claims_of s.tasks) m.number (fits_before files fits) (may_name_now disk s p op m is well stood is_op, free)).1.stat
 
-    pub files_at_turn : (used : Bool) → (used ≡ true → inode.kind ≢ 0) → (used ≡ false → inode.kind ≡ 0) → u.place ≡ place_when_taken s.table.inode_count (if_used used inode) k op → (files : Files) → FitsFiles disk.image s files
+    pub files_at_turn : (used : Bool) → (used ≡ true → inode.kind ≢ 0) → (used ≡ false → inode.kind ≡ 0) → u.place ≡ place_when_taken extent (if_used used inode) k op → (files : Files) → FitsFiles disk.image s files
         → TurnsTo (form_of cur) op (reply_when_taken (if_used used inode) op) files (FitsFiles disk.image t)
     files_at_turn true is_used is_free there files fits = used_turn op can asks there (is_used refl) files fits
     files_at_turn false is_used is_free there files fits = free_turn op can asks there (is_free refl) files fits
@@ -302,23 +401,48 @@ module _ {D N : Type 0} (disk : Ghosts D N) (s : StoreState D) (p : ℕ) (op : O
         }
 
     truncates : (removes : Bool) (i : ℕ) → op ≡ cond removes (Remove i) (Trunc i) → i ≡ asked op → inode.kind ≢ 0 → (u : TaskState) → u.op ≡ Some op
-        → IsTruncating cur tab.inode_count u (first_trunc i inode removes (bitmap_block s.table.inode_count))
+        → IsTruncating cur tab.inode_count u (first_trunc i inode removes extent.bitmap)
     truncates removes i same named used u has = record {
       op = has ∙ ap Some same;
       number = subst (λ (j : ℕ). IsTrue (is_number tab.inode_count j)) (asks ∙ sym named) (subst (λ (n : ℕ). IsTrue (is_number n m.number)) (sym count) (may_name disk s p op m is well stood is_op));
       bitmap = ap bitmap_block (sym count);
-      given = first_given cur i (bitmap_block s.table.inode_count) inode removes (may used).fit.fields.count;
+      given = first_given cur i extent.bitmap inode removes (may used).fit.fields.count;
     }
 
-    looks_used : (q : Op) → op ≡ q → inode.kind ≢ 0 → copy_at tab.places k ≡ Some inode → (u : TaskState) → u.op ≡ Some op → u.gathered ≡ (task s.tasks p).gathered → LooksAt cur tab u (place_of_look s.table.inode_count inode k q)
+    writes : (i off : ℕ) (bytes : List ℕ) → op ≡ Write i off bytes → inode.kind ≢ 0 → (u : TaskState) → u.op ≡ Some op
+        → (a : Bool) → ltb inode.size off ≡ a → (b : Bool) → ltb 274432 (off + length bytes) ≡ b
+        → LooksAt cur tab u (place_by_refusal k (first_write i inode off (length bytes) extent) (cond a (Some BadOffset) (cond b (Some TooBig) None)))
+    writes i off bytes same used u has true behind b big = answered u has
+    writes i off bytes same used u has false behind true big = answered u has
+    writes i off bytes same used u has false behind false big =
+        let may_take : CanTake tab.inode_count (Write i off bytes) = subst (λ (n : ℕ). CanTake n (Write i off bytes)) (sym count) (subst (CanTake s.table.inode_count) same can) in
+        let w : WriteState = first_write i inode off (length bytes) extent in
+        let fits = ltb-false 274432 (off + length bytes) big in
+        record {
+          bytes = bytes;
+          op = has ∙ ap Some same;
+          number = may_take.0;
+          few = may_take.1;
+          all = refl;
+          done = omega arith;
+          fits = fits;
+          extent = ap (λ (n : ℕ). extent_of n s.volume.log.size) (sym count) ∙ ap (extent_of tab.inode_count) size;
+          come =
+              let here : off + 0 ≡ off = omega arith in
+              let all : length bytes - 0 ≡ length bytes = omega arith in
+              subst (λ (j : ℕ). HasComeTo cur w (next_place i inode j (length bytes) extent)) here
+              (subst (λ (n : ℕ). HasComeTo cur w (next_place i inode (off + 0) n extent)) all (comes_next cur w (may used).form (may used).fit.fields.count (omega arith)));
+        }
+
+    looks_used : (q : Op) → op ≡ q → inode.kind ≢ 0 → copy_at tab.places k ≡ Some inode → (u : TaskState) → u.op ≡ Some op → u.gathered ≡ (task s.tasks p).gathered → LooksAt cur tab u (place_of_look extent inode k q)
     looks_used (Create kind) same used copy u has gathered = answered u has
-    looks_used (Write i off bytes) same used copy u has gathered = answered u has
+    looks_used (Write i off bytes) same used copy u has gathered = writes i off bytes same used u has (ltb inode.size off) refl (ltb 274432 (off + length bytes)) refl
     looks_used (Read i off n) same used copy u has gathered = reads (Read i off n) same off n i refl (first_read inode off n) refl used copy u has gathered
     looks_used (Trunc i) same used copy u has gathered = truncates false i same (sym (ap asked same)) used u has
     looks_used (Remove i) same used copy u has gathered = truncates true i same (sym (ap asked same)) used u has
     looks_used (Stat i) same used copy u has gathered = answered u has
 
     pub looks_at_turn : (used : Bool) → (used ≡ true → inode.kind ≢ 0) → (used ≡ true → copy_at tab.places k ≡ Some inode) → (u : TaskState) → u.op ≡ Some op → u.gathered ≡ (task s.tasks p).gathered
-        → LooksAt cur tab u (place_when_taken s.table.inode_count (if_used used inode) k op)
+        → LooksAt cur tab u (place_when_taken extent (if_used used inode) k op)
     looks_at_turn true is_used copy u has gathered = looks_used op refl (is_used refl) (copy refl) u has gathered
     looks_at_turn false is_used copy u has gathered = answered u has

@@ -1,6 +1,7 @@
 // The steps of operations that take an inode.
 ghost use Rattle.std.specs.Prelude.{◌≡◌, ◌<◌, ◌≤◌, length, Some, None, if◌then◌else◌};
 ghost use Rattle.model.specs.declared.types.operations.Op.{Op};
+ghost use Rattle.model.specs.Operations.{transfer_limit};
 ghost use Rattle.inodes.specs.Looks.{CanLook, HasRoom};
 ghost use Rattle.inodes.specs.Places.{asked};
 ghost use Rattle.inodes.specs.Growing.{bytes_of};
@@ -18,7 +19,7 @@ use model::gathered::Gathered;
 use model::types::{Dinode, Op, Reply, TaskProgress};
 
 // The bytes that a file has at most.
-const GREATEST_SIZE: u64 = 274_432;
+const GREATEST_SIZE: usize = 274_432;
 
 impl<D: Disk> Store<D> {
     /// Begins the task of an operation that looks at a file, and opens nothing in the log. A reading
@@ -196,6 +197,7 @@ fn asked(op: &Op) -> u32
 // The reply at the turn of an operation that has taken its inode, or found it free; None where it
 // comes later.
 fn reply_when_taken(inode: &Option<Dinode>, op: &Op) -> Option<Reply>
+    requires { length (bytes_of op.now) ≤ transfer_limit }
     ensures { result ≡ reply_when_taken inode.now op.now }
 {
     let Some(inode) = inode else {
@@ -212,12 +214,13 @@ fn reply_when_taken(inode: &Option<Dinode>, op: &Op) -> Option<Reply>
 // The refusal of a write of that many bytes that begins behind the file's end, or that no file has
 // room for.
 fn write_refusal(inode: &Dinode, offset: u32, count: usize) -> Option<Reply>
+    requires { count ≤ transfer_limit }
     ensures { result ≡ write_refusal inode.now offset count }
 {
     if offset > inode.size {
         return Some(Reply::BadOffset);
     }
-    if u64::from(offset) + count as u64 > GREATEST_SIZE {
+    if offset as usize + count > GREATEST_SIZE {
         return Some(Reply::TooBig);
     }
     None
@@ -248,6 +251,7 @@ fn extent_of(inode_count: u32, size: u32) -> Extent
 // blocks there.
 fn place_when_taken(inode: &Option<Dinode>, place: usize, op: &Op, extent: Extent) -> Place
     requires inode { IsReadable inode.now }
+    requires few { length (bytes_of op.now) ≤ transfer_limit }
     ensures { result ≡ place_when_taken extent inode.now place op.now }
 {
     let Some(inode) = inode else {
@@ -281,6 +285,7 @@ fn place_of_write(
     extent: Extent,
 ) -> Place
     requires addrs { length inode.now.addrs ≡ 13 }
+    requires few { count ≤ transfer_limit }
     ensures { result ≡ place_of_write place number inode.now offset count extent }
 {
     if write_refusal(inode, offset, count).is_some() {

@@ -28,6 +28,14 @@ use Rattle.inodes.specs.Readi.{ReadState, reads_left}
 use Rattle.inodes.specs.Store.{CanBegin, first_place}
 use Rattle.inodes.specs.Table.{TableState, copy_at}
 use Rattle.inodes.specs.Tasks.{TaskState, task}
+use Rattle.blockmap.specs.declared.balloc.AllocAt.{AllocAt}
+use Rattle.blockmap.specs.declared.bmap_alloc.MapAt.{MapAt}
+use Rattle.inodes.specs.Writei.{WriteState}
+use Rattle.inodes.specs.Writing.{alloc_left, way_left, writes_left_at}
+use Rattle.inodes.specs.declared.writei.WriteAt.{WriteAt}
+use Rattle.blockmap.specs.declared.balloc.AllocAt.TheVariants as alloc_at
+use Rattle.blockmap.specs.declared.bmap_alloc.MapAt.TheVariants as map_at
+use Rattle.inodes.specs.declared.writei.WriteAt.TheVariants as write_at
 
 few_looks : (o : Option ℕ) → looks_left o ≤ 2
 few_looks None = omega arith
@@ -78,6 +86,24 @@ few_frees cur m (trunc_at.Releasing i) given = omega arith
 few_frees cur m (trunc_at.Indirect f) given = let most = few_uses f.slot in omega (arith, most)
 few_frees cur m (trunc_at.Writing u) given = let most = few_uses u.slot in omega (arith, most)
 
+few_allocs : (a : AllocAt) → alloc_left a ≤ 4
+few_allocs (alloc_at.Looking slot) = let most = few_uses slot in omega (arith, most)
+few_allocs (alloc_at.Zeroing b slot) = let most = few_uses slot in omega (arith, most)
+
+pub few_on_way : (a : MapAt) → way_left a ≤ 11
+few_on_way (map_at.Direct t) = let most = few_allocs t.at in omega (arith, most)
+few_on_way (map_at.Indirect t) = let most = few_allocs t.at in omega (arith, most)
+few_on_way (map_at.Entry slot) = let most = few_uses slot in omega (arith, most)
+few_on_way (map_at.Behind i t) = let most = few_allocs t.at in omega (arith, most)
+few_on_way (map_at.Setting i found) = omega arith
+
+-- who writes a file's bytes has so few steps left: thirteen for each of four blocks, and two for the
+-- inode
+pub few_writes : (m : WriteState) (a : WriteAt) → m.count ≤ 3072 → writes_left_at m a ≤ 54
+few_writes m (write_at.Mapping way) few = let most = few_on_way way.at in omega (arith, most, few)
+few_writes m (write_at.Block b slot) few = let most = few_uses slot in omega (arith, most, few)
+few_writes m (write_at.Updating u) few = let most = few_uses u.slot in omega (arith, most)
+
 -- there are 64 inode blocks at most, each of which takes two steps
 pub few_steps : (cur : Image) (table : TableState) (t : TaskState) (a : Place) →
     table.inode_count ≤ 1024 → LooksAt cur table t a → steps_left a table.inode_count < 1937
@@ -93,6 +119,11 @@ few_steps cur table t (place.Delivering k) few looks = omega arith
 few_steps cur table t (place.Truncating k m) few looks =
     let most = few_frees cur m m.at looks.given in
     omega (arith, most)
+few_steps cur table t (place.Writing k m) few looks =
+    let all = looks.all in
+    let bytes = looks.few in
+    let most = few_writes m m.at (omega (arith, all, bytes)) in
+    omega (arith, most)
 few_steps cur table t (place.Leaving k) few looks = omega arith
 
 -- a task that is not over has a step left at least
@@ -103,6 +134,7 @@ some_step (place.Taking m) n unfinished = omega arith
 some_step (place.Reading k m) n unfinished = omega arith
 some_step (place.Delivering k) n unfinished = omega arith
 some_step (place.Truncating k m) n unfinished = omega arith
+some_step (place.Writing k m) n unfinished = omega arith
 some_step (place.Leaving k) n unfinished = omega arith
 
 -- a changing operation's task that begins
@@ -111,7 +143,7 @@ pub few_at_first : (x : Image) (op : Op) (n : ℕ) → IsLawfulGeometry x → n 
 few_at_first x (Create kind) n geometry numbers can =
     let few = (facts_of x geometry).few in
     omega (arith, few, numbers)
-few_at_first x (Write i off bytes) n geometry numbers can = absurd can
+few_at_first x (Write i off bytes) n geometry numbers can = omega arith
 few_at_first x (Read i off count) n geometry numbers can = absurd can
 few_at_first x (Trunc i) n geometry numbers can = omega arith
 few_at_first x (Remove i) n geometry numbers can = omega arith

@@ -1,14 +1,17 @@
 -- What tasks hold of numbers: the claims of all of them, by the claim of each.
-use Rattle.std.proofs.Common.{◌≡◌, ◌≢◌, ℕ, zero, suc, ◌<◌, Bool, true, false, cond, eqb, List, [], ◌∷◌, length, set, refl, ◌∙◌, ap, arith, Option, Some, None}
+use Rattle.std.proofs.Common.{◌≡◌, ◌≢◌, ℕ, zero, suc, ◌<◌, Bool, true, false, cond, eqb, List, [], ◌∷◌, length, set, refl, ◌∙◌, ap, arith, Option, Some, None, inl, inr, ◌⊎◌}
 use Rattle.std.proofs.lemmas.Bool.{eqb-true, eq-eqb}
 use Rattle.std.proofs.lemmas.List.{get_or-set_same, get_or-set_other}
-use Rattle.loose.specs.Held.{IsClaimedNow, Claim, frees}
+use Rattle.loose.specs.Held.{IsClaimedNow, Claim, frees, grows}
 use Rattle.inodes.specs.declared.tasks.Place.{Place}
 use Rattle.inodes.specs.declared.tasks.Place.TheVariants as place
-use Rattle.inodes.specs.Holding.{claim_by, claims_of, held_of}
+use Rattle.inodes.specs.Holding.{claim_by, claims_of, held_of, claim_of}
 use Rattle.inodes.specs.Itrunc.{TruncState}
 use Rattle.inodes.specs.Table.{or_else}
 use Rattle.inodes.specs.Tasks.{TaskState, task, no_task}
+use Rattle.model.specs.declared.types.operations.Op.{Op}
+use Rattle.inodes.specs.Writei.{WriteState}
+use Rattle.inodes.specs.Growing.{growth_of, bytes_by}
 
 -- the task of process p alone may hold number i
 abbrev pub HoldsAlone : List TaskState → ℕ → ℕ → Type 0
@@ -16,77 +19,45 @@ HoldsAlone ts p i = (q : ℕ) → q ≢ p → claim_of (task ts q) i ≡ None
 
 -- ---- what one task holds
 
--- who holds a number frees the blocks of its file
-pub record IsHolding (a : Place) (i : ℕ) (c : Claim) : Type 0 where
-  pub entry : ℕ
-  pub trunc : TruncState
-  pub at : a ≡ place.Truncating entry trunc
-  pub number : trunc.number ≡ i
-  pub holds : frees (held_of trunc) ≡ c
+-- a task that stands there frees the blocks of number i's file, or writes into it, with its inode at
+-- that entry of the table
+abbrev pub IsHolding : Place → ℕ → ℕ → Type 0
+IsHolding a entry i =
+    ((m : TruncState) × (a ≡ place.Truncating entry m) × (m.number ≡ i))
+    ⊎ ((m : WriteState) × (a ≡ place.Writing entry m) × (m.number ≡ i))
 
-pub holding_is : (a : Place) (i : ℕ) (h : Claim) → claim_by a i ≡ Some h → IsHolding a i h
-holding_is place.Nowhere i h claimed = absurd (cc claimed)
-holding_is (place.Creating m) i h claimed = absurd (cc claimed)
-holding_is (place.Taking m) i h claimed = absurd (cc claimed)
-holding_is (place.Reading k m) i h claimed = absurd (cc claimed)
-holding_is (place.Delivering k) i h claimed = absurd (cc claimed)
-holding_is (place.Truncating k m) i h claimed = by_number (eqb m.number i) refl claimed
+-- so does who holds a number
+claims_own : (n i : ℕ) (own : Claim) (h : Claim) → cond (eqb n i) (Some own) None ≡ Some h → n ≡ i
+claims_own n i own h claimed = by_number (eqb n i) refl claimed
   where
-    by_number : (same : Bool) → eqb m.number i ≡ same → cond same (Some (frees (held_of m))) None ≡ Some h →
-        IsHolding (place.Truncating k m) i h
-    by_number true same claimed = record {
-      entry = k;
-      trunc = m;
-      at = refl;
-      number = eqb-true m.number i same;
-      holds = let is : frees (held_of m) ≡ h = cc claimed in is;
-    }
+    by_number : (same : Bool) → eqb n i ≡ same → cond same (Some own) None ≡ Some h → n ≡ i
+    by_number true same claimed = eqb-true n i same
     by_number false other claimed = absurd (cc claimed)
-holding_is (place.Leaving k) i h claimed = absurd (cc claimed)
+
+pub holding_is : (op : Option Op) (a : Place) (i : ℕ) (h : Claim) → claim_by op a i ≡ Some h →
+    (entry : ℕ) × IsHolding a entry i
+holding_is op place.Nowhere i h claimed = absurd (cc claimed)
+holding_is op (place.Creating m) i h claimed = absurd (cc claimed)
+holding_is op (place.Taking m) i h claimed = absurd (cc claimed)
+holding_is op (place.Reading k m) i h claimed = absurd (cc claimed)
+holding_is op (place.Delivering k) i h claimed = absurd (cc claimed)
+holding_is op (place.Truncating k m) i h claimed =
+    (k, inl (m, refl, claims_own m.number i (frees (held_of m)) h claimed))
+holding_is op (place.Writing k m) i h claimed =
+    (k, inr (m, refl, claims_own m.number i (grows (growth_of m (bytes_by op))) h claimed))
+holding_is op (place.Leaving k) i h claimed = absurd (cc claimed)
 
 -- the freeing of a file's blocks holds its number
 pub own_holds : (k : ℕ) (m : TruncState) →
-    claim_by (place.Truncating k m) m.number ≡ Some (frees (held_of m))
+    claim_by None (place.Truncating k m) m.number ≡ Some (frees (held_of m))
 own_holds k m = rw (eq-eqb m.number m.number refl) refl
 
+-- and so does the writing of its bytes
+pub own_grows : (op : Option Op) (k : ℕ) (m : WriteState) →
+    claim_by op (place.Writing k m) m.number ≡ Some (grows (growth_of m (bytes_by op)))
+own_grows op k m = rw (eq-eqb m.number m.number refl) refl
+
 -- ---- what all of them hold
-
--- what is held of a number, a task holds that frees the blocks of its file
-pub record IsHolder (ts : List TaskState) (i : ℕ) (c : Claim) : Type 0 where
-  pub process : ℕ
-  pub entry : ℕ
-  pub trunc : TruncState
-  pub at : (task ts process).place ≡ place.Truncating entry trunc
-  pub number : trunc.number ≡ i
-  pub holds : frees (held_of trunc) ≡ c
-
-first_or_later : (t : TaskState) (ts : List TaskState) (i : ℕ) (h : Claim) (o : Option Claim) →
-    claim_of t i ≡ o → (claims_of ts i ≡ Some h → IsHolder ts i h) →
-    or_else o (claims_of ts i) ≡ Some h → IsHolder (t ∷ ts) i h
-first_or_later t ts i h None none later claimed =
-    let is = later claimed in record {
-      process = suc is.process;
-      entry = is.entry;
-      trunc = is.trunc;
-      at = is.at;
-      number = is.number;
-      holds = is.holds;
-    }
-first_or_later t ts i h (Some held) has later claimed =
-    let is = holding_is t.place i h (has ∙ claimed) in record {
-      process = 0;
-      entry = is.entry;
-      trunc = is.trunc;
-      at = is.at;
-      number = is.number;
-      holds = is.holds;
-    }
-
-pub holder_of : (ts : List TaskState) (i : ℕ) (h : Claim) → claims_of ts i ≡ Some h →
-    IsHolder ts i h
-holder_of [] i h claimed = absurd (cc claimed)
-holder_of (t ∷ ts) i h claimed =
-    first_or_later t ts i h (claim_of t i) refl (λ later. holder_of ts i h later) claimed
 
 -- where no task holds it, nothing is held of it
 pub none_held : (ts : List TaskState) (i : ℕ) →

@@ -1,6 +1,6 @@
 -- The number that a look at an inode block finds; and what is true of the readings of files that
 -- are under way.
-use Rattle.std.proofs.Common.{◌≡◌, ◌≢◌, ℕ, zero, suc, ◌+◌, ◌-◌, ◌*◌, ◌<◌, ◌≤◌, Bool, true, false, cond, eqb, List, Option, Some, None, length, refl, sym, ◌∙◌, ap, subst, ⊎_elim, arith}
+use Rattle.std.proofs.Common.{◌≡◌, ◌≢◌, ℕ, zero, suc, ◌+◌, ◌-◌, ◌*◌, ◌<◌, ◌≤◌, Bool, true, false, cond, eqb, List, Option, Some, None, length, refl, sym, ◌∙◌, ap, subst, ⊎_elim, arith, inl, inr}
 use Rattle.std.specs.List.{range_with_len, find}
 use Rattle.std.specs.Prelude.{IsTrue, drop, [], ◌∷◌}
 use Rattle.std.proofs.lemmas.Bool.{eqb-true, cases_eq, both_ways}
@@ -17,13 +17,16 @@ use Rattle.inodes.specs.Creation.{is_free_in, lowest_free}
 use Rattle.inodes.specs.declared.tasks.Place.{Place}
 use Rattle.inodes.specs.declared.tasks.Place.TheVariants as place
 use Rattle.inodes.specs.Grips.{grip, locked_grip}
-use Rattle.inodes.specs.Looks.{AreLooking, LooksAt, HasAllRead, HoldsInode, IsRead}
+use Rattle.inodes.specs.Looks.{AreLooking, LooksAt, HasAllRead, HoldsInode, IsRead, IsLate, IsWrite}
 use Rattle.inodes.specs.Holding.{IsTruncating, trunc_op}
 use Rattle.inodes.specs.Itrunc.{TruncState}
 use Rattle.inodes.specs.Places.{asked, asked_by, grip_by, grip_of, grips_of, is_over, is_reading, is_unturned}
 use Rattle.inodes.specs.Table.{TableState, copy_at}
 use Rattle.inodes.specs.Tasks.{TaskState, task}
 use Rattle.inodes.specs.Lemmas.Grips.{locks_exclude}
+use Rattle.inodes.specs.Writei.{WriteState}
+use Rattle.inodes.specs.Writing.{IsWriting}
+use Rattle.model.specs.declared.types.operations.Op.{Op}
 
 -- the number that is found passes, and lies in the range
 abbrev IsIn : (ℕ → Bool) → ℕ → ℕ → ℕ → Type 0
@@ -102,15 +105,15 @@ taken_by_look x n block j o found passed number place free =
     (omega (arith, place)) (omega (arith, place)) in
     both_ways (is_free_in bytes n j) fails passes
 
--- ---- readings that had their turn, and whose reply is to come
+-- ---- tasks that had their turn, and whose reply is to come
 
 -- a process has of the table what its task has
-grip_of_task : (ts : List TaskState) (p : ℕ) → grip (grips_of ts) p ≡ grip_of (task ts p)
+pub grip_of_task : (ts : List TaskState) (p : ℕ) → grip (grips_of ts) p ≡ grip_of (task ts p)
 grip_of_task [] p = refl
 grip_of_task (t ∷ ts) zero = refl
 grip_of_task (t ∷ ts) (suc p) = grip_of_task ts p
 
--- a reading has locked the inode that it asks for
+-- a task whose reply is to come has locked the inode that it asks for
 locks_own : (a : Place) (i : ℕ) → is_reading a ≡ true →
     (k : ℕ) × (grip_by a i ≡ Some (locked_grip k i))
 locks_own place.Nowhere i unlike = absurd (cc unlike)
@@ -119,6 +122,7 @@ locks_own (place.Taking m) i unlike = absurd (cc unlike)
 locks_own (place.Reading k m) i is = (k, refl)
 locks_own (place.Delivering k) i is = (k, refl)
 locks_own (place.Truncating k m) i unlike = absurd (cc unlike)
+locks_own (place.Writing k m) i is = (k, refl)
 locks_own (place.Leaving k) i unlike = absurd (cc unlike)
 
 -- the operation that frees a file's blocks asks for its number
@@ -130,26 +134,37 @@ asked_to_free m = by_end m.removes
     by_end false = refl
 
 module _ (cur : Image) (t : TableState) (ts : List TaskState) (are : AreLooking cur t ts) where
-  -- its operation is a reading
-  pub reading_is : (p : ℕ) → is_reading (task ts p).place ≡ true → IsRead t.inode_count (task ts p)
-  reading_is p is = by_place (task ts p).place (are.stand p) is
+  -- its operation is a reading or a write
+  pub late_is : (p : ℕ) → is_reading (task ts p).place ≡ true → IsLate t.inode_count (task ts p)
+  late_is p is = by_place (task ts p).place (are.stand p) is
     where
       by_place : (a : Place) → LooksAt cur t (task ts p) a → is_reading a ≡ true →
-          IsRead t.inode_count (task ts p)
+          IsLate t.inode_count (task ts p)
       by_place place.Nowhere stands unlike = absurd (cc unlike)
       by_place (place.Creating m) stands unlike = absurd (cc unlike)
       by_place (place.Taking m) stands unlike = absurd (cc unlike)
-      by_place (place.Reading k m) stands is = stands.op
-      by_place (place.Delivering k) stands is = stands.op
+      by_place (place.Reading k m) stands is = inl stands.op
+      by_place (place.Delivering k) stands is = inl stands.op
       by_place (place.Truncating k m) stands unlike = absurd (cc unlike)
+      by_place (place.Writing k m) stands is = inr (record {
+        number = m.number;
+        offset = m.offset;
+        bytes = stands.bytes;
+        is = stands.op;
+        may = (stands.number, stands.few);
+      })
       by_place (place.Leaving k) stands unlike = absurd (cc unlike)
 
   -- of a number that operations may name
   pub reading_number : (p : ℕ) → is_reading (task ts p).place ≡ true →
       IsTrue (is_number t.inode_count (asked_by (task ts p).op))
   reading_number p is =
-      let op = reading_is p is in
-      subst (λ (i : ℕ). IsTrue (is_number t.inode_count i)) (sym (ap asked_by op.is)) op.may.0
+      ⊎_elim
+      (λ (read : IsRead t.inode_count (task ts p)).
+      subst (λ (i : ℕ). IsTrue (is_number t.inode_count i)) (sym (ap asked_by read.is)) read.may.0)
+      (λ (write : IsWrite t.inode_count (task ts p)).
+      subst (λ (i : ℕ). IsTrue (is_number t.inode_count i)) (sym (ap asked_by write.is)) write.may.0)
+      (late_is p is)
 
   -- the place of its locked inode in the table
   pub reading_locks : (p : ℕ) → is_reading (task ts p).place ≡ true →
@@ -163,29 +178,6 @@ module _ (cur : Image) (t : TableState) (ts : List TaskState) (are : AreLooking 
       copy_at t.places k ≡ Some d → (inode_of cur i ≡ d) × (d.kind ≢ 0)
   copy_is p i k d has copy =
       are.table.copies i k d (are.table.places p (locked_grip k i) has).1 copy
-
-  -- of a used inode
-  pub reading_used : (p : ℕ) → is_reading (task ts p).place ≡ true →
-      (inode_of cur (asked_by (task ts p).op)).kind ≢ 0
-  reading_used p is = by_place (task ts p).place (are.stand p) (grip_of_task ts p) is
-    where
-      used : (k : ℕ) (d : Dinode) →
-          grip (grips_of ts) p ≡ Some (locked_grip k (asked_by (task ts p).op)) →
-          copy_at t.places k ≡ Some d → (inode_of cur (asked_by (task ts p).op)).kind ≢ 0
-      used k d has copy free =
-          let its = copy_is p (asked_by (task ts p).op) k d has copy in
-          its.1 (ap (λ (c : Dinode). c.kind) (sym its.0) ∙ free)
-
-      by_place : (a : Place) → LooksAt cur t (task ts p) a →
-          grip (grips_of ts) p ≡ grip_by a (asked_by (task ts p).op) → is_reading a ≡ true →
-          (inode_of cur (asked_by (task ts p).op)).kind ≢ 0
-      by_place place.Nowhere stands has unlike = absurd (cc unlike)
-      by_place (place.Creating m) stands has unlike = absurd (cc unlike)
-      by_place (place.Taking m) stands has unlike = absurd (cc unlike)
-      by_place (place.Reading k m) stands has is = used k m.inode has stands.copy
-      by_place (place.Delivering k) stands has is = used k stands.dinode has stands.copy
-      by_place (place.Truncating k m) stands has unlike = absurd (cc unlike)
-      by_place (place.Leaving k) stands has unlike = absurd (cc unlike)
 
   -- no two of one number
   pub readings_apart : (p q : ℕ) → is_reading (task ts p).place ≡ true →
@@ -232,6 +224,7 @@ module _ (cur : Image) (t : TableState) (ts : List TaskState) (are : AreLooking 
       by_place (place.Reading k m) has on turned = held k has
       by_place (place.Delivering k) has on turned = held k has
       by_place (place.Truncating k m) has on turned = held k has
+      by_place (place.Writing k m) has on turned = held k has
       by_place (place.Leaving k) has on turned = held k has
 
   -- ---- the freeing of a file's blocks
@@ -256,3 +249,15 @@ module _ (cur : Image) (t : TableState) (ts : List TaskState) (are : AreLooking 
   trunc_locks p k m at =
       ap (λ (a : Place). grip_by a (asked_by (task ts p).op)) at
       ∙ ap (λ (i : ℕ). Some (locked_grip k i)) (trunc_number p k m at)
+
+  -- ---- the writing of a file's bytes
+
+  pub writing_is : (p k : ℕ) (m : WriteState) → (task ts p).place ≡ place.Writing k m →
+      IsWriting cur t.inode_count (task ts p) m
+  writing_is p k m at = subst (λ (a : Place). LooksAt cur t (task ts p) a) at (are.stand p)
+
+  pub write_locks : (p k : ℕ) (m : WriteState) → (task ts p).place ≡ place.Writing k m →
+      grip_of (task ts p) ≡ Some (locked_grip k m.number)
+  write_locks p k m at =
+      ap (λ (a : Place). grip_by a (asked_by (task ts p).op)) at
+      ∙ ap (λ (o : Option Op). Some (locked_grip k (asked_by o))) (writing_is p k m at).op

@@ -1,5 +1,5 @@
 -- How the steps of any task end.
-use Rattle.std.proofs.Common.{◌≡◌, ◌⊎◌, ⊎_elim, inl, inr, ℕ, Bool, true, false, List, refl, sym, ◌∙◌, ap, subst, Option, Some, None}
+use Rattle.std.proofs.Common.{◌≡◌, ◌⊎◌, ⊎_elim, inl, inr, ℕ, Bool, true, false, List, refl, sym, ◌∙◌, ap, subst, Option, Some, None, length}
 use Rattle.std.specs.Prelude.{IsSome, slice_index}
 use Rattle.std.proofs.lemmas.Bool.{false≢true}
 use Rattle.blocks.specs.declared.disk.Disk.{Ghosts}
@@ -8,7 +8,7 @@ use Rattle.model.specs.declared.types.image.Dinode.{Dinode}
 use Rattle.model.specs.declared.types.operations.Op.{Op}
 use Rattle.model.specs.declared.types.operations.Op.TheVariants.{Create, Write, Read, Trunc, Remove, Stat}
 use Rattle.model.specs.declared.types.operations.Reply.{Reply}
-use Rattle.model.specs.declared.types.operations.Reply.TheVariants.{Bytes}
+use Rattle.model.specs.declared.types.operations.Reply.TheVariants.{Bytes, Wrote}
 use Rattle.model.specs.declared.types.operations.TaskProgress.{TaskProgress}
 use Rattle.model.specs.declared.types.operations.TaskProgress.TheVariants as progress
 use Rattle.model.specs.Layout.{inode_of, inode_block}
@@ -17,7 +17,7 @@ use Rattle.wal.specs.Volume.{VolumeState}
 use Rattle.wal.specs.declared.types.Get.{Get}
 use Rattle.wal.specs.declared.types.Get.TheVariants as get
 use Rattle.blockmap.specs.Bfree.{FreeState, Frees}
-use Rattle.blockmap.specs.Bmap.{EntryState, LooksUp}
+use Rattle.blockmap.specs.Bmap.{EntryState, LooksUp, some_address}
 use Rattle.blockmap.specs.Getting.{GetsFor}
 use Rattle.blockmap.specs.Target.{block_of, progress_behind}
 use Rattle.blockmap.specs.declared.progress.Progress.{Progress}
@@ -28,7 +28,7 @@ use Rattle.inodes.specs.declared.ilock.LockAt.{LockAt}
 use Rattle.inodes.specs.declared.ilock.LockAt.TheVariants as lock_at
 use Rattle.inodes.specs.declared.tasks.Place.{Place}
 use Rattle.inodes.specs.declared.tasks.Place.TheVariants as place
-use Rattle.inodes.specs.Goes.{Goes, GoesFrom, Shown, shown_of, progress_of_lock, place_of_lock, progress_of_read, place_of_reading, progress_of_trunc, place_of_trunc}
+use Rattle.inodes.specs.Goes.{Goes, GoesFrom, Shown, shown_of, progress_of_lock, place_of_lock, progress_of_read, place_of_reading, progress_of_trunc, place_of_trunc, progress_of_write, place_of_writing}
 use Rattle.inodes.specs.Ilock.{LockSteps, Locks}
 use Rattle.inodes.specs.declared.itrunc.TruncAt.{TruncAt}
 use Rattle.inodes.specs.declared.itrunc.TruncAt.TheVariants as trunc_at
@@ -41,8 +41,22 @@ use Rattle.inodes.specs.Readi.{ReadState, Works}
 use Rattle.inodes.specs.Store.{StoreState, CanBegin, Stands, current_of}
 use Rattle.inodes.specs.Table.{TableState, holder_at, copy_at}
 use Rattle.inodes.specs.Tasks.{task}
-use Rattle.inodes.specs.Turning.{if_used, reply_when_taken, place_when_taken, place_of_read}
+use Rattle.inodes.specs.Turning.{write_refusal, if_used, reply_when_taken, place_when_taken, place_of_read, place_by_refusal}
 use Rattle.inodes.specs.Readi.{first_read}
+use Rattle.blockmap.specs.BmapAlloc.{after_direct, after_indirect, FindsEntry, entry_for, behind_at}
+use Rattle.inodes.specs.declared.writei.Extent.{Extent}
+use Rattle.inodes.specs.Writing.{extent_of, block_on_way, block_of_write, block_of_alloc}
+use Rattle.blockmap.specs.declared.balloc.AllocAt.{AllocAt}
+use Rattle.blockmap.specs.BmapAlloc.{MapState, after_behind, MapSteps, TakesOne, direct_at, naming, indirect_at, indirect_of}
+use Rattle.blockmap.specs.declared.bmap_alloc.MapAt.{MapAt}
+use Rattle.inodes.specs.declared.writei.WriteAt.{WriteAt}
+use Rattle.blockmap.specs.Balloc.{AllocState, Allocs, TakesLowest, lowest_in}
+use Rattle.inodes.specs.Writei.{WriteState, WriteSteps, first_write, progress_mapped}
+use Rattle.inodes.specs.Growing.{bytes_of}
+use Rattle.blockmap.specs.declared.bmap_alloc.MapAt.TheVariants as map_at
+use Rattle.inodes.specs.declared.writei.WriteAt.TheVariants as write_at
+use Rattle.blockmap.specs.declared.balloc.AllocAt.TheVariants as alloc_at
+use Rattle.wal.specs.Joint.{seen}
 
 -- the task goes on, and has had its turn or not as before
 pub record GoesOn (a next : Place) : Type 0 where
@@ -56,21 +70,33 @@ pub record GoesOnTurned (next : Place) : Type 0 where
   pub turned : is_unturned next ≡ false
   pub unread : is_reading next ≡ false
 
+-- the operation is a reading, or a write
+abbrev pub IsReadOp : Op → Type 0
+IsReadOp op = (i : ℕ) × (off : ℕ) × (count : ℕ) × (op ≡ Read i off count)
+
+abbrev pub IsWriteOp : Op → Type 0
+IsWriteOp op = (i : ℕ) × (off : ℕ) × (bytes : List ℕ) × (op ≡ Write i off bytes)
+
 -- With its turn a creation is over; an operation that takes an inode has its reply and goes on, or
--- it is a reading, whose reply comes later.
+-- it is a reading or a write, whose reply comes later.
 abbrev pub TurnEnds : ℕ → Op → Option Reply → Place → Type 0
 TurnEnds n op None next =
-    CanLook n op × ((i : ℕ) × (off : ℕ) × (count : ℕ) × (op ≡ Read i off count))
-    × (is_reading next ≡ true)
+    CanTake n op × (IsReadOp op ⊎ IsWriteOp op) × (is_reading next ≡ true)
 TurnEnds n op (Some reply) next =
     (CanBegin n op × (is_over next ≡ true)) ⊎ (CanTake n op × GoesOnTurned next)
+
+-- a reading is over with its bytes, and a write goes on with the count of those that it wrote
+abbrev pub DecisionEnds : Op → Reply → Place → Type 0
+DecisionEnds op reply next =
+    (IsReadOp op × (is_over next ≡ true) × ((bytes : List ℕ) × (reply ≡ Bytes bytes)))
+    ⊎ (IsWriteOp op × GoesOnTurned next × ((k : ℕ) × (reply ≡ Wrote k)))
 
 -- by what the step answers
 abbrev pub StepEnds : ℕ → Place → Op → TaskProgress → Place → Type 0
 StepEnds n a op progress.Moved next = GoesOn a next
 StepEnds n a op (progress.Turned reply) next = (is_unturned a ≡ true) × TurnEnds n op reply next
 StepEnds n a op (progress.Decided reply) next =
-    (is_reading a ≡ true) × (is_over next ≡ true) × ((bytes : List ℕ) × (reply ≡ Bytes bytes))
+    (is_reading a ≡ true) × DecisionEnds op reply next
 StepEnds n a op progress.Over next =
     (is_unturned a ≡ false) × (is_reading a ≡ false) × (is_over next ≡ true)
 StepEnds n a op (progress.Sleeping why) next = GoesOn a next
@@ -87,22 +113,28 @@ on_search a next one other more still apart =
     record { unfinished = more; unturned = still ∙ sym one; reading = apart ∙ sym other }
 
 -- an operation has taken its inode, or found it free
-takes_turn : (n : ℕ) (o : Option Dinode) (k : ℕ) (op : Op) → CanTake n op →
-    TurnEnds n op (reply_when_taken o op) (place_when_taken n o k op)
-takes_turn n None k op can = inr (can, record { unfinished = refl; turned = refl; unread = refl })
-takes_turn n (Some d) k (Create kind) can = absurd can
-takes_turn n (Some d) k (Write i off bytes) can = absurd can
-takes_turn n (Some d) k (Read i off count) can =
-    (can, (i, off, count, refl), by_bytes (first_read d off count))
+takes_turn : (n : ℕ) (e : Extent) (o : Option Dinode) (k : ℕ) (op : Op) → CanTake n op →
+    TurnEnds n op (reply_when_taken o op) (place_when_taken e o k op)
+takes_turn n e None k op can = inr (can, record { unfinished = refl; turned = refl; unread = refl })
+takes_turn n e (Some d) k (Create kind) can = absurd can
+takes_turn n e (Some d) k (Write i off bytes) can = by_refusal (write_refusal d off (length bytes))
+  where
+    by_refusal : (o : Option Reply) →
+        TurnEnds n (Write i off bytes) o (place_by_refusal k (first_write i d off (length bytes) e) o)
+    by_refusal None = (can, inr (i, off, bytes, refl), refl)
+    by_refusal (Some reply) =
+        inr (can, record { unfinished = refl; turned = refl; unread = refl })
+takes_turn n e (Some d) k (Read i off count) can =
+    (can, inl (i, off, count, refl), by_bytes (first_read d off count))
   where
     by_bytes : (o : Option ReadState) → is_reading (place_of_read k o) ≡ true
     by_bytes None = refl
     by_bytes (Some m) = refl
-takes_turn n (Some d) k (Trunc i) can =
+takes_turn n e (Some d) k (Trunc i) can =
     inr (can, record { unfinished = refl; turned = refl; unread = refl })
-takes_turn n (Some d) k (Remove i) can =
+takes_turn n e (Some d) k (Remove i) can =
     inr (can, record { unfinished = refl; turned = refl; unread = refl })
-takes_turn n (Some d) k (Stat i) can =
+takes_turn n e (Some d) k (Stat i) can =
     inr (can, record { unfinished = refl; turned = refl; unread = refl })
 
 module _ {D N : Type 0} (disk : Ghosts D N) (s : StoreState D) (p : ℕ) (op : Op) (r : TaskProgress) (t : StoreState D) where
@@ -153,12 +185,12 @@ module _ {D N : Type 0} (disk : Ghosts D N) (s : StoreState D) (p : ℕ) (op : O
       can : CanTake n op
       can = let is : looks.op ≡ op = (let both = sym looks.is ∙ same in cc both) in subst (CanTake n) is looks.can
 
-      by_answer : (x : Progress Bool) → r ≡ progress_of_lock d op x → next ≡ place_of_lock n d op m goes.0.now x →
+      by_answer : (x : Progress Bool) → r ≡ progress_of_lock d op x → next ≡ place_of_lock (extent_of n s.volume.log.size) d op m goes.0.now x →
           StepEnds n (place.Taking m) op r next
       by_answer machine.Moved is to = ends_with (place.Taking m) progress.Moved is (on_at (place.Taking m) _ next to (record { unfinished = refl; unturned = refl; reading = refl }))
       by_answer (machine.Sleeping why) is to = ends_with (place.Taking m) (progress.Sleeping why) is (on_at (place.Taking m) _ next to (record { unfinished = refl; unturned = refl; reading = refl }))
       by_answer (machine.Over used) is to = ends_with (place.Taking m) (progress.Turned (reply_when_taken (if_used used d) op)) is
-          (refl, subst (TurnEnds n op (reply_when_taken (if_used used d) op)) (sym to) (takes_turn n (if_used used d) (place_of goes.0.now.at) op can))
+          (refl, subst (TurnEnds n op (reply_when_taken (if_used used d) op)) (sym to) (takes_turn n (extent_of n s.volume.log.size) (if_used used d) (place_of goes.0.now.at) op can))
       by_answer (machine.Fault fault) is to = ends_with (place.Taking m) (progress.Fault fault) is (on_at (place.Taking m) _ next to (record { unfinished = refl; unturned = refl; reading = refl }))
   ends_of (place.Reading k m) same stands looks unfinished goes = by_answer goes.0.answer goes.0.gives goes.0.next
     where
@@ -169,7 +201,19 @@ module _ {D N : Type 0} (disk : Ghosts D N) (s : StoreState D) (p : ℕ) (op : O
       by_answer (machine.Over out) is to = ends_with (place.Reading k m) progress.Moved is (on_at (place.Reading k m) _ next to (record { unfinished = refl; unturned = refl; reading = refl }))
       by_answer (machine.Fault fault) is to = ends_with (place.Reading k m) (progress.Fault fault) is (on_at (place.Reading k m) _ next to (record { unfinished = refl; unturned = refl; reading = refl }))
   ends_of (place.Delivering k) same stands looks unfinished goes =
-      ends_with (place.Delivering k) (progress.Decided (Bytes goes.bytes.bytes)) goes.gives (refl, ap is_over goes.up.next, (goes.bytes.bytes, refl))
+      ends_with (place.Delivering k) (progress.Decided (Bytes goes.bytes.bytes)) goes.gives (
+        refl,
+        inl (
+          (
+            looks.op.number,
+            looks.op.offset,
+            looks.op.count,
+            let both : Some op ≡ Some (Read looks.op.number looks.op.offset looks.op.count) = sym same ∙ looks.op.is in cc both,
+          ),
+          ap is_over goes.up.next,
+          (goes.bytes.bytes, refl),
+        ),
+      )
   ends_of (place.Truncating k m) same stands looks unfinished goes = by_answer goes.answer goes.gives goes.next
     where
       by_answer : (x : Progress (Unit {0})) → r ≡ progress_of_trunc x → next ≡ place_of_trunc k m goes.now x →
@@ -178,6 +222,21 @@ module _ {D N : Type 0} (disk : Ghosts D N) (s : StoreState D) (p : ℕ) (op : O
       by_answer (machine.Sleeping why) is to = ends_with (place.Truncating k m) (progress.Sleeping why) is (on_at (place.Truncating k m) _ next to (record { unfinished = refl; unturned = refl; reading = refl }))
       by_answer (machine.Over out) is to = ends_with (place.Truncating k m) progress.Moved is (on_at (place.Truncating k m) _ next to (record { unfinished = refl; unturned = refl; reading = refl }))
       by_answer (machine.Fault fault) is to = ends_with (place.Truncating k m) (progress.Fault fault) is (on_at (place.Truncating k m) _ next to (record { unfinished = refl; unturned = refl; reading = refl }))
+  ends_of (place.Writing k m) same stands looks unfinished goes = by_answer goes.answer goes.gives goes.next
+    where
+      by_answer : (x : Progress (Unit {0})) → r ≡ progress_of_write m.done x → next ≡ place_of_writing k m goes.now x →
+          StepEnds n (place.Writing k m) op r next
+      by_answer machine.Moved is to = ends_with (place.Writing k m) progress.Moved is (on_at (place.Writing k m) _ next to (record { unfinished = refl; unturned = refl; reading = refl }))
+      by_answer (machine.Sleeping why) is to = ends_with (place.Writing k m) (progress.Sleeping why) is (on_at (place.Writing k m) _ next to (record { unfinished = refl; unturned = refl; reading = refl }))
+      by_answer (machine.Over out) is to = ends_with (place.Writing k m) (progress.Decided (Wrote m.done)) is (
+        refl,
+        inr (
+          (m.number, m.offset, looks.bytes, let both : Some op ≡ Some (Write m.number m.offset looks.bytes) = sym same ∙ looks.op in cc both),
+          subst GoesOnTurned (sym to) (record { unfinished = refl; turned = refl; unread = refl }),
+          (m.done, refl),
+        ),
+      )
+      by_answer (machine.Fault fault) is to = ends_with (place.Writing k m) (progress.Fault fault) is (on_at (place.Writing k m) _ next to (record { unfinished = refl; unturned = refl; reading = refl }))
   ends_of (place.Leaving k) same stands looks unfinished goes =
       ends_with (place.Leaving k) progress.Over goes.0 (refl, refl, ap is_over goes.1.next)
 
@@ -191,6 +250,7 @@ module _ {D N : Type 0} (disk : Ghosts D N) (s : StoreState D) (p : ℕ) (op : O
   logs_of (place.Delivering k) unfinished stands goes = inr (ap (λ (v : VolumeState D). v.log) goes.up.volume)
   logs_of (place.Truncating k m) unfinished stands goes =
       inl (⊎_elim (λ (none : used_by s.volume.log p ≡ Some 0). subst IsSome (sym none) refl) (λ one. subst IsSome (sym one.0) refl) stands.logged)
+  logs_of (place.Writing k m) unfinished stands goes = inl (subst IsSome (sym stands.logged.used) refl)
   logs_of (place.Leaving k) unfinished stands goes = inr (ap (λ (v : VolumeState D). v.log) goes.1.volume)
 
 -- the block at which a machine fails that gets it
@@ -253,6 +313,61 @@ module _ {D N : Type 0} (disk : Ghosts D N) (s : StoreState D) (p : ℕ) (op : O
   truncating_fails (trunc_at.Indirect f) m x truncs = frees_fails f m _ _ x truncs
   truncating_fails (trunc_at.Writing u) m x truncs = updates_fails u.slot u truncs.0 (last_inode_of m) truncs.1
 
+  -- a machine that takes a block
+  allocs_fail : (a : AllocAt) (t2 x : AllocState) → Allocs disk a s.volume p t2 (machine.Fault fault) x t.volume → fault.0 ≡ block_of_alloc t2 a
+  allocs_fail (alloc_at.Looking None) t2 x allocs = gets_fails disk s.volume p t2.bitmap fault allocs.0 t.volume allocs.2
+  allocs_fail (alloc_at.Looking (Some i)) t2 x allocs = by_lowest (lowest_in (seen (disk.image s.volume.device) s.volume.buffers) t2) allocs
+    where
+      by_lowest : (o : Option ℕ) → TakesLowest disk o s.volume p i t2 (machine.Fault fault) x t.volume → fault.0 ≡ t2.bitmap
+      by_lowest None takes = let no = takes.0 in absurd (cc no)
+      by_lowest (Some b) takes = let no = takes.0 in absurd (cc no)
+  allocs_fail (alloc_at.Zeroing b None) t2 x allocs = gets_fails disk s.volume p b fault allocs.0 t.volume allocs.2
+  allocs_fail (alloc_at.Zeroing b (Some i)) t2 x allocs = let no = allocs.0 in absurd (cc no)
+
+  takes_fail : (m n : MapState) (t2 : AllocState) (after : Progress (Option ℕ) → Progress (Option ℕ)) (a : Progress (Option ℕ) → AllocState → MapAt) (d : Progress (Option ℕ) → Dinode) (e : Dinode)
+      → ((q : Progress (Option ℕ)) → after q ≡ machine.Fault fault → q ≡ machine.Fault fault) → TakesOne disk s.volume p m t2 after a d (machine.Fault fault) n e t.volume → fault.0 ≡ block_of_alloc t2 t2.at
+  takes_fail m n t2 after a d e only takes =
+      allocs_fail t2.at t2 takes.now (subst (λ (q : Progress (Option ℕ)). Allocs disk t2.at s.volume p t2 q takes.now t.volume) (only takes.answer (sym takes.gives)) takes.allocs)
+
+  indirect_fails : (q : Progress (Option ℕ)) → after_indirect q ≡ machine.Fault fault → q ≡ machine.Fault fault
+  indirect_fails machine.Moved is = absurd (cc is)
+  indirect_fails (machine.Sleeping why) is = absurd (cc is)
+  indirect_fails (machine.Over None) is = absurd (cc is)
+  indirect_fails (machine.Over (Some b)) is = absurd (cc is)
+  indirect_fails (machine.Fault other) is = is
+
+  behind_fails : (q : Progress (Option ℕ)) → after_behind q ≡ machine.Fault fault → q ≡ machine.Fault fault
+  behind_fails machine.Moved is = absurd (cc is)
+  behind_fails (machine.Sleeping why) is = absurd (cc is)
+  behind_fails (machine.Over found) is = absurd (cc is)
+  behind_fails (machine.Fault other) is = is
+
+  -- a machine that leads to a block
+  way_fails : (a : MapAt) (m n : MapState) (d e : Dinode) → MapSteps disk a s.volume p m d (machine.Fault fault) n e t.volume → fault.0 ≡ block_on_way d a
+  way_fails (map_at.Direct t2) m n d e maps = takes_fail m n t2 after_direct direct_at (naming d m.k) e (λ q is. is) maps
+  way_fails (map_at.Indirect t2) m n d e maps = takes_fail m n t2 after_indirect indirect_at (naming d 12) e indirect_fails maps
+  way_fails (map_at.Entry None) m n d e maps = gets_fails disk s.volume p (indirect_of d) fault maps.0 t.volume maps.1
+  way_fails (map_at.Entry (Some i)) m n d e maps = by_entry (some_address (entry_for (seen (disk.image s.volume.device) s.volume.buffers) m d)) maps.0
+    where
+      by_entry : (o : Option ℕ) → FindsEntry disk o s.volume p i m (machine.Fault fault) n t.volume → fault.0 ≡ indirect_of d
+      by_entry None finds = let no = finds.0 in absurd (cc no)
+      by_entry (Some b) finds = let no = finds.0 in absurd (cc no)
+  way_fails (map_at.Behind i t2) m n d e maps = takes_fail m n t2 after_behind (behind_at i) (λ answer. d) e behind_fails maps
+  way_fails (map_at.Setting i found) m n d e maps = let no = maps.0 in absurd (cc no)
+
+  writing_fails : (a : WriteAt) (m x : WriteState) (bytes : List ℕ) → WriteSteps disk a s.volume p m bytes (machine.Fault fault) x t.volume → fault.0 ≡ block_of_write m a
+  writing_fails (write_at.Mapping way) m x bytes writes = by_answer writes.answer writes.gives writes.steps
+    where
+      by_answer : (q : Progress (Option ℕ)) → machine.Fault fault ≡ progress_mapped q → MapSteps disk way.at s.volume p way m.inode q writes.now writes.inode t.volume → fault.0 ≡ block_on_way m.inode way.at
+      by_answer machine.Moved is maps = absurd (cc is)
+      by_answer (machine.Sleeping why) is maps = absurd (cc is)
+      by_answer (machine.Over found) is maps = absurd (cc is)
+      by_answer (machine.Fault other) is maps = let same : fault ≡ other = cc is in
+          way_fails way.at way writes.now m.inode writes.inode (subst (λ (f : DiskFault). MapSteps disk way.at s.volume p way m.inode (machine.Fault f) writes.now writes.inode t.volume) (sym same) maps)
+  writing_fails (write_at.Block b None) m x bytes writes = gets_fails disk s.volume p b fault writes.0 t.volume writes.1
+  writing_fails (write_at.Block b (Some i)) m x bytes writes = let no = writes.0 in absurd (cc no)
+  writing_fails (write_at.Updating u) m x bytes writes = updates_fails u.slot u writes.0 m.inode writes.1
+
   -- the block at which a task's step fails is that which its place names
   pub fails_at : (a : Place) → Goes disk a s p op (progress.Fault fault) t → fault.0 ≡ block_at_place a
   fails_at place.Nowhere goes = let no = goes.0 in absurd (cc no)
@@ -286,4 +401,12 @@ module _ {D N : Type 0} (disk : Ghosts D N) (s : StoreState D) (p : ℕ) (op : O
       by_answer (machine.Over out) is truncs = absurd (cc is)
       by_answer (machine.Fault other) is truncs = let same : fault ≡ other = cc is in
           truncating_fails m.at m goes.now (subst (λ (f : DiskFault). TruncSteps disk m.at s.volume p m (machine.Fault f) goes.now t.volume) (sym same) truncs)
+  fails_at (place.Writing k m) goes = by_answer goes.answer goes.gives goes.writes
+    where
+      by_answer : (x : Progress (Unit {0})) → progress.Fault fault ≡ progress_of_write m.done x → WriteSteps disk m.at s.volume p m (bytes_of op) x goes.now t.volume → fault.0 ≡ block_of_write m m.at
+      by_answer machine.Moved is writes = absurd (cc is)
+      by_answer (machine.Sleeping why) is writes = absurd (cc is)
+      by_answer (machine.Over out) is writes = absurd (cc is)
+      by_answer (machine.Fault other) is writes = let same : fault ≡ other = cc is in
+          writing_fails m.at m goes.now (bytes_of op) (subst (λ (f : DiskFault). WriteSteps disk m.at s.volume p m (bytes_of op) (machine.Fault f) goes.now t.volume) (sym same) writes)
   fails_at (place.Leaving k) goes = let no = goes.0 in absurd (cc no)

@@ -17,6 +17,7 @@ use Rattle.inodes.proofs.Taking.{may_lock}
 use Rattle.inodes.proofs.Gripping.{same_task}
 use Rattle.inodes.proofs.TakingSteps.{store_taken, steps_taken, place_taken, inode_taken, readable_taken, count_taken, few_numbers}
 use Rattle.inodes.proofs.store.Store.take.Goals as goal
+use Rattle.inodes.specs.Writing.{extent_of}
 
 pub step-requires-clause-ready : goal.step-requires-clause-ready
 step-requires-clause-ready g c =
@@ -85,10 +86,10 @@ invariant_of-self-in-Over g c =
     let taken = inode_taken g.D.Disk s c.args.pid c.args.op.now c.args.lock c.self.invariant well lt stood is_op joint c.in-Over.is_used c.step.new.self c.step.new.volume c.step.new.table c.in-Over.ensures in
     let is : c.inode_at-inode.result ≡ if_used c.in-Over.is_used (inode_of (current_of g.D.Disk.image s.volume) c.args.lock.number)
     = c.inode_at-inode.ensures ∙ ap (λ (k : ℕ). cond c.in-Over.is_used (copy_at c.step.new.table.places k) None) c.place-place.ensures ∙ taken in
-    let there : c.place_when_taken.result ≡ place_when_taken s.table.inode_count (if_used c.in-Over.is_used (inode_of (current_of g.D.Disk.image s.volume) c.args.lock.number)) (place_of c.step.new.self.at) c.args.op.now
+    let there : c.place_when_taken.result ≡ place_when_taken (extent_of s.table.inode_count s.volume.log.size) (if_used c.in-Over.is_used (inode_of (current_of g.D.Disk.image s.volume) c.args.lock.number)) (place_of c.step.new.self.at) c.args.op.now
     = c.place_when_taken.ensures ∙ ap (λ (n : ℕ). place_when_taken n c.inode_at-inode.result c.place-place.result c.args.op.now) (c.inode_count-inode_count.ensures ∙ count_taken g.D.Disk s c.args.pid c.args.op.now c.args.lock c.self.invariant well lt stood is_op joint c.in-Over.is_used c.step.new.self c.step.new.volume c.step.new.table c.in-Over.ensures)
-    ∙ ap (λ (o : Option Dinode). place_when_taken s.table.inode_count o c.place-place.result c.args.op.now) is
-    ∙ ap (λ (k : ℕ). place_when_taken s.table.inode_count (if_used c.in-Over.is_used (inode_of (current_of g.D.Disk.image s.volume) c.args.lock.number)) k c.args.op.now) c.place-place.ensures in
+    ∙ ap (λ (o : Option Dinode). place_when_taken (extent_of s.table.inode_count s.volume.log.size) o c.place-place.result c.args.op.now) is
+    ∙ ap (λ (k : ℕ). place_when_taken (extent_of s.table.inode_count s.volume.log.size) (if_used c.in-Over.is_used (inode_of (current_of g.D.Disk.image s.volume) c.args.lock.number)) k c.args.op.now) c.place-place.ensures in
     store_taken g.D.Disk s c.args.pid c.args.op.now c.args.lock c.self.invariant well lt stood is_op joint (progress.Over c.in-Over.is_used) c.step.new.self c.step.new.volume c.step.new.table c.go-in-Over.new.self c.in-Over.ensures
     (c.go-in-Over.ensures ∙ ap (λ (a : Place). set s.tasks c.args.pid (record (task s.tasks c.args.pid) { place = a })) there)
 
@@ -130,10 +131,10 @@ returns-in-Over g c =
     let taken = inode_taken g.D.Disk s c.args.pid c.args.op.now c.args.lock c.self.invariant well lt stood is_op joint c.in-Over.is_used c.step.new.self c.step.new.volume c.step.new.table c.in-Over.ensures in
     let is : c.inode_at-inode.result ≡ if_used c.in-Over.is_used d
     = c.inode_at-inode.ensures ∙ ap (λ (k : ℕ). cond c.in-Over.is_used (copy_at c.step.new.table.places k) None) c.place-place.ensures ∙ taken in
-    let there : c.place_when_taken.result ≡ place_when_taken s.table.inode_count (if_used c.in-Over.is_used d) (place_of c.step.new.self.at) c.args.op.now
+    let there : c.place_when_taken.result ≡ place_when_taken (extent_of s.table.inode_count s.volume.log.size) (if_used c.in-Over.is_used d) (place_of c.step.new.self.at) c.args.op.now
     = c.place_when_taken.ensures ∙ ap (λ (n : ℕ). place_when_taken n c.inode_at-inode.result c.place-place.result c.args.op.now) (c.inode_count-inode_count.ensures ∙ count_taken g.D.Disk s c.args.pid c.args.op.now c.args.lock c.self.invariant well lt stood is_op joint c.in-Over.is_used c.step.new.self c.step.new.volume c.step.new.table c.in-Over.ensures)
-    ∙ ap (λ (o : Option Dinode). place_when_taken s.table.inode_count o c.place-place.result c.args.op.now) is
-    ∙ ap (λ (k : ℕ). place_when_taken s.table.inode_count (if_used c.in-Over.is_used d) k c.args.op.now) c.place-place.ensures in
+    ∙ ap (λ (o : Option Dinode). place_when_taken (extent_of s.table.inode_count s.volume.log.size) o c.place-place.result c.args.op.now) is
+    ∙ ap (λ (k : ℕ). place_when_taken (extent_of s.table.inode_count s.volume.log.size) (if_used c.in-Over.is_used d) k c.args.op.now) c.place-place.ensures in
     let says : c.reply_when_taken.result ≡ reply_when_taken (if_used c.in-Over.is_used d) c.args.op.now
     = c.reply_when_taken.ensures ∙ ap (λ (o : Option Dinode). reply_when_taken o c.args.op.now) is in
     record {
