@@ -17,10 +17,9 @@ use Rattle.inodes.specs.Store.{HoldsAt, HasLogged, IsOpenFor, Stands, Agrees}
 use Rattle.inodes.specs.LockState.{slot_of}
 use Rattle.blockmap.specs.Target.{block_of, slot_in}
 use Rattle.model.specs.Layout.{inode_block}
-use Rattle.blocks.specs.Disk.{counted}
 use Rattle.inodes.specs.Writei.{WriteState}
 use Rattle.blockmap.specs.BmapAlloc.{indirect_of}
-use Rattle.inodes.specs.Writing.{HasLoggedWrite, kept_by_write, at_hand, block_of_write, used_by_write}
+use Rattle.inodes.specs.Writing.{counted, HasLoggedWrite, kept_by_write, at_hand, block_of_write, used_by_write}
 
 -- what the others hold and have in the log stays, while process p works
 pub record StaysForOthers (c d : Buffers) (l m : LogState) (p : ℕ) : Type 0 where

@@ -27,5 +27,6 @@ mod TakingSteps
 mod Leaving
 mod Reading
 mod ReadingSteps
+mod AtWork
 mod WriteComes
 mod WriteFiles

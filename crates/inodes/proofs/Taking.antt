@@ -1,5 +1,5 @@
 -- An operation takes its inode.
-use Rattle.std.proofs.Common.{◌≡◌, ℕ, ◌<◌, true, false, ltb, length, length-set, List, set, refl, sym, ◌∙◌, ap, subst, arith, Option, Some, None}
+use Rattle.std.proofs.Common.{◌≤◌, ◌≡◌, ℕ, ◌<◌, true, false, ltb, length, length-set, List, set, refl, sym, ◌∙◌, ap, subst, arith, Option, Some, None}
 use Rattle.std.specs.Prelude.{IsTrue}
 use Rattle.std.proofs.lemmas.Bool.{false≢true}
 use Rattle.blocks.specs.Disk.{Image}
@@ -37,6 +37,7 @@ use Rattle.inodes.proofs.Gripping.{grip_is}
 use Rattle.inodes.proofs.LooksKept.{looks_set}
 use Rattle.inodes.proofs.Searching.{where_got}
 use Rattle.inodes.proofs.Frames.{within_image}
+use Rattle.inodes.specs.Growing.{bytes_of}
 
 -- the number of an operation that takes its inode is one that operations may name
 pub number_of_take : (n : ℕ) (op : Op) → CanTake n op → IsTrue (is_number n (asked op))
@@ -46,6 +47,15 @@ number_of_take n (Read i off count) can = can.0
 number_of_take n (Trunc i) can = can
 number_of_take n (Remove i) can = can
 number_of_take n (Stat i) can = can
+
+-- and it writes no more bytes than there may be at once
+pub few_bytes : (n : ℕ) (op : Op) → CanTake n op → length (bytes_of op) ≤ 3072
+few_bytes n (Create kind) can = absurd can
+few_bytes n (Write i off bytes) can = can.1
+few_bytes n (Read i off count) can = omega arith
+few_bytes n (Trunc i) can = omega arith
+few_bytes n (Remove i) can = omega arith
+few_bytes n (Stat i) can = omega arith
 
 -- one that looks at a file takes its inode, and needs nothing open in the log
 pub look_takes : (n : ℕ) (op : Op) → CanLook n op → CanTake n op

@@ -600,6 +600,9 @@ module _ {D N : Type 0} (disk : Ghosts D N) (s : StoreState D) (p : ℕ) (op : O
     pub count_taken : tab.inode_count ≡ s.table.inode_count
     count_taken = taken.1.count
 
+    pub log_taken : w.log ≡ s.volume.log
+    log_taken = taken.1.log
+
     -- an image has few numbers
     pub few_numbers : tab.inode_count ≤ 1024
     few_numbers = let few = (facts_of cur is.geometry).few in let same = taken.1.count in let numbers = is.numbers in omega (arith, few, same, numbers)

@@ -1,5 +1,5 @@
 -- The turn of an operation that takes its inode.
-use Rattle.std.proofs.Common.{◌+◌, ◌≡◌, ◌≢◌, ◌⊎◌, inl, inr, ℕ, ◌≤◌, ◌<◌, ◌/◌, Bool, true, false, cond, List, [], length, set, refl, sym, ◌∙◌, ap, subst, ⊎_elim, arith, Option, Some, None, ltb}
+use Rattle.std.proofs.Common.{◌-◌, ◌+◌, ◌≡◌, ◌≢◌, ◌⊎◌, inl, inr, ℕ, ◌≤◌, ◌<◌, ◌/◌, Bool, true, false, cond, List, [], length, set, refl, sym, ◌∙◌, ap, subst, ⊎_elim, arith, Option, Some, None, ltb}
 use Rattle.std.specs.Prelude.{IsTrue, slice_index}
 use Rattle.std.proofs.lemmas.Bool.{cases_eq, eq-eqb, ne_eqb, ltb-false, ltb-true}
 use Rattle.blocks.specs.Disk.{Image}
@@ -42,14 +42,14 @@ use Rattle.inodes.proofs.Starting.{new_target, has_begun, has_none, few_reads}
 use Rattle.inodes.proofs.Taking.{taking, looking, can_take, number, same_op, may_name, may_name_now}
 use Rattle.inodes.proofs.Unclaimed.{holds_alone_of}
 use Rattle.inodes.proofs.TruncNext.{first_given, first_slots, next_left}
-use Rattle.inodes.specs.Writei.{WriteState, first_write}
+use Rattle.inodes.specs.Writei.{WriteState, first_write, next_place}
 use Rattle.inodes.specs.declared.writei.Extent.{Extent}
 use Rattle.model.specs.declared.types.operations.Reply.{Reply}
 use Rattle.inodes.specs.Writing.{extent_of, block_of_write}
 use Rattle.inodes.proofs.WriteComes.{fresh_next, comes_next}
 use Rattle.inodes.specs.Lemmas.Bounds.{few_writes}
 use Rattle.blockmap.specs.BmapAlloc.{indirect_of}
-use Rattle.inodes.specs.Growing.{growth_of, bytes_by}
+use Rattle.inodes.specs.Growing.{growth_of, bytes_by, HasComeTo}
 use Rattle.loose.specs.Lemmas.GrowthEnds.{resting_refuses}
 use Rattle.loose.specs.Lemmas.BlocksTaken.{turn_grows}
 

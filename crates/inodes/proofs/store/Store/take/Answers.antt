@@ -13,11 +13,13 @@ use Rattle.inodes.specs.Store.{StoreState, current_of}
 use Rattle.inodes.specs.Table.{copy_at}
 use Rattle.inodes.specs.Tasks.{task}
 use Rattle.inodes.specs.Turning.{IsReadable, if_used, reply_when_taken, place_when_taken}
-use Rattle.inodes.proofs.Taking.{may_lock}
+use Rattle.inodes.proofs.Taking.{can_take, few_bytes, may_lock}
 use Rattle.inodes.proofs.Gripping.{same_task}
-use Rattle.inodes.proofs.TakingSteps.{store_taken, steps_taken, place_taken, inode_taken, readable_taken, count_taken, few_numbers}
+use Rattle.inodes.proofs.TakingSteps.{store_taken, steps_taken, place_taken, inode_taken, readable_taken, count_taken, few_numbers, log_taken}
 use Rattle.inodes.proofs.store.Store.take.Goals as goal
 use Rattle.inodes.specs.Writing.{extent_of}
+use Rattle.inodes.specs.declared.writei.Extent.{Extent}
+use Rattle.wal.specs.Machine.{LogState}
 
 pub step-requires-clause-ready : goal.step-requires-clause-ready
 step-requires-clause-ready g c =
@@ -59,6 +61,26 @@ inode_at-inode-requires g c =
     let joint = where_none s.volume.fault well c.known.ensures in
     subst (λ (k : ℕ). k < 50) (sym c.place-place.ensures) (place_taken g.D.Disk s c.args.pid c.args.op.now c.args.lock c.self.invariant well lt stood is_op joint c.in-Over.is_used c.step.new.self c.step.new.volume c.step.new.table c.in-Over.ensures)
 
+pub extent_of-extent-requires : goal.extent_of-extent-requires
+extent_of-extent-requires g c =
+    let s : StoreState _ = record { volume = c.self.inside.volume; tasks = c.self.inside.tasks; table = c.self.inside.inodes } in
+    let well : s.volume.fault ≡ None = search rules in
+    let lt : c.args.pid < length s.tasks = search rules in
+    let stood : (task s.tasks c.args.pid).place ≡ place.Taking c.args.lock = search rules in
+    let is_op : (task s.tasks c.args.pid).op ≡ Some c.args.op.now = search rules in
+    let joint = where_none s.volume.fault well c.known.ensures in
+    subst (λ (n : ℕ). n ≤ 1024) (sym c.inode_count.ensures) (few_numbers g.D.Disk s c.args.pid c.args.op.now c.args.lock c.self.invariant well lt stood is_op joint c.in-Over.is_used c.step.new.self c.step.new.volume c.step.new.table c.in-Over.ensures)
+
+pub reply_when_taken-requires : goal.reply_when_taken-requires
+reply_when_taken-requires g c =
+    let s : StoreState _ = record { volume = c.self.inside.volume; tasks = c.self.inside.tasks; table = c.self.inside.inodes } in
+    let well : s.volume.fault ≡ None = search rules in
+    let lt : c.args.pid < length s.tasks = search rules in
+    let stood : (task s.tasks c.args.pid).place ≡ place.Taking c.args.lock = search rules in
+    let is_op : (task s.tasks c.args.pid).op ≡ Some c.args.op.now = search rules in
+    let joint = where_none s.volume.fault well c.known.ensures in
+    few_bytes s.table.inode_count c.args.op.now (can_take g.D.Disk s c.args.pid c.args.op.now c.args.lock c.self.invariant well stood is_op)
+
 pub place_when_taken-requires : goal.place_when_taken-requires
 place_when_taken-requires g c =
     let s : StoreState _ = record { volume = c.self.inside.volume; tasks = c.self.inside.tasks; table = c.self.inside.inodes } in
@@ -72,7 +94,7 @@ place_when_taken-requires g c =
     = c.inode_at-inode.ensures ∙ ap (λ (k : ℕ). cond c.in-Over.is_used (copy_at c.step.new.table.places k) None) c.place-place.ensures ∙ taken in
     record {
       inode = subst IsReadable (sym is) (readable_taken g.D.Disk s c.args.pid c.args.op.now c.args.lock c.self.invariant well lt stood is_op joint c.in-Over.is_used c.step.new.self c.step.new.volume c.step.new.table c.in-Over.ensures);
-      count = subst (λ (n : ℕ). n ≤ 1024) (sym c.inode_count-inode_count.ensures) (few_numbers g.D.Disk s c.args.pid c.args.op.now c.args.lock c.self.invariant well lt stood is_op joint c.in-Over.is_used c.step.new.self c.step.new.volume c.step.new.table c.in-Over.ensures);
+      few = few_bytes s.table.inode_count c.args.op.now (can_take g.D.Disk s c.args.pid c.args.op.now c.args.lock c.self.invariant well stood is_op);
     }
 
 pub invariant_of-self-in-Over : goal.invariant_of-self-in-Over
@@ -86,8 +108,11 @@ invariant_of-self-in-Over g c =
     let taken = inode_taken g.D.Disk s c.args.pid c.args.op.now c.args.lock c.self.invariant well lt stood is_op joint c.in-Over.is_used c.step.new.self c.step.new.volume c.step.new.table c.in-Over.ensures in
     let is : c.inode_at-inode.result ≡ if_used c.in-Over.is_used (inode_of (current_of g.D.Disk.image s.volume) c.args.lock.number)
     = c.inode_at-inode.ensures ∙ ap (λ (k : ℕ). cond c.in-Over.is_used (copy_at c.step.new.table.places k) None) c.place-place.ensures ∙ taken in
+    let sizes : c.size.result ≡ s.volume.log.size = c.size.ensures ∙ ap (λ (l : LogState). l.size) (c.log.ensures ∙ log_taken g.D.Disk s c.args.pid c.args.op.now c.args.lock c.self.invariant well lt stood is_op joint c.in-Over.is_used c.step.new.self c.step.new.volume c.step.new.table c.in-Over.ensures) in
+    let taken_there : c.extent_of-extent.result ≡ extent_of s.table.inode_count s.volume.log.size
+    = c.extent_of-extent.ensures ∙ ap (λ (n : ℕ). extent_of n c.size.result) (c.inode_count.ensures ∙ count_taken g.D.Disk s c.args.pid c.args.op.now c.args.lock c.self.invariant well lt stood is_op joint c.in-Over.is_used c.step.new.self c.step.new.volume c.step.new.table c.in-Over.ensures) ∙ ap (extent_of s.table.inode_count) sizes in
     let there : c.place_when_taken.result ≡ place_when_taken (extent_of s.table.inode_count s.volume.log.size) (if_used c.in-Over.is_used (inode_of (current_of g.D.Disk.image s.volume) c.args.lock.number)) (place_of c.step.new.self.at) c.args.op.now
-    = c.place_when_taken.ensures ∙ ap (λ (n : ℕ). place_when_taken n c.inode_at-inode.result c.place-place.result c.args.op.now) (c.inode_count-inode_count.ensures ∙ count_taken g.D.Disk s c.args.pid c.args.op.now c.args.lock c.self.invariant well lt stood is_op joint c.in-Over.is_used c.step.new.self c.step.new.volume c.step.new.table c.in-Over.ensures)
+    = c.place_when_taken.ensures ∙ ap (λ (e : Extent). place_when_taken e c.inode_at-inode.result c.place-place.result c.args.op.now) taken_there
     ∙ ap (λ (o : Option Dinode). place_when_taken (extent_of s.table.inode_count s.volume.log.size) o c.place-place.result c.args.op.now) is
     ∙ ap (λ (k : ℕ). place_when_taken (extent_of s.table.inode_count s.volume.log.size) (if_used c.in-Over.is_used (inode_of (current_of g.D.Disk.image s.volume) c.args.lock.number)) k c.args.op.now) c.place-place.ensures in
     store_taken g.D.Disk s c.args.pid c.args.op.now c.args.lock c.self.invariant well lt stood is_op joint (progress.Over c.in-Over.is_used) c.step.new.self c.step.new.volume c.step.new.table c.go-in-Over.new.self c.in-Over.ensures
@@ -131,8 +156,11 @@ returns-in-Over g c =
     let taken = inode_taken g.D.Disk s c.args.pid c.args.op.now c.args.lock c.self.invariant well lt stood is_op joint c.in-Over.is_used c.step.new.self c.step.new.volume c.step.new.table c.in-Over.ensures in
     let is : c.inode_at-inode.result ≡ if_used c.in-Over.is_used d
     = c.inode_at-inode.ensures ∙ ap (λ (k : ℕ). cond c.in-Over.is_used (copy_at c.step.new.table.places k) None) c.place-place.ensures ∙ taken in
+    let sizes : c.size.result ≡ s.volume.log.size = c.size.ensures ∙ ap (λ (l : LogState). l.size) (c.log.ensures ∙ log_taken g.D.Disk s c.args.pid c.args.op.now c.args.lock c.self.invariant well lt stood is_op joint c.in-Over.is_used c.step.new.self c.step.new.volume c.step.new.table c.in-Over.ensures) in
+    let taken_there : c.extent_of-extent.result ≡ extent_of s.table.inode_count s.volume.log.size
+    = c.extent_of-extent.ensures ∙ ap (λ (n : ℕ). extent_of n c.size.result) (c.inode_count.ensures ∙ count_taken g.D.Disk s c.args.pid c.args.op.now c.args.lock c.self.invariant well lt stood is_op joint c.in-Over.is_used c.step.new.self c.step.new.volume c.step.new.table c.in-Over.ensures) ∙ ap (extent_of s.table.inode_count) sizes in
     let there : c.place_when_taken.result ≡ place_when_taken (extent_of s.table.inode_count s.volume.log.size) (if_used c.in-Over.is_used d) (place_of c.step.new.self.at) c.args.op.now
-    = c.place_when_taken.ensures ∙ ap (λ (n : ℕ). place_when_taken n c.inode_at-inode.result c.place-place.result c.args.op.now) (c.inode_count-inode_count.ensures ∙ count_taken g.D.Disk s c.args.pid c.args.op.now c.args.lock c.self.invariant well lt stood is_op joint c.in-Over.is_used c.step.new.self c.step.new.volume c.step.new.table c.in-Over.ensures)
+    = c.place_when_taken.ensures ∙ ap (λ (e : Extent). place_when_taken e c.inode_at-inode.result c.place-place.result c.args.op.now) taken_there
     ∙ ap (λ (o : Option Dinode). place_when_taken (extent_of s.table.inode_count s.volume.log.size) o c.place-place.result c.args.op.now) is
     ∙ ap (λ (k : ℕ). place_when_taken (extent_of s.table.inode_count s.volume.log.size) (if_used c.in-Over.is_used d) k c.args.op.now) c.place-place.ensures in
     let says : c.reply_when_taken.result ≡ reply_when_taken (if_used c.in-Over.is_used d) c.args.op.now

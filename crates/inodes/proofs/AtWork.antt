@@ -1,0 +1,171 @@
+-- A step of a process that works on its inode behind its turn: what it does, and that it promises so.
+use Rattle.std.proofs.Common.{◌≡◌, ◌≢◌, ℕ, ◌<◌, true, false, List, length, set, refl, sym, ◌∙◌, ap, subst, Option, Some, None}
+use Rattle.std.proofs.lemmas.List.{set-get_or, get_or-set_same}
+use Rattle.blocks.specs.Disk.{Image, block_at}
+use Rattle.blocks.specs.declared.disk.Disk.{Ghosts}
+use Rattle.model.specs.declared.types.image.Form.{Form}
+use Rattle.model.specs.declared.types.operations.Op.{Op}
+use Rattle.model.specs.declared.types.operations.Reply.{Reply}
+use Rattle.model.specs.declared.types.operations.TaskProgress.{TaskProgress}
+use Rattle.model.specs.declared.types.operations.TaskProgress.TheVariants as progress
+use Rattle.model.specs.declared.types.operations.Why.{Why}
+use Rattle.model.specs.declared.types.operations.Why.TheVariants as why
+use Rattle.model.specs.Files.{Files}
+use Rattle.model.specs.Layout.{form_of, inode_count_of, super_in}
+use Rattle.model.specs.Tasks.{FilesThen, Marks, fault_of_task, reply_at_turn}
+use Rattle.loose.specs.Held.{Claims, FitsHeld, IsClaimedNow}
+use Rattle.wal.specs.Held.{HasLock}
+use Rattle.wal.specs.Machine.{SameGroups}
+use Rattle.wal.specs.Volume.{VolumeState}
+use Rattle.inodes.specs.declared.tasks.Place.{Place}
+use Rattle.inodes.specs.Goes.{Goes}
+use Rattle.inodes.specs.Grips.{Grip, KeepsTable, locked_grip, with_grip}
+use Rattle.inodes.specs.Holding.{claim_by, claim_of, claims_of}
+use Rattle.inodes.specs.Looks.{LooksAt}
+use Rattle.inodes.specs.Places.{HasSlot, asked_by, block_at_place, grip_by, grip_of, grips_of, is_over, steps_left}
+use Rattle.inodes.specs.Steps.{IsHeldByAnother, LeavesNumber, Reads, Steps, Waits, is_made}
+use Rattle.inodes.specs.Store.{StoreState, IsStore, FitsFiles, Stands, current_of}
+use Rattle.inodes.specs.Table.{TableState}
+use Rattle.inodes.specs.Tasks.{TaskState, task, no_task}
+use Rattle.inodes.specs.Lemmas.Holding.{claimed_now}
+use Rattle.inodes.proofs.Agreeing.{StaysForOthers}
+use Rattle.inodes.proofs.Looking.{Stepped, store_stepped, steps_stepped}
+use Rattle.inodes.proofs.LooksKept.{KeepsUsed}
+use Rattle.inodes.proofs.Unclaimed.{LocksAlone, holds_alone_of}
+use Rattle.inodes.specs.Looks.{AreLooking}
+use Rattle.inodes.proofs.Gripping.{grip_is}
+
+-- process p, whose task stands at `here`, works on number i, at place k of the table
+module _ {D N : Type 0} (disk : Ghosts D N) (s : StoreState D) (p k i : ℕ) (here : Place) where
+  abbrev cur : Image
+  cur = current_of disk.image s.volume
+
+  abbrev claims : Claims
+  claims = claims_of s.tasks
+
+  abbrev op : Option Op
+  op = (task s.tasks p).op
+
+  abbrev count : ℕ
+  count = s.table.inode_count
+
+  -- it alone has locked the number, and holds no other
+  pub record Works : Type 0 where
+    pub is : IsStore disk.image s
+    pub well : s.volume.fault ≡ None
+    pub inside : p < length s.tasks
+    pub stood : (task s.tasks p).place ≡ here
+    pub looking : AreLooking cur s.table s.tasks
+    pub gripped : grip_of (task s.tasks p) ≡ Some (locked_grip k i)
+    pub alone : LocksAlone s.tasks p i
+    pub apart : (j : ℕ) → j ≢ i → claim_by op here j ≡ None
+
+  -- the step answers r, and the task stands at `next` then
+  module _ (r : TaskProgress) (next : Place) (w : VolumeState D) (tab : TableState) (ts : List TaskState) where
+    abbrev now : Image
+    now = current_of disk.image w
+
+    abbrev pub task_then : TaskState
+    task_then = record (task s.tasks p) { place = next }
+
+    abbrev pub store_then : StoreState D
+    store_then = record { volume = w; tasks = ts; table = tab }
+
+    -- where the disk has not failed
+    pub record StandsSo : Type 0 where
+      pub others : StaysForOthers s.volume.buffers w.buffers s.volume.log w.log p
+      pub locks : (b j : ℕ) → HasLock w.buffers p b j → HasSlot next j
+      pub stands : Stands w.buffers w.log count p op next
+      pub looks : LooksAt now tab task_then next
+
+    -- What the step makes of disk, buffers, log, image and table, and for whom it waits.
+    pub record Does (its : Op) : Type 0 where
+      pub reads : Reads disk s r store_then
+      pub numbers : tab.inode_count ≡ count
+      pub groups : SameGroups s.volume.log w.log
+      pub marks : Marks None cur now
+      pub keeps : KeepsUsed count i claims cur now
+      pub table : KeepsTable s.table tab p (grips_of s.tasks) (grips_of s.tasks) now
+      pub files : (new : Claims) → IsClaimedNow claims i (claim_by op next i) new → (files : Files) → FitsHeld files cur claims
+          → FilesThen (form_of cur) its r files (λ m. FitsHeld m now new)
+      pub apart_then : (j : ℕ) → j ≢ i → claim_by op next j ≡ None
+      pub grip : grip_by next (asked_by op) ≡ Some (locked_grip k i)
+      pub stands : fault_of_task r ≡ None → StandsSo
+      pub late : reply_at_turn r ≡ None
+      pub asleep : (cause : Why) → r ≡ progress.Sleeping cause → (w ≡ s.volume) × (tab ≡ s.table) × (next ≡ here)
+      pub held : r ≡ progress.Sleeping why.BufferHeld → IsHeldByAnother s p (block_at_place here)
+      pub inode : r ≡ progress.Sleeping why.InodeHeld → ⊥
+      pub less : is_made r ≡ true → steps_left next count < steps_left here count
+
+    module _ (its : Op) (works : Works) (does : Does its) (tasks : ts ≡ set s.tasks p task_then) where
+      abbrev t : StoreState D
+      t = store_then
+
+      abbrev u : TaskState
+      u = task_then
+
+      same_grips : with_grip (grips_of s.tasks) p (grip_of u) ≡ grips_of s.tasks
+      same_grips = ap (with_grip (grips_of s.tasks) p) (does.grip ∙ sym (grip_is s.tasks p ∙ works.gripped)) ∙ set-get_or (grips_of s.tasks) p None
+
+      same_claim : (j : ℕ) → j ≢ i → claim_of u j ≡ claim_of (task s.tasks p) j
+      same_claim j apart = does.apart_then j apart ∙ sym (ap (λ (a : Place). claim_by op a j) works.stood ∙ works.apart j apart)
+
+      claimed_then : IsClaimedNow claims i (claim_of u i) (claims_of ts)
+      claimed_then = subst (λ (l : List TaskState). IsClaimedNow claims i (claim_of u i) (claims_of l)) (sym tasks)
+          (claimed_now s.tasks p i u works.inside (holds_alone_of cur s.table s.tasks works.looking p i works.alone) same_claim)
+
+      files_then : (files : Files) → FitsFiles disk.image s files → FilesThen (form_of cur) its r files (FitsFiles disk.image t)
+      unfolding FitsFiles
+      files_then files fits = does.files (claims_of ts) claimed_then files fits
+
+      stepped : Stepped disk s p i its r t u
+      stepped = record {
+        tasks = tasks;
+        op = refl;
+        count = does.numbers;
+        numbers = ap (λ (b : List ℕ). (super_in b).ninodes) does.marks.untouched.super;
+        reads = does.reads;
+        groups = does.groups;
+        marks = subst (λ (o : Option Reply). Marks o cur now) (sym does.late) does.marks;
+        files = files_then;
+        alone = works.alone;
+        claims = same_claim;
+        keeps = does.keeps;
+        now = λ fine.
+            let on = does.stands fine in
+            record {
+              others = on.others;
+              locks = on.locks;
+              stands = on.stands;
+              table = subst (λ (gs : List (Option Grip)). KeepsTable s.table tab p (grips_of s.tasks) gs now) (sym same_grips) does.table;
+              looks = on.looks;
+            };
+      }
+
+      -- what is true of every store
+      pub store_worked : IsStore disk.image t
+      store_worked = store_stepped disk s p i its r t u works.is works.well works.inside stepped
+
+      -- who sleeps changed nothing
+      slept : (cause : Why) → r ≡ progress.Sleeping cause → t ≡ s
+      slept cause waits =
+          let same = does.asleep cause waits in
+          let stays : u ≡ task s.tasks p = ap (λ (a : Place). record (task s.tasks p) { place = a }) (same.2 ∙ sym works.stood) in
+          ap (λ (v : VolumeState D). record { volume = v; tasks = ts; table = tab }) same.0
+          ∙ ap (λ (b : TableState). record { volume = s.volume; tasks = ts; table = b }) same.1
+          ∙ ap (λ (l : List TaskState). record s { tasks = l }) (tasks ∙ ap (set s.tasks p) stays ∙ set-get_or s.tasks p no_task)
+
+      waits_so : Waits s p r t
+      waits_so = record {
+        sleeping = slept;
+        held = λ waits. subst (λ (a : Place). IsHeldByAnother s p (block_at_place a)) (sym works.stood) (does.held waits);
+        inode = λ waits. absurd (does.inode waits);
+      }
+
+      -- THE STEP
+      pub steps_worked : Goes disk here s p its r t → Steps disk s p its r t
+      steps_worked goes = steps_stepped disk s p i its r t u works.is works.well works.inside stepped
+          (subst (λ (a : Place). Goes disk a s p its r t) (sym works.stood) goes)
+          waits_so
+          (λ other apart reads. subst (λ (o : Option Reply). LeavesNumber its o (asked_by (task s.tasks other).op)) (sym does.late) tt)
+          (λ made going. subst (λ (a : Place). steps_left next count < steps_left a count) (sym works.stood) (does.less made))
