@@ -57,7 +57,7 @@ pub logged_still : (l m : LogState) (q b : ℕ) → used_by m q ≡ used_by l q 
 logged_still l m q b used among has = ⊎_elim (λ (none : used_by l q ≡ Some 0). inl (used ∙ none)) (λ one. inr (used ∙ one.0, among one.0 one.1)) has
 
 -- a block counts as long as it is a home
-counts_more : (l m : LogState) (b : ℕ) → (is_among b l.homes ≡ true → is_among b m.homes ≡ true) → counted l b ≤ counted m b
+pub counts_more : (l m : LogState) (b : ℕ) → (is_among b l.homes ≡ true → is_among b m.homes ≡ true) → counted l b ≤ counted m b
 counts_more l m b among = by_zero (eqb b 0)
   where
     by_home : (t : Bool) → is_among b l.homes ≡ t → cond t 1 0 ≤ cond (is_among b m.homes) 1 0

@@ -30,3 +30,9 @@ mod ReadingSteps
 mod AtWork
 mod WriteComes
 mod WriteFiles
+mod WriteLogged
+mod Writing
+mod WriteMoves
+mod WriteTakes
+mod WriteDoes
+mod WriteEnds

@@ -62,7 +62,7 @@ use Rattle.loose.specs.Lemmas.Remapped.{agrees, inode_same}
 -- ---- the log
 
 -- the others have what they had, where a block is logged and released
-stays_noted : (c d : Buffers) (l : LogState) (p i b : ℕ) → GivesUpLock c d p i → StaysForOthers c d l (noted l p b) p
+pub stays_noted : (c d : Buffers) (l : LogState) (p i b : ℕ) → GivesUpLock c d p i → StaysForOthers c d l (noted l p b) p
 stays_noted c d l p i b gives = record {
   holds = λ q a j other has. gives.others q a j (inl other) has;
   locks = λ q a j other has. gives.none q a j has;

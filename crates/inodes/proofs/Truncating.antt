@@ -40,7 +40,7 @@ use Rattle.inodes.proofs.Unclaimed.{LocksAlone, locks_alone, own_claim}
 use Rattle.loose.specs.Lemmas.Remapped.{IsMapped, mapped}
 
 -- a place of a number has an inode
-has_inode : (e : Option InMemory) (i : ℕ) → is_of i e ≡ true → IsSome e
+pub has_inode : (e : Option InMemory) (i : ℕ) → is_of i e ≡ true → IsSome e
 has_inode None i none = absurd (cc none)
 has_inode (Some e) i is = refl
 

@@ -124,3 +124,7 @@ fresh_next m number d next left e = by_left (eqb left 0)
     by_left : (b : Bool) → IsFresh m (cond b (write_at.Updating (first_update number)) (place_of_mapped (mapped_for_writing d (next / 1024) e.bitmap e.size)))
     by_left true = record { kept = refl; used = refl; taken = refl; steps = omega arith; blocks = omega arith }
     by_left false = fresh_mapped m d (next / 1024) e.bitmap e.size (ltb (next / 1024) 12 && not (eqb (slice_index d.addrs (next / 1024)) 0))
+
+-- and where no bytes are left, with two steps
+pub ended_next : (m : WriteState) (number : ℕ) (d : Dinode) (next left : ℕ) (e : Extent) → left ≡ 0 → (blocks_left m (next_place number d next left e) ≡ 0) × (writes_left_at m (next_place number d next left e) ≡ 2)
+ended_next m number d next left e none = rw none (refl, refl)

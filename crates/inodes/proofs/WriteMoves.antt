@@ -1,7 +1,7 @@
 -- The kinds of steps that write a file's bytes: a block is got, or put, or released, or nothing is done to the volume.
-use Rattle.std.proofs.Common.{◌≡◌, ◌≢◌, ℕ, ◌+◌, ◌<◌, ◌≤◌, List, set, false, true, refl, sym, ◌∙◌, ap, subst, arith, Option, Some, None}
+use Rattle.std.proofs.Common.{◌≡◌, ◌≢◌, ℕ, ◌+◌, ◌<◌, ◌≤◌, List, set, false, true, refl, sym, ◌∙◌, ap, subst, arith, Option, Some, None, length}
 use Rattle.std.specs.Prelude.{IsTrue}
-use Rattle.std.proofs.lemmas.Bool.{false≢true}
+use Rattle.std.proofs.lemmas.Bool.{false≢true, ne_eqb}
 use Rattle.std.proofs.lemmas.List.{length-set}
 use Rattle.blocks.specs.Disk.{Image, block_at}
 use Rattle.blocks.specs.declared.disk.Disk.{Ghosts}
@@ -31,7 +31,7 @@ use Rattle.blockmap.specs.declared.progress.Progress.TheVariants as machine
 use Rattle.inodes.specs.declared.tasks.Place.{Place}
 use Rattle.inodes.specs.declared.tasks.Place.TheVariants as place
 use Rattle.inodes.specs.Goes.{place_of_writing, progress_of_write, table_of_writing}
-use Rattle.inodes.specs.Grips.{Grip, KeepsTable, KeepsUsedInodes}
+use Rattle.inodes.specs.Grips.{Grip, KeepsTable, KeepsUsedInodes, locked_grip}
 use Rattle.inodes.specs.Growing.{HasComeTo, growth_of}
 use Rattle.inodes.specs.Holding.{claim_by, claims_of}
 use Rattle.inodes.specs.Places.{asked_by, grips_of, steps_left}
@@ -39,13 +39,13 @@ use Rattle.inodes.specs.Steps.{IsHeldByAnother, Reads}
 use Rattle.inodes.specs.Store.{StoreState, IsStore, HoldsForWriting, Stands, current_of}
 use Rattle.inodes.specs.Tasks.{TaskState, task}
 use Rattle.inodes.specs.Writei.{WriteState}
-use Rattle.inodes.specs.Writing.{HasLoggedWrite, IsWriting, block_of_write, kept_by_write, used_by_write, writes_left}
+use Rattle.inodes.specs.Writing.{HasLoggedWrite, IsWriting, block_of_write, kept_by_write, used_by_write, writes_left, extent_of}
 use Rattle.inodes.specs.Lemmas.Grips.{kept_by_image}
 use Rattle.inodes.specs.Lemmas.Holding.{own_grows}
 use Rattle.inodes.proofs.Agreeing.{StaysForOthers, stays_same}
 use Rattle.inodes.proofs.AtWork.{Does, StandsSo, Works, store_then, task_then}
 use Rattle.inodes.proofs.Frames.{groups_noted, groups_same, marks_same}
-use Rattle.inodes.proofs.Getting.{reads_none, stays_got, stays_left}
+use Rattle.inodes.proofs.Getting.{reads_none, stays_got, stays_left, fault_of}
 use Rattle.inodes.proofs.LooksKept.{KeepsUsed, keeps_same}
 use Rattle.inodes.proofs.TruncDoes.{stays_noted}
 use Rattle.inodes.proofs.TruncFiles.{same_claims, with_claim, with_claim_is}
@@ -73,7 +73,7 @@ module _ {D N : Type 0} (disk : Ghosts D N) (s : StoreState D) (p k : ℕ) (m : 
   abbrev pub grown : Growth
   grown = growth_of m bytes
 
-  work : IsWriting cur s.table.inode_count (task s.tasks p) m
+  abbrev pub work : IsWriting cur s.table.inode_count (task s.tasks p) m
   work = of.work disk s p k m is well stood
 
   abbrev pub here : Place
@@ -302,14 +302,14 @@ module _ {D N : Type 0} (disk : Ghosts D N) (s : StoreState D) (p k : ℕ) (m : 
 
     -- ---- a block is written, and released
 
-    module _ (i b : ℕ) (data : List ℕ) (writes : WritesBlock disk s.volume p i b (set cur b data) w) (behind : (super_of cur).bmapstart ≤ b) (marks : Marks None cur (set cur b data)) where
+    module _ (i b : ℕ) (content : List ℕ) (writes : WritesBlock disk s.volume p i b (set cur b content) w) (behind : (super_of cur).bmapstart ≤ b) (marks : Marks None cur (set cur b content)) where
       abbrev y : Image
-      y = set cur b data
+      y = set cur b content
 
       used_still : (j : ℕ) → KeepsUsedInodes s.table.inode_count j cur y
       used_still j a names other used =
           let before = (apart cur a is.geometry (between cur a (subst (λ (c : ℕ). IsTrue (is_number c a)) is.numbers names)).high).before_map in
-          inode_elsewhere cur a b data (λ same. omega (arith, same, before, behind))
+          inode_elsewhere cur a b content (λ same. omega (arith, same, before, behind))
 
       pub does_put : GoesOn y
           → ((files : Files) → FitsHeld files cur claims → (new : Claims) → IsClaimedNow claims m.number (Some (grows (growth_of n bytes))) new → FitsThen files cur claims m.number y new)
@@ -321,13 +321,13 @@ module _ {D N : Type 0} (disk : Ghosts D N) (s : StoreState D) (p k : ℕ) (m : 
           let names : (j : ℕ) → IsTrue (is_number s.table.inode_count j) → IsTrue (is_number (inode_count_of cur) j) = λ j named. subst (λ (c : ℕ). IsTrue (is_number c j)) is.numbers named in
           does_moved y on (record {
             shown = writes.current;
-            size = length-set cur b data;
+            size = length-set cur b content;
             reads = reads_none disk s (then_at machine.Moved) writes.device (writes.fault ∙ well) progress.Moved refl;
             groups = subst (SameGroups s.volume.log) (sym writes.log) (groups_noted s.volume.log p b logs);
             others = subst (λ (l : LogState). StaysForOthers s.volume.buffers w.buffers s.volume.log l p) (sym writes.log) (stays_noted s.volume.buffers w.buffers s.volume.log p i b writes.locks);
             marks = marks;
             keeps = record {
-              size = length-set cur b data;
+              size = length-set cur b content;
               inodes = used_still m.number;
               contents = λ j named other used rests. then.others j other rests (names j named, used);
               held = λ j c named other holds. then.held j c other (names j named) holds;
