@@ -1,6 +1,6 @@
 -- Operations that take an inode: what is true of their tasks, of the table and of the current image
 -- between any two steps.
-use Rattle.std.specs.Prelude.{◌≡◌, ◌<◌, ◌≤◌, ℕ, ◌+◌, ◌-◌, ◌/◌, min, IsTrue, List, [], Option, Some, None}
+use Rattle.std.specs.Prelude.{◌≡◌, ◌⊎◌, ◌<◌, ◌≤◌, ℕ, ◌+◌, ◌-◌, ◌/◌, min, IsTrue, List, [], length, Option, Some, None}
 use Rattle.blocks.specs.Disk.{Image}
 use Rattle.model.specs.declared.types.image.Dinode.{Dinode}
 use Rattle.model.specs.declared.types.operations.Op.{Op}
@@ -86,6 +86,18 @@ pub record IsRead (n : ℕ) (t : TaskState) : Type 0 where
   pub may : CanLook n (Read number offset count)
   pub gathered : GatheredBytes
   pub has : t.gathered ≡ Some gathered
+
+-- the task is that of a write, of no more bytes than there may be at once
+pub record IsWrite (n : ℕ) (t : TaskState) : Type 0 where
+  pub number : ℕ
+  pub offset : ℕ
+  pub bytes : List ℕ
+  pub is : t.op ≡ Some (Write number offset bytes)
+  pub may : IsTrue (is_number n number) × (length bytes ≤ transfer_limit)
+
+-- a task whose reply is to come behind its turn
+abbrev pub IsLate : ℕ → TaskState → Type 0
+IsLate n t = IsRead n t ⊎ IsWrite n t
 
 -- a reading is at work on the inode that stands at place k of the table
 pub record IsAtRead (cur : Image) (n : ℕ) (inode : Option Dinode) (t : TaskState) (m : ReadState)

@@ -1,6 +1,6 @@
 -- The number that a look at an inode block finds; and what is true of the readings of files that
 -- are under way.
-use Rattle.std.proofs.Common.{◌≡◌, ◌≢◌, ℕ, zero, suc, ◌+◌, ◌-◌, ◌*◌, ◌<◌, ◌≤◌, Bool, true, false, cond, eqb, List, Option, Some, None, length, refl, sym, ◌∙◌, ap, subst, ⊎_elim, arith}
+use Rattle.std.proofs.Common.{◌≡◌, ◌≢◌, ℕ, zero, suc, ◌+◌, ◌-◌, ◌*◌, ◌<◌, ◌≤◌, Bool, true, false, cond, eqb, List, Option, Some, None, length, refl, sym, ◌∙◌, ap, subst, ⊎_elim, inl, arith}
 use Rattle.std.specs.List.{range_with_len, find}
 use Rattle.std.specs.Prelude.{IsTrue, drop, [], ◌∷◌}
 use Rattle.std.proofs.lemmas.Bool.{eqb-true, cases_eq, both_ways}
@@ -17,7 +17,7 @@ use Rattle.inodes.specs.Creation.{is_free_in, lowest_free}
 use Rattle.inodes.specs.declared.tasks.Place.{Place}
 use Rattle.inodes.specs.declared.tasks.Place.TheVariants as place
 use Rattle.inodes.specs.Grips.{grip, locked_grip}
-use Rattle.inodes.specs.Looks.{AreLooking, LooksAt, HasAllRead, HoldsInode, IsRead}
+use Rattle.inodes.specs.Looks.{AreLooking, LooksAt, HasAllRead, HoldsInode, IsLate, IsRead, IsWrite}
 use Rattle.inodes.specs.Holding.{IsTruncating, trunc_op}
 use Rattle.inodes.specs.Itrunc.{TruncState}
 use Rattle.inodes.specs.Places.{asked, asked_by, grip_by, grip_of, grips_of, is_over, is_reading, is_unturned}
@@ -144,12 +144,21 @@ module _ (cur : Image) (t : TableState) (ts : List TaskState) (are : AreLooking 
       by_place (place.Truncating k m) stands unlike = absurd (cc unlike)
       by_place (place.Leaving k) stands unlike = absurd (cc unlike)
 
+  -- a task whose reply is to come reads or writes
+  pub late_is : (p : ℕ) → is_reading (task ts p).place ≡ true → IsLate t.inode_count (task ts p)
+  late_is p is = inl (reading_is p is)
+
   -- of a number that operations may name
   pub reading_number : (p : ℕ) → is_reading (task ts p).place ≡ true →
       IsTrue (is_number t.inode_count (asked_by (task ts p).op))
-  reading_number p is =
-      let op = reading_is p is in
-      subst (λ (i : ℕ). IsTrue (is_number t.inode_count i)) (sym (ap asked_by op.is)) op.may.0
+  reading_number p is = ⊎_elim
+      (λ (op : IsRead t.inode_count (task ts p)). named op.number (ap asked_by op.is) op.may.0)
+      (λ (op : IsWrite t.inode_count (task ts p)). named op.number (ap asked_by op.is) op.may.0)
+      (late_is p is)
+    where
+      named : (i : ℕ) → asked_by (task ts p).op ≡ i → IsTrue (is_number t.inode_count i) →
+          IsTrue (is_number t.inode_count (asked_by (task ts p).op))
+      named i same may = subst (λ (j : ℕ). IsTrue (is_number t.inode_count j)) (sym same) may
 
   -- the place of its locked inode in the table
   pub reading_locks : (p : ℕ) → is_reading (task ts p).place ≡ true →

@@ -1,6 +1,6 @@
 -- How the steps of any task end.
-use Rattle.std.proofs.Common.{◌≡◌, ◌⊎◌, ⊎_elim, inl, inr, ℕ, Bool, true, false, List, refl, sym, ◌∙◌, ap, subst, Option, Some, None}
-use Rattle.std.specs.Prelude.{IsSome, slice_index}
+use Rattle.std.proofs.Common.{◌≡◌, ◌⊎◌, ◌≤◌, ⊎_elim, inl, inr, ℕ, Bool, true, false, List, length, refl, sym, ◌∙◌, ap, subst, Option, Some, None}
+use Rattle.std.specs.Prelude.{IsSome, IsTrue, slice_index}
 use Rattle.std.proofs.lemmas.Bool.{false≢true}
 use Rattle.blocks.specs.declared.disk.Disk.{Ghosts}
 use Rattle.blocks.specs.declared.errors.DiskFault.{DiskFault}
@@ -8,10 +8,12 @@ use Rattle.model.specs.declared.types.image.Dinode.{Dinode}
 use Rattle.model.specs.declared.types.operations.Op.{Op}
 use Rattle.model.specs.declared.types.operations.Op.TheVariants.{Create, Write, Read, Trunc, Remove, Stat}
 use Rattle.model.specs.declared.types.operations.Reply.{Reply}
-use Rattle.model.specs.declared.types.operations.Reply.TheVariants.{Bytes}
+use Rattle.model.specs.declared.types.operations.Reply.TheVariants.{Bytes, Wrote}
 use Rattle.model.specs.declared.types.operations.TaskProgress.{TaskProgress}
 use Rattle.model.specs.declared.types.operations.TaskProgress.TheVariants as progress
+use Rattle.model.specs.Journal.{is_number}
 use Rattle.model.specs.Layout.{inode_of, inode_block}
+use Rattle.model.specs.Operations.{transfer_limit}
 use Rattle.wal.specs.Machine.{used_by}
 use Rattle.wal.specs.Volume.{VolumeState}
 use Rattle.wal.specs.declared.types.Get.{Get}
@@ -35,7 +37,7 @@ use Rattle.inodes.specs.declared.itrunc.TruncAt.TheVariants as trunc_at
 use Rattle.inodes.specs.Itrunc.{FreesOne, TruncState, TruncSteps, last_inode_of, progress_among}
 use Rattle.inodes.specs.Iupdate.{UpdateState, Updates}
 use Rattle.inodes.specs.LockState.{LockState, place_of}
-use Rattle.inodes.specs.Looks.{CanLook, CanTake, LooksAt}
+use Rattle.inodes.specs.Looks.{CanTake, LooksAt}
 use Rattle.inodes.specs.Places.{is_over, is_reading, is_unturned, block_at_place, block_of_trunc}
 use Rattle.inodes.specs.Readi.{ReadState, Works}
 use Rattle.inodes.specs.Store.{StoreState, CanBegin, Stands, current_of}
@@ -57,20 +59,43 @@ pub record GoesOnTurned (next : Place) : Type 0 where
   pub unread : is_reading next ≡ false
 
 -- With its turn a creation is over; an operation that takes an inode has its reply and goes on, or
--- it is a reading, whose reply comes later.
+-- its reply comes later.
 abbrev pub TurnEnds : ℕ → Op → Option Reply → Place → Type 0
-TurnEnds n op None next =
-    CanLook n op × ((i : ℕ) × (off : ℕ) × (count : ℕ) × (op ≡ Read i off count))
-    × (is_reading next ≡ true)
+TurnEnds n op None next = is_reading next ≡ true
 TurnEnds n op (Some reply) next =
     (CanBegin n op × (is_over next ≡ true)) ⊎ (CanTake n op × GoesOnTurned next)
+
+-- a read is over with its reply
+pub record EndsRead (op : Op) (reply : Reply) (next : Place) : Type 0 where
+  pub number : ℕ
+  pub offset : ℕ
+  pub count : ℕ
+  pub is : op ≡ Read number offset count
+  pub bytes : List ℕ
+  pub reply_is : reply ≡ Bytes bytes
+  pub over : is_over next ≡ true
+
+-- with that of a write its task goes on, and owes none any more
+pub record EndsWrite (n : ℕ) (op : Op) (reply : Reply) (next : Place) : Type 0 where
+  pub number : ℕ
+  pub offset : ℕ
+  pub bytes : List ℕ
+  pub is : op ≡ Write number offset bytes
+  pub may : IsTrue (is_number n number) × (length bytes ≤ transfer_limit)
+  pub count : ℕ
+  pub reply_is : reply ≡ Wrote count
+  pub on : GoesOnTurned next
+
+-- what an operation comes to whose reply is decided behind its turn
+abbrev pub DecidedEnds : ℕ → Op → Reply → Place → Type 0
+DecidedEnds n op reply next = EndsRead op reply next ⊎ EndsWrite n op reply next
 
 -- by what the step answers
 abbrev pub StepEnds : ℕ → Place → Op → TaskProgress → Place → Type 0
 StepEnds n a op progress.Moved next = GoesOn a next
 StepEnds n a op (progress.Turned reply) next = (is_unturned a ≡ true) × TurnEnds n op reply next
 StepEnds n a op (progress.Decided reply) next =
-    (is_reading a ≡ true) × (is_over next ≡ true) × ((bytes : List ℕ) × (reply ≡ Bytes bytes))
+    (is_reading a ≡ true) × DecidedEnds n op reply next
 StepEnds n a op progress.Over next =
     (is_unturned a ≡ false) × (is_reading a ≡ false) × (is_over next ≡ true)
 StepEnds n a op (progress.Sleeping why) next = GoesOn a next
@@ -92,8 +117,7 @@ takes_turn : (n : ℕ) (o : Option Dinode) (k : ℕ) (op : Op) → CanTake n op 
 takes_turn n None k op can = inr (can, record { unfinished = refl; turned = refl; unread = refl })
 takes_turn n (Some d) k (Create kind) can = absurd can
 takes_turn n (Some d) k (Write i off bytes) can = absurd can
-takes_turn n (Some d) k (Read i off count) can =
-    (can, (i, off, count, refl), by_bytes (first_read d off count))
+takes_turn n (Some d) k (Read i off count) can = by_bytes (first_read d off count)
   where
     by_bytes : (o : Option ReadState) → is_reading (place_of_read k o) ≡ true
     by_bytes None = refl
@@ -169,7 +193,18 @@ module _ {D N : Type 0} (disk : Ghosts D N) (s : StoreState D) (p : ℕ) (op : O
       by_answer (machine.Over out) is to = ends_with (place.Reading k m) progress.Moved is (on_at (place.Reading k m) _ next to (record { unfinished = refl; unturned = refl; reading = refl }))
       by_answer (machine.Fault fault) is to = ends_with (place.Reading k m) (progress.Fault fault) is (on_at (place.Reading k m) _ next to (record { unfinished = refl; unturned = refl; reading = refl }))
   ends_of (place.Delivering k) same stands looks unfinished goes =
-      ends_with (place.Delivering k) (progress.Decided (Bytes goes.bytes.bytes)) goes.gives (refl, ap is_over goes.up.next, (goes.bytes.bytes, refl))
+      ends_with (place.Delivering k) (progress.Decided (Bytes goes.bytes.bytes)) goes.gives (
+        refl,
+        inl (record {
+          number = looks.op.number;
+          offset = looks.op.offset;
+          count = looks.op.count;
+          is = let both = sym same ∙ looks.op.is in cc both;
+          bytes = goes.bytes.bytes;
+          reply_is = refl;
+          over = ap is_over goes.up.next;
+        }),
+      )
   ends_of (place.Truncating k m) same stands looks unfinished goes = by_answer goes.answer goes.gives goes.next
     where
       by_answer : (x : Progress (Unit {0})) → r ≡ progress_of_trunc x → next ≡ place_of_trunc k m goes.now x →
