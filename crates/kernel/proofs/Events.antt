@@ -14,7 +14,7 @@ use Rattle.model.specs.declared.types.operations.Reply.{Reply}
 use Rattle.model.specs.declared.types.operations.TaskProgress.{TaskProgress}
 use Rattle.model.specs.declared.types.operations.TaskProgress.TheVariants as progress
 use Rattle.model.specs.declared.types.operations.Why.{Why}
-use Rattle.model.specs.Journal.{is_at_once, is_changing}
+use Rattle.model.specs.Journal.{is_at_once}
 use Rattle.model.specs.Layout.{inode_count_of}
 use Rattle.ports.specs.History.{Side, first_in}
 use Rattle.wal.specs.declared.types.Commit.{Commit}

@@ -1,5 +1,5 @@
 -- What is true of store and processes stays so with a step of a task.
-use Rattle.std.proofs.Common.{◌≡◌, ◌≢◌, ℕ, ◌<◌, ◌≤◌, Bool, true, false, List, [], ◌∷◌, ◌++◌, length, set, length-set, ltb, refl, sym, ◌∙◌, ap, subst, arith, inl, inr, Option, Some, None}
+use Rattle.std.proofs.Common.{◌≡◌, ◌≢◌, ℕ, ◌<◌, ◌≤◌, Bool, true, false, List, [], ◌∷◌, ◌++◌, length, set, length-set, ltb, refl, sym, ◌∙◌, ap, subst, inl, inr, Option, Some, None}
 use Rattle.std.specs.Prelude.{IsTrue, is_none}
 use Rattle.std.proofs.lemmas.Bool.{false≢true, le-leb}
 use Rattle.std.proofs.lemmas.List.{set-get_or}
@@ -371,7 +371,7 @@ module _ {D N : Type 0} (disk : Ghosts D N) (opening : D) (s : StoreState D) (w 
           refl,
         ) in
         let goes_on : TaskStands z.journal.list (task t.tasks p) (at.Behind group k) = λ e here. subst (λ (f : Entry). IsBehind (task t.tasks p) f) (entry_same z.journal.list k (told own reply) e there here)
-            (record { same = steps.tasks.op_stays ∙ its.same; unfinished = write.on.unfinished; turned = write.on.turned; reply = write.on.unread }) in
+        (record { same = steps.tasks.op_stays ∙ its.same; unfinished = write.on.unfinished; turned = write.on.turned; reply = write.on.unread }) in
         subst (λ (y : World). IsRight disk opening t y) (sym same)
         (right_stepped (progress.Decided reply) steps refl agreed z (process w p) (sym (set-get_or w.processes p idle)) (at.Behind group k) stands (progress.Decided reply)
         (subst (λ (b : At). TaskNext (at.Behind group k) (progress.Decided reply) n form p (process w p).begun before es now z.journal.list b) (sym stands) goes)
