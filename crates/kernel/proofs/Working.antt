@@ -10,7 +10,7 @@ use Rattle.model.specs.declared.types.operations.Entry.{Entry}
 use Rattle.model.specs.declared.types.operations.Op.{Op}
 use Rattle.model.specs.declared.types.operations.Op.TheVariants.{Create, Write, Read, Trunc, Remove, Stat}
 use Rattle.model.specs.declared.types.operations.Reply.{Reply}
-use Rattle.model.specs.declared.types.operations.Reply.TheVariants.{Bytes}
+use Rattle.model.specs.declared.types.operations.Reply.TheVariants.{Bytes, Wrote}
 use Rattle.model.specs.declared.types.operations.TaskProgress.{TaskProgress}
 use Rattle.model.specs.declared.types.operations.TaskProgress.TheVariants as progress
 use Rattle.model.specs.Journal.{is_changing, is_making, is_number}
@@ -20,7 +20,7 @@ use Rattle.model.specs.Tasks.{fault_of_task}
 use Rattle.wal.specs.Volume.{faults_after}
 use Rattle.inodes.specs.Lemmas.Faults.{where_none}
 use Rattle.inodes.specs.Lemmas.Looks.{late_is}
-use Rattle.inodes.specs.Lemmas.StepEnds.{DecidedEnds, EndsRead, EndsWrite, GoesOn, StepEnds, TurnEnds, ends_of}
+use Rattle.inodes.specs.Lemmas.StepEnds.{DecisionEnds, GoesOn, GoesOnTurned, IsReadOp, IsWriteOp, StepEnds, TurnEnds, ends_of}
 use Rattle.inodes.specs.Looks.{AreLooking, CanLook, IsLate}
 use Rattle.inodes.specs.Places.{asked, is_over, is_reading, is_unturned}
 use Rattle.inodes.specs.Steps.{Steps}
@@ -246,7 +246,7 @@ module _ {D N : Type 0} (disk : Ghosts D N) (opening : D) (s : StoreState D) (w 
 
     pub right_turned : (reply : Option Reply) → Steps disk s p op (progress.Turned reply) t → HasAgreed disk.image t → IsRight disk opening t (turned w p reply (is_over next))
     right_turned None steps agreed =
-        let owes = (ends_now (progress.Turned None) more steps).1 in
+        let owes = (ends_now (progress.Turned None) more steps).1.2 in
         let late = late_is (current_of disk.image t.volume) t.table t.tasks agreed.looks p owes in
         let past = reading_more next owes in
         turned_with None steps agreed false past.0
@@ -292,18 +292,30 @@ module _ {D N : Type 0} (disk : Ghosts D N) (opening : D) (s : StoreState D) (w 
     ungrouped : group ≡ 0 → is_changing n own.op ≡ false
     ungrouped none = group_tells n group k es own had.facts.journal.changing has.at has.same ∙ ap (ltb 0) none
 
-    -- so who is in none is over with its reply, as a read is
-    read_over : group ≡ 0 → (reply : Reply) → DecidedEnds s.table.inode_count op reply next → EndsRead op reply next
-    read_over none reply (inl read) = read
-    read_over none reply (inr write) =
+    -- whose reply is to come, is in none as a read, or in one as a write
+    late_here : is_reading (task s.tasks p).place ≡ true → IsLate s.table.inode_count (task s.tasks p)
+    late_here owes = late_is (current_of disk.image s.volume) s.table s.tasks looks p owes
+
+    reads_alone : (i off m : ℕ) → op ≡ Read i off m → 0 < group → ⊥
+    reads_alone i off m is later = false≢true (sym (ap (is_changing n) (sym same_op ∙ is)) ∙ grouped later)
+
+    writes_grouped : (i off : ℕ) (bytes : List ℕ) → op ≡ Write i off bytes → IsLate s.table.inode_count (task s.tasks p) → group ≡ 0 → ⊥
+    writes_grouped i off bytes is (inl read) none = let no = sym read.is ∙ mine ∙ ap (λ (o : Op). Some o) is in cc no
+    writes_grouped i off bytes is (inr write) none =
         let named = subst (λ (m : ℕ). IsTrue (is_number m write.number)) right.numbers write.may.0 in
         let changing = write_changes n write.number write.offset write.bytes named write.may.1 in
-        absurd (false≢true (sym (ungrouped none) ∙ ap (is_changing n) (sym same_op ∙ write.is) ∙ changing))
+        let same : own.op ≡ Write write.number write.offset write.bytes = (let both = sym its.same ∙ write.is in cc both) in
+        false≢true (sym (ungrouped none) ∙ ap (is_changing n) same ∙ changing)
 
-    -- and who is in one goes on with it, as a write does
-    write_on : 0 < group → (reply : Reply) → DecidedEnds s.table.inode_count op reply next → EndsWrite s.table.inode_count op reply next
-    write_on later reply (inl read) = absurd (false≢true (sym (ap (is_changing n) (sym same_op ∙ read.is)) ∙ grouped later))
-    write_on later reply (inr write) = write
+    -- so who is in none is over with its reply, and has its bytes
+    read_over : group ≡ 0 → (reply : Reply) → is_reading (task s.tasks p).place ≡ true → DecisionEnds op reply next → (is_over next ≡ true) × ((bytes : List ℕ) × (reply ≡ Bytes bytes))
+    read_over none reply owes (inl read) = (read.1, read.2)
+    read_over none reply owes (inr write) = absurd (writes_grouped write.0.0 write.0.1 write.0.2 write.0.3 (late_here owes) none)
+
+    -- and who is in one goes on with it
+    write_on : 0 < group → (reply : Reply) → DecisionEnds op reply next → GoesOnTurned next × ((count : ℕ) × (reply ≡ Wrote count))
+    write_on later reply (inl read) = absurd (reads_alone read.0.0 read.0.1 read.0.2 read.0.3 later)
+    write_on later reply (inr write) = (write.1, write.2)
 
     -- what its reply makes of files and journal
     takes_told : (reply : Reply) → Steps disk s p op (progress.Decided reply) t → Takes form before now own.op reply
@@ -324,29 +336,29 @@ module _ {D N : Type 0} (disk : Ghosts D N) (opening : D) (s : StoreState D) (w 
     pub right_decided : group ≡ 0 → (reply : Reply) → Steps disk s p op (progress.Decided reply) t → HasAgreed disk.image t → IsRight disk opening t (answered (decided w p reply) p)
     right_decided none reply steps agreed =
         let ends = ends_now (progress.Decided reply) its.unfinished steps in
-        let read = read_over none reply ends.1 in
+        let read = read_over none reply ends.0 ends.1 in
         let z : World = answered (told_at (Some k) w reply) p in
         let u : Process = record (process w p) { at = at.Idle; room = None } in
         let same : answered (decided w p reply) p ≡ z = ap (λ (a : At). answered (told_at (entry_place a) w reply) p) stands in
-        let list : z.journal.list ≡ set es k (told own (Bytes read.bytes)) = list_told reply ∙ ap (λ (r : Reply). set es k (told own r)) read.reply_is in
-        let takes = subst (λ (r : Reply). Takes form before now own.op r) read.reply_is (takes_told reply steps) in
+        let list : z.journal.list ≡ set es k (told own (Bytes read.1.0)) = list_told reply ∙ ap (λ (r : Reply). set es k (told own r)) read.1.1 in
+        let takes = subst (λ (r : Reply). Takes form before now own.op r) read.1.1 (takes_told reply steps) in
         subst (λ (y : World). IsRight disk opening t y) (sym same)
         (right_stepped (progress.Decided reply) steps refl agreed z u refl (at.Behind group k) stands progress.Over (
           own,
           has.at,
           inl (record {
-            bytes = read.bytes;
+            bytes = read.1.0;
             open_still = reply_missing own.reply (sym its.reply ∙ ends.0);
             none = none;
             rest = reads_rest disk s t p op reply steps;
-            free = free_then disk s t p op (over_unread next read.over);
+            free = free_then disk s t p op (over_unread next read.0);
             files = takes;
             list = list;
             now = refl;
           }),
         )
         (counted_same s.volume.log.opened p w right.counted lt t.volume.log.opened z at.Idle None (ap Rattle.journal.specs.Processes.is_before stands) refl refl (length-set es k (told (entry_in es k) reply)) refl steps.groups.opened)
-        read.over (λ busy. absurd (false≢true busy)) refl refl)
+        read.0 (λ busy. absurd (false≢true busy)) refl refl)
 
     -- its writing is done: its entry is told the reply, and its task goes on
     pub right_told : 0 < group → (reply : Reply) → Steps disk s p op (progress.Decided reply) t → HasAgreed disk.image t → IsRight disk opening t (decided w p reply)
@@ -363,15 +375,15 @@ module _ {D N : Type 0} (disk : Ghosts D N) (opening : D) (s : StoreState D) (w 
           reply_missing own.reply (sym its.reply ∙ ends.0),
           record {
             rest = reads_rest disk s t p op reply steps;
-            mine = free_then disk s t p op write.on.unread;
-            made = λ i. ap (λ (r : Reply). is_making i (Some r)) write.reply_is;
+            mine = free_then disk s t p op write.0.unread;
+            made = λ i. ap (λ (r : Reply). is_making i (Some r)) write.1.1;
             files = takes_told reply steps;
           },
           list,
           refl,
         ) in
         let goes_on : TaskStands z.journal.list (task t.tasks p) (at.Behind group k) = λ e here. subst (λ (f : Entry). IsBehind (task t.tasks p) f) (entry_same z.journal.list k (told own reply) e there here)
-        (record { same = steps.tasks.op_stays ∙ its.same; unfinished = write.on.unfinished; turned = write.on.turned; reply = write.on.unread }) in
+        (record { same = steps.tasks.op_stays ∙ its.same; unfinished = write.0.unfinished; turned = write.0.turned; reply = write.0.unread }) in
         subst (λ (y : World). IsRight disk opening t y) (sym same)
         (right_stepped (progress.Decided reply) steps refl agreed z (process w p) (sym (set-get_or w.processes p idle)) (at.Behind group k) stands (progress.Decided reply)
         (subst (λ (b : At). TaskNext (at.Behind group k) (progress.Decided reply) n form p (process w p).begun before es now z.journal.list b) (sym stands) goes)

@@ -1,6 +1,6 @@
 -- How the steps of any task end.
-use Rattle.std.proofs.Common.{◌≡◌, ◌⊎◌, ◌≤◌, ⊎_elim, inl, inr, ℕ, Bool, true, false, List, length, refl, sym, ◌∙◌, ap, subst, Option, Some, None}
-use Rattle.std.specs.Prelude.{IsSome, IsTrue, slice_index}
+use Rattle.std.proofs.Common.{◌≡◌, ◌⊎◌, ⊎_elim, inl, inr, ℕ, Bool, true, false, List, refl, sym, ◌∙◌, ap, subst, Option, Some, None}
+use Rattle.std.specs.Prelude.{IsSome, slice_index}
 use Rattle.std.proofs.lemmas.Bool.{false≢true}
 use Rattle.blocks.specs.declared.disk.Disk.{Ghosts}
 use Rattle.blocks.specs.declared.errors.DiskFault.{DiskFault}
@@ -11,9 +11,7 @@ use Rattle.model.specs.declared.types.operations.Reply.{Reply}
 use Rattle.model.specs.declared.types.operations.Reply.TheVariants.{Bytes, Wrote}
 use Rattle.model.specs.declared.types.operations.TaskProgress.{TaskProgress}
 use Rattle.model.specs.declared.types.operations.TaskProgress.TheVariants as progress
-use Rattle.model.specs.Journal.{is_number}
 use Rattle.model.specs.Layout.{inode_of, inode_block}
-use Rattle.model.specs.Operations.{transfer_limit}
 use Rattle.wal.specs.Machine.{used_by}
 use Rattle.wal.specs.Volume.{VolumeState}
 use Rattle.wal.specs.declared.types.Get.{Get}
@@ -58,44 +56,33 @@ pub record GoesOnTurned (next : Place) : Type 0 where
   pub turned : is_unturned next ≡ false
   pub unread : is_reading next ≡ false
 
+-- the operation is a reading, or a write
+abbrev pub IsReadOp : Op → Type 0
+IsReadOp op = (i : ℕ) × (off : ℕ) × (count : ℕ) × (op ≡ Read i off count)
+
+abbrev pub IsWriteOp : Op → Type 0
+IsWriteOp op = (i : ℕ) × (off : ℕ) × (bytes : List ℕ) × (op ≡ Write i off bytes)
+
 -- With its turn a creation is over; an operation that takes an inode has its reply and goes on, or
--- its reply comes later.
+-- it is a reading or a write, whose reply comes later.
 abbrev pub TurnEnds : ℕ → Op → Option Reply → Place → Type 0
-TurnEnds n op None next = is_reading next ≡ true
+TurnEnds n op None next =
+    CanTake n op × (IsReadOp op ⊎ IsWriteOp op) × (is_reading next ≡ true)
 TurnEnds n op (Some reply) next =
     (CanBegin n op × (is_over next ≡ true)) ⊎ (CanTake n op × GoesOnTurned next)
 
--- a read is over with its reply
-pub record EndsRead (op : Op) (reply : Reply) (next : Place) : Type 0 where
-  pub number : ℕ
-  pub offset : ℕ
-  pub count : ℕ
-  pub is : op ≡ Read number offset count
-  pub bytes : List ℕ
-  pub reply_is : reply ≡ Bytes bytes
-  pub over : is_over next ≡ true
-
--- with that of a write its task goes on, and owes none any more
-pub record EndsWrite (n : ℕ) (op : Op) (reply : Reply) (next : Place) : Type 0 where
-  pub number : ℕ
-  pub offset : ℕ
-  pub bytes : List ℕ
-  pub is : op ≡ Write number offset bytes
-  pub may : IsTrue (is_number n number) × (length bytes ≤ transfer_limit)
-  pub count : ℕ
-  pub reply_is : reply ≡ Wrote count
-  pub on : GoesOnTurned next
-
--- what an operation comes to whose reply is decided behind its turn
-abbrev pub DecidedEnds : ℕ → Op → Reply → Place → Type 0
-DecidedEnds n op reply next = EndsRead op reply next ⊎ EndsWrite n op reply next
+-- a reading is over with its bytes, and a write goes on with the count of those that it wrote
+abbrev pub DecisionEnds : Op → Reply → Place → Type 0
+DecisionEnds op reply next =
+    (IsReadOp op × (is_over next ≡ true) × ((bytes : List ℕ) × (reply ≡ Bytes bytes)))
+    ⊎ (IsWriteOp op × GoesOnTurned next × ((k : ℕ) × (reply ≡ Wrote k)))
 
 -- by what the step answers
 abbrev pub StepEnds : ℕ → Place → Op → TaskProgress → Place → Type 0
 StepEnds n a op progress.Moved next = GoesOn a next
 StepEnds n a op (progress.Turned reply) next = (is_unturned a ≡ true) × TurnEnds n op reply next
 StepEnds n a op (progress.Decided reply) next =
-    (is_reading a ≡ true) × DecidedEnds n op reply next
+    (is_reading a ≡ true) × DecisionEnds op reply next
 StepEnds n a op progress.Over next =
     (is_unturned a ≡ false) × (is_reading a ≡ false) × (is_over next ≡ true)
 StepEnds n a op (progress.Sleeping why) next = GoesOn a next
@@ -117,7 +104,8 @@ takes_turn : (n : ℕ) (o : Option Dinode) (k : ℕ) (op : Op) → CanTake n op 
 takes_turn n None k op can = inr (can, record { unfinished = refl; turned = refl; unread = refl })
 takes_turn n (Some d) k (Create kind) can = absurd can
 takes_turn n (Some d) k (Write i off bytes) can = absurd can
-takes_turn n (Some d) k (Read i off count) can = by_bytes (first_read d off count)
+takes_turn n (Some d) k (Read i off count) can =
+    (can, inl (i, off, count, refl), by_bytes (first_read d off count))
   where
     by_bytes : (o : Option ReadState) → is_reading (place_of_read k o) ≡ true
     by_bytes None = refl
@@ -195,15 +183,16 @@ module _ {D N : Type 0} (disk : Ghosts D N) (s : StoreState D) (p : ℕ) (op : O
   ends_of (place.Delivering k) same stands looks unfinished goes =
       ends_with (place.Delivering k) (progress.Decided (Bytes goes.bytes.bytes)) goes.gives (
         refl,
-        inl (record {
-          number = looks.op.number;
-          offset = looks.op.offset;
-          count = looks.op.count;
-          is = let both = sym same ∙ looks.op.is in cc both;
-          bytes = goes.bytes.bytes;
-          reply_is = refl;
-          over = ap is_over goes.up.next;
-        }),
+        inl (
+          (
+            looks.op.number,
+            looks.op.offset,
+            looks.op.count,
+            let both : Some op ≡ Some (Read looks.op.number looks.op.offset looks.op.count) = sym same ∙ looks.op.is in cc both,
+          ),
+          ap is_over goes.up.next,
+          (goes.bytes.bytes, refl),
+        ),
       )
   ends_of (place.Truncating k m) same stands looks unfinished goes = by_answer goes.answer goes.gives goes.next
     where
