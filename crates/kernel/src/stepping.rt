@@ -126,8 +126,8 @@ impl<D: Disk, I: Intake, H: Herald> Kernel<D, I, H> {
     }
 
     // Makes the next step of a task whose operation had its turn. With its reply, or with its last
-    // step, an operation of no group of the log is answered. One of a group goes on, and is answered
-    // at its end in the log.
+    // step, an operation of no group of the log is answered. One of a group goes on, and is
+    // answered at its end in the log.
     fn finish(&mut self, pid: u32) -> Step
         requires pid { pid < length self.old.world.processes }
         requires fault { self.old.store.volume.fault ≡ None }
