@@ -20,7 +20,7 @@ use Rattle.model.specs.Tasks.{fault_of_task}
 use Rattle.wal.specs.Volume.{faults_after}
 use Rattle.inodes.specs.Lemmas.Faults.{where_none}
 use Rattle.inodes.specs.Lemmas.Looks.{late_is}
-use Rattle.inodes.specs.Lemmas.StepEnds.{DecisionEnds, GoesOn, GoesOnTurned, IsReadOp, IsWriteOp, StepEnds, TurnEnds, ends_of}
+use Rattle.inodes.specs.Lemmas.StepEnds.{DecisionEnds, GoesOn, GoesOnTurned, StepEnds, TurnEnds, ends_of}
 use Rattle.inodes.specs.Looks.{AreLooking, CanLook, IsLate}
 use Rattle.inodes.specs.Places.{asked, is_over, is_reading, is_unturned}
 use Rattle.inodes.specs.Steps.{Steps}
