@@ -28,7 +28,7 @@ pub record View : Type 1 where
   -- what buffers and disk show together
   pub current : Image
   pub log : LogState
-  -- what each process's task holds from its turn to its finish
+  -- what each process's task holds whose reply is still to come behind its turn
   pub holds : ℕ → Option Held
   -- these are the files, with each decided operation done
   pub fits : Files → Type 0
@@ -118,14 +118,14 @@ pub record Opens (n p : ℕ) (op : Op) (s t : View) : Type 0 where
   pub held : t.holds p ≡ Some (held_by op)
   pub files : (m : Files) → s.fits m → t.fits m
 
--- the reply of the operation is decided
+-- the reply of the operation is decided: what its task held until then it lets go
 pub record Decides (form : Form) (p : ℕ) (op : Op) (r : Reply) (s t : View) : Type 0 where
   pub rest : LeavesRest None p s t
-  pub mine : t.holds p ≡ s.holds p
+  pub mine : t.holds p ≡ None
   pub made : (i : ℕ) → is_making i (Some r) ≡ false
   pub files : Takes form s t op r
 
--- the task is over, and lets its inode go
+-- the task is over, and holds nothing
 pub record Leaves (p : ℕ) (s t : View) : Type 0 where
   pub rest : LeavesRest None p s t
   pub mine : t.holds p ≡ None

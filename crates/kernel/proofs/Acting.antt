@@ -39,7 +39,7 @@ use Rattle.kernel.specs.declared.types.Step.TheVariants as step
 use Rattle.kernel.specs.Device.{UsesDisk, CountsItsFault, WritesOnce, block_at_step}
 use Rattle.std.specs.Option.{option_map}
 use Rattle.kernel.specs.declared.waiting.Waiting.{Waiting}
-use Rattle.kernel.specs.Next.{NextIf, NextAt, BeginsWith, Ends, step_of, step_behind, step_of_last, step_of_end, step_of_write, world_after, world_behind, world_written}
+use Rattle.kernel.specs.Next.{NextIf, NextAt, BeginsWith, Ends, step_of, step_behind, step_of_last, step_of_told, step_of_end, step_of_write, world_after, world_behind, world_written}
 use Rattle.kernel.specs.Begins.{Begins}
 use Rattle.kernel.specs.Ports.{KeepsOthers, Asks}
 use Rattle.kernel.specs.State.{State, waiting_of}
@@ -214,10 +214,14 @@ module _ {D N I M H : Type 0} (disk : disk_trait.Ghosts D N) (intake : intake_tr
       by_group zero e = cc e
       by_group (suc g) e = cc e
 
+      by_reply : (g : ℕ) → step_of_told g ≢ step.Halted
+      by_reply zero e = cc e
+      by_reply (suc g) e = cc e
+
       runs : (q : TaskProgress) → fault_of_task q ≡ None → step_behind group q ≢ step.Halted
       runs progress.Moved none e = cc e
       runs (progress.Turned reply) none e = cc e
-      runs (progress.Decided reply) none e = cc e
+      runs (progress.Decided reply) none e = by_reply group e
       runs progress.Over none e = by_group group e
       runs (progress.Sleeping why) none e = cc e
       runs (progress.Fault fault) none e = cc none

@@ -14,7 +14,7 @@ use Rattle.model.specs.declared.types.operations.Reply.{Reply}
 use Rattle.model.specs.declared.types.operations.TaskProgress.{TaskProgress}
 use Rattle.model.specs.declared.types.operations.TaskProgress.TheVariants as progress
 use Rattle.model.specs.declared.types.operations.Why.{Why}
-use Rattle.model.specs.Journal.{is_at_once, is_changing}
+use Rattle.model.specs.Journal.{is_at_once}
 use Rattle.model.specs.Layout.{inode_count_of}
 use Rattle.ports.specs.History.{Side, first_in}
 use Rattle.wal.specs.declared.types.Commit.{Commit}
@@ -55,17 +55,16 @@ use Rattle.kernel.specs.declared.waiting.Waiting.{Waiting}
 use Rattle.kernel.specs.declared.waiting.Waiting.TheVariants as waiting
 use Rattle.kernel.specs.declared.types.Step.{Step}
 use Rattle.kernel.specs.declared.types.Step.TheVariants as step
-use Rattle.kernel.specs.Next.{IsNotTaken, BeginsWith, Works, Finishes, Ends, Writes, NextAt, NextIf, Next, step_of, world_after, step_behind, world_behind, step_of_last, world_of_last, step_of_end, world_ended, step_of_write, world_written}
+use Rattle.kernel.specs.Next.{IsNotTaken, BeginsWith, Works, Finishes, Ends, Writes, NextAt, NextIf, Next, step_of, world_after, step_behind, world_behind, step_of_last, world_of_last, step_of_told, world_of_told, step_of_end, world_ended, step_of_write, world_written}
 use Rattle.kernel.specs.Progress.{is_heading, commits, CountsCommitted}
 use Rattle.kernel.specs.Invariant.{IsBehind}
 use Rattle.kernel.specs.State.{waiting_of, ats_of, room_for}
 use Rattle.kernel.proofs.Beginnings.{refused_at_once}
 use Rattle.kernel.proofs.Valid.{unturned_unread}
-use Rattle.kernel.proofs.Well.{IsWell, log_of, stands_at, later_before, before_there, unturned_before, behind_there}
+use Rattle.kernel.proofs.Well.{IsWell, log_of, stands_at, later_before, later_behind, before_there, unturned_before, behind_there}
 use Rattle.kernel.proofs.Working.{reply_missing}
 use Rattle.inodes.specs.Lemmas.Bounds.{few_steps}
 use Rattle.journal.specs.Lemmas.Ends.{commits_now, ended_count}
-use Rattle.inodes.specs.Lemmas.Looks.{reading_is}
 use Rattle.inodes.specs.Lemmas.StepEnds.{StepEnds, ends_of, logs_of}
 
 -- a write of a commit commits its group where it is that of the header
@@ -320,12 +319,10 @@ module _ {D N : Type 0} (disk : Ghosts D N) (opening : Image) (p : ℕ) (s t : S
         counted : (q : TaskProgress) → Steps disk s p op q t → t.volume.log.committed ≡ s.volume.log.committed
         counted q done = done.groups.committed
 
-        -- a reading is told its bytes
+        -- its entry is told its reply
         tells : (reply : Reply) → Steps disk s p op (progress.Decided reply) t → IsTold n p s.volume.log.committed w.journal.list (set w.journal.list k (Rattle.journal.specs.Open.told (entry_in w.journal.list k) reply))
         tells reply done =
             let reads = (stops op same_op more (progress.Decided reply) done).0 in
-            let read = reading_is (current_of disk.image s.volume) s.table s.tasks is.looks p reads in
-            let op_is : there.0.op ≡ Read read.number read.offset read.count = (let both = sym there.2.same ∙ read.is in cc both) in
             record {
               place = k;
               entry = there.0;
@@ -333,7 +330,7 @@ module _ {D N : Type 0} (disk : Ghosts D N) (opening : Image) (p : ℕ) (s t : S
               at = there.1.at;
               mine = there.1.mine;
               none = reply_missing there.0.reply (sym there.2.reply ∙ reads);
-              later = λ changing. absurd (false≢true (sym (ap (is_changing n) op_is) ∙ changing));
+              later = later_behind disk.image opening s w p is group k there.0 stands there.1.at;
               list = ap (λ (e : Entry). set w.journal.list k (Rattle.journal.specs.Open.told e reply)) inside;
             }
 
@@ -344,11 +341,21 @@ module _ {D N : Type 0} (disk : Ghosts D N) (opening : Image) (p : ℕ) (s t : S
             stays step.Moved to (counted_at (at.Behind group k) step.Moved stands (omega (arith, same))) (others_of op more progress.Moved done)
             (λ moved. fewer (process w p) (at.Behind group k) (at.Behind group k) stands stands (omega (arith, less)) (omega arith))
         by_progress (progress.Turned reply) done to = absurd (false≢true (sym there.2.turned ∙ (stops op same_op more (progress.Turned reply) done).0))
-        by_progress (progress.Decided reply) done to =
-            let same = done.groups.committed in
-            let now : answered (decided w p reply) p ≡ answered (told_at (Some k) w reply) p = ap (λ (a : At). answered (told_at (entry_place a) w reply) p) stands in
-            goes step.Answered (answered (told_at (Some k) w reply) p) (record (process w p) { at = at.Idle; room = None }) (to ∙ now) refl refl (inr refl) (inr (inr (tells reply done)))
-            (counted_at (at.Behind group k) step.Answered stands (omega (arith, same))) (others_of op more (progress.Decided reply) done) (λ moved. absurd (cc moved))
+        by_progress (progress.Decided reply) done to = by_group group stands to
+          where
+            by_group : (g : ℕ) → (process w p).at ≡ at.Behind g k → z ≡ world_of_told g w p reply → Made (step_of_told g)
+            by_group zero at_behind to =
+                let same = done.groups.committed in
+                let now : answered (decided w p reply) p ≡ answered (told_at (Some k) w reply) p = ap (λ (a : At). answered (told_at (entry_place a) w reply) p) at_behind in
+                goes step.Answered (answered (told_at (Some k) w reply) p) (record (process w p) { at = at.Idle; room = None }) (to ∙ now) refl refl (inr refl) (inr (inr (tells reply done)))
+                (counted_at (at.Behind zero k) step.Answered at_behind (omega (arith, same))) (others_of op more (progress.Decided reply) done) (λ moved. absurd (cc moved))
+            by_group (suc g) at_behind to =
+                let same = done.groups.committed in
+                let less = falls_here op more (progress.Decided reply) refl done in
+                let now : decided w p reply ≡ told_at (Some k) w reply = ap (λ (a : At). told_at (entry_place a) w reply) at_behind in
+                goes step.Moved (told_at (Some k) w reply) (process w p) (to ∙ now) (sym (set-get_or w.processes p idle)) refl (inr refl) (inr (inr (tells reply done)))
+                (counted_at (at.Behind (suc g) k) step.Moved at_behind (omega (arith, same))) (others_of op more (progress.Decided reply) done)
+                (λ moved. fewer (process w p) (at.Behind (suc g) k) (at.Behind (suc g) k) at_behind at_behind (omega (arith, less)) (omega arith))
         by_progress progress.Over done to = by_group group stands to
           where
             by_group : (g : ℕ) → (process w p).at ≡ at.Behind g k → z ≡ world_of_last g w p → Made (step_of_last g)

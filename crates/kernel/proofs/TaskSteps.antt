@@ -8,7 +8,6 @@ use Rattle.blocks.specs.declared.disk.Disk.{Ghosts}
 use Rattle.model.specs.declared.types.image.Form.{Form}
 use Rattle.model.specs.declared.types.image.Form.TheVariants.{One, Two}
 use Rattle.model.specs.declared.types.operations.Op.{Op}
-use Rattle.model.specs.declared.types.operations.Op.TheVariants.{Read}
 use Rattle.model.specs.declared.types.operations.Reply.{Reply}
 use Rattle.model.specs.declared.types.operations.TaskProgress.{TaskProgress}
 use Rattle.model.specs.declared.types.operations.TaskProgress.TheVariants as progress
@@ -18,7 +17,7 @@ use Rattle.model.specs.Journal.{is_making, is_number}
 use Rattle.model.specs.Layout.{form_of, magic_of}
 use Rattle.model.specs.Tasks.{reply_at_turn}
 use Rattle.inodes.specs.Lemmas.StepEnds.{GoesOn}
-use Rattle.inodes.specs.Looks.{AreLooking, CanLook}
+use Rattle.inodes.specs.Looks.{AreLooking, IsLate}
 use Rattle.inodes.specs.Places.{asked, asked_by, is_over, is_reading}
 use Rattle.inodes.specs.Tasks.{task}
 use Rattle.inodes.specs.Steps.{Steps}
@@ -26,7 +25,7 @@ use Rattle.inodes.specs.Store.{StoreState, current_of}
 use Rattle.journal.specs.Open.{Held, held_by, number_of}
 use Rattle.journal.specs.Views.{LeavesRest, Moves, Takes, Turns, Opens, Leaves}
 use Rattle.kernel.specs.View.{held_at, view_of}
-use Rattle.kernel.proofs.Valid.{unread_holds, over_unread, look_number, held_reads}
+use Rattle.kernel.proofs.Valid.{LateOp, unread_holds, over_unread, late_op, held_late}
 
 -- what no operation touches has the form of the opening
 pub form_untouched : (opening x : Image) → IsUntouched opening x → form_of x ≡ form_of opening
@@ -48,7 +47,7 @@ module _ {D N : Type 0} (disk : Ghosts D N) (s t : StoreState D) (p : ℕ) (op :
   pub moves_of : GoesOn (task s.tasks p).place (task t.tasks p).place → Steps disk s p op progress.Moved t → Moves p (view_of disk.image s) (view_of disk.image t)
   moves_of on step = record { rest = rest progress.Moved step; mine = mine progress.Moved step on.reading; files = step.files }
 
-  -- nothing is held where nothing is read any more
+  -- nothing is held where no reply is owed any more
   pub free_then : is_reading (task t.tasks p).place ≡ false → (view_of disk.image t).holds p ≡ None
   free_then unread = unread_holds (task t.tasks p) unread
 
@@ -58,18 +57,17 @@ module _ {D N : Type 0} (disk : Ghosts D N) (s t : StoreState D) (p : ℕ) (op :
   pub reads_rest : (r : Reply) → Steps disk s p op (progress.Decided r) t → LeavesRest None p (view_of disk.image s) (view_of disk.image t)
   reads_rest r step = rest (progress.Decided r) step
 
-  -- a reading has its turn, and its reply is to come
-  pub opens_of : (n i off count : ℕ) → op ≡ Read i off count → CanLook n op → (task s.tasks p).op ≡ Some op → is_reading (task t.tasks p).place ≡ true → Steps disk s p op (progress.Turned None) t → Opens n p op (view_of disk.image s) (view_of disk.image t)
-  opens_of n i off count is can same reading step = record {
-    rest = rest (progress.Turned None) step;
-    late = ap Rattle.journal.specs.Open.is_late is;
-    number = subst (λ (k : ℕ). IsTrue (is_number n k)) (sym (look_number n op can)) (numbered op is can);
-    held = ap (λ (b : Bool). cond b (option_map held_by (task t.tasks p).op) None) reading ∙ ap (λ (o : Option Op). option_map held_by o) (step.tasks.op_stays ∙ same);
-    files = step.files;
-  }
-    where
-      numbered : (o : Op) → o ≡ Read i off count → CanLook n o → IsTrue (is_number n (asked o))
-      numbered o is can = let its : CanLook n (Read i off count) = subst (CanLook n) is can in subst (λ (q : Op). IsTrue (is_number n (asked q))) (sym is) its.0
+  -- an operation has its turn, and its reply is to come
+  pub opens_of : (n : ℕ) → IsLate n (task t.tasks p) → (task s.tasks p).op ≡ Some op → is_reading (task t.tasks p).place ≡ true → Steps disk s p op (progress.Turned None) t → Opens n p op (view_of disk.image s) (view_of disk.image t)
+  opens_of n late same owes step =
+      let its : LateOp n op = late_op n (task t.tasks p) op (step.tasks.op_stays ∙ same) late in
+      record {
+        rest = rest (progress.Turned None) step;
+        late = its.late;
+        number = subst (λ (k : ℕ). IsTrue (is_number n k)) (sym its.number) its.named;
+        held = ap (λ (b : Bool). cond b (option_map held_by (task t.tasks p).op) None) owes ∙ ap (λ (o : Option Op). option_map held_by o) (step.tasks.op_stays ∙ same);
+        files = step.files;
+      }
 
   module _ (form : Form) (same : form_of (current_of disk.image s.volume) ≡ form) where
     -- with its reply
@@ -89,7 +87,7 @@ module _ {D N : Type 0} (disk : Ghosts D N) (s t : StoreState D) (p : ℕ) (op :
       where
         leaves : (q : ℕ) (h : Held) → q ≢ p → held_at (task s.tasks q) ≡ Some h → (eqb (number_of op) h.number || is_making h.number (Some r)) ≡ false
         leaves q h other held =
-            let its = held_reads (current_of disk.image s.volume) s.table s.tasks are q h held in
-            let apart = step.apart q other its.reading in
+            let its = held_late (current_of disk.image s.volume) s.table s.tasks are q h held in
+            let apart = step.apart q other its.late in
             ap (λ (k : ℕ). eqb k h.number || is_making h.number (Some r)) number ∙ ap (λ (k : ℕ). eqb (asked op) k || is_making k (Some r)) its.number
             ∙ ap (λ (b : Bool). b || is_making (asked_by (task s.tasks q).op) (Some r)) (ne_eqb (asked op) (asked_by (task s.tasks q).op) apart.0) ∙ apart.1

@@ -30,7 +30,7 @@ module _ {D : Type 0} (image : D → Image) (s : StoreState D) (w : World) (pair
       let behind = subst (λ (a : At). TaskStands w.journal.list (task s.tasks p) a) stands (paired.stand p).stands e is in
       subst (λ (o : Option Op). HoldsInode s.table p (asked_by o)) behind.same (holds_lock (current_of image s.volume) s.table s.tasks looks p behind.unfinished behind.turned)
 
-  -- who holds a number reads, and is neither over nor before its turn
+  -- who holds a number owes its reply, and is neither over nor before its turn
   reads : (t : TaskState) (h : Held) → held_at t ≡ Some h → is_reading t.place ≡ true
   reads t h holds = by_test (is_reading t.place) holds
     where

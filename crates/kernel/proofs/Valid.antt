@@ -1,5 +1,5 @@
 -- What is true of every store, as a journal sees it.
-use Rattle.std.proofs.Common.{◌≡◌, ⊎_elim, ℕ, Bool, true, false, cond, List, ◌∙◌, sym, refl, ap, subst, arith, Option, Some, None}
+use Rattle.std.proofs.Common.{◌≡◌, ⊎_elim, inl, inr, ℕ, Bool, true, false, cond, List, length, ◌∙◌, sym, refl, ap, subst, arith, Option, Some, None}
 use Rattle.std.specs.Option.{option_map}
 use Rattle.std.specs.Prelude.{IfNone, IsSome, IsTrue}
 use Rattle.std.proofs.lemmas.Bool.{false≢true, le-ltb}
@@ -20,13 +20,13 @@ use Rattle.inodes.specs.declared.tasks.Place.TheVariants as place
 use Rattle.inodes.specs.Holding.{claim_by, claims_of}
 use Rattle.inodes.specs.Lemmas.Faults.{where_none}
 use Rattle.inodes.specs.Lemmas.Holding.{none_held}
-use Rattle.inodes.specs.Lemmas.Looks.{reading_is, reading_number, readings_apart}
-use Rattle.inodes.specs.Looks.{AreLooking, CanLook, CanTake}
+use Rattle.inodes.specs.Lemmas.Looks.{late_is, reading_number, readings_apart}
+use Rattle.inodes.specs.Looks.{AreLooking, CanLook, CanTake, IsLate, IsWrite, LooksAt}
 use Rattle.inodes.specs.Places.{asked, asked_by, is_over, is_reading, is_unturned}
 use Rattle.inodes.specs.Tasks.{TaskState, task}
 use Rattle.inodes.specs.Store.{Agrees, FitsFiles, IsStore, Stands, StoreState, current_of}
 use Rattle.journal.specs.Lemmas.Groups.{open_of}
-use Rattle.journal.specs.Open.{Held, held_by, number_of}
+use Rattle.journal.specs.Open.{Held, held_by, is_late, number_of}
 use Rattle.journal.specs.Views.{IsValidView}
 use Rattle.kernel.specs.View.{held_at, view_of}
 
@@ -39,7 +39,7 @@ pub record HasAgreed {D : Type 0} (image : D → Image) (s : StoreState D) : Typ
 pub agreed_now : {D : Type 0} (image : D → Image) (s : StoreState D) → s.volume.fault ≡ None → IfNone s.volume.fault (Joint (image s.volume.device) s.volume.buffers s.volume.log) → IsStore image s → HasAgreed image s
 agreed_now image s well joint store = record { joint = where_none s.volume.fault well joint; looks = where_none s.volume.fault well store.looks; agrees = where_none s.volume.fault well store.agrees }
 
--- whose task reads nothing holds nothing
+-- whose task owes no reply holds nothing
 pub unread_holds : (u : TaskState) → is_reading u.place ≡ false → held_at u ≡ None
 unread_holds u unread = ap (λ (b : Bool). cond b (option_map held_by u.op) None) unread
 
@@ -91,28 +91,60 @@ look_takes n (Stat i) can = can
 pub look_number : (n : ℕ) (op : Op) → CanLook n op → number_of op ≡ asked op
 look_number n op can = take_number n op (look_takes n op can)
 
--- process q reads, and holds the number that it asks for, without writing
-pub record Reads (ts : List TaskState) (q : ℕ) (h : Held) : Type 0 where
-  pub reading : is_reading (task ts q).place ≡ true
+-- an operation whose reply may come behind its turn, of a number that operations may name
+pub record LateOp (n : ℕ) (op : Op) : Type 0 where
+  pub late : is_late op ≡ true
+  pub named : IsTrue (is_number n (asked op))
+  pub number : number_of op ≡ asked op
+
+-- such is that of a task whose reply is to come
+pub late_op : (n : ℕ) (t : TaskState) (op : Op) → t.op ≡ Some op → IsLate n t → LateOp n op
+late_op n t op same (inl r) =
+    let is : Read r.number r.offset r.count ≡ op = (let both = sym r.is ∙ same in cc both) in
+    subst (LateOp n) is (record { late = refl; named = r.may.0; number = look_number n (Read r.number r.offset r.count) r.may })
+late_op n t op same (inr w) =
+    let is : Write w.number w.offset w.bytes ≡ op = (let both = sym w.is ∙ same in cc both) in
+    subst (LateOp n) is (record { late = refl; named = w.may.0; number = ap (λ (b : Bool). cond b 0 w.number) (le-ltb 3072 (length w.bytes) w.may.1) })
+
+-- the reply of process q is to come, and it holds the number that it asks for; only a write writes
+pub record HoldsLate (n : ℕ) (ts : List TaskState) (q : ℕ) (h : Held) : Type 0 where
+  pub late : is_reading (task ts q).place ≡ true
   pub number : h.number ≡ asked_by (task ts q).op
-  pub writes : h.writes ≡ false
+  pub writes : h.writes ≡ true → IsWrite n (task ts q)
 
 -- so does who holds something
-pub held_reads : (cur : Image) (t : Rattle.inodes.specs.Table.TableState) (ts : List TaskState) → AreLooking cur t ts → (q : ℕ) (h : Held) → held_at (task ts q) ≡ Some h → Reads ts q h
-held_reads cur t ts are q h held = by_place (is_reading (task ts q).place) refl
+pub held_late : (cur : Image) (t : Rattle.inodes.specs.Table.TableState) (ts : List TaskState) → AreLooking cur t ts → (q : ℕ) (h : Held) → held_at (task ts q) ≡ Some h → HoldsLate t.inode_count ts q h
+held_late cur t ts are q h held = by_place (is_reading (task ts q).place) refl
   where
-    by_place : (b : Bool) → is_reading (task ts q).place ≡ b → Reads ts q h
+    shown : (op : Op) → is_reading (task ts q).place ≡ true → (task ts q).op ≡ Some op → held_by op ≡ h
+    shown op is same =
+        let both : Some (held_by op) ≡ Some h = sym (ap (λ (o : Option Op). option_map held_by o) same) ∙ sym (ap (λ (b : Bool). cond b (option_map held_by (task ts q).op) None) is) ∙ held in
+        cc both
+
+    numbered : (op : Op) → is_reading (task ts q).place ≡ true → (task ts q).op ≡ Some op → IsLate t.inode_count (task ts q) → h.number ≡ asked_by (task ts q).op
+    numbered op is same late = ap (λ (g : Held). g.number) (sym (shown op is same)) ∙ (late_op t.inode_count (task ts q) op same late).number ∙ sym (ap asked_by same)
+
+    by_late : is_reading (task ts q).place ≡ true → IsLate t.inode_count (task ts q) → HoldsLate t.inode_count ts q h
+    by_late is (inl r) = record {
+      late = is;
+      number = numbered (Read r.number r.offset r.count) is r.is (inl r);
+      writes = λ writes. absurd (false≢true (ap (λ (g : Held). g.writes) (shown (Read r.number r.offset r.count) is r.is) ∙ writes));
+    }
+    by_late is (inr w) = record { late = is; number = numbered (Write w.number w.offset w.bytes) is w.is (inr w); writes = λ writes. w }
+
+    by_place : (b : Bool) → is_reading (task ts q).place ≡ b → HoldsLate t.inode_count ts q h
     by_place false is = let no = sym (unread_holds (task ts q) is) ∙ held in absurd (cc no)
-    by_place true is =
-        let r = reading_is cur t ts are q is in
-        let shown : Some (held_by (Read r.number r.offset r.count)) ≡ Some h
-        = sym (ap (λ (o : Option Op). option_map held_by o) r.is) ∙ sym (ap (λ (b : Bool). cond b (option_map held_by (task ts q).op) None) is) ∙ held in
-        let same : held_by (Read r.number r.offset r.count) ≡ h = cc shown in
-        record {
-          reading = is;
-          number = ap (λ (g : Held). g.number) (sym same) ∙ look_number t.inode_count (Read r.number r.offset r.count) r.may ∙ sym (ap asked_by r.is);
-          writes = ap (λ (g : Held). g.writes) (sym same);
-        }
+    by_place true is = by_late is (late_is cur t ts are q is)
+
+-- a write whose reply is to come is open in the log
+write_logged : (cur : Image) (t : Rattle.inodes.specs.Table.TableState) (c : Buffers) (l : LogState) (q : ℕ) (u : TaskState) (a : Place) → LooksAt cur t u a → Stands c l t.inode_count q u.op a → is_reading a ≡ true → IsWrite t.inode_count u → IsSome (used_by l q)
+write_logged cur t c l q u place.Nowhere looks stands late w = absurd (false≢true late)
+write_logged cur t c l q u (place.Creating m) looks stands late w = absurd (false≢true late)
+write_logged cur t c l q u (place.Taking m) looks stands late w = absurd (false≢true late)
+write_logged cur t c l q u (place.Reading k m) looks stands late w = let no = sym looks.op.is ∙ w.is in absurd (cc no)
+write_logged cur t c l q u (place.Delivering k) looks stands late w = let no = sym looks.op.is ∙ w.is in absurd (cc no)
+write_logged cur t c l q u (place.Truncating k m) looks stands late w = absurd (false≢true late)
+write_logged cur t c l q u (place.Leaving k) looks stands late w = absurd (false≢true late)
 
 -- while no operation is open in the log, no task holds a number
 claims_nothing : (l : LogState) (c : Buffers) (n p i : ℕ) (o : Option Op) (a : Place) → IsLogAt l.commit l → l.outstanding ≡ 0 → Stands c l n p o a → claim_by a i ≡ None
@@ -144,14 +176,14 @@ pub valid_joint : {D : Type 0} (image : D → Image) (s : StoreState D) (n : ℕ
 valid_joint image s n same agreed =
     let cur = current_of image s.volume in
     let are = agreed.looks in
-    let reads = held_reads cur s.table s.tasks are in
+    let holds = held_late cur s.table s.tasks are in
     record {
       store = record {
-        alone = λ p q g h mine other equal. let one = reads p g mine in let two = reads q h other in readings_apart cur s.table s.tasks are p q one.reading two.reading (sym one.number ∙ equal ∙ two.number);
-        logged = λ q h held writes. absurd (false≢true (sym (reads q h held).writes ∙ writes));
+        alone = λ p q g h mine other equal. let one = holds p g mine in let two = holds q h other in readings_apart cur s.table s.tasks are p q one.late two.late (sym one.number ∙ equal ∙ two.number);
+        logged = λ q h held writes. let its = holds q h held in write_logged cur s.table s.volume.buffers s.volume.log q (task s.tasks q) (task s.tasks q).place (are.stand q) (agreed.agrees.stands q) its.late (its.writes writes);
         quiet = λ none m fits. files_quiet image s m agreed none fits;
       };
       log = agreed.joint.log;
-      numbers = λ q h held. let one = reads q h held in
-          subst (λ (k : ℕ). IsTrue (is_number k h.number)) same (subst (λ (i : ℕ). IsTrue (is_number s.table.inode_count i)) (sym one.number) (reading_number cur s.table s.tasks are q one.reading));
+      numbers = λ q h held. let one = holds q h held in
+          subst (λ (k : ℕ). IsTrue (is_number k h.number)) same (subst (λ (i : ℕ). IsTrue (is_number s.table.inode_count i)) (sym one.number) (reading_number cur s.table s.tasks are q one.late));
     }

@@ -1,5 +1,5 @@
 -- What a step of a process starts from, while the disk has not failed.
-use Rattle.std.proofs.Common.{◌≡◌, ℕ, ◌<◌, ◌≤◌, zero, suc, true, false, ltb, length, ◌∙◌, subst, arith, Some, None}
+use Rattle.std.proofs.Common.{◌≡◌, ℕ, ◌<◌, ◌≤◌, zero, suc, true, false, ltb, length, refl, ◌∙◌, subst, arith, Some, None}
 use Rattle.std.proofs.lemmas.Bool.{false≢true}
 use Rattle.blocks.specs.Disk.{Image}
 use Rattle.model.specs.declared.types.operations.Entry.{Entry}
@@ -14,10 +14,13 @@ use Rattle.inodes.specs.Store.{StoreState, IsStore, Agrees, current_of}
 use Rattle.inodes.specs.Tasks.{task}
 use Rattle.journal.specs.declared.types.At.{At}
 use Rattle.journal.specs.declared.types.At.TheVariants as at
+use Rattle.journal.specs.Lemmas.Events.{changing_later}
 use Rattle.journal.specs.Lemmas.Groups.{in_later}
+use Rattle.journal.specs.Open.{IsEntry}
 use Rattle.journal.specs.Processes.{World, process}
 use Rattle.journal.specs.Views.{InGroup, HasEntry, StandsAt}
 use Rattle.kernel.specs.Invariant.{ArePaired, HasFacts, IsBehind, TaskStands}
+use Rattle.kernel.specs.State.{ats_of}
 use Rattle.kernel.specs.View.{view_of}
 use Rattle.kernel.proofs.Working.{unturned_more}
 
@@ -68,3 +71,8 @@ module _ {D : Type 0} (image : D → Image) (opening : Image) (s : StoreState D)
       by_group : (g : ℕ) → InGroup s.volume.log p g → ltb 0 g ≡ is_changing (inode_count_of opening) op → s.volume.log.committed < g
       by_group zero is_in same = absurd (false≢true (same ∙ changing))
       by_group (suc g) is_in same = in_later s.volume.log p (suc g) log_of is_in
+
+  -- also behind the turn
+  pub later_behind : (group k : ℕ) (e : Entry) → (process w p).at ≡ at.Behind group k → IsEntry w.journal.list k e → is_changing (inode_count_of opening) e.op ≡ true → s.volume.log.committed < e.group
+  later_behind group k e stands there =
+      changing_later opening (view_of image s) (view_of image s) w.journal.list (ats_of w) is.has.facts is.has.facts.valid p (ats_of w) (λ q apart. refl) group k e stands there

@@ -1,7 +1,7 @@
 -- What is true of store and processes stays so with a step of a task.
-use Rattle.std.proofs.Common.{◌≡◌, ◌≢◌, ⊎_elim, ℕ, ◌<◌, ◌≤◌, Bool, true, false, List, [], ◌∷◌, ◌++◌, length, set, length-set, refl, sym, ◌∙◌, ap, subst, arith, inl, inr, Option, Some, None}
-use Rattle.std.specs.Prelude.{is_none}
-use Rattle.std.proofs.lemmas.Bool.{cases_lt, false≢true}
+use Rattle.std.proofs.Common.{◌≡◌, ◌≢◌, ℕ, ◌<◌, ◌≤◌, Bool, true, false, List, [], ◌∷◌, ◌++◌, length, set, length-set, ltb, refl, sym, ◌∙◌, ap, subst, inl, inr, Option, Some, None}
+use Rattle.std.specs.Prelude.{IsTrue, is_none}
+use Rattle.std.proofs.lemmas.Bool.{false≢true, le-leb}
 use Rattle.std.proofs.lemmas.List.{set-get_or}
 use Rattle.blocks.specs.Disk.{Image}
 use Rattle.blocks.specs.declared.disk.Disk.{Ghosts}
@@ -10,17 +10,18 @@ use Rattle.model.specs.declared.types.operations.Entry.{Entry}
 use Rattle.model.specs.declared.types.operations.Op.{Op}
 use Rattle.model.specs.declared.types.operations.Op.TheVariants.{Create, Write, Read, Trunc, Remove, Stat}
 use Rattle.model.specs.declared.types.operations.Reply.{Reply}
-use Rattle.model.specs.declared.types.operations.Reply.TheVariants.{Bytes}
+use Rattle.model.specs.declared.types.operations.Reply.TheVariants.{Bytes, Wrote}
 use Rattle.model.specs.declared.types.operations.TaskProgress.{TaskProgress}
 use Rattle.model.specs.declared.types.operations.TaskProgress.TheVariants as progress
-use Rattle.model.specs.Journal.{is_changing}
+use Rattle.model.specs.Journal.{is_changing, is_making, is_number}
+use Rattle.model.specs.Operations.{transfer_limit}
 use Rattle.model.specs.Layout.{inode_count_of, form_of}
 use Rattle.model.specs.Tasks.{fault_of_task}
 use Rattle.wal.specs.Volume.{faults_after}
 use Rattle.inodes.specs.Lemmas.Faults.{where_none}
-use Rattle.inodes.specs.Lemmas.Looks.{reading_is}
-use Rattle.inodes.specs.Lemmas.StepEnds.{GoesOn, StepEnds, TurnEnds, ends_of}
-use Rattle.inodes.specs.Looks.{AreLooking, CanLook}
+use Rattle.inodes.specs.Lemmas.Looks.{late_is}
+use Rattle.inodes.specs.Lemmas.StepEnds.{DecisionEnds, GoesOn, GoesOnTurned, StepEnds, TurnEnds, ends_of}
+use Rattle.inodes.specs.Looks.{AreLooking, CanLook, IsLate}
 use Rattle.inodes.specs.Places.{asked, is_over, is_reading, is_unturned}
 use Rattle.inodes.specs.Steps.{Steps}
 use Rattle.inodes.specs.Store.{StoreState, IsStore, CanBegin, current_of}
@@ -37,14 +38,14 @@ use Rattle.journal.specs.Grows.{JournalGoes}
 use Rattle.journal.specs.Journal.{IsItsRoom, entry_of, entry_in}
 use Rattle.journal.specs.Keeps.{KeepsNow}
 use Rattle.journal.specs.Lemmas.Alone.{alone_stepped}
-use Rattle.journal.specs.Lemmas.Answers.{changing_in_group, entry_inside}
+use Rattle.journal.specs.Lemmas.Answers.{changing_in_group, entry_inside, group_tells}
 use Rattle.journal.specs.Lemmas.Known.{known_keeps}
-use Rattle.journal.specs.Lemmas.Lists.{entry_new, entry_same}
+use Rattle.journal.specs.Lemmas.Lists.{entry_new, entry_same, entry_set}
 use Rattle.journal.specs.Lemmas.Nexts.{task_next, task_journal, others_back}
 use Rattle.journal.specs.Next.{TaskNext}
-use Rattle.journal.specs.Open.{number_of, told}
+use Rattle.journal.specs.Open.{IsEntry, number_of, told}
 use Rattle.journal.specs.Processes.{World, process, idle, turned, turned_from, place_behind, decided, told_at, entry_place, answered, at_place, over, over_at}
-use Rattle.journal.specs.Views.{View, HasEntry, StandsAt, IsValidView}
+use Rattle.journal.specs.Views.{View, HasEntry, StandsAt, Takes, IsValidView}
 use Rattle.kernel.specs.Invariant.{IsRight, HasFacts, ArePaired, IsBehind, TaskStands}
 use Rattle.kernel.specs.State.{ats_of}
 use Rattle.kernel.specs.View.{view_of}
@@ -55,7 +56,7 @@ use Rattle.kernel.proofs.Pairing.{paired_goes, keeps_behind}
 use Rattle.journal.specs.Lemmas.Places.{there_now, others_stay}
 use Rattle.kernel.proofs.Right.{right_well, right_failed}
 
--- a task that had no turn is not over, nor is one that reads
+-- a task that had no turn is not over, nor is one whose reply is to come
 pub unturned_more : (a : Place) → is_unturned a ≡ true → is_over a ≡ false
 unturned_more place.Nowhere is = absurd (false≢true is)
 unturned_more (place.Creating m) is = refl
@@ -90,6 +91,10 @@ looks_only n k (Read i off m) can = refl
 looks_only n k (Trunc i) can = absurd can
 looks_only n k (Remove i) can = absurd can
 looks_only n k (Stat i) can = refl
+
+-- a write of a number that operations may name changes files
+write_changes : (n i off : ℕ) (bytes : List ℕ) → IsTrue (is_number n i) → length bytes ≤ transfer_limit → is_changing n (Write i off bytes) ≡ true
+write_changes n i off bytes named few = rw (le-leb (length bytes) 3072 few, named) refl
 
 pub reply_there : (o : Option Reply) → is_none o ≡ false → (r : Reply) × (o ≡ Some r)
 reply_there None is = absurd (false≢true (sym is))
@@ -241,11 +246,12 @@ module _ {D N : Type 0} (disk : Ghosts D N) (opening : D) (s : StoreState D) (w 
 
     pub right_turned : (reply : Option Reply) → Steps disk s p op (progress.Turned reply) t → HasAgreed disk.image t → IsRight disk opening t (turned w p reply (is_over next))
     right_turned None steps agreed =
-        let ends = (ends_now (progress.Turned None) more steps).1 in
-        let past = reading_more next ends.2 in
+        let owes = (ends_now (progress.Turned None) more steps).1.2 in
+        let late = late_is (current_of disk.image t.volume) t.table t.tasks agreed.looks p owes in
+        let past = reading_more next owes in
         turned_with None steps agreed false past.0
-        (opens_of disk s t p op n ends.1.0 ends.1.1 ends.1.2 ends.1.3 (subst (λ (k : ℕ). CanLook k op) right.numbers ends.0) mine ends.2 steps, refl, refl)
-        (looked None steps agreed past.0 past.1 ends.2)
+        (opens_of disk s t p op n (subst (λ (k : ℕ). IsLate k (task t.tasks p)) (steps.tasks.numbers ∙ right.numbers) late) mine owes steps, refl, refl)
+        (looked None steps agreed past.0 past.1 owes)
     right_turned (Some told) steps agreed = by_end (ends_now (progress.Turned (Some told)) more steps).1
       where
         by_end : TurnEnds s.table.inode_count op (Some told) next → IsRight disk opening t (turned w p (Some told) (is_over next))
@@ -282,15 +288,41 @@ module _ {D N : Type 0} (disk : Ghosts D N) (opening : D) (s : StoreState D) (w 
     grouped : 0 < group → is_changing n own.op ≡ true
     grouped later = changing_in_group n group k es own had.facts.journal.changing has.at has.same later
 
-    -- so who reads is in none
-    reads_alone : is_reading (task s.tasks p).place ≡ true → group ≡ 0
-    reads_alone reads = ⊎_elim
-        (λ (later : 0 < group).
-        let read = reading_is (current_of disk.image s.volume) s.table s.tasks looks p reads in
-        let is : own.op ≡ Read read.number read.offset read.count = (let both = sym its.same ∙ read.is in cc both) in
-        absurd (false≢true (sym (ap (is_changing n) is) ∙ grouped later)))
-        (λ (none : group ≤ 0). omega (arith, none))
-        (cases_lt 0 group)
+    -- who is in none changes none
+    ungrouped : group ≡ 0 → is_changing n own.op ≡ false
+    ungrouped none = group_tells n group k es own had.facts.journal.changing has.at has.same ∙ ap (ltb 0) none
+
+    -- whose reply is to come, is in none as a read, or in one as a write
+    late_here : is_reading (task s.tasks p).place ≡ true → IsLate s.table.inode_count (task s.tasks p)
+    late_here owes = late_is (current_of disk.image s.volume) s.table s.tasks looks p owes
+
+    reads_alone : (i off m : ℕ) → op ≡ Read i off m → 0 < group → ⊥
+    reads_alone i off m is later = false≢true (sym (ap (is_changing n) (sym same_op ∙ is)) ∙ grouped later)
+
+    writes_grouped : (i off : ℕ) (bytes : List ℕ) → op ≡ Write i off bytes → IsLate s.table.inode_count (task s.tasks p) → group ≡ 0 → ⊥
+    writes_grouped i off bytes is (inl read) none = let no = sym read.is ∙ mine ∙ ap (λ (o : Op). Some o) is in cc no
+    writes_grouped i off bytes is (inr write) none =
+        let named = subst (λ (m : ℕ). IsTrue (is_number m write.number)) right.numbers write.may.0 in
+        let changing = write_changes n write.number write.offset write.bytes named write.may.1 in
+        let same : own.op ≡ Write write.number write.offset write.bytes = (let both = sym its.same ∙ write.is in cc both) in
+        false≢true (sym (ungrouped none) ∙ ap (is_changing n) same ∙ changing)
+
+    -- so who is in none is over with its reply, and has its bytes
+    read_over : group ≡ 0 → (reply : Reply) → is_reading (task s.tasks p).place ≡ true → DecisionEnds op reply next → (is_over next ≡ true) × ((bytes : List ℕ) × (reply ≡ Bytes bytes))
+    read_over none reply owes (inl read) = (read.1, read.2)
+    read_over none reply owes (inr write) = absurd (writes_grouped write.0.0 write.0.1 write.0.2 write.0.3 (late_here owes) none)
+
+    -- and who is in one goes on with it
+    write_on : 0 < group → (reply : Reply) → DecisionEnds op reply next → GoesOnTurned next × ((count : ℕ) × (reply ≡ Wrote count))
+    write_on later reply (inl read) = absurd (reads_alone read.0.0 read.0.1 read.0.2 read.0.3 later)
+    write_on later reply (inr write) = (write.1, write.2)
+
+    -- what its reply makes of files and journal
+    takes_told : (reply : Reply) → Steps disk s p op (progress.Decided reply) t → Takes form before now own.op reply
+    takes_told reply steps = subst (λ (o : Op). Takes form before now o reply) same_op (takes_of disk s t p op form form_same reply steps)
+
+    list_told : (reply : Reply) → (told_at (Some k) w reply).journal.list ≡ set es k (told own reply)
+    list_told reply = ap (λ (f : Entry). set es k (told f reply)) (entry_inside es k own has.at)
 
     pub right_moved_behind : Steps disk s p op progress.Moved t → HasAgreed disk.image t → IsRight disk opening t w
     right_moved_behind steps agreed =
@@ -301,32 +333,62 @@ module _ {D N : Type 0} (disk : Ghosts D N) (opening : D) (s : StoreState D) (w 
     right_fault_behind fault steps = fails_with (at.Behind group k) stands refl fault steps (behind_goes group k (progress.Fault fault) steps behind (ends_now (progress.Fault fault) its.unfinished steps))
 
     -- its reading is over, and answered
-    pub right_decided : (reply : Reply) → Steps disk s p op (progress.Decided reply) t → HasAgreed disk.image t → IsRight disk opening t (answered (decided w p reply) p)
-    right_decided reply steps agreed =
+    pub right_decided : group ≡ 0 → (reply : Reply) → Steps disk s p op (progress.Decided reply) t → HasAgreed disk.image t → IsRight disk opening t (answered (decided w p reply) p)
+    right_decided none reply steps agreed =
         let ends = ends_now (progress.Decided reply) its.unfinished steps in
-        let bytes = ends.2.0 in
+        let read = read_over none reply ends.0 ends.1 in
         let z : World = answered (told_at (Some k) w reply) p in
         let u : Process = record (process w p) { at = at.Idle; room = None } in
         let same : answered (decided w p reply) p ≡ z = ap (λ (a : At). answered (told_at (entry_place a) w reply) p) stands in
-        let list : z.journal.list ≡ set es k (told own (Bytes bytes)) = ap (λ (f : Entry). set es k (told f reply)) (entry_inside es k own has.at) ∙ ap (λ (r : Reply). set es k (told own r)) ends.2.1 in
-        let takes = subst (λ (r : Reply). Rattle.journal.specs.Views.Takes form before now own.op r) ends.2.1 (subst (λ (o : Op). Rattle.journal.specs.Views.Takes form before now o reply) same_op (takes_of disk s t p op form form_same reply steps)) in
+        let list : z.journal.list ≡ set es k (told own (Bytes read.1.0)) = list_told reply ∙ ap (λ (r : Reply). set es k (told own r)) read.1.1 in
+        let takes = subst (λ (r : Reply). Takes form before now own.op r) read.1.1 (takes_told reply steps) in
         subst (λ (y : World). IsRight disk opening t y) (sym same)
         (right_stepped (progress.Decided reply) steps refl agreed z u refl (at.Behind group k) stands progress.Over (
           own,
           has.at,
           inl (record {
-            bytes = bytes;
+            bytes = read.1.0;
             open_still = reply_missing own.reply (sym its.reply ∙ ends.0);
-            none = reads_alone ends.0;
+            none = none;
             rest = reads_rest disk s t p op reply steps;
-            free = free_then disk s t p op (over_unread next ends.1);
+            free = free_then disk s t p op (over_unread next read.0);
             files = takes;
             list = list;
             now = refl;
           }),
         )
         (counted_same s.volume.log.opened p w right.counted lt t.volume.log.opened z at.Idle None (ap Rattle.journal.specs.Processes.is_before stands) refl refl (length-set es k (told (entry_in es k) reply)) refl steps.groups.opened)
-        ends.1 (λ busy. absurd (false≢true busy)) refl refl)
+        read.0 (λ busy. absurd (false≢true busy)) refl refl)
+
+    -- its writing is done: its entry is told the reply, and its task goes on
+    pub right_told : 0 < group → (reply : Reply) → Steps disk s p op (progress.Decided reply) t → HasAgreed disk.image t → IsRight disk opening t (decided w p reply)
+    right_told later reply steps agreed =
+        let ends = ends_now (progress.Decided reply) its.unfinished steps in
+        let write = write_on later reply ends.1 in
+        let z : World = told_at (Some k) w reply in
+        let same : decided w p reply ≡ z = ap (λ (a : At). told_at (entry_place a) w reply) stands in
+        let list = list_told reply in
+        let there : IsEntry z.journal.list k (told own reply) = subst (λ (l : List Entry). IsEntry l k (told own reply)) (sym list) (entry_set es k own (told own reply) has.at) in
+        let goes : TaskNext (at.Behind group k) (progress.Decided reply) n form p (process w p).begun before es now z.journal.list (at.Behind group k) = (
+          own,
+          has.at,
+          reply_missing own.reply (sym its.reply ∙ ends.0),
+          record {
+            rest = reads_rest disk s t p op reply steps;
+            mine = free_then disk s t p op write.0.unread;
+            made = λ i. ap (λ (r : Reply). is_making i (Some r)) write.1.1;
+            files = takes_told reply steps;
+          },
+          list,
+          refl,
+        ) in
+        let goes_on : TaskStands z.journal.list (task t.tasks p) (at.Behind group k) = λ e here. subst (λ (f : Entry). IsBehind (task t.tasks p) f) (entry_same z.journal.list k (told own reply) e there here)
+        (record { same = steps.tasks.op_stays ∙ its.same; unfinished = write.0.unfinished; turned = write.0.turned; reply = write.0.unread }) in
+        subst (λ (y : World). IsRight disk opening t y) (sym same)
+        (right_stepped (progress.Decided reply) steps refl agreed z (process w p) (sym (set-get_or w.processes p idle)) (at.Behind group k) stands (progress.Decided reply)
+        (subst (λ (b : At). TaskNext (at.Behind group k) (progress.Decided reply) n form p (process w p).begun before es now z.journal.list b) (sym stands) goes)
+        (counted_same s.volume.log.opened p w right.counted lt t.volume.log.opened z (process w p).at (process w p).room (ap Rattle.journal.specs.Processes.is_before stands) (ap Rattle.journal.specs.Processes.is_before stands) (sym (set-get_or w.processes p idle)) (length-set es k (told (entry_in es k) reply)) refl steps.groups.opened)
+        (subst (λ (b : At). TaskStands z.journal.list (task t.tasks p) b) (sym stands) goes_on) (room_stays (progress.Decided reply) steps) refl (ap is_committing_at stands))
 
     -- another operation of no group is over, and answered
     pub right_over : group ≡ 0 → Steps disk s p op progress.Over t → HasAgreed disk.image t → IsRight disk opening t (answered w p)

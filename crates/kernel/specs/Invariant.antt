@@ -30,7 +30,7 @@ use Rattle.kernel.specs.State.{State, ats_of}
 use Rattle.kernel.specs.View.{view_of}
 
 -- The task of an entry's operation goes on behind its turn. The entry has no reply exactly while the
--- task reads.
+-- task still owes it.
 pub record IsBehind (t : TaskState) (e : Entry) : Type 0 where
   pub same : t.op ≡ Some e.op
   pub unfinished : is_over t.place ≡ false

@@ -6,6 +6,7 @@ use mathlib.Core.List.{IsPrefix}
 use Rattle.blocks.specs.declared.disk.Disk.{Ghosts}
 use Rattle.blocks.specs.declared.errors.DiskFault.{DiskFault}
 use Rattle.model.specs.declared.types.operations.Op.{Op}
+use Rattle.model.specs.declared.types.operations.Reply.{Reply}
 use Rattle.model.specs.declared.types.operations.TaskProgress.{TaskProgress}
 use Rattle.model.specs.declared.types.operations.TaskProgress.TheVariants as progress
 use Rattle.model.specs.declared.types.operations.Why.{Why}
@@ -175,20 +176,31 @@ abbrev pub world_of_last : ℕ → World → ℕ → World
 world_of_last zero w p = answered w p
 world_of_last (suc group) w p = over w p
 
+-- with a reply that is decided behind the turn an operation of no group is answered; one of a group
+-- goes on
+abbrev pub step_of_told : ℕ → Step
+step_of_told zero = step.Answered
+step_of_told (suc group) = step.Moved
+
+-- its entry is told the reply; the answer of one of a group is given at its end
+abbrev pub world_of_told : ℕ → World → ℕ → Reply → World
+world_of_told zero w p reply = answered (decided w p reply) p
+world_of_told (suc group) w p reply = decided w p reply
+
 -- what a step behind the turn of an operation of this group answers
 abbrev pub step_behind : ℕ → TaskProgress → Step
 step_behind group progress.Moved = step.Moved
 step_behind group (progress.Turned reply) = step.Moved
-step_behind group (progress.Decided reply) = step.Answered
+step_behind group (progress.Decided reply) = step_of_told group
 step_behind group progress.Over = step_of_last group
 step_behind group (progress.Sleeping cause) = step.Sleeping cause
 step_behind group (progress.Fault fault) = step.Halted
 
--- a read's entry is told its bytes then
+-- and what it makes of the processes
 abbrev pub world_behind : ℕ → TaskProgress → World → ℕ → World
 world_behind group progress.Moved w p = w
 world_behind group (progress.Turned reply) w p = w
-world_behind group (progress.Decided reply) w p = answered (decided w p reply) p
+world_behind group (progress.Decided reply) w p = world_of_told group w p reply
 world_behind group progress.Over w p = world_of_last group w p
 world_behind group (progress.Sleeping cause) w p = w
 world_behind group (progress.Fault fault) w p = w

@@ -8,7 +8,7 @@ use Rattle.inodes.specs.Tasks.{TaskState, task}
 use Rattle.journal.specs.Open.{Held, held_by}
 use Rattle.journal.specs.Views.{View}
 
--- what a task holds from its turn to its finish: a read its inode, any other nothing
+-- what a task holds: its inode where its reply is still to come behind its turn, else nothing
 abbrev pub held_at : TaskState → Option Held
 held_at t = if is_reading t.place then option_map held_by t.op else None
 

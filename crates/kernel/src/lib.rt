@@ -19,8 +19,9 @@
 //! where it was the last of its group, after the commit, which its process makes. The others go on
 //! behind their turn: a read gathers its bytes, which its entry is told last; a truncation or a
 //! removal, whose entry has its reply, frees the blocks of its file one by one and writes the inode
-//! back. With its last step each gives its inode up. Then a look is answered, and who changed files
-//! ends in the log as a creation does.
+//! back. A write's reply is decided when its inode is written back: its entry is told it then, and
+//! it is given at the end of its operation. With its last step each gives its inode up. Then a look
+//! is answered, and who changed files ends in the log as a creation does.
 //!
 //! Memory is taken at an operation's beginning alone: a place in the journal, and for a read room
 //! for its bytes, once for the journal and once for the answer.

@@ -125,8 +125,9 @@ impl<D: Disk, I: Intake, H: Herald> Kernel<D, I, H> {
         }
     }
 
-    // Makes the next step of a task whose operation had its turn. What is over then and in no group
-    // of the log is answered.
+    // Makes the next step of a task whose operation had its turn. With its reply, or with its last
+    // step, an operation of no group of the log is answered. One of a group goes on, and is
+    // answered at its end in the log.
     fn finish(&mut self, pid: u32) -> Step
         requires pid { pid < length self.old.world.processes }
         requires fault { self.old.store.volume.fault ≡ None }
@@ -145,6 +146,9 @@ impl<D: Disk, I: Intake, H: Herald> Kernel<D, I, H> {
             TaskProgress::Moved => Step::Moved,
             TaskProgress::Decided(reply) => {
                 self.processes.decide(pid, reply);
+                if group > 0 {
+                    return Step::Moved;
+                }
                 give(&mut self.processes, &mut self.intake, pid);
                 Step::Answered
             }

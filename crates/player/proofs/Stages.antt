@@ -1,6 +1,7 @@
 -- An operation of a kernel's only process, step by step.
 use Rattle.std.proofs.Common.{◌≡◌, ◌≢◌, ◌∙◌, ◌⊎◌, inl, inr, ◌<◌, ◌≤◌, ℕ, ◌+◌, zero, suc, Bool, true, false, List, [], ◌∷◌, ◌++◌, length, set, Option, Some, None, refl, sym, ap, subst, arith, ⊎_elim}
 use Rattle.std.specs.Prelude.{slice_set}
+use Rattle.std.proofs.lemmas.List.{set-get_or}
 use Rattle.std.proofs.Math.Seq.{set-append_seam}
 use mathlib.Core.List.{IsPrefix}
 use Rattle.blocks.specs.declared.disk.Disk.{Ghosts}
@@ -25,7 +26,7 @@ use Rattle.journal.specs.declared.types.Process.{Process}
 use Rattle.journal.specs.Journal.{entry_in, entry_of, journal_with}
 use Rattle.journal.specs.AtOnce.{at_once_reply}
 use Rattle.journal.specs.Open.{told}
-use Rattle.journal.specs.Processes.{World, process, with_place, taken, turned_from, told_at, entry_place, committing_at, over_at, at_place, place_behind, refused, refusal, answered}
+use Rattle.journal.specs.Processes.{World, process, idle, with_place, taken, turned_from, told_at, entry_place, committing_at, over_at, at_place, place_behind, refused, refusal, answered}
 use Rattle.journal.specs.Lemmas.Places.{there_now}
 use Rattle.kernel.specs.declared.types.Step.{Step}
 use Rattle.kernel.specs.declared.types.Step.TheVariants as step
@@ -154,7 +155,11 @@ module _ {D N : Type 0} (disk : Ghosts D N) (op : Op) (es : List Entry) (s : Sto
   finished_moved : (group k : ℕ) (r : TaskProgress) → (process w 0).at ≡ at.Behind group k → step.Moved ≡ step_behind group r → z ≡ world_behind group r w 0 → HasMore op es k w.journal.list → BusyAt op es (process z 0).at z.journal.list
   finished_moved group k progress.Moved stands answer is more = stays (at.Behind group k) is stands more
   finished_moved group k (progress.Turned reply) stands answer is more = stays (at.Behind group k) is stands more
-  finished_moved group k (progress.Decided reply) stands answer is more = absurd (cc answer)
+  finished_moved zero k (progress.Decided reply) stands answer is more = absurd (cc answer)
+  finished_moved (suc group) k (progress.Decided reply) stands answer is more =
+      let now : z ≡ told_at (Some k) w reply = subst (λ (a : At). z ≡ told_at (entry_place a) w reply) stands is in
+      went (process w 0) (ap (λ (v : World). v.processes) now ∙ sym (set-get_or w.processes 0 idle)) (at.Behind (suc group) k) stands
+      (subst (λ (l : List Entry). HasMore op es k l) (sym (ap (λ (v : World). v.journal.list) now)) (told_more op es w.journal.list k reply more))
   finished_moved zero k progress.Over stands answer is more = absurd (cc answer)
   finished_moved (suc group) k progress.Over stands answer is more =
       went (record (process w 0) { at = over_at (process w 0).at }) (ap (λ (v : World). v.processes) is) (at.Ending (suc group) k) (ap over_at stands) (subst (λ (l : List Entry). HasMore op es k l) (sym (ap (λ (v : World). v.journal.list) is)) more)
@@ -171,7 +176,8 @@ module _ {D N : Type 0} (disk : Ghosts D N) (op : Op) (es : List Entry) (s : Sto
   finished_answered : (group k : ℕ) (r : TaskProgress) → (process w 0).at ≡ at.Behind group k → step.Answered ≡ step_behind group r → z ≡ world_behind group r w 0 → HasMore op es k w.journal.list → OverAt op es z
   finished_answered group k progress.Moved stands answer is more = absurd (cc answer)
   finished_answered group k (progress.Turned reply) stands answer is more = absurd (cc answer)
-  finished_answered group k (progress.Decided reply) stands answer is more =
+  finished_answered (suc group) k (progress.Decided reply) stands answer is more = absurd (cc answer)
+  finished_answered zero k (progress.Decided reply) stands answer is more =
       was_answered (told_at (Some k) w reply) k refl (subst (λ (a : At). z ≡ answered (told_at (entry_place a) w reply) 0) stands is) (told_more op es w.journal.list k reply more)
   finished_answered zero k progress.Over stands answer is more = was_answered w k refl is more
   finished_answered (suc group) k progress.Over stands answer is more = absurd (cc answer)

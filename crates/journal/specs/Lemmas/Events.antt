@@ -191,20 +191,22 @@ module _ (opening : Image) (s t : View) (es : List Entry) (ats : ℕ → At) (i 
       told_entry : (r : Reply) → HasEntry (set es k (told e r)) p k group (told e r)
       told_entry r = record { at = entry_set es k e (told e r) at_k; mine = mine_is.mine; last = last_set p es k k e r mine_is.last at_k; same = mine_is.same }
 
-      -- a reply comes, and the task goes on
-      pub inv_decided : (r : Reply) → new p ≡ at.Behind group k → e.reply ≡ None → Decides (form_of opening) p e.op r s t → KernelFacts opening t (set es k (told e r)) new
-      inv_decided r now none d =
-          let st = d.rest in
-          let same = keeps_held d.mine st.others in
+      -- a reply comes, and what was held until then is let go
+      told_with : (r : Reply) → e.reply ≡ None → LeavesRest None p s t → ((j : ℕ) → is_making j (Some r) ≡ false) → Takes (form_of opening) s t e.op r → StandsAt n t (set es k (told e r)) p (new p) → KernelFacts opening t (set es k (told e r)) new
+      told_with r none st made files mine =
+          let f = follows_told (form_of opening) (files_of opening) s.holds s.fits es i.follows t.fits k e r i.valid.store.alone made at_k none files in
           record {
             valid = v;
             journal = journal_rest st.groups _ (journal_told n s.log.opened es i.journal k e r at_k);
-            follows = follows_moved (form_of opening) (files_of opening) s.holds t.fits (set es k (told e r))
-                (follows_told (form_of opening) (files_of opening) s.holds s.fits es i.follows t.fits k e r i.valid.store.alone d.made at_k none d.files) t.holds t.fits (λ q h held. same q ∙ held) (λ m fit. fit);
-            recovers = recovers_rest None st _ (recovers_told opening s.disk s.current s.log es i.recovers t.current t.log k e r at_k none d.made st.groups.committed changing_later st.marks);
-            stands = stands_by st.groups st.others (set es k (told e r)) (λ q j g f other h. has_told es k e r q j g f at_k (λ mine. other (sym mine ∙ mine_is.mine)) h)
-                (subst (λ (a : At). StandsAt n t (set es k (told e r)) p a) (sym now) (in_group s.log t.log p group st.groups here.0, (told e r, told_entry r)));
+            follows = follows_left (form_of opening) (files_of opening) s.holds t.fits (set es k (told e r)) f t.holds t.fits p k (told e r) r (told_entry r).last (told_entry r).at refl (λ q h other held. st.others q other ∙ held) (λ m fit. fit);
+            recovers = recovers_rest None st _ (recovers_told opening s.disk s.current s.log es i.recovers t.current t.log k e r at_k none made st.groups.committed changing_later st.marks);
+            stands = stands_by st.groups st.others (set es k (told e r)) (λ q j g f other h. has_told es k e r q j g f at_k (λ mine. other (sym mine ∙ mine_is.mine)) h) mine;
           }
+
+      -- the reply of an operation whose task goes on
+      pub inv_decided : (r : Reply) → new p ≡ at.Behind group k → e.reply ≡ None → Decides (form_of opening) p e.op r s t → KernelFacts opening t (set es k (told e r)) new
+      inv_decided r now none d = told_with r none d.rest d.made d.files
+          (subst (λ (a : At). StandsAt n t (set es k (told e r)) p a) (sym now) (in_group s.log t.log p group d.rest.groups here.0, (told e r, told_entry r)))
 
       module _ (leaves : Leaves p s t) where
         left_follows : (r : Reply) → e.reply ≡ Some r → Follows (form_of opening) (files_of opening) t.holds t.fits es
@@ -231,16 +233,8 @@ module _ (opening : Image) (s t : View) (es : List Entry) (ats : ℕ → At) (i 
 
       -- the finish of a read, with its reply
       pub inv_read : (r : Reply) → e.reply ≡ None → group ≡ 0 → new p ≡ at.Idle → LeavesRest None p s t → t.holds p ≡ None → ((j : ℕ) → is_making j (Some r) ≡ false) → Takes (form_of opening) s t e.op r → KernelFacts opening t (set es k (told e r)) new
-      inv_read r none zero_group now st free made files =
-          let f = follows_told (form_of opening) (files_of opening) s.holds s.fits es i.follows t.fits k e r i.valid.store.alone made at_k none files in
-          record {
-            valid = v;
-            journal = journal_rest st.groups _ (journal_told n s.log.opened es i.journal k e r at_k);
-            follows = follows_left (form_of opening) (files_of opening) s.holds t.fits (set es k (told e r)) f t.holds t.fits p k (told e r) r (told_entry r).last (told_entry r).at refl (λ q h other held. st.others q other ∙ held) (λ m fit. fit);
-            recovers = recovers_rest None st _ (recovers_told opening s.disk s.current s.log es i.recovers t.current t.log k e r at_k none made st.groups.committed changing_later st.marks);
-            stands = stands_by st.groups st.others (set es k (told e r)) (λ q j g f other h. has_told es k e r q j g f at_k (λ mine. other (sym mine ∙ mine_is.mine)) h)
-                (subst (λ (a : At). StandsAt n t (set es k (told e r)) p a) (sym now) (free, in_group s.log t.log p 0 st.groups (subst (λ (g : ℕ). InGroup s.log p g) zero_group here.0)));
-          }
+      inv_read r none zero_group now st free made files = told_with r none st made files
+          (subst (λ (a : At). StandsAt n t (set es k (told e r)) p a) (sym now) (free, in_group s.log t.log p 0 st.groups (subst (λ (g : ℕ). InGroup s.log p g) zero_group here.0)))
 
 -- what is answered at once is not a changing operation
 pub at_once_still : (n : ℕ) (op : Op) → is_at_once n op ≡ true → is_changing n op ≡ false

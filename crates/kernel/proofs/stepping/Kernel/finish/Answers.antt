@@ -1,4 +1,4 @@
-use Rattle.std.proofs.Common.{rules, refl, ◌≡◌, ◌<◌, true, length, None, Some, ◌∙◌, sym, ap, subst, ℕ, suc, ◌-◌, arith}
+use Rattle.std.proofs.Common.{rules, refl, ◌≡◌, ◌<◌, ◌≤◌, true, length, None, Some, ◌∙◌, sym, ap, subst, ℕ, suc, ◌-◌, arith}
 use Rattle.blocks.specs.declared.disk.Disk.{Ghosts}
 use Rattle.model.specs.declared.types.operations.Op.{Op}
 use Rattle.model.specs.declared.types.operations.Reply.{Reply}
@@ -14,7 +14,7 @@ use Rattle.journal.specs.Journal.{entry_in}
 use Rattle.journal.specs.Lemmas.Answers.{CanAnswer}
 use Rattle.journal.specs.Processes.{World, process, is_behind, last_answer, decided, answered}
 use Rattle.kernel.specs.Invariant.{IsRight, ArePorts}
-use Rattle.kernel.specs.Next.{step_behind, step_of_last, world_behind, world_of_last}
+use Rattle.kernel.specs.Next.{step_behind, step_of_last, step_of_told, world_behind, world_of_last, world_of_told}
 use Rattle.kernel.specs.Ports.{KeepsOthers}
 use Rattle.kernel.specs.State.{State}
 use Rattle.kernel.specs.Steps.{Acts}
@@ -22,7 +22,7 @@ use Rattle.kernel.proofs.Acting.{acts_finished, sides_same}
 use Rattle.kernel.proofs.Answering.{IsThere, is_there, op_is, mine_is, answer_over, answer_told, some_reply}
 use Rattle.kernel.proofs.Ports.{ports_decided, ports_ending, ports_given}
 use Rattle.kernel.proofs.Valid.{HasAgreed, agreed_now}
-use Rattle.kernel.proofs.Working.{ends_now, right_moved_behind, right_fault_behind, right_decided, right_ends, right_over}
+use Rattle.kernel.proofs.Working.{ends_now, right_moved_behind, right_fault_behind, right_decided, right_ends, right_over, right_told}
 use Rattle.kernel.proofs.stepping.Kernel.finish.Given.{Over}
 use Rattle.kernel.proofs.stepping.Kernel.finish.Goals.{After-known-2}
 use Rattle.kernel.proofs.stepping.Kernel.finish.Goals as goal
@@ -66,20 +66,30 @@ acts g c r j z is made sides ahead =
     (acts_finished g.D.Disk g.I.Intake g.H.Herald c.args.pid k.store c.step-progress.new.self k.opening.value k.intake k.herald k.processes z h.well h.there.group h.there.k j r h.there.stands
     (subst (λ (o : Op). Steps g.D.Disk k.store c.args.pid o r c.step-progress.new.self) h.same (h.steps r is)) made sides ahead)
 
+-- the group that was looked up is its own
+own_group : (g : Over) (c : After-known-2 g) (group k : ℕ) {a : At} → a ≡ (process c.self.inside.processes c.args.pid).at → a ≡ at.Behind group k → (head g c).there.group ≡ group
+own_group g c group k is told = let both : at.Behind (head g c).there.group (head g c).there.k ≡ at.Behind group k = sym (head g c).there.stands ∙ sym is ∙ told in cc both
+
+some_group : (group : ℕ) → (group ≡ 0 → ⊥) → 0 < group
+some_group group some = omega (arith, some)
+
+no_group : (group : ℕ) → group ≤ 0 → group ≡ 0
+no_group group none = omega (arith, none)
+
 -- a reading was told its bytes, and answered
-told : (g : Over) (c : After-known-2 g) (reply : Reply) → c.step-progress.result ≡ progress.Decided reply → IsRight g.D.Disk c.self.inside.opening.value c.step-progress.new.self (answered (decided c.self.inside.processes c.args.pid reply) c.args.pid)
-told g c reply is =
+told : (g : Over) (c : After-known-2 g) (reply : Reply) → (head g c).there.group ≡ 0 → c.step-progress.result ≡ progress.Decided reply → IsRight g.D.Disk c.self.inside.opening.value c.step-progress.new.self (answered (decided c.self.inside.processes c.args.pid reply) c.args.pid)
+told g c reply none is =
     let k = c.self.inside in
     let h = head g c in
-    right_decided g.D.Disk k.opening.value k.store k.processes c.self.invariant.right h.well c.args.pid h.within c.operation-op.result.now h.mine c.known.ensures.store c.step-progress.new.self h.there.group h.there.k h.there.stands reply
+    right_decided g.D.Disk k.opening.value k.store k.processes c.self.invariant.right h.well c.args.pid h.within c.operation-op.result.now h.mine c.known.ensures.store c.step-progress.new.self h.there.group h.there.k h.there.stands none reply
     (h.steps (progress.Decided reply) is) (h.agreed (progress.Decided reply) is refl)
 
-can_told : (g : Over) (c : After-known-2 g) (reply : Reply) (z : World) → c.step-progress.result ≡ progress.Decided reply → z ≡ decided c.self.inside.processes c.args.pid reply → CanAnswer (last_answer z (process z c.args.pid).at) (process z c.args.pid).room
-can_told g c reply z is made =
+can_told : (g : Over) (c : After-known-2 g) (reply : Reply) (z : World) → (head g c).there.group ≡ 0 → c.step-progress.result ≡ progress.Decided reply → z ≡ decided c.self.inside.processes c.args.pid reply → CanAnswer (last_answer z (process z c.args.pid).at) (process z c.args.pid).room
+can_told g c reply z none is made =
     let k = c.self.inside in
     let h = head g c in
     subst (λ (o : World). CanAnswer (last_answer o (process o c.args.pid).at) (process o c.args.pid).room) (sym made)
-    (answer_told g.D.Disk k.opening.value k.store k.processes c.args.pid c.self.invariant.right h.well h.there reply c.step-progress.new.self (h.steps (progress.Decided reply) is).reads.fault (told g c reply is))
+    (answer_told g.D.Disk k.opening.value k.store k.processes c.args.pid c.self.invariant.right h.well h.there reply c.step-progress.new.self (h.steps (progress.Decided reply) is).reads.fault (told g c reply none is))
 
 -- another look has its reply
 can_leave : (g : Over) (c : After-known-2 g) → c.step-progress.result ≡ progress.Over → CanAnswer (last_answer c.self.inside.processes (process c.self.inside.processes c.args.pid).at) (process c.self.inside.processes c.args.pid).room
@@ -98,10 +108,16 @@ step-progress-requires-clause-op g c =
     mine_is g.D.Disk k.opening.value k.store k.processes c.args.pid c.self.invariant.right well there c.operation-op.result.now c.operation-op.ensures
 
 pub give-requires-clause-over : goal.give-requires-clause-over
-give-requires-clause-over g c = (can_told g (goal.at.give-requires-clause-over g c).After-known-2 c.in-Decided.reply c.decide.new.self c.in-Decided.is c.decide.ensures).0
+give-requires-clause-over g c =
+    let past = (goal.at.give-requires-clause-over g c).After-known-2 in
+    let none = own_group g past c.in-Behind.group c.in-Behind.entry c.at.ensures c.in-Behind.is ∙ no_group c.in-Behind.group c.if-group-gt0.false in
+    (can_told g past c.in-Decided.reply c.decide.new.self none c.in-Decided.is c.decide.ensures).0
 
 pub give-requires-clause-fits : goal.give-requires-clause-fits
-give-requires-clause-fits g c = (can_told g (goal.at.give-requires-clause-fits g c).After-known-2 c.in-Decided.reply c.decide.new.self c.in-Decided.is c.decide.ensures).1
+give-requires-clause-fits g c =
+    let past = (goal.at.give-requires-clause-fits g c).After-known-2 in
+    let none = own_group g past c.in-Behind.group c.in-Behind.entry c.at.ensures c.in-Behind.is ∙ no_group c.in-Behind.group c.if-group-gt0.false in
+    (can_told g past c.in-Decided.reply c.decide.new.self none c.in-Decided.is c.decide.ensures).1
 
 pub give-requires-in-Over-clause-over : goal.give-requires-in-Over-clause-over
 give-requires-in-Over-clause-over g c = (can_leave g (goal.at.give-requires-in-Over-clause-over g c).After-known-2 c.in-Over.is).0
@@ -126,21 +142,33 @@ invariant_of-self-in-Decided g c =
     let h = head g past in
     let reply = c.in-Decided.reply in
     let steps = h.steps (progress.Decided reply) c.in-Decided.is in
+    let none = own_group g past c.in-Behind.group c.in-Behind.entry c.at.ensures c.in-Behind.is ∙ no_group c.in-Behind.group c.if-group-gt0.false in
     let inside : c.args.pid < length c.decide.new.self.processes = search rules in
     record {
-      right = subst (λ (z : World). IsRight g.D.Disk k.opening.value c.step-progress.new.self z) (sym (c.give.ensures.processes ∙ ap (λ (w : World). answered w c.args.pid) c.decide.ensures)) (told g past reply c.in-Decided.is);
+      right = subst (λ (z : World). IsRight g.D.Disk k.opening.value c.step-progress.new.self z) (sym (c.give.ensures.processes ∙ ap (λ (w : World). answered w c.args.pid) c.decide.ensures)) (told g past reply none c.in-Decided.is);
       ports = ports_given g.I.Intake g.H.Herald k.intake c.give.new.intake k.herald k.herald k.store.volume.log.committed c.step-progress.new.self.volume.log.committed c.decide.new.self c.give.new.processes c.args.pid
           (subst (λ (w : World). ArePorts g.I.Intake g.H.Herald k.intake k.herald k.store.volume.log.committed w) (sym c.decide.ensures)
           (ports_decided g.I.Intake g.H.Herald k.intake k.herald k.store.volume.log.committed k.processes c.args.pid h.there.group h.there.k h.there.entry reply c.self.invariant.ports h.within h.there.stands h.there.has.at h.there.has.mine))
-          inside (can_told g past reply c.decide.new.self c.in-Decided.is c.decide.ensures).0 c.give.ensures.processes c.give.ensures.gives (c.self.invariant.ports.told ∙ sym steps.groups.committed);
+          inside (can_told g past reply c.decide.new.self none c.in-Decided.is c.decide.ensures).0 c.give.ensures.processes c.give.ensures.gives (c.self.invariant.ports.told ∙ sym steps.groups.committed);
     }
 
--- the group that was looked up is its own
-own_group : (g : Over) (c : After-known-2 g) (group k : ℕ) {a : At} → a ≡ (process c.self.inside.processes c.args.pid).at → a ≡ at.Behind group k → (head g c).there.group ≡ group
-own_group g c group k is told = let both : at.Behind (head g c).there.group (head g c).there.k ≡ at.Behind group k = sym (head g c).there.stands ∙ sym is ∙ told in cc both
-
-some_group : (group : ℕ) → (group ≡ 0 → ⊥) → 0 < group
-some_group group some = omega (arith, some)
+pub invariant_of-self-then-group-gt0 : goal.invariant_of-self-then-group-gt0
+invariant_of-self-then-group-gt0 g c =
+    let k = c.self.inside in
+    let past = (goal.at.invariant_of-self-then-group-gt0 g c).After-known-2 in
+    let h = head g past in
+    let reply = c.in-Decided.reply in
+    let steps = h.steps (progress.Decided reply) c.in-Decided.is in
+    let same = own_group g past c.in-Behind.group c.in-Behind.entry c.at.ensures c.in-Behind.is in
+    let some = c.if-group-gt0.true in
+    record {
+      right = subst (λ (z : World). IsRight g.D.Disk k.opening.value c.step-progress.new.self z) (sym c.decide.ensures)
+          (right_told g.D.Disk k.opening.value k.store k.processes c.self.invariant.right h.well c.args.pid h.within c.operation-op.result.now h.mine c.known.ensures.store c.step-progress.new.self h.there.group h.there.k h.there.stands
+          (omega (arith, same, some)) reply steps (h.agreed (progress.Decided reply) c.in-Decided.is refl));
+      ports = subst (λ (n : ℕ). ArePorts g.I.Intake g.H.Herald k.intake k.herald n c.decide.new.self) (sym steps.groups.committed)
+          (subst (λ (w : World). ArePorts g.I.Intake g.H.Herald k.intake k.herald k.store.volume.log.committed w) (sym c.decide.ensures)
+          (ports_decided g.I.Intake g.H.Herald k.intake k.herald k.store.volume.log.committed k.processes c.args.pid h.there.group h.there.k h.there.entry reply c.self.invariant.ports h.within h.there.stands h.there.has.at h.there.has.mine));
+    }
 
 pub invariant_of-self-then-group-eq0 : goal.invariant_of-self-then-group-eq0
 invariant_of-self-then-group-eq0 g c =
@@ -195,8 +223,28 @@ invariant_of-self-in-Fault g c =
 pub returns-in-Moved : goal.returns-in-Moved
 returns-in-Moved g c = acts g (goal.at.returns-in-Moved g c).After-known-2 progress.Moved c.self.inside.intake c.self.inside.processes c.in-Moved.is refl (sides_same g.I.Intake c.args.pid c.self.inside.intake) refl
 
-pub returns-in-Decided : goal.returns-in-Decided
-returns-in-Decided g c = acts g (goal.at.returns-in-Decided g c).After-known-2 (progress.Decided c.in-Decided.reply) c.give.new.intake c.give.new.processes c.in-Decided.is
+-- with the reply of an operation of that group
+acts_told : (g : Over) (c : After-known-2 g) (reply : Reply) (group : ℕ) (j : _) (z : World) → (head g c).there.group ≡ group → c.step-progress.result ≡ progress.Decided reply → z ≡ world_of_told group c.self.inside.processes c.args.pid reply
+    → KeepsOthers g.I.Intake c.args.pid c.self.inside.intake j → (g.I.Intake.side j c.args.pid).ahead ≡ (g.I.Intake.side c.self.inside.intake c.args.pid).ahead
+    → Acts g.D.Disk g.I.Intake g.H.Herald c.args.pid (step_of_told group) c.args.self.now (record { store = c.step-progress.new.self; opening = c.self.inside.opening.value; intake = j; herald = c.self.inside.herald; world = z })
+acts_told g c reply group j z same is made sides ahead =
+    subst (λ (n : ℕ). Acts g.D.Disk g.I.Intake g.H.Herald c.args.pid (step_of_told n) c.args.self.now (record { store = c.step-progress.new.self; opening = c.self.inside.opening.value; intake = j; herald = c.self.inside.herald; world = z })) same
+    (acts g c (progress.Decided reply) j z is (made ∙ ap (λ (n : ℕ). world_of_told n c.self.inside.processes c.args.pid reply) (sym same)) sides ahead)
+
+pub returns-then-group-gt0 : goal.returns-then-group-gt0
+returns-then-group-gt0 g c =
+    let past = (goal.at.returns-then-group-gt0 g c).After-known-2 in
+    let same = own_group g past c.in-Behind.group c.in-Behind.entry c.at.ensures c.in-Behind.is in
+    let some = c.if-group-gt0.true in
+    let next : suc (c.in-Behind.group - 1) ≡ c.in-Behind.group = omega (arith, some) in
+    acts_told g past c.in-Decided.reply (suc (c.in-Behind.group - 1)) c.self.inside.intake c.decide.new.self (same ∙ sym next) c.in-Decided.is
+    c.decide.ensures (sides_same g.I.Intake c.args.pid c.self.inside.intake) refl
+
+pub returns-else-group-gt0 : goal.returns-else-group-gt0
+returns-else-group-gt0 g c =
+    let past = (goal.at.returns-else-group-gt0 g c).After-known-2 in
+    let none = own_group g past c.in-Behind.group c.in-Behind.entry c.at.ensures c.in-Behind.is ∙ no_group c.in-Behind.group c.if-group-gt0.false in
+    acts_told g past c.in-Decided.reply 0 c.give.new.intake c.give.new.processes none c.in-Decided.is
     (c.give.ensures.processes ∙ ap (λ (w : World). answered w c.args.pid) c.decide.ensures) c.give.ensures.gives.keeps c.give.ensures.gives.ahead
 
 -- with the last step of a task of that group
