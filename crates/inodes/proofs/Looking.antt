@@ -28,7 +28,7 @@ use Rattle.inodes.specs.Lemmas.Faults.{where_none, if_none, if_some}
 use Rattle.inodes.specs.Looks.{AreLooking, HasFiles, LooksAt, IsTaking, IsAtRead, HasAllRead, WasAnswered}
 use Rattle.inodes.specs.Holding.{IsTruncating, claim_by, claims_of, claim_of}
 use Rattle.inodes.specs.Places.{HasSlot, asked_by, grip_by, grip_of, grips_of, is_over, steps_left}
-use Rattle.inodes.specs.Steps.{Steps, Waits, Reads, LeavesReadings, is_made}
+use Rattle.inodes.specs.Steps.{Steps, Waits, Reads, LeavesLate, is_made}
 use Rattle.inodes.specs.Store.{StoreState, IsStore, FitsFiles, Agrees, Stands, current_of}
 use Rattle.inodes.specs.Table.{copy_at}
 use Rattle.inodes.specs.Tasks.{TaskState, task, no_task}
@@ -179,7 +179,7 @@ module _ {D N : Type 0} (disk : Ghosts D N) (s : StoreState D) (p i : ℕ) (op :
         looks_by (Some f) e = if_some (AreLooking new t.table t.tasks) t.volume.fault f (stepped.reads.fault ∙ e)
 
     -- THE STEP
-    pub steps_stepped : Goes disk (task s.tasks p).place s p op r t → Waits s p r t → LeavesReadings s p op r
+    pub steps_stepped : Goes disk (task s.tasks p).place s p op r t → Waits s p r t → LeavesLate s p op r
         → (is_made r ≡ true → is_over (task s.tasks p).place ≡ false → steps_left u.place s.table.inode_count < steps_left (task s.tasks p).place s.table.inode_count)
         → Steps disk s p op r t
     steps_stepped goes waits apart falls = record {

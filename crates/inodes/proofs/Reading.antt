@@ -19,9 +19,9 @@ use Rattle.inodes.specs.declared.tasks.Place.{Place}
 use Rattle.inodes.specs.declared.tasks.Place.TheVariants as place
 use Rattle.inodes.specs.Grips.{grip, locked_grip}
 use Rattle.inodes.specs.Lemmas.Faults.{where_none}
-use Rattle.inodes.specs.Lemmas.Looks.{copy_is, reading_number}
+use Rattle.inodes.specs.Lemmas.Looks.{copy_is, late_number}
 use Rattle.inodes.specs.Looks.{AreLooking, IsAtRead, LeadsToBlock, LooksAt}
-use Rattle.inodes.specs.Places.{asked_by, grip_by, grips_of, is_reading, HasSlot}
+use Rattle.inodes.specs.Places.{asked_by, grip_by, grips_of, owes_reply, HasSlot}
 use Rattle.inodes.specs.Readi.{ReadState, IsReading, HasRoomLeft}
 use Rattle.inodes.specs.Store.{StoreState, IsStore, HoldsAt, Stands, Agrees, current_of}
 use Rattle.inodes.specs.Table.{copy_at}
@@ -64,11 +64,11 @@ module _ {D N : Type 0} (disk : Ghosts D N) (s : StoreState D) (p k : ℕ) (m : 
   pub nobody : claims_of s.tasks number ≡ None
   nobody = unclaimed cur s.table s.tasks looking p k number (sym (grip_is s.tasks p) ∙ has) (ap (λ (a : Place). claim_by (task s.tasks p).op a number) stood)
 
-  reads : is_reading (task s.tasks p).place ≡ true
-  reads = ap is_reading stood
+  reads : owes_reply (task s.tasks p).place ≡ true
+  reads = ap owes_reply stood
 
   may_name : IsTrue (is_number (inode_count_of cur) number)
-  may_name = subst (λ (n : ℕ). IsTrue (is_number n number)) is.numbers (reading_number cur s.table s.tasks looking p reads)
+  may_name = subst (λ (n : ℕ). IsTrue (is_number n number)) is.numbers (late_number cur s.table s.tasks looking p reads)
 
   -- the file of its inode may be read
   pub may : MayRead cur m.inode

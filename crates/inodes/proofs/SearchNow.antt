@@ -23,7 +23,7 @@ use Rattle.inodes.specs.Holding.{claims_of}
 use Rattle.inodes.specs.Ialloc.{SearchState, SearchSteps, MayStep}
 use Rattle.inodes.specs.Looks.{AreLooking}
 use Rattle.inodes.specs.Places.{block_at_place, grip_of, grips_of, steps_left}
-use Rattle.inodes.specs.Steps.{Steps, IsHeldByAnother, LeavesReadings}
+use Rattle.inodes.specs.Steps.{Steps, IsHeldByAnother, LeavesLate}
 use Rattle.inodes.specs.Store.{StoreState, IsStore, IsSearching, Agrees, FitsFiles, current_of}
 use Rattle.inodes.specs.Table.{TableState}
 use Rattle.inodes.specs.Tasks.{TaskState, task, no_task}
@@ -155,7 +155,7 @@ module _ {D N : Type 0} (disk : Ghosts D N) (s now : StoreState D) (p : ℕ) (m 
             held = λ waits. subst (λ (a : Place). IsHeldByAnother s p (block_at_place a)) (sym stood) (held_then s p m r agrees stood u.buffers new.slot steps.locks waits);
             inode = λ waits. absurd (no_inode_held m.slot s.volume.buffers u.buffers p m.block new.slot r steps.locks waits);
           })
-          (subst (λ (q : Op). LeavesReadings s p q (answer_of r)) (sym (same_op disk.image s t p m new op r agrees is.numbers lt stood is_op steps.current claimed_same)) (apart_then disk.image s p m new s.volume.buffers m.slot r looks is.numbers steps.goes))
+          (subst (λ (q : Op). LeavesLate s p q (answer_of r)) (sym (same_op disk.image s t p m new op r agrees is.numbers lt stood is_op steps.current claimed_same)) (apart_then disk.image s p m new s.volume.buffers m.slot r looks is.numbers steps.goes))
           (λ made unfinished. subst (λ (a : Place). steps_left (place_then r m new) s.table.inode_count < steps_left a s.table.inode_count) (sym stood)
           (falls_then s.table.inode_count m new (current_of disk.image s.volume) s.volume.buffers r mine.count mine.last steps.goes made))
         where

@@ -45,13 +45,13 @@ use Rattle.inodes.specs.Lemmas.Holding.{claim_stays}
 use Rattle.inodes.specs.Places.{HasSlot, asked_by, grip_by, grip_of, looks_left, steps_left}
 use Rattle.inodes.specs.Store.{StoreState, FitsFiles, Agrees, IsSearching, current_of, reply_of}
 use Rattle.inodes.specs.Lemmas.Bounds.{some_step}
-use Rattle.inodes.specs.Lemmas.Looks.{reading_number}
+use Rattle.inodes.specs.Lemmas.Looks.{late_number}
 use Rattle.inodes.proofs.Frames.{groups_noted, groups_same, marks_same, within_image}
 use Rattle.inodes.proofs.Gripping.{same_task}
 use Rattle.inodes.proofs.LooksKept.{KeepsUsed, keeps_claimed, keeps_same}
 use Rattle.inodes.proofs.Searching.{search as searching}
 use Rattle.model.specs.Tasks.{FilesThen, Answers, reply_at_turn, fault_of_task, Marks}
-use Rattle.inodes.specs.Steps.{IsHeldByAnother, LeavesNumber, LeavesReadings, is_made}
+use Rattle.inodes.specs.Steps.{IsHeldByAnother, LeavesNumber, LeavesLate, is_made}
 use Rattle.inodes.proofs.Unclaimed.{late_used}
 
 -- what a store answers for what its search came to
@@ -341,7 +341,7 @@ no_inode_held o c d p b slot (search.Fault fault) locks is = cc is
 
 -- a creation's number is no reading's: that of a creation is 0, and what it makes was free
 pub apart_then : {D : Type 0} (image : D → Image) (s : StoreState D) (p : ℕ) (m new : SearchState) (c : Buffers) (o : Option ℕ) (r : Progress (Option ℕ)) → AreLooking (current_of image s.volume) s.table s.tasks → s.table.inode_count ≡ inode_count_of (current_of image s.volume)
-    → SearchGoes o (current_of image s.volume) c m r new → LeavesReadings s p (Create m.kind) (answer_of r)
+    → SearchGoes o (current_of image s.volume) c m r new → LeavesLate s p (Create m.kind) (answer_of r)
 apart_then image s p m new c o r looks numbers goes q apart reads = by_answer r o goes
   where
     number : ℕ
@@ -349,7 +349,7 @@ apart_then image s p m new c o r looks numbers goes q apart reads = by_answer r 
 
     named : 0 ≢ number
     named none =
-        let is = reading_number (current_of image s.volume) s.table s.tasks looks q reads in
+        let is = late_number (current_of image s.volume) s.table s.tasks looks q reads in
         let some = ltb-true 0 number (both_of (ltb 0 number) (ltb number s.table.inode_count) is).0 in
         omega (arith, none, some)
 

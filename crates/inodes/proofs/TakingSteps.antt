@@ -34,14 +34,14 @@ use Rattle.inodes.specs.Ilock.{LockSteps, Locks, ReadsInode, at_lock}
 use Rattle.inodes.specs.Lemmas.Grips.{kept_by_refer, kept_by_lock, kept_by_renew, locks_exclude, holder_is_another}
 use Rattle.inodes.specs.LockState.{LockState, place_of, slot_of, locks_left}
 use Rattle.inodes.specs.Looks.{LooksAt, IsTaking}
-use Rattle.inodes.specs.Places.{asked, asked_by, is_reading, HasSlot, block_at_place, grip_at, grip_by, grip_of, grips_of, steps_left}
-use Rattle.inodes.specs.Steps.{Steps, Waits, LeavesReadings, LeavesNumber, IsHeldByAnother, IsInodeHeld, is_made}
+use Rattle.inodes.specs.Places.{asked, asked_by, owes_reply, HasSlot, block_at_place, grip_at, grip_by, grip_of, grips_of, steps_left}
+use Rattle.inodes.specs.Steps.{Steps, Waits, LeavesLate, LeavesNumber, IsHeldByAnother, IsInodeHeld, is_made}
 use Rattle.inodes.specs.Store.{StoreState, IsStore, FitsFiles, HoldsAt, IsOpenFor, Stands, current_of}
 use Rattle.inodes.specs.declared.table.InMemory.{InMemory}
 use Rattle.inodes.specs.Table.{TableState, entry_at, is_of, holder_at, copy_at, copy_in, place_for, with_holder, with_copy, referred, locked, kept}
 use Rattle.inodes.specs.Tasks.{TaskState, task, no_task}
 use Rattle.inodes.specs.Turning.{IsReadable, if_used, reply_when_taken, place_when_taken}
-use Rattle.inodes.specs.Lemmas.Looks.{reading_locks}
+use Rattle.inodes.specs.Lemmas.Looks.{late_locks}
 use Rattle.inodes.proofs.Agreeing.{StaysForOthers}
 use Rattle.inodes.proofs.Getting.{HasOne, has_same, has_left, reads_none, reads_got, shows_got, sleeps_got, held_got, has_then}
 use Rattle.inodes.proofs.Gripping.{grip_is}
@@ -72,14 +72,14 @@ module _ {D N : Type 0} (disk : Ghosts D N) (s : StoreState D) (p : ℕ) (op : O
     pub stepped : Stepped disk s p about op (progress_of_lock inode op q) (store_then w ts tab) (task_then n q)
     pub shown : ShowsSame disk.image s (store_then w ts tab)
     pub waits : Waits s p (progress_of_lock inode op q) (store_then w ts tab)
-    pub apart : LeavesReadings s p op (progress_of_lock inode op q)
+    pub apart : LeavesLate s p op (progress_of_lock inode op q)
     pub falls : is_made (progress_of_lock inode op q) ≡ true → steps_left (place_of_lock (extent_of s.table.inode_count s.volume.log.size) inode op m n q) s.table.inode_count < locks_left m.at + 543
 
   abbrev pub Makes : Progress Bool → LockState → VolumeState D → TableState → Type 0
   Makes q n w tab = (ts : List TaskState) → ts ≡ set s.tasks p (task_then n q) → Made q n w tab ts
 
   -- nothing is said of others where no reply is
-  no_reply : (q : Progress Bool) → reply_at_turn (progress_of_lock inode op q) ≡ None → LeavesReadings s p op (progress_of_lock inode op q)
+  no_reply : (q : Progress Bool) → reply_at_turn (progress_of_lock inode op q) ≡ None → LeavesLate s p op (progress_of_lock inode op q)
   no_reply q none other apart reads = subst (λ (o : Option Reply). LeavesNumber op o (asked_by (task s.tasks other).op)) (sym none) tt
 
   -- nobody waits where a step is made
@@ -295,7 +295,7 @@ module _ {D N : Type 0} (disk : Ghosts D N) (s : StoreState D) (p : ℕ) (op : O
 
   -- the inode of another's reading is another one
   turn_apart : (tab : TableState) (k : ℕ) (r : Option Reply) → TableIs tab (with_grip (grips_of s.tasks) p (Some (locked_grip k m.number))) cur → ((i : ℕ) → is_making i r ≡ true → ⊥)
-      → (q : ℕ) → q ≢ p → is_reading (task s.tasks q).place ≡ true → LeavesNumber op r (asked_by (task s.tasks q).op)
+      → (q : ℕ) → q ≢ p → owes_reply (task s.tasks q).place ≡ true → LeavesNumber op r (asked_by (task s.tasks q).op)
   turn_apart tab k None table makes q other reads = tt
   turn_apart tab k (Some reply) table makes q other reads = (λ same. other (sym (alone same)), not_true (is_making (asked_by (task s.tasks q).op) (Some reply)) (makes (asked_by (task s.tasks q).op)))
     where
@@ -305,7 +305,7 @@ module _ {D N : Type 0} (disk : Ghosts D N) (s : StoreState D) (p : ℕ) (op : O
 
       alone : asked op ≡ asked_by (task s.tasks q).op → p ≡ q
       alone same =
-          let theirs = reading_locks cur s.table s.tasks (looking disk s p op m is well stood is_op) q reads in
+          let theirs = late_locks cur s.table s.tasks (looking disk s p op m is well stood is_op) q reads in
           let gs = grips_of s.tasks in
           let now : grip (with_grip gs p (Some (locked_grip k m.number))) p ≡ Some (locked_grip k m.number) = get_or-set_same gs p (Some (locked_grip k m.number)) None few in
           let then_theirs : grip (with_grip gs p (Some (locked_grip k m.number))) q ≡ Some (locked_grip theirs.0 m.number) =

@@ -8,7 +8,7 @@ use Rattle.inodes.specs.Grips.{locked_grip, grip}
 use Rattle.inodes.specs.Holding.{claim_by, claims_of, held_of, claim_of}
 use Rattle.inodes.specs.Itrunc.{TruncState}
 use Rattle.inodes.specs.Looks.{AreLooking, LooksAt}
-use Rattle.inodes.specs.Places.{grip_of, grips_of, is_reading, asked_by, grip_by}
+use Rattle.inodes.specs.Places.{grip_of, grips_of, owes_reply, asked_by, grip_by}
 use Rattle.inodes.specs.Table.{TableState, copy_at}
 use Rattle.inodes.specs.Tasks.{TaskState, task}
 use Rattle.inodes.specs.Lemmas.Grips.{locks_exclude}
@@ -74,7 +74,7 @@ module _ (cur : Image) (t : TableState) (ts : List TaskState) (are : AreLooking 
   own_growth p k m at = claim_of_locked p k m.number (write_locks cur t ts are p k m at) ∙ ap (λ (a : Place). claim_by (task ts p).op a m.number) at ∙ own_grows (task ts p).op k m
 
   -- a task whose reply is to come has a used inode
-  pub late_used : t.inode_count ≡ inode_count_of cur → (p : ℕ) → is_reading (task ts p).place ≡ true → (inode_of cur (asked_by (task ts p).op)).kind ≢ 0
+  pub late_used : t.inode_count ≡ inode_count_of cur → (p : ℕ) → owes_reply (task ts p).place ≡ true → (inode_of cur (asked_by (task ts p).op)).kind ≢ 0
   late_used numbers p is = by_place (task ts p).place refl (are.stand p) (grip_of_task ts p) is
     where
       used : (k : ℕ) (d : Dinode) → grip (grips_of ts) p ≡ Some (locked_grip k (asked_by (task ts p).op)) → copy_at t.places k ≡ Some d → (inode_of cur (asked_by (task ts p).op)).kind ≢ 0
@@ -88,7 +88,7 @@ module _ (cur : Image) (t : TableState) (ts : List TaskState) (are : AreLooking 
           let growing = growing_of are.files.0 cur (claims_of ts) m.number (growth_of m (bytes_by (task ts p).op)) (record { fits = are.files.1; number = names; holds = own_growth p k m at }) in
           subst (λ (j : ℕ). (inode_of cur j).kind ≢ 0) (sym (ap asked_by work.op)) (λ free. growing.fit.used (sym growing.same_kind ∙ free))
 
-      by_place : (a : Place) → (task ts p).place ≡ a → LooksAt cur t (task ts p) a → grip (grips_of ts) p ≡ grip_by a (asked_by (task ts p).op) → is_reading a ≡ true → (inode_of cur (asked_by (task ts p).op)).kind ≢ 0
+      by_place : (a : Place) → (task ts p).place ≡ a → LooksAt cur t (task ts p) a → grip (grips_of ts) p ≡ grip_by a (asked_by (task ts p).op) → owes_reply a ≡ true → (inode_of cur (asked_by (task ts p).op)).kind ≢ 0
       by_place place.Nowhere at stands has unlike = absurd (cc unlike)
       by_place (place.Creating m) at stands has unlike = absurd (cc unlike)
       by_place (place.Taking m) at stands has unlike = absurd (cc unlike)

@@ -109,15 +109,15 @@ abbrev pub grips_of : List TaskState → List (Option Grip)
 grips_of ts = map grip_of ts
 
 -- a task that had its turn, and whose reply is to come
-abbrev pub is_reading : Place → Bool
-is_reading place.Nowhere = false
-is_reading (place.Creating m) = false
-is_reading (place.Taking m) = false
-is_reading (place.Reading k m) = true
-is_reading (place.Delivering k) = true
-is_reading (place.Truncating k m) = false
-is_reading (place.Writing k m) = true
-is_reading (place.Leaving k) = false
+abbrev pub owes_reply : Place → Bool
+owes_reply place.Nowhere = false
+owes_reply (place.Creating m) = false
+owes_reply (place.Taking m) = false
+owes_reply (place.Reading k m) = true
+owes_reply (place.Delivering k) = true
+owes_reply (place.Truncating k m) = false
+owes_reply (place.Writing k m) = true
+owes_reply (place.Leaving k) = false
 
 -- the steps of a search at the block that it looks at: it has to be got, and looked at
 abbrev pub looks_left : Option ℕ → ℕ

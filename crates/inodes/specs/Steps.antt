@@ -22,7 +22,7 @@ use Rattle.wal.specs.Volume.{VolumeCommits, faults_after}
 use Rattle.inodes.specs.Goes.{Goes}
 use Rattle.inodes.specs.Grips.{unlocked_grip, locked_grip}
 use Rattle.inodes.specs.Holding.{claims_of}
-use Rattle.inodes.specs.Places.{asked, asked_by, is_over, is_reading, HasSlot, block_at_place, grip_of, steps_left}
+use Rattle.inodes.specs.Places.{asked, asked_by, is_over, owes_reply, HasSlot, block_at_place, grip_of, steps_left}
 use Rattle.inodes.specs.Store.{StoreState, FitsFiles, KeepsFiles, current_of}
 use Rattle.inodes.specs.Tasks.{task}
 
@@ -63,9 +63,9 @@ abbrev pub LeavesNumber : Op → Option Reply → ℕ → Type 0
 LeavesNumber op None i = Unit {0}
 LeavesNumber op (Some reply) i = (asked op ≢ i) × (is_making i (Some reply) ≡ false)
 
--- a turn whose reply stands has nothing to do with the inode of another's reading
-abbrev pub LeavesReadings : {D : Type 0} → StoreState D → ℕ → Op → TaskProgress → Type 0
-LeavesReadings s p op r = (q : ℕ) → q ≢ p → is_reading (task s.tasks q).place ≡ true
+-- a turn whose reply stands has nothing to do with the inode of another whose reply is to come
+abbrev pub LeavesLate : {D : Type 0} → StoreState D → ℕ → Op → TaskProgress → Type 0
+LeavesLate s p op r = (q : ℕ) → q ≢ p → owes_reply (task s.tasks q).place ≡ true
     → LeavesNumber op (reply_at_turn r) (asked_by (task s.tasks q).op)
 
 -- what stays of a number: its file where no task holds it, and else the blocks that the task owns
@@ -118,7 +118,7 @@ pub record Steps {D N : Type 0} (disk : Ghosts D N) (old : StoreState D) (p : �
       (current_of disk.image old.volume) (current_of disk.image new.volume)
   pub waits : Waits old p r new
   pub reads : Reads disk old r new
-  pub apart : LeavesReadings old p op r
+  pub apart : LeavesLate old p op r
   pub shares : LeavesShares disk.image old p new
   pub falls : is_made r ≡ true → is_over (task old.tasks p).place ≡ false
       → steps_left (task new.tasks p).place old.table.inode_count

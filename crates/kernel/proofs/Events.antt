@@ -30,7 +30,7 @@ use Rattle.wal.specs.Machine.{LogState, begun, ended, end_answer, is_quiet, used
 use Rattle.wal.specs.Step.{answer_at}
 use Rattle.inodes.specs.declared.ilock.LockAt.TheVariants as lock_at
 use Rattle.inodes.specs.declared.tasks.Place.TheVariants as place
-use Rattle.inodes.specs.Places.{asked, is_over, is_reading, steps_left}
+use Rattle.inodes.specs.Places.{asked, is_over, owes_reply, steps_left}
 use Rattle.inodes.specs.Steps.{Steps, Commits, is_made}
 use Rattle.inodes.specs.Store.{StoreState, current_of, first_place, with_begun, with_look}
 use Rattle.inodes.specs.Table.{TableState}
@@ -98,7 +98,6 @@ not_taken what l room r is = by_case what is
 
     by_case : (what : Option Waiting) → IsNotTaken what l room r → Rests r
     by_case None is = subst Rests (sym is) (record { unmoved = λ e. cc e; runs = λ e. cc e; none = λ a l. refl })
-    by_case (Some waiting.Other) is = subst Rests (sym is) (record { unmoved = λ e. cc e; runs = λ e. cc e; none = λ a l. refl })
     by_case (Some waiting.Refused) (inl full) = sleeps _ full.0
     by_case (Some waiting.Refused) (inr none) = lacks none.0
     by_case (Some (waiting.Look count)) (inl full) = sleeps _ full.0
@@ -290,7 +289,7 @@ module _ {D N : Type 0} (disk : Ghosts D N) (opening : Image) (p : ℕ) (s t : S
             (λ moved. fewer (record (process w p) { at = place_behind over group k }) (at.Before group op) (place_behind over group k) stands refl (omega (arith, less, left.0)) left.1)
         by_progress (progress.Decided reply) done to = absurd (unread (stops op there.0 there.1 (progress.Decided reply) done).0)
           where
-            unread : is_reading (task s.tasks p).place ≡ true → ⊥
+            unread : owes_reply (task s.tasks p).place ≡ true → ⊥
             unread reads = false≢true (sym (unturned_unread (task s.tasks p).place (unturned_before disk.image opening s w p is group op stands)) ∙ reads)
         by_progress progress.Over done to = absurd (false≢true (sym (stops op there.0 there.1 progress.Over done).0 ∙ unturned_before disk.image opening s w p is group op stands))
         by_progress (progress.Sleeping cause) done to =

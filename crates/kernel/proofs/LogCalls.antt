@@ -8,7 +8,7 @@ use Rattle.model.specs.declared.types.operations.Op.TheVariants.{Create, Write, 
 use Rattle.model.specs.Gathered.{GatheredBytes}
 use Rattle.wal.specs.Machine.{LogState, begun, ended}
 use Rattle.wal.specs.Volume.{VolumeState}
-use Rattle.inodes.specs.Places.{is_over, is_reading}
+use Rattle.inodes.specs.Places.{is_over, owes_reply}
 use Rattle.inodes.specs.Tasks.{TaskState, task, no_task}
 use Rattle.inodes.specs.Store.{StoreState, KeepsFiles, first_place, with_begun, with_log, with_look, current_of}
 use Rattle.journal.specs.Views.{CallsLog}
@@ -16,7 +16,7 @@ use Rattle.kernel.specs.View.{held_at, view_of}
 use Rattle.kernel.proofs.Valid.{over_unread, unread_holds}
 
 -- a task that begins reads nothing yet
-first_unread : (op : Op) (n : ℕ) → is_reading (first_place op n) ≡ false
+first_unread : (op : Op) (n : ℕ) → owes_reply (first_place op n) ≡ false
 first_unread (Create kind) n = refl
 first_unread (Write i off bytes) n = refl
 first_unread (Read i off m) n = refl
@@ -36,7 +36,7 @@ module _ {D : Type 0} (image : D → Image) (old new : StoreState D) (p : ℕ) (
   }
 
   -- a process whose task was over begins another
-  begins : (u : TaskState) → new.tasks ≡ set old.tasks p u → p < length old.tasks → is_over (task old.tasks p).place ≡ true → is_reading u.place ≡ false → (q : ℕ) → held_at (task new.tasks q) ≡ held_at (task old.tasks q)
+  begins : (u : TaskState) → new.tasks ≡ set old.tasks p u → p < length old.tasks → is_over (task old.tasks p).place ≡ true → owes_reply u.place ≡ false → (q : ℕ) → held_at (task new.tasks q) ≡ held_at (task old.tasks q)
   begins u is lt over unread q = ⊎_elim
       (λ (same : q ≡ p). ap (λ (r : ℕ). held_at (task new.tasks r)) same ∙ ap held_at (ap (λ (ts : List TaskState). task ts p) is ∙ get_or-set_same old.tasks p u no_task lt) ∙ unread_holds u unread
       ∙ sym (unread_holds (task old.tasks p) (over_unread (task old.tasks p).place over)) ∙ ap (λ (r : ℕ). held_at (task old.tasks r)) (sym same))

@@ -57,7 +57,7 @@ module _ {D : Type 0} (s t : StoreState D) (w z : World) (p : ℕ) (u : Process)
 -- a task that begins has not had its turn
 pub begins_unturned : (op : Op) (n : ℕ) → CanBegin n op → is_unturned (first_place op n) ≡ true
 begins_unturned (Create kind) n can = refl
-begins_unturned (Write i off bytes) n can = absurd can
+begins_unturned (Write i off bytes) n can = refl
 begins_unturned (Read i off m) n can = absurd can
 begins_unturned (Trunc i) n can = refl
 begins_unturned (Remove i) n can = refl

@@ -18,7 +18,7 @@ use Rattle.model.specs.Layout.{form_of, magic_of}
 use Rattle.model.specs.Tasks.{reply_at_turn}
 use Rattle.inodes.specs.Lemmas.StepEnds.{GoesOn}
 use Rattle.inodes.specs.Looks.{AreLooking, IsLate}
-use Rattle.inodes.specs.Places.{asked, asked_by, is_over, is_reading}
+use Rattle.inodes.specs.Places.{asked, asked_by, is_over, owes_reply}
 use Rattle.inodes.specs.Tasks.{task}
 use Rattle.inodes.specs.Steps.{Steps}
 use Rattle.inodes.specs.Store.{StoreState, current_of}
@@ -41,14 +41,14 @@ module _ {D N : Type 0} (disk : Ghosts D N) (s t : StoreState D) (p : ℕ) (op :
   }
 
   -- what it held
-  mine : (r : TaskProgress) → Steps disk s p op r t → is_reading (task t.tasks p).place ≡ is_reading (task s.tasks p).place → held_at (task t.tasks p) ≡ held_at (task s.tasks p)
-  mine r step same = ap (λ (b : Bool). cond b (option_map held_by (task t.tasks p).op) None) same ∙ ap (λ (o : Option Op). cond (is_reading (task s.tasks p).place) (option_map held_by o) None) step.tasks.op_stays
+  mine : (r : TaskProgress) → Steps disk s p op r t → owes_reply (task t.tasks p).place ≡ owes_reply (task s.tasks p).place → held_at (task t.tasks p) ≡ held_at (task s.tasks p)
+  mine r step same = ap (λ (b : Bool). cond b (option_map held_by (task t.tasks p).op) None) same ∙ ap (λ (o : Option Op). cond (owes_reply (task s.tasks p).place) (option_map held_by o) None) step.tasks.op_stays
 
   pub moves_of : GoesOn (task s.tasks p).place (task t.tasks p).place → Steps disk s p op progress.Moved t → Moves p (view_of disk.image s) (view_of disk.image t)
   moves_of on step = record { rest = rest progress.Moved step; mine = mine progress.Moved step on.reading; files = step.files }
 
   -- nothing is held where no reply is owed any more
-  pub free_then : is_reading (task t.tasks p).place ≡ false → (view_of disk.image t).holds p ≡ None
+  pub free_then : owes_reply (task t.tasks p).place ≡ false → (view_of disk.image t).holds p ≡ None
   free_then unread = unread_holds (task t.tasks p) unread
 
   pub leaves_of : is_over (task t.tasks p).place ≡ true → Steps disk s p op progress.Over t → Leaves p (view_of disk.image s) (view_of disk.image t)
@@ -58,7 +58,7 @@ module _ {D N : Type 0} (disk : Ghosts D N) (s t : StoreState D) (p : ℕ) (op :
   reads_rest r step = rest (progress.Decided r) step
 
   -- an operation has its turn, and its reply is to come
-  pub opens_of : (n : ℕ) → IsLate n (task t.tasks p) → (task s.tasks p).op ≡ Some op → is_reading (task t.tasks p).place ≡ true → Steps disk s p op (progress.Turned None) t → Opens n p op (view_of disk.image s) (view_of disk.image t)
+  pub opens_of : (n : ℕ) → IsLate n (task t.tasks p) → (task s.tasks p).op ≡ Some op → owes_reply (task t.tasks p).place ≡ true → Steps disk s p op (progress.Turned None) t → Opens n p op (view_of disk.image s) (view_of disk.image t)
   opens_of n late same owes step =
       let its : LateOp n op = late_op n (task t.tasks p) op (step.tasks.op_stays ∙ same) late in
       record {
@@ -74,7 +74,7 @@ module _ {D N : Type 0} (disk : Ghosts D N) (s t : StoreState D) (p : ℕ) (op :
     pub takes_of : (r : Reply) → Steps disk s p op (progress.Decided r) t → Takes form (view_of disk.image s) (view_of disk.image t) op r
     takes_of r step = subst (λ (f : Form). Takes f (view_of disk.image s) (view_of disk.image t) op r) same step.files
 
-    pub turns_of : (r : Reply) → number_of op ≡ asked op → is_reading (task s.tasks p).place ≡ false → AreLooking (current_of disk.image s.volume) s.table s.tasks → Steps disk s p op (progress.Turned (Some r)) t
+    pub turns_of : (r : Reply) → number_of op ≡ asked op → owes_reply (task s.tasks p).place ≡ false → AreLooking (current_of disk.image s.volume) s.table s.tasks → Steps disk s p op (progress.Turned (Some r)) t
         → Turns form p op r (view_of disk.image s) (view_of disk.image t)
     turns_of r number unread are step = subst (λ (f : Form). Turns f p op r (view_of disk.image s) (view_of disk.image t)) same (record {
       rest = rest (progress.Turned (Some r)) step;

@@ -7,7 +7,7 @@ use Rattle.model.specs.declared.types.operations.Op.{Op}
 use Rattle.model.specs.Layout.{inode_count_of}
 use Rattle.inodes.specs.Lemmas.Looks.{holds_lock}
 use Rattle.inodes.specs.Looks.{AreLooking, HoldsInode}
-use Rattle.inodes.specs.Places.{asked, asked_by, is_over, is_reading, is_unturned}
+use Rattle.inodes.specs.Places.{asked, asked_by, is_over, owes_reply, is_unturned}
 use Rattle.inodes.specs.Store.{StoreState, current_of}
 use Rattle.inodes.specs.Tasks.{TaskState, task}
 use Rattle.inodes.specs.declared.tasks.Place.{Place}
@@ -31,29 +31,31 @@ module _ {D : Type 0} (image : D → Image) (s : StoreState D) (w : World) (pair
       subst (λ (o : Option Op). HoldsInode s.table p (asked_by o)) behind.same (holds_lock (current_of image s.volume) s.table s.tasks looks p behind.unfinished behind.turned)
 
   -- who holds a number owes its reply, and is neither over nor before its turn
-  reads : (t : TaskState) (h : Held) → held_at t ≡ Some h → is_reading t.place ≡ true
-  reads t h holds = by_test (is_reading t.place) holds
+  reads : (t : TaskState) (h : Held) → held_at t ≡ Some h → owes_reply t.place ≡ true
+  reads t h holds = by_test (owes_reply t.place) holds
     where
       by_test : (b : Bool) → cond b (option_map held_by t.op) None ≡ Some h → b ≡ true
       by_test true holds = refl
       by_test false holds = absurd (cc holds)
 
-  not_over : (a : Place) → is_reading a ≡ true → is_over a ≡ true → ⊥
+  not_over : (a : Place) → owes_reply a ≡ true → is_over a ≡ true → ⊥
   not_over place.Nowhere reads over = absurd (cc reads)
   not_over (place.Creating m) reads over = absurd (cc reads)
   not_over (place.Taking m) reads over = absurd (cc reads)
   not_over (place.Reading k m) reads over = absurd (cc over)
   not_over (place.Delivering k) reads over = absurd (cc over)
   not_over (place.Truncating k m) reads over = absurd (cc reads)
+  not_over (place.Writing k m) reads over = absurd (cc over)
   not_over (place.Leaving k) reads over = absurd (cc reads)
 
-  not_before : (a : Place) → is_reading a ≡ true → is_unturned a ≡ true → ⊥
+  not_before : (a : Place) → owes_reply a ≡ true → is_unturned a ≡ true → ⊥
   not_before place.Nowhere reads before = absurd (cc reads)
   not_before (place.Creating m) reads before = absurd (cc reads)
   not_before (place.Taking m) reads before = absurd (cc reads)
   not_before (place.Reading k m) reads before = absurd (cc before)
   not_before (place.Delivering k) reads before = absurd (cc before)
   not_before (place.Truncating k m) reads before = absurd (cc reads)
+  not_before (place.Writing k m) reads before = absurd (cc before)
   not_before (place.Leaving k) reads before = absurd (cc reads)
 
   -- an entry without a reply is under way
@@ -63,7 +65,7 @@ module _ {D : Type 0} (image : D → Image) (s : StoreState D) (w : World) (pair
       held : held_at (task s.tasks e.pid) ≡ Some (held_by e.op)
       held = (open_entry _ _ w.journal.list k e has.facts.follows.are is none).1
 
-      reading : is_reading (task s.tasks e.pid).place ≡ true
+      reading : owes_reply (task s.tasks e.pid).place ≡ true
       reading = reads (task s.tasks e.pid) (held_by e.op) held
 
       by_place : (a : At) → ats_of w e.pid ≡ a → TaskStands w.journal.list (task s.tasks e.pid) a → StandsAt (inode_count_of opening) (view_of image s) w.journal.list e.pid a → (group : ℕ) × (ats_of w e.pid ≡ at.Behind group k)

@@ -20,9 +20,9 @@ use Rattle.inodes.specs.declared.tasks.Place.TheVariants as place
 use Rattle.inodes.specs.Holding.{claim_by, claims_of}
 use Rattle.inodes.specs.Lemmas.Faults.{where_none}
 use Rattle.inodes.specs.Lemmas.Holding.{none_held}
-use Rattle.inodes.specs.Lemmas.Looks.{late_is, reading_number, readings_apart}
+use Rattle.inodes.specs.Lemmas.Looks.{late_is, late_number, late_apart}
 use Rattle.inodes.specs.Looks.{AreLooking, CanLook, CanTake, IsLate, IsWrite, LooksAt}
-use Rattle.inodes.specs.Places.{asked, asked_by, is_over, is_reading, is_unturned}
+use Rattle.inodes.specs.Places.{asked, asked_by, is_over, owes_reply, is_unturned}
 use Rattle.inodes.specs.Tasks.{TaskState, task}
 use Rattle.inodes.specs.Store.{Agrees, FitsFiles, IsStore, Stands, StoreState, current_of}
 use Rattle.journal.specs.Lemmas.Groups.{open_of}
@@ -40,16 +40,17 @@ pub agreed_now : {D : Type 0} (image : D → Image) (s : StoreState D) → s.vol
 agreed_now image s well joint store = record { joint = where_none s.volume.fault well joint; looks = where_none s.volume.fault well store.looks; agrees = where_none s.volume.fault well store.agrees }
 
 -- whose task owes no reply holds nothing
-pub unread_holds : (u : TaskState) → is_reading u.place ≡ false → held_at u ≡ None
+pub unread_holds : (u : TaskState) → owes_reply u.place ≡ false → held_at u ≡ None
 unread_holds u unread = ap (λ (b : Bool). cond b (option_map held_by u.op) None) unread
 
-pub over_unread : (a : Place) → is_over a ≡ true → is_reading a ≡ false
+pub over_unread : (a : Place) → is_over a ≡ true → owes_reply a ≡ false
 over_unread place.Nowhere over = refl
 over_unread (place.Creating m) over = refl
 over_unread (place.Taking m) over = refl
 over_unread (place.Reading k m) over = absurd (false≢true over)
 over_unread (place.Delivering k) over = absurd (false≢true over)
 over_unread (place.Truncating k m) over = refl
+over_unread (place.Writing k m) over = absurd (false≢true over)
 over_unread (place.Leaving k) over = refl
 
 pub over_nowhere : (a : Place) → is_over a ≡ true → a ≡ place.Nowhere
@@ -59,21 +60,23 @@ over_nowhere (place.Taking m) over = absurd (false≢true over)
 over_nowhere (place.Reading k m) over = absurd (false≢true over)
 over_nowhere (place.Delivering k) over = absurd (false≢true over)
 over_nowhere (place.Truncating k m) over = absurd (false≢true over)
+over_nowhere (place.Writing k m) over = absurd (false≢true over)
 over_nowhere (place.Leaving k) over = absurd (false≢true over)
 
-pub unturned_unread : (a : Place) → is_unturned a ≡ true → is_reading a ≡ false
+pub unturned_unread : (a : Place) → is_unturned a ≡ true → owes_reply a ≡ false
 unturned_unread place.Nowhere is = refl
 unturned_unread (place.Creating m) is = refl
 unturned_unread (place.Taking m) is = refl
 unturned_unread (place.Reading k m) is = absurd (false≢true is)
 unturned_unread (place.Delivering k) is = absurd (false≢true is)
 unturned_unread (place.Truncating k m) is = refl
+unturned_unread (place.Writing k m) is = absurd (false≢true is)
 unturned_unread (place.Leaving k) is = refl
 
 -- the number on which the answer of an operation depends that takes an inode is that which it asks for
 pub take_number : (n : ℕ) (op : Op) → CanTake n op → number_of op ≡ asked op
 take_number n (Create kind) can = absurd can
-take_number n (Write i off bytes) can = absurd can
+take_number n (Write i off bytes) can = ap (λ (b : Bool). cond b 0 i) (le-ltb 3072 (length bytes) can.1)
 take_number n (Read i off count) can = ap (λ (b : Bool). cond b 0 i) (le-ltb 3072 count can.1)
 take_number n (Trunc i) can = refl
 take_number n (Remove i) can = refl
@@ -104,27 +107,27 @@ late_op n t op same (inl r) =
     subst (LateOp n) is (record { late = refl; named = r.may.0; number = look_number n (Read r.number r.offset r.count) r.may })
 late_op n t op same (inr w) =
     let is : Write w.number w.offset w.bytes ≡ op = (let both = sym w.is ∙ same in cc both) in
-    subst (LateOp n) is (record { late = refl; named = w.may.0; number = ap (λ (b : Bool). cond b 0 w.number) (le-ltb 3072 (length w.bytes) w.may.1) })
+    subst (LateOp n) is (record { late = refl; named = w.may.0; number = take_number n (Write w.number w.offset w.bytes) w.may })
 
 -- the reply of process q is to come, and it holds the number that it asks for; only a write writes
 pub record HoldsLate (n : ℕ) (ts : List TaskState) (q : ℕ) (h : Held) : Type 0 where
-  pub late : is_reading (task ts q).place ≡ true
+  pub late : owes_reply (task ts q).place ≡ true
   pub number : h.number ≡ asked_by (task ts q).op
   pub writes : h.writes ≡ true → IsWrite n (task ts q)
 
 -- so does who holds something
 pub held_late : (cur : Image) (t : Rattle.inodes.specs.Table.TableState) (ts : List TaskState) → AreLooking cur t ts → (q : ℕ) (h : Held) → held_at (task ts q) ≡ Some h → HoldsLate t.inode_count ts q h
-held_late cur t ts are q h held = by_place (is_reading (task ts q).place) refl
+held_late cur t ts are q h held = by_place (owes_reply (task ts q).place) refl
   where
-    shown : (op : Op) → is_reading (task ts q).place ≡ true → (task ts q).op ≡ Some op → held_by op ≡ h
+    shown : (op : Op) → owes_reply (task ts q).place ≡ true → (task ts q).op ≡ Some op → held_by op ≡ h
     shown op is same =
         let both : Some (held_by op) ≡ Some h = sym (ap (λ (o : Option Op). option_map held_by o) same) ∙ sym (ap (λ (b : Bool). cond b (option_map held_by (task ts q).op) None) is) ∙ held in
         cc both
 
-    numbered : (op : Op) → is_reading (task ts q).place ≡ true → (task ts q).op ≡ Some op → IsLate t.inode_count (task ts q) → h.number ≡ asked_by (task ts q).op
+    numbered : (op : Op) → owes_reply (task ts q).place ≡ true → (task ts q).op ≡ Some op → IsLate t.inode_count (task ts q) → h.number ≡ asked_by (task ts q).op
     numbered op is same late = ap (λ (g : Held). g.number) (sym (shown op is same)) ∙ (late_op t.inode_count (task ts q) op same late).number ∙ sym (ap asked_by same)
 
-    by_late : is_reading (task ts q).place ≡ true → IsLate t.inode_count (task ts q) → HoldsLate t.inode_count ts q h
+    by_late : owes_reply (task ts q).place ≡ true → IsLate t.inode_count (task ts q) → HoldsLate t.inode_count ts q h
     by_late is (inl r) = record {
       late = is;
       number = numbered (Read r.number r.offset r.count) is r.is (inl r);
@@ -132,22 +135,23 @@ held_late cur t ts are q h held = by_place (is_reading (task ts q).place) refl
     }
     by_late is (inr w) = record { late = is; number = numbered (Write w.number w.offset w.bytes) is w.is (inr w); writes = λ writes. w }
 
-    by_place : (b : Bool) → is_reading (task ts q).place ≡ b → HoldsLate t.inode_count ts q h
+    by_place : (b : Bool) → owes_reply (task ts q).place ≡ b → HoldsLate t.inode_count ts q h
     by_place false is = let no = sym (unread_holds (task ts q) is) ∙ held in absurd (cc no)
     by_place true is = by_late is (late_is cur t ts are q is)
 
 -- a write whose reply is to come is open in the log
-write_logged : (cur : Image) (t : Rattle.inodes.specs.Table.TableState) (c : Buffers) (l : LogState) (q : ℕ) (u : TaskState) (a : Place) → LooksAt cur t u a → Stands c l t.inode_count q u.op a → is_reading a ≡ true → IsWrite t.inode_count u → IsSome (used_by l q)
+write_logged : (cur : Image) (t : Rattle.inodes.specs.Table.TableState) (c : Buffers) (l : LogState) (q : ℕ) (u : TaskState) (a : Place) → LooksAt cur t u a → Stands c l t.inode_count q u.op a → owes_reply a ≡ true → IsWrite t.inode_count u → IsSome (used_by l q)
 write_logged cur t c l q u place.Nowhere looks stands late w = absurd (false≢true late)
 write_logged cur t c l q u (place.Creating m) looks stands late w = absurd (false≢true late)
 write_logged cur t c l q u (place.Taking m) looks stands late w = absurd (false≢true late)
 write_logged cur t c l q u (place.Reading k m) looks stands late w = let no = sym looks.op.is ∙ w.is in absurd (cc no)
 write_logged cur t c l q u (place.Delivering k) looks stands late w = let no = sym looks.op.is ∙ w.is in absurd (cc no)
 write_logged cur t c l q u (place.Truncating k m) looks stands late w = absurd (false≢true late)
+write_logged cur t c l q u (place.Writing k m) looks stands late w = subst IsSome (sym stands.logged.used) refl
 write_logged cur t c l q u (place.Leaving k) looks stands late w = absurd (false≢true late)
 
 -- while no operation is open in the log, no task holds a number
-claims_nothing : (l : LogState) (c : Buffers) (n p i : ℕ) (o : Option Op) (a : Place) → IsLogAt l.commit l → l.outstanding ≡ 0 → Stands c l n p o a → claim_by a i ≡ None
+claims_nothing : (l : LogState) (c : Buffers) (n p i : ℕ) (o : Option Op) (a : Place) → IsLogAt l.commit l → l.outstanding ≡ 0 → Stands c l n p o a → claim_by o a i ≡ None
 claims_nothing l c n p i o place.Nowhere log none stands = refl
 claims_nothing l c n p i o (place.Creating m) log none stands = refl
 claims_nothing l c n p i o (place.Taking m) log none stands = refl
@@ -157,6 +161,8 @@ claims_nothing l c n p i o (place.Truncating k m) log none stands = absurd (⊎_
   where
     is_out : (u : ℕ) → used_by l p ≡ Some u → ⊥
     is_out u used = let some = (open_of l p log (subst IsSome (sym used) refl)).some in omega (arith, some, none)
+claims_nothing l c n p i o (place.Writing k m) log none stands =
+    let some = (open_of l p log (subst IsSome (sym stands.logged.used) refl)).some in absurd (omega (arith, some, none))
 claims_nothing l c n p i o (place.Leaving k) log none stands = refl
 
 -- so its image stands for files as one between operations, and with the log's header cleared it has them
@@ -179,11 +185,11 @@ valid_joint image s n same agreed =
     let holds = held_late cur s.table s.tasks are in
     record {
       store = record {
-        alone = λ p q g h mine other equal. let one = holds p g mine in let two = holds q h other in readings_apart cur s.table s.tasks are p q one.late two.late (sym one.number ∙ equal ∙ two.number);
+        alone = λ p q g h mine other equal. let one = holds p g mine in let two = holds q h other in late_apart cur s.table s.tasks are p q one.late two.late (sym one.number ∙ equal ∙ two.number);
         logged = λ q h held writes. let its = holds q h held in write_logged cur s.table s.volume.buffers s.volume.log q (task s.tasks q) (task s.tasks q).place (are.stand q) (agreed.agrees.stands q) its.late (its.writes writes);
         quiet = λ none m fits. files_quiet image s m agreed none fits;
       };
       log = agreed.joint.log;
       numbers = λ q h held. let one = holds q h held in
-          subst (λ (k : ℕ). IsTrue (is_number k h.number)) same (subst (λ (i : ℕ). IsTrue (is_number s.table.inode_count i)) (sym one.number) (reading_number cur s.table s.tasks are q one.late));
+          subst (λ (k : ℕ). IsTrue (is_number k h.number)) same (subst (λ (i : ℕ). IsTrue (is_number s.table.inode_count i)) (sym one.number) (late_number cur s.table s.tasks are q one.late));
     }

@@ -1,7 +1,7 @@
 -- What is true of store and processes stays so with a step of a task.
-use Rattle.std.proofs.Common.{◌≡◌, ◌≢◌, ℕ, ◌<◌, ◌≤◌, Bool, true, false, List, [], ◌∷◌, ◌++◌, length, set, length-set, ltb, refl, sym, ◌∙◌, ap, subst, inl, inr, Option, Some, None}
+use Rattle.std.proofs.Common.{◌≡◌, ◌≢◌, ℕ, ◌<◌, ◌≤◌, Bool, true, false, cond, List, [], ◌∷◌, ◌++◌, length, set, length-set, ltb, refl, sym, ◌∙◌, ap, subst, inl, inr, Option, Some, None}
 use Rattle.std.specs.Prelude.{IsTrue, is_none}
-use Rattle.std.proofs.lemmas.Bool.{false≢true, le-leb}
+use Rattle.std.proofs.lemmas.Bool.{false≢true, le-leb, le-ltb}
 use Rattle.std.proofs.lemmas.List.{set-get_or}
 use Rattle.blocks.specs.Disk.{Image}
 use Rattle.blocks.specs.declared.disk.Disk.{Ghosts}
@@ -22,7 +22,7 @@ use Rattle.inodes.specs.Lemmas.Faults.{where_none}
 use Rattle.inodes.specs.Lemmas.Looks.{late_is}
 use Rattle.inodes.specs.Lemmas.StepEnds.{DecisionEnds, GoesOn, GoesOnTurned, StepEnds, TurnEnds, ends_of}
 use Rattle.inodes.specs.Looks.{AreLooking, CanLook, IsLate}
-use Rattle.inodes.specs.Places.{asked, is_over, is_reading, is_unturned}
+use Rattle.inodes.specs.Places.{asked, is_over, owes_reply, is_unturned}
 use Rattle.inodes.specs.Steps.{Steps}
 use Rattle.inodes.specs.Store.{StoreState, IsStore, CanBegin, current_of}
 use Rattle.inodes.specs.Tasks.{task}
@@ -64,21 +64,27 @@ unturned_more (place.Taking m) is = refl
 unturned_more (place.Reading k m) is = refl
 unturned_more (place.Delivering k) is = refl
 unturned_more (place.Truncating k m) is = refl
+unturned_more (place.Writing k m) is = refl
 unturned_more (place.Leaving k) is = refl
 
-reading_more : (a : Place) → is_reading a ≡ true → (is_over a ≡ false) × (is_unturned a ≡ false)
+reading_more : (a : Place) → owes_reply a ≡ true → (is_over a ≡ false) × (is_unturned a ≡ false)
 reading_more place.Nowhere is = absurd (false≢true is)
 reading_more (place.Creating m) is = absurd (false≢true is)
 reading_more (place.Taking m) is = absurd (false≢true is)
 reading_more (place.Reading k m) is = (refl, refl)
 reading_more (place.Delivering k) is = (refl, refl)
 reading_more (place.Truncating k m) is = absurd (false≢true is)
+reading_more (place.Writing k m) is = (refl, refl)
 reading_more (place.Leaving k) is = absurd (false≢true is)
+
+-- a write of a number that operations may name changes files
+write_changes : (n i off : ℕ) (bytes : List ℕ) → IsTrue (is_number n i) → length bytes ≤ transfer_limit → is_changing n (Write i off bytes) ≡ true
+write_changes n i off bytes named few = rw (le-leb (length bytes) 3072 few, named) refl
 
 -- what may begin changes files, and what looks changes none
 changes : (n : ℕ) (op : Op) → CanBegin n op → (is_changing n op ≡ true) × (number_of op ≡ asked op)
 changes n (Create kind) can = (can, refl)
-changes n (Write i off bytes) can = absurd can
+changes n (Write i off bytes) can = (write_changes n i off bytes can.0 can.1, ap (λ (b : Bool). cond b 0 i) (le-ltb 3072 (length bytes) can.1))
 changes n (Read i off m) can = absurd can
 changes n (Trunc i) can = (can, refl)
 changes n (Remove i) can = (can, refl)
@@ -91,10 +97,6 @@ looks_only n k (Read i off m) can = refl
 looks_only n k (Trunc i) can = absurd can
 looks_only n k (Remove i) can = absurd can
 looks_only n k (Stat i) can = refl
-
--- a write of a number that operations may name changes files
-write_changes : (n i off : ℕ) (bytes : List ℕ) → IsTrue (is_number n i) → length bytes ≤ transfer_limit → is_changing n (Write i off bytes) ≡ true
-write_changes n i off bytes named few = rw (le-leb (length bytes) 3072 few, named) refl
 
 pub reply_there : (o : Option Reply) → is_none o ≡ false → (r : Reply) × (o ≡ Some r)
 reply_there None is = absurd (false≢true (sym is))
@@ -239,7 +241,7 @@ module _ {D N : Type 0} (disk : Ghosts D N) (opening : D) (s : StoreState D) (w 
           there (λ busy. room_stays (progress.Turned reply) steps (ap is_busy_at stands)) refl (quiet_behind b group (length es)))
 
       -- its task goes on
-      looked : is_over next ≡ false → is_unturned next ≡ false → is_reading next ≡ is_none reply → TaskStands (es ++ e ∷ []) (task t.tasks p) (at.Behind group (length es))
+      looked : is_over next ≡ false → is_unturned next ≡ false → owes_reply next ≡ is_none reply → TaskStands (es ++ e ∷ []) (task t.tasks p) (at.Behind group (length es))
       looked unfinished past reads f there =
           let same : e ≡ f = entry_same (es ++ e ∷ []) (length es) e f (entry_new es e) there in
           subst (λ (g : Entry). IsBehind (task t.tasks p) g) same (record { same = steps.tasks.op_stays ∙ mine; unfinished = unfinished; turned = past; reply = reads })
@@ -293,7 +295,7 @@ module _ {D N : Type 0} (disk : Ghosts D N) (opening : D) (s : StoreState D) (w 
     ungrouped none = group_tells n group k es own had.facts.journal.changing has.at has.same ∙ ap (ltb 0) none
 
     -- whose reply is to come, is in none as a read, or in one as a write
-    late_here : is_reading (task s.tasks p).place ≡ true → IsLate s.table.inode_count (task s.tasks p)
+    late_here : owes_reply (task s.tasks p).place ≡ true → IsLate s.table.inode_count (task s.tasks p)
     late_here owes = late_is (current_of disk.image s.volume) s.table s.tasks looks p owes
 
     reads_alone : (i off m : ℕ) → op ≡ Read i off m → 0 < group → ⊥
@@ -308,7 +310,7 @@ module _ {D N : Type 0} (disk : Ghosts D N) (opening : D) (s : StoreState D) (w 
         false≢true (sym (ungrouped none) ∙ ap (is_changing n) same ∙ changing)
 
     -- so who is in none is over with its reply, and has its bytes
-    read_over : group ≡ 0 → (reply : Reply) → is_reading (task s.tasks p).place ≡ true → DecisionEnds op reply next → (is_over next ≡ true) × ((bytes : List ℕ) × (reply ≡ Bytes bytes))
+    read_over : group ≡ 0 → (reply : Reply) → owes_reply (task s.tasks p).place ≡ true → DecisionEnds op reply next → (is_over next ≡ true) × ((bytes : List ℕ) × (reply ≡ Bytes bytes))
     read_over none reply owes (inl read) = (read.1, read.2)
     read_over none reply owes (inr write) = absurd (writes_grouped write.0.0 write.0.1 write.0.2 write.0.3 (late_here owes) none)
 

@@ -10,7 +10,7 @@ use Rattle.model.specs.Layout.{form_of, inode_count_of}
 use Rattle.wal.specs.Volume.{faults_after}
 use Rattle.inodes.specs.Store.{StoreState}
 use Rattle.inodes.specs.Tasks.{TaskState, task}
-use Rattle.inodes.specs.Places.{is_over, is_reading, is_unturned}
+use Rattle.inodes.specs.Places.{is_over, owes_reply, is_unturned}
 use Rattle.ports.specs.History.{History}
 use Rattle.ports.specs.declared.herald.Herald as herald_trait
 use Rattle.ports.specs.declared.intake.Intake as intake_trait
@@ -35,7 +35,7 @@ pub record IsBehind (t : TaskState) (e : Entry) : Type 0 where
   pub same : t.op ≡ Some e.op
   pub unfinished : is_over t.place ≡ false
   pub turned : is_unturned t.place ≡ false
-  pub reply : is_reading t.place ≡ is_none e.reply
+  pub reply : owes_reply t.place ≡ is_none e.reply
 
 -- a process's task stands where its operation does
 abbrev pub TaskStands : List Entry → TaskState → At → Type 0

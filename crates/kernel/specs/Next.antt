@@ -94,7 +94,6 @@ IsKeptOut l room r =
 -- why what waits first is not taken, as the answer says
 abbrev pub IsNotTaken : Option Waiting → LogState → Bool → Step → Type 0
 IsNotTaken None l room r = r ≡ step.Idle
-IsNotTaken (Some waiting.Other) l room r = r ≡ step.NotYet
 IsNotTaken (Some waiting.Refused) l room r = HasNoRoom room r ⊎ HasNoMemory room r
 IsNotTaken (Some (waiting.Look count)) l room r = HasNoRoom room r ⊎ HasNoMemory room r
 IsNotTaken (Some waiting.Change) l room r =

@@ -35,7 +35,6 @@ commits step.Idle a l = false
 commits step.NoMemory a l = false
 commits step.ShutDown a l = false
 commits step.Halted a l = false
-commits step.NotYet a l = false
 
 -- one group more is committed by such a step, and none by any other
 abbrev pub CountsCommitted : Step → At → LogState → LogState → Type 0

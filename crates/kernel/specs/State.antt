@@ -21,7 +21,7 @@ pub record State (D I H : Type 0) : Type 0 where
 -- what an operation is to the kernel that is not answered at once
 abbrev pub kind_of : Op → Waiting
 kind_of (Create kind) = waiting.Change
-kind_of (Write i off bytes) = waiting.Other
+kind_of (Write i off bytes) = waiting.Change
 kind_of (Read i off n) = waiting.Look (Some n)
 kind_of (Trunc i) = waiting.Change
 kind_of (Remove i) = waiting.Change

@@ -3,14 +3,14 @@ use Rattle.std.specs.Option.{option_map}
 use Rattle.std.specs.Prelude.{if◌then◌else◌, Option, None}
 use Rattle.blocks.specs.Disk.{Image}
 use Rattle.inodes.specs.Store.{StoreState, FitsFiles, current_of}
-use Rattle.inodes.specs.Places.{is_reading}
+use Rattle.inodes.specs.Places.{owes_reply}
 use Rattle.inodes.specs.Tasks.{TaskState, task}
 use Rattle.journal.specs.Open.{Held, held_by}
 use Rattle.journal.specs.Views.{View}
 
 -- what a task holds: its inode where its reply is still to come behind its turn, else nothing
 abbrev pub held_at : TaskState → Option Held
-held_at t = if is_reading t.place then option_map held_by t.op else None
+held_at t = if owes_reply t.place then option_map held_by t.op else None
 
 abbrev pub view_of : {D : Type 0} → (D → Image) → StoreState D → View
 view_of image s = record {

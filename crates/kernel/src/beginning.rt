@@ -30,7 +30,6 @@ impl<D: Disk, I: Intake, H: Herald> Kernel<D, I, H> {
         }
         match self.waiting(pid) {
             None => Step::Idle,
-            Some(Waiting::Other) => Step::NotYet,
             Some(Waiting::Refused) => self.refuse(pid),
             Some(Waiting::Change) => self.change(pid),
             Some(Waiting::Look(count)) => self.look(pid, count),

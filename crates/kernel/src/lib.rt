@@ -11,8 +11,8 @@
 //! processes go on side by side, and keep apart by the locks of buffers and by the log's groups.
 //!
 //! An operation that is refused by itself alone begins and is answered in one step. A creation, a
-//! truncation and a removal belong to the log's group that is open at their beginning; a question
-//! for type and length, and a read, belong to none. An operation's entry comes into the journal with
+//! write, a truncation and a removal belong to the log's group that is open at their beginning; a
+//! question for type and length, and a read, belong to none. An operation's entry comes into the journal with
 //! its turn, which is one step: the refusal, that in which a creation claims a number or finds that
 //! none is free, or that in which any other takes its inode. So the journal has the operations in
 //! the order in which they took effect. Next a creation ends in the log. It is answered then, or,

@@ -66,10 +66,9 @@ impl<D: Disk, I: Intake, H: Herald> Kernel<D, I, H> {
     /// (the xv6 book, the chapter "File system": "Code: logging"), one block at a time.
     ///
     /// After a fault of the disk it is `Halted`, and nothing is done. A process with no operation
-    /// under way answers, in this order: `ShutDown`, `Idle`, `NotYet`, `Sleeping(AnswersFull)`,
-    /// for what changes files `Sleeping` with the log's cause, `NoMemory`; else the operation is
-    /// taken, and the step is `Moved`, or `Answered` where it is refused at once. No other step takes
-    /// memory.
+    /// under way answers, in this order: `ShutDown`, `Idle`, `Sleeping(AnswersFull)`, for what
+    /// changes files `Sleeping` with the log's cause, `NoMemory`; else the operation is taken, and
+    /// the step is `Moved`, or `Answered` where it is refused at once. No other step takes memory.
     pub fn step(&mut self, pid: u32) -> Step
         requires pid { pid < length self.old.world.processes }
         ensures { MakesStep D.Disk I.Intake H.Herald pid result self.old self.new }

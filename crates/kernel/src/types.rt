@@ -20,8 +20,6 @@ pub enum Step {
     ShutDown,
     /// The disk failed, in this step or in one before it.
     Halted,
-    /// An operation waits that isn't carried out yet. Nothing was changed.
-    NotYet,
 }
 
 /// One item of a schedule.

@@ -15,15 +15,13 @@ const TRANSFER_LIMIT: u32 = 3072;
 // What waits for a process.
 #[derive(Clone, Copy, Debug, PartialEq, Eq)]
 pub enum Waiting {
-    // What changes files, in a group of the log: a creation of a file of a type that there is, or
-    // an operation that frees a file's blocks.
+    // What changes files, in a group of the log: a creation of a file of a type that there is, a
+    // write, or an operation that frees a file's blocks.
     Change,
     // A read of so many bytes of a file, or a question for its type and length.
     Look(Option<u32>),
     // What is answered at once, by itself alone.
     Refused,
-    // What isn't carried out yet.
-    Other,
 }
 
 // What an operation is to the kernel, where there are so many inode numbers.
@@ -35,10 +33,9 @@ pub fn waiting_of(op: &Op, inode_count: u32) -> Waiting
         return Waiting::Refused;
     }
     match op {
-        Op::Create(_) | Op::Trunc(_) | Op::Remove(_) => Waiting::Change,
+        Op::Create(_) | Op::Write(..) | Op::Trunc(_) | Op::Remove(_) => Waiting::Change,
         Op::Read(_, _, count) => Waiting::Look(Some(*count)),
         Op::Stat(_) => Waiting::Look(None),
-        Op::Write(..) => Waiting::Other,
     }
 }
 

@@ -67,14 +67,12 @@ busy_stands op es list (at.Committing group k) waits busy = busy
 
 not_taken_moved : (what : Option Waiting) (l : LogState) (room : Bool) → IsNotTaken what l room step.Moved → ⊥
 not_taken_moved None l room is = cc is
-not_taken_moved (Some waiting_as.Other) l room is = cc is
 not_taken_moved (Some waiting_as.Refused) l room is = ⊎_elim (λ h. let e = h.0 in cc e) (λ h. let e = h.0 in cc e) is
 not_taken_moved (Some (waiting_as.Look count)) l room is = ⊎_elim (λ h. let e = h.0 in cc e) (λ h. let e = h.0 in cc e) is
 not_taken_moved (Some waiting_as.Change) l room is = ⊎_elim (λ h. let e = h.0 in cc e) (λ o. ⊎_elim (λ h. let e = h.1 in cc e) (λ h. let e = h.0.0 in cc e) o) is
 
 not_taken_answered : (what : Option Waiting) (l : LogState) (room : Bool) → IsNotTaken what l room step.Answered → ⊥
 not_taken_answered None l room is = cc is
-not_taken_answered (Some waiting_as.Other) l room is = cc is
 not_taken_answered (Some waiting_as.Refused) l room is = ⊎_elim (λ h. let e = h.0 in cc e) (λ h. let e = h.0 in cc e) is
 not_taken_answered (Some (waiting_as.Look count)) l room is = ⊎_elim (λ h. let e = h.0 in cc e) (λ h. let e = h.0 in cc e) is
 not_taken_answered (Some waiting_as.Change) l room is = ⊎_elim (λ h. let e = h.0 in cc e) (λ o. ⊎_elim (λ h. let e = h.1 in cc e) (λ h. let e = h.0.0 in cc e) o) is

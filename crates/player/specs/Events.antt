@@ -37,7 +37,6 @@ step_text step.Idle = codes "idle"
 step_text step.NoMemory = codes "nomemory"
 step_text step.ShutDown = codes "shutdown"
 step_text step.Halted = codes "halted"
-step_text step.NotYet = codes "notyet"
 
 -- a byte as two hexadecimal digits of lower case
 abbrev pub byte_text : ℕ → List ℕ
@@ -80,7 +79,6 @@ is_halt step.Idle = false
 is_halt step.NoMemory = false
 is_halt step.ShutDown = false
 is_halt step.Halted = true
-is_halt step.NotYet = false
 
 -- the disk failed in the turn, or was made to, and none comes behind it
 abbrev pub is_last : Event → Bool

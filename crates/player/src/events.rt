@@ -79,7 +79,6 @@ impl fmt::Display for StepText {
             Step::NoMemory => write!(f, "nomemory"),
             Step::ShutDown => write!(f, "shutdown"),
             Step::Halted => write!(f, "halted"),
-            Step::NotYet => write!(f, "notyet"),
         }
     }
 }

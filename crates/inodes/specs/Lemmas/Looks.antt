@@ -20,7 +20,7 @@ use Rattle.inodes.specs.Grips.{grip, locked_grip}
 use Rattle.inodes.specs.Looks.{AreLooking, LooksAt, HasAllRead, HoldsInode, IsRead, IsLate, IsWrite}
 use Rattle.inodes.specs.Holding.{IsTruncating, trunc_op}
 use Rattle.inodes.specs.Itrunc.{TruncState}
-use Rattle.inodes.specs.Places.{asked, asked_by, grip_by, grip_of, grips_of, is_over, is_reading, is_unturned}
+use Rattle.inodes.specs.Places.{asked, asked_by, grip_by, grip_of, grips_of, is_over, owes_reply, is_unturned}
 use Rattle.inodes.specs.Table.{TableState, copy_at}
 use Rattle.inodes.specs.Tasks.{TaskState, task}
 use Rattle.inodes.specs.Lemmas.Grips.{locks_exclude}
@@ -114,7 +114,7 @@ grip_of_task (t ∷ ts) zero = refl
 grip_of_task (t ∷ ts) (suc p) = grip_of_task ts p
 
 -- a task whose reply is to come has locked the inode that it asks for
-locks_own : (a : Place) (i : ℕ) → is_reading a ≡ true →
+locks_own : (a : Place) (i : ℕ) → owes_reply a ≡ true →
     (k : ℕ) × (grip_by a i ≡ Some (locked_grip k i))
 locks_own place.Nowhere i unlike = absurd (cc unlike)
 locks_own (place.Creating m) i unlike = absurd (cc unlike)
@@ -135,10 +135,10 @@ asked_to_free m = by_end m.removes
 
 module _ (cur : Image) (t : TableState) (ts : List TaskState) (are : AreLooking cur t ts) where
   -- its operation is a reading or a write
-  pub late_is : (p : ℕ) → is_reading (task ts p).place ≡ true → IsLate t.inode_count (task ts p)
+  pub late_is : (p : ℕ) → owes_reply (task ts p).place ≡ true → IsLate t.inode_count (task ts p)
   late_is p is = by_place (task ts p).place (are.stand p) is
     where
-      by_place : (a : Place) → LooksAt cur t (task ts p) a → is_reading a ≡ true →
+      by_place : (a : Place) → LooksAt cur t (task ts p) a → owes_reply a ≡ true →
           IsLate t.inode_count (task ts p)
       by_place place.Nowhere stands unlike = absurd (cc unlike)
       by_place (place.Creating m) stands unlike = absurd (cc unlike)
@@ -156,9 +156,9 @@ module _ (cur : Image) (t : TableState) (ts : List TaskState) (are : AreLooking 
       by_place (place.Leaving k) stands unlike = absurd (cc unlike)
 
   -- of a number that operations may name
-  pub reading_number : (p : ℕ) → is_reading (task ts p).place ≡ true →
+  pub late_number : (p : ℕ) → owes_reply (task ts p).place ≡ true →
       IsTrue (is_number t.inode_count (asked_by (task ts p).op))
-  reading_number p is =
+  late_number p is =
       ⊎_elim
       (λ (read : IsRead t.inode_count (task ts p)).
       subst (λ (i : ℕ). IsTrue (is_number t.inode_count i)) (sym (ap asked_by read.is)) read.may.0)
@@ -167,9 +167,9 @@ module _ (cur : Image) (t : TableState) (ts : List TaskState) (are : AreLooking 
       (late_is p is)
 
   -- the place of its locked inode in the table
-  pub reading_locks : (p : ℕ) → is_reading (task ts p).place ≡ true →
+  pub late_locks : (p : ℕ) → owes_reply (task ts p).place ≡ true →
       (k : ℕ) × (grip (grips_of ts) p ≡ Some (locked_grip k (asked_by (task ts p).op)))
-  reading_locks p is =
+  late_locks p is =
       let own = locks_own (task ts p).place (asked_by (task ts p).op) is in
       (own.0, grip_of_task ts p ∙ own.1)
 
@@ -180,12 +180,12 @@ module _ (cur : Image) (t : TableState) (ts : List TaskState) (are : AreLooking 
       are.table.copies i k d (are.table.places p (locked_grip k i) has).1 copy
 
   -- no two of one number
-  pub readings_apart : (p q : ℕ) → is_reading (task ts p).place ≡ true →
-      is_reading (task ts q).place ≡ true → asked_by (task ts p).op ≡ asked_by (task ts q).op →
+  pub late_apart : (p q : ℕ) → owes_reply (task ts p).place ≡ true →
+      owes_reply (task ts q).place ≡ true → asked_by (task ts p).op ≡ asked_by (task ts q).op →
       p ≡ q
-  readings_apart p q one other same =
-      let mine = reading_locks p one in
-      let theirs = reading_locks q other in
+  late_apart p q one other same =
+      let mine = late_locks p one in
+      let theirs = late_locks q other in
       let i = asked_by (task ts q).op in
       locks_exclude t (grips_of ts) cur p q i mine.0 theirs.0 are.table
       (subst (λ (n : ℕ). grip (grips_of ts) p ≡ Some (locked_grip mine.0 n)) same mine.1) theirs.1

@@ -36,7 +36,7 @@ use Rattle.inodes.specs.Itrunc.{FreesOne, TruncState, TruncSteps, last_inode_of,
 use Rattle.inodes.specs.Iupdate.{UpdateState, Updates}
 use Rattle.inodes.specs.LockState.{LockState, place_of}
 use Rattle.inodes.specs.Looks.{CanLook, CanTake, LooksAt}
-use Rattle.inodes.specs.Places.{is_over, is_reading, is_unturned, block_at_place, block_of_trunc}
+use Rattle.inodes.specs.Places.{is_over, owes_reply, is_unturned, block_at_place, block_of_trunc}
 use Rattle.inodes.specs.Readi.{ReadState, Works}
 use Rattle.inodes.specs.Store.{StoreState, CanBegin, Stands, current_of}
 use Rattle.inodes.specs.Table.{TableState, holder_at, copy_at}
@@ -62,13 +62,13 @@ use Rattle.wal.specs.Joint.{seen}
 pub record GoesOn (a next : Place) : Type 0 where
   pub unfinished : is_over next ≡ false
   pub unturned : is_unturned next ≡ is_unturned a
-  pub reading : is_reading next ≡ is_reading a
+  pub reading : owes_reply next ≡ owes_reply a
 
 -- it had its turn, reads nothing, and goes on
 pub record GoesOnTurned (next : Place) : Type 0 where
   pub unfinished : is_over next ≡ false
   pub turned : is_unturned next ≡ false
-  pub unread : is_reading next ≡ false
+  pub unread : owes_reply next ≡ false
 
 -- the operation is a reading, or a write
 abbrev pub IsReadOp : Op → Type 0
@@ -81,7 +81,7 @@ IsWriteOp op = (i : ℕ) × (off : ℕ) × (bytes : List ℕ) × (op ≡ Write i
 -- it is a reading or a write, whose reply comes later.
 abbrev pub TurnEnds : ℕ → Op → Option Reply → Place → Type 0
 TurnEnds n op None next =
-    CanTake n op × (IsReadOp op ⊎ IsWriteOp op) × (is_reading next ≡ true)
+    CanTake n op × (IsReadOp op ⊎ IsWriteOp op) × (owes_reply next ≡ true)
 TurnEnds n op (Some reply) next =
     (CanBegin n op × (is_over next ≡ true)) ⊎ (CanTake n op × GoesOnTurned next)
 
@@ -96,9 +96,9 @@ abbrev pub StepEnds : ℕ → Place → Op → TaskProgress → Place → Type 0
 StepEnds n a op progress.Moved next = GoesOn a next
 StepEnds n a op (progress.Turned reply) next = (is_unturned a ≡ true) × TurnEnds n op reply next
 StepEnds n a op (progress.Decided reply) next =
-    (is_reading a ≡ true) × DecisionEnds op reply next
+    (owes_reply a ≡ true) × DecisionEnds op reply next
 StepEnds n a op progress.Over next =
-    (is_unturned a ≡ false) × (is_reading a ≡ false) × (is_over next ≡ true)
+    (is_unturned a ≡ false) × (owes_reply a ≡ false) × (is_over next ≡ true)
 StepEnds n a op (progress.Sleeping why) next = GoesOn a next
 StepEnds n a op (progress.Fault fault) next = GoesOn a next
 
@@ -107,8 +107,8 @@ on_at : (a b next : Place) → next ≡ b → GoesOn a b → GoesOn a next
 on_at a b next is on = subst (GoesOn a) (sym is) on
 
 -- a search goes on
-on_search : (a next : Place) → is_unturned a ≡ true → is_reading a ≡ false →
-    is_over next ≡ false → is_unturned next ≡ true → is_reading next ≡ false → GoesOn a next
+on_search : (a next : Place) → is_unturned a ≡ true → owes_reply a ≡ false →
+    is_over next ≡ false → is_unturned next ≡ true → owes_reply next ≡ false → GoesOn a next
 on_search a next one other more still apart =
     record { unfinished = more; unturned = still ∙ sym one; reading = apart ∙ sym other }
 
@@ -127,7 +127,7 @@ takes_turn n e (Some d) k (Write i off bytes) can = by_refusal (write_refusal d 
 takes_turn n e (Some d) k (Read i off count) can =
     (can, inl (i, off, count, refl), by_bytes (first_read d off count))
   where
-    by_bytes : (o : Option ReadState) → is_reading (place_of_read k o) ≡ true
+    by_bytes : (o : Option ReadState) → owes_reply (place_of_read k o) ≡ true
     by_bytes None = refl
     by_bytes (Some m) = refl
 takes_turn n e (Some d) k (Trunc i) can =
@@ -158,7 +158,7 @@ module _ {D N : Type 0} (disk : Ghosts D N) (s : StoreState D) (p : ℕ) (op : O
       begins : CanBegin n op
       begins = let is : Create m.kind ≡ op = (let both = sym stands.op ∙ same in cc both) in subst (CanBegin n) is stands.kind
 
-      here : (b : Place) → next ≡ b → is_over b ≡ false → is_unturned b ≡ true → is_reading b ≡ false → GoesOn (place.Creating m) next
+      here : (b : Place) → next ≡ b → is_over b ≡ false → is_unturned b ≡ true → owes_reply b ≡ false → GoesOn (place.Creating m) next
       here b is more still apart = on_at (place.Creating m) b next is (on_search (place.Creating m) b refl refl more still apart)
 
       by_slot : (o : Option ℕ) (q : TaskProgress) →

@@ -31,9 +31,6 @@ returns-in-None g c = begun g (goal.at.returns-in-None g c).After-waiting step.I
 pub returns-in-Some-Look : goal.returns-in-Some-Look
 returns-in-Some-Look g c = begun g (goal.at.returns-in-Some-Look g c).After-waiting c.look.result c.look.new.self (let is : c.waiting.result ≡ Some (waiting.Look c.in-Some-Look.count) = search rules in rw is c.look.ensures)
 
-pub returns-in-Some-Other : goal.returns-in-Some-Other
-returns-in-Some-Other g c = begun g (goal.at.returns-in-Some-Other g c).After-waiting step.NotYet c.waiting.new.self (let is : c.waiting.result ≡ Some waiting.Other = search rules in rw is (left g (goal.at.returns-in-Some-Other g c).After-waiting step.NotYet (Some waiting.Other) refl))
-
 pub returns-in-Some-Refused : goal.returns-in-Some-Refused
 returns-in-Some-Refused g c = begun g (goal.at.returns-in-Some-Refused g c).After-waiting c.refuse.result c.refuse.new.self (let is : c.waiting.result ≡ Some waiting.Refused = search rules in rw is c.refuse.ensures)
 
