@@ -76,7 +76,6 @@ script_telling (script.BadLine line) = naming 1 (codes "BadLine") line
 script_telling script.TooLarge = plain 2 (codes "TooLarge")
 script_telling script.NoMemory = plain 3 (codes "NoMemory")
 script_telling script.File = plain 4 (codes "File")
-script_telling (script.NotYet line) = naming 5 (codes "NotYet") line
 
 abbrev pub schedule_telling : ScheduleFault → Telling
 schedule_telling (schedule.BadWord word) = naming 1 (codes "BadWord") word

@@ -188,7 +188,6 @@ impl Fault for ScriptFault {
             ScriptFault::TooLarge => Told::new(2, "TooLarge"),
             ScriptFault::NoMemory => Told::new(3, "NoMemory"),
             ScriptFault::File => Told::new(4, "File"),
-            ScriptFault::NotYet(line) => Told::naming(5, "NotYet", *line),
         }
     }
 }

@@ -1,13 +1,10 @@
 // The script and the schedule of a replay, from the readers that give them.
-ghost use Rattle.std.specs.Prelude.{◌≡◌, ◌≢◌, ◌⊎◌, ◌<◌, take, All, IfOk, IfErr, IfSome, IsTrue, None, Some};
+ghost use Rattle.std.specs.Prelude.{◌≡◌, ◌≢◌, ◌<◌, take, All, IfOk, IfErr, IfSome, IsTrue};
 ghost use Rattle.std.specs.List.{list_all};
 ghost use Rattle.std.specs.IoError.{error_kind};
-ghost use Rattle.model.specs.Journal.{is_number};
 ghost use Rattle.scripts.specs.Schedule.{is_word_of};
-ghost use Rattle.scripts.specs.Script.{tasks_of};
-ghost use Rattle.player.specs.Inputs.{GivesNoSchedule, GivesNoScript, GivesSchedule, GivesScript, first_other, is_carried_out, most_numbers, script_fault};
+ghost use Rattle.player.specs.Inputs.{GivesNoSchedule, GivesNoScript, GivesSchedule, GivesScript};
 
-use model::types::Op;
 use scripts::{
     SCHEDULE_LIMIT, SCRIPT_LIMIT, ScheduleFault, ScriptFault, Task, Word, read_schedule,
     read_script,
@@ -16,43 +13,18 @@ use std::alloc::Global;
 use std::io;
 use std::io::{ErrorKind, Read};
 
-// The most bytes that one read or write moves.
-const TRANSFER_LIMIT: usize = 3072;
-
-// No image has more inode numbers.
-const MOST_NUMBERS: u32 = 1024;
-
-/// The operations of the script that a reader gives, in order: those that are carried out, and
-/// those that are answered at once whatever the image is.
+/// The operations of the script that a reader gives, in order.
 ///
 /// # Errors
 ///
-/// `File` where it can't be read; else a fault of `read_script`; else `NotYet` with the first line
-/// of another operation, a write. `NoMemory` where memory is refused.
+/// `File` where it can't be read; else a fault of `read_script`. `NoMemory` where memory is refused.
 pub fn script_from<I: Read + Drop>(alloc: Global, input: I) -> Result<Vec<Task>, ScriptFault>
     ensures tasks { IfOk result (λ tasks. GivesScript (I.remaining input) tasks.items) }
     ensures fault { IfErr result (GivesNoScript (I.remaining input)) }
     ensures processes { IfOk result (λ tasks. All (λ task. task.pid < 32) tasks.items) }
-    ensures carried { IfOk result (λ tasks. first_other tasks.items ≡ None) }
 {
     let text = first_bytes(alloc, input, SCRIPT_LIMIT as u64 + 1).map_err(script_unread)?;
-    script_of(alloc, text.as_slice())
-}
-
-// The operations of a script.
-fn script_of(alloc: Global, text: &[u8]) -> Result<Vec<Task>, ScriptFault>
-    ensures tasks { IfOk result (λ tasks. tasks.items ≡ tasks_of text.now) }
-    ensures sound { IfOk result (λ tasks. script_fault text.now ≡ None) }
-    ensures fault { IfErr result (λ fault. (fault ≡ ScriptFault.NoMemory) ⊎
-        (script_fault text.now ≡ Some fault)) }
-    ensures processes { IfOk result (λ tasks. All (λ task. task.pid < 32) tasks.items) }
-    ensures carried { IfOk result (λ tasks. first_other tasks.items ≡ None) }
-{
-    let tasks = read_script(alloc, text)?;
-    match first_other(tasks.as_slice()) {
-        None => Ok(tasks),
-        Some(line) => Err(ScriptFault::NotYet(line)),
-    }
+    read_script(alloc, text.as_slice())
 }
 
 /// The words of the schedule that a reader gives, in order, for so many processes.
@@ -105,31 +77,4 @@ pub fn schedule_unread(error: io::Error) -> ScheduleFault
         ErrorKind::OutOfMemory => ScheduleFault::NoMemory,
         _ => ScheduleFault::File,
     }
-}
-
-// The line of the first operation that can't be carried out yet.
-fn first_other(tasks: &[Task]) -> Option<u32>
-    ensures { result ≡ first_other tasks.now }
-{
-    tasks
-        .iter()
-        .find(|task| !is_carried_out(&task.op))
-        .map(|task| task.line)
-}
-
-// Whether an operation is carried out, or answered at once whatever the image is.
-fn is_carried_out(op: &Op) -> bool
-    ensures { result ≡ is_carried_out op.now }
-{
-    match op {
-        Op::Create(_) | Op::Read(..) | Op::Trunc(_) | Op::Remove(_) | Op::Stat(_) => true,
-        Op::Write(number, _, bytes) => bytes.len() > TRANSFER_LIMIT || !may_have(*number),
-    }
-}
-
-// Whether an image may have a file of this number.
-fn may_have(number: u32) -> bool
-    ensures { result ≡ is_number most_numbers number }
-{
-    0 < number && number < MOST_NUMBERS
 }

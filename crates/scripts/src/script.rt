@@ -39,9 +39,6 @@ pub enum ScriptFault {
     /// Its file can't be read. This crate reads no file.
     #[error("the script can't be read")]
     File,
-    /// The program can't carry the operation of this line out. This crate never answers it.
-    #[error("the operation of line {0} can't be carried out yet")]
-    NotYet(u32),
 }
 
 impl<T: Drop> From<AllocFailed<T>> for ScriptFault {

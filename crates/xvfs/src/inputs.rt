@@ -1,8 +1,9 @@
 // The script and the schedule of a replay, from their files.
-ghost use Rattle.std.specs.Prelude.{◌≡◌, ◌⊎◌, ◌<◌, ℕ, List, All, IfOk, IfErr, IsTrue, None, Some};
+ghost use Rattle.std.specs.Prelude.{◌≡◌, ◌⊎◌, ◌<◌, ℕ, List, All, IfOk, IfErr, IsTrue, Some};
 ghost use Rattle.std.specs.List.{list_all};
 ghost use Rattle.scripts.specs.Schedule.{fault_of, is_word_of};
-ghost use Rattle.player.specs.Inputs.{IsScheduleOf, IsScriptOf, IsUnread, IsUnreadScript, first_other, script_fault};
+ghost use Rattle.scripts.specs.Script.{fault_of as script_fault};
+ghost use Rattle.player.specs.Inputs.{IsScheduleOf, IsScriptOf, IsUnread, IsUnreadScript};
 
 use player::{schedule_unread, script_unread};
 use scripts::{ScheduleFault, ScriptFault, Task, Word};
@@ -20,7 +21,6 @@ pub fn script_from<R: Files + AllocGlobal>(rt: &R, path: &str) -> Result<Vec<Tas
     ensures fault { IfErr result
         (λ fault. IsUnreadScript fault ⊎ ((text : List ℕ) × (script_fault text ≡ Some fault))) }
     ensures processes { IfOk result (λ tasks. All (λ task. task.pid < 32) tasks.items) }
-    ensures carried { IfOk result (λ tasks. first_other tasks.items ≡ None) }
 {
     let file = File::open(rt, path).map_err(|error| script_unread(error))?;
     player::script_from(rt.alloc(), file)
