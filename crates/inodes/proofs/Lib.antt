@@ -11,6 +11,7 @@ mod TruncNext
 mod TruncSlots
 mod Truncating
 mod TruncFiles
+mod AtWork
 mod TruncSteps
 mod TruncDoes
 mod Searching
@@ -27,7 +28,6 @@ mod TakingSteps
 mod Leaving
 mod Reading
 mod ReadingSteps
-mod AtWork
 mod WriteComes
 mod WriteFiles
 mod WriteLogged

@@ -38,7 +38,7 @@ use Rattle.inodes.specs.Lemmas.Holding.{claimed_now}
 use Rattle.inodes.specs.Lemmas.Looks.{trunc_number}
 use Rattle.inodes.proofs.Agreeing.{StaysForOthers}
 use Rattle.inodes.proofs.Getting.{fault_of}
-use Rattle.inodes.proofs.Looking.{Stepped, store_stepped, steps_stepped}
+use Rattle.inodes.proofs.AtWork.{Does as WorkDoes, Works, store_worked, steps_worked}
 use Rattle.inodes.proofs.LooksKept.{KeepsUsed}
 use Rattle.inodes.proofs.TruncNext.{some_left}
 use Rattle.inodes.proofs.TruncSlots.{Slots}
@@ -80,15 +80,12 @@ asleep_as cause (machine.Fault fault) waits = absurd (cc waits)
 no_claim : (k j : ℕ) (m : TruncState) → m.number ≢ j → claim_by None (place.Truncating k m) j ≡ None
 no_claim k j m apart = cond-false (eqb m.number j) (Some (frees (held_of m))) None (ne_eqb m.number j apart)
 
--- what each image stood for, the next one stands for
-files_then : {D : Type 0} (image : D → Image) (s t : StoreState D) (form : Form) (op : Op) (q : Progress (Unit {0}))
-    → ((files : Files) → FitsHeld files (current_of image s.volume) (claims_of s.tasks) → FitsHeld files (current_of image t.volume) (claims_of t.tasks))
-    → (files : Files) → FitsFiles image s files → FilesThen form op (progress_of_trunc q) files (FitsFiles image t)
-unfolding FitsFiles
-files_then image s t form op machine.Moved each files fits = each files fits
-files_then image s t form op (machine.Sleeping cause) each files fits = each files fits
-files_then image s t form op (machine.Over out) each files fits = each files fits
-files_then image s t form op (machine.Fault fault) each files fits = each files fits
+-- no reply is told, so the files stay
+files_stay : (form : Form) (op : Op) (q : Progress (Unit {0})) (files : Files) (P : Files → Type 0) → P files → FilesThen form op (progress_of_trunc q) files P
+files_stay form op machine.Moved files P holds = holds
+files_stay form op (machine.Sleeping cause) files P holds = holds
+files_stay form op (machine.Over out) files P holds = holds
+files_stay form op (machine.Fault fault) files P holds = holds
 
 -- the operation of a truncation may take its inode
 can_take : (n i : ℕ) (removes : Bool) → CanTake n (Trunc i) → CanTake n (cond removes (Remove i) (Trunc i))
@@ -154,12 +151,6 @@ module _ {D N : Type 0} (disk : Ghosts D N) (s : StoreState D) (p k : ℕ) (m : 
       abbrev count : ℕ
       count = s.table.inode_count
 
-      gripped_then : grip_of u ≡ Some (locked_grip k m.number)
-      gripped_then = grip_then k (asked_by (task s.tasks p).op) m n q ∙ ap (λ (i : ℕ). Some (locked_grip k i)) (trunc_number cur s.table s.tasks (looking disk s p k m is well stood) p k m stood)
-
-      same_grips : with_grip (grips_of s.tasks) p (grip_of u) ≡ grips_of s.tasks
-      same_grips = ap (with_grip (grips_of s.tasks) p) (gripped_then ∙ sym (has disk s p k m is well stood)) ∙ set-get_or (grips_of s.tasks) p None
-
       -- ---- what it holds
 
       claim_then : (r : Progress (Unit {0})) → StandsAs r → (j : ℕ) → j ≢ m.number → claim_by (task s.tasks p).op (place_of_trunc k m n r) j ≡ None
@@ -167,16 +158,6 @@ module _ {D N : Type 0} (disk : Ghosts D N) (s : StoreState D) (p k : ℕ) (m : 
       claim_then (machine.Sleeping cause) on j apart = no_claim k j m (λ same. apart (sym same))
       claim_then (machine.Over out) on j apart = refl
       claim_then (machine.Fault fault) on j apart = no_claim k j m (λ same. apart (sym same))
-
-      same_claim : (j : ℕ) → j ≢ m.number → claim_of u j ≡ claim_of (task s.tasks p) j
-      same_claim j apart = claim_then q does.stands j apart ∙ sym (ap (λ (a : Place). claim_by (task s.tasks p).op a j) stood ∙ no_claim k j m (λ same. apart (sym same)))
-
-      claimed_then : IsClaimedNow claims m.number (claim_of u m.number) (claims_of ts)
-      claimed_then = subst (λ (l : List TaskState). IsClaimedNow claims m.number (claim_of u m.number) (claims_of l)) (sym tasks)
-          (claimed_now s.tasks p m.number u inside (holds_alone cur s.table s.tasks (looking disk s p k m is well stood) p k m.number (gripped disk s p k m is well stood)) same_claim)
-
-      fits_then : (files : Files) → FitsHeld files cur claims → FitsHeld files now (claims_of ts)
-      fits_then files fits = does.files (claims_of ts) claimed_then files fits
 
       -- ---- where it stands
 
@@ -220,73 +201,77 @@ module _ {D N : Type 0} (disk : Ghosts D N) (s : StoreState D) (p k : ℕ) (m : 
       looks_by (machine.Over out) here on fine = record { op = trunc_op m; is = working.op; can = can_take count m.number m.removes working.number }
       looks_by (machine.Fault fault) here on fine = absurd (cc fine)
 
-      stepped : (op : Op) → Stepped disk s p m.number op (progress_of_trunc q) t u
-      stepped op = record {
-        tasks = tasks;
-        op = refl;
-        count = count_then s.table k m q;
-        numbers =
-            let files = (looking disk s p k m is well stood).files in
-            sym (fits_then files.0 files.1).count ∙ files.1.count;
-        reads = does.reads;
-        groups = does.groups;
-        marks = subst (λ (o : Option Reply). Marks o cur now) (sym (no_reply q)) does.marks;
-        files = files_then disk.image s t (form_of cur) op q fits_then;
-        alone = λ other j apart theirs. alone disk s p k m is well stood other j apart theirs;
-        claims = same_claim;
-        keeps = does.keeps;
-        now = λ fine.
-            let well_then : fault_of q ≡ None = sym (fault_is q) ∙ fine in
-            record {
-              others = does.others well_then;
-              locks = locks_by q refl does.stands well_then;
-              stands = stands_by q refl does.stands well_then;
-              table = subst (λ (gs : List (Option Grip)). KeepsTable s.table (table_of_trunc s.table k m q) p (grips_of s.tasks) gs now) (sym same_grips) does.table;
-              looks = looks_by q refl does.stands well_then;
-            };
-      }
-
-      -- what is true of every store
-      pub store_truncated : IsStore disk.image t
-      store_truncated = store_stepped disk s p m.number (trunc_op m) (progress_of_trunc q) t u is well inside (stepped (trunc_op m))
-
-      -- ---- what it promises
-
-      -- who sleeps changed nothing
-      slept : (cause : Why) → q ≡ machine.Sleeping cause → t ≡ s
-      slept cause waits =
-          let stays : u ≡ task s.tasks p = ap (λ (a : Place). record (task s.tasks p) { place = a }) (ap (place_of_trunc k m n) waits ∙ sym stood) in
-          ap (λ (v : VolumeState D). store_then v ts q) (does.asleep cause waits)
-          ∙ ap (λ (r : Progress (Unit {0})). store_then s.volume ts r) waits
-          ∙ ap (λ (l : List TaskState). record s { tasks = l }) (tasks ∙ ap (set s.tasks p) stays ∙ set-get_or s.tasks p no_task)
-
-      waits_so : Waits s p (progress_of_trunc q) t
-      waits_so = record {
-        sleeping = λ cause waits. slept cause (asleep_as cause q waits);
-        held = λ waits. subst (λ (b : ℕ). IsHeldByAnother s p b) (sym (ap block_at_place stood)) (does.held (asleep_as why.BufferHeld q waits));
-        inode = λ waits. absurd (does.inode (asleep_as why.InodeHeld q waits));
-      }
-
       falls_by : (r : Progress (Unit {0})) → StandsAs r → is_made (progress_of_trunc r) ≡ true → steps_left (place_of_trunc k m n r) count < steps_left (place.Truncating k m) count
       falls_by machine.Moved on made = let less = on.less in omega (arith, less)
       falls_by (machine.Sleeping cause) on made = absurd (cc made)
       falls_by (machine.Over out) on made = let some = some_left m.given_up m.at in omega (arith, some)
       falls_by (machine.Fault fault) on made = absurd (cc made)
 
+      abbrev here : Place
+      here = place.Truncating k m
+
+      abbrev next : Place
+      next = place_of_trunc k m n q
+
+      abbrev table_then : TableState
+      table_then = table_of_trunc s.table k m q
+
+      works : Works disk s p k m.number here
+      works = record {
+        is = is;
+        well = well;
+        inside = inside;
+        stood = stood;
+        looking = looking disk s p k m is well stood;
+        gripped = gripped disk s p k m is well stood;
+        alone = λ other j apart theirs. alone disk s p k m is well stood other j apart theirs;
+        apart = λ j other. no_claim k j m (λ same. other (sym same));
+      }
+
+      works_so : (op : Op) → WorkDoes disk s p k m.number here (progress_of_trunc q) next w table_then ts op
+      works_so op = record {
+        reads = does.reads;
+        numbers = count_then s.table k m q;
+        groups = does.groups;
+        marks = does.marks;
+        keeps = does.keeps;
+        table = does.table;
+        files = λ new claimed files fits. files_stay (form_of cur) op q files (λ f. FitsHeld f now new) (does.files new claimed files fits);
+        apart_then = claim_then q does.stands;
+        grip = grip_then k (asked_by (task s.tasks p).op) m n q ∙ ap (λ (i : ℕ). Some (locked_grip k i)) (trunc_number cur s.table s.tasks (looking disk s p k m is well stood) p k m stood);
+        stands = λ fine.
+            let well_then : fault_of q ≡ None = sym (fault_is q) ∙ fine in
+            record {
+              others = does.others well_then;
+              locks = locks_by q refl does.stands well_then;
+              stands = stands_by q refl does.stands well_then;
+              looks = looks_by q refl does.stands well_then;
+            };
+        late = no_reply q;
+        asleep = λ cause waits.
+            let same = asleep_as cause q waits in
+            (does.asleep cause same, ap (table_of_trunc s.table k m) same, ap (place_of_trunc k m n) same);
+        held = λ waits. does.held (asleep_as why.BufferHeld q waits);
+        inode = λ waits. does.inode (asleep_as why.InodeHeld q waits);
+        less = falls_by q does.stands;
+      }
+
+      -- what is true of every store
+      pub store_truncated : IsStore disk.image t
+      store_truncated = store_worked disk s p k m.number here (progress_of_trunc q) next w table_then ts (trunc_op m) works (works_so (trunc_op m)) tasks
+
+      -- ---- what it promises
+
       now_is : task ts p ≡ u
       now_is = ap (λ (l : List TaskState). task l p) tasks ∙ get_or-set_same s.tasks p u no_task inside
 
       pub steps_truncated : (op : Op) → TruncSteps disk m.at s.volume p m q n w → Steps disk s p op (progress_of_trunc q) t
-      steps_truncated op steps = steps_stepped disk s p m.number op (progress_of_trunc q) t u is well inside (stepped op)
-          (subst (λ (a : Place). Goes disk a s p op (progress_of_trunc q) t) (sym stood) (record {
-            answer = q;
-            now = n;
-            truncs = steps;
-            gives = refl;
-            next = ap (λ (o : TaskState). o.place) now_is;
-            table = refl;
-            bytes = ap (λ (o : TaskState). o.gathered) now_is;
-          }))
-          waits_so
-          (λ other apart reads. subst (λ (o : Option Reply). LeavesNumber op o (asked_by (task s.tasks other).op)) (sym (no_reply q)) tt)
-          (λ made going. subst (λ (a : Place). steps_left u.place count < steps_left a count) (sym stood) (falls_by q does.stands made))
+      steps_truncated op steps = steps_worked disk s p k m.number here (progress_of_trunc q) next w table_then ts op works (works_so op) tasks (record {
+        answer = q;
+        now = n;
+        truncs = steps;
+        gives = refl;
+        next = ap (λ (o : TaskState). o.place) now_is;
+        table = refl;
+        bytes = ap (λ (o : TaskState). o.gathered) now_is;
+      })
