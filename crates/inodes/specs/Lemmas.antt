@@ -5,6 +5,7 @@ pub mod Looks
 pub mod Faults
 pub mod StepEnds
 pub mod Runs
+pub mod WriteRuns
 pub mod ReadRuns
 pub mod Table
 pub mod Grips

@@ -19,5 +19,6 @@ pub mod Store
 pub mod Table
 pub mod Tasks
 pub mod Turning
+pub mod WriteRuns
 pub mod Writei
 pub mod Writing

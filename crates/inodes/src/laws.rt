@@ -3,6 +3,7 @@
 ghost use Rattle.std.specs.Prelude.{ℕ};
 ghost use Rattle.inodes.specs.Store.{StoreState};
 ghost use Rattle.inodes.specs.Runs.{NoInodeSawAll, MadeSawLower, StepsLeaveOthers, CommitsLeaveAll, BoundsLeaveOthers};
+ghost use Rattle.inodes.specs.WriteRuns.{ShortSawFull};
 ghost use Rattle.inodes.specs.ReadRuns.{BegunMayStep, ReadsPart};
 ghost use Rattle.inodes.specs.Table.{HasPlace};
 ghost use Rattle.inodes.specs.Grips.{KeptByRefer, KeptByLock, KeptByRenew, KeptByLeave, KeptByImage, IsTableAtOpening, HasPlaceForEach, LocksExclude, HolderIsAnother};
@@ -15,6 +16,13 @@ use blocks::Disk;
 pub fn search_saw<D: Disk>()
     ensures none { NoInodeSawAll D.Disk }
     ensures made { MadeSawLower D.Disk }
+{}
+
+/// The cause of a short write: where it is answered with fewer bytes than it was asked for, one of
+/// its steps looked at the bitmap's block while each bit below the image's size was set, whatever
+/// other processes did between its steps.
+pub fn write_saw<D: Disk>()
+    ensures short { ShortSawFull D.Disk }
 {}
 
 /// A reading that was begun may make its first step, and a whole one gathers the bytes of the file

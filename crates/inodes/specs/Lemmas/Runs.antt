@@ -1,6 +1,7 @@
--- What a run of a creation's steps saw.
-use Rattle.std.proofs.Common.{◌≡◌, ℕ, suc, ◌≤◌, ltb, List, [], ◌∷◌, Option, Some, None, refl, sym, ◌∙◌, ap, subst, ⊎_elim, arith}
+-- What runs of a task's steps come to, and what those of a creation saw.
+use Rattle.std.proofs.Common.{◌≡◌, ◌≢◌, ℕ, suc, ◌≤◌, ltb, List, [], ◌∷◌, Option, Some, None, refl, sym, ◌∙◌, ap, subst, ⊎_elim, arith}
 use Rattle.std.specs.Prelude.{IsTrue, is_some}
+use Rattle.std.specs.List.{Any}
 use Rattle.std.proofs.lemmas.Bool.{cases_eq, ltb-true}
 use Rattle.std.proofs.lemmas.List.{get_or-set_other}
 use Rattle.blocks.specs.declared.disk.Disk.{Ghosts}
@@ -36,16 +37,70 @@ past_at_turn n p j m None before now number passed is =
 past_at_turn n p j m (Some i) before now number passed is =
     (is.lowest, omega (arith, is.place, passed))
 
+-- a step of a run is one that does so, where the first is or a later one
+pub seen_first : {D : Type 0} (P : StepMade D → Type 0) (step : StepMade D)
+    (rest : List (StepMade D)) → P step → Any P (step ∷ rest)
+seen_first P step rest is = (0, step, omega arith, refl, is)
+
+pub seen_later : {D : Type 0} (P : StepMade D → Type 0) (step : StepMade D)
+    (rest : List (StepMade D)) → Any P rest → Any P (step ∷ rest)
+seen_later P step rest is = (suc is.0, is.1, omega (arith, is.2), is.3, is.4)
+
+-- the task of process p stands there
+abbrev pub IsAt : {D : Type 0} → ℕ → StoreState D → Place → Type 0
+IsAt p s a = (task s.tasks p).place ≡ a
+
+module _ {D N : Type 0} (disk : Ghosts D N) (p : ℕ) (op : Op) where
+  -- the step of a run, from where its task stands
+  pub record GoesOn (step : StepMade D) (a : Place) : Type 0 where
+    pub goes : Goes disk a step.before p op step.answer step.after
+    pub here : IsAt p step.before a
+
+  pub goes_from : (s : StoreState D) (step : StepMade D) (a : Place) → IsAt p s a →
+      LeavesTask s p step.before → Steps disk step.before p op step.answer step.after →
+      GoesOn step a
+  goes_from s step a stands leaves steps =
+      let here : IsAt p step.before a = ap (λ (t : TaskState). t.place) leaves.own ∙ stands in
+      record {
+        goes = subst (λ (b : Place). Goes disk b step.before p op step.answer step.after) here
+            steps.goes;
+        here = here;
+      }
+
+  module _ (reply : TaskProgress) (apart : reply ≢ progress.Over) where
+    -- who stands nowhere answers nothing more
+    pub nothing_more : (steps : List (StepMade D)) (s : StoreState D) → IsAt p s place.Nowhere →
+        IsRun disk p op s steps → EndsWith steps reply → ⊥
+    nothing_more [] s stands run ends = ends
+    nothing_more (step ∷ []) s stands run ends =
+        let on = goes_from s step place.Nowhere stands run.0 run.1 in
+        apart (sym ends ∙ on.goes.0)
+    nothing_more (step ∷ next ∷ rest) s stands run ends =
+        let on = goes_from s step place.Nowhere stands run.0 run.1 in
+        let over = ap (λ (t : StoreState D). (task t.tasks p).place) on.goes.1 ∙ on.here in
+        nothing_more (next ∷ rest) step.after over run.2 ends
+
+    -- nor does who gives up its inode next
+    pub nothing_behind : (steps : List (StepMade D)) (s : StoreState D) (k : ℕ) →
+        IsAt p s (place.Leaving k) → IsRun disk p op s steps → EndsWith steps reply → ⊥
+    nothing_behind [] s k stands run ends = ends
+    nothing_behind (step ∷ []) s k stands run ends =
+        let on = goes_from s step (place.Leaving k) stands run.0 run.1 in
+        apart (sym ends ∙ on.goes.0)
+    nothing_behind (step ∷ next ∷ rest) s k stands run ends =
+        let on = goes_from s step (place.Leaving k) stands run.0 run.1 in
+        nothing_more (next ∷ rest) step.after on.goes.1.next run.2 ends
+
 module _ {D N : Type 0} (disk : Ghosts D N) (p n j : ℕ) (op : Op) (o : Option ℕ)
     (number : IsTrue (is_number n j)) (passed : IsPassedBy o j) where
   abbrev reply : TaskProgress
   reply = progress.Turned (Some (reply_of o))
 
+  abbrev Sees : StepMade D → Type 0
+  Sees = SeesTaken disk.image p j
+
   abbrev Seen : List (StepMade D) → Type 0
   Seen steps = WasSeenTaken disk.image p steps j
-
-  abbrev IsAt : StoreState D → Place → Type 0
-  IsAt s a = (task s.tasks p).place ≡ a
 
   abbrev before : StepMade D → Shown
   before step = shown_of disk.image step.before.volume
@@ -60,9 +115,9 @@ module _ {D N : Type 0} (disk : Ghosts D N) (p n j : ℕ) (op : Op) (o : Option 
 
   -- a look that passed the number by
   sees : (step : StepMade D) (m : SearchState) (i : ℕ) (found : Option ℕ) →
-      IsAt step.before (place.Creating m) → m.slot ≡ Some i →
+      IsAt p step.before (place.Creating m) → m.slot ≡ Some i →
       free_at (before step).current n m ≡ found → IsPassedBy found j →
-      inode_block j ≡ m.block → SeesTaken disk.image p j step
+      inode_block j ≡ m.block → Sees step
   sees step m i found stands got is by here = record {
     search = m;
     stands = stands;
@@ -71,57 +126,24 @@ module _ {D N : Type 0} (disk : Ghosts D N) (p n j : ℕ) (op : Op) (o : Option 
     taken = taken_by_look (before step).current n m.block j found is by number here;
   }
 
-  seen_first : (step : StepMade D) (rest : List (StepMade D)) → SeesTaken disk.image p j step →
-      Seen (step ∷ rest)
-  seen_first step rest is = (0, step, omega arith, refl, is)
-
-  seen_later : (step : StepMade D) (rest : List (StepMade D)) → Seen rest → Seen (step ∷ rest)
-  seen_later step rest is = (suc is.0, is.1, omega (arith, is.2), is.3, is.4)
-
-  -- the step of a run, from where its task stands
-  record GoesOn (step : StepMade D) (a : Place) : Type 0 where
-    pub goes : Goes disk a step.before p op step.answer step.after
-    pub here : IsAt step.before a
-    pub count : step.before.table.inode_count ≡ n
-    pub still : step.after.table.inode_count ≡ n
-
-  goes_from : (s : StoreState D) (step : StepMade D) (a : Place) → s.table.inode_count ≡ n →
-      IsAt s a → LeavesTask s p step.before → Steps disk step.before p op step.answer step.after →
-      GoesOn step a
-  goes_from s step a count stands leaves steps =
-      let here : IsAt step.before a = ap (λ (t : TaskState). t.place) leaves.own ∙ stands in
+  -- where a step of a search goes, and the count of numbers behind it
+  search_goes : (s : StoreState D) (step : StepMade D) (m : SearchState) →
+      s.table.inode_count ≡ n → LeavesTask s p step.before →
+      Steps disk step.before p op step.answer step.after →
+      GoesOn disk p op step (place.Creating m) →
+      SearchGoes step m.slot m step.answer × (step.after.table.inode_count ≡ n)
+  search_goes s step m count leaves steps on =
       let same : step.before.table.inode_count ≡ n = leaves.numbers ∙ count in
-      record {
-        goes = subst (λ (b : Place). Goes disk b step.before p op step.answer step.after) here
-            steps.goes;
-        here = here;
-        count = same;
-        still = steps.tasks.numbers ∙ same;
-      }
-
-  -- of a search
-  search_goes : (step : StepMade D) (m : SearchState) → GoesOn step (place.Creating m) →
-      SearchGoes step m.slot m step.answer
-  search_goes step m on =
-      subst (λ (k : ℕ). GoesFrom m.slot k p m step.before.volume.buffers step.answer
-      (task step.after.tasks p).place (before step) (now step)) on.count on.goes.0
-
-  -- a task that is over has no turn
-  no_turn : (steps : List (StepMade D)) (s : StoreState D) → s.table.inode_count ≡ n →
-      IsAt s place.Nowhere → IsRun disk p op s steps → EndsWith steps reply → ⊥
-  no_turn [] s count stands run ends = ends
-  no_turn (step ∷ []) s count stands run ends =
-      let on = goes_from s step place.Nowhere count stands run.0 run.1 in
-      cc (sym on.goes.0 ∙ ends)
-  no_turn (step ∷ next ∷ rest) s count stands run ends =
-      let on = goes_from s step place.Nowhere count stands run.0 run.1 in
-      let over = ap (λ (t : StoreState D). (task t.tasks p).place) on.goes.1 ∙ on.here in
-      no_turn (next ∷ rest) step.after on.still over run.2 ends
+      (
+        subst (λ (k : ℕ). GoesFrom m.slot k p m step.before.volume.buffers step.answer
+        (task step.after.tasks p).place (before step) (now step)) same on.goes.0,
+        steps.tasks.numbers ∙ same,
+      )
 
   -- the step of the turn
   seen_at_turn : (step : StepMade D) (m : SearchState) (slot : Option ℕ) → m.slot ≡ slot →
-      IsAt step.before (place.Creating m) → m.block ≤ inode_block j →
-      SearchGoes step slot m reply → SeesTaken disk.image p j step
+      IsAt p step.before (place.Creating m) → m.block ≤ inode_block j →
+      SearchGoes step slot m reply → Sees step
   seen_at_turn step m None got stands ahead goes = absurd goes.0
   seen_at_turn step m (Some i) got stands ahead goes =
       let past = past_at_turn n p j m o (before step) (now step) number passed goes.1 in
@@ -129,23 +151,23 @@ module _ {D N : Type 0} (disk : Ghosts D N) (p n j : ℕ) (op : Op) (o : Option 
 
   -- a step before it, where the rest of the run sees what is still ahead
   module _ (step : StepMade D) (rest : List (StepMade D)) (m : SearchState)
-      (stands : IsAt step.before (place.Creating m)) (ahead : m.block ≤ inode_block j)
-      (more : IsAt step.after place.Nowhere → ⊥)
-      (on : (k : SearchState) → IsAt step.after (place.Creating k) → k.block ≤ inode_block j →
+      (stands : IsAt p step.before (place.Creating m)) (ahead : m.block ≤ inode_block j)
+      (more : IsAt p step.after place.Nowhere → ⊥)
+      (on : (k : SearchState) → IsAt p step.after (place.Creating k) → k.block ≤ inode_block j →
       Seen rest) where
     seen_on : (slot : Option ℕ) (r : TaskProgress) → m.slot ≡ slot → SearchGoes step slot m r →
         Seen (step ∷ rest)
-    seen_on None progress.Moved got goes = seen_later step rest (on _ goes.0.2 ahead)
+    seen_on None progress.Moved got goes = seen_later Sees step rest (on _ goes.0.2 ahead)
     seen_on None (progress.Turned told) got goes = absurd goes.0
     seen_on None (progress.Decided told) got goes = absurd goes.0
     seen_on None progress.Over got goes = absurd goes.0
-    seen_on None (progress.Sleeping why) got goes = seen_later step rest (on m goes.0.1 ahead)
-    seen_on None (progress.Fault fault) got goes = seen_later step rest (on m goes.0.1 ahead)
+    seen_on None (progress.Sleeping why) got goes = seen_later Sees step rest (on m goes.0.1 ahead)
+    seen_on None (progress.Fault fault) got goes = seen_later Sees step rest (on m goes.0.1 ahead)
     seen_on (Some i) progress.Moved got goes =
         ⊎_elim
-        (λ here. seen_first step rest (sees step m i None stands got goes.1.none tt here))
+        (λ here. seen_first Sees step rest (sees step m i None stands got goes.1.none tt here))
         (λ other.
-        seen_later step rest (on (at_next_block m) goes.0 (omega (arith, other, ahead))))
+        seen_later Sees step rest (on (at_next_block m) goes.0 (omega (arith, other, ahead))))
         (cases_eq (inode_block j) m.block)
     seen_on (Some i) (progress.Turned told) got goes = absurd (more goes.0)
     seen_on (Some i) (progress.Decided told) got goes = absurd goes
@@ -155,19 +177,21 @@ module _ {D N : Type 0} (disk : Ghosts D N) (p n j : ℕ) (op : Op) (o : Option 
 
   -- a run from a block that is not behind the number's
   seen_in_run : (steps : List (StepMade D)) (s : StoreState D) (m : SearchState) →
-      s.table.inode_count ≡ n → IsAt s (place.Creating m) → m.block ≤ inode_block j →
+      s.table.inode_count ≡ n → IsAt p s (place.Creating m) → m.block ≤ inode_block j →
       IsRun disk p op s steps → EndsWith steps reply → Seen steps
   seen_in_run [] s m count stands ahead run ends = absurd ends
   seen_in_run (step ∷ []) s m count stands ahead run ends =
-      let on = goes_from s step (place.Creating m) count stands run.0 run.1 in
-      seen_first step [] (seen_at_turn step m m.slot refl on.here ahead
-      (subst (λ (r : TaskProgress). SearchGoes step m.slot m r) ends (search_goes step m on)))
+      let on = goes_from disk p op s step (place.Creating m) stands run.0 run.1 in
+      let goes = search_goes s step m count run.0 run.1 on in
+      seen_first Sees step [] (seen_at_turn step m m.slot refl on.here ahead
+      (subst (λ (r : TaskProgress). SearchGoes step m.slot m r) ends goes.0))
   seen_in_run (step ∷ next ∷ rest) s m count stands ahead run ends =
-      let on = goes_from s step (place.Creating m) count stands run.0 run.1 in
+      let on = goes_from disk p op s step (place.Creating m) stands run.0 run.1 in
+      let goes = search_goes s step m count run.0 run.1 on in
       seen_on step (next ∷ rest) m on.here ahead
-      (λ over. no_turn (next ∷ rest) step.after on.still over run.2 ends)
-      (λ k is low. seen_in_run (next ∷ rest) step.after k on.still is low run.2 ends)
-      m.slot step.answer refl (search_goes step m on)
+      (λ over. nothing_more disk p op reply (λ e. cc e) (next ∷ rest) step.after over run.2 ends)
+      (λ k is low. seen_in_run (next ∷ rest) step.after k goes.1 is low run.2 ends)
+      m.slot step.answer refl goes.0
 
 -- the run of a search saw taken each number that it passed by
 seen_in_search : {D N : Type 0} (disk : Ghosts D N) (s : StoreState D) (p kind j : ℕ) (o : Option ℕ)

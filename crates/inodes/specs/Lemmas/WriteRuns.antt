@@ -1,0 +1,400 @@
+-- What a run of a write's steps saw that ends with fewer bytes than were asked for.
+use Rattle.std.proofs.Common.{◌≡◌, ◌≢◌, ◌⊎◌, ◌<◌, ◌≤◌, ◌-◌, ◌+◌, ◌/◌, ℕ, Bool, true, false, cond, eqb, ltb, not, inl, inr, List, [], ◌∷◌, Option, Some, None, refl, sym, ◌∙◌, ap, subst, ⊎_elim, arith}
+use Rattle.std.specs.Prelude.{◌&&◌, ◌==◌, nat_lt, slice_index}
+use Rattle.std.specs.List.{Any}
+use Rattle.std.proofs.lemmas.Bool.{eqb-true}
+use Rattle.blocks.specs.Disk.{Image, block_at}
+use Rattle.blocks.specs.declared.disk.Disk.{Ghosts}
+use Rattle.model.specs.declared.types.image.Dinode.{Dinode}
+use Rattle.model.specs.declared.types.operations.Op.{Op}
+use Rattle.model.specs.declared.types.operations.Reply.TheVariants.{Wrote}
+use Rattle.model.specs.declared.types.operations.TaskProgress.{TaskProgress}
+use Rattle.model.specs.declared.types.operations.TaskProgress.TheVariants as progress
+use Rattle.model.specs.Fields.{has_bit}
+use Rattle.wal.specs.Volume.{VolumeState}
+use Rattle.wal.specs.declared.types.Get.{Get}
+use Rattle.wal.specs.declared.types.Get.TheVariants as get
+use Rattle.blockmap.specs.Balloc.{AllocState, Allocs, IsLowestClear, TakesLowest, first_alloc, lowest_in}
+use Rattle.blockmap.specs.Bmap.{some_address}
+use Rattle.blockmap.specs.BmapAlloc.{FindsEntry, MapState, MapSteps, TakesOne, after_behind, after_indirect, behind_at, entry_for, first_way, indirect_at, indirect_of}
+use Rattle.blockmap.specs.Getting.{progress_of}
+use Rattle.blockmap.specs.Lemmas.Bitmap.{lowest_clear_is_lowest}
+use Rattle.blockmap.specs.Map.{mapped_for_writing}
+use Rattle.blockmap.specs.declared.balloc.AllocAt.{AllocAt}
+use Rattle.blockmap.specs.declared.balloc.AllocAt.TheVariants as alloc_at
+use Rattle.blockmap.specs.declared.bmap_alloc.MapAt.{MapAt}
+use Rattle.blockmap.specs.declared.bmap_alloc.MapAt.TheVariants as map_at
+use Rattle.blockmap.specs.declared.mapping.MappedForWriting.TheVariants as for_writing
+use Rattle.blockmap.specs.declared.progress.Progress.{Progress}
+use Rattle.blockmap.specs.declared.progress.Progress.TheVariants as machine
+use Rattle.inodes.specs.declared.tasks.Place.TheVariants as place
+use Rattle.inodes.specs.declared.writei.Extent.{Extent}
+use Rattle.inodes.specs.declared.writei.WriteAt.{WriteAt}
+use Rattle.inodes.specs.declared.writei.WriteAt.TheVariants as write_at
+use Rattle.inodes.specs.Goes.{WritesOn, place_of_writing, progress_of_write}
+use Rattle.inodes.specs.Growing.{TakesIn}
+use Rattle.inodes.specs.Itrunc.{first_update}
+use Rattle.inodes.specs.Lemmas.Runs.{IsAt, goes_from, nothing_behind, seen_first, seen_later}
+use Rattle.inodes.specs.Runs.{StepMade, IsRun, EndsWith}
+use Rattle.inodes.specs.Store.{StoreState, current_of}
+use Rattle.inodes.specs.Writei.{WriteState, WriteSteps, first_write, next_byte, next_place, piece, place_of_mapped, progress_mapped, with_piece, write_mapped}
+use Rattle.inodes.specs.WriteRuns.{IsFull, LooksAtBitmap, LooksIn, LooksOnWay, SeesFull, ShortSawFull}
+
+-- ---- a writing that goes on takes blocks in its extent, and has not come to the end of them
+
+abbrev IsAtOnWay : Extent → MapAt → Type 0
+IsAtOnWay e (map_at.Direct t) = TakesIn e t
+IsAtOnWay e (map_at.Indirect t) = TakesIn e t
+IsAtOnWay e (map_at.Entry slot) = Unit {0}
+IsAtOnWay e (map_at.Behind i t) = TakesIn e t
+IsAtOnWay e (map_at.Setting i None) = ⊥
+IsAtOnWay e (map_at.Setting i (Some b)) = Unit {0}
+
+record IsOnWay (e : Extent) (way : MapState) : Type 0 where
+  pub bitmap : way.bitmap ≡ e.bitmap
+  pub size : way.size ≡ e.size
+  pub at : IsAtOnWay e way.at
+
+-- where the inode is written back, all bytes were written
+abbrev IsGoingOnAt : Extent → ℕ → ℕ → WriteAt → Type 0
+IsGoingOnAt e count done (write_at.Mapping way) = IsOnWay e way
+IsGoingOnAt e count done (write_at.Block b slot) = Unit {0}
+IsGoingOnAt e count done (write_at.Updating u) = count ≤ done
+
+record IsGoingOn (e : Extent) (asked : ℕ) (m : WriteState) : Type 0 where
+  pub extent : m.extent ≡ e
+  pub count : m.count ≡ asked
+  pub at : IsGoingOnAt e asked m.done m.at
+
+-- ---- it begins so, and goes on so behind each piece
+
+module _ (e : Extent) (d : Dinode) (k : ℕ) where
+  abbrev take : AllocState
+  take = first_alloc e.bitmap e.size
+
+  first_on_way : (a b : Bool) → IsAtOnWay e
+      (cond a (map_at.Direct take) (cond b (map_at.Indirect take) (map_at.Entry None)))
+  first_on_way true b = record { bitmap = refl; size = refl }
+  first_on_way false true = record { bitmap = refl; size = refl }
+  first_on_way false false = tt
+
+  mapped_next : (count done : ℕ) →
+      IsGoingOnAt e count done (place_of_mapped (mapped_for_writing d k e.bitmap e.size))
+  mapped_next count done = by_place (nat_lt k 12 && not (slice_index d.addrs k == 0))
+    where
+      by_place : (a : Bool) → IsGoingOnAt e count done (place_of_mapped
+          (cond a (for_writing.At (slice_index d.addrs k))
+          (for_writing.Behind (first_way d k e.bitmap e.size))))
+      by_place true = tt
+      by_place false = record {
+        bitmap = refl;
+        size = refl;
+        at = first_on_way (ltb k 12) (eqb (indirect_of d) 0);
+      }
+
+comes_next : (e : Extent) (count done number next left : ℕ) (d : Dinode) →
+    (left ≡ 0 → count ≤ done) → IsGoingOnAt e count done (next_place number d next left e)
+comes_next e count done number next left d all = by_left (eqb left 0) refl
+  where
+    by_left : (b : Bool) → eqb left 0 ≡ b → IsGoingOnAt e count done
+        (cond b (write_at.Updating (first_update number))
+        (place_of_mapped (mapped_for_writing d (next / 1024) e.bitmap e.size)))
+    by_left true none = all (eqb-true left 0 none)
+    by_left false some = mapped_next e d (next / 1024) count done
+
+-- ---- its steps
+
+-- who gets a block is not over with that
+never_over : {T : Type 0} (a : Get) (out : T) → progress_of a ≡ machine.Over out → ⊥
+never_over (get.Got i) out over = cc over
+never_over (get.Sleeping cause) out over = cc over
+never_over (get.Fault fault) out over = cc over
+
+mapped_over : (q : Progress (Option ℕ)) (out : Unit {0}) → progress_mapped q ≡ machine.Over out → ⊥
+mapped_over machine.Moved out over = cc over
+mapped_over (machine.Sleeping why) out over = cc over
+mapped_over (machine.Over found) out over = cc over
+mapped_over (machine.Fault fault) out over = cc over
+
+module _ {D N : Type 0} (disk : Ghosts D N) (v : VolumeState D) (p : ℕ) (e : Extent)
+    (w : VolumeState D) where
+  abbrev cur : Image
+  cur = current_of disk.image v
+
+  -- the taking of a block goes on, or has come to a block
+  record TakesOn (r : Progress (Option ℕ)) (n : AllocState) : Type 0 where
+    pub takes : TakesIn e n
+    pub some : r ≢ machine.Over None
+
+  takes_on : (r : Progress (Option ℕ)) (t n : AllocState) (a : AllocAt) → TakesIn e t →
+      n ≡ record t { at = a } → r ≢ machine.Over None → TakesOn r n
+  takes_on r t n a takes is some = record {
+    takes = subst (TakesIn e) (sym is) (record { bitmap = takes.bitmap; size = takes.size });
+    some = some;
+  }
+
+  -- so it does, but where it looks at a bitmap without a clear bit
+  allocs_on : (t n : AllocState) (r : Progress (Option ℕ)) (a : AllocAt) → t.at ≡ a →
+      TakesIn e t → Allocs disk a v p t r n w → (LooksIn e t × IsFull cur e) ⊎ TakesOn r n
+  allocs_on t n r (alloc_at.Looking None) at takes allocs =
+      inr (takes_on r t n (alloc_at.Looking allocs.0) takes allocs.1
+      (λ over. never_over allocs.2.answer None (sym allocs.2.gives ∙ over)))
+  allocs_on t n r (alloc_at.Looking (Some i)) at takes allocs =
+      by_lowest (lowest_in cur t) refl allocs
+    where
+      by_lowest : (o : Option ℕ) → lowest_in cur t ≡ o → TakesLowest disk o v p i t r n w →
+          (LooksIn e t × IsFull cur e) ⊎ TakesOn r n
+      by_lowest None lowest step =
+          let none : IsLowestClear (block_at cur t.bitmap) t.size None =
+          subst (IsLowestClear (block_at cur t.bitmap) t.size) lowest
+          (lowest_clear_is_lowest (block_at cur t.bitmap) t.size) in
+          let size = takes.size in
+          inl (
+            record { slot = i; got = at; takes = takes },
+            λ b below.
+            ap (λ (c : ℕ). has_bit (block_at cur c) b) (sym takes.bitmap)
+                ∙ none b (omega (arith, below, size)),
+          )
+      by_lowest (Some b) lowest step =
+          inr (takes_on r t n (alloc_at.Zeroing b None) takes step.1
+          (λ over. cc (sym step.0 ∙ over)))
+  allocs_on t n r (alloc_at.Zeroing b None) at takes allocs =
+      inr (takes_on r t n (alloc_at.Zeroing b allocs.0) takes allocs.1
+      (λ over. never_over allocs.2.answer None (sym allocs.2.gives ∙ over)))
+  allocs_on t n r (alloc_at.Zeroing b (Some i)) at takes allocs =
+      inr (record {
+        takes = subst (TakesIn e) (sym allocs.1) takes;
+        some = λ over. cc (sym allocs.0 ∙ over);
+      })
+
+  -- the way goes on, or has come to a block
+  record MapsTo (r : Progress (Option ℕ)) (n : MapState) : Type 0 where
+    pub way : IsOnWay e n
+    pub some : r ≢ machine.Over None
+
+  -- so it does behind the taking of a block
+  takes_one : (m n : MapState) (t : AllocState)
+      (after : Progress (Option ℕ) → Progress (Option ℕ))
+      (there : Progress (Option ℕ) → AllocState → MapAt) (inode : Progress (Option ℕ) → Dinode)
+      (r : Progress (Option ℕ)) (f : Dinode) → IsOnWay e m → TakesIn e t →
+      ((q : Progress (Option ℕ)) (u : AllocState) → TakesOn q u →
+      IsAtOnWay e (there q u) × (after q ≢ machine.Over None)) →
+      TakesOne disk v p m t after there inode r n f w →
+      (LooksIn e t × IsFull cur e) ⊎ MapsTo r n
+  takes_one m n t after there inode r f on takes then step =
+      ⊎_elim
+      (λ (sees : LooksIn e t × IsFull cur e). inl sees)
+      (λ (still : TakesOn step.answer step.now).
+      let next = then step.answer step.now still in
+      inr (record {
+        way = subst (IsOnWay e) (sym step.next)
+            (record { bitmap = on.bitmap; size = on.size; at = next.0 });
+        some = λ over. next.1 (sym step.gives ∙ over);
+      }))
+      (allocs_on t step.now step.answer t.at refl takes step.allocs)
+
+  then_indirect : (q : Progress (Option ℕ)) (u : AllocState) → TakesOn q u →
+      IsAtOnWay e (indirect_at q u) × (after_indirect q ≢ machine.Over None)
+  then_indirect machine.Moved u still = (still.takes, λ over. cc over)
+  then_indirect (machine.Sleeping why) u still = (still.takes, λ over. cc over)
+  then_indirect (machine.Over None) u still = absurd (still.some refl)
+  then_indirect (machine.Over (Some b)) u still = (tt, λ over. cc over)
+  then_indirect (machine.Fault fault) u still = (still.takes, λ over. cc over)
+
+  then_behind : (i : ℕ) (q : Progress (Option ℕ)) (u : AllocState) → TakesOn q u →
+      IsAtOnWay e (behind_at i q u) × (after_behind q ≢ machine.Over None)
+  then_behind i machine.Moved u still = (still.takes, λ over. cc over)
+  then_behind i (machine.Sleeping why) u still = (still.takes, λ over. cc over)
+  then_behind i (machine.Over None) u still = absurd (still.some refl)
+  then_behind i (machine.Over (Some b)) u still = (tt, λ over. cc over)
+  then_behind i (machine.Fault fault) u still = (still.takes, λ over. cc over)
+
+  -- the way goes on, but where it looks at such a bitmap
+  maps_on : (m n : MapState) (d f : Dinode) (r : Progress (Option ℕ)) (a : MapAt) → m.at ≡ a →
+      IsOnWay e m → MapSteps disk a v p m d r n f w → (LooksOnWay e a × IsFull cur e) ⊎ MapsTo r n
+  maps_on m n d f r (map_at.Direct t) at on step =
+      takes_one m n t _ _ _ r f on (subst (IsAtOnWay e) at on.at)
+      (λ q u still. (still.takes, still.some)) step
+  maps_on m n d f r (map_at.Indirect t) at on step =
+      takes_one m n t _ _ _ r f on (subst (IsAtOnWay e) at on.at) then_indirect step
+  maps_on m n d f r (map_at.Entry None) at on step =
+      inr (record {
+        way = subst (IsOnWay e) (sym step.2)
+            (record { bitmap = on.bitmap; size = on.size; at = tt });
+        some = λ over. never_over step.1.answer None (sym step.1.gives ∙ over);
+      })
+  maps_on m n d f r (map_at.Entry (Some i)) at on step =
+      by_entry (some_address (entry_for cur m d)) step.0
+    where
+      by_entry : (o : Option ℕ) → FindsEntry disk o v p i m r n w →
+          (LooksOnWay e (map_at.Entry (Some i)) × IsFull cur e) ⊎ MapsTo r n
+      by_entry None finds =
+          inr (record {
+            way = subst (IsOnWay e) (sym finds.1) (record {
+              bitmap = on.bitmap;
+              size = on.size;
+              at = record { bitmap = on.bitmap; size = on.size };
+            });
+            some = λ over. cc (sym finds.0 ∙ over);
+          })
+      by_entry (Some b) finds =
+          inr (record {
+            way = subst (IsOnWay e) (sym finds.1) on;
+            some = λ over. cc (sym finds.0 ∙ over);
+          })
+  maps_on m n d f r (map_at.Behind i t) at on step =
+      takes_one m n t _ _ _ r f on (subst (IsAtOnWay e) at on.at) (then_behind i) step
+  maps_on m n d f r (map_at.Setting i None) at on step = absurd (subst (IsAtOnWay e) at on.at)
+  maps_on m n d f r (map_at.Setting i (Some b)) at on step =
+      inr (record {
+        way = subst (IsOnWay e) (sym step.1) on;
+        some = λ over. cc (sym step.0 ∙ over);
+      })
+
+  module _ (count : ℕ) where
+    -- the writing goes on, or is over with all bytes
+    record GoesOnWriting (m : WriteState) (r : Progress (Unit {0})) (n : WriteState) : Type 0 where
+      pub on : IsGoingOn e count n
+      pub all : (out : Unit {0}) → r ≡ machine.Over out → count ≤ m.done
+
+    mapped_on : (m : WriteState) (way : MapState) (d : Dinode) (q : Progress (Option ℕ)) →
+        IsGoingOn e count m → MapsTo q way → IsGoingOn e count (write_mapped m way d q)
+    mapped_on m way d machine.Moved on to =
+        record { extent = on.extent; count = on.count; at = to.way }
+    mapped_on m way d (machine.Sleeping why) on to =
+        record { extent = on.extent; count = on.count; at = on.at }
+    mapped_on m way d (machine.Over None) on to = absurd (to.some refl)
+    mapped_on m way d (machine.Over (Some b)) on to =
+        record { extent = on.extent; count = on.count; at = tt }
+    mapped_on m way d (machine.Fault fault) on to =
+        record { extent = on.extent; count = on.count; at = on.at }
+
+    -- behind a piece
+    piece_on : (m : WriteState) → IsGoingOn e count m → IsGoingOn e count (with_piece m)
+    piece_on m on =
+        let many = on.count in
+        record {
+          extent = on.extent;
+          count = on.count;
+          at = subst
+              (λ (x : Extent). IsGoingOnAt e count (m.done + piece m) (next_place m.number
+              (with_piece m).inode (next_byte m + piece m) (m.count - (m.done + piece m)) x))
+              (sym on.extent)
+              (comes_next e count (m.done + piece m) m.number (next_byte m + piece m)
+              (m.count - (m.done + piece m)) (with_piece m).inode
+              (λ none. omega (arith, none, many)));
+        }
+
+    -- A STEP goes on so, but where it looks at such a bitmap
+    writes_on : (m n : WriteState) (bytes : List ℕ) (r : Progress (Unit {0})) (a : WriteAt) →
+        m.at ≡ a → IsGoingOn e count m → WriteSteps disk a v p m bytes r n w →
+        (LooksAtBitmap e a × IsFull cur e) ⊎ GoesOnWriting m r n
+    writes_on m n bytes r (write_at.Mapping way) at on step =
+        let here : IsOnWay e way = subst (IsGoingOnAt e count m.done) at on.at in
+        ⊎_elim
+        (λ (sees : LooksOnWay e way.at × IsFull cur e). inl sees)
+        (λ (to : MapsTo step.answer step.now).
+        inr (record {
+          on = subst (IsGoingOn e count) (sym step.next)
+              (mapped_on m step.now step.inode step.answer on to);
+          all = λ out over. absurd (mapped_over step.answer out (sym step.gives ∙ over));
+        }))
+        (maps_on way step.now m.inode step.inode step.answer way.at refl here step.steps)
+    writes_on m n bytes r (write_at.Block b None) at on step =
+        inr (record {
+          on = subst (IsGoingOn e count) (sym step.2)
+              (record { extent = on.extent; count = on.count; at = tt });
+          all = λ out over. absurd (never_over step.1.answer out (sym step.1.gives ∙ over));
+        })
+    writes_on m n bytes r (write_at.Block b (Some i)) at on step =
+        inr (record {
+          on = subst (IsGoingOn e count) (sym step.1) (piece_on m on);
+          all = λ out over. absurd (cc (sym step.0 ∙ over));
+        })
+    writes_on m n bytes r (write_at.Updating u) at on step =
+        let all : count ≤ m.done = subst (IsGoingOnAt e count m.done) at on.at in
+        inr (record {
+          on = subst (IsGoingOn e count) (sym step.2)
+              (record { extent = on.extent; count = on.count; at = all });
+          all = λ out over. all;
+        })
+
+-- ---- its run
+
+module _ {D N : Type 0} (disk : Ghosts D N) (p k count done : ℕ) (e : Extent) (op : Op)
+    (short : done < count) where
+  abbrev reply : TaskProgress
+  reply = progress.Decided (Wrote done)
+
+  abbrev Sees : StepMade D → Type 0
+  Sees = SeesFull disk.image p e
+
+  -- a step sees that no block is left, or the writing goes on
+  sees_or_on : (step : StepMade D) (m : WriteState) → IsAt p step.before (place.Writing k m) →
+      IsGoingOn e count m →
+      (goes : WritesOn disk step.before p k op m step.answer step.after) →
+      Sees step ⊎ GoesOnWriting disk step.before.volume p e step.after.volume count m goes.answer
+      goes.now
+  sees_or_on step m stands on goes =
+      ⊎_elim
+      (λ (is : LooksAtBitmap e m.at × IsFull (current_of disk.image step.before.volume) e).
+      inl (record { writing = m; entry = k; stands = stands; looks = is.0; full = is.1 }))
+      (λ still. inr still)
+      (writes_on disk step.before.volume p e step.after.volume count m goes.now _ goes.answer m.at
+      refl on goes.writes)
+
+  -- a writing that goes on so does not answer with too few bytes
+  not_over : (m : WriteState) (q : Progress (Unit {0})) →
+      ((out : Unit {0}) → q ≡ machine.Over out → count ≤ m.done) →
+      progress_of_write m.done q ≡ reply → ⊥
+  not_over m machine.Moved all is = cc is
+  not_over m (machine.Sleeping why) all is = cc is
+  not_over m (machine.Over out) all is =
+      let same : m.done ≡ done = cc is in
+      let most = all out refl in
+      omega (arith, same, most, short)
+  not_over m (machine.Fault fault) all is = cc is
+
+  -- a step before it, where the rest of the run sees so from each place of the writing
+  module _ (step : StepMade D) (rest : List (StepMade D)) (m n : WriteState)
+      (more : IsAt p step.after (place.Leaving k) → ⊥)
+      (rest_sees : (o : WriteState) → IsAt p step.after (place.Writing k o) →
+      IsGoingOn e count o → Any Sees rest) (was : IsGoingOn e count m)
+      (now : IsGoingOn e count n) where
+    seen_on : (q : Progress (Unit {0})) → IsAt p step.after (place_of_writing k m n q) →
+        Any Sees (step ∷ rest)
+    seen_on machine.Moved at = seen_later Sees step rest (rest_sees n at now)
+    seen_on (machine.Sleeping why) at = seen_later Sees step rest (rest_sees m at was)
+    seen_on (machine.Over out) at = absurd (more at)
+    seen_on (machine.Fault fault) at = seen_later Sees step rest (rest_sees m at was)
+
+  -- a run from where the writing goes on
+  seen_in_run : (steps : List (StepMade D)) (s : StoreState D) (m : WriteState) →
+      IsAt p s (place.Writing k m) → IsGoingOn e count m → IsRun disk p op s steps →
+      EndsWith steps reply → Any Sees steps
+  seen_in_run [] s m stands on run ends = absurd ends
+  seen_in_run (step ∷ []) s m stands on run ends =
+      let to = goes_from disk p op s step (place.Writing k m) stands run.0 run.1 in
+      ⊎_elim
+      (λ is. seen_first Sees step [] is)
+      (λ still. absurd (not_over m to.goes.answer still.all (sym to.goes.gives ∙ ends)))
+      (sees_or_on step m to.here on to.goes)
+  seen_in_run (step ∷ next ∷ rest) s m stands on run ends =
+      let to = goes_from disk p op s step (place.Writing k m) stands run.0 run.1 in
+      ⊎_elim
+      (λ is. seen_first Sees step (next ∷ rest) is)
+      (λ still. seen_on step (next ∷ rest) m to.goes.now
+      (λ up. nothing_behind disk p op reply (λ e. cc e) (next ∷ rest) step.after k up run.2 ends)
+      (λ o at goes. seen_in_run (next ∷ rest) step.after o at goes run.2 ends)
+      on still.on to.goes.answer to.goes.next)
+      (sees_or_on step m to.here on to.goes)
+
+pub short_saw_full : {D N : Type 0} (disk : Ghosts D N) → ShortSawFull disk
+short_saw_full disk s p k i off count done d e op steps run short =
+    seen_in_run disk p k count done e op short steps s (first_write i d off count e) run.begins
+    (record {
+      extent = refl;
+      count = refl;
+      at = comes_next e count 0 i off count d (λ none. omega (arith, none));
+    })
+    run.runs run.ends

@@ -1,0 +1,73 @@
+-- Runs of a write: its steps from its turn on, between which the other processes go on.
+use Rattle.std.specs.Prelude.{◌≡◌, ◌<◌, ℕ, true, List, Some}
+use Rattle.std.specs.List.{Any}
+use Rattle.blocks.specs.Disk.{Image, block_at}
+use Rattle.blocks.specs.declared.disk.Disk.{Ghosts}
+use Rattle.model.specs.declared.types.image.Dinode.{Dinode}
+use Rattle.model.specs.declared.types.operations.Op.{Op}
+use Rattle.model.specs.declared.types.operations.Reply.TheVariants.{Wrote}
+use Rattle.model.specs.declared.types.operations.TaskProgress.TheVariants as progress
+use Rattle.model.specs.Fields.{has_bit}
+use Rattle.blockmap.specs.Balloc.{AllocState}
+use Rattle.blockmap.specs.declared.balloc.AllocAt.TheVariants as alloc_at
+use Rattle.blockmap.specs.declared.bmap_alloc.MapAt.{MapAt}
+use Rattle.blockmap.specs.declared.bmap_alloc.MapAt.TheVariants as map_at
+use Rattle.inodes.specs.declared.tasks.Place.TheVariants as place
+use Rattle.inodes.specs.declared.writei.Extent.{Extent}
+use Rattle.inodes.specs.declared.writei.WriteAt.{WriteAt}
+use Rattle.inodes.specs.declared.writei.WriteAt.TheVariants as write_at
+use Rattle.inodes.specs.Growing.{TakesIn}
+use Rattle.inodes.specs.Runs.{StepMade, IsRun, EndsWith}
+use Rattle.inodes.specs.Store.{StoreState, current_of}
+use Rattle.inodes.specs.Tasks.{task}
+use Rattle.inodes.specs.Writei.{WriteState, first_write}
+
+-- THE RUN OF A WRITE: its steps behind its turn, from where the writing stands so, to the one that
+-- answers that so many bytes were written
+pub record IsWriteRun {D N : Type 0} (disk : Ghosts D N) (p k : ℕ) (op : Op) (m : WriteState)
+    (s : StoreState D) (steps : List (StepMade D)) (done : ℕ) : Type 0 where
+  pub begins : (task s.tasks p).place ≡ place.Writing k m
+  pub runs : IsRun disk p op s steps
+  pub ends : EndsWith steps (progress.Decided (Wrote done))
+
+-- the taking of a block in that extent has got the bitmap's block, and looks at it next
+pub record LooksIn (e : Extent) (t : AllocState) : Type 0 where
+  pub slot : ℕ
+  pub got : t.at ≡ alloc_at.Looking (Some slot)
+  pub takes : TakesIn e t
+
+-- so does a way to a block that takes one
+abbrev pub LooksOnWay : Extent → MapAt → Type 0
+LooksOnWay e (map_at.Direct t) = LooksIn e t
+LooksOnWay e (map_at.Indirect t) = LooksIn e t
+LooksOnWay e (map_at.Entry slot) = ⊥
+LooksOnWay e (map_at.Behind i t) = LooksIn e t
+LooksOnWay e (map_at.Setting i found) = ⊥
+
+-- and a writing on such a way
+abbrev pub LooksAtBitmap : Extent → WriteAt → Type 0
+LooksAtBitmap e (write_at.Mapping way) = LooksOnWay e way.at
+LooksAtBitmap e (write_at.Block b slot) = ⊥
+LooksAtBitmap e (write_at.Updating u) = ⊥
+
+-- an image has no block left in that extent: each bit below its size is set
+abbrev pub IsFull : Image → Extent → Type 0
+IsFull x e = (b : ℕ) → b < e.size → has_bit (block_at x e.bitmap) b ≡ true
+
+-- a step of process p's write that looks at the bitmap's block, and the current image has no block
+-- left
+pub record SeesFull {D : Type 0} (image : D → Image) (p : ℕ) (e : Extent) (step : StepMade D)
+    : Type 0 where
+  pub writing : WriteState
+  pub entry : ℕ
+  pub stands : (task step.before.tasks p).place ≡ place.Writing entry writing
+  pub looks : LooksAtBitmap e writing.at
+  pub full : IsFull (current_of image step.before.volume) e
+
+-- THE CAUSE OF A SHORT WRITE: where a write ends with fewer bytes than it was asked for, one of its
+-- steps saw that no block was left
+abbrev pub ShortSawFull : {D N : Type 0} → Ghosts D N → Type 0
+ShortSawFull {D} disk = (s : StoreState D) (p k i off count done : ℕ) (d : Dinode) (e : Extent)
+    (op : Op) (steps : List (StepMade D)) →
+    IsWriteRun disk p k op (first_write i d off count e) s steps done → done < count →
+    Any (SeesFull disk.image p e) steps
