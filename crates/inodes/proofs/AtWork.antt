@@ -1,9 +1,8 @@
 -- A step of a process that works on its inode behind its turn: what it does, and that it promises so.
-use Rattle.std.proofs.Common.{◌≡◌, ◌≢◌, ℕ, ◌<◌, true, false, List, length, set, refl, sym, ◌∙◌, ap, subst, Option, Some, None}
-use Rattle.std.proofs.lemmas.List.{set-get_or, get_or-set_same}
-use Rattle.blocks.specs.Disk.{Image, block_at}
+use Rattle.std.proofs.Common.{◌≡◌, ◌≢◌, ℕ, ◌<◌, true, List, length, set, refl, sym, ◌∙◌, ap, subst, Option, Some, None}
+use Rattle.std.proofs.lemmas.List.{set-get_or}
+use Rattle.blocks.specs.Disk.{Image}
 use Rattle.blocks.specs.declared.disk.Disk.{Ghosts}
-use Rattle.model.specs.declared.types.image.Form.{Form}
 use Rattle.model.specs.declared.types.operations.Op.{Op}
 use Rattle.model.specs.declared.types.operations.Reply.{Reply}
 use Rattle.model.specs.declared.types.operations.TaskProgress.{TaskProgress}
@@ -11,7 +10,7 @@ use Rattle.model.specs.declared.types.operations.TaskProgress.TheVariants as pro
 use Rattle.model.specs.declared.types.operations.Why.{Why}
 use Rattle.model.specs.declared.types.operations.Why.TheVariants as why
 use Rattle.model.specs.Files.{Files}
-use Rattle.model.specs.Layout.{form_of, inode_count_of, super_in}
+use Rattle.model.specs.Layout.{form_of, super_in}
 use Rattle.model.specs.Tasks.{FilesThen, Marks, fault_of_task, reply_at_turn}
 use Rattle.loose.specs.Held.{Claims, FitsHeld, IsClaimedNow}
 use Rattle.wal.specs.Held.{HasLock}
@@ -22,7 +21,7 @@ use Rattle.inodes.specs.Goes.{Goes}
 use Rattle.inodes.specs.Grips.{Grip, KeepsTable, locked_grip, with_grip}
 use Rattle.inodes.specs.Holding.{claim_by, claim_of, claims_of}
 use Rattle.inodes.specs.Looks.{LooksAt}
-use Rattle.inodes.specs.Places.{HasSlot, asked_by, block_at_place, grip_by, grip_of, grips_of, is_over, steps_left}
+use Rattle.inodes.specs.Places.{HasSlot, asked_by, block_at_place, grip_by, grip_of, grips_of, steps_left}
 use Rattle.inodes.specs.Steps.{IsHeldByAnother, LeavesNumber, Reads, Steps, Waits, is_made}
 use Rattle.inodes.specs.Store.{StoreState, IsStore, FitsFiles, Stands, current_of}
 use Rattle.inodes.specs.Table.{TableState}

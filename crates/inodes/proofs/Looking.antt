@@ -26,7 +26,7 @@ use Rattle.inodes.specs.Grips.{Grip, KeepsTable, TableIs, locked_grip, with_grip
 use Rattle.inodes.specs.Lemmas.Holding.{claim_stays}
 use Rattle.inodes.specs.Lemmas.Faults.{where_none, if_none, if_some}
 use Rattle.inodes.specs.Looks.{AreLooking, HasFiles, LooksAt, IsTaking, IsAtRead, HasAllRead, WasAnswered}
-use Rattle.inodes.specs.Holding.{IsTruncating, claim_by, claims_of, claim_of}
+use Rattle.inodes.specs.Holding.{IsTruncating, claims_of, claim_of}
 use Rattle.inodes.specs.Places.{HasSlot, asked_by, grip_by, grip_of, grips_of, is_over, steps_left}
 use Rattle.inodes.specs.Steps.{Steps, Waits, Reads, LeavesLate, is_made}
 use Rattle.inodes.specs.Store.{StoreState, IsStore, FitsFiles, Agrees, Stands, current_of}

@@ -6,7 +6,7 @@ use Rattle.model.specs.Journal.{is_number}
 use Rattle.model.specs.Layout.{inode_count_of, inode_of}
 use Rattle.loose.specs.Held.{Claim}
 use Rattle.inodes.specs.Grips.{locked_grip}
-use Rattle.inodes.specs.Holding.{claim_by, claims_of, claim_of}
+use Rattle.inodes.specs.Holding.{claims_of, claim_of}
 use Rattle.inodes.specs.Looks.{AreLooking}
 use Rattle.inodes.specs.Places.{grip_of}
 use Rattle.inodes.specs.Steps.{LeavesShares, SameShare}

@@ -1,14 +1,13 @@
 -- Each step of a truncation keeps what is true of every store, and does what a step promises.
-use Rattle.std.proofs.Common.{◌≡◌, ◌≢◌, ℕ, ◌<◌, Bool, true, false, cond, eqb, get_or, List, length, set, refl, sym, ◌∙◌, ap, subst, arith, Option, Some, None}
+use Rattle.std.proofs.Common.{◌≡◌, ◌≢◌, ℕ, ◌<◌, Bool, true, false, cond, eqb, get_or, List, length, set, refl, sym, ◌∙◌, ap, subst, arith, Some, None}
 use Rattle.std.specs.Prelude.{IsTrue}
 use Rattle.std.proofs.lemmas.Bool.{ne_eqb, cond-false}
-use Rattle.std.proofs.lemmas.List.{set-get_or, get_or-set_same}
+use Rattle.std.proofs.lemmas.List.{get_or-set_same}
 use Rattle.blocks.specs.Disk.{Image}
 use Rattle.blocks.specs.declared.disk.Disk.{Ghosts}
 use Rattle.model.specs.declared.types.image.Form.{Form}
 use Rattle.model.specs.declared.types.operations.Op.{Op}
 use Rattle.model.specs.declared.types.operations.Op.TheVariants.{Trunc, Remove}
-use Rattle.model.specs.declared.types.operations.Reply.{Reply}
 use Rattle.model.specs.declared.types.operations.TaskProgress.TheVariants as progress
 use Rattle.model.specs.declared.types.operations.Why.{Why}
 use Rattle.model.specs.declared.types.operations.Why.TheVariants as why
@@ -24,17 +23,16 @@ use Rattle.blockmap.specs.declared.progress.Progress.{Progress}
 use Rattle.blockmap.specs.declared.progress.Progress.TheVariants as machine
 use Rattle.inodes.specs.declared.tasks.Place.{Place}
 use Rattle.inodes.specs.declared.tasks.Place.TheVariants as place
-use Rattle.inodes.specs.Goes.{Goes, place_of_trunc, progress_of_trunc, table_of_trunc}
-use Rattle.inodes.specs.Grips.{Grip, KeepsTable, locked_grip, with_grip}
-use Rattle.inodes.specs.Holding.{HasGivenUp, IsTruncating, claim_by, claims_of, held_of, kept_slot, trunc_op, truncs_left, used_slot, claim_of}
+use Rattle.inodes.specs.Goes.{place_of_trunc, progress_of_trunc, table_of_trunc}
+use Rattle.inodes.specs.Grips.{KeepsTable, locked_grip}
+use Rattle.inodes.specs.Holding.{HasGivenUp, IsTruncating, claim_by, claims_of, held_of, kept_slot, trunc_op, truncs_left, used_slot}
 use Rattle.inodes.specs.Itrunc.{TruncState, TruncSteps}
 use Rattle.inodes.specs.Looks.{CanTake, LooksAt}
-use Rattle.inodes.specs.Places.{HasSlot, asked_by, block_at_place, block_of_trunc, grip_by, grip_of, grips_of, steps_left}
-use Rattle.inodes.specs.Steps.{IsHeldByAnother, LeavesNumber, Reads, Steps, Waits, is_made}
-use Rattle.inodes.specs.Store.{StoreState, IsStore, FitsFiles, HasLogged, HoldsForFreeing, Stands, current_of}
+use Rattle.inodes.specs.Places.{HasSlot, asked_by, block_of_trunc, grip_by, grips_of, steps_left}
+use Rattle.inodes.specs.Steps.{IsHeldByAnother, Reads, Steps, is_made}
+use Rattle.inodes.specs.Store.{StoreState, IsStore, HasLogged, HoldsForFreeing, Stands, current_of}
 use Rattle.inodes.specs.Table.{TableState}
 use Rattle.inodes.specs.Tasks.{TaskState, task, no_task}
-use Rattle.inodes.specs.Lemmas.Holding.{claimed_now}
 use Rattle.inodes.specs.Lemmas.Looks.{trunc_number}
 use Rattle.inodes.proofs.Agreeing.{StaysForOthers}
 use Rattle.inodes.proofs.Getting.{fault_of}
@@ -42,8 +40,7 @@ use Rattle.inodes.proofs.AtWork.{Does as WorkDoes, Works, store_worked, steps_wo
 use Rattle.inodes.proofs.LooksKept.{KeepsUsed}
 use Rattle.inodes.proofs.TruncNext.{some_left}
 use Rattle.inodes.proofs.TruncSlots.{Slots}
-use Rattle.inodes.proofs.Truncating.{alone, gripped, has, holds, looking, slots, work}
-use Rattle.inodes.proofs.Unclaimed.{holds_alone}
+use Rattle.inodes.proofs.Truncating.{alone, gripped, holds, looking, slots, work}
 
 pub fault_is : (q : Progress (Unit {0})) → fault_of_task (progress_of_trunc q) ≡ fault_of q
 fault_is machine.Moved = refl

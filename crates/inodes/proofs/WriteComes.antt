@@ -1,8 +1,8 @@
 -- How far the writing of a file's bytes has come: what comes next, and what stays in another image.
-use Rattle.std.proofs.Common.{◌≡◌, ◌≢◌, ℕ, ◌+◌, ◌-◌, ◌*◌, ◌/◌, ◌<◌, ◌≤◌, Bool, true, false, cond, eqb, ltb, not, List, length, get_or, refl, sym, ◌∙◌, ap, subst, inl, inr, arith, Option, Some, None, ⊎_elim}
-use Rattle.std.specs.Prelude.{slice_index, nat_lt, ◌&&◌, ◌==◌}
+use Rattle.std.proofs.Common.{◌≡◌, ℕ, ◌+◌, ◌-◌, ◌*◌, ◌/◌, ◌<◌, ◌≤◌, Bool, true, false, cond, eqb, ltb, not, List, length, refl, sym, ◌∙◌, ap, subst, inl, inr, arith, None, ⊎_elim}
+use Rattle.std.specs.Prelude.{slice_index, ◌&&◌}
 use Rattle.std.proofs.lemmas.Bool.{eqb-true, eqb-false, ltb-true, ltb-false}
-use Rattle.blocks.specs.Disk.{Image, block_at}
+use Rattle.blocks.specs.Disk.{Image}
 use Rattle.model.specs.declared.types.image.Dinode.{Dinode}
 use Rattle.model.specs.declared.types.image.Form.TheVariants.{One}
 use Rattle.model.specs.Fields.{words_of}
@@ -11,7 +11,7 @@ use Rattle.model.specs.Places.{address_in}
 use Rattle.loose.specs.HeldLaws.{KeepsAddresses}
 use Rattle.loose.specs.Lemmas.Addresses.{address_direct}
 use Rattle.blockmap.specs.Balloc.{AllocState, first_alloc}
-use Rattle.blockmap.specs.BmapAlloc.{MapState, first_place, first_way, indirect_of}
+use Rattle.blockmap.specs.BmapAlloc.{first_way, indirect_of}
 use Rattle.blockmap.specs.Map.{mapped_for_writing}
 use Rattle.blockmap.specs.declared.bmap_alloc.MapAt.{MapAt}
 use Rattle.blockmap.specs.declared.bmap_alloc.MapAt.TheVariants as map_at
@@ -21,9 +21,8 @@ use Rattle.inodes.specs.declared.writei.WriteAt.{WriteAt}
 use Rattle.inodes.specs.declared.writei.WriteAt.TheVariants as write_at
 use Rattle.inodes.specs.Growing.{HasComeTo, HasNoEntry, IsMapping, IsOnWay, next_block, taken_by}
 use Rattle.inodes.specs.Itrunc.{first_update}
-use Rattle.inodes.specs.Lemmas.Bounds.{few_on_way}
-use Rattle.inodes.specs.Writei.{WriteState, next_byte, next_place, piece, place_of_mapped, with_piece}
-use Rattle.inodes.specs.Writing.{at_hand, blocks_behind, blocks_left, kept_by_write, used_by_write, way_left, writes_left_at}
+use Rattle.inodes.specs.Writei.{WriteState, next_byte, next_place, place_of_mapped}
+use Rattle.inodes.specs.Writing.{blocks_behind, blocks_left, kept_by_write, used_by_write, writes_left_at}
 
 -- ---- in an image in which the copy leads to the same blocks
 

@@ -1,17 +1,13 @@
 -- What each step of a writing does: a block is taken, or got, or named, or written, or the inode is written back.
-use Rattle.std.proofs.Common.{◌%◌, ◌≡◌, ◌≢◌, ℕ, ◌+◌, ◌-◌, ◌*◌, ◌/◌, ◌<◌, ◌≤◌, Bool, true, false, cond, eqb, List, set, get_or, length, inl, inr, refl, sym, ◌∙◌, ap, subst, ⊎_elim, arith, Option, Some, None, []}
-use Rattle.std.specs.Prelude.{slice_index}
+use Rattle.std.proofs.Common.{◌%◌, ◌≡◌, ◌≢◌, ℕ, ◌+◌, ◌-◌, ◌*◌, ◌<◌, ◌≤◌, Bool, true, false, cond, eqb, List, set, length, inr, refl, sym, ◌∙◌, ap, subst, ⊎_elim, arith, Option, Some, None, []}
 use Rattle.std.proofs.lemmas.Bool.{eqb-true, eqb-false, cases_eq}
-use Rattle.std.proofs.lemmas.List.{get_or-set_same, get_or-set_other, length-set}
+use Rattle.std.proofs.lemmas.List.{get_or-set_same, get_or-set_other}
 use Rattle.blocks.specs.Block.{overwritten, zero_block}
 use Rattle.blocks.specs.Disk.{Image, block_at}
 use Rattle.blocks.specs.declared.disk.Disk.{Ghosts}
 use Rattle.bcache.specs.Buffers.{Buffers}
 use Rattle.model.specs.declared.types.image.Dinode.{Dinode}
-use Rattle.model.specs.declared.types.image.File.{File}
-use Rattle.model.specs.declared.types.image.Form.TheVariants.{One}
 use Rattle.model.specs.Codec.{with_entry}
-use Rattle.model.specs.Fields.{words_of}
 use Rattle.model.specs.Files.{Files}
 use Rattle.model.specs.Layout.{form_of, inode_block, super_of, greatest_size}
 use Rattle.model.specs.Places.{address_in}
@@ -23,30 +19,29 @@ use Rattle.loose.specs.Lemmas.EntryPlacing.{entry_placed}
 use Rattle.loose.specs.Lemmas.HeldFrames.{held_alike, one_form}
 use Rattle.loose.specs.Lemmas.HeldMarks.{data_keeps}
 use Rattle.wal.specs.Joint.{Joint}
-use Rattle.wal.specs.Held.{GivesUpLock, GetsLock}
+use Rattle.wal.specs.Held.{GetsLock}
 use Rattle.wal.specs.Machine.{LogState, noted}
 use Rattle.wal.specs.Volume.{VolumeState}
 use Rattle.wal.specs.declared.types.Get.{Get}
 use Rattle.wal.specs.declared.types.Get.TheVariants as get
 use Rattle.blockmap.specs.Balloc.{AllocState, first_alloc}
 use Rattle.blockmap.specs.Bmap.{some_address}
-use Rattle.blockmap.specs.BmapAlloc.{FindsEntry, MapState, MapSteps, SetsEntry, TakesOne, after_behind, after_direct, after_indirect, behind_at, direct_at, entry_for, indirect_at, indirect_of, naming, with_entry_for}
-use Rattle.blockmap.specs.Getting.{GetsFor, Releases, WritesBlock, progress_of, slot_of}
+use Rattle.blockmap.specs.BmapAlloc.{FindsEntry, MapState, SetsEntry, TakesOne, after_behind, after_direct, after_indirect, behind_at, direct_at, entry_for, indirect_at, indirect_of, naming, with_entry_for}
+use Rattle.blockmap.specs.Getting.{GetsFor, progress_of, slot_of}
 use Rattle.blockmap.specs.Lemmas.Leading.{leads_behind, leads_direct}
-use Rattle.blockmap.specs.declared.bmap_alloc.MapAt.{MapAt}
 use Rattle.blockmap.specs.declared.bmap_alloc.MapAt.TheVariants as map_at
 use Rattle.blockmap.specs.declared.progress.Progress.{Progress}
 use Rattle.blockmap.specs.declared.progress.Progress.TheVariants as machine
 use Rattle.inodes.specs.declared.tasks.Place.TheVariants as place
 use Rattle.inodes.specs.declared.writei.WriteAt.{WriteAt}
 use Rattle.inodes.specs.declared.writei.WriteAt.TheVariants as write_at
-use Rattle.inodes.specs.Growing.{HasComeTo, HasNoEntry, IsMapping, IsOnWay, TakesIn, growth_of, next_block, taken_by}
+use Rattle.inodes.specs.Growing.{HasComeTo, IsMapping, IsOnWay, growth_of, next_block, taken_by}
 use Rattle.inodes.specs.Holding.{claims_of, uses_left}
 use Rattle.inodes.specs.Itrunc.{first_update}
-use Rattle.inodes.specs.Iupdate.{UpdateState, Updates}
+use Rattle.inodes.specs.Iupdate.{UpdateState}
 use Rattle.inodes.specs.Store.{StoreState, IsStore, current_of}
 use Rattle.inodes.specs.Tasks.{TaskState, task}
-use Rattle.inodes.specs.Writei.{GetsNext, MapsOn, WriteState, WriteSteps, WritesNext, next_byte, next_place, piece, piece_of, progress_mapped, with_piece, with_written, write_mapped}
+use Rattle.inodes.specs.Writei.{GetsNext, MapsOn, WriteState, WritesNext, next_byte, next_place, piece, piece_of, progress_mapped, with_piece, with_written, write_mapped}
 use Rattle.inodes.specs.Writing.{HasLoggedWrite, IsWriting, at_hand, block_of_write, blocks_behind, blocks_left, counted, kept_by_write, used_by_write, writes_left, writes_left_at, alloc_left}
 use Rattle.inodes.proofs.TruncFiles.{with_claim, with_claim_is, same_claims}
 use Rattle.inodes.proofs.TruncSlots.{Slots, slots_as, slots_kept, slots_left, slots_none, slots_put, slots_used}

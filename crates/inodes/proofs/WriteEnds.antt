@@ -1,5 +1,5 @@
 -- The last step of a writing, which writes the inode back and knows the reply; and any step of a writing.
-use Rattle.std.proofs.Common.{◌⊎◌, ⊎_elim, get_or-set_same, ◌≡◌, ◌≢◌, ℕ, ◌<◌, ◌≤◌, List, length, refl, sym, ◌∙◌, ap, subst, arith, Option, Some, None, ⊎_elim, set}
+use Rattle.std.proofs.Common.{◌⊎◌, ⊎_elim, get_or-set_same, ◌≡◌, ℕ, ◌<◌, List, length, refl, sym, ◌∙◌, ap, subst, arith, Option, Some, None, ⊎_elim, set}
 use Rattle.std.specs.Prelude.{IsTrue}
 use Rattle.std.proofs.lemmas.List.{length-set, get_or-set_same}
 use Rattle.blocks.specs.Disk.{Image, block_at}
@@ -13,18 +13,17 @@ use Rattle.model.specs.declared.types.operations.TaskProgress.TheVariants as pro
 use Rattle.model.specs.Codec.{IsDinode, with_inode, with_inode_bytes}
 use Rattle.model.specs.Files.{Files, file_in}
 use Rattle.model.specs.Journal.{is_number}
-use Rattle.model.specs.Layout.{form_of, greatest_size, inode_block, inode_count_of, inode_of}
+use Rattle.model.specs.Layout.{form_of, greatest_size, inode_block, inode_count_of}
 use Rattle.model.specs.Lemmas.Inodes.{IsPlaced, inode_of-with_inode, inode_of-with_inode_other}
 use Rattle.model.specs.Operations.{after}
 use Rattle.model.specs.Tasks.{FilesThen, Marks}
 use Rattle.loose.specs.GrowthLaws.{files_grown}
-use Rattle.loose.specs.Held.{Claims, Claim, FitsHeld, Growth, IsClaimedNow, grows}
+use Rattle.loose.specs.Held.{Claims, FitsHeld, Growth, IsClaimedNow}
 use Rattle.loose.specs.HeldLaws.{FitsThen}
 use Rattle.loose.specs.Lemmas.GrowthEnds.{growth_rests}
 use Rattle.loose.specs.Lemmas.HeldFrames.{growing_of}
 use Rattle.loose.specs.Lemmas.HeldMarks.{growth_keeps}
 use Rattle.wal.specs.Joint.{Joint}
-use Rattle.wal.specs.Held.{HasLock}
 use Rattle.wal.specs.Machine.{LogState, SameGroups}
 use Rattle.wal.specs.Volume.{VolumeState}
 use Rattle.blockmap.specs.BmapAlloc.{MapState, MapSteps, entry_for, indirect_of}
@@ -37,9 +36,9 @@ use Rattle.blockmap.specs.declared.progress.Progress.TheVariants as machine
 use Rattle.inodes.specs.declared.tasks.Place.TheVariants as place
 use Rattle.inodes.specs.declared.writei.WriteAt.{WriteAt}
 use Rattle.inodes.specs.declared.writei.WriteAt.TheVariants as write_at
-use Rattle.inodes.specs.Goes.{Goes, place_of_writing, progress_of_write, table_of_writing}
-use Rattle.inodes.specs.Grips.{IsCopy, KeepsTable, KeepsUsedInodes, locked_grip}
-use Rattle.inodes.specs.Growing.{HasComeTo, growth_of, taken_by, bytes_of, bytes_by, next_block}
+use Rattle.inodes.specs.Goes.{place_of_writing, progress_of_write, table_of_writing}
+use Rattle.inodes.specs.Grips.{IsCopy, KeepsTable, locked_grip}
+use Rattle.inodes.specs.Growing.{HasComeTo, taken_by, bytes_of, bytes_by, next_block}
 use Rattle.inodes.specs.Holding.{claims_of, uses_left}
 use Rattle.inodes.specs.Iupdate.{UpdateState, Updates}
 use Rattle.inodes.specs.Places.{asked_by, grips_of}
@@ -51,7 +50,7 @@ use Rattle.inodes.specs.Writei.{MapsOn, WriteState, WriteSteps, progress_mapped}
 use Rattle.inodes.specs.Writing.{IsWriting, block_of_write, kept_by_write, used_by_write, writes_left, writes_left_at}
 use Rattle.inodes.specs.Lemmas.Grips.{kept_by_renew}
 use Rattle.inodes.proofs.Agreeing.{StaysForOthers}
-use Rattle.inodes.proofs.AtWork.{Does, steps_worked, store_then, store_worked, task_then}
+use Rattle.inodes.proofs.AtWork.{steps_worked, store_then, store_worked}
 use Rattle.inodes.proofs.Frames.{groups_noted}
 use Rattle.inodes.proofs.Getting.{reads_none}
 use Rattle.inodes.proofs.LooksKept.{KeepsUsed}

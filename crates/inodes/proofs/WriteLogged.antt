@@ -1,5 +1,5 @@
 -- How many homes a writing adds to the log: a block that is a home already adds none.
-use Rattle.std.proofs.Common.{◌≡◌, ◌≢◌, ℕ, ◌+◌, ◌<◌, ◌≤◌, Bool, true, false, cond, eqb, length, refl, sym, ◌∙◌, ap, subst, arith, Option, Some}
+use Rattle.std.proofs.Common.{◌≡◌, ◌≢◌, ℕ, ◌+◌, ◌<◌, ◌≤◌, Bool, true, false, cond, eqb, length, refl, sym, ◌∙◌, ap, subst, arith, Some}
 use Rattle.std.proofs.lemmas.Bool.{ne_eqb}
 use Rattle.wal.specs.Machine.{LogState, is_among, noted, used_by}
 use Rattle.wal.specs.Lemmas.Rooms.{noted_among, noted_grows, noted_home, used_noted_new}

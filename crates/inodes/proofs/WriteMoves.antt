@@ -1,9 +1,9 @@
 -- The kinds of steps that write a file's bytes: a block is got, or put, or released, or nothing is done to the volume.
-use Rattle.std.proofs.Common.{◌≡◌, ◌≢◌, ℕ, ◌+◌, ◌<◌, ◌≤◌, List, set, false, true, refl, sym, ◌∙◌, ap, subst, arith, Option, Some, None, length}
+use Rattle.std.proofs.Common.{◌≡◌, ◌≢◌, ℕ, ◌<◌, ◌≤◌, List, set, refl, sym, ◌∙◌, ap, subst, arith, Option, Some, None, length}
 use Rattle.std.specs.Prelude.{IsTrue}
 use Rattle.std.proofs.lemmas.Bool.{false≢true, ne_eqb}
 use Rattle.std.proofs.lemmas.List.{length-set}
-use Rattle.blocks.specs.Disk.{Image, block_at}
+use Rattle.blocks.specs.Disk.{Image}
 use Rattle.blocks.specs.declared.disk.Disk.{Ghosts}
 use Rattle.blocks.specs.declared.errors.DiskFault.{DiskFault}
 use Rattle.model.specs.declared.types.operations.Op.{Op}
@@ -13,7 +13,7 @@ use Rattle.model.specs.declared.types.operations.Why.{Why}
 use Rattle.model.specs.declared.types.operations.Why.TheVariants as why
 use Rattle.model.specs.Files.{Files}
 use Rattle.model.specs.Journal.{is_number}
-use Rattle.model.specs.Layout.{inode_block, inode_count_of, inode_of, super_of}
+use Rattle.model.specs.Layout.{inode_count_of, super_of}
 use Rattle.model.specs.Tasks.{Marks}
 use Rattle.loose.specs.Held.{Claim, Claims, FitsHeld, Growth, IsClaimedNow, grows}
 use Rattle.loose.specs.HeldLaws.{FitsThen}
@@ -22,7 +22,7 @@ use Rattle.loose.specs.Lemmas.HeldFrames.{held_alike, inode_elsewhere}
 use Rattle.loose.specs.Lemmas.Looks.{between}
 use Rattle.wal.specs.Joint.{Joint}
 use Rattle.wal.specs.Held.{GetsLock, HasLock}
-use Rattle.wal.specs.Machine.{LogState, SameGroups, noted}
+use Rattle.wal.specs.Machine.{LogState, SameGroups}
 use Rattle.wal.specs.Volume.{VolumeState}
 use Rattle.blockmap.specs.BmapAlloc.{indirect_of}
 use Rattle.blockmap.specs.Getting.{GetsFor, Releases, WritesBlock}
@@ -34,16 +34,16 @@ use Rattle.inodes.specs.Goes.{place_of_writing, progress_of_write, table_of_writ
 use Rattle.inodes.specs.Grips.{Grip, KeepsTable, KeepsUsedInodes, locked_grip}
 use Rattle.inodes.specs.Growing.{HasComeTo, growth_of}
 use Rattle.inodes.specs.Holding.{claim_by, claims_of}
-use Rattle.inodes.specs.Places.{asked_by, grips_of, steps_left}
+use Rattle.inodes.specs.Places.{asked_by, grips_of}
 use Rattle.inodes.specs.Steps.{IsHeldByAnother, Reads}
-use Rattle.inodes.specs.Store.{StoreState, IsStore, HoldsForWriting, Stands, current_of}
+use Rattle.inodes.specs.Store.{StoreState, IsStore, HoldsForWriting, current_of}
 use Rattle.inodes.specs.Tasks.{TaskState, task}
 use Rattle.inodes.specs.Writei.{WriteState}
 use Rattle.inodes.specs.Writing.{HasLoggedWrite, IsWriting, block_of_write, kept_by_write, used_by_write, writes_left, extent_of}
 use Rattle.inodes.specs.Lemmas.Grips.{kept_by_image}
 use Rattle.inodes.specs.Lemmas.Holding.{own_grows}
 use Rattle.inodes.proofs.Agreeing.{StaysForOthers, stays_same}
-use Rattle.inodes.proofs.AtWork.{Does, StandsSo, Works, store_then, task_then}
+use Rattle.inodes.proofs.AtWork.{Does, Works, store_then}
 use Rattle.inodes.proofs.Frames.{groups_noted, groups_same, marks_same}
 use Rattle.inodes.proofs.Getting.{reads_none, stays_got, stays_left, fault_of}
 use Rattle.inodes.proofs.LooksKept.{KeepsUsed, keeps_same}

@@ -1,5 +1,5 @@
 -- The steps in which a writing takes a block: for an address of the inode's own, or for an entry behind it.
-use Rattle.std.proofs.Common.{get_or-set_other, [], ◌≡◌, ◌≢◌, ℕ, ◌+◌, ◌*◌, ◌<◌, ◌≤◌, List, set, length, refl, sym, ◌∙◌, ap, subst, arith, Option, Some, None}
+use Rattle.std.proofs.Common.{get_or-set_other, [], ◌≡◌, ◌≢◌, ℕ, ◌+◌, ◌*◌, ◌<◌, List, length, refl, sym, ◌∙◌, ap, subst, arith, Option, Some, None}
 use Rattle.blocks.specs.Block.{zero_block}
 use Rattle.blocks.specs.Disk.{Image, block_at}
 use Rattle.blocks.specs.declared.disk.Disk.{Ghosts}
@@ -8,8 +8,8 @@ use Rattle.model.specs.Codec.{with_bit}
 use Rattle.model.specs.Files.{Files}
 use Rattle.model.specs.Layout.{super_of}
 use Rattle.model.specs.Tasks.{Marks}
-use Rattle.loose.specs.Held.{Claims, FitsHeld, Growth, IsClaimedNow, grows, taking, zeroed}
-use Rattle.loose.specs.HeldLaws.{FitsThen, IsMarkedData}
+use Rattle.loose.specs.Held.{Claims, FitsHeld, Growth, IsClaimedNow, grows, zeroed}
+use Rattle.loose.specs.HeldLaws.{FitsThen}
 use Rattle.loose.specs.Lemmas.HeldMarks.{data_keeps, set_bit_keeps}
 use Rattle.wal.specs.Joint.{Joint}
 use Rattle.wal.specs.Machine.{LogState, noted}
@@ -18,7 +18,7 @@ use Rattle.wal.specs.declared.types.Get.{Get}
 use Rattle.wal.specs.declared.types.Get.TheVariants as get
 use Rattle.blockmap.specs.Balloc.{AllocState, Allocs, IsLowestClear, TakesLowest, lowest_in, with_taken}
 use Rattle.blockmap.specs.BmapAlloc.{MapState, indirect_of}
-use Rattle.blockmap.specs.Getting.{GetsFor, Releases, WritesBlock, progress_of, slot_of}
+use Rattle.blockmap.specs.Getting.{GetsFor, WritesBlock, progress_of, slot_of}
 use Rattle.blockmap.specs.Lemmas.Bitmap.{lowest_clear_is_lowest}
 use Rattle.blockmap.specs.declared.balloc.AllocAt.{AllocAt}
 use Rattle.blockmap.specs.declared.balloc.AllocAt.TheVariants as alloc_at
@@ -27,16 +27,15 @@ use Rattle.blockmap.specs.declared.progress.Progress.{Progress}
 use Rattle.blockmap.specs.declared.progress.Progress.TheVariants as machine
 use Rattle.inodes.specs.declared.tasks.Place.TheVariants as place
 use Rattle.inodes.specs.declared.writei.Extent.{Extent}
-use Rattle.inodes.specs.declared.writei.WriteAt.{WriteAt}
 use Rattle.inodes.specs.declared.writei.WriteAt.TheVariants as write_at
-use Rattle.inodes.specs.Growing.{HasComeTo, IsMapping, IsOnWay, TakesIn, growth_of, next_block, taken_at, taken_on_way, taken_by}
+use Rattle.inodes.specs.Growing.{HasComeTo, IsOnWay, TakesIn, growth_of, taken_at, taken_on_way, taken_by}
 use Rattle.inodes.specs.Holding.{claims_of}
 use Rattle.inodes.specs.Store.{StoreState, IsStore, current_of}
 use Rattle.inodes.specs.Tasks.{TaskState, task}
 use Rattle.inodes.specs.Writei.{WriteState}
 use Rattle.inodes.specs.Writing.{HasLoggedWrite, IsWriting, alloc_left, block_of_alloc, block_of_write, block_on_way, blocks_behind, counted, hand_on_way, kept_by_write, kept_on_way, slot_of_alloc, used_by_write, used_on_way, way_left, writes_left, writes_left_at, at_hand, blocks_left}
 use Rattle.inodes.proofs.TruncSlots.{Slots, slots_as, slots_put, slots_used}
-use Rattle.inodes.proofs.WriteFiles.{takes_lowest, zeroes_taken}
+use Rattle.inodes.proofs.WriteFiles.{takes_lowest}
 use Rattle.inodes.proofs.WriteLogged.{adds_one, counts_on, logged_on}
 use Rattle.inodes.proofs.WriteMoves.{DoesSo, GoesOn, bytes, does_get, does_put, does_release, fits_still, grown, logs}
 use Rattle.inodes.proofs.Writing as of

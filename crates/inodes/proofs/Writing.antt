@@ -1,17 +1,15 @@
 -- What is true of a process that writes a file's bytes: what it holds, and that it may make its next step.
-use Rattle.std.proofs.Common.{◌≡◌, ◌≢◌, ℕ, ◌+◌, ◌-◌, ◌/◌, ◌<◌, ◌≤◌, true, List, length, refl, sym, ◌∙◌, ap, subst, arith, Option, Some, None}
+use Rattle.std.proofs.Common.{◌≡◌, ◌≢◌, ℕ, ◌<◌, ◌≤◌, List, length, refl, sym, ◌∙◌, ap, subst, arith, Some, None}
 use Rattle.std.specs.Prelude.{IsTrue, IsSome}
 use Rattle.blocks.specs.Disk.{Image}
 use Rattle.blocks.specs.declared.disk.Disk.{Ghosts}
 use Rattle.bcache.specs.Lemmas.Current.{length-current}
 use Rattle.model.specs.declared.types.image.File.{File}
 use Rattle.model.specs.declared.types.image.Form.TheVariants.{One}
-use Rattle.model.specs.declared.types.operations.Op.{Op}
 use Rattle.model.specs.Files.{Files, file_in}
 use Rattle.model.specs.Journal.{is_number}
 use Rattle.model.specs.Layout.{form_of, inode_block, inode_count_of, super_of}
 use Rattle.model.specs.Lemmas.Soundness.{facts_of}
-use Rattle.model.specs.Places.{address_in}
 use Rattle.loose.specs.GrowthLaws.{HasGrowthBlocks}
 use Rattle.loose.specs.Held.{Claims, FitsHeld, Growth, IsGrowing, grows}
 use Rattle.loose.specs.HeldLaws.{IsHeldIn}
@@ -30,7 +28,6 @@ use Rattle.blockmap.specs.declared.balloc.AllocAt.{AllocAt}
 use Rattle.blockmap.specs.declared.balloc.AllocAt.TheVariants as alloc_at
 use Rattle.blockmap.specs.declared.bmap_alloc.MapAt.{MapAt}
 use Rattle.blockmap.specs.declared.bmap_alloc.MapAt.TheVariants as map_at
-use Rattle.inodes.specs.declared.table.InMemory.{InMemory}
 use Rattle.inodes.specs.declared.tasks.Place.{Place}
 use Rattle.inodes.specs.declared.tasks.Place.TheVariants as place
 use Rattle.inodes.specs.declared.writei.WriteAt.{WriteAt}
@@ -41,10 +38,10 @@ use Rattle.inodes.specs.Holding.{bitmap_block, claims_of}
 use Rattle.inodes.specs.Looks.{AreLooking}
 use Rattle.inodes.specs.Places.{HasSlot, grip_of, grips_of}
 use Rattle.inodes.specs.Store.{StoreState, IsStore, HoldsForWriting, Stands, Agrees, current_of}
-use Rattle.inodes.specs.Table.{entry_at, is_of}
+use Rattle.inodes.specs.Table.{entry_at}
 use Rattle.inodes.specs.Tasks.{task}
 use Rattle.inodes.specs.Writei.{MayWrite, MayWriteAt, WriteState}
-use Rattle.inodes.specs.Writing.{IsWriting, block_of_alloc, block_of_write, block_on_way, counted, at_hand, kept_by_write, kept_on_way, slot_of_alloc, used_by_write, used_on_way}
+use Rattle.inodes.specs.Writing.{IsWriting, block_of_alloc, block_of_write, block_on_way, at_hand, kept_by_write, kept_on_way, slot_of_alloc, used_by_write, used_on_way}
 use Rattle.inodes.specs.Lemmas.Faults.{where_none}
 use Rattle.inodes.specs.Lemmas.Looks.{write_locks, writing_is}
 use Rattle.inodes.proofs.Gripping.{grip_is}

@@ -133,10 +133,9 @@ module _ {D N : Type 0} (disk : Ghosts D N) (p n j : ℕ) (op : Op) (o : Option 
       GoesOn disk p op step (place.Creating m) →
       SearchGoes step m.slot m step.answer × (step.after.table.inode_count ≡ n)
   search_goes s step m count leaves steps on =
-      let same : step.before.table.inode_count ≡ n = leaves.numbers ∙ count in
-      (
+      let same : step.before.table.inode_count ≡ n = leaves.numbers ∙ count in (
         subst (λ (k : ℕ). GoesFrom m.slot k p m step.before.volume.buffers step.answer
-        (task step.after.tasks p).place (before step) (now step)) same on.goes.0,
+            (task step.after.tasks p).place (before step) (now step)) same on.goes.0,
         steps.tasks.numbers ∙ same,
       )
 

@@ -35,7 +35,7 @@ use Rattle.inodes.specs.declared.itrunc.TruncAt.TheVariants as trunc_at
 use Rattle.inodes.specs.Itrunc.{FreesOne, TruncState, TruncSteps, last_inode_of, progress_among}
 use Rattle.inodes.specs.Iupdate.{UpdateState, Updates}
 use Rattle.inodes.specs.LockState.{LockState, place_of}
-use Rattle.inodes.specs.Looks.{CanLook, CanTake, LooksAt}
+use Rattle.inodes.specs.Looks.{CanTake, LooksAt}
 use Rattle.inodes.specs.Places.{is_over, owes_reply, is_unturned, block_at_place, block_of_trunc}
 use Rattle.inodes.specs.Readi.{ReadState, Works}
 use Rattle.inodes.specs.Store.{StoreState, CanBegin, Stands, current_of}

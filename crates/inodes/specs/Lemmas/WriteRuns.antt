@@ -152,7 +152,7 @@ module _ {D N : Type 0} (disk : Ghosts D N) (v : VolumeState D) (p : ℕ) (e : E
           inl (
             record { slot = i; got = at; takes = takes },
             λ b below.
-            ap (λ (c : ℕ). has_bit (block_at cur c) b) (sym takes.bitmap)
+                ap (λ (c : ℕ). has_bit (block_at cur c) b) (sym takes.bitmap)
                 ∙ none b (omega (arith, below, size)),
           )
       by_lowest (Some b) lowest step =
