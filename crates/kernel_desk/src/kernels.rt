@@ -36,7 +36,8 @@ fn call_open(alloc: Global, kernel: &mut Opened, words: &[&str]) -> anyhow::Resu
         return submit(alloc, kernel, pid, op);
     }
     match *words {
-        ["step", pid] => step(alloc, kernel, pid.parse()?),
+        ["step", pid] => step(alloc, kernel, pid.parse()?, 1),
+        ["step", pid, count] => step(alloc, kernel, pid.parse()?, count.parse()?),
         ["steps", pid] => steps(alloc, kernel, pid.parse()?),
         ["eight", pid] => eight(alloc, kernel, pid.parse()?),
         ["last", pid] => last(alloc, kernel, pid.parse()?),
@@ -55,7 +56,12 @@ fn operation(alloc: Global, words: &[&str]) -> anyhow::Result<Option<(u32, Op)>>
     let handed = match *words {
         ["submit", pid, "create", kind] => (pid.parse()?, Op::Create(kind.parse()?)),
         ["submit", pid, "write", inode, offset, count] => {
-            let bytes = zeros(alloc, count.parse()?)?;
+            let bytes = filled(alloc, count.parse()?, "00")?;
+            let op = Op::Write(inode.parse()?, offset.parse()?, bytes);
+            (pid.parse()?, op)
+        }
+        ["submit", pid, "fill", inode, offset, count, digits] => {
+            let bytes = filled(alloc, count.parse()?, digits)?;
             let op = Op::Write(inode.parse()?, offset.parse()?, bytes);
             (pid.parse()?, op)
         }
@@ -71,11 +77,12 @@ fn operation(alloc: Global, words: &[&str]) -> anyhow::Result<Option<(u32, Op)>>
     Ok(Some(handed))
 }
 
-// So many bytes, each 0.
-fn zeros(alloc: Global, count: u32) -> anyhow::Result<Content> {
+// So many bytes, each of which has these two digits.
+fn filled(alloc: Global, count: u32, digits: &str) -> anyhow::Result<Content> {
+    let byte = hex::decode(alloc, digits)?.first().copied().unwrap_or(0);
     let mut bytes = Vec::new(alloc);
     for _ in 0..count {
-        bytes.push(0)?;
+        bytes.push(byte)?;
     }
     Ok(Content::new(bytes))
 }
@@ -134,12 +141,24 @@ fn submit(alloc: Global, kernel: &mut Opened, pid: u32, op: Op) -> anyhow::Resul
     }
 }
 
-fn step(alloc: Global, kernel: &mut Opened, pid: u32) -> anyhow::Result<Option<String>> {
-    if pid as usize >= kernel.processes() {
-        return Ok(None);
+// So many steps, and what the last of them answers.
+fn step(
+    alloc: Global,
+    kernel: &mut Opened,
+    pid: u32,
+    count: u32,
+) -> anyhow::Result<Option<String>> {
+    let mut answer = None;
+    for _ in 0..count.min(2000) {
+        if pid as usize >= kernel.processes() {
+            return Ok(None);
+        }
+        answer = Some(kernel.step(pid));
     }
-    let answer = kernel.step(pid);
-    Ok(Some(format!(in alloc; "{answer:?}")?))
+    match answer {
+        Some(answer) => Ok(Some(format!(in alloc; "{answer:?}")?)),
+        None => Ok(None),
+    }
 }
 
 // Steps until one doesn't answer Moved.
