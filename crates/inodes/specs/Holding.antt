@@ -1,5 +1,5 @@
--- What tasks hold of a file's number behind their turn; and of those that give up its blocks, how far
--- each has come.
+-- What tasks hold of a file's number behind their turn; and of those that give up its blocks, how
+-- far each has come.
 use Rattle.std.specs.Prelude.{◌≡◌, ◌≢◌, ◌<◌, ℕ, ◌+◌, ◌-◌, ◌*◌, ◌/◌, ◌==◌, if◌then◌else◌, IsTrue, List, [], ◌∷◌, replicate, slice_index, Option, Some, None}
 use Rattle.blocks.specs.Disk.{Image}
 use Rattle.model.specs.declared.types.operations.Op.{Op}

@@ -1,5 +1,5 @@
--- The tasks that write a file's bytes, behind their turn: how far each has come, what it has got and
--- logged, and how much is left.
+-- The tasks that write a file's bytes, behind their turn: how far each has come, what it has got
+-- and logged, and how much is left.
 use Rattle.std.specs.Prelude.{◌≡◌, ◌≤◌, ℕ, ◌+◌, ◌-◌, ◌*◌, ◌/◌, ◌==◌, if◌then◌else◌, IsTrue, List, length, Option, Some, None}
 use Rattle.blocks.specs.Disk.{Image}
 use Rattle.model.specs.declared.types.image.Dinode.{Dinode}
@@ -143,8 +143,8 @@ blocks_left m (write_at.Mapping way) = blocks_behind m + 1
 blocks_left m (write_at.Block b slot) = blocks_behind m + 1
 blocks_left m (write_at.Updating u) = 0
 
--- It added a home for each block of the file that it wrote, four at most, and for the bitmap's block
--- and the block of addresses, and for the block at hand, where these are homes.
+-- It added a home for each block of the file that it wrote, four at most, and for the bitmap's
+-- block, the block of addresses and the block at hand, where these are homes.
 pub record HasLoggedWrite (l : LogState) (p : ℕ) (m : WriteState) : Type 0 where
   pub homes : ℕ
   pub used : used_by l p ≡ Some homes

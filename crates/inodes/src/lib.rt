@@ -8,8 +8,8 @@
 //! keeps its place, then its sleep lock, and then it reads the inode where nobody has yet. That is
 //! its turn. It keeps the lock until its finish, in which it gives up lock and reference.
 //!
-//! A write makes what its file lacks of blocks, writes its bytes block by block (`Writei`), and has its
-//! reply where its inode is written back. Until then the files have the old file.
+//! A write makes what its file lacks of blocks, writes its bytes block by block (`Writei`), and has
+//! its reply where its inode is written back. Until then the files have the old file.
 //!
 //! With 32 processes, of which each refers to one inode at most, the table's 50 places are always
 //! enough. A free inode is never kept in it. A reading gathers its bytes block by block (`Readi`),

@@ -15,9 +15,9 @@
 //! question for type and length, and a read, belong to none. An operation's entry comes into the
 //! journal with its turn, which is one step: the refusal, that in which a creation claims a number
 //! or finds that none is free, or that in which any other takes its inode. So the journal has the
-//! operations in the order in which they took effect. Next a creation ends in the log. It is answered then, or,
-//! where it was the last of its group, after the commit, which its process makes. The others go on
-//! behind their turn: a read gathers its bytes, which its entry is told last; a truncation or a
+//! operations in the order in which they took effect. Next a creation ends in the log. It is
+//! answered then, or, where it was the last of its group, after the commit, which its process makes.
+//! The others go on behind their turn: a read gathers its bytes, which its entry is told last; a truncation or a
 //! removal, whose entry has its reply, frees the blocks of its file one by one and writes the inode
 //! back. A write's reply is decided when its inode is written back: its entry is told it then, and
 //! it is given at the end of its operation. With its last step each gives its inode up. Then a look
