@@ -1,6 +1,7 @@
 //! Writes to files of an image in memory, by four processes in turn, and prints how many steps that
 //! took: for `bench/run`. The word is the number of writes, each of 1024 bytes.
 #![tactic(auto)]
+ghost use Rattle.std.specs.Prelude.{◌≤◌};
 
 use anyhow::bail;
 use blocks::MemDisk;
@@ -25,7 +26,7 @@ fn main(rt: HostRuntime) -> anyhow::Result<()> {
     for word in env::args(&rt)?.skip(1) {
         writes = word.as_str().parse()?;
     }
-    let mut kernel = opened(alloc)?;
+    let mut kernel = opened(alloc, PROCESSES)?;
     for pid in 0..PROCESSES {
         let _steps = perform(&mut kernel, pid, Op::Create(2))?;
     }
@@ -42,12 +43,14 @@ fn main(rt: HostRuntime) -> anyhow::Result<()> {
     Ok(())
 }
 
-// A kernel over a new image.
-fn opened(alloc: Global) -> anyhow::Result<InMemory> {
+// A kernel of so many processes over a new image.
+fn opened(alloc: Global, processes: u32) -> anyhow::Result<InMemory>
+    requires { processes ≤ 32 }
+{
     let mut disk = MemDisk::new(alloc, 200)?;
     mkfs(alloc, &mut disk, 200, 32)?;
-    let intake = QueueIntake::new(alloc, PROCESSES)?;
-    match Kernel::open(alloc, disk, intake, PlainHerald::new(), PROCESSES) {
+    let intake = QueueIntake::new(alloc, processes)?;
+    match Kernel::open(alloc, disk, intake, PlainHerald::new(), processes) {
         Ok(kernel) => Ok(kernel),
         Err((fault, _disk)) => Err(fault.into()),
     }
