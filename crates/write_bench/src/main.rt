@@ -1,6 +1,7 @@
 //! Writes to files of an image in memory, by four processes in turn, and prints how many steps that
 //! took: for `bench/run`. The word is the number of writes, each of 1024 bytes.
 #![tactic(auto)]
+
 ghost use Rattle.std.specs.Prelude.{◌≤◌};
 
 use anyhow::bail;
