@@ -21,7 +21,7 @@ use wal::{Get, Volume};
 /// and takes the lowest free number of the first block that has one.
 ///
 /// A look is two steps: one that gets the block, and one that claims a number in it or goes on.
-#[derive(Clone, Copy, Debug, PartialEq, Eq)]
+#[derive(Clone, Copy)]
 pub struct Ialloc {
     /// The type of the new file, from 1 to 3.
     kind: u16,

@@ -35,7 +35,7 @@ pub struct Player<D: Disk> {
 }
 
 /// What the turns came to.
-#[derive(Clone, Copy, Debug, PartialEq, Eq)]
+#[derive(Clone, Copy)]
 pub struct Outcome {
     /// The blocks written since the image was recovered.
     pub writes: u64,

@@ -15,7 +15,7 @@ use std::io::Write;
 use std::rt::Files;
 
 /// Why a command wasn't done.
-#[derive(Debug, Drop)]
+#[derive(Drop)]
 pub enum Failure {
     /// A layer refused.
     Refused(Refusal),
