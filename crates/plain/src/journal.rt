@@ -1,5 +1,5 @@
 // Runs of operations, and what of them is kept.
-ghost use Rattle.std.specs.Prelude.{◌≡◌, ◌==◌, ◌&&◌, nat_le, is_some, IfOk, OnErr, OnOk};
+ghost use Rattle.std.specs.Prelude.{◌≡◌, ◌&&◌, nat_le, is_some, IfOk, OnErr, OnOk};
 ghost use Rattle.std.specs.Bool.{OnFalse};
 ghost use Rattle.model.specs.Operations.{where_true};
 ghost use Rattle.model.specs.Journal.{after_answer, answered, is_number, is_at_once, is_changing, is_making, kept, replay};
@@ -51,13 +51,6 @@ pub fn is_making(i: u32, reply: &Option<Reply>) -> bool
     ensures { result ≡ is_making i reply.now }
 {
     matches!(reply, Some(Reply::Made(made)) if *made == i)
-}
-
-/// Whether an entry is of this process.
-pub fn is_own(pid: u32, entry: &Entry) -> bool
-    ensures { result ≡ (entry.now.pid == pid) }
-{
-    entry.pid == pid
 }
 
 /// Whether an entry has a reply.
