@@ -88,7 +88,6 @@ impl Ialloc {
         }
     }
 
-    // Gets the block.
     fn get<D: Disk>(&mut self, volume: &mut Volume<D>, pid: u32) -> Progress<Option<u32>>
         requires fault { volume.old.fault ≡ None }
         requires ready { MayStep D.image volume.old pid self.old }
@@ -186,7 +185,6 @@ fn lowest_free(bytes: &Block, inode_count: u32, block: u32) -> Option<u32>
     (first..first + 16).find(|i| is_free(bytes, *i, inode_count))
 }
 
-// The inode of a new file.
 fn new_inode(kind: u16) -> Dinode
     ensures { result ≡ new_inode kind }
 {

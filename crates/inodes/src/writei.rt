@@ -168,7 +168,6 @@ impl Writei {
         }
     }
 
-    // Gets a block.
     fn get<D: Disk>(&mut self, volume: &mut Volume<D>, pid: u32, block: u32) -> Progress<()>
         requires fault { volume.old.fault ≡ None }
         requires ready { MayWrite D.image volume.old pid self.old }

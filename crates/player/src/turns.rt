@@ -171,7 +171,6 @@ impl<D: Disk + Drop> Player<D> {
         }
     }
 
-    // Makes a step of a process.
     fn step(&mut self, pid: u32) -> Step
         requires { pid < length self.old.kernel.world.processes }
         ensures makes { MakesPlainStep ⟦<FaultyDisk<D> as Disk>⟧
