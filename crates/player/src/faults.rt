@@ -18,7 +18,7 @@ use crate::told::{Fault, Told};
 use blocks::{DiskFault, FileFault, NoMemory};
 use layout::{CheckFault, MkfsFault};
 use scripts::{ScheduleFault, ScriptFault};
-use std::alloc::{AllocError, AllocFailed};
+use std::alloc::AllocError;
 use std::io;
 use std::io::ErrorKind;
 use thiserror::Error;
@@ -97,16 +97,6 @@ impl From<AllocError> for KernelFault {
     ghost from_gives = { λ _ e. e ≡ fault.NoMemory };
 
     fn from(_refused: AllocError) -> KernelFault {
-        KernelFault::NoMemory
-    }
-}
-
-impl<T: Drop> From<AllocFailed<T>> for KernelFault {
-    ghost use Rattle.player.specs.declared.faults.KernelFault.TheVariants as fault;
-
-    ghost from_gives = { λ _ e. e ≡ fault.NoMemory };
-
-    fn from(_refused: AllocFailed<T>) -> KernelFault {
         KernelFault::NoMemory
     }
 }
