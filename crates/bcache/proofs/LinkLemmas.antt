@@ -294,9 +294,6 @@ before_placed l k is lt =
     ap (λ (m : Links). get_or m.before (get_or r k 40) 0) is.same ∙ table_at r (get_or r k 40) (placed_low r k back lt)
     ∙ next_placed r k (slots_of_order r back) (omega (arith, lt, back.all))
 
-pub first_is_placed : (l : Links) → IsLinks l → l.first ≡ get_or (order_of l) 0 40
-first_is_placed l is = ap (λ (m : Links). m.first) is.same ∙ first_placed (order_of l)
-
 pub last_is_placed : (l : Links) → IsLinks l → l.last ≡ get_or (reverse (order_of l)) 0 40
 last_is_placed l is = ap (λ (m : Links). m.last) is.same ∙ first_placed (reverse (order_of l))
 

@@ -1,6 +1,6 @@
 -- The recency order: which slots stand in it, and its victim.
 use Rattle.std.proofs.Common.{◌≡◌, ◌≢◌, inl, inr, ℕ, zero, suc, ◌+◌, ◌<◌, ◌≤◌, ◌==◌, not, Bool, true, false, cond, eqb, List, [], ◌∷◌, ◌++◌, length, map, get_or, drop, refl, sym, ◌∙◌, ap, subst, zero-add, arith, Option, Some, None}
-use Rattle.std.specs.Prelude.{position, reverse, IfSome}
+use Rattle.std.specs.Prelude.{position, reverse}
 use Rattle.std.specs.List.{filter}
 use Rattle.std.proofs.lemmas.Bool.{cases_eq, cases_Bool, eq-eqb, ne_eqb, both_ways}
 use Rattle.std.proofs.Math.Seq.{drop-cons}
@@ -10,7 +10,7 @@ use Rattle.bcache.specs.declared.types.Buffer.{Buffer}
 use Rattle.bcache.specs.Current.{references_of}
 use Rattle.bcache.specs.Order.{IsOrder, victim_in, later_or}
 use Rattle.model.specs.Lemmas.Counts.{count_of-get_or}
-use Rattle.bcache.specs.Lemmas.Order.{none_passes, victim_below}
+use Rattle.bcache.specs.Lemmas.Order.{none_passes}
 
 -- a number that stands nowhere is at no place
 pub absent_at : (i k d : ℕ) (o : List ℕ) → k < length o → count_of i o ≡ 0 → get_or o k d ≢ i
@@ -100,7 +100,3 @@ victim_last references (s ∷ order) slot e = by (victim_last references order s
     by rest (Some found) was free is = let f = rest (was ∙ is) in record { place = suc f.place; at = f.at; behind = later f }
     by rest None was true is = record { place = 0; at = cc is; behind = first was }
     by rest None was false is = absurd (cc is)
-
-pub victim_within : (references order : List ℕ) (n : ℕ) → ((k : ℕ) → k < length order → get_or order k 0 < n) → (v : Option ℕ) → v ≡ victim_in references order → IfSome v (λ slot. slot < n)
-victim_within references order n below None e = tt
-victim_within references order n below (Some slot) e = victim_below references order slot n below (sym e)

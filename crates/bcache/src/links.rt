@@ -9,7 +9,7 @@ const NONE: u8 = 40;
 /// The recency order of the 40 slots, as the links of each slot to its neighbours. 40 stands for no
 /// slot. In xv6 each buffer has a pointer to the one before it and to the one after it (the xv6
 /// book, the chapter "File system": "Buffer cache layer").
-#[derive(Clone, Copy, Debug, PartialEq, Eq)]
+#[derive(Clone, Copy)]
 pub struct Links {
     /// For each slot the one before it, which is nearer to the slot released last; 40 for the first.
     pub before: [u8; 40],

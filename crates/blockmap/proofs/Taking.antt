@@ -17,7 +17,7 @@ use Rattle.model.specs.Lemmas.Codecs.{overwritten_zeroes, with_bit_written}
 use Rattle.wal.specs.Joint.{seen}
 use Rattle.wal.specs.Volume.{VolumeState, Holds}
 use Rattle.blockmap.specs.Balloc.{AllocState, MayAlloc, MayAllocAt, TakesLowest, Zeroes, byte_with, lowest_clear, lowest_in, with_taken}
-use Rattle.blockmap.specs.Getting.{Puts, Releases, WritesBlock}
+use Rattle.blockmap.specs.Getting.{Puts, WritesBlock}
 use Rattle.blockmap.specs.Lemmas.Bitmap.{lowest_clear_found, not_false, not_true}
 use Rattle.blockmap.specs.Lemmas.Putting.{writes_put}
 use Rattle.blockmap.specs.declared.balloc.AllocAt.{AllocAt}
@@ -89,15 +89,6 @@ module _ (bits : List ℕ) (size at : ℕ) (small : (i : ℕ) → get_or bits i 
 -- the bitmap's block is held
 held_bitmap : {D N : Type 0} (disk : Ghosts D N) (v : VolumeState D) (p i : ℕ) (m : AllocState) → MayAlloc disk.image v p m → m.at ≡ alloc_at.Looking (Some i) → Holds (seen (disk.image v.device) v.buffers) v.buffers p m.bitmap i
 held_bitmap disk v p i m may at = subst (λ (a : AllocAt). MayAllocAt disk.image v p m a) at may.at
-
--- where no bit is clear the block is released
-pub takes_none : {D N : Type 0} (disk : Ghosts D N) (v : VolumeState D) (p i : ℕ) (m : AllocState) (bits : List ℕ) (w : VolumeState D) →
-    MayAlloc disk.image v p m → m.at ≡ alloc_at.Looking (Some i) → bits ≡ (buffer v.buffers i).bytes → None ≡ lowest_clear bits m.size → Releases disk.image v p i w →
-    TakesLowest disk (lowest_in (seen (disk.image v.device) v.buffers) m) v p i m (progress.Over None) m w
-takes_none disk v p i m bits w may at are none releases =
-    let held = held_bitmap disk v p i m may at in
-    let found = none ∙ ap (λ (l : List ℕ). lowest_clear l m.size) (are ∙ held.bytes) in
-    subst (λ (o : Option ℕ). TakesLowest disk o v p i m (progress.Over None) m w) found (refl, refl, releases)
 
 -- the lowest clear bit is set
 pub takes_some : {D N : Type 0} (disk : Ghosts D N) (v : VolumeState D) (p i b : ℕ) (m : AllocState) (bits : List ℕ) (w : VolumeState D) →

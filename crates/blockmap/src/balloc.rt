@@ -12,7 +12,7 @@ use std::marker::Model;
 use wal::Volume;
 
 /// Where the taking of a block stands.
-#[derive(Clone, Copy, Debug, PartialEq, Eq)]
+#[derive(Clone, Copy)]
 pub enum AllocAt {
     /// The bitmap's block is got and looked at, in that slot once it was got.
     Looking(Option<u32>),
@@ -28,7 +28,7 @@ pub enum AllocAt {
 /// The steps in which a block is taken (`balloc`; the xv6 book, the chapter "File system": "Code:
 /// Block allocator"): one gets the bitmap's block, the next one sets the lowest clear bit in it,
 /// and where there was one, one gets the block of that bit and the last one zeroes it.
-#[derive(Clone, Copy, Debug, PartialEq, Eq)]
+#[derive(Clone, Copy)]
 pub struct Balloc {
     /// The bitmap's block.
     bitmap: u32,

@@ -11,7 +11,7 @@ use wal::Volume;
 
 /// The steps in which a block is freed (`bfree`; the xv6 book, the chapter "File system": "Code:
 /// Block allocator"): one gets the bitmap's block, the other one clears the block's bit in it.
-#[derive(Clone, Copy, Debug, PartialEq, Eq)]
+#[derive(Clone, Copy)]
 pub struct Bfree {
     /// The bitmap's block.
     bitmap: u32,

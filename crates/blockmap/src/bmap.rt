@@ -11,7 +11,7 @@ use wal::Volume;
 /// The steps in which an entry of an inode's block of addresses is read (`bmap`; the xv6 book, the
 /// chapter "File system": "Code: Inode content"): one gets the block, the other one looks at the
 /// entry and releases the block.
-#[derive(Clone, Copy, Debug, PartialEq, Eq)]
+#[derive(Clone, Copy)]
 pub struct Bmap {
     /// The block of addresses.
     indirect: u32,

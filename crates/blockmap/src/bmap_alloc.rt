@@ -14,7 +14,7 @@ use std::marker::Model;
 use wal::Volume;
 
 /// Where a writer's way to a block of a file stands.
-#[derive(Clone, Copy, Debug, PartialEq, Eq)]
+#[derive(Clone, Copy)]
 pub enum MapAt {
     /// A block is taken, which the inode itself will name.
     Direct(Balloc),
@@ -42,7 +42,7 @@ pub enum MapAt {
 /// system": "Code: Inode content"). What isn't there is taken: the block itself, and the block of
 /// addresses. Where an entry is missing, the block of addresses is kept while a block is taken, and
 /// one step more sets the entry and releases it.
-#[derive(Clone, Copy, Debug, PartialEq, Eq)]
+#[derive(Clone, Copy)]
 pub struct BmapAlloc {
     /// The block of the file, from 0 to 267.
     k: u32,

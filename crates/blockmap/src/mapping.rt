@@ -11,7 +11,7 @@ use crate::{Bmap, BmapAlloc};
 use model::types::Dinode;
 
 /// Where an inode's addresses lead from one of its file's blocks.
-#[derive(Clone, Copy, Debug, PartialEq, Eq)]
+#[derive(Clone, Copy)]
 pub enum Mapped {
     /// To this block; None where the file has none there.
     At(Option<u32>),
@@ -37,7 +37,7 @@ pub fn map(inode: &Dinode, k: u32) -> Mapped
 }
 
 /// Where a writer finds a block of a file.
-#[derive(Clone, Copy, Debug, PartialEq, Eq)]
+#[derive(Clone, Copy)]
 pub enum MappedForWriting {
     /// It is this block, which the inode itself names.
     At(u32),

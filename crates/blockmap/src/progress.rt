@@ -3,7 +3,7 @@ use blocks::DiskFault;
 use model::types::Why;
 
 /// What a step of a machine answers.
-#[derive(Clone, Copy, Debug, PartialEq, Eq)]
+#[derive(Clone, Copy)]
 pub enum Progress<T> {
     /// The step was made, and there are more.
     Moved,

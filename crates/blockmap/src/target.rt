@@ -9,7 +9,7 @@ use model::types::Dinode;
 use wal::Volume;
 
 /// What a machine that works on a block of a file gets or uses next.
-#[derive(Clone, Copy, Debug, PartialEq, Eq)]
+#[derive(Clone, Copy)]
 pub enum Target {
     /// An entry of the inode's block of addresses, which names the block.
     Entry(Bmap),

@@ -6,7 +6,7 @@ ghost use Rattle.blocks.specs.Trap.{KeepsCounts, is_due, is_write, left_after};
 use crate::{Block, Disk, DiskFault};
 
 /// Which calls are counted, and what the one that fails leaves.
-#[derive(Clone, Copy, Debug, PartialEq, Eq)]
+#[derive(Clone, Copy)]
 pub enum Kind {
     /// Reads. The one that fails reads nothing.
     Read,
@@ -29,7 +29,7 @@ impl Kind {
 }
 
 /// Which call of a `FaultyDisk` fails, and what its counts were when it was made.
-#[derive(Clone, Copy, Debug, PartialEq, Eq)]
+#[derive(Clone, Copy)]
 pub struct Trap {
     /// Which calls are counted.
     pub kind: Kind,
@@ -117,7 +117,7 @@ impl<D: Disk> FaultyDisk<D> {
         ensures fault { IfErr result (λ fault. fault.0 ≡ block) }
         ensures same { SameCounts self.old self.new }
     {
-        if is_due && self.trap.kind == Kind::WriteOld {
+        if is_due && matches!(self.trap.kind, Kind::WriteOld) {
             return Err(DiskFault(block));
         }
         self.inner.write(block, from)

@@ -56,7 +56,6 @@ impl MemDisk {
     }
 }
 
-// This many blocks of zeroes.
 fn zeroed_blocks(alloc: Global, size: u32) -> Result<Vec<Block>, NoMemory>
     ensures zeroes { IfOk result (λ blocks. blocks.items ≡ replicate size zero_block) }
     ensures blocks { IfOk result (λ blocks. IsImage blocks.items) }

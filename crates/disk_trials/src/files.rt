@@ -9,7 +9,7 @@ use std::rt::Files;
 use std::test::Fail;
 use std::{env, fs, process};
 
-#[derive(Clone, Copy, Debug, PartialEq)]
+#[derive(Clone, Copy, PartialEq)]
 enum Call {
     Open,
     Metadata,

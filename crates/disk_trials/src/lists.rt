@@ -31,7 +31,7 @@ fn is_released(cache: &mut Cache, slot: u32) -> bool
 }
 
 // A buffer without its bytes.
-#[derive(Clone, Copy, Debug, PartialEq, Eq)]
+#[derive(Clone, Copy)]
 struct Plain {
     block: Option<u32>,
     valid: bool,

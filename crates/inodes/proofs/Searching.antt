@@ -8,7 +8,7 @@ use Rattle.model.specs.Lemmas.Log.{both_of}
 use Rattle.model.specs.Lemmas.Soundness.{facts_of}
 use Rattle.bcache.specs.Buffers.{Buffers}
 use Rattle.bcache.specs.Lemmas.Current.{length-current}
-use Rattle.wal.specs.Held.{HasLock, LeavesLocks, GetsLock, GivesUpLock}
+use Rattle.wal.specs.Held.{HasLock, GetsLock, GivesUpLock}
 use Rattle.wal.specs.Joint.{Joint, seen}
 use Rattle.wal.specs.Machine.{LogState, used_by}
 use Rattle.wal.specs.Lemmas.Held.{held_is}
@@ -23,14 +23,6 @@ use Rattle.inodes.specs.Places.{HasSlot}
 use Rattle.inodes.specs.Store.{IsSearching, HoldsAt, Stands, Agrees}
 use Rattle.inodes.proofs.Agreeing.{StaysForOthers, TaskIsNow, stays_same}
 use Rattle.inodes.proofs.Getting.{stays_got}
-
--- a call that leaves the locks, and then one that gives a lock up
-pub gives_up_then : (c d e : Buffers) (p i : ℕ) → LeavesLocks c d → GivesUpLock d e p i → GivesUpLock c e p i
-gives_up_then c d e p i first second = record {
-  others = λ q b j apart has. second.others q b j apart (first.held q b j has);
-  none = λ q b j has. first.none q b j (second.none q b j has);
-  free = second.free;
-}
 
 module _ (c d : Buffers) (l : LogState) (n p : ℕ) (ts : List TaskState) (m : SearchState) (agrees : Agrees c l n ts) (inside : p < length ts) (stood : (task ts p).place ≡ place.Creating m) where
   pub search : IsSearching c l n p (task ts p).op m

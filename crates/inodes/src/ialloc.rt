@@ -21,7 +21,7 @@ use wal::{Get, Volume};
 /// and takes the lowest free number of the first block that has one.
 ///
 /// A look is two steps: one that gets the block, and one that claims a number in it or goes on.
-#[derive(Clone, Copy, Debug, PartialEq, Eq)]
+#[derive(Clone, Copy)]
 pub struct Ialloc {
     /// The type of the new file, from 1 to 3.
     kind: u16,
@@ -88,7 +88,6 @@ impl Ialloc {
         }
     }
 
-    // Gets the block.
     fn get<D: Disk>(&mut self, volume: &mut Volume<D>, pid: u32) -> Progress<Option<u32>>
         requires fault { volume.old.fault ≡ None }
         requires ready { MayStep D.image volume.old pid self.old }
@@ -186,7 +185,6 @@ fn lowest_free(bytes: &Block, inode_count: u32, block: u32) -> Option<u32>
     (first..first + 16).find(|i| is_free(bytes, *i, inode_count))
 }
 
-// The inode of a new file.
 fn new_inode(kind: u16) -> Dinode
     ensures { result ≡ new_inode kind }
 {

@@ -17,7 +17,7 @@ use std::marker::Model;
 use wal::Volume;
 
 /// Where a process stands that takes an inode.
-#[derive(Clone, Copy, Debug, PartialEq, Eq)]
+#[derive(Clone, Copy)]
 pub enum LockAt {
     /// It takes a reference next.
     Reference,
@@ -31,7 +31,7 @@ pub enum LockAt {
 /// system": "Code: Inodes"): it takes a reference in the table and then the inode's sleep lock, and
 /// reads the inode where the table hasn't it yet, in two steps. The last step is the operation's
 /// turn.
-#[derive(Clone, Copy, Debug, PartialEq, Eq)]
+#[derive(Clone, Copy)]
 pub struct Ilock {
     number: u32,
     at: LockAt,

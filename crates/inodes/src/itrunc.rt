@@ -16,7 +16,7 @@ use std::marker::Model;
 use wal::Volume;
 
 /// Where the freeing of a file's blocks stands.
-#[derive(Clone, Copy, Debug, PartialEq, Eq)]
+#[derive(Clone, Copy)]
 pub enum TruncAt {
     /// A data block is freed, which the inode's address at that place names, from 0 to 11.
     Direct { place: usize, free: Bfree },
@@ -36,7 +36,7 @@ pub enum TruncAt {
 /// book, the chapter "File system": "Code: Inodes"): the blocks of the inode's own addresses first,
 /// then those that the block of addresses names, then that block, each in two steps. An address that
 /// isn't there takes no step. Where the file is removed, the inode that is written is a free one.
-#[derive(Clone, Copy, Debug, PartialEq, Eq)]
+#[derive(Clone, Copy)]
 pub struct Itrunc {
     /// The inode's number.
     number: u32,

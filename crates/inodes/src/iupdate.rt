@@ -12,7 +12,7 @@ use wal::Volume;
 
 /// The steps in which an inode is written back (`iupdate`; the xv6 book, the chapter "File system":
 /// "Code: Inodes"): one gets the block that holds it, the other one writes it there.
-#[derive(Clone, Copy, Debug, PartialEq, Eq)]
+#[derive(Clone, Copy)]
 pub struct Iupdate {
     /// The inode's number.
     number: u32,

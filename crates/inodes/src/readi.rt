@@ -15,7 +15,7 @@ use wal::Volume;
 /// The steps in which bytes of a file are read (`readi`; the xv6 book, the chapter "File system":
 /// "Code: Inode content"), whose inode is known and locked: for each of its blocks, those that lead
 /// to it, one that gets it, and one that gathers its bytes and releases it.
-#[derive(Clone, Copy, Debug, PartialEq, Eq)]
+#[derive(Clone, Copy)]
 pub struct Readi {
     inode: Dinode,
     /// The place of the next byte in the file.

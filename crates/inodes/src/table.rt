@@ -10,7 +10,7 @@ use std::marker::Model;
 const PLACES: usize = 50;
 
 /// An inode in memory, to which some process refers (xv6's `struct inode`).
-#[derive(Clone, Copy, Debug, PartialEq, Eq)]
+#[derive(Clone, Copy)]
 pub struct InMemory {
     /// Its number.
     pub number: u32,

@@ -12,7 +12,7 @@ use std::marker::Model;
 use std::snapshot::Snapshot;
 
 /// Where a process's task stands.
-#[derive(Clone, Copy, Debug, PartialEq, Eq)]
+#[derive(Clone, Copy)]
 pub enum Place {
     /// It has none, or it is over.
     Nowhere,

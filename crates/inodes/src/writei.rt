@@ -12,7 +12,7 @@ use std::marker::Model;
 use wal::Volume;
 
 /// Where the writing of a file's bytes stands.
-#[derive(Clone, Copy, Debug, PartialEq, Eq)]
+#[derive(Clone, Copy)]
 pub enum WriteAt {
     /// These steps lead to the block of the next bytes, and make what isn't there.
     Mapping(BmapAlloc),
@@ -28,7 +28,7 @@ pub enum WriteAt {
 }
 
 /// The part of an image in which blocks are taken.
-#[derive(Clone, Copy, Debug, PartialEq, Eq)]
+#[derive(Clone, Copy)]
 pub struct Extent {
     /// The bitmap's block.
     pub bitmap: u32,
@@ -40,7 +40,7 @@ pub struct Extent {
 /// xv6 book, the chapter "File system": "Code: Inode content"): for each block, those that lead to
 /// it, one that gets it, and one that writes its bytes and releases it. Where no block is left the
 /// writing ends early. The inode is written back always, also for no bytes.
-#[derive(Clone, Copy, Debug, PartialEq, Eq)]
+#[derive(Clone, Copy)]
 pub struct Writei {
     /// The inode's number.
     number: u32,
@@ -168,7 +168,6 @@ impl Writei {
         }
     }
 
-    // Gets a block.
     fn get<D: Disk>(&mut self, volume: &mut Volume<D>, pid: u32, block: u32) -> Progress<()>
         requires fault { volume.old.fault ≡ None }
         requires ready { MayWrite D.image volume.old pid self.old }

@@ -1,5 +1,5 @@
 -- Each process has its task, also after an event.
-use Rattle.std.proofs.Common.{◌≡◌, ◌≢◌, ℕ, ◌<◌, Bool, true, List, length, length-set, set, refl, sym, ◌∙◌, ap, subst, arith, ⊎_elim, Option, Some}
+use Rattle.std.proofs.Common.{◌≡◌, ◌≢◌, ℕ, ◌<◌, true, List, length, length-set, set, refl, sym, ◌∙◌, ap, subst, arith, ⊎_elim, Option, Some}
 use Rattle.std.proofs.lemmas.Bool.{cases_eq}
 use Rattle.std.proofs.lemmas.List.{get_or-set_same}
 use Rattle.model.specs.Gathered.{GatheredBytes}
@@ -68,7 +68,3 @@ pub task_begun : {D : Type 0} (s : StoreState D) (es : List Entry) (p group : �
     → IsPaired es (task (set s.tasks p (record { op = Some op; place = a; gathered = bytes })) p) (at.Before group op) room
 task_begun s es p group op a bytes room lt unturned its =
     subst (λ (t : TaskState). IsPaired es t (at.Before group op) room) (sym (get_or-set_same s.tasks p (record { op = Some op; place = a; gathered = bytes }) no_task lt)) (record { stands = (refl, unturned); room_is = λ busy. its })
-
--- a shutdown is nobody's
-pub paired_shut : {D : Type 0} (s : StoreState D) (w : World) (b : Bool) → ArePaired s w → ArePaired s (record w { is_shut = b })
-paired_shut s w b had = record { many = had.many; some = had.some; few = had.few; stand = had.stand }

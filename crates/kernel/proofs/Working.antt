@@ -21,7 +21,7 @@ use Rattle.wal.specs.Volume.{faults_after}
 use Rattle.inodes.specs.Lemmas.Faults.{where_none}
 use Rattle.inodes.specs.Lemmas.Looks.{late_is}
 use Rattle.inodes.specs.Lemmas.StepEnds.{DecisionEnds, GoesOn, GoesOnTurned, StepEnds, TurnEnds, ends_of}
-use Rattle.inodes.specs.Looks.{AreLooking, CanLook, IsLate}
+use Rattle.inodes.specs.Looks.{AreLooking, IsLate}
 use Rattle.inodes.specs.Places.{asked, is_over, owes_reply, is_unturned}
 use Rattle.inodes.specs.Steps.{Steps}
 use Rattle.inodes.specs.Store.{StoreState, IsStore, CanBegin, current_of}
@@ -89,14 +89,6 @@ changes n (Read i off m) can = absurd can
 changes n (Trunc i) can = (can, refl)
 changes n (Remove i) can = (can, refl)
 changes n (Stat i) can = absurd can
-
-pub looks_only : (n k : ℕ) (op : Op) → CanLook n op → is_changing k op ≡ false
-looks_only n k (Create kind) can = absurd can
-looks_only n k (Write i off bytes) can = absurd can
-looks_only n k (Read i off m) can = refl
-looks_only n k (Trunc i) can = absurd can
-looks_only n k (Remove i) can = absurd can
-looks_only n k (Stat i) can = refl
 
 pub reply_there : (o : Option Reply) → is_none o ≡ false → (r : Reply) × (o ≡ Some r)
 reply_there None is = absurd (false≢true (sym is))

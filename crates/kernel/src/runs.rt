@@ -34,7 +34,6 @@ pub fn run<D: Disk, I: Intake, H: Herald>(kernel: &mut Kernel<D, I, H>, turns: &
 }
 
 impl<D: Disk, I: Intake, H: Herald> Kernel<D, I, H> {
-    // Makes one turn.
     fn make(&mut self, turn: Turn)
         requires { IsTrue (is_turn_of (length self.old.world.processes) turn) }
         ensures turn { Makes D.Disk I.Intake H.Herald turn self.old self.new }

@@ -23,7 +23,7 @@ pub enum Step {
 }
 
 /// One item of a schedule.
-#[derive(Clone, Copy, Debug, PartialEq, Eq)]
+#[derive(Clone, Copy)]
 pub enum Turn {
     /// A step of the process of this number.
     Proc(u32),
@@ -32,7 +32,7 @@ pub enum Turn {
 }
 
 /// Why a kernel can't be opened.
-#[derive(Clone, Copy, Debug, PartialEq, Eq, Error)]
+#[derive(Clone, Copy, Debug, Error)]
 pub enum OpenFault {
     /// The image has this fault, or could not be checked.
     #[error("the image can't be used: {0}")]

@@ -13,7 +13,7 @@ use model::types::{Op, Reply};
 const TRANSFER_LIMIT: u32 = 3072;
 
 // What waits for a process.
-#[derive(Clone, Copy, Debug, PartialEq, Eq)]
+#[derive(Clone, Copy)]
 pub enum Waiting {
     // What changes files, in a group of the log: a creation of a file of a type that there is, a
     // write, or an operation that frees a file's blocks.

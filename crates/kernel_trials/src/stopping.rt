@@ -16,7 +16,6 @@ pub type Stopped = Kernel<FaultyDisk<MemDisk>, QueueIntake, PlainHerald>;
 /// The inode numbers of each image here, number 0 included.
 pub const INODE_COUNT: u32 = 64;
 
-// All blocks of a disk.
 fn blocks_of(alloc: Global, disk: &mut MemDisk) -> Result<Vec<Block>, Fail> {
     let mut blocks = Vec::new(alloc);
     let size = disk.size();

@@ -38,7 +38,6 @@ fn play(rt: &impl Abort, kernel: &mut Stopped) {
     }
 }
 
-// No files.
 fn none(alloc: Global) -> Result<Files, Fail> {
     let mut files = Vec::new(alloc);
     for _number in 0..INODE_COUNT {

@@ -14,7 +14,6 @@ use crate::new_image::NewImage;
 use blocks::Disk;
 use std::alloc::Global;
 
-// Writes a block.
 fn write_block<D: Disk>(disk: &mut D, image: &NewImage, b: u32) -> Result<(), MkfsFault>
     requires { b < length (D.image disk.old) }
     ensures writes { WritesOne D.Disk b

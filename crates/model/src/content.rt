@@ -53,11 +53,4 @@ impl Content {
     {
         self.bytes.is_empty()
     }
-
-    /// Gives the bytes back; no memory is taken.
-    pub fn into_vec(self) -> Vec<u8>
-        ensures { result.items ≡ self }
-    {
-        self.bytes
-    }
 }

@@ -7,7 +7,7 @@ use std::alloc::Global;
 use std::marker::Model;
 
 /// Bytes that are gathered piece by piece, in room that was taken before.
-#[derive(Debug, Drop)]
+#[derive(Drop)]
 pub struct Gathered {
     bytes: Vec<u8>,
     room: usize,

@@ -1,12 +1,12 @@
 -- The blocks that an inode names, step by step.
-use Rattle.std.proofs.Common.{◌≡◌, ◌≢◌, ℕ, zero, suc, ◌+◌, ◌-◌, ◌*◌, ◌<◌, ◌≤◌, List, [], ◌∷◌, ◌++◌, length, get_or, drop, refl, sym, ap, ◌∙◌, arith}
+use Rattle.std.proofs.Common.{◌≡◌, ◌≢◌, ℕ, zero, suc, ◌+◌, ◌-◌, ◌*◌, ◌≤◌, List, [], ◌∷◌, ◌++◌, length, drop, refl, sym, ap, ◌∙◌, arith}
 use Rattle.std.specs.List.{flat_map}
 use Rattle.std.proofs.lemmas.Bool.{ne_eqb}
 use Rattle.std.proofs.Math.Numerals.{sub-one}
-use Rattle.std.proofs.lemmas.List.{at_drop_more, at_drop_all, append_assoc, drop_more}
+use Rattle.std.proofs.lemmas.List.{at_drop_more, at_drop_all, append_assoc}
 use Rattle.blocks.specs.Disk.{Image, block_at}
 use Rattle.model.specs.Fields.{u32_at, words_of}
-use Rattle.model.specs.Names.{names_under, names_along}
+use Rattle.model.specs.Names.{names_under}
 use Rattle.model.specs.Lemmas.Words.{word_at, word_below, four_times_words}
 
 -- the blocks that the addresses of a block name, from the k-th on
@@ -53,17 +53,3 @@ named_step x depth bytes k word names behind taken new total h hword hbehind hta
     rw (hnew, htaken, hbehind, hword)
     (append_assoc names (names_under x depth (u32_at bytes (4 * k))) (named_from x depth bytes (k + 1))
     ∙ ap (λ r. names ++ r) (sym (named_more x depth bytes k h)) ∙ inv)
-
--- one turn of the loop over addresses
-pub named_along : (x : Image) (depths addresses : List ℕ) (k : ℕ) (names under new total : List ℕ) →
-    k < length depths → k < length addresses → under ≡ names_under x (get_or depths k 0) (get_or addresses k 0) → new ≡ names ++ under →
-    names ++ names_along x (drop k depths) (drop k addresses) ≡ total →
-    new ++ names_along x (drop (k + 1) depths) (drop (k + 1) addresses) ≡ total
-named_along x depths addresses k names under new total hd ha eu en inv =
-    let d = drop_more depths k 0 hd in
-    let a = drop_more addresses k 0 ha in
-    let whole : names_along x (drop k depths) (drop k addresses)
-    ≡ names_under x (get_or depths k 0) (get_or addresses k 0) ++ names_along x (drop (k + 1) depths) (drop (k + 1) addresses)
-    = rw (d, a) refl in
-    rw (en, eu) (append_assoc names (names_under x (get_or depths k 0) (get_or addresses k 0)) (names_along x (drop (k + 1) depths) (drop (k + 1) addresses))
-    ∙ ap (λ r. names ++ r) (sym whole) ∙ inv)

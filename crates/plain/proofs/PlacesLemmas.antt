@@ -37,18 +37,6 @@ behind_all x size depth first bytes k h =
     let r = four_times_words bytes in
     at_drop_all (pointers_behind (λ f a. pointers_under x size depth f a) first (reach depth)) (words_of bytes) k (omega arith)
 
--- an address of data
-pub under_data : (x : Image) (size depth first address : ℕ) → depth ≡ 0 →
-    pointers_under x size depth first address ≡ pointer_of size first address ∷ []
-under_data x size zero first address e = refl
-under_data x size (suc depth) first address e = absurd (omega arith)
-
--- no address
-pub under_none : (x : Image) (size depth first address : ℕ) → address ≡ 0 →
-    pointers_under x size depth first address ≡ pointer_of size first address ∷ []
-under_none x size zero first address e = refl
-under_none x size (suc depth) first address e = rw e refl
-
 -- an address of a block of addresses
 pub under_block : (x : Image) (size depth first address : ℕ) → depth ≢ 0 → address ≢ 0 →
     pointers_under x size depth first address

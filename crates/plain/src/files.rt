@@ -1,8 +1,8 @@
 // The files of an image.
 ghost use Rattle.std.specs.Prelude.{◌≡◌, ◌≤◌, ◌<◌, length, All, IfOk};
-ghost use Rattle.model.specs.Files.{blocks_for, data_at, joined, bytes_in, file_of, file_at, files_of, file_count};
+ghost use Rattle.model.specs.Files.{blocks_for, data_at, joined, bytes_in, file_of, file_at, files_of};
 ghost use Rattle.model.specs.Layout.{inode_block, inode_count_of};
-ghost use Rattle.model.specs.Places.{address_under, address_along, address_in, address_of};
+ghost use Rattle.model.specs.Places.{address_under, address_along, address_in};
 
 use crate::fields::{bytes_at, word_in};
 use crate::inode::inode_of;
@@ -57,14 +57,6 @@ pub fn address_in(image: &[Block], inode: &Dinode, k: u32) -> u32
 {
     let depths = depths(form_of(image));
     address_along(image, k, &depths, &inode.addrs)
-}
-
-/// The data block that holds block `k` of the file of inode `i`: 0 where there is none.
-pub fn address_of(image: &[Block], i: u32, k: u32) -> u32
-    requires { inode_block i < length image.now }
-    ensures { result ≡ address_of image.now i k }
-{
-    address_in(image, &inode_of(image, i), k)
 }
 
 /// How many blocks hold `size` bytes.
@@ -153,11 +145,4 @@ pub fn files_of(alloc: Global, image: &[Block]) -> Result<Files, NoMemory>
         files.push(file_at(alloc, image, i)?)?;
     }
     Ok(files)
-}
-
-/// How many of the places have a file.
-pub fn file_count(files: &[Option<File>]) -> usize
-    ensures { result ≡ file_count files.now }
-{
-    files.iter().filter(|place| place.is_some()).count()
 }

@@ -1,14 +1,14 @@
 // Runs of operations, and what of them is kept.
-ghost use Rattle.std.specs.Prelude.{◌≡◌, ◌==◌, ◌&&◌, nat_le, is_some, IfOk, OnErr, OnOk};
+ghost use Rattle.std.specs.Prelude.{◌≡◌, ◌&&◌, nat_le, is_some, IfOk, OnErr, OnOk};
 ghost use Rattle.std.specs.Bool.{OnFalse};
 ghost use Rattle.model.specs.Operations.{where_true};
-ghost use Rattle.model.specs.Journal.{after_answer, answered, is_number, is_at_once, is_changing, is_making, kept, replay};
+ghost use Rattle.model.specs.Journal.{after_answer, answered, is_number, is_at_once, is_changing, kept, replay};
 ghost use Rattle.plain.specs.Replay.{IsOnTheWay, reached};
 
 use crate::files::Files;
 use crate::operations::{TRANSFER_LIMIT, apply, is_kind};
 use blocks::NoMemory;
-use model::types::{Entry, Form, Op, Reply};
+use model::types::{Entry, Form, Op};
 use std::alloc::Global;
 
 /// Whether operations may name inode `i`.
@@ -44,20 +44,6 @@ pub fn is_changing(inode_count: u32, op: &Op) -> bool
         Op::Read(..) | Op::Stat(_) => false,
         Op::Trunc(i) | Op::Remove(i) => is_number(inode_count, *i),
     }
-}
-
-/// Whether an operation that answered so made number `i`.
-pub fn is_making(i: u32, reply: &Option<Reply>) -> bool
-    ensures { result ≡ is_making i reply.now }
-{
-    matches!(reply, Some(Reply::Made(made)) if *made == i)
-}
-
-/// Whether an entry is of this process.
-pub fn is_own(pid: u32, entry: &Entry) -> bool
-    ensures { result ≡ (entry.now.pid == pid) }
-{
-    entry.pid == pid
 }
 
 /// Whether an entry has a reply.

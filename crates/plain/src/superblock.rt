@@ -1,6 +1,6 @@
 // The superblock and the bitmap of an image.
 ghost use Rattle.std.specs.Prelude.{◌≡◌, ◌≤◌, ◌<◌, length};
-ghost use Rattle.model.specs.Layout.{magic_of, magic_at, has_known_magic, form_of, greatest_size, super_in, super_of, meta_count, planned_super, are_alike, is_inode_count, is_size, is_lawful_super, inode_count_of, first_data_block, is_marked};
+ghost use Rattle.model.specs.Layout.{magic_of, magic_at, has_known_magic, form_of, greatest_size, super_in, super_of, meta_count, is_lawful_super, inode_count_of, first_data_block, is_marked};
 
 use crate::fields::has_bit;
 use blocks::Block;
@@ -111,42 +111,6 @@ pub fn first_data_block(image: &[Block]) -> u32
 {
     let fields = super_of(image);
     meta_count(fields.size, fields.ninodes)
-}
-
-/// The superblock that an image of `size` blocks has to have.
-pub fn planned_super(size: u32, inode_count: u32) -> Super
-    ensures { result ≡ planned_super size inode_count }
-{
-    Super {
-        size,
-        nblocks: size.saturating_sub(meta_count(size, inode_count)),
-        ninodes: inode_count,
-        nlog: LOG_BLOCKS,
-        logstart: LOG_START,
-        inodestart: INODE_START,
-        bmapstart: INODE_START + inode_count / INODES_PER_BLOCK + 1,
-    }
-}
-
-/// Whether two superblocks have the same fields.
-pub fn are_alike(one: Super, other: Super) -> bool
-    ensures { result ≡ are_alike one other }
-{
-    one == other
-}
-
-/// Whether an image may have that many inode numbers.
-pub fn is_inode_count(inode_count: u32) -> bool
-    ensures { result ≡ is_inode_count inode_count }
-{
-    (2..=1024).contains(&inode_count)
-}
-
-/// Whether an image may have `size` blocks, where it has that many inode numbers.
-pub fn is_size(size: u32, inode_count: u32) -> bool
-    ensures { result ≡ is_size size inode_count }
-{
-    meta_count(size, inode_count) < size && size <= 8191
 }
 
 /// Whether the superblock is the planned one of an image of that many blocks, within the limits.

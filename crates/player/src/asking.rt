@@ -95,7 +95,6 @@ fn why_unanswered<D: Disk>(kernel: &Kernel<D, QueueIntake, PlainHerald>) -> Refu
     }
 }
 
-// The length that a reply tells.
 fn size_in(reply: &Reply) -> Option<u32>
     ensures { result ≡ size_in reply.now }
 {
@@ -105,7 +104,6 @@ fn size_in(reply: &Reply) -> Option<u32>
     }
 }
 
-// The bytes that a reply gives.
 fn bytes_told(reply: Reply) -> Option<Content>
     ensures { result ≡ bytes_told reply }
 {

@@ -8,7 +8,7 @@ use model::types::{Answer, Reply, Why};
 use std::fmt;
 
 /// What a turn came to.
-#[derive(Debug, Drop)]
+#[derive(Drop)]
 pub enum Event {
     /// The last step of this process answered so.
     Stepped(u32, Step),

@@ -18,14 +18,14 @@ use crate::told::{Fault, Told};
 use blocks::{DiskFault, FileFault, NoMemory};
 use layout::{CheckFault, MkfsFault};
 use scripts::{ScheduleFault, ScriptFault};
-use std::alloc::{AllocError, AllocFailed};
+use std::alloc::AllocError;
 use std::io;
 use std::io::ErrorKind;
 use thiserror::Error;
 use wal::RecoverFault;
 
 /// Why command lines can't be had from a reader.
-#[derive(Clone, Copy, Debug, PartialEq, Eq, Error)]
+#[derive(Clone, Copy, Debug, Error)]
 pub enum InputFault {
     /// It can't be read, or gives what is no UTF-8.
     #[error("the input can't be read")]
@@ -60,7 +60,7 @@ pub fn input_unread(error: io::Error) -> InputFault
 }
 
 /// Why a kernel isn't opened over an image that can be used.
-#[derive(Clone, Copy, Debug, PartialEq, Eq, Error)]
+#[derive(Clone, Copy, Debug, Error)]
 pub enum KernelFault {
     /// Memory was refused.
     #[error("memory was refused")]
@@ -71,7 +71,7 @@ pub enum KernelFault {
 }
 
 /// Why a file isn't shown.
-#[derive(Clone, Copy, Debug, PartialEq, Eq, Error)]
+#[derive(Clone, Copy, Debug, Error)]
 pub enum CatFault {
     /// There is no file of that number.
     #[error("there is no file of that number")]
@@ -97,16 +97,6 @@ impl From<AllocError> for KernelFault {
     ghost from_gives = { λ _ e. e ≡ fault.NoMemory };
 
     fn from(_refused: AllocError) -> KernelFault {
-        KernelFault::NoMemory
-    }
-}
-
-impl<T: Drop> From<AllocFailed<T>> for KernelFault {
-    ghost use Rattle.player.specs.declared.faults.KernelFault.TheVariants as fault;
-
-    ghost from_gives = { λ _ e. e ≡ fault.NoMemory };
-
-    fn from(_refused: AllocFailed<T>) -> KernelFault {
         KernelFault::NoMemory
     }
 }

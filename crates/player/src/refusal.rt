@@ -14,7 +14,7 @@ use std::fmt;
 use wal::RecoverFault;
 
 /// A layer's fault that ends a command.
-#[derive(Clone, Copy, Debug, PartialEq, Eq)]
+#[derive(Clone, Copy, Debug)]
 pub enum Refusal {
     /// The file can't be used as a disk.
     File(FileFault),

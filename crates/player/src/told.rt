@@ -4,7 +4,7 @@ ghost use Rattle.player.specs.Telling.{Telling, naming, plain, telling_of};
 
 /// How a fault is told: its number among those of its layer, from 1, its name, and the inode, the
 /// block, the line or the word that it names, if any.
-#[derive(Clone, Copy, Debug, PartialEq, Eq)]
+#[derive(Clone, Copy)]
 pub struct Told {
     pub(crate) number: u32,
     pub(crate) name: &'static str,

@@ -35,7 +35,7 @@ pub struct Player<D: Disk> {
 }
 
 /// What the turns came to.
-#[derive(Clone, Copy, Debug, PartialEq, Eq)]
+#[derive(Clone, Copy)]
 pub struct Outcome {
     /// The blocks written since the image was recovered.
     pub writes: u64,
@@ -171,7 +171,6 @@ impl<D: Disk + Drop> Player<D> {
         }
     }
 
-    // Makes a step of a process.
     fn step(&mut self, pid: u32) -> Step
         requires { pid < length self.old.kernel.world.processes }
         ensures makes { MakesPlainStep ⟦<FaultyDisk<D> as Disk>⟧

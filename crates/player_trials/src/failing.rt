@@ -63,16 +63,14 @@ fn tells_of_a_failing_output(rt: HostRuntime) -> Result<(), Fail> {
     let mut disk = new_image(&rt)?;
     for room in [0, 5, 19] {
         let ended = check_disk(alloc, &mut disk, &mut Narrow { room });
-        assert_eq!(rt; ended, Err(Refusal::Output));
+        assert!(rt; matches!(ended, Err(Refusal::Output)));
         let mut out = BufWriter::new(alloc, Narrow { room })?;
         let ended = check_disk(alloc, &mut disk, &mut out);
-        assert_eq!(rt; ended, Err(Refusal::Output));
+        assert!(rt; matches!(ended, Err(Refusal::Output)));
     }
     let mut out = BufWriter::new(alloc, Narrow { room: 20 })?;
-    assert_eq!(rt; check_disk(alloc, &mut disk, &mut out), Ok(()));
-    assert_eq!(rt;
-        recover_disk(alloc, &mut disk, &mut out),
-        Err(Refusal::Output)
-    );
+    assert!(rt; check_disk(alloc, &mut disk, &mut out).is_ok());
+    let ended = recover_disk(alloc, &mut disk, &mut out);
+    assert!(rt; matches!(ended, Err(Refusal::Output)));
     Ok(())
 }

@@ -25,7 +25,7 @@ pub trait Herald: Drop {
 }
 
 /// A plain count, which tells of no shutdown.
-#[derive(Debug, Drop)]
+#[derive(Drop)]
 pub struct PlainHerald {
     count: u64,
 }

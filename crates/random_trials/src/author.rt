@@ -11,7 +11,7 @@ use std::alloc::{AllocError, Global};
 const DIRECT: u32 = 12288;
 
 // Writes the operations of a script, and is told how long the files are by now.
-#[derive(Clone, Copy, Debug, PartialEq, Eq)]
+#[derive(Clone, Copy)]
 pub struct Author {
     chance: Chance,
     setting: Setting,

@@ -107,7 +107,6 @@ fn judge_image(alloc: Global, mut disk: MemDisk, files: &Files) -> anyhow::Resul
     Ok(())
 }
 
-// All blocks of a disk.
 fn blocks_of(alloc: Global, disk: &mut MemDisk) -> anyhow::Result<Vec<Block>> {
     let mut blocks = Vec::new(alloc);
     for b in 0..disk.size() {

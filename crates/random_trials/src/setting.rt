@@ -4,7 +4,7 @@ ghost use Rattle.std.specs.Prelude.{◌≤◌, ◌<◌};
 use crate::chance::Chance;
 
 /// An image, and the processes that work on it.
-#[derive(Clone, Copy, Debug, PartialEq, Eq)]
+#[derive(Clone, Copy)]
 pub struct Setting {
     /// The image's blocks, and its inode numbers, number 0 included.
     pub size: u32,

@@ -7,7 +7,7 @@ use model::content::Content;
 use std::alloc::{AllocError, Global};
 
 // Why a line has no operation.
-#[derive(Clone, Copy, Debug, PartialEq, Eq)]
+#[derive(Clone, Copy)]
 pub(crate) enum LineFault {
     // The line is in no row of the table, or past a limit.
     Bad,

@@ -11,7 +11,7 @@ use thiserror::Error;
 pub const SCHEDULE_LIMIT: usize = 1_048_576;
 
 /// A word of a schedule.
-#[derive(Clone, Copy, Debug, PartialEq, Eq)]
+#[derive(Clone, Copy, Debug)]
 pub enum Word {
     /// One step of this process.
     Step(u32),
@@ -21,7 +21,7 @@ pub enum Word {
 }
 
 /// Why a schedule can't be had.
-#[derive(Clone, Copy, Debug, PartialEq, Eq, Error)]
+#[derive(Clone, Copy, Debug, Error)]
 pub enum ScheduleFault {
     /// The first word, from 1, that is no word of a schedule.
     #[error("word {0} is no turn")]

@@ -16,7 +16,7 @@ pub const SCRIPT_LIMIT: usize = 4_194_304;
 const TASK_LIMIT: usize = 10_000;
 
 /// An operation of a script.
-#[derive(Debug, Drop)]
+#[derive(Drop)]
 pub struct Task {
     /// The number of its line, from 1.
     pub line: u32,
@@ -26,7 +26,7 @@ pub struct Task {
 }
 
 /// Why a script can't be had.
-#[derive(Clone, Copy, Debug, PartialEq, Eq, Error)]
+#[derive(Clone, Copy, Debug, Error)]
 pub enum ScriptFault {
     /// The first line, from 1, that is neither skipped nor in the table.
     #[error("line {0} is no operation")]

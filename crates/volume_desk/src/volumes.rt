@@ -225,7 +225,7 @@ fn change(
 fn commit(alloc: Global, volume: &mut Opened, count: u32) -> anyhow::Result<Option<String>> {
     let mut text = String::from_str(alloc, "steps")?;
     for _ in 0..count {
-        if volume.fault().is_some() || volume.log().commit() == Commit::Quiet {
+        if volume.fault().is_some() || matches!(volume.log().commit(), Commit::Quiet) {
             break;
         }
         let answer = volume.commit_step();

@@ -328,34 +328,6 @@ unpinned_current (commit.Homing n) hs y c = by_found (found c (slice_index hs n)
     by_found None = refl
     by_found (Some i) = current_kept y c i (record (buffer c i) { pins = (buffer c i).pins - 1 }) refl refl refl
 
--- the log alone after a write
-pub log_logging : (l : LogState) (n : ℕ) (k : Commit) → IsLogAt l.commit l → l.commit ≡ commit.Logging n → k ≡ cond (n + 1 == length l.homes) commit.Heading (commit.Logging (n + 1)) → IsLogAt k (record l { commit = k })
-log_logging l n k is at next = subst (λ (m : Commit). IsLogAt m (record l { commit = m })) (sym next) (elim (cases_eq (n + 1) (length l.homes)) [
-  | inl all ↦ subst (λ (m : Commit). IsLogAt m (record l { commit = m })) (sym (cond-true (n + 1 == length l.homes) commit.Heading (commit.Logging (n + 1)) (eq-eqb _ _ all)))
-      (in_phase (commit.Logging n) commit.Heading l l.homes l.committed was was.idle.0 (was.idle.0, omega (arith, was.idle.1)) was.places (omega arith) was.counts)
-  | inr more ↦ subst (λ (m : Commit). IsLogAt m (record l { commit = m })) (sym (cond-false (n + 1 == length l.homes) commit.Heading (commit.Logging (n + 1)) (ne_eqb _ _ more)))
-      (in_phase (commit.Logging n) (commit.Logging (n + 1)) l l.homes l.committed was was.idle.0 (was.idle.0, omega (arith, was.idle.1, more)) was.places (omega arith) was.counts)
-])
-  where
-    was : IsLogAt (commit.Logging n) l
-    was = subst (λ (m : Commit). IsLogAt m l) at is
-
-pub log_heading : (l : LogState) → IsLogAt l.commit l → l.commit ≡ commit.Heading → IsLogAt (commit.Homing 0) (record l { commit = commit.Homing 0; committed = l.opened })
-log_heading l is at =
-    let was : IsLogAt commit.Heading l = subst (λ (m : Commit). IsLogAt m l) at is in
-    in_phase commit.Heading (commit.Homing 0) l l.homes l.opened was was.idle.0 (was.idle.0, was.idle.1) was.places (omega arith) refl
-
-pub log_homing : (l : LogState) (n : ℕ) (k : Commit) → IsLogAt l.commit l → l.commit ≡ commit.Homing n → k ≡ cond (n + 1 == length l.homes) commit.Clearing (commit.Homing (n + 1)) → IsLogAt k (record l { commit = k })
-log_homing l n k is at next = subst (λ (m : Commit). IsLogAt m (record l { commit = m })) (sym next) (elim (cases_eq (n + 1) (length l.homes)) [
-  | inl all ↦ subst (λ (m : Commit). IsLogAt m (record l { commit = m })) (sym (cond-true (n + 1 == length l.homes) commit.Clearing (commit.Homing (n + 1)) (eq-eqb _ _ all)))
-      (in_phase (commit.Homing n) commit.Clearing l l.homes l.committed was was.idle.0 (was.idle.0, omega (arith, was.idle.1)) was.places (omega arith) was.counts)
-  | inr more ↦ subst (λ (m : Commit). IsLogAt m (record l { commit = m })) (sym (cond-false (n + 1 == length l.homes) commit.Clearing (commit.Homing (n + 1)) (ne_eqb _ _ more)))
-      (in_phase (commit.Homing n) (commit.Homing (n + 1)) l l.homes l.committed was was.idle.0 (was.idle.0, omega (arith, was.idle.1, more)) was.places (omega arith) was.counts)
-])
-  where
-    was : IsLogAt (commit.Homing n) l
-    was = subst (λ (m : Commit). IsLogAt m l) at is
-
 pub log_cleared : (l : LogState) (hs : List ℕ) → IsLogAt l.commit l → l.commit ≡ commit.Clearing → hs ≡ [] → IsLogAt commit.Quiet (record l { commit = commit.Quiet; homes = hs })
 log_cleared l hs is at none =
     let was : IsLogAt commit.Clearing l = subst (λ (m : Commit). IsLogAt m l) at is in

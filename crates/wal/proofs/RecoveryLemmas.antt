@@ -6,7 +6,7 @@ use Rattle.std.proofs.lemmas.Option.{get_or_from_slice_get}
 use Rattle.blocks.specs.Block.{zero_block, IsBlock}
 use Rattle.blocks.specs.Disk.{Image, block_at, IsOldOrNew, LeavesOldOrNew, IsSettled, AddsNone, Elapses, LeavesOnly}
 use Rattle.blocks.specs.Lemmas.Moments.{started, stays, goes_on, joined}
-use Rattle.model.specs.Log.{logged_in, homes_in, logged_count, homes_of, is_lawful_log, are_in_place, are_distinct}
+use Rattle.model.specs.Log.{logged_count, homes_of, is_lawful_log, are_in_place, are_distinct}
 use Rattle.model.specs.Lemmas.Log.{both_of, recovered_empty, none_cleared}
 use Rattle.model.specs.Lemmas.Recovery.{few_homes}
 use Rattle.wal.specs.Recovery.{HasCopied, IsRecoveredInPart, RecoversAs, MayStop}
@@ -18,15 +18,6 @@ use Rattle.wal.specs.Lemmas.Commits.{empty_lawful}
 -- the header that was read
 pub header_read : (x : Image) (bytes : List ℕ) → slice_get x 2 ≡ Some bytes → block_at x 2 ≡ bytes
 header_read x bytes read = get_or_from_slice_get x 2 bytes [] read
-
--- what the tests of a header say of the image
-pub lawful_read : (x : Image) (bytes homes : List ℕ) (n size : ℕ) → slice_get x 2 ≡ Some bytes → n ≡ logged_in bytes → homes ≡ homes_in bytes →
-    size ≡ length x → (leb n 30 && are_in_place homes size && are_distinct homes) ≡ is_lawful_log x
-lawful_read x bytes homes n size read count are same =
-    let whole = header_read x bytes read in
-    ap (λ m. leb m 30 && are_in_place homes size && are_distinct homes) (count ∙ ap logged_in (sym whole))
-    ∙ ap (λ hs. leb (logged_count x) 30 && are_in_place hs size && are_distinct hs) (are ∙ ap homes_in (sym whole))
-    ∙ ap (λ m. leb (logged_count x) 30 && are_in_place (homes_of x) m && are_distinct (homes_of x)) same
 
 pub few_logged : (x : Image) → is_lawful_log x ≡ true → logged_count x ≤ 30
 few_logged x lawful =

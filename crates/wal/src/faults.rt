@@ -5,7 +5,7 @@ use blocks::{DiskFault, NoMemory};
 use thiserror::Error;
 
 /// Why a recovery was not done, or not to its end.
-#[derive(Clone, Copy, Debug, PartialEq, Eq, Error)]
+#[derive(Clone, Copy, Debug, Error)]
 pub enum RecoverFault {
     /// The disk failed.
     #[error("the disk failed")]

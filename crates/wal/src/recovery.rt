@@ -43,7 +43,6 @@ fn log_block(place: usize) -> u32
     LOG + place as u32
 }
 
-// Empties the header.
 fn clear_header<D: Disk>(disk: &mut D, empty: &Block) -> Result<(), DiskFault>
     requires inside { 2 < length (D.image disk.old) }
     requires empty { empty.now ≡ zero_block }

@@ -4,7 +4,7 @@ use model::types::Why;
 
 /// What the next step of a commit writes (the xv6 book, the chapter "File system": "Code:
 /// logging", commit).
-#[derive(Clone, Copy, Debug, PartialEq, Eq)]
+#[derive(Clone, Copy, Debug)]
 pub enum Commit {
     /// No commit is under way.
     Quiet,
@@ -19,7 +19,7 @@ pub enum Commit {
 }
 
 /// What `begin` answers.
-#[derive(Clone, Copy, Debug, PartialEq, Eq)]
+#[derive(Clone, Copy, Debug)]
 pub enum Began {
     /// The operation is open, and belongs to the group of this number, from 1.
     Began(u64),
@@ -28,7 +28,7 @@ pub enum Began {
 }
 
 /// What `end` answers.
-#[derive(Clone, Copy, Debug, PartialEq, Eq)]
+#[derive(Clone, Copy, Debug)]
 pub enum Ended {
     /// There is nothing to commit, or not yet.
     Left,
@@ -37,7 +37,7 @@ pub enum Ended {
 }
 
 /// What a step of a commit answers.
-#[derive(Clone, Copy, Debug, PartialEq, Eq)]
+#[derive(Clone, Copy, Debug)]
 pub enum Committed {
     /// There is more to write.
     More,
@@ -51,7 +51,7 @@ pub enum Committed {
 }
 
 /// What `get` answers.
-#[derive(Clone, Copy, Debug, PartialEq, Eq)]
+#[derive(Clone, Copy, Debug)]
 pub enum Get {
     /// The process has the lock of this slot, from 0 to 39, which is valid.
     Got(u32),

@@ -265,7 +265,6 @@ fn why(busy: Busy) -> Why
     }
 }
 
-// The fault of a step.
 fn fault_of(answer: Committed) -> Option<DiskFault>
     ensures { result ≡ fault_of_step answer }
 {

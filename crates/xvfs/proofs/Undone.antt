@@ -16,10 +16,6 @@ pub refused_at_one : (words : List (List ℕ)) (old new : Option (List ℕ)) (no
 refused_at_one words old new none (Refused r) one undone = (r, undone)
 refused_at_one words old new none (Misused text) one undone = absurd (omega (arith, one))
 
-pub misused_at_two : (words : List (List ℕ)) (old new : Option (List ℕ)) (none : Type 0) (f : Failure) → status_of (Err f) ≡ 2 → IsUndone words old new none f → (text : Error) × IsUndone words old new none (Misused text)
-misused_at_two words old new none (Refused r) two undone = absurd (omega (arith, two))
-misused_at_two words old new none (Misused text) two undone = (text, undone)
-
 -- what was printed where a request was refused, by what is known where nothing was
 on_refused : (request : Request) (r : Refusal) (old new : Option (List ℕ)) (P Q : Type 0) → (P → Q) → OnRefused request r old new P → OnRefused request r old new Q
 on_refused (Mkfs image size ninodes) r old new P Q f none = λ other. f (none other)

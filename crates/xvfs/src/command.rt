@@ -15,7 +15,7 @@ use std::io::Write;
 use std::rt::Files;
 
 /// Why a command wasn't done.
-#[derive(Debug, Drop)]
+#[derive(Drop)]
 pub enum Failure {
     /// A layer refused.
     Refused(Refusal),
@@ -73,7 +73,6 @@ pub fn refuse<E: Write>(refusal: Refusal, err: &mut E) -> u8
     1
 }
 
-// The exit status.
 fn status_of(ended: &Result<(), Failure>) -> u8
     ensures { result ≡ status_of ended.now }
 {

@@ -53,7 +53,6 @@ fn read_text<I: Read + Drop>(alloc: Global, input: I) -> Result<String, InputFau
     text_of(bytes)
 }
 
-// The text of these bytes.
 fn text_of(bytes: Vec<u8>) -> Result<String, InputFault>
     ensures ok { IfOk result (λ text. string_bytes text ≡ bytes.items) }
     ensures large { IsErrOf result InputFault.TooLarge ↔ (LIMIT < length bytes.items) }

@@ -9,7 +9,7 @@ use std::alloc::{AllocError, Global};
 use std::convert::AsStr;
 
 /// What the words of a command line ask for.
-#[derive(Clone, Copy, Debug, PartialEq, Eq)]
+#[derive(Clone, Copy)]
 pub enum Request<'a> {
     /// A new image.
     Mkfs {

@@ -52,14 +52,6 @@ none_found c b none j = elim (cases_lt j (length c.slots)) [
 pub some_found : (c : Buffers) (b i : ℕ) → found c b ≡ Some i → (i < length c.slots) × (is_of b (buffer c i) ≡ true)
 some_found c b i some = let f = position-Some (is_of b) c.slots i empty_buffer some in (f.0, f.1)
 
--- the slot of a block is the one that is found
-pub found_at : (c : Buffers) (b i : ℕ) → IsCache c → is_of b (buffer c i) ≡ true → found c b ≡ Some i
-found_at c b i is here = by (found c b) refl
-  where
-    by : (at : Option ℕ) → found c b ≡ at → found c b ≡ Some i
-    by None e = absurd (both_ways _ (none_found c b e i) here)
-    by (Some j) e = e ∙ ap (λ (k : ℕ). Some k) (is.once.same j i b (some_found c b j e).1 here)
-
 pub block_is : (b : ℕ) (o : Option ℕ) → is_number_in b o ≡ true → o ≡ Some b
 block_is b None e = absurd (false≢true e)
 block_is b (Some d) e = ap (λ (k : ℕ). Some k) (sym (eqb-true b d e))

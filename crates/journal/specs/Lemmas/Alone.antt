@@ -15,10 +15,6 @@ use Rattle.journal.specs.declared.types.At.TheVariants as at
 use Rattle.journal.specs.Alone.{is_committing_at, CommitsAlone}
 use Rattle.journal.specs.Lemmas.Groups.{end_leaves, end_commits, open_of, written_same}
 
--- at the beginning nobody commits
-pub alone_new : (l : LogState) → is_quiet l.commit ≡ true → CommitsAlone (λ q. at.Idle) l
-alone_new l quiet = record { sole = λ p q mine other. absurd (false≢true mine); busy = λ p mine. absurd (false≢true mine); none_open = λ p mine. absurd (false≢true mine); quiet = λ nobody. quiet }
-
 -- while the log has no commit under way, nobody commits
 pub none_commits : (ats : ℕ → At) (l : LogState) → CommitsAlone ats l → is_quiet l.commit ≡ true → (q : ℕ) → is_committing_at (ats q) ≡ false
 none_commits ats l alone quiet q = false_from_ne_true (is_committing_at (ats q)) (λ mine. false≢true (sym (alone.busy q mine) ∙ quiet))

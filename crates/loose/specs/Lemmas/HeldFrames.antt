@@ -64,10 +64,6 @@ claimed_in_data m x claims i b f low high some =
     count_flat (λ j. names_claimed x j (claims j)) b 1 (inode_count_of x - 1) i low (omega arith) in
     f.loose.in_data b (λ none. omega arith)
 
--- each block of a list lies among the data
-abbrev pub AreInData : Image → List ℕ → Type 0
-AreInData x names = (b : ℕ) → 1 ≤ count_of b names → LiesInData x b
-
 pub entries_same : (x y : Image) (address given_up : ℕ) → (address ≢ 0 → block_at y address ≡ block_at x address) →
     entries_left y address given_up ≡ entries_left x address given_up
 entries_same x y address given_up same =

@@ -6,7 +6,7 @@ use Rattle.std.specs.Int.RustNames.{bit_or}
 use Rattle.std.specs.Prelude.{bit_and}
 use Rattle.std.proofs.lemmas.Bool.{cases_eq, cases_lt, eq-eqb, lt-ltb, le-ltb}
 use Rattle.std.proofs.lemmas.List.{get_or-set_same, get_or-set_other, length-set, set_past, get_or-replicate, get_or_past, length-replicate}
-use Rattle.std.proofs.lemmas.Nat.{or_lt, and_le_l, pow_below}
+use Rattle.std.proofs.lemmas.Nat.{or_lt, pow_below}
 use Rattle.std.proofs.lemmas.Nat.Bits.{bit_at_or, bit_at-lt, bit_at-pow_same, bit_at-pow_other, bit_at_clear_same, bit_at_clear_other, bit_at-zero}
 use Rattle.blocks.specs.Block.{zero_block, IsBlock}
 use Rattle.blocks.specs.Lemmas.Blocks.{is_block-zero_block}
@@ -93,21 +93,9 @@ bytes-with_bit bs k each i =
     bytes_set bs (k / 8) (bit_or (get_or bs (k / 8) 0) (2 ^ (k % 8))) each
     (or_lt 8 (get_or bs (k / 8) 0) (2 ^ (k % 8)) (each (k / 8)) (pow_below (k % 8) 8 (omega arith))) i
 
-pub bytes-without_bit : (bs : List ℕ) (k : ℕ) → ((i : ℕ) → get_or bs i 0 < 256) → (i : ℕ) → get_or (without_bit bs k) i 0 < 256
-unfolding without_bit
-bytes-without_bit bs k each i =
-    let old = get_or bs (k / 8) 0 in
-    let mask = bit_not w8 (1 * 2 ^ (k % 8) % 2 ^ 8) in
-    let less = and_le_l old mask in
-    let was = each (k / 8) in
-    bytes_set bs (k / 8) (bit_and old mask) each (omega arith) i
-
 -- a block stays one
 pub is_block-with_bit : (bs : List ℕ) (k : ℕ) → IsBlock bs → IsBlock (with_bit bs k)
 is_block-with_bit bs k is = record { size = length-with_bit bs k ∙ is.size; each = bytes-with_bit bs k is.each }
-
-pub is_block-without_bit : (bs : List ℕ) (k : ℕ) → IsBlock bs → IsBlock (without_bit bs k)
-is_block-without_bit bs k is = record { size = length-without_bit bs k ∙ is.size; each = bytes-without_bit bs k is.each }
 
 pub is_block-first_bits : (n : ℕ) → IsBlock (first_bits n)
 unfolding first_bits

@@ -179,11 +179,6 @@ words_of-bytes (w ∷ ws) rest h =
 pub words_of-bytes_all : (ws : List ℕ) → ((k : ℕ) → slice_index ws k < 2 ^ 32) → words_of (bytes_of_words ws) ≡ ws
 words_of-bytes_all ws h = ap words_of (sym (append-nil (bytes_of_words ws))) ∙ words_of-bytes ws [] h ∙ append-nil ws
 
-pub length-block_of_words : (ws : List ℕ) → length ws ≤ 256 → length (block_of_words ws) ≡ 1024
-unfolding block_of_words
-length-block_of_words ws few =
-    length-overwritten zero_block 0 (bytes_of_words ws) (omega (arith, length-bytes_of_words ws, length-zero_block)) ∙ length-zero_block
-
 pub is_block-block_of_words : (ws : List ℕ) → length ws ≤ 256 → IsBlock (block_of_words ws)
 unfolding block_of_words
 is_block-block_of_words ws few =
@@ -285,9 +280,6 @@ header_small : (homes : List ℕ) → length homes ≤ 30 → ((k : ℕ) → sli
 header_small homes few small zero = omega arith
 header_small homes few small (suc k) = small k
 
-pub is_block-header_block : (homes : List ℕ) → length homes ≤ 30 → IsBlock (header_block homes)
-is_block-header_block homes few = is_block-block_of_words (length homes ∷ homes) (omega arith)
-
 -- the number of homes that was written is read
 pub logged_in-header_block : (homes : List ℕ) → length homes ≤ 30 → ((k : ℕ) → slice_index homes k < 2 ^ 32) →
     logged_in (header_block homes) ≡ length homes
@@ -313,19 +305,6 @@ pub length-dinode_bytes : (d : Dinode) → length d.addrs ≡ 13 → length (din
 unfolding dinode_bytes
 length-dinode_bytes d h = omega (arith, length-bytes_of_words d.addrs)
 
-pub dinode_bytes_small : (d : Dinode) (i : ℕ) → slice_index (dinode_bytes d) i < 256
-unfolding dinode_bytes
-dinode_bytes_small d i =
-    let from_size = little_bytes 4 d.size ++ bytes_of_words d.addrs in
-    let from_nlink = little_bytes 2 d.nlink ++ from_size in
-    let from_minor = little_bytes 2 d.minor ++ from_nlink in
-    let from_major = little_bytes 2 d.major ++ from_minor in
-    let size = append_small (little_bytes 4 d.size) (bytes_of_words d.addrs) (little_bytes_small 4 d.size) (bytes_of_words_small d.addrs) in
-    let nlink = append_small (little_bytes 2 d.nlink) from_size (little_bytes_small 2 d.nlink) size in
-    let minor = append_small (little_bytes 2 d.minor) from_nlink (little_bytes_small 2 d.minor) nlink in
-    let major = append_small (little_bytes 2 d.major) from_minor (little_bytes_small 2 d.major) minor in
-    append_small (little_bytes 2 d.kind) from_major (little_bytes_small 2 d.kind) major i
-
 -- the inode that was written is read
 pub inode_in-dinode_bytes : (d : Dinode) → IsDinode d → inode_in (dinode_bytes d) ≡ d
 unfolding inode_in dinode_bytes u16_at u32_at
@@ -341,11 +320,6 @@ inode_in-dinode_bytes d is =
     let size : little_number 4 (drop 8 (dinode_bytes d)) ≡ d.size = little_number-reads_back 4 d.size (bytes_of_words d.addrs) is.size in
     let addrs : words_of (drop 12 (dinode_bytes d)) ≡ d.addrs = words_of-bytes_all d.addrs is.addrs in
     rw (kind, major, minor, nlink, size, addrs) refl
-
-pub is_block-with_inode_bytes : (block : List ℕ) (i : ℕ) (d : Dinode) → IsBlock block → length d.addrs ≡ 13 →
-    IsBlock (with_inode_bytes block i d)
-is_block-with_inode_bytes block i d is count =
-    is_block-overwritten block (i % 16 * 64) (dinode_bytes d) is (omega (arith, length-dinode_bytes d count)) (dinode_bytes_small d)
 
 -- what was written at the place of a number is read there
 pub inode_in-with_inode_bytes : (block : List ℕ) (i : ℕ) (d : Dinode) → length block ≡ 1024 → IsDinode d →
@@ -396,10 +370,6 @@ length-words_of-block block h =
     let above = four_times_words block in
     omega arith
 
-pub is_block-with_entry : (block : List ℕ) (e address : ℕ) → IsBlock block → e < 256 → IsBlock (with_entry block e address)
-is_block-with_entry block e address is h =
-    is_block-overwritten block (4 * e) (little_bytes 4 address) is (omega arith) (little_bytes_small 4 address)
-
 -- the entries of a block in which one was written
 pub words_of-with_entry : (block : List ℕ) (e address : ℕ) → length block ≡ 1024 → e < 256 → address < 2 ^ 32 →
     words_of (with_entry block e address) ≡ set (words_of block) e address
@@ -435,13 +405,6 @@ entry-with_entry block e address size h small =
     let count = length-words_of-block block size in
     ap (λ (ws : List ℕ). get_or ws e 0) (words_of-with_entry block e address size h small)
     ∙ get_or-set_same (words_of block) e address 0 (omega arith)
-
--- the other entries stay
-pub entry-with_entry_other : (block : List ℕ) (e f address : ℕ) → length block ≡ 1024 → e < 256 → address < 2 ^ 32 → f ≢ e →
-    slice_index (words_of (with_entry block e address)) f ≡ slice_index (words_of block) f
-entry-with_entry_other block e f address size h small other =
-    ap (λ (ws : List ℕ). get_or ws f 0) (words_of-with_entry block e address size h small)
-    ∙ get_or-set_other (words_of block) e f address 0 other
 
 -- ---- the bitmap
 

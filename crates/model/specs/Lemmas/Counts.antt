@@ -1,7 +1,7 @@
 -- How often a number stands in lists of lists, and what holds of each number there.
-use Rattle.std.proofs.Common.{◌≡◌, ◌≢◌, ℕ, zero, suc, ◌+◌, ◌-◌, ◌<◌, ◌≤◌, true, false, cond, not, eqb, List, [], ◌∷◌, ◌++◌, length, get_or, refl, sym, ap, subst, ◌∙◌, ⊎_elim, zero-add, add_assoc, arith}
+use Rattle.std.proofs.Common.{◌≡◌, ◌≢◌, ℕ, zero, suc, ◌+◌, ◌-◌, ◌<◌, ◌≤◌, true, false, cond, eqb, List, [], ◌∷◌, ◌++◌, length, get_or, refl, sym, ap, subst, ◌∙◌, ⊎_elim, zero-add, add_assoc, arith}
 use Rattle.std.specs.Prelude.{All}
-use Rattle.std.specs.List.{list_any, list_all, flat_map, range_with_len, AllByRecursion}
+use Rattle.std.specs.List.{list_any, flat_map, range_with_len, AllByRecursion}
 use Rattle.std.proofs.lemmas.Bool.{ne_eqb, eq-eqb, cases_eq, cases_Bool, or_parts}
 use Rattle.std.proofs.lemmas.List.FromFn.{get_or-range_with_len, length-range_with_len}
 use Rattle.model.specs.Soundness.{count_of}
@@ -154,13 +154,3 @@ count_flat_one f g b a (suc n) i low high same =
     let here = same a (omega arith) (omega arith) ne in
     let rest = count_flat_one f g b (a + 1) n i (omega arith) (omega arith) (λ j l h. same j (omega arith) (omega arith)) in omega arith)
     (cases_eq a i)
-
--- where b stands nowhere, each number is another one
-pub all_other : (b : ℕ) (places : List ℕ) → count_of b places ≡ 0 → list_all (λ a. not (eqb a b)) places ≡ true
-all_other b [] h = refl
-all_other b (a ∷ places) h =
-    ⊎_elim (λ (e : a ≡ b). absurd (let one : count_of b (a ∷ places) ≡ 1 + count_of b places = rw (eq-eqb a b e) refl in omega arith))
-    (λ (ne : a ≢ b). let no = ne_eqb a b ne in
-    let sum : count_of b (a ∷ places) ≡ count_of b places = rw no (zero-add (count_of b places)) in
-    rw no (all_other b places (sym sum ∙ h)))
-    (cases_eq a b)

@@ -12,27 +12,14 @@ use Rattle.model.specs.Layout.{reach, depths, form_of}
 use Rattle.model.specs.Places.{pointer_of, pointers_under, pointers_behind, pointers_along, pointers_in, addresses_in, address_under, address_along, address_in}
 use Rattle.model.specs.Names.{names_of}
 use Rattle.model.specs.Files.{data_at, joined, bytes_in, file_of, blocks_for}
-use Rattle.model.specs.Soundness.{count_of}
 use Rattle.model.specs.Agreement.{all_pass, Agrees, AgreesFor}
 use Rattle.model.specs.Laws.{FramesContents}
 use Rattle.model.specs.Lemmas.Log.{both_of}
-use Rattle.model.specs.Lemmas.Counts.{all_other}
 use Rattle.model.specs.Lemmas.Names.{addresses_in-append, pointers_named}
-
--- it is enough to look inside the images
-pub Agrees-from_inside : (test : ℕ → Bool) (x y : Image) → length y ≡ length x →
-    ((b : ℕ) → b < length x → test b ≡ true → block_at y b ≡ block_at x b) → Agrees test x y
-Agrees-from_inside test x y size each b pass =
-    ⊎_elim (λ (inside : b < length x). each b inside pass)
-    (λ (past : length x ≤ b). get_or_past y b [] (omega arith) ∙ sym (get_or_past x b [] past)) (cases_lt b (length x))
 
 -- a write to one block leaves the others
 pub Agrees-set : (x : Image) (b : ℕ) (bytes : List ℕ) → Agrees (λ c. not (eqb c b)) x (set x b bytes)
 Agrees-set x b bytes c other = get_or-set_other x b c bytes [] (eqb-false c b (not-true (eqb c b) other))
-
--- fewer blocks
-pub Agrees-weaker : (test fewer : ℕ → Bool) (x y : Image) → ((b : ℕ) → fewer b ≡ true → test b ≡ true) → Agrees test x y → Agrees fewer x y
-Agrees-weaker test fewer x y within agree b pass = agree b (within b pass)
 
 pub all_pass-append : (test : ℕ → Bool) (front bs : List Pointer) → all_pass test (front ++ bs) ≡ (all_pass test front && all_pass test bs)
 all_pass-append test front bs =
@@ -191,15 +178,6 @@ file_agree test x y d h =
     ⊎_elim (λ (free : d.kind ≡ 0). rw free refl)
     (λ (used : d.kind ≢ 0). rw (ne_eqb d.kind 0 used, bytes_agree test x y d h used) refl)
     (cases_eq d.kind 0)
-
--- a write to a block that the inode doesn't name, and that isn't the superblock
-pub AgreesFor-set : (x : Image) (b : ℕ) (bytes : List ℕ) (d : Dinode) → b ≢ 1 → count_of b (names_of x d) ≡ 0 →
-    AgreesFor (λ c. not (eqb c b)) x (set x b bytes) d
-AgreesFor-set x b bytes d other none = record {
-  agree = Agrees-set x b bytes;
-  one = rw (ne_eqb 1 b (λ e. other (sym e))) refl;
-  names = ap (list_all (λ c. not (eqb c b))) (pointers_named x d) ∙ all_other b (names_of x d) none;
-}
 
 pub frames_contents : FramesContents
 frames_contents test x y d h = record {

@@ -91,9 +91,6 @@ super_of-made_image size n is =
 pub magic-made_image : (size n : ℕ) → 1 < size → magic_at (made_image One size n) ≡ magic_of One
 magic-made_image size n h = ap (λ (b : List ℕ). u32_at b 0) (super-made_image size n h) ∙ magic-super_block One (planned_super size n)
 
-pub form_of-made_image : (size n : ℕ) → 1 < size → form_of (made_image One size n) ≡ One
-form_of-made_image size n h = rw (magic-made_image size n h) refl
-
 lawful : (size n : ℕ) → is_inode_count n ≡ true → is_size size n ≡ true → is_lawful_super (planned_super size n) size ≡ true
 lawful size n count fits =
     let p = planned_super size n in

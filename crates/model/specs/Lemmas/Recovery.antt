@@ -1,17 +1,15 @@
 -- Recovery leaves no log, and does not look at the homes.
-use Rattle.std.proofs.Common.{◌≡◌, ◌≢◌, ℕ, ◌+◌, ◌<◌, ◌≤◌, true, false, cond, not, ◌&&◌, eqb, leb, ltb, min, List, [], ◌∷◌, length, get_or, set, take, drop, map, Option, Some, None, refl, sym, ap, ◌∙◌, ⊎_elim, arith, subst}
+use Rattle.std.proofs.Common.{◌≡◌, ◌≢◌, ℕ, ◌+◌, ◌<◌, ◌≤◌, true, false, cond, not, ◌&&◌, eqb, leb, ltb, min, List, [], ◌∷◌, length, get_or, set, take, drop, map, Option, Some, None, refl, sym, ap, ◌∙◌, ⊎_elim, arith}
 use Rattle.std.specs.List.{range_with_len, list_any, position_from}
-use Rattle.std.proofs.lemmas.Bool.{ne_eqb, eq-eqb, leb-true, ltb-true, cases_eq, cases_lt, cases_Bool, both_ways, not-true, cond_both}
+use Rattle.std.proofs.lemmas.Bool.{ne_eqb, eq-eqb, leb-true, ltb-true, cases_eq, cases_lt, cases_Bool, both_ways, not-true}
 use Rattle.std.proofs.lemmas.List.Folds.{list_any_at}
 use Rattle.std.proofs.lemmas.List.{get_or-set_other, length-set, length-take, get_or_past, ext_get_or}
-use Rattle.blocks.specs.Block.{IsBlock, zero_block}
-use Rattle.blocks.specs.Disk.{Image, IsImage, block_at}
-use Rattle.blocks.specs.Lemmas.Blocks.{is_block-zero_block}
+use Rattle.blocks.specs.Disk.{Image, block_at}
 use Rattle.model.specs.Fields.{u32_at, words_of}
 use Rattle.model.specs.Log.{logged_in, logged_count, homes_of, homes_in, is_lawful_log, are_in_place, are_distinct, recovered, recovered_block, block_from_log, place_among}
 use Rattle.model.specs.Agreement.{Agrees}
 use Rattle.model.specs.Laws.{RecoversOnce, HomeWritesKeep, HomesAreRewritten, is_home}
-use Rattle.model.specs.Lemmas.Log.{both_of, lawful_homes, recovered_empty, logged_count-recovered, recovered_at, length-recovered}
+use Rattle.model.specs.Lemmas.Log.{both_of, lawful_homes, recovered_empty, logged_count-recovered}
 
 -- no bytes are the number 0
 pub u32_at-nil : u32_at [] 0 ≡ 0
@@ -102,9 +100,6 @@ low_is_no_home x b lawful low =
 pub header_besides : (x y : Image) → is_lawful_log x ≡ true → AgreesBesides x y → block_at y 2 ≡ block_at x 2
 header_besides x y lawful agree = besides x y 2 agree (low_is_no_home x 2 lawful (omega arith))
 
-pub homes_of-besides : (x y : Image) → is_lawful_log x ≡ true → AgreesBesides x y → homes_of y ≡ homes_of x
-homes_of-besides x y lawful agree = ap homes_in (header_besides x y lawful agree)
-
 pub is_lawful_log-besides : (x y : Image) → is_lawful_log x ≡ true → length y ≡ length x → AgreesBesides x y → is_lawful_log y ≡ true
 is_lawful_log-besides x y lawful size agree =
     ap (λ h. leb (logged_in h) 30 && are_in_place (homes_in h) (length y) && are_distinct (homes_in h)) (header_besides x y lawful agree)
@@ -147,23 +142,3 @@ home_writes_keep x k lawful h =
     homes_are_rewritten x (set x home bytes) lawful (length-set x home bytes)
     (λ b other. get_or-set_other x home b bytes []
     (λ e. both_ways (is_home x b) (not-true (is_home x b) other) (ap (is_home x) e ∙ home_at x k h)))
-
-from_log_whole : (x : Image) (b : ℕ) (p : Option ℕ) → IsBlock (block_at x b) → ((j : ℕ) → p ≡ Some j → IsBlock (block_at x (3 + j))) →
-    IsBlock (block_from_log x b p)
-from_log_whole x b (Some j) here logged = logged j refl
-from_log_whole x b None here logged = here
-
--- what recovery leaves has whole blocks, where the image has them and holds its log
-pub is_image-recovered : (x : Image) → 33 ≤ length x → IsImage x → IsImage (recovered x)
-unfolding recovered_block
-is_image-recovered x long whole =
-    ⊎_elim (λ (none : logged_count x ≡ 0). subst IsImage (sym (recovered_empty x none)) whole)
-    (λ (some : logged_count x ≢ 0) b h.
-    let inside : b < length x = omega (arith, length-recovered x) in
-    let few = few_homes x in
-    let chosen : IsBlock (block_from_log x b (place_among (homes_of x) b))
-    = from_log_whole x b (place_among (homes_of x) b) (whole b inside)
-    (λ j e. let low = place_below (homes_of x) 0 b j e in whole (3 + j) (omega arith)) in
-    subst IsBlock (sym (recovered_at x b some inside)) (cond_both (eqb b 2) zero_block (block_from_log x b (place_among (homes_of x) b)) IsBlock
-    (λ t. is_block-zero_block) (λ f. chosen)))
-    (cases_eq (logged_count x) 0)

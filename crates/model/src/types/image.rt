@@ -2,7 +2,7 @@
 use crate::content::Content;
 
 /// How an inode's 13 addresses lead to its blocks.
-#[derive(Clone, Copy, Debug, PartialEq, Eq)]
+#[derive(Clone, Copy)]
 pub enum Form {
     /// 12 direct blocks and a block of 256 addresses, as in xv6.
     One,
@@ -47,14 +47,14 @@ pub struct Dinode {
 
 /// An address of an inode or of a block of addresses: 0 for none, and whether the file's size needs
 /// one.
-#[derive(Clone, Copy, Debug, PartialEq, Eq)]
+#[derive(Clone, Copy)]
 pub struct Pointer {
     pub address: u32,
     pub needed: bool,
 }
 
 /// A file: its type, from 1 to 3, and its bytes.
-#[derive(Debug, Drop)]
+#[derive(Drop)]
 pub struct File {
     pub kind: u16,
     pub bytes: Content,

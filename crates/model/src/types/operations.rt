@@ -47,7 +47,7 @@ pub enum Reply {
 }
 
 /// What the journal keeps of an operation that had its turn.
-#[derive(Debug, Drop)]
+#[derive(Drop)]
 pub struct Entry {
     pub pid: u32,
     /// The number of the operation among its process's, from 1.
@@ -60,7 +60,7 @@ pub struct Entry {
 }
 
 /// What a process gets back.
-#[derive(Debug, Drop)]
+#[derive(Drop)]
 pub struct Answer {
     /// The number of the operation among its process's, from 1.
     pub seq: u64,
@@ -88,7 +88,7 @@ pub enum Why {
 }
 
 /// What a step of a process's operation answers to whoever drives it.
-#[derive(Debug, Drop)]
+#[derive(Drop)]
 pub enum TaskProgress {
     /// The step was made, and the task goes on.
     Moved,
