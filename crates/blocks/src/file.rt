@@ -1,5 +1,5 @@
 // A disk over a file. It keeps a copy of the blocks, which reads give; each write goes to both.
-ghost use Rattle.std.specs.Prelude.{◌≡◌, ◌≢◌, ◌<◌, ◌≤◌, ◌^◌, ◌+◌, ◌*◌, ◌++◌, ◌↔◌, ℕ, false, length, replicate, refl, slice_get, slice_set, Some, IfOk, IfErr, IsOk, IsOkUnless, OnOk, OnErr, IsErrOf};
+ghost use Rattle.std.specs.Prelude.{◌≡◌, ◌≢◌, ◌<◌, ◌≤◌, ◌^◌, ◌+◌, ◌*◌, ◌/◌, ◌%◌, ◌++◌, ◌↔◌, ℕ, false, length, replicate, refl, [], slice_get, slice_set, Some, IfOk, IfErr, IsOk, IsOkUnless, OnOk, OnErr, IsErrOf};
 ghost use Rattle.std.proofs.Common.{inl};
 ghost use Rattle.std.specs.List.{concat};
 ghost use Rattle.std.specs.IoError.{error_kind};
@@ -167,7 +167,11 @@ fn blocks_of_length(length: u64) -> Result<u32, FileFault>
 }
 
 // Reads so many blocks, some with each read.
-fn read_blocks<F: Read>(alloc: Global, file: &mut F, size: u32) -> Result<Vec<Block>, FileFault>
+fn read_blocks<F: Read>(
+    alloc: Global,
+    file: &mut F,
+    size: u32,
+) -> Result<Vec<[u8; BLOCK_SIZE]>, FileFault>
     ensures size { IfOk result (λ blocks. length blocks.items ≡ size) }
     ensures image { IfOk result (λ blocks. IsImage blocks.items) }
     ensures bytes { IfOk result (λ blocks. Consumes (F.remaining file.old) (F.remaining file.new)
@@ -175,13 +179,13 @@ fn read_blocks<F: Read>(alloc: Global, file: &mut F, size: u32) -> Result<Vec<Bl
     ensures err { IfErr result (λ fault. fault ≢ FileFault.Length) }
 {
     let mut piece = zeroes(alloc, PIECE as usize * BLOCK_SIZE)?;
-    let mut blocks = Vec::new(alloc);
+    let mut blocks = room(alloc, size)?;
     let mut left = size;
     while left > 0 {
         let count = left.min(PIECE);
         let bytes = &mut piece[..count as usize * BLOCK_SIZE];
         file.read_exact(bytes).map_err(fault_of)?;
-        add_blocks(alloc, &mut blocks, bytes, count)?;
+        add_blocks(&mut blocks, bytes)?;
         left -= count;
     }
     Ok(blocks)
@@ -194,23 +198,24 @@ fn zeroes(alloc: Global, count: usize) -> Result<Vec<u8>, NoMemory>
     Ok(vec![in alloc; 0; count]?)
 }
 
+// Room for so many blocks.
+fn room(alloc: Global, size: u32) -> Result<Vec<[u8; BLOCK_SIZE]>, NoMemory>
+    ensures { IfOk result (λ blocks. blocks.items ≡ []) }
+{
+    Ok(Vec::with_capacity(alloc, size as usize)?)
+}
+
 // Adds the blocks that these bytes make, one after another.
-fn add_blocks(
-    alloc: Global,
-    blocks: &mut Vec<Block>,
-    bytes: &[u8],
-    count: u32,
-) -> Result<(), NoMemory>
-    requires size { length bytes.now ≡ count * 1024 }
+fn add_blocks(blocks: &mut Vec<[u8; BLOCK_SIZE]>, bytes: &[u8]) -> Result<(), NoMemory>
+    requires size { length bytes.now % 1024 ≡ 0 }
     requires image { IsImage blocks.old.items }
-    ensures size { OnOk result (length blocks.new.items ≡ length blocks.old.items + count) }
+    ensures size { OnOk result
+        (length blocks.new.items ≡ length blocks.old.items + length bytes.now / 1024) }
     ensures image { OnOk result (IsImage blocks.new.items) }
     ensures bytes { OnOk result (concat blocks.new.items ≡ concat blocks.old.items ++ bytes.now) }
 {
-    for number in 0..count {
-        let at = number as usize * BLOCK_SIZE;
-        blocks.push(Block::of(alloc, &bytes[at..at + BLOCK_SIZE])?)?;
-    }
+    let (whole, _) = bytes.as_chunks::<BLOCK_SIZE>();
+    blocks.extend_from_slice(whole)?;
     Ok(())
 }
 

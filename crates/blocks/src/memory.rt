@@ -6,7 +6,7 @@ ghost use Rattle.blocks.specs.Disk.{IsImage};
 ghost use Rattle.blocks.specs.Images.{AreImages, HasLeft, only_last, has_left-image};
 
 use crate::past::Past;
-use crate::{Block, Disk, DiskFault, NoMemory};
+use crate::{BLOCK_SIZE, Block, Disk, DiskFault, NoMemory};
 use std::alloc::Global;
 
 /// A disk in memory. Its reads and writes never fail, and it is gone with the program: what a
@@ -15,7 +15,7 @@ use std::alloc::Global;
 pub struct MemDisk {
     alloc: Global,
     size: u32,
-    blocks: Vec<Block>,
+    blocks: Vec<[u8; BLOCK_SIZE]>,
     past: Past,
     writes: u64,
     ghost sized: { size ≡ length blocks.items },
@@ -29,7 +29,7 @@ impl MemDisk {
     ///
     /// # Errors
     ///
-    /// `NoMemory` where the allocator refuses one of them.
+    /// `NoMemory` where the allocator refuses the memory that they take, all in one piece.
     pub fn new(alloc: Global, size: u32) -> Result<MemDisk, NoMemory>
         ensures image { IfOk result
             (λ disk. ⟦<MemDisk as Disk>⟧.image disk ≡ replicate size zero_block) }
@@ -40,7 +40,7 @@ impl MemDisk {
     }
 
     // A disk of these blocks, to which nothing was written.
-    pub(crate) fn of(alloc: Global, blocks: Vec<Block>, size: u32) -> MemDisk
+    pub(crate) fn of(alloc: Global, blocks: Vec<[u8; BLOCK_SIZE]>, size: u32) -> MemDisk
         requires sized { size ≡ length blocks.items }
         requires blocks { IsImage blocks.items }
         ensures image { result.blocks.items ≡ blocks.items }
@@ -56,14 +56,12 @@ impl MemDisk {
     }
 }
 
-fn zeroed_blocks(alloc: Global, size: u32) -> Result<Vec<Block>, NoMemory>
+fn zeroed_blocks(alloc: Global, size: u32) -> Result<Vec<[u8; BLOCK_SIZE]>, NoMemory>
     ensures zeroes { IfOk result (λ blocks. blocks.items ≡ replicate size zero_block) }
     ensures blocks { IfOk result (λ blocks. IsImage blocks.items) }
 {
     let mut blocks = Vec::new(alloc);
-    for _ in 0..size {
-        blocks.push(Block::zeroed(alloc)?)?;
-    }
+    blocks.resize(size as usize, [0; BLOCK_SIZE])?;
     Ok(blocks)
 }
 
@@ -108,13 +106,13 @@ impl Disk for MemDisk {
     }
 
     fn read(&mut self, block: u32, into: &mut Block) -> Result<(), DiskFault> {
-        into.copy_from(&self.blocks[block as usize]);
+        into.put(0, &self.blocks[block as usize]);
         Ok(())
     }
 
     fn write(&mut self, block: u32, from: &Block) -> Result<(), DiskFault> {
         self.past.remember(self.alloc, &mut self.blocks);
-        self.blocks[block as usize].copy_from(from);
+        self.blocks[block as usize].copy_from_slice(from.as_slice());
         self.writes = self.writes.saturating_add(1);
         Ok(())
     }
