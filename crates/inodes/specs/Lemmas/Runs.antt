@@ -18,7 +18,8 @@ use Rattle.inodes.specs.Ialloc.{SearchState, at_next_block}
 use Rattle.inodes.specs.Table.{TableState}
 use Rattle.inodes.specs.Tasks.{TaskState, task, no_task}
 use Rattle.inodes.specs.Goes.{Shown, Goes, GoesFrom, IsTurn, free_at, shown_of}
-use Rattle.inodes.specs.Store.{StoreState, first_place, reply_of}
+use Rattle.inodes.specs.Places.{asked}
+use Rattle.inodes.specs.Store.{StoreState, first_place, first_taking, reply_of}
 use Rattle.inodes.specs.Steps.{Steps}
 use Rattle.inodes.specs.Runs.{StepMade, LeavesTask, IsRun, EndsWith, IsSearchRun, SeesTaken, WasSeenTaken, NoInodeSawAll, MadeSawLower, StepsLeaveOthers, CommitsLeaveAll, BoundsLeaveOthers}
 use Rattle.inodes.specs.Lemmas.Looks.{IsPassedBy, taken_by_look}
@@ -225,6 +226,13 @@ bounds_leave_others old p = (
   λ q op apart. record {
     own = get_or-set_other old.tasks q p
         (record { op = Some op; place = first_place op old.table.inode_count; gathered = None })
+        no_task
+        (λ same. apart (sym same));
+    numbers = refl;
+  },
+  λ q op room apart. record {
+    own = get_or-set_other old.tasks q p
+        (record { op = Some op; place = first_taking (asked op); gathered = room })
         no_task
         (λ same. apart (sym same));
     numbers = refl;
