@@ -14,6 +14,8 @@ pub mod Acting
 pub mod Events
 pub mod Promising
 pub mod Turns
+pub mod Turned
+pub mod Causes
 pub mod AtOpening
 pub mod Openings
 mod UnderWay

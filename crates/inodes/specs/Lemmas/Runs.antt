@@ -115,7 +115,7 @@ module _ {D N : Type 0} (disk : Ghosts D N) (p n j : ℕ) (op : Op) (o : Option 
       (task step.after.tasks p).place (before step) (now step)
 
   -- a look that passed the number by
-  sees : (step : StepMade D) (m : SearchState) (i : ℕ) (found : Option ℕ) →
+  pub sees : (step : StepMade D) (m : SearchState) (i : ℕ) (found : Option ℕ) →
       IsAt p step.before (place.Creating m) → m.slot ≡ Some i →
       free_at (before step).current n m ≡ found → IsPassedBy found j →
       inode_block j ≡ m.block → Sees step
@@ -141,7 +141,7 @@ module _ {D N : Type 0} (disk : Ghosts D N) (p n j : ℕ) (op : Op) (o : Option 
       )
 
   -- the step of the turn
-  seen_at_turn : (step : StepMade D) (m : SearchState) (slot : Option ℕ) → m.slot ≡ slot →
+  pub seen_at_turn : (step : StepMade D) (m : SearchState) (slot : Option ℕ) → m.slot ≡ slot →
       IsAt p step.before (place.Creating m) → m.block ≤ inode_block j →
       SearchGoes step slot m reply → Sees step
   seen_at_turn step m None got stands ahead goes = absurd goes.0
