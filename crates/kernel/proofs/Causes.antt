@@ -64,7 +64,7 @@ extends_entry (d ∷ es) (f ∷ fs) (suc k) e more at =
     let lt = r.1.inside in
     (r.0, record { inside = omega (arith, lt); is = r.1.is }, r.2)
 
-same_op : (e f : Entry) → Becomes e f → f.op ≡ e.op
+pub same_op : (e f : Entry) → Becomes e f → f.op ≡ e.op
 same_op e f (inl is) = ap (λ (x : Entry). x.op) is
 same_op e f (inr is) = ap (λ (x : Entry). x.op) is.1.1
 

@@ -16,6 +16,7 @@ pub mod Promising
 pub mod Turns
 pub mod Turned
 pub mod Causes
+pub mod ShortCauses
 pub mod AtOpening
 pub mod Openings
 mod UnderWay
