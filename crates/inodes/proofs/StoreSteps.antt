@@ -30,7 +30,6 @@ use Rattle.wal.specs.Volume.{VolumeState}
 use Rattle.inodes.specs.Ialloc.{SearchState}
 use Rattle.blockmap.specs.declared.progress.Progress.{Progress}
 use Rattle.blockmap.specs.declared.progress.Progress.TheVariants as search
-use Rattle.model.specs.declared.types.operations.TaskProgress.{TaskProgress}
 use Rattle.model.specs.declared.types.operations.TaskProgress.TheVariants as progress
 use Rattle.inodes.specs.declared.tasks.Place.{Place}
 use Rattle.inodes.specs.declared.tasks.Place.TheVariants as place
@@ -43,7 +42,7 @@ use Rattle.inodes.specs.Table.{TableState}
 use Rattle.inodes.specs.Holding.{claim_by, claims_of, claim_of}
 use Rattle.inodes.specs.Lemmas.Holding.{claim_stays}
 use Rattle.inodes.specs.Places.{HasSlot, asked_by, grip_by, grip_of, looks_left, steps_left}
-use Rattle.inodes.specs.Store.{StoreState, FitsFiles, Agrees, IsSearching, current_of, reply_of}
+use Rattle.inodes.specs.Store.{StoreState, FitsFiles, Agrees, IsSearching, current_of}
 use Rattle.inodes.specs.Lemmas.Bounds.{some_step}
 use Rattle.inodes.specs.Lemmas.Looks.{late_number}
 use Rattle.inodes.proofs.Frames.{groups_noted, groups_same, marks_same, within_image}

@@ -1,5 +1,5 @@
 -- The causes of answers that give less than was asked for: what the turns of a run saw.
-use Rattle.std.proofs.Common.{◌≡◌, ◌≢◌, ◌⊎◌, ◌<◌, ◌≤◌, ◌+◌, inl, inr, ℕ, zero, suc, Bool, true, false, cond, ltb, List, [], ◌∷◌, ◌++◌, length, get_or, set, refl, sym, ◌∙◌, ap, subst, ⊎_elim, arith, Option, Some, None, length-set}
+use Rattle.std.proofs.Common.{◌≡◌, ◌≢◌, ◌⊎◌, ◌<◌, ◌≤◌, ◌+◌, inl, inr, ℕ, zero, suc, Bool, true, false, cond, List, [], ◌∷◌, ◌++◌, length, get_or, set, refl, sym, ◌∙◌, ap, subst, ⊎_elim, arith, Option, Some, None, length-set}
 use Rattle.std.specs.Prelude.{IsTrue}
 use Rattle.std.proofs.lemmas.Bool.{cases_eq, cases_lt}
 use Rattle.std.proofs.Math.Seq.{get_or-append_seam}
@@ -10,16 +10,14 @@ use Rattle.model.specs.declared.types.operations.Entry.{Entry}
 use Rattle.model.specs.declared.types.operations.Op.{Op}
 use Rattle.model.specs.declared.types.operations.Op.TheVariants.{Create, Write, Read, Trunc, Remove, Stat}
 use Rattle.model.specs.declared.types.operations.Reply.{Reply}
-use Rattle.model.specs.declared.types.operations.Reply.TheVariants.{Made, NoInode, Wrote}
+use Rattle.model.specs.declared.types.operations.Reply.TheVariants.{Made, NoInode}
 use Rattle.model.specs.declared.types.operations.TaskProgress.{TaskProgress}
 use Rattle.model.specs.declared.types.operations.TaskProgress.TheVariants as progress
 use Rattle.model.specs.Journal.{is_at_once, is_number}
-use Rattle.model.specs.Layout.{inode_block}
-use Rattle.model.specs.Operations.{transfer_limit}
 use Rattle.inodes.specs.Goes.{Goes}
 use Rattle.inodes.specs.Lemmas.Causes.{IsAhead, SearchesOn, search_sees}
 use Rattle.inodes.specs.Places.{is_over}
-use Rattle.inodes.specs.Runs.{StepMade, SeesTaken}
+use Rattle.inodes.specs.Runs.{SeesTaken}
 use Rattle.inodes.specs.Steps.{Steps}
 use Rattle.inodes.specs.Store.{StoreState, first_place, with_begun}
 use Rattle.inodes.specs.Tasks.{TaskState, task, no_task}
@@ -40,9 +38,9 @@ use Rattle.journal.specs.Processes.{World, process, idle, place_behind, turned_f
 use Rattle.journal.specs.declared.types.At.{At}
 use Rattle.journal.specs.declared.types.At.TheVariants as at
 use Rattle.journal.specs.declared.types.Process.{Process}
-use Rattle.kernel.specs.Causes.{IsAnswered, NoInodeHasCause, SomeTurnMakes, TurnMakes}
-use Rattle.kernel.specs.Next.{BeginsWith, Finishes, NextAt, NextIf, Works, world_after}
-use Rattle.kernel.specs.Runs.{Makes, Runs, with_shutdown}
+use Rattle.kernel.specs.Causes.{NoInodeHasCause, SomeTurnMakes, TurnMakes}
+use Rattle.kernel.specs.Next.{BeginsWith, NextAt, NextIf, Works, world_after}
+use Rattle.kernel.specs.Runs.{Runs, with_shutdown}
 use Rattle.kernel.specs.State.{State, ats_of, waiting_of}
 use Rattle.kernel.specs.Steps.{MakesStep}
 use Rattle.kernel.specs.declared.types.Step.{Step}
@@ -50,7 +48,7 @@ use Rattle.kernel.specs.declared.types.Turn.{Turn}
 use Rattle.kernel.specs.declared.types.Turn.TheVariants.{Proc, Shut}
 use Rattle.kernel.specs.declared.waiting.Waiting.{Waiting}
 use Rattle.kernel.specs.declared.waiting.Waiting.TheVariants as waiting
-use Rattle.kernel.proofs.Turned.{AddsEntry, JournalBy, TellsEntry, Turned, turned_by}
+use Rattle.kernel.proofs.Turned.{AddsEntry, JournalBy, Turned, turned_by}
 
 -- ---- the journal
 

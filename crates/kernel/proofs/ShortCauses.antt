@@ -1,7 +1,7 @@
 -- The cause of a short write: what the turns of a run saw.
 use Rattle.std.proofs.Common.{◌≡◌, ◌≢◌, ◌⊎◌, ◌<◌, ◌≤◌, ◌+◌, inl, inr, ℕ, zero, suc, Bool, true, false, cond, ltb, List, [], ◌∷◌, ◌++◌, length, set, refl, sym, ◌∙◌, ap, subst, ⊎_elim, arith, Option, Some, None}
 use Rattle.std.proofs.lemmas.Bool.{cases_eq, cases_lt}
-use Rattle.std.proofs.lemmas.List.{length-append, set-get_or}
+use Rattle.std.proofs.lemmas.List.{length-append}
 use Rattle.blocks.specs.declared.disk.Disk as disk_trait
 use Rattle.blocks.specs.declared.errors.DiskFault.{DiskFault}
 use Rattle.model.specs.declared.types.operations.Entry.{Entry}
@@ -21,7 +21,6 @@ use Rattle.inodes.specs.Tasks.{TaskState, task}
 use Rattle.inodes.specs.WriteRuns.{SeesFull}
 use Rattle.inodes.specs.Writei.{WriteState}
 use Rattle.inodes.specs.Writing.{extent_of}
-use Rattle.inodes.specs.declared.tasks.Place.{Place}
 use Rattle.inodes.specs.declared.tasks.Place.TheVariants as place
 use Rattle.inodes.specs.declared.writei.Extent.{Extent}
 use Rattle.ports.specs.History.{Side, first_in}
@@ -30,7 +29,7 @@ use Rattle.ports.specs.declared.intake.Intake as intake_trait
 use Rattle.journal.specs.AtOnce.{at_once_reply}
 use Rattle.journal.specs.Grows.{Becomes, Extends}
 use Rattle.journal.specs.Histories.{Owed}
-use Rattle.journal.specs.Journal.{entry_in, entry_of}
+use Rattle.journal.specs.Journal.{entry_of}
 use Rattle.journal.specs.Lemmas.Answers.{entry_inside}
 use Rattle.journal.specs.Lemmas.Lists.{entry_more, entry_new, entry_same, entry_set, entry_set_other}
 use Rattle.journal.specs.Lemmas.Places.{there_now, others_stay}
@@ -50,7 +49,7 @@ use Rattle.kernel.specs.declared.types.Step.{Step}
 use Rattle.kernel.specs.declared.types.Turn.{Turn}
 use Rattle.kernel.specs.declared.types.Turn.TheVariants.{Proc, Shut}
 use Rattle.kernel.proofs.Causes.{Added, added, becomes_now, extends_entry, last_same, none_past, reply_before, runs_extend, same_op, same_pid, turned}
-use Rattle.kernel.proofs.Turned.{AddsEntry, JournalBy, TellsEntry, Turned}
+use Rattle.kernel.proofs.Turned.{AddsEntry, JournalBy, Turned}
 
 -- ---- each process has its own entry
 

@@ -31,7 +31,7 @@ use Rattle.journal.specs.Open.{told}
 use Rattle.journal.specs.Processes.{World, process, idle, entry_place, place_behind, refusal, turned_from, decided, told_at, over_at, committing_at, with_place}
 use Rattle.kernel.specs.declared.types.Step.{Step}
 use Rattle.kernel.specs.declared.waiting.Waiting.{Waiting}
-use Rattle.kernel.specs.Next.{BeginsWith, Ends, Finishes, NextAt, NextIf, Works, Writes, world_after, world_behind, world_ended, world_of_last, world_of_told, world_written}
+use Rattle.kernel.specs.Next.{BeginsWith, Ends, Finishes, NextAt, NextIf, Works, Writes, world_after, world_behind, world_ended, world_written}
 use Rattle.kernel.specs.State.{room_for, waiting_of}
 
 -- what becomes of the store beside the task of process q

@@ -17,7 +17,7 @@ use Rattle.blockmap.specs.declared.progress.Progress.TheVariants as machine
 use Rattle.inodes.specs.declared.tasks.Place.{Place}
 use Rattle.inodes.specs.declared.tasks.Place.TheVariants as place
 use Rattle.inodes.specs.declared.writei.Extent.{Extent}
-use Rattle.inodes.specs.Goes.{Goes, GoesFrom, place_of_lock, place_of_reading, place_of_writing, progress_of_lock, progress_of_read, progress_of_trunc, progress_of_write, shown_of}
+use Rattle.inodes.specs.Goes.{Goes, GoesFrom, place_of_lock, place_of_writing, progress_of_lock, progress_of_read, progress_of_trunc, progress_of_write, shown_of}
 use Rattle.inodes.specs.Ialloc.{SearchState, at_next_block}
 use Rattle.inodes.specs.Lemmas.Runs.{IsAt, goes_from, sees, seen_at_turn}
 use Rattle.inodes.specs.Lemmas.WriteRuns.{IsGoingOn, comes_next, not_over, sees_or_on}
@@ -26,7 +26,7 @@ use Rattle.inodes.specs.Runs.{StepMade, SeesTaken}
 use Rattle.inodes.specs.Steps.{Steps}
 use Rattle.inodes.specs.Store.{StoreState, current_of}
 use Rattle.inodes.specs.Tasks.{task}
-use Rattle.inodes.specs.Turning.{if_used, place_by_refusal, place_when_taken, reply_when_taken, write_refusal}
+use Rattle.inodes.specs.Turning.{if_used, place_by_refusal, place_when_taken, reply_when_taken}
 use Rattle.inodes.specs.Writei.{WriteState, first_write}
 use Rattle.inodes.specs.WriteRuns.{SeesFull}
 use Rattle.inodes.specs.Writing.{extent_of}
