@@ -20,7 +20,7 @@ writes_put disk v p i b at bytes new w held makes puts =
     let x = seen (disk.image v.device) v.buffers in
     let here : block_at_slot v i ≡ b = ap block_or_zero held.block in
     let content : overwritten (buffer v.buffers i).bytes at bytes ≡ new =
-        ap (λ (l : List ℕ). overwritten l at bytes) held.bytes ∙ makes in
+    ap (λ (l : List ℕ). overwritten l at bytes) held.bytes ∙ makes in
     record {
       content = new;
       image = refl;
