@@ -3,10 +3,10 @@ use Rattle.std.specs.Prelude.{◌≡◌, ℕ, List, slice_set, Option, Some, Non
 use Rattle.blocks.specs.Block.{overwritten}
 use Rattle.blocks.specs.Disk.{Image, block_at}
 use Rattle.blocks.specs.declared.disk.Disk.{Ghosts}
-use Rattle.bcache.specs.Buffers.{Buffers, buffer, block_or_zero, released}
+use Rattle.bcache.specs.Buffers.{Buffers, buffer, block_or_zero, changed, released}
 use Rattle.wal.specs.Held.{LocksAfter, GivesUpLock}
 use Rattle.wal.specs.Joint.{seen}
-use Rattle.wal.specs.Machine.{noted}
+use Rattle.wal.specs.Machine.{LogState, noted, noted_cache}
 use Rattle.wal.specs.Volume.{VolumeState, Holds, Gets, ReadsFor, after_change}
 use Rattle.wal.specs.declared.types.Get.{Get}
 use Rattle.wal.specs.declared.types.Get.TheVariants as get
@@ -64,10 +64,18 @@ pub record Puts {D : Type 0} (image : D → Image) (v : VolumeState D) (p i at :
       (overwritten (block_at (seen (image v.device) v.buffers) (block_at_slot v i)) at bytes)
   pub locks : GivesUpLock v.buffers w.buffers p i
 
+-- the buffers once block b, which slot i holds, has this content, is logged and released: a new home
+-- of the log is pinned
+abbrev pub with_block_written : Buffers → LogState → ℕ → ℕ → List ℕ → Buffers
+with_block_written c l i b content = released (changed (noted_cache l c i b) i content) i
+
 -- Block b, which slot i holds, is written, so that the current image is y; it is logged and
 -- released, and nothing else changes.
 pub record WritesBlock {D N : Type 0} (disk : Ghosts D N) (v : VolumeState D) (p i b : ℕ)
     (y : Image) (w : VolumeState D) : Type 0 where
+  pub content : List ℕ
+  pub image : y ≡ slice_set (seen (disk.image v.device) v.buffers) b content
+  pub buffers : w.buffers ≡ with_block_written v.buffers v.log i b content
   pub current : seen (disk.image w.device) w.buffers ≡ y
   pub log : w.log ≡ noted v.log p b
   pub device : w.device ≡ v.device

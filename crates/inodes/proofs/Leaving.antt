@@ -88,9 +88,13 @@ module _ {D N : Type 0} (disk : Ghosts D N) (s : StoreState D) (p k : ℕ) (is :
     files_left : (op : Op) (files : Files) → FitsFiles disk.image s files → FitsFiles disk.image (store_left ts) files
     files_left op files fits = files_same disk s p 0 op r (store_left ts) (finished (task s.tasks p)) is well inside looked (sym (holds 0)) files fits
 
+    over_now : task ts p ≡ finished (task s.tasks p)
+    over_now = ap (λ (l : List TaskState). task l p) tasks ∙ get_or-set_same s.tasks p (finished (task s.tasks p)) no_task inside
+
     gives_up : GivesUp s p k (store_left ts)
     gives_up = record {
-      next = ap (λ (t : TaskState). t.place) (ap (λ (l : List TaskState). task l p) tasks ∙ get_or-set_same s.tasks p (finished (task s.tasks p)) no_task inside);
+      next = ap (λ (t : TaskState). t.place) over_now;
+      gathered = ap (λ (t : TaskState). t.gathered) over_now;
       table = refl;
       volume = refl;
     }

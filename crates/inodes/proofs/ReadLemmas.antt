@@ -129,9 +129,6 @@ module _ {D N : Type 0} (disk : Ghosts D N) (v : VolumeState D) (p i count : ℕ
       × Holds (seen (disk.image v.device) v.buffers) v.buffers p (address_in (seen (disk.image v.device) v.buffers) m.inode (m.next / 1024)) i
   block = got_at disk.image v p _ i m.target u.ready.leads u.got
 
-  some_bytes : 0 < count
-  some_bytes = let is = u.most in let some = u.ready.some in omega (arith, is, some)
-
   gathered : (n : ReadState) → n.next ≡ m.next + count → Gathers (bytes_in (seen (disk.image v.device) v.buffers) m.inode) m n g h
   gathered n next =
       let x = seen (disk.image v.device) v.buffers in
@@ -160,8 +157,7 @@ module _ {D N : Type 0} (disk : Ghosts D N) (v : VolumeState D) (p i count : ℕ
   works : (n : ReadState) (r : Progress (Unit {0})) → n.next ≡ m.next + count → IsMade r → OnMore r (n.target ≡ target_for m.inode (n.next / 1024))
       → Works disk m.target v p m r w n
   works n r next made goes =
-      let some = some_bytes in
-      subst (λ (t : Target). Works disk t v p m r w n) (sym block.0) ((omega (arith, some, next), made, u.releases, goes))
+      subst (λ (t : Target). Works disk t v p m r w n) (sym block.0) ((next ∙ ap (λ (k : ℕ). m.next + k) u.most, made, u.releases, goes))
 
   -- the last bytes
   pub uses_last : (n : ReadState) → n.inode ≡ m.inode → n.end ≡ m.end → n.next ≡ m.next + count → n.next ≡ n.end

@@ -17,7 +17,7 @@ use Rattle.wal.specs.Volume.{VolumeState, faults_after}
 use Rattle.blockmap.specs.declared.progress.Progress.{Progress}
 use Rattle.inodes.specs.declared.tasks.Place.{Place}
 use Rattle.inodes.specs.declared.tasks.Place.TheVariants as place
-use Rattle.inodes.specs.Goes.{Goes, GoesFrom, shown_of}
+use Rattle.inodes.specs.Goes.{Goes, GoesFrom, progress_of_search, shown_of}
 use Rattle.inodes.specs.Grips.{Grip, TableIs, locked_grip}
 use Rattle.inodes.specs.Holding.{claims_of}
 use Rattle.inodes.specs.Ialloc.{SearchState, SearchSteps, MayStep}
@@ -34,7 +34,7 @@ use Rattle.inodes.proofs.Looking.{IsNow, Stepped, steps_stepped, store_stepped}
 use Rattle.inodes.proofs.LooksKept.{KeepsUsed}
 use Rattle.inodes.proofs.Searching.{ready_of, search as searching}
 use Rattle.inodes.proofs.StoreKeeps.{geometry_then, task_then}
-use Rattle.inodes.proofs.StoreSteps.{answer_of, apart_then, asleep_then, claims_then, fault_then, falls_then, files_then, goes_now, groups_after, held_then, keeps_now, looks_at_then, marks_now, no_inode_held, place_then, same_op, set_then, store_then, unclaimed_then, ungripped_then}
+use Rattle.inodes.proofs.StoreSteps.{apart_then, asleep_then, claims_then, fault_then, falls_then, files_then, goes_now, groups_after, held_then, keeps_now, looks_at_then, marks_now, no_inode_held, place_then, same_op, set_then, store_then, unclaimed_then, ungripped_then}
 
 -- nobody locks number 0
 zero_unlocked : (cur : Image) (t : TableState) (ts : List TaskState) → AreLooking cur t ts → (q k : ℕ) → grip_of (task ts q) ≡ Some (locked_grip k 0) → ⊥
@@ -104,7 +104,7 @@ module _ {D N : Type 0} (disk : Ghosts D N) (s now : StoreState D) (p : ℕ) (m 
       keeps : KeepsUsed s.table.inode_count 0 (claims_of s.tasks) (current_of disk.image s.volume) (current_of disk.image u)
       keeps = keeps_now disk.image s t p m new op r agrees is.numbers lt stood is_op steps.current claimed_same is.geometry filled few m.slot looks.files.0 (files_fit disk.image s looks) steps.goes
 
-      here : fault_of_task (answer_of r) ≡ None → IsNow disk.image s t p its
+      here : fault_of_task (progress_of_search r) ≡ None → IsNow disk.image s t p its
       here fine =
           let now = task_then disk s.volume u s.table.inode_count p s.tasks m new r agrees lt stood steps (sym (fault_then r) ∙ fine) in
           record {
@@ -120,7 +120,7 @@ module _ {D N : Type 0} (disk : Ghosts D N) (s now : StoreState D) (p : ℕ) (m 
             looks = looks_at_then (current_of disk.image u) s.table its m new r;
           }
 
-      stepped : Stepped disk s p 0 op (answer_of r) t its
+      stepped : Stepped disk s p 0 op (progress_of_search r) t its
       stepped = record {
         tasks = set_then s.tasks p m new r stood;
         op = refl;
@@ -141,21 +141,22 @@ module _ {D N : Type 0} (disk : Ghosts D N) (s now : StoreState D) (p : ℕ) (m 
       }
 
       store_searched : IsStore disk.image t
-      store_searched = store_stepped disk s p 0 op (answer_of r) t its is well lt stepped
+      store_searched = store_stepped disk s p 0 op (progress_of_search r) t its is well lt stepped
 
-      search_steps : Steps disk s p op (answer_of r) t
-      search_steps = steps_stepped disk s p 0 op (answer_of r) t its is well lt stepped
-          (subst (λ (a : Place). Goes disk a s p op (answer_of r) t) (sym stood) (
-            subst (λ (a : Place). GoesFrom m.slot s.table.inode_count p m s.volume.buffers (answer_of r) a (shown_of disk.image s.volume) (shown_of disk.image u)) (sym placed)
+      search_steps : Steps disk s p op (progress_of_search r) t
+      search_steps = steps_stepped disk s p 0 op (progress_of_search r) t its is well lt stepped
+          (subst (λ (a : Place). Goes disk a s p op (progress_of_search r) t) (sym stood) (
+            subst (λ (a : Place). GoesFrom m.slot s.table.inode_count p m s.volume.buffers (progress_of_search r) a (shown_of disk.image s.volume) (shown_of disk.image u)) (sym placed)
                 (goes_now disk.image s t p m new op r agrees is.numbers lt stood is_op steps.current claimed_same is.geometry filled few m.slot steps.log steps.buffers steps.goes),
             refl,
+            record { answer = r; gives = refl; buffers = steps.buffers },
           ))
           (record {
             sleeping = λ cause waits. asleep_then s u p new r steps.asleep cause waits;
             held = λ waits. subst (λ (a : Place). IsHeldByAnother s p (block_at_place a)) (sym stood) (held_then s p m r agrees stood u.buffers new.slot steps.locks waits);
             inode = λ waits. absurd (no_inode_held m.slot s.volume.buffers u.buffers p m.block new.slot r steps.locks waits);
           })
-          (subst (λ (q : Op). LeavesLate s p q (answer_of r)) (sym (same_op disk.image s t p m new op r agrees is.numbers lt stood is_op steps.current claimed_same)) (apart_then disk.image s p m new s.volume.buffers m.slot r looks is.numbers steps.goes))
+          (subst (λ (q : Op). LeavesLate s p q (progress_of_search r)) (sym (same_op disk.image s t p m new op r agrees is.numbers lt stood is_op steps.current claimed_same)) (apart_then disk.image s p m new s.volume.buffers m.slot r looks is.numbers steps.goes))
           (λ made unfinished. subst (λ (a : Place). steps_left (place_then r m new) s.table.inode_count < steps_left a s.table.inode_count) (sym stood)
           (falls_then s.table.inode_count m new (current_of disk.image s.volume) s.volume.buffers r mine.count mine.last steps.goes made))
         where
@@ -165,7 +166,7 @@ module _ {D N : Type 0} (disk : Ghosts D N) (s now : StoreState D) (p : ℕ) (m 
     pub store_now : IsStore disk.image t
     store_now = store_searched (Create m.kind) mine.op
 
-    pub steps_now : (op : Op) → (task now.tasks p).op ≡ Some op → Steps disk now p op (answer_of r) t
+    pub steps_now : (op : Op) → (task now.tasks p).op ≡ Some op → Steps disk now p op (progress_of_search r) t
     steps_now op asks =
         let same = subst (λ (o : StoreState D). (task o.tasks p).op ≡ Some op) (sym view) asks in
-        subst (λ (o : StoreState D). Steps disk o p op (answer_of r) t) view (search_steps op same)
+        subst (λ (o : StoreState D). Steps disk o p op (progress_of_search r) t) view (search_steps op same)

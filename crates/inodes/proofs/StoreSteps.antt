@@ -30,20 +30,19 @@ use Rattle.wal.specs.Volume.{VolumeState}
 use Rattle.inodes.specs.Ialloc.{SearchState}
 use Rattle.blockmap.specs.declared.progress.Progress.{Progress}
 use Rattle.blockmap.specs.declared.progress.Progress.TheVariants as search
-use Rattle.model.specs.declared.types.operations.TaskProgress.{TaskProgress}
 use Rattle.model.specs.declared.types.operations.TaskProgress.TheVariants as progress
 use Rattle.inodes.specs.declared.tasks.Place.{Place}
 use Rattle.inodes.specs.declared.tasks.Place.TheVariants as place
 use Rattle.inodes.specs.Creation.{lowest_free}
 use Rattle.inodes.specs.Ialloc.{BuffersAfter, SearchGoes, SearchLocks, IsFree, current_after, log_after, fault_in}
 use Rattle.inodes.specs.Tasks.{TaskState, task}
-use Rattle.inodes.specs.Goes.{Shown, shown_of, FindsNone, GetsBlock, LooksAtBlock, GoesFrom}
+use Rattle.inodes.specs.Goes.{Shown, shown_of, FindsNone, GetsBlock, LooksAtBlock, GoesFrom, progress_of_search}
 use Rattle.inodes.specs.Looks.{AreLooking, LooksAt}
 use Rattle.inodes.specs.Table.{TableState}
 use Rattle.inodes.specs.Holding.{claim_by, claims_of, claim_of}
 use Rattle.inodes.specs.Lemmas.Holding.{claim_stays}
 use Rattle.inodes.specs.Places.{HasSlot, asked_by, grip_by, grip_of, looks_left, steps_left}
-use Rattle.inodes.specs.Store.{StoreState, FitsFiles, Agrees, IsSearching, current_of, reply_of}
+use Rattle.inodes.specs.Store.{StoreState, FitsFiles, Agrees, IsSearching, current_of}
 use Rattle.inodes.specs.Lemmas.Bounds.{some_step}
 use Rattle.inodes.specs.Lemmas.Looks.{late_number}
 use Rattle.inodes.proofs.Frames.{groups_noted, groups_same, marks_same, within_image}
@@ -53,13 +52,6 @@ use Rattle.inodes.proofs.Searching.{search as searching}
 use Rattle.model.specs.Tasks.{FilesThen, Answers, reply_at_turn, fault_of_task, Marks}
 use Rattle.inodes.specs.Steps.{IsHeldByAnother, LeavesNumber, LeavesLate, is_made}
 use Rattle.inodes.proofs.Unclaimed.{late_used}
-
--- what a store answers for what its search came to
-abbrev pub answer_of : Progress (Option ℕ) → TaskProgress
-answer_of search.Moved = progress.Moved
-answer_of (search.Sleeping cause) = progress.Sleeping cause
-answer_of (search.Over made) = progress.Turned (Some (reply_of made))
-answer_of (search.Fault fault) = progress.Fault fault
 
 -- where the task stands then
 abbrev pub place_then : Progress (Option ℕ) → SearchState → SearchState → Place
@@ -88,13 +80,13 @@ module _ {D : Type 0} (image : D → Image) (v : VolumeState D) (p n : ℕ) (m n
     shown = shows;
   }
 
-  gets_block : (r : Progress (Option ℕ)) → Shows r → BuffersAfter image None m v p r d → SearchGoes None before.current v.buffers m r new → GetsBlock v.buffers m (answer_of r) (place_then r m new) × (now ≡ before)
+  gets_block : (r : Progress (Option ℕ)) → Shows r → BuffersAfter image None m v p r d → SearchGoes None before.current v.buffers m r new → GetsBlock v.buffers m (progress_of_search r) (place_then r m new) × (now ≡ before)
   gets_block search.Moved shows made g = ((g.0, g.1, ap place.Creating g.2), shows)
   gets_block (search.Sleeping cause) shows made g = ((g.0, refl), shows)
   gets_block (search.Over out) shows made g = absurd g
   gets_block (search.Fault fault) shows made g = ((made.block, refl), shows)
 
-  looks_at : (s : ℕ) (r : Progress (Option ℕ)) → Shows r → Inode r → SearchGoes (Some s) before.current v.buffers m r new → LooksAtBlock n p m (answer_of r) (place_then r m new) before now
+  looks_at : (s : ℕ) (r : Progress (Option ℕ)) → Shows r → Inode r → SearchGoes (Some s) before.current v.buffers m r new → LooksAtBlock n p m (progress_of_search r) (place_then r m new) before now
   looks_at s search.Moved shows made g = (ap place.Creating g.0, finds_none shows (g.3 (count ∙ numbers)) g.2)
   looks_at s (search.Sleeping cause) shows made g = absurd g
   looks_at s (search.Over None) shows made g =
@@ -111,7 +103,7 @@ module _ {D : Type 0} (image : D → Image) (v : VolumeState D) (p n : ℕ) (m n
   )
   looks_at s (search.Fault fault) shows made g = absurd g
 
-  pub goes_from : (o : Option ℕ) (r : Progress (Option ℕ)) → Shows r → Inode r → BuffersAfter image o m v p r d → SearchGoes o before.current v.buffers m r new → GoesFrom o n p m v.buffers (answer_of r) (place_then r m new) before now
+  pub goes_from : (o : Option ℕ) (r : Progress (Option ℕ)) → Shows r → Inode r → BuffersAfter image o m v p r d → SearchGoes o before.current v.buffers m r new → GoesFrom o n p m v.buffers (progress_of_search r) (place_then r m new) before now
   goes_from None r shows inode made g = gets_block r shows made g
   goes_from (Some s) r shows inode made g = looks_at s r shows inode g
 
@@ -189,10 +181,10 @@ module _ {D : Type 0} (image : D → Image) (s t : StoreState D) (p : ℕ) (m ne
       let new = with_new_file files i m.kind in
       (new, done.1, subst (λ (y : Image). FitsHeld new y (claims_of t.tasks)) (sym now) (held_alike new (with_inode cur i (new_inode m.kind)) (claims_of s.tasks) (claims_of t.tasks) claimed_same done.0.fits))
 
-  pub files_then : (o : Option ℕ) → SearchGoes o cur s.volume.buffers m r new → (files : Files) → FitsFiles image s files → FilesThen (form_of cur) op (answer_of r) files (FitsFiles image t)
-  files_then o g files fits = subst (λ (q : Op). FilesThen (form_of cur) q (answer_of r) files (FitsFiles image t)) (sym same_op) (by_answer r o g current)
+  pub files_then : (o : Option ℕ) → SearchGoes o cur s.volume.buffers m r new → (files : Files) → FitsFiles image s files → FilesThen (form_of cur) op (progress_of_search r) files (FitsFiles image t)
+  files_then o g files fits = subst (λ (q : Op). FilesThen (form_of cur) q (progress_of_search r) files (FitsFiles image t)) (sym same_op) (by_answer r o g current)
     where
-      by_answer : (r : Progress (Option ℕ)) (o : Option ℕ) → SearchGoes o cur s.volume.buffers m r new → current_of image t.volume ≡ current_after cur m r → FilesThen (form_of cur) (Create m.kind) (answer_of r) files (FitsFiles image t)
+      by_answer : (r : Progress (Option ℕ)) (o : Option ℕ) → SearchGoes o cur s.volume.buffers m r new → current_of image t.volume ≡ current_after cur m r → FilesThen (form_of cur) (Create m.kind) (progress_of_search r) files (FitsFiles image t)
       by_answer search.Moved o g now = still files now fits
       by_answer (search.Sleeping cause) o g now = still files now fits
       by_answer (search.Over None) o g now = (files, after-no_inode (form_of cur) files m.kind mine.kind, still files now fits)
@@ -211,7 +203,7 @@ module _ {D : Type 0} (image : D → Image) (s t : StoreState D) (p : ℕ) (m ne
     shows log = ap (λ (y : Image). record { current = y; log = t.volume.log }) current ∙ ap (λ (l : LogState). record { current = current_after cur m r; log = l }) log
 
     pub goes_now : (o : Option ℕ) → t.volume.log ≡ log_after s.volume.log p m.block r → BuffersAfter image o m s.volume p r t.volume.buffers → SearchGoes o cur s.volume.buffers m r new
-        → GoesFrom o s.table.inode_count p m s.volume.buffers (answer_of r) (place_then r m new) (shown_of image s.volume) (shown_of image t.volume)
+        → GoesFrom o s.table.inode_count p m s.volume.buffers (progress_of_search r) (place_then r m new) (shown_of image s.volume) (shown_of image t.volume)
     goes_now o log buffers g = goes_from image s.volume p s.table.inode_count m new (shown_of image t.volume) t.volume.buffers mine.count numbers o r (shows log) made buffers g
 
     fits_held : (files : Files) → FitsFiles image s files → FitsHeld files cur (claims_of s.tasks)
@@ -238,13 +230,13 @@ module _ {D : Type 0} (image : D → Image) (s t : StoreState D) (p : ℕ) (m ne
         by_answer (search.Over (Some i)) (Some k) g now = new_one i g.2 now
         by_answer (search.Fault fault) o g now = here now
 
-    pub marks_now : (o : Option ℕ) → SearchGoes o cur s.volume.buffers m r new → Marks (reply_at_turn (answer_of r)) cur (current_of image t.volume)
+    pub marks_now : (o : Option ℕ) → SearchGoes o cur s.volume.buffers m r new → Marks (reply_at_turn (progress_of_search r)) cur (current_of image t.volume)
     marks_now o g = by_answer r o g current
       where
         nothing : (made : Option Reply) → ((i : ℕ) → is_making i made ≡ true → ⊥) → current_of image t.volume ≡ cur → Marks made cur (current_of image t.volume)
         nothing made none now = subst (λ (y : Image). Marks made cur y) (sym now) (marks_same made cur none)
 
-        by_answer : (r : Progress (Option ℕ)) (o : Option ℕ) → SearchGoes o cur s.volume.buffers m r new → current_of image t.volume ≡ current_after cur m r → Marks (reply_at_turn (answer_of r)) cur (current_of image t.volume)
+        by_answer : (r : Progress (Option ℕ)) (o : Option ℕ) → SearchGoes o cur s.volume.buffers m r new → current_of image t.volume ≡ current_after cur m r → Marks (reply_at_turn (progress_of_search r)) cur (current_of image t.volume)
         by_answer search.Moved o g now = nothing None (λ i e. false≢true e) now
         by_answer (search.Sleeping cause) o g now = nothing None (λ i e. false≢true e) now
         by_answer (search.Over None) o g now = nothing (Some NoInode) (λ i e. false≢true e) now
@@ -300,21 +292,21 @@ looks_at_then x table t m new (search.Sleeping cause) = tt
 looks_at_then x table t m new (search.Over made) = tt
 looks_at_then x table t m new (search.Fault fault) = tt
 
-pub fault_then : (r : Progress (Option ℕ)) → fault_of_task (answer_of r) ≡ fault_in r
+pub fault_then : (r : Progress (Option ℕ)) → fault_of_task (progress_of_search r) ≡ fault_in r
 fault_then search.Moved = refl
 fault_then (search.Sleeping cause) = refl
 fault_then (search.Over made) = refl
 fault_then (search.Fault fault) = refl
 
 pub asleep_then : {D : Type 0} (s : StoreState D) (u : VolumeState D) (p : ℕ) (new : SearchState) (r : Progress (Option ℕ)) → ((cause : Why) → r ≡ search.Sleeping cause → u ≡ s.volume)
-    → (cause : Why) → answer_of r ≡ progress.Sleeping cause → store_then s u p new r ≡ s
+    → (cause : Why) → progress_of_search r ≡ progress.Sleeping cause → store_then s u p new r ≡ s
 asleep_then s u p new search.Moved same cause is = absurd (cc is)
 asleep_then s u p new (search.Sleeping other) same cause is = ap (λ (v : VolumeState _). record s { volume = v }) (same other refl)
 asleep_then s u p new (search.Over made) same cause is = absurd (cc is)
 asleep_then s u p new (search.Fault fault) same cause is = absurd (cc is)
 
 pub held_then : {D : Type 0} (s : StoreState D) (p : ℕ) (m : SearchState) (r : Progress (Option ℕ)) → Agrees s.volume.buffers s.volume.log s.table.inode_count s.tasks → (task s.tasks p).place ≡ place.Creating m
-    → (d : Buffers) (slot : Option ℕ) → SearchLocks m.slot r s.volume.buffers d p m.block slot → answer_of r ≡ progress.Sleeping why.BufferHeld → IsHeldByAnother s p m.block
+    → (d : Buffers) (slot : Option ℕ) → SearchLocks m.slot r s.volume.buffers d p m.block slot → progress_of_search r ≡ progress.Sleeping why.BufferHeld → IsHeldByAnother s p m.block
 held_then s p m search.Moved agrees stood d slot locks is = absurd (cc is)
 held_then s p m (search.Sleeping cause) agrees stood d slot locks is =
     let same : cause ≡ why.BufferHeld = cc is in
@@ -322,14 +314,14 @@ held_then s p m (search.Sleeping cause) agrees stood d slot locks is =
 held_then s p m (search.Over made) agrees stood d slot locks is = absurd (cc is)
 held_then s p m (search.Fault fault) agrees stood d slot locks is = absurd (cc is)
 
-pub falls_then : (n : ℕ) (m new : SearchState) (cur : Image) (c : Buffers) (r : Progress (Option ℕ)) → m.inode_count ≡ n → m.block ≤ inode_block (n - 1) → SearchGoes m.slot cur c m r new → is_made (answer_of r) ≡ true → steps_left (place_then r m new) n < steps_left (place.Creating m) n
+pub falls_then : (n : ℕ) (m new : SearchState) (cur : Image) (c : Buffers) (r : Progress (Option ℕ)) → m.inode_count ≡ n → m.block ≤ inode_block (n - 1) → SearchGoes m.slot cur c m r new → is_made (progress_of_search r) ≡ true → steps_left (place_then r m new) n < steps_left (place.Creating m) n
 falls_then n m new cur c search.Moved count last g is = fewer m.slot n m new cur c refl count last g
 falls_then n m new cur c (search.Sleeping cause) count last g is = absurd (false≢true is)
 falls_then n m new cur c (search.Over made) count last g is = let some = some_step (place.Creating m) n refl in omega (arith, some)
 falls_then n m new cur c (search.Fault fault) count last g is = absurd (false≢true is)
 
 -- no search waits for an inode
-pub no_inode_held : (o : Option ℕ) (c d : Buffers) (p b : ℕ) (slot : Option ℕ) (r : Progress (Option ℕ)) → SearchLocks o r c d p b slot → answer_of r ≡ progress.Sleeping why.InodeHeld → ⊥
+pub no_inode_held : (o : Option ℕ) (c d : Buffers) (p b : ℕ) (slot : Option ℕ) (r : Progress (Option ℕ)) → SearchLocks o r c d p b slot → progress_of_search r ≡ progress.Sleeping why.InodeHeld → ⊥
 no_inode_held o c d p b slot search.Moved locks is = cc is
 no_inode_held o c d p b slot (search.Sleeping cause) locks is = waits o (subst (λ (w : Why). SearchLocks o (search.Sleeping w) c d p b slot) (let same : cause ≡ why.InodeHeld = cc is in same) locks)
   where
@@ -341,7 +333,7 @@ no_inode_held o c d p b slot (search.Fault fault) locks is = cc is
 
 -- a creation's number is no reading's: that of a creation is 0, and what it makes was free
 pub apart_then : {D : Type 0} (image : D → Image) (s : StoreState D) (p : ℕ) (m new : SearchState) (c : Buffers) (o : Option ℕ) (r : Progress (Option ℕ)) → AreLooking (current_of image s.volume) s.table s.tasks → s.table.inode_count ≡ inode_count_of (current_of image s.volume)
-    → SearchGoes o (current_of image s.volume) c m r new → LeavesLate s p (Create m.kind) (answer_of r)
+    → SearchGoes o (current_of image s.volume) c m r new → LeavesLate s p (Create m.kind) (progress_of_search r)
 apart_then image s p m new c o r looks numbers goes q apart reads = by_answer r o goes
   where
     number : ℕ
@@ -356,7 +348,7 @@ apart_then image s p m new c o r looks numbers goes q apart reads = by_answer r 
     taken : (i : ℕ) → (inode_of (current_of image s.volume) i).kind ≡ 0 → number ≢ i
     taken i free same = late_used (current_of image s.volume) s.table s.tasks looks numbers q reads (ap (λ (j : ℕ). (inode_of (current_of image s.volume) j).kind) same ∙ free)
 
-    by_answer : (r : Progress (Option ℕ)) (o : Option ℕ) → SearchGoes o (current_of image s.volume) c m r new → LeavesNumber (Create m.kind) (reply_at_turn (answer_of r)) number
+    by_answer : (r : Progress (Option ℕ)) (o : Option ℕ) → SearchGoes o (current_of image s.volume) c m r new → LeavesNumber (Create m.kind) (reply_at_turn (progress_of_search r)) number
     by_answer search.Moved o goes = tt
     by_answer (search.Sleeping cause) o goes = tt
     by_answer (search.Over None) o goes = (named, refl)

@@ -20,12 +20,12 @@ use Rattle.blockmap.specs.declared.progress.Progress.TheVariants as machine
 use Rattle.inodes.specs.declared.tasks.Place.{Place}
 use Rattle.inodes.specs.declared.tasks.Place.TheVariants as place
 use Rattle.inodes.specs.Creation.{lowest_free}
-use Rattle.inodes.specs.Ialloc.{SearchState, at_slot, at_next_block}
+use Rattle.inodes.specs.Ialloc.{SearchState, BuffersAfter, at_slot, at_next_block}
 use Rattle.inodes.specs.Ilock.{LockSteps}
 use Rattle.inodes.specs.Itrunc.{TruncState, TruncSteps, inode_left}
 use Rattle.inodes.specs.LockState.{LockState, place_of}
 use Rattle.inodes.specs.Readi.{ReadState, ReadSteps}
-use Rattle.inodes.specs.Store.{StoreState, current_of}
+use Rattle.inodes.specs.Store.{StoreState, current_of, reply_of}
 use Rattle.inodes.specs.Table.{TableState, left, renewed}
 use Rattle.inodes.specs.Tasks.{task}
 use Rattle.inodes.specs.Turning.{if_used, reply_when_taken, place_when_taken}
@@ -110,6 +110,20 @@ abbrev pub GoesFrom : Option ℕ → ℕ → ℕ → SearchState → Buffers →
     → Shown → Shown → Type 0
 GoesFrom None n p m c r next before now = GetsBlock c m r next × (now ≡ before)
 GoesFrom (Some i) n p m c r next before now = LooksAtBlock n p m r next before now
+
+-- what a step of a search is to the task
+abbrev pub progress_of_search : Progress (Option ℕ) → TaskProgress
+progress_of_search machine.Moved = progress.Moved
+progress_of_search (machine.Sleeping why) = progress.Sleeping why
+progress_of_search (machine.Over found) = progress.Turned (Some (reply_of found))
+progress_of_search (machine.Fault fault) = progress.Fault fault
+
+-- what a step of a search makes of the buffers
+pub record SearchesIn {D N : Type 0} (disk : Ghosts D N) (v : VolumeState D) (p : ℕ)
+    (m : SearchState) (r : TaskProgress) (w : VolumeState D) : Type 0 where
+  pub answer : Progress (Option ℕ)
+  pub gives : r ≡ progress_of_search answer
+  pub buffers : BuffersAfter disk.image m.slot m v p answer w.buffers
 
 -- what a step of taking an inode is to the task, where the current image has this inode
 abbrev pub progress_of_lock : Dinode → Op → Progress Bool → TaskProgress
@@ -231,9 +245,10 @@ pub record WritesOn {D N : Type 0} (disk : Ghosts D N) (s : StoreState D) (p k :
   pub table : t.table ≡ table_of_writing s.table k m answer
   pub bytes : (task t.tasks p).gathered ≡ (task s.tasks p).gathered
 
--- the task gives up the inode at place k, and is over
+-- the task gives up the inode at place k, and is over, without bytes
 pub record GivesUp {D : Type 0} (s : StoreState D) (p k : ℕ) (t : StoreState D) : Type 0 where
   pub next : (task t.tasks p).place ≡ place.Nowhere
+  pub gathered : (task t.tasks p).gathered ≡ None
   pub table : t.table ≡ left s.table k
   pub volume : t.volume ≡ s.volume
 
@@ -249,15 +264,15 @@ pub record Delivers {D : Type 0} (s : StoreState D) (p k : ℕ) (r : TaskProgres
 abbrev pub ShowsSame : {D : Type 0} → (D → Image) → StoreState D → StoreState D → Type 0
 ShowsSame image s t = shown_of image t.volume ≡ shown_of image s.volume
 
--- where a step of process p's task goes by where it stood, and what it makes of table, image and
--- log
+-- where a step of process p's task goes by where it stood, and what it makes of table, buffers,
+-- image and log
 abbrev pub Goes : {D N : Type 0} → Ghosts D N → Place → StoreState D → ℕ → Op → TaskProgress
     → StoreState D → Type 0
 Goes disk place.Nowhere s p op r t = (r ≡ progress.Over) × (t ≡ s)
 Goes disk (place.Creating m) s p op r t =
     GoesFrom m.slot s.table.inode_count p m s.volume.buffers r (task t.tasks p).place
     (shown_of disk.image s.volume) (shown_of disk.image t.volume)
-    × (t.table ≡ s.table)
+    × (t.table ≡ s.table) × SearchesIn disk s.volume p m r t.volume
 Goes disk (place.Taking m) s p op r t =
     TakesInode disk s p op m r t × ShowsSame disk.image s t
 Goes disk (place.Reading k m) s p op r t = ReadsOn disk s p k m r t × ShowsSame disk.image s t

@@ -9,7 +9,7 @@ use Rattle.model.specs.Journal.{is_number}
 use Rattle.model.specs.Layout.{inode_block, inode_of, inode_count_of, HasNoFreeInode}
 use Rattle.model.specs.Codec.{dinode_bytes, new_inode, with_inode}
 use Rattle.bcache.specs.Buffers.{Buffers, released}
-use Rattle.wal.specs.Held.{GetsLock, GivesUpLock, WaitsFor}
+use Rattle.wal.specs.Held.{GetsLock, GetsUnread, GivesUpLock, WaitsFor}
 use Rattle.wal.specs.Joint.{seen}
 use Rattle.wal.specs.Machine.{LogState, noted}
 use Rattle.wal.specs.Volume.{VolumeState, get_answer, after_get, after_change, FailsToFill, faults_after}
@@ -140,7 +140,7 @@ abbrev pub SearchLocks : Option ℕ → Progress (Option ℕ) → Buffers → Bu
 SearchLocks None progress.Moved c d pid b slot = (i : ℕ) × (slot ≡ Some i) × GetsLock c d pid b i
 SearchLocks None (progress.Sleeping cause) c d pid b slot = WaitsFor cause c b
 SearchLocks None (progress.Over out) c d pid b slot = ⊥
-SearchLocks None (progress.Fault fault) c d pid b slot = Unit {0}
+SearchLocks None (progress.Fault fault) c d pid b slot = GetsUnread c d pid b
 SearchLocks (Some i) progress.Moved c d pid b slot = GivesUpLock c d pid i
 SearchLocks (Some i) (progress.Sleeping cause) c d pid b slot = ⊥
 SearchLocks (Some i) (progress.Over out) c d pid b slot = GivesUpLock c d pid i

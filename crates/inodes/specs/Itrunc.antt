@@ -1,5 +1,5 @@
 -- The steps in which a file's blocks are freed, and its inode is written back.
-use Rattle.std.specs.Prelude.{◌≡◌, ◌≢◌, ◌<◌, ℕ, ◌+◌, ◌-◌, ◌==◌, not, if◌then◌else◌, Bool, List, find, slice_index, slice_set, length, Option, Some, None}
+use Rattle.std.specs.Prelude.{◌≡◌, ◌≢◌, ◌<◌, ◌≤◌, ℕ, ◌+◌, ◌-◌, ◌==◌, not, if◌then◌else◌, Bool, List, find, slice_index, slice_set, length, Option, Some, None}
 use Rattle.std.specs.List.{range_with_len}
 use Rattle.blocks.specs.Disk.{Image, block_at}
 use Rattle.blocks.specs.declared.disk.Disk.{Ghosts}
@@ -104,7 +104,7 @@ MayTruncAt image v p m (trunc_at.Writing u) = MayUpdate image v p u
 pub record MayTrunc {D : Type 0} (image : D → Image) (v : VolumeState D) (p : ℕ) (m : TruncState)
     : Type 0 where
   pub addrs : length m.inode.addrs ≡ 13
-  pub behind : slice_index m.inode.addrs 12 ≢ 0 → 33 < slice_index m.inode.addrs 12
+  pub behind : slice_index m.inode.addrs 12 ≢ 0 → 33 ≤ slice_index m.inode.addrs 12
   pub some : m.at ≡ trunc_at.Getting → slice_index m.inode.addrs 12 ≢ 0
   pub at : MayTruncAt image v p m m.at
 

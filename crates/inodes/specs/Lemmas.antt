@@ -6,6 +6,7 @@ pub mod Faults
 pub mod StepEnds
 pub mod Runs
 pub mod WriteRuns
+pub mod Causes
 pub mod ReadRuns
 pub mod Table
 pub mod Grips

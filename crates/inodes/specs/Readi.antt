@@ -1,5 +1,5 @@
 -- A step of the reading of a file's bytes.
-use Rattle.std.specs.Prelude.{◌≡◌, ◌<◌, ◌≤◌, ℕ, ◌+◌, ◌-◌, ◌*◌, ◌/◌, ◌++◌, ◌==◌, ◌||◌, nat_le, min, if◌then◌else◌, Bool, true, false, List, Option, Some, None}
+use Rattle.std.specs.Prelude.{◌≡◌, ◌<◌, ◌≤◌, ℕ, ◌+◌, ◌-◌, ◌*◌, ◌/◌, ◌%◌, ◌++◌, ◌==◌, ◌||◌, nat_le, min, if◌then◌else◌, Bool, true, false, List, Option, Some, None}
 use Rattle.blocks.specs.Disk.{Image}
 use Rattle.blocks.specs.declared.disk.Disk.{Ghosts}
 use Rattle.model.specs.declared.types.image.Dinode.{Dinode}
@@ -66,8 +66,12 @@ is_done (progress.Sleeping why) = false
 is_done (progress.Over out) = true
 is_done (progress.Fault fault) = false
 
--- What a step does, by its target: it seeks the block, or uses it and releases it, and goes on to the
--- next one.
+-- how many bytes of the file's next block are gathered: up to its end, or that of the reading
+abbrev pub next_piece : ReadState → ℕ
+next_piece m = min (1024 - m.next % 1024) (m.end - m.next)
+
+-- What a step does, by its target: it seeks the block, or uses all that is to be read of it and
+-- releases it, and goes on to the next one.
 abbrev pub Works : {D N : Type 0} → Ghosts D N → Target → VolumeState D → ℕ → ReadState
     → Progress (Unit {0}) → VolumeState D → ReadState → Type 0
 Works disk (target.Entry entry) v p m r w n =
@@ -75,7 +79,7 @@ Works disk (target.Entry entry) v p m r w n =
 Works disk (target.Block b None) v p m r w n =
     (n ≡ record m { target = n.target }) × Seeks disk (target.Block b None) v p r n.target w
 Works disk (target.Block b (Some i)) v p m r w n =
-    (m.next < n.next) × IsMade r × Releases disk.image v p i w
+    (n.next ≡ m.next + next_piece m) × IsMade r × Releases disk.image v p i w
     × OnMore r (n.target ≡ target_for m.inode (n.next / 1024))
 
 -- the bytes from the one place to the other were gathered, in room that there was

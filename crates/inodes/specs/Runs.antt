@@ -1,5 +1,5 @@
 -- Runs: the steps of one task, between which the other processes go on.
-use Rattle.std.specs.Prelude.{◌≡◌, ◌≢◌, ◌<◌, ℕ, IsTrue, IsSome, List, [], ◌∷◌, Some}
+use Rattle.std.specs.Prelude.{◌≡◌, ◌≢◌, ◌<◌, ℕ, IsTrue, IsSome, List, [], ◌∷◌, Option, Some}
 use Rattle.std.specs.List.{Any}
 use Rattle.blocks.specs.Disk.{Image}
 use Rattle.blocks.specs.declared.disk.Disk.{Ghosts}
@@ -9,6 +9,7 @@ use Rattle.model.specs.declared.types.operations.Reply.{Reply}
 use Rattle.model.specs.declared.types.operations.Reply.TheVariants.{Made, NoInode}
 use Rattle.model.specs.declared.types.operations.TaskProgress.{TaskProgress}
 use Rattle.model.specs.declared.types.operations.TaskProgress.TheVariants as progress
+use Rattle.model.specs.Gathered.{GatheredBytes}
 use Rattle.model.specs.Journal.{is_number}
 use Rattle.model.specs.Layout.{inode_block, inode_of}
 use Rattle.wal.specs.declared.types.Committed.{Committed}
@@ -16,7 +17,7 @@ use Rattle.wal.specs.Machine.{LogState}
 use Rattle.inodes.specs.declared.tasks.Place.TheVariants as place
 use Rattle.inodes.specs.Ialloc.{SearchState}
 use Rattle.inodes.specs.Tasks.{task}
-use Rattle.inodes.specs.Store.{StoreState, current_of, first_place, with_begun, with_log}
+use Rattle.inodes.specs.Store.{StoreState, current_of, first_place, with_begun, with_log, with_look}
 use Rattle.inodes.specs.Steps.{Steps, Commits}
 
 -- a step that a task made: the store before it, its answer, and the store after it
@@ -85,8 +86,10 @@ abbrev pub CommitsLeaveAll : {D N : Type 0} → Ghosts D N → Type 0
 CommitsLeaveAll {D} disk = (old new : StoreState D) (p : ℕ) (r : Committed) →
     Commits disk old r new → LeavesTask old p new
 
--- so do the beginning of another's operation and the end of anyone's
+-- so do the beginnings of another's operation, and the end of anyone's
 abbrev pub BoundsLeaveOthers : {D : Type 0} → StoreState D → ℕ → Type 0
 BoundsLeaveOthers old p =
     ((q : ℕ) (op : Op) → q ≢ p → LeavesTask old p (with_begun old q op))
+    × ((q : ℕ) (op : Op) (room : Option GatheredBytes) → q ≢ p
+    → LeavesTask old p (with_look old q op room))
     × ((log : LogState) → LeavesTask old p (with_log old log))

@@ -14,6 +14,9 @@ pub mod Acting
 pub mod Events
 pub mod Promising
 pub mod Turns
+pub mod Turned
+pub mod Causes
+pub mod ShortCauses
 pub mod AtOpening
 pub mod Openings
 mod UnderWay

@@ -10,5 +10,6 @@ pub mod Invariant
 pub mod Known
 pub mod Steps
 pub mod Runs
+pub mod Causes
 pub mod Opening
 pub mod Lemmas

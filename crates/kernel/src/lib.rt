@@ -34,6 +34,7 @@
 #![tactic(auto)]
 
 mod beginning;
+pub mod laws;
 mod opening;
 mod queues;
 mod runs;

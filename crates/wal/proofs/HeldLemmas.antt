@@ -9,7 +9,7 @@ use Rattle.bcache.specs.declared.types.Busy.{Busy}
 use Rattle.bcache.specs.declared.types.Busy.TheVariants as busy
 use Rattle.bcache.specs.declared.types.Acquired.TheVariants as acquired
 use Rattle.bcache.specs.Current.{holder_count}
-use Rattle.bcache.specs.Buffers.{Buffers, buffer, with_buffer, found, victim, locked, taken, filled, changed, released, pinned, IsCache, lock_answer, take_answer, answer_by, acquire_answer, after_lock, after_take, after_acquire_by, after_acquire}
+use Rattle.bcache.specs.Buffers.{Buffers, buffer, with_buffer, found, victim, locked, taken, filled, changed, released, pinned, EndsUnfilled, IsCache, lock_answer, take_answer, answer_by, acquire_answer, after_lock, after_take, after_acquire_by, after_acquire}
 use Rattle.bcache.specs.Lemmas.Slots.{buffer_same, buffer_other, each_buffer, some_found, victim_free, block_is}
 use Rattle.wal.specs.declared.types.Commit.{Commit}
 use Rattle.wal.specs.declared.types.Commit.TheVariants as commit
@@ -20,7 +20,7 @@ use Rattle.wal.specs.declared.types.Get.TheVariants as get
 use Rattle.wal.specs.Machine.{LogState, is_among, noted_cache}
 use Rattle.wal.specs.Joint.{Joint, seen, unpinned_found, written_cache}
 use Rattle.wal.specs.Step.{Stepped, Faulted, CommitsTo}
-use Rattle.wal.specs.Volume.{VolumeState, UnlessFault, why_busy}
+use Rattle.wal.specs.Volume.{VolumeState, OnFault, UnlessFault, why_busy}
 use Rattle.wal.specs.Held.{HasLock, HoldsBlock, KeepsHeld, TakesLock, LeavesLocks, GetsLock, GivesUpLock, WaitsFor, LocksAfter}
 use Rattle.wal.specs.Lemmas.Volume.{IsAcquired}
 use Rattle.wal.specs.Lemmas.Held.{held_bytes, held_lock, leaves_same, leaves_then, locked_place}
@@ -174,8 +174,8 @@ gets_acquired c d pid b i w is answer are has =
 
 -- of one that is filled then
 pub gets_filled : (x : Image) (c d e : Buffers) (pid b i : ℕ) (w : Bool) (r : Get) → IsCache c → IsCache d → acquired.Got i w ≡ acquire_answer c b → d ≡ after_acquire c pid b → IsAcquired d pid b i false
-    → UnlessFault r (r ≡ get.Got i) → UnlessFault r (e ≡ filled d i (block_at x b)) → LocksAfter r c e pid b
-gets_filled x c d e pid b i w (get.Got n) is now answer are has same new =
+    → UnlessFault r (r ≡ get.Got i) → UnlessFault r (e ≡ filled d i (block_at x b)) → OnFault r (λ _. EndsUnfilled d i e) → LocksAfter r c e pid b
+gets_filled x c d e pid b i w (get.Got n) is now answer are has same new failed =
     let one : TakesOne c d pid b i = subst (λ (f : Buffers). TakesOne c f pid b i) (sym are) (takes_acquired c pid b i w is (sym answer)) in
     let t : Buffer = record (buffer d i) { valid = true; bytes = block_at x b } in
     let inside : i < length d.slots = omega (arith, has.slot, now.size) in
@@ -187,8 +187,20 @@ gets_filled x c d e pid b i w (get.Got n) is now answer are has same new =
       held = λ p a j h. stays.held p a j (one.held p a j h);
       takes = λ p a j h. one.takes p a j (stays.none p a j h);
     })
-gets_filled x c d e pid b i w (get.Sleeping cause) is now answer are has same new = absurd (cc same)
-gets_filled x c d e pid b i w (get.Fault fault) is now answer are has same new = tt
+gets_filled x c d e pid b i w (get.Sleeping cause) is now answer are has same new failed = absurd (cc same)
+gets_filled x c d e pid b i w (get.Fault fault) is now answer are has same new failed =
+    let one : TakesOne c d pid b i = subst (λ (f : Buffers). TakesOne c f pid b i) (sym are) (takes_acquired c pid b i w is (sym answer)) in
+    let t : Buffer = record (buffer d i) { bytes = failed.0 } in
+    let inside : i < length d.slots = omega (arith, has.slot, now.size) in
+    let stays : LeavesLocks d e = subst (LeavesLocks d) (sym failed.1) (leaves_kept d i t inside (record { holder = refl; block = refl; valid = λ v. v })) in
+    let here : buffer e i ≡ t = ap (λ (f : Buffers). buffer f i) failed.1 ∙ buffer_same d i t inside in
+    record {
+      slot = i;
+      lock = record { holder = ap (λ (s : Buffer). s.holder) here ∙ has.holder; block = ap (λ (s : Buffer). s.block) here ∙ has.block };
+      unread = ap (λ (s : Buffer). s.valid) here ∙ has.valid;
+      held = λ p a j h. stays.held p a j (one.held p a j h);
+      takes = λ p a j h. one.takes p a j (stays.none p a j h);
+    }
 
 -- a process has to wait
 pub waits_acquired : (c d : Buffers) (pid b : ℕ) (cause : Busy) (reason : Why) → acquired.Sleeping cause ≡ acquire_answer c b → reason ≡ why_busy cause → d ≡ after_acquire c pid b → WaitsFor reason c b × LeavesLocks c d

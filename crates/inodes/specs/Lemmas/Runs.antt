@@ -18,7 +18,8 @@ use Rattle.inodes.specs.Ialloc.{SearchState, at_next_block}
 use Rattle.inodes.specs.Table.{TableState}
 use Rattle.inodes.specs.Tasks.{TaskState, task, no_task}
 use Rattle.inodes.specs.Goes.{Shown, Goes, GoesFrom, IsTurn, free_at, shown_of}
-use Rattle.inodes.specs.Store.{StoreState, first_place, reply_of}
+use Rattle.inodes.specs.Places.{asked}
+use Rattle.inodes.specs.Store.{StoreState, first_place, first_taking, reply_of}
 use Rattle.inodes.specs.Steps.{Steps}
 use Rattle.inodes.specs.Runs.{StepMade, LeavesTask, IsRun, EndsWith, IsSearchRun, SeesTaken, WasSeenTaken, NoInodeSawAll, MadeSawLower, StepsLeaveOthers, CommitsLeaveAll, BoundsLeaveOthers}
 use Rattle.inodes.specs.Lemmas.Looks.{IsPassedBy, taken_by_look}
@@ -114,7 +115,7 @@ module _ {D N : Type 0} (disk : Ghosts D N) (p n j : ℕ) (op : Op) (o : Option 
       (task step.after.tasks p).place (before step) (now step)
 
   -- a look that passed the number by
-  sees : (step : StepMade D) (m : SearchState) (i : ℕ) (found : Option ℕ) →
+  pub sees : (step : StepMade D) (m : SearchState) (i : ℕ) (found : Option ℕ) →
       IsAt p step.before (place.Creating m) → m.slot ≡ Some i →
       free_at (before step).current n m ≡ found → IsPassedBy found j →
       inode_block j ≡ m.block → Sees step
@@ -140,7 +141,7 @@ module _ {D N : Type 0} (disk : Ghosts D N) (p n j : ℕ) (op : Op) (o : Option 
       )
 
   -- the step of the turn
-  seen_at_turn : (step : StepMade D) (m : SearchState) (slot : Option ℕ) → m.slot ≡ slot →
+  pub seen_at_turn : (step : StepMade D) (m : SearchState) (slot : Option ℕ) → m.slot ≡ slot →
       IsAt p step.before (place.Creating m) → m.block ≤ inode_block j →
       SearchGoes step slot m reply → Sees step
   seen_at_turn step m None got stands ahead goes = absurd goes.0
@@ -225,6 +226,13 @@ bounds_leave_others old p = (
   λ q op apart. record {
     own = get_or-set_other old.tasks q p
         (record { op = Some op; place = first_place op old.table.inode_count; gathered = None })
+        no_task
+        (λ same. apart (sym same));
+    numbers = refl;
+  },
+  λ q op room apart. record {
+    own = get_or-set_other old.tasks q p
+        (record { op = Some op; place = first_taking (asked op); gathered = room })
         no_task
         (λ same. apart (sym same));
     numbers = refl;

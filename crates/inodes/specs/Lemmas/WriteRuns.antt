@@ -42,7 +42,7 @@ use Rattle.inodes.specs.WriteRuns.{IsFull, LooksAtBitmap, LooksIn, LooksOnWay, S
 
 -- ---- a writing that goes on takes blocks in its extent, and has not come to the end of them
 
-abbrev IsAtOnWay : Extent → MapAt → Type 0
+abbrev pub IsAtOnWay : Extent → MapAt → Type 0
 IsAtOnWay e (map_at.Direct t) = TakesIn e t
 IsAtOnWay e (map_at.Indirect t) = TakesIn e t
 IsAtOnWay e (map_at.Entry slot) = Unit {0}
@@ -50,18 +50,18 @@ IsAtOnWay e (map_at.Behind i t) = TakesIn e t
 IsAtOnWay e (map_at.Setting i None) = ⊥
 IsAtOnWay e (map_at.Setting i (Some b)) = Unit {0}
 
-record IsOnWay (e : Extent) (way : MapState) : Type 0 where
+pub record IsOnWay (e : Extent) (way : MapState) : Type 0 where
   pub bitmap : way.bitmap ≡ e.bitmap
   pub size : way.size ≡ e.size
   pub at : IsAtOnWay e way.at
 
 -- where the inode is written back, all bytes were written
-abbrev IsGoingOnAt : Extent → ℕ → ℕ → WriteAt → Type 0
+abbrev pub IsGoingOnAt : Extent → ℕ → ℕ → WriteAt → Type 0
 IsGoingOnAt e count done (write_at.Mapping way) = IsOnWay e way
 IsGoingOnAt e count done (write_at.Block b slot) = Unit {0}
 IsGoingOnAt e count done (write_at.Updating u) = count ≤ done
 
-record IsGoingOn (e : Extent) (asked : ℕ) (m : WriteState) : Type 0 where
+pub record IsGoingOn (e : Extent) (asked : ℕ) (m : WriteState) : Type 0 where
   pub extent : m.extent ≡ e
   pub count : m.count ≡ asked
   pub at : IsGoingOnAt e asked m.done m.at
@@ -92,7 +92,7 @@ module _ (e : Extent) (d : Dinode) (k : ℕ) where
         at = first_on_way (ltb k 12) (eqb (indirect_of d) 0);
       }
 
-comes_next : (e : Extent) (count done number next left : ℕ) (d : Dinode) →
+pub comes_next : (e : Extent) (count done number next left : ℕ) (d : Dinode) →
     (left ≡ 0 → count ≤ done) → IsGoingOnAt e count done (next_place number d next left e)
 comes_next e count done number next left d all = by_left (eqb left 0) refl
   where
@@ -253,7 +253,7 @@ module _ {D N : Type 0} (disk : Ghosts D N) (v : VolumeState D) (p : ℕ) (e : E
 
   module _ (count : ℕ) where
     -- the writing goes on, or is over with all bytes
-    record GoesOnWriting (m : WriteState) (r : Progress (Unit {0})) (n : WriteState) : Type 0 where
+    pub record GoesOnWriting (m : WriteState) (r : Progress (Unit {0})) (n : WriteState) : Type 0 where
       pub on : IsGoingOn e count n
       pub all : (out : Unit {0}) → r ≡ machine.Over out → count ≤ m.done
 
@@ -330,7 +330,7 @@ module _ {D N : Type 0} (disk : Ghosts D N) (p k count done : ℕ) (e : Extent) 
   Sees = SeesFull disk.image p e
 
   -- a step sees that no block is left, or the writing goes on
-  sees_or_on : (step : StepMade D) (m : WriteState) → IsAt p step.before (place.Writing k m) →
+  pub sees_or_on : (step : StepMade D) (m : WriteState) → IsAt p step.before (place.Writing k m) →
       IsGoingOn e count m →
       (goes : WritesOn disk step.before p k op m step.answer step.after) →
       Sees step ⊎ GoesOnWriting disk step.before.volume p e step.after.volume count m goes.answer
@@ -344,7 +344,7 @@ module _ {D N : Type 0} (disk : Ghosts D N) (p k count done : ℕ) (e : Extent) 
       refl on goes.writes)
 
   -- a writing that goes on so does not answer with too few bytes
-  not_over : (m : WriteState) (q : Progress (Unit {0})) →
+  pub not_over : (m : WriteState) (q : Progress (Unit {0})) →
       ((out : Unit {0}) → q ≡ machine.Over out → count ≤ m.done) →
       progress_of_write m.done q ≡ reply → ⊥
   not_over m machine.Moved all is = cc is

@@ -7,7 +7,7 @@ use Rattle.inodes.specs.Steps.{Steps}
 use Rattle.inodes.specs.Store.{StoreState, IsStore}
 use Rattle.inodes.specs.Tasks.{TaskState}
 use Rattle.inodes.proofs.SearchNow.{ready_now, store_now, steps_now}
-use Rattle.inodes.proofs.StoreSteps.{answer_of}
+use Rattle.inodes.specs.Goes.{progress_of_search}
 use Rattle.inodes.proofs.store.Store.search.Goals as goal
 
 pub step-requires-clause-ready : goal.step-requires-clause-ready
@@ -45,7 +45,7 @@ returns-in-Over g c =
     let s : StoreState _ = record { volume = c.self.inside.volume; tasks = c.self.inside.tasks; table = c.self.inside.inodes } in
     record {
       step = λ op is. subst (λ (reply : Reply). Steps g.D.Disk c.args.self.now c.args.pid op (task_progress.Turned (Some reply)) (record { volume = c.step.new.volume; tasks = c.go-in-Over.new.self; table = c.self.inside.inodes })) (sym c.reply_of.ensures)
-          (subst (λ (ts : List TaskState). Steps g.D.Disk c.args.self.now c.args.pid op (answer_of (progress.Over c.in-Over.made)) (record { volume = c.step.new.volume; tasks = ts; table = c.self.inside.inodes })) (sym c.go-in-Over.ensures)
+          (subst (λ (ts : List TaskState). Steps g.D.Disk c.args.self.now c.args.pid op (progress_of_search (progress.Over c.in-Over.made)) (record { volume = c.step.new.volume; tasks = ts; table = c.self.inside.inodes })) (sym c.go-in-Over.ensures)
           (steps_now g.D.Disk s c.args.self.now c.args.pid c.args.search c.self.invariant c.self.view_is c.requires.fault c.requires.pid c.requires.at c.known.ensures c.image_known.ensures c.step.new.volume c.step.new.self (progress.Over c.in-Over.made) c.in-Over.ensures op is));
     }
 

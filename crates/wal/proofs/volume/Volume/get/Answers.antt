@@ -94,7 +94,7 @@ returns-in-Got-default-false-clause-locks g c =
     let has = acquired_now c.self.inside.cache c.acquire.new.self c.args.pid c.args.block arm.slot false arm.valid joint.cache arm.ensures.answer arm.valid-test c.acquire.ensures.cache in
     subst (λ s. LocksAfter c.fill.result s.buffers c.fill.new.self.buffers c.args.pid c.args.block) c.self.view_is
     (gets_filled (g.D.Disk.image c.self.inside.disk) c.self.inside.cache c.acquire.new.self c.fill.new.self.buffers c.args.pid c.args.block arm.slot arm.valid c.fill.result joint.cache joint'.cache
-    arm.ensures.answer c.acquire.ensures.cache has c.fill.ensures.answer c.fill.ensures.buffers)
+    arm.ensures.answer c.acquire.ensures.cache has c.fill.ensures.answer c.fill.ensures.buffers c.fill.ensures.failed)
 
 pub returns-in-Sleeping-clause-locks : goal.returns-in-Sleeping-clause-locks
 returns-in-Sleeping-clause-locks g c =

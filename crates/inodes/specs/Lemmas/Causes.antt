@@ -1,0 +1,274 @@
+-- What one step of a creation or of a write saw, or leaves to be seen.
+use Rattle.std.proofs.Common.{◌≡◌, ◌≢◌, ◌⊎◌, ◌<◌, ◌≤◌, ◌+◌, ℕ, Bool, true, false, ltb, inl, inr, List, length, Option, Some, None, refl, sym, ◌∙◌, subst, ⊎_elim, arith}
+use Rattle.std.specs.Prelude.{IsTrue, if◌then◌else◌}
+use Rattle.std.proofs.lemmas.Bool.{cases_eq}
+use Rattle.blocks.specs.declared.disk.Disk.{Ghosts}
+use Rattle.model.specs.declared.types.image.Dinode.{Dinode}
+use Rattle.model.specs.declared.types.operations.Op.{Op}
+use Rattle.model.specs.declared.types.operations.Op.TheVariants.{Write}
+use Rattle.model.specs.declared.types.operations.Reply.{Reply}
+use Rattle.model.specs.declared.types.operations.Reply.TheVariants.{Made, NoInode, Wrote, Bytes, Done, StatOf, NoFile, BadOffset, TooBig, TooLong, BadType}
+use Rattle.model.specs.declared.types.operations.TaskProgress.{TaskProgress}
+use Rattle.model.specs.declared.types.operations.TaskProgress.TheVariants as progress
+use Rattle.model.specs.Journal.{is_number}
+use Rattle.model.specs.Layout.{inode_block, inode_of}
+use Rattle.blockmap.specs.declared.progress.Progress.{Progress}
+use Rattle.blockmap.specs.declared.progress.Progress.TheVariants as machine
+use Rattle.inodes.specs.declared.tasks.Place.{Place}
+use Rattle.inodes.specs.declared.tasks.Place.TheVariants as place
+use Rattle.inodes.specs.declared.writei.Extent.{Extent}
+use Rattle.inodes.specs.Goes.{Goes, GoesFrom, place_of_lock, place_of_writing, progress_of_lock, progress_of_read, progress_of_trunc, progress_of_write, shown_of}
+use Rattle.inodes.specs.Ialloc.{SearchState, at_next_block}
+use Rattle.inodes.specs.Lemmas.Runs.{IsAt, goes_from, sees, seen_at_turn}
+use Rattle.inodes.specs.Lemmas.WriteRuns.{IsGoingOn, comes_next, not_over, sees_or_on}
+use Rattle.inodes.specs.LockState.{place_of}
+use Rattle.inodes.specs.Runs.{StepMade, SeesTaken}
+use Rattle.inodes.specs.Steps.{Steps}
+use Rattle.inodes.specs.Store.{StoreState, current_of}
+use Rattle.inodes.specs.Tasks.{task}
+use Rattle.inodes.specs.Turning.{if_used, place_by_refusal, place_when_taken, reply_when_taken}
+use Rattle.inodes.specs.Writei.{WriteState, first_write}
+use Rattle.inodes.specs.WriteRuns.{SeesFull}
+use Rattle.inodes.specs.Writing.{extent_of}
+
+-- ---- a creation
+
+-- process p's search stands so that it may still come to number j's block
+pub record IsAhead {D : Type 0} (p j : ℕ) (s : StoreState D) : Type 0 where
+  pub search : SearchState
+  pub stands : IsAt p s (place.Creating search)
+  pub ahead : search.block ≤ inode_block j
+
+-- a step claims another number, or has not had its turn and leaves the number's block ahead
+abbrev pub SearchesOn : {D : Type 0} → ℕ → ℕ → TaskProgress → StoreState D → Type 0
+SearchesOn p j r t =
+    ((i : ℕ) × (r ≡ progress.Turned (Some (Made i))))
+    ⊎ (((reply : Option Reply) → r ≢ progress.Turned reply) × IsAhead p j t)
+
+module _ {D N : Type 0} (disk : Ghosts D N) (p n j : ℕ) (op : Op)
+    (number : IsTrue (is_number n j)) (step : StepMade D) (m : SearchState)
+    (stands : IsAt p step.before (place.Creating m)) (ahead : m.block ≤ inode_block j) where
+  abbrev Now : TaskProgress → Type 0
+  Now r = SeesTaken disk.image p j step ⊎ SearchesOn p j r step.after
+
+  goes_on : (r : TaskProgress) (k : SearchState) →
+      ((reply : Option Reply) → r ≢ progress.Turned reply) →
+      IsAt p step.after (place.Creating k) → k.block ≤ inode_block j → Now r
+  goes_on r k unturned at low =
+      inr (inr (unturned, record { search = k; stands = at; ahead = low }))
+
+  by_slot : (o : Option ℕ) (r : TaskProgress) → m.slot ≡ o →
+      GoesFrom o n p m step.before.volume.buffers r (task step.after.tasks p).place
+      (shown_of disk.image step.before.volume) (shown_of disk.image step.after.volume) → Now r
+  by_slot None progress.Moved got goes =
+      goes_on progress.Moved _ (λ told e. cc e) goes.0.2 ahead
+  by_slot None (progress.Turned told) got goes = absurd goes.0
+  by_slot None (progress.Decided told) got goes = absurd goes.0
+  by_slot None progress.Over got goes = absurd goes.0
+  by_slot None (progress.Sleeping why) got goes =
+      goes_on (progress.Sleeping why) m (λ told e. cc e) goes.0.1 ahead
+  by_slot None (progress.Fault fault) got goes =
+      goes_on (progress.Fault fault) m (λ told e. cc e) goes.0.1 ahead
+  by_slot (Some i) progress.Moved got goes =
+      ⊎_elim
+      (λ here. inl (sees disk p n j op None number tt step m i None stands got goes.1.none tt here))
+      (λ other.
+      goes_on progress.Moved (at_next_block m) (λ told e. cc e) goes.0 (omega (arith, other, ahead)))
+      (cases_eq (inode_block j) m.block)
+  by_slot (Some i) (progress.Turned None) got goes = absurd goes.1
+  by_slot (Some i) (progress.Turned (Some NoInode)) got goes =
+      inl (seen_at_turn disk p n j op None number tt step m (Some i) got stands ahead goes)
+  by_slot (Some i) (progress.Turned (Some (Made k))) got goes =
+      inr (inl (k, refl))
+  by_slot (Some i) (progress.Turned (Some (Wrote k))) got goes = absurd goes.1
+  by_slot (Some i) (progress.Turned (Some (Bytes bytes))) got goes = absurd goes.1
+  by_slot (Some i) (progress.Turned (Some Done)) got goes = absurd goes.1
+  by_slot (Some i) (progress.Turned (Some (StatOf kind size))) got goes = absurd goes.1
+  by_slot (Some i) (progress.Turned (Some NoFile)) got goes = absurd goes.1
+  by_slot (Some i) (progress.Turned (Some BadOffset)) got goes = absurd goes.1
+  by_slot (Some i) (progress.Turned (Some TooBig)) got goes = absurd goes.1
+  by_slot (Some i) (progress.Turned (Some TooLong)) got goes = absurd goes.1
+  by_slot (Some i) (progress.Turned (Some BadType)) got goes = absurd goes.1
+  by_slot (Some i) (progress.Decided told) got goes = absurd goes
+  by_slot (Some i) progress.Over got goes = absurd goes
+  by_slot (Some i) (progress.Sleeping why) got goes = absurd goes
+  by_slot (Some i) (progress.Fault fault) got goes = absurd goes
+
+  -- a step of a search saw the number taken, or goes on so
+  pub search_sees : step.before.table.inode_count ≡ n →
+      Steps disk step.before p op step.answer step.after →
+      SeesTaken disk.image p j step ⊎ SearchesOn p j step.answer step.after
+  search_sees count steps =
+      let on = goes_from disk p op step.before step (place.Creating m) stands
+      (record { own = refl; numbers = refl }) steps in
+      let goes = subst (λ (k : ℕ). GoesFrom m.slot k p m step.before.volume.buffers step.answer
+      (task step.after.tasks p).place (shown_of disk.image step.before.volume)
+      (shown_of disk.image step.after.volume)) count on.goes.0 in
+      by_slot m.slot step.answer refl goes
+
+-- ---- a write
+
+-- a step of a write doesn't answer with so few bytes, and is not its last one: the writing goes on,
+-- or is answered
+pub record WritesOn {D : Type 0} (p k count done : ℕ) (e : Extent) (step : StepMade D)
+    : Type 0 where
+  pub other : step.answer ≢ progress.Decided (Wrote done)
+  pub unfinished : step.answer ≢ progress.Over
+  pub next : ((reply : Reply) × (step.answer ≡ progress.Decided reply))
+      ⊎ ((m : WriteState) × IsAt p step.after (place.Writing k m) × IsGoingOn e count m)
+
+not_last : (done : ℕ) (q : Progress (Unit {0})) → progress_of_write done q ≡ progress.Over → ⊥
+not_last done machine.Moved is = cc is
+not_last done (machine.Sleeping why) is = cc is
+not_last done (machine.Over out) is = cc is
+not_last done (machine.Fault fault) is = cc is
+
+-- a step of a write saw that no block is left, or goes on so
+pub write_sees : {D N : Type 0} (disk : Ghosts D N) (p k count done : ℕ) (e : Extent) (op : Op) →
+    done < count → (step : StepMade D) (m : WriteState) →
+    IsAt p step.before (place.Writing k m) → IsGoingOn e count m →
+    Steps disk step.before p op step.answer step.after →
+    SeesFull disk.image p e step ⊎ WritesOn p k count done e step
+write_sees disk p k count done e op short step m stands on steps =
+    let to = goes_from disk p op step.before step (place.Writing k m) stands
+    (record { own = refl; numbers = refl }) steps in
+    ⊎_elim (λ is. inl is)
+    (λ still. inr (record {
+      other = λ is. not_over disk p k count done e op short m to.goes.answer still.all
+          (sym to.goes.gives ∙ is);
+      unfinished = λ is. not_last m.done to.goes.answer (sym to.goes.gives ∙ is);
+      next = by_answer to.goes.now to.goes.answer to.goes.gives to.goes.next still.on;
+    }))
+    (sees_or_on disk p k count done e op short step m to.here on to.goes)
+  where
+    by_answer : (n : WriteState) (q : Progress (Unit {0})) →
+        step.answer ≡ progress_of_write m.done q →
+        IsAt p step.after (place_of_writing k m n q) → IsGoingOn e count n →
+        ((reply : Reply) × (step.answer ≡ progress.Decided reply))
+        ⊎ ((o : WriteState) × IsAt p step.after (place.Writing k o) × IsGoingOn e count o)
+    by_answer n machine.Moved gives next now = inr (n, next, now)
+    by_answer n (machine.Sleeping why) gives next now = inr (m, next, on)
+    by_answer n (machine.Over out) gives next now = inl (Wrote m.done, gives)
+    by_answer n (machine.Fault fault) gives next now = inr (m, next, on)
+
+-- ---- its turn
+
+-- a write begins at place k of the table with all its bytes to be written
+pub record BeginsWriting {D : Type 0} (p count : ℕ) (e : Extent) (t : StoreState D) : Type 0 where
+  pub entry : ℕ
+  pub writing : WriteState
+  pub stands : IsAt p t (place.Writing entry writing)
+  pub on : IsGoingOn e count writing
+
+-- a turn tells no number of bytes, and where it tells nothing the writing begins
+pub record TurnsToWrite {D : Type 0} (p count : ℕ) (e : Extent) (reply : Option Reply)
+    (t : StoreState D) : Type 0 where
+  pub other : (done : ℕ) → reply ≢ Some (Wrote done)
+  pub begins : reply ≡ None → BeginsWriting p count e t
+
+module _ {D N : Type 0} (disk : Ghosts D N) (s : StoreState D) (p i off : ℕ) (bytes : List ℕ)
+    (t : StoreState D) where
+  abbrev op : Op
+  op = Write i off bytes
+
+  abbrev e : Extent
+  e = extent_of s.table.inode_count s.volume.log.size
+
+  abbrev next : Place
+  next = (task t.tasks p).place
+
+  abbrev To : Option Reply → Type 0
+  To reply = TurnsToWrite p (length bytes) e reply t
+
+  refused : (r : Reply) → ((done : ℕ) → r ≢ Wrote done) → To (Some r)
+  refused r apart = record {
+    other = λ done is. apart done (let same : r ≡ Wrote done = cc is in same);
+    begins = λ is. absurd (cc is);
+  }
+
+  by_refusal : (d : Dinode) (k : ℕ) (a b : Bool) →
+      next ≡ place_by_refusal k (first_write i d off (length bytes) e)
+      (if a then Some BadOffset else if b then Some TooBig else None) →
+      To (if a then Some BadOffset else if b then Some TooBig else None)
+  by_refusal d k true b to = refused BadOffset (λ done is. cc is)
+  by_refusal d k false true to = refused TooBig (λ done is. cc is)
+  by_refusal d k false false to = record {
+    other = λ done is. cc is;
+    begins = λ none. record {
+      entry = k;
+      writing = first_write i d off (length bytes) e;
+      stands = to;
+      on = record {
+        extent = refl;
+        count = refl;
+        at = comes_next e (length bytes) 0 i off (length bytes) d (λ none. omega (arith, none));
+      };
+    };
+  }
+
+  by_use : (used : Bool) (d : Dinode) (k : ℕ) →
+      next ≡ place_when_taken e (if_used used d) k op → To (reply_when_taken (if_used used d) op)
+  by_use false d k to = refused NoFile (λ done is. cc is)
+  by_use true d k to =
+      by_refusal d k (ltb d.size off) (ltb 274432 (off + length bytes)) to
+
+  by_reply : (r : Option Reply) (o : Option ℕ) (m : SearchState) →
+      GoesFrom o s.table.inode_count p m s.volume.buffers (progress.Turned r) next
+      (shown_of disk.image s.volume) (shown_of disk.image t.volume) → To r
+  by_reply r None m goes = absurd goes.0
+  by_reply None (Some k) m goes = absurd goes.1
+  by_reply (Some NoInode) (Some k) m goes = refused NoInode (λ done is. cc is)
+  by_reply (Some (Made j)) (Some k) m goes = refused (Made j) (λ done is. cc is)
+  by_reply (Some (Wrote j)) (Some k) m goes = absurd goes.1
+  by_reply (Some (Bytes read)) (Some k) m goes = absurd goes.1
+  by_reply (Some Done) (Some k) m goes = absurd goes.1
+  by_reply (Some (StatOf kind size)) (Some k) m goes = absurd goes.1
+  by_reply (Some NoFile) (Some k) m goes = absurd goes.1
+  by_reply (Some BadOffset) (Some k) m goes = absurd goes.1
+  by_reply (Some TooBig) (Some k) m goes = absurd goes.1
+  by_reply (Some TooLong) (Some k) m goes = absurd goes.1
+  by_reply (Some BadType) (Some k) m goes = absurd goes.1
+
+  by_place : (r : Option Reply) (a : Place) → Goes disk a s p op (progress.Turned r) t → To r
+  by_place r place.Nowhere goes = let no = goes.0 in absurd (cc no)
+  by_place r (place.Creating m) goes = by_reply r m.slot m goes.0
+  by_place r (place.Taking m) goes = by_answer goes.0.answer goes.0.gives goes.0.next
+    where
+      d : Dinode
+      d = inode_of (current_of disk.image s.volume) m.number
+
+      by_answer : (q : Progress Bool) → progress.Turned r ≡ progress_of_lock d op q →
+          next ≡ place_of_lock e d op m goes.0.now q → To r
+      by_answer machine.Moved is to = absurd (cc is)
+      by_answer (machine.Sleeping why) is to = absurd (cc is)
+      by_answer (machine.Over used) is to =
+          let same : reply_when_taken (if_used used d) op ≡ r = (let back = sym is in cc back) in
+          subst To same (by_use used d (place_of goes.0.now.at) to)
+      by_answer (machine.Fault fault) is to = absurd (cc is)
+  by_place r (place.Reading k m) goes = absurd (none goes.0.answer goes.0.gives)
+    where
+      none : (q : Progress (Unit {0})) → progress.Turned r ≡ progress_of_read q → ⊥
+      none machine.Moved is = cc is
+      none (machine.Sleeping why) is = cc is
+      none (machine.Over out) is = cc is
+      none (machine.Fault fault) is = cc is
+  by_place r (place.Delivering k) goes = let no = goes.gives in absurd (cc no)
+  by_place r (place.Truncating k m) goes = absurd (none goes.answer goes.gives)
+    where
+      none : (q : Progress (Unit {0})) → progress.Turned r ≡ progress_of_trunc q → ⊥
+      none machine.Moved is = cc is
+      none (machine.Sleeping why) is = cc is
+      none (machine.Over out) is = cc is
+      none (machine.Fault fault) is = cc is
+  by_place r (place.Writing k m) goes = absurd (none goes.answer goes.gives)
+    where
+      none : (q : Progress (Unit {0})) → progress.Turned r ≡ progress_of_write m.done q → ⊥
+      none machine.Moved is = cc is
+      none (machine.Sleeping why) is = cc is
+      none (machine.Over out) is = cc is
+      none (machine.Fault fault) is = cc is
+  by_place r (place.Leaving k) goes = let no = goes.0 in absurd (cc no)
+
+  -- the turn of a write
+  pub write_turns : (r : Option Reply) → Steps disk s p op (progress.Turned r) t → To r
+  write_turns r steps = by_place r (task s.tasks p).place steps.goes
