@@ -5,6 +5,7 @@ pub mod Reading
 pub mod Openings
 pub mod Steps
 mod Disks
+mod Digits
 pub mod Looks
 pub mod Stages
 pub mod Asked

@@ -1,6 +1,6 @@
 -- The lines of a replay's turns.
-use Rattle.std.specs.Prelude.{ℕ, ◌/◌, ◌%◌, Bool, true, false, List, ◌++◌, ◌==◌, length, codes, decimal, flat_map, if◌then◌else◌}
-use Rattle.std.specs.Fmt.{radix_digits}
+use Rattle.std.specs.Prelude.{ℕ, Bool, true, false, List, ◌++◌, ◌==◌, length, codes, decimal, if◌then◌else◌}
+use Rattle.hex.specs.Hex.{encode_lower}
 use Rattle.model.specs.declared.types.operations.Answer.{Answer}
 use Rattle.model.specs.declared.types.operations.Reply.{Reply}
 use Rattle.model.specs.declared.types.operations.Reply.TheVariants.{Made, NoInode, Wrote, Bytes, Done, StatOf, NoFile, BadOffset, TooBig, TooLong, BadType}
@@ -38,13 +38,9 @@ step_text step.NoMemory = codes "nomemory"
 step_text step.ShutDown = codes "shutdown"
 step_text step.Halted = codes "halted"
 
--- a byte as two hexadecimal digits of lower case
-abbrev pub byte_text : ℕ → List ℕ
-byte_text byte = radix_digits 16 false (byte / 16) ++ radix_digits 16 false (byte % 16)
-
--- bytes as hexadecimal digits, or a dash where there are none
+-- bytes as hexadecimal digits of lower case, or a dash where there are none
 abbrev pub bytes_text : List ℕ → List ℕ
-bytes_text bytes = if length bytes == 0 then codes "-" else flat_map byte_text bytes
+bytes_text bytes = if length bytes == 0 then codes "-" else encode_lower bytes
 
 abbrev pub reply_text : Reply → List ℕ
 reply_text (Made inode) = codes "made " ++ decimal inode

@@ -1,11 +1,15 @@
 // What a turn of a schedule came to, and its line.
-ghost use Rattle.std.specs.Prelude.{◌≡◌, Some};
+ghost use Rattle.std.specs.Prelude.{◌≡◌, ◌*◌, ◌≤◌, Some, length};
+ghost use Rattle.hex.specs.Hex.{encode_lower};
 ghost use Rattle.player.specs.Events.{number_of, name_of, step_text, bytes_text, reply_text, answer_text, event_text, is_last};
 
 use itoa::Buffer;
 use kernel::Step;
 use model::types::{Answer, Reply, Why};
 use std::fmt;
+
+// The most bytes whose digits are made at once: those of the longest Read.
+const PIECE: usize = 3072;
 
 /// What a turn came to.
 #[derive(Drop)]
@@ -148,12 +152,27 @@ impl fmt::Display for HexText<'_> {
         if self.0.is_empty() {
             return write!(f, "-");
         }
-        for byte in self.0 {
-            let (high, low) = (*byte / 16, *byte % 16);
-            write!(f, "{high:x}{low:x}")?;
+        let mut place = [0u8; 2 * PIECE];
+        for piece in self.0.chunks(PIECE) {
+            f.write_str(digits_of(piece, &mut place))?;
         }
         Ok(())
     }
+}
+
+// The digits of these bytes, which are made in a place that has room for them.
+fn digits_of<'a>(bytes: &[u8], place: &'a mut [u8]) -> &'a str
+    requires { 2 * length bytes.now ≤ length place.old }
+    ensures { result.now ≡ encode_lower bytes.now }
+{
+    let digits = &mut place[..2 * bytes.len()];
+    let Ok(()) = hex::encode_to_slice(bytes, digits) else {
+        unreachable!();
+    };
+    let Ok(text) = str::from_utf8(digits) else {
+        unreachable!();
+    };
+    text
 }
 
 // The number of what a step waits for.

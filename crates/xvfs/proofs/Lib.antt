@@ -1,6 +1,5 @@
 pub mod Plays
 pub mod Reading
-pub mod CommandLines
 pub mod Undone
 pub mod Sequences
 pub mod Catting

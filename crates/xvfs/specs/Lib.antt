@@ -3,4 +3,3 @@ pub mod Lines
 pub mod Printed
 pub mod Turns
 pub mod Requests
-pub mod CommandLine

@@ -1,21 +1,20 @@
 -- What a request is answered.
 use Rattle.std.specs.Prelude.{◌≡◌, ◌≢◌, ◌⊎◌, ℕ, List, [], ◌∷◌, ◌++◌, Option, unwrap_or}
-use Rattle.clap.specs.Words.{IsAmong, kind_of}
-use Rattle.clap.specs.declared.error.Error.{Error}
 use Rattle.std.specs.Io.KnownBytes.{Appends}
 use Rattle.model.specs.Layout.{planned_super}
 use Rattle.scripts.specs.declared.schedule.Word.{Word}
 use Rattle.xvfs.specs.declared.command.Failure.{Failure}
 use Rattle.xvfs.specs.declared.command.Failure.TheVariants.{Refused, Misused}
-use Rattle.xvfs.specs.declared.words.Request.{Request}
-use Rattle.xvfs.specs.declared.words.Request.TheVariants.{Mkfs, Check, Recover, Cat, Replay}
+use Rattle.requests.specs.CommandLine.{AskFor}
+use Rattle.requests.specs.Told.{AskForHelp, IsToldOf}
+use Rattle.requests.specs.declared.words.Request.{Request}
+use Rattle.requests.specs.declared.words.Request.TheVariants.{Mkfs, Check, Recover, Cat, Replay}
 use Rattle.player.specs.declared.refusal.Refusal.{Refusal}
 use Rattle.player.specs.declared.refusal.Refusal.TheVariants.{Output}
 use Rattle.player.specs.Output.{numbers_text}
 use Rattle.player.specs.Refusal.{OnRefusal}
 use Rattle.xvfs.specs.Printed.{OnCatRefusal, PrintsCopied, PrintsFile, PrintsReport}
-use Rattle.xvfs.specs.CommandLine.{AskFor, IsMistakeIn, mistakes_in}
-use Rattle.xvfs.specs.Status.{IsMisuse}
+use Rattle.xvfs.specs.Status.{IsHelp}
 use Rattle.xvfs.specs.Turns.{PrintsRun}
 
 -- a request was done, and its answer printed
@@ -37,10 +36,6 @@ OnRefused (Cat image inum) r old new none = OnCatRefusal inum old new none r
 OnRefused (Replay image script schedule stop) r old new none =
     OnRefusal r ((words : List Word) × PrintsRun (unwrap_or stop 0) words old new) none
 
--- the words ask for help or for the version
-abbrev pub AskForHelp : List (List ℕ) → Type 0
-AskForHelp words = (text : Error) × IsAmong (kind_of text) (mistakes_in words) × (¬ (IsMisuse text))
-
 -- a request of the words was done and answered; what is printed of help is clap's
 abbrev pub IsDone : List (List ℕ) → Option (List ℕ) → Option (List ℕ) → Type 0
 IsDone words old new =
@@ -51,7 +46,7 @@ abbrev pub IsUndone : List (List ℕ) → Option (List ℕ) → Option (List ℕ
 IsUndone words old new none (Refused r) =
     ((request : Request) × AskFor words request × OnRefused request r old new none)
     ⊎ (AskForHelp words × (r ≡ Output))
-IsUndone words old new none (Misused text) = none × IsMistakeIn words text
+IsUndone words old new none (Misused e) = none × IsToldOf words e × (¬ (IsHelp e))
 
 -- the commands of these lines were done, one after the other
 abbrev pub AreDone : List (List (List ℕ)) → Option (List ℕ) → Option (List ℕ) → Type 0

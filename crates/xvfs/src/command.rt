@@ -1,15 +1,16 @@
 // One command, and the exit status that it ends with.
 ghost use Rattle.std.specs.Prelude.{◌≡◌, ◌≤◌, map, Err, OnOk, IfErr, IsOkUnless};
+ghost use Rattle.std.specs.Io.KnownBytes.{Appends};
+ghost use Rattle.requests.specs.Told.{explanation_text};
 ghost use Rattle.xvfs.specs.Requests.{Answers, IsDone, IsUndone, OnRefused};
-ghost use Rattle.xvfs.specs.Status.{IsMisuse, IsUnprinted, status_of};
+ghost use Rattle.xvfs.specs.Status.{IsHelp, IsUnprinted, Tells, status_of};
 ghost use Rattle.xvfs.specs.declared.command.Failure.TheVariants as failure;
-ghost use Rattle.clap.specs.declared.error.Error.{Error as SomeError};
 ghost use Rattle.player.specs.declared.refusal.Refusal.{Refusal as SomeRefusal};
-ghost use Rattle.xvfs.specs.Status.{Tells};
+ghost use Rattle.requests.specs.declared.explanation.Explanation.{Explanation as SomeExplanation};
 
 use crate::images::{cat_file, check_file, make_file, recover_file, replay_files};
-use crate::words::{Request, parse};
 use player::{Refusal, print_last};
+use requests::{Explanation, Request, parse};
 use std::convert::AsStr;
 use std::io::Write;
 use std::rt::Files;
@@ -20,7 +21,7 @@ pub enum Failure {
     /// A layer refused.
     Refused(Refusal),
     /// The words are no command, or memory for them was refused.
-    Misused(clap::Error),
+    Misused(Explanation),
 }
 
 impl From<Refusal> for Failure {
@@ -39,8 +40,9 @@ impl From<Refusal> for Failure {
 ///
 /// With 0 the words make a command, and `out` has its answer; or they ask for help or the version,
 /// whose text is clap's. With 1 they do too, and nothing was printed, but of a replay whose disk
-/// failed, of a file in whose reading that or memory failed, and of an output that failed. With 2 nothing is written to `out`, with 0 nothing to
-/// `err`. What else `err` gets no contract tells, since it may fail at any byte.
+/// failed, of a file in whose reading that or memory failed, and of an output that failed. With 2
+/// nothing is written to `out`, with 0 nothing to `err`. What else `err` gets no contract tells,
+/// since it may fail at any byte.
 pub fn command<R: Files + AllocGlobal, S: AsStr, O: Write, E: Write>(
     rt: &R,
     words: &[S],
@@ -52,8 +54,8 @@ pub fn command<R: Files + AllocGlobal, S: AsStr, O: Write, E: Write>(
         IsDone (map S.text words.now) (O.contents out.old) (O.contents out.new) }
     ensures refused { result ≡ 1 → (r : SomeRefusal) × IsUndone (map S.text words.now)
         (O.contents out.old) (O.contents out.new) (out.new ≡ out.old) (failure.Refused r) }
-    ensures wrong { result ≡ 2 → (text : SomeError) × IsUndone (map S.text words.now)
-        (O.contents out.old) (O.contents out.new) (out.new ≡ out.old) (failure.Misused text) }
+    ensures wrong { result ≡ 2 → (e : SomeExplanation) × IsUndone (map S.text words.now)
+        (O.contents out.old) (O.contents out.new) (out.new ≡ out.old) (failure.Misused e) }
     ensures silent { result ≡ 0 → err.new ≡ err.old }
     ensures misused { result ≡ 2 → out.new ≡ out.old }
 {
@@ -90,7 +92,7 @@ fn report<E: Write>(failure: Failure, err: &mut E) -> Result<(), Refusal>
 {
     match failure {
         Failure::Refused(refusal) => print_last(err, format_args!("xvfs: {refusal}\n")),
-        Failure::Misused(text) => print_last(err, text),
+        Failure::Misused(explanation) => print_last(err, explanation),
     }
 }
 
@@ -107,20 +109,22 @@ fn perform<R: Files + AllocGlobal, S: AsStr, O: Write>(
 {
     match parse(rt.alloc(), words) {
         Ok(request) => Ok(dispatch(rt, request, out)?),
-        Err(text) => explain(text, out),
+        Err(explanation) => explain(explanation, out),
     }
 }
 
 // Help and the version are answers, the other texts are not.
-fn explain<O: Write>(text: clap::Error, out: &mut O) -> Result<(), Failure>
-    ensures ok { OnOk result (¬ (IsMisuse text)) }
-    ensures err { IfErr result (IsUnprinted text) }
+fn explain<O: Write>(explanation: Explanation, out: &mut O) -> Result<(), Failure>
+    ensures ok { OnOk result (IsHelp explanation) }
+    ensures printed { OnOk result (Appends (O.contents out.old) (O.contents out.new)
+        (explanation_text explanation)) }
+    ensures err { IfErr result (IsUnprinted explanation) }
     ensures silent { IfErr result (λ failure. status_of (Err failure) ≡ 2 → out.new ≡ out.old) }
 {
-    if text.use_stderr() {
-        return Err(Failure::Misused(text));
+    match explanation {
+        Explanation::Help(text) => Ok(print_last(out, text)?),
+        mistake => Err(Failure::Misused(mistake)),
     }
-    Ok(print_last(out, text)?)
 }
 
 // Does what is asked for, and prints the answer.

@@ -6,7 +6,6 @@ mod command;
 mod commands;
 mod images;
 mod inputs;
-mod words;
 
 use command::{command, refuse};
 use commands::commands;

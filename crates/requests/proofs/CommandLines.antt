@@ -10,8 +10,8 @@ use Rattle.clap.specs.declared.parser.matches.ArgMatches.{ArgMatches}
 use Rattle.clap.specs.declared.parser.matches.Found.{Found}
 use Rattle.clap.proofs.OnLiterals.{clap_on_literals}
 use Rattle.clap.proofs.WalkLemmas.{first_value-rows}
-use Rattle.xvfs.specs.declared.words.Request.{Request}
-use Rattle.xvfs.specs.CommandLine.{Asks, AsksBy, HasApp, IsMistakeIn, mistakes_in, xvfs_app}
+use Rattle.requests.specs.declared.words.Request.{Request}
+use Rattle.requests.specs.CommandLine.{Asks, AsksBy, HasApp, IsMistakeIn, mistakes_in, xvfs_app}
 
 pub one_word : (app : App) (rule : Rule) (old : Command) (word : Arg) (new : Command) → HasApp app old → rule_of word ≡ rule → word.global ≡ false → AddsArg old word new → HasApp (with_rule app rule) new
 one_word app rule old word new has is local adds =

@@ -3,8 +3,8 @@ use Rattle.std.specs.Prelude.{◌≡◌, ◌⊎◌, ℕ, List, [], Option, Some,
 use Rattle.clap.specs.Words.{App, HasKind, Kinds, Row, Rule, new_app, new_rule, app_of, fault_of, first_of, kind_of, subcommand_of, with_rule, with_subcommand}
 use Rattle.clap.specs.declared.error.Error.{Error}
 use Rattle.clap.specs.declared.error.kind.ErrorKind.TheVariants as kind
-use Rattle.xvfs.specs.declared.words.Request.{Request}
-use Rattle.xvfs.specs.declared.words.Request.TheVariants.{Mkfs, Check, Recover, Cat, Replay}
+use Rattle.requests.specs.declared.words.Request.{Request}
+use Rattle.requests.specs.declared.words.Request.TheVariants.{Mkfs, Check, Recover, Cat, Replay}
 use Rattle.clap.specs.declared.builder.command.Command.{Command}
 use Rattle.clap.specs.declared.builder.command.Command.TheViews.{out-Command}
 use Rattle.clap.specs.declared.builder.value_parser.ValueParser.TheVariants.{Signed, Unsigned}
@@ -85,8 +85,9 @@ Asks None request = ⊥
 Asks (Some command) request = AsksBy command.0 command.1 request
 
 -- the words make a command, which asks for the request
-abbrev pub AskFor : List (List ℕ) → Request → Type 0
-AskFor words request = (mistakes_in words ≡ []) × Asks (subcommand_of xvfs_app words) request
+pub record AskFor (words : List (List ℕ)) (request : Request) : Type 0 where
+  pub right : mistakes_in words ≡ []
+  pub asks : Asks (subcommand_of xvfs_app words) request
 
 -- the error is a mistake in the words, or that memory was refused
 abbrev pub IsMistakeIn : List (List ℕ) → Error → Type 0

@@ -1,9 +1,9 @@
 use Rattle.std.proofs.Common.{◌≡◌, codes, rules}
 use Rattle.std.proofs.lemmas.Result.{IfOk-weaker}
 use Rattle.clap.specs.Words.{new_app, rule_of}
-use Rattle.xvfs.specs.CommandLine.{HasApp, number_rule, required_rule}
-use Rattle.xvfs.proofs.CommandLines.{one_word}
-use Rattle.xvfs.proofs.words.cat_words.Goals as goal
+use Rattle.requests.specs.CommandLine.{HasApp, number_rule, required_rule}
+use Rattle.requests.proofs.CommandLines.{one_word}
+use Rattle.requests.proofs.words.cat_words.Goals as goal
 
 pub returns : goal.returns
 returns c =

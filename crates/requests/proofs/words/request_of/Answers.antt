@@ -1,7 +1,7 @@
 use Rattle.std.proofs.Common.{codes, rules}
 use Rattle.clap.specs.Words.{found_of, rows_of}
-use Rattle.xvfs.proofs.CommandLines.{asked, value_read}
-use Rattle.xvfs.proofs.words.request_of.Goals as goal
+use Rattle.requests.proofs.CommandLines.{asked, value_read}
+use Rattle.requests.proofs.words.request_of.Goals as goal
 
 pub returns-in_ok-get_one-in-mkfs-2 : goal.returns-in_ok-get_one-in-mkfs-2
 returns-in_ok-get_one-in-mkfs-2 c =

@@ -1,8 +1,8 @@
 use Rattle.std.proofs.Common.{codes}
 use Rattle.std.proofs.lemmas.Result.{IfOk-weaker}
-use Rattle.xvfs.specs.CommandLine.{cat_app, image_app, mkfs_app, replay_app}
-use Rattle.xvfs.proofs.CommandLines.{one_command}
-use Rattle.xvfs.proofs.words.program.Goals as goal
+use Rattle.requests.specs.CommandLine.{cat_app, image_app, mkfs_app, replay_app}
+use Rattle.requests.proofs.CommandLines.{one_command}
+use Rattle.requests.proofs.words.program.Goals as goal
 
 pub returns : goal.returns
 returns c =

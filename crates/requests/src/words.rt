@@ -1,8 +1,10 @@
-// The words of a command line.
+// What the words of a command line ask for.
 ghost use Rattle.std.specs.Prelude.{◌≡◌, false, codes, map, IfErr, IfOk, IfSome};
 ghost use Rattle.clap.specs.Words.{rule_of, subcommand_rows_of};
-ghost use Rattle.xvfs.specs.CommandLine.{AskFor, Asks, HasApp, IsMistakeIn, bare_app, cat_app, image_app, mkfs_app, number_rule, replay_app, required_rule, stop_rule, xvfs_app};
+ghost use Rattle.requests.specs.CommandLine.{AskFor, Asks, HasApp, IsMistakeIn, bare_app, cat_app, image_app, mkfs_app, number_rule, replay_app, required_rule, stop_rule, xvfs_app};
+ghost use Rattle.requests.specs.Told.{IsToldOf};
 
+use crate::explanation::Explanation;
 use clap::error::ErrorKind;
 use clap::{Arg, ArgMatches, Command, Error, value_parser};
 use std::alloc::{AllocError, Global};
@@ -54,9 +56,20 @@ pub enum Request<'a> {
 ///
 /// # Errors
 ///
-/// What clap answers: a mistake in the words, the text of help or of the version, or want of
-/// memory. How it reads words is clap's definition, at this program's command line.
-pub fn parse<'a, S: AsStr>(alloc: Global, words: &'a [S]) -> Result<Request<'a>, Error>
+/// What is told in its place: a mistake in the words, the text of help or of the version, or that
+/// memory was refused. How words are read is clap's definition, at this program's command line.
+pub fn parse<'a, S: AsStr>(alloc: Global, words: &'a [S]) -> Result<Request<'a>, Explanation>
+    ensures ok { IfOk result (AskFor (map S.text words.entry.now)) }
+    ensures err { IfErr result (IsToldOf (map S.text words.entry.now)) }
+{
+    match read(alloc, words) {
+        Ok(request) => Ok(request),
+        Err(error) => Err(Explanation::of(alloc, error)),
+    }
+}
+
+// What the words ask for, or clap's error.
+fn read<'a, S: AsStr>(alloc: Global, words: &'a [S]) -> Result<Request<'a>, Error>
     ensures ok { IfOk result (AskFor (map S.text words.entry.now)) }
     ensures err { IfErr result (IsMistakeIn (map S.text words.entry.now)) }
 {

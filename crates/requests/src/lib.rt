@@ -1,0 +1,11 @@
+//! Reads the words of a command line: which command they ask for, or what is told in its place.
+//!
+//! How words are read is clap's definition, at this program's command line. What this crate answers
+//! has no type of clap's.
+#![tactic(auto)]
+
+mod explanation;
+mod words;
+
+pub use explanation::Explanation;
+pub use words::{Request, parse};
