@@ -6,6 +6,8 @@ pub mod Openings
 pub mod Steps
 mod Disks
 pub mod Looks
+pub mod DiskReads
 pub mod Stages
 pub mod Asked
 pub mod Shown
+pub mod Keeping
