@@ -79,16 +79,13 @@ module _ {D N : Type 0} (disk : Ghosts (FaultyDisk D) (N × Trap)) (stop : ℕ) 
   keeps_turn word.Shutdown event k old new kept turn = keeps_shut disk k old.kernel new.kernel kept turn.1
 
   keeps_turns : (words : List Word) (events : List Event) (k : Plain (FaultyDisk D)) (old new : Player D N) → KeepsOn disk k old.kernel → MakesTurns disk stop words events old new → KeepsOn disk k new.kernel
-  keeps_turns [] events k old new kept makes = subst (λ (o : Player D N). KeepsOn disk k o.kernel) (sym makes.1) kept
-  keeps_turns (w ∷ words) [] k old new kept makes = absurd makes
-  keeps_turns (w ∷ words) (event ∷ events) k old new kept (mid, turn, rest) = on (is_last event) rest
+  keeps_turns [] events k old new so makes = subst (λ (o : Player D N). KeepsOn disk k o.kernel) (sym makes.1) so
+  keeps_turns (w ∷ words) [] k old new so makes = absurd makes
+  keeps_turns (w ∷ words) (event ∷ events) k old new so (mid, turn, rest) = here (is_last event) (keeps_turn w event k old mid so turn) (λ kept_mid more. keeps_turns words events k mid new kept_mid more) rest
     where
-      here : KeepsOn disk k mid.kernel
-      here = keeps_turn w event k old mid kept turn
-
-      on : (b : Bool) → IfLast b ((events ≡ []) × (new ≡ mid)) (MakesTurns disk stop words events mid new) → KeepsOn disk k new.kernel
-      on true ends = subst (λ (o : Player D N). KeepsOn disk k o.kernel) (sym ends.1) here
-      on false more = keeps_turns words events k mid new here more
+      here : (b : Bool) → KeepsOn disk k mid.kernel → (KeepsOn disk k mid.kernel → MakesTurns disk stop words events mid new → KeepsOn disk k new.kernel) → IfLast b ((events ≡ []) × (new ≡ mid)) (MakesTurns disk stop words events mid new) → KeepsOn disk k new.kernel
+      here true so_mid on ends = subst (λ (o : Player D N). KeepsOn disk k o.kernel) (sym ends.1) so_mid
+      here false so_mid on more = on so_mid more
 
   -- what turns keep of a player's kernel
   pub turns_keep : (words : List Word) (events : List Event) (old new : Player D N) → Keeps disk plain_queues plain_herald old.kernel → MakesTurns disk stop words events old new → KeepsOn disk old.kernel new.kernel
@@ -122,13 +119,13 @@ recovers_before x y z sound is alike = record {
 
 module _ {D N : Type 0} (below : Ghosts D N) (has_now : (d : D) → below.leaves d (below.moment d) (below.image d)) (d : D) (tasks : List Task) (processes stop : ℕ) (player last : Player D N)
     (ready : IsReadyOver below (faulty below) d tasks processes stop player) (runs : RunsOn (faulty below) player.kernel last.kernel) where
-  first : D
+  abbrev first : D
   first = player.kernel.store.volume.device.inner
 
   -- the image that the recovery left, and so all that are recovered to it, keep some of the groups
   first_kept : KeepsSome (faulty below) last.kernel (below.image first)
   first_kept =
-      let k = runs.leaves.each (below.image first) (runs.leaves.keeps (below.moment first) (below.image first) (omega arith) (has_now first)) in
+      let k = runs.leaves.each (below.image first) (runs.leaves.keeps ((faulty below).moment player.kernel.store.volume.device) (below.image first) (omega arith) (has_now first)) in
       record { groups = k.groups; low = omega arith; high = k.high; keeps = k.keeps }
 
   recovers_first : below.image first ≡ recovered (below.image d)

@@ -51,11 +51,11 @@ turn_alone {D} {N} disk stop word event now next turn = (next, turn, on (is_last
     on true = (refl, refl)
     on false = (refl, refl)
 
-module _ {D N : Type 0} (disk : Ghosts (FaultyDisk D) (N × Trap)) (stop : ℕ) (words : List Word) (k : ℕ) (old now next : Player D N) (text mid printed : Option (List ℕ)) (word : Word) (event : Event)
+module _ {D N : Type 0} (disk : Ghosts (FaultyDisk D) (N × Trap)) (stop : ℕ) (words : List Word) (k : ℕ) (old now next : Player D N) (text mid : Option (List ℕ)) (word : Word) (event : Event)
     (so : PlayedSo disk stop words k old now text mid) (within : k < length words) (left : drop k words ≡ word ∷ drop (k + 1) words) (turn : MakesTurn disk stop word event now next) where
   -- one turn more
-  pub one_played : is_last event ≡ false → Appends mid printed (event_line event) → PlayedSo disk stop words (k + 1) old next text printed
-  one_played more line = record {
+  pub one_played : (printed : Option (List ℕ)) → is_last event ≡ false → Appends mid printed (event_line event) → PlayedSo disk stop words (k + 1) old next text printed
+  one_played printed more line = record {
     events = so.events ++ event ∷ [];
     lines = more_printed text mid printed so.events event so.lines line;
     joins = λ others rest new makes.
@@ -67,8 +67,8 @@ module _ {D N : Type 0} (disk : Ghosts (FaultyDisk D) (N × Trap)) (stop : ℕ) 
   }
 
   -- the last turn
-  pub last_played : is_last event ≡ true → Appends mid printed (event_line event) → PlaysTo disk stop words old next text printed
-  last_played last line =
+  pub last_played : (printed : Option (List ℕ)) → is_last event ≡ true → Appends mid printed (event_line event) → PlaysTo disk stop words old next text printed
+  last_played printed last line =
       let none : List Event = [] in
       let ends : (none ≡ []) × (next ≡ next) = (refl, refl) in
       let here : MakesTurns disk stop (word ∷ drop (k + 1) words) (event ∷ []) now next =

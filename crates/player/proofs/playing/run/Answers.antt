@@ -1,4 +1,6 @@
-use Rattle.std.proofs.Common.{take}
+use Rattle.std.proofs.Common.{◌≡◌, Err, rules, subst, sym, take}
+use Rattle.std.specs.Prelude.{IfErr}
+use Rattle.player.specs.Stepping.{IsBrokenOff}
 use Rattle.player.proofs.Keeping.{turns_keep}
 use Rattle.player.proofs.Plays.{counts_printed}
 use Rattle.player.proofs.Refused.{broken_off, broken_output, on_ok_both}
@@ -7,7 +9,9 @@ use Rattle.player.proofs.playing.run.Goals as goal
 
 pub returns-in_err-play-clause-refused : goal.returns-in_err-play-clause-refused
 returns-in_err-play-clause-refused g c =
-    broken_output (faulty g.D.Disk) c.args.stop c.args.base c.args.words.now c.args.player.now c.play.new.player (g.O.Write.contents c.args.out.now) (g.O.Write.contents c.play.new.out) c.in_err-play.field-0.0 c.in_err-play.ensures.err c.play.ensures.breaks
+    let same : c.from_residual.result ≡ Err c.in_err-play.field-0.0 = search rules in
+    subst (λ r. IfErr r (IsBrokenOff (faulty g.D.Disk) c.args.stop c.args.base c.args.words.now c.args.player.now c.play.new.player (g.O.Write.contents c.args.out.now) (g.O.Write.contents c.play.new.out))) (sym same)
+    (broken_output (faulty g.D.Disk) c.args.stop c.args.base c.args.words.now c.args.player.now c.play.new.player (g.O.Write.contents c.args.out.now) (g.O.Write.contents c.play.new.out) c.in_err-play.field-0.0 c.in_err-play.ensures.err c.play.ensures.breaks)
 
 pub returns-in_err-play-clause-keeps : goal.returns-in_err-play-clause-keeps
 returns-in_err-play-clause-keeps g c =
