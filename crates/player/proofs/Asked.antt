@@ -1,12 +1,17 @@
 -- What an operation of a kernel's only process is answered.
 use Rattle.std.proofs.Common.{◌≡◌, ◌≢◌, ◌∙◌, ◌<◌, ◌≤◌, ℕ, ◌+◌, ◌^◌, ◌-◌, zero, suc, true, false, ◌&&◌, List, [], ◌∷◌, ◌++◌, length, map, Option, Some, None, refl, sym, ap, subst, arith}
-use Rattle.std.specs.Prelude.{min, ◌==◌, option_map, slice_get}
+use Rattle.std.specs.Prelude.{min, ◌==◌, ◌↔◌, IsSome, option_map, slice_get}
 use Rattle.std.specs.List.{list_all, filter}
 use Rattle.std.proofs.lemmas.Bool.{and_parts}
 use Rattle.std.proofs.lemmas.List.{length-append, length-map, map-append}
 use Rattle.std.proofs.lemmas.List.Folds.{list_all-append}
-use Rattle.blocks.specs.Disk.{Image}
+use Rattle.blocks.specs.Calls.{OnlyReads}
+use Rattle.blocks.specs.Disk.{Image, IsSettled}
 use Rattle.blocks.specs.declared.disk.Disk.{Ghosts}
+use Rattle.blocks.specs.declared.errors.DiskFault.{DiskFault}
+use Rattle.model.specs.Log.{logged_count}
+use Rattle.model.specs.Lemmas.Recovery.{logged_count-left}
+use Rattle.wal.specs.Volume.{faults_after}
 use Rattle.model.specs.declared.types.operations.Answer.{Answer}
 use Rattle.model.specs.declared.types.operations.Entry.{Entry}
 use Rattle.model.specs.declared.types.operations.Op.{Op}
@@ -32,46 +37,77 @@ use Rattle.kernel.specs.declared.types.Step.TheVariants as step
 use Rattle.player.specs.Asking.{IsAnswer, Rests, is_look, is_own_look}
 use Rattle.player.specs.Stepping.{Plain, MakesPlainStep, MakesSteps, Moves, plain_herald, plain_queues}
 use Rattle.player.proofs.Looks.{last_answer_is}
-use Rattle.player.proofs.Stages.{HasMore, StageAt, OverAt, busy_stands, step_moves, step_answers}
+use Rattle.player.proofs.DiskReads.{looked_at, reads_none, reads_then}
+use Rattle.player.proofs.Stages.{HasMore, StageAt, OverAt, busy_stands, commits_none, step_moves, step_answers, step_opens_none}
 
 -- the operation of a kernel's only process waits, or is under way, as it was handed in to k
-record Stage {D : Type 0} (op : Op) (k m : Plain D) : Type 0 where
-  one : length m.world.processes ≡ 1
-  opening : m.opening ≡ k.opening
-  names : queue_name m.intake 0 ≡ queue_name k.intake 0
-  stands : StageAt op k.world.journal.list (process m.world 0).at (waiting m.intake 0) m.world.journal.list
+pub record Stage {D : Type 0} (op : Op) (k m : Plain D) : Type 0 where
+  pub one : length m.world.processes ≡ 1
+  pub opening : m.opening ≡ k.opening
+  pub names : queue_name m.intake 0 ≡ queue_name k.intake 0
+  pub unopened : m.store.volume.log.outstanding ≡ 0
+  pub stands : StageAt op k.world.journal.list (process m.world 0).at (waiting m.intake 0) m.world.journal.list
 
 -- it is over
 record Over {D : Type 0} (op : Op) (k m : Plain D) : Type 0 where
   one : length m.world.processes ≡ 1
   opening : m.opening ≡ k.opening
   names : queue_name m.intake 0 ≡ queue_name k.intake 0
+  unopened : m.store.volume.log.outstanding ≡ 0
   over : OverAt op k.world.journal.list m.world
 
-stage_moves : {D N : Type 0} (disk : Ghosts D N) (op : Op) (k m n : Plain D) → Stage op k m → MakesPlainStep disk 0 step.Moved m n → Stage op k n
-stage_moves disk op k m n stage made = record {
-  one = made.many ∙ stage.one;
-  opening = made.acts.opening ∙ stage.opening;
-  names = made.acts.sides.names 0 ∙ stage.names;
-  stands = busy_stands op k.world.journal.list n.world.journal.list (process n.world 0).at (waiting n.intake 0)
-      (step_moves disk op k.world.journal.list m.store m.world (let one = stage.one in omega (arith, one)) (waiting m.intake 0) (plain_queues.side n.intake 0) false n.store n.world m.store.volume.fault made.acts.next stage.stands);
-}
+module _ {D N : Type 0} (disk : Ghosts D N) (op : Op) (look : is_look op ≡ true) where
+  -- no operation is open in the log behind a step
+  stays_unopened : (r : Step) (k m n : Plain D) → Stage op k m → MakesPlainStep disk 0 r m n → n.store.volume.log.outstanding ≡ 0
+  stays_unopened r k m n stage made = step_opens_none disk op k.world.journal.list m.store m.world (let one = stage.one in omega (arith, one)) stage.unopened (waiting m.intake 0) (plain_queues.side n.intake 0) false n.store n.world r m.store.volume.fault look made.acts.next stage.stands
 
-stages_move : {D N : Type 0} (disk : Ghosts D N) (op : Op) (count : ℕ) (k m n : Plain D) → Stage op k m → Moves disk 0 count m n → Stage op k n
-unfolding Moves
-stages_move disk op zero k m n stage moves = subst (λ o. Stage op k o) (sym moves) stage
-stages_move disk op (suc count) k m n stage (mid, made, moves) = stages_move disk op count k mid n (stage_moves disk op k m mid stage made) moves
+  stage_moves : (k m n : Plain D) → Stage op k m → MakesPlainStep disk 0 step.Moved m n → Stage op k n
+  stage_moves k m n stage made = record {
+    one = made.many ∙ stage.one;
+    opening = made.acts.opening ∙ stage.opening;
+    names = made.acts.sides.names 0 ∙ stage.names;
+    unopened = stays_unopened step.Moved k m n stage made;
+    stands = busy_stands op k.world.journal.list n.world.journal.list (process n.world 0).at (waiting n.intake 0)
+        (step_moves disk op k.world.journal.list m.store m.world (let one = stage.one in omega (arith, one)) stage.unopened (waiting m.intake 0) (plain_queues.side n.intake 0) false n.store n.world m.store.volume.fault made.acts.next stage.stands);
+  }
 
-stage_over : {D N : Type 0} (disk : Ghosts D N) (op : Op) (k m n : Plain D) → Stage op k m → MakesPlainStep disk 0 step.Answered m n → Over op k n
-stage_over disk op k m n stage made = record {
-  one = made.many ∙ stage.one;
-  opening = made.acts.opening ∙ stage.opening;
-  names = made.acts.sides.names 0 ∙ stage.names;
-  over = step_answers disk op k.world.journal.list m.store m.world (let one = stage.one in omega (arith, one)) (waiting m.intake 0) (plain_queues.side n.intake 0) false n.store n.world m.store.volume.fault made.acts.next stage.stands;
-}
+  stages_move : (count : ℕ) (k m n : Plain D) → Stage op k m → Moves disk 0 count m n → Stage op k n
+  unfolding Moves
+  stages_move zero k m n stage moves = subst (λ o. Stage op k o) (sym moves) stage
+  stages_move (suc count) k m n stage (mid, made, moves) = stages_move count k mid n (stage_moves k m mid stage made) moves
 
-over_then : {D N : Type 0} (disk : Ghosts D N) (op : Op) (k m : Plain D) → Stage op k k → MakesSteps disk 0 step.Answered k m → Over op k m
-over_then disk op k m stage makes = stage_over disk op k makes.mid m (stages_move disk op makes.moved k k makes.mid stage makes.moves) makes.made
+  stage_over : (k m n : Plain D) → Stage op k m → MakesPlainStep disk 0 step.Answered m n → Over op k n
+  stage_over k m n stage made = record {
+    one = made.many ∙ stage.one;
+    opening = made.acts.opening ∙ stage.opening;
+    names = made.acts.sides.names 0 ∙ stage.names;
+    unopened = stays_unopened step.Answered k m n stage made;
+    over = step_answers disk op k.world.journal.list m.store m.world (let one = stage.one in omega (arith, one)) stage.unopened (waiting m.intake 0) (plain_queues.side n.intake 0) false n.store n.world m.store.volume.fault made.acts.next stage.stands;
+  }
+
+  over_then : (k m : Plain D) → Stage op k k → MakesSteps disk 0 step.Answered k m → Over op k m
+  over_then k m stage makes = stage_over k makes.mid m (stages_move makes.moved k k makes.mid stage makes.moves) makes.made
+
+  -- a step of a look only reads
+  module _ (has_now : (d : D) → disk.leaves d (disk.moment d) (disk.image d)) (only_now : (d : D) → IsSettled (disk.image d) (disk.leaves d (disk.moment d)))
+      (counts_now : (d : D) (t : ℕ) (x : Image) → t ≤ disk.moment d → disk.leaves d (disk.moment d) x → disk.leaves d t x) where
+    step_reads : (r : Step) (k m n : Plain D) → Stage op k m → MakesPlainStep disk 0 r m n → OnlyReads disk m.store.volume.device n.store.volume.device
+    step_reads r k m n stage made =
+        let uses = made.acts.device in
+        let none = commits_none op k.world.journal.list m.world.journal.list (process m.world 0).at (waiting m.intake 0) stage.stands in
+        looked_at disk has_now only_now counts_now m.store.volume.device n.store.volume.device uses.name (uses.image none) (uses.unwritten none) uses.time
+
+    moves_read : (count : ℕ) (k m n : Plain D) → Stage op k m → Moves disk 0 count m n → OnlyReads disk m.store.volume.device n.store.volume.device
+    unfolding Moves
+    moves_read zero k m n stage moves = subst (λ (o : Plain D). OnlyReads disk m.store.volume.device o.store.volume.device) (sym moves) (reads_none disk m.store.volume.device)
+    moves_read (suc count) k m n stage (mid, made, moves) =
+        reads_then disk m.store.volume.device mid.store.volume.device n.store.volume.device (step_reads step.Moved k m mid stage made) (moves_read count k mid n (stage_moves k m mid stage made) moves)
+
+    -- so do all steps up to one that doesn't move
+    pub steps_read : (r : Step) (k m : Plain D) → Stage op k k → MakesSteps disk 0 r k m → OnlyReads disk k.store.volume.device m.store.volume.device
+    steps_read r k m stage makes =
+        reads_then disk k.store.volume.device makes.mid.store.volume.device m.store.volume.device (moves_read makes.moved k k makes.mid stage makes.moves)
+        (step_reads r k makes.mid m (stages_move makes.moved k k makes.mid stage makes.moves) makes.made)
 
 -- steps of a process leave the disk at the opening
 pub opening_stays : {D N : Type 0} (disk : Ghosts D N) (p count : ℕ) (k m : Plain D) → Moves disk p count k m → m.opening ≡ k.opening
@@ -159,6 +195,7 @@ pub record IsAnswered {D : Type 0} (image : D → Image) (op : Op) (k m : Plain 
   pub idle : (process m.world 0).at ≡ at.Idle
   pub looks : list_all is_own_look m.world.journal.list ≡ true
   pub opening : m.opening ≡ k.opening
+  pub unopened : m.store.volume.log.outstanding ≡ 0
   pub waits : waiting m.intake 0 ≡ []
   pub before : polled m.intake 0 + 1 ≡ length m.world.journal.list
   pub few : length m.world.journal.list ≤ 2 ^ 64 - 1
@@ -166,11 +203,21 @@ pub record IsAnswered {D : Type 0} (image : D → Image) (op : Op) (k m : Plain 
   pub only : answers m.intake 0 ≡ answer ∷ []
   pub is : IsAnswer (image k.opening) op answer.reply
 
-pub is_answered : {D N : Type 0} (disk : Ghosts D N) (op : Op) (k m : Plain D) → Known disk plain_queues plain_herald k → Known disk plain_queues plain_herald m → length k.world.processes ≡ 1 → (process k.world 0).at ≡ at.Idle → list_all is_own_look k.world.journal.list ≡ true
+-- where the operation waits
+stage_first : {D : Type 0} (op : Op) (k : Plain D) → length k.world.processes ≡ 1 → k.store.volume.log.outstanding ≡ 0 → (process k.world 0).at ≡ at.Idle → waiting k.intake 0 ≡ op ∷ [] → Stage op k k
+stage_first op k one unopened idle waits = record {
+  one = one;
+  opening = refl;
+  names = refl;
+  unopened = unopened;
+  stands = subst (λ (a : At). StageAt op k.world.journal.list a (waiting k.intake 0) k.world.journal.list) (sym idle) (waits, refl);
+}
+
+pub is_answered : {D N : Type 0} (disk : Ghosts D N) (op : Op) (k m : Plain D) → Known disk plain_queues plain_herald k → Known disk plain_queues plain_herald m → length k.world.processes ≡ 1 → k.store.volume.log.outstanding ≡ 0 → (process k.world 0).at ≡ at.Idle → list_all is_own_look k.world.journal.list ≡ true
     → waiting k.intake 0 ≡ op ∷ [] → polled k.intake 0 ≡ length k.world.journal.list → length k.world.journal.list < 2 ^ 64 - 1 → is_look op ≡ true → MakesSteps disk 0 step.Answered k m → IsAnswered disk.image op k m
-is_answered disk op k m known_k known_m one idle looks waits fetched few look makes =
+is_answered disk op k m known_k known_m one unopened idle looks waits fetched few look makes =
     let es = k.world.journal.list in
-    let over = over_then disk op k m (record { one = one; opening = refl; names = refl; stands = subst (λ (a : At). StageAt op es a (waiting k.intake 0) es) (sym idle) (waits, refl) }) makes in
+    let over = over_then disk op look k m (stage_first op k one unopened idle waits) makes in
     let e = over.over.more.entry in
     let list : m.world.journal.list ≡ es ++ e ∷ [] = over.over.more.is in
     let one_look : is_own_look e ≡ true = rw (over.over.more.mine, over.over.more.same, look) refl in
@@ -199,6 +246,7 @@ is_answered disk op k m known_k known_m one idle looks waits fetched few look ma
       idle = over.over.idle;
       looks = now_looks;
       opening = opening;
+      unopened = over.unopened;
       waits = none_waits;
       before = (let p = same_polled ∙ fetched in omega (arith, p, long));
       few = omega (arith, few, long);
@@ -216,29 +264,66 @@ begun_is disk k known one idle looks =
     has.is.count ∙ ap (λ (l : List Op). length l) has.is.taken ∙ ap (λ (a : At). length (map (λ (e : Entry). e.op) (own 0 k.world.journal.list) ++ pending_at a)) idle
     ∙ length-append (map (λ (e : Entry). e.op) (own 0 k.world.journal.list)) [] ∙ ap (λ (n : ℕ). n + 0) (length-map (own 0 k.world.journal.list) (λ (e : Entry). e.op) ∙ ap (λ (l : List Entry). length l) (own_all k.world.journal.list looks)) ∙ omega arith
 
+-- a look was handed in to a kernel that rested
+pub record HandedIn {D : Type 0} (op : Op) (l : Plain D) : Type 0 where
+  pub one : length l.world.processes ≡ 1
+  pub unopened : l.store.volume.log.outstanding ≡ 0
+  pub idle : (process l.world 0).at ≡ at.Idle
+  pub looks : list_all is_own_look l.world.journal.list ≡ true
+  pub waits : waiting l.intake 0 ≡ op ∷ []
+
+handed_in : {D : Type 0} (faults : D → ℕ) (op : Op) (k l : Plain D) → Rests faults k → l ≡ record k { intake = l.intake } → waiting l.intake 0 ≡ waiting k.intake 0 ++ op ∷ [] → HandedIn op l
+handed_in faults op k l rests same waits =
+    let world : l.world ≡ k.world = ap (λ s. s.world) same in
+    record {
+      one = ap (λ w. length w.processes) world ∙ rests.one;
+      unopened = ap (λ s. s.store.volume.log.outstanding) same ∙ rests.unopened;
+      idle = ap (λ w. (process w 0).at) world ∙ rests.idle;
+      looks = ap (λ w. list_all is_own_look w.journal.list) world ∙ rests.looks;
+      waits = waits ∙ ap (λ (xs : List Op). xs ++ op ∷ []) rests.waits;
+    }
+
 -- from the submission to the last step
-pub asked : {D N : Type 0} (disk : Ghosts D N) (op : Op) (r : Step) (n : ℕ) (k l m : Plain D) → Rests k → is_look op ≡ true → l ≡ record k { intake = l.intake } → waiting l.intake 0 ≡ waiting k.intake 0 ++ op ∷ [] → n ≡ (process k.world 0).begun + length (waiting l.intake 0) → n < 2 ^ 64
+pub asked : {D N : Type 0} (disk : Ghosts D N) (op : Op) (r : Step) (n : ℕ) (k l m : Plain D) → Rests disk.fault_count k → is_look op ≡ true → l ≡ record k { intake = l.intake } → waiting l.intake 0 ≡ waiting k.intake 0 ++ op ∷ [] → n ≡ (process k.world 0).begun + length (waiting l.intake 0) → n < 2 ^ 64
     → polled l.intake 0 ≡ polled k.intake 0 → Known disk plain_queues plain_herald l → Known disk plain_queues plain_herald m → MakesSteps disk 0 r l m → r ≡ step.Answered → IsAnswered disk.image op l m
 asked disk op r n k l m rests look same waits number bound fetched known_l known_m makes answered_so =
     let world : l.world ≡ k.world = ap (λ s. s.world) same in
-    let one = ap (λ w. length w.processes) world ∙ rests.one in
-    let idle = ap (λ w. (process w 0).at) world ∙ rests.idle in
-    let looks = ap (λ w. list_all is_own_look w.journal.list) world ∙ rests.looks in
-    let waits_one = waits ∙ ap (λ (xs : List Op). xs ++ op ∷ []) rests.waits in
-    let has_one : length (waiting l.intake 0) ≡ 1 = ap (λ (xs : List Op). length xs) waits_one in
-    let begun = sym (ap (λ w. (process w 0).begun) world) ∙ begun_is disk l known_l one idle looks in
-    is_answered disk op l m known_l known_m one idle looks waits_one (fetched ∙ rests.fetched ∙ ap (λ w. length w.journal.list) (sym world)) (omega (arith, number, bound, begun, has_one)) look
+    let handed = handed_in disk.fault_count op k l rests same waits in
+    let has_one : length (waiting l.intake 0) ≡ 1 = ap (λ (xs : List Op). length xs) handed.waits in
+    let begun = sym (ap (λ w. (process w 0).begun) world) ∙ begun_is disk l known_l handed.one handed.idle handed.looks in
+    is_answered disk op l m known_l known_m handed.one handed.unopened handed.idle handed.looks handed.waits (fetched ∙ rests.fetched ∙ ap (λ w. length w.journal.list) (sym world)) (omega (arith, number, bound, begun, has_one)) look
     (subst (λ x. MakesSteps disk 0 x l m) answered_so makes)
 
+-- meanwhile the disk was only read
+pub asked_reads : {D N : Type 0} (disk : Ghosts D N) (op : Op) (r : Step) (k l m : Plain D) → ((d : D) → disk.leaves d (disk.moment d) (disk.image d)) → ((d : D) → IsSettled (disk.image d) (disk.leaves d (disk.moment d)))
+    → ((d : D) (t : ℕ) (x : Image) → t ≤ disk.moment d → disk.leaves d (disk.moment d) x → disk.leaves d t x) → Rests disk.fault_count k → is_look op ≡ true → l ≡ record k { intake = l.intake }
+    → waiting l.intake 0 ≡ waiting k.intake 0 ++ op ∷ [] → MakesSteps disk 0 r l m → OnlyReads disk k.store.volume.device m.store.volume.device
+asked_reads disk op r k l m has_now only_now counts_now rests look same waits makes =
+    let handed = handed_in disk.fault_count op k l rests same waits in
+    subst (λ d. OnlyReads disk d m.store.volume.device) (ap (λ s. s.store.volume.device) same)
+    (steps_read disk op look has_now only_now counts_now r l m (stage_first op l handed.one handed.unopened handed.idle handed.waits) makes)
+
+-- a step that isn't halted leaves no fault
+no_fault : (r : Step) (fault : Option DiskFault) (old new : ℕ) → r ≡ step.Answered → (r ≡ step.Halted) ↔ IsSome fault → new ≡ faults_after fault old → new ≡ old
+no_fault r None old new so halted is = is
+no_fault r (Some fault) old new so halted is = let e : step.Answered ≡ step.Halted = sym so ∙ halted.1 refl in absurd (cc e)
+
+pub none_failed : {D N : Type 0} (disk : Ghosts D N) (r : Step) (l m : Plain D) → Known disk plain_queues plain_herald m → MakesSteps disk 0 r l m → r ≡ step.Answered → disk.fault_count m.store.volume.device ≡ disk.fault_count m.opening
+none_failed disk r l m known makes so = no_fault r m.store.volume.fault (disk.fault_count m.opening) (disk.fault_count m.store.volume.device) so makes.made.acts.device.halted known.faults
+
 -- once the answer is fetched, the kernel rests
-pub rests_again : {D : Type 0} (image : D → Image) (op : Op) (k m n : Plain D) → IsAnswered image op k m → n.world ≡ m.world → waiting n.intake 0 ≡ waiting m.intake 0 → polled n.intake 0 ≡ polled_after (first_in (answers m.intake 0)) (polled m.intake 0) → Rests n
-rests_again image op k m n is world waits fetched =
+pub rests_again : {D : Type 0} (image : D → Image) (faults : D → ℕ) (op : Op) (k m n : Plain D) → IsAnswered image op k m → faults m.store.volume.device ≡ faults m.opening → n ≡ record m { intake = n.intake } → waiting n.intake 0 ≡ waiting m.intake 0
+    → polled n.intake 0 ≡ polled_after (first_in (answers m.intake 0)) (polled m.intake 0) → Rests faults n
+rests_again image faults op k m n is faultless same waits fetched =
+    let world : n.world ≡ m.world = ap (λ s. s.world) same in
     let one_more : polled n.intake 0 ≡ min (polled m.intake 0 + 1) (2 ^ 64 - 1) = fetched ∙ ap (λ (l : List Answer). polled_after (first_in l) (polled m.intake 0)) is.only in
     let before = is.before in
     let few = is.few in
     let all : polled n.intake 0 ≡ length m.world.journal.list = grind (arith, one_more, before, few) in
     record {
       one = ap (λ w. length w.processes) world ∙ is.one;
+      unopened = ap (λ s. s.store.volume.log.outstanding) same ∙ is.unopened;
+      faultless = ap (λ s. faults s.store.volume.device) same ∙ faultless ∙ sym (ap (λ s. faults s.opening) same);
       idle = ap (λ w. (process w 0).at) world ∙ is.idle;
       looks = ap (λ w. list_all is_own_look w.journal.list) world ∙ is.looks;
       waits = waits ∙ is.waits;
@@ -246,15 +331,25 @@ rests_again image op k m n is world waits fetched =
     }
 
 -- a kernel of one process that was opened with empty queues rests
-pub rests_first : {D N : Type 0} (disk : Ghosts D N) (d : D) (i : QueueIntake) (h : PlainHerald) (k : Plain D) → IsOpened disk d i h 1 k → waiting i 0 ≡ [] → QueueFits i 0 nothing_yet → IsReaderOf disk.image disk.fault_count d k
+pub rests_first : {D N : Type 0} (disk : Ghosts D N) (d : D) (i : QueueIntake) (h : PlainHerald) (k : Plain D) → IsOpened disk d i h 1 k → waiting i 0 ≡ [] → QueueFits i 0 nothing_yet → IsReaderOf disk d k
 rests_first disk d i h k opened empty fits =
     let world = opened.world in
     record {
-      sound = opened.sound;
-      recovers = opened.opening;
-      faultless = opened.faults;
+      recovers = record {
+        sound = opened.sound;
+        count = refl;
+        image = opened.opening;
+        none = ap logged_count opened.opening ∙ logged_count-left (disk.image d);
+        writes = opened.writes;
+        faults = opened.faults;
+      };
+      name = opened.name;
+      leaves = opened.leaves;
+      device = ap (λ s. s.volume.device) opened.store;
       rests = record {
         one = ap (λ w. length w.processes) world;
+        unopened = ap (λ s. s.volume.log.outstanding) opened.store;
+        faultless = ap (λ s. disk.fault_count s.volume.device) opened.store;
         idle = ap (λ w. (process w 0).at) world;
         looks = ap (λ w. list_all is_own_look w.journal.list) world;
         waits = ap (λ q. waiting q 0) opened.intake ∙ empty;

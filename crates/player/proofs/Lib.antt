@@ -7,6 +7,8 @@ pub mod Steps
 mod Disks
 mod Digits
 pub mod Looks
+pub mod DiskReads
 pub mod Stages
 pub mod Asked
 pub mod Shown
+pub mod Keeping

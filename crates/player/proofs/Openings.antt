@@ -1,7 +1,7 @@
 -- A whole replay, from the recovery on.
-use Rattle.std.proofs.Common.{◌≡◌, ◌∙◌, ◌<◌, ℕ, List, [], sym, ap, subst, replicate, Option, None}
-use Rattle.blocks.specs.Disk.{Image}
-use Rattle.blocks.specs.declared.errors.DiskFault.{DiskFault}
+use Rattle.std.proofs.Common.{◌≡◌, ◌∙◌, ◌<◌, ℕ, List, [], refl, sym, ap, subst, replicate, None, ⊎_elim}
+use Rattle.blocks.specs.Disk.{Image, IsSettled, LeavesOnly}
+use Rattle.blocks.specs.Lemmas.Moments.{joined, started}
 use Rattle.blocks.specs.declared.disk.Disk.{Ghosts}
 use Rattle.blocks.specs.declared.faulty.FaultyDisk.{FaultyDisk}
 use Rattle.blocks.specs.declared.faulty.Trap.{Trap}
@@ -11,18 +11,21 @@ use Rattle.inodes.specs.Table.{new_table}
 use Rattle.inodes.specs.Tasks.{no_task}
 use Rattle.kernel.specs.Opening.{IsOpened}
 use Rattle.model.specs.Layout.{inode_count_of}
-use Rattle.model.specs.Log.{logged_count, recovered}
+use Rattle.model.specs.Log.{recovered}
 use Rattle.model.specs.Verdict.{verdict}
 use Rattle.ports.specs.Queues.{waiting, answers}
 use Rattle.ports.specs.declared.herald.PlainHerald.{PlainHerald}
 use Rattle.ports.specs.declared.queues.QueueIntake.{QueueIntake}
-use Rattle.scripts.specs.declared.schedule.Word.{Word}
 use Rattle.scripts.specs.declared.script.Task.{Task}
-use Rattle.wal.specs.Recovery.{writes_to_recover}
+use Rattle.wal.specs.Recovery.{RecoversAs, writes_to_recover}
+use Rattle.player.specs.Afterwards.{IsUnopenedOver, RefusesOver}
 use Rattle.player.specs.Backlog.{backlog_at, ops_of}
-use Rattle.player.specs.Opening.{IsArmed, IsOpenedOver, Replays}
-use Rattle.player.specs.Stepping.{RunsTo}
+use Rattle.player.specs.Opening.{IsOpenedOver}
+use Rattle.player.specs.Stepping.{Plain}
+use Rattle.player.specs.declared.refusal.Refusal.{Refusal}
 use Rattle.player.specs.declared.turns.Player.{Player}
+use Rattle.player.proofs.Disks.{faulty}
+use Rattle.player.proofs.Keeping.{leaves_wider, recovers_before}
 
 -- a player whose kernel was opened with empty queues
 pub opened_over : {D N : Type 0} (disk : Ghosts (FaultyDisk D) (N × Trap)) (d : FaultyDisk D) (i : QueueIntake) (h : PlainHerald) (x : Image) (tasks : List Task) (processes : ℕ) (player : Player D N) → disk.image d ≡ x → IsOpened disk d i h processes player.kernel
@@ -46,16 +49,40 @@ opened_again image x y tasks processes player is opened = subst (λ z. IsOpenedO
 pub none_counted : (written logged : ℕ) → logged ≡ 0 → counted written (writes_to_recover logged) ≡ written
 none_counted written logged none = ap (λ n. counted written (writes_to_recover n)) none
 
--- a run of a player over the recovered image
-pub replayed : {D N : Type 0} (disk : Ghosts (FaultyDisk D) (N × Trap)) (x : Image) (written base : ℕ) (tasks : List Task) (processes : ℕ) (words : List Word) (s stop : ℕ) (player : Player D N) (fault : Option DiskFault) (text printed : Option (List ℕ))
-    → verdict x ≡ None → IsOpenedOver disk.image (recovered x) tasks processes player → base ≡ disk.write_count player.kernel.store.volume.device → base ≡ counted written (writes_to_recover (logged_count x))
-    → IsArmed disk s player.kernel.store.volume.device → s ≡ stop → RunsTo disk s base words player fault text printed → Replays disk x written tasks processes words stop fault text printed
-replayed disk x written base tasks processes words s stop player fault text printed sound opened now wrote armed same runs = record {
-  sound = sound;
-  player = player;
-  opened = opened;
-  base = sym now ∙ wrote;
-  armed = subst (λ t. IsArmed disk t player.kernel.store.volume.device) same armed;
-  runs = subst (λ b. RunsTo disk stop b words player fault text printed) now
-      (subst (λ t. RunsTo disk t base words player fault text printed) same runs);
-}
+module _ {D N : Type 0} (below : Ghosts D N) where
+  -- what a stop leaves of a disk of which a write may be stopped, it leaves of that below
+  leaves_below : (fd fe : FaultyDisk D) (P : Image → Type 0) → LeavesOnly (faulty below).moment (faulty below).leaves fd fe P → LeavesOnly below.moment below.leaves fd.inner fe.inner P
+  leaves_below fd fe P only = record { later = only.later; each = only.each; before = only.before; keeps = only.keeps }
+
+  -- the disk below a player that was opened
+  pub opened_name : (d : D) (fd : FaultyDisk D) (i : QueueIntake) (h : PlainHerald) (processes : ℕ) (k : Plain (FaultyDisk D)) → fd.inner ≡ d → IsOpened (faulty below) fd i h processes k → below.name k.store.volume.device.inner ≡ below.name d
+  opened_name d fd i h processes k is opened = ap (λ s. below.name s.volume.device.inner) opened.store ∙ ap (λ n. n.0) opened.name ∙ ap below.name is
+
+  pub opened_only : (d : D) (fd : FaultyDisk D) (i : QueueIntake) (h : PlainHerald) (processes : ℕ) (k : Plain (FaultyDisk D)) → fd.inner ≡ d → IsOpened (faulty below) fd i h processes k → LeavesOnly below.moment below.leaves d k.store.volume.device.inner (RecoversAs (below.image d))
+  opened_only d fd i h processes k is opened =
+      subst (λ o. LeavesOnly below.moment below.leaves o k.store.volume.device.inner (RecoversAs (below.image o))) is
+      (subst (λ o. LeavesOnly below.moment below.leaves fd.inner o (RecoversAs (below.image fd.inner))) (sym (ap (λ s. s.volume.device.inner) opened.store)) (leaves_below fd k.opening (RecoversAs (below.image fd.inner)) opened.leaves))
+
+  -- and below one that was not
+  pub over_name : (processes : ℕ) (d e : D) (r : Refusal) → IsUnopenedOver (faulty below) processes d e r → below.name e ≡ below.name d
+  over_name processes d e r why =
+      ⊎_elim (λ refused. ap below.name refused.1) (λ refuses. sym (ap below.name refuses.below_now) ∙ ap (λ n. n.0) refuses.refuses.name ∙ ap below.name refuses.below) why
+
+  pub over_only : ((d : D) → IsSettled (below.image d) (below.leaves d (below.moment d))) → (processes : ℕ) (d e : D) (r : Refusal) → IsUnopenedOver (faulty below) processes d e r → LeavesOnly below.moment below.leaves d e (RecoversAs (below.image d))
+  over_only only_now processes d e r why = ⊎_elim (λ refused. stayed refused.1) told why
+    where
+      stayed : e ≡ d → LeavesOnly below.moment below.leaves d e (RecoversAs (below.image d))
+      stayed is = subst (λ o. LeavesOnly below.moment below.leaves d o (RecoversAs (below.image d))) (sym is)
+          (started below.moment below.leaves d (RecoversAs (below.image d)) (λ x left. subst (RecoversAs (below.image d)) (sym (only_now d x left)) (record { image = refl; lawful = refl })))
+
+      told : RefusesOver (faulty below) processes d e r → LeavesOnly below.moment below.leaves d e (RecoversAs (below.image d))
+      told refuses =
+          subst (λ o. LeavesOnly below.moment below.leaves o e (RecoversAs (below.image o))) refuses.below
+          (subst (λ o. LeavesOnly below.moment below.leaves refuses.over.inner o (RecoversAs (below.image refuses.over.inner))) refuses.below_now (leaves_below refuses.over refuses.now (RecoversAs (below.image refuses.over.inner)) refuses.refuses.leaves))
+
+  -- a recovery, and what follows it
+  pub recovered_then : (d mid e : D) → verdict (below.image d) ≡ None → below.image mid ≡ recovered (below.image d) → LeavesOnly below.moment below.leaves d mid (RecoversAs (below.image d)) → LeavesOnly below.moment below.leaves mid e (RecoversAs (below.image mid))
+      → LeavesOnly below.moment below.leaves d e (RecoversAs (below.image d))
+  recovered_then d mid e sound is first then_on =
+      joined below.moment below.leaves d mid e (RecoversAs (below.image d)) first
+      (leaves_wider below.moment below.leaves mid e (RecoversAs (below.image mid)) (RecoversAs (below.image d)) (λ z alike. recovers_before (below.image d) (below.image mid) z sound is alike) then_on)

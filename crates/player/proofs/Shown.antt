@@ -1,20 +1,28 @@
 -- A file that is shown, piece by piece.
-use Rattle.std.proofs.Common.{◌≡◌, ◌∙◌, ◌≤◌, ℕ, ◌+◌, ◌*◌, List, [], ◌++◌, length, take, Option, Some, None, refl, sym, ap, subst, inl, inr, arith}
+use Rattle.std.proofs.Common.{◌≡◌, ◌∙◌, ◌≤◌, ℕ, ◌+◌, ◌*◌, List, [], ◌++◌, length, take, Option, Some, None, refl, sym, ap, subst, inl, inr, arith, ⊎_elim}
 use Rattle.std.proofs.Math.Seq.{take-add}
 use Rattle.std.proofs.KnownBytes.{Appends-trans}
-use Rattle.std.specs.Prelude.{option_map}
+use Rattle.std.specs.Prelude.{◌⊎◌, option_map}
 use Rattle.std.specs.Io.KnownBytes.{Appends, Keeps}
-use Rattle.blocks.specs.Disk.{Image, Rose}
+use Rattle.blocks.specs.Calls.{OnlyReads}
+use Rattle.blocks.specs.Disk.{Image, IsSettled, LeavesOnly, Rose}
+use Rattle.blocks.specs.Lemmas.Moments.{started, stays}
+use Rattle.blocks.specs.declared.disk.Disk.{Ghosts}
 use Rattle.model.specs.Files.{Files, files_of, file_in}
-use Rattle.model.specs.Log.{recovered}
+use Rattle.model.specs.Log.{logged_count, recovered}
 use Rattle.model.specs.Operations.{part_of}
-use Rattle.model.specs.Verdict.{verdict}
 use Rattle.model.specs.declared.types.image.File.{File}
-use Rattle.player.specs.Asking.{HasFailed, IsUnanswered, part_at, size_at}
-use Rattle.player.specs.Showing.{IsNotShown, IsPartly, Shows, ShowsPart, bytes_at, bytes_of, files_shown}
+use Rattle.wal.specs.Recovery.{RecoversAs}
+use Rattle.player.specs.Afterwards.{FailsRecovered, IsUnopened}
+use Rattle.player.specs.Asking.{IsUnanswered, part_at, size_at}
+use Rattle.player.specs.Causes.{IsRecovered}
+use Rattle.player.specs.Refusal.{IsOfCat, IsOpening}
+use Rattle.player.specs.Showing.{IsNotShown, IsPartly, IsReaderOf, IsUnwritten, ShowsFile, ShowsFirst, ShowsPart, bytes_at, bytes_of}
+use Rattle.player.specs.Stepping.{Plain}
 use Rattle.player.specs.declared.faults.CatFault.TheVariants as cat
 use Rattle.player.specs.declared.refusal.Refusal.{Refusal}
 use Rattle.player.specs.declared.refusal.Refusal.TheVariants.{File as OfFile, Mkfs, Check, Recover, Open, Script, Schedule, Disk, Cat, Input, Output}
+use Rattle.player.proofs.Refused.{told_of_opening}
 
 part_is : (o : Option File) (bytes : List ℕ) (off n : ℕ) → Some bytes ≡ option_map (λ (f : File). part_of f.bytes off n) o → bytes ≡ part_of (bytes_of o) off n
 part_is None bytes off n is = absurd (cc is)
@@ -40,56 +48,148 @@ file_is None size is = absurd (cc is)
 file_is (Some file) size is = (file, refl)
 
 -- all of the file was written
-pub all_shown : (x y : Image) (i size : ℕ) (old mid new : Option (List ℕ)) → verdict x ≡ None → y ≡ recovered x → Some size ≡ size_at y i → Appends old mid (bytes_at y i) → Keeps mid new → Shows x i old new
-all_shown x y i size old mid new sound is has written keeps =
-    let file = file_is (file_in (files_of y) i) size has in
+pub all_shown : (x : Image) (i size : ℕ) (old mid new : Option (List ℕ)) → Some size ≡ size_at x i → Appends old mid (bytes_at x i) → Keeps mid new → ShowsFile x i old new
+all_shown x i size old mid new has written keeps =
+    let file = file_is (file_in (files_of x) i) size has in
     record {
-      sound = sound;
       file = file.0;
-      is = ap (λ (z : Image). file_in (files_of z) i) (sym is) ∙ file.1;
+      is = file.1;
       bytes = kept_behind old mid new file.0.bytes (subst (λ (o : Option File). Appends old mid (bytes_of o)) file.1 written) keeps;
     }
 
-failed_before : {D : Type 0} (faults : D → ℕ) (d o : D) → faults o ≡ faults d → HasFailed faults o → HasFailed faults d
-failed_before faults d o same failed = (failed.0, subst (λ (n : ℕ). Rose n (faults failed.0)) same failed.1)
-
 -- nothing was written
-pub unanswered : {D : Type 0} (faults : D → ℕ) (d o : D) (x : Image) (i : ℕ) (old new : Option (List ℕ)) (none : Type 0) (r : Refusal) → faults o ≡ faults d → none → IsUnanswered faults o r → IsNotShown faults d x i old new none r
-unanswered faults d o x i old new none (Disk fault) same nothing why = (failed_before faults d o same why, inl nothing)
-unanswered faults d o x i old new none (Cat cat.NoMemory) same nothing why = inl nothing
-unanswered faults d o x i old new none (Cat cat.NoFile) same nothing why = absurd why
-unanswered faults d o x i old new none (OfFile fault) same nothing why = absurd why
-unanswered faults d o x i old new none (Mkfs fault) same nothing why = absurd why
-unanswered faults d o x i old new none (Check fault) same nothing why = absurd why
-unanswered faults d o x i old new none (Recover fault) same nothing why = absurd why
-unanswered faults d o x i old new none (Open fault) same nothing why = absurd why
-unanswered faults d o x i old new none (Script fault) same nothing why = absurd why
-unanswered faults d o x i old new none (Schedule fault) same nothing why = absurd why
-unanswered faults d o x i old new none (Input fault) same nothing why = absurd why
-unanswered faults d o x i old new none Output same nothing why = absurd why
+pub unanswered : {D : Type 0} (faults : D → ℕ) (d e : D) (x : Image) (i : ℕ) (old new : Option (List ℕ)) (none : Type 0) (r : Refusal) → none → IsUnanswered faults d e r → IsUnwritten faults d e x i old new none r
+unanswered faults d e x i old new none (Disk fault) nothing why = (why, inl nothing)
+unanswered faults d e x i old new none (Cat cat.NoMemory) nothing why = (why, inl nothing)
+unanswered faults d e x i old new none (Cat cat.NoFile) nothing why = absurd why
+unanswered faults d e x i old new none (OfFile fault) nothing why = absurd why
+unanswered faults d e x i old new none (Mkfs fault) nothing why = absurd why
+unanswered faults d e x i old new none (Check fault) nothing why = absurd why
+unanswered faults d e x i old new none (Recover fault) nothing why = absurd why
+unanswered faults d e x i old new none (Open fault) nothing why = absurd why
+unanswered faults d e x i old new none (Script fault) nothing why = absurd why
+unanswered faults d e x i old new none (Schedule fault) nothing why = absurd why
+unanswered faults d e x i old new none (Input fault) nothing why = absurd why
+unanswered faults d e x i old new none Output nothing why = absurd why
 
-part_shown : (x y : Image) (i size : ℕ) (old new : Option (List ℕ)) → verdict x ≡ None → y ≡ recovered x → Some size ≡ size_at y i → (count : ℕ) × Appends old new (take count (bytes_at y i)) → ShowsPart x i old new
-part_shown x y i size old new sound is has written =
-    let file = file_is (file_in (files_of y) i) size has in
+part_shown : (x : Image) (i size : ℕ) (old new : Option (List ℕ)) → Some size ≡ size_at x i → (count : ℕ) × Appends old new (take count (bytes_at x i)) → ShowsFirst x i old new
+part_shown x i size old new has written =
+    let file = file_is (file_in (files_of x) i) size has in
     record {
-      sound = sound;
       file = file.0;
-      is = ap (λ (z : Image). file_in (files_of z) i) (sym is) ∙ file.1;
+      is = file.1;
       count = written.0;
       bytes = subst (λ (o : Option File). Appends old new (take written.0 (bytes_of o))) file.1 written.1;
     }
 
 -- the first bytes were
-pub partly : {D : Type 0} (faults : D → ℕ) (d o : D) (x y : Image) (i size : ℕ) (old new : Option (List ℕ)) (none : Type 0) (r : Refusal) → faults o ≡ faults d → verdict x ≡ None → y ≡ recovered x → Some size ≡ size_at y i → IsPartly faults o (bytes_at y i) old new r → IsNotShown faults d x i old new none r
-partly faults d o x y i size old new none (Disk fault) same sound is has why = (failed_before faults d o same why.0, inr (part_shown x y i size old new sound is has why.1))
-partly faults d o x y i size old new none (Cat cat.NoMemory) same sound is has why = inr (part_shown x y i size old new sound is has why)
-partly faults d o x y i size old new none (Cat cat.NoFile) same sound is has why = absurd why
-partly faults d o x y i size old new none (OfFile fault) same sound is has why = absurd why
-partly faults d o x y i size old new none (Mkfs fault) same sound is has why = absurd why
-partly faults d o x y i size old new none (Check fault) same sound is has why = absurd why
-partly faults d o x y i size old new none (Recover fault) same sound is has why = absurd why
-partly faults d o x y i size old new none (Open fault) same sound is has why = absurd why
-partly faults d o x y i size old new none (Script fault) same sound is has why = absurd why
-partly faults d o x y i size old new none (Schedule fault) same sound is has why = absurd why
-partly faults d o x y i size old new none (Input fault) same sound is has why = absurd why
-partly faults d o x y i size old new none Output same sound is has why = sound
+pub partly : {D : Type 0} (faults : D → ℕ) (d e : D) (x : Image) (i size : ℕ) (old new : Option (List ℕ)) (none : Type 0) (r : Refusal) → Some size ≡ size_at x i → IsPartly faults d e (bytes_at x i) old new r → IsUnwritten faults d e x i old new none r
+partly faults d e x i size old new none (Disk fault) has why = (why.0, inr (part_shown x i size old new has why.1))
+partly faults d e x i size old new none (Cat cat.NoMemory) has why = (why.0, inr (part_shown x i size old new has why.1))
+partly faults d e x i size old new none (Cat cat.NoFile) has why = absurd why
+partly faults d e x i size old new none (OfFile fault) has why = absurd why
+partly faults d e x i size old new none (Mkfs fault) has why = absurd why
+partly faults d e x i size old new none (Check fault) has why = absurd why
+partly faults d e x i size old new none (Recover fault) has why = absurd why
+partly faults d e x i size old new none (Open fault) has why = absurd why
+partly faults d e x i size old new none (Script fault) has why = absurd why
+partly faults d e x i size old new none (Schedule fault) has why = absurd why
+partly faults d e x i size old new none (Input fault) has why = absurd why
+partly faults d e x i size old new none Output has why = why
+
+module _ {D N : Type 0} (disk : Ghosts D N) (d : D) (k : Plain D) (reader : IsReaderOf disk d k) (e : D) (reads : OnlyReads disk k.opening e) where
+  -- a recovered disk that was only read
+  pub recovered_still : disk.fault_count e ≡ disk.fault_count k.opening → IsRecovered disk (logged_count (disk.image d)) d e
+  recovered_still same = record {
+    sound = reader.recovers.sound;
+    count = refl;
+    image = reads.image ∙ reader.recovers.image;
+    none = ap logged_count reads.image ∙ reader.recovers.none;
+    writes = reads.writes ∙ reader.recovers.writes;
+    faults = same ∙ reader.recovers.faults;
+  }
+
+  failed_still : Rose (disk.fault_count k.opening) (disk.fault_count e) → FailsRecovered disk d e
+  failed_still rose = record {
+    sound = reader.recovers.sound;
+    image = reads.image ∙ reader.recovers.image;
+    writes = reads.writes ∙ reader.recovers.writes;
+    faults = subst (λ (n : ℕ). Rose n (disk.fault_count e)) reader.recovers.faults rose;
+  }
+
+  part_of_it : (i : ℕ) (old new : Option (List ℕ)) (none : Type 0) → none ⊎ ShowsFirst (disk.image k.opening) i old new → none ⊎ ShowsPart (disk.image d) i old new
+  part_of_it i old new none why = ⊎_elim (λ nothing. inl nothing) (λ part. inr (reader.recovers.sound, subst (λ x. ShowsFirst x i old new) reader.recovers.image part)) why
+
+  -- why it was not written whole
+  pub not_shown : (i : ℕ) (old new : Option (List ℕ)) (none : Type 0) (r : Refusal) → IsUnwritten disk.fault_count k.opening e (disk.image k.opening) i old new none r → IsNotShown disk d e i old new none r
+  not_shown i old new none (Disk fault) why = (failed_still why.0, part_of_it i old new none why.1)
+  not_shown i old new none (Cat cat.NoMemory) why = (recovered_still why.0, part_of_it i old new none why.1)
+  not_shown i old new none (Cat cat.NoFile) why = (recovered_still why.0, (reader.recovers.sound, subst (λ x. file_in (files_of x) i ≡ None) reader.recovers.image why.1), why.2)
+  not_shown i old new none (OfFile fault) why = absurd why
+  not_shown i old new none (Mkfs fault) why = absurd why
+  not_shown i old new none (Check fault) why = absurd why
+  not_shown i old new none (Recover fault) why = absurd why
+  not_shown i old new none (Open fault) why = absurd why
+  not_shown i old new none (Script fault) why = absurd why
+  not_shown i old new none (Schedule fault) why = absurd why
+  not_shown i old new none (Input fault) why = absurd why
+  not_shown i old new none Output why = recovered_still why
+
+  -- what a stop leaves
+  pub leaves_still : LeavesOnly disk.moment disk.leaves d e (RecoversAs (disk.image d))
+  leaves_still = stays disk.moment disk.leaves d k.opening e (RecoversAs (disk.image d)) reader.leaves reads.time
+
+module _ {D N : Type 0} (disk : Ghosts D N) (only_now : (d : D) → IsSettled (disk.image d) (disk.leaves d (disk.moment d))) (processes : ℕ) (d e : D) where
+  pub unopened_so : (r : Refusal) → IsUnopened disk processes d e r → IsOpening r
+  unopened_so r why = ⊎_elim (λ refused. subst IsOpening (sym refused.0) tt) (λ told. told_of_opening told.0 r told.1) why
+
+  -- what a stop leaves where no kernel was opened, and which disk it is
+  pub unopened_leaves : (r : Refusal) → IsUnopened disk processes d e r → LeavesOnly disk.moment disk.leaves d e (RecoversAs (disk.image d))
+  unopened_leaves r why = ⊎_elim (λ refused. stayed refused.1) (λ told. told.2.leaves) why
+    where
+      stayed : e ≡ d → LeavesOnly disk.moment disk.leaves d e (RecoversAs (disk.image d))
+      stayed is = subst (λ o. LeavesOnly disk.moment disk.leaves d o (RecoversAs (disk.image d))) (sym is)
+          (started disk.moment disk.leaves d (RecoversAs (disk.image d)) (λ x left. subst (RecoversAs (disk.image d)) (sym (only_now d x left)) (record { image = refl; lawful = refl })))
+
+  pub unopened_name : (r : Refusal) → IsUnopened disk processes d e r → disk.name e ≡ disk.name d
+  unopened_name r why = ⊎_elim (λ refused. ap disk.name refused.1) (λ told. told.2.name) why
+
+-- a refusal of the opening is one of a file that isn't shown
+pub opening_refused : {D N : Type 0} (disk : Ghosts D N) (d e : D) (i : ℕ) (old new : Option (List ℕ)) (none : Type 0) (r : Refusal) → IsOpening r → IsUnopened disk 1 d e r → none → IsNotShown disk d e i old new none r
+opening_refused disk d e i old new none (Check fault) opens why nothing = (why, nothing)
+opening_refused disk d e i old new none (Recover fault) opens why nothing = (why, nothing)
+opening_refused disk d e i old new none (Open fault) opens why nothing = (why, nothing)
+opening_refused disk d e i old new none (OfFile fault) opens why nothing = absurd opens
+opening_refused disk d e i old new none (Mkfs fault) opens why nothing = absurd opens
+opening_refused disk d e i old new none (Script fault) opens why nothing = absurd opens
+opening_refused disk d e i old new none (Schedule fault) opens why nothing = absurd opens
+opening_refused disk d e i old new none (Disk fault) opens why nothing = absurd opens
+opening_refused disk d e i old new none (Cat fault) opens why nothing = absurd opens
+opening_refused disk d e i old new none (Input fault) opens why nothing = absurd opens
+opening_refused disk d e i old new none Output opens why nothing = absurd opens
+
+pub opening_of_cat : (r : Refusal) → IsOpening r → IsOfCat r
+opening_of_cat (Check fault) opens = tt
+opening_of_cat (Recover fault) opens = tt
+opening_of_cat (Open fault) opens = tt
+opening_of_cat (OfFile fault) opens = absurd opens
+opening_of_cat (Mkfs fault) opens = absurd opens
+opening_of_cat (Script fault) opens = absurd opens
+opening_of_cat (Schedule fault) opens = absurd opens
+opening_of_cat (Disk fault) opens = absurd opens
+opening_of_cat (Cat fault) opens = absurd opens
+opening_of_cat (Input fault) opens = absurd opens
+opening_of_cat Output opens = absurd opens
+
+pub unwritten_of_cat : {D : Type 0} (faults : D → ℕ) (d e : D) (x : Image) (i : ℕ) (old new : Option (List ℕ)) (none : Type 0) (r : Refusal) → IsUnwritten faults d e x i old new none r → IsOfCat r
+unwritten_of_cat faults d e x i old new none (Disk fault) why = tt
+unwritten_of_cat faults d e x i old new none (Cat fault) why = tt
+unwritten_of_cat faults d e x i old new none Output why = tt
+unwritten_of_cat faults d e x i old new none (OfFile fault) why = absurd why
+unwritten_of_cat faults d e x i old new none (Mkfs fault) why = absurd why
+unwritten_of_cat faults d e x i old new none (Check fault) why = absurd why
+unwritten_of_cat faults d e x i old new none (Recover fault) why = absurd why
+unwritten_of_cat faults d e x i old new none (Open fault) why = absurd why
+unwritten_of_cat faults d e x i old new none (Script fault) why = absurd why
+unwritten_of_cat faults d e x i old new none (Schedule fault) why = absurd why
+unwritten_of_cat faults d e x i old new none (Input fault) why = absurd why

@@ -1,6 +1,6 @@
 -- An operation of a kernel's only process, step by step.
 use Rattle.std.proofs.Common.{◌≡◌, ◌≢◌, ◌∙◌, ◌⊎◌, inl, inr, ◌<◌, ◌≤◌, ℕ, ◌+◌, zero, suc, Bool, true, false, List, [], ◌∷◌, ◌++◌, length, set, Option, Some, None, refl, sym, ap, subst, arith, ⊎_elim}
-use Rattle.std.specs.Prelude.{slice_set}
+use Rattle.std.specs.Prelude.{◌==◌, ◌-◌, if◌then◌else◌, slice_set}
 use Rattle.std.proofs.lemmas.List.{set-get_or}
 use Rattle.std.proofs.Math.Seq.{set-append_seam}
 use mathlib.Core.List.{IsPrefix}
@@ -8,15 +8,15 @@ use Rattle.blocks.specs.declared.disk.Disk.{Ghosts}
 use Rattle.blocks.specs.declared.errors.DiskFault.{DiskFault}
 use Rattle.model.specs.declared.types.operations.Entry.{Entry}
 use Rattle.model.specs.declared.types.operations.Op.{Op}
+use Rattle.model.specs.declared.types.operations.Op.TheVariants.{Create, Write, Read, Trunc, Remove, Stat}
+use Rattle.model.specs.Journal.{is_at_once}
 use Rattle.model.specs.declared.types.operations.Reply.{Reply}
 use Rattle.model.specs.declared.types.operations.TaskProgress.{TaskProgress}
 use Rattle.model.specs.declared.types.operations.TaskProgress.TheVariants as progress
-use Rattle.wal.specs.Machine.{LogState, end_answer}
-use Rattle.wal.specs.declared.types.Committed.{Committed}
-use Rattle.wal.specs.declared.types.Committed.TheVariants as committed
+use Rattle.wal.specs.Machine.{LogState, closed, end_answer, ended, left_by}
 use Rattle.wal.specs.declared.types.Ended.{Ended}
 use Rattle.wal.specs.declared.types.Ended.TheVariants as ended_as
-use Rattle.inodes.specs.Store.{StoreState}
+use Rattle.inodes.specs.Store.{StoreState, with_log}
 use Rattle.std.specs.Option.{option_map}
 use Rattle.kernel.specs.State.{waiting_of}
 use Rattle.ports.specs.History.{Side, first_in}
@@ -24,15 +24,17 @@ use Rattle.journal.specs.declared.types.At.{At}
 use Rattle.journal.specs.declared.types.At.TheVariants as at
 use Rattle.journal.specs.declared.types.Process.{Process}
 use Rattle.journal.specs.Journal.{entry_in, entry_of, journal_with}
+use Rattle.journal.specs.Alone.{is_committing_at}
 use Rattle.journal.specs.AtOnce.{at_once_reply}
 use Rattle.journal.specs.Open.{told}
-use Rattle.journal.specs.Processes.{World, process, idle, with_place, taken, turned_from, told_at, entry_place, committing_at, over_at, at_place, place_behind, refused, refusal, answered}
+use Rattle.journal.specs.Processes.{World, process, idle, with_place, taken, turned_from, told_at, entry_place, over_at, at_place, place_behind, refused, refusal, answered}
 use Rattle.journal.specs.Lemmas.Places.{there_now}
 use Rattle.kernel.specs.declared.types.Step.{Step}
 use Rattle.kernel.specs.declared.types.Step.TheVariants as step
 use Rattle.kernel.specs.declared.waiting.Waiting.{Waiting}
 use Rattle.kernel.specs.declared.waiting.Waiting.TheVariants as waiting_as
-use Rattle.kernel.specs.Next.{NextIf, NextAt, BeginsNext, HearsShutdown, HearsNone, TakesChange, TakesLook, TakesRefused, TakesNone, IsNotTaken, Works, Finishes, Ends, Writes, world_after, world_behind, world_ended, world_written, step_of, step_behind, step_of_end, step_of_write}
+use Rattle.kernel.specs.Next.{NextIf, NextAt, BeginsNext, HearsShutdown, HearsNone, TakesChange, TakesLook, TakesRefused, TakesNone, IsNotTaken, Works, Finishes, Ends, world_after, world_behind, world_ended, step_of, step_behind, step_of_end}
+use Rattle.player.specs.Asking.{is_look}
 
 -- the journal has one entry more, of the first process's operation, at that place
 pub record HasMore (op : Op) (es : List Entry) (k : ℕ) (list : List Entry) : Type 0 where
@@ -48,7 +50,7 @@ BusyAt op es at.Idle list = ⊥
 BusyAt op es (at.Before group o) list = (o ≡ op) × (list ≡ es)
 BusyAt op es (at.Behind group k) list = HasMore op es k list
 BusyAt op es (at.Ending group k) list = HasMore op es k list
-BusyAt op es (at.Committing group k) list = HasMore op es k list
+BusyAt op es (at.Committing group k) list = ⊥
 
 -- or it is the only one that waits
 abbrev pub StageAt : Op → List Entry → At → List Op → List Entry → Type 0
@@ -57,6 +59,14 @@ StageAt op es (at.Before group o) waits list = BusyAt op es (at.Before group o) 
 StageAt op es (at.Behind group k) waits list = BusyAt op es (at.Behind group k) list
 StageAt op es (at.Ending group k) waits list = BusyAt op es (at.Ending group k) list
 StageAt op es (at.Committing group k) waits list = BusyAt op es (at.Committing group k) list
+
+-- so it commits nothing
+pub commits_none : (op : Op) (es list : List Entry) (a : At) (waits : List Op) → StageAt op es a waits list → is_committing_at a ≡ false
+commits_none op es list at.Idle waits stage = refl
+commits_none op es list (at.Before group o) waits stage = refl
+commits_none op es list (at.Behind group k) waits stage = refl
+commits_none op es list (at.Ending group k) waits stage = refl
+commits_none op es list (at.Committing group k) waits stage = absurd stage
 
 pub busy_stands : (op : Op) (es list : List Entry) (a : At) (waits : List Op) → BusyAt op es a list → StageAt op es a waits list
 busy_stands op es list at.Idle waits busy = absurd busy
@@ -101,7 +111,7 @@ pub record OverAt (op : Op) (es : List Entry) (z : World) : Type 0 where
   pub idle : (process z 0).at ≡ at.Idle
   pub more : HasMore op es (length es) z.journal.list
 
-module _ {D N : Type 0} (disk : Ghosts D N) (op : Op) (es : List Entry) (s : StoreState D) (w : World) (one : 0 < length w.processes) (before : List Op) (side : Side) (heard : Bool) (t : StoreState D) (z : World) where
+module _ {D N : Type 0} (disk : Ghosts D N) (op : Op) (es : List Entry) (s : StoreState D) (w : World) (one : 0 < length w.processes) (unopened : s.volume.log.outstanding ≡ 0) (before : List Op) (side : Side) (heard : Bool) (t : StoreState D) (z : World) where
   -- the process stands elsewhere, in another world
   went : (u : Process) → z.processes ≡ set w.processes 0 u → (a : At) → u.at ≡ a → BusyAt op es a z.journal.list → BusyAt op es (process z 0).at z.journal.list
   went u is a stands busy = subst (λ (b : At). BusyAt op es b z.journal.list) (sym (ap (λ (v : Process). v.at) (there_now w z 0 u is one) ∙ stands)) busy
@@ -182,26 +192,16 @@ module _ {D N : Type 0} (disk : Ghosts D N) (op : Op) (es : List Entry) (s : Sto
   finished_answered group k (progress.Sleeping cause) stands answer is more = absurd (cc answer)
   finished_answered group k (progress.Fault fault) stands answer is more = absurd (cc answer)
 
-  ended_moved : (group k : ℕ) (e : Ended) → (process w 0).at ≡ at.Ending group k → step.Moved ≡ step_of_end e → z ≡ world_ended e w 0 → HasMore op es k w.journal.list → BusyAt op es (process z 0).at z.journal.list
-  ended_moved group k ended_as.Commit stands answer is more =
-      went (record (process w 0) { at = committing_at (process w 0).at }) (ap (λ (v : World). v.processes) is) (at.Committing group k) (ap committing_at stands) (subst (λ (l : List Entry). HasMore op es k l) (sym (ap (λ (v : World). v.journal.list) is)) more)
-  ended_moved group k ended_as.Left stands answer is more = absurd (cc answer)
+  -- where no operation is open in the log, no end closes a group
+  ended_moved : step.Moved ≡ step_of_end (end_answer s.volume.log) → ⊥
+  ended_moved answer =
+      let left : end_answer s.volume.log ≡ ended_as.Left = ap (λ (n : ℕ). if n == 1 then (if length s.volume.log.homes == 0 then ended_as.Left else ended_as.Commit) else ended_as.Left) unopened in
+      let is : step.Moved ≡ step.Answered = answer ∙ ap step_of_end left in
+      cc is
 
   ended_answered : (k : ℕ) (e : Ended) → step.Answered ≡ step_of_end e → z ≡ world_ended e w 0 → HasMore op es k w.journal.list → OverAt op es z
   ended_answered k ended_as.Commit answer is more = absurd (cc answer)
   ended_answered k ended_as.Left answer is more = was_answered w k refl is more
-
-  wrote_moved : (group k : ℕ) (r : Committed) → (process w 0).at ≡ at.Committing group k → step.Moved ≡ step_of_write r → z ≡ world_written r w 0 → HasMore op es k w.journal.list → BusyAt op es (process z 0).at z.journal.list
-  wrote_moved group k committed.More stands answer is more = stays (at.Committing group k) is stands more
-  wrote_moved group k (committed.Durable number) stands answer is more = stays (at.Committing group k) is stands more
-  wrote_moved group k committed.Done stands answer is more = absurd (cc answer)
-  wrote_moved group k (committed.Fault fault) stands answer is more = absurd (cc answer)
-
-  wrote_answered : (k : ℕ) (r : Committed) → step.Answered ≡ step_of_write r → z ≡ world_written r w 0 → HasMore op es k w.journal.list → OverAt op es z
-  wrote_answered k committed.More answer is more = absurd (cc answer)
-  wrote_answered k (committed.Durable number) answer is more = absurd (cc answer)
-  wrote_answered k committed.Done answer is more = was_answered w k refl is more
-  wrote_answered k (committed.Fault fault) answer is more = absurd (cc answer)
 
   begun_answered : BeginsNext s w 0 before side heard step.Answered t z → (process w 0).at ≡ at.Idle → before ≡ op ∷ [] → w.journal.list ≡ es → OverAt op es z
   begun_answered (inl shut) idle was list = let e = shut.answer in absurd (cc e)
@@ -232,15 +232,15 @@ module _ {D N : Type 0} (disk : Ghosts D N) (op : Op) (es : List Entry) (s : Sto
   moved_at at.Idle stands next stage = begun_moved next stage.0 stage.1
   moved_at (at.Before group o) stands next stage = worked_moved group o next.progress _ stands next.answer next.world stage
   moved_at (at.Behind group k) stands next stage = finished_moved group k next.progress stands next.answer next.world stage
-  moved_at (at.Ending group k) stands next stage = ended_moved group k (end_answer s.volume.log) stands next.answer next.world stage
-  moved_at (at.Committing group k) stands next stage = wrote_moved group k next.result stands next.answer next.world stage
+  moved_at (at.Ending group k) stands next stage = absurd (ended_moved next.answer)
+  moved_at (at.Committing group k) stands next stage = absurd stage
 
   answered_at : (a : At) → (process w 0).at ≡ a → NextAt disk a s w 0 before side heard step.Answered t z → StageAt op es a before w.journal.list → OverAt op es z
   answered_at at.Idle stands next stage = begun_answered next stands stage.0 stage.1
   answered_at (at.Before group o) stands next stage = absurd (worked_answered next.progress next.answer)
   answered_at (at.Behind group k) stands next stage = finished_answered group k next.progress stands next.answer next.world stage
   answered_at (at.Ending group k) stands next stage = ended_answered k (end_answer s.volume.log) next.answer next.world stage
-  answered_at (at.Committing group k) stands next stage = wrote_answered k next.result next.answer next.world stage
+  answered_at (at.Committing group k) stands next stage = absurd stage
 
   -- a step that moves
   pub step_moves : (f : Option DiskFault) → NextIf disk f s w 0 before side heard step.Moved t z → StageAt op es (process w 0).at before w.journal.list → BusyAt op es (process z 0).at z.journal.list
@@ -251,3 +251,53 @@ module _ {D N : Type 0} (disk : Ghosts D N) (op : Op) (es : List Entry) (s : Sto
   pub step_answers : (f : Option DiskFault) → NextIf disk f s w 0 before side heard step.Answered t z → StageAt op es (process w 0).at before w.journal.list → OverAt op es z
   step_answers None next stage = answered_at (process w 0).at refl next stage
   step_answers (Some fault) next stage = let e = next.0 in absurd (cc e)
+
+  -- a look opens no group
+  looks_only : (n : ℕ) (o : Op) → is_look o ≡ true → waiting_of n o ≡ waiting_as.Change → ⊥
+  looks_only n (Create kind) look is = cc look
+  looks_only n (Write i off bytes) look is = cc look
+  looks_only n (Read i off count) look is = by_refusal (is_at_once n (Read i off count)) is
+    where
+      by_refusal : (b : Bool) → (if b then waiting_as.Refused else waiting_as.Look (Some count)) ≡ waiting_as.Change → ⊥
+      by_refusal true is = cc is
+      by_refusal false is = cc is
+  looks_only n (Trunc i) look is = cc look
+  looks_only n (Remove i) look is = cc look
+  looks_only n (Stat i) look is = by_refusal (is_at_once n (Stat i)) is
+    where
+      by_refusal : (b : Bool) → (if b then waiting_as.Refused else waiting_as.Look None) ≡ waiting_as.Change → ⊥
+      by_refusal true is = cc is
+      by_refusal false is = cc is
+
+  open_begun : (r : Step) → is_look op ≡ true → BeginsNext s w 0 before side heard r t z → before ≡ op ∷ [] → t.volume.log.outstanding ≡ 0
+  open_begun r look (inl shut) was = ap (λ (o : StoreState D). o.volume.log.outstanding) shut.store ∙ unopened
+  open_begun r look (inr none) was = ⊎_elim created (λ o. ⊎_elim looked (λ q. ⊎_elim refused_at_once none_taken q) o) none.begins
+    where
+      created : TakesChange (option_map (waiting_of s.table.inode_count) (first_in none.ahead)) s w 0 none.ahead side r t z → t.volume.log.outstanding ≡ 0
+      created takes = absurd (looks_only s.table.inode_count takes.op (subst (λ (o : Op). is_look o ≡ true) (sym (first_is op takes.op before none.ahead side.ahead was none.prefix takes.taken.0)) look) takes.taken.1)
+
+      looked : TakesLook (option_map (waiting_of s.table.inode_count) (first_in none.ahead)) s w 0 none.ahead side r t z → t.volume.log.outstanding ≡ 0
+      looked takes = ap (λ (o : StoreState D). o.volume.log.outstanding) takes.store ∙ unopened
+
+      refused_at_once : TakesRefused (option_map (waiting_of s.table.inode_count) (first_in none.ahead)) s w 0 none.ahead side r t z → t.volume.log.outstanding ≡ 0
+      refused_at_once takes = ap (λ (o : StoreState D). o.volume.log.outstanding) takes.store ∙ unopened
+
+      none_taken : TakesNone (option_map (waiting_of s.table.inode_count) (first_in none.ahead)) s w none.ahead side r t z → t.volume.log.outstanding ≡ 0
+      none_taken takes = ap (λ (o : StoreState D). o.volume.log.outstanding) takes.same.0 ∙ unopened
+
+  open_ended : t ≡ with_log s (ended s.volume.log 0) → t.volume.log.outstanding ≡ 0
+  open_ended is =
+      let left : ended s.volume.log 0 ≡ left_by s.volume.log 0 = ap (λ (n : ℕ). if n == 1 then closed (left_by s.volume.log 0) else left_by s.volume.log 0) unopened in
+      ap (λ (o : StoreState D). o.volume.log.outstanding) is ∙ ap (λ (l : LogState). l.outstanding) left ∙ ap (λ (n : ℕ). n - 1) unopened
+
+  open_at : (r : Step) (a : At) → is_look op ≡ true → NextAt disk a s w 0 before side heard r t z → StageAt op es a before w.journal.list → t.volume.log.outstanding ≡ 0
+  open_at r at.Idle look next stage = open_begun r look next stage.0
+  open_at r (at.Before group o) look next stage = next.steps.groups.outstanding ∙ unopened
+  open_at r (at.Behind group k) look next stage = next.steps.groups.outstanding ∙ unopened
+  open_at r (at.Ending group k) look next stage = open_ended next.store
+  open_at r (at.Committing group k) look next stage = absurd stage
+
+  -- no step of a look opens an operation in the log
+  pub step_opens_none : (r : Step) (f : Option DiskFault) → is_look op ≡ true → NextIf disk f s w 0 before side heard r t z → StageAt op es (process w 0).at before w.journal.list → t.volume.log.outstanding ≡ 0
+  step_opens_none r None look next stage = open_at r (process w 0).at look next stage
+  step_opens_none r (Some fault) look next stage = ap (λ (o : StoreState D). o.volume.log.outstanding) next.1.0 ∙ unopened

@@ -1,6 +1,6 @@
 -- What the only process of a kernel asks it.
 use Rattle.std.specs.Option.{option_map}
-use Rattle.std.specs.Prelude.{◌≡◌, ℕ, ◌&&◌, ◌==◌, ⊤, Bool, true, false, IsTrue, List, [], length, Option, Some, None}
+use Rattle.std.specs.Prelude.{◌≡◌, ℕ, ◌&&◌, ◌==◌, Bool, true, false, IsTrue, List, [], length, Option, Some, None}
 use Rattle.std.specs.List.{list_all}
 use Rattle.blocks.specs.Disk.{Image, Rose}
 use Rattle.model.specs.Files.{files_of, file_in}
@@ -34,9 +34,11 @@ abbrev pub is_own_look : Entry → Bool
 is_own_look e = (e.pid == 0) && is_look e.op
 
 -- The kernel's only process has no operation under way and none that waits; each that it handed in
--- looked at a file, and its answer was fetched.
-pub record Rests {D : Type 0} (k : Plain D) : Type 0 where
+-- looked at a file, and its answer was fetched. No call of the disk failed.
+pub record Rests {D : Type 0} (faults : D → ℕ) (k : Plain D) : Type 0 where
   pub one : length k.world.processes ≡ 1
+  pub unopened : k.store.volume.log.outstanding ≡ 0
+  pub faultless : faults k.store.volume.device ≡ faults k.opening
   pub idle : (process k.world 0).at ≡ at.Idle
   pub looks : IsTrue (list_all is_own_look k.world.journal.list)
   pub waits : waiting k.intake 0 ≡ []
@@ -46,15 +48,11 @@ pub record Rests {D : Type 0} (k : Plain D) : Type 0 where
 abbrev pub IsAnswer : Image → Op → Reply → Type 0
 IsAnswer x op r = after (form_of x) (files_of x) op r ≡ Some (files_of x)
 
--- a call of the disk d failed
-abbrev pub HasFailed : {D : Type 0} → (D → ℕ) → D → Type 0
-HasFailed {D} faults d = (now : D) × Rose (faults d) (faults now)
-
--- why an operation that looks at a file isn't answered
-abbrev pub IsUnanswered : {D : Type 0} → (D → ℕ) → D → Refusal → Type 0
-IsUnanswered faults d (Disk fault) = HasFailed faults d
-IsUnanswered faults d (Cat cat.NoMemory) = ⊤
-IsUnanswered faults d r = ⊥
+-- why an operation that looks at a file isn't answered, over a disk that was d and is e
+abbrev pub IsUnanswered : {D : Type 0} → (D → ℕ) → D → D → Refusal → Type 0
+IsUnanswered faults d e (Disk fault) = Rose (faults d) (faults e)
+IsUnanswered faults d e (Cat cat.NoMemory) = faults e ≡ faults d
+IsUnanswered faults d e r = ⊥
 
 -- the length that a reply tells
 abbrev pub size_in : Reply → Option ℕ

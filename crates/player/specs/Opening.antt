@@ -1,8 +1,8 @@
 -- A player at its opening, and a whole replay.
-use Rattle.std.specs.Prelude.{◌≡◌, ◌<◌, ℕ, List, [], replicate, Option, None}
-use Rattle.blocks.specs.Disk.{Image}
+use Rattle.std.specs.Prelude.{◌≡◌, ◌<◌, ℕ, List, [], replicate, Option, Some, None}
+use Rattle.blocks.specs.Disk.{Image, LeavesOnly}
 use Rattle.blocks.specs.declared.errors.DiskFault.{DiskFault}
-use Rattle.blocks.specs.FaultyDisk.{trap_of}
+use Rattle.blocks.specs.FaultyDisk.{inner_of, trap_of}
 use Rattle.blocks.specs.declared.disk.Disk.{Ghosts}
 use Rattle.blocks.specs.declared.faulty.FaultyDisk.{FaultyDisk}
 use Rattle.blocks.specs.declared.faulty.Kind.TheVariants.{WriteOld}
@@ -18,9 +18,14 @@ use Rattle.model.specs.Verdict.{verdict}
 use Rattle.ports.specs.Queues.{waiting, answers}
 use Rattle.scripts.specs.declared.schedule.Word.{Word}
 use Rattle.scripts.specs.declared.script.Task.{Task}
-use Rattle.wal.specs.Recovery.{writes_to_recover}
+use Rattle.journal.specs.Keeps.{KeepsBetween, most_of}
+use Rattle.kernel.specs.Runs.{RunsOn}
+use Rattle.wal.specs.Recovery.{RecoversAs, writes_to_recover}
+use Rattle.player.specs.Afterwards.{IsUnready}
 use Rattle.player.specs.Backlog.{backlog_at, ops_of}
-use Rattle.player.specs.Stepping.{RunsTo}
+use Rattle.player.specs.Stepping.{BreaksOff, Plain, RunsTo}
+use Rattle.player.specs.declared.refusal.Refusal.{Refusal}
+use Rattle.player.specs.declared.refusal.Refusal.TheVariants.{Disk, Output}
 use Rattle.player.specs.declared.turns.Player.{Player}
 
 -- The player of these operations, of so many processes, over a disk whose image was x: the image
@@ -49,18 +54,74 @@ IsArmed disk stop d = trap_of d ≡ record {
   faults = disk.fault_count d;
 }
 
--- The image x of a disk that had counted so many writes was recovered. A player was opened over it,
--- which made no write, and made the turns of these words. Printed are their lines and the counts,
--- of writes from behind the recovery on; the write to be stopped is counted from there, too. This
--- fault is told of the disk.
-pub record Replays {D N : Type 0} (disk : Ghosts (FaultyDisk D) (N × Trap)) (x : Image)
-    (written : ℕ) (tasks : List Task) (processes : ℕ) (words : List Word) (stop : ℕ)
-    (fault : Option DiskFault) (text printed : Option (List ℕ)) : Type 0 where
-  pub sound : verdict x ≡ None
-  pub player : Player D N
-  pub opened : IsOpenedOver disk.image (recovered x) tasks processes player
-  pub base : disk.write_count player.kernel.store.volume.device
-      ≡ counted written (writes_to_recover (logged_count x))
+-- The disk d was recovered, and a player of these operations opened over it, which made no write.
+-- Whatever a stop left until then is recovered as d is.
+pub record IsReadyOver {D N : Type 0} (below : Ghosts D N) (disk : Ghosts (FaultyDisk D) (N × Trap))
+    (d : D) (tasks : List Task) (processes stop : ℕ) (player : Player D N) : Type 0 where
+  pub sound : verdict (below.image d) ≡ None
+  pub opened : IsOpenedOver disk.image (recovered (below.image d)) tasks processes player
+  pub writes : disk.write_count player.kernel.store.volume.device
+      ≡ counted (below.write_count d) (writes_to_recover (logged_count (below.image d)))
   pub armed : IsArmed disk stop player.kernel.store.volume.device
-  pub runs : RunsTo disk stop
-      (disk.write_count player.kernel.store.volume.device) words player fault text printed
+  pub name : below.name (inner_of player.kernel.store.volume.device) ≡ below.name d
+  pub leaves : LeavesOnly below.moment below.leaves
+      d (inner_of player.kernel.store.volume.device) (RecoversAs (below.image d))
+
+-- what a stop leaves that keeps some of the groups that a kernel committed, on a disk that was d
+abbrev pub KeepsSome : {D N : Type 0} → Ghosts (FaultyDisk D) (N × Trap) → Plain (FaultyDisk D)
+    → Image → Type 0
+KeepsSome disk k x = KeepsBetween 0 (most_of k.store.volume) (disk.image k.opening)
+    k.world.journal.list x
+
+-- What turns make of a player over the disk d, now e. No group that is committed is lost, and
+-- whatever a stop leaves, from the recovery on, keeps some beginning of the run's groups.
+pub record IsPlayedOn {D N : Type 0} (below : Ghosts D N) (disk : Ghosts (FaultyDisk D) (N × Trap))
+    (d e : D) (player last : Player D N) : Type 0 where
+  pub now : e ≡ inner_of last.kernel.store.volume.device
+  pub keeps : RunsOn disk player.kernel last.kernel
+  pub name : below.name e ≡ below.name d
+  pub leaves : LeavesOnly below.moment below.leaves d e (KeepsSome disk last.kernel)
+
+-- The disk d, now e, was recovered. A player was opened over it, and made the turns of these words.
+-- Printed are their lines and the counts, of writes from behind the recovery on; the write to be
+-- stopped is counted from there, too. This fault is told of the disk.
+pub record Replays {D N : Type 0} (below : Ghosts D N) (disk : Ghosts (FaultyDisk D) (N × Trap))
+    (d e : D) (tasks : List Task) (processes : ℕ) (words : List Word) (stop : ℕ)
+    (fault : Option DiskFault) (text printed : Option (List ℕ)) : Type 0 where
+  pub player : Player D N
+  pub last : Player D N
+  pub ready : IsReadyOver below disk d tasks processes stop player
+  pub runs : RunsTo disk stop (disk.write_count player.kernel.store.volume.device) words
+      player last fault text printed
+  pub played : IsPlayedOn below disk d e player last
+
+-- the same up to a turn behind which the output failed
+pub record ReplaysPart {D N : Type 0} (below : Ghosts D N)
+    (disk : Ghosts (FaultyDisk D) (N × Trap)) (d e : D) (tasks : List Task) (processes : ℕ)
+    (words : List Word) (stop : ℕ) : Type 0 where
+  pub player : Player D N
+  pub last : Player D N
+  pub ready : IsReadyOver below disk d tasks processes stop player
+  pub breaks : BreaksOff disk stop words player last
+  pub played : IsPlayedOn below disk d e player last
+
+-- the disk d, now e, wasn't recovered, or no kernel was opened over it; whatever a stop left is
+-- recovered as d is
+pub record HasNotBegun {D N : Type 0} (below : Ghosts D N)
+    (disk : Ghosts (FaultyDisk D) (N × Trap)) (d e : D) (processes : ℕ) (r : Refusal)
+    : Type 0 where
+  pub cause : IsUnready below disk processes d e r
+  pub name : below.name e ≡ below.name d
+  pub leaves : LeavesOnly below.moment below.leaves d e (RecoversAs (below.image d))
+
+-- why a replay over the disk d, now e, was refused, and what it came to; `none` says that nothing
+-- was printed
+abbrev pub IsNotReplayed : {D N : Type 0} → Ghosts D N → Ghosts (FaultyDisk D) (N × Trap) → D → D
+    → List Task → ℕ → List Word → ℕ → Option (List ℕ) → Option (List ℕ) → Type 0 → Refusal
+    → Type 0
+IsNotReplayed below disk d e tasks processes words stop text printed none (Disk fault) =
+    Replays below disk d e tasks processes words stop (Some fault) text printed
+IsNotReplayed below disk d e tasks processes words stop text printed none Output =
+    ReplaysPart below disk d e tasks processes words stop
+IsNotReplayed below disk d e tasks processes words stop text printed none r =
+    HasNotBegun below disk d e processes r × none

@@ -1,5 +1,5 @@
 -- What turns make of a player: of its kernel, and of the operations that wait to be handed in.
-use Rattle.std.specs.Prelude.{◌≡◌, ◌≢◌, ℕ, zero, suc, ◌-◌, ◌<◌, false, List, [], ◌∷◌, ◌++◌, flat_map, Option, Some, None, option_to_list}
+use Rattle.std.specs.Prelude.{◌≡◌, ◌≢◌, ℕ, zero, suc, ◌-◌, ◌<◌, false, List, [], ◌∷◌, ◌++◌, flat_map, take, Option, Some, None, option_to_list}
 use Rattle.std.specs.Io.KnownBytes.{Appends}
 use Rattle.blocks.specs.declared.errors.DiskFault.{DiskFault}
 use Rattle.blocks.specs.declared.disk.Disk.{Ghosts}
@@ -26,7 +26,7 @@ use Rattle.player.specs.declared.events.Event.TheVariants.{Shut}
 use Rattle.player.specs.declared.turns.Player.{Player}
 use Rattle.player.specs.Backlog.{backlog_at, HasHandedIn}
 use Rattle.player.specs.declared.refusal.Refusal.{Refusal}
-use Rattle.player.specs.declared.refusal.Refusal.TheVariants.{Disk}
+use Rattle.player.specs.declared.refusal.Refusal.TheVariants.{Disk, Output}
 use Rattle.player.specs.Events.{event_line, is_last}
 use Rattle.player.specs.Output.{counts_text}
 use Rattle.player.specs.Turns.{IfLast, event_of, told_fault}
@@ -141,20 +141,29 @@ kernel_counts disk base k =
 abbrev pub kernel_fault : {D : Type 0} → Plain (FaultyDisk D) → Option DiskFault
 kernel_fault k = told_fault (has_fired k.store.volume.device) k.store.volume.fault
 
--- The turns of these words were made, and a line was printed for each; behind them the counts of
--- the kernel that they made, over a disk that had counted `base` writes before. This fault is told
--- of it.
+-- The turns of these words made new of old, and a line was printed for each; behind them the counts
+-- of the kernel, over a disk that had counted `base` writes before. This fault is told of it.
 pub record RunsTo {D N : Type 0} (disk : Ghosts (FaultyDisk D) (N × Trap)) (stop base : ℕ)
-    (words : List Word) (player : Player D N) (fault : Option DiskFault)
+    (words : List Word) (old new : Player D N) (fault : Option DiskFault)
     (text printed : Option (List ℕ)) : Type 0 where
   pub events : List Event
-  pub last : Player D N
-  pub makes : MakesTurns disk stop words events player last
-  pub tells : kernel_fault last.kernel ≡ fault
+  pub makes : MakesTurns disk stop words events old new
+  pub tells : kernel_fault new.kernel ≡ fault
   pub lines : Appends text printed
-      (flat_map event_line events ++ kernel_counts disk base last.kernel)
+      (flat_map event_line events ++ kernel_counts disk base new.kernel)
 
--- the disk's fault that a refusal tells
-abbrev pub fault_in : Refusal → Option DiskFault
-fault_in (Disk fault) = Some fault
-fault_in _ = None
+-- the turns of the first of these words made new of old
+pub record BreaksOff {D N : Type 0} (disk : Ghosts (FaultyDisk D) (N × Trap)) (stop : ℕ)
+    (words : List Word) (old new : Player D N) : Type 0 where
+  pub count : ℕ
+  pub events : List Event
+  pub makes : MakesTurns disk stop (take count words) events old new
+
+-- What a run that was refused came to: where the disk failed, all was printed; where the output
+-- did, turns were made up to then.
+abbrev pub IsBrokenOff : {D N : Type 0} → Ghosts (FaultyDisk D) (N × Trap) → ℕ → ℕ → List Word
+    → Player D N → Player D N → Option (List ℕ) → Option (List ℕ) → Refusal → Type 0
+IsBrokenOff disk stop base words old new text printed (Disk fault) =
+    RunsTo disk stop base words old new (Some fault) text printed
+IsBrokenOff disk stop base words old new text printed Output = BreaksOff disk stop words old new
+IsBrokenOff disk stop base words old new text printed r = ⊥

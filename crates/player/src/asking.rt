@@ -1,5 +1,6 @@
 // What the only process of a kernel asks it.
 ghost use Rattle.std.specs.Prelude.{◌≡◌, ◌≢◌, ◌≤◌, IsTrue, IfOk, IfErr, OnOk};
+ghost use Rattle.blocks.specs.Calls.{OnlyReads};
 ghost use Rattle.kernel.specs.declared.types.Step.TheVariants as step_is;
 ghost use Rattle.player.specs.Asking.{IsAnswer, IsUnanswered, Rests, bytes_told, is_look, part_at, size_at, size_in};
 
@@ -22,11 +23,14 @@ pub fn size_of<D: Disk>(
     kernel: &mut Kernel<D, QueueIntake, PlainHerald>,
     number: u32,
 ) -> Result<Option<u32>, Refusal>
-    requires { Rests kernel.old }
-    ensures rests { OnOk result (Rests kernel.new) }
+    requires { Rests D.fault_count kernel.old }
+    ensures rests { OnOk result (Rests D.fault_count kernel.new) }
     ensures opening { kernel.new.opening ≡ kernel.old.opening }
     ensures size { IfOk result (λ size. size ≡ size_at (D.image kernel.old.opening) number) }
-    ensures refused { IfErr result (IsUnanswered D.fault_count kernel.old.opening) }
+    ensures refused { IfErr result (IsUnanswered D.fault_count kernel.old.opening
+        kernel.new.store.volume.device) }
+    ensures reads { OnlyReads D.Disk kernel.old.store.volume.device
+        kernel.new.store.volume.device }
 {
     let reply = ask(kernel, Op::Stat(number))?;
     Ok(size_in(&reply))
@@ -45,13 +49,16 @@ pub fn piece_of<D: Disk>(
     offset: u32,
     count: u32,
 ) -> Result<Option<Content>, Refusal>
-    requires rests { Rests kernel.old }
+    requires rests { Rests D.fault_count kernel.old }
     requires few { count ≤ 3072 }
-    ensures rests { OnOk result (Rests kernel.new) }
+    ensures rests { OnOk result (Rests D.fault_count kernel.new) }
     ensures opening { kernel.new.opening ≡ kernel.old.opening }
     ensures bytes { IfOk result (λ bytes.
         bytes ≡ part_at (D.image kernel.old.opening) number offset count) }
-    ensures refused { IfErr result (IsUnanswered D.fault_count kernel.old.opening) }
+    ensures refused { IfErr result (IsUnanswered D.fault_count kernel.old.opening
+        kernel.new.store.volume.device) }
+    ensures reads { OnlyReads D.Disk kernel.old.store.volume.device
+        kernel.new.store.volume.device }
 {
     let reply = ask(kernel, Op::Read(number, offset, count))?;
     Ok(bytes_told(reply))
@@ -61,12 +68,15 @@ pub fn piece_of<D: Disk>(
 //
 // `Disk` where the disk failed; `Cat` with `NoMemory` where memory was refused.
 fn ask<D: Disk>(kernel: &mut Kernel<D, QueueIntake, PlainHerald>, op: Op) -> Result<Reply, Refusal>
-    requires rests { Rests kernel.old }
+    requires rests { Rests D.fault_count kernel.old }
     requires look { IsTrue (is_look op) }
-    ensures rests { OnOk result (Rests kernel.new) }
+    ensures rests { OnOk result (Rests D.fault_count kernel.new) }
     ensures opening { kernel.new.opening ≡ kernel.old.opening }
     ensures answer { IfOk result (IsAnswer (D.image kernel.old.opening) op) }
-    ensures refused { IfErr result (IsUnanswered D.fault_count kernel.old.opening) }
+    ensures refused { IfErr result (IsUnanswered D.fault_count kernel.old.opening
+        kernel.new.store.volume.device) }
+    ensures reads { OnlyReads D.Disk kernel.old.store.volume.device
+        kernel.new.store.volume.device }
 {
     let Ok(_number) = kernel.submit(0, op) else {
         return Err(Refusal::Cat(CatFault::NoMemory));
@@ -86,7 +96,7 @@ fn ask<D: Disk>(kernel: &mut Kernel<D, QueueIntake, PlainHerald>, op: Op) -> Res
 // Why no answer came: the disk failed, or memory was refused. (The only process of a kernel waits
 // for nobody.)
 fn why_unanswered<D: Disk>(kernel: &Kernel<D, QueueIntake, PlainHerald>) -> Refusal
-    ensures { IsUnanswered D.fault_count kernel.now.opening result }
+    ensures { IsUnanswered D.fault_count kernel.now.opening kernel.now.store.volume.device result }
 {
     kernel.known();
     match kernel.fault() {

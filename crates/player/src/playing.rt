@@ -5,7 +5,8 @@ ghost use Rattle.std.specs.List.{list_all};
 ghost use Rattle.scripts.specs.Schedule.{is_word_of};
 ghost use Rattle.player.specs.declared.refusal.Refusal.TheVariants as refusal;
 ghost use Rattle.player.specs.Output.{counts_text};
-ghost use Rattle.player.specs.Stepping.{PlaysTo, RunsTo, fault_in, kernel_counts, kernel_fault};
+ghost use Rattle.player.specs.Stepping.{BreaksOff, IsBrokenOff, PlaysTo, RunsTo, kernel_counts, kernel_fault};
+ghost use Rattle.kernel.specs.Runs.{RunsOn};
 ghost use Rattle.player.specs.Refusal.{OnRefusal};
 
 use crate::output::{print, print_last};
@@ -22,21 +23,26 @@ use std::io::Write;
 ///
 /// # Errors
 ///
-/// `Output`; else `Disk` where a step found that the disk failed, and then all was printed.
+/// `Output`, and then the turns of the first words were made; else `Disk` where a step found that
+/// the disk failed, and then all was printed.
 pub fn run<D: Disk + Drop, O: Write>(
-    mut player: Player<D>,
+    player: &mut Player<D>,
     words: &[Word],
     stop: u64,
     base: u64,
     out: &mut O,
 ) -> Result<(), Refusal>
-    requires { IsTrue (list_all (is_word_of (length player.kernel.world.processes)) words.now) }
-    ensures printed { OnOk result (RunsTo ⟦<FaultyDisk<D> as Disk>⟧
-        stop base words.now player None (O.contents out.old) (O.contents out.new)) }
-    ensures refused { IfErr result (λ r. OnRefusal r (RunsTo ⟦<FaultyDisk<D> as Disk>⟧
-        stop base words.now player (fault_in r) (O.contents out.old) (O.contents out.new)) ⊥) }
+    requires { IsTrue (list_all (is_word_of (length player.old.kernel.world.processes)) words.now) }
+    ensures printed { OnOk result (RunsTo ⟦<FaultyDisk<D> as Disk>⟧ stop base words.now
+        player.old player.new None (O.contents out.old) (O.contents out.new)) }
+    ensures refused { IfErr result (IsBrokenOff ⟦<FaultyDisk<D> as Disk>⟧ stop base words.now
+        player.old player.new (O.contents out.old) (O.contents out.new)) }
+    ensures keeps { RunsOn ⟦<FaultyDisk<D> as Disk>⟧ player.old.kernel player.new.kernel }
+    ensures name { ⟦<FaultyDisk<D> as Disk>⟧.name player.new.kernel.store.volume.device
+        ≡ ⟦<FaultyDisk<D> as Disk>⟧.name player.old.kernel.store.volume.device }
 {
-    play(&mut player, words, stop, out)?;
+    player.kernel.known();
+    play(player, words, stop, out)?;
     close(player, base, out)
 }
 
@@ -51,6 +57,7 @@ fn play<D: Disk + Drop, O: Write>(
     ensures printed { OnOk result (PlaysTo ⟦<FaultyDisk<D> as Disk>⟧
         stop words.now player.old player.new (O.contents out.old) (O.contents out.new)) }
     ensures err { IsOkUnless result refusal.Output }
+    ensures breaks { BreaksOff ⟦<FaultyDisk<D> as Disk>⟧ stop words.now player.old player.new }
 {
     for word in words {
         let event = player.turn(*word, stop);
@@ -63,17 +70,21 @@ fn play<D: Disk + Drop, O: Write>(
 }
 
 // Prints what the turns came to.
-fn close<D: Disk + Drop, O: Write>(player: Player<D>, base: u64, out: &mut O) -> Result<(), Refusal>
+fn close<D: Disk + Drop, O: Write>(
+    player: &Player<D>,
+    base: u64,
+    out: &mut O,
+) -> Result<(), Refusal>
     ensures printed { OnOk result (Appends (O.contents out.old) (O.contents out.new)
-        (kernel_counts ⟦<FaultyDisk<D> as Disk>⟧ base player.kernel)) }
-    ensures sound { OnOk result (kernel_fault player.kernel ≡ None) }
+        (kernel_counts ⟦<FaultyDisk<D> as Disk>⟧ base player.now.kernel)) }
+    ensures sound { OnOk result (kernel_fault player.now.kernel ≡ None) }
     ensures refused { IfErr result (λ r. OnRefusal r
         (Appends (O.contents out.old) (O.contents out.new)
-        (kernel_counts ⟦<FaultyDisk<D> as Disk>⟧ base player.kernel)) ⊥) }
+        (kernel_counts ⟦<FaultyDisk<D> as Disk>⟧ base player.now.kernel)) ⊥) }
     ensures fault { IfErr result (λ r. r ≢ refusal.Output
-        → option_map refusal.Disk (kernel_fault player.kernel) ≡ Some r) }
+        → option_map refusal.Disk (kernel_fault player.now.kernel) ≡ Some r) }
 {
-    let outcome = player.finish(base);
+    let outcome = player.outcome(base);
     print_counts(outcome.writes, outcome.committed, out)?;
     match outcome.fault {
         Some(fault) => Err(Refusal::Disk(fault)),

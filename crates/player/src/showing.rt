@@ -1,9 +1,15 @@
 // The bytes of a file of a disk's image.
 ghost use Rattle.std.specs.Prelude.{◌≡◌, OnOk, IfOk, IfErr, Some};
 ghost use Rattle.std.specs.Io.KnownBytes.{Appends};
+ghost use Rattle.blocks.specs.Calls.{OnlyReads};
+ghost use Rattle.blocks.specs.Disk.{LeavesOnly};
+ghost use Rattle.model.specs.Log.{logged_count};
+ghost use Rattle.wal.specs.Recovery.{RecoversAs};
+ghost use Rattle.player.specs.Afterwards.{IsUnopened};
 ghost use Rattle.player.specs.Asking.{Rests, size_at};
-ghost use Rattle.player.specs.Refusal.{IsOfCat, IsOpening};
-ghost use Rattle.player.specs.Showing.{IsNotShown, IsPartly, IsReaderOf, Shows, bytes_at};
+ghost use Rattle.player.specs.Causes.{IsRecovered};
+ghost use Rattle.player.specs.Refusal.{IsOfCat};
+ghost use Rattle.player.specs.Showing.{IsNotShown, IsPartly, IsReaderOf, IsUnwritten, Shows, ShowsFile, bytes_at};
 
 use crate::asking::{piece_of, size_of};
 use crate::faults::{CatFault, KernelFault};
@@ -21,6 +27,9 @@ const PIECE: u32 = 3072;
 /// Recovers the image of a disk, and writes the bytes of its file of a number, and nothing else.
 /// The file is read through a kernel of one process, piece by piece.
 ///
+/// Hands the disk back, with nothing but the recovery done to it. Whatever a crash at any moment
+/// leaves is recovered to the same image.
+///
 /// # Errors
 ///
 /// A fault of the kernel's opening, or `Cat` with `NoFile` where there is no such file, and then
@@ -31,34 +40,65 @@ pub fn cat_disk<D: Disk + Drop, O: Write>(
     disk: D,
     number: u32,
     out: &mut O,
-) -> Result<(), Refusal>
-    ensures shown { OnOk result
+) -> (Result<(), Refusal>, D)
+    ensures shown { OnOk result.0
         (Shows (D.image disk) number (O.contents out.old) (O.contents out.new)) }
-    ensures refused { IfErr result (IsNotShown D.fault_count disk (D.image disk) number
+    ensures recovered { OnOk result.0
+        (IsRecovered D.Disk (logged_count (D.image disk)) disk result.1) }
+    ensures refused { IfErr result.0 (IsNotShown D.Disk disk result.1 number
         (O.contents out.old) (O.contents out.new) (out.new ≡ out.old)) }
-    ensures layers { IfErr result IsOfCat }
+    ensures layers { IfErr result.0 IsOfCat }
+    ensures name { D.name result.1 ≡ D.name disk }
+    ensures any_moment { LeavesOnly D.moment D.leaves disk result.1 (RecoversAs (D.image disk)) }
 {
-    let mut kernel = open_reader(alloc, disk)?;
-    let Some(size) = size_of(&mut kernel, number)? else {
-        return Err(Refusal::Cat(CatFault::NoFile));
+    let mut kernel = match open_reader(alloc, disk) {
+        Ok(kernel) => kernel,
+        Err((refusal, disk)) => return (Err(refusal), disk),
     };
-    write_file(&mut kernel, number, size, out)?;
-    pass_on(out)
+    let shown = show(&mut kernel, number, out);
+    (shown, kernel.into_disk())
 }
 
 // A kernel of one process over the image of a disk.
 fn open_reader<D: Disk + Drop>(
     alloc: Global,
     disk: D,
-) -> Result<Kernel<D, QueueIntake, PlainHerald>, Refusal>
-    ensures opened { IfOk result (IsReaderOf D.image D.fault_count disk) }
-    ensures refused { IfErr result IsOpening }
+) -> Result<Kernel<D, QueueIntake, PlainHerald>, (Refusal, D)>
+    ensures opened { IfOk result (IsReaderOf D.Disk disk) }
+    ensures refused { IfErr result (λ e. IsUnopened D.Disk 1 disk e.1 e.0) }
 {
-    let intake = QueueIntake::new(alloc, 1).map_err(KernelFault::from)?;
+    let intake = match QueueIntake::new(alloc, 1) {
+        Ok(intake) => intake,
+        Err(refused) => return Err((KernelFault::from(refused).into(), disk)),
+    };
     match Kernel::open(alloc, disk, intake, PlainHerald::new(), 1) {
         Ok(kernel) => Ok(kernel),
-        Err((fault, _)) => Err(fault.into()),
+        Err((fault, disk)) => Err((fault.into(), disk)),
     }
+}
+
+// Writes the bytes of the file of a number, and passes them on.
+fn show<D: Disk, O: Write>(
+    kernel: &mut Kernel<D, QueueIntake, PlainHerald>,
+    number: u32,
+    out: &mut O,
+) -> Result<(), Refusal>
+    requires rests { Rests D.fault_count kernel.old }
+    ensures shown { OnOk result (ShowsFile (D.image kernel.old.opening) number
+        (O.contents out.old) (O.contents out.new)) }
+    ensures faultless { OnOk result (D.fault_count kernel.new.store.volume.device
+        ≡ D.fault_count kernel.old.opening) }
+    ensures refused { IfErr result (IsUnwritten D.fault_count kernel.old.opening
+        kernel.new.store.volume.device (D.image kernel.old.opening) number
+        (O.contents out.old) (O.contents out.new) (out.new ≡ out.old)) }
+    ensures reads { OnlyReads D.Disk kernel.old.store.volume.device
+        kernel.new.store.volume.device }
+{
+    let Some(size) = size_of(kernel, number)? else {
+        return Err(Refusal::Cat(CatFault::NoFile));
+    };
+    write_file(kernel, number, size, out)?;
+    pass_on(out)
 }
 
 // Writes the bytes of a file of that length, piece by piece.
@@ -68,12 +108,17 @@ fn write_file<D: Disk, O: Write>(
     size: u32,
     out: &mut O,
 ) -> Result<(), Refusal>
-    requires rests { Rests kernel.old }
+    requires rests { Rests D.fault_count kernel.old }
     requires size { size_at (D.image kernel.old.opening) number ≡ Some size }
     ensures all { OnOk result (Appends (O.contents out.old) (O.contents out.new)
         (bytes_at (D.image kernel.old.opening) number)) }
+    ensures rests { OnOk result (Rests D.fault_count kernel.new) }
+    ensures opening { kernel.new.opening ≡ kernel.old.opening }
     ensures part { IfErr result (IsPartly D.fault_count kernel.old.opening
-        (bytes_at (D.image kernel.old.opening) number) (O.contents out.old) (O.contents out.new)) }
+        kernel.new.store.volume.device (bytes_at (D.image kernel.old.opening) number)
+        (O.contents out.old) (O.contents out.new)) }
+    ensures reads { OnlyReads D.Disk kernel.old.store.volume.device
+        kernel.new.store.volume.device }
 {
     for piece in 0..size.div_ceil(PIECE) {
         let Some(bytes) = piece_of(kernel, number, piece * PIECE, PIECE)? else {

@@ -1,16 +1,16 @@
 // The turns of a schedule, over a kernel with a script's operations.
-ghost use Rattle.std.specs.Prelude.{◌≡◌, ◌-◌, ◌<◌, ℕ, [], All, IsTrue, length, IfOk, IfErr};
-ghost use Rattle.blocks.specs.FaultyDisk.{has_fired};
-ghost use Rattle.blocks.specs.Disk.{counted};
+ghost use Rattle.std.specs.Prelude.{◌≡◌, ◌-◌, ◌<◌, ℕ, [], All, IsTrue, length, IfOk, IfErr, IsOkUnless};
+ghost use Rattle.blocks.specs.FaultyDisk.{has_fired, inner_of};
+ghost use Rattle.blocks.specs.Disk.{counted, LeavesOnly};
 ghost use Rattle.model.specs.Log.{logged_count};
 ghost use Rattle.ports.specs.History.{first_in, nothing_yet};
 ghost use Rattle.ports.specs.Queues.{answers, queue_count, waiting, QueueFits};
 ghost use Rattle.scripts.specs.Schedule.{is_word_of};
-ghost use Rattle.wal.specs.Recovery.{writes_to_recover};
+ghost use Rattle.wal.specs.Recovery.{RecoversAs, writes_to_recover};
+ghost use Rattle.player.specs.Afterwards.{IsUnopenedOver};
 ghost use Rattle.player.specs.Stepping.{MakesPlainStep, MakesSteps, HandsIn, Polls, MakesTurnOf, MakesTurn, kernel_fault};
 ghost use Rattle.player.specs.Backlog.{backlog_at, ops_of};
 ghost use Rattle.player.specs.Opening.{IsArmed, IsOpenedOver};
-ghost use Rattle.player.specs.Refusal.{IsOpening};
 ghost use Rattle.player.specs.Turns.{event_of};
 
 use crate::backlog::{Backlog, backlogs_of};
@@ -57,6 +57,7 @@ fn take_memory(
     ensures served { IfOk result (λ m. queue_count m.1 ≡ processes) }
     ensures empty { IfOk result (λ m. (p : ℕ) → (waiting m.1 p ≡ []) × (answers m.1 p ≡ [])) }
     ensures fresh { IfOk result (λ m. (p : ℕ) → QueueFits m.1 p nothing_yet) }
+    ensures err { IsOkUnless result KernelFault.NoMemory }
 {
     let backlogs = backlogs_of(alloc, tasks, processes)?;
     let intake = QueueIntake::new(alloc, processes)?;
@@ -68,14 +69,15 @@ fn take_memory(
 ///
 /// # Errors
 ///
-/// A fault of `Kernel::open`; its `NoMemory` also where memory for the operations is refused.
+/// Hands the disk back with a fault of `Kernel::open`; with its `NoMemory` also where memory for
+/// the operations is refused, and then nothing was done with the disk.
 pub fn open_player<D: Disk + Drop>(
     alloc: Global,
     disk: D,
     tasks: Vec<Task>,
     processes: u32,
     stop: u64,
-) -> Result<Player<D>, Refusal>
+) -> Result<Player<D>, (Refusal, D)>
     requires { All (λ task. task.pid < processes) tasks.items }
     ensures opened { IfOk result (IsOpenedOver ⟦<FaultyDisk<D> as Disk>⟧.image
         (D.image disk) tasks.items processes) }
@@ -85,13 +87,21 @@ pub fn open_player<D: Disk + Drop>(
         ≡ counted (D.write_count disk) (writes_to_recover (logged_count (D.image disk)))) }
     ensures armed { IfOk result (λ player. logged_count (D.image disk) ≡ 0
         → IsArmed ⟦<FaultyDisk<D> as Disk>⟧ stop player.kernel.store.volume.device) }
-    ensures refused { IfErr result IsOpening }
+    ensures name { IfOk result (λ player.
+        D.name (inner_of player.kernel.store.volume.device) ≡ D.name disk) }
+    ensures leaves { IfOk result (λ player. LeavesOnly D.moment D.leaves
+        disk (inner_of player.kernel.store.volume.device) (RecoversAs (D.image disk))) }
+    ensures refused { IfErr result (λ e. IsUnopenedOver ⟦<FaultyDisk<D> as Disk>⟧
+        processes disk e.1 e.0) }
 {
-    let (backlogs, intake) = take_memory(alloc, tasks, processes)?;
+    let (backlogs, intake) = match take_memory(alloc, tasks, processes) {
+        Ok(memory) => memory,
+        Err(fault) => return Err((fault.into(), disk)),
+    };
     let disk = FaultyDisk::new(disk, stop, Kind::WriteOld);
     match Kernel::open(alloc, disk, intake, PlainHerald::new(), processes) {
         Ok(kernel) => Ok(Player { kernel, backlogs }),
-        Err((fault, _)) => Err(fault.into()),
+        Err((fault, disk)) => Err((fault.into(), disk.into_inner())),
     }
 }
 
@@ -143,21 +153,27 @@ impl<D: Disk + Drop> Player<D> {
     }
 
     /// What the turns came to, on a disk that had counted `base` writes before them.
-    pub fn finish(self, base: u64) -> Outcome
-        ensures writes { result.writes
-            ≡ ⟦<FaultyDisk<D> as Disk>⟧.write_count self.kernel.store.volume.device - base }
-        ensures committed { result.committed ≡ self.kernel.store.volume.log.committed }
-        ensures fault { result.fault ≡ kernel_fault self.kernel }
+    pub fn outcome(&self, base: u64) -> Outcome
+        ensures writes { result.writes ≡ ⟦<FaultyDisk<D> as Disk>⟧.write_count
+            self.now.kernel.store.volume.device - base }
+        ensures committed { result.committed ≡ self.now.kernel.store.volume.log.committed }
+        ensures fault { result.fault ≡ kernel_fault self.now.kernel }
     {
-        let Player { kernel, .. } = self;
-        let committed = kernel.committed();
-        let fault = kernel.fault();
-        let disk = kernel.into_disk();
+        let disk = self.kernel.disk();
+        let fired = disk.fired();
         Outcome {
             writes: disk.writes().saturating_sub(base),
-            committed,
-            fault: if disk.fired() { None } else { fault },
+            committed: self.kernel.committed(),
+            fault: if fired { None } else { self.kernel.fault() },
         }
+    }
+
+    /// The disk as it is.
+    pub fn into_disk(self) -> D
+        ensures { result ≡ inner_of self.kernel.store.volume.device }
+    {
+        let Player { kernel, .. } = self;
+        kernel.into_disk().into_inner()
     }
 
     // Hands in the next operations of a process, as many as its queue takes.

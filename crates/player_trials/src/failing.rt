@@ -42,7 +42,7 @@ fn tells_of_a_failing_disk(rt: HostRuntime) -> Result<(), Fail> {
     let processes = processes(tasks.as_slice());
     let words = read_schedule(alloc, b"0! 0".as_slice(), processes)?;
     let mut out = Vec::new(alloc);
-    let ended = replay_disk(
+    let (ended, disk) = replay_disk(
         alloc,
         disk,
         tasks,
@@ -52,6 +52,7 @@ fn tells_of_a_failing_disk(rt: HostRuntime) -> Result<(), Fail> {
         &mut out,
     );
     assert!(rt; matches!(ended, Err(Refusal::Disk(DiskFault(2)))));
+    assert!(rt; disk.fired());
     let out = String::from_utf8(out)?;
     assert_eq!(rt; out.as_str(), "0 halted\nwrites 1\ncommitted 0\n");
     Ok(())

@@ -1,8 +1,27 @@
+use Rattle.std.proofs.Common.{◌≡◌, Err, rules, subst, sym, take}
+use Rattle.std.specs.Prelude.{IfErr}
+use Rattle.player.specs.Stepping.{IsBrokenOff}
+use Rattle.player.proofs.Keeping.{turns_keep}
 use Rattle.player.proofs.Plays.{counts_printed}
-use Rattle.player.proofs.Refused.{on_ok_both, on_fault}
-use Rattle.player.specs.Stepping.{RunsTo}
+use Rattle.player.proofs.Refused.{broken_off, broken_output, on_ok_both}
 use Rattle.player.proofs.Disks.{faulty}
 use Rattle.player.proofs.playing.run.Goals as goal
+
+pub returns-in_err-play-clause-refused : goal.returns-in_err-play-clause-refused
+returns-in_err-play-clause-refused g c =
+    let same : c.from_residual.result ≡ Err c.in_err-play.field-0.0 = search rules in
+    subst (λ r. IfErr r (IsBrokenOff (faulty g.D.Disk) c.args.stop c.args.base c.args.words.now c.args.player.now c.play.new.player (g.O.Write.contents c.args.out.now) (g.O.Write.contents c.play.new.out))) (sym same)
+    (broken_output (faulty g.D.Disk) c.args.stop c.args.base c.args.words.now c.args.player.now c.play.new.player (g.O.Write.contents c.args.out.now) (g.O.Write.contents c.play.new.out) c.in_err-play.field-0.0 c.in_err-play.ensures.err c.play.ensures.breaks)
+
+pub returns-in_err-play-clause-keeps : goal.returns-in_err-play-clause-keeps
+returns-in_err-play-clause-keeps g c =
+    let breaks = c.play.ensures.breaks in
+    (turns_keep (faulty g.D.Disk) c.args.stop (take breaks.count c.args.words.now) breaks.events c.args.player.now c.play.new.player c.known.ensures.keeps breaks.makes).runs
+
+pub returns-in_err-play-clause-name : goal.returns-in_err-play-clause-name
+returns-in_err-play-clause-name g c =
+    let breaks = c.play.ensures.breaks in
+    (turns_keep (faulty g.D.Disk) c.args.stop (take breaks.count c.args.words.now) breaks.events c.args.player.now c.play.new.player c.known.ensures.keeps breaks.makes).name
 
 pub returns-clause-printed : goal.returns-clause-printed
 returns-clause-printed g c =
@@ -12,7 +31,16 @@ returns-clause-printed g c =
 
 pub returns-clause-refused : goal.returns-clause-refused
 returns-clause-refused g c =
-    on_fault c.close.result _ _
-    (λ fault. RunsTo (faulty g.D.Disk) c.args.stop c.args.base c.args.words.now c.args.player fault (g.O.Write.contents c.args.out.now) (g.O.Write.contents c.close.new.out))
+    broken_off (faulty g.D.Disk) c.args.stop c.args.base c.args.words.now c.args.player.now c.play.new.player (g.O.Write.contents c.args.out.now) (g.O.Write.contents c.close.new.out) c.close.result _
     (λ fault found counts. counts_printed (faulty g.D.Disk) c.args.stop c.args.base c.args.words.now _ _ fault (g.O.Write.contents c.args.out.now) (g.O.Write.contents c.play.new.out) (g.O.Write.contents c.close.new.out) c.in_ok-play.ensures.printed found counts)
-    c.close.ensures.refused c.close.ensures.fault
+    c.play.ensures.breaks c.close.ensures.refused c.close.ensures.fault
+
+pub returns-clause-keeps : goal.returns-clause-keeps
+returns-clause-keeps g c =
+    let breaks = c.play.ensures.breaks in
+    (turns_keep (faulty g.D.Disk) c.args.stop (take breaks.count c.args.words.now) breaks.events c.args.player.now c.play.new.player c.known.ensures.keeps breaks.makes).runs
+
+pub returns-clause-name : goal.returns-clause-name
+returns-clause-name g c =
+    let breaks = c.play.ensures.breaks in
+    (turns_keep (faulty g.D.Disk) c.args.stop (take breaks.count c.args.words.now) breaks.events c.args.player.now c.play.new.player c.known.ensures.keeps breaks.makes).name

@@ -1,6 +1,7 @@
 use Rattle.std.proofs.Common.{◌≡◌, ◌∙◌, ◌*◌, Some, rules, subst, sym, ap}
 use Rattle.std.specs.Io.KnownBytes.{Appends}
 use Rattle.player.specs.Asking.{part_at}
+use Rattle.player.proofs.DiskReads.{reads_none, reads_then}
 use Rattle.player.proofs.Shown.{one_more}
 use Rattle.player.proofs.showing.write_file.Goals as goal
 
@@ -13,5 +14,6 @@ loop-piece-preserved g c =
     record {
       rests = search rules;
       opening = c.piece_of.ensures.opening ∙ opening;
+      reads = reads_then g.D.Disk c.args.kernel.now.store.volume.device c.loop-piece.kernel.store.volume.device c.piece_of.new.kernel.store.volume.device c.loop-piece.invariant.reads c.piece_of.ensures.reads;
       written = one_more (image c.args.kernel.now.opening) c.args.number c.loop-piece.piece c.in-Some.bytes _ _ _ (given ∙ ap (λ d. part_at (image d) c.args.number (c.loop-piece.piece * 3072) 3072) opening) c.loop-piece.invariant.written wrote;
     }

@@ -1,6 +1,6 @@
 use Rattle.std.proofs.Common.{sym, subst}
 use Rattle.kernel.specs.Runs.{RunsOn}
-use Rattle.kernel.proofs.Turns.{runs_on_shut, runs_on_step}
+use Rattle.kernel.specs.Lemmas.Turns.{runs_on_shut, runs_on_step}
 use Rattle.kernel.proofs.stepping.Kernel.make.Goals as goal
 
 pub returns-in-Proc-clause-keeps : goal.returns-in-Proc-clause-keeps

@@ -1,0 +1,164 @@
+-- What a run of turns keeps.
+use Rattle.std.proofs.Common.{◌≡◌, ◌∙◌, ◌≤◌, ℕ, zero, suc, Bool, true, false, List, [], ◌∷◌, refl, sym, ap, subst, arith, inl, inr, ⊎_elim, Some, None}
+use Rattle.std.specs.Prelude.{IsTrue, ◌≢◌}
+use Rattle.blocks.specs.Disk.{Image, LeavesOnly}
+use Rattle.blocks.specs.Lemmas.Moments.{joined}
+use Rattle.blocks.specs.declared.disk.Disk.{Ghosts}
+use Rattle.blocks.specs.declared.faulty.FaultyDisk.{FaultyDisk}
+use Rattle.blocks.specs.declared.faulty.Trap.{Trap}
+use Rattle.model.specs.declared.types.operations.Entry.{Entry}
+use Rattle.model.specs.Crash.{IsUntouched, Keeps as KeepsGroups, labels_of, due_labels}
+use Rattle.model.specs.Files.{files_of}
+use Rattle.model.specs.Journal.{kept, replay, is_number}
+use Rattle.model.specs.Layout.{form_of, inode_of, inode_count_of}
+use Rattle.model.specs.Log.{is_lawful_log, recovered}
+use Rattle.model.specs.Lemmas.Recovery.{logged_count-left, recovers_once}
+use Rattle.model.specs.Lemmas.Soundness.{verdict_sound}
+use Rattle.model.specs.Soundness.{IsSound}
+use Rattle.model.specs.Verdict.{verdict}
+use Rattle.wal.specs.Lemmas.Commits.{empty_lawful}
+use Rattle.wal.specs.Recovery.{RecoversAs}
+use Rattle.journal.specs.Keeps.{KeepsBetween, most_of}
+use Rattle.kernel.specs.declared.types.Step.{Step}
+use Rattle.kernel.specs.declared.types.Step.TheVariants as step
+use Rattle.kernel.specs.Lemmas.Turns.{Keeps, runs_on_none, runs_on_shut, runs_on_step, runs_on_then}
+use Rattle.kernel.specs.Runs.{RunsOn, with_shutdown}
+use Rattle.scripts.specs.declared.schedule.Word.{Word}
+use Rattle.scripts.specs.declared.schedule.Word.TheVariants as word
+use Rattle.scripts.specs.declared.script.Task.{Task}
+use Rattle.player.specs.declared.events.Event.{Event}
+use Rattle.player.specs.declared.turns.Player.{Player}
+use Rattle.player.specs.Events.{is_last}
+use Rattle.player.specs.Opening.{IsPlayedOn, IsReadyOver, KeepsSome}
+use Rattle.player.specs.Stepping.{Plain, MakesPlainStep, MakesSteps, MakesTurn, MakesTurns, Moves, plain_herald, plain_queues}
+use Rattle.player.specs.Turns.{IfLast}
+use Rattle.player.proofs.Disks.{faulty}
+
+-- no committed group is lost, and the disk is the same one
+pub record KeepsOn {D N : Type 0} (disk : Ghosts D N) (k m : Plain D) : Type 0 where
+  pub runs : RunsOn disk k m
+  pub name : disk.name m.store.volume.device ≡ disk.name k.store.volume.device
+
+module _ {D N : Type 0} (disk : Ghosts D N) where
+  keeps_none : (k : Plain D) → Keeps disk plain_queues plain_herald k → KeepsOn disk k k
+  keeps_none k keeps = record { runs = runs_on_none disk plain_queues plain_herald k keeps; name = refl }
+
+  -- where only the queues changed
+  keeps_queues : (k m n : Plain D) → KeepsOn disk k m → n ≡ record m { intake = n.intake } → KeepsOn disk k n
+  keeps_queues k m n kept same = subst (λ (o : Plain D). KeepsOn disk k o) (sym same) (record {
+    runs = record { opening = kept.runs.opening; many = kept.runs.many; shut = kept.runs.shut; keeps = kept.runs.keeps; grows = kept.runs.grows; leaves = kept.runs.leaves };
+    name = kept.name;
+  })
+
+  keeps_step : (p : ℕ) (r : Step) (k m n : Plain D) → KeepsOn disk k m → MakesPlainStep disk p r m n → KeepsOn disk k n
+  keeps_step p r k m n kept made = record {
+    runs = runs_on_then disk plain_queues plain_herald k m n kept.runs (runs_on_step disk plain_queues plain_herald p r m n made);
+    name = made.acts.device.name ∙ kept.name;
+  }
+
+  keeps_moves : (p count : ℕ) (k m n : Plain D) → KeepsOn disk k m → Moves disk p count m n → KeepsOn disk k n
+  unfolding Moves
+  keeps_moves p zero k m n kept moves = subst (λ (o : Plain D). KeepsOn disk k o) (sym moves) kept
+  keeps_moves p (suc count) k m n kept (mid, made, moves) = keeps_moves p count k mid n (keeps_step p step.Moved k m mid kept made) moves
+
+  keeps_steps : (p : ℕ) (r : Step) (k m n : Plain D) → KeepsOn disk k m → MakesSteps disk p r m n → KeepsOn disk k n
+  keeps_steps p r k m n kept makes = keeps_step p r k makes.mid n (keeps_moves p makes.moved k m makes.mid kept makes.moves) makes.made
+
+  keeps_shut : (k m n : Plain D) → KeepsOn disk k m → n ≡ with_shutdown m → KeepsOn disk k n
+  keeps_shut k m n kept is = subst (λ (o : Plain D). KeepsOn disk k o) (sym is) (record {
+    runs = runs_on_then disk plain_queues plain_herald k m (with_shutdown m) kept.runs (runs_on_shut disk plain_queues plain_herald m kept.runs.keeps);
+    name = kept.name;
+  })
+
+module _ {D N : Type 0} (disk : Ghosts (FaultyDisk D) (N × Trap)) (stop : ℕ) where
+  keeps_turn : (w : Word) (event : Event) (k : Plain (FaultyDisk D)) (old new : Player D N) → KeepsOn disk k old.kernel → MakesTurn disk stop w event old new → KeepsOn disk k new.kernel
+  keeps_turn (word.Step p) event k old new kept turn =
+      keeps_queues disk k turn.stepped new.kernel (keeps_step disk p turn.answer k turn.handed turn.stepped (keeps_queues disk k old.kernel turn.handed kept turn.hands_in.same) turn.steps) turn.polls.same
+  keeps_turn (word.Steps p) event k old new kept turn =
+      keeps_queues disk k turn.stepped new.kernel (keeps_steps disk p turn.answer k turn.handed turn.stepped (keeps_queues disk k old.kernel turn.handed kept turn.hands_in.same) turn.steps) turn.polls.same
+  keeps_turn word.Shutdown event k old new kept turn = keeps_shut disk k old.kernel new.kernel kept turn.1
+
+  keeps_turns : (words : List Word) (events : List Event) (k : Plain (FaultyDisk D)) (old new : Player D N) → KeepsOn disk k old.kernel → MakesTurns disk stop words events old new → KeepsOn disk k new.kernel
+  keeps_turns [] events k old new so makes = subst (λ (o : Player D N). KeepsOn disk k o.kernel) (sym makes.1) so
+  keeps_turns (w ∷ words) [] k old new so makes = absurd makes
+  keeps_turns (w ∷ words) (event ∷ events) k old new so (mid, turn, rest) = here (is_last event) (keeps_turn w event k old mid so turn) (λ kept_mid more. keeps_turns words events k mid new kept_mid more) rest
+    where
+      here : (b : Bool) → KeepsOn disk k mid.kernel → (KeepsOn disk k mid.kernel → MakesTurns disk stop words events mid new → KeepsOn disk k new.kernel) → IfLast b ((events ≡ []) × (new ≡ mid)) (MakesTurns disk stop words events mid new) → KeepsOn disk k new.kernel
+      here true so_mid on ends = subst (λ (o : Player D N). KeepsOn disk k o.kernel) (sym ends.1) so_mid
+      here false so_mid on more = on so_mid more
+
+  -- what turns keep of a player's kernel
+  pub turns_keep : (words : List Word) (events : List Event) (old new : Player D N) → Keeps disk plain_queues plain_herald old.kernel → MakesTurns disk stop words events old new → KeepsOn disk old.kernel new.kernel
+  turns_keep words events old new keeps makes = keeps_turns words events old.kernel old new (keeps_none disk old.kernel keeps) makes
+
+-- recovery keeps of an image what it keeps of another that it gives the same image for
+keeps_alike : (opening x y : Image) (es : List Entry) (c : ℕ) → recovered x ≡ recovered y → is_lawful_log x ≡ true → KeepsGroups opening es y c → KeepsGroups opening es x c
+keeps_alike opening x y es c same lawful k = record {
+  log = lawful;
+  sound = subst IsSound (sym same) k.sound;
+  files = subst (λ z. replay (form_of opening) (files_of opening) (kept (inode_count_of opening) es c) ≡ Some (files_of z)) (sym same) k.files;
+  untouched = subst (IsUntouched opening) (sym same) k.untouched;
+  labels = subst (λ z. (i : ℕ) → (inode_of z i).kind ≢ 0 → IsTrue (is_number (inode_count_of opening) i) → labels_of z i ≡ due_labels opening (kept (inode_count_of opening) es c) i) (sym same) k.labels;
+}
+
+-- what leaves only images of one kind leaves only those of a wider one
+pub leaves_wider : {D : Type 0} (moment : D → ℕ) (leaves : D → ℕ → Image → Type 0) (old new : D) (P Q : Image → Type 0) → ((x : Image) → P x → Q x) → LeavesOnly moment leaves old new P → LeavesOnly moment leaves old new Q
+leaves_wider moment leaves old new P Q wider only = record {
+  later = only.later;
+  each = λ x left. wider x (only.each x left);
+  before = λ t x le left. ⊎_elim (λ was. inl was) (λ p. inr (wider x p)) (only.before t x le left);
+  keeps = only.keeps;
+}
+
+-- what is recovered as the recovered image is recovered as the image before
+pub recovers_before : (x y z : Image) → verdict x ≡ None → y ≡ recovered x → RecoversAs y z → RecoversAs x z
+recovers_before x y z sound is alike = record {
+  image = alike.image ∙ ap recovered is ∙ recovers_once x;
+  lawful = alike.lawful ∙ ap is_lawful_log is ∙ empty_lawful (recovered x) (logged_count-left x) ∙ sym (verdict_sound x sound).1;
+}
+
+module _ {D N : Type 0} (below : Ghosts D N) (has_now : (d : D) → below.leaves d (below.moment d) (below.image d)) (d : D) (tasks : List Task) (processes stop : ℕ) (player last : Player D N)
+    (ready : IsReadyOver below (faulty below) d tasks processes stop player) (runs : RunsOn (faulty below) player.kernel last.kernel) where
+  abbrev first : D
+  first = player.kernel.store.volume.device.inner
+
+  -- the image that the recovery left, and so all that are recovered to it, keep some of the groups
+  first_kept : KeepsSome (faulty below) last.kernel (below.image first)
+  first_kept =
+      let k = runs.leaves.each (below.image first) (runs.leaves.keeps ((faulty below).moment player.kernel.store.volume.device) (below.image first) (omega arith) (has_now first)) in
+      record { groups = k.groups; low = omega arith; high = k.high; keeps = k.keeps }
+
+  recovers_first : below.image first ≡ recovered (below.image d)
+  recovers_first = ap (λ s. below.image s.volume.device.inner) ready.opened.store ∙ ready.opened.recovers ∙ recovers_once (below.image d)
+
+  alike_kept : (x : Image) → RecoversAs (below.image d) x → KeepsSome (faulty below) last.kernel x
+  alike_kept x alike =
+      let k = first_kept in
+      record {
+        groups = k.groups;
+        low = k.low;
+        high = k.high;
+        keeps = keeps_alike _ x (below.image first) _ k.groups (alike.image ∙ sym (ap recovered recovers_first ∙ recovers_once (below.image d))) (alike.lawful ∙ (verdict_sound (below.image d) ready.sound).1) k.keeps;
+      }
+
+  -- what a run makes of a disk that a player was opened over
+  pub played_on : (e : D) → e ≡ last.kernel.store.volume.device.inner → (faulty below).name last.kernel.store.volume.device ≡ (faulty below).name player.kernel.store.volume.device → IsPlayedOn below (faulty below) d e player last
+  played_on e is name = record {
+    now = is;
+    keeps = runs;
+    name = ap below.name is ∙ ap (λ n. n.0) name ∙ ready.name;
+    leaves = subst (λ o. LeavesOnly below.moment below.leaves d o P) (sym is)
+        (joined below.moment below.leaves d first last.kernel.store.volume.device.inner P (leaves_wider below.moment below.leaves d first (RecoversAs (below.image d)) P alike_kept ready.leaves)
+        (record {
+          later = runs.leaves.later;
+          each = λ x left. lower x (runs.leaves.each x left);
+          before = λ t x le left. ⊎_elim (λ was. inl was) (λ k. inr (lower x k)) (runs.leaves.before t x le left);
+          keeps = runs.leaves.keeps;
+        }));
+  }
+    where
+      P : Image → Type 0
+      P = KeepsSome (faulty below) last.kernel
+
+      lower : (x : Image) → KeepsBetween player.kernel.store.volume.log.committed (most_of last.kernel.store.volume) ((faulty below).image last.kernel.opening) last.kernel.world.journal.list x → P x
+      lower x k = record { groups = k.groups; low = omega arith; high = k.high; keeps = k.keeps }
