@@ -3,7 +3,7 @@ use Rattle.std.proofs.Common.{◌≡◌, ℕ, ◌+◌, ◌<◌, true, false, Boo
 use Rattle.std.specs.Prelude.{flat_map}
 use Rattle.std.specs.Io.KnownBytes.{Appends}
 use Rattle.std.proofs.lemmas.List.{flat_map_more, take_more, take-append-drop, take_all}
-use Rattle.std.proofs.KnownBytes.{Appends-nil, Appends-trans}
+use Rattle.std.proofs.KnownBytes.{Appends-trans}
 use Rattle.blocks.specs.declared.disk.Disk.{Ghosts}
 use Rattle.blocks.specs.declared.faulty.Trap.{Trap}
 use Rattle.blocks.specs.declared.errors.DiskFault.{DiskFault}
@@ -20,9 +20,6 @@ pub record PlayedSo {D N : Type 0} (disk : Ghosts (FaultyDisk D) (N × Trap)) (s
   pub events : List Event
   pub lines : Appends text printed (flat_map event_line events)
   pub joins : (more : List Word) (rest : List Event) (new : Player D N) → MakesTurns disk stop more rest now new → MakesTurns disk stop (take k words ++ more) (events ++ rest) old new
-
-pub none_played : {D N : Type 0} (disk : Ghosts (FaultyDisk D) (N × Trap)) (stop : ℕ) (words : List Word) (player : Player D N) (text : Option (List ℕ)) → PlayedSo disk stop words 0 player player text text
-none_played disk stop words player text = record { events = []; lines = Appends-nil text; joins = λ more rest new makes. makes }
 
 -- the next word
 pub next_word : (words : List Word) (k : ℕ) (default : Word) → k < length words → drop k words ≡ get_or words k default ∷ drop (k + 1) words
