@@ -17,3 +17,5 @@ pub mod Turns
 pub mod AtOpening
 pub mod Openings
 mod UnderWay
+mod Lasting
+mod Resting
