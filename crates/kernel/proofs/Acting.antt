@@ -43,7 +43,7 @@ use Rattle.kernel.specs.Next.{NextIf, NextAt, BeginsWith, Ends, step_of, step_be
 use Rattle.kernel.specs.Begins.{Begins}
 use Rattle.kernel.specs.Ports.{KeepsOthers, Asks}
 use Rattle.kernel.specs.State.{State, waiting_of}
-use Rattle.kernel.specs.Steps.{Acts}
+use Rattle.kernel.specs.Steps.{Acts, may_begin}
 use Rattle.kernel.proofs.Events.{not_taken}
 use Rattle.journal.specs.Lemmas.Leaving.{elapses_none, elapses_same}
 
@@ -169,12 +169,13 @@ module _ {D N I M H : Type 0} (disk : disk_trait.Ghosts D N) (intake : intake_tr
   pub acts_at : (r : Step) (a : At) → k.store.volume.fault ≡ None → (process k.world p).at ≡ a
       → NextAt disk a k.store k.world p (intake.side k.intake p).ahead (intake.side m.intake p) (herald.told m.herald) r m.store m.world → UsesDisk disk a p r k.store m.store → m.opening ≡ k.opening
       → KeepsOthers intake p k.intake m.intake → (r ≢ step.Moved → r ≢ step.Answered → IsPrefix (intake.side k.intake p).ahead (intake.side m.intake p).ahead)
-      → (is_busy_at a ≡ true → (intake.side m.intake p).ahead ≡ (intake.side k.intake p).ahead) → Acts disk intake herald p r k m
-  acts_at r a well stands next device opening sides waits ahead = record {
+      → (is_busy_at a ≡ true → (intake.side m.intake p).ahead ≡ (intake.side k.intake p).ahead) → (may_begin k p ≡ false → herald.told m.herald ≡ herald.told k.herald) → Acts disk intake herald p r k m
+  acts_at r a well stands next device opening sides waits ahead told = record {
     next = subst (λ (o : Option DiskFault). NextIf disk o k.store k.world p (intake.side k.intake p).ahead (intake.side m.intake p) (herald.told m.herald) r m.store m.world) (sym well)
         (subst (λ (b : At). NextAt disk b k.store k.world p (intake.side k.intake p).ahead (intake.side m.intake p) (herald.told m.herald) r m.store m.world) (sym stands) next);
     device = subst (λ (b : At). UsesDisk disk b p r k.store m.store) (sym stands) device;
     opening = opening;
+    unasked = told;
     sides = sides;
     waits = waits;
     ahead = λ busy. ahead (ap is_busy_at (sym stands) ∙ busy);
@@ -183,9 +184,9 @@ module _ {D N I M H : Type 0} (disk : disk_trait.Ghosts D N) (intake : intake_tr
   -- who is under way, and leaves what waits
   pub acts_busy : (r : Step) (a : At) → k.store.volume.fault ≡ None → (process k.world p).at ≡ a
       → NextAt disk a k.store k.world p (intake.side k.intake p).ahead (intake.side m.intake p) (herald.told m.herald) r m.store m.world → UsesDisk disk a p r k.store m.store → m.opening ≡ k.opening
-      → KeepsOthers intake p k.intake m.intake → (intake.side m.intake p).ahead ≡ (intake.side k.intake p).ahead → Acts disk intake herald p r k m
-  acts_busy r a well stands next device opening sides same =
-      acts_at r a well stands next device opening sides (λ moved answered. same_prefix (intake.side k.intake p).ahead (intake.side m.intake p).ahead same) (λ busy. same)
+      → KeepsOthers intake p k.intake m.intake → (intake.side m.intake p).ahead ≡ (intake.side k.intake p).ahead → herald.told m.herald ≡ herald.told k.herald → Acts disk intake herald p r k m
+  acts_busy r a well stands next device opening sides same told =
+      acts_at r a well stands next device opening sides (λ moved answered. same_prefix (intake.side k.intake p).ahead (intake.side m.intake p).ahead same) (λ busy. same) (λ never. told)
 
 module _ {D N I M H : Type 0} (disk : disk_trait.Ghosts D N) (intake : intake_trait.Ghosts I M) (herald : herald_trait.Ghosts H) (p : ℕ) (s t : StoreState D) (d : D) (i : I) (h : H) (w z : World) (well : s.volume.fault ≡ None) where
   -- a step of a task before its turn
@@ -193,7 +194,7 @@ module _ {D N I M H : Type 0} (disk : disk_trait.Ghosts D N) (intake : intake_tr
       → Acts disk intake herald p (step_of r) (record { store = s; opening = d; intake = i; herald = h; world = w }) (record { store = t; opening = d; intake = i; herald = h; world = z })
   acts_worked group op r stands steps made =
       acts_busy disk intake herald p (record { store = s; opening = d; intake = i; herald = h; world = w }) (record { store = t; opening = d; intake = i; herald = h; world = z }) (step_of r) (at.Before group op) well stands
-      (record { progress = r; steps = steps; answer = refl; world = made }) (reads disk s t (at.Before group op) p op r step_of refl refl (λ fault. refl) runs steps) refl (sides_same intake p i) refl
+      (record { progress = r; steps = steps; answer = refl; world = made }) (reads disk s t (at.Before group op) p op r step_of refl refl (λ fault. refl) runs steps) refl (sides_same intake p i) refl refl
     where
       runs : (q : TaskProgress) → fault_of_task q ≡ None → step_of q ≢ step.Halted
       runs progress.Moved none e = cc e
@@ -208,7 +209,7 @@ module _ {D N I M H : Type 0} (disk : disk_trait.Ghosts D N) (intake : intake_tr
       → Acts disk intake herald p (step_behind group r) (record { store = s; opening = d; intake = i; herald = h; world = w }) (record { store = t; opening = d; intake = j; herald = h; world = z })
   acts_finished group k j r stands steps made sides ahead =
       acts_busy disk intake herald p (record { store = s; opening = d; intake = i; herald = h; world = w }) (record { store = t; opening = d; intake = j; herald = h; world = z }) (step_behind group r) (at.Behind group k) well stands
-      (record { progress = r; steps = steps; answer = refl; world = made }) (reads disk s t (at.Behind group k) p (entry_in w.journal.list k).op r (step_behind group) refl refl (λ fault. refl) runs steps) refl sides ahead
+      (record { progress = r; steps = steps; answer = refl; world = made }) (reads disk s t (at.Behind group k) p (entry_in w.journal.list k).op r (step_behind group) refl refl (λ fault. refl) runs steps) refl sides ahead refl
     where
       by_group : (g : ℕ) → step_of_last g ≢ step.Halted
       by_group zero e = cc e
@@ -227,22 +228,26 @@ module _ {D N I M H : Type 0} (disk : disk_trait.Ghosts D N) (intake : intake_tr
       runs (progress.Fault fault) none e = cc none
 
   -- an end in the log, after which the intake is j and the herald g
-  pub acts_ended : (group k : ℕ) (j : I) (g : H) (r : Step) → (process w p).at ≡ at.Ending group k → Ends s w p r t z → KeepsOthers intake p i j → (intake.side j p).ahead ≡ (intake.side i p).ahead
+  pub acts_ended : (group k : ℕ) (j : I) (g : H) (r : Step) → (process w p).at ≡ at.Ending group k → Ends s w p r t z → KeepsOthers intake p i j → (intake.side j p).ahead ≡ (intake.side i p).ahead → herald.told g ≡ herald.told h
       → Acts disk intake herald p r (record { store = s; opening = d; intake = i; herald = h; world = w }) (record { store = t; opening = d; intake = j; herald = g; world = z })
-  acts_ended group k j g r stands made sides ahead =
+  acts_ended group k j g r stands made sides ahead told =
       acts_busy disk intake herald p (record { store = s; opening = d; intake = i; herald = h; world = w }) (record { store = t; opening = d; intake = j; herald = g; world = z }) r (at.Ending group k) well stands
-      made (rests disk s t (at.Ending group k) p r refl (λ e. runs (end_answer s.volume.log) (sym made.answer ∙ e)) well (ap (λ (o : StoreState D). o.volume.fault) made.store) (ap (λ (o : StoreState D). o.volume.device) made.store)) refl sides ahead
+      made (rests disk s t (at.Ending group k) p r refl (λ e. runs (end_answer s.volume.log) (sym made.answer ∙ e)) well (ap (λ (o : StoreState D). o.volume.fault) made.store) (ap (λ (o : StoreState D). o.volume.device) made.store)) refl sides ahead told
     where
       runs : (e : Ended) → step_of_end e ≢ step.Halted
       runs ended_as.Commit e = cc e
       runs ended_as.Left e = cc e
 
   -- a write of a commit
-  pub acts_written : (group k : ℕ) (j : I) (g : H) (r : Committed) → (process w p).at ≡ at.Committing group k → Commits disk s r t → z ≡ world_written r w p → KeepsOthers intake p i j → (intake.side j p).ahead ≡ (intake.side i p).ahead
+  pub acts_written : (group k : ℕ) (j : I) (g : H) (r : Committed) → (process w p).at ≡ at.Committing group k → Commits disk s r t → z ≡ world_written r w p → KeepsOthers intake p i j → (intake.side j p).ahead ≡ (intake.side i p).ahead → herald.told g ≡ herald.told h
       → Acts disk intake herald p (step_of_write r) (record { store = s; opening = d; intake = i; herald = h; world = w }) (record { store = t; opening = d; intake = j; herald = g; world = z })
-  acts_written group k j g r stands made is sides ahead =
+  acts_written group k j g r stands made is sides ahead told =
       acts_busy disk intake herald p (record { store = s; opening = d; intake = i; herald = h; world = w }) (record { store = t; opening = d; intake = j; herald = g; world = z }) (step_of_write r) (at.Committing group k) well stands
-      (record { result = r; commits = made; answer = refl; world = is }) (writes disk s t p group k r made) refl sides ahead
+      (record { result = r; commits = made; answer = refl; world = is }) (writes disk s t p group k r made) refl sides ahead told
+
+-- who may begin
+begins_now : {D I H : Type 0} (k : State D I H) (p : ℕ) → k.store.volume.fault ≡ None → k.world.is_shut ≡ false → (process k.world p).at ≡ at.Idle → may_begin k p ≡ true
+begins_now k p well free stands = rw (well, free, stands) refl
 
 -- a beginning changes neither the disk nor its fault, and what waits goes on waiting, but for what is taken
 pub record BeginsStill (D : Type 0) (s : StoreState D) (ahead : List Op) (side : Side) (r : Step) (t : StoreState D) : Type 0 where
@@ -288,3 +293,4 @@ module _ {D N I M H : Type 0} (disk : disk_trait.Ghosts D N) (intake : intake_tr
       })
       (λ moved answered. subst (λ (l : List Op). IsPrefix (intake.side k.intake p).ahead l) (sym (still.waits moved answered)) prefix)
       (λ busy. absurd (false≢true busy))
+      (λ never. absurd (false≢true (sym never ∙ begins_now k p well open_still.0 stands)))

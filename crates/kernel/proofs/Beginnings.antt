@@ -9,6 +9,9 @@ use Rattle.model.specs.Journal.{is_changing, is_at_once, is_number}
 use Rattle.model.specs.Layout.{inode_count_of}
 use Rattle.model.specs.Operations.{is_kind}
 use Rattle.std.specs.Option.{option_map}
+use Rattle.std.specs.Prelude.{IfSome}
+use Rattle.blocks.specs.declared.errors.DiskFault.{DiskFault}
+use Rattle.kernel.specs.Lasting.{Lasts}
 use Rattle.ports.specs.History.{Side, SameNames, OthersStay}
 use Rattle.wal.specs.Machine.{LogState, begun, begin_cause}
 use Rattle.inodes.specs.Lemmas.Faults.{where_none}
@@ -203,11 +206,16 @@ right_shut disk opening s w b right = record {
   paired = record { many = right.paired.many; some = right.paired.some; few = right.paired.few; stand = right.paired.stand };
   counted = record { room = right.counted.room; begun = right.counted.begun; groups = right.counted.groups };
   facts = Rattle.inodes.specs.Lemmas.Faults.if_well s.volume.fault (λ (f : HasFacts disk.image (disk.image opening) s w). record { facts = f.facts; alone = f.alone }) right.facts;
+  lasts = shut_lasts s.volume.fault right.lasts;
   journal = right.journal;
   replays = record { files = right.replays.files; run = right.replays.run };
   keeps = right.keeps;
   faults = right.faults;
 }
+  where
+    shut_lasts : (o : Option DiskFault) → IfSome o (λ (f : DiskFault). Lasts s w) → IfSome o (λ (f : DiskFault). Lasts s (record w { is_shut = b }))
+    shut_lasts None lasts = tt
+    shut_lasts (Some fault) lasts = record { locks = lasts.locks; unanswered = λ k e is none. (let u = lasts.unanswered k e is none in record { late = u.late; group = u.group; behind = u.behind }); left = lasts.left }
 
 -- the first that waits is of this kind
 pub first_waits : {o : Option Op} (n : ℕ) (op : Op) (what : Waiting) → Some op ≡ o → option_map (waiting_of n) o ≡ Some what → waiting_of n op ≡ what

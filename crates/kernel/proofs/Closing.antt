@@ -18,7 +18,7 @@ use Rattle.wal.specs.Machine.{LogState, is_quiet, ended, end_answer}
 use Rattle.wal.specs.Volume.{faults_after}
 use Rattle.inodes.specs.Lemmas.Faults.{where_none}
 use Rattle.inodes.specs.Steps.{Commits}
-use Rattle.inodes.specs.Store.{StoreState, KeepsFiles, with_log}
+use Rattle.inodes.specs.Store.{StoreState, IsStore, KeepsFiles, with_log}
 use Rattle.inodes.specs.Table.{TableState}
 use Rattle.inodes.specs.Tasks.{TaskState, task}
 use Rattle.journal.specs.declared.types.At.{At}
@@ -43,6 +43,7 @@ use Rattle.kernel.proofs.Valid.{HasAgreed, valid_joint}
 use Rattle.journal.specs.Lemmas.Counting.{counted_same}
 use Rattle.kernel.proofs.Pairing.{paired_goes, keeps_behind}
 use Rattle.journal.specs.Lemmas.Places.{there_now, others_stay}
+use Rattle.kernel.proofs.Lasting.{lasts_unwritten}
 use Rattle.kernel.proofs.Right.{right_well, right_failed}
 
 no_homes : (hs : List ℕ) → length hs ≡ 0 → hs ≡ []
@@ -204,9 +205,9 @@ module _ {D N : Type 0} (disk : Ghosts D N) (opening : D) (s : StoreState D) (w 
           (subst (λ (l : LogState). CommitsAlone (ats_of (answered w p)) l) (sym log) (alone_done (ats_of w) (ats_of (answered w p)) s.volume.log had.alone p others_at alone_here (ap is_committing_at at_p) last))
 
     -- the write failed
-    pub right_unwritten : (fault : DiskFault) → r ≡ committed.Fault fault → t.volume.log ≡ s.volume.log → fault.0 ≡ Rattle.wal.specs.Joint.place_at s.volume.log.commit s.volume.log.homes
+    pub right_unwritten : IsStore disk.image s → (fault : DiskFault) → r ≡ committed.Fault fault → t.volume.log ≡ s.volume.log → fault.0 ≡ Rattle.wal.specs.Joint.place_at s.volume.log.commit s.volume.log.homes
         → disk.fault_count t.volume.device ≡ one_more (disk.fault_count s.volume.device) → IsRight disk opening t w
-    right_unwritten fault is log place counts =
+    right_unwritten store fault is log place counts =
         let failed : t.volume.fault ≡ Some fault = made.volume.fault ∙ ap Rattle.wal.specs.Volume.fault_of_step is in
         right_failed disk opening s t w fault right well failed numbers_now
         (paired_goes s t w w p (process w p) right.paired lt (sym (set-get_or w.processes p idle)) (ap (λ (l : List TaskState). length l) made.tasks) (λ q apart. ap (λ (l : List TaskState). task l q) made.tasks) (keeps_behind w w p refl)
@@ -214,4 +215,4 @@ module _ {D N : Type 0} (disk : Ghosts D N) (opening : D) (s : StoreState D) (w 
         (ap (λ (l : LogState). l.opened) log)
         (known_failed (disk.image opening) (view_of disk.image s) w.journal.list (ats_of w) had.facts t.volume fault (disk.image t.volume.device) failed place log none_open
         (made.volume.write.recovers (disk.image t.volume.device) (has_now t.volume.device)) (made.volume.write.lawful (disk.image t.volume.device) (has_now t.volume.device)))
-        counts
+        counts (lasts_unwritten disk opening s w store right t made.tasks made.table log)

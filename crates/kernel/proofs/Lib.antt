@@ -20,3 +20,5 @@ pub mod ShortCauses
 pub mod AtOpening
 pub mod Openings
 mod UnderWay
+mod Lasting
+mod Resting

@@ -16,10 +16,11 @@ use Rattle.journal.specs.declared.types.At.{At}
 use Rattle.journal.specs.declared.types.At.TheVariants as at
 use Rattle.journal.specs.Lemmas.Lists.{last_one}
 use Rattle.journal.specs.Lemmas.Opens.{open_entry, open_last}
-use Rattle.journal.specs.Open.{Held, IsEntry, held_by}
+use Rattle.journal.specs.Open.{Held, IsEntry, held_by, is_late}
 use Rattle.journal.specs.Processes.{World}
 use Rattle.journal.specs.Views.{StandsAt}
 use Rattle.kernel.specs.Invariant.{ArePaired, HasFacts, TaskStands}
+use Rattle.kernel.specs.Lasting.{IsUnderWay}
 use Rattle.kernel.specs.State.{ats_of}
 use Rattle.kernel.specs.View.{held_at, view_of}
 
@@ -59,7 +60,7 @@ module _ {D : Type 0} (image : D → Image) (s : StoreState D) (w : World) (pair
   not_before (place.Leaving k) reads before = absurd (cc reads)
 
   -- an entry without a reply is under way
-  pub under_way : (opening : Image) → HasFacts image opening s w → (k : ℕ) (e : Entry) → IsEntry w.journal.list k e → e.reply ≡ None → (group : ℕ) × (ats_of w e.pid ≡ at.Behind group k)
+  pub under_way : (opening : Image) → HasFacts image opening s w → (k : ℕ) (e : Entry) → IsEntry w.journal.list k e → e.reply ≡ None → IsUnderWay w k e
   under_way opening has k e is none = by_place (ats_of w e.pid) refl (paired.stand e.pid).stands (has.facts.stands e.pid)
     where
       held : held_at (task s.tasks e.pid) ≡ Some (held_by e.op)
@@ -68,11 +69,14 @@ module _ {D : Type 0} (image : D → Image) (s : StoreState D) (w : World) (pair
       reading : owes_reply (task s.tasks e.pid).place ≡ true
       reading = reads (task s.tasks e.pid) (held_by e.op) held
 
-      by_place : (a : At) → ats_of w e.pid ≡ a → TaskStands w.journal.list (task s.tasks e.pid) a → StandsAt (inode_count_of opening) (view_of image s) w.journal.list e.pid a → (group : ℕ) × (ats_of w e.pid ≡ at.Behind group k)
+      late : is_late e.op ≡ true
+      late = (open_entry _ _ w.journal.list k e has.facts.follows.are is none).0
+
+      by_place : (a : At) → ats_of w e.pid ≡ a → TaskStands w.journal.list (task s.tasks e.pid) a → StandsAt (inode_count_of opening) (view_of image s) w.journal.list e.pid a → IsUnderWay w k e
       by_place at.Idle here stands at_entry = absurd (not_over (task s.tasks e.pid).place reading stands)
       by_place (at.Before group op) here stands at_entry = absurd (not_before (task s.tasks e.pid).place reading stands.1)
       by_place (at.Behind group j) here stands at_entry =
           let same : j ≡ k = last_one e.pid w.journal.list j k at_entry.1.1.last (open_last _ _ w.journal.list k e has.facts.follows.are is none) in
-          (group, here ∙ ap (at.Behind group) same)
+          record { late = late; group = group; behind = here ∙ ap (at.Behind group) same }
       by_place (at.Ending group j) here stands at_entry = absurd (not_over (task s.tasks e.pid).place reading stands)
       by_place (at.Committing group j) here stands at_entry = absurd (not_over (task s.tasks e.pid).place reading stands.0)

@@ -54,6 +54,7 @@ use Rattle.kernel.proofs.Valid.{HasAgreed, valid_joint, over_unread, take_number
 use Rattle.journal.specs.Lemmas.Counting.{counted_turned, counted_same}
 use Rattle.kernel.proofs.Pairing.{paired_goes, keeps_behind}
 use Rattle.journal.specs.Lemmas.Places.{there_now, others_stay}
+use Rattle.kernel.proofs.Lasting.{lasts_failed}
 use Rattle.kernel.proofs.Right.{right_well, right_failed}
 
 -- a task that had no turn is not over, nor is one whose reply is to come
@@ -197,7 +198,7 @@ module _ {D N : Type 0} (disk : Ghosts D N) (opening : D) (s : StoreState D) (w 
   fails_with a stands busy fault steps there =
       let kept : KeepsNow t.volume (disk.image opening) es (disk.image s.volume.device) = known_keeps (disk.image opening) before es (ats_of w) had.facts t.volume steps.groups.committed in
       right_failed disk opening s t w fault right well steps.reads.fault steps.tasks.numbers (paired_here (progress.Fault fault) a stands busy steps there) steps.groups.opened
-      (subst (λ (x : Image). KeepsNow t.volume (disk.image opening) es x) (sym steps.reads.device.image) kept) steps.reads.faults
+      (subst (λ (x : Image). KeepsNow t.volume (disk.image opening) es x) (sym steps.reads.device.image) kept) steps.reads.faults (lasts_failed disk opening s w was right p op fault t well steps)
 
   -- BEFORE ITS TURN
   module _ (group : ℕ) (stands : (process w p).at ≡ at.Before group op) where

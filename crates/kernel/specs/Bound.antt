@@ -1,16 +1,20 @@
 -- How many steps an operation has left at most.
 use Rattle.std.specs.Prelude.{◌≡◌, ◌≢◌, ◌<◌, ◌≤◌, ℕ, true}
 use Rattle.inodes.specs.Places.{steps_left}
+use Rattle.inodes.specs.Store.{StoreState}
 use Rattle.inodes.specs.Tasks.{task}
 use Rattle.journal.specs.Bound.{all_steps_left, is_busy_at}
-use Rattle.journal.specs.Processes.{process}
+use Rattle.journal.specs.Processes.{World, process}
 use Rattle.kernel.specs.State.{State}
 
 -- those of a process: of its task, of its end, and of its commit
+abbrev pub left_in : {D : Type 0} → StoreState D → World → ℕ → ℕ
+left_in s w q =
+    all_steps_left (process w q).at
+    (steps_left (task s.tasks q).place s.table.inode_count) s.volume.log
+
 abbrev pub left_of : {D I H : Type 0} → State D I H → ℕ → ℕ
-left_of k q =
-    all_steps_left (process k.world q).at
-    (steps_left (task k.store.tasks q).place k.store.table.inode_count) k.store.volume.log
+left_of k q = left_in k.store k.world q
 
 -- A step that moved process p took one of them, or began an operation that has fewer than 2,000
 -- left. Some are left: the operation goes on.

@@ -1,7 +1,8 @@
 -- What is true of every kernel, between two steps.
-use Rattle.std.specs.Prelude.{◌≡◌, ◌<◌, ◌≤◌, ℕ, true, false, is_none, List, length, IfNone, Option, Some}
+use Rattle.std.specs.Prelude.{◌≡◌, ◌<◌, ◌≤◌, ℕ, true, false, is_none, List, length, IfNone, IfSome, Option, Some}
 use Rattle.blocks.specs.Disk.{Image}
 use Rattle.blocks.specs.declared.disk.Disk as disk_trait
+use Rattle.blocks.specs.declared.errors.DiskFault.{DiskFault}
 use Rattle.model.specs.declared.types.operations.Entry.{Entry}
 use Rattle.model.specs.Files.{Files, files_of}
 use Rattle.model.specs.Gathered.{GatheredBytes}
@@ -26,6 +27,7 @@ use Rattle.journal.specs.Counting.{IsCounted}
 use Rattle.journal.specs.Open.{IsEntry}
 use Rattle.journal.specs.Processes.{World, process}
 use Rattle.journal.specs.Bound.{is_busy_at}
+use Rattle.kernel.specs.Lasting.{Lasts}
 use Rattle.kernel.specs.State.{State, ats_of}
 use Rattle.kernel.specs.View.{view_of}
 
@@ -76,6 +78,7 @@ pub record IsRight {D N : Type 0} (disk : disk_trait.Ghosts D N) (opening : D) (
   pub paired : ArePaired s w
   pub counted : IsCounted s.volume.log.opened w
   pub facts : IfNone s.volume.fault (HasFacts disk.image (disk.image opening) s w)
+  pub lasts : IfSome s.volume.fault (λ (fault : DiskFault). Lasts s w)
   pub journal : IsJournal (inode_count_of (disk.image opening)) s.volume.log.opened w.journal.list
   pub replays : CanReplay (disk.image opening) w
   -- what recovery of the disk gives

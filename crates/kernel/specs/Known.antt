@@ -5,16 +5,15 @@ use Rattle.std.specs.List.{filter}
 use Rattle.blocks.specs.Disk.{Image}
 use Rattle.blocks.specs.declared.disk.Disk as disk_trait
 use Rattle.model.specs.declared.types.operations.Entry.{Entry}
-use Rattle.model.specs.Files.{files_of}
-use Rattle.model.specs.Journal.{kept, own, replay, is_changing}
+use Rattle.model.specs.Files.{Files, files_of}
+use Rattle.model.specs.Journal.{answered, kept, own, replay, is_changing}
 use Rattle.model.specs.Layout.{form_of, inode_count_of}
 use Rattle.model.specs.Log.{cleared}
 use Rattle.model.specs.Verdict.{verdict}
-use Rattle.wal.specs.Machine.{is_quiet}
+use Rattle.bcache.specs.Buffers.{IsCache}
+use Rattle.wal.specs.Machine.{LogState, is_quiet}
 use Rattle.wal.specs.Volume.{faults_after}
-use Rattle.inodes.specs.Looks.{HoldsInode}
-use Rattle.inodes.specs.Places.{asked}
-use Rattle.inodes.specs.Store.{current_of}
+use Rattle.inodes.specs.Store.{FitsFiles, current_of}
 use Rattle.ports.specs.History.{History}
 use Rattle.ports.specs.declared.herald.Herald as herald_trait
 use Rattle.ports.specs.declared.intake.Intake as intake_trait
@@ -22,32 +21,38 @@ use Rattle.journal.specs.declared.types.At.TheVariants as at
 use Rattle.journal.specs.Follows.{IsJournal}
 use Rattle.journal.specs.Histories.{IsHistory}
 use Rattle.journal.specs.Keeps.{HasFilesAfter, KeepsBeginnings, KeepsNow}
-use Rattle.journal.specs.Open.{IsEntry}
-use Rattle.journal.specs.Processes.{process}
+use Rattle.journal.specs.Processes.{World, process}
+use Rattle.kernel.specs.Bound.{left_of}
 use Rattle.kernel.specs.Invariant.{CanReplay, HasHistory}
+use Rattle.kernel.specs.Lasting.{AreUnderWay, HaveLocks}
 use Rattle.kernel.specs.State.{State, ats_of}
+
+-- each process has no operation under way
+abbrev pub AreIdle : World → Type 0
+AreIdle w = (p : ℕ) → ats_of w p ≡ at.Idle
+
+-- no operation is open in the log, and no commit is under way
+pub record IsAtRest (l : LogState) : Type 0 where
+  pub none : l.outstanding ≡ 0
+  pub quiet : is_quiet l.commit ≡ true
 
 -- the current image has the files after all of the journal where no changing operation is under way
 pub record IsCurrent {D I H : Type 0} (image : D → Image) (k : State D I H) : Type 0 where
   pub files : k.store.volume.log.outstanding ≡ 0 → HasFilesAfter (image k.opening)
       (kept (inode_count_of (image k.opening)) k.world.journal.list k.store.volume.log.opened)
       (cleared (current_of image k.store.volume))
-  pub idle : ((p : ℕ) → ats_of k.world p ≡ at.Idle)
+  pub idle : AreIdle k.world
       → replay (form_of (image k.opening)) (files_of (image k.opening))
       k.world.journal.list ≡ Some (files_of (cleared (current_of image k.store.volume)))
+  -- no operation is open then, and no commit under way
+  pub rests : AreIdle k.world → IsAtRest k.store.volume.log
   -- all groups are committed then, but for one that is being committed
   pub settled : k.store.volume.log.outstanding ≡ 0 → is_quiet k.store.volume.log.commit ≡ true
       → k.store.volume.log.committed ≡ k.store.volume.log.opened
-
--- who goes on behind its turn has the lock of its operation's inode, and keeps it until its finish
-abbrev pub HaveLocks : {D I H : Type 0} → State D I H → Type 0
-HaveLocks k = (p group place : ℕ) (e : Entry) → ats_of k.world p ≡ at.Behind group place
-    → IsEntry k.world.journal.list place e → HoldsInode k.store.table p (asked e.op)
-
--- an entry without a reply is that of an operation under way, which goes on behind its turn
-abbrev pub AreUnderWay : {D I H : Type 0} → State D I H → Type 0
-AreUnderWay k = (place : ℕ) (e : Entry) → IsEntry k.world.journal.list place e → e.reply ≡ None
-    → (group : ℕ) × (ats_of k.world e.pid ≡ at.Behind group place)
+  -- whatever is under way, it stands for the files after the entries that have a reply
+  pub stands : (m : Files) → replay (form_of (image k.opening)) (files_of (image k.opening))
+      (answered k.world.journal.list) ≡ Some m → FitsFiles image k.store m
+  pub size : k.store.volume.log.size ≡ length (image k.opening)
 
 -- What any kernel is like. A stop leaves an image that keeps the committed groups.
 pub record Known {D N I M H : Type 0} (disk : disk_trait.Ghosts D N)
@@ -58,8 +63,10 @@ pub record Known {D N I M H : Type 0} (disk : disk_trait.Ghosts D N)
   pub reopens : (x : Image)
       → disk.leaves k.store.volume.device (disk.moment k.store.volume.device) x → verdict x ≡ None
   pub current : IfNone k.store.volume.fault (IsCurrent disk.image k)
-  pub locks : IfNone k.store.volume.fault (HaveLocks k)
-  pub unanswered : IfNone k.store.volume.fault (AreUnderWay k)
+  pub cache : IsCache k.store.volume.buffers
+  pub locks : HaveLocks k.store.table k.world
+  pub unanswered : AreUnderWay k.world
+  pub left : (p : ℕ) → left_of k p < 2000
   pub journal : IsJournal
       (inode_count_of (disk.image k.opening)) k.store.volume.log.opened k.world.journal.list
   pub order : KeepsBeginnings

@@ -6,6 +6,7 @@ pub mod Begins
 pub mod Device
 pub mod Bound
 pub mod Progress
+pub mod Lasting
 pub mod Invariant
 pub mod Known
 pub mod Steps

@@ -1,5 +1,5 @@
 -- The promise of a step.
-use Rattle.std.specs.Prelude.{◌≡◌, ◌≢◌, ℕ, true, length}
+use Rattle.std.specs.Prelude.{◌≡◌, ◌≢◌, ◌&&◌, not, is_none, ℕ, Bool, true, false, length}
 use mathlib.Core.List.{IsPrefix}
 use Rattle.blocks.specs.Disk.{Image, LeavesOnly}
 use Rattle.blocks.specs.declared.disk.Disk as disk_trait
@@ -19,6 +19,11 @@ use Rattle.kernel.specs.Progress.{CountsCommitted, KeepsShutdown}
 use Rattle.journal.specs.Bound.{is_busy_at}
 use Rattle.kernel.specs.State.{State}
 
+-- process p may begin an operation: only then the herald is asked for a shutdown
+abbrev pub may_begin : {D I H : Type 0} → State D I H → ℕ → Bool
+may_begin k p =
+    is_none k.store.volume.fault && not k.world.is_shut && not (is_busy_at (process k.world p).at)
+
 -- What a step of process p does, which answers r and makes m of k.
 pub record Acts {D N I M H : Type 0} (disk : disk_trait.Ghosts D N)
     (intake : intake_trait.Ghosts I M) (herald : herald_trait.Ghosts H) (p : ℕ) (r : Step)
@@ -27,6 +32,7 @@ pub record Acts {D N I M H : Type 0} (disk : disk_trait.Ghosts D N)
       (herald.told m.herald) r m.store m.world
   pub device : UsesDisk disk (process k.world p).at p r k.store m.store
   pub opening : m.opening ≡ k.opening
+  pub unasked : may_begin k p ≡ false → herald.told m.herald ≡ herald.told k.herald
   pub sides : KeepsOthers intake p k.intake m.intake
   -- what waits goes on waiting, but for what is taken
   pub waits : r ≢ step.Moved → r ≢ step.Answered

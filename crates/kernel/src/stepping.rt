@@ -54,11 +54,13 @@ impl<D: Disk, I: Intake, H: Herald> Kernel<D, I, H> {
 
     /// Does nothing: it says what is known of a kernel between two steps, above all what a stop now
     /// leaves: an image that is recovered to a sound one with the opening's files after the
-    /// changing operations of the committed groups, in the order of the journal.
+    /// changing operations of the committed groups, in the order of the journal. It says it anew of
+    /// a kernel of which no step was seen, as one that was got from a lock.
     pub fn known(&self)
         ensures { Known D.Disk I.Intake H.Herald self.now }
     {
         self.store.known();
+        self.store.volume().cache().known();
     }
 
     /// One step of a process: the next of its operation, or the beginning of the one that waits.
@@ -68,7 +70,8 @@ impl<D: Disk, I: Intake, H: Herald> Kernel<D, I, H> {
     /// After a fault of the disk it is `Halted`, and nothing is done. A process with no operation
     /// under way answers, in this order: `ShutDown`, `Idle`, `Sleeping(AnswersFull)`, for what
     /// changes files `Sleeping` with the log's cause, `NoMemory`; else the operation is taken, and
-    /// the step is `Moved`, or `Answered` where it is refused at once. No other step takes memory.
+    /// the step is `Moved`, or `Answered` where it is refused at once. No other step takes memory, by
+    /// test.
     pub fn step(&mut self, pid: u32) -> Step
         requires pid { pid < length self.old.world.processes }
         ensures { MakesStep D.Disk I.Intake H.Herald pid result self.old self.new }

@@ -123,7 +123,7 @@ module _ (opening : Image) (s : View) (es : List Entry) (ats : ℕ → At) (i : 
   known_current none = quiet_files opening s.current s.log s.holds s.fits es i.follows i.journal.groups i.recovers.marks i.valid.store i.valid.log none
 
   -- while none is, it has those after all of the journal
-  idle_used : (n : ℕ) (q : ℕ) (a : At) → a ≡ at.Idle → StandsAt n s es q a → is_some (used_by s.log q) ≡ false
+  pub idle_used : (n : ℕ) (q : ℕ) (a : At) → a ≡ at.Idle → StandsAt n s es q a → is_some (used_by s.log q) ≡ false
   idle_used n q a is stands = let t : StandsAt n s es q at.Idle = subst (λ (b : At). StandsAt n s es q b) is stands in t.1
 
   idle_holds : (n : ℕ) (q : ℕ) (a : At) → a ≡ at.Idle → StandsAt n s es q a → s.holds q ≡ None

@@ -114,7 +114,7 @@ invariant_of-self-in-Fault g c =
     let made : Commits g.D.Disk k.store (committed.Fault c.in-Fault.field-0) t = subst (λ (r : Committed). Commits g.D.Disk k.store r t) c.in-Fault.is c.commit_step-committed.ensures.commits in
     let now : t.volume.fault ≡ fault_of_step (committed.Fault c.in-Fault.field-0) = made.volume.fault in
     record {
-      right = right_unwritten g.D.Disk k.opening.value k.store k.processes c.self.invariant.right h.well c.args.pid h.within h.group h.place h.stands t (committed.Fault c.in-Fault.field-0) made g.met.D.Disk.has_now
+      right = right_unwritten g.D.Disk k.opening.value k.store k.processes c.self.invariant.right h.well c.args.pid h.within h.group h.place h.stands t (committed.Fault c.in-Fault.field-0) made g.met.D.Disk.has_now c.known.ensures.store
           c.in-Fault.field-0 refl made.volume.write.step.log made.volume.write.faults.0 made.volume.write.faults.1;
       ports = ports_counted g.I.Intake g.H.Herald k.intake k.herald l.committed t.volume.log.committed k.processes c.self.invariant.ports (ap (λ (m : LogState). m.committed) made.volume.write.step.log);
     }
@@ -125,7 +125,7 @@ returns-in-More g c =
     let t = c.commit_step-committed.new.self in
     let made : Commits g.D.Disk k.store committed.More t = subst (λ (r : Committed). Commits g.D.Disk k.store r t) c.in-More.is c.commit_step-committed.ensures.commits in
     subst (λ (o : State _ _ _). Acts g.D.Disk g.I.Intake g.H.Herald c.args.pid step.Moved o (record { store = t; opening = k.opening.value; intake = k.intake; herald = k.herald; world = k.processes })) c.self.view_is
-    (acts_written g.D.Disk g.I.Intake g.H.Herald c.args.pid k.store t k.opening.value k.intake k.herald k.processes k.processes h.well h.group h.place k.intake k.herald committed.More h.stands made refl (sides_same g.I.Intake c.args.pid k.intake) refl)
+    (acts_written g.D.Disk g.I.Intake g.H.Herald c.args.pid k.store t k.opening.value k.intake k.herald k.processes k.processes h.well h.group h.place k.intake k.herald committed.More h.stands made refl (sides_same g.I.Intake c.args.pid k.intake) refl refl)
 
 pub returns-in-Durable : goal.returns-in-Durable
 returns-in-Durable g c =
@@ -133,7 +133,7 @@ returns-in-Durable g c =
     let t = c.commit_step-committed.new.self in
     let made : Commits g.D.Disk k.store (committed.Durable c.in-Durable.group) t = subst (λ (r : Committed). Commits g.D.Disk k.store r t) c.in-Durable.is c.commit_step-committed.ensures.commits in
     subst (λ (o : State _ _ _). Acts g.D.Disk g.I.Intake g.H.Herald c.args.pid step.Moved o (record { store = t; opening = k.opening.value; intake = k.intake; herald = c.durable.new.self; world = k.processes })) c.self.view_is
-    (acts_written g.D.Disk g.I.Intake g.H.Herald c.args.pid k.store t k.opening.value k.intake k.herald k.processes k.processes h.well h.group h.place k.intake c.durable.new.self (committed.Durable c.in-Durable.group) h.stands made refl (sides_same g.I.Intake c.args.pid k.intake) refl)
+    (acts_written g.D.Disk g.I.Intake g.H.Herald c.args.pid k.store t k.opening.value k.intake k.herald k.processes k.processes h.well h.group h.place k.intake c.durable.new.self (committed.Durable c.in-Durable.group) h.stands made refl (sides_same g.I.Intake c.args.pid k.intake) refl c.durable.ensures.told)
 
 pub returns-in-Done : goal.returns-in-Done
 returns-in-Done g c =
@@ -141,7 +141,7 @@ returns-in-Done g c =
     let t = c.commit_step-committed.new.self in
     let made : Commits g.D.Disk k.store committed.Done t = subst (λ (r : Committed). Commits g.D.Disk k.store r t) c.in-Done.is c.commit_step-committed.ensures.commits in
     subst (λ (o : State _ _ _). Acts g.D.Disk g.I.Intake g.H.Herald c.args.pid step.Answered o (record { store = t; opening = k.opening.value; intake = c.give.new.intake; herald = k.herald; world = c.give.new.processes })) c.self.view_is
-    (acts_written g.D.Disk g.I.Intake g.H.Herald c.args.pid k.store t k.opening.value k.intake k.herald k.processes c.give.new.processes h.well h.group h.place c.give.new.intake k.herald committed.Done h.stands made c.give.ensures.processes c.give.ensures.gives.keeps c.give.ensures.gives.ahead)
+    (acts_written g.D.Disk g.I.Intake g.H.Herald c.args.pid k.store t k.opening.value k.intake k.herald k.processes c.give.new.processes h.well h.group h.place c.give.new.intake k.herald committed.Done h.stands made c.give.ensures.processes c.give.ensures.gives.keeps c.give.ensures.gives.ahead refl)
 
 pub returns-in-Fault : goal.returns-in-Fault
 returns-in-Fault g c =
@@ -149,4 +149,4 @@ returns-in-Fault g c =
     let t = c.commit_step-committed.new.self in
     let made : Commits g.D.Disk k.store (committed.Fault c.in-Fault.field-0) t = subst (λ (r : Committed). Commits g.D.Disk k.store r t) c.in-Fault.is c.commit_step-committed.ensures.commits in
     subst (λ (o : State _ _ _). Acts g.D.Disk g.I.Intake g.H.Herald c.args.pid step.Halted o (record { store = t; opening = k.opening.value; intake = k.intake; herald = k.herald; world = k.processes })) c.self.view_is
-    (acts_written g.D.Disk g.I.Intake g.H.Herald c.args.pid k.store t k.opening.value k.intake k.herald k.processes k.processes h.well h.group h.place k.intake k.herald (committed.Fault c.in-Fault.field-0) h.stands made refl (sides_same g.I.Intake c.args.pid k.intake) refl)
+    (acts_written g.D.Disk g.I.Intake g.H.Herald c.args.pid k.store t k.opening.value k.intake k.herald k.processes k.processes h.well h.group h.place k.intake k.herald (committed.Fault c.in-Fault.field-0) h.stands made refl (sides_same g.I.Intake c.args.pid k.intake) refl refl)

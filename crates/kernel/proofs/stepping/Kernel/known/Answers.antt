@@ -1,14 +1,16 @@
-use Rattle.std.proofs.Common.{sym, subst}
+use Rattle.std.proofs.Common.{rules, ◌≡◌, ◌∙◌, sym, subst}
+use Rattle.bcache.specs.Buffers.{IsCache}
+use Rattle.bcache.specs.Lemmas.Current.{length-current}
 use Rattle.blocks.specs.Disk.{Image}
-use Rattle.inodes.specs.Lemmas.Faults.{if_well}
 use Rattle.journal.specs.Keeps.{KeepsNow}
 use Rattle.journal.specs.Lemmas.Groups.{all_committed}
-use Rattle.journal.specs.Lemmas.Known.{known_current, known_files, kept_of_taken}
+use Rattle.journal.specs.Lemmas.Known.{known_current, known_files, known_size, kept_of_taken}
 use Rattle.journal.specs.Lemmas.Shapes.{rising_beginnings}
 use Rattle.kernel.specs.Known.{Known}
 use Rattle.kernel.specs.State.{State}
 use Rattle.kernel.proofs.Openings.{opens_again}
-use Rattle.kernel.proofs.UnderWay.{has_lock, under_way}
+use Rattle.kernel.proofs.Lasting.{lasts_now}
+use Rattle.kernel.proofs.Resting.{at_rest, if_both, stands_for}
 use Rattle.kernel.proofs.stepping.Kernel.known.Goals as goal
 
 pub returns : goal.returns
@@ -18,16 +20,23 @@ returns g c =
     let ports = c.self.invariant.ports in
     let keeps : (x : Image) → g.D.Disk.leaves k.store.volume.device (g.D.Disk.moment k.store.volume.device) x → KeepsNow k.store.volume (g.D.Disk.image k.opening.value) k.processes.journal.list x =
     λ x left. subst (λ (y : Image). KeepsNow k.store.volume (g.D.Disk.image k.opening.value) k.processes.journal.list y) (sym (g.met.D.Disk.only_now k.store.volume.device x left)) right.keeps in
+    let buffers : c.cache.result.now ≡ k.store.volume.buffers = search rules in
+    let lasts = lasts_now g.D.Disk k.opening.value k.store k.processes c.known.ensures.store right in
     subst (λ (o : State _ _ _). Known g.D.Disk g.I.Intake g.H.Herald o) c.self.view_is (record {
       keeps = keeps;
       reopens = λ x left. opens_again _ x _ _ (keeps x left).keeps;
-      current = if_well k.store.volume.fault (λ has. record {
+      current = if_both k.store.volume.fault (λ has joint. record {
         files = λ none. known_current _ _ _ _ has.facts none;
         idle = λ all. known_files _ _ _ _ has.facts all;
         settled = λ none quiet. all_committed k.store.volume.log has.facts.valid.log none quiet;
-      }) right.facts;
-      locks = if_well k.store.volume.fault (λ looks. has_lock g.D.Disk.image k.store k.processes right.paired looks) c.known.ensures.store.looks;
-      unanswered = if_well k.store.volume.fault (λ has. under_way g.D.Disk.image k.store k.processes right.paired (g.D.Disk.image k.opening.value) has) right.facts;
+        rests = λ all. at_rest g.D.Disk.image (g.D.Disk.image k.opening.value) k.store k.processes has all;
+        stands = λ m run. stands_for g.D.Disk.image (g.D.Disk.image k.opening.value) k.store k.processes has m run;
+        size = sym joint.size ∙ sym (length-current (g.D.Disk.image k.store.volume.device) k.store.volume.buffers) ∙ known_size _ _ _ _ has.facts;
+      }) right.facts c.known.ensures.volume;
+      cache = subst IsCache buffers c.known-2.ensures;
+      locks = lasts.locks;
+      unanswered = lasts.unanswered;
+      left = lasts.left;
       journal = right.journal;
       order = rising_beginnings _ _ _ right.journal.groups right.journal.rising;
       replays = right.replays;

@@ -1,0 +1,38 @@
+-- The current image and the log, while the disk has not failed.
+use Rattle.std.proofs.Common.{◌≡◌, ℕ, ◌∙◌, sym, ap, subst, Option, Some, None}
+use Rattle.std.specs.Prelude.{IfNone, is_some}
+use Rattle.blocks.specs.Disk.{Image}
+use Rattle.blocks.specs.declared.errors.DiskFault.{DiskFault}
+use Rattle.model.specs.Files.{Files, files_of}
+use Rattle.model.specs.Journal.{answered, replay}
+use Rattle.model.specs.Layout.{form_of}
+use Rattle.wal.specs.Machine.{used_by}
+use Rattle.inodes.specs.Store.{StoreState, FitsFiles}
+use Rattle.journal.specs.Alone.{is_committing_at}
+use Rattle.journal.specs.Lemmas.Groups.{outstanding_none}
+use Rattle.journal.specs.Lemmas.Known.{idle_used}
+use Rattle.journal.specs.Processes.{World}
+use Rattle.model.specs.Layout.{inode_count_of}
+use Rattle.kernel.specs.Invariant.{HasFacts}
+use Rattle.kernel.specs.Known.{AreIdle, IsAtRest}
+use Rattle.kernel.specs.State.{ats_of}
+use Rattle.kernel.specs.View.{view_of}
+
+pub if_both : {R S T : Type 0} (o : Option DiskFault) → (R → S → T) → IfNone o R → IfNone o S → IfNone o T
+if_both None f r s = f r s
+if_both (Some fault) f r s = tt
+
+module _ {D : Type 0} (image : D → Image) (opening : Image) (s : StoreState D) (w : World) (has : HasFacts image opening s w) where
+  -- where all are idle, no operation is open and no commit under way
+  pub at_rest : AreIdle w → IsAtRest s.volume.log
+  at_rest all = record {
+    none = outstanding_none s.volume.log.commit s.volume.log has.facts.valid.log (λ q. idle_used opening (view_of image s) w.journal.list (ats_of w) has.facts (inode_count_of opening) q (ats_of w q) (all q) (has.facts.stands q));
+    quiet = has.alone.quiet (λ q. ap is_committing_at (all q));
+  }
+
+  -- the current image stands for the files after the entries that have a reply
+  pub stands_for : (m : Files) → replay (form_of opening) (files_of opening) (answered w.journal.list) ≡ Some m → FitsFiles image s m
+  stands_for m run =
+      let both : Some has.facts.follows.files ≡ Some m = sym has.facts.follows.run ∙ run in
+      let same : has.facts.follows.files ≡ m = cc both in
+      subst (FitsFiles image s) same has.facts.follows.fits

@@ -1,0 +1,34 @@
+-- What stays true of store and processes after a fault of the disk.
+use Rattle.std.specs.Prelude.{◌≡◌, ◌<◌, ℕ, true, None}
+use Rattle.model.specs.declared.types.operations.Entry.{Entry}
+use Rattle.inodes.specs.Looks.{HoldsInode}
+use Rattle.inodes.specs.Places.{asked}
+use Rattle.inodes.specs.Store.{StoreState}
+use Rattle.inodes.specs.Table.{TableState}
+use Rattle.journal.specs.declared.types.At.TheVariants as at
+use Rattle.journal.specs.Open.{IsEntry, is_late}
+use Rattle.journal.specs.Processes.{World}
+use Rattle.kernel.specs.Bound.{left_in}
+use Rattle.kernel.specs.State.{ats_of}
+
+-- who goes on behind its turn has the lock of its operation's inode, and keeps it until its finish
+abbrev pub HaveLocks : TableState → World → Type 0
+HaveLocks t w = (p group place : ℕ) (e : Entry) → ats_of w p ≡ at.Behind group place
+    → IsEntry w.journal.list place e → HoldsInode t p (asked e.op)
+
+-- the entry at this place is a Read's or a Write's, whose process goes on behind its turn
+pub record IsUnderWay (w : World) (place : ℕ) (e : Entry) : Type 0 where
+  pub late : is_late e.op ≡ true
+  pub group : ℕ
+  pub behind : ats_of w e.pid ≡ at.Behind group place
+
+-- so is each entry without a reply
+abbrev pub AreUnderWay : World → Type 0
+AreUnderWay w = (place : ℕ) (e : Entry) → IsEntry w.journal.list place e → e.reply ≡ None
+    → IsUnderWay w place e
+
+pub record Lasts {D : Type 0} (s : StoreState D) (w : World) : Type 0 where
+  pub locks : HaveLocks s.table w
+  pub unanswered : AreUnderWay w
+  -- each operation has fewer than 2,000 steps left
+  pub left : (p : ℕ) → left_in s w p < 2000
