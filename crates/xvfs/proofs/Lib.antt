@@ -4,3 +4,4 @@ pub mod CommandLines
 pub mod Undone
 pub mod Sequences
 pub mod Catting
+pub mod Opened
