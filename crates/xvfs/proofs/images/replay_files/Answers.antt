@@ -5,13 +5,13 @@ use Rattle.xvfs.proofs.images.replay_files.Goals as goal
 
 pub returns-clause-printed : goal.returns-clause-printed
 returns-clause-printed g c =
-    on_ok_weaker c.replay_disk.result.0 (some_words _ _ _ _ _ _ _ _ (g.O.Write.contents c.args.out.now) (g.O.Write.contents c.replay_disk.new.out) _) c.replay_disk.ensures.printed
+    on_ok_weaker c.replay_disk-ran.result.0 (some_words _ _ _ _ _ _ _ _ (g.O.Write.contents c.args.out.now) (g.O.Write.contents c.replay_disk-ran.new.out) _) c.replay_disk-ran.ensures.printed
 
 pub returns-clause-refused : goal.returns-clause-refused
 returns-clause-refused g c =
-    IfErr-weaker c.replay_disk.result.0 _ _ (some_run _ _ _ _ _ _ _ _ (g.O.Write.contents c.args.out.now) (g.O.Write.contents c.replay_disk.new.out) _) c.replay_disk.ensures.refused
+    IfErr-weaker c.replay_disk-ran.result.0 _ _ (some_run _ _ _ _ _ _ _ _ (g.O.Write.contents c.args.out.now) (g.O.Write.contents c.replay_disk-ran.new.out) _) c.replay_disk-ran.ensures.refused
 
 pub returns-clause-opened : goal.returns-clause-opened
 returns-clause-opened g c =
     let disk = c.in_ok-disk in
-    opens_disk _ _ c.replay_disk.result.0 disk.disk c.replay_disk.result.1 _ _ _ disk.ensures.some disk.ensures.at_most disk.ensures.bytes (λ replays same. record { tasks = _; processes = _; words = _; replays = replays }) c.replay_disk.ensures.printed c.replay_disk.ensures.printed
+    opens_disk _ _ c.replay_disk-ran.result.0 disk.disk c.replay_disk-ran.result.1 _ _ _ disk.ensures.some disk.ensures.at_most disk.ensures.bytes (λ replays same. record { tasks = _; processes = _; words = _; replays = replays }) c.replay_disk-ran.ensures.printed c.replay_disk-ran.ensures.printed
