@@ -1,3 +1,4 @@
+use Rattle.std.proofs.Common.{rules}
 use Rattle.std.proofs.lemmas.Result.{IfErr-weaker, on_ok_weaker}
 use Rattle.xvfs.proofs.Catting.{some_file, some_refusal}
 use Rattle.xvfs.proofs.Opened.{opens_disk}
@@ -14,4 +15,4 @@ returns-clause-refused g c =
 pub returns-clause-opened : goal.returns-clause-opened
 returns-clause-opened g c =
     let disk = c.in_ok-disk in
-    opens_disk _ _ c.cat_disk-shown.result.0 disk.disk c.cat_disk-shown.result.1 _ _ _ disk.ensures.some disk.ensures.at_most disk.ensures.bytes (λ recovers shows. (recovers, shows)) c.cat_disk-shown.ensures.recovered c.cat_disk-shown.ensures.shown
+    opens_disk _ _ c.cat_disk-shown.result.0 disk.disk c.cat_disk-shown.result.1 _ _ _ (search rules) (search rules) (search rules) (λ recovers shows. (recovers, shows)) c.cat_disk-shown.ensures.recovered c.cat_disk-shown.ensures.shown

@@ -1,3 +1,4 @@
+use Rattle.std.proofs.Common.{rules}
 use Rattle.std.proofs.lemmas.Result.{IfErr-weaker, on_ok_weaker}
 use Rattle.xvfs.proofs.Opened.{opens_disk}
 use Rattle.xvfs.proofs.Plays.{some_run, some_words}
@@ -14,4 +15,4 @@ returns-clause-refused g c =
 pub returns-clause-opened : goal.returns-clause-opened
 returns-clause-opened g c =
     let disk = c.in_ok-disk in
-    opens_disk _ _ c.replay_disk-ran.result.0 disk.disk c.replay_disk-ran.result.1 _ _ _ disk.ensures.some disk.ensures.at_most disk.ensures.bytes (λ replays same. record { tasks = _; processes = _; words = _; replays = replays }) c.replay_disk-ran.ensures.printed c.replay_disk-ran.ensures.printed
+    opens_disk _ _ c.replay_disk-ran.result.0 disk.disk c.replay_disk-ran.result.1 _ _ _ (search rules) (search (rules, c.«open».ensures.at_most, c.map_err-3.ensures, c.in_ok-disk.was)) (search (rules, c.«open».ensures.bytes, c.map_err-3.ensures, c.in_ok-disk.was)) (λ replays same. record { tasks = _; processes = _; words = _; replays = replays }) c.replay_disk-ran.ensures.printed c.replay_disk-ran.ensures.printed
