@@ -1,6 +1,7 @@
 -- What a command that shows a file printed.
 use Rattle.std.proofs.Common.{◌≡◌, ℕ, List, Option, inl, inr, ⊎_elim}
 use Rattle.blocks.specs.Disk.{Image}
+use Rattle.blocks.specs.declared.disk.Disk.{Ghosts}
 use Rattle.player.specs.Showing.{IsNotShown, Shows}
 use Rattle.player.specs.declared.faults.CatFault.TheVariants as cat
 use Rattle.player.specs.declared.refusal.Refusal.{Refusal}
@@ -11,19 +12,19 @@ pub some_file : (x : Image) (i : ℕ) (old new : Option (List ℕ)) → Shows x 
 some_file x i old new shows = (x, shows)
 
 -- of a disk whose image no contract names
-pub some_refusal : {D : Type 0} (faults : D → ℕ) (d : D) (x : Image) (i : ℕ) (old new : Option (List ℕ)) (none : Type 0) (r : Refusal) → IsNotShown faults d x i old new none r → OnCatRefusal i old new none r
-some_refusal faults d x i old new none (File fault) why = absurd why
-some_refusal faults d x i old new none (Mkfs fault) why = absurd why
-some_refusal faults d x i old new none (Check fault) why = why
-some_refusal faults d x i old new none (Recover fault) why = why
-some_refusal faults d x i old new none (Open fault) why = why
-some_refusal faults d x i old new none (Script fault) why = absurd why
-some_refusal faults d x i old new none (Schedule fault) why = absurd why
-some_refusal faults d x i old new none (Disk fault) why = ⊎_elim (λ nothing. inl nothing) (λ part. inr (x, part)) why.1
-some_refusal faults d x i old new none (Cat cat.NoFile) why = (x, why.0, why.1)
-some_refusal faults d x i old new none (Cat cat.NoMemory) why = ⊎_elim (λ nothing. inl nothing) (λ part. inr (x, part)) why
-some_refusal faults d x i old new none (Input fault) why = absurd why
-some_refusal faults d x i old new none Output why = tt
+pub some_refusal : {D N : Type 0} (disk : Ghosts D N) (d e : D) (i : ℕ) (old new : Option (List ℕ)) (none : Type 0) (r : Refusal) → IsNotShown disk d e i old new none r → OnCatRefusal i old new none r
+some_refusal disk d e i old new none (File fault) why = why.1
+some_refusal disk d e i old new none (Mkfs fault) why = why.1
+some_refusal disk d e i old new none (Check fault) why = why.1
+some_refusal disk d e i old new none (Recover fault) why = why.1
+some_refusal disk d e i old new none (Open fault) why = why.1
+some_refusal disk d e i old new none (Script fault) why = why.1
+some_refusal disk d e i old new none (Schedule fault) why = why.1
+some_refusal disk d e i old new none (Input fault) why = why.1
+some_refusal disk d e i old new none (Disk fault) why = ⊎_elim (λ nothing. inl nothing) (λ part. inr (disk.image d, part)) why.1
+some_refusal disk d e i old new none (Cat cat.NoFile) why = (disk.image d, why.1, why.2)
+some_refusal disk d e i old new none (Cat cat.NoMemory) why = ⊎_elim (λ nothing. inl nothing) (λ part. inr (disk.image d, part)) why.1
+some_refusal disk d e i old new none Output why = tt
 
 -- by what is known where nothing was printed
 pub cat_refused : (i : ℕ) (old new : Option (List ℕ)) (P Q : Type 0) → (P → Q) → (r : Refusal) → OnCatRefusal i old new P r → OnCatRefusal i old new Q r

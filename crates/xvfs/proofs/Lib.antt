@@ -3,3 +3,4 @@ pub mod Reading
 pub mod Undone
 pub mod Sequences
 pub mod Catting
+pub mod Opened

@@ -1,6 +1,5 @@
 -- A replay prints the turns of some schedule.
 use Rattle.std.proofs.Common.{ℕ, ◌-◌, Bool, true, false, List, [], ◌∷◌, refl, sym, subst, Option, Some, None}
-use Rattle.blocks.specs.Disk.{Image}
 use Rattle.blocks.specs.FaultyDisk.{has_fired}
 use Rattle.blocks.specs.declared.errors.DiskFault.{DiskFault}
 use Rattle.blocks.specs.declared.disk.Disk.{Ghosts}
@@ -16,7 +15,10 @@ use Rattle.kernel.specs.declared.types.Step.{Step}
 use Rattle.player.specs.declared.events.Event.{Event}
 use Rattle.player.specs.declared.turns.Player.{Player}
 use Rattle.player.specs.Events.{is_last}
-use Rattle.player.specs.Opening.{Replays}
+use Rattle.player.specs.Opening.{IsNotReplayed, Replays}
+use Rattle.player.specs.Refusal.{OnRefusal}
+use Rattle.player.specs.declared.refusal.Refusal.{Refusal}
+use Rattle.player.specs.declared.refusal.Refusal.TheVariants.{File, Mkfs, Check, Recover, Open, Script, Schedule, Disk, Cat, Input, Output}
 use Rattle.player.specs.Stepping.{Plain, MakesTurnOf, MakesTurn, MakesTurns}
 use Rattle.player.specs.Turns.{IfLast, event_of}
 use Rattle.xvfs.specs.Turns.{IsTurnOfProcess, IsTurnOf, Plays, PrintsRun}
@@ -46,9 +48,23 @@ plays_of disk stop (first ∷ words) [] old new makes = makes
 plays_of disk stop (first ∷ words) (event ∷ events) old new makes =
     (turn_is disk stop first event old makes.0 makes.1, if_last (is_last event) _ _ _ _ (λ ends. ends.0) (λ more. plays_of disk stop words events makes.0 new more) makes.2)
 
--- a replay prints the turns of some schedule
-pub some_words : {D N : Type 0} (disk : Ghosts (FaultyDisk D) (N × Trap)) (x : Image) (written : ℕ) (tasks : List Task) (processes : ℕ) (words : List Word) (stop : ℕ) (fault : Option DiskFault) (text printed : Option (List ℕ))
-    → Replays disk x written tasks processes words stop fault text printed → (of : List Word) × PrintsRun stop of text printed
-some_words disk x written tasks processes words stop fault text printed replays =
-    let run = replays.runs in
-    (words, (run.events, plays_of disk stop words run.events replays.player run.last run.makes, (disk.write_count run.last.kernel.store.volume.device - disk.write_count replays.player.kernel.store.volume.device, (run.last.kernel.store.volume.log.committed, run.lines))))
+module _ {D N : Type 0} (below : Ghosts D N) (disk : Ghosts (FaultyDisk D) (N × Trap)) (d e : D) (tasks : List Task) (processes : ℕ) (words : List Word) (stop : ℕ) (text printed : Option (List ℕ)) where
+  -- a replay prints the turns of some schedule
+  pub some_words : (fault : Option DiskFault) → Replays below disk d e tasks processes words stop fault text printed → (of : List Word) × PrintsRun stop of text printed
+  some_words fault replays =
+      let run = replays.runs in
+      (words, (run.events, plays_of disk stop words run.events replays.player replays.last run.makes, (disk.write_count replays.last.kernel.store.volume.device - disk.write_count replays.player.kernel.store.volume.device, (replays.last.kernel.store.volume.log.committed, run.lines))))
+
+  -- where it was refused, too, if the disk failed
+  pub some_run : (none : Type 0) (r : Refusal) → IsNotReplayed below disk d e tasks processes words stop text printed none r → OnRefusal r ((of : List Word) × PrintsRun stop of text printed) none
+  some_run none (Disk fault) why = some_words (Some fault) why
+  some_run none Output why = tt
+  some_run none (File fault) why = why.1
+  some_run none (Mkfs fault) why = why.1
+  some_run none (Check fault) why = why.1
+  some_run none (Recover fault) why = why.1
+  some_run none (Open fault) why = why.1
+  some_run none (Script fault) why = why.1
+  some_run none (Schedule fault) why = why.1
+  some_run none (Input fault) why = why.1
+  some_run none (Cat fault) why = why.1

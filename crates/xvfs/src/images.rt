@@ -8,15 +8,16 @@ ghost use Rattle.player.specs.declared.refusal.Refusal.TheVariants as refusal;
 ghost use Rattle.player.specs.Output.{numbers_text};
 ghost use Rattle.player.specs.Refusal.{IsOfCat, IsOfCheck, IsOfMkfs, IsOfRecover, IsOfReplay, OnRefusal};
 ghost use Rattle.scripts.specs.declared.schedule.Word.{Word};
+ghost use Rattle.xvfs.specs.Files.{IsCopied, IsReported, IsRun, IsShown, OpensDisk};
 ghost use Rattle.xvfs.specs.Printed.{OnCatRefusal, PrintsCopied, PrintsFile, PrintsReport};
 ghost use Rattle.xvfs.specs.Turns.{PrintsRun};
 
 use crate::inputs::{schedule_from, script_from};
-use blocks::FileDisk;
+use blocks::{Disk, FaultyDisk, FileDisk};
 use layout::plan;
 use player::{Refusal, cat_disk, check_disk, make_disk, recover_disk, replay_disk};
 use scripts::processes;
-use std::io::Write;
+use std::io::{Read, Write};
 use std::rt::Files;
 
 /// Makes an image of `size` blocks of 1024 bytes with `ninodes` inode numbers in a file at this
@@ -60,6 +61,8 @@ pub fn check_file<R: Files + AllocGlobal, O: Write>(
     out: &mut O,
 ) -> Result<(), Refusal>
     ensures printed { OnOk result (PrintsReport (O.contents out.old) (O.contents out.new)) }
+    ensures opened { OnOk result (OpensDisk R.File.remaining ⟦<FileDisk<R::File> as Disk>⟧.image
+        (IsReported ⟦<FileDisk<R::File> as Disk>⟧ (O.contents out.old) (O.contents out.new))) }
     ensures silent { IfErr result (λ r. r ≢ refusal.Output → out.new ≡ out.old) }
     ensures layers { IfErr result IsOfCheck }
 {
@@ -79,6 +82,8 @@ pub fn recover_file<R: Files + AllocGlobal, O: Write>(
     out: &mut O,
 ) -> Result<(), Refusal>
     ensures printed { OnOk result (PrintsCopied (O.contents out.old) (O.contents out.new)) }
+    ensures opened { OnOk result (OpensDisk R.File.remaining ⟦<FileDisk<R::File> as Disk>⟧.image
+        (IsCopied ⟦<FileDisk<R::File> as Disk>⟧ (O.contents out.old) (O.contents out.new))) }
     ensures silent { IfErr result (λ r. r ≢ refusal.Output → out.new ≡ out.old) }
     ensures layers { IfErr result IsOfRecover }
 {
@@ -98,12 +103,15 @@ pub fn cat_file<R: Files + AllocGlobal, O: Write>(
     out: &mut O,
 ) -> Result<(), Refusal>
     ensures printed { OnOk result (PrintsFile inum (O.contents out.old) (O.contents out.new)) }
+    ensures opened { OnOk result (OpensDisk R.File.remaining ⟦<FileDisk<R::File> as Disk>⟧.image
+        (IsShown ⟦<FileDisk<R::File> as Disk>⟧ inum (O.contents out.old) (O.contents out.new))) }
     ensures layers { IfErr result IsOfCat }
     ensures refused { IfErr result (OnCatRefusal inum (O.contents out.old) (O.contents out.new)
         (out.new ≡ out.old)) }
 {
     let disk = FileDisk::open(rt, image).map_err(Refusal::File)?;
-    cat_disk(rt.alloc(), disk, inum, out)
+    let (shown, _disk) = cat_disk(rt.alloc(), disk, inum, out);
+    shown
 }
 
 /// Recovers the image in the file at this path, and makes the operations of a script in the turns
@@ -123,6 +131,10 @@ pub fn replay_files<R: Files + AllocGlobal, O: Write>(
 ) -> Result<(), Refusal>
     ensures printed { OnOk result ((words : List Word)
         × PrintsRun (unwrap_or stop 0) words (O.contents out.old) (O.contents out.new)) }
+    ensures opened { OnOk result (OpensDisk R.File.remaining ⟦<FileDisk<R::File> as Disk>⟧.image
+        (IsRun ⟦<FileDisk<R::File> as Disk>⟧
+        ⟦<FaultyDisk<FileDisk<R::File>> as Disk>⟧ (unwrap_or stop 0)
+        (O.contents out.old) (O.contents out.new))) }
     ensures layers { IfErr result IsOfReplay }
     ensures refused { IfErr result (λ r. OnRefusal r ((words : List Word) × PrintsRun
         (unwrap_or stop 0) words (O.contents out.old) (O.contents out.new)) (out.new ≡ out.old)) }
@@ -131,7 +143,7 @@ pub fn replay_files<R: Files + AllocGlobal, O: Write>(
     let processes = processes(tasks.as_slice());
     let words = schedule_from(rt, schedule, processes).map_err(Refusal::Schedule)?;
     let disk = FileDisk::open(rt, image).map_err(Refusal::File)?;
-    replay_disk(
+    let (ran, _disk) = replay_disk(
         rt.alloc(),
         disk,
         tasks,
@@ -139,5 +151,6 @@ pub fn replay_files<R: Files + AllocGlobal, O: Write>(
         words.as_slice(),
         stop,
         out,
-    )
+    );
+    ran
 }

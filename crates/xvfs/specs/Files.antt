@@ -1,0 +1,62 @@
+-- What became of the disk in a file that a command opened.
+use Rattle.std.specs.Prelude.{◌≡◌, ◌≤◌, ℕ, List, length, Option, None}
+use Rattle.std.specs.Io.KnownBytes.{Appends}
+use Rattle.blocks.specs.Disk.{Image}
+use Rattle.blocks.specs.File.{IsReadFrom}
+use Rattle.blocks.specs.FileDisk.{file_of}
+use Rattle.blocks.specs.declared.disk.Disk.{Ghosts}
+use Rattle.blocks.specs.declared.faulty.FaultyDisk.{FaultyDisk}
+use Rattle.blocks.specs.declared.faulty.Trap.{Trap}
+use Rattle.blocks.specs.declared.file.FileDisk.{FileDisk}
+use Rattle.model.specs.Files.{file_count, files_of}
+use Rattle.model.specs.Log.{logged_count, recovered}
+use Rattle.model.specs.Verdict.{verdict}
+use Rattle.player.specs.Causes.{IsRecovered}
+use Rattle.player.specs.Opening.{Replays}
+use Rattle.player.specs.Output.{copied_text, report_text}
+use Rattle.player.specs.Showing.{Shows}
+use Rattle.scripts.specs.declared.schedule.Word.{Word}
+use Rattle.scripts.specs.declared.script.Task.{Task}
+
+-- the disk that a file holds, just opened: its blocks were read from the file, one after another,
+-- where that tells of its bytes
+pub record IsOpened {F : Type 0} (remaining : F → Option (List ℕ)) (image : FileDisk F → Image)
+    (d : FileDisk F) : Type 0 where
+  pub some : 1 ≤ length (image d)
+  pub at_most : length (image d) ≤ 8191
+  pub bytes : IsReadFrom remaining (file_of d) (image d)
+
+-- the disk of a file was opened, and is now another, as P says
+abbrev pub OpensDisk : {F : Type 0} → (F → Option (List ℕ)) → (FileDisk F → Image)
+    → (FileDisk F → FileDisk F → Type 0) → Type 0
+OpensDisk {F} remaining image P = (opened : FileDisk F) × ((now : FileDisk F)
+    × IsOpened remaining image opened × P opened now)
+
+-- it was checked, and the report of it printed
+abbrev pub IsReported : {F N : Type 0} → Ghosts (FileDisk F) N → Option (List ℕ) → Option (List ℕ)
+    → FileDisk F → FileDisk F → Type 0
+IsReported disk old new d e = (disk.image e ≡ disk.image d) × (verdict (disk.image d) ≡ None)
+    × Appends old new (report_text (logged_count (disk.image d))
+    (file_count (files_of (recovered (disk.image d)))))
+
+-- it was recovered, and how many blocks were copied was printed
+abbrev pub IsCopied : {F N : Type 0} → Ghosts (FileDisk F) N → Option (List ℕ) → Option (List ℕ)
+    → FileDisk F → FileDisk F → Type 0
+IsCopied disk old new d e = IsRecovered disk (logged_count (disk.image d)) d e
+    × Appends old new (copied_text (logged_count (disk.image d)))
+
+-- it was recovered, and the bytes of its file of a number written
+abbrev pub IsShown : {F N : Type 0} → Ghosts (FileDisk F) N → ℕ → Option (List ℕ)
+    → Option (List ℕ) → FileDisk F → FileDisk F → Type 0
+IsShown disk i old new d e = IsRecovered disk (logged_count (disk.image d)) d e
+    × Shows (disk.image d) i old new
+
+-- it was recovered, a player of some operations was opened over it, and the turns of some words made
+-- and printed
+pub record IsRun {F N : Type 0} (disk : Ghosts (FileDisk F) N)
+    (over : Ghosts (FaultyDisk (FileDisk F)) (N × Trap)) (stop : ℕ) (old new : Option (List ℕ))
+    (d e : FileDisk F) : Type 0 where
+  pub tasks : List Task
+  pub processes : ℕ
+  pub words : List Word
+  pub replays : Replays disk over d e tasks processes words stop None old new
