@@ -1,11 +1,14 @@
 -- How many steps a task has left at most: so few that with those of its operation's end and of a
 -- commit they stay below 2000.
-use Rattle.std.proofs.Common.{◌≡◌, ℕ, ◌+◌, ◌<◌, ◌≤◌, false, cond, Option, Some, None, sym, arith}
+use Rattle.std.proofs.Common.{◌≡◌, ℕ, ◌+◌, ◌<◌, ◌≤◌, false, cond, List, Option, Some, None, sym, arith}
 use Rattle.std.specs.Prelude.{is_none}
 use Rattle.std.proofs.lemmas.Bool.{false≢true}
 use Rattle.blocks.specs.Disk.{Image}
 use Rattle.model.specs.declared.types.image.Dinode.{Dinode}
 use Rattle.model.specs.declared.types.operations.Op.TheVariants.{Read}
+use Rattle.model.specs.Layout.{inode_count_of}
+use Rattle.model.specs.Lemmas.Soundness.{facts_of}
+use Rattle.model.specs.Soundness.{IsLawfulGeometry}
 use Rattle.blockmap.specs.Target.{steps_at}
 use Rattle.blockmap.specs.declared.target.Target.{Target}
 use Rattle.blockmap.specs.declared.target.Target.TheVariants as target
@@ -18,7 +21,7 @@ use Rattle.inodes.specs.declared.itrunc.TruncAt.TheVariants as trunc_at
 use Rattle.inodes.specs.Holding.{HasGivenUp, frees_left, uses_left}
 use Rattle.inodes.specs.Itrunc.{TruncState}
 use Rattle.inodes.specs.LockState.{locks_left}
-use Rattle.inodes.specs.Looks.{LooksAt, IsAtRead}
+use Rattle.inodes.specs.Looks.{AreLooking, LooksAt, IsAtRead}
 use Rattle.inodes.specs.Places.{is_over, looks_left, steps_left}
 use Rattle.inodes.specs.Readi.{ReadState, reads_left}
 use Rattle.inodes.specs.Table.{TableState, copy_at}
@@ -131,3 +134,11 @@ some_step (place.Delivering k) n unfinished = omega arith
 some_step (place.Truncating k m) n unfinished = omega arith
 some_step (place.Writing k m) n unfinished = omega arith
 some_step (place.Leaving k) n unfinished = omega arith
+
+-- any task that a store has
+pub few_in_task : (x : Image) (table : TableState) (p : ℕ) (ts : List TaskState) →
+    IsLawfulGeometry x → table.inode_count ≡ inode_count_of x → AreLooking x table ts →
+    steps_left (task ts p).place table.inode_count < 1937
+few_in_task x table p ts geometry numbers looks =
+    let few = (facts_of x geometry).few in
+    few_steps x table (task ts p) (task ts p).place (omega (arith, few, numbers)) (looks.stand p)
