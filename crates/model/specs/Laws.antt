@@ -10,7 +10,7 @@ use Rattle.model.specs.declared.types.operations.Op.TheVariants.{Create, Write, 
 use Rattle.model.specs.declared.types.operations.Reply.{Reply}
 use Rattle.model.specs.declared.types.operations.Reply.TheVariants.{Made, NoInode, Wrote, Bytes, Done, StatOf, NoFile, BadOffset, TooBig, TooLong, BadType}
 use Rattle.model.specs.Fields.{has_bit}
-use Rattle.model.specs.Log.{is_lawful_log, homes_of, logged_count, recovered}
+use Rattle.model.specs.Log.{cleared, is_lawful_log, homes_of, logged_count, recovered}
 use Rattle.model.specs.Files.{Files, file_in, files_of}
 use Rattle.model.specs.Soundness.{IsLawfulGeometry, IsSound}
 use Rattle.model.specs.Verdict.{verdict}
@@ -120,6 +120,11 @@ abbrev pub SameWhenRecovered : Type 0
 SameWhenRecovered = (x y : Image) → length y ≡ length x →
     Agrees is_outside_log (recovered x) (recovered y) → IsSound (recovered x) →
     IsSound (recovered y) × (files_of (recovered y) ≡ files_of (recovered x))
+
+-- an image with an empty log is sound, and has those files, where it is so with its header emptied
+abbrev pub SameWhenCleared : Type 0
+SameWhenCleared = (x : Image) → logged_count x ≡ 0 → IsSound (cleared x) →
+    IsSound x × (files_of x ≡ files_of (cleared x))
 
 -- the first bits of a block are set, as many as asked for, and no other
 abbrev pub FirstBits : Type 0

@@ -1,5 +1,5 @@
 //! Laws over the definitions, each the contract of a function that does nothing.
-ghost use Rattle.model.specs.Laws.{RecoversOnce, ReplaysInParts, RefusalsKeep, CountStays, RefusalsFirst, AtOnceIsNotChanging, AtOnceIsRefused, HomeWritesKeep, HomesAreRewritten, VerdictIsSound, FramesContents, SameOutsideLog, SameWhenRecovered, FirstBits};
+ghost use Rattle.model.specs.Laws.{RecoversOnce, ReplaysInParts, RefusalsKeep, CountStays, RefusalsFirst, AtOnceIsNotChanging, AtOnceIsRefused, HomeWritesKeep, HomesAreRewritten, VerdictIsSound, FramesContents, SameOutsideLog, SameWhenRecovered, SameWhenCleared, FirstBits};
 
 /// Recovery of what recovery left changes nothing.
 pub fn recovers_once()
@@ -67,6 +67,12 @@ pub fn same_outside_log()
 /// sound one with the same files.
 pub fn same_when_recovered()
     ensures { SameWhenRecovered }
+{}
+
+/// An image with an empty log is sound where it is with its header emptied, and has the same files:
+/// so what is known of a kernel's current image with its header emptied is true of that image.
+pub fn same_when_cleared()
+    ensures { SameWhenCleared }
 {}
 
 /// The first bits of a block are set, as many as asked for, and no other.

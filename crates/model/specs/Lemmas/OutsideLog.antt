@@ -18,7 +18,7 @@ use Rattle.model.specs.Places.{pointers_in, pointers_of, places_of, addresses_in
 use Rattle.model.specs.Files.{file_of, file_at, files_of}
 use Rattle.model.specs.Soundness.{IsSound, IsLawfulInode, IsFilled, count_of, place_count}
 use Rattle.model.specs.Agreement.{Agrees, AgreesFor, IsSameOutsideLog, is_outside_log}
-use Rattle.model.specs.Laws.{SameOutsideLog, SameWhenRecovered}
+use Rattle.model.specs.Laws.{SameOutsideLog, SameWhenRecovered, SameWhenCleared}
 use Rattle.model.specs.Lemmas.Log.{length-recovered}
 use Rattle.model.specs.Lemmas.Recovery.{logged_count-left}
 use Rattle.model.specs.Lemmas.Counts.{All-range, All-range_at}
@@ -145,3 +145,8 @@ same_outside_log x y size agree sound empty =
 pub same_when_recovered : SameWhenRecovered
 same_when_recovered x y size agree sound =
     same_outside_log (recovered x) (recovered y) (length-recovered y ∙ size ∙ sym (length-recovered x)) agree sound (logged_count-left y)
+
+pub same_when_cleared : SameWhenCleared
+same_when_cleared x empty sound =
+    let out = cleared_outside x in
+    same_outside_log (cleared x) x (sym out.size) (λ b outside. sym (out.agree b outside)) sound empty
