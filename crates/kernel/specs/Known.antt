@@ -8,7 +8,7 @@ use Rattle.model.specs.declared.types.operations.Entry.{Entry}
 use Rattle.model.specs.Files.{Files, files_of}
 use Rattle.model.specs.Journal.{answered, kept, own, replay, is_changing}
 use Rattle.model.specs.Layout.{form_of, inode_count_of}
-use Rattle.model.specs.Log.{cleared}
+use Rattle.model.specs.Log.{cleared, logged_count}
 use Rattle.model.specs.Verdict.{verdict}
 use Rattle.bcache.specs.Buffers.{IsCache}
 use Rattle.wal.specs.Machine.{LogState, is_quiet}
@@ -49,6 +49,9 @@ pub record IsCurrent {D I H : Type 0} (image : D → Image) (k : State D I H) : 
   -- all groups are committed then, but for one that is being committed
   pub settled : k.store.volume.log.outstanding ≡ 0 → is_quiet k.store.volume.log.commit ≡ true
       → k.store.volume.log.committed ≡ k.store.volume.log.opened
+  -- between two commits its log is empty
+  pub empty : is_quiet k.store.volume.log.commit ≡ true
+      → logged_count (current_of image k.store.volume) ≡ 0
   -- whatever is under way, it stands for the files after the entries that have a reply
   pub stands : (m : Files) → replay (form_of (image k.opening)) (files_of (image k.opening))
       (answered k.world.journal.list) ≡ Some m → FitsFiles image k.store m

@@ -23,6 +23,7 @@ use Rattle.wal.proofs.LogLemmas.{no_homes, none_added}
 use Rattle.model.specs.Fields.{u32_at}
 use Rattle.model.specs.Lemmas.Log.{zero_header}
 use Rattle.wal.specs.Lemmas.Commits.{logged-same, outside_log}
+use Rattle.wal.specs.Lemmas.Volume.{none_low}
 
 pub homes-same : (x y : Image) → block_at y 2 ≡ block_at x 2 → homes_of y ≡ homes_of x
 homes-same x y same = ap homes_in same
@@ -38,10 +39,6 @@ among_drop b (suc k) (h ∷ hs) out = let parts = or_parts (h == b) (is_among b 
 -- a home is at 33 at least
 pub home_far : (size : ℕ) (hs : List ℕ) (j : ℕ) → AreHomes size hs → j < length hs → 33 ≤ slice_index hs j
 home_far size hs j are lt = (home_facts are).behind j lt
-
--- no slot shows a low block
-none_low : {k : Commit} {x : Image} {l : LogState} (c : Buffers) (b : ℕ) → JointAt k x c l → b < 33 → (j : ℕ) → shows b (buffer c j) ≡ false
-none_low c b joint low j = and_right (buffer c j).valid (is_of b (buffer c j)) (false_from_ne_true (is_of b (buffer c j)) (λ there. omega (arith, (joint.behind j b there).0)))
 
 logs_low : (size m b : ℕ) (x cur : Image) (hs v : List ℕ) → AreHomes size hs → m ≤ length hs → b < 33 → ((j : ℕ) → j < m → 3 + j ≢ b) → Logs m x cur hs → Logs m (set x b v) (set cur b v) hs
 logs_low size m b x cur hs v are few low apart logs j lt =
