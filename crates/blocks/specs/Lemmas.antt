@@ -2,3 +2,4 @@
 -- use.
 pub mod Blocks
 pub mod Moments
+pub mod Reads

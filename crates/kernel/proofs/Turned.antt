@@ -1,5 +1,5 @@
 -- What any turn of a process makes of the others, of the journal, and of where it stands.
-use Rattle.std.proofs.Common.{◌≡◌, ◌≢◌, ◌⊎◌, inl, inr, ℕ, ◌+◌, zero, suc, Bool, true, false, cond, eqb, List, [], ◌∷◌, ◌++◌, length, set, refl, sym, ◌∙◌, ap, Option, Some, None}
+use Rattle.std.proofs.Common.{◌≡◌, ◌≢◌, ◌⊎◌, inl, inr, ℕ, ◌+◌, zero, suc, Bool, true, false, List, [], ◌∷◌, ◌++◌, length, set, refl, sym, ◌∙◌, ap, Option, Some, None}
 use Rattle.std.proofs.lemmas.List.{get_or-set_other, set-get_or}
 use Rattle.blocks.specs.declared.disk.Disk as disk_trait
 use Rattle.blocks.specs.declared.errors.DiskFault.{DiskFault}
@@ -15,7 +15,7 @@ use Rattle.wal.specs.declared.types.Committed.TheVariants as committed
 use Rattle.wal.specs.declared.types.Ended.{Ended}
 use Rattle.wal.specs.declared.types.Ended.TheVariants as ended_as
 use Rattle.wal.specs.Joint.{written_at}
-use Rattle.wal.specs.Machine.{LogState, begun, ended, end_answer, left_by}
+use Rattle.wal.specs.Machine.{LogState, begun, ended, end_answer}
 use Rattle.inodes.specs.Places.{is_over}
 use Rattle.inodes.specs.Steps.{Steps, Commits}
 use Rattle.inodes.specs.Store.{StoreState, first_place, with_begun, with_log, with_look}
@@ -27,6 +27,7 @@ use Rattle.journal.specs.declared.types.At.{At}
 use Rattle.journal.specs.declared.types.At.TheVariants as at
 use Rattle.journal.specs.declared.types.Process.{Process}
 use Rattle.journal.specs.Journal.{entry_in, entry_of}
+use Rattle.journal.specs.Lemmas.Groups.{ended_keeps}
 use Rattle.journal.specs.Open.{told}
 use Rattle.journal.specs.Processes.{World, process, idle, entry_place, place_behind, refusal, turned_from, decided, told_at, over_at, committing_at, with_place}
 use Rattle.kernel.specs.declared.types.Step.{Step}
@@ -97,12 +98,7 @@ module _ {D : Type 0} (q : ℕ) (s t : StoreState D) where
   store_steps disk op r steps = record { tasks = steps.tasks.others; numbers = steps.tasks.numbers; size = steps.groups.size }
 
   size_ended : (l : LogState) (p : ℕ) → (ended l p).size ≡ l.size
-  size_ended l p = by_last (eqb l.outstanding 1) (eqb (length l.homes) 0)
-    where
-      by_last : (b c : Bool) → (cond b (cond c (record (left_by l p) { committed = l.opened }) (record (left_by l p) { commit = commit.Logging 0 })) (left_by l p)).size ≡ l.size
-      by_last true true = refl
-      by_last true false = refl
-      by_last false c = refl
+  size_ended l p = ended_keeps (λ (m : LogState). m.size) l p refl refl refl
 
   store_ended : t ≡ with_log s (ended s.volume.log q) → LeavesStore q s t
   store_ended to = record {

@@ -37,7 +37,8 @@ use Rattle.kernel.specs.declared.types.Step.TheVariants as step
 use Rattle.player.specs.Asking.{IsAnswer, Rests, is_look, is_own_look}
 use Rattle.player.specs.Stepping.{Plain, MakesPlainStep, MakesSteps, Moves, plain_herald, plain_queues}
 use Rattle.player.proofs.Looks.{last_answer_is}
-use Rattle.player.proofs.DiskReads.{looked_at, reads_none, reads_then}
+use Rattle.blocks.specs.Lemmas.Reads.{reads_none, reads_then}
+use Rattle.player.proofs.DiskReads.{looked_at}
 use Rattle.player.proofs.Stages.{HasMore, StageAt, OverAt, busy_stands, commits_none, step_moves, step_answers, step_opens_none}
 
 -- the operation of a kernel's only process waits, or is under way, as it was handed in to k

@@ -55,14 +55,18 @@ pub group_later : (l : LogState) (q g : ℕ) → IsLogAt l.commit l → InGroup 
 group_later l q zero log is some = omega (arith, some)
 group_later l q (suc g) log is some = in_later l q (suc g) log is
 
+-- what neither an end nor what may follow it changes, it keeps
+pub ended_keeps : {T : Type 0} (of : LogState → T) (l : LogState) (p : ℕ) → of (left_by l p) ≡ of l → of (record (left_by l p) { committed = l.opened }) ≡ of l → of (record (left_by l p) { commit = commit.Logging 0 }) ≡ of l → of (ended l p) ≡ of l
+ended_keeps of l p left committed commits = by_last (eqb l.outstanding 1) (eqb (length l.homes) 0)
+  where
+    by_last : (s t : Bool) → of (cond s (cond t (record (left_by l p) { committed = l.opened }) (record (left_by l p) { commit = commit.Logging 0 })) (left_by l p)) ≡ of l
+    by_last true true = committed
+    by_last true false = commits
+    by_last false t = left
+
 -- an end opens no group
 pub ended_opened : (l : LogState) (p : ℕ) → (ended l p).opened ≡ l.opened
-ended_opened l p = by_last (eqb l.outstanding 1) (eqb (length l.homes) 0)
-  where
-    by_last : (s t : Bool) → (cond s (cond t (record (left_by l p) { committed = l.opened }) (record (left_by l p) { commit = commit.Logging 0 })) (left_by l p)).opened ≡ l.opened
-    by_last true true = refl
-    by_last true false = refl
-    by_last false t = refl
+ended_opened l p = ended_keeps (λ (m : LogState). m.opened) l p refl refl refl
 
 -- a write of a commit opens no operation and no group, and ends none
 pub record SameOpen (l m : LogState) : Type 0 where

@@ -1,9 +1,13 @@
--- Reads after reads.
-use Rattle.std.proofs.Common.{◌∙◌, arith}
+-- Reads of a disk, one after the other.
+use Rattle.std.proofs.Common.{◌∙◌, refl, arith}
 use Rattle.blocks.specs.Calls.{OnlyReads}
 use Rattle.blocks.specs.declared.disk.Disk.{Ghosts}
 
 module _ {D N : Type 0} (disk : Ghosts D N) where
+  -- none yet
+  pub reads_none : (d : D) → OnlyReads disk d d
+  reads_none d = record { name = refl; image = refl; writes = refl; time = record { later = omega arith; adds = λ t x le left. left; keeps = λ t x le left. left } }
+
   -- reads, and then reads
   pub reads_then : (old mid new : D) → OnlyReads disk old mid → OnlyReads disk mid new → OnlyReads disk old new
   reads_then old mid new first then_on = record {
