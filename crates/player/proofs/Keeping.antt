@@ -26,9 +26,9 @@ use Rattle.kernel.specs.Runs.{RunsOn, with_shutdown}
 use Rattle.scripts.specs.declared.schedule.Word.{Word}
 use Rattle.scripts.specs.declared.schedule.Word.TheVariants as word
 use Rattle.scripts.specs.declared.script.Task.{Task}
-use Rattle.player.specs.declared.events.Event.{Event}
+use Rattle.texts.specs.declared.events.Event.{Event}
 use Rattle.player.specs.declared.turns.Player.{Player}
-use Rattle.player.specs.Events.{is_last}
+use Rattle.texts.specs.Events.{is_last}
 use Rattle.player.specs.Opening.{IsPlayedOn, IsReadyOver, KeepsSome}
 use Rattle.player.specs.Stepping.{Plain, MakesPlainStep, MakesSteps, MakesTurn, MakesTurns, Moves, plain_herald, plain_queues}
 use Rattle.player.specs.Turns.{IfLast}

@@ -5,7 +5,6 @@ pub mod Reading
 pub mod Openings
 pub mod Steps
 mod Disks
-mod Digits
 pub mod Looks
 pub mod DiskReads
 pub mod Stages

@@ -22,7 +22,7 @@ use Rattle.player.specs.Afterwards.{IsUnopenedOver, RefusesOver}
 use Rattle.player.specs.Backlog.{backlog_at, ops_of}
 use Rattle.player.specs.Opening.{IsOpenedOver}
 use Rattle.player.specs.Stepping.{Plain}
-use Rattle.player.specs.declared.refusal.Refusal.{Refusal}
+use Rattle.texts.specs.declared.refusal.Refusal.{Refusal}
 use Rattle.player.specs.declared.turns.Player.{Player}
 use Rattle.player.proofs.Disks.{faulty}
 use Rattle.player.proofs.Keeping.{leaves_wider, recovers_before}

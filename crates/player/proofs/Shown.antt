@@ -19,9 +19,9 @@ use Rattle.player.specs.Causes.{IsRecovered}
 use Rattle.player.specs.Refusal.{IsOfCat, IsOpening}
 use Rattle.player.specs.Showing.{IsNotShown, IsPartly, IsReaderOf, IsUnwritten, ShowsFile, ShowsFirst, ShowsPart, bytes_at, bytes_of}
 use Rattle.player.specs.Stepping.{Plain}
-use Rattle.player.specs.declared.faults.CatFault.TheVariants as cat
-use Rattle.player.specs.declared.refusal.Refusal.{Refusal}
-use Rattle.player.specs.declared.refusal.Refusal.TheVariants.{File as OfFile, Mkfs, Check, Recover, Open, Script, Schedule, Disk, Cat, Input, Output}
+use Rattle.texts.specs.declared.faults.CatFault.TheVariants as cat
+use Rattle.texts.specs.declared.refusal.Refusal.{Refusal}
+use Rattle.texts.specs.declared.refusal.Refusal.TheVariants.{File as OfFile, Mkfs, Check, Recover, Open, Script, Schedule, Disk, Cat, Input, Output}
 use Rattle.player.proofs.Refused.{told_of_opening}
 
 part_is : (o : Option File) (bytes : List ℕ) (off n : ℕ) → Some bytes ≡ option_map (λ (f : File). part_of f.bytes off n) o → bytes ≡ part_of (bytes_of o) off n

@@ -12,9 +12,9 @@ use Rattle.kernel.specs.Opening.{RefusesToOpen}
 use Rattle.kernel.specs.declared.types.OpenFault.{OpenFault}
 use Rattle.player.specs.Causes.{IsRecovered, IsUnrecovered}
 use Rattle.player.specs.Refusal.{open_refusal}
-use Rattle.player.specs.declared.faults.KernelFault.TheVariants as kernel
-use Rattle.player.specs.declared.refusal.Refusal.{Refusal}
-use Rattle.player.specs.declared.refusal.Refusal.TheVariants.{Open}
+use Rattle.texts.specs.declared.faults.KernelFault.TheVariants as kernel
+use Rattle.texts.specs.declared.refusal.Refusal.{Refusal}
+use Rattle.texts.specs.declared.refusal.Refusal.TheVariants.{Open}
 
 -- the disk d, now e, was recovered, and a call of it failed behind that
 pub record FailsRecovered {D N : Type 0} (disk : Ghosts D N) (d e : D) : Type 0 where

@@ -16,9 +16,9 @@ use Rattle.ports.specs.Queues.{polled, waiting}
 use Rattle.journal.specs.declared.types.At.TheVariants as at
 use Rattle.journal.specs.Processes.{process}
 use Rattle.player.specs.Stepping.{Plain}
-use Rattle.player.specs.declared.faults.CatFault.TheVariants as cat
-use Rattle.player.specs.declared.refusal.Refusal.{Refusal}
-use Rattle.player.specs.declared.refusal.Refusal.TheVariants.{Disk, Cat}
+use Rattle.texts.specs.declared.faults.CatFault.TheVariants as cat
+use Rattle.texts.specs.declared.refusal.Refusal.{Refusal}
+use Rattle.texts.specs.declared.refusal.Refusal.TheVariants.{Disk, Cat}
 
 -- an operation that looks at a file, and changes none
 abbrev pub is_look : Op → Bool

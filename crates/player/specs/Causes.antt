@@ -12,8 +12,8 @@ use Rattle.model.specs.Verdict.{verdict}
 use Rattle.model.specs.declared.types.image.Form.TheVariants.{One}
 use Rattle.wal.specs.Recovery.{writes_to_recover}
 use Rattle.wal.specs.declared.faults.RecoverFault.TheVariants as recover
-use Rattle.player.specs.declared.refusal.Refusal.{Refusal}
-use Rattle.player.specs.declared.refusal.Refusal.TheVariants.{Mkfs, Check, Recover, Output}
+use Rattle.texts.specs.declared.refusal.Refusal.{Refusal}
+use Rattle.texts.specs.declared.refusal.Refusal.TheVariants.{Mkfs, Check, Recover, Output}
 
 -- the disk d, now e, was not checked, or what was found could not be printed
 abbrev pub IsUnchecked : {D : Type 0} → (D → Image) → (D → ℕ) → D → D → Refusal → Type 0

@@ -1,9 +1,6 @@
-pub mod Telling
 pub mod Refusal
-pub mod Output
 pub mod Causes
 pub mod Afterwards
-pub mod Events
 pub mod Inputs
 pub mod Turns
 pub mod Backlog

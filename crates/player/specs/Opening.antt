@@ -24,8 +24,8 @@ use Rattle.wal.specs.Recovery.{RecoversAs, writes_to_recover}
 use Rattle.player.specs.Afterwards.{IsUnready}
 use Rattle.player.specs.Backlog.{backlog_at, ops_of}
 use Rattle.player.specs.Stepping.{BreaksOff, Plain, RunsTo}
-use Rattle.player.specs.declared.refusal.Refusal.{Refusal}
-use Rattle.player.specs.declared.refusal.Refusal.TheVariants.{Disk, Output}
+use Rattle.texts.specs.declared.refusal.Refusal.{Refusal}
+use Rattle.texts.specs.declared.refusal.Refusal.TheVariants.{Disk, Output}
 use Rattle.player.specs.declared.turns.Player.{Player}
 
 -- The player of these operations, of so many processes, over a disk whose image was x: the image

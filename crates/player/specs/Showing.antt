@@ -12,9 +12,9 @@ use Rattle.player.specs.Afterwards.{FailsRecovered, IsUnopened}
 use Rattle.player.specs.Asking.{Rests}
 use Rattle.player.specs.Causes.{IsRecovered}
 use Rattle.player.specs.Stepping.{Plain}
-use Rattle.player.specs.declared.faults.CatFault.TheVariants.{NoFile, NoMemory}
-use Rattle.player.specs.declared.refusal.Refusal.{Refusal}
-use Rattle.player.specs.declared.refusal.Refusal.TheVariants.{Disk, Cat, Output}
+use Rattle.texts.specs.declared.faults.CatFault.TheVariants.{NoFile, NoMemory}
+use Rattle.texts.specs.declared.refusal.Refusal.{Refusal}
+use Rattle.texts.specs.declared.refusal.Refusal.TheVariants.{Disk, Cat, Output}
 
 -- the file of number i of image x was written, all its bytes and nothing else
 pub record ShowsFile (x : Image) (i : ℕ) (old new : Option (List ℕ)) : Type 0 where

@@ -21,14 +21,14 @@ use Rattle.kernel.specs.Runs.{with_shutdown}
 use Rattle.kernel.specs.State.{State}
 use Rattle.kernel.specs.Steps.{MakesStep}
 use Rattle.player.specs.declared.backlog.Backlog.{Backlog}
-use Rattle.player.specs.declared.events.Event.{Event}
-use Rattle.player.specs.declared.events.Event.TheVariants.{Shut}
+use Rattle.texts.specs.declared.events.Event.{Event}
+use Rattle.texts.specs.declared.events.Event.TheVariants.{Shut}
 use Rattle.player.specs.declared.turns.Player.{Player}
 use Rattle.player.specs.Backlog.{backlog_at, HasHandedIn}
-use Rattle.player.specs.declared.refusal.Refusal.{Refusal}
-use Rattle.player.specs.declared.refusal.Refusal.TheVariants.{Disk, Output}
-use Rattle.player.specs.Events.{event_line, is_last}
-use Rattle.player.specs.Output.{counts_text}
+use Rattle.texts.specs.declared.refusal.Refusal.{Refusal}
+use Rattle.texts.specs.declared.refusal.Refusal.TheVariants.{Disk, Output}
+use Rattle.texts.specs.Events.{event_line, is_last}
+use Rattle.texts.specs.Output.{counts_text}
 use Rattle.player.specs.Turns.{IfLast, event_of, told_fault}
 
 -- a kernel over plain queues

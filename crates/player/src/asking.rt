@@ -4,14 +4,13 @@ ghost use Rattle.blocks.specs.Calls.{OnlyReads};
 ghost use Rattle.kernel.specs.declared.types.Step.TheVariants as step_is;
 ghost use Rattle.player.specs.Asking.{IsAnswer, IsUnanswered, Rests, bytes_told, is_look, part_at, size_at, size_in};
 
-use crate::faults::CatFault;
-use crate::refusal::Refusal;
 use crate::stepping::make_steps;
 use blocks::Disk;
 use kernel::{Kernel, Step};
 use model::content::Content;
 use model::types::{Op, Reply};
 use ports::{PlainHerald, QueueIntake};
+use texts::{CatFault, Refusal};
 
 /// The length of the file of a number; None where there is no such file.
 ///

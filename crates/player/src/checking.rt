@@ -1,21 +1,19 @@
 // A check of a disk's image, and what it prints.
-ghost use Rattle.std.specs.Prelude.{◌≡◌, ◌≢◌, OnOk, IfErr, IsOkUnless, None};
+ghost use Rattle.std.specs.Prelude.{◌≡◌, ◌≢◌, OnOk, IfErr, None};
 ghost use Rattle.std.specs.Io.KnownBytes.{Appends};
 ghost use Rattle.blocks.specs.Calls.{OnlyReads};
 ghost use Rattle.model.specs.Files.{file_count, files_of};
 ghost use Rattle.model.specs.Log.{logged_count, recovered};
 ghost use Rattle.model.specs.Verdict.{verdict};
-ghost use Rattle.player.specs.declared.refusal.Refusal.TheVariants as refusal;
-ghost use Rattle.player.specs.Output.{report_text};
+ghost use Rattle.texts.specs.declared.refusal.Refusal.TheVariants as refusal;
+ghost use Rattle.texts.specs.Output.{report_text};
 ghost use Rattle.player.specs.Causes.{IsUnchecked};
 
-use crate::output::print_last;
-use crate::refusal::Refusal;
 use blocks::Disk;
-use itoa::Buffer;
-use layout::{Report, check};
+use layout::check;
 use std::alloc::Global;
 use std::io::Write;
+use texts::{Refusal, print_report};
 
 /// Checks the image of a disk, and prints how many blocks its log holds and how many files there
 /// are once they are copied home. It writes no block.
@@ -37,16 +35,5 @@ pub fn check_disk<D: Disk, O: Write>(
     ensures silent { IfErr result (λ r. r ≢ refusal.Output → out.new ≡ out.old) }
 {
     let report = check(alloc, disk)?;
-    print_report(&report, out)
-}
-
-fn print_report<O: Write>(report: &Report, out: &mut O) -> Result<(), Refusal>
-    ensures ok { OnOk result (Appends (O.contents out.old) (O.contents out.new)
-        (report_text report.now.logged report.now.files)) }
-    ensures err { IsOkUnless result refusal.Output }
-{
-    let mut buffers = (Buffer::new(), Buffer::new());
-    let logged = buffers.0.format(report.logged);
-    let files = buffers.1.format(report.files);
-    print_last(out, format_args!("sound log {logged} files {files}\n"))
+    print_report(out, &report)
 }

@@ -1,7 +1,7 @@
 //! What the program's commands do, as functions over any disk and any output: an image is made,
 //! checked or recovered, the bytes of one of its files are written, and a script's operations are
-//! made in the turns of a schedule. Each prints its answer; a refusal names the layer, and that
-//! layer's fault.
+//! made in the turns of a schedule. Each prints its answer, by the texts of `texts`; a refusal names
+//! the layer, and that layer's fault.
 //!
 //! No function here opens a file, and none reads the words of a command line.
 #![tactic(auto)]
@@ -9,14 +9,10 @@
 mod asking;
 mod backlog;
 mod checking;
-mod events;
-mod faults;
 mod inputs;
 mod making;
-mod output;
 mod playing;
 mod recovering;
-mod refusal;
 mod replaying;
 mod showing;
 mod stepping;
@@ -25,14 +21,9 @@ mod turns;
 
 pub use backlog::Backlog;
 pub use checking::check_disk;
-pub use events::Event;
-pub use faults::{CatFault, InputFault, KernelFault, input_unread};
 pub use inputs::{schedule_from, schedule_unread, script_from, script_unread};
 pub use making::make_disk;
-pub use output::{print, print_last};
 pub use recovering::{recover_disk, recover_image};
-pub use refusal::Refusal;
 pub use replaying::replay_disk;
 pub use showing::cat_disk;
-pub use told::{Fault, Told};
 pub use turns::{Outcome, Player, open_player};

@@ -1,20 +1,18 @@
 // A new image on a disk, and what is printed of it.
-ghost use Rattle.std.specs.Prelude.{◌≡◌, ◌≢◌, OnOk, IfErr, IsOkUnless};
+ghost use Rattle.std.specs.Prelude.{◌≡◌, ◌≢◌, OnOk, IfErr};
 ghost use Rattle.std.specs.Io.KnownBytes.{Appends};
 ghost use Rattle.blocks.specs.Disk.{LeavesOnly};
 ghost use Rattle.layout.specs.Making.{IsMadeInPart, Makes};
 ghost use Rattle.model.specs.Layout.{planned_super};
-ghost use Rattle.player.specs.declared.refusal.Refusal.TheVariants as refusal;
-ghost use Rattle.player.specs.Output.{numbers_text};
+ghost use Rattle.texts.specs.declared.refusal.Refusal.TheVariants as refusal;
+ghost use Rattle.texts.specs.Output.{numbers_text};
 ghost use Rattle.player.specs.Causes.{IsUnmade};
 
-use crate::output::print_last;
-use crate::refusal::Refusal;
 use blocks::Disk;
-use itoa::Buffer;
-use layout::{Super, mkfs, plan};
+use layout::{mkfs, plan};
 use std::alloc::Global;
 use std::io::Write;
+use texts::{Refusal, print_numbers};
 
 /// Makes an image of `size` blocks of 1024 bytes with `ninodes` inode numbers on a disk of that
 /// size, and prints its numbers.
@@ -40,20 +38,5 @@ pub fn make_disk<D: Disk, O: Write>(
 {
     let fields = plan(size, ninodes).map_err(Refusal::Mkfs)?;
     mkfs(alloc, disk, size, ninodes).map_err(Refusal::Mkfs)?;
-    print_numbers(&fields, out)
-}
-
-fn print_numbers<O: Write>(fields: &Super, out: &mut O) -> Result<(), Refusal>
-    ensures ok { OnOk result (Appends (O.contents out.old) (O.contents out.new)
-        (numbers_text fields.now)) }
-    ensures err { IsOkUnless result refusal.Output }
-{
-    let mut buffers = (Buffer::new(), Buffer::new(), Buffer::new());
-    let size = buffers.0.format(fields.size);
-    let ninodes = buffers.1.format(fields.ninodes);
-    let nblocks = buffers.2.format(fields.nblocks);
-    print_last(
-        out,
-        format_args!("size {size} ninodes {ninodes} nblocks {nblocks}\n"),
-    )
+    print_numbers(out, &fields)
 }

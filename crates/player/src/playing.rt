@@ -3,19 +3,16 @@ ghost use Rattle.std.specs.Prelude.{◌≡◌, ◌≢◌, OnOk, IsTrue, IfErr, I
 ghost use Rattle.std.specs.Io.KnownBytes.{Appends};
 ghost use Rattle.std.specs.List.{list_all};
 ghost use Rattle.scripts.specs.Schedule.{is_word_of};
-ghost use Rattle.player.specs.declared.refusal.Refusal.TheVariants as refusal;
-ghost use Rattle.player.specs.Output.{counts_text};
+ghost use Rattle.texts.specs.declared.refusal.Refusal.TheVariants as refusal;
 ghost use Rattle.player.specs.Stepping.{BreaksOff, IsBrokenOff, PlaysTo, RunsTo, kernel_counts, kernel_fault};
 ghost use Rattle.kernel.specs.Runs.{RunsOn};
 ghost use Rattle.player.specs.Refusal.{OnRefusal};
 
-use crate::output::{print, print_last};
-use crate::refusal::Refusal;
 use crate::turns::Player;
 use blocks::{Disk, FaultyDisk};
-use itoa::Buffer;
 use scripts::Word;
 use std::io::Write;
+use texts::{Refusal, print, print_counts};
 
 /// Makes the turns of the words over a disk that had counted `base` writes before them, and prints
 /// what they came to. The write of number `stop` isn't made. The processes that the words name are
@@ -85,23 +82,9 @@ fn close<D: Disk + Drop, O: Write>(
         → option_map refusal.Disk (kernel_fault player.now.kernel) ≡ Some r) }
 {
     let outcome = player.outcome(base);
-    print_counts(outcome.writes, outcome.committed, out)?;
+    print_counts(out, outcome.writes, outcome.committed)?;
     match outcome.fault {
         Some(fault) => Err(Refusal::Disk(fault)),
         None => Ok(()),
     }
-}
-
-fn print_counts<O: Write>(writes: u64, committed: u64, out: &mut O) -> Result<(), Refusal>
-    ensures ok { OnOk result
-        (Appends (O.contents out.old) (O.contents out.new) (counts_text writes committed)) }
-    ensures err { IsOkUnless result refusal.Output }
-{
-    let mut buffers = (Buffer::new(), Buffer::new());
-    let writes = buffers.0.format(writes);
-    let committed = buffers.1.format(committed);
-    print_last(
-        out,
-        format_args!("writes {writes}\ncommitted {committed}\n"),
-    )
 }

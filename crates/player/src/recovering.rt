@@ -1,20 +1,18 @@
 // A recovery of a disk's image, and what it prints.
-ghost use Rattle.std.specs.Prelude.{◌≡◌, ◌≢◌, IfOk, OnOk, IfErr, IsOkUnless};
+ghost use Rattle.std.specs.Prelude.{◌≡◌, ◌≢◌, IfOk, OnOk, IfErr};
 ghost use Rattle.std.specs.Io.KnownBytes.{Appends};
 ghost use Rattle.blocks.specs.Disk.{LeavesOnly};
 ghost use Rattle.model.specs.Log.{logged_count};
 ghost use Rattle.wal.specs.Recovery.{RecoversAs};
-ghost use Rattle.player.specs.declared.refusal.Refusal.TheVariants as refusal;
+ghost use Rattle.texts.specs.declared.refusal.Refusal.TheVariants as refusal;
 ghost use Rattle.player.specs.Causes.{IsRecovered, IsUnrecovered};
-ghost use Rattle.player.specs.Output.{copied_text};
+ghost use Rattle.texts.specs.Output.{copied_text};
 
-use crate::output::print_last;
-use crate::refusal::Refusal;
 use blocks::Disk;
-use itoa::Buffer;
 use layout::check;
 use std::alloc::Global;
 use std::io::Write;
+use texts::{Refusal, print_copied};
 use wal::recover;
 
 /// Checks the image of a disk, copies the blocks of its log home, and prints how many these were.
@@ -42,7 +40,7 @@ pub fn recover_disk<D: Disk, O: Write>(
         (RecoversAs (D.image disk.old)) }
 {
     let copied = recover_image(alloc, disk)?;
-    print_copied(copied, out)
+    print_copied(out, copied)
 }
 
 /// Checks the image of a disk, and then recovers it. How many blocks were copied home.
@@ -63,14 +61,4 @@ pub fn recover_image<D: Disk>(alloc: Global, disk: &mut D) -> Result<u32, Refusa
         Ok(copied) => Ok(copied),
         Err(fault) => Err(Refusal::Recover(fault)),
     }
-}
-
-fn print_copied<O: Write>(copied: u32, out: &mut O) -> Result<(), Refusal>
-    ensures ok { OnOk result (Appends (O.contents out.old) (O.contents out.new)
-        (copied_text copied)) }
-    ensures err { IsOkUnless result refusal.Output }
-{
-    let mut buffer = Buffer::new();
-    let copied = buffer.format(copied);
-    print_last(out, format_args!("recovered {copied}\n"))
 }

@@ -7,12 +7,12 @@ ghost use Rattle.player.specs.Refusal.{IsOfReplay, IsOpening};
 
 use crate::playing::run;
 use crate::recovering::recover_image;
-use crate::refusal::Refusal;
 use crate::turns::{Player, open_player};
 use blocks::{Disk, FaultyDisk};
 use scripts::{Task, Word};
 use std::alloc::Global;
 use std::io::Write;
+use texts::Refusal;
 
 /// Recovers the image of a disk, and makes the operations of a script of so many processes in the
 /// turns of a schedule. Prints a line for each word of the schedule, up to the one in whose turn

@@ -12,14 +12,13 @@ ghost use Rattle.player.specs.Refusal.{IsOfCat};
 ghost use Rattle.player.specs.Showing.{IsNotShown, IsPartly, IsReaderOf, IsUnwritten, Shows, ShowsFile, bytes_at};
 
 use crate::asking::{piece_of, size_of};
-use crate::faults::{CatFault, KernelFault};
-use crate::output::{pass_on, write_bytes};
-use crate::refusal::Refusal;
+use crate::told::open_refusal;
 use blocks::Disk;
 use kernel::Kernel;
 use ports::{PlainHerald, QueueIntake};
 use std::alloc::Global;
 use std::io::Write;
+use texts::{CatFault, KernelFault, Refusal, pass_on, write_bytes};
 
 // The bytes that are read at once.
 const PIECE: u32 = 3072;
@@ -73,7 +72,7 @@ fn open_reader<D: Disk + Drop>(
     };
     match Kernel::open(alloc, disk, intake, PlainHerald::new(), 1) {
         Ok(kernel) => Ok(kernel),
-        Err((fault, disk)) => Err((fault.into(), disk)),
+        Err((fault, disk)) => Err((open_refusal(fault), disk)),
     }
 }
 

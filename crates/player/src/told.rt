@@ -1,46 +1,35 @@
-// How a fault is told.
+// What a kernel answers, as the texts tell it.
 ghost use Rattle.std.specs.Prelude.{◌≡◌};
-ghost use Rattle.player.specs.Telling.{Telling, naming, plain, telling_of};
+ghost use Rattle.player.specs.Refusal.{open_refusal};
+ghost use Rattle.player.specs.Turns.{progress_of};
 
-/// How a fault is told: its number among those of its layer, from 1, its name, and the inode, the
-/// block, the line or the word that it names, if any.
-#[derive(Clone, Copy)]
-pub struct Told {
-    pub(crate) number: u32,
-    pub(crate) name: &'static str,
-    pub(crate) argument: Option<u32>,
-}
+use kernel::{OpenFault, Step};
+use texts::{KernelFault, Progress, Refusal};
 
-impl Told {
-    /// A fault that names nothing.
-    pub fn new(number: u32, name: &'static str) -> Told
-        ensures { telling_of result ≡ plain number name.now }
-    {
-        Told {
-            number,
-            name,
-            argument: None,
-        }
-    }
-
-    /// A fault that names an inode, a block, a line or a word.
-    pub fn naming(number: u32, name: &'static str, argument: u32) -> Told
-        ensures { telling_of result ≡ naming number name.now argument }
-    {
-        Told {
-            number,
-            name,
-            argument: Some(argument),
-        }
+/// Why a kernel wasn't opened. A fault of the check or of the recovery inside is told as its own
+/// layer's.
+pub fn open_refusal(fault: OpenFault) -> Refusal
+    ensures { result ≡ open_refusal fault }
+{
+    match fault {
+        OpenFault::Check(fault) => Refusal::Check(fault),
+        OpenFault::Recover(fault) => Refusal::Recover(fault),
+        OpenFault::NoMemory => Refusal::Open(KernelFault::NoMemory),
+        OpenFault::ProcRange => Refusal::Open(KernelFault::ProcRange),
     }
 }
 
-/// A fault of a layer.
-pub trait Fault {
-    /// How it is told.
-    ghost telling: { Self → Telling };
-
-    /// How it is told.
-    fn told(&self) -> Told
-        ensures { telling_of result ≡ telling self.now };
+/// What a step came to that was answered so.
+pub fn progress_of(step: Step) -> Progress
+    ensures { result ≡ progress_of step }
+{
+    match step {
+        Step::Moved => Progress::Moved,
+        Step::Answered => Progress::Answered,
+        Step::Sleeping(why) => Progress::Sleeping(why),
+        Step::Idle => Progress::Idle,
+        Step::NoMemory => Progress::NoMemory,
+        Step::ShutDown => Progress::ShutDown,
+        Step::Halted => Progress::Halted,
+    }
 }

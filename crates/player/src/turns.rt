@@ -14,16 +14,15 @@ ghost use Rattle.player.specs.Opening.{IsArmed, IsOpenedOver};
 ghost use Rattle.player.specs.Turns.{event_of};
 
 use crate::backlog::{Backlog, backlogs_of};
-use crate::events::Event;
-use crate::faults::KernelFault;
-use crate::refusal::Refusal;
 use crate::stepping::make_steps;
+use crate::told::{open_refusal, progress_of};
 use blocks::{Disk, DiskFault, FaultyDisk, Kind};
 use kernel::{Kernel, Step};
 use model::types::Answer;
 use ports::{PlainHerald, QueueIntake};
 use scripts::{Task, Word};
 use std::alloc::Global;
+use texts::{Event, KernelFault, Refusal};
 
 /// A kernel over plain queues and a disk of which one write may be stopped, and the operations of a
 /// script that wait to be handed in.
@@ -101,7 +100,7 @@ pub fn open_player<D: Disk + Drop>(
     let disk = FaultyDisk::new(disk, stop, Kind::WriteOld);
     match Kernel::open(alloc, disk, intake, PlainHerald::new(), processes) {
         Ok(kernel) => Ok(Player { kernel, backlogs }),
-        Err((fault, disk)) => Err((fault.into(), disk.into_inner())),
+        Err((fault, disk)) => Err((open_refusal(fault), disk.into_inner())),
     }
 }
 
@@ -222,6 +221,6 @@ fn event_of(fired: bool, stop: u64, pid: u32, step: Step, answer: Option<Answer>
     }
     match answer {
         Some(answer) => Event::Answered(pid, answer),
-        None => Event::Stepped(pid, step),
+        None => Event::Stepped(pid, progress_of(step)),
     }
 }

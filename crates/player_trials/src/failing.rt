@@ -1,10 +1,11 @@
 // Disks and outputs that fail.
 use blocks::{DiskFault, FaultyDisk, Kind, MemDisk};
 use layout::mkfs;
-use player::{Refusal, check_disk, recover_disk, replay_disk};
+use player::{check_disk, recover_disk, replay_disk};
 use scripts::{processes, read_schedule, read_script};
 use std::io::{BufWriter, Write};
 use std::test::Fail;
+use texts::Refusal;
 
 // A writer that fails once this many bytes are written.
 #[derive(Drop)]

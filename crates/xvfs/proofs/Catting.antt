@@ -3,9 +3,9 @@ use Rattle.std.proofs.Common.{◌≡◌, ℕ, List, Option, inl, inr, ⊎_elim}
 use Rattle.blocks.specs.Disk.{Image}
 use Rattle.blocks.specs.declared.disk.Disk.{Ghosts}
 use Rattle.player.specs.Showing.{IsNotShown, Shows}
-use Rattle.player.specs.declared.faults.CatFault.TheVariants as cat
-use Rattle.player.specs.declared.refusal.Refusal.{Refusal}
-use Rattle.player.specs.declared.refusal.Refusal.TheVariants.{File, Mkfs, Check, Recover, Open, Script, Schedule, Disk, Cat, Input, Output}
+use Rattle.texts.specs.declared.faults.CatFault.TheVariants as cat
+use Rattle.texts.specs.declared.refusal.Refusal.{Refusal}
+use Rattle.texts.specs.declared.refusal.Refusal.TheVariants.{File, Mkfs, Check, Recover, Open, Script, Schedule, Disk, Cat, Input, Output}
 use Rattle.xvfs.specs.Printed.{OnCatRefusal, PrintsFile}
 
 pub some_file : (x : Image) (i : ℕ) (old new : Option (List ℕ)) → Shows x i old new → PrintsFile i old new

@@ -4,7 +4,7 @@ use Rattle.blocks.specs.Disk.{Image}
 use Rattle.blocks.specs.File.{IsReadFrom}
 use Rattle.blocks.specs.FileDisk.{file_of}
 use Rattle.blocks.specs.declared.file.FileDisk.{FileDisk}
-use Rattle.player.specs.declared.refusal.Refusal.{Refusal}
+use Rattle.texts.specs.declared.refusal.Refusal.{Refusal}
 use Rattle.xvfs.specs.Files.{IsOpened, OpensDisk}
 
 -- what was done to the disk that was opened, where two things say it

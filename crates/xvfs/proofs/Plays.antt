@@ -12,13 +12,13 @@ use Rattle.scripts.specs.declared.schedule.Word.{Word}
 use Rattle.scripts.specs.declared.schedule.Word.TheVariants as word
 use Rattle.scripts.specs.declared.script.Task.{Task}
 use Rattle.kernel.specs.declared.types.Step.{Step}
-use Rattle.player.specs.declared.events.Event.{Event}
+use Rattle.texts.specs.declared.events.Event.{Event}
 use Rattle.player.specs.declared.turns.Player.{Player}
-use Rattle.player.specs.Events.{is_last}
+use Rattle.texts.specs.Events.{is_last}
 use Rattle.player.specs.Opening.{IsNotReplayed, Replays}
 use Rattle.player.specs.Refusal.{OnRefusal}
-use Rattle.player.specs.declared.refusal.Refusal.{Refusal}
-use Rattle.player.specs.declared.refusal.Refusal.TheVariants.{File, Mkfs, Check, Recover, Open, Script, Schedule, Disk, Cat, Input, Output}
+use Rattle.texts.specs.declared.refusal.Refusal.{Refusal}
+use Rattle.texts.specs.declared.refusal.Refusal.TheVariants.{File, Mkfs, Check, Recover, Open, Script, Schedule, Disk, Cat, Input, Output}
 use Rattle.player.specs.Stepping.{Plain, MakesTurnOf, MakesTurn, MakesTurns}
 use Rattle.player.specs.Turns.{IfLast, event_of}
 use Rattle.xvfs.specs.Turns.{IsTurnOfProcess, IsTurnOf, Plays, PrintsRun}

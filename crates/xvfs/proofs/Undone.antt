@@ -4,7 +4,7 @@ use Rattle.std.specs.Prelude.{◌≤◌}
 use Rattle.requests.specs.declared.explanation.Explanation.{Explanation}
 use Rattle.xvfs.specs.declared.command.Failure.{Failure}
 use Rattle.xvfs.specs.declared.command.Failure.TheVariants.{Refused, Misused}
-use Rattle.player.specs.declared.refusal.Refusal.{Refusal}
+use Rattle.texts.specs.declared.refusal.Refusal.{Refusal}
 use Rattle.requests.specs.declared.words.Request.{Request}
 use Rattle.requests.specs.declared.words.Request.TheVariants.{Mkfs, Check, Recover, Cat, Replay}
 use Rattle.xvfs.specs.Requests.{IsNotDone, IsUndone, OnRefused}

@@ -13,7 +13,7 @@ use Rattle.model.specs.Log.{logged_count, recovered}
 use Rattle.model.specs.Verdict.{verdict}
 use Rattle.player.specs.Causes.{IsRecovered}
 use Rattle.player.specs.Opening.{Replays}
-use Rattle.player.specs.Output.{copied_text, report_text}
+use Rattle.texts.specs.Output.{copied_text, report_text}
 use Rattle.player.specs.Showing.{Shows}
 use Rattle.scripts.specs.declared.schedule.Word.{Word}
 use Rattle.scripts.specs.declared.script.Task.{Task}

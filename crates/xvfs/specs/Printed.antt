@@ -5,12 +5,12 @@ use Rattle.blocks.specs.Disk.{Image}
 use Rattle.model.specs.Files.{file_count, files_of}
 use Rattle.model.specs.Log.{logged_count, recovered}
 use Rattle.model.specs.Verdict.{verdict}
-use Rattle.player.specs.Output.{copied_text, report_text}
-use Rattle.player.specs.Refusal.{refusal_text}
+use Rattle.texts.specs.Output.{copied_text, report_text}
+use Rattle.texts.specs.Refusal.{refusal_text}
 use Rattle.player.specs.Showing.{HasNoFile, Shows, ShowsPart}
-use Rattle.player.specs.declared.faults.CatFault.TheVariants.{NoFile, NoMemory}
-use Rattle.player.specs.declared.refusal.Refusal.{Refusal}
-use Rattle.player.specs.declared.refusal.Refusal.TheVariants.{Cat, Disk, Output}
+use Rattle.texts.specs.declared.faults.CatFault.TheVariants.{NoFile, NoMemory}
+use Rattle.texts.specs.declared.refusal.Refusal.{Refusal}
+use Rattle.texts.specs.declared.refusal.Refusal.TheVariants.{Cat, Disk, Output}
 
 -- the report of some image without a fault
 abbrev pub PrintsReport : Option (List ℕ) → Option (List ℕ) → Type 0

@@ -9,9 +9,9 @@ use Rattle.requests.specs.CommandLine.{AskFor}
 use Rattle.requests.specs.Told.{AskForHelp, IsToldOf}
 use Rattle.requests.specs.declared.words.Request.{Request}
 use Rattle.requests.specs.declared.words.Request.TheVariants.{Mkfs, Check, Recover, Cat, Replay}
-use Rattle.player.specs.declared.refusal.Refusal.{Refusal}
-use Rattle.player.specs.declared.refusal.Refusal.TheVariants.{Output}
-use Rattle.player.specs.Output.{numbers_text}
+use Rattle.texts.specs.declared.refusal.Refusal.{Refusal}
+use Rattle.texts.specs.declared.refusal.Refusal.TheVariants.{Output}
+use Rattle.texts.specs.Output.{numbers_text}
 use Rattle.player.specs.Refusal.{OnRefusal}
 use Rattle.xvfs.specs.Printed.{OnCatRefusal, PrintsCopied, PrintsFile, PrintsReport}
 use Rattle.xvfs.specs.Status.{IsHelp}

@@ -6,7 +6,7 @@ use Rattle.requests.specs.declared.explanation.Explanation.{Explanation}
 use Rattle.requests.specs.declared.explanation.Explanation.TheVariants.{Help, Mistake, NoMemory}
 use Rattle.xvfs.specs.declared.command.Failure.{Failure}
 use Rattle.xvfs.specs.declared.command.Failure.TheVariants.{Refused, Misused}
-use Rattle.player.specs.declared.refusal.Refusal.TheVariants.{Output}
+use Rattle.texts.specs.declared.refusal.Refusal.TheVariants.{Output}
 use Rattle.xvfs.specs.Printed.{refusal_line}
 
 abbrev pub status_of : Result Unit Failure → ℕ

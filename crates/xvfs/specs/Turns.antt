@@ -3,10 +3,10 @@ use Rattle.std.specs.Prelude.{◌≡◌, ℕ, ◌++◌, List, [], ◌∷◌, fla
 use Rattle.std.specs.Io.KnownBytes.{Appends}
 use Rattle.scripts.specs.declared.schedule.Word.{Word}
 use Rattle.scripts.specs.declared.schedule.Word.TheVariants as word
-use Rattle.player.specs.declared.events.Event.{Event}
-use Rattle.player.specs.declared.events.Event.TheVariants.{Stepped, Answered, Shut, Stopped}
-use Rattle.player.specs.Events.{event_line, is_last}
-use Rattle.player.specs.Output.{counts_text}
+use Rattle.texts.specs.declared.events.Event.{Event}
+use Rattle.texts.specs.declared.events.Event.TheVariants.{Stepped, Answered, Shut, Stopped}
+use Rattle.texts.specs.Events.{event_line, is_last}
+use Rattle.texts.specs.Output.{counts_text}
 use Rattle.player.specs.Turns.{IfLast}
 
 -- what the turn of a process may come to, where that write is stopped

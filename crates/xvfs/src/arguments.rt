@@ -2,9 +2,9 @@
 ghost use Rattle.std.specs.Prelude.{IfErr};
 ghost use Rattle.player.specs.Refusal.{IsOfInput};
 
-use player::{InputFault, Refusal, input_unread};
 use std::env;
 use std::rt::Env;
+use texts::{InputFault, Refusal, input_unread};
 
 /// The arguments without the program's name.
 ///

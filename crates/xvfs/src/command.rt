@@ -5,15 +5,15 @@ ghost use Rattle.requests.specs.Told.{explanation_text};
 ghost use Rattle.xvfs.specs.Requests.{Answers, IsDone, IsUndone, OnRefused};
 ghost use Rattle.xvfs.specs.Status.{IsHelp, IsUnprinted, Tells, status_of};
 ghost use Rattle.xvfs.specs.declared.command.Failure.TheVariants as failure;
-ghost use Rattle.player.specs.declared.refusal.Refusal.{Refusal as SomeRefusal};
+ghost use Rattle.texts.specs.declared.refusal.Refusal.{Refusal as SomeRefusal};
 ghost use Rattle.requests.specs.declared.explanation.Explanation.{Explanation as SomeExplanation};
 
 use crate::images::{cat_file, check_file, make_file, recover_file, replay_files};
-use player::{Refusal, print_last};
 use requests::{Explanation, Request, parse};
 use std::convert::AsStr;
 use std::io::Write;
 use std::rt::Files;
+use texts::{Refusal, print_last};
 
 /// Why a command wasn't done.
 #[derive(Drop)]

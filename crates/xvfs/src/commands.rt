@@ -6,10 +6,10 @@ ghost use Rattle.xvfs.specs.Lines.{lines_in, words_in, script_in};
 ghost use Rattle.xvfs.specs.Requests.{AreDone, StopsAmong};
 
 use crate::command::{command, refuse};
-use player::{InputFault, Refusal, input_unread};
 use std::alloc::{AllocError, Global};
 use std::io::{Read, Write};
 use std::rt::Files;
+use texts::{InputFault, Refusal, input_unread};
 
 /// The most bytes of the command lines.
 pub const LIMIT: usize = 65_536;

@@ -9,9 +9,9 @@ mod inputs;
 
 use command::{command, refuse};
 use commands::commands;
-use player::{Refusal, input_unread};
 use std::io::{BufWriter, Stdout};
 use std::process::ExitCode;
+use texts::{Refusal, input_unread};
 
 fn main(rt: HostRuntime) -> ExitCode {
     let mut err = rt.stderr();

@@ -1,6 +1,6 @@
 -- What was printed where a replay was refused.
-use Rattle.player.specs.declared.refusal.Refusal.{Refusal}
-use Rattle.player.specs.declared.refusal.Refusal.TheVariants.{File, Mkfs, Check, Recover, Open, Script, Schedule, Disk, Cat, Input, Output}
+use Rattle.texts.specs.declared.refusal.Refusal.{Refusal}
+use Rattle.texts.specs.declared.refusal.Refusal.TheVariants.{File, Mkfs, Check, Recover, Open, Script, Schedule, Disk, Cat, Input, Output}
 use Rattle.player.specs.Refusal.{OnRefusal}
 
 pub on_refusal : (r : Refusal) (P Q R S : Type 0) → (P → Q) → (R → S) →

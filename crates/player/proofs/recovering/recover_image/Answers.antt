@@ -9,7 +9,7 @@ use Rattle.wal.specs.Recovery.{OnDisk, OnBadLog, OnNoMemory}
 use Rattle.wal.specs.declared.faults.RecoverFault.{RecoverFault}
 use Rattle.wal.specs.declared.faults.RecoverFault.TheVariants as recover
 use Rattle.kernel.specs.Lemmas.Openings.{opened_leaves, lawful_super}
-use Rattle.player.specs.declared.refusal.Refusal.TheVariants as refusal
+use Rattle.texts.specs.declared.refusal.Refusal.TheVariants as refusal
 use Rattle.player.specs.Causes.{IsUnrecovered}
 use Rattle.player.proofs.recovering.recover_image.Goals as goal
 

@@ -1,13 +1,12 @@
 // Which layer refused a command, and why.
 ghost use Rattle.std.specs.Prelude.{◌≡◌, Some};
-ghost use Rattle.player.specs.Refusal.{layer_of, open_refusal, refusal_telling, refusal_text};
-ghost use Rattle.player.specs.Telling.{telling_of};
+ghost use Rattle.texts.specs.Refusal.{layer_of, refusal_telling, refusal_text};
+ghost use Rattle.texts.specs.Telling.{telling_of};
 
 use crate::faults::{CatFault, InputFault, KernelFault};
 use crate::told::{Fault, Told};
 use blocks::{DiskFault, FileFault};
 use itoa::Buffer;
-use kernel::OpenFault;
 use layout::{CheckFault, MkfsFault};
 use scripts::{ScheduleFault, ScriptFault};
 use std::fmt;
@@ -101,7 +100,7 @@ impl fmt::Display for Refusal {
 impl std::error::Error for Refusal {}
 
 impl From<CheckFault> for Refusal {
-    ghost use Rattle.player.specs.declared.refusal.Refusal.TheVariants as refusal;
+    ghost use Rattle.texts.specs.declared.refusal.Refusal.TheVariants as refusal;
 
     ghost from_gives = { λ fault r. r ≡ refusal.Check fault };
 
@@ -111,25 +110,11 @@ impl From<CheckFault> for Refusal {
 }
 
 impl From<KernelFault> for Refusal {
-    ghost use Rattle.player.specs.declared.refusal.Refusal.TheVariants as refusal;
+    ghost use Rattle.texts.specs.declared.refusal.Refusal.TheVariants as refusal;
 
     ghost from_gives = { λ fault r. r ≡ refusal.Open fault };
 
     fn from(fault: KernelFault) -> Refusal {
         Refusal::Open(fault)
-    }
-}
-
-/// A fault of the check or of the recovery inside is told as its own layer's.
-impl From<OpenFault> for Refusal {
-    ghost from_gives = { λ fault r. r ≡ open_refusal fault };
-
-    fn from(fault: OpenFault) -> Refusal {
-        match fault {
-            OpenFault::Check(fault) => Refusal::Check(fault),
-            OpenFault::Recover(fault) => Refusal::Recover(fault),
-            OpenFault::NoMemory => Refusal::Open(KernelFault::NoMemory),
-            OpenFault::ProcRange => Refusal::Open(KernelFault::ProcRange),
-        }
     }
 }

@@ -1,7 +1,7 @@
 // The faults of the layers, as a refusal tells them, and two that the program has of its own.
 ghost use Rattle.std.specs.Prelude.{◌≡◌, ◌≢◌};
 ghost use Rattle.std.specs.IoError.{error_kind};
-ghost use Rattle.player.specs.Telling.{
+ghost use Rattle.texts.specs.Telling.{
   cat_telling,
   check_telling,
   disk_telling,
@@ -39,7 +39,7 @@ pub enum InputFault {
 }
 
 impl From<AllocError> for InputFault {
-    ghost use Rattle.player.specs.declared.faults.InputFault.TheVariants as fault;
+    ghost use Rattle.texts.specs.declared.faults.InputFault.TheVariants as fault;
 
     ghost from_gives = { λ _ e. e ≡ fault.NoMemory };
 
@@ -82,7 +82,7 @@ pub enum CatFault {
 }
 
 impl From<NoMemory> for KernelFault {
-    ghost use Rattle.player.specs.declared.faults.KernelFault.TheVariants as fault;
+    ghost use Rattle.texts.specs.declared.faults.KernelFault.TheVariants as fault;
 
     ghost from_gives = { λ _ e. e ≡ fault.NoMemory };
 
@@ -92,7 +92,7 @@ impl From<NoMemory> for KernelFault {
 }
 
 impl From<AllocError> for KernelFault {
-    ghost use Rattle.player.specs.declared.faults.KernelFault.TheVariants as fault;
+    ghost use Rattle.texts.specs.declared.faults.KernelFault.TheVariants as fault;
 
     ghost from_gives = { λ _ e. e ≡ fault.NoMemory };
 

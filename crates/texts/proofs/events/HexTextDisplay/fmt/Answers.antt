@@ -3,8 +3,8 @@ use Rattle.std.proofs.Output.{has_written_append, has_written_of_eq}
 use Rattle.std.proofs.lemmas.List.{nil_from_length}
 use Rattle.std.specs.Slice.Iter.{chunks_rest}
 use Rattle.hex.specs.Hex.{encode_lower, lower_digits}
-use Rattle.player.proofs.Digits.{encode_with-append, encode_with-nil}
-use Rattle.player.proofs.events.HexTextDisplay.fmt.Goals as goal
+use Rattle.texts.proofs.Digits.{encode_with-append, encode_with-nil}
+use Rattle.texts.proofs.events.HexTextDisplay.fmt.Goals as goal
 
 pub loop-piece-init : goal.loop-piece-init
 loop-piece-init g c = (search rules, tt, search rules, λ plain. ([], search rules, search rules))

@@ -1,5 +1,5 @@
-use Rattle.player.proofs.Digits.{IsUtf8-encode_lower}
-use Rattle.player.proofs.events.digits_of.Goals as goal
+use Rattle.texts.proofs.Digits.{IsUtf8-encode_lower}
+use Rattle.texts.proofs.events.digits_of.Goals as goal
 
 pub unreachable-requires-in_default-from_utf8 : goal.unreachable-requires-in_default-from_utf8
 unreachable-requires-in_default-from_utf8 c =

@@ -2,8 +2,8 @@ use Rattle.std.proofs.Common.{◌≡◌, ℕ, List, ◌++◌}
 use Rattle.std.specs.Fmt.{HasWritten, IsPlainFormatter}
 use Rattle.std.specs.Slice.Iter.{chunks_rest, chunks_size}
 use Rattle.hex.specs.Hex.{encode_lower}
-use Rattle.player.specs.Events.{bytes_text}
-use Rattle.player.proofs.events.HexTextDisplay.fmt.Given as goal
+use Rattle.texts.specs.Events.{bytes_text}
+use Rattle.texts.proofs.events.HexTextDisplay.fmt.Given as goal
 
 -- the digits of the pieces so far are written
 abbrev pub invariant-loop-piece : goal.invariant-loop-piece

@@ -13,13 +13,13 @@ use Rattle.scripts.specs.declared.script.ScriptFault.{ScriptFault}
 use Rattle.scripts.specs.declared.script.ScriptFault.TheVariants as script
 use Rattle.scripts.specs.declared.schedule.ScheduleFault.{ScheduleFault}
 use Rattle.scripts.specs.declared.schedule.ScheduleFault.TheVariants as schedule
-use Rattle.player.specs.declared.faults.CatFault.{CatFault}
-use Rattle.player.specs.declared.faults.CatFault.TheVariants as cat
-use Rattle.player.specs.declared.faults.InputFault.{InputFault}
-use Rattle.player.specs.declared.faults.InputFault.TheVariants as input
-use Rattle.player.specs.declared.faults.KernelFault.{KernelFault}
-use Rattle.player.specs.declared.faults.KernelFault.TheVariants as kernel
-use Rattle.player.specs.declared.told.Told.{Told}
+use Rattle.texts.specs.declared.faults.CatFault.{CatFault}
+use Rattle.texts.specs.declared.faults.CatFault.TheVariants as cat
+use Rattle.texts.specs.declared.faults.InputFault.{InputFault}
+use Rattle.texts.specs.declared.faults.InputFault.TheVariants as input
+use Rattle.texts.specs.declared.faults.KernelFault.{KernelFault}
+use Rattle.texts.specs.declared.faults.KernelFault.TheVariants as kernel
+use Rattle.texts.specs.declared.told.Told.{Told}
 
 -- a fault's number among its layer's, its name, and the inode, the block, the line or the word that
 -- it names

@@ -1,21 +1,39 @@
 // What a turn of a schedule came to, and its line.
 ghost use Rattle.std.specs.Prelude.{◌≡◌, ◌*◌, ◌≤◌, Some, length};
 ghost use Rattle.hex.specs.Hex.{encode_lower};
-ghost use Rattle.player.specs.Events.{number_of, name_of, step_text, bytes_text, reply_text, answer_text, event_text, is_last};
+ghost use Rattle.texts.specs.Events.{number_of, name_of, progress_text, bytes_text, reply_text, answer_text, event_text, is_last};
 
 use itoa::Buffer;
-use kernel::Step;
 use model::types::{Answer, Reply, Why};
 use std::fmt;
 
 // The most bytes whose digits are made at once: those of the longest Read.
 const PIECE: usize = 3072;
 
+/// What a step of a process came to.
+#[derive(Clone, Copy)]
+pub enum Progress {
+    /// The operation goes on.
+    Moved,
+    /// The operation was answered.
+    Answered,
+    /// The process has to wait.
+    Sleeping(Why),
+    /// No operation waits.
+    Idle,
+    /// Memory for the operation was refused.
+    NoMemory,
+    /// No operation begins any more.
+    ShutDown,
+    /// The disk failed.
+    Halted,
+}
+
 /// What a turn came to.
 #[derive(Drop)]
 pub enum Event {
-    /// The last step of this process answered so.
-    Stepped(u32, Step),
+    /// The last step of this process came to this.
+    Stepped(u32, Progress),
     /// An operation of this process was answered.
     Answered(u32, Answer),
     /// No operation begins from now on.
@@ -31,7 +49,7 @@ impl Event {
     {
         match self {
             Event::Stopped(_) => true,
-            Event::Stepped(_, step) => matches!(step, Step::Halted),
+            Event::Stepped(_, progress) => matches!(progress, Progress::Halted),
             Event::Answered(..) | Event::Shut => false,
         }
     }
@@ -44,10 +62,10 @@ impl fmt::Display for Event {
     fn fmt<W: fmt::Write>(&self, f: &mut fmt::Formatter<W>) -> fmt::Result {
         let mut digits = Buffer::new();
         match self {
-            Event::Stepped(pid, step) => {
+            Event::Stepped(pid, progress) => {
                 let pid = digits.format(*pid);
-                let step = StepText(*step);
-                write!(f, "{pid} {step}")
+                let progress = ProgressText(*progress);
+                write!(f, "{pid} {progress}")
             }
             Event::Answered(pid, answer) => {
                 let pid = digits.format(*pid);
@@ -63,26 +81,26 @@ impl fmt::Display for Event {
     }
 }
 
-// What a step answered, as a line tells it.
+// What a step came to, as a line tells it.
 #[derive(Drop)]
-struct StepText(Step);
+struct ProgressText(Progress);
 
-impl fmt::Display for StepText {
-    ghost output = { λ step. Some (step_text step.0) };
+impl fmt::Display for ProgressText {
+    ghost output = { λ progress. Some (progress_text progress.0) };
 
     fn fmt<W: fmt::Write>(&self, f: &mut fmt::Formatter<W>) -> fmt::Result {
         match self.0 {
-            Step::Moved => write!(f, "moved"),
-            Step::Answered => write!(f, "answered"),
-            Step::Sleeping(why) => {
+            Progress::Moved => write!(f, "moved"),
+            Progress::Answered => write!(f, "answered"),
+            Progress::Sleeping(why) => {
                 let mut digits = Buffer::new();
                 let number = digits.format(number_of(why));
                 write!(f, "sleeping {number} {}", name_of(why))
             }
-            Step::Idle => write!(f, "idle"),
-            Step::NoMemory => write!(f, "nomemory"),
-            Step::ShutDown => write!(f, "shutdown"),
-            Step::Halted => write!(f, "halted"),
+            Progress::Idle => write!(f, "idle"),
+            Progress::NoMemory => write!(f, "nomemory"),
+            Progress::ShutDown => write!(f, "shutdown"),
+            Progress::Halted => write!(f, "halted"),
         }
     }
 }

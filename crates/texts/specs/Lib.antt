@@ -1,0 +1,4 @@
+pub mod Telling
+pub mod Refusal
+pub mod Output
+pub mod Events

@@ -1,0 +1,21 @@
+//! What the program prints: the lines of a replay's turns, what a command found or did, and the
+//! refusals, each of which names its layer and that layer's fault.
+//!
+//! Nothing here knows how it came to be. What a kernel answers has small enums here, to which the
+//! layer above maps its own.
+#![tactic(auto)]
+
+mod events;
+mod faults;
+mod output;
+mod refusal;
+mod told;
+
+pub use events::{Event, Progress};
+pub use faults::{CatFault, InputFault, KernelFault, input_unread};
+pub use output::{
+    pass_on, print, print_copied, print_counts, print_last, print_numbers, print_report,
+    write_bytes,
+};
+pub use refusal::Refusal;
+pub use told::{Fault, Told};

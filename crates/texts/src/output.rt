@@ -1,0 +1,132 @@
+// What a command prints.
+ghost use Rattle.std.specs.Prelude.{IfSome, OnOk, IsOkUnless};
+ghost use Rattle.std.specs.Io.KnownBytes.{Appends, Keeps};
+ghost use Rattle.texts.specs.Output.{copied_text, counts_text, numbers_text, report_text};
+
+use crate::refusal::Refusal;
+use itoa::Buffer;
+use layout::{Report, Super};
+use std::fmt::Display;
+use std::io::Write;
+
+/// Writes a text. The writer may hold it back: `print_last` passes it on.
+///
+/// # Errors
+///
+/// `Output` where the writer fails.
+pub fn print<O: Write, D: Display + Drop>(out: &mut O, text: D) -> Result<(), Refusal>
+    ensures ok { OnOk result (IfSome (D.output text)
+        (Appends (O.contents out.old) (O.contents out.new))) }
+    ensures err { IsOkUnless result Refusal.Output }
+{
+    write!(out, "{text}").map_err(|_| Refusal::Output)
+}
+
+/// Writes the last text of a command, and passes on what the writer holds back.
+///
+/// # Errors
+///
+/// `Output` where the writer fails.
+pub fn print_last<O: Write, D: Display + Drop>(out: &mut O, text: D) -> Result<(), Refusal>
+    ensures ok { OnOk result (IfSome (D.output text)
+        (Appends (O.contents out.old) (O.contents out.new))) }
+    ensures err { IsOkUnless result Refusal.Output }
+{
+    print(out, text)?;
+    pass_on(out)
+}
+
+/// Writes bytes as they are. The writer may hold them back: `pass_on` passes them on.
+///
+/// # Errors
+///
+/// `Output` where the writer fails.
+pub fn write_bytes<O: Write>(out: &mut O, bytes: &[u8]) -> Result<(), Refusal>
+    ensures ok { OnOk result (Appends (O.contents out.old) (O.contents out.new) bytes.now) }
+    ensures err { IsOkUnless result Refusal.Output }
+{
+    out.write_all(bytes).map_err(|_| Refusal::Output)
+}
+
+/// Passes on what the writer holds back.
+///
+/// # Errors
+///
+/// `Output` where the writer fails.
+pub fn pass_on<O: Write>(out: &mut O) -> Result<(), Refusal>
+    ensures ok { OnOk result (Keeps (O.contents out.old) (O.contents out.new)) }
+    ensures err { IsOkUnless result Refusal.Output }
+{
+    out.flush().map_err(|_| Refusal::Output)
+}
+
+/// Prints the numbers of a new image, as the last text of a command.
+///
+/// # Errors
+///
+/// `Output` where the writer fails.
+pub fn print_numbers<O: Write>(out: &mut O, fields: &Super) -> Result<(), Refusal>
+    ensures ok { OnOk result (Appends (O.contents out.old) (O.contents out.new)
+        (numbers_text fields.now)) }
+    ensures err { IsOkUnless result Refusal.Output }
+{
+    let mut buffers = (Buffer::new(), Buffer::new(), Buffer::new());
+    let size = buffers.0.format(fields.size);
+    let ninodes = buffers.1.format(fields.ninodes);
+    let nblocks = buffers.2.format(fields.nblocks);
+    print_last(
+        out,
+        format_args!("size {size} ninodes {ninodes} nblocks {nblocks}\n"),
+    )
+}
+
+/// Prints what a check found, as the last text of a command.
+///
+/// # Errors
+///
+/// `Output` where the writer fails.
+pub fn print_report<O: Write>(out: &mut O, report: &Report) -> Result<(), Refusal>
+    ensures ok { OnOk result (Appends (O.contents out.old) (O.contents out.new)
+        (report_text report.now.logged report.now.files)) }
+    ensures err { IsOkUnless result Refusal.Output }
+{
+    let mut buffers = (Buffer::new(), Buffer::new());
+    let logged = buffers.0.format(report.logged);
+    let files = buffers.1.format(report.files);
+    print_last(out, format_args!("sound log {logged} files {files}\n"))
+}
+
+/// Prints how many blocks were copied home, as the last text of a command.
+///
+/// # Errors
+///
+/// `Output` where the writer fails.
+pub fn print_copied<O: Write>(out: &mut O, copied: u32) -> Result<(), Refusal>
+    ensures ok { OnOk result (Appends (O.contents out.old) (O.contents out.new)
+        (copied_text copied)) }
+    ensures err { IsOkUnless result Refusal.Output }
+{
+    let mut buffer = Buffer::new();
+    let copied = buffer.format(copied);
+    print_last(out, format_args!("recovered {copied}\n"))
+}
+
+/// Prints how many blocks a run wrote, and how many groups are committed, as the last text of a
+/// command.
+///
+/// # Errors
+///
+/// `Output` where the writer fails.
+pub fn print_counts<O: Write>(out: &mut O, writes: u64, committed: u64) -> Result<(), Refusal>
+    ensures ok { OnOk result
+        (Appends (O.contents out.old) (O.contents out.new) (counts_text writes committed)) }
+    ensures err { IsOkUnless result Refusal.Output }
+{
+    let mut buffers = (Buffer::new(), Buffer::new());
+    let writes = buffers.0.format(writes);
+    let committed = buffers.1.format(committed);
+    print_last(
+        out,
+        format_args!("writes {writes}\ncommitted {committed}\n"),
+    )
+}
