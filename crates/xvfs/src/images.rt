@@ -19,6 +19,7 @@ use player::{cat_disk, check_disk, make_disk, recover_disk, replay_disk};
 use scripts::processes;
 use std::io::{Read, Write};
 use std::rt::Files;
+use texts::Refusal;
 
 /// Makes an image of `size` blocks of 1024 bytes with `ninodes` inode numbers in a file at this
 /// path, and prints its numbers.
