@@ -23,6 +23,6 @@ returns-in-Err-open-clause-refused g c =
       below = c.new-disk.ensures.inner;
       below_now = sym c.into_inner.ensures;
       fault = c.in-Err-open.fault;
-      told = c.into-in-Err-open.ensures;
+      told = c.open_refusal.ensures;
       refuses = c.in-Err-open.ensures.refused;
     })

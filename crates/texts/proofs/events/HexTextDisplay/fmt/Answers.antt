@@ -1,4 +1,4 @@
-use Rattle.std.proofs.Common.{◌≡◌, ℕ, List, [], ◌++◌, ap, ◌∙◌, rules, append_assoc, append-nil, sym}
+use Rattle.std.proofs.Common.{ℕ, List, [], ◌++◌, ap, ◌∙◌, rules, append_assoc, append-nil, sym}
 use Rattle.std.proofs.Output.{has_written_append, has_written_of_eq}
 use Rattle.std.proofs.lemmas.List.{nil_from_length}
 use Rattle.std.specs.Slice.Iter.{chunks_rest}
