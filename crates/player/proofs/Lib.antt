@@ -1,7 +1,6 @@
 pub mod Plays
 pub mod Refused
 pub mod Backlogs
-pub mod Reading
 pub mod Openings
 pub mod Steps
 mod Disks

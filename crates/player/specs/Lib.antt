@@ -1,7 +1,6 @@
 pub mod Refusal
 pub mod Causes
 pub mod Afterwards
-pub mod Inputs
 pub mod Turns
 pub mod Backlog
 pub mod Stepping

@@ -9,7 +9,6 @@
 mod asking;
 mod backlog;
 mod checking;
-mod inputs;
 mod making;
 mod playing;
 mod recovering;
@@ -21,7 +20,6 @@ mod turns;
 
 pub use backlog::Backlog;
 pub use checking::check_disk;
-pub use inputs::{schedule_from, schedule_unread, script_from, script_unread};
 pub use making::make_disk;
 pub use recovering::{recover_disk, recover_image};
 pub use replaying::replay_disk;

@@ -1,5 +1,5 @@
 // Scripts from readers.
-use player::script_from;
+use scripts::script_from;
 use std::io::Read;
 use std::test::Fail;
 

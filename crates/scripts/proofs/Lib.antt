@@ -3,5 +3,6 @@ pub mod LineLemmas
 pub mod NumberLemmas
 pub mod OperationLemmas
 pub mod ProcessLemmas
+pub mod Reading
 pub mod ScheduleLemmas
 pub mod Walk

@@ -3,3 +3,4 @@ pub mod Number
 pub mod Operation
 pub mod Schedule
 pub mod Script
+pub mod Readers

@@ -1,5 +1,6 @@
 //! Reads what a replay is told: a script, whose lines are the operations of processes, and a
-//! schedule, whose words are the turns that they take. Bytes in, values or a named fault out.
+//! schedule, whose words are the turns that they take. Bytes in, or a reader that gives them; values
+//! or a named fault out.
 //!
 //! # Scripts
 //!
@@ -26,8 +27,10 @@
 mod field;
 mod number;
 mod operation;
+mod readers;
 mod schedule;
 mod script;
 
+pub use readers::{schedule_from, schedule_unread, script_from, script_unread};
 pub use schedule::{SCHEDULE_LIMIT, ScheduleFault, Word, read_schedule};
 pub use script::{SCRIPT_LIMIT, ScriptFault, Task, processes, read_script};

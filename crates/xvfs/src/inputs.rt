@@ -3,10 +3,9 @@ ghost use Rattle.std.specs.Prelude.{◌≡◌, ◌⊎◌, ◌<◌, ℕ, List, Al
 ghost use Rattle.std.specs.List.{list_all};
 ghost use Rattle.scripts.specs.Schedule.{fault_of, is_word_of};
 ghost use Rattle.scripts.specs.Script.{fault_of as script_fault};
-ghost use Rattle.player.specs.Inputs.{IsScheduleOf, IsScriptOf, IsUnread, IsUnreadScript};
+ghost use Rattle.scripts.specs.Readers.{IsScheduleOf, IsScriptOf, IsUnread, IsUnreadScript};
 
-use player::{schedule_unread, script_unread};
-use scripts::{ScheduleFault, ScriptFault, Task, Word};
+use scripts::{ScheduleFault, ScriptFault, Task, Word, schedule_unread, script_unread};
 use std::fs::File;
 use std::rt::Files;
 
@@ -14,7 +13,7 @@ use std::rt::Files;
 ///
 /// # Errors
 ///
-/// `File` where the file can't be read; else a fault of `player::script_from`. No contract of std
+/// `File` where the file can't be read; else a fault of `scripts::script_from`. No contract of std
 /// says which bytes a path's file has.
 pub fn script_from<R: Files + AllocGlobal>(rt: &R, path: &str) -> Result<Vec<Task>, ScriptFault>
     ensures tasks { IfOk result (λ tasks. (text : List ℕ) × IsScriptOf text tasks.items) }
@@ -23,14 +22,14 @@ pub fn script_from<R: Files + AllocGlobal>(rt: &R, path: &str) -> Result<Vec<Tas
     ensures processes { IfOk result (λ tasks. All (λ task. task.pid < 32) tasks.items) }
 {
     let file = File::open(rt, path).map_err(|error| script_unread(error))?;
-    player::script_from(rt.alloc(), file)
+    scripts::script_from(rt.alloc(), file)
 }
 
 /// The words of the schedule in the file at this path, in order, for so many processes.
 ///
 /// # Errors
 ///
-/// `File` where the file can't be read; else a fault of `player::schedule_from`.
+/// `File` where the file can't be read; else a fault of `scripts::schedule_from`.
 pub fn schedule_from<R: Files + AllocGlobal>(
     rt: &R,
     path: &str,
@@ -44,5 +43,5 @@ pub fn schedule_from<R: Files + AllocGlobal>(
         (λ fault. IsUnread fault ⊎ ((text : List ℕ) × (fault_of processes text ≡ Some fault))) }
 {
     let file = File::open(rt, path).map_err(|error| schedule_unread(error))?;
-    player::schedule_from(rt.alloc(), file, processes)
+    scripts::schedule_from(rt.alloc(), file, processes)
 }

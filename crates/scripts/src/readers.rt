@@ -1,14 +1,12 @@
-// The script and the schedule of a replay, from the readers that give them.
+// Scripts and schedules, from the readers that give them.
 ghost use Rattle.std.specs.Prelude.{◌≡◌, ◌≢◌, ◌<◌, take, All, IfOk, IfErr, IfSome, IsTrue};
 ghost use Rattle.std.specs.List.{list_all};
 ghost use Rattle.std.specs.IoError.{error_kind};
 ghost use Rattle.scripts.specs.Schedule.{is_word_of};
-ghost use Rattle.player.specs.Inputs.{GivesNoSchedule, GivesNoScript, GivesSchedule, GivesScript};
+ghost use Rattle.scripts.specs.Readers.{GivesNoSchedule, GivesNoScript, GivesSchedule, GivesScript};
 
-use scripts::{
-    SCHEDULE_LIMIT, SCRIPT_LIMIT, ScheduleFault, ScriptFault, Task, Word, read_schedule,
-    read_script,
-};
+use crate::schedule::{SCHEDULE_LIMIT, ScheduleFault, Word, read_schedule};
+use crate::script::{SCRIPT_LIMIT, ScriptFault, Task, read_script};
 use std::alloc::Global;
 use std::io;
 use std::io::{ErrorKind, Read};

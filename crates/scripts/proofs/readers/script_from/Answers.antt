@@ -1,7 +1,7 @@
 use Rattle.std.proofs.Common.{◌≡◌, take, refl, rules, subst, sym}
 use Rattle.std.specs.Prelude.{IfSome}
-use Rattle.player.proofs.Reading.{script_read, script_refused}
-use Rattle.player.proofs.inputs.script_from.Goals as goal
+use Rattle.scripts.proofs.Reading.{script_read, script_refused}
+use Rattle.scripts.proofs.readers.script_from.Goals as goal
 
 pub returns-clause-tasks : goal.returns-clause-tasks
 returns-clause-tasks g c =

@@ -12,7 +12,7 @@ use Rattle.scripts.specs.declared.schedule.ScheduleFault.TheVariants as schedule
 use Rattle.scripts.specs.declared.schedule.Word.{Word}
 use Rattle.scripts.specs.Script.{fault_in_lines, fault_of, tasks_of}
 use Rattle.scripts.specs.Schedule.{fault_of as fault_of_schedule, fault_in_words, schedule_of}
-use Rattle.player.specs.Inputs.{GivesNoSchedule, GivesNoScript, GivesSchedule, GivesScript, IsUnread, IsUnreadScript}
+use Rattle.scripts.specs.Readers.{GivesNoSchedule, GivesNoScript, GivesSchedule, GivesScript, IsUnread, IsUnreadScript}
 
 -- what was read is all, or it and all are over the limit
 within_or_over : (text : List ℕ) (limit n : ℕ) → n ≡ limit + 1 → (take n text ≡ text) ⊎ ((nat_lt limit (length (take n text)) ≡ true) × (nat_lt limit (length text) ≡ true))

@@ -1,7 +1,7 @@
 use Rattle.std.proofs.Common.{◌≡◌, take, refl, rules, subst, sym}
 use Rattle.std.specs.Prelude.{IfSome}
-use Rattle.player.proofs.Reading.{schedule_read, schedule_refused}
-use Rattle.player.proofs.inputs.schedule_from.Goals as goal
+use Rattle.scripts.proofs.Reading.{schedule_read, schedule_refused}
+use Rattle.scripts.proofs.readers.schedule_from.Goals as goal
 
 pub returns-clause-words : goal.returns-clause-words
 returns-clause-words g c =
