@@ -1,6 +1,6 @@
-pub mod Plays
 pub mod Reading
+pub mod Refused
 pub mod Undone
 pub mod Sequences
-pub mod Catting
 pub mod Opened
+mod Disks

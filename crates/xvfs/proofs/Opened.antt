@@ -3,12 +3,48 @@ use Rattle.std.specs.Prelude.{◌≡◌, ◌≤◌, ℕ, List, length, Option, N
 use Rattle.blocks.specs.Disk.{Image}
 use Rattle.blocks.specs.File.{IsReadFrom}
 use Rattle.blocks.specs.FileDisk.{file_of}
+use Rattle.blocks.specs.declared.errors.FileFault.{FileFault}
 use Rattle.blocks.specs.declared.file.FileDisk.{FileDisk}
 use Rattle.texts.specs.declared.refusal.Refusal.{Refusal}
-use Rattle.xvfs.specs.Files.{IsOpened, OpensDisk}
+use Rattle.texts.specs.declared.refusal.Refusal.TheVariants.{File, Mkfs, Check, Recover, Open, Script, Schedule, Disk, Cat, Input, Output}
+use Rattle.scripts.specs.declared.schedule.ScheduleFault.{ScheduleFault}
+use Rattle.scripts.specs.declared.script.ScriptFault.{ScriptFault}
+use Rattle.xvfs.specs.Files.{IsOpened, OnDiskRefusal, OpensDisk}
 
--- what was done to the disk that was opened, where two things say it
-pub opens_disk : {F : Type 0} (remaining : F → Option (List ℕ)) (image : FileDisk F → Image) (r : Result (Unit {0}) Refusal) (opened now : FileDisk F) (P : FileDisk F → FileDisk F → Type 0) (A B : Type 0) → 1 ≤ length (image opened) → length (image opened) ≤ 8191
-    → IsReadFrom remaining (file_of opened) (image opened) → (A → B → P opened now) → OnOk r A → OnOk r B → OnOk r (OpensDisk remaining image P)
-opens_disk remaining image (Ok _) opened now P A B some few bytes f a b = (opened, (now, record { some = some; at_most = few; bytes = bytes }, f a b))
-opens_disk remaining image (Err _) opened now P A B some few bytes f a b = a
+module _ {F : Type 0} (remaining : F → Option (List ℕ)) (image : FileDisk F → Image) where
+  -- what was done to the disk that was opened, where two things say it
+  pub opens_disk : (r : Result (Unit {0}) Refusal) (opened now : FileDisk F) (P : FileDisk F → FileDisk F → Type 0) (A B : Type 0) → 1 ≤ length (image opened) → length (image opened) ≤ 8191
+      → IsReadFrom remaining (file_of opened) (image opened) → (A → B → P opened now) → OnOk r A → OnOk r B → OnOk r (OpensDisk remaining image P)
+  opens_disk (Ok _) opened now P A B some few bytes f a b = (opened, (now, record { some = some; at_most = few; bytes = bytes }, f a b))
+  opens_disk (Err _) opened now P A B some few bytes f a b = a
+
+  -- why it was not done, where no disk's refusal is one of the files
+  pub refuses_disk : (opened now : FileDisk F) (none : Type 0) (P : FileDisk F → FileDisk F → Refusal → Type 0) → 1 ≤ length (image opened) → length (image opened) ≤ 8191 → IsReadFrom remaining (file_of opened) (image opened)
+      → ((fault : ScriptFault) → P opened now (Script fault) → none) → ((fault : ScheduleFault) → P opened now (Schedule fault) → none) → ((fault : FileFault) → P opened now (File fault) → none)
+      → (r : Refusal) → P opened now r → OnDiskRefusal remaining image none P r
+  refuses_disk opened now none P some few bytes f g h (Script fault) why = f fault why
+  refuses_disk opened now none P some few bytes f g h (Schedule fault) why = g fault why
+  refuses_disk opened now none P some few bytes f g h (File fault) why = h fault why
+  refuses_disk opened now none P some few bytes f g h (Mkfs fault) why = (opened, (now, record { some = some; at_most = few; bytes = bytes }, why))
+  refuses_disk opened now none P some few bytes f g h (Check fault) why = (opened, (now, record { some = some; at_most = few; bytes = bytes }, why))
+  refuses_disk opened now none P some few bytes f g h (Recover fault) why = (opened, (now, record { some = some; at_most = few; bytes = bytes }, why))
+  refuses_disk opened now none P some few bytes f g h (Open fault) why = (opened, (now, record { some = some; at_most = few; bytes = bytes }, why))
+  refuses_disk opened now none P some few bytes f g h (Disk fault) why = (opened, (now, record { some = some; at_most = few; bytes = bytes }, why))
+  refuses_disk opened now none P some few bytes f g h (Cat fault) why = (opened, (now, record { some = some; at_most = few; bytes = bytes }, why))
+  refuses_disk opened now none P some few bytes f g h (Input fault) why = (opened, (now, record { some = some; at_most = few; bytes = bytes }, why))
+  refuses_disk opened now none P some few bytes f g h Output why = (opened, (now, record { some = some; at_most = few; bytes = bytes }, why))
+
+  -- what follows of a refusal, where no disk was opened and where one was
+  pub refused_so : (none other : Type 0) (P Q : FileDisk F → FileDisk F → Refusal → Type 0) → (none → other) → ((d e : FileDisk F) (r : Refusal) → P d e r → Q d e r)
+      → (r : Refusal) → OnDiskRefusal remaining image none P r → OnDiskRefusal remaining image other Q r
+  refused_so none other P Q f g (Script fault) why = f why
+  refused_so none other P Q f g (Schedule fault) why = f why
+  refused_so none other P Q f g (File fault) why = f why
+  refused_so none other P Q f g (Mkfs fault) why = (why.0, (why.1.0, why.1.1, g _ _ (Mkfs fault) why.1.2))
+  refused_so none other P Q f g (Check fault) why = (why.0, (why.1.0, why.1.1, g _ _ (Check fault) why.1.2))
+  refused_so none other P Q f g (Recover fault) why = (why.0, (why.1.0, why.1.1, g _ _ (Recover fault) why.1.2))
+  refused_so none other P Q f g (Open fault) why = (why.0, (why.1.0, why.1.1, g _ _ (Open fault) why.1.2))
+  refused_so none other P Q f g (Disk fault) why = (why.0, (why.1.0, why.1.1, g _ _ (Disk fault) why.1.2))
+  refused_so none other P Q f g (Cat fault) why = (why.0, (why.1.0, why.1.1, g _ _ (Cat fault) why.1.2))
+  refused_so none other P Q f g (Input fault) why = (why.0, (why.1.0, why.1.1, g _ _ (Input fault) why.1.2))
+  refused_so none other P Q f g Output why = (why.0, (why.1.0, why.1.1, g _ _ Output why.1.2))

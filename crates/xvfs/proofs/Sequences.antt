@@ -1,21 +1,23 @@
 -- Commands that were done one after the other.
 use Rattle.std.proofs.Common.{ℕ, suc, ◌<◌, ◌∙◌, List, [], ◌∷◌, ◌++◌, length, map, take, drop, get_or, drop-cons, Option, ap, refl, sym, subst}
 use Rattle.std.proofs.lemmas.List.{map-append, take-append-drop}
+use Rattle.xvfs.specs.Files.{FileGhosts}
 use Rattle.xvfs.specs.Requests.{IsDone, IsNotDone, AreDone, StopsAmong}
 
--- one more at the end
-pub one_more_done : (lines : List (List (List ℕ))) (words : List (List ℕ)) (a b c : Option (List ℕ)) → AreDone lines a b → IsDone words b c → AreDone (lines ++ words ∷ []) a c
-one_more_done [] words a b c is done = (c, subst (λ (o : Option (List ℕ)). IsDone words o c) is done, refl)
-one_more_done (line ∷ lines) words a b c is done = (is.0, is.1, one_more_done lines words is.0 b c is.2 done)
+module _ {F N : Type 0} (file : FileGhosts F N) where
+  -- one more at the end
+  pub one_more_done : (lines : List (List (List ℕ))) (words : List (List ℕ)) (a b c : Option (List ℕ)) → AreDone file lines a b → IsDone file words b c → AreDone file (lines ++ words ∷ []) a c
+  one_more_done [] words a b c is done = (c, subst (λ (o : Option (List ℕ)). IsDone file words o c) is done, refl)
+  one_more_done (line ∷ lines) words a b c is done = (is.0, is.1, one_more_done lines words is.0 b c is.2 done)
 
--- the command of line i was not done, and those before it were
-pub stops_here : {X : Type 0} (f : X → List (List ℕ)) (xs : List X) (i : ℕ) (d : X) (old mid new : Option (List ℕ)) → i < length xs → AreDone (map f (take i xs)) old mid → IsNotDone (f (get_or xs i d)) mid new → StopsAmong (map f xs) old new
-stops_here f xs i d old mid new within done fails = record {
-  before = map f (take i xs);
-  words = f (get_or xs i d);
-  behind = map f (drop (suc i) xs);
-  mid = mid;
-  split = ap (map f) (sym (take-append-drop i xs)) ∙ ap (λ rest. map f (take i xs ++ rest)) (drop-cons xs i d within) ∙ map-append f (take i xs) (get_or xs i d ∷ drop (suc i) xs);
-  done = done;
-  fails = fails;
-}
+  -- the command of line i was not done, and those before it were
+  pub stops_here : {X : Type 0} (f : X → List (List ℕ)) (xs : List X) (i : ℕ) (d : X) (old mid new : Option (List ℕ)) → i < length xs → AreDone file (map f (take i xs)) old mid → IsNotDone file (f (get_or xs i d)) mid new → StopsAmong file (map f xs) old new
+  stops_here f xs i d old mid new within done fails = record {
+    before = map f (take i xs);
+    words = f (get_or xs i d);
+    behind = map f (drop (suc i) xs);
+    mid = mid;
+    split = ap (map f) (sym (take-append-drop i xs)) ∙ ap (λ rest. map f (take i xs ++ rest)) (drop-cons xs i d within) ∙ map-append f (take i xs) (get_or xs i d ∷ drop (suc i) xs);
+    done = done;
+    fails = fails;
+  }

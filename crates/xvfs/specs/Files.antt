@@ -1,4 +1,4 @@
--- What became of the disk in a file that a command opened.
+-- What became of the disk in a file that a command opened, or why none was.
 use Rattle.std.specs.Prelude.{◌≡◌, ◌≤◌, ℕ, List, length, Option, None}
 use Rattle.std.specs.Io.KnownBytes.{Appends}
 use Rattle.blocks.specs.Disk.{Image}
@@ -12,11 +12,23 @@ use Rattle.model.specs.Files.{file_count, files_of}
 use Rattle.model.specs.Log.{logged_count, recovered}
 use Rattle.model.specs.Verdict.{verdict}
 use Rattle.player.specs.Causes.{IsRecovered}
-use Rattle.player.specs.Opening.{Replays}
+use Rattle.player.specs.Opening.{IsNotReplayed, Replays}
 use Rattle.texts.specs.Output.{copied_text, report_text}
 use Rattle.player.specs.Showing.{Shows}
+use Rattle.texts.specs.declared.refusal.Refusal.{Refusal}
+use Rattle.texts.specs.declared.refusal.Refusal.TheVariants.{File, Schedule, Script}
 use Rattle.scripts.specs.declared.schedule.Word.{Word}
 use Rattle.scripts.specs.declared.script.Task.{Task}
+
+-- what contracts see of a file, of the disk over it, and of one over that of which a call fails
+pub record FileGhosts (F N : Type 0) : Type 1 where
+  pub remaining : F → Option (List ℕ)
+  pub disk : Ghosts (FileDisk F) N
+  pub over : Ghosts (FaultyDisk (FileDisk F)) (N × Trap)
+
+abbrev pub ghosts_of : {F N : Type 0} → (F → Option (List ℕ)) → Ghosts (FileDisk F) N
+    → Ghosts (FaultyDisk (FileDisk F)) (N × Trap) → FileGhosts F N
+ghosts_of remaining disk over = record { remaining = remaining; disk = disk; over = over }
 
 -- the disk that a file holds, just opened: its blocks were read from the file, one after another,
 -- where that tells of its bytes
@@ -60,3 +72,22 @@ pub record IsRun {F N : Type 0} (disk : Ghosts (FileDisk F) N)
   pub processes : ℕ
   pub words : List Word
   pub replays : Replays disk over d e tasks processes words stop None old new
+
+-- Where a command over the disk of a file was refused: its script, its schedule or the file could
+-- not be had, and then no disk was opened; or one was, and is now another, as P says. `none` says
+-- that nothing was printed.
+abbrev pub OnDiskRefusal : {F : Type 0} → (F → Option (List ℕ)) → (FileDisk F → Image) → Type 0
+    → (FileDisk F → FileDisk F → Refusal → Type 0) → Refusal → Type 0
+OnDiskRefusal remaining image none P (Script fault) = none
+OnDiskRefusal remaining image none P (Schedule fault) = none
+OnDiskRefusal remaining image none P (File fault) = none
+OnDiskRefusal remaining image none P r = OpensDisk remaining image (λ d e. P d e r)
+
+-- some operations were not replayed over it, in the turns of some words
+pub record IsNotRun {F N : Type 0} (disk : Ghosts (FileDisk F) N)
+    (over : Ghosts (FaultyDisk (FileDisk F)) (N × Trap)) (stop : ℕ) (old new : Option (List ℕ))
+    (none : Type 0) (d e : FileDisk F) (r : Refusal) : Type 0 where
+  pub tasks : List Task
+  pub processes : ℕ
+  pub words : List Word
+  pub refused : IsNotReplayed disk over d e tasks processes words stop old new none r

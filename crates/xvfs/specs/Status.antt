@@ -1,13 +1,14 @@
--- The exit status of a command.
-use Rattle.std.specs.Prelude.{◌≡◌, ℕ, ⊤, List, Option, Result, Ok, Err}
+-- The exit status of a command, and what is told of one that wasn't done.
+use Rattle.std.specs.Prelude.{◌≡◌, ℕ, ⊤, List, ◌++◌, Option, Result, Ok, Err, codes}
 use Rattle.std.specs.Io.KnownBytes.{Appends}
 use Rattle.requests.specs.Told.{explanation_text}
 use Rattle.requests.specs.declared.explanation.Explanation.{Explanation}
 use Rattle.requests.specs.declared.explanation.Explanation.TheVariants.{Help, Mistake, NoMemory}
 use Rattle.xvfs.specs.declared.command.Failure.{Failure}
 use Rattle.xvfs.specs.declared.command.Failure.TheVariants.{Refused, Misused}
+use Rattle.texts.specs.Refusal.{refusal_text}
+use Rattle.texts.specs.declared.refusal.Refusal.{Refusal}
 use Rattle.texts.specs.declared.refusal.Refusal.TheVariants.{Output}
-use Rattle.xvfs.specs.Printed.{refusal_line}
 
 abbrev pub status_of : Result Unit Failure → ℕ
 status_of (Ok _) = 0
@@ -24,6 +25,10 @@ IsHelp NoMemory = ⊥
 abbrev pub IsUnprinted : Explanation → Failure → Type 0
 IsUnprinted e (Misused other) = (other ≡ e) × (¬ (IsHelp e))
 IsUnprinted e (Refused r) = (r ≡ Output) × IsHelp e
+
+-- the line for a refusal
+abbrev pub refusal_line : Refusal → List ℕ
+refusal_line r = codes "xvfs: " ++ refusal_text r ++ codes "\n"
 
 -- what is told of a command that wasn't done, where the bytes are known
 abbrev pub Tells : Failure → Option (List ℕ) → Option (List ℕ) → Type 0

@@ -2,13 +2,15 @@
 ghost use Rattle.std.specs.Prelude.{◌≡◌, ◌≤◌, map, Err, OnOk, IfErr, IsOkUnless};
 ghost use Rattle.std.specs.Io.KnownBytes.{Appends};
 ghost use Rattle.requests.specs.Told.{explanation_text};
-ghost use Rattle.xvfs.specs.Requests.{Answers, IsDone, IsUndone, OnRefused};
+ghost use Rattle.xvfs.specs.Files.{ghosts_of};
+ghost use Rattle.xvfs.specs.Requests.{Answers, IsDone, IsMisused, IsUndone, OnRefused};
 ghost use Rattle.xvfs.specs.Status.{IsHelp, IsUnprinted, Tells, status_of};
 ghost use Rattle.xvfs.specs.declared.command.Failure.TheVariants as failure;
 ghost use Rattle.texts.specs.declared.refusal.Refusal.{Refusal as SomeRefusal};
 ghost use Rattle.requests.specs.declared.explanation.Explanation.{Explanation as SomeExplanation};
 
 use crate::images::{cat_file, check_file, make_file, recover_file, replay_files};
+use blocks::{Disk, FaultyDisk, FileDisk};
 use requests::{Explanation, Request, parse};
 use std::convert::AsStr;
 use std::io::Write;
@@ -38,11 +40,12 @@ impl From<Refusal> for Failure {
 /// answers to `out`, and why it wasn't done to `err`, as far as that can be written. The exit
 /// status: 0 where it was done, 1 for a refusal, 2 where the words are no command.
 ///
-/// With 0 the words make a command, and `out` has its answer; or they ask for help or the version,
-/// whose text is clap's. With 1 they do too, and nothing was printed, but of a replay whose disk
-/// failed, of a file in whose reading that or memory failed, and of an output that failed. With 2
-/// nothing is written to `out`, with 0 nothing to `err`. What else `err` gets no contract tells,
-/// since it may fail at any byte.
+/// With 0 the words make a command, and `out` has its answer, which is that of the disk that was
+/// opened from a file; or they ask for help or the version, whose text is clap's. With 1 they do
+/// too. Then no disk was opened, or it is one of that disk's refusals; and nothing was printed, but
+/// of a replay whose disk failed, of a file in whose reading that or memory failed, and of an output
+/// that failed. With 2 nothing is written to `out`, with 0 nothing to `err`. What else `err` gets no
+/// contract tells, since it may fail at any byte.
 pub fn command<R: Files + AllocGlobal, S: AsStr, O: Write, E: Write>(
     rt: &R,
     words: &[S],
@@ -50,12 +53,15 @@ pub fn command<R: Files + AllocGlobal, S: AsStr, O: Write, E: Write>(
     err: &mut E,
 ) -> u8
     ensures status { result ≤ 2 }
-    ensures done { result ≡ 0 →
-        IsDone (map S.text words.now) (O.contents out.old) (O.contents out.new) }
-    ensures refused { result ≡ 1 → (r : SomeRefusal) × IsUndone (map S.text words.now)
-        (O.contents out.old) (O.contents out.new) (out.new ≡ out.old) (failure.Refused r) }
-    ensures wrong { result ≡ 2 → (e : SomeExplanation) × IsUndone (map S.text words.now)
-        (O.contents out.old) (O.contents out.new) (out.new ≡ out.old) (failure.Misused e) }
+    ensures done { result ≡ 0 → IsDone (ghosts_of R.File.remaining
+        ⟦<FileDisk<R::File> as Disk>⟧ ⟦<FaultyDisk<FileDisk<R::File>> as Disk>⟧)
+        (map S.text words.now) (O.contents out.old) (O.contents out.new) }
+    ensures refused { result ≡ 1 → (r : SomeRefusal) × IsUndone (ghosts_of R.File.remaining
+        ⟦<FileDisk<R::File> as Disk>⟧ ⟦<FaultyDisk<FileDisk<R::File>> as Disk>⟧)
+        (map S.text words.now) (O.contents out.old) (O.contents out.new)
+        (out.new ≡ out.old) (failure.Refused r) }
+    ensures wrong { result ≡ 2 → (e : SomeExplanation)
+        × IsMisused (map S.text words.now) (out.new ≡ out.old) e }
     ensures silent { result ≡ 0 → err.new ≡ err.old }
     ensures misused { result ≡ 2 → out.new ≡ out.old }
 {
@@ -101,10 +107,12 @@ fn perform<R: Files + AllocGlobal, S: AsStr, O: Write>(
     words: &[S],
     out: &mut O,
 ) -> Result<(), Failure>
-    ensures ok { OnOk result
-        (IsDone (map S.text words.now) (O.contents out.old) (O.contents out.new)) }
-    ensures err { IfErr result (IsUndone (map S.text words.now) (O.contents out.old)
-        (O.contents out.new) (out.new ≡ out.old)) }
+    ensures ok { OnOk result (IsDone (ghosts_of R.File.remaining
+        ⟦<FileDisk<R::File> as Disk>⟧ ⟦<FaultyDisk<FileDisk<R::File>> as Disk>⟧)
+        (map S.text words.now) (O.contents out.old) (O.contents out.new)) }
+    ensures err { IfErr result (IsUndone (ghosts_of R.File.remaining
+        ⟦<FileDisk<R::File> as Disk>⟧ ⟦<FaultyDisk<FileDisk<R::File>> as Disk>⟧)
+        (map S.text words.now) (O.contents out.old) (O.contents out.new) (out.new ≡ out.old)) }
     ensures silent { IfErr result (λ failure. status_of (Err failure) ≡ 2 → out.new ≡ out.old) }
 {
     match parse(rt.alloc(), words) {
@@ -133,9 +141,12 @@ fn dispatch<R: Files + AllocGlobal, O: Write>(
     request: Request<'_>,
     out: &mut O,
 ) -> Result<(), Refusal>
-    ensures ok { OnOk result (Answers request.entry (O.contents out.old) (O.contents out.new)) }
-    ensures err { IfErr result (λ r.
-        OnRefused request.entry r (O.contents out.old) (O.contents out.new) (out.new ≡ out.old)) }
+    ensures ok { OnOk result (Answers (ghosts_of R.File.remaining
+        ⟦<FileDisk<R::File> as Disk>⟧ ⟦<FaultyDisk<FileDisk<R::File>> as Disk>⟧)
+        request.entry (O.contents out.old) (O.contents out.new)) }
+    ensures err { IfErr result (λ r. OnRefused (ghosts_of R.File.remaining
+        ⟦<FileDisk<R::File> as Disk>⟧ ⟦<FaultyDisk<FileDisk<R::File>> as Disk>⟧)
+        request.entry r (O.contents out.old) (O.contents out.new) (out.new ≡ out.old)) }
 {
     match request {
         Request::Mkfs {

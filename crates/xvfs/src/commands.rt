@@ -2,10 +2,12 @@
 ghost use Rattle.std.specs.Prelude.{◌≡◌, ◌≢◌, ◌⊎◌, ◌≤◌, ◌<◌, ◌↔◌, [], length, map, IfOk, IfSome, string_bytes};
 ghost use Rattle.std.specs.Result.{IsErrOf};
 ghost use Rattle.std.specs.Str.{IsUtf8};
+ghost use Rattle.xvfs.specs.Files.{ghosts_of};
 ghost use Rattle.xvfs.specs.Lines.{lines_in, words_in, script_in};
 ghost use Rattle.xvfs.specs.Requests.{AreDone, StopsAmong};
 
 use crate::command::{command, refuse};
+use blocks::{Disk, FaultyDisk, FileDisk};
 use std::alloc::{AllocError, Global};
 use std::io::{Read, Write};
 use std::rt::Files;
@@ -27,10 +29,12 @@ pub fn commands<R: Files + AllocGlobal, I: Read + Drop, O: Write, E: Write>(
     ensures status { result ≤ 2 }
     ensures large { IfSome (I.remaining input)
         (λ bytes. LIMIT < length bytes → (result ≡ 1) × (out.new ≡ out.old)) }
-    ensures done { IfSome (I.remaining input) (λ bytes. result ≡ 0 →
-        AreDone (script_in (lines_in bytes)) (O.contents out.old) (O.contents out.new)) }
-    ensures stopped { IfSome (I.remaining input) (λ bytes. result ≢ 0
-        → StopsAmong (script_in (lines_in bytes)) (O.contents out.old) (O.contents out.new)
+    ensures done { IfSome (I.remaining input) (λ bytes. result ≡ 0 → AreDone (ghosts_of
+        R.File.remaining ⟦<FileDisk<R::File> as Disk>⟧ ⟦<FaultyDisk<FileDisk<R::File>> as Disk>⟧)
+        (script_in (lines_in bytes)) (O.contents out.old) (O.contents out.new)) }
+    ensures stopped { IfSome (I.remaining input) (λ bytes. result ≢ 0 → StopsAmong (ghosts_of
+        R.File.remaining ⟦<FileDisk<R::File> as Disk>⟧ ⟦<FaultyDisk<FileDisk<R::File>> as Disk>⟧)
+        (script_in (lines_in bytes)) (O.contents out.old) (O.contents out.new)
         ⊎ (out.new ≡ out.old)) }
     ensures silent { result ≡ 0 → err.new ≡ err.old }
 {
@@ -72,10 +76,13 @@ fn perform_text<R: Files + AllocGlobal, O: Write, E: Write>(
     err: &mut E,
 ) -> u8
     ensures status { result ≤ 2 }
-    ensures done { result ≡ 0 →
-        AreDone (script_in (lines_in text.now)) (O.contents out.old) (O.contents out.new) }
-    ensures stopped { result ≢ 0 → StopsAmong (script_in (lines_in text.now)) (O.contents out.old)
-        (O.contents out.new) ⊎ (out.new ≡ out.old) }
+    ensures done { result ≡ 0 → AreDone (ghosts_of R.File.remaining
+        ⟦<FileDisk<R::File> as Disk>⟧ ⟦<FaultyDisk<FileDisk<R::File>> as Disk>⟧)
+        (script_in (lines_in text.now)) (O.contents out.old) (O.contents out.new) }
+    ensures stopped { result ≢ 0 → StopsAmong (ghosts_of R.File.remaining
+        ⟦<FileDisk<R::File> as Disk>⟧ ⟦<FaultyDisk<FileDisk<R::File>> as Disk>⟧)
+        (script_in (lines_in text.now)) (O.contents out.old) (O.contents out.new)
+        ⊎ (out.new ≡ out.old) }
     ensures silent { result ≡ 0 → err.new ≡ err.old }
 {
     match script_of(rt.alloc(), text) {
@@ -92,10 +99,14 @@ fn perform_lines<R: Files + AllocGlobal, O: Write, E: Write>(
 ) -> u8
     ensures status { result ≤ 2 }
     ensures none { lines.now ≡ [] → (result ≡ 0) × (out.new ≡ out.old) }
-    ensures done { result ≡ 0 → AreDone (map (λ words. map
-        (λ word. word.now) words.items) lines.now) (O.contents out.old) (O.contents out.new) }
-    ensures stopped { result ≢ 0 → StopsAmong (map (λ words. map
-        (λ word. word.now) words.items) lines.now) (O.contents out.old) (O.contents out.new) }
+    ensures done { result ≡ 0 → AreDone (ghosts_of R.File.remaining
+        ⟦<FileDisk<R::File> as Disk>⟧ ⟦<FaultyDisk<FileDisk<R::File>> as Disk>⟧)
+        (map (λ words. map (λ word. word.now) words.items) lines.now)
+        (O.contents out.old) (O.contents out.new) }
+    ensures stopped { result ≢ 0 → StopsAmong (ghosts_of R.File.remaining
+        ⟦<FileDisk<R::File> as Disk>⟧ ⟦<FaultyDisk<FileDisk<R::File>> as Disk>⟧)
+        (map (λ words. map (λ word. word.now) words.items) lines.now)
+        (O.contents out.old) (O.contents out.new) }
     ensures silent { result ≡ 0 → err.new ≡ err.old }
 {
     for words in lines {

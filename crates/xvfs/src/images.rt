@@ -1,16 +1,15 @@
 // The commands over the files that they name: each opens its files, and does nothing else.
-ghost use Rattle.std.specs.Prelude.{◌≡◌, ◌≢◌, ◌↔◌, false, IsTrue, IfErr, List, OnOk, unwrap_or};
+ghost use Rattle.std.specs.Prelude.{◌≡◌, ◌≢◌, ◌↔◌, false, IsTrue, IfErr, OnOk, unwrap_or};
 ghost use Rattle.std.specs.Io.KnownBytes.{Appends};
 ghost use Rattle.std.specs.Result.{IsErrOf};
 ghost use Rattle.layout.specs.declared.geometry.MkfsFault.TheVariants as fault;
 ghost use Rattle.model.specs.Layout.{is_inode_count, is_size, planned_super};
 ghost use Rattle.texts.specs.declared.refusal.Refusal.TheVariants as refusal;
+ghost use Rattle.player.specs.Causes.{IsUnchecked, IsUnrecovered};
 ghost use Rattle.texts.specs.Output.{numbers_text};
-ghost use Rattle.player.specs.Refusal.{IsOfCat, IsOfCheck, IsOfMkfs, IsOfRecover, IsOfReplay, OnRefusal};
-ghost use Rattle.scripts.specs.declared.schedule.Word.{Word};
-ghost use Rattle.xvfs.specs.Files.{IsCopied, IsReported, IsRun, IsShown, OpensDisk};
-ghost use Rattle.xvfs.specs.Printed.{OnCatRefusal, PrintsCopied, PrintsFile, PrintsReport};
-ghost use Rattle.xvfs.specs.Turns.{PrintsRun};
+ghost use Rattle.player.specs.Refusal.{IsOfCat, IsOfCheck, IsOfMkfs, IsOfRecover, IsOfReplay};
+ghost use Rattle.player.specs.Showing.{IsNotShown};
+ghost use Rattle.xvfs.specs.Files.{IsCopied, IsNotRun, IsReported, IsRun, IsShown, OnDiskRefusal, OpensDisk};
 
 use crate::inputs::{schedule_from, script_from};
 use blocks::{Disk, FaultyDisk, FileDisk};
@@ -54,16 +53,19 @@ pub fn make_file<R: Files + AllocGlobal, O: Write>(
 ///
 /// # Errors
 ///
-/// A fault of `FileDisk::open` or of `check_disk`. Which it is, and the numbers, follow from the
-/// file's bytes, which no contract here can name: `check_disk` promises them of a disk.
+/// A fault of `FileDisk::open` or of `check_disk`. Which it is, and the numbers, are those of the
+/// disk that was opened; which bytes a path's file has no contract can name.
 pub fn check_file<R: Files + AllocGlobal, O: Write>(
     rt: &R,
     image: &str,
     out: &mut O,
 ) -> Result<(), Refusal>
-    ensures printed { OnOk result (PrintsReport (O.contents out.old) (O.contents out.new)) }
     ensures opened { OnOk result (OpensDisk R.File.remaining ⟦<FileDisk<R::File> as Disk>⟧.image
         (IsReported ⟦<FileDisk<R::File> as Disk>⟧ (O.contents out.old) (O.contents out.new))) }
+    ensures refused { IfErr result (OnDiskRefusal R.File.remaining
+        ⟦<FileDisk<R::File> as Disk>⟧.image (out.new ≡ out.old)
+        (IsUnchecked ⟦<FileDisk<R::File> as Disk>⟧.image
+        ⟦<FileDisk<R::File> as Disk>⟧.fault_count)) }
     ensures silent { IfErr result (λ r. r ≢ refusal.Output → out.new ≡ out.old) }
     ensures layers { IfErr result IsOfCheck }
 {
@@ -82,9 +84,12 @@ pub fn recover_file<R: Files + AllocGlobal, O: Write>(
     image: &str,
     out: &mut O,
 ) -> Result<(), Refusal>
-    ensures printed { OnOk result (PrintsCopied (O.contents out.old) (O.contents out.new)) }
     ensures opened { OnOk result (OpensDisk R.File.remaining ⟦<FileDisk<R::File> as Disk>⟧.image
         (IsCopied ⟦<FileDisk<R::File> as Disk>⟧ (O.contents out.old) (O.contents out.new))) }
+    ensures refused { IfErr result (OnDiskRefusal R.File.remaining
+        ⟦<FileDisk<R::File> as Disk>⟧.image (out.new ≡ out.old)
+        (IsUnrecovered ⟦<FileDisk<R::File> as Disk>⟧.image
+        ⟦<FileDisk<R::File> as Disk>⟧.fault_count)) }
     ensures silent { IfErr result (λ r. r ≢ refusal.Output → out.new ≡ out.old) }
     ensures layers { IfErr result IsOfRecover }
 {
@@ -103,12 +108,13 @@ pub fn cat_file<R: Files + AllocGlobal, O: Write>(
     inum: u32,
     out: &mut O,
 ) -> Result<(), Refusal>
-    ensures printed { OnOk result (PrintsFile inum (O.contents out.old) (O.contents out.new)) }
     ensures opened { OnOk result (OpensDisk R.File.remaining ⟦<FileDisk<R::File> as Disk>⟧.image
         (IsShown ⟦<FileDisk<R::File> as Disk>⟧ inum (O.contents out.old) (O.contents out.new))) }
     ensures layers { IfErr result IsOfCat }
-    ensures refused { IfErr result (OnCatRefusal inum (O.contents out.old) (O.contents out.new)
-        (out.new ≡ out.old)) }
+    ensures refused { IfErr result (OnDiskRefusal R.File.remaining
+        ⟦<FileDisk<R::File> as Disk>⟧.image (out.new ≡ out.old)
+        (λ d e. IsNotShown ⟦<FileDisk<R::File> as Disk>⟧ d e inum
+        (O.contents out.old) (O.contents out.new) (out.new ≡ out.old))) }
 {
     let disk = FileDisk::open(rt, image).map_err(Refusal::File)?;
     let (shown, _disk) = cat_disk(rt.alloc(), disk, inum, out);
@@ -130,15 +136,16 @@ pub fn replay_files<R: Files + AllocGlobal, O: Write>(
     stop: Option<u64>,
     out: &mut O,
 ) -> Result<(), Refusal>
-    ensures printed { OnOk result ((words : List Word)
-        × PrintsRun (unwrap_or stop 0) words (O.contents out.old) (O.contents out.new)) }
     ensures opened { OnOk result (OpensDisk R.File.remaining ⟦<FileDisk<R::File> as Disk>⟧.image
         (IsRun ⟦<FileDisk<R::File> as Disk>⟧
         ⟦<FaultyDisk<FileDisk<R::File>> as Disk>⟧ (unwrap_or stop 0)
         (O.contents out.old) (O.contents out.new))) }
     ensures layers { IfErr result IsOfReplay }
-    ensures refused { IfErr result (λ r. OnRefusal r ((words : List Word) × PrintsRun
-        (unwrap_or stop 0) words (O.contents out.old) (O.contents out.new)) (out.new ≡ out.old)) }
+    ensures refused { IfErr result (OnDiskRefusal R.File.remaining
+        ⟦<FileDisk<R::File> as Disk>⟧.image (out.new ≡ out.old)
+        (IsNotRun ⟦<FileDisk<R::File> as Disk>⟧
+        ⟦<FaultyDisk<FileDisk<R::File>> as Disk>⟧ (unwrap_or stop 0)
+        (O.contents out.old) (O.contents out.new) (out.new ≡ out.old))) }
 {
     let tasks = script_from(rt, script).map_err(Refusal::Script)?;
     let processes = processes(tasks.as_slice());

@@ -1,8 +1,18 @@
 use Rattle.std.proofs.Common.{rules}
-use Rattle.xvfs.proofs.Opened.{opens_disk}
+use Rattle.std.proofs.lemmas.Result.{IfErr-weaker}
+use Rattle.player.specs.Causes.{IsUnrecovered}
+use Rattle.xvfs.proofs.Disks.{file_disk}
+use Rattle.xvfs.proofs.Opened.{opens_disk, refuses_disk}
 use Rattle.xvfs.proofs.images.recover_file.Goals as goal
 
 pub returns-clause-opened : goal.returns-clause-opened
 returns-clause-opened g c =
     let disk = c.in_ok-disk in
     opens_disk _ _ c.recover_disk.result disk.disk c.recover_disk.new.disk _ _ _ (search rules) (search rules) (search rules) (λ recovers printed. (recovers, printed)) c.recover_disk.ensures.recovered c.recover_disk.ensures.printed
+
+pub returns-clause-refused : goal.returns-clause-refused
+returns-clause-refused g c =
+    let disk = c.in_ok-disk in
+    IfErr-weaker c.recover_disk.result _ _
+    (refuses_disk g.R.File.Read.remaining file_disk.image disk.disk c.recover_disk.new.disk _ (IsUnrecovered file_disk.image file_disk.fault_count) (search rules) (search rules) (search rules) (λ fault why. absurd why) (λ fault why. absurd why) (λ fault why. absurd why))
+    c.recover_disk.ensures.refused

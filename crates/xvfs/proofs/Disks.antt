@@ -1,0 +1,33 @@
+-- The disks over a file, as contracts see them.
+use Rattle.std.specs.Prelude.{ℕ, List, Option}
+use Rattle.blocks.specs.contracts.memory.MemDiskDisk.TheImpl.{ghosts}
+use Rattle.blocks.specs.declared.disk.Disk.{Ghosts}
+use Rattle.blocks.specs.declared.faulty.FaultyDisk.{FaultyDisk}
+use Rattle.blocks.specs.declared.faulty.Trap.{Trap}
+use Rattle.blocks.specs.declared.file.FileDisk.{FileDisk}
+use Rattle.xvfs.specs.Files.{FileGhosts, ghosts_of}
+
+abbrev pub file_disk : {F : Type 0} → Ghosts (FileDisk F) (Unit {0})
+file_disk = record {
+  name = λ d. tt;
+  image = λ d. ghosts.image d.copy;
+  moment = λ d. ghosts.moment d.copy;
+  leaves = λ d. ghosts.leaves d.copy;
+  write_count = λ d. ghosts.write_count d.copy;
+  fault_count = λ d. d.faults;
+}
+
+-- the same with one call that fails
+abbrev pub faulty_disk : {F : Type 0} → Ghosts (FaultyDisk (FileDisk F)) (Unit {0} × Trap)
+faulty_disk = record {
+  name = λ d. (tt, d.trap);
+  image = λ d. file_disk.image d.inner;
+  moment = λ d. file_disk.moment d.inner;
+  leaves = λ d. file_disk.leaves d.inner;
+  write_count = λ d. d.writes;
+  fault_count = λ d. d.faults;
+}
+
+-- a file of which this tells what is left to be read
+abbrev pub seen_by : {F : Type 0} → (F → Option (List ℕ)) → FileGhosts F (Unit {0})
+seen_by remaining = ghosts_of remaining file_disk faulty_disk

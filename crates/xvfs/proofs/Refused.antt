@@ -1,0 +1,49 @@
+-- What is known of a disk for which a command was refused, by what is known where nothing was
+-- printed.
+use Rattle.std.proofs.Common.{ℕ, List, Option, inl, inr, ⊎_elim}
+use Rattle.blocks.specs.declared.disk.Disk.{Ghosts}
+use Rattle.blocks.specs.declared.faulty.FaultyDisk.{FaultyDisk}
+use Rattle.blocks.specs.declared.file.FileDisk.{FileDisk}
+use Rattle.blocks.specs.declared.faulty.Trap.{Trap}
+use Rattle.player.specs.Opening.{IsNotReplayed}
+use Rattle.player.specs.Showing.{IsNotShown}
+use Rattle.texts.specs.declared.faults.CatFault.TheVariants as cat
+use Rattle.texts.specs.declared.refusal.Refusal.{Refusal}
+use Rattle.texts.specs.declared.refusal.Refusal.TheVariants.{File, Mkfs, Check, Recover, Open, Script, Schedule, Disk, Cat, Input, Output}
+use Rattle.scripts.specs.declared.schedule.Word.{Word}
+use Rattle.scripts.specs.declared.script.Task.{Task}
+use Rattle.xvfs.specs.Files.{IsNotRun}
+
+module _ {D N : Type 0} (disk : Ghosts D N) (d e : D) (old new : Option (List ℕ)) (none other : Type 0) (f : none → other) where
+  pub not_shown : (i : ℕ) (r : Refusal) → IsNotShown disk d e i old new none r → IsNotShown disk d e i old new other r
+  not_shown i (Cat cat.NoFile) why = (why.0, why.1, f why.2)
+  not_shown i (Cat cat.NoMemory) why = (why.0, ⊎_elim (λ nothing. inl (f nothing)) (λ part. inr part) why.1)
+  not_shown i (Disk fault) why = (why.0, ⊎_elim (λ nothing. inl (f nothing)) (λ part. inr part) why.1)
+  not_shown i Output why = why
+  not_shown i (File fault) why = (why.0, f why.1)
+  not_shown i (Mkfs fault) why = (why.0, f why.1)
+  not_shown i (Check fault) why = (why.0, f why.1)
+  not_shown i (Recover fault) why = (why.0, f why.1)
+  not_shown i (Open fault) why = (why.0, f why.1)
+  not_shown i (Script fault) why = (why.0, f why.1)
+  not_shown i (Schedule fault) why = (why.0, f why.1)
+  not_shown i (Input fault) why = (why.0, f why.1)
+
+  not_replayed : (over : Ghosts (FaultyDisk D) (N × Trap)) (tasks : List Task) (processes : ℕ) (words : List Word) (stop : ℕ) (r : Refusal)
+      → IsNotReplayed disk over d e tasks processes words stop old new none r → IsNotReplayed disk over d e tasks processes words stop old new other r
+  not_replayed over tasks processes words stop (Disk fault) why = why
+  not_replayed over tasks processes words stop Output why = why
+  not_replayed over tasks processes words stop (File fault) why = (why.0, f why.1)
+  not_replayed over tasks processes words stop (Mkfs fault) why = (why.0, f why.1)
+  not_replayed over tasks processes words stop (Check fault) why = (why.0, f why.1)
+  not_replayed over tasks processes words stop (Recover fault) why = (why.0, f why.1)
+  not_replayed over tasks processes words stop (Open fault) why = (why.0, f why.1)
+  not_replayed over tasks processes words stop (Script fault) why = (why.0, f why.1)
+  not_replayed over tasks processes words stop (Schedule fault) why = (why.0, f why.1)
+  not_replayed over tasks processes words stop (Cat fault) why = (why.0, f why.1)
+  not_replayed over tasks processes words stop (Input fault) why = (why.0, f why.1)
+
+pub not_run : {F N : Type 0} (disk : Ghosts (FileDisk F) N) (over : Ghosts (FaultyDisk (FileDisk F)) (N × Trap)) (d e : FileDisk F) (stop : ℕ) (old new : Option (List ℕ)) (none other : Type 0) → (none → other)
+    → (r : Refusal) → IsNotRun disk over stop old new none d e r → IsNotRun disk over stop old new other d e r
+not_run disk over d e stop old new none other f r why =
+    record { tasks = why.tasks; processes = why.processes; words = why.words; refused = not_replayed disk d e old new none other f over why.tasks why.processes why.words stop r why.refused }
