@@ -1,5 +1,5 @@
 -- The disk in a file that a command opened.
-use Rattle.std.specs.Prelude.{◌≡◌, ◌≤◌, ℕ, List, length, Option, None, Result, Ok, Err, OnOk}
+use Rattle.std.specs.Prelude.{◌≤◌, ℕ, List, length, Option, Result, Ok, Err, OnOk}
 use Rattle.blocks.specs.Disk.{Image}
 use Rattle.blocks.specs.File.{IsReadFrom}
 use Rattle.blocks.specs.FileDisk.{file_of}
@@ -9,7 +9,7 @@ use Rattle.texts.specs.declared.refusal.Refusal.{Refusal}
 use Rattle.texts.specs.declared.refusal.Refusal.TheVariants.{File, Mkfs, Check, Recover, Open, Script, Schedule, Disk, Cat, Input, Output}
 use Rattle.scripts.specs.declared.schedule.ScheduleFault.{ScheduleFault}
 use Rattle.scripts.specs.declared.script.ScriptFault.{ScriptFault}
-use Rattle.xvfs.specs.Files.{IsOpened, OnDiskRefusal, OpensDisk}
+use Rattle.xvfs.specs.Files.{OnDiskRefusal, OpensDisk}
 
 module _ {F : Type 0} (remaining : F → Option (List ℕ)) (image : FileDisk F → Image) where
   -- what was done to the disk that was opened, where two things say it

@@ -8,7 +8,7 @@ use Rattle.xvfs.proofs.images.cat_file.Goals as goal
 pub returns-clause-opened : goal.returns-clause-opened
 returns-clause-opened g c =
     let disk = c.in_ok-disk in
-    opens_disk _ _ c.cat_disk-shown.result.0 disk.disk c.cat_disk-shown.result.1 _ _ _ (search rules) (search rules) (search rules) (λ recovers shows. (recovers, shows)) c.cat_disk-shown.ensures.recovered c.cat_disk-shown.ensures.shown
+    opens_disk g.R.File.Read.remaining file_disk.image c.cat_disk-shown.result.0 disk.disk c.cat_disk-shown.result.1 _ _ _ (search rules) (search rules) (search rules) (λ recovers shows. (recovers, shows)) c.cat_disk-shown.ensures.recovered c.cat_disk-shown.ensures.shown
 
 pub returns-clause-refused : goal.returns-clause-refused
 returns-clause-refused g c =

@@ -8,7 +8,7 @@ use Rattle.xvfs.proofs.images.replay_files.Goals as goal
 pub returns-clause-opened : goal.returns-clause-opened
 returns-clause-opened g c =
     let disk = c.in_ok-disk in
-    opens_disk _ _ c.replay_disk-ran.result.0 disk.disk c.replay_disk-ran.result.1 _ _ _ (search rules) (search (rules, c.«open».ensures.at_most, c.map_err-3.ensures, c.in_ok-disk.was)) (search (rules, c.«open».ensures.bytes, c.map_err-3.ensures, c.in_ok-disk.was)) (λ replays same. record { tasks = _; processes = _; words = _; replays = replays }) c.replay_disk-ran.ensures.printed c.replay_disk-ran.ensures.printed
+    opens_disk g.R.File.Read.remaining file_disk.image c.replay_disk-ran.result.0 disk.disk c.replay_disk-ran.result.1 _ _ _ (search rules) (search (rules, c.«open».ensures.at_most, c.map_err-3.ensures, c.in_ok-disk.was)) (search (rules, c.«open».ensures.bytes, c.map_err-3.ensures, c.in_ok-disk.was)) (λ replays same. record { tasks = _; processes = _; words = _; replays = replays }) c.replay_disk-ran.ensures.printed c.replay_disk-ran.ensures.printed
 
 pub returns-clause-refused : goal.returns-clause-refused
 returns-clause-refused g c =
