@@ -7,4 +7,3 @@ pub mod Stepping
 pub mod Opening
 pub mod Asking
 pub mod Showing
-pub mod Lemmas

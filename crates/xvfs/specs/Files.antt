@@ -1,4 +1,4 @@
--- What became of the disk in a file that a command opened, or why none was.
+-- What became of the disk in a file that a command opened, where it was done and where refused.
 use Rattle.std.specs.Prelude.{◌≡◌, ◌≤◌, ℕ, List, length, Option, None}
 use Rattle.std.specs.Io.KnownBytes.{Appends}
 use Rattle.blocks.specs.Disk.{Image}
@@ -63,8 +63,8 @@ abbrev pub IsShown : {F N : Type 0} → Ghosts (FileDisk F) N → ℕ → Option
 IsShown disk i old new d e = IsRecovered disk (logged_count (disk.image d)) d e
     × Shows (disk.image d) i old new
 
--- it was recovered, a player of some operations was opened over it, and the turns of some words made
--- and printed
+-- it was recovered, a player of some operations was opened over it, and the turns of some words
+-- made and printed
 pub record IsRun {F N : Type 0} (disk : Ghosts (FileDisk F) N)
     (over : Ghosts (FaultyDisk (FileDisk F)) (N × Trap)) (stop : ℕ) (old new : Option (List ℕ))
     (d e : FileDisk F) : Type 0 where
@@ -83,7 +83,7 @@ OnDiskRefusal remaining image none P (Schedule fault) = none
 OnDiskRefusal remaining image none P (File fault) = none
 OnDiskRefusal remaining image none P r = OpensDisk remaining image (λ d e. P d e r)
 
--- some operations were not replayed over it, in the turns of some words
+-- why some operations were not replayed over it in the turns of some words, and what was printed
 pub record IsNotRun {F N : Type 0} (disk : Ghosts (FileDisk F) N)
     (over : Ghosts (FaultyDisk (FileDisk F)) (N × Trap)) (stop : ℕ) (old new : Option (List ℕ))
     (none : Type 0) (d e : FileDisk F) (r : Refusal) : Type 0 where

@@ -42,10 +42,10 @@ impl From<Refusal> for Failure {
 ///
 /// With 0 the words make a command, and `out` has its answer, which is that of the disk that was
 /// opened from a file; or they ask for help or the version, whose text is clap's. With 1 they do
-/// too. Then no disk was opened, or it is one of that disk's refusals; and nothing was printed, but
-/// of a replay whose disk failed, of a file in whose reading that or memory failed, and of an output
-/// that failed. With 2 nothing is written to `out`, with 0 nothing to `err`. What else `err` gets no
-/// contract tells, since it may fail at any byte.
+/// too. Then no disk was opened, or the refusal is that disk's; and nothing was printed, but of a
+/// replay whose disk failed, of a file in whose reading that or memory failed, and of an output
+/// that failed. With 2 nothing is written to `out`, with 0 nothing to `err`. What else `err` gets
+/// no contract tells, since it may fail at any byte.
 pub fn command<R: Files + AllocGlobal, S: AsStr, O: Write, E: Write>(
     rt: &R,
     words: &[S],

@@ -15,7 +15,7 @@ returns-clause-refused g c =
     let disk = c.in_ok-disk in
     IfErr-weaker c.replay_disk-ran.result.0 _ _
     (λ r why. refuses_disk g.R.File.Read.remaining file_disk.image disk.disk c.replay_disk-ran.result.1 _ (IsNotRun file_disk faulty_disk _ (g.O.Write.contents c.args.out.now) (g.O.Write.contents c.replay_disk-ran.new.out) _)
-        (search rules) (search (rules, c.«open».ensures.at_most, c.map_err-3.ensures, c.in_ok-disk.was)) (search (rules, c.«open».ensures.bytes, c.map_err-3.ensures, c.in_ok-disk.was))
-        (λ fault not. not.refused.1) (λ fault not. not.refused.1) (λ fault not. not.refused.1)
-        r (record { tasks = _; processes = _; words = _; refused = why }))
+    (search rules) (search (rules, c.«open».ensures.at_most, c.map_err-3.ensures, c.in_ok-disk.was)) (search (rules, c.«open».ensures.bytes, c.map_err-3.ensures, c.in_ok-disk.was))
+    (λ fault not. not.refused.1) (λ fault not. not.refused.1) (λ fault not. not.refused.1)
+    r (record { tasks = _; processes = _; words = _; refused = why }))
     c.replay_disk-ran.ensures.refused
