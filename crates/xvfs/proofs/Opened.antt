@@ -1,15 +1,27 @@
--- The disk in a file that a command opened.
-use Rattle.std.specs.Prelude.{◌≤◌, ℕ, List, length, Option, Result, Ok, Err, OnOk}
+-- The disk in a file that a command created or opened.
+use Rattle.std.specs.Prelude.{◌≡◌, ◌≤◌, ℕ, List, length, replicate, Option, Result, Ok, Err, OnOk}
+use Rattle.std.specs.Io.KnownBytes.{Appends}
+use Rattle.blocks.specs.Block.{zero_block}
 use Rattle.blocks.specs.Disk.{Image}
 use Rattle.blocks.specs.File.{IsReadFrom}
 use Rattle.blocks.specs.FileDisk.{file_of}
+use Rattle.blocks.specs.declared.disk.Disk.{Ghosts}
 use Rattle.blocks.specs.declared.errors.FileFault.{FileFault}
 use Rattle.blocks.specs.declared.file.FileDisk.{FileDisk}
+use Rattle.layout.specs.Making.{Makes}
+use Rattle.model.specs.Layout.{planned_super}
+use Rattle.texts.specs.Output.{numbers_text}
 use Rattle.texts.specs.declared.refusal.Refusal.{Refusal}
 use Rattle.texts.specs.declared.refusal.Refusal.TheVariants.{File, Mkfs, Check, Recover, Open, Script, Schedule, Disk, Cat, Input, Output}
 use Rattle.scripts.specs.declared.schedule.ScheduleFault.{ScheduleFault}
 use Rattle.scripts.specs.declared.script.ScriptFault.{ScriptFault}
-use Rattle.xvfs.specs.Files.{OnDiskRefusal, OpensDisk}
+use Rattle.xvfs.specs.Files.{IsMade, OnDiskRefusal, OpensDisk}
+
+-- what was made on the disk that was created, where it was
+pub made_on : {F N : Type 0} (disk : Ghosts (FileDisk F) N) (r : Result (Unit {0}) Refusal) (size inode_count : ℕ) (old new : Option (List ℕ)) (created now : FileDisk F) → disk.image created ≡ replicate size zero_block
+    → OnOk r (Makes disk size inode_count created now) → OnOk r (Appends old new (numbers_text (planned_super size inode_count))) → OnOk r (IsMade disk size inode_count old new)
+made_on disk (Ok _) size inode_count old new created now zeroes makes printed = record { created = created; now = now; zeroes = zeroes; makes = makes; printed = printed }
+made_on disk (Err _) size inode_count old new created now zeroes makes printed = tt
 
 module _ {F : Type 0} (remaining : F → Option (List ℕ)) (image : FileDisk F → Image) where
   -- what was done to the disk that was opened, where two things say it

@@ -1,6 +1,8 @@
--- What became of the disk in a file that a command opened, where it was done and where refused.
-use Rattle.std.specs.Prelude.{◌≡◌, ◌≤◌, ℕ, List, length, Option, None}
+-- What became of the disk in a file that a command created or opened, where it was done and where
+-- refused.
+use Rattle.std.specs.Prelude.{◌≡◌, ◌≤◌, ℕ, List, length, replicate, Option, None}
 use Rattle.std.specs.Io.KnownBytes.{Appends}
+use Rattle.blocks.specs.Block.{zero_block}
 use Rattle.blocks.specs.Disk.{Image}
 use Rattle.blocks.specs.File.{IsReadFrom}
 use Rattle.blocks.specs.FileDisk.{file_of}
@@ -8,12 +10,14 @@ use Rattle.blocks.specs.declared.disk.Disk.{Ghosts}
 use Rattle.blocks.specs.declared.faulty.FaultyDisk.{FaultyDisk}
 use Rattle.blocks.specs.declared.faulty.Trap.{Trap}
 use Rattle.blocks.specs.declared.file.FileDisk.{FileDisk}
+use Rattle.layout.specs.Making.{Makes}
 use Rattle.model.specs.Files.{file_count, files_of}
+use Rattle.model.specs.Layout.{planned_super}
 use Rattle.model.specs.Log.{logged_count, recovered}
 use Rattle.model.specs.Verdict.{verdict}
 use Rattle.player.specs.Causes.{IsRecovered}
 use Rattle.player.specs.Opening.{IsNotReplayed, Replays}
-use Rattle.texts.specs.Output.{copied_text, report_text}
+use Rattle.texts.specs.Output.{copied_text, numbers_text, report_text}
 use Rattle.player.specs.Showing.{Shows}
 use Rattle.texts.specs.declared.refusal.Refusal.{Refusal}
 use Rattle.texts.specs.declared.refusal.Refusal.TheVariants.{File, Schedule, Script}
@@ -29,6 +33,16 @@ pub record FileGhosts (F N : Type 0) : Type 1 where
 abbrev pub ghosts_of : {F N : Type 0} → (F → Option (List ℕ)) → Ghosts (FileDisk F) N
     → Ghosts (FaultyDisk (FileDisk F)) (N × Trap) → FileGhosts F N
 ghosts_of remaining disk over = record { remaining = remaining; disk = disk; over = over }
+
+-- a disk of so many blocks of zeroes was created in a file, an image made on it, and its numbers
+-- printed
+pub record IsMade {F N : Type 0} (disk : Ghosts (FileDisk F) N) (size inode_count : ℕ)
+    (old new : Option (List ℕ)) : Type 0 where
+  pub created : FileDisk F
+  pub now : FileDisk F
+  pub zeroes : disk.image created ≡ replicate size zero_block
+  pub makes : Makes disk size inode_count created now
+  pub printed : Appends old new (numbers_text (planned_super size inode_count))
 
 -- the disk that a file holds, just opened: its blocks were read from the file, one after another,
 -- where that tells of its bytes

@@ -1,9 +1,6 @@
 -- What a request is answered.
 use Rattle.std.specs.Prelude.{◌≡◌, ◌≢◌, ◌⊎◌, ℕ, List, [], ◌∷◌, ◌++◌, Option, unwrap_or}
-use Rattle.std.specs.Io.KnownBytes.{Appends}
-use Rattle.model.specs.Layout.{planned_super}
 use Rattle.player.specs.Causes.{IsUnchecked, IsUnrecovered}
-use Rattle.texts.specs.Output.{numbers_text}
 use Rattle.player.specs.Showing.{IsNotShown}
 use Rattle.texts.specs.declared.refusal.Refusal.{Refusal}
 use Rattle.texts.specs.declared.refusal.Refusal.TheVariants.{Output}
@@ -12,17 +9,16 @@ use Rattle.requests.specs.Told.{AskForHelp, IsToldOf}
 use Rattle.requests.specs.declared.explanation.Explanation.{Explanation}
 use Rattle.requests.specs.declared.words.Request.{Request}
 use Rattle.requests.specs.declared.words.Request.TheVariants.{Mkfs, Check, Recover, Cat, Replay}
-use Rattle.xvfs.specs.Files.{FileGhosts, IsCopied, IsNotRun, IsReported, IsRun, IsShown, OnDiskRefusal, OpensDisk}
+use Rattle.xvfs.specs.Files.{FileGhosts, IsCopied, IsMade, IsNotRun, IsReported, IsRun, IsShown, OnDiskRefusal, OpensDisk}
 use Rattle.xvfs.specs.Status.{IsHelp}
 use Rattle.xvfs.specs.declared.command.Failure.{Failure}
 use Rattle.xvfs.specs.declared.command.Failure.TheVariants.{Refused, Misused}
 
--- A request was done, and its answer printed: but for an image that is made, it is that of the disk
--- which was opened from a file.
+-- A request was done, and its answer printed, which is that of the disk that was created in a file,
+-- or opened from one.
 abbrev pub Answers : {F N : Type 0} → FileGhosts F N → Request → Option (List ℕ)
     → Option (List ℕ) → Type 0
-Answers file (Mkfs image size ninodes) old new =
-    Appends old new (numbers_text (planned_super size ninodes))
+Answers file (Mkfs image size ninodes) old new = IsMade file.disk size ninodes old new
 Answers file (Check image) old new =
     OpensDisk file.remaining file.disk.image (IsReported file.disk old new)
 Answers file (Recover image) old new =

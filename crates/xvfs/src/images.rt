@@ -1,15 +1,13 @@
 // The commands over the files that they name: each opens its files, and does nothing else.
 ghost use Rattle.std.specs.Prelude.{◌≡◌, ◌≢◌, ◌↔◌, false, IsTrue, IfErr, OnOk, unwrap_or};
-ghost use Rattle.std.specs.Io.KnownBytes.{Appends};
 ghost use Rattle.std.specs.Result.{IsErrOf};
 ghost use Rattle.layout.specs.declared.geometry.MkfsFault.TheVariants as fault;
-ghost use Rattle.model.specs.Layout.{is_inode_count, is_size, planned_super};
+ghost use Rattle.model.specs.Layout.{is_inode_count, is_size};
 ghost use Rattle.texts.specs.declared.refusal.Refusal.TheVariants as refusal;
 ghost use Rattle.player.specs.Causes.{IsUnchecked, IsUnrecovered};
-ghost use Rattle.texts.specs.Output.{numbers_text};
 ghost use Rattle.player.specs.Refusal.{IsOfCat, IsOfCheck, IsOfMkfs, IsOfRecover, IsOfReplay};
 ghost use Rattle.player.specs.Showing.{IsNotShown};
-ghost use Rattle.xvfs.specs.Files.{IsCopied, IsNotRun, IsReported, IsRun, IsShown, OnDiskRefusal, OpensDisk};
+ghost use Rattle.xvfs.specs.Files.{IsCopied, IsMade, IsNotRun, IsReported, IsRun, IsShown, OnDiskRefusal, OpensDisk};
 
 use crate::inputs::{schedule_from, script_from};
 use blocks::{Disk, FaultyDisk, FileDisk};
@@ -34,8 +32,8 @@ pub fn make_file<R: Files + AllocGlobal, O: Write>(
     ninodes: u32,
     out: &mut O,
 ) -> Result<(), Refusal>
-    ensures printed { OnOk result (Appends (O.contents out.old) (O.contents out.new)
-        (numbers_text (planned_super size ninodes))) }
+    ensures made { OnOk result (IsMade ⟦<FileDisk<R::File> as Disk>⟧ size ninodes
+        (O.contents out.old) (O.contents out.new)) }
     ensures silent { IfErr result (λ r. r ≢ refusal.Output → out.new ≡ out.old) }
     ensures layers { IfErr result IsOfMkfs }
     ensures inodes { IsErrOf result (refusal.Mkfs fault.InodeRange)
