@@ -9,8 +9,8 @@ use Rattle.model.specs.Soundness.{count_of}
 use Rattle.model.specs.Lemmas.Counts.{count_of-append}
 use Rattle.bcache.specs.Order.{IsOrder}
 use Rattle.bcache.specs.Links.{first_of, next_of}
-use Rattle.bcache.specs.Lemmas.Order.{slot_below}
-use Rattle.bcache.proofs.OrderLemmas.{absent, absent_at, others_absent}
+use Rattle.bcache.specs.Lemmas.Order.{absent, slot_below}
+use Rattle.bcache.proofs.OrderLemmas.{absent_at, others_absent}
 
 -- slots, none of them twice
 pub record IsSlots (o : List ℕ) : Type 0 where

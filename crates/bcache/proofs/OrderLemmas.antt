@@ -1,16 +1,16 @@
 -- The recency order: which slots stand in it, and its victim.
-use Rattle.std.proofs.Common.{◌≡◌, ◌≢◌, inl, inr, ℕ, zero, suc, ◌+◌, ◌<◌, ◌≤◌, ◌==◌, not, Bool, true, false, cond, eqb, List, [], ◌∷◌, ◌++◌, length, map, get_or, drop, refl, sym, ◌∙◌, ap, subst, zero-add, arith, Option, Some, None}
-use Rattle.std.specs.Prelude.{position, reverse}
+use Rattle.std.proofs.Common.{◌≡◌, ◌≢◌, inl, inr, ℕ, zero, suc, ◌+◌, ◌<◌, ◌≤◌, ◌==◌, not, Bool, true, false, cond, eqb, List, [], ◌∷◌, ◌++◌, length, map, get_or, drop, refl, sym, ◌∙◌, ap, subst, arith, Option, Some, None}
+use Rattle.std.specs.Prelude.{reverse}
 use Rattle.std.specs.List.{filter}
-use Rattle.std.proofs.lemmas.Bool.{cases_eq, cases_Bool, eq-eqb, ne_eqb, both_ways}
+use Rattle.std.proofs.lemmas.Bool.{cases_eq, cases_Bool, eq-eqb, ne_eqb}
 use Rattle.std.proofs.Math.Seq.{drop-cons}
 use Rattle.std.proofs.lemmas.List.{get_or-map, reverse-append}
 use Rattle.model.specs.Soundness.{count_of}
 use Rattle.bcache.specs.declared.types.Buffer.{Buffer}
 use Rattle.bcache.specs.Current.{references_of}
-use Rattle.bcache.specs.Order.{IsOrder, victim_in, later_or}
+use Rattle.bcache.specs.Order.{victim_in, later_or}
 use Rattle.model.specs.Lemmas.Counts.{count_of-get_or}
-use Rattle.bcache.specs.Lemmas.Order.{none_passes}
+use Rattle.bcache.specs.Lemmas.Order.{victim_none}
 
 -- a number that stands nowhere is at no place
 pub absent_at : (i k d : ℕ) (o : List ℕ) → k < length o → count_of i o ≡ 0 → get_or o k d ≢ i
@@ -22,14 +22,6 @@ others_absent i (a ∷ o) none = elim (cases_eq a i) [
   | inl same ↦ absurd (let one : 1 + count_of i o ≡ 0 = rw (eq-eqb a i same) at none in omega arith)
   | inr ne ↦ let rest : 0 + count_of i o ≡ 0 = rw (ne_eqb a i ne) at none in rw (ne_eqb a i ne) (ap (λ (l : List ℕ). a ∷ l) (others_absent i o (omega arith)))
 ]
-
--- each slot stands in it
-pub absent : (i : ℕ) (o : List ℕ) → ((k : ℕ) → k < length o → eqb (get_or o k 0) i ≡ false) → count_of i o ≡ 0
-absent i [] out = refl
-absent i (a ∷ o) out = let here : eqb a i ≡ false = out 0 (omega arith) in rw here (zero-add _ ∙ absent i o (λ k lt. out (suc k) (omega arith)))
-
-pub has_place : (o : List ℕ) (i : ℕ) → IsOrder o → i < 40 → position (λ s. s == i) o ≢ None
-has_place o i is lt none = let zero : count_of i o ≡ 0 = absent i o (λ k below. none_passes (λ s. s == i) o k 0 none below) in let one = is.each i lt in omega arith
 
 -- the victim, by a walk from the last
 abbrev pub first_unused : List ℕ → List ℕ → Option ℕ
@@ -63,20 +55,6 @@ used_passed references rest k slot found lt here used so_far =
 pub references_read : (buffers : List Buffer) (slot : ℕ) (buffer : Buffer) → slot < length buffers → buffer ≡ get_or buffers slot buffer →
     get_or (map references_of buffers) slot 0 ≡ references_of buffer
 references_read buffers slot buffer lt is = get_or-map references_of buffers slot buffer 0 lt ∙ ap references_of (sym is)
-
--- where there is none, each slot of the order has references
-pub victim_none : (references order : List ℕ) → victim_in references order ≡ None → (k : ℕ) → k < length order → get_or references (get_or order k 0) 0 ≢ 0
-victim_none references [] none k lt = absurd (omega arith)
-victim_none references (s ∷ order) none k lt = let f = parts (victim_in references order) refl (eqb (get_or references s 0) 0) refl none in by (victim_none references order f.0) f.1 k lt
-  where
-    parts : (v : Option ℕ) → victim_in references order ≡ v → (free : Bool) → eqb (get_or references s 0) 0 ≡ free → later_or v free s ≡ None → (victim_in references order ≡ None) × (eqb (get_or references s 0) 0 ≡ false)
-    parts (Some later) was free test is = absurd (cc is)
-    parts None was true test is = absurd (cc is)
-    parts None was false test is = (was, test)
-
-    by : ((j : ℕ) → j < length order → get_or references (get_or order j 0) 0 ≢ 0) → eqb (get_or references s 0) 0 ≡ false → (j : ℕ) → j < suc (length order) → get_or references (get_or (s ∷ order) j 0) 0 ≢ 0
-    by rest test zero inside = λ e. both_ways _ test (eq-eqb _ _ e)
-    by rest test (suc j) inside = rest j (omega (arith, inside))
 
 -- a slot stands there, and each behind it has references
 pub record IsLast (references order : List ℕ) (slot : ℕ) : Type 0 where

@@ -1,9 +1,6 @@
 -- What stays true of every cache, and of its slots.
-use Rattle.std.proofs.Common.{◌≡◌, ◌≢◌, ℕ, ◌+◌, ◌-◌, ◌<◌, ◌≤◌, ◌==◌, Bool, true, false, List, map, replicate, length, get_or, set, refl, sym, ◌∙◌, ap, subst, arith, Option, Some, None}
-use Rattle.std.specs.Prelude.{position}
-use Rattle.std.proofs.lemmas.Bool.{eqb-true}
+use Rattle.std.proofs.Common.{◌≡◌, ◌≢◌, ℕ, ◌+◌, ◌-◌, ◌<◌, ◌≤◌, Bool, true, false, List, map, replicate, length, get_or, set, refl, sym, ◌∙◌, ap, subst, arith, Option, Some, None}
 use Rattle.std.proofs.lemmas.List.{get_or_default}
-use Rattle.std.proofs.lemmas.List.Quantifiers.{position-Some}
 use Rattle.bcache.specs.declared.types.Buffer.{Buffer}
 use Rattle.bcache.specs.Current.{references_of}
 use Rattle.bcache.specs.Order.{IsOrder, first_order, moved_to_front}
@@ -11,9 +8,9 @@ use Rattle.bcache.specs.declared.types.Busy.TheVariants as busy
 use Rattle.bcache.specs.declared.types.Acquired.TheVariants as acquired
 use Rattle.bcache.specs.Buffers.{Buffers, empty_buffer, buffer, with_buffer, found, victim, after_lock, after_take, after_acquire_by, lock_answer, take_answer, answer_by, fresh_buffers, IsCache}
 use Rattle.bcache.specs.Laws.{AreAllInUse, NoBufferIsFull, IsLastUnused, TakesLastUnused, KeepsCopy, ReferencedIsKept, CallsKeepCache}
-use Rattle.bcache.proofs.OrderLemmas.{has_place, victim_none, victim_last}
+use Rattle.bcache.proofs.OrderLemmas.{victim_last}
 use Rattle.bcache.specs.Lemmas.Order.{order_moved}
-use Rattle.bcache.specs.Lemmas.Slots.{buffer_other, each_buffer, cache_kept, some_found, cache_taken, cache_released, references_at, victim_free, cache_acquired}
+use Rattle.bcache.specs.Lemmas.Slots.{buffer_other, each_buffer, cache_kept, some_found, cache_taken, cache_released, references_at, victim_free, cache_acquired, victim_none_in_use}
 
 -- the slot that an index gives, whatever stands for none
 pub slot_at : (c : Buffers) (i : ℕ) (s : Buffer) → IsCache c → i < 40 → s ≡ get_or c.slots i s → s ≡ buffer c i
@@ -33,17 +30,6 @@ fresh_from ss o n made low high order =
     let all : n ≡ 40 = omega (arith, low, high) in
     ap (λ (ts : List Buffer). let c : Buffers = record { slots = ts; order = o } in c) (made ∙ ap (λ (m : ℕ). replicate m empty_buffer) all)
     ∙ ap (λ (p : List ℕ). let c : Buffers = record { slots = replicate 40 empty_buffer; order = p } in c) order
-
--- where there is none, each slot has references
-victim_none_in_use : (c : Buffers) → IsCache c → victim c ≡ None → AreAllInUse c
-victim_none_in_use c is none i lt = by (position (λ s. s == i) c.order) refl
-  where
-    by : (at : Option ℕ) → position (λ s. s == i) c.order ≡ at → references_of (buffer c i) ≢ 0
-    by None e = absurd (has_place c.order i is.order lt e)
-    by (Some k) e =
-        let f = position-Some (λ s. s == i) c.order k 0 e in
-        let here : get_or c.order k 0 ≡ i = eqb-true _ _ f.1 in
-        λ free. victim_none (map references_of c.slots) c.order none k f.0 (ap (λ (j : ℕ). get_or (map references_of c.slots) j 0) here ∙ sym (references_at c i) ∙ free)
 
 in_use_no_victim : (c : Buffers) → IsCache c → AreAllInUse c → (v : Option ℕ) → victim c ≡ v → victim c ≡ None
 in_use_no_victim c is used None e = e

@@ -2,7 +2,7 @@
 use Rattle.std.proofs.Common.{◌≡◌, ◌≢◌, inl, inr, ℕ, zero, suc, ◌+◌, ◌*◌, ◌-◌, ◌<◌, ◌≤◌, ◌==◌, ◌||◌, Bool, true, false, cond, List, [], ◌∷◌, length, get_or, set, take, drop, length-drop, refl, sym, ◌∙◌, ap, subst, arith, Option, Some, None, length-set, add-one}
 use Rattle.std.specs.Prelude.{slice_index}
 use Rattle.std.proofs.Math.Seq.{drop-cons, drop-length}
-use Rattle.std.proofs.lemmas.Bool.{cases_eq, cond-true, cond-false, eqb-true, eq-eqb, ne_eqb, both_ways, and_parts, and_right, false_from_ne_true, or_parts, or_from, or_right}
+use Rattle.std.proofs.lemmas.Bool.{cases_eq, cond-true, cond-false, eqb-true, eq-eqb, ne_eqb, both_ways, and_parts, false_from_ne_true, or_parts, or_from, or_right}
 use Rattle.std.proofs.lemmas.List.{get_or-set_same, get_or-set_other, get_or-drop, get_or-take, get_or_default, length-take-le}
 use Rattle.std.proofs.lemmas.List.Folds.{list_any_none, list_any_at}
 use Rattle.blocks.specs.Block.{zero_block}
@@ -55,6 +55,7 @@ wrote_low {k} {x} {l} c n m b v j low size is live phase = record {
   behind = λ i a e. let old = j.behind i a e in (old.0, omega (arith, old.1, size));
   pins = λ i. j.pins i ∙ ap (λ (hs : List ℕ). pins_of hs (buffer c i).block) (sym live);
   cached = λ h among. j.cached h (ap (is_among h) (sym live) ∙ among);
+  held = j.held;
   clean = λ a out. ap (λ (z : Image). block_at z a) cur ∙ elim (cases_eq a b) [
     | inl same ↦
         let inside : b < length x = omega (arith, low, j.size, j.log.big) in
@@ -144,7 +145,7 @@ wrote_header x c l h j head =
 pub wrote_empty : (x : Image) (c : Buffers) (l : LogState) → JointAt commit.Clearing x c l → Joint (set x 2 zero_block) c (written_at commit.Clearing l)
 wrote_empty x c l j =
     wrote_low c commit.Quiet (record l { commit = commit.Quiet; homes = [] }) 2 zero_block j (omega arith) refl
-    (in_phase commit.Clearing commit.Quiet l [] l.committed j.log j.log.idle.0 tt (no_homes l.size) (omega arith) (omega (arith, j.log.counts, j.log.idle.0))) (sym (drop-length l.homes))
+    (in_phase commit.Clearing commit.Quiet l [] l.committed j.log j.log.idle.0 (λ over. refl) (no_homes l.size) (omega arith) (omega (arith, j.log.counts, j.log.idle.0))) (sym (drop-length l.homes))
     (none_logged (set x 2 zero_block) (get_or-set_same x 2 zero_block [] (omega (arith, j.size, j.log.big))))
 
 -- a home is not among those behind it
@@ -265,6 +266,7 @@ wrote_home x c l n j = by_found (found c h) refl
           behind = each_buffer c i t (λ m s. (a : ℕ) → is_of a s ≡ true → (33 ≤ a) × (a < l.size)) is.0 (j.behind i) (λ m other. j.behind m);
           pins = λ m. pins m ∙ ap (λ (ds : List ℕ). pins_of ds (buffer d m).block) (sym live);
           cached = λ b e. cached b (ap (is_among b) (sym live) ∙ e);
+          held = each_buffer c i t (λ m s. s.block ≡ None → s.holder ≡ None) is.0 (j.held i) (λ m other. j.held m);
           clean = λ b e. clean b (ap (is_among b) (sym live) ∙ e);
           phase = phase;
         }
@@ -329,7 +331,7 @@ pub log_cleared : (l : LogState) (hs : List ℕ) → IsLogAt l.commit l → l.co
 log_cleared l hs is at none =
     let was : IsLogAt commit.Clearing l = subst (λ (m : Commit). IsLogAt m l) at is in
     subst (λ (gs : List ℕ). IsLogAt commit.Quiet (record l { commit = commit.Quiet; homes = gs })) (sym none)
-    (in_phase commit.Clearing commit.Quiet l [] l.committed was was.idle.0 tt (no_homes l.size) (omega arith) (omega (arith, was.counts, was.idle.0)))
+    (in_phase commit.Clearing commit.Quiet l [] l.committed was was.idle.0 (λ over. refl) (no_homes l.size) (omega arith) (omega (arith, was.counts, was.idle.0)))
 
 pub is_within : (k : Commit) (l : LogState) → IsLogAt k l → IsWithin k l.homes
 is_within commit.Quiet l is = tt

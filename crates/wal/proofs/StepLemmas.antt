@@ -8,7 +8,7 @@ use Rattle.bcache.specs.declared.types.Buffer.{Buffer}
 use Rattle.bcache.specs.Buffers.{Buffers, buffer, found, locked, taken, changed, pinned, block_or_zero, after_acquire, after_acquire_by, after_lock, after_take, victim}
 use Rattle.bcache.specs.Current.{is_number_in, shows}
 use Rattle.wal.specs.Joint.{seen, JointAt, Joint}
-use Rattle.bcache.specs.Lemmas.Slots.{buffer_same, some_found, victim_free}
+use Rattle.bcache.specs.Lemmas.Slots.{block_is, buffer_same, some_found, victim_free}
 use Rattle.wal.specs.declared.types.Commit.{Commit}
 use Rattle.wal.specs.declared.types.Commit.TheVariants as commit
 use Rattle.wal.specs.Machine.{is_among, LogState, HasRoom, appended, noted, noted_cache, used_by, begin_cause, begun, after_begin, after_begin_by, ended}
@@ -62,9 +62,9 @@ joint_used {x} c e d l m p i b bytes j lt room slot block valid is are new =
 pub joint_acquired : {x : Image} {k : Commit} {l : LogState} (c d : Buffers) (p b : ℕ) → JointAt k x c l → 33 ≤ b → b < l.size → d ≡ after_acquire c p b → JointAt k x d l
 joint_acquired {x} {k} {l} c d p b j low high is = subst (λ (e : Buffers). JointAt k x e l) (sym is) (by_found (found c b) refl)
   where
-    by_lock : (i : ℕ) (o : Option ℕ) → i < 40 → JointAt k x (after_lock o c p i) l
-    by_lock i None lt = joint_locked c (locked c p i) p i j lt refl
-    by_lock i (Some q) lt = j
+    by_lock : (i : ℕ) (o : Option ℕ) → i < 40 → (buffer c i).block ≡ Some b → JointAt k x (after_lock o c p i) l
+    by_lock i None lt block = joint_locked c (locked c p i) p b i j lt block refl
+    by_lock i (Some q) lt block = j
 
     by_take : (o : Option ℕ) → victim c ≡ o → found c b ≡ None → JointAt k x (after_take o c p b) l
     by_take None e none = j
@@ -74,7 +74,7 @@ joint_acquired {x} {k} {l} c d p b j low high is = subst (λ (e : Buffers). Join
 
     by_found : (o : Option ℕ) → found c b ≡ o → JointAt k x (after_acquire_by o c p b) l
     by_found None e = by_take (victim c) refl e
-    by_found (Some i) e = let f = some_found c b i e in by_lock i (buffer c i).holder (omega (arith, f.0, j.cache.size))
+    by_found (Some i) e = let f = some_found c b i e in by_lock i (buffer c i).holder (omega (arith, f.0, j.cache.size)) (block_is b (buffer c i).block f.1)
 
 pub some_block : (o : Option ℕ) → IsSome o → o ≡ Some (block_or_zero o)
 some_block None some = cc

@@ -98,6 +98,8 @@ pub record JointAt (k : Commit) (x : Image) (c : Buffers) (l : LogState) : Type 
   pub pins : (i : ℕ) → (buffer c i).pins ≡ pins_of (live_at k l.homes) (buffer c i).block
   pub cached : (h : ℕ) → is_among h (live_at k l.homes) ≡ true
       → (i : ℕ) × (i < 40) × (shows h (buffer c i) ≡ true)
+  -- nobody has the lock of a slot without a block
+  pub held : (i : ℕ) → (buffer c i).block ≡ None → (buffer c i).holder ≡ None
   -- a block that is not pinned is the disk's
   pub clean : (b : ℕ) → is_among b (live_at k l.homes) ≡ false
       → block_at (seen x c) b ≡ block_at x b

@@ -156,9 +156,9 @@ pub record AreHomes (size : ℕ) (homes : List ℕ) : Type 0 where
   pub in_place : IsTrue (are_in_place homes size)
   pub distinct : IsTrue (are_distinct homes)
 
--- a commit under way has homes, and no operation is open
+-- a commit under way has homes, and no operation is open; with neither the log has no homes
 abbrev pub Idle : Commit → LogState → Type 0
-Idle commit.Quiet l = Unit {0}
+Idle commit.Quiet l = l.outstanding ≡ 0 → length l.homes ≡ 0
 Idle (commit.Logging k) l = (l.outstanding ≡ 0) × (k < length l.homes)
 Idle commit.Heading l = (l.outstanding ≡ 0) × (0 < length l.homes)
 Idle (commit.Homing k) l = (l.outstanding ≡ 0) × (k < length l.homes)

@@ -55,6 +55,17 @@ get_answer_by (acquired.Sleeping busy) = get.Sleeping (why_busy busy)
 abbrev pub get_answer : Buffers → ℕ → Get
 get_answer c b = get_answer_by (acquire_answer c b)
 
+-- why who asks for a block has to wait, by what `get` answers; none where it goes on
+abbrev pub cause_of_get : Get → Option Why
+cause_of_get (get.Got i) = None
+cause_of_get (get.Sleeping cause) = Some cause
+cause_of_get (get.Fault fault) = None
+
+-- and where the next step may ask for none
+abbrev pub cause_to_get : Buffers → Option ℕ → Option Why
+cause_to_get c None = None
+cause_to_get c (Some b) = cause_of_get (get_answer c b)
+
 -- the buffers then: a slot that wasn't valid has the disk's bytes
 abbrev pub after_get_by : Acquired → Buffers → List ℕ → Buffers
 after_get_by (acquired.Got i valid) c bytes = if valid then c else filled c i bytes

@@ -2,7 +2,7 @@
 use Rattle.std.proofs.Common.{◌≡◌, ◌≢◌, inl, inr, ℕ, zero, suc, ◌+◌, ◌<◌, ◌≤◌, ◌==◌, not, Bool, true, false, cond, eqb, ltb, List, [], ◌∷◌, length, get_or, refl, sym, ◌∙◌, ap, zero-add, arith, Option, Some, None}
 use Rattle.std.specs.Prelude.{position}
 use Rattle.std.specs.List.{filter, position_or_len}
-use Rattle.std.proofs.lemmas.Bool.{cases_eq, cases_lt, cases_Bool, eqb-true, eq-eqb, ne_eqb, lt-ltb, le-ltb}
+use Rattle.std.proofs.lemmas.Bool.{cases_eq, cases_lt, cases_Bool, eqb-true, eq-eqb, ne_eqb, lt-ltb, le-ltb, both_ways}
 use Rattle.std.proofs.lemmas.Bool.Decides.{nat_tests}
 use Rattle.std.proofs.lemmas.List.Sums.{fails_before_first}
 use Rattle.model.specs.Soundness.{count_of}
@@ -157,3 +157,25 @@ victim_below references (s ∷ order) slot n below e = by (victim_below referenc
     by rest (Some later) was free is = rest (was ∙ is)
     by rest None was true is = let same : s ≡ slot = cc is in let first : s < n = below 0 (omega arith) in omega arith
     by rest None was false is = absurd (cc is)
+
+-- each slot stands in it
+pub absent : (i : ℕ) (o : List ℕ) → ((k : ℕ) → k < length o → eqb (get_or o k 0) i ≡ false) → count_of i o ≡ 0
+absent i [] out = refl
+absent i (a ∷ o) out = let here : eqb a i ≡ false = out 0 (omega arith) in rw here (zero-add _ ∙ absent i o (λ k lt. out (suc k) (omega arith)))
+
+pub has_place : (o : List ℕ) (i : ℕ) → IsOrder o → i < 40 → position (λ s. s == i) o ≢ None
+has_place o i is lt none = let zero : count_of i o ≡ 0 = absent i o (λ k below. none_passes (λ s. s == i) o k 0 none below) in let one = is.each i lt in omega arith
+
+-- where there is none, each slot of the order has references
+pub victim_none : (references order : List ℕ) → victim_in references order ≡ None → (k : ℕ) → k < length order → get_or references (get_or order k 0) 0 ≢ 0
+victim_none references [] none k lt = absurd (omega arith)
+victim_none references (s ∷ order) none k lt = let f = parts (victim_in references order) refl (eqb (get_or references s 0) 0) refl none in by (victim_none references order f.0) f.1 k lt
+  where
+    parts : (v : Option ℕ) → victim_in references order ≡ v → (free : Bool) → eqb (get_or references s 0) 0 ≡ free → later_or v free s ≡ None → (victim_in references order ≡ None) × (eqb (get_or references s 0) 0 ≡ false)
+    parts (Some later) was free test is = absurd (cc is)
+    parts None was true test is = absurd (cc is)
+    parts None was false test is = (was, test)
+
+    by : ((j : ℕ) → j < length order → get_or references (get_or order j 0) 0 ≢ 0) → eqb (get_or references s 0) 0 ≡ false → (j : ℕ) → j < suc (length order) → get_or references (get_or (s ∷ order) j 0) 0 ≢ 0
+    by rest test zero inside = λ e. both_ways _ test (eq-eqb _ _ e)
+    by rest test (suc j) inside = rest j (omega (arith, inside))

@@ -1,5 +1,5 @@
 -- The slots of a cache after a change of one, which slot a block has, and which is taken for it.
-use Rattle.std.proofs.Common.{◌≡◌, ◌≢◌, inl, inr, ℕ, zero, suc, ◌<◌, ◌==◌, true, false, map, replicate, length, get_or, refl, sym, ◌∙◌, ap, subst, arith, Option, Some, None, length-set}
+use Rattle.std.proofs.Common.{◌≡◌, ◌≢◌, inl, inr, ℕ, zero, suc, ◌<◌, ◌==◌, true, false, map, replicate, length, get_or, refl, sym, ◌∙◌, ap, subst, arith, Option, Some, None, length-set, position}
 use Rattle.std.proofs.Math.ListN as listn
 use Rattle.std.proofs.lemmas.Bool.{cases_eq, cases_lt, cases_Bool, cond-true, cond-false, eqb-true, both_ways, false≢true}
 use Rattle.std.proofs.lemmas.List.{get_or-set_same, get_or-set_other, get_or_past, length-replicate}
@@ -8,7 +8,8 @@ use Rattle.bcache.specs.declared.types.Buffer.{Buffer}
 use Rattle.bcache.specs.Current.{is_number_in, is_of, references_of}
 use Rattle.bcache.specs.Order.{IsOrder, moved_to_front}
 use Rattle.bcache.specs.Buffers.{Buffers, empty_buffer, buffer, with_buffer, found, victim, taken, released, after_lock, after_take, after_acquire, after_acquire_by, fresh_buffers, IsOnce, IsCache}
-use Rattle.bcache.specs.Lemmas.Order.{none_passes, order_moved, order_first, slot_below, victim_unused, victim_below}
+use Rattle.bcache.specs.Laws.{AreAllInUse}
+use Rattle.bcache.specs.Lemmas.Order.{none_passes, has_place, order_moved, order_first, slot_below, victim_none, victim_unused, victim_below}
 
 -- a slot after a change of one
 pub buffer_same : (c : Buffers) (i : ℕ) (t : Buffer) → i < length c.slots → buffer (with_buffer c i t) i ≡ t
@@ -55,6 +56,14 @@ some_found c b i some = let f = position-Some (is_of b) c.slots i empty_buffer s
 pub block_is : (b : ℕ) (o : Option ℕ) → is_number_in b o ≡ true → o ≡ Some b
 block_is b None e = absurd (false≢true e)
 block_is b (Some d) e = ap (λ (k : ℕ). Some k) (sym (eqb-true b d e))
+
+-- the slot of a block is the one that is found
+pub found_at : (c : Buffers) (b i : ℕ) → IsCache c → is_of b (buffer c i) ≡ true → found c b ≡ Some i
+found_at c b i is here = by (found c b) refl
+  where
+    by : (at : Option ℕ) → found c b ≡ at → found c b ≡ Some i
+    by None e = absurd (both_ways _ (none_found c b e i) here)
+    by (Some j) e = e ∙ ap (λ (k : ℕ). Some k) (is.once.same j i b (some_found c b j e).1 here)
 
 pub is_number_some : (b d : ℕ) (o : Option ℕ) → o ≡ Some d → is_number_in b o ≡ true → b ≡ d
 is_number_some b d o is e = eqb-true b d (sym (ap (is_number_in b) is) ∙ e)
@@ -142,3 +151,14 @@ cache_acquired c pid b is = by (found c b) refl
     by : (at : Option ℕ) → found c b ≡ at → IsCache (after_acquire_by at c pid b)
     by None e = take e (victim c) refl
     by (Some i) e = lock i (let inside = (some_found c b i e).0 in omega (arith, inside, is.size)) (buffer c i).holder
+
+-- where there is none, each slot has references
+pub victim_none_in_use : (c : Buffers) → IsCache c → victim c ≡ None → AreAllInUse c
+victim_none_in_use c is none i lt = by (position (λ s. s == i) c.order) refl
+  where
+    by : (at : Option ℕ) → position (λ s. s == i) c.order ≡ at → references_of (buffer c i) ≢ 0
+    by None e = absurd (has_place c.order i is.order lt e)
+    by (Some k) e =
+        let f = position-Some (λ s. s == i) c.order k 0 e in
+        let here : get_or c.order k 0 ≡ i = eqb-true _ _ f.1 in
+        λ free. victim_none (map references_of c.slots) c.order none k f.0 (ap (λ (j : ℕ). get_or (map references_of c.slots) j 0) here ∙ sym (references_at c i) ∙ free)

@@ -1,0 +1,157 @@
+-- There is always a buffer for who needs one, where nobody holds a buffer but such processes as
+-- have an operation open in the log, and each of these one.
+use Rattle.std.proofs.Common.{◌≡◌, ◌≢◌, ℕ, zero, suc, ◌+◌, ◌*◌, ◌<◌, ◌≤◌, Bool, true, false, List, [], ◌∷◌, ◌++◌, length, map, get_or, length-drop, length-append, refl, ◌∙◌, ap, subst, arith, Option, Some, None, inl, inr, ◌⊎◌}
+use Rattle.std.specs.List.{sum_by}
+use Rattle.std.proofs.lemmas.Bool.{cases_eq, eq-eqb, ne_eqb}
+use Rattle.std.proofs.lemmas.List.{length-map}
+use Rattle.std.proofs.lemmas.List.Sums.{sum_by-cons}
+use Rattle.blocks.specs.Disk.{Image}
+use Rattle.model.specs.Soundness.{count_of}
+use Rattle.model.specs.Lemmas.Counts.{count_of-append}
+use Rattle.bcache.specs.Current.{references_of, holder_count, is_number_in}
+use Rattle.bcache.specs.Buffers.{Buffers, buffer, found, victim, IsCache, block_or_zero, answer_by, take_answer, lock_answer}
+use Rattle.bcache.specs.Lemmas.Order.{counted_below}
+use Rattle.bcache.specs.Lemmas.Slots.{some_found, found_at, block_is, victim_none_in_use}
+use Rattle.wal.specs.declared.types.Commit.{Commit}
+use Rattle.wal.specs.declared.types.Commit.TheVariants as commit
+use Rattle.wal.specs.Held.{HasLock}
+use Rattle.wal.specs.Joint.{JointAt, live_at, pins_of}
+use Rattle.wal.specs.Machine.{LogState, used_by, is_among, ten, added_by, unused}
+use Rattle.wal.specs.Volume.{get_answer_by, cause_to_get, cause_of_get}
+
+-- ---- the slots of the open operations
+
+slots_of : (ℕ → ℕ) → List (Option ℕ) → ℕ → List ℕ
+slots_of keeps [] k = []
+slots_of keeps (None ∷ us) k = slots_of keeps us (suc k)
+slots_of keeps (Some u ∷ us) k = keeps k ∷ slots_of keeps us (suc k)
+
+few_slots : (keeps : ℕ → ℕ) (us : List (Option ℕ)) (k : ℕ) → 10 * length (slots_of keeps us k) ≤ sum_by ten us
+unfolding slots_of
+few_slots keeps [] k = omega arith
+few_slots keeps (None ∷ us) k = let rest = few_slots keeps us (suc k) in omega (arith, rest, sum_by-cons ten None us)
+few_slots keeps (Some u ∷ us) k = let rest = few_slots keeps us (suc k) in omega (arith, rest, sum_by-cons ten (Some u) us)
+
+slot_among : (keeps : ℕ → ℕ) (us : List (Option ℕ)) (k p j u : ℕ) → j ≡ k + p → get_or us p None ≡ Some u → count_of (keeps j) (slots_of keeps us k) ≢ 0
+unfolding slots_of
+slot_among keeps [] k p j u is has = absurd (cc has)
+slot_among keeps (None ∷ us) k zero j u is has = absurd (cc has)
+slot_among keeps (None ∷ us) k (suc p) j u is has = slot_among keeps us (suc k) p j u (omega (arith, is)) has
+slot_among keeps (Some v ∷ us) k zero j u is has =
+    let same : keeps k ≡ keeps j = let e : k ≡ j = omega (arith, is) in ap keeps e in
+    λ (e : count_of (keeps j) (keeps k ∷ slots_of keeps us (suc k)) ≡ 0).
+    let one : count_of (keeps j) (keeps k ∷ slots_of keeps us (suc k)) ≡ 1 + count_of (keeps j) (slots_of keeps us (suc k)) = rw (eq-eqb (keeps k) (keeps j) same) refl in
+    omega (arith, e, one)
+slot_among keeps (Some v ∷ us) k (suc p) j u is has =
+    let rest = slot_among keeps us (suc k) p j u (omega (arith, is)) has in
+    λ (e : count_of (keeps j) (keeps k ∷ slots_of keeps us (suc k)) ≡ 0).
+    rest (omega (arith, e))
+
+tens : (us : List (Option ℕ)) → sum_by ten us ≤ sum_by added_by us + sum_by unused us
+tens [] = omega arith
+tens (None ∷ us) =
+    let rest = tens us in
+    omega (arith, rest, sum_by-cons ten None us, sum_by-cons added_by None us, sum_by-cons unused None us)
+tens (Some u ∷ us) =
+    let rest = tens us in
+    omega (arith, rest, sum_by-cons ten (Some u) us, sum_by-cons added_by (Some u) us, sum_by-cons unused (Some u) us)
+
+-- ---- the slots of the homes
+
+home_among : (f : ℕ → ℕ) (b i : ℕ) (hs : List ℕ) → is_among b hs ≡ true → f b ≡ i → count_of i (map f hs) ≢ 0
+home_among f b i [] among is = absurd (cc among)
+home_among f b i (h ∷ hs) among is = elim (cases_eq h b) [
+  | inl same ↦ λ (e : count_of i (map f (h ∷ hs)) ≡ 0).
+      let one : count_of i (map f (h ∷ hs)) ≡ 1 + count_of i (map f hs) = rw (eq-eqb (f h) i (ap f same ∙ is)) refl in
+      omega (arith, e, one)
+  | inr other ↦ λ (e : count_of i (map f (h ∷ hs)) ≡ 0).
+      let rest : is_among b hs ≡ true = rw (ne_eqb h b other) at among in
+      home_among f b i hs rest is (omega (arith, e))
+]
+
+few_live : (k : Commit) (hs : List ℕ) → length (live_at k hs) ≤ length hs
+few_live commit.Quiet hs = omega arith
+few_live (commit.Logging k) hs = omega arith
+few_live commit.Heading hs = omega arith
+few_live (commit.Homing k) hs = let e = length-drop k hs in omega (arith, e)
+few_live commit.Clearing hs = let e = length-drop (length hs) hs in omega (arith, e)
+
+-- what a pinned slot is for
+pinned_home : (hs : List ℕ) (o : Option ℕ) → pins_of hs o ≢ 0 → (b : ℕ) × (o ≡ Some b) × (is_among b hs ≡ true)
+pinned_home hs None some = absurd (some refl)
+pinned_home hs (Some b) some = by (is_among b hs) refl
+  where
+    by : (t : Bool) → is_among b hs ≡ t → (a : ℕ) × (Some b ≡ Some a) × (is_among a hs ≡ true)
+    by true is = (b, refl, is)
+    by false is = absurd (some (rw is refl))
+
+-- who has a buffer's lock has an operation open, and no other buffer
+pub record HoldsOne (c : Buffers) (l : LogState) (keeps : ℕ → ℕ) (p i : ℕ) : Type 0 where
+  pub slot : keeps p ≡ i
+  pub used : ℕ
+  pub has : used_by l p ≡ Some used
+
+module _ (k : Commit) (x : Image) (c : Buffers) (l : LogState) (j : JointAt k x c l) (keeps : ℕ → ℕ) (each : (p i : ℕ) → (buffer c i).holder ≡ Some p → HoldsOne c l keeps p i) where
+  abbrev live : List ℕ
+  live = live_at k l.homes
+
+  abbrev place_of : ℕ → ℕ
+  place_of b = block_or_zero (found c b)
+
+  abbrev in_use : List ℕ
+  in_use = map place_of live ++ slots_of keeps l.used 0
+
+  stands_somewhere : (i : ℕ) → references_of (buffer c i) ≢ 0 → (o : Option ℕ) → (buffer c i).holder ≡ o →
+      (count_of i (map place_of live) ≢ 0) ⊎ (count_of i (slots_of keeps l.used 0) ≢ 0)
+  stands_somewhere i some None free =
+      let pins : pins_of (live_at k l.homes) (buffer c i).block ≢ 0 =
+      λ (e : pins_of (live_at k l.homes) (buffer c i).block ≡ 0). some (ap (λ (o : Option ℕ). (buffer c i).pins + holder_count o) free ∙ ap (λ (n : ℕ). n + 0) (j.pins i ∙ e)) in
+      let home = pinned_home (live_at k l.homes) (buffer c i).block pins in
+      let at : found c home.0 ≡ Some i = found_at c home.0 i j.cache (ap (is_number_in home.0) home.1 ∙ eq-eqb home.0 home.0 refl) in
+      inl (home_among (λ (b : ℕ). block_or_zero (found c b)) home.0 i (live_at k l.homes) home.2 (ap block_or_zero at))
+  stands_somewhere i some (Some p) held =
+      let one = each p i held in
+      inr (subst (λ (s : ℕ). count_of s (slots_of keeps l.used 0) ≢ 0) one.slot (slot_among keeps l.used 0 p p one.used (omega arith) one.has))
+
+  stands_there : (i : ℕ) → references_of (buffer c i) ≢ 0 → count_of i in_use ≢ 0
+  stands_there i some none =
+      let all = count_of-append i (map place_of live) (slots_of keeps l.used 0) in
+      elim (stands_somewhere i some (buffer c i).holder refl) [
+        | inl here ↦ here (omega (arith, none, all))
+        | inr here ↦ here (omega (arith, none, all))
+      ]
+
+  few_in_use : length in_use ≤ 33
+  few_in_use =
+      let all = length-append (map place_of (live_at k l.homes)) (slots_of keeps l.used 0) in
+      let homes = length-map (live_at k l.homes) place_of in
+      let less = few_live k l.homes in
+      let slots = few_slots keeps l.used 0 in
+      let sums = tens l.used in
+      let room = j.log.room in
+      let added = j.log.added in
+      omega (arith, all, homes, less, slots, sums, room, added)
+
+  -- a buffer is left
+  pub some_victim : victim c ≢ None
+  some_victim none =
+      let all = counted_below 40 in_use (λ (i : ℕ) (lt : i < 40). stands_there i (victim_none_in_use c j.cache none i lt)) in
+      let few = few_in_use in
+      omega (arith, all, few)
+
+-- ---- a block is got that nobody holds
+
+pub gets_now : (c : Buffers) (b : ℕ) → IsCache c → ((q i : ℕ) → HasLock c q b i → ⊥) → victim c ≢ None → cause_to_get c (Some b) ≡ None
+gets_now c b is free left = by (found c b) refl
+  where
+    by_holder : (i : ℕ) (valid : Bool) → found c b ≡ Some i → (o : Option ℕ) → (buffer c i).holder ≡ o → cause_of_get (get_answer_by (lock_answer o i valid)) ≡ None
+    by_holder i valid at None e = refl
+    by_holder i valid at (Some q) e = absurd (free q i (record { holder = e; block = block_is b (buffer c i).block (some_found c b i at).1 }))
+
+    by_victim : (o : Option ℕ) → victim c ≡ o → cause_of_get (get_answer_by (take_answer o)) ≡ None
+    by_victim None e = absurd (left e)
+    by_victim (Some i) e = refl
+
+    by : (o : Option ℕ) → found c b ≡ o → cause_of_get (get_answer_by (answer_by (found c b) c)) ≡ None
+    by None at = rw at (by_victim (victim c) refl)
+    by (Some i) at = rw at (by_holder i (buffer c i).valid at (buffer c i).holder refl)
