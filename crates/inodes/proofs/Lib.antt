@@ -36,3 +36,6 @@ mod WriteMoves
 mod WriteTakes
 mod WriteDoes
 mod WriteEnds
+mod FreePlaces
+mod KeptBlocks
+mod GoesOn

@@ -51,8 +51,11 @@ module _ (cur : Image) (t : TableState) (ts : List TaskState) (are : AreLooking 
       by_claim (Some h) claimed = let locked = claim_locks q i h claimed in absurd (alone q locked.0 apart locked.1)
 
   -- who has locked a number is the only one
+  pub one_holder : (p q j k i : ℕ) → grip_of (task ts p) ≡ Some (locked_grip j i) → grip_of (task ts q) ≡ Some (locked_grip k i) → p ≡ q
+  one_holder p q j k i mine theirs = locks_exclude t (grips_of ts) cur p q i j k are.table (grip_is ts p ∙ mine) (grip_is ts q ∙ theirs)
+
   pub locks_alone : (p k i : ℕ) → grip_of (task ts p) ≡ Some (locked_grip k i) → LocksAlone ts p i
-  locks_alone p k i mine q l apart theirs = apart (sym (locks_exclude t (grips_of ts) cur p q i k l are.table (grip_is ts p ∙ mine) (grip_is ts q ∙ theirs)))
+  locks_alone p k i mine q l apart theirs = apart (sym (one_holder p q k l i mine theirs))
 
   pub holds_alone : (p k i : ℕ) → grip_of (task ts p) ≡ Some (locked_grip k i) → HoldsAlone ts p i
   holds_alone p k i mine = holds_alone_of p i (locks_alone p k i mine)

@@ -19,6 +19,7 @@ pub mod Store
 pub mod Table
 pub mod Tasks
 pub mod Turning
+pub mod Waiting
 pub mod WriteRuns
 pub mod Writei
 pub mod Writing

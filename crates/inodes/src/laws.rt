@@ -4,6 +4,7 @@ ghost use Rattle.std.specs.Prelude.{ℕ};
 ghost use Rattle.inodes.specs.Store.{StoreState};
 ghost use Rattle.inodes.specs.Runs.{NoInodeSawAll, MadeSawLower, StepsLeaveOthers, CommitsLeaveAll, BoundsLeaveOthers};
 ghost use Rattle.inodes.specs.WriteRuns.{ShortSawFull};
+ghost use Rattle.inodes.specs.Waiting.{SleepsForCause};
 ghost use Rattle.inodes.specs.ReadRuns.{BegunMayStep, ReadsPart};
 ghost use Rattle.inodes.specs.Table.{HasPlace};
 ghost use Rattle.inodes.specs.Grips.{KeptByRefer, KeptByLock, KeptByRenew, KeptByLeave, KeptByImage, IsTableAtOpening, HasPlaceForEach, LocksExclude, HolderIsAnother};
@@ -64,4 +65,10 @@ pub fn grips_say()
     ensures place { HasPlaceForEach }
     ensures exclude { LocksExclude }
     ensures another { HolderIsAnother }
+{}
+
+/// A step that has to wait says why: it has the cause that the buffers or the table give to where
+/// its task stands.
+pub fn sleeps_for_cause<D: Disk>()
+    ensures { SleepsForCause D.Disk }
 {}

@@ -11,6 +11,7 @@ ghost use Rattle.inodes.specs.Store.{IsStore, MayBegin, FitsFiles, KeepsFiles, f
 ghost use Rattle.inodes.specs.Steps.{Steps, Commits};
 ghost use Rattle.inodes.specs.Places.{is_over};
 ghost use Rattle.inodes.specs.Table.{new_table};
+ghost use Rattle.inodes.specs.Waiting.{NobodyWaitsForEver};
 ghost use Rattle.inodes.specs.declared.tasks.Place.TheVariants as place;
 
 use crate::{Ialloc, Ilock, Inodes, Place, Progress, Tasks};
@@ -80,11 +81,14 @@ impl<D: Disk> Store<D> {
         self.inodes.inode_count()
     }
 
-    /// Does nothing: it says what is true of every store.
+    /// Does nothing: it says what is true of every store. Where a task is under way, one is whose
+    /// next step need not wait: xv6 and Bach argue so of their sleep locks and buffers (Bach, "The
+    /// Buffer Cache": "Scenarios for retrieval of a buffer"); here it is proved.
     pub fn known(&self)
         ensures store { IsStore D.image self.now }
         ensures volume { IfNone self.now.volume.fault (Joint (D.image self.now.volume.device)
             self.now.volume.buffers self.now.volume.log) }
+        ensures goes { IfNone self.now.volume.fault (NobodyWaitsForEver self.now) }
     {
         self.volume.known();
     }

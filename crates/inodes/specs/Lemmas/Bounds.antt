@@ -5,7 +5,6 @@ use Rattle.std.specs.Prelude.{is_none}
 use Rattle.std.proofs.lemmas.Bool.{false≢true}
 use Rattle.blocks.specs.Disk.{Image}
 use Rattle.model.specs.declared.types.image.Dinode.{Dinode}
-use Rattle.model.specs.declared.types.operations.Op.TheVariants.{Read}
 use Rattle.model.specs.Layout.{inode_count_of}
 use Rattle.model.specs.Lemmas.Soundness.{facts_of}
 use Rattle.model.specs.Soundness.{IsLawfulGeometry}

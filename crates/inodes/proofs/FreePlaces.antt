@@ -1,0 +1,245 @@
+-- A task by its place: whether its next step uses what it has got, what it keeps while it gets
+-- another block, and that it waits for this alone.
+use Rattle.std.proofs.Common.{◌≡◌, ℕ, Bool, true, false, refl, inl, inr, ◌⊎◌, Option, Some, None}
+use Rattle.std.specs.Prelude.{is_some, not}
+use Rattle.bcache.specs.Buffers.{Buffers}
+use Rattle.blockmap.specs.declared.bmap_alloc.MapAt.{MapAt}
+use Rattle.blockmap.specs.declared.bmap_alloc.MapAt.TheVariants as map_at
+use Rattle.blockmap.specs.Target.{slot_in}
+use Rattle.inodes.specs.declared.ilock.LockAt.{LockAt}
+use Rattle.inodes.specs.declared.ilock.LockAt.TheVariants as lock_at
+use Rattle.inodes.specs.declared.itrunc.TruncAt.{TruncAt}
+use Rattle.inodes.specs.declared.itrunc.TruncAt.TheVariants as trunc_at
+use Rattle.inodes.specs.declared.tasks.Place.{Place}
+use Rattle.inodes.specs.declared.tasks.Place.TheVariants as place
+use Rattle.inodes.specs.declared.writei.WriteAt.{WriteAt}
+use Rattle.inodes.specs.declared.writei.WriteAt.TheVariants as write_at
+use Rattle.inodes.specs.Holding.{kept_slot, used_slot}
+use Rattle.inodes.specs.Itrunc.{TruncState}
+use Rattle.inodes.specs.LockState.{slot_of}
+use Rattle.inodes.specs.Places.{HasSlot, is_over}
+use Rattle.inodes.specs.Table.{TableState}
+use Rattle.inodes.specs.Writei.{WriteState}
+use Rattle.inodes.specs.Writing.{slot_of_alloc, kept_by_write, used_on_way, used_by_write}
+use Rattle.inodes.specs.Waiting.{unless_got, wanted_by_trunc, wanted_on_way, wanted_by_write, cause_to_lock, cause_at}
+use Rattle.wal.specs.Volume.{cause_to_get}
+
+-- ---- whose next step gets nothing
+
+abbrev pub frees_freely : TruncAt → Bool
+frees_freely (trunc_at.Direct k f) = is_some f.slot
+frees_freely trunc_at.Getting = false
+frees_freely (trunc_at.Entry i f) = is_some f.slot
+frees_freely (trunc_at.Releasing i) = true
+frees_freely (trunc_at.Indirect f) = is_some f.slot
+frees_freely (trunc_at.Writing u) = is_some u.slot
+
+abbrev pub maps_freely : MapAt → Bool
+maps_freely (map_at.Direct t) = is_some (slot_of_alloc t.at)
+maps_freely (map_at.Indirect t) = is_some (slot_of_alloc t.at)
+maps_freely (map_at.Entry slot) = is_some slot
+maps_freely (map_at.Behind i t) = is_some (slot_of_alloc t.at)
+maps_freely (map_at.Setting i found) = true
+
+abbrev pub writes_freely : WriteAt → Bool
+writes_freely (write_at.Mapping way) = maps_freely way.at
+writes_freely (write_at.Block b slot) = is_some slot
+writes_freely (write_at.Updating u) = is_some u.slot
+
+abbrev pub locks_freely : LockAt → Bool
+locks_freely lock_at.Reference = true
+locks_freely (lock_at.Lock k) = false
+locks_freely (lock_at.Read k slot) = is_some slot
+
+abbrev pub is_free : Place → Bool
+is_free place.Nowhere = false
+is_free (place.Creating m) = is_some m.slot
+is_free (place.Taking m) = locks_freely m.at
+is_free (place.Reading k m) = is_some (slot_in m.target)
+is_free (place.Delivering k) = true
+is_free (place.Truncating k m) = frees_freely m.at
+is_free (place.Writing k m) = writes_freely m.at
+is_free (place.Leaving k) = true
+
+got_some : (c : Buffers) (o : Option ℕ) (b : ℕ) → is_some o ≡ true → cause_to_get c (unless_got o b) ≡ None
+got_some c None b e = absurd (cc e)
+got_some c (Some i) b e = refl
+
+free_trunc : (c : Buffers) (m : TruncState) (a : TruncAt) → frees_freely a ≡ true → cause_to_get c (wanted_by_trunc m a) ≡ None
+free_trunc c m (trunc_at.Direct k f) e = got_some c f.slot f.bitmap e
+free_trunc c m trunc_at.Getting e = absurd (cc e)
+free_trunc c m (trunc_at.Entry i f) e = got_some c f.slot f.bitmap e
+free_trunc c m (trunc_at.Releasing i) e = refl
+free_trunc c m (trunc_at.Indirect f) e = got_some c f.slot f.bitmap e
+free_trunc c m (trunc_at.Writing u) e = got_some c u.slot _ e
+
+free_way : (c : Buffers) (m : WriteState) (a : MapAt) → maps_freely a ≡ true → cause_to_get c (wanted_on_way m.inode a) ≡ None
+free_way c m (map_at.Direct t) e = got_some c (slot_of_alloc t.at) _ e
+free_way c m (map_at.Indirect t) e = got_some c (slot_of_alloc t.at) _ e
+free_way c m (map_at.Entry slot) e = got_some c slot _ e
+free_way c m (map_at.Behind i t) e = got_some c (slot_of_alloc t.at) _ e
+free_way c m (map_at.Setting i found) e = refl
+
+free_write : (c : Buffers) (m : WriteState) (a : WriteAt) → writes_freely a ≡ true → cause_to_get c (wanted_by_write m a) ≡ None
+free_write c m (write_at.Mapping way) e = free_way c m way.at e
+free_write c m (write_at.Block b slot) e = got_some c slot b e
+free_write c m (write_at.Updating u) e = got_some c u.slot _ e
+
+free_lock : (c : Buffers) (t : TableState) (a : LockAt) (i : ℕ) → locks_freely a ≡ true → cause_to_lock c t a i ≡ None
+free_lock c t lock_at.Reference i e = refl
+free_lock c t (lock_at.Lock k) i e = absurd (cc e)
+free_lock c t (lock_at.Read k slot) i e = got_some c slot _ e
+
+-- who stands so goes on
+pub free_goes : (c : Buffers) (t : TableState) (a : Place) → is_free a ≡ true → cause_at c t a ≡ None
+free_goes c t place.Nowhere e = refl
+free_goes c t (place.Creating m) e = got_some c m.slot _ e
+free_goes c t (place.Taking m) e = free_lock c t m.at m.number e
+free_goes c t (place.Reading k m) e = got_some c (slot_in m.target) _ e
+free_goes c t (place.Delivering k) e = refl
+free_goes c t (place.Truncating k m) e = free_trunc c m m.at e
+free_goes c t (place.Writing k m) e = free_write c m m.at e
+free_goes c t (place.Leaving k) e = refl
+
+-- and is not over
+pub free_busy : (a : Place) → is_free a ≡ true → is_over a ≡ false
+free_busy place.Nowhere e = absurd (cc e)
+free_busy (place.Creating m) e = refl
+free_busy (place.Taking m) e = refl
+free_busy (place.Reading k m) e = refl
+free_busy (place.Delivering k) e = refl
+free_busy (place.Truncating k m) e = refl
+free_busy (place.Writing k m) e = refl
+free_busy (place.Leaving k) e = refl
+
+-- ---- what is kept while another block is got
+
+-- the slot of the block of addresses
+abbrev pub kept_at : Place → Option ℕ
+kept_at place.Nowhere = None
+kept_at (place.Creating m) = None
+kept_at (place.Taking m) = None
+kept_at (place.Reading k m) = None
+kept_at (place.Delivering k) = None
+kept_at (place.Truncating k m) = kept_slot m.at
+kept_at (place.Writing k m) = kept_by_write m.at
+kept_at (place.Leaving k) = None
+
+not_got : (o : Option ℕ) (i : ℕ) → is_some o ≡ false → o ≡ Some i → ⊥
+not_got None i e has = cc has
+not_got (Some j) i e has = cc e
+
+used_trunc : (a : TruncAt) (i : ℕ) → frees_freely a ≡ false → used_slot a ≡ Some i → ⊥
+used_trunc (trunc_at.Direct k f) i e has = not_got f.slot i e has
+used_trunc trunc_at.Getting i e has = cc has
+used_trunc (trunc_at.Entry j f) i e has = not_got f.slot i e has
+used_trunc (trunc_at.Releasing j) i e has = cc has
+used_trunc (trunc_at.Indirect f) i e has = not_got f.slot i e has
+used_trunc (trunc_at.Writing u) i e has = not_got u.slot i e has
+
+used_way : (a : MapAt) (i : ℕ) → maps_freely a ≡ false → used_on_way a ≡ Some i → ⊥
+used_way (map_at.Direct t) i e has = not_got (slot_of_alloc t.at) i e has
+used_way (map_at.Indirect t) i e has = not_got (slot_of_alloc t.at) i e has
+used_way (map_at.Entry slot) i e has = cc has
+used_way (map_at.Behind j t) i e has = not_got (slot_of_alloc t.at) i e has
+used_way (map_at.Setting j found) i e has = cc has
+
+used_write : (a : WriteAt) (i : ℕ) → writes_freely a ≡ false → used_by_write a ≡ Some i → ⊥
+used_write (write_at.Mapping way) i e has = used_way way.at i e has
+used_write (write_at.Block b slot) i e has = not_got slot i e has
+used_write (write_at.Updating u) i e has = not_got u.slot i e has
+
+locks_none : (a : LockAt) (i : ℕ) → locks_freely a ≡ false → slot_of a ≡ Some i → ⊥
+locks_none lock_at.Reference i e has = cc has
+locks_none (lock_at.Lock k) i e has = cc has
+locks_none (lock_at.Read k slot) i e has = not_got slot i e has
+
+either : {A B : Type 0} → A ⊎ B → (B → ⊥) → A
+either (inl a) none = a
+either (inr b) none = absurd (none b)
+
+-- who gets a block next has no other slot
+pub has_kept : (a : Place) (i : ℕ) → is_free a ≡ false → HasSlot a i → kept_at a ≡ Some i
+has_kept place.Nowhere i e has = has
+has_kept (place.Creating m) i e has = absurd (not_got m.slot i e has)
+has_kept (place.Taking m) i e has = absurd (locks_none m.at i e has)
+has_kept (place.Reading k m) i e has = absurd (not_got (slot_in m.target) i e has)
+has_kept (place.Delivering k) i e has = has
+has_kept (place.Truncating k m) i e has = either has (used_trunc m.at i e)
+has_kept (place.Writing k m) i e has = either has (used_write m.at i e)
+has_kept (place.Leaving k) i e has = has
+
+-- ---- who waits for an inode's lock
+
+abbrev pub is_lock : LockAt → Bool
+is_lock lock_at.Reference = false
+is_lock (lock_at.Lock k) = true
+is_lock (lock_at.Read k slot) = false
+
+-- a task that is to get a block
+abbrev pub is_getting : Place → Bool
+is_getting place.Nowhere = false
+is_getting (place.Creating m) = true
+is_getting (place.Taking m) = not (is_lock m.at)
+is_getting (place.Reading k m) = true
+is_getting (place.Delivering k) = true
+is_getting (place.Truncating k m) = true
+is_getting (place.Writing k m) = true
+is_getting (place.Leaving k) = true
+
+-- what a task waits for that waits for no lock
+abbrev pub Waits : Buffers → TableState → Place → Type 0
+Waits c t a = (b : ℕ) × (cause_at c t a ≡ cause_to_get c (Some b))
+
+some_got : (c : Buffers) (o : Option ℕ) (b : ℕ) → is_some o ≡ false → cause_to_get c (unless_got o b) ≡ cause_to_get c (Some b)
+some_got c None b e = refl
+some_got c (Some i) b e = absurd (cc e)
+
+trunc_waits : (c : Buffers) (m : TruncState) (a : TruncAt) → frees_freely a ≡ false → (b : ℕ) × (cause_to_get c (wanted_by_trunc m a) ≡ cause_to_get c (Some b))
+trunc_waits c m (trunc_at.Direct k f) e = (_, some_got c f.slot f.bitmap e)
+trunc_waits c m trunc_at.Getting e = (_, refl)
+trunc_waits c m (trunc_at.Entry i f) e = (_, some_got c f.slot f.bitmap e)
+trunc_waits c m (trunc_at.Releasing i) e = absurd (cc e)
+trunc_waits c m (trunc_at.Indirect f) e = (_, some_got c f.slot f.bitmap e)
+trunc_waits c m (trunc_at.Writing u) e = (_, some_got c u.slot _ e)
+
+way_waits : (c : Buffers) (m : WriteState) (a : MapAt) → maps_freely a ≡ false → (b : ℕ) × (cause_to_get c (wanted_on_way m.inode a) ≡ cause_to_get c (Some b))
+way_waits c m (map_at.Direct t) e = (_, some_got c (slot_of_alloc t.at) _ e)
+way_waits c m (map_at.Indirect t) e = (_, some_got c (slot_of_alloc t.at) _ e)
+way_waits c m (map_at.Entry slot) e = (_, some_got c slot _ e)
+way_waits c m (map_at.Behind i t) e = (_, some_got c (slot_of_alloc t.at) _ e)
+way_waits c m (map_at.Setting i found) e = absurd (cc e)
+
+write_waits : (c : Buffers) (m : WriteState) (a : WriteAt) → writes_freely a ≡ false → (b : ℕ) × (cause_to_get c (wanted_by_write m a) ≡ cause_to_get c (Some b))
+write_waits c m (write_at.Mapping way) e = way_waits c m way.at e
+write_waits c m (write_at.Block b slot) e = (_, some_got c slot b e)
+write_waits c m (write_at.Updating u) e = (_, some_got c u.slot _ e)
+
+lock_waits : (c : Buffers) (t : TableState) (a : LockAt) (i : ℕ) → locks_freely a ≡ false → is_lock a ≡ false → (b : ℕ) × (cause_to_lock c t a i ≡ cause_to_get c (Some b))
+lock_waits c t lock_at.Reference i e other = absurd (cc e)
+lock_waits c t (lock_at.Lock k) i e other = absurd (cc other)
+lock_waits c t (lock_at.Read k slot) i e other = (_, some_got c slot _ e)
+
+not_lock : (b : Bool) → not b ≡ true → b ≡ false
+not_lock true e = absurd (cc e)
+not_lock false e = refl
+
+pub getting_waits : (c : Buffers) (t : TableState) (a : Place) → is_free a ≡ false → is_getting a ≡ true → Waits c t a
+getting_waits c t place.Nowhere e is = absurd (cc is)
+getting_waits c t (place.Creating m) e is = (_, some_got c m.slot _ e)
+getting_waits c t (place.Taking m) e is = lock_waits c t m.at m.number e (not_lock (is_lock m.at) is)
+getting_waits c t (place.Reading k m) e is = (_, some_got c (slot_in m.target) _ e)
+getting_waits c t (place.Delivering k) e is = absurd (cc e)
+getting_waits c t (place.Truncating k m) e is = trunc_waits c m m.at e
+getting_waits c t (place.Writing k m) e is = write_waits c m m.at e
+getting_waits c t (place.Leaving k) e is = absurd (cc e)
+
+pub getting_busy : (a : Place) → is_getting a ≡ true → is_over a ≡ false
+getting_busy place.Nowhere e = absurd (cc e)
+getting_busy (place.Creating m) e = refl
+getting_busy (place.Taking m) e = refl
+getting_busy (place.Reading k m) e = refl
+getting_busy (place.Delivering k) e = refl
+getting_busy (place.Truncating k m) e = refl
+getting_busy (place.Writing k m) e = refl
+getting_busy (place.Leaving k) e = refl

@@ -1,0 +1,206 @@
+-- Nobody waits for ever: of the tasks under way one goes on. It is one that uses what it has got;
+-- where there is none, one that keeps a block of addresses; where there is none, one that gets a
+-- block; and else any, for nobody has an inode's lock then.
+use Rattle.std.proofs.Common.{◌≡◌, ◌≢◌, ℕ, zero, suc, Bool, true, false, List, [], ◌∷◌, refl, sym, ◌∙◌, ap, Option, Some, None, inl, inr, ◌⊎◌}
+use Rattle.std.specs.Prelude.{is_some, IfNone, not}
+use Rattle.std.proofs.lemmas.Bool.{both_ways}
+use Rattle.blocks.specs.declared.errors.DiskFault.{DiskFault}
+use Rattle.blocks.specs.Disk.{Image}
+use Rattle.bcache.specs.Buffers.{Buffers, buffer, block_or_zero, victim}
+use Rattle.wal.specs.Held.{HasLock}
+use Rattle.wal.specs.Joint.{Joint}
+use Rattle.inodes.specs.declared.ilock.LockAt.{LockAt}
+use Rattle.inodes.specs.declared.ilock.LockAt.TheVariants as lock_at
+use Rattle.inodes.specs.declared.tasks.Place.{Place}
+use Rattle.inodes.specs.declared.tasks.Place.TheVariants as place
+use Rattle.inodes.specs.Grips.{Grip, locked_grip}
+use Rattle.inodes.specs.LockState.{LockState}
+use Rattle.inodes.specs.Looks.{AreLooking}
+use Rattle.inodes.specs.Places.{is_over, grip_at, grip_by, asked_by}
+use Rattle.inodes.specs.Store.{StoreState, IsStore, Agrees, current_of}
+use Rattle.inodes.specs.Table.{TableState, holder_at}
+use Rattle.inodes.specs.Tasks.{TaskState, task}
+use Rattle.inodes.specs.Waiting.{SomeoneGoesOn, NobodyWaitsForEver, cause_at, cause_to_lock, cause_of_holder}
+use Rattle.inodes.specs.Lemmas.Faults.{where_none}
+use Rattle.inodes.proofs.Gripping.{grip_is}
+use Rattle.inodes.proofs.FreePlaces.{is_free, free_goes, free_busy, kept_at, has_kept, is_lock, is_getting, getting_waits, getting_busy}
+use Rattle.wal.specs.Lemmas.Victims.{HoldsOne, some_victim, gets_now}
+use Rattle.inodes.proofs.KeptBlocks.{kept_block, keeps_open, KeepsOpen, kept_own, kept_waits, waits_apart, WaitsBehind}
+
+-- some task passes a test, or none does
+abbrev Sought : (Place → Bool) → List TaskState → Type 0
+Sought test ts = ((q : ℕ) × (test (task ts q).place ≡ true)) ⊎ ((q : ℕ) → test (task ts q).place ≡ false)
+
+sought : (test : Place → Bool) (ts : List TaskState) → test place.Nowhere ≡ false → Sought test ts
+sought test [] none = inr (λ q. none)
+sought test (t ∷ ts) none = by (test t.place) refl (sought test ts none)
+  where
+    each : test t.place ≡ false → ((q : ℕ) → test (task ts q).place ≡ false) → (q : ℕ) → test (task (t ∷ ts) q).place ≡ false
+    each fails rest zero = fails
+    each fails rest (suc q) = rest q
+
+    by : (b : Bool) → test t.place ≡ b → Sought test ts → Sought test (t ∷ ts)
+    by true is rest = inl (0, is)
+    by false is (inl found) = inl (suc found.0, found.1)
+    by false is (inr rest) = inr (each is rest)
+
+-- ---- who has an inode's lock waits for none
+
+abbrev is_locked_in : Option Grip → Bool
+is_locked_in None = false
+is_locked_in (Some g) = g.is_locked
+
+lock_taken : (m : LockState) (a : LockAt) (k i : ℕ) → grip_at a m.number ≡ Some (locked_grip k i) → is_lock a ≡ false
+lock_taken m lock_at.Reference k i has = refl
+lock_taken m (lock_at.Lock j) k i has = let unlike : false ≡ true = ap is_locked_in has in absurd (cc unlike)
+lock_taken m (lock_at.Read j slot) k i has = refl
+
+locked_gets : (a : Place) (j k i : ℕ) → grip_by a j ≡ Some (locked_grip k i) → is_getting a ≡ true
+locked_gets place.Nowhere j k i has = absurd (cc has)
+locked_gets (place.Creating m) j k i has = refl
+locked_gets (place.Taking m) j k i has = rw (lock_taken m m.at k i has) refl
+locked_gets (place.Reading l m) j k i has = refl
+locked_gets (place.Delivering l) j k i has = refl
+locked_gets (place.Truncating l m) j k i has = refl
+locked_gets (place.Writing l m) j k i has = refl
+locked_gets (place.Leaving l) j k i has = refl
+
+-- a task that neither is over nor gets a block waits for a lock at that place, if anybody has it
+abbrev WaitsForLock : Buffers → TableState → Place → Type 0
+WaitsForLock c t a = (k : ℕ) × (cause_at c t a ≡ cause_of_holder (holder_at t.places k))
+
+at_lock : (c : Buffers) (t : TableState) (a : LockAt) (i : ℕ) → is_lock a ≡ true → (k : ℕ) × (cause_to_lock c t a i ≡ cause_of_holder (holder_at t.places k))
+at_lock c t lock_at.Reference i is = absurd (cc is)
+at_lock c t (lock_at.Lock k) i is = (k, refl)
+at_lock c t (lock_at.Read k slot) i is = absurd (cc is)
+
+lock_is : (b : Bool) → not b ≡ false → b ≡ true
+lock_is true e = refl
+lock_is false e = absurd (cc e)
+
+only_lock : (c : Buffers) (t : TableState) (a : Place) → is_over a ≡ false → is_getting a ≡ false → WaitsForLock c t a
+only_lock c t place.Nowhere busy is = absurd (cc busy)
+only_lock c t (place.Creating m) busy is = absurd (cc is)
+only_lock c t (place.Taking m) busy is = at_lock c t m.at m.number (lock_is (is_lock m.at) is)
+only_lock c t (place.Reading k m) busy is = absurd (cc is)
+only_lock c t (place.Delivering k) busy is = absurd (cc is)
+only_lock c t (place.Truncating k m) busy is = absurd (cc is)
+only_lock c t (place.Writing k m) busy is = absurd (cc is)
+only_lock c t (place.Leaving k) busy is = absurd (cc is)
+
+slot_in : (o : Option ℕ) → is_some o ≡ true → (i : ℕ) × (o ≡ Some i)
+slot_in None e = absurd (cc e)
+slot_in (Some i) e = (i, refl)
+
+module _ {D : Type 0} (image : D → Image) (s : StoreState D) (store : IsStore image s) (unfailed : s.volume.fault ≡ None) (joint : Joint (image s.volume.device) s.volume.buffers s.volume.log) where
+  abbrev c : Buffers
+  c = s.volume.buffers
+
+  abbrev at : ℕ → Place
+  at p = (task s.tasks p).place
+
+  agrees : Agrees s.volume.buffers s.volume.log s.table.inode_count s.tasks
+  agrees = where_none s.volume.fault unfailed store.agrees
+
+  looks : AreLooking (current_of image s.volume) s.table s.tasks
+  looks = where_none s.volume.fault unfailed store.looks
+
+  -- who has a buffer's lock has it for a block
+  held_block : (p i : ℕ) → (buffer c i).holder ≡ Some p → (b : ℕ) × ((buffer c i).block ≡ Some b)
+  held_block p i held = by (buffer c i).block refl
+    where
+      by : (o : Option ℕ) → (buffer c i).block ≡ o → (b : ℕ) × ((buffer c i).block ≡ Some b)
+      by None none = let free = joint.held i none in absurd (cc (sym free ∙ held))
+      by (Some b) e = (b, e)
+
+  -- ---- where each task that is not over waits for a block or a lock
+
+  module _ (waits : (q : ℕ) → is_free (at q) ≡ false) where
+    kept_by : (p b i : ℕ) → HasLock c p b i → kept_at (at p) ≡ Some i
+    kept_by p b i lock = has_kept (at p) i (waits p) (agrees.holders p b i lock)
+
+    open_by : (p i : ℕ) → kept_at (at p) ≡ Some i → KeepsOpen c s.volume.log p i (kept_block (at p))
+    open_by p i has = keeps_open c s.volume.log s.table.inode_count p i (task s.tasks p).op (at p) has (agrees.stands p)
+
+    holds_one : (p i : ℕ) → (buffer c i).holder ≡ Some p → HoldsOne c s.volume.log (λ (q : ℕ). block_or_zero (kept_at (at q))) p i
+    holds_one p i held =
+        let block = held_block p i held in
+        let kept = kept_by p block.0 i (record { holder = held; block = block.1 }) in
+        let is = open_by p i kept in
+        record { slot = ap block_or_zero kept; used = is.used; has = is.has }
+
+    left : victim c ≢ None
+    left = some_victim s.volume.log.commit (image s.volume.device) c s.volume.log joint (λ (q : ℕ). block_or_zero (kept_at (at q))) holds_one
+
+    -- who keeps a block of addresses goes on
+    keeper_goes : (p i : ℕ) → kept_at (at p) ≡ Some i → cause_at c s.table (at p) ≡ None
+    keeper_goes p i has =
+        let w = kept_waits (current_of image s.volume) s.table s.tasks looks store.numbers c p i has (waits p) in
+        w.cause ∙ gets_now c w.block joint.cache (free w) left
+      where
+        free : (w : WaitsBehind (current_of image s.volume) s.table s.tasks looks store.numbers c p) → (q j : ℕ) → HasLock c q w.block j → ⊥
+        free w q j lock =
+            let kept = kept_by q w.block j lock in
+            let same : Some w.block ≡ Some (kept_block (at q)) = sym lock.block ∙ (open_by q j kept).holds.block in
+            waits_apart (current_of image s.volume) s.table s.tasks looks store.numbers c p q w
+            (kept_own (current_of image s.volume) s.table s.tasks looks store.numbers q j kept (waits q)) (cc same)
+
+    -- where nobody keeps one, who gets a block goes on
+    getter_goes : ((q : ℕ) → is_some (kept_at (at q)) ≡ false) → (p : ℕ) → is_getting (at p) ≡ true → cause_at c s.table (at p) ≡ None
+    getter_goes none p is =
+        let w = getting_waits c s.table (at p) (waits p) is in
+        w.1 ∙ gets_now c w.0 joint.cache (free w.0) left
+      where
+        free : (b q j : ℕ) → HasLock c q b j → ⊥
+        free b q j lock = both_ways _ (none q) (ap is_some (kept_by q b j lock))
+
+    -- and where nobody gets one, who waits for a lock goes on
+    locker_goes : ((q : ℕ) → is_getting (at q) ≡ false) → (p : ℕ) → is_over (at p) ≡ false → cause_at c s.table (at p) ≡ None
+    locker_goes none p busy =
+        let w = only_lock c s.table (at p) busy (none p) in
+        w.1 ∙ by (holder_at s.table.places w.0) w.0 refl
+      where
+        by : (o : Option ℕ) (k : ℕ) → holder_at s.table.places k ≡ o → cause_of_holder (holder_at s.table.places k) ≡ None
+        by None k e = ap cause_of_holder e
+        by (Some q) k e =
+            let has = looks.table.holders q k e in
+            absurd (both_ways _ (none q) (locked_gets (at q) (asked_by (task s.tasks q).op) k has.0 (sym (grip_is s.tasks q) ∙ has.1)))
+
+    by_lock : (p : ℕ) → is_over (at p) ≡ false → ((q : ℕ) → is_some (kept_at (at q)) ≡ false) → SomeoneGoesOn s
+    by_lock p busy none = elim (sought is_getting s.tasks refl) [
+      | inl found ↦ record { process = found.0; busy = getting_busy (at found.0) found.1; goes = getter_goes none found.0 found.1 }
+      | inr all ↦ record { process = p; busy = busy; goes = locker_goes all p busy }
+    ]
+
+    kept_busy : (a : Place) → is_some (kept_at a) ≡ true → is_over a ≡ false
+    kept_busy place.Nowhere e = absurd (cc e)
+    kept_busy (place.Creating m) e = refl
+    kept_busy (place.Taking m) e = refl
+    kept_busy (place.Reading k m) e = refl
+    kept_busy (place.Delivering k) e = refl
+    kept_busy (place.Truncating k m) e = refl
+    kept_busy (place.Writing k m) e = refl
+    kept_busy (place.Leaving k) e = refl
+
+    by_keeper : (p : ℕ) → is_over (at p) ≡ false → SomeoneGoesOn s
+    by_keeper p busy = elim (sought (λ (a : Place). is_some (kept_at a)) s.tasks refl) [
+      | inl found ↦
+          let slot = slot_in (kept_at (at found.0)) found.1 in
+          record { process = found.0; busy = kept_busy (at found.0) found.1; goes = keeper_goes found.0 slot.0 slot.1 }
+      | inr none ↦ by_lock p busy none
+    ]
+
+  pub nobody_waits_for_ever : NobodyWaitsForEver s
+  nobody_waits_for_ever p busy = elim (sought is_free s.tasks refl) [
+    | inl found ↦ record { process = found.0; busy = free_busy (at found.0) found.1; goes = free_goes c s.table (at found.0) found.1 }
+    | inr waits ↦ by_keeper waits p busy
+  ]
+
+-- and so it is where the disk has not failed
+pub unless_failed : {D : Type 0} (image : D → Image) (s : StoreState D) → IsStore image s →
+    IfNone s.volume.fault (Joint (image s.volume.device) s.volume.buffers s.volume.log) → IfNone s.volume.fault (NobodyWaitsForEver s)
+unless_failed image s store joint = by s.volume.fault refl joint
+  where
+    by : (o : Option DiskFault) → s.volume.fault ≡ o → IfNone o (Joint (image s.volume.device) s.volume.buffers s.volume.log) → IfNone o (NobodyWaitsForEver s)
+    by None well here = nobody_waits_for_ever image s store well here
+    by (Some fault) well here = tt

@@ -1,0 +1,104 @@
+-- Why a task's next step has to wait, and that of the tasks under way one need not.
+use Rattle.std.specs.Prelude.{◌≡◌, ℕ, false, slice_index, Option, Some, None}
+use Rattle.blocks.specs.declared.disk.Disk.{Ghosts}
+use Rattle.model.specs.declared.types.image.Dinode.{Dinode}
+use Rattle.model.specs.declared.types.operations.Op.{Op}
+use Rattle.model.specs.declared.types.operations.TaskProgress.TheVariants as progress
+use Rattle.model.specs.declared.types.operations.Why.{Why}
+use Rattle.model.specs.declared.types.operations.Why.TheVariants as why
+use Rattle.model.specs.Layout.{inode_block}
+use Rattle.bcache.specs.Buffers.{Buffers}
+use Rattle.wal.specs.Volume.{cause_to_get}
+use Rattle.blockmap.specs.Balloc.{AllocState}
+use Rattle.blockmap.specs.BmapAlloc.{indirect_of}
+use Rattle.blockmap.specs.Target.{block_of, slot_in}
+use Rattle.blockmap.specs.declared.bmap_alloc.MapAt.{MapAt}
+use Rattle.blockmap.specs.declared.bmap_alloc.MapAt.TheVariants as map_at
+use Rattle.inodes.specs.declared.ilock.LockAt.{LockAt}
+use Rattle.inodes.specs.declared.ilock.LockAt.TheVariants as lock_at
+use Rattle.inodes.specs.declared.itrunc.TruncAt.{TruncAt}
+use Rattle.inodes.specs.declared.itrunc.TruncAt.TheVariants as trunc_at
+use Rattle.inodes.specs.declared.tasks.Place.{Place}
+use Rattle.inodes.specs.declared.tasks.Place.TheVariants as place
+use Rattle.inodes.specs.declared.writei.WriteAt.{WriteAt}
+use Rattle.inodes.specs.declared.writei.WriteAt.TheVariants as write_at
+use Rattle.inodes.specs.Itrunc.{TruncState}
+use Rattle.inodes.specs.Places.{is_over}
+use Rattle.inodes.specs.Steps.{Steps}
+use Rattle.inodes.specs.Store.{StoreState}
+use Rattle.inodes.specs.Table.{TableState, holder_at}
+use Rattle.inodes.specs.Tasks.{task}
+use Rattle.inodes.specs.Writei.{WriteState}
+use Rattle.inodes.specs.Writing.{slot_of_alloc, block_of_alloc}
+
+-- ---- the block that a task gets next; none where its next step gets none
+
+-- a block, unless it was got already
+abbrev pub unless_got : Option ℕ → ℕ → Option ℕ
+unless_got None b = Some b
+unless_got (Some i) b = None
+
+abbrev pub wanted_by_trunc : TruncState → TruncAt → Option ℕ
+wanted_by_trunc m (trunc_at.Direct k f) = unless_got f.slot f.bitmap
+wanted_by_trunc m trunc_at.Getting = Some (slice_index m.inode.addrs 12)
+wanted_by_trunc m (trunc_at.Entry i f) = unless_got f.slot f.bitmap
+wanted_by_trunc m (trunc_at.Releasing i) = None
+wanted_by_trunc m (trunc_at.Indirect f) = unless_got f.slot f.bitmap
+wanted_by_trunc m (trunc_at.Writing u) = unless_got u.slot (inode_block u.number)
+
+abbrev pub wanted_by_alloc : AllocState → Option ℕ
+wanted_by_alloc t = unless_got (slot_of_alloc t.at) (block_of_alloc t t.at)
+
+abbrev pub wanted_on_way : Dinode → MapAt → Option ℕ
+wanted_on_way d (map_at.Direct t) = wanted_by_alloc t
+wanted_on_way d (map_at.Indirect t) = wanted_by_alloc t
+wanted_on_way d (map_at.Entry slot) = unless_got slot (indirect_of d)
+wanted_on_way d (map_at.Behind i t) = wanted_by_alloc t
+wanted_on_way d (map_at.Setting i found) = None
+
+abbrev pub wanted_by_write : WriteState → WriteAt → Option ℕ
+wanted_by_write m (write_at.Mapping way) = wanted_on_way m.inode way.at
+wanted_by_write m (write_at.Block b slot) = unless_got slot b
+wanted_by_write m (write_at.Updating u) = unless_got u.slot (inode_block u.number)
+
+-- ---- why a step has to wait; none where it goes on
+
+-- an inode's lock is waited for where another has it
+abbrev pub cause_of_holder : Option ℕ → Option Why
+cause_of_holder None = None
+cause_of_holder (Some q) = Some why.InodeHeld
+
+abbrev pub cause_to_lock : Buffers → TableState → LockAt → ℕ → Option Why
+cause_to_lock c t lock_at.Reference i = None
+cause_to_lock c t (lock_at.Lock k) i = cause_of_holder (holder_at t.places k)
+cause_to_lock c t (lock_at.Read k slot) i = cause_to_get c (unless_got slot (inode_block i))
+
+abbrev pub cause_at : Buffers → TableState → Place → Option Why
+cause_at c t place.Nowhere = None
+cause_at c t (place.Creating m) = cause_to_get c (unless_got m.slot m.block)
+cause_at c t (place.Taking m) = cause_to_lock c t m.at m.number
+cause_at c t (place.Reading k m) =
+    cause_to_get c (unless_got (slot_in m.target) (block_of m.target))
+cause_at c t (place.Delivering k) = None
+cause_at c t (place.Truncating k m) = cause_to_get c (wanted_by_trunc m m.at)
+cause_at c t (place.Writing k m) = cause_to_get c (wanted_by_write m m.at)
+cause_at c t (place.Leaving k) = None
+
+-- why the next step of process p's task has to wait
+abbrev pub sleep_cause : {D : Type 0} → StoreState D → ℕ → Option Why
+sleep_cause s p = cause_at s.volume.buffers s.table (task s.tasks p).place
+
+-- a task is under way whose next step need not wait
+pub record SomeoneGoesOn {D : Type 0} (s : StoreState D) : Type 0 where
+  pub process : ℕ
+  pub busy : is_over (task s.tasks process).place ≡ false
+  pub goes : sleep_cause s process ≡ None
+
+-- NOBODY WAITS FOR EVER: where a task is under way, one is that need not wait
+abbrev pub NobodyWaitsForEver : {D : Type 0} → StoreState D → Type 0
+NobodyWaitsForEver s = (p : ℕ) → is_over (task s.tasks p).place ≡ false → SomeoneGoesOn s
+
+-- a step that has to wait has this cause
+abbrev pub SleepsForCause : {D N : Type 0} → Ghosts D N → Type 0
+SleepsForCause {D} disk = (s t : StoreState D) (p : ℕ) (op : Op) (cause : Why)
+    → Steps disk s p op (progress.Sleeping cause) t → sleep_cause s p ≡ Some cause
