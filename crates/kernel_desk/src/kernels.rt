@@ -1,4 +1,5 @@
 // Calls of a kernel, which is opened over the disk.
+use crate::rounds::make_rounds;
 use crate::teller::Teller;
 use blocks::Disk;
 use desk::{Faulty, disk_of, done};
@@ -41,6 +42,7 @@ fn call_open(alloc: Global, kernel: &mut Opened, words: &[&str]) -> anyhow::Resu
         ["steps", pid] => steps(alloc, kernel, pid.parse()?),
         ["eight", pid] => eight(alloc, kernel, pid.parse()?),
         ["last", pid] => last(alloc, kernel, pid.parse()?),
+        ["rounds", most] => make_rounds(alloc, kernel, most.parse()?),
         ["poll", pid] => poll(alloc, kernel, pid.parse()?),
         ["shut"] => {
             kernel.shut();

@@ -5,6 +5,7 @@
 
 mod kernels;
 mod readings;
+mod rounds;
 mod teller;
 
 use desk::{Bench, text_of};
