@@ -55,9 +55,7 @@ pub fn make_rounds(
     let log_full = counts.log_full;
     let text = format!(in alloc; "{text}, {committing} Committing, {log_full} LogFull")?;
     let (inode, buffer, none) = (counts.inode_held, counts.buffer_held, counts.no_buffer);
-    Ok(Some(format!(in alloc;
-        "{text}, {inode} InodeHeld, {buffer} BufferHeld, {none} NoBuffer"
-    )?))
+    Ok(Some(format!(in alloc; "{text}, {inode} InodeHeld, {buffer} BufferHeld, {none} NoBuffer")?))
 }
 
 // A step of each process. Whether one of them was not idle.
