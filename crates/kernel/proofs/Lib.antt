@@ -22,3 +22,6 @@ pub mod Openings
 mod UnderWay
 mod Lasting
 mod Resting
+mod Awaking
+mod Begun
+mod Rounds

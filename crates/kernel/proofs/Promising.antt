@@ -1,5 +1,6 @@
 -- From what a step does follows what it promises.
 use Rattle.std.proofs.Common.{◌≡◌, ◌≢◌, ⊎_elim, ℕ, ◌<◌, ◌≤◌, length, sym, ◌∙◌, ap, subst, arith, None}
+use Rattle.std.specs.Prelude.{IfNone}
 use Rattle.std.proofs.lemmas.Bool.{cases_eq}
 use Rattle.blocks.specs.Disk.{Image, LeavesOnly}
 use Rattle.blocks.specs.declared.disk.Disk as disk_trait
@@ -19,6 +20,7 @@ use Rattle.journal.specs.Lemmas.Leaving.{leaves_between}
 use Rattle.journal.specs.Processes.{process}
 use Rattle.kernel.specs.declared.types.Step.{Step}
 use Rattle.kernel.specs.declared.types.Step.TheVariants as step
+use Rattle.kernel.specs.Awake.{IsAwake}
 use Rattle.kernel.specs.Bound.{TakesOne, GivesNone, left_of}
 use Rattle.kernel.specs.Invariant.{Inv}
 use Rattle.kernel.specs.Progress.{KeepsShutdown}
@@ -78,8 +80,9 @@ module _ {D N I M H : Type 0} (disk : disk_trait.Ghosts D N) (intake : intake_tr
       → ((x : Image) → disk.leaves k.store.volume.device (disk.moment k.store.volume.device) x → KeepsNow k.store.volume (disk.image k.opening) k.world.journal.list x)
       → Acts disk intake herald p r k m
       → ((x : Image) → disk.leaves m.store.volume.device (disk.moment m.store.volume.device) x → KeepsNow m.store.volume (disk.image m.opening) m.world.journal.list x)
+      → IfNone m.store.volume.fault (IsAwake m)
       → MakesStep disk intake herald p r k m
-  makes_step inv store lt before acts after =
+  makes_step inv store lt before acts after awake =
       let opening = disk.image k.opening in
       let n = inode_count_of opening in
       let e : Event n p k.store k.world m.store m.world r = event_of disk opening p k.store m.store k.world m.world _ _ _ r (well_of inv store lt) acts.next in
@@ -94,6 +97,7 @@ module _ {D N I M H : Type 0} (disk : disk_trait.Ghosts D N) (intake : intake_tr
         shut = keeps_shutdown n p r k m lt e;
         bound = takes_one n p r k m lt e;
         others = gives_none n p r k m lt e;
+        awake = awake;
         keeps = after;
         grows = e.grows;
         leaves = subst (λ (o : D). LeavesOnly disk.moment disk.leaves k.store.volume.device m.store.volume.device (KeepsBetween k.store.volume.log.committed (most_of m.store.volume) (disk.image o) m.world.journal.list)) (sym acts.opening) leaves;

@@ -14,7 +14,8 @@ use Rattle.journal.specs.Lemmas.Known.{idle_used}
 use Rattle.journal.specs.Processes.{World}
 use Rattle.model.specs.Layout.{inode_count_of}
 use Rattle.kernel.specs.Invariant.{HasFacts}
-use Rattle.kernel.specs.Known.{AreIdle, IsAtRest}
+use Rattle.kernel.specs.Awake.{AreIdle}
+use Rattle.kernel.specs.Known.{IsAtRest}
 use Rattle.kernel.specs.State.{ats_of}
 use Rattle.kernel.specs.View.{view_of}
 

@@ -17,19 +17,15 @@ use Rattle.inodes.specs.Store.{FitsFiles, current_of}
 use Rattle.ports.specs.History.{History}
 use Rattle.ports.specs.declared.herald.Herald as herald_trait
 use Rattle.ports.specs.declared.intake.Intake as intake_trait
-use Rattle.journal.specs.declared.types.At.TheVariants as at
 use Rattle.journal.specs.Follows.{IsJournal}
 use Rattle.journal.specs.Histories.{IsHistory}
 use Rattle.journal.specs.Keeps.{HasFilesAfter, KeepsBeginnings, KeepsNow}
 use Rattle.journal.specs.Processes.{World, process}
+use Rattle.kernel.specs.Awake.{AreIdle, IsAwake}
 use Rattle.kernel.specs.Bound.{left_of}
 use Rattle.kernel.specs.Invariant.{CanReplay, HasHistory}
 use Rattle.kernel.specs.Lasting.{AreUnderWay, HaveLocks}
-use Rattle.kernel.specs.State.{State, ats_of}
-
--- each process has no operation under way
-abbrev pub AreIdle : World → Type 0
-AreIdle w = (p : ℕ) → ats_of w p ≡ at.Idle
+use Rattle.kernel.specs.State.{State}
 
 -- no operation is open in the log, and no commit is under way
 pub record IsAtRest (l : LogState) : Type 0 where
@@ -66,6 +62,7 @@ pub record Known {D N I M H : Type 0} (disk : disk_trait.Ghosts D N)
   pub reopens : (x : Image)
       → disk.leaves k.store.volume.device (disk.moment k.store.volume.device) x → verdict x ≡ None
   pub current : IfNone k.store.volume.fault (IsCurrent disk.image k)
+  pub awake : IfNone k.store.volume.fault (IsAwake k)
   pub cache : IsCache k.store.volume.buffers
   pub locks : HaveLocks k.store.table k.world
   pub unanswered : AreUnderWay k.world

@@ -8,9 +8,12 @@ pub mod Bound
 pub mod Progress
 pub mod Lasting
 pub mod Invariant
+pub mod Awake
 pub mod Known
 pub mod Steps
+pub mod Sleeping
 pub mod Runs
+pub mod Rounds
 pub mod Causes
 pub mod Opening
 pub mod Lemmas

@@ -1,5 +1,5 @@
 -- The promise of a step.
-use Rattle.std.specs.Prelude.{◌≡◌, ◌≢◌, ◌&&◌, not, is_none, ℕ, Bool, true, false, length}
+use Rattle.std.specs.Prelude.{◌≡◌, ◌≢◌, ◌&&◌, not, is_none, ℕ, Bool, true, false, length, IfNone}
 use mathlib.Core.List.{IsPrefix}
 use Rattle.blocks.specs.Disk.{Image, LeavesOnly}
 use Rattle.blocks.specs.declared.disk.Disk as disk_trait
@@ -11,6 +11,7 @@ use Rattle.journal.specs.Keeps.{KeepsNow, KeepsBetween, most_of}
 use Rattle.journal.specs.Processes.{process}
 use Rattle.kernel.specs.declared.types.Step.{Step}
 use Rattle.kernel.specs.declared.types.Step.TheVariants as step
+use Rattle.kernel.specs.Awake.{IsAwake}
 use Rattle.kernel.specs.Bound.{TakesOne, GivesNone}
 use Rattle.kernel.specs.Device.{UsesDisk}
 use Rattle.kernel.specs.Next.{Next}
@@ -51,6 +52,8 @@ pub record MakesStep {D N I M H : Type 0} (disk : disk_trait.Ghosts D N)
   -- an operation has fewer than 2,000 steps
   pub bound : r ≡ step.Moved → TakesOne k p m
   pub others : GivesNone k p m
+  -- where an operation is under way then, one goes on
+  pub awake : IfNone m.store.volume.fault (IsAwake m)
   -- what a stop leaves, now and in this step
   pub keeps : (x : Image) → disk.leaves m.store.volume.device (disk.moment m.store.volume.device) x
       → KeepsNow m.store.volume (disk.image m.opening) m.world.journal.list x

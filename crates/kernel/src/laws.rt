@@ -1,5 +1,7 @@
-//! Laws of runs of turns, the contract of a function that does nothing.
+//! Laws of steps and of runs of turns, the contract of a function that does nothing.
 ghost use Rattle.kernel.specs.Causes.{NoInodeHasCause, ShortHasCause};
+ghost use Rattle.kernel.specs.Rounds.{RoundsEndAll};
+ghost use Rattle.kernel.specs.Sleeping.{SleepsForCause, SoleWaitsForAnswers};
 
 use blocks::Disk;
 use ports::{Herald, Intake};
@@ -13,3 +15,22 @@ pub fn short_answers<D: Disk, I: Intake, H: Herald>()
     ensures none { NoInodeHasCause D.Disk I.Intake H.Herald }
     ensures short { ShortHasCause D.Disk I.Intake H.Herald }
 {}
+
+/// Why a step has to wait. An operation under way sleeps only for the cause that its task has; so
+/// where `Kernel::known` tells of one without a cause, that one goes on. The only process of a
+/// kernel sleeps for nothing but room for its answers.
+pub fn sleeps_for_cause<D: Disk, I: Intake, H: Herald>()
+    ensures cause { SleepsForCause D.Disk I.Intake H.Herald }
+    ensures sole { SoleWaitsForAnswers D.Disk I.Intake H.Herald }
+{
+    inodes::laws::sleeps_for_cause::<D>();
+}
+
+/// Turns that go round all processes, as many times as steps are left in all, end every operation
+/// that is under way, where none begins meanwhile and the disk doesn't fail. That each process has
+/// a turn in each round is the caller's.
+pub fn rounds_end_all<D: Disk, I: Intake, H: Herald>()
+    ensures { RoundsEndAll D.Disk I.Intake H.Herald }
+{
+    sleeps_for_cause::<D, I, H>();
+}

@@ -9,4 +9,4 @@ returns g c =
     makes_step g.D.Disk g.I.Intake g.H.Herald c.args.pid c.go_on-answer.result c.args.self.now c.go_on-answer.new.self
     (subst (λ k. Inv g.D.Disk g.I.Intake g.H.Herald k) c.self.view_is c.self.invariant)
     (subst (λ k. IsStore g.D.Disk.image k.store) c.self.view_is c.known-2.ensures.store)
-    c.requires.pid c.known.ensures.keeps c.go_on-answer.ensures c.known-3.ensures.keeps
+    c.requires.pid c.known.ensures.keeps c.go_on-answer.ensures c.known-3.ensures.keeps c.known-3.ensures.awake

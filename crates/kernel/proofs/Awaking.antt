@@ -1,0 +1,279 @@
+-- Nobody waits for ever in a kernel, as none of its store's tasks does.
+use Rattle.std.proofs.Common.{◌≡◌, ◌≢◌, ℕ, zero, suc, ◌<◌, Bool, true, false, not, length, List, refl, sym, ◌∙◌, ap, subst, arith, Option, Some, None, inl, inr, ◌⊎◌}
+use Rattle.std.specs.Prelude.{IfNone}
+use Rattle.std.proofs.lemmas.Bool.{both_ways, cases_lt}
+use Rattle.std.proofs.lemmas.List.{get_or_past}
+use Rattle.blocks.specs.Disk.{Image}
+use Rattle.blocks.specs.declared.errors.DiskFault.{DiskFault}
+use Rattle.blocks.specs.declared.disk.Disk as disk_trait
+use Rattle.model.specs.declared.types.operations.Op.{Op}
+use Rattle.model.specs.declared.types.operations.TaskProgress.{TaskProgress}
+use Rattle.model.specs.declared.types.operations.TaskProgress.TheVariants as progress
+use Rattle.model.specs.declared.types.operations.Why.{Why}
+use Rattle.model.specs.declared.types.operations.Why.TheVariants as why
+use Rattle.model.specs.Layout.{inode_count_of}
+use Rattle.model.specs.Reservations.{log_cause}
+use Rattle.wal.specs.declared.types.Commit.{Commit}
+use Rattle.wal.specs.declared.types.Commit.TheVariants as commit
+use Rattle.wal.specs.declared.types.Committed.{Committed}
+use Rattle.wal.specs.declared.types.Committed.TheVariants as committed
+use Rattle.wal.specs.declared.types.Ended.{Ended}
+use Rattle.wal.specs.declared.types.Ended.TheVariants as ended_as
+use Rattle.wal.specs.Joint.{Joint}
+use Rattle.wal.specs.Machine.{LogState, begin_cause, is_quiet, end_answer, IsLogAt, Idle}
+use Rattle.inodes.specs.declared.tasks.Place.{Place}
+use Rattle.inodes.specs.declared.tasks.Place.TheVariants as place
+use Rattle.inodes.specs.Lemmas.Faults.{where_none}
+use Rattle.inodes.specs.Places.{is_over, is_unturned, steps_left}
+use Rattle.inodes.specs.Steps.{Steps}
+use Rattle.inodes.specs.Store.{StoreState}
+use Rattle.inodes.specs.Tasks.{task}
+use Rattle.inodes.specs.Waiting.{NobodyWaitsForEver, SleepsForCause, sleep_cause}
+use Rattle.ports.specs.History.{Side}
+use Rattle.ports.specs.declared.herald.Herald as herald_trait
+use Rattle.ports.specs.declared.intake.Intake as intake_trait
+use Rattle.journal.specs.declared.types.At.{At}
+use Rattle.journal.specs.declared.types.At.TheVariants as at
+use Rattle.journal.specs.declared.types.Process.{Process}
+use Rattle.journal.specs.Alone.{is_committing_at}
+use Rattle.journal.specs.Bound.{is_busy_at, all_steps_left}
+use Rattle.journal.specs.Lemmas.Bounds.{some_write}
+use Rattle.journal.specs.Journal.{entry_in}
+use Rattle.journal.specs.Processes.{World, process, idle}
+use Rattle.journal.specs.Views.{StandsAt}
+use Rattle.kernel.specs.declared.types.Step.{Step}
+use Rattle.kernel.specs.declared.types.Step.TheVariants as step
+use Rattle.kernel.specs.declared.waiting.Waiting.{Waiting}
+use Rattle.kernel.specs.declared.waiting.Waiting.TheVariants as waiting
+use Rattle.kernel.specs.Awake.{AreIdle, IsAwake, IsBusy, OneGoesOn, cause_by, cause_of}
+use Rattle.kernel.specs.Bound.{left_of}
+use Rattle.kernel.specs.Invariant.{ArePaired, HasFacts, TaskStands}
+use Rattle.kernel.specs.Next.{NextAt, NextIf, BeginsWith, IsNotTaken, step_of, step_behind, step_of_told, step_of_last, step_of_end, step_of_write}
+use Rattle.kernel.specs.Sleeping.{SoleWaitsForAnswers}
+use Rattle.kernel.specs.Sleeping as sleeping
+use Rattle.kernel.specs.State.{State, ats_of}
+use Rattle.kernel.specs.Steps.{MakesStep}
+use Rattle.kernel.specs.View.{view_of}
+use Rattle.kernel.proofs.Resting.{at_rest}
+
+unturned_busy : (a : Place) → is_unturned a ≡ true → is_over a ≡ false
+unturned_busy place.Nowhere e = absurd (cc e)
+unturned_busy (place.Creating m) e = refl
+unturned_busy (place.Taking m) e = refl
+unturned_busy (place.Reading k m) e = refl
+unturned_busy (place.Delivering k) e = refl
+unturned_busy (place.Truncating k m) e = refl
+unturned_busy (place.Writing k m) e = refl
+unturned_busy (place.Leaving k) e = refl
+
+-- facts that hold while the disk has not failed
+pub awake_if : {Q R S T : Type 0} (o : Option DiskFault) → (Q → R → S → T) → IfNone o Q → IfNone o R → IfNone o S → IfNone o T
+awake_if None f q r s = f q r s
+awake_if (Some fault) f q r s = tt
+
+-- ---- who goes on
+
+module _ {D I H : Type 0} (image : D → Image) (opening : Image) (k : State D I H) (paired : ArePaired k.store k.world) (has : HasFacts image opening k.store k.world) where
+  abbrev place_at : ℕ → Place
+  place_at p = (task k.store.tasks p).place
+
+  stands_there : (p : ℕ) (a : At) → ats_of k.world p ≡ a → TaskStands k.world.journal.list (task k.store.tasks p) a
+  stands_there p a stands = subst (λ (b : At). TaskStands k.world.journal.list (task k.store.tasks p) b) stands (paired.stand p).stands
+
+  -- the task of an operation that has a cause to wait is not over
+  under_way : (p : ℕ) (a : At) → ats_of k.world p ≡ a → cause_by a (sleep_cause k.store p) ≢ None → is_over (place_at p) ≡ false
+  under_way p at.Idle stands waits = absurd (waits refl)
+  under_way p (at.Before group op) stands waits = let there = stands_there p (at.Before group op) stands in unturned_busy (place_at p) there.1
+  under_way p (at.Behind group j) stands waits =
+      let there = stands_there p (at.Behind group j) stands in
+      let fact : StandsAt (inode_count_of opening) (view_of image k.store) k.world.journal.list p (at.Behind group j) =
+      subst (λ (a : At). StandsAt (inode_count_of opening) (view_of image k.store) k.world.journal.list p a) stands (has.facts.stands p) in
+      (there fact.1.0 fact.1.1.at).unfinished
+  under_way p (at.Ending group j) stands waits = absurd (waits refl)
+  under_way p (at.Committing group j) stands waits = absurd (waits refl)
+
+  -- the process of a task that is not over has an operation under way, and waits as its task does
+  task_busy : (p : ℕ) (a : At) → ats_of k.world p ≡ a → is_over (place_at p) ≡ false → (is_busy_at a ≡ true) × (cause_by a (sleep_cause k.store p) ≡ sleep_cause k.store p)
+  task_busy p at.Idle stands busy = absurd (both_ways _ busy (stands_there p at.Idle stands))
+  task_busy p (at.Before group op) stands busy = (refl, refl)
+  task_busy p (at.Behind group j) stands busy = (refl, refl)
+  task_busy p (at.Ending group j) stands busy = absurd (both_ways _ busy (stands_there p (at.Ending group j) stands))
+  task_busy p (at.Committing group j) stands busy = absurd (both_ways _ busy (stands_there p (at.Committing group j) stands).0)
+
+  goes_on : NobodyWaitsForEver k.store → (p : ℕ) → IsBusy k p → (o : Option Why) → cause_of k p ≡ o → OneGoesOn k
+  goes_on awake p busy None e = record { pid = p; busy = busy; goes = e }
+  goes_on awake p busy (Some cause) e =
+      let mine = under_way p (ats_of k.world p) refl (λ (none : cause_of k p ≡ None). let unlike : None ≡ Some cause = sym none ∙ e in cc unlike) in
+      let one = awake p mine in
+      let other = task_busy one.process (ats_of k.world one.process) refl one.busy in
+      record { pid = one.process; busy = other.0; goes = other.1 ∙ one.goes }
+
+  no_homes : (c : Commit) (l : LogState) → l.commit ≡ c → is_quiet c ≡ true → IsLogAt c l → l.outstanding ≡ 0 → length l.homes ≡ 0
+  no_homes commit.Quiet l stands quiet is closed = is.idle closed
+  no_homes (commit.Logging i) l stands quiet is closed = absurd (cc quiet)
+  no_homes commit.Heading l stands quiet is closed = absurd (cc quiet)
+  no_homes (commit.Homing i) l stands quiet is closed = absurd (cc quiet)
+  no_homes commit.Clearing l stands quiet is closed = absurd (cc quiet)
+
+  -- where none is under way, the log lets each begin
+  let_in : Joint (image k.store.volume.device) k.store.volume.buffers k.store.volume.log → AreIdle k.world → begin_cause k.store.volume.log ≡ None
+  let_in joint all =
+      let l = k.store.volume.log in
+      let rests = at_rest image opening k.store k.world has all in
+      let homes = no_homes k.store.volume.log.commit k.store.volume.log refl rests.quiet joint.log rests.none in
+      ap (λ (b : Bool). log_cause (not b) (length l.homes) l.outstanding) rests.quiet
+      ∙ ap (λ (n : ℕ). log_cause false n l.outstanding) homes
+      ∙ ap (λ (n : ℕ). log_cause false 0 n) rests.none
+
+  left_at : (p : ℕ) (a : At) → ats_of k.world p ≡ a → left_of k p ≡ all_steps_left a (steps_left (place_at p) k.store.table.inode_count) k.store.volume.log
+  left_at p a stands = ap (λ (b : At). all_steps_left b (steps_left (place_at p) k.store.table.inode_count) k.store.volume.log) stands
+
+  -- who is under way has steps left
+  some_left : (p : ℕ) (a : At) → ats_of k.world p ≡ a → is_busy_at a ≡ true → 0 < left_of k p
+  some_left p at.Idle stands busy = absurd (cc busy)
+  some_left p (at.Before group op) stands busy = let left = left_at p (at.Before group op) stands in omega (arith, left)
+  some_left p (at.Behind group j) stands busy = let left = left_at p (at.Behind group j) stands in omega (arith, left)
+  some_left p (at.Ending group j) stands busy = let left = left_at p (at.Ending group j) stands in omega (arith, left)
+  some_left p (at.Committing group j) stands busy =
+      let left = left_at p (at.Committing group j) stands in
+      let some = some_write k.store.volume.log.commit (length k.store.volume.log.homes) (has.alone.busy p (ap is_committing_at stands)) in
+      omega (arith, left, some)
+
+  pub awake_now : Joint (image k.store.volume.device) k.store.volume.buffers k.store.volume.log → NobodyWaitsForEver k.store → IsAwake k
+  awake_now joint awake = record { under_way = λ p busy. goes_on awake p busy (cause_of k p) refl; begins = let_in joint; left = λ p busy. some_left p (ats_of k.world p) refl busy }
+
+-- ---- a step that has to wait says why
+
+task_sleeps : (r : TaskProgress) (cause : Why) → step.Sleeping cause ≡ step_of r → r ≡ progress.Sleeping cause
+task_sleeps progress.Moved cause e = absurd (cc e)
+task_sleeps (progress.Turned reply) cause e = absurd (cc e)
+task_sleeps (progress.Decided reply) cause e = absurd (cc e)
+task_sleeps progress.Over cause e = absurd (cc e)
+task_sleeps (progress.Sleeping other) cause e = let same : cause ≡ other = cc e in ap progress.Sleeping (sym same)
+task_sleeps (progress.Fault fault) cause e = absurd (cc e)
+
+told_made : (group : ℕ) (cause : Why) → step.Sleeping cause ≡ step_of_told group → ⊥
+told_made zero cause e = cc e
+told_made (suc group) cause e = cc e
+
+last_made : (group : ℕ) (cause : Why) → step.Sleeping cause ≡ step_of_last group → ⊥
+last_made zero cause e = cc e
+last_made (suc group) cause e = cc e
+
+behind_sleeps : (group : ℕ) (r : TaskProgress) (cause : Why) → step.Sleeping cause ≡ step_behind group r → r ≡ progress.Sleeping cause
+behind_sleeps group progress.Moved cause e = absurd (cc e)
+behind_sleeps group (progress.Turned reply) cause e = absurd (cc e)
+behind_sleeps group (progress.Decided reply) cause e = absurd (told_made group cause e)
+behind_sleeps group progress.Over cause e = absurd (last_made group cause e)
+behind_sleeps group (progress.Sleeping other) cause e = let same : cause ≡ other = cc e in ap progress.Sleeping (sym same)
+behind_sleeps group (progress.Fault fault) cause e = absurd (cc e)
+
+end_made : (r : Ended) (cause : Why) → step.Sleeping cause ≡ step_of_end r → ⊥
+end_made ended_as.Commit cause e = cc e
+end_made ended_as.Left cause e = cc e
+
+write_made : (r : Committed) (cause : Why) → step.Sleeping cause ≡ step_of_write r → ⊥
+write_made committed.More cause e = cc e
+write_made (committed.Durable group) cause e = cc e
+write_made committed.Done cause e = cc e
+write_made (committed.Fault fault) cause e = cc e
+
+-- why what waits first is not taken, where the log would let it begin
+kept_out : (what : Option Waiting) (l : LogState) (room : Bool) (cause : Why) → begin_cause l ≡ None → IsNotTaken what l room (step.Sleeping cause) → cause ≡ why.AnswersFull
+kept_out None l room cause free e = absurd (cc e)
+kept_out (Some waiting.Refused) l room cause free (inl full) = let e = full.0 in cc e
+kept_out (Some waiting.Refused) l room cause free (inr none) = let e = none.0 in absurd (cc e)
+kept_out (Some (waiting.Look count)) l room cause free (inl full) = let e = full.0 in cc e
+kept_out (Some (waiting.Look count)) l room cause free (inr none) = let e = none.0 in absurd (cc e)
+kept_out (Some waiting.Change) l room cause free (inl full) = let e = full.0 in cc e
+kept_out (Some waiting.Change) l room cause free (inr (inl out)) = let e : None ≡ Some out.0 = sym free ∙ out.2 in absurd (cc e)
+kept_out (Some waiting.Change) l room cause free (inr (inr none)) = let e = none.0.0 in absurd (cc e)
+
+pub idle_not : (a : At) → is_busy_at a ≡ false → a ≡ at.Idle
+idle_not at.Idle e = refl
+idle_not (at.Before group op) e = absurd (cc e)
+idle_not (at.Behind group k) e = absurd (cc e)
+idle_not (at.Ending group k) e = absurd (cc e)
+idle_not (at.Committing group k) e = absurd (cc e)
+
+-- ---- when a step sleeps
+
+module _ {D N I M H : Type 0} (disk : disk_trait.Ghosts D N) (intake : intake_trait.Ghosts I M) (herald : herald_trait.Ghosts H) where
+  pub next_of : (k m : State D I H) (p : ℕ) (r : Step) → k.store.volume.fault ≡ None → MakesStep disk intake herald p r k m →
+      NextAt disk (ats_of k.world p) k.store k.world p (intake.side k.intake p).ahead (intake.side m.intake p) (herald.told m.herald) r m.store m.world
+  next_of k m p r well makes = subst (λ (o : Option DiskFault). NextIf disk o k.store k.world p (intake.side k.intake p).ahead (intake.side m.intake p) (herald.told m.herald) r m.store m.world) well makes.acts.next
+
+  -- a step that has to wait was made while the disk had no fault
+  well_if_asleep : (k m : State D I H) (p : ℕ) (cause : Why) → MakesStep disk intake herald p (step.Sleeping cause) k m → (o : Option DiskFault) → k.store.volume.fault ≡ o → k.store.volume.fault ≡ None
+  well_if_asleep k m p cause makes None e = e
+  well_if_asleep k m p cause makes (Some fault) e =
+      let next : NextIf disk (Some fault) k.store k.world p (intake.side k.intake p).ahead (intake.side m.intake p) (herald.told m.herald) (step.Sleeping cause) m.store m.world =
+      subst (λ (o : Option DiskFault). NextIf disk o k.store k.world p (intake.side k.intake p).ahead (intake.side m.intake p) (herald.told m.herald) (step.Sleeping cause) m.store m.world) e makes.acts.next in
+      let unlike = next.0 in absurd (cc unlike)
+
+  module _ (sleeps : SleepsForCause disk) (k m : State D I H) (p : ℕ) (cause : Why) (before : List Op) (side : Side) (told : Bool) where
+    at_sleeps : (a : At) → is_busy_at a ≡ true → NextAt disk a k.store k.world p before side told (step.Sleeping cause) m.store m.world → cause_by a (sleep_cause k.store p) ≡ Some cause
+    at_sleeps at.Idle busy next = absurd (cc busy)
+    at_sleeps (at.Before group op) busy next =
+        sleeps k.store m.store p op cause (subst (λ (t : TaskProgress). Steps disk k.store p op t m.store) (task_sleeps next.progress cause next.answer) next.steps)
+    at_sleeps (at.Behind group j) busy next =
+        sleeps k.store m.store p (entry_in k.world.journal.list j).op cause
+        (subst (λ (t : TaskProgress). Steps disk k.store p (entry_in k.world.journal.list j).op t m.store) (behind_sleeps group next.progress cause next.answer) next.steps)
+    at_sleeps (at.Ending group j) busy next = absurd (end_made (end_answer k.store.volume.log) cause next.answer)
+    at_sleeps (at.Committing group j) busy next = absurd (write_made next.result cause next.answer)
+
+  pub sleeps_for_cause : SleepsForCause disk → sleeping.SleepsForCause disk intake herald
+  sleeps_for_cause sleeps k m p cause busy makes =
+      at_sleeps sleeps k m p cause (intake.side k.intake p).ahead (intake.side m.intake p) (herald.told m.herald) (ats_of k.world p) busy
+      (next_of k m p (step.Sleeping cause) (well_if_asleep k m p cause makes k.store.volume.fault refl) makes)
+
+  -- ---- a process alone
+
+  alone_busy : (k : State D I H) → length k.world.processes ≡ 1 → (q : ℕ) → IsBusy k q → q ≡ 0
+  alone_busy k one q busy = elim (cases_lt q 1) [
+    | inl first ↦ omega (arith, first)
+    | inr past ↦
+        let none : process k.world q ≡ idle = get_or_past k.world.processes q idle (omega (arith, one, past)) in
+        let unlike : false ≡ true = sym (ap (λ (t : Process). is_busy_at t.at) none) ∙ busy in absurd (cc unlike)
+  ]
+
+  alone_idle : (k : State D I H) → length k.world.processes ≡ 1 → is_busy_at (ats_of k.world 0) ≡ false → AreIdle k.world
+  alone_idle k one first q = by (is_busy_at (ats_of k.world q)) refl
+    where
+      by : (b : Bool) → is_busy_at (ats_of k.world q) ≡ b → ats_of k.world q ≡ at.Idle
+      by false e = idle_not (ats_of k.world q) e
+      by true e = let busy : is_busy_at (ats_of k.world 0) ≡ true = ap (λ (p : ℕ). is_busy_at (ats_of k.world p)) (sym (alone_busy k one q e)) ∙ e in absurd (both_ways _ first busy)
+
+  begin_waits : (k m : State D I H) (p : ℕ) (cause : Why) (before : List Op) (side : Side) (told : Bool) → begin_cause k.store.volume.log ≡ None →
+      NextAt disk at.Idle k.store k.world p before side told (step.Sleeping cause) m.store m.world → cause ≡ why.AnswersFull
+  begin_waits k m p cause before side told free (inl shut) = let e = shut.answer in absurd (cc e)
+  begin_waits k m p cause before side told free (inr hears) = by hears.begins
+    where
+      by : {what : Option Waiting} {ahead : List Op} → BeginsWith what k.store k.world p ahead side (step.Sleeping cause) m.store m.world → cause ≡ why.AnswersFull
+      by (inl change) = let e = change.answer in absurd (cc e)
+      by (inr (inl look)) = let e = look.answer in absurd (cc e)
+      by (inr (inr (inl refused))) = let e = refused.answer in absurd (cc e)
+      by {what} (inr (inr (inr none))) = kept_out what k.store.volume.log side.has_room cause free none.answer
+
+  pub sole_waits : SleepsForCause disk → SoleWaitsForAnswers disk intake herald
+  sole_waits sleeps k m p cause known one inside makes = by (is_busy_at (ats_of k.world p)) refl
+    where
+      first : p ≡ 0
+      first = omega (arith, inside)
+
+      well : k.store.volume.fault ≡ None
+      well = well_if_asleep k m p cause makes k.store.volume.fault refl
+
+      awake : IsAwake k
+      awake = where_none k.store.volume.fault well known.awake
+
+      by : (b : Bool) → is_busy_at (ats_of k.world p) ≡ b → cause ≡ why.AnswersFull
+      by true busy =
+          let goes = awake.under_way p busy in
+          let me : goes.pid ≡ p = alone_busy k one goes.pid goes.busy ∙ sym first in
+          let none : cause_of k p ≡ None = subst (λ (q : ℕ). cause_of k q ≡ None) me goes.goes in
+          let unlike : None ≡ Some cause = sym none ∙ sleeps_for_cause sleeps k m p cause busy makes in absurd (cc unlike)
+      by false none =
+          let all = alone_idle k one (subst (λ (q : ℕ). is_busy_at (ats_of k.world q) ≡ false) first none) in
+          begin_waits k m p cause (intake.side k.intake p).ahead (intake.side m.intake p) (herald.told m.herald) (awake.begins all)
+          (subst (λ (a : At). NextAt disk a k.store k.world p (intake.side k.intake p).ahead (intake.side m.intake p) (herald.told m.herald) (step.Sleeping cause) m.store m.world) (all p) (next_of k m p (step.Sleeping cause) well makes))
