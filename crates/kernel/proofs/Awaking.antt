@@ -1,5 +1,6 @@
 -- Nobody waits for ever in a kernel, as none of its store's tasks does.
 use Rattle.std.proofs.Common.{◌≡◌, ◌≢◌, ℕ, zero, suc, ◌<◌, Bool, true, false, not, length, List, refl, sym, ◌∙◌, ap, subst, arith, Option, Some, None, inl, inr, ◌⊎◌}
+use Rattle.std.specs.Option.{option_map}
 use Rattle.std.specs.Prelude.{IfNone}
 use Rattle.std.proofs.lemmas.Bool.{both_ways, cases_lt}
 use Rattle.std.proofs.lemmas.List.{get_or_past}
@@ -10,7 +11,6 @@ use Rattle.model.specs.declared.types.operations.Op.{Op}
 use Rattle.model.specs.declared.types.operations.TaskProgress.{TaskProgress}
 use Rattle.model.specs.declared.types.operations.TaskProgress.TheVariants as progress
 use Rattle.model.specs.declared.types.operations.Why.{Why}
-use Rattle.model.specs.declared.types.operations.Why.TheVariants as why
 use Rattle.model.specs.Layout.{inode_count_of}
 use Rattle.model.specs.Reservations.{log_cause}
 use Rattle.wal.specs.declared.types.Commit.{Commit}
@@ -29,7 +29,7 @@ use Rattle.inodes.specs.Steps.{Steps}
 use Rattle.inodes.specs.Store.{StoreState}
 use Rattle.inodes.specs.Tasks.{task}
 use Rattle.inodes.specs.Waiting.{NobodyWaitsForEver, SleepsForCause, sleep_cause}
-use Rattle.ports.specs.History.{Side}
+use Rattle.ports.specs.History.{Side, first_in}
 use Rattle.ports.specs.declared.herald.Herald as herald_trait
 use Rattle.ports.specs.declared.intake.Intake as intake_trait
 use Rattle.journal.specs.declared.types.At.{At}
@@ -48,10 +48,10 @@ use Rattle.kernel.specs.declared.waiting.Waiting.TheVariants as waiting
 use Rattle.kernel.specs.Awake.{AreIdle, IsAwake, IsBusy, OneGoesOn, cause_by, cause_of}
 use Rattle.kernel.specs.Bound.{left_of}
 use Rattle.kernel.specs.Invariant.{ArePaired, HasFacts, TaskStands}
-use Rattle.kernel.specs.Next.{NextAt, NextIf, BeginsWith, IsNotTaken, step_of, step_behind, step_of_told, step_of_last, step_of_end, step_of_write}
-use Rattle.kernel.specs.Sleeping.{SoleWaitsForAnswers}
+use Rattle.kernel.specs.Next.{NextAt, NextIf, BeginsWith, TakesNone, IsNotTaken, HasNoRoom, Same, step_of, step_behind, step_of_told, step_of_last, step_of_end, step_of_write, world_after, world_behind}
+use Rattle.kernel.specs.Sleeping.{SoleWaitsForAnswers, WaitsForRoom}
 use Rattle.kernel.specs.Sleeping as sleeping
-use Rattle.kernel.specs.State.{State, ats_of}
+use Rattle.kernel.specs.State.{State, ats_of, waiting_of}
 use Rattle.kernel.specs.Steps.{MakesStep}
 use Rattle.kernel.specs.View.{view_of}
 use Rattle.kernel.proofs.Resting.{at_rest}
@@ -179,13 +179,13 @@ write_made committed.Done cause e = cc e
 write_made (committed.Fault fault) cause e = cc e
 
 -- why what waits first is not taken, where the log would let it begin
-kept_out : (what : Option Waiting) (l : LogState) (room : Bool) (cause : Why) → begin_cause l ≡ None → IsNotTaken what l room (step.Sleeping cause) → cause ≡ why.AnswersFull
+kept_out : (what : Option Waiting) (l : LogState) (room : Bool) (cause : Why) → begin_cause l ≡ None → IsNotTaken what l room (step.Sleeping cause) → HasNoRoom room (step.Sleeping cause)
 kept_out None l room cause free e = absurd (cc e)
-kept_out (Some waiting.Refused) l room cause free (inl full) = let e = full.0 in cc e
+kept_out (Some waiting.Refused) l room cause free (inl full) = full
 kept_out (Some waiting.Refused) l room cause free (inr none) = let e = none.0 in absurd (cc e)
-kept_out (Some (waiting.Look count)) l room cause free (inl full) = let e = full.0 in cc e
+kept_out (Some (waiting.Look count)) l room cause free (inl full) = full
 kept_out (Some (waiting.Look count)) l room cause free (inr none) = let e = none.0 in absurd (cc e)
-kept_out (Some waiting.Change) l room cause free (inl full) = let e = full.0 in cc e
+kept_out (Some waiting.Change) l room cause free (inl full) = full
 kept_out (Some waiting.Change) l room cause free (inr (inl out)) = let e : None ≡ Some out.0 = sym free ∙ out.2 in absurd (cc e)
 kept_out (Some waiting.Change) l room cause free (inr (inr none)) = let e = none.0.0 in absurd (cc e)
 
@@ -244,19 +244,33 @@ module _ {D N I M H : Type 0} (disk : disk_trait.Ghosts D N) (intake : intake_tr
       by false e = idle_not (ats_of k.world q) e
       by true e = let busy : is_busy_at (ats_of k.world 0) ≡ true = ap (λ (p : ℕ). is_busy_at (ats_of k.world p)) (sym (alone_busy k one q e)) ∙ e in absurd (both_ways _ first busy)
 
-  begin_waits : (k m : State D I H) (p : ℕ) (cause : Why) (before : List Op) (side : Side) (told : Bool) → begin_cause k.store.volume.log ≡ None →
-      NextAt disk at.Idle k.store k.world p before side told (step.Sleeping cause) m.store m.world → cause ≡ why.AnswersFull
-  begin_waits k m p cause before side told free (inl shut) = let e = shut.answer in absurd (cc e)
-  begin_waits k m p cause before side told free (inr hears) = by hears.begins
+  -- a beginning that has to wait took nothing
+  none_taken : (k m : State D I H) (p : ℕ) (cause : Why) (before : List Op) (side : Side) (told : Bool) → NextAt disk at.Idle k.store k.world p before side told (step.Sleeping cause) m.store m.world →
+      (what : Option Waiting) × (ahead : List Op) × TakesNone what k.store k.world ahead side (step.Sleeping cause) m.store m.world
+  none_taken k m p cause before side told (inl shut) = let e = shut.answer in absurd (cc e)
+  none_taken k m p cause before side told (inr hears) = by (option_map (waiting_of k.store.table.inode_count) (first_in hears.ahead)) hears.ahead hears.begins
     where
-      by : {what : Option Waiting} {ahead : List Op} → BeginsWith what k.store k.world p ahead side (step.Sleeping cause) m.store m.world → cause ≡ why.AnswersFull
-      by (inl change) = let e = change.answer in absurd (cc e)
-      by (inr (inl look)) = let e = look.answer in absurd (cc e)
-      by (inr (inr (inl refused))) = let e = refused.answer in absurd (cc e)
-      by {what} (inr (inr (inr none))) = kept_out what k.store.volume.log side.has_room cause free none.answer
+      by : (what : Option Waiting) (ahead : List Op) → BeginsWith what k.store k.world p ahead side (step.Sleeping cause) m.store m.world →
+          (what : Option Waiting) × (ahead : List Op) × TakesNone what k.store k.world ahead side (step.Sleeping cause) m.store m.world
+      by what ahead (inl change) = let e = change.answer in absurd (cc e)
+      by what ahead (inr (inl look)) = let e = look.answer in absurd (cc e)
+      by what ahead (inr (inr (inl refused))) = let e = refused.answer in absurd (cc e)
+      by what ahead (inr (inr (inr none))) = (what, ahead, none)
+
+  -- who has to wait changed nothing
+  asleep_same : (k m : State D I H) (p : ℕ) (cause : Why) (before : List Op) (side : Side) (told : Bool) (a : At) → NextAt disk a k.store k.world p before side told (step.Sleeping cause) m.store m.world → Same k.store k.world m.store m.world
+  asleep_same k m p cause before side told at.Idle next = (none_taken k m p cause before side told next).2.same
+  asleep_same k m p cause before side told (at.Before group op) next =
+      let asleep = task_sleeps next.progress cause next.answer in
+      (next.steps.waits.sleeping cause asleep, next.world ∙ ap (λ (t : TaskProgress). world_after t (is_over (task m.store.tasks p).place) k.world p) asleep)
+  asleep_same k m p cause before side told (at.Behind group j) next =
+      let asleep = behind_sleeps group next.progress cause next.answer in
+      (next.steps.waits.sleeping cause asleep, next.world ∙ ap (λ (t : TaskProgress). world_behind group t k.world p) asleep)
+  asleep_same k m p cause before side told (at.Ending group j) next = absurd (end_made (end_answer k.store.volume.log) cause next.answer)
+  asleep_same k m p cause before side told (at.Committing group j) next = absurd (write_made next.result cause next.answer)
 
   pub sole_waits : SleepsForCause disk → SoleWaitsForAnswers disk intake herald
-  sole_waits sleeps k m p cause known one inside makes = by (is_busy_at (ats_of k.world p)) refl
+  sole_waits sleeps k m p cause one inside makes = by (is_busy_at (ats_of k.world p)) refl
     where
       first : p ≡ 0
       first = omega (arith, inside)
@@ -264,16 +278,31 @@ module _ {D N I M H : Type 0} (disk : disk_trait.Ghosts D N) (intake : intake_tr
       well : k.store.volume.fault ≡ None
       well = well_if_asleep k m p cause makes k.store.volume.fault refl
 
-      awake : IsAwake k
-      awake = where_none k.store.volume.fault well known.awake
+      next : NextAt disk (ats_of k.world p) k.store k.world p (intake.side k.intake p).ahead (intake.side m.intake p) (herald.told m.herald) (step.Sleeping cause) m.store m.world
+      next = next_of k m p (step.Sleeping cause) well makes
 
-      by : (b : Bool) → is_busy_at (ats_of k.world p) ≡ b → cause ≡ why.AnswersFull
+      same : Same k.store k.world m.store m.world
+      same = asleep_same k m p cause (intake.side k.intake p).ahead (intake.side m.intake p) (herald.told m.herald) (ats_of k.world p) next
+
+      awake : IsAwake m
+      awake = where_none m.store.volume.fault (ap (λ (s : StoreState D). s.volume.fault) same.0 ∙ well) makes.awake
+
+      one_still : length m.world.processes ≡ 1
+      one_still = makes.many ∙ one
+
+      by : (b : Bool) → is_busy_at (ats_of k.world p) ≡ b → WaitsForRoom intake k p cause m
       by true busy =
-          let goes = awake.under_way p busy in
-          let me : goes.pid ≡ p = alone_busy k one goes.pid goes.busy ∙ sym first in
-          let none : cause_of k p ≡ None = subst (λ (q : ℕ). cause_of k q ≡ None) me goes.goes in
-          let unlike : None ≡ Some cause = sym none ∙ sleeps_for_cause sleeps k m p cause busy makes in absurd (cc unlike)
+          let goes = awake.under_way p (ap (λ (w : World). is_busy_at (ats_of w p)) same.1 ∙ busy) in
+          let me : goes.pid ≡ p = alone_busy m one_still goes.pid goes.busy ∙ sym first in
+          let none : cause_of m p ≡ None = subst (λ (q : ℕ). cause_of m q ≡ None) me goes.goes in
+          let there : cause_of m p ≡ cause_of k p = ap (λ (w : World). cause_by (ats_of w p) (sleep_cause m.store p)) same.1 ∙ ap (λ (s : StoreState D). cause_by (ats_of k.world p) (sleep_cause s p)) same.0 in
+          let unlike : None ≡ Some cause = sym none ∙ there ∙ sleeps_for_cause sleeps k m p cause busy makes in absurd (cc unlike)
       by false none =
-          let all = alone_idle k one (subst (λ (q : ℕ). is_busy_at (ats_of k.world q) ≡ false) first none) in
-          begin_waits k m p cause (intake.side k.intake p).ahead (intake.side m.intake p) (herald.told m.herald) (awake.begins all)
-          (subst (λ (a : At). NextAt disk a k.store k.world p (intake.side k.intake p).ahead (intake.side m.intake p) (herald.told m.herald) (step.Sleeping cause) m.store m.world) (all p) (next_of k m p (step.Sleeping cause) well makes))
+          let all = alone_idle m one_still (ap (λ (w : World). is_busy_at (ats_of w 0)) same.1 ∙ subst (λ (q : ℕ). is_busy_at (ats_of k.world q) ≡ false) first none) in
+          let idle = idle_not (ats_of k.world p) none in
+          let taken = none_taken k m p cause (intake.side k.intake p).ahead (intake.side m.intake p) (herald.told m.herald)
+          (subst (λ (a : At). NextAt disk a k.store k.world p (intake.side k.intake p).ahead (intake.side m.intake p) (herald.told m.herald) (step.Sleeping cause) m.store m.world) idle next) in
+          let free : begin_cause k.store.volume.log ≡ None = ap (λ (s : StoreState D). begin_cause s.volume.log) (sym same.0) ∙ awake.begins all in
+          let full = kept_out taken.0 k.store.volume.log (intake.side m.intake p).has_room cause free taken.2.answer in
+          let is = full.0 in
+          record { cause = cc is; idle = idle; room = full.1; world = same.1 }

@@ -1,14 +1,14 @@
 -- When a step answers that it has to wait.
-use Rattle.std.specs.Prelude.{◌≡◌, ◌<◌, ℕ, length, Some}
+use Rattle.std.specs.Prelude.{◌≡◌, ◌<◌, ℕ, false, length, Some}
 use Rattle.blocks.specs.declared.disk.Disk as disk_trait
 use Rattle.model.specs.declared.types.operations.Why.{Why}
 use Rattle.model.specs.declared.types.operations.Why.TheVariants as why
 use Rattle.ports.specs.declared.herald.Herald as herald_trait
 use Rattle.ports.specs.declared.intake.Intake as intake_trait
+use Rattle.journal.specs.declared.types.At.TheVariants as at
 use Rattle.kernel.specs.declared.types.Step.TheVariants as step
 use Rattle.kernel.specs.Awake.{IsBusy, cause_of}
-use Rattle.kernel.specs.Known.{Known}
-use Rattle.kernel.specs.State.{State}
+use Rattle.kernel.specs.State.{State, ats_of}
 use Rattle.kernel.specs.Steps.{MakesStep}
 
 -- an operation under way that has to wait has this cause
@@ -18,10 +18,17 @@ SleepsForCause {D} {N} {I} {M} {H} disk intake herald =
     (k m : State D I H) (p : ℕ) (cause : Why) → IsBusy k p →
     MakesStep disk intake herald p (step.Sleeping cause) k m → cause_of k p ≡ Some cause
 
+-- process p has no operation under way, no place is kept for an answer, and nothing changed
+pub record WaitsForRoom {D I M H : Type 0} (intake : intake_trait.Ghosts I M) (k : State D I H)
+    (p : ℕ) (cause : Why) (m : State D I H) : Type 0 where
+  pub cause : cause ≡ why.AnswersFull
+  pub idle : ats_of k.world p ≡ at.Idle
+  pub room : (intake.side m.intake p).has_room ≡ false
+  pub world : m.world ≡ k.world
+
 -- THE ONLY PROCESS of a kernel waits for nothing but room for its answers
 abbrev pub SoleWaitsForAnswers : {D N I M H : Type 0} → disk_trait.Ghosts D N
     → intake_trait.Ghosts I M → herald_trait.Ghosts H → Type 0
 SoleWaitsForAnswers {D} {N} {I} {M} {H} disk intake herald =
-    (k m : State D I H) (p : ℕ) (cause : Why) → Known disk intake herald k →
-    length k.world.processes ≡ 1 → p < 1 →
-    MakesStep disk intake herald p (step.Sleeping cause) k m → cause ≡ why.AnswersFull
+    (k m : State D I H) (p : ℕ) (cause : Why) → length k.world.processes ≡ 1 → p < 1 →
+    MakesStep disk intake herald p (step.Sleeping cause) k m → WaitsForRoom intake k p cause m

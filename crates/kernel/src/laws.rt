@@ -18,7 +18,7 @@ pub fn short_answers<D: Disk, I: Intake, H: Herald>()
 
 /// Why a step has to wait. An operation under way sleeps only for the cause that its task has; so
 /// where `Kernel::known` tells of one without a cause, that one goes on. The only process of a
-/// kernel sleeps for nothing but room for its answers.
+/// kernel sleeps for nothing but room for its answers, and then nothing of it is under way.
 pub fn sleeps_for_cause<D: Disk, I: Intake, H: Herald>()
     ensures cause { SleepsForCause D.Disk I.Intake H.Herald }
     ensures sole { SoleWaitsForAnswers D.Disk I.Intake H.Herald }

@@ -7,6 +7,8 @@ mod Disks
 pub mod Looks
 pub mod DiskReads
 pub mod Stages
+pub mod Unshut
 pub mod Asked
+pub mod Unanswered
 pub mod Shown
 pub mod Keeping

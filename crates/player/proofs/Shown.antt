@@ -58,19 +58,19 @@ all_shown x i size old mid new has written keeps =
     }
 
 -- nothing was written
-pub unanswered : {D : Type 0} (faults : D → ℕ) (d e : D) (x : Image) (i : ℕ) (old new : Option (List ℕ)) (none : Type 0) (r : Refusal) → none → IsUnanswered faults d e r → IsUnwritten faults d e x i old new none r
-unanswered faults d e x i old new none (Disk fault) nothing why = (why, inl nothing)
-unanswered faults d e x i old new none (Cat cat.NoMemory) nothing why = (why, inl nothing)
-unanswered faults d e x i old new none (Cat cat.NoFile) nothing why = absurd why
-unanswered faults d e x i old new none (OfFile fault) nothing why = absurd why
-unanswered faults d e x i old new none (Mkfs fault) nothing why = absurd why
-unanswered faults d e x i old new none (Check fault) nothing why = absurd why
-unanswered faults d e x i old new none (Recover fault) nothing why = absurd why
-unanswered faults d e x i old new none (Open fault) nothing why = absurd why
-unanswered faults d e x i old new none (Script fault) nothing why = absurd why
-unanswered faults d e x i old new none (Schedule fault) nothing why = absurd why
-unanswered faults d e x i old new none (Input fault) nothing why = absurd why
-unanswered faults d e x i old new none Output nothing why = absurd why
+pub unanswered : {D N : Type 0} (disk : Ghosts D N) (d e : D) (x : Image) (i : ℕ) (old new : Option (List ℕ)) (none : Type 0) (r : Refusal) → none → IsUnanswered disk d e r → IsUnwritten disk d e x i old new none r
+unanswered disk d e x i old new none (Disk fault) nothing why = (why, inl nothing)
+unanswered disk d e x i old new none (Cat cat.NoMemory) nothing why = (why.0, why.1, inl nothing)
+unanswered disk d e x i old new none (Cat cat.NoFile) nothing why = absurd why
+unanswered disk d e x i old new none (OfFile fault) nothing why = absurd why
+unanswered disk d e x i old new none (Mkfs fault) nothing why = absurd why
+unanswered disk d e x i old new none (Check fault) nothing why = absurd why
+unanswered disk d e x i old new none (Recover fault) nothing why = absurd why
+unanswered disk d e x i old new none (Open fault) nothing why = absurd why
+unanswered disk d e x i old new none (Script fault) nothing why = absurd why
+unanswered disk d e x i old new none (Schedule fault) nothing why = absurd why
+unanswered disk d e x i old new none (Input fault) nothing why = absurd why
+unanswered disk d e x i old new none Output nothing why = absurd why
 
 part_shown : (x : Image) (i size : ℕ) (old new : Option (List ℕ)) → Some size ≡ size_at x i → (count : ℕ) × Appends old new (take count (bytes_at x i)) → ShowsFirst x i old new
 part_shown x i size old new has written =
@@ -83,19 +83,19 @@ part_shown x i size old new has written =
     }
 
 -- the first bytes were
-pub partly : {D : Type 0} (faults : D → ℕ) (d e : D) (x : Image) (i size : ℕ) (old new : Option (List ℕ)) (none : Type 0) (r : Refusal) → Some size ≡ size_at x i → IsPartly faults d e (bytes_at x i) old new r → IsUnwritten faults d e x i old new none r
-partly faults d e x i size old new none (Disk fault) has why = (why.0, inr (part_shown x i size old new has why.1))
-partly faults d e x i size old new none (Cat cat.NoMemory) has why = (why.0, inr (part_shown x i size old new has why.1))
-partly faults d e x i size old new none (Cat cat.NoFile) has why = absurd why
-partly faults d e x i size old new none (OfFile fault) has why = absurd why
-partly faults d e x i size old new none (Mkfs fault) has why = absurd why
-partly faults d e x i size old new none (Check fault) has why = absurd why
-partly faults d e x i size old new none (Recover fault) has why = absurd why
-partly faults d e x i size old new none (Open fault) has why = absurd why
-partly faults d e x i size old new none (Script fault) has why = absurd why
-partly faults d e x i size old new none (Schedule fault) has why = absurd why
-partly faults d e x i size old new none (Input fault) has why = absurd why
-partly faults d e x i size old new none Output has why = why
+pub partly : {D N : Type 0} (disk : Ghosts D N) (d e : D) (x : Image) (i size : ℕ) (old new : Option (List ℕ)) (none : Type 0) (r : Refusal) → Some size ≡ size_at x i → IsPartly disk d e (bytes_at x i) old new r → IsUnwritten disk d e x i old new none r
+partly disk d e x i size old new none (Disk fault) has why = (why.0, inr (part_shown x i size old new has why.1))
+partly disk d e x i size old new none (Cat cat.NoMemory) has why = (why.0, why.1, inr (part_shown x i size old new has why.2))
+partly disk d e x i size old new none (Cat cat.NoFile) has why = absurd why
+partly disk d e x i size old new none (OfFile fault) has why = absurd why
+partly disk d e x i size old new none (Mkfs fault) has why = absurd why
+partly disk d e x i size old new none (Check fault) has why = absurd why
+partly disk d e x i size old new none (Recover fault) has why = absurd why
+partly disk d e x i size old new none (Open fault) has why = absurd why
+partly disk d e x i size old new none (Script fault) has why = absurd why
+partly disk d e x i size old new none (Schedule fault) has why = absurd why
+partly disk d e x i size old new none (Input fault) has why = absurd why
+partly disk d e x i size old new none Output has why = why
 
 module _ {D N : Type 0} (disk : Ghosts D N) (d : D) (k : Plain D) (reader : IsReaderOf disk d k) (e : D) (reads : OnlyReads disk k.opening e) where
   -- a recovered disk that was only read
@@ -121,9 +121,9 @@ module _ {D N : Type 0} (disk : Ghosts D N) (d : D) (k : Plain D) (reader : IsRe
   part_of_it i old new none why = ⊎_elim (λ nothing. inl nothing) (λ part. inr (reader.recovers.sound, subst (λ x. ShowsFirst x i old new) reader.recovers.image part)) why
 
   -- why it was not written whole
-  pub not_shown : (i : ℕ) (old new : Option (List ℕ)) (none : Type 0) (r : Refusal) → IsUnwritten disk.fault_count k.opening e (disk.image k.opening) i old new none r → IsNotShown disk d e i old new none r
+  pub not_shown : (i : ℕ) (old new : Option (List ℕ)) (none : Type 0) (r : Refusal) → IsUnwritten disk k.opening e (disk.image k.opening) i old new none r → IsNotShown disk d e i old new none r
   not_shown i old new none (Disk fault) why = (failed_still why.0, part_of_it i old new none why.1)
-  not_shown i old new none (Cat cat.NoMemory) why = (recovered_still why.0, part_of_it i old new none why.1)
+  not_shown i old new none (Cat cat.NoMemory) why = (recovered_still why.0, why.1, part_of_it i old new none why.2)
   not_shown i old new none (Cat cat.NoFile) why = (recovered_still why.0, (reader.recovers.sound, subst (λ x. file_in (files_of x) i ≡ None) reader.recovers.image why.1), why.2)
   not_shown i old new none (OfFile fault) why = absurd why
   not_shown i old new none (Mkfs fault) why = absurd why
@@ -181,15 +181,15 @@ opening_of_cat (Cat fault) opens = absurd opens
 opening_of_cat (Input fault) opens = absurd opens
 opening_of_cat Output opens = absurd opens
 
-pub unwritten_of_cat : {D : Type 0} (faults : D → ℕ) (d e : D) (x : Image) (i : ℕ) (old new : Option (List ℕ)) (none : Type 0) (r : Refusal) → IsUnwritten faults d e x i old new none r → IsOfCat r
-unwritten_of_cat faults d e x i old new none (Disk fault) why = tt
-unwritten_of_cat faults d e x i old new none (Cat fault) why = tt
-unwritten_of_cat faults d e x i old new none Output why = tt
-unwritten_of_cat faults d e x i old new none (OfFile fault) why = absurd why
-unwritten_of_cat faults d e x i old new none (Mkfs fault) why = absurd why
-unwritten_of_cat faults d e x i old new none (Check fault) why = absurd why
-unwritten_of_cat faults d e x i old new none (Recover fault) why = absurd why
-unwritten_of_cat faults d e x i old new none (Open fault) why = absurd why
-unwritten_of_cat faults d e x i old new none (Script fault) why = absurd why
-unwritten_of_cat faults d e x i old new none (Schedule fault) why = absurd why
-unwritten_of_cat faults d e x i old new none (Input fault) why = absurd why
+pub unwritten_of_cat : {D N : Type 0} (disk : Ghosts D N) (d e : D) (x : Image) (i : ℕ) (old new : Option (List ℕ)) (none : Type 0) (r : Refusal) → IsUnwritten disk d e x i old new none r → IsOfCat r
+unwritten_of_cat disk d e x i old new none (Disk fault) why = tt
+unwritten_of_cat disk d e x i old new none (Cat fault) why = tt
+unwritten_of_cat disk d e x i old new none Output why = tt
+unwritten_of_cat disk d e x i old new none (OfFile fault) why = absurd why
+unwritten_of_cat disk d e x i old new none (Mkfs fault) why = absurd why
+unwritten_of_cat disk d e x i old new none (Check fault) why = absurd why
+unwritten_of_cat disk d e x i old new none (Recover fault) why = absurd why
+unwritten_of_cat disk d e x i old new none (Open fault) why = absurd why
+unwritten_of_cat disk d e x i old new none (Script fault) why = absurd why
+unwritten_of_cat disk d e x i old new none (Schedule fault) why = absurd why
+unwritten_of_cat disk d e x i old new none (Input fault) why = absurd why

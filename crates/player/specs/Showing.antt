@@ -9,7 +9,7 @@ use Rattle.model.specs.Verdict.{verdict}
 use Rattle.model.specs.declared.types.image.File.{File}
 use Rattle.wal.specs.Recovery.{RecoversAs}
 use Rattle.player.specs.Afterwards.{FailsRecovered, IsUnopened}
-use Rattle.player.specs.Asking.{Rests}
+use Rattle.player.specs.Asking.{Rests, IsRefusedMemory, asked_count}
 use Rattle.player.specs.Causes.{IsRecovered}
 use Rattle.player.specs.Stepping.{Plain}
 use Rattle.texts.specs.declared.faults.CatFault.TheVariants.{NoFile, NoMemory}
@@ -55,30 +55,34 @@ pub record IsReaderOf {D N : Type 0} (disk : Ghosts D N) (d : D) (k : Plain D) :
   pub leaves : LeavesOnly disk.moment disk.leaves d k.opening (RecoversAs (disk.image d))
   pub device : k.store.volume.device ≡ k.opening
   pub rests : Rests disk.fault_count k
+  pub none_asked : asked_count k ≡ 0
 
 -- the first of these bytes were written, over a disk that was d and is e, and then no more for that
 -- reason
-abbrev pub IsPartly : {D : Type 0} → (D → ℕ) → D → D → List ℕ → Option (List ℕ) → Option (List ℕ)
-    → Refusal → Type 0
-IsPartly faults d e bytes old new (Disk fault) =
-    Rose (faults d) (faults e) × ((count : ℕ) × Appends old new (take count bytes))
-IsPartly faults d e bytes old new (Cat NoMemory) =
-    (faults e ≡ faults d) × ((count : ℕ) × Appends old new (take count bytes))
-IsPartly faults d e bytes old new Output = faults e ≡ faults d
-IsPartly faults d e bytes old new r = ⊥
+abbrev pub IsPartly : {D N : Type 0} → Ghosts D N → D → D → List ℕ → Option (List ℕ)
+    → Option (List ℕ) → Refusal → Type 0
+IsPartly disk d e bytes old new (Disk fault) =
+    Rose (disk.fault_count d) (disk.fault_count e)
+    × ((count : ℕ) × Appends old new (take count bytes))
+IsPartly disk d e bytes old new (Cat NoMemory) =
+    (disk.fault_count e ≡ disk.fault_count d) × IsRefusedMemory disk e
+    × ((count : ℕ) × Appends old new (take count bytes))
+IsPartly disk d e bytes old new Output = disk.fault_count e ≡ disk.fault_count d
+IsPartly disk d e bytes old new r = ⊥
 
 -- why the file of number i of image x was not written whole, over a disk that was d and is e; `none`
 -- says that nothing was written
-abbrev pub IsUnwritten : {D : Type 0} → (D → ℕ) → D → D → Image → ℕ → Option (List ℕ)
+abbrev pub IsUnwritten : {D N : Type 0} → Ghosts D N → D → D → Image → ℕ → Option (List ℕ)
     → Option (List ℕ) → Type 0 → Refusal → Type 0
-IsUnwritten faults d e x i old new none (Cat NoFile) =
-    (faults e ≡ faults d) × (file_in (files_of x) i ≡ None) × none
-IsUnwritten faults d e x i old new none (Cat NoMemory) =
-    (faults e ≡ faults d) × (none ⊎ ShowsFirst x i old new)
-IsUnwritten faults d e x i old new none (Disk fault) =
-    Rose (faults d) (faults e) × (none ⊎ ShowsFirst x i old new)
-IsUnwritten faults d e x i old new none Output = faults e ≡ faults d
-IsUnwritten faults d e x i old new none r = ⊥
+IsUnwritten disk d e x i old new none (Cat NoFile) =
+    (disk.fault_count e ≡ disk.fault_count d) × (file_in (files_of x) i ≡ None) × none
+IsUnwritten disk d e x i old new none (Cat NoMemory) =
+    (disk.fault_count e ≡ disk.fault_count d) × IsRefusedMemory disk e
+    × (none ⊎ ShowsFirst x i old new)
+IsUnwritten disk d e x i old new none (Disk fault) =
+    Rose (disk.fault_count d) (disk.fault_count e) × (none ⊎ ShowsFirst x i old new)
+IsUnwritten disk d e x i old new none Output = disk.fault_count e ≡ disk.fault_count d
+IsUnwritten disk d e x i old new none r = ⊥
 
 -- Why the file of number i of the disk d, now e, was not written whole. Behind the opening of a
 -- kernel the image is recovered, and nothing else was done to it.
@@ -87,7 +91,7 @@ abbrev pub IsNotShown : {D N : Type 0} → Ghosts D N → D → D → ℕ → Op
 IsNotShown disk d e i old new none (Cat NoFile) =
     IsRecovered disk (logged_count (disk.image d)) d e × HasNoFile (disk.image d) i × none
 IsNotShown disk d e i old new none (Cat NoMemory) =
-    IsRecovered disk (logged_count (disk.image d)) d e
+    IsRecovered disk (logged_count (disk.image d)) d e × IsRefusedMemory disk e
     × (none ⊎ ShowsPart (disk.image d) i old new)
 IsNotShown disk d e i old new none (Disk fault) =
     FailsRecovered disk d e × (none ⊎ ShowsPart (disk.image d) i old new)

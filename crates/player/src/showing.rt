@@ -6,7 +6,7 @@ ghost use Rattle.blocks.specs.Disk.{LeavesOnly};
 ghost use Rattle.model.specs.Log.{logged_count};
 ghost use Rattle.wal.specs.Recovery.{RecoversAs};
 ghost use Rattle.player.specs.Afterwards.{IsUnopened};
-ghost use Rattle.player.specs.Asking.{Rests, size_at};
+ghost use Rattle.player.specs.Asking.{Rests, asked_count, size_at};
 ghost use Rattle.player.specs.Causes.{IsRecovered};
 ghost use Rattle.player.specs.Refusal.{IsOfCat};
 ghost use Rattle.player.specs.Showing.{IsNotShown, IsPartly, IsReaderOf, IsUnwritten, Shows, ShowsFile, bytes_at};
@@ -83,11 +83,12 @@ fn show<D: Disk, O: Write>(
     out: &mut O,
 ) -> Result<(), Refusal>
     requires rests { Rests D.fault_count kernel.old }
+    requires first { asked_count kernel.old ≡ 0 }
     ensures shown { OnOk result (ShowsFile (D.image kernel.old.opening) number
         (O.contents out.old) (O.contents out.new)) }
     ensures faultless { OnOk result (D.fault_count kernel.new.store.volume.device
         ≡ D.fault_count kernel.old.opening) }
-    ensures refused { IfErr result (IsUnwritten D.fault_count kernel.old.opening
+    ensures refused { IfErr result (IsUnwritten D.Disk kernel.old.opening
         kernel.new.store.volume.device (D.image kernel.old.opening) number
         (O.contents out.old) (O.contents out.new) (out.new ≡ out.old)) }
     ensures reads { OnlyReads D.Disk kernel.old.store.volume.device
@@ -108,12 +109,13 @@ fn write_file<D: Disk, O: Write>(
     out: &mut O,
 ) -> Result<(), Refusal>
     requires rests { Rests D.fault_count kernel.old }
+    requires asked { asked_count kernel.old ≡ 1 }
     requires size { size_at (D.image kernel.old.opening) number ≡ Some size }
     ensures all { OnOk result (Appends (O.contents out.old) (O.contents out.new)
         (bytes_at (D.image kernel.old.opening) number)) }
     ensures rests { OnOk result (Rests D.fault_count kernel.new) }
     ensures opening { kernel.new.opening ≡ kernel.old.opening }
-    ensures part { IfErr result (IsPartly D.fault_count kernel.old.opening
+    ensures part { IfErr result (IsPartly D.Disk kernel.old.opening
         kernel.new.store.volume.device (bytes_at (D.image kernel.old.opening) number)
         (O.contents out.old) (O.contents out.new)) }
     ensures reads { OnlyReads D.Disk kernel.old.store.volume.device

@@ -17,7 +17,7 @@ use Rattle.xvfs.specs.Files.{IsNotRun}
 module _ {D N : Type 0} (disk : Ghosts D N) (d e : D) (old new : Option (List ℕ)) (none other : Type 0) (f : none → other) where
   pub not_shown : (i : ℕ) (r : Refusal) → IsNotShown disk d e i old new none r → IsNotShown disk d e i old new other r
   not_shown i (Cat cat.NoFile) why = (why.0, why.1, f why.2)
-  not_shown i (Cat cat.NoMemory) why = (why.0, ⊎_elim (λ nothing. inl (f nothing)) (λ part. inr part) why.1)
+  not_shown i (Cat cat.NoMemory) why = (why.0, why.1, ⊎_elim (λ nothing. inl (f nothing)) (λ part. inr part) why.2)
   not_shown i (Disk fault) why = (why.0, ⊎_elim (λ nothing. inl (f nothing)) (λ part. inr part) why.1)
   not_shown i Output why = why
   not_shown i (File fault) why = (why.0, f why.1)

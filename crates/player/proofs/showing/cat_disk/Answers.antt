@@ -46,7 +46,7 @@ returns-clause-refused g c =
 pub returns-clause-layers : goal.returns-clause-layers
 returns-clause-layers g c =
     IfErr-weaker c.show-shown.result _ _
-    (unwritten_of_cat g.D.Disk.fault_count c.in-Ok.kernel.opening c.show-shown.new.kernel.store.volume.device (g.D.Disk.image c.in-Ok.kernel.opening) c.args.number (g.O.Write.contents c.args.out.now) (g.O.Write.contents c.show-shown.new.out) (c.show-shown.new.out ≡ c.args.out.now))
+    (unwritten_of_cat g.D.Disk c.in-Ok.kernel.opening c.show-shown.new.kernel.store.volume.device (g.D.Disk.image c.in-Ok.kernel.opening) c.args.number (g.O.Write.contents c.args.out.now) (g.O.Write.contents c.show-shown.new.out) (c.show-shown.new.out ≡ c.args.out.now))
     c.show-shown.ensures.refused
 
 pub returns-clause-name : goal.returns-clause-name
