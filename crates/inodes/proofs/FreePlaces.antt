@@ -17,7 +17,7 @@ use Rattle.inodes.specs.declared.writei.WriteAt.TheVariants as write_at
 use Rattle.inodes.specs.Holding.{kept_slot, used_slot}
 use Rattle.inodes.specs.Itrunc.{TruncState}
 use Rattle.inodes.specs.LockState.{slot_of}
-use Rattle.inodes.specs.Places.{HasSlot, is_over}
+use Rattle.inodes.specs.Places.{HasSlot}
 use Rattle.inodes.specs.Table.{TableState}
 use Rattle.inodes.specs.Writei.{WriteState}
 use Rattle.inodes.specs.Writing.{slot_of_alloc, kept_by_write, used_on_way, used_by_write}
@@ -101,17 +101,6 @@ free_goes c t (place.Truncating k m) e = free_trunc c m m.at e
 free_goes c t (place.Writing k m) e = free_write c m m.at e
 free_goes c t (place.Leaving k) e = refl
 
--- and is not over
-pub free_busy : (a : Place) → is_free a ≡ true → is_over a ≡ false
-free_busy place.Nowhere e = absurd (cc e)
-free_busy (place.Creating m) e = refl
-free_busy (place.Taking m) e = refl
-free_busy (place.Reading k m) e = refl
-free_busy (place.Delivering k) e = refl
-free_busy (place.Truncating k m) e = refl
-free_busy (place.Writing k m) e = refl
-free_busy (place.Leaving k) e = refl
-
 -- ---- what is kept while another block is got
 
 -- the slot of the block of addresses
@@ -191,7 +180,8 @@ is_getting (place.Leaving k) = true
 abbrev pub Waits : Buffers → TableState → Place → Type 0
 Waits c t a = (b : ℕ) × (cause_at c t a ≡ cause_to_get c (Some b))
 
-some_got : (c : Buffers) (o : Option ℕ) (b : ℕ) → is_some o ≡ false → cause_to_get c (unless_got o b) ≡ cause_to_get c (Some b)
+-- a block that was not got is got next
+pub some_got : (c : Buffers) (o : Option ℕ) (b : ℕ) → is_some o ≡ false → cause_to_get c (unless_got o b) ≡ cause_to_get c (Some b)
 some_got c None b e = refl
 some_got c (Some i) b e = absurd (cc e)
 
@@ -233,13 +223,3 @@ getting_waits c t (place.Delivering k) e is = absurd (cc e)
 getting_waits c t (place.Truncating k m) e is = trunc_waits c m m.at e
 getting_waits c t (place.Writing k m) e is = write_waits c m m.at e
 getting_waits c t (place.Leaving k) e is = absurd (cc e)
-
-pub getting_busy : (a : Place) → is_getting a ≡ true → is_over a ≡ false
-getting_busy place.Nowhere e = absurd (cc e)
-getting_busy (place.Creating m) e = refl
-getting_busy (place.Taking m) e = refl
-getting_busy (place.Reading k m) e = refl
-getting_busy (place.Delivering k) e = refl
-getting_busy (place.Truncating k m) e = refl
-getting_busy (place.Writing k m) e = refl
-getting_busy (place.Leaving k) e = refl

@@ -1,7 +1,7 @@
 -- Nobody waits for ever: of the tasks under way one goes on. It is one that uses what it has got;
 -- where there is none, one that keeps a block of addresses; where there is none, one that gets a
 -- block; and else any, for nobody has an inode's lock then.
-use Rattle.std.proofs.Common.{◌≡◌, ◌≢◌, ℕ, zero, suc, Bool, true, false, List, [], ◌∷◌, refl, sym, ◌∙◌, ap, Option, Some, None, inl, inr, ◌⊎◌}
+use Rattle.std.proofs.Common.{◌≡◌, ◌≢◌, ℕ, Bool, true, false, refl, sym, ◌∙◌, ap, Option, Some, None, inl, inr}
 use Rattle.std.specs.Prelude.{is_some, IfNone, not}
 use Rattle.std.proofs.lemmas.Bool.{both_ways}
 use Rattle.blocks.specs.declared.errors.DiskFault.{DiskFault}
@@ -19,30 +19,14 @@ use Rattle.inodes.specs.Looks.{AreLooking}
 use Rattle.inodes.specs.Places.{is_over, grip_at, grip_by, asked_by}
 use Rattle.inodes.specs.Store.{StoreState, IsStore, Agrees, current_of}
 use Rattle.inodes.specs.Table.{TableState, holder_at}
-use Rattle.inodes.specs.Tasks.{TaskState, task}
+use Rattle.inodes.specs.Tasks.{TaskState, no_task, task}
 use Rattle.inodes.specs.Waiting.{SomeoneGoesOn, NobodyWaitsForEver, cause_at, cause_to_lock, cause_of_holder}
 use Rattle.inodes.specs.Lemmas.Faults.{where_none}
+use Rattle.inodes.specs.Lemmas.Sought.{Sought, sought, passes_busy}
 use Rattle.inodes.proofs.Gripping.{grip_is}
-use Rattle.inodes.proofs.FreePlaces.{is_free, free_goes, free_busy, kept_at, has_kept, is_lock, is_getting, getting_waits, getting_busy}
+use Rattle.inodes.proofs.FreePlaces.{is_free, free_goes, kept_at, has_kept, is_lock, is_getting, getting_waits}
 use Rattle.wal.specs.Lemmas.Victims.{HoldsOne, some_victim, gets_now}
 use Rattle.inodes.proofs.KeptBlocks.{kept_block, keeps_open, KeepsOpen, kept_own, kept_waits, waits_apart, WaitsBehind}
-
--- some task passes a test, or none does
-abbrev Sought : (Place → Bool) → List TaskState → Type 0
-Sought test ts = ((q : ℕ) × (test (task ts q).place ≡ true)) ⊎ ((q : ℕ) → test (task ts q).place ≡ false)
-
-sought : (test : Place → Bool) (ts : List TaskState) → test place.Nowhere ≡ false → Sought test ts
-sought test [] none = inr (λ q. none)
-sought test (t ∷ ts) none = by (test t.place) refl (sought test ts none)
-  where
-    each : test t.place ≡ false → ((q : ℕ) → test (task ts q).place ≡ false) → (q : ℕ) → test (task (t ∷ ts) q).place ≡ false
-    each fails rest zero = fails
-    each fails rest (suc q) = rest q
-
-    by : (b : Bool) → test t.place ≡ b → Sought test ts → Sought test (t ∷ ts)
-    by true is rest = inl (0, is)
-    by false is (inl found) = inl (suc found.0, found.1)
-    by false is (inr rest) = inr (each is rest)
 
 -- ---- who has an inode's lock waits for none
 
@@ -88,6 +72,10 @@ only_lock c t (place.Truncating k m) busy is = absurd (cc is)
 only_lock c t (place.Writing k m) busy is = absurd (cc is)
 only_lock c t (place.Leaving k) busy is = absurd (cc is)
 
+-- a task that stands there keeps a block of addresses
+abbrev keeps : Place → Bool
+keeps a = is_some (kept_at a)
+
 slot_in : (o : Option ℕ) → is_some o ≡ true → (i : ℕ) × (o ≡ Some i)
 slot_in None e = absurd (cc e)
 slot_in (Some i) e = (i, refl)
@@ -98,6 +86,10 @@ module _ {D : Type 0} (image : D → Image) (s : StoreState D) (store : IsStore 
 
   abbrev at : ℕ → Place
   at p = (task s.tasks p).place
+
+  -- a task passes a test, or none does
+  some_task : (test : Place → Bool) → test place.Nowhere ≡ false → Sought (λ (t : TaskState). test t.place) no_task s.tasks
+  some_task test fails = sought (λ (t : TaskState). test t.place) no_task s.tasks fails
 
   agrees : Agrees s.volume.buffers s.volume.log s.table.inode_count s.tasks
   agrees = where_none s.volume.fault unfailed store.agrees
@@ -167,32 +159,22 @@ module _ {D : Type 0} (image : D → Image) (s : StoreState D) (store : IsStore 
             absurd (both_ways _ (none q) (locked_gets (at q) (asked_by (task s.tasks q).op) k has.0 (sym (grip_is s.tasks q) ∙ has.1)))
 
     by_lock : (p : ℕ) → is_over (at p) ≡ false → ((q : ℕ) → is_some (kept_at (at q)) ≡ false) → SomeoneGoesOn s
-    by_lock p busy none = elim (sought is_getting s.tasks refl) [
-      | inl found ↦ record { process = found.0; busy = getting_busy (at found.0) found.1; goes = getter_goes none found.0 found.1 }
+    by_lock p busy none = elim (some_task is_getting refl) [
+      | inl found ↦ record { process = found.0; busy = passes_busy is_getting refl (at found.0) found.1; goes = getter_goes none found.0 found.1 }
       | inr all ↦ record { process = p; busy = busy; goes = locker_goes all p busy }
     ]
 
-    kept_busy : (a : Place) → is_some (kept_at a) ≡ true → is_over a ≡ false
-    kept_busy place.Nowhere e = absurd (cc e)
-    kept_busy (place.Creating m) e = refl
-    kept_busy (place.Taking m) e = refl
-    kept_busy (place.Reading k m) e = refl
-    kept_busy (place.Delivering k) e = refl
-    kept_busy (place.Truncating k m) e = refl
-    kept_busy (place.Writing k m) e = refl
-    kept_busy (place.Leaving k) e = refl
-
     by_keeper : (p : ℕ) → is_over (at p) ≡ false → SomeoneGoesOn s
-    by_keeper p busy = elim (sought (λ (a : Place). is_some (kept_at a)) s.tasks refl) [
+    by_keeper p busy = elim (some_task keeps refl) [
       | inl found ↦
           let slot = slot_in (kept_at (at found.0)) found.1 in
-          record { process = found.0; busy = kept_busy (at found.0) found.1; goes = keeper_goes found.0 slot.0 slot.1 }
+          record { process = found.0; busy = passes_busy keeps refl (at found.0) found.1; goes = keeper_goes found.0 slot.0 slot.1 }
       | inr none ↦ by_lock p busy none
     ]
 
   pub nobody_waits_for_ever : NobodyWaitsForEver s
-  nobody_waits_for_ever p busy = elim (sought is_free s.tasks refl) [
-    | inl found ↦ record { process = found.0; busy = free_busy (at found.0) found.1; goes = free_goes c s.table (at found.0) found.1 }
+  nobody_waits_for_ever p busy = elim (some_task is_free refl) [
+    | inl found ↦ record { process = found.0; busy = passes_busy is_free refl (at found.0) found.1; goes = free_goes c s.table (at found.0) found.1 }
     | inr waits ↦ by_keeper waits p busy
   ]
 

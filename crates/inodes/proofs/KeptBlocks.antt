@@ -1,7 +1,7 @@
 -- The blocks of addresses that tasks keep: each is its file's own, and nobody who keeps one waits
 -- for one.
 use Rattle.std.proofs.Common.{◌≡◌, ◌≢◌, ℕ, ◌<◌, ◌≤◌, false, List, get_or, refl, sym, ◌∙◌, ap, subst, arith, Option, Some, None, inl, inr, ◌⊎◌}
-use Rattle.std.specs.Prelude.{IsTrue, is_some}
+use Rattle.std.specs.Prelude.{IsTrue}
 use Rattle.std.proofs.lemmas.Bool.{cases_eq}
 use Rattle.blocks.specs.Disk.{Image}
 use Rattle.model.specs.declared.types.operations.Op.{Op}
@@ -44,9 +44,9 @@ use Rattle.inodes.specs.Writei.{WriteState}
 use Rattle.inodes.specs.Writing.{IsWriting, slot_of_alloc, block_of_alloc, kept_on_way, kept_by_write}
 use Rattle.inodes.specs.Lemmas.Looks.{trunc_locks, write_locks}
 use Rattle.wal.specs.Volume.{cause_to_get}
-use Rattle.inodes.specs.Waiting.{cause_at, unless_got, wanted_by_trunc, wanted_by_write, wanted_on_way}
+use Rattle.inodes.specs.Waiting.{cause_at, wanted_by_trunc, wanted_by_write, wanted_on_way}
 use Rattle.inodes.proofs.Unclaimed.{one_holder, own_claim, own_growth}
-use Rattle.inodes.proofs.FreePlaces.{is_free, frees_freely, maps_freely, writes_freely, kept_at}
+use Rattle.inodes.proofs.FreePlaces.{is_free, frees_freely, maps_freely, writes_freely, kept_at, some_got}
 
 -- ---- what is kept
 
@@ -181,10 +181,6 @@ module _ (cur : Image) (t : TableState) (ts : List TaskState) (are : AreLooking 
     pub cause : cause_at c t (task ts p).place ≡ cause_to_get c (Some block)
     pub what : (block ≡ bitmap_block (inode_count_of cur)) ⊎ IsTaken p block
 
-  got_later : (c : Buffers) (o : Option ℕ) (b : ℕ) → is_some o ≡ false → cause_to_get c (unless_got o b) ≡ cause_to_get c (Some b)
-  got_later c None b e = refl
-  got_later c (Some i) b e = absurd (cc e)
-
   the_bitmap : bitmap_block t.inode_count ≡ bitmap_block (inode_count_of cur)
   the_bitmap = ap bitmap_block numbers
 
@@ -194,7 +190,7 @@ module _ (cur : Image) (t : TableState) (ts : List TaskState) (are : AreLooking 
   trunc_behind c p k i m trunc_at.Getting at is work given has waits = absurd (cc has)
   trunc_behind c p k i m (trunc_at.Entry j f) at is work given has waits = record {
     block = f.bitmap;
-    cause = ap (cause_at c t) at ∙ ap (λ (b : TruncAt). cause_to_get c (wanted_by_trunc m b)) is ∙ got_later c f.slot f.bitmap waits;
+    cause = ap (cause_at c t) at ∙ ap (λ (b : TruncAt). cause_to_get c (wanted_by_trunc m b)) is ∙ some_got c f.slot f.bitmap waits;
     what = inl (given.3.bitmap ∙ work.bitmap ∙ the_bitmap);
   }
   trunc_behind c p k i m (trunc_at.Releasing j) at is work given has waits = absurd (cc waits)
@@ -235,7 +231,7 @@ module _ (cur : Image) (t : TableState) (ts : List TaskState) (are : AreLooking 
   way_behind c p k i m way (map_at.Entry (Some j)) at is on work come has waits = absurd (cc waits)
   way_behind c p k i m way (map_at.Behind j s) at is on work come has waits = record {
     block = block_of_alloc s s.at;
-    cause = ap (cause_at c t) at ∙ ap (λ (b : WriteAt). cause_to_get c (wanted_by_write m b)) is ∙ ap (λ (b : MapAt). cause_to_get c (wanted_on_way m.inode b)) on ∙ got_later c (slot_of_alloc s.at) (block_of_alloc s s.at) waits;
+    cause = ap (cause_at c t) at ∙ ap (λ (b : WriteAt). cause_to_get c (wanted_by_write m b)) is ∙ ap (λ (b : MapAt). cause_to_get c (wanted_on_way m.inode b)) on ∙ some_got c (slot_of_alloc s.at) (block_of_alloc s s.at) waits;
     what = alloc_waits c p k m s s.at at work come.0.1 come.1.bitmap refl (ap taken_by is ∙ ap taken_on_way on);
   }
   way_behind c p k i m way (map_at.Setting j found) at is on work come has waits = absurd (cc waits)

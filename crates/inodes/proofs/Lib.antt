@@ -39,3 +39,4 @@ mod WriteEnds
 mod FreePlaces
 mod KeptBlocks
 mod GoesOn
+mod Sleeping

@@ -3,6 +3,7 @@
 pub mod Bounds
 pub mod Looks
 pub mod Faults
+pub mod Sought
 pub mod StepEnds
 pub mod Runs
 pub mod WriteRuns

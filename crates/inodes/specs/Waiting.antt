@@ -3,6 +3,7 @@ use Rattle.std.specs.Prelude.{◌≡◌, ℕ, false, slice_index, Option, Some, 
 use Rattle.blocks.specs.declared.disk.Disk.{Ghosts}
 use Rattle.model.specs.declared.types.image.Dinode.{Dinode}
 use Rattle.model.specs.declared.types.operations.Op.{Op}
+use Rattle.model.specs.declared.types.operations.TaskProgress.{TaskProgress}
 use Rattle.model.specs.declared.types.operations.TaskProgress.TheVariants as progress
 use Rattle.model.specs.declared.types.operations.Why.{Why}
 use Rattle.model.specs.declared.types.operations.Why.TheVariants as why
@@ -102,3 +103,8 @@ NobodyWaitsForEver s = (p : ℕ) → is_over (task s.tasks p).place ≡ false �
 abbrev pub SleepsForCause : {D N : Type 0} → Ghosts D N → Type 0
 SleepsForCause {D} disk = (s t : StoreState D) (p : ℕ) (op : Op) (cause : Why)
     → Steps disk s p op (progress.Sleeping cause) t → sleep_cause s p ≡ Some cause
+
+-- and where there is this cause, it does wait
+abbrev pub WaitsWithCause : {D N : Type 0} → Ghosts D N → Type 0
+WaitsWithCause {D} disk = (s t : StoreState D) (p : ℕ) (op : Op) (r : TaskProgress) (cause : Why)
+    → sleep_cause s p ≡ Some cause → Steps disk s p op r t → r ≡ progress.Sleeping cause

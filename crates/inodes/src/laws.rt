@@ -4,7 +4,7 @@ ghost use Rattle.std.specs.Prelude.{ℕ};
 ghost use Rattle.inodes.specs.Store.{StoreState};
 ghost use Rattle.inodes.specs.Runs.{NoInodeSawAll, MadeSawLower, StepsLeaveOthers, CommitsLeaveAll, BoundsLeaveOthers};
 ghost use Rattle.inodes.specs.WriteRuns.{ShortSawFull};
-ghost use Rattle.inodes.specs.Waiting.{SleepsForCause};
+ghost use Rattle.inodes.specs.Waiting.{SleepsForCause, WaitsWithCause};
 ghost use Rattle.inodes.specs.ReadRuns.{BegunMayStep, ReadsPart};
 ghost use Rattle.inodes.specs.Table.{HasPlace};
 ghost use Rattle.inodes.specs.Grips.{KeptByRefer, KeptByLock, KeptByRenew, KeptByLeave, KeptByImage, IsTableAtOpening, HasPlaceForEach, LocksExclude, HolderIsAnother};
@@ -68,7 +68,8 @@ pub fn grips_say()
 {}
 
 /// A step that has to wait says why: it has the cause that the buffers or the table give to where
-/// its task stands.
+/// its task stands. And where they give one, the step does wait.
 pub fn sleeps_for_cause<D: Disk>()
-    ensures { SleepsForCause D.Disk }
+    ensures sleeps { SleepsForCause D.Disk }
+    ensures waits { WaitsWithCause D.Disk }
 {}

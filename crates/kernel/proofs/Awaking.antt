@@ -1,7 +1,6 @@
 -- Nobody waits for ever in a kernel, as none of its store's tasks does.
 use Rattle.std.proofs.Common.{◌≡◌, ◌≢◌, ℕ, zero, suc, ◌<◌, Bool, true, false, not, length, List, refl, sym, ◌∙◌, ap, subst, arith, Option, Some, None, inl, inr, ◌⊎◌}
 use Rattle.std.specs.Option.{option_map}
-use Rattle.std.specs.Prelude.{IfNone}
 use Rattle.std.proofs.lemmas.Bool.{both_ways, cases_lt}
 use Rattle.std.proofs.lemmas.List.{get_or_past}
 use Rattle.blocks.specs.Disk.{Image}
@@ -22,13 +21,13 @@ use Rattle.wal.specs.declared.types.Ended.TheVariants as ended_as
 use Rattle.wal.specs.Joint.{Joint}
 use Rattle.wal.specs.Machine.{LogState, begin_cause, is_quiet, end_answer, IsLogAt, Idle}
 use Rattle.inodes.specs.declared.tasks.Place.{Place}
-use Rattle.inodes.specs.declared.tasks.Place.TheVariants as place
 use Rattle.inodes.specs.Lemmas.Faults.{where_none}
+use Rattle.inodes.specs.Lemmas.Sought.{passes_busy}
 use Rattle.inodes.specs.Places.{is_over, is_unturned, steps_left}
 use Rattle.inodes.specs.Steps.{Steps}
 use Rattle.inodes.specs.Store.{StoreState}
 use Rattle.inodes.specs.Tasks.{task}
-use Rattle.inodes.specs.Waiting.{NobodyWaitsForEver, SleepsForCause, sleep_cause}
+use Rattle.inodes.specs.Waiting.{NobodyWaitsForEver, SleepsForCause, WaitsWithCause, sleep_cause}
 use Rattle.ports.specs.History.{Side, first_in}
 use Rattle.ports.specs.declared.herald.Herald as herald_trait
 use Rattle.ports.specs.declared.intake.Intake as intake_trait
@@ -56,21 +55,6 @@ use Rattle.kernel.specs.Steps.{MakesStep}
 use Rattle.kernel.specs.View.{view_of}
 use Rattle.kernel.proofs.Resting.{at_rest}
 
-unturned_busy : (a : Place) → is_unturned a ≡ true → is_over a ≡ false
-unturned_busy place.Nowhere e = absurd (cc e)
-unturned_busy (place.Creating m) e = refl
-unturned_busy (place.Taking m) e = refl
-unturned_busy (place.Reading k m) e = refl
-unturned_busy (place.Delivering k) e = refl
-unturned_busy (place.Truncating k m) e = refl
-unturned_busy (place.Writing k m) e = refl
-unturned_busy (place.Leaving k) e = refl
-
--- facts that hold while the disk has not failed
-pub awake_if : {Q R S T : Type 0} (o : Option DiskFault) → (Q → R → S → T) → IfNone o Q → IfNone o R → IfNone o S → IfNone o T
-awake_if None f q r s = f q r s
-awake_if (Some fault) f q r s = tt
-
 -- ---- who goes on
 
 module _ {D I H : Type 0} (image : D → Image) (opening : Image) (k : State D I H) (paired : ArePaired k.store k.world) (has : HasFacts image opening k.store k.world) where
@@ -83,7 +67,7 @@ module _ {D I H : Type 0} (image : D → Image) (opening : Image) (k : State D I
   -- the task of an operation that has a cause to wait is not over
   under_way : (p : ℕ) (a : At) → ats_of k.world p ≡ a → cause_by a (sleep_cause k.store p) ≢ None → is_over (place_at p) ≡ false
   under_way p at.Idle stands waits = absurd (waits refl)
-  under_way p (at.Before group op) stands waits = let there = stands_there p (at.Before group op) stands in unturned_busy (place_at p) there.1
+  under_way p (at.Before group op) stands waits = let there = stands_there p (at.Before group op) stands in passes_busy is_unturned refl (place_at p) there.1
   under_way p (at.Behind group j) stands waits =
       let there = stands_there p (at.Behind group j) stands in
       let fact : StandsAt (inode_count_of opening) (view_of image k.store) k.world.journal.list p (at.Behind group j) =
@@ -226,6 +210,18 @@ module _ {D N I M H : Type 0} (disk : disk_trait.Ghosts D N) (intake : intake_tr
   sleeps_for_cause sleeps k m p cause busy makes =
       at_sleeps sleeps k m p cause (intake.side k.intake p).ahead (intake.side m.intake p) (herald.told m.herald) (ats_of k.world p) busy
       (next_of k m p (step.Sleeping cause) (well_if_asleep k m p cause makes k.store.volume.fault refl) makes)
+
+  module _ (waits : WaitsWithCause disk) (k m : State D I H) (p : ℕ) (r : Step) (cause : Why) (before : List Op) (side : Side) (told : Bool) where
+    at_waits : (a : At) → cause_by a (sleep_cause k.store p) ≡ Some cause → NextAt disk a k.store k.world p before side told r m.store m.world → r ≡ step.Sleeping cause
+    at_waits at.Idle e next = absurd (cc e)
+    at_waits (at.Before group op) e next = next.answer ∙ ap step_of (waits k.store m.store p op next.progress cause e next.steps)
+    at_waits (at.Behind group j) e next = next.answer ∙ ap (step_behind group) (waits k.store m.store p (entry_in k.world.journal.list j).op next.progress cause e next.steps)
+    at_waits (at.Ending group j) e next = absurd (cc e)
+    at_waits (at.Committing group j) e next = absurd (cc e)
+
+  pub waits_with_cause : WaitsWithCause disk → sleeping.WaitsWithCause disk intake herald
+  waits_with_cause waits k m p r cause well e makes =
+      at_waits waits k m p r cause (intake.side k.intake p).ahead (intake.side m.intake p) (herald.told m.herald) (ats_of k.world p) e (next_of k m p r well makes)
 
   -- ---- a process alone
 

@@ -18,6 +18,7 @@ use Rattle.wal.specs.declared.types.Ended.{Ended}
 use Rattle.wal.specs.declared.types.Ended.TheVariants as ended_as
 use Rattle.wal.specs.Machine.{end_answer}
 use Rattle.inodes.specs.Lemmas.Faults.{where_none}
+use Rattle.inodes.specs.Lemmas.Sought.{sought}
 use Rattle.inodes.specs.Steps.{Steps}
 use Rattle.inodes.specs.Store.{StoreState}
 use Rattle.inodes.specs.Waiting.{sleep_cause}
@@ -370,22 +371,11 @@ module _ {D N I M H : Type 0} (disk : disk_trait.Ghosts D N) (intake : intake_tr
   abbrev Someone : State D I H → Type 0
   Someone k = ((p : ℕ) × IsBusy k p) ⊎ AreIdle k.world
 
-  sought : (ps : List Process) → ((p : ℕ) × (is_busy_at (get_or ps p idle).at ≡ true)) ⊎ ((p : ℕ) → (get_or ps p idle).at ≡ at.Idle)
-  sought [] = inr (λ p. refl)
-  sought (t ∷ ps) = by (is_busy_at t.at) refl (sought ps)
-    where
-      each : t.at ≡ at.Idle → ((p : ℕ) → (get_or ps p idle).at ≡ at.Idle) → (p : ℕ) → (get_or (t ∷ ps) p idle).at ≡ at.Idle
-      each here rest zero = here
-      each here rest (suc p) = rest p
-
-      by : (b : Bool) → is_busy_at t.at ≡ b → ((p : ℕ) × (is_busy_at (get_or ps p idle).at ≡ true)) ⊎ ((p : ℕ) → (get_or ps p idle).at ≡ at.Idle) →
-          ((p : ℕ) × (is_busy_at (get_or (t ∷ ps) p idle).at ≡ true)) ⊎ ((p : ℕ) → (get_or (t ∷ ps) p idle).at ≡ at.Idle)
-      by true is rest = inl (0, is)
-      by false is (inl found) = inl (suc found.0, found.1)
-      by false is (inr rest) = inr (each (idle_not t.at is) rest)
-
   someone : (k : State D I H) → Someone k
-  someone k = sought k.world.processes
+  someone k = elim (sought (λ (t : Process). is_busy_at t.at) idle k.world.processes refl) [
+    | inl found ↦ inl found
+    | inr none ↦ inr (λ p. idle_not (ats_of k.world p) (none p))
+  ]
 
   idle_sum : (k : State D I H) (n : ℕ) → AreIdle k.world → sum_below (left_of k) n ≡ 0
   idle_sum k n all = none_left (left_of k) n (λ q. idle_left k q (all q))

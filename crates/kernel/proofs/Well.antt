@@ -8,6 +8,7 @@ use Rattle.model.specs.Journal.{is_changing}
 use Rattle.model.specs.Layout.{inode_count_of}
 use Rattle.model.specs.Lemmas.Soundness.{facts_of}
 use Rattle.wal.specs.Machine.{IsLogAt}
+use Rattle.inodes.specs.Lemmas.Sought.{passes_busy}
 use Rattle.inodes.specs.Looks.{AreLooking}
 use Rattle.inodes.specs.Places.{is_over, is_unturned}
 use Rattle.inodes.specs.Store.{StoreState, IsStore, Agrees, current_of}
@@ -22,7 +23,6 @@ use Rattle.journal.specs.Views.{InGroup, HasEntry, StandsAt}
 use Rattle.kernel.specs.Invariant.{ArePaired, HasFacts, IsBehind, TaskStands}
 use Rattle.kernel.specs.State.{ats_of}
 use Rattle.kernel.specs.View.{view_of}
-use Rattle.kernel.proofs.Working.{unturned_more}
 
 -- a kernel whose disk has not failed, at a step of process p
 pub record IsWell {D : Type 0} (image : D → Image) (opening : Image) (s : StoreState D) (w : World) (p : ℕ) : Type 0 where
@@ -54,7 +54,7 @@ module _ {D : Type 0} (image : D → Image) (opening : Image) (s : StoreState D)
   pub before_there : (group : ℕ) (op : Op) → (process w p).at ≡ at.Before group op → ((task s.tasks p).op ≡ Some op) × (is_over (task s.tasks p).place ≡ false)
   before_there group op stands =
       let there : TaskStands w.journal.list (task s.tasks p) (at.Before group op) = subst (λ (a : At). TaskStands w.journal.list (task s.tasks p) a) stands (is.paired.stand p).stands in
-      (there.0, unturned_more (task s.tasks p).place there.1)
+      (there.0, passes_busy is_unturned refl (task s.tasks p).place there.1)
 
   pub unturned_before : (group : ℕ) (op : Op) → (process w p).at ≡ at.Before group op → is_unturned (task s.tasks p).place ≡ true
   unturned_before group op stands = (subst (λ (a : At). TaskStands w.journal.list (task s.tasks p) a) stands (is.paired.stand p).stands).1

@@ -20,6 +20,7 @@ use Rattle.model.specs.Tasks.{fault_of_task}
 use Rattle.wal.specs.Volume.{faults_after}
 use Rattle.inodes.specs.Lemmas.Faults.{where_none}
 use Rattle.inodes.specs.Lemmas.Looks.{late_is}
+use Rattle.inodes.specs.Lemmas.Sought.{passes_busy}
 use Rattle.inodes.specs.Lemmas.StepEnds.{DecisionEnds, GoesOn, GoesOnTurned, StepEnds, TurnEnds, ends_of}
 use Rattle.inodes.specs.Looks.{AreLooking, IsLate}
 use Rattle.inodes.specs.Places.{asked, is_over, owes_reply, is_unturned}
@@ -57,17 +58,7 @@ use Rattle.journal.specs.Lemmas.Places.{there_now, others_stay}
 use Rattle.kernel.proofs.Lasting.{lasts_failed}
 use Rattle.kernel.proofs.Right.{right_well, right_failed}
 
--- a task that had no turn is not over, nor is one whose reply is to come
-pub unturned_more : (a : Place) → is_unturned a ≡ true → is_over a ≡ false
-unturned_more place.Nowhere is = absurd (false≢true is)
-unturned_more (place.Creating m) is = refl
-unturned_more (place.Taking m) is = refl
-unturned_more (place.Reading k m) is = refl
-unturned_more (place.Delivering k) is = refl
-unturned_more (place.Truncating k m) is = refl
-unturned_more (place.Writing k m) is = refl
-unturned_more (place.Leaving k) is = refl
-
+-- a task whose reply is to come is not over, and had its turn
 reading_more : (a : Place) → owes_reply a ≡ true → (is_over a ≡ false) × (is_unturned a ≡ false)
 reading_more place.Nowhere is = absurd (false≢true is)
 reading_more (place.Creating m) is = absurd (false≢true is)
@@ -206,7 +197,7 @@ module _ {D N : Type 0} (disk : Ghosts D N) (opening : D) (s : StoreState D) (w 
     unturned = (stood (at.Before group op) stands).1
 
     more : is_over (task s.tasks p).place ≡ false
-    more = unturned_more (task s.tasks p).place unturned
+    more = passes_busy is_unturned refl (task s.tasks p).place unturned
 
     pub right_moved : Steps disk s p op progress.Moved t → HasAgreed disk.image t → IsRight disk opening t w
     right_moved steps agreed =

@@ -1,11 +1,12 @@
 -- When a step answers that it has to wait.
-use Rattle.std.specs.Prelude.{◌≡◌, ◌<◌, ℕ, false, length, Some}
+use Rattle.std.specs.Prelude.{◌≡◌, ◌<◌, ℕ, false, length, Some, None}
 use Rattle.blocks.specs.declared.disk.Disk as disk_trait
 use Rattle.model.specs.declared.types.operations.Why.{Why}
 use Rattle.model.specs.declared.types.operations.Why.TheVariants as why
 use Rattle.ports.specs.declared.herald.Herald as herald_trait
 use Rattle.ports.specs.declared.intake.Intake as intake_trait
 use Rattle.journal.specs.declared.types.At.TheVariants as at
+use Rattle.kernel.specs.declared.types.Step.{Step}
 use Rattle.kernel.specs.declared.types.Step.TheVariants as step
 use Rattle.kernel.specs.Awake.{IsBusy, cause_of}
 use Rattle.kernel.specs.State.{State, ats_of}
@@ -17,6 +18,13 @@ abbrev pub SleepsForCause : {D N I M H : Type 0} → disk_trait.Ghosts D N
 SleepsForCause {D} {N} {I} {M} {H} disk intake herald =
     (k m : State D I H) (p : ℕ) (cause : Why) → IsBusy k p →
     MakesStep disk intake herald p (step.Sleeping cause) k m → cause_of k p ≡ Some cause
+
+-- and one that has a cause does wait, unless the disk failed before
+abbrev pub WaitsWithCause : {D N I M H : Type 0} → disk_trait.Ghosts D N
+    → intake_trait.Ghosts I M → herald_trait.Ghosts H → Type 0
+WaitsWithCause {D} {N} {I} {M} {H} disk intake herald =
+    (k m : State D I H) (p : ℕ) (r : Step) (cause : Why) → k.store.volume.fault ≡ None →
+    cause_of k p ≡ Some cause → MakesStep disk intake herald p r k m → r ≡ step.Sleeping cause
 
 -- process p has no operation under way, no place is kept for an answer, and nothing changed
 pub record WaitsForRoom {D I M H : Type 0} (intake : intake_trait.Ghosts I M) (k : State D I H)

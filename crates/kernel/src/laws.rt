@@ -1,7 +1,7 @@
 //! Laws of steps and of runs of turns, the contract of a function that does nothing.
 ghost use Rattle.kernel.specs.Causes.{NoInodeHasCause, ShortHasCause};
 ghost use Rattle.kernel.specs.Rounds.{RoundsEndAll};
-ghost use Rattle.kernel.specs.Sleeping.{SleepsForCause, SoleWaitsForAnswers};
+ghost use Rattle.kernel.specs.Sleeping.{SleepsForCause, SoleWaitsForAnswers, WaitsWithCause};
 
 use blocks::Disk;
 use ports::{Herald, Intake};
@@ -16,11 +16,13 @@ pub fn short_answers<D: Disk, I: Intake, H: Herald>()
     ensures short { ShortHasCause D.Disk I.Intake H.Herald }
 {}
 
-/// Why a step has to wait. An operation under way sleeps only for the cause that its task has; so
-/// where `Kernel::known` tells of one without a cause, that one goes on. The only process of a
-/// kernel sleeps for nothing but room for its answers, and then nothing of it is under way.
+/// When a step has to wait, and why. An operation under way sleeps only for the cause that its task
+/// has; so where `Kernel::known` tells of one without a cause, that one goes on. One whose task has
+/// a cause does sleep, unless the disk failed before. The only process of a kernel sleeps for
+/// nothing but room for its answers, and then nothing of it is under way.
 pub fn sleeps_for_cause<D: Disk, I: Intake, H: Herald>()
     ensures cause { SleepsForCause D.Disk I.Intake H.Herald }
+    ensures waits { WaitsWithCause D.Disk I.Intake H.Herald }
     ensures sole { SoleWaitsForAnswers D.Disk I.Intake H.Herald }
 {
     inodes::laws::sleeps_for_cause::<D>();

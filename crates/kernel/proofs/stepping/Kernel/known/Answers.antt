@@ -10,7 +10,7 @@ use Rattle.kernel.specs.Known.{Known}
 use Rattle.kernel.specs.State.{State}
 use Rattle.kernel.proofs.Openings.{opens_again}
 use Rattle.kernel.proofs.Lasting.{lasts_now}
-use Rattle.kernel.proofs.Awaking.{awake_if, awake_now}
+use Rattle.kernel.proofs.Awaking.{awake_now}
 use Rattle.kernel.proofs.Resting.{at_rest, if_both, stands_for}
 use Rattle.wal.specs.Lemmas.Volume.{none_seen}
 use Rattle.kernel.proofs.stepping.Kernel.known.Goals as goal
@@ -36,7 +36,7 @@ returns g c =
         stands = λ m run. stands_for g.D.Disk.image (g.D.Disk.image k.opening.value) k.store k.processes has m run;
         size = sym joint.size ∙ sym (length-current (g.D.Disk.image k.store.volume.device) k.store.volume.buffers) ∙ known_size _ _ _ _ has.facts;
       }) right.facts c.known.ensures.volume;
-      awake = awake_if k.store.volume.fault (λ has joint awake. awake_now g.D.Disk.image (g.D.Disk.image k.opening.value) (record { store = k.store; opening = k.opening.value; intake = k.intake; herald = k.herald; world = k.processes }) right.paired has joint awake) right.facts c.known.ensures.volume c.known.ensures.goes;
+      awake = if_both k.store.volume.fault (λ wakes goes. wakes goes) (if_both k.store.volume.fault (λ has joint. awake_now g.D.Disk.image (g.D.Disk.image k.opening.value) (record { store = k.store; opening = k.opening.value; intake = k.intake; herald = k.herald; world = k.processes }) right.paired has joint) right.facts c.known.ensures.volume) c.known.ensures.goes;
       cache = subst IsCache buffers c.known-2.ensures;
       locks = lasts.locks;
       unanswered = lasts.unanswered;
