@@ -301,4 +301,4 @@ module _ {D N I M H : Type 0} (disk : disk_trait.Ghosts D N) (intake : intake_tr
           let free : begin_cause k.store.volume.log ≡ None = ap (λ (s : StoreState D). begin_cause s.volume.log) (sym same.0) ∙ awake.begins all in
           let full = kept_out taken.0 k.store.volume.log (intake.side m.intake p).has_room cause free taken.2.answer in
           let is = full.0 in
-          record { cause = cc is; idle = idle; room = full.1; world = same.1 }
+          record { full = cc is; idle = idle; room = full.1; world = same.1 }

@@ -29,7 +29,7 @@ WaitsWithCause {D} {N} {I} {M} {H} disk intake herald =
 -- process p has no operation under way, no place is kept for an answer, and nothing changed
 pub record WaitsForRoom {D I M H : Type 0} (intake : intake_trait.Ghosts I M) (k : State D I H)
     (p : ℕ) (cause : Why) (m : State D I H) : Type 0 where
-  pub cause : cause ≡ why.AnswersFull
+  pub full : cause ≡ why.AnswersFull
   pub idle : ats_of k.world p ≡ at.Idle
   pub room : (intake.side m.intake p).has_room ≡ false
   pub world : m.world ≡ k.world
