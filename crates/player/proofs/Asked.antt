@@ -298,7 +298,7 @@ is_answered disk op k m known_k known_m handed fetched few look makes =
     }
 
 -- as many operations began as the journal has entries
-begun_is : {D N : Type 0} (disk : Ghosts D N) (k : Plain D) → Known disk plain_queues plain_herald k → length k.world.processes ≡ 1 → (process k.world 0).at ≡ at.Idle → list_all is_own_look k.world.journal.list ≡ true → (process k.world 0).begun ≡ length k.world.journal.list
+pub begun_is : {D N : Type 0} (disk : Ghosts D N) (k : Plain D) → Known disk plain_queues plain_herald k → length k.world.processes ≡ 1 → (process k.world 0).at ≡ at.Idle → list_all is_own_look k.world.journal.list ≡ true → (process k.world 0).begun ≡ length k.world.journal.list
 begun_is disk k known one idle looks =
     let has = known.histories 0 (omega (arith, one)) in
     has.is.count ∙ ap (λ (l : List Op). length l) has.is.taken ∙ ap (λ (a : At). length (map (λ (e : Entry). e.op) (own 0 k.world.journal.list) ++ pending_at a)) idle

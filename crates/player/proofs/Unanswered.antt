@@ -1,14 +1,15 @@
 -- Why an operation that a kernel's only process asked is not answered: the disk failed, or memory for
 -- it was refused.
-use Rattle.std.proofs.Common.{◌≡◌, ◌∙◌, ◌<◌, ℕ, ◌+◌, ◌^◌, ◌-◌, true, false, List, length, Option, Some, None, refl, sym, ap, subst, arith}
+use Rattle.std.proofs.Common.{◌≡◌, ◌∙◌, ◌<◌, ◌≤◌, inl, inr, ℕ, ◌+◌, ◌^◌, ◌-◌, true, false, List, [], ◌∷◌, ◌++◌, length, Option, Some, None, refl, sym, ap, subst, arith}
 use Rattle.std.specs.Prelude.{min, nat_lt, ◌⊎◌, ◌↔◌, IsSome}
 use Rattle.std.specs.List.{list_all}
-use Rattle.blocks.specs.Disk.{Rose}
+use Rattle.blocks.specs.Disk.{Rose, one_more}
 use Rattle.blocks.specs.declared.disk.Disk.{Ghosts}
 use Rattle.blocks.specs.declared.errors.DiskFault.{DiskFault}
 use Rattle.model.specs.declared.types.operations.Entry.{Entry}
 use Rattle.model.specs.declared.types.operations.Op.{Op}
 use Rattle.model.specs.declared.types.operations.Why.{Why}
+use Rattle.wal.specs.Volume.{faults_after}
 use Rattle.ports.specs.Queues.{waiting, answers, polled}
 use Rattle.journal.specs.declared.types.At.{At}
 use Rattle.journal.specs.declared.types.At.TheVariants as at
@@ -40,6 +41,16 @@ list_at op es list waits a idle stands = let there : StageAt op es at.Idle waits
 none_there : (n : ℕ) → n ≡ 0 → nat_lt n 16 ≡ false → ⊥
 none_there n none full = let is : nat_lt 0 16 ≡ false = subst (λ (m : ℕ). nat_lt m 16 ≡ false) none full in cc is
 
+-- steps end with the answer, or for want of memory
+abbrev pub EndsSo : Step → Type 0
+EndsSo step.Moved = ⊥
+EndsSo step.Answered = Unit {0}
+EndsSo (step.Sleeping cause) = ⊥
+EndsSo step.Idle = ⊥
+EndsSo step.NoMemory = Unit {0}
+EndsSo step.ShutDown = ⊥
+EndsSo step.Halted = ⊥
+
 module _ {D N : Type 0} (disk : Ghosts D N) (sole : SoleWaitsForAnswers disk plain_queues plain_herald) (op : Op) (look : is_look op ≡ true) (k l m : Plain D) (known : Known disk plain_queues plain_herald m) (rests : Rests disk.fault_count k)
     (same : l ≡ record k { intake = l.intake }) (handed : HandedIn op l) (fetched : polled l.intake 0 ≡ polled k.intake 0) (few : length k.world.journal.list < 2 ^ 32) where
   -- its steps don't end because there is no room: its answers were fetched
@@ -58,16 +69,6 @@ module _ {D N : Type 0} (disk : Ghosts D N) (sole : SoleWaitsForAnswers disk pla
       let polled_m : min (length now.before) (2 ^ 64 - 1) ≡ length k.world.journal.list = sym now.fetched ∙ ap (λ (n : ℕ × ℕ). n.1) names ∙ fetched ∙ rests.fetched in
       none_there (length (answers m.intake 0)) (grind (arith, polled_m, few, given, count)) waits.room
 
-  -- they end with its answer, or for want of memory, unless the disk failed
-  abbrev pub EndsSo : Step → Type 0
-  EndsSo step.Moved = ⊥
-  EndsSo step.Answered = Unit {0}
-  EndsSo (step.Sleeping cause) = ⊥
-  EndsSo step.Idle = ⊥
-  EndsSo step.NoMemory = Unit {0}
-  EndsSo step.ShutDown = ⊥
-  EndsSo step.Halted = ⊥
-
   goes : (r : Step) → MakesSteps disk 0 r l m → GoesOnOrEnds r
   goes r makes =
       let mid = makes.mid in
@@ -78,7 +79,8 @@ module _ {D N : Type 0} (disk : Ghosts D N) (sole : SoleWaitsForAnswers disk pla
   halts_not None well halted = let is = halted.0 refl in cc is
   halts_not (Some fault) well halted = cc well
 
-  pub ends_so : (r : Step) → m.store.volume.fault ≡ None → MakesSteps disk 0 r l m → EndsSo r
+  -- and so they do unless the disk failed
+  ends_so : (r : Step) → m.store.volume.fault ≡ None → MakesSteps disk 0 r l m → EndsSo r
   ends_so step.Moved well makes = makes.last refl
   ends_so step.Answered well makes = tt
   ends_so (step.Sleeping cause) well makes = never_waits cause makes
@@ -87,6 +89,23 @@ module _ {D N : Type 0} (disk : Ghosts D N) (sole : SoleWaitsForAnswers disk pla
   ends_so step.ShutDown well makes = goes step.ShutDown makes
   ends_so step.Halted well makes = halts_not m.store.volume.fault well makes.made.acts.device.halted
 
+-- the steps of an operation that was handed in to a kernel that rested, by what the last one answers
+pub asked_ends : {D N : Type 0} (disk : Ghosts D N) (op : Op) (r q : Step) (k l m : Plain D) → SoleWaitsForAnswers disk plain_queues plain_herald → Rests disk.fault_count k → is_look op ≡ true → length k.world.journal.list < 2 ^ 32 → l ≡ record k { intake = l.intake }
+    → waiting l.intake 0 ≡ waiting k.intake 0 ++ op ∷ [] → polled l.intake 0 ≡ polled k.intake 0 → Known disk plain_queues plain_herald m → MakesSteps disk 0 r l m → m.store.volume.fault ≡ None → r ≡ q → EndsSo q
+asked_ends disk op r q k l m sole rests look few same waits fetched known makes well is =
+    ends_so disk sole op look k l m known rests same (handed_in disk.fault_count op k l rests same waits) fetched few q well (subst (λ (s : Step). MakesSteps disk 0 s l m) is makes)
+
 -- memory was refused
 pub is_refused : {D N : Type 0} (disk : Ghosts D N) (r : Step) (l m : Plain D) → MakesSteps disk 0 r l m → r ≡ step.NoMemory → IsRefusedMemory disk m.store.volume.device
 is_refused disk r l m makes so = let same = subst (λ (q : Step). MakesSteps disk 0 q l m) so makes in record { before = same.mid; now = m; step = same.made; device = refl }
+
+same_at_most : (a b : ℕ) → b ≡ a → a ≤ b
+same_at_most a b is = omega (arith, is)
+
+-- the disk failed
+pub has_failed : {D N : Type 0} (disk : Ghosts D N) (m : Plain D) (fault : DiskFault) → Known disk plain_queues plain_herald m → m.store.volume.fault ≡ Some fault → Rose (disk.fault_count m.opening) (disk.fault_count m.store.volume.device)
+has_failed disk m fault known is = same_at_most (one_more (disk.fault_count m.opening)) (disk.fault_count m.store.volume.device) (known.faults ∙ ap (λ (f : Option DiskFault). faults_after f (disk.fault_count m.opening)) is)
+
+-- or it did not
+pub is_faultless : {D N : Type 0} (disk : Ghosts D N) (m : Plain D) → Known disk plain_queues plain_herald m → m.store.volume.fault ≡ None → disk.fault_count m.store.volume.device ≡ disk.fault_count m.opening
+is_faultless disk m known is = known.faults ∙ ap (λ (f : Option DiskFault). faults_after f (disk.fault_count m.opening)) is
