@@ -229,7 +229,7 @@ fn a_real_file_keeps_what_was_written(rt: HostRuntime) -> Result<(), Fail> {
         assert_eq!(rt; *byte, expected, "byte {at}");
     }
     assert_eq!(rt; FileDisk::open(&rt, path)?.size(), 3);
-    fs::write(&rt, path, &bytes.as_slice()[..2560])?;
+    fs::write(&rt, path, [1; 2560].as_slice())?;
     assert_eq!(rt; FileDisk::open(&rt, path).err(), Some(FileFault::Length));
     fs::remove_file(&rt, path)?;
     Ok(())
