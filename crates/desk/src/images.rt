@@ -47,6 +47,7 @@ fn call_image(alloc: Global, disk: &mut Faulty, words: &[&str]) -> anyhow::Resul
             let answer = verdict(alloc, image.as_slice())?;
             Ok(Some(format!(in alloc; "{answer:?}")?))
         }
+        ["hurt", b, count] => hurt(alloc, disk, b.parse()?, count.parse()?),
         ["files"] => files(alloc, disk),
         ["recover"] => told_recovery(alloc, disk),
         _ => Ok(None),
@@ -117,6 +118,26 @@ fn told_check(alloc: Global, disk: &mut Faulty) -> anyhow::Result<Option<String>
         Err(fault) => format!(in alloc; "{fault:?}")?,
     };
     Ok(Some(text))
+}
+
+// Sets the first bytes of a block to four values, one byte and one value at a time. For how many of
+// these images the check and the plain program answer alike.
+fn hurt(alloc: Global, disk: &mut Faulty, b: u32, count: usize) -> anyhow::Result<Option<String>> {
+    let Some(whole) = block_of(alloc, disk, b)? else {
+        return Ok(None);
+    };
+    let mut alike: u32 = 0;
+    for k in 0..4 * count.min(1024) {
+        let mut block = whole.copied(alloc)?;
+        block.put(k / 4, &[[0x00, 0x01, 0x7f, 0xff][k % 4]]);
+        put_block(disk, b, &block)?;
+        let image = blocks_of(alloc, disk)?;
+        if check(alloc, disk).err() == verdict(alloc, image.as_slice())? {
+            alike = alike.saturating_add(1);
+        }
+    }
+    put_block(disk, b, &whole)?;
+    Ok(Some(format!(in alloc; "{alike} alike")?))
 }
 
 // The files of an image once it is recovered: number, type and length.

@@ -1,4 +1,3 @@
 pub mod PlacesLemmas
-pub mod NamesLemmas
 pub mod FilesLemmas
 pub mod ReplayLemmas

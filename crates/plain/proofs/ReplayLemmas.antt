@@ -2,7 +2,7 @@
 use Rattle.std.proofs.Common.{◌≡◌, ℕ, ◌+◌, ◌<◌, Bool, true, false, cond, List, [], ◌∷◌, ◌++◌, length, get_or, take, drop, Some, Result, Ok, Err, sym, ap, ◌∙◌, add-one, drop-cons}
 use Rattle.std.specs.Prelude.{OnErr}
 use Rattle.std.specs.List.{filter}
-use Rattle.std.proofs.lemmas.List.{append-nil, take-append-drop, take_more}
+use Rattle.std.proofs.lemmas.List.{append-nil, take-append-drop}
 use Rattle.std.proofs.lemmas.List.Elements.{filter-append, filter_more}
 use Rattle.model.specs.declared.types.operations.Entry.{Entry}
 use Rattle.model.specs.declared.types.image.Form.{Form}
@@ -57,19 +57,3 @@ run_on_the_way p form old files new entries i (Err e) run same = record {
   parts = ap (filter p) (sym (take-append-drop i entries)) ∙ filter-append p (take i entries) (drop i entries);
   done = rw same run.before;
 }
-
-pub all_on_the_way : {T E : Type 0} (form : Form) (old files new : Files) (entries : List Entry) (i : ℕ) (r : Result T E) →
-    replay form old (take i entries) ≡ Some files → new ≡ files → OnErr r (IsOnTheWay form old entries new)
-all_on_the_way form old files new entries i (Ok a) run same = tt
-all_on_the_way form old files new entries i (Err e) run same = record {
-  before = take i entries;
-  rest = drop i entries;
-  parts = sym (take-append-drop i entries);
-  done = rw same run;
-}
-
-pub all_taken : (form : Form) (old files new : Files) (entries : List Entry) (i : ℕ) (e : Entry) →
-    i < length entries → e ≡ get_or entries i e → replay form old (take i entries) ≡ Some files →
-    after_answer form files e.op e.reply ≡ Some new → replay form old (take (i + 1) entries) ≡ Some new
-all_taken form old files new entries i e lt is run next =
-    rw (take_more entries i e lt, ← is) (replay_more form old files new (take i entries) e run next)

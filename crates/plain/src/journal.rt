@@ -2,7 +2,7 @@
 ghost use Rattle.std.specs.Prelude.{◌≡◌, ◌&&◌, nat_le, is_some, IfOk, OnErr, OnOk};
 ghost use Rattle.std.specs.Bool.{OnFalse};
 ghost use Rattle.model.specs.Operations.{where_true};
-ghost use Rattle.model.specs.Journal.{after_answer, answered, is_number, is_at_once, is_changing, kept, replay};
+ghost use Rattle.model.specs.Journal.{after_answer, answered, is_number, is_changing, kept, replay};
 ghost use Rattle.plain.specs.Replay.{IsOnTheWay, reached};
 
 use crate::files::Files;
@@ -16,20 +16,6 @@ pub fn is_number(inode_count: u32, i: u32) -> bool
     ensures { result ≡ is_number inode_count i }
 {
     0 < i && i < inode_count
-}
-
-/// Whether an operation is answered in its beginning step, by itself alone.
-pub fn is_at_once(inode_count: u32, op: &Op) -> bool
-    ensures { result ≡ is_at_once inode_count op.now }
-{
-    match op {
-        Op::Create(kind) => !is_kind(*kind),
-        Op::Write(i, _, bytes) => {
-            bytes.len() > TRANSFER_LIMIT as usize || !is_number(inode_count, *i)
-        }
-        Op::Read(i, _, n) => *n > TRANSFER_LIMIT || !is_number(inode_count, *i),
-        Op::Trunc(i) | Op::Remove(i) | Op::Stat(i) => !is_number(inode_count, *i),
-    }
 }
 
 /// Whether an operation may change a file, and is not answered at once.
@@ -74,29 +60,9 @@ fn replay_one(alloc: Global, form: Form, files: &mut Files, entry: &Entry) -> Re
     }
 }
 
-/// Makes the files those after the entries, one after the other; false where one of them has no
-/// reply or can't have this one. The files are then those after the entries before it. Where memory
-/// is refused, they are those after some first ones of the entries.
-pub fn replay(
-    alloc: Global,
-    form: Form,
-    files: &mut Files,
-    entries: &[Entry],
-) -> Result<bool, NoMemory>
-    ensures after { IfOk result (λ yes. replay form files.old.items entries.now
-        ≡ where_true yes files.new.items) }
-    ensures stop { OnOk result (files.new.items ≡ reached form files.old.items entries.now) }
-    ensures err { OnErr result (IsOnTheWay form files.old.items entries.now files.new.items) }
-{
-    for entry in entries {
-        if !replay_one(alloc, form, files, entry)? {
-            return Ok(false);
-        }
-    }
-    Ok(true)
-}
-
-/// As `replay`, but for the entries that have no reply, which are passed over.
+/// Makes the files those after the entries that have a reply, one after the other; false where one of
+/// them can't have this one. The files are then those after the entries before it. Where memory is
+/// refused, they are those after some first ones of the entries.
 pub fn replay_answered(
     alloc: Global,
     form: Form,
@@ -118,7 +84,7 @@ pub fn replay_answered(
     Ok(true)
 }
 
-/// As `replay`, of the entries that are kept once the groups up to `c` are committed.
+/// As `replay_answered`, of the entries that are kept once the groups up to `c` are committed.
 pub fn replay_kept(
     alloc: Global,
     form: Form,

@@ -1,7 +1,6 @@
 // Where the blocks of inodes stand.
 ghost use Rattle.std.specs.Prelude.{◌≡◌, ◌≤◌, ◌<◌, ◌+◌, ◌*◌, ◌^◌, length, All, IfOk};
 ghost use Rattle.model.specs.Layout.{reach, depths, inode_block, inode_count_of};
-ghost use Rattle.model.specs.Names.{names_under, names_along, names_of};
 ghost use Rattle.model.specs.Places.{pointer_of, pointers_under, pointers_along, pointers_in, pointers_of, addresses_in, places_of};
 ghost use Rattle.model.specs.Verdict.{places_below};
 
@@ -167,68 +166,4 @@ pub fn places_of(alloc: Global, image: &[Block]) -> Result<Vec<u32>, NoMemory>
     ensures { IfOk result (λ places. places.items ≡ places_of image.now) }
 {
     places_below(alloc, image, inode_count(image).max(1))
-}
-
-/// The blocks that an address names: itself, and those behind it through `depth` blocks of
-/// addresses.
-#[tactic(auto, using(crate::proofs::NamesLemmas::named_all, crate::proofs::NamesLemmas::named_none, crate::proofs::NamesLemmas::named_data, crate::proofs::NamesLemmas::named_block))]
-fn names_under(
-    alloc: Global,
-    image: &[Block],
-    depth: u32,
-    address: u32,
-) -> Result<Vec<u32>, NoMemory>
-    requires { depth ≤ 2 }
-    ensures { IfOk result (λ names. names.items ≡ names_under image.now depth address) }
-{
-    let mut names = Vec::new(alloc);
-    if address == 0 {
-        return Ok(names);
-    }
-    names.push(address)?;
-    if depth == 0 {
-        return Ok(names);
-    }
-    let Some(block) = image.get(address as usize) else {
-        return Ok(names);
-    };
-    let bytes = block.as_slice();
-    for k in 0..ADDRESSES_PER_BLOCK {
-        let word = read_u32(bytes, 4 * k);
-        let behind = names_under(alloc, image, depth - 1, word)?;
-        names.extend_from_slice(behind.as_slice())?;
-    }
-    Ok(names)
-}
-
-/// The blocks that addresses of those depths name.
-fn names_along(
-    alloc: Global,
-    image: &[Block],
-    depths: &[u32],
-    addresses: &[u32],
-) -> Result<Vec<u32>, NoMemory>
-    requires shallow { All (λ depth. depth ≤ 2) depths.now }
-    requires same { length addresses.now ≡ length depths.now }
-    ensures { IfOk result (λ names. names.items ≡ names_along image.now depths.now addresses.now) }
-{
-    let mut names = Vec::new(alloc);
-    for k in 0..depths.len() {
-        let under = names_under(alloc, image, depths[k], addresses[k])?;
-        names.extend_from_slice(under.as_slice())?;
-    }
-    Ok(names)
-}
-
-/// The blocks that an inode names, whatever its size; none where it is free.
-#[tactic(auto, unfolding(model::specs::Names::names_of))]
-pub fn names_of(alloc: Global, image: &[Block], inode: &Dinode) -> Result<Vec<u32>, NoMemory>
-    requires { 2 ≤ length image.now }
-    ensures { IfOk result (λ names. names.items ≡ names_of image.now inode.now) }
-{
-    if inode.kind == 0 {
-        return Ok(Vec::new(alloc));
-    }
-    let depths = depths(form_of(image));
-    names_along(alloc, image, &depths, &inode.addrs)
 }

@@ -3,29 +3,27 @@
 //! with the plain program: after a recovery the image is sound, and its files are those after
 //! exactly the changing operations of the committed groups.
 //!
-//! With no words the program runs the scripts of 200 seeds, and prints what they came to. With two
-//! words they are the first seed and how many there are. The first seed whose run is not right ends
-//! it, with status 1.
+//! With no words the program runs the scripts of 200 seeds, and then one in which each of 32
+//! processes in turn creates a file, writes to one, and truncates or removes one, stopped before
+//! each of its writes; it prints what they came to. With two words it runs the scripts of so many
+//! seeds from the first word on. The first script that is not right ends it, with status 1.
 #![tactic(auto)]
 
-mod author;
 mod chance;
 mod judging;
 mod playing;
+mod script;
 mod setting;
 mod tally;
 
 use crate::chance::Chance;
-use crate::judging::{judge_stopped, judge_whole};
-use crate::playing::play;
+use crate::playing::run;
+use crate::script::Script;
 use crate::setting::Setting;
-use crate::tally::Tally;
+use crate::tally::{Row, Tally};
 use anyhow::{Context, bail};
 use std::alloc::Global;
 use std::env;
-
-// At most so many stops of a script are tried.
-const MOST_STOPS: u64 = 20;
 
 fn main(rt: HostRuntime) -> anyhow::Result<()> {
     let alloc = rt.alloc();
@@ -35,57 +33,43 @@ fn main(rt: HostRuntime) -> anyhow::Result<()> {
         [first, count] => (first.as_str().parse()?, count.as_str().parse()?),
         _ => bail!("the words are the first seed and how many there are, or none"),
     };
-    let mut tally = Tally::default();
+    let mut tally = Tally::new();
     for k in 0..count {
         let seed = first.wrapping_add(k);
-        try_seed(alloc, seed, &mut tally).context(format_args!("seed {seed}"))?;
+        try_script(alloc, seed, Setting::drawn(seed), &mut tally).context(format_args!(
+            "seed {seed}"
+        ))?;
     }
     tally.print(&rt)?;
+    if words.is_empty() {
+        let mut tally = Tally::new();
+        try_script(alloc, 0, Setting::in_rows(), &mut tally).context("in rows")?;
+        println!(rt; "\nin rows")?;
+        tally.print(&rt)?;
+    }
     Ok(())
 }
 
-// Runs the script of a seed to its end, and up to some of its writes.
-fn try_seed(alloc: Global, seed: u64, tally: &mut Tally) -> anyhow::Result<()> {
-    let setting = Setting::drawn(seed);
-    let kernel = play(alloc, seed, 0, tally)?;
-    tally.scripts = tally.scripts.saturating_add(1);
-    tally.processes = tally.processes.saturating_add(setting.processes as u64);
-    tally.groups = tally.groups.saturating_add(kernel.committed());
-    tally.journal(kernel.journal());
-    let writes = judge_whole(alloc, kernel, setting.inode_count)?;
-    // The image itself was made with a write for each block.
-    let writes = writes.saturating_sub(setting.size as u64);
-    tally.blocks_written = tally.blocks_written.saturating_add(writes);
+// Runs a script to its end, and up to some of its writes.
+fn try_script(alloc: Global, seed: u64, setting: Setting, tally: &mut Tally) -> anyhow::Result<()> {
+    let whole = run(alloc, Script::new(seed, setting), 0, tally)?;
+    tally.add(Row::Scripts, 1);
+    tally.add(Row::Processes, setting.processes as u64);
+    tally.add(Row::Groups, whole.committed);
+    tally.add(Row::BlocksWritten, whole.writes);
     let mut chance = Chance::new(seed, 3);
-    for k in 0..writes.min(MOST_STOPS) {
-        let stop = stop_of(&mut chance, k, writes);
-        try_stop(alloc, seed, stop, setting, tally).context(format_args!("stop {stop}"))?;
+    for k in 0..whole.writes.min(setting.stops) {
+        let stop = if whole.writes <= setting.stops {
+            k.saturating_add(1)
+        } else {
+            1 + chance.below(whole.writes.clamp(1, 0xffff_ffff) as u32) as u64
+        };
+        let left = run(alloc, Script::new(seed, setting), stop, &mut Tally::new()).context(
+            format_args!("stop {stop}"),
+        )?;
+        tally.add(Row::Stops, 1);
+        tally.add(Row::GroupsKept, left.committed);
+        tally.add(Row::OperationsKept, left.kept);
     }
-    Ok(())
-}
-
-// The write before which the run stops for the time of that number: where there are more writes
-// than stops, any.
-fn stop_of(chance: &mut Chance, k: u64, writes: u64) -> u64 {
-    if writes <= MOST_STOPS {
-        return k.saturating_add(1);
-    }
-    let most = u32::try_from(writes).unwrap_or(u32::MAX).max(1);
-    chance.below(most) as u64 + 1
-}
-
-// Runs the script of a seed up to a write, and judges what it left.
-fn try_stop(
-    alloc: Global,
-    seed: u64,
-    stop: u64,
-    setting: Setting,
-    tally: &mut Tally,
-) -> anyhow::Result<()> {
-    let kernel = play(alloc, seed, stop, &mut Tally::default())?;
-    tally.stops = tally.stops.saturating_add(1);
-    tally.groups_kept = tally.groups_kept.saturating_add(kernel.committed());
-    let kept = judge_stopped(alloc, kernel, setting.inode_count)?;
-    tally.entries_kept = tally.entries_kept.saturating_add(kept);
     Ok(())
 }

@@ -1,10 +1,8 @@
 // Disks over files: over a file in memory that refuses a call, and over a real one.
 use blocks::{BLOCK_SIZE, Block, Disk, DiskFault, FileDisk, FileFault, NoMemory};
 use std::alloc::{Allocator, Global};
-use std::cell::Cell;
 use std::fs::{Metadata, OpenFile, OpenOptions};
 use std::io::{self, Cursor, ErrorKind, Read, Seek, SeekFrom, Write};
-use std::process::Abort;
 use std::rt::Files;
 use std::test::Fail;
 use std::{env, fs, process};
@@ -15,34 +13,36 @@ enum Call {
     Metadata,
     SetLen,
     Read,
-    Write,
 }
 
-// A file in memory, which refuses the first call of one kind. Block b of it holds b + 1 in each
-// byte, and `length` is what it says of itself.
+// A file in memory, which refuses the calls of one kind. `length` is what it says of itself.
 #[derive(Drop)]
 struct FakeFile {
     bytes: Cursor<Vec<u8>>,
-    length: Cell<u64>,
+    length: u64,
     refuses: Option<Call>,
     error: ErrorKind,
 }
 
-impl Read for FakeFile {
-    fn read(&mut self, buf: &mut [u8]) -> io::Result<usize> {
-        if self.refuses == Some(Call::Read) {
+impl FakeFile {
+    // Refuses a call that it is to refuse.
+    fn allow(&self, call: Call) -> io::Result<()> {
+        if self.refuses == Some(call) {
             return Err(io::Error::from(self.error));
         }
+        Ok(())
+    }
+}
+
+impl Read for FakeFile {
+    fn read(&mut self, buf: &mut [u8]) -> io::Result<usize> {
+        self.allow(Call::Read)?;
         self.bytes.read(buf)
     }
 }
 
 impl Write for FakeFile {
     fn write(&mut self, buf: &[u8]) -> io::Result<usize> {
-        if self.refuses == Some(Call::Write) {
-            self.refuses = None;
-            return Err(io::Error::from(self.error));
-        }
         self.bytes.write(buf)
     }
 
@@ -59,18 +59,12 @@ impl Seek for FakeFile {
 
 impl OpenFile for FakeFile {
     fn metadata(&self) -> io::Result<Metadata> {
-        if self.refuses == Some(Call::Metadata) {
-            return Err(io::Error::from(self.error));
-        }
-        Ok(Metadata::of_file(self.length.get()))
+        self.allow(Call::Metadata)?;
+        Ok(Metadata::of_file(self.length))
     }
 
-    fn set_len(&self, size: u64) -> io::Result<()> {
-        if self.refuses == Some(Call::SetLen) {
-            return Err(io::Error::from(self.error));
-        }
-        self.length.set(size);
-        Ok(())
+    fn set_len(&self, _size: u64) -> io::Result<()> {
+        self.allow(Call::SetLen)
     }
 
     fn sync_all(&self) -> io::Result<()> {
@@ -82,7 +76,8 @@ impl OpenFile for FakeFile {
     }
 }
 
-// A runtime with one file, "disk", of two blocks.
+// A runtime with one file, "disk", of two blocks, which says that it has this length and refuses
+// this call with this error.
 #[derive(Drop)]
 struct Shelf {
     alloc: Global,
@@ -109,23 +104,17 @@ impl Files for Shelf {
     type Dir = FakeFile;
 
     fn open_file(&self, how: &OpenOptions, path: &str) -> io::Result<FakeFile> {
-        if self.refuses == Some(Call::Open) || path != "disk" {
-            return Err(io::Error::from(self.error));
-        }
-        if !how.asks_read() || !how.asks_write() {
-            return Err(io::Error::from(self.error));
-        }
-        let mut bytes = Vec::new(self.alloc);
-        if !how.asks_create() || !how.asks_truncate() {
-            bytes = vec![in self.alloc; 1; BLOCK_SIZE]?;
-            bytes.extend_from_slice(&[2; BLOCK_SIZE])?;
-        }
-        Ok(FakeFile {
-            bytes: Cursor::new(bytes),
-            length: Cell::new(self.length),
+        let file = FakeFile {
+            bytes: Cursor::new(vec![in self.alloc; 1; 2 * BLOCK_SIZE]?),
+            length: self.length,
             refuses: self.refuses,
             error: self.error,
-        })
+        };
+        file.allow(Call::Open)?;
+        if path != "disk" || !how.asks_read() || !how.asks_write() {
+            return Err(unsupported());
+        }
+        Ok(file)
     }
 
     fn open_dir(&self, _path: &str) -> io::Result<FakeFile> {
@@ -165,19 +154,9 @@ impl Files for Shelf {
     }
 }
 
-fn make_shelf(rt: &HostRuntime, length: u64, refuses: Option<Call>, error: ErrorKind) -> Shelf {
-    Shelf {
-        alloc: rt.alloc(),
-        length,
-        refuses,
-        error,
-    }
-}
-
 #[test]
 fn opens_what_is_a_disk(rt: HostRuntime) -> Result<(), Fail> {
-    let denied = ErrorKind::PermissionDenied;
-    let memory = ErrorKind::OutOfMemory;
+    let (denied, memory) = (ErrorKind::PermissionDenied, ErrorKind::OutOfMemory);
     for (length, refuses, error, want) in [
         (2048, None, denied, Ok(2)),
         (0, None, denied, Err(FileFault::Length)),
@@ -193,50 +172,33 @@ fn opens_what_is_a_disk(rt: HostRuntime) -> Result<(), Fail> {
         (2048, Some(Call::Read), denied, Err(FileFault::Open)),
         (2048, Some(Call::Read), memory, Err(FileFault::NoMemory)),
     ] {
-        let opened = FileDisk::open(&make_shelf(&rt, length, refuses, error), "disk");
-        let got = opened.map(|disk| disk.size());
+        let shelf = Shelf {
+            alloc: rt.alloc(),
+            length,
+            refuses,
+            error,
+        };
+        let got = FileDisk::open(&shelf, "disk").map(|disk| disk.size());
         assert_eq!(rt; got, want, "at {length}");
     }
     Ok(())
 }
 
-// The second block begins with this byte.
-fn assert_second(
-    rt: &(impl Abort + AllocGlobal),
-    disk: &mut FileDisk<FakeFile>,
-    byte: u8,
-) -> Result<(), Fail> {
-    let size = disk.size();
-    assert!(rt; size == 2);
-    let mut into = Block::zeroed(rt.alloc())?;
-    disk.read(1, &mut into)?;
-    assert_eq!(rt; into.as_slice().first(), Some(&byte));
-    Ok(())
-}
-
 #[test]
-fn a_write_that_the_file_refuses_changes_nothing(rt: HostRuntime) -> Result<(), Fail> {
-    let refusing = make_shelf(&rt, 2048, Some(Call::Write), ErrorKind::StorageFull);
-    let mut disk = FileDisk::open(&refusing, "disk")?;
-    assert_second(&rt, &mut disk, 2)?;
-    let mut from = Block::zeroed(rt.alloc())?;
-    from.put(0, &[5]);
-    for (answer, counts, byte) in [(Err(DiskFault(1)), (0, 1), 2), (Ok(()), (1, 1), 5)] {
-        let size = disk.size();
-        assert!(rt; size == 2);
-        assert_eq!(rt; disk.write(1, &from), answer);
-        assert_eq!(rt; (disk.writes(), disk.faults()), counts);
-        assert_second(&rt, &mut disk, byte)?;
-    }
-    Ok(())
-}
-
-#[test]
-fn a_file_that_cannot_be_made(rt: HostRuntime) -> Result<(), Fail> {
-    for call in [Call::Open, Call::SetLen] {
-        let shelf = make_shelf(&rt, 0, Some(call), ErrorKind::PermissionDenied);
-        let refused = FileDisk::create(&shelf, "disk", 3).map(|disk| disk.size());
-        assert_eq!(rt; refused, Err(FileFault::Open));
+fn makes_what_the_system_allows(rt: HostRuntime) -> Result<(), Fail> {
+    for (refuses, want) in [
+        (None, Ok(3)),
+        (Some(Call::Open), Err(FileFault::Open)),
+        (Some(Call::SetLen), Err(FileFault::Open)),
+    ] {
+        let shelf = Shelf {
+            alloc: rt.alloc(),
+            length: 0,
+            refuses,
+            error: ErrorKind::PermissionDenied,
+        };
+        let got = FileDisk::create(&shelf, "disk", 3).map(|disk| disk.size());
+        assert_eq!(rt; got, want);
     }
     Ok(())
 }
@@ -247,45 +209,46 @@ fn a_real_file_keeps_what_was_written(rt: HostRuntime) -> Result<(), Fail> {
     let id = process::id(rt.process());
     let folder = folder.as_str();
     let path = format!(in rt.alloc(); "{folder}/xvfs-file-{id}.img")?;
-    fs::write(&rt, path.as_str(), "an old file of another length")?;
-    let mut disk = FileDisk::create(&rt, path.as_str(), 3)?;
-    let mut from = Block::zeroed(rt.alloc())?;
-    from.put(7, &[1, 2]);
+    let path = path.as_str();
+    fs::write(&rt, path, "an old file of another length")?;
+    assert_eq!(rt; FileDisk::open(&rt, path).err(), Some(FileFault::Length));
+    let mut disk = FileDisk::create(&rt, path, 3)?;
+    let mut block = Block::zeroed(rt.alloc())?;
+    block.put(7, &[1, 2]);
     let size = disk.size();
     assert!(rt; size == 3);
-    disk.write(2, &from)?;
-    let bytes = fs::read(&rt, path.as_str())?;
+    disk.write(2, &block)?;
+    let bytes = fs::read(&rt, path)?;
     assert_eq!(rt; bytes.len(), 3072);
     for (at, byte) in bytes.iter().enumerate() {
-        let expected = [(2055, 1), (2056, 2)]
-            .iter()
-            .find(|(place, _)| *place == at);
-        assert_eq!(rt; *byte, expected.map_or(0, |(_, byte)| *byte), "byte {at}");
+        let expected = match at {
+            2055 => 1,
+            2056 => 2,
+            _ => 0,
+        };
+        assert_eq!(rt; *byte, expected, "byte {at}");
     }
-    fs::remove_file(&rt, path.as_str())?;
+    assert_eq!(rt; FileDisk::open(&rt, path)?.size(), 3);
+    fs::write(&rt, path, [1; 2560].as_slice())?;
+    assert_eq!(rt; FileDisk::open(&rt, path).err(), Some(FileFault::Length));
+    fs::remove_file(&rt, path)?;
     Ok(())
 }
 
 #[test]
 fn faults_have_texts(rt: HostRuntime) -> Result<(), Fail> {
-    let alloc = rt.alloc();
-    assert_eq!(rt;
-        format!(in alloc; "{}", DiskFault(7))?.as_str(),
-        "block 7: the disk failed"
-    );
-    assert_eq!(rt;
-        format!(in alloc; "{}", NoMemory)?.as_str(),
-        "memory was refused"
-    );
-    let texts = format!(in alloc;
-        "{}, {}, {}",
+    let texts = format!(in rt.alloc();
+        "{}, {}, {}, {}, {}",
+        DiskFault(7),
+        NoMemory,
         FileFault::Open,
         FileFault::Length,
         FileFault::NoMemory
     )?;
     assert_eq!(rt;
         texts.as_str(),
-        "the file can't be opened, the file's length is not that of a disk, memory was refused"
+        "block 7: the disk failed, memory was refused, the file can't be opened, \
+         the file's length is not that of a disk, memory was refused"
     );
     Ok(())
 }

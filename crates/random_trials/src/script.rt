@@ -1,4 +1,4 @@
-// Random operations.
+// Which operations are handed in, and whose turn it is.
 ghost use Rattle.std.specs.Prelude.{◌<◌};
 
 use crate::chance::Chance;
@@ -10,58 +10,105 @@ use std::alloc::{AllocError, Global};
 // How many bytes the blocks hold that an inode itself names.
 const DIRECT: u32 = 12288;
 
-// Writes the operations of a script, and is told how long the files are by now.
-#[derive(Clone, Copy)]
-pub struct Author {
+/// A script on its way.
+#[derive(Drop)]
+pub struct Script {
+    pub setting: Setting,
     chance: Chance,
-    setting: Setting,
+    turns: Chance,
+    pid: u32,
     written: u32,
-    lengths: [u32; 8],
+    /// How many operations were answered.
+    pub answered: u32,
+    /// An operation for which there was no place.
+    pub held: Option<(u32, Op)>,
 }
 
-impl Author {
-    /// Of the script of a seed.
-    pub fn new(seed: u64, setting: Setting) -> Author {
-        Author {
-            chance: Chance::new(seed, 1),
+impl Script {
+    /// That of a seed.
+    pub fn new(seed: u64, setting: Setting) -> Script {
+        Script {
             setting,
+            chance: Chance::new(seed, 1),
+            turns: Chance::new(seed, 2),
+            pid: 0,
             written: 0,
-            lengths: [0; 8],
+            answered: 0,
+            held: None,
         }
     }
 
-    /// Whether the script is at its end.
-    pub fn is_done(&self) -> bool {
-        self.written >= self.setting.operations
+    /// Whether all operations were handed in and answered.
+    pub fn is_over(&self) -> bool {
+        self.written >= self.setting.operations && self.answered >= self.written
     }
 
-    /// The next operation and its process, where the kernel's journal is this.
-    pub fn next(&mut self, alloc: Global, journal: &[Entry]) -> Result<(u32, Op), AllocError> {
-        self.lengths = lengths_after(journal);
-        self.written = self.written.saturating_add(1);
-        if self.setting.is_tall && self.written <= 5 {
-            return Ok((0, self.begin_tall(alloc)?));
+    /// The process that has the next turn.
+    pub fn turn(&mut self) -> u32 {
+        if self.turns.is_one_in(self.setting.stay) {
+            self.pid = self.turns.below(self.setting.processes);
         }
-        let pid = self.chance.below(self.setting.processes.max(1));
-        if self.written <= self.setting.numbers {
-            return Ok((pid, Op::Create(self.kind())));
-        }
-        let op = self.operation(alloc)?;
-        Ok((pid, op))
+        self.pid
     }
 
-    // Makes the first file, and then makes it so long that an inode's own addresses are used up.
-    fn begin_tall(&mut self, alloc: Global) -> Result<Op, AllocError> {
-        if self.written <= 1 {
-            return Ok(Op::Create(2));
-        }
-        let offset = self.written.saturating_sub(2).saturating_mul(3072);
-        self.write(alloc, 1, offset, 3072)
+    /// Whether it is time to fetch an answer.
+    pub fn fetches(&mut self) -> bool {
+        self.turns.is_one_in(self.setting.fetch)
     }
 
-    fn operation(&mut self, alloc: Global) -> Result<Op, AllocError> {
+    /// The next operation and its process, if it is time for one, where the kernel's journal is this.
+    pub fn next(
+        &mut self,
+        alloc: Global,
+        journal: &[Entry],
+    ) -> Result<Option<(u32, Op)>, AllocError> {
+        if self.held.is_some() {
+            return Ok(self.held.take());
+        }
+        let place = self.written;
+        if place >= self.setting.operations || !self.turns.is_one_in(self.setting.pace) {
+            return Ok(None);
+        }
+        self.written = place.saturating_add(1);
+        if place < self.setting.long {
+            return Ok(Some((0, self.long(alloc, place)?)));
+        }
+        if self.setting.is_in_rows {
+            let place = place.saturating_sub(self.setting.long);
+            return Ok(Some((place % 32, self.in_rows(alloc, place)?)));
+        }
+        let pid = self.chance.below(self.setting.processes);
+        if place < self.setting.numbers {
+            return Ok(Some((pid, Op::Create(self.kind()))));
+        }
+        let op = self.by_chance(alloc, &lengths_after(journal))?;
+        Ok(Some((pid, op)))
+    }
+
+    // Makes the first file, and then writes to it piece by piece.
+    fn long(&mut self, alloc: Global, place: u32) -> Result<Op, AllocError> {
+        match place.checked_sub(1) {
+            Some(piece) => self.write(alloc, 1, piece.saturating_mul(3072), 3072),
+            None => Ok(Op::Create(2)),
+        }
+    }
+
+    // Rows in which each process has an operation: creations, then writes, then the others.
+    fn in_rows(&mut self, alloc: Global, place: u32) -> Result<Op, AllocError> {
+        let number = 1 + place % 31;
+        match (place / 32, place % 3) {
+            (0, kind) => Ok(Op::Create(1 + kind as u16)),
+            (1, _) => self.write(alloc, number, 0, place % 5 * 768),
+            (_, 0) => Ok(Op::Trunc(number)),
+            (_, 1) => Ok(Op::Remove(number)),
+            _ => Ok(Op::Create(2)),
+        }
+    }
+
+    // An operation on files of these lengths.
+    fn by_chance(&mut self, alloc: Global, lengths: &[u32; 8]) -> Result<Op, AllocError> {
         let number = self.number();
-        let offset = self.offset(number);
+        let offset = self.offset(lengths[(number % 8) as usize]);
         let count = self.count(offset);
         match self.chance.below(100) {
             0..=11 => Ok(Op::Create(self.kind())),
@@ -86,7 +133,7 @@ impl Author {
         match self.chance.below(60) {
             0 => 0,
             1 => self.setting.inode_count,
-            _ => 1 + self.chance.below(self.setting.numbers.max(1)),
+            _ => 1 + self.chance.below(self.setting.numbers),
         }
     }
 
@@ -106,9 +153,8 @@ impl Author {
     }
 
     // A place in a file: most often its end, and else a border of blocks, that behind which a block
-    // of addresses names them, or any place.
-    fn offset(&mut self, number: u32) -> u32 {
-        let length = self.length(number);
+    // of addresses names them, or any place; seldom one behind its end.
+    fn offset(&mut self, length: u32) -> u32 {
         let offset = match self.chance.below(10) {
             0..=4 => length,
             5 => length / 1024 * 1024,
@@ -134,10 +180,6 @@ impl Author {
             _ if self.chance.is_one_in(8) => 3073,
             _ => self.chance.below(3073),
         }
-    }
-
-    fn length(&self, number: u32) -> u32 {
-        self.lengths[(number % 8) as usize]
     }
 }
 
