@@ -12,7 +12,6 @@ use Rattle.std.specs.Option.{option_map}
 use Rattle.std.specs.Prelude.{IfSome}
 use Rattle.blocks.specs.declared.errors.DiskFault.{DiskFault}
 use Rattle.kernel.specs.Lasting.{Lasts}
-use Rattle.ports.specs.History.{Side, SameNames, OthersStay}
 use Rattle.wal.specs.Machine.{LogState, begun, begin_cause}
 use Rattle.inodes.specs.Lemmas.Faults.{where_none}
 use Rattle.inodes.specs.Looks.{CanLook, HasRoom}
@@ -220,10 +219,3 @@ right_shut disk opening s w b right = record {
 -- the first that waits is of this kind
 pub first_waits : {o : Option Op} (n : ℕ) (op : Op) (what : Waiting) → Some op ≡ o → option_map (waiting_of n) o ≡ Some what → waiting_of n op ≡ what
 first_waits {o} n op what is waits = let now : Some (waiting_of n op) ≡ Some what = ap (option_map (waiting_of n)) is ∙ waits in cc now
-
--- two calls of an intake for one process, one after the other
-pub names_twice : {N : Type 0} (a b c : ℕ → N) → SameNames a b → SameNames b c → SameNames a c
-names_twice a b c first second p = second p ∙ first p
-
-pub others_twice : (a b c : ℕ → Side) (p : ℕ) → OthersStay a b p → OthersStay b c p → OthersStay a c p
-others_twice a b c p first second q apart = second q apart ∙ first q apart

@@ -21,6 +21,11 @@ use Rattle.journal.specs.Histories.{IsHistory}
 use Rattle.journal.specs.Processes.{World, process, idle, fresh_world, with_place, taken, refusal, refused, refusal_answer, place_behind, turned_from, turned, committing_at, committing, last_answer, answered, decided, told_at, entry_place, at_place, over, over_at}
 use Rattle.journal.specs.Lemmas.Histories.{history_new, history_more, history_taken, history_turned, history_turned_over, history_ending, history_committing, history_at_once, history_told, history_replied}
 use Rattle.kernel.specs.Invariant.{HasHistory, ArePorts}
+use Rattle.wal.specs.Machine.{LogState}
+use Rattle.kernel.specs.declared.beginning.Rooms.{Rooms}
+use Rattle.kernel.specs.declared.types.Step.{Step}
+use Rattle.kernel.specs.declared.waiting.Waiting.{Waiting}
+use Rattle.kernel.specs.Begins.{TakesFirst, LeavesFirst}
 use Rattle.kernel.specs.Ports.{Gives}
 use Rattle.journal.specs.Lemmas.Answers.{entry_inside, history_given}
 use Rattle.journal.specs.Lemmas.Places.{there_now, others_stay, as_many}
@@ -131,53 +136,52 @@ module _ {I M H : Type 0} (intake : intake_trait.Ghosts I M) (herald : herald_tr
         fit = goes.fits q was.history apart was.fit;
       }
 
-  -- an operation was taken, after a place for its answer was kept
-  pub ports_taken : (i m j : I) (h : H) (c : ℕ) (w z : World) (p group : ℕ) (op : Op) (kept : Option GatheredBytes) → ArePorts intake herald i h c w → p < length w.processes → (process w p).at ≡ at.Idle → z ≡ taken (with_place w) p group op kept
-      → intake.process_count m ≡ intake.process_count i → OthersStay (intake.side i) (intake.side m) p → AllFit (intake.fits i) (intake.fits m)
-      → intake.process_count j ≡ intake.process_count m → OthersStay (intake.side m) (intake.side j) p → FitWith (intake.fits m) (intake.fits j) p (takes (Some op))
-      → (intake.side j p).has_room ≡ true → ArePorts intake herald j h c z
-  ports_taken i m j h c w z p group op kept had lt stands is many apart fit fewer others takes_it room = ports_go i j h h c c w z p (record { begun = (process w p).begun + 1; at = at.Before group op; room = kept }) had
-      (record {
-        inside = lt;
-        processes = ap (λ (o : World). o.processes) is;
-        served = fewer ∙ many;
-        rooms = λ q other kept. other_room (intake.side m) (intake.side j) p q others other (other_room (intake.side i) (intake.side m) p q apart other kept);
-        room = λ busy. room;
-        journal = λ q begun a f other history. subst (λ (o : World). IsHistory o.journal.list a begun q f) (sym is) history;
-        fits = λ q f other fits. takes_it.others q f other (fit q f fits);
-        mine = λ f history fits. (
-          takes (Some op) f,
-          subst (λ (o : World). IsHistory o.journal.list (at.Before group op) ((process w p).begun + 1) p (takes (Some op) f)) (sym is)
-              (history_taken w.journal.list (process w p).begun group p op f (subst (λ (a : At). IsHistory w.journal.list a (process w p).begun p f) stands history)),
-          takes_it.own f (fit p f fits),
-        );
-      }) had.told
+  -- what waits was left
+  pub ports_left : (i j : I) (h : H) (c : ℕ) (w z : World) (p : ℕ) (what : Waiting) (l : LogState) (r : Step) → ArePorts intake herald i h c w → LeavesFirst intake what l p r i j w z → ArePorts intake herald j h c z
+  ports_left i j h c w z p what l r had leaves = ports_asked i j h c w z p had leaves.served (ap (λ (o : World). o.processes) leaves.world) (ap (λ (o : World). o.journal.list) leaves.world) leaves.sides.others leaves.room leaves.fits
 
-  -- one was taken, and answered at once
-  pub ports_refused : (i m n j : I) (h : H) (c : ℕ) (w z : World) (p : ℕ) (op : Op) (reply : Reply) → ArePorts intake herald i h c w → p < length w.processes → (process w p).at ≡ at.Idle → z ≡ refused (with_place w) p op reply
-      → intake.process_count m ≡ intake.process_count i → OthersStay (intake.side i) (intake.side m) p → AllFit (intake.fits i) (intake.fits m)
-      → intake.process_count n ≡ intake.process_count m → OthersStay (intake.side m) (intake.side n) p → FitWith (intake.fits m) (intake.fits n) p (takes (Some op))
-      → intake.process_count j ≡ intake.process_count n → OthersStay (intake.side n) (intake.side j) p → FitWith (intake.fits n) (intake.fits j) p (gives (refusal_answer (with_place w) p reply))
-      → ArePorts intake herald j h c z
-  ports_refused i m n j h c w z p op reply had lt stands is many apart fit fewer others takes_it as_before others_there gives_it = ports_go i j h h c c w z p (record (process w p) { begun = (process w p).begun + 1 }) had
-      (record {
-        inside = lt;
-        processes = ap (λ (o : World). o.processes) is;
-        served = as_before ∙ fewer ∙ many;
-        rooms = λ q other kept. other_room (intake.side n) (intake.side j) p q others_there other
-            (other_room (intake.side m) (intake.side n) p q others other (other_room (intake.side i) (intake.side m) p q apart other kept));
-        room = λ busy. absurd (false≢true (ap is_busy_at (sym stands) ∙ busy));
-        journal = λ q begun a f other history. subst (λ (o : World). IsHistory o.journal.list a begun q f) (sym is)
-            (history_more w.journal.list (refusal w p op reply) a begun q f (λ same. other (sym same)) history);
-        fits = λ q f other fits. gives_it.others q f other (takes_it.others q f other (fit q f fits));
-        mine = λ f history fits. (
-          gives (refusal_answer w p reply) (takes (Some op) f),
-          subst (λ (o : World). IsHistory o.journal.list (process w p).at ((process w p).begun + 1) p (gives (refusal_answer w p reply) (takes (Some op) f))) (sym is)
-              (subst (λ (a : At). IsHistory (w.journal.list ++ refusal w p op reply ∷ []) a ((process w p).begun + 1) p (gives (refusal_answer w p reply) (takes (Some op) f))) (sym stands)
-              (history_at_once w.journal.list (process w p).begun p (refusal w p op reply) (refusal_answer w p reply) f refl refl refl (subst (λ (a : At). IsHistory w.journal.list a (process w p).begun p f) stands history))),
-          gives_it.own (takes (Some op) f) (takes_it.own f (fit p f fits)),
-        );
-      }) had.told
+  module _ (i n : I) (h : H) (c : ℕ) (w y z : World) (p : ℕ) (what : Waiting) (l : LogState) (op : Op) (rooms : Rooms) (had : ArePorts intake herald i h c w) (lt : p < length w.processes) (stands : (process w p).at ≡ at.Idle)
+      (takes_it : TakesFirst intake what l p op rooms i n w y) where
+    -- an operation was taken
+    pub ports_taken : (group : ℕ) (kept : Option GatheredBytes) → z ≡ taken (with_place w) p group op kept → ArePorts intake herald n h c z
+    ports_taken group kept is = ports_go i n h h c c w z p (record { begun = (process w p).begun + 1; at = at.Before group op; room = kept }) had
+        (record {
+          inside = lt;
+          processes = ap (λ (o : World). o.processes) is;
+          served = takes_it.served;
+          rooms = λ q other kept. other_room (intake.side i) (intake.side n) p q takes_it.sides.others other kept;
+          room = λ busy. takes_it.room;
+          journal = λ q begun a f other history. subst (λ (o : World). IsHistory o.journal.list a begun q f) (sym is) history;
+          fits = takes_it.fits.others;
+          mine = λ f history fits. (
+            takes (Some op) f,
+            subst (λ (o : World). IsHistory o.journal.list (at.Before group op) ((process w p).begun + 1) p (takes (Some op) f)) (sym is)
+                (history_taken w.journal.list (process w p).begun group p op f (subst (λ (a : At). IsHistory w.journal.list a (process w p).begun p f) stands history)),
+            takes_it.fits.own f fits,
+          );
+        }) had.told
+
+    -- one was taken, and answered at once
+    pub ports_refused : (j : I) (reply : Reply) → z ≡ refused (with_place w) p op reply
+        → intake.process_count j ≡ intake.process_count n → OthersStay (intake.side n) (intake.side j) p → FitWith (intake.fits n) (intake.fits j) p (gives (refusal_answer (with_place w) p reply)) → ArePorts intake herald j h c z
+    ports_refused j reply is as_before others_there gives_it = ports_go i j h h c c w z p (record (process w p) { begun = (process w p).begun + 1 }) had
+        (record {
+          inside = lt;
+          processes = ap (λ (o : World). o.processes) is;
+          served = as_before ∙ takes_it.served;
+          rooms = λ q other kept. other_room (intake.side n) (intake.side j) p q others_there other (other_room (intake.side i) (intake.side n) p q takes_it.sides.others other kept);
+          room = λ busy. absurd (false≢true (ap is_busy_at (sym stands) ∙ busy));
+          journal = λ q begun a f other history. subst (λ (o : World). IsHistory o.journal.list a begun q f) (sym is)
+              (history_more w.journal.list (refusal w p op reply) a begun q f (λ same. other (sym same)) history);
+          fits = λ q f other fits. gives_it.others q f other (takes_it.fits.others q f other fits);
+          mine = λ f history fits. (
+            gives (refusal_answer w p reply) (takes (Some op) f),
+            subst (λ (o : World). IsHistory o.journal.list (process w p).at ((process w p).begun + 1) p (gives (refusal_answer w p reply) (takes (Some op) f))) (sym is)
+                (subst (λ (a : At). IsHistory (w.journal.list ++ refusal w p op reply ∷ []) a ((process w p).begun + 1) p (gives (refusal_answer w p reply) (takes (Some op) f))) (sym stands)
+                (history_at_once w.journal.list (process w p).begun p (refusal w p op reply) (refusal_answer w p reply) f refl refl refl (subst (λ (a : At). IsHistory w.journal.list a (process w p).begun p f) stands history))),
+            gives_it.own (takes (Some op) f) (takes_it.fits.own f fits),
+          );
+        }) had.told
 
   -- an operation had its turn
   pub ports_turned : (i : I) (h : H) (c : ℕ) (w z : World) (p group : ℕ) (op : Op) (reply : Option Reply) (over : Bool) → ArePorts intake herald i h c w → p < length w.processes → (process w p).at ≡ at.Before group op → z ≡ turned w p reply over

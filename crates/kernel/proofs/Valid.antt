@@ -53,16 +53,6 @@ over_unread (place.Truncating k m) over = refl
 over_unread (place.Writing k m) over = absurd (false≢true over)
 over_unread (place.Leaving k) over = refl
 
-pub over_nowhere : (a : Place) → is_over a ≡ true → a ≡ place.Nowhere
-over_nowhere place.Nowhere over = refl
-over_nowhere (place.Creating m) over = absurd (false≢true over)
-over_nowhere (place.Taking m) over = absurd (false≢true over)
-over_nowhere (place.Reading k m) over = absurd (false≢true over)
-over_nowhere (place.Delivering k) over = absurd (false≢true over)
-over_nowhere (place.Truncating k m) over = absurd (false≢true over)
-over_nowhere (place.Writing k m) over = absurd (false≢true over)
-over_nowhere (place.Leaving k) over = absurd (false≢true over)
-
 pub unturned_unread : (a : Place) → is_unturned a ≡ true → owes_reply a ≡ false
 unturned_unread place.Nowhere is = refl
 unturned_unread (place.Creating m) is = refl

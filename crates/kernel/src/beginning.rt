@@ -1,21 +1,23 @@
 // The beginning of operations that wait.
-ghost use Rattle.std.specs.Prelude.{◌≡◌, ◌⊎◌, ◌<◌, length, Option, Some, None, IfOk, true, false};
+ghost use Rattle.std.specs.Prelude.{◌≡◌, ◌⊎◌, ◌<◌, ◌+◌, ◌^◌, length, Option, Some, None, IsSome, IfOk, IfErr, true, false};
+ghost use Rattle.ports.specs.History.{first_in};
 ghost use Rattle.journal.specs.declared.types.At.TheVariants as at;
 ghost use Rattle.journal.specs.Processes.{process};
-ghost use Rattle.kernel.specs.declared.waiting.Waiting.TheVariants as waiting;
-ghost use Rattle.kernel.specs.Begins.{Begins};
+ghost use Rattle.kernel.specs.Begins.{Begins, TakesFirst, LeavesFirst, kept_out, count_of, rooms_for};
 ghost use Rattle.kernel.specs.Ports.{Asks, first_waiting};
-ghost use Rattle.kernel.specs.State.{room_for};
 ghost use Rattle.kernel.specs.Steps.{Acts};
 
 use crate::Step;
 use crate::stepping::Kernel;
 use crate::waiting::{Waiting, at_once_reply, waiting_of};
 use blocks::{Disk, NoMemory};
+use inodes::Store;
+use journal::Processes;
 use model::gathered::Gathered;
-use model::types::Why;
+use model::types::{Op, Why};
 use ports::{Herald, Intake};
 use std::alloc::Global;
+use wal::Log;
 
 impl<D: Disk, I: Intake, H: Herald> Kernel<D, I, H> {
     // Begins the operation that waits for a process, if one does and it may.
@@ -28,12 +30,10 @@ impl<D: Disk, I: Intake, H: Herald> Kernel<D, I, H> {
         if self.hears_shutdown() {
             return Step::ShutDown;
         }
-        match self.waiting(pid) {
-            None => Step::Idle,
-            Some(Waiting::Refused) => self.refuse(pid),
-            Some(Waiting::Change) => self.change(pid),
-            Some(Waiting::Look(count)) => self.look(pid, count),
-        }
+        let Some(what) = self.waiting(pid) else {
+            return Step::Idle;
+        };
+        self.begin_first(pid, what)
     }
 
     // Whether no operation begins any more.
@@ -72,102 +72,121 @@ impl<D: Disk, I: Intake, H: Herald> Kernel<D, I, H> {
         Some(waiting_of(op, inode_count))
     }
 
-    // Begins what waits and changes files, where it may.
-    fn change(&mut self, pid: u32) -> Step
+    // Begins the first that waits for a process, which is of this kind, where it may.
+    fn begin_first(&mut self, pid: u32, what: Waiting) -> Step
         requires pid { pid < length self.old.world.processes }
         requires fault { self.old.store.volume.fault ≡ None }
         requires at { (process self.old.world pid).at ≡ at.Idle }
         requires waits { first_waiting I.Intake self.old.store.table.inode_count self.old.intake pid
-            ≡ Some waiting.Change }
-        ensures { Begins I.Intake (Some waiting.Change) pid result self.old self.new }
+            ≡ Some what }
+        ensures { Begins I.Intake (Some what) pid result self.old self.new }
     {
         self.store.known();
-        if !self.intake.room(pid) {
-            return Step::Sleeping(Why::AnswersFull);
-        }
-        if let Some(cause) = self.store.volume().may_begin() {
-            return Step::Sleeping(cause);
-        }
-        if self.processes.reserve().is_err() {
-            return Step::NoMemory;
-        }
+        let (op, rooms) = match take_first(
+            self.alloc,
+            &self.store,
+            &mut self.intake,
+            &mut self.processes,
+            pid,
+            what,
+        ) {
+            Ok(taken) => taken,
+            Err(step) => return step,
+        };
         self.processes.known();
-        let Some(op) = self.intake.take(pid) else {
-            unreachable!();
-        };
-        let group = self.store.begin(pid, &op);
-        self.store.known();
-        self.processes.take(pid, group, op, None);
-        Step::Moved
-    }
-
-    // Begins what waits and looks at a file, of which it may read that many bytes, where it may.
-    fn look(&mut self, pid: u32, count: Option<u32>) -> Step
-        requires pid { pid < length self.old.world.processes }
-        requires fault { self.old.store.volume.fault ≡ None }
-        requires at { (process self.old.world pid).at ≡ at.Idle }
-        requires waits { first_waiting I.Intake self.old.store.table.inode_count self.old.intake pid
-            ≡ Some (waiting.Look count) }
-        ensures { Begins I.Intake (Some (waiting.Look count)) pid result self.old self.new }
-    {
-        self.store.known();
-        if !self.intake.room(pid) {
-            return Step::Sleeping(Why::AnswersFull);
+        match what {
+            Waiting::Change => {
+                let_go(rooms);
+                let group = self.store.begin(pid, &op);
+                self.store.known();
+                self.processes.take(pid, group, op, None);
+                Step::Moved
+            }
+            Waiting::Look(_) => {
+                self.store.begin_look(pid, &op, rooms.read);
+                self.store.known();
+                self.processes.take(pid, 0, op, rooms.answer);
+                Step::Moved
+            }
+            Waiting::Refused => {
+                let_go(rooms);
+                let reply = at_once_reply(&op);
+                let answer = self.processes.refuse(pid, op, reply);
+                self.intake.answer(pid, answer);
+                Step::Answered
+            }
         }
-        let Ok((read, answer)) = take_rooms(self.alloc, count) else {
-            return Step::NoMemory;
-        };
-        if self.processes.reserve().is_err() {
-            return Step::NoMemory;
-        }
-        self.processes.known();
-        let Some(op) = self.intake.take(pid) else {
-            unreachable!();
-        };
-        self.store.begin_look(pid, &op, read);
-        self.store.known();
-        self.processes.take(pid, 0, op, answer);
-        Step::Moved
-    }
-
-    // Answers what waits and is refused by itself alone.
-    fn refuse(&mut self, pid: u32) -> Step
-        requires pid { pid < length self.old.world.processes }
-        requires fault { self.old.store.volume.fault ≡ None }
-        requires at { (process self.old.world pid).at ≡ at.Idle }
-        requires waits { first_waiting I.Intake self.old.store.table.inode_count self.old.intake pid
-            ≡ Some waiting.Refused }
-        ensures { Begins I.Intake (Some waiting.Refused) pid result self.old self.new }
-    {
-        if !self.intake.room(pid) {
-            return Step::Sleeping(Why::AnswersFull);
-        }
-        if self.processes.reserve().is_err() {
-            return Step::NoMemory;
-        }
-        self.processes.known();
-        let Some(op) = self.intake.take(pid) else {
-            unreachable!();
-        };
-        let reply = at_once_reply(&op);
-        let answer = self.processes.refuse(pid, op, reply);
-        self.intake.answer(pid, answer);
-        Step::Answered
     }
 }
 
-// The rooms of a look that may read so many bytes: one for what it reads, and one for its answer.
-fn take_rooms(
+// The rooms of an operation that reads: one for what it reads, and one for its answer.
+#[derive(Drop)]
+struct Rooms {
+    read: Option<Gathered>,
+    answer: Option<Gathered>,
+}
+
+// Takes the first operation that waits for a process, which is of this kind, with all the room that
+// it needs, or says why it is left.
+fn take_first<D: Disk, I: Intake>(
     alloc: Global,
-    count: Option<u32>,
-) -> Result<(Option<Gathered>, Option<Gathered>), NoMemory>
-    ensures read { IfOk result (λ rooms. rooms.0 ≡ room_for count) }
-    ensures answer { IfOk result (λ rooms. rooms.1 ≡ room_for count) }
+    store: &Store<D>,
+    intake: &mut I,
+    processes: &mut Processes,
+    pid: u32,
+    what: Waiting,
+) -> Result<(Op, Rooms), Step>
+    requires pid { pid < I.process_count intake.old }
+    requires waits { IsSome (first_in (I.side intake.old pid).ahead) }
+    requires place { processes.old.journal.room + 1 < 2 ^ 64 }
+    ensures taken { IfOk result (λ taken. TakesFirst I.Intake what store.now.volume.log pid taken.0
+        taken.1 intake.old intake.new processes.old processes.new) }
+    ensures left { IfErr result (λ step. LeavesFirst I.Intake what store.now.volume.log pid step
+        intake.old intake.new processes.old processes.new) }
 {
-    let Some(count) = count else {
-        return Ok((None, None));
+    if !intake.room(pid) {
+        return Err(Step::Sleeping(Why::AnswersFull));
+    }
+    if let Some(cause) = kept_out(store.volume().log(), what) {
+        return Err(Step::Sleeping(cause));
+    }
+    let Ok(rooms) = take_rooms(alloc, what) else {
+        return Err(Step::NoMemory);
     };
-    let read = Gathered::with_room(alloc, count as usize)?;
-    let answer = Gathered::with_room(alloc, count as usize)?;
-    Ok((Some(read), Some(answer)))
+    if processes.reserve().is_err() {
+        return Err(Step::NoMemory);
+    }
+    let Some(op) = intake.take(pid) else {
+        unreachable!();
+    };
+    Ok((op, rooms))
 }
+
+// Why the log keeps out what waits.
+fn kept_out(log: &Log, what: Waiting) -> Option<Why>
+    ensures { result ≡ kept_out what log.now }
+{
+    match what {
+        Waiting::Change => log.may_begin(),
+        Waiting::Look(_) | Waiting::Refused => None,
+    }
+}
+
+// Takes the rooms of what waits, where it may read bytes.
+fn take_rooms(alloc: Global, what: Waiting) -> Result<Rooms, NoMemory>
+    ensures { IfOk result (λ rooms. rooms ≡ rooms_for (count_of what)) }
+{
+    let Waiting::Look(Some(count)) = what else {
+        return Ok(Rooms {
+            read: None,
+            answer: None,
+        });
+    };
+    Ok(Rooms {
+        read: Some(Gathered::with_room(alloc, count as usize)?),
+        answer: Some(Gathered::with_room(alloc, count as usize)?),
+    })
+}
+
+// Lets rooms go that are not needed.
+fn let_go(_rooms: Rooms) {}
