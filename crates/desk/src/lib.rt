@@ -5,6 +5,8 @@
 
 mod bench;
 mod images;
+mod operations;
 
 pub use bench::{Bench, Faulty, block_of, disk_of, done, text_of};
 pub use images::call;
+pub use operations::{operation, told_answer};

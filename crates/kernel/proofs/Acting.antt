@@ -1,6 +1,6 @@
 -- What each event of a process is, as a step's acts.
 use Rattle.std.proofs.Common.{◌≡◌, ◌≢◌, ◌↔◌, inl, inr, ℕ, zero, suc, Bool, true, false, List, [], refl, sym, ◌∙◌, ap, subst, Option, Some, None}
-use Rattle.std.specs.Prelude.{IsSome, IfSome}
+use Rattle.std.specs.Prelude.{IsSome, IfSome, is_none, not, ◌&&◌}
 use Rattle.std.proofs.lemmas.Bool.{false≢true}
 use Rattle.std.proofs.lemmas.List.{append-nil}
 use mathlib.Core.List.{IsPrefix}
@@ -41,6 +41,7 @@ use Rattle.std.specs.Option.{option_map}
 use Rattle.kernel.specs.declared.waiting.Waiting.{Waiting}
 use Rattle.kernel.specs.Next.{NextIf, NextAt, BeginsWith, Ends, step_of, step_behind, step_of_last, step_of_told, step_of_end, step_of_write, world_after, world_behind, world_written}
 use Rattle.kernel.specs.Begins.{Begins}
+use Rattle.kernel.specs.Heralds.{IsUnasked}
 use Rattle.kernel.specs.Ports.{KeepsOthers, Asks}
 use Rattle.kernel.specs.State.{State, waiting_of}
 use Rattle.kernel.specs.Steps.{Acts, may_begin}
@@ -164,18 +165,29 @@ module _ {D N : Type 0} (disk : disk_trait.Ghosts D N) (s t : StoreState D) wher
       by_result committed.Done is wrote same = (tells_none b step.Answered (λ e. cc e) is same, (λ runs. wrote), inr wrote)
       by_result (committed.Fault fault) is wrote failed = (tells_fault b fault is failed.0 (wrote.0, wrote.1), (λ runs. absurd (runs refl)), inl wrote.0)
 
+-- who is under way comes to no beginning
+begins_not : (well unshut busy : Bool) → busy ≡ true → (well && unshut && not busy) ≡ true → ⊥
+begins_not false unshut busy under begins = false≢true begins
+begins_not true false busy under begins = false≢true begins
+begins_not true true false under begins = false≢true under
+begins_not true true true under begins = false≢true begins
+
+pub same_unasked : {H : Type 0} (herald : herald_trait.Ghosts H) (h : H) → IsUnasked herald h h
+same_unasked herald h = record { told = refl; same = inl refl }
+
 module _ {D N I M H : Type 0} (disk : disk_trait.Ghosts D N) (intake : intake_trait.Ghosts I M) (herald : herald_trait.Ghosts H) (p : ℕ) (k m : State D I H) where
   -- what a process makes of store and processes where it stands, while the disk has not failed
   pub acts_at : (r : Step) (a : At) → k.store.volume.fault ≡ None → (process k.world p).at ≡ a
       → NextAt disk a k.store k.world p (intake.side k.intake p).ahead (intake.side m.intake p) (herald.told m.herald) r m.store m.world → UsesDisk disk a p r k.store m.store → m.opening ≡ k.opening
       → KeepsOthers intake p k.intake m.intake → (r ≢ step.Moved → r ≢ step.Answered → IsPrefix (intake.side k.intake p).ahead (intake.side m.intake p).ahead)
-      → (is_busy_at a ≡ true → (intake.side m.intake p).ahead ≡ (intake.side k.intake p).ahead) → (may_begin k p ≡ false → herald.told m.herald ≡ herald.told k.herald) → Acts disk intake herald p r k m
-  acts_at r a well stands next device opening sides waits ahead told = record {
+      → (is_busy_at a ≡ true → (intake.side m.intake p).ahead ≡ (intake.side k.intake p).ahead) → (may_begin k p ≡ true → herald.asks k.herald m.herald) → (may_begin k p ≡ false → IsUnasked herald k.herald m.herald) → Acts disk intake herald p r k m
+  acts_at r a well stands next device opening sides waits ahead asked unasked = record {
     next = subst (λ (o : Option DiskFault). NextIf disk o k.store k.world p (intake.side k.intake p).ahead (intake.side m.intake p) (herald.told m.herald) r m.store m.world) (sym well)
         (subst (λ (b : At). NextAt disk b k.store k.world p (intake.side k.intake p).ahead (intake.side m.intake p) (herald.told m.herald) r m.store m.world) (sym stands) next);
     device = subst (λ (b : At). UsesDisk disk b p r k.store m.store) (sym stands) device;
     opening = opening;
-    unasked = told;
+    asked = asked;
+    unasked = unasked;
     sides = sides;
     waits = waits;
     ahead = λ busy. ahead (ap is_busy_at (sym stands) ∙ busy);
@@ -184,9 +196,10 @@ module _ {D N I M H : Type 0} (disk : disk_trait.Ghosts D N) (intake : intake_tr
   -- who is under way, and leaves what waits
   pub acts_busy : (r : Step) (a : At) → k.store.volume.fault ≡ None → (process k.world p).at ≡ a
       → NextAt disk a k.store k.world p (intake.side k.intake p).ahead (intake.side m.intake p) (herald.told m.herald) r m.store m.world → UsesDisk disk a p r k.store m.store → m.opening ≡ k.opening
-      → KeepsOthers intake p k.intake m.intake → (intake.side m.intake p).ahead ≡ (intake.side k.intake p).ahead → herald.told m.herald ≡ herald.told k.herald → Acts disk intake herald p r k m
-  acts_busy r a well stands next device opening sides same told =
-      acts_at r a well stands next device opening sides (λ moved answered. same_prefix (intake.side k.intake p).ahead (intake.side m.intake p).ahead same) (λ busy. same) (λ never. told)
+      → KeepsOthers intake p k.intake m.intake → (intake.side m.intake p).ahead ≡ (intake.side k.intake p).ahead → is_busy_at a ≡ true → IsUnasked herald k.herald m.herald → Acts disk intake herald p r k m
+  acts_busy r a well stands next device opening sides same busy unasked =
+      acts_at r a well stands next device opening sides (λ moved answered. same_prefix (intake.side k.intake p).ahead (intake.side m.intake p).ahead same) (λ busy. same)
+      (λ begins. absurd (begins_not (is_none k.store.volume.fault) (not k.world.is_shut) (is_busy_at (process k.world p).at) (ap is_busy_at stands ∙ busy) begins)) (λ never. unasked)
 
 module _ {D N I M H : Type 0} (disk : disk_trait.Ghosts D N) (intake : intake_trait.Ghosts I M) (herald : herald_trait.Ghosts H) (p : ℕ) (s t : StoreState D) (d : D) (i : I) (h : H) (w z : World) (well : s.volume.fault ≡ None) where
   -- a step of a task before its turn
@@ -194,7 +207,7 @@ module _ {D N I M H : Type 0} (disk : disk_trait.Ghosts D N) (intake : intake_tr
       → Acts disk intake herald p (step_of r) (record { store = s; opening = d; intake = i; herald = h; world = w }) (record { store = t; opening = d; intake = i; herald = h; world = z })
   acts_worked group op r stands steps made =
       acts_busy disk intake herald p (record { store = s; opening = d; intake = i; herald = h; world = w }) (record { store = t; opening = d; intake = i; herald = h; world = z }) (step_of r) (at.Before group op) well stands
-      (record { progress = r; steps = steps; answer = refl; world = made }) (reads disk s t (at.Before group op) p op r step_of refl refl (λ fault. refl) runs steps) refl (sides_same intake p i) refl refl
+      (record { progress = r; steps = steps; answer = refl; world = made }) (reads disk s t (at.Before group op) p op r step_of refl refl (λ fault. refl) runs steps) refl (sides_same intake p i) refl refl (same_unasked herald h)
     where
       runs : (q : TaskProgress) → fault_of_task q ≡ None → step_of q ≢ step.Halted
       runs progress.Moved none e = cc e
@@ -209,7 +222,7 @@ module _ {D N I M H : Type 0} (disk : disk_trait.Ghosts D N) (intake : intake_tr
       → Acts disk intake herald p (step_behind group r) (record { store = s; opening = d; intake = i; herald = h; world = w }) (record { store = t; opening = d; intake = j; herald = h; world = z })
   acts_finished group k j r stands steps made sides ahead =
       acts_busy disk intake herald p (record { store = s; opening = d; intake = i; herald = h; world = w }) (record { store = t; opening = d; intake = j; herald = h; world = z }) (step_behind group r) (at.Behind group k) well stands
-      (record { progress = r; steps = steps; answer = refl; world = made }) (reads disk s t (at.Behind group k) p (entry_in w.journal.list k).op r (step_behind group) refl refl (λ fault. refl) runs steps) refl sides ahead refl
+      (record { progress = r; steps = steps; answer = refl; world = made }) (reads disk s t (at.Behind group k) p (entry_in w.journal.list k).op r (step_behind group) refl refl (λ fault. refl) runs steps) refl sides ahead refl (same_unasked herald h)
     where
       by_group : (g : ℕ) → step_of_last g ≢ step.Halted
       by_group zero e = cc e
@@ -228,22 +241,22 @@ module _ {D N I M H : Type 0} (disk : disk_trait.Ghosts D N) (intake : intake_tr
       runs (progress.Fault fault) none e = cc none
 
   -- an end in the log, after which the intake is j and the herald g
-  pub acts_ended : (group k : ℕ) (j : I) (g : H) (r : Step) → (process w p).at ≡ at.Ending group k → Ends s w p r t z → KeepsOthers intake p i j → (intake.side j p).ahead ≡ (intake.side i p).ahead → herald.told g ≡ herald.told h
+  pub acts_ended : (group k : ℕ) (j : I) (g : H) (r : Step) → (process w p).at ≡ at.Ending group k → Ends s w p r t z → KeepsOthers intake p i j → (intake.side j p).ahead ≡ (intake.side i p).ahead → IsUnasked herald h g
       → Acts disk intake herald p r (record { store = s; opening = d; intake = i; herald = h; world = w }) (record { store = t; opening = d; intake = j; herald = g; world = z })
   acts_ended group k j g r stands made sides ahead told =
       acts_busy disk intake herald p (record { store = s; opening = d; intake = i; herald = h; world = w }) (record { store = t; opening = d; intake = j; herald = g; world = z }) r (at.Ending group k) well stands
-      made (rests disk s t (at.Ending group k) p r refl (λ e. runs (end_answer s.volume.log) (sym made.answer ∙ e)) well (ap (λ (o : StoreState D). o.volume.fault) made.store) (ap (λ (o : StoreState D). o.volume.device) made.store)) refl sides ahead told
+      made (rests disk s t (at.Ending group k) p r refl (λ e. runs (end_answer s.volume.log) (sym made.answer ∙ e)) well (ap (λ (o : StoreState D). o.volume.fault) made.store) (ap (λ (o : StoreState D). o.volume.device) made.store)) refl sides ahead refl told
     where
       runs : (e : Ended) → step_of_end e ≢ step.Halted
       runs ended_as.Commit e = cc e
       runs ended_as.Left e = cc e
 
   -- a write of a commit
-  pub acts_written : (group k : ℕ) (j : I) (g : H) (r : Committed) → (process w p).at ≡ at.Committing group k → Commits disk s r t → z ≡ world_written r w p → KeepsOthers intake p i j → (intake.side j p).ahead ≡ (intake.side i p).ahead → herald.told g ≡ herald.told h
+  pub acts_written : (group k : ℕ) (j : I) (g : H) (r : Committed) → (process w p).at ≡ at.Committing group k → Commits disk s r t → z ≡ world_written r w p → KeepsOthers intake p i j → (intake.side j p).ahead ≡ (intake.side i p).ahead → IsUnasked herald h g
       → Acts disk intake herald p (step_of_write r) (record { store = s; opening = d; intake = i; herald = h; world = w }) (record { store = t; opening = d; intake = j; herald = g; world = z })
   acts_written group k j g r stands made is sides ahead told =
       acts_busy disk intake herald p (record { store = s; opening = d; intake = i; herald = h; world = w }) (record { store = t; opening = d; intake = j; herald = g; world = z }) (step_of_write r) (at.Committing group k) well stands
-      (record { result = r; commits = made; answer = refl; world = is }) (writes disk s t p group k r made) refl sides ahead told
+      (record { result = r; commits = made; answer = refl; world = is }) (writes disk s t p group k r made) refl sides ahead refl told
 
 -- who may begin
 begins_now : {D I H : Type 0} (k : State D I H) (p : ℕ) → k.store.volume.fault ≡ None → k.world.is_shut ≡ false → (process k.world p).at ≡ at.Idle → may_begin k p ≡ true
@@ -266,10 +279,10 @@ module _ {D N I M H : Type 0} (disk : disk_trait.Ghosts D N) (intake : intake_tr
     (stands : (process k.world p).at ≡ at.Idle) where
   -- nobody told of a shutdown, what waits was looked up, and the first of it begins
   pub acts_begun : (r : Step) (o : Option Waiting) → asked.store ≡ k.store → asked.opening ≡ k.opening → asked.intake ≡ k.intake → asked.world ≡ record k.world { is_shut = false }
-      → (k.world.is_shut ≡ false) × (herald.told asked.herald ≡ false) → looked ≡ record asked { intake = looked.intake } → Asks intake p asked.intake looked.intake
+      → (k.world.is_shut ≡ false) × (herald.told asked.herald ≡ false) → herald.asks k.herald asked.herald → looked ≡ record asked { intake = looked.intake } → Asks intake p asked.intake looked.intake
       → o ≡ option_map (waiting_of looked.store.table.inode_count) (first_in (intake.side looked.intake p).ahead)
       → Begins intake o p r looked m → Acts disk intake herald p r k m
-  acts_begun r o store opening same world open_still is asks waits made =
+  acts_begun r o store opening same world open_still once is asks waits made =
       let world_is : looked.world ≡ k.world = ap (λ (s : State D I H). s.world) is ∙ world ∙ ap (λ (b : Bool). record k.world { is_shut = b }) (sym open_still.0) in
       let store_is : looked.store ≡ k.store = ap (λ (s : State D I H). s.store) is ∙ store in
       let here : BeginsWith o k.store k.world p (intake.side looked.intake p).ahead (intake.side m.intake p) r m.store m.world =
@@ -293,4 +306,5 @@ module _ {D N I M H : Type 0} (disk : disk_trait.Ghosts D N) (intake : intake_tr
       })
       (λ moved answered. subst (λ (l : List Op). IsPrefix (intake.side k.intake p).ahead l) (sym (still.waits moved answered)) prefix)
       (λ busy. absurd (false≢true busy))
+      (λ begins. subst (λ (h : H). herald.asks k.herald h) (sym (made.herald ∙ ap (λ (s : State D I H). s.herald) is)) once)
       (λ never. absurd (false≢true (sym never ∙ begins_now k p well open_still.0 stands)))

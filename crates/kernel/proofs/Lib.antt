@@ -19,6 +19,7 @@ pub mod Causes
 pub mod ShortCauses
 pub mod AtOpening
 pub mod Openings
+mod Counts
 mod UnderWay
 mod Lasting
 mod Resting

@@ -1,6 +1,7 @@
 pub mod State
 pub mod View
 pub mod Ports
+pub mod Heralds
 pub mod Next
 pub mod Begins
 pub mod Device
@@ -17,3 +18,4 @@ pub mod Rounds
 pub mod Causes
 pub mod Opening
 pub mod Lemmas
+pub mod Counts

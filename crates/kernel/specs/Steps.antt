@@ -14,13 +14,14 @@ use Rattle.kernel.specs.declared.types.Step.TheVariants as step
 use Rattle.kernel.specs.Awake.{IsAwake}
 use Rattle.kernel.specs.Bound.{TakesOne, GivesNone}
 use Rattle.kernel.specs.Device.{UsesDisk}
+use Rattle.kernel.specs.Heralds.{IsUnasked}
 use Rattle.kernel.specs.Next.{Next}
 use Rattle.kernel.specs.Ports.{KeepsOthers}
 use Rattle.kernel.specs.Progress.{CountsCommitted, KeepsShutdown}
 use Rattle.journal.specs.Bound.{is_busy_at}
 use Rattle.kernel.specs.State.{State}
 
--- process p may begin an operation: only then the herald is asked for a shutdown
+-- process p comes to a beginning: only then the herald is asked for a shutdown
 abbrev pub may_begin : {D I H : Type 0} → State D I H → ℕ → Bool
 may_begin k p =
     is_none k.store.volume.fault && not k.world.is_shut && not (is_busy_at (process k.world p).at)
@@ -33,7 +34,9 @@ pub record Acts {D N I M H : Type 0} (disk : disk_trait.Ghosts D N)
       (herald.told m.herald) r m.store m.world
   pub device : UsesDisk disk (process k.world p).at p r k.store m.store
   pub opening : m.opening ≡ k.opening
-  pub unasked : may_begin k p ≡ false → herald.told m.herald ≡ herald.told k.herald
+  -- a step that comes to a beginning asks the herald once, and no other asks it
+  pub asked : may_begin k p ≡ true → herald.asks k.herald m.herald
+  pub unasked : may_begin k p ≡ false → IsUnasked herald k.herald m.herald
   pub sides : KeepsOthers intake p k.intake m.intake
   -- what waits goes on waiting, but for what is taken
   pub waits : r ≢ step.Moved → r ≢ step.Answered

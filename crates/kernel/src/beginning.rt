@@ -44,8 +44,8 @@ impl<D: Disk, I: Intake, H: Herald> Kernel<D, I, H> {
         ensures intake { self.new.intake ≡ self.old.intake }
         ensures told { result ≡ true
             → (self.old.world.is_shut ≡ true) ⊎ (H.told self.new.herald ≡ true) }
-        ensures unasked { self.old.world.is_shut ≡ true
-            → H.told self.new.herald ≡ H.told self.old.herald }
+        ensures asked { self.old.world.is_shut ≡ false → H.asks self.old.herald self.new.herald }
+        ensures unasked { self.old.world.is_shut ≡ true → self.new.herald ≡ self.old.herald }
         ensures open { result ≡ false
             → (self.old.world.is_shut ≡ false) × (H.told self.new.herald ≡ false) }
     {

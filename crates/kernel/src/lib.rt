@@ -35,6 +35,7 @@
 #![tactic(auto)]
 
 mod beginning;
+mod counting;
 pub mod laws;
 mod opening;
 mod queues;
@@ -42,8 +43,10 @@ mod runs;
 mod stepping;
 mod telling;
 mod types;
+mod visiting;
 mod waiting;
 
 pub use runs::run;
 pub use stepping::Kernel;
 pub use types::{OpenFault, Step, Turn};
+pub use visiting::Visit;

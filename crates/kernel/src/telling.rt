@@ -2,6 +2,7 @@
 ghost use Rattle.std.specs.Prelude.{◌≡◌, ◌⊎◌, ◌<◌, ◌+◌, length, IsSome, IfSome, true};
 ghost use Rattle.journal.specs.Journal.{FitsRoom};
 ghost use Rattle.journal.specs.Processes.{process, last_answer, answered};
+ghost use Rattle.kernel.specs.Heralds.{IsUnasked};
 ghost use Rattle.kernel.specs.Ports.{Gives};
 
 use journal::Processes;
@@ -12,7 +13,7 @@ pub fn tell<H: Herald>(herald: &mut H, before: u64, now: u64)
     requires told { H.count herald.old ≡ before }
     requires one { (now ≡ before) ⊎ (now ≡ before + 1) }
     ensures count { H.count herald.new ≡ now }
-    ensures told { H.told herald.new ≡ H.told herald.old }
+    ensures unasked { IsUnasked H.Herald herald.old herald.new }
 {
     if now > before {
         herald.durable(now);

@@ -2,10 +2,9 @@
 use crate::rounds::make_rounds;
 use crate::teller::Teller;
 use blocks::Disk;
-use desk::{Faulty, disk_of, done};
+use desk::{Faulty, disk_of, done, operation, told_answer};
 use kernel::{Kernel, Step, Turn, run};
-use model::content::Content;
-use model::types::{Op, Reply};
+use model::types::Op;
 use ports::QueueIntake;
 use std::alloc::Global;
 
@@ -51,42 +50,6 @@ fn call_open(alloc: Global, kernel: &mut Opened, words: &[&str]) -> anyhow::Resu
         ["reach"] => reach(alloc, kernel),
         _ => Ok(None),
     }
-}
-
-// What a line hands in for a process.
-fn operation(alloc: Global, words: &[&str]) -> anyhow::Result<Option<(u32, Op)>> {
-    let handed = match *words {
-        ["submit", pid, "create", kind] => (pid.parse()?, Op::Create(kind.parse()?)),
-        ["submit", pid, "write", inode, offset, count] => {
-            let bytes = filled(alloc, count.parse()?, "00")?;
-            let op = Op::Write(inode.parse()?, offset.parse()?, bytes);
-            (pid.parse()?, op)
-        }
-        ["submit", pid, "fill", inode, offset, count, digits] => {
-            let bytes = filled(alloc, count.parse()?, digits)?;
-            let op = Op::Write(inode.parse()?, offset.parse()?, bytes);
-            (pid.parse()?, op)
-        }
-        ["submit", pid, "read", inode, offset, count] => {
-            let op = Op::Read(inode.parse()?, offset.parse()?, count.parse()?);
-            (pid.parse()?, op)
-        }
-        ["submit", pid, "trunc", inode] => (pid.parse()?, Op::Trunc(inode.parse()?)),
-        ["submit", pid, "remove", inode] => (pid.parse()?, Op::Remove(inode.parse()?)),
-        ["submit", pid, "stat", inode] => (pid.parse()?, Op::Stat(inode.parse()?)),
-        _ => return Ok(None),
-    };
-    Ok(Some(handed))
-}
-
-// So many bytes, each of which has these two digits.
-fn filled(alloc: Global, count: u32, digits: &str) -> anyhow::Result<Content> {
-    let byte = hex::decode(alloc, digits)?.first().copied().unwrap_or(0);
-    let mut bytes = Vec::new(alloc);
-    for _ in 0..count {
-        bytes.push(byte)?;
-    }
-    Ok(Content::new(bytes))
 }
 
 // Opens a kernel whose herald tells of a shutdown at this question. The disk comes back where it
@@ -199,30 +162,7 @@ fn poll(alloc: Global, kernel: &mut Opened, pid: u32) -> anyhow::Result<Option<S
     if pid as usize >= kernel.processes() {
         return Ok(None);
     }
-    let text = match kernel.poll(pid) {
-        Some(answer) => {
-            let (seq, group) = (answer.seq, answer.group);
-            let reply = told_reply(alloc, &answer.reply)?;
-            format!(in alloc; "{seq} {reply}, group {group}")?
-        }
-        None => String::from_str(alloc, "none")?,
-    };
-    Ok(Some(text))
-}
-
-// A reply, with the digits of the bytes that it has, or of the first and the last of many.
-fn told_reply(alloc: Global, reply: &Reply) -> anyhow::Result<String> {
-    let Reply::Bytes(bytes) = reply else {
-        return Ok(format!(in alloc; "{reply:?}")?);
-    };
-    let (count, bytes) = (bytes.len(), bytes.as_slice());
-    if count <= 16 {
-        let digits = hex::encode(alloc, bytes)?;
-        return Ok(format!(in alloc; "Bytes {digits}")?);
-    }
-    let first = hex::encode(alloc, &bytes[..4])?;
-    let last = hex::encode(alloc, &bytes[count - 4..])?;
-    Ok(format!(in alloc; "{count} Bytes {first}..{last}")?)
+    Ok(Some(told_answer(alloc, kernel.poll(pid))?))
 }
 
 // How far the kernel is.

@@ -22,11 +22,15 @@ impl Teller {
 }
 
 impl Herald for Teller {
-    ghost use Rattle.kernel_desk.specs.Teller.{count_of, has_told};
+    ghost use Rattle.kernel_desk.specs.Teller.{count_of, has_told, CountsQuestion, CountsOne};
 
     ghost count = { count_of };
 
     ghost told = { has_told };
+
+    ghost asks = { CountsQuestion };
+
+    ghost hears = { CountsOne };
 
     fn durable(&mut self, group: u64) {
         self.count = group;

@@ -7,7 +7,7 @@ use Rattle.blocks.specs.declared.faulty.Trap.{Trap}
 use Rattle.blocks.specs.FaultyDisk.{has_fired}
 use Rattle.blocks.specs.declared.faulty.FaultyDisk.{FaultyDisk}
 use Rattle.ports.specs.History.{first_in}
-use Rattle.ports.specs.PlainHerald.{count_of}
+use Rattle.ports.specs.PlainHerald.{count_of, IsSame, CountsOne}
 use Rattle.ports.specs.Queues.{waiting, answers, queue_count, queue_name, queue_side, OthersWait, QueueFits}
 use Rattle.ports.specs.declared.herald.Herald.{Ghosts as Heralds}
 use Rattle.ports.specs.declared.intake.Intake.{Ghosts as Intakes}
@@ -46,7 +46,7 @@ plain_queues = record {
 
 -- and of a plain herald, which tells of no shutdown
 abbrev pub plain_herald : Heralds PlainHerald
-plain_herald = record { count = count_of; told = λ h. false }
+plain_herald = record { count = count_of; told = λ h. false; asks = IsSame; hears = CountsOne }
 
 -- one step of process p, which answers r, makes m of k: the kernel's promise of a step
 abbrev pub MakesPlainStep : {D N : Type 0} → Ghosts D N → ℕ → Step → Plain D → Plain D → Type 0

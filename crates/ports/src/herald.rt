@@ -11,17 +11,25 @@ pub trait Herald: Drop {
     /// Whether it told of a shutdown.
     ghost told: { Self → Bool };
 
+    /// It was asked for a shutdown once, and heard of no group.
+    ghost asks: { Self → Self → Type 0 };
+
+    /// It heard of one group, and was not asked.
+    ghost hears: { Self → Self → Type 0 };
+
     /// Hears that the group of this number is committed: one more than it was told before.
     fn durable(&mut self, group: u64)
         requires { group ≡ count self.old + 1 }
         ensures count { count self.new ≡ group }
-        ensures told { told self.new ≡ told self.old };
+        ensures told { told self.new ≡ told self.old }
+        ensures hears { hears self.old self.new };
 
     /// Whether a shutdown was asked for. Once true, it stays so.
     fn is_shut(&mut self) -> bool
         ensures count { count self.new ≡ count self.old }
         ensures told { told self.new ≡ result }
-        ensures stays { told self.old ≡ true → result ≡ true };
+        ensures stays { told self.old ≡ true → result ≡ true }
+        ensures asks { asks self.old self.new };
 }
 
 /// A plain count, which tells of no shutdown.
@@ -49,11 +57,15 @@ impl PlainHerald {
 }
 
 impl Herald for PlainHerald {
-    ghost use Rattle.ports.specs.PlainHerald.{count_of};
+    ghost use Rattle.ports.specs.PlainHerald.{count_of, IsSame, CountsOne};
 
     ghost count = { count_of };
 
     ghost told = { λ _. false };
+
+    ghost asks = { IsSame };
+
+    ghost hears = { CountsOne };
 
     fn durable(&mut self, group: u64) {
         *self = PlainHerald { count: group };

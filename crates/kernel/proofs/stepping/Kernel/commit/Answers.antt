@@ -1,4 +1,4 @@
-use Rattle.std.proofs.Common.{rules, refl, ◌≡◌, ◌<◌, ℕ, length, true, false, None, ap, subst, sym, ◌∙◌}
+use Rattle.std.proofs.Common.{rules, refl, inr, ◌≡◌, ◌<◌, ℕ, length, true, false, None, ap, subst, sym, ◌∙◌}
 use Rattle.wal.specs.declared.types.Committed.{Committed}
 use Rattle.wal.specs.declared.types.Committed.TheVariants as committed
 use Rattle.wal.specs.Machine.{LogState, is_quiet}
@@ -17,7 +17,7 @@ use Rattle.kernel.specs.declared.types.Step.TheVariants as step
 use Rattle.kernel.specs.Invariant.{IsRight, HasFacts, TaskStands}
 use Rattle.kernel.specs.State.{State}
 use Rattle.kernel.specs.Steps.{Acts}
-use Rattle.kernel.proofs.Acting.{acts_written, sides_same}
+use Rattle.kernel.proofs.Acting.{acts_written, same_unasked, sides_same}
 use Rattle.kernel.proofs.Answering.{answer_commits}
 use Rattle.kernel.proofs.Closing.{right_written, right_done, right_unwritten}
 use Rattle.journal.specs.Lemmas.Places.{committing_there}
@@ -125,7 +125,7 @@ returns-in-More g c =
     let t = c.commit_step-committed.new.self in
     let made : Commits g.D.Disk k.store committed.More t = subst (λ (r : Committed). Commits g.D.Disk k.store r t) c.in-More.is c.commit_step-committed.ensures.commits in
     subst (λ (o : State _ _ _). Acts g.D.Disk g.I.Intake g.H.Herald c.args.pid step.Moved o (record { store = t; opening = k.opening.value; intake = k.intake; herald = k.herald; world = k.processes })) c.self.view_is
-    (acts_written g.D.Disk g.I.Intake g.H.Herald c.args.pid k.store t k.opening.value k.intake k.herald k.processes k.processes h.well h.group h.place k.intake k.herald committed.More h.stands made refl (sides_same g.I.Intake c.args.pid k.intake) refl refl)
+    (acts_written g.D.Disk g.I.Intake g.H.Herald c.args.pid k.store t k.opening.value k.intake k.herald k.processes k.processes h.well h.group h.place k.intake k.herald committed.More h.stands made refl (sides_same g.I.Intake c.args.pid k.intake) refl (same_unasked g.H.Herald k.herald))
 
 pub returns-in-Durable : goal.returns-in-Durable
 returns-in-Durable g c =
@@ -133,7 +133,7 @@ returns-in-Durable g c =
     let t = c.commit_step-committed.new.self in
     let made : Commits g.D.Disk k.store (committed.Durable c.in-Durable.group) t = subst (λ (r : Committed). Commits g.D.Disk k.store r t) c.in-Durable.is c.commit_step-committed.ensures.commits in
     subst (λ (o : State _ _ _). Acts g.D.Disk g.I.Intake g.H.Herald c.args.pid step.Moved o (record { store = t; opening = k.opening.value; intake = k.intake; herald = c.durable.new.self; world = k.processes })) c.self.view_is
-    (acts_written g.D.Disk g.I.Intake g.H.Herald c.args.pid k.store t k.opening.value k.intake k.herald k.processes k.processes h.well h.group h.place k.intake c.durable.new.self (committed.Durable c.in-Durable.group) h.stands made refl (sides_same g.I.Intake c.args.pid k.intake) refl c.durable.ensures.told)
+    (acts_written g.D.Disk g.I.Intake g.H.Herald c.args.pid k.store t k.opening.value k.intake k.herald k.processes k.processes h.well h.group h.place k.intake c.durable.new.self (committed.Durable c.in-Durable.group) h.stands made refl (sides_same g.I.Intake c.args.pid k.intake) refl (record { told = c.durable.ensures.told; same = inr c.durable.ensures.hears }))
 
 pub returns-in-Done : goal.returns-in-Done
 returns-in-Done g c =
@@ -141,7 +141,7 @@ returns-in-Done g c =
     let t = c.commit_step-committed.new.self in
     let made : Commits g.D.Disk k.store committed.Done t = subst (λ (r : Committed). Commits g.D.Disk k.store r t) c.in-Done.is c.commit_step-committed.ensures.commits in
     subst (λ (o : State _ _ _). Acts g.D.Disk g.I.Intake g.H.Herald c.args.pid step.Answered o (record { store = t; opening = k.opening.value; intake = c.give.new.intake; herald = k.herald; world = c.give.new.processes })) c.self.view_is
-    (acts_written g.D.Disk g.I.Intake g.H.Herald c.args.pid k.store t k.opening.value k.intake k.herald k.processes c.give.new.processes h.well h.group h.place c.give.new.intake k.herald committed.Done h.stands made c.give.ensures.processes c.give.ensures.gives.keeps c.give.ensures.gives.ahead refl)
+    (acts_written g.D.Disk g.I.Intake g.H.Herald c.args.pid k.store t k.opening.value k.intake k.herald k.processes c.give.new.processes h.well h.group h.place c.give.new.intake k.herald committed.Done h.stands made c.give.ensures.processes c.give.ensures.gives.keeps c.give.ensures.gives.ahead (same_unasked g.H.Herald k.herald))
 
 pub returns-in-Fault : goal.returns-in-Fault
 returns-in-Fault g c =
@@ -149,4 +149,4 @@ returns-in-Fault g c =
     let t = c.commit_step-committed.new.self in
     let made : Commits g.D.Disk k.store (committed.Fault c.in-Fault.field-0) t = subst (λ (r : Committed). Commits g.D.Disk k.store r t) c.in-Fault.is c.commit_step-committed.ensures.commits in
     subst (λ (o : State _ _ _). Acts g.D.Disk g.I.Intake g.H.Herald c.args.pid step.Halted o (record { store = t; opening = k.opening.value; intake = k.intake; herald = k.herald; world = k.processes })) c.self.view_is
-    (acts_written g.D.Disk g.I.Intake g.H.Herald c.args.pid k.store t k.opening.value k.intake k.herald k.processes k.processes h.well h.group h.place k.intake k.herald (committed.Fault c.in-Fault.field-0) h.stands made refl (sides_same g.I.Intake c.args.pid k.intake) refl refl)
+    (acts_written g.D.Disk g.I.Intake g.H.Herald c.args.pid k.store t k.opening.value k.intake k.herald k.processes k.processes h.well h.group h.place k.intake k.herald (committed.Fault c.in-Fault.field-0) h.stands made refl (sides_same g.I.Intake c.args.pid k.intake) refl (same_unasked g.H.Herald k.herald))

@@ -12,7 +12,7 @@ use Rattle.kernel.specs.Invariant.{IsRight}
 use Rattle.kernel.specs.Next.{step_of_end, world_ended}
 use Rattle.kernel.specs.State.{State}
 use Rattle.kernel.specs.Steps.{Acts}
-use Rattle.kernel.proofs.Acting.{acts_ended, sides_same}
+use Rattle.kernel.proofs.Acting.{acts_ended, same_unasked, sides_same}
 use Rattle.kernel.proofs.Answering.{answer_ends}
 use Rattle.journal.specs.Lemmas.Groups.{closed_uncommitted}
 use Rattle.kernel.proofs.Closing.{right_closed, right_left}
@@ -105,7 +105,7 @@ returns-in-Commit g c =
     let answer : end_answer k.store.volume.log ≡ ended_as.Commit = sym c.end-ended.ensures.answer ∙ c.in-Commit.is in
     subst (λ (o : State _ _ _). Acts g.D.Disk g.I.Intake g.H.Herald c.args.pid step.Moved o (record { store = t; opening = k.opening.value; intake = k.intake; herald = k.herald; world = c.commit.new.self })) c.self.view_is
     (acts_ended g.D.Disk g.I.Intake g.H.Herald c.args.pid k.store t k.opening.value k.intake k.herald k.processes c.commit.new.self h.well h.group h.place k.intake k.herald step.Moved h.stands
-    (record { answer = ap step_of_end (sym answer); store = c.end-ended.ensures.store; world = c.commit.ensures ∙ ap (λ e. world_ended e k.processes c.args.pid) (sym answer) }) (sides_same g.I.Intake c.args.pid k.intake) refl refl)
+    (record { answer = ap step_of_end (sym answer); store = c.end-ended.ensures.store; world = c.commit.ensures ∙ ap (λ e. world_ended e k.processes c.args.pid) (sym answer) }) (sides_same g.I.Intake c.args.pid k.intake) refl (same_unasked g.H.Herald k.herald))
 
 pub returns-in-Left : goal.returns-in-Left
 returns-in-Left g c =
@@ -115,4 +115,4 @@ returns-in-Left g c =
     let answer : end_answer k.store.volume.log ≡ ended_as.Left = sym c.end-ended.ensures.answer ∙ c.in-Left.is in
     subst (λ (o : State _ _ _). Acts g.D.Disk g.I.Intake g.H.Herald c.args.pid step.Answered o (record { store = t; opening = k.opening.value; intake = c.give.new.intake; herald = c.tell.new.herald; world = c.give.new.processes })) c.self.view_is
     (acts_ended g.D.Disk g.I.Intake g.H.Herald c.args.pid k.store t k.opening.value k.intake k.herald k.processes c.give.new.processes h.well h.group h.place c.give.new.intake c.tell.new.herald step.Answered h.stands
-    (record { answer = ap step_of_end (sym answer); store = c.end-ended.ensures.store; world = c.give.ensures.processes ∙ ap (λ e. world_ended e k.processes c.args.pid) (sym answer) }) c.give.ensures.gives.keeps c.give.ensures.gives.ahead c.tell.ensures.told)
+    (record { answer = ap step_of_end (sym answer); store = c.end-ended.ensures.store; world = c.give.ensures.processes ∙ ap (λ e. world_ended e k.processes c.args.pid) (sym answer) }) c.give.ensures.gives.keeps c.give.ensures.gives.ahead c.tell.ensures.unasked)

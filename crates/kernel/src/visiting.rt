@@ -1,0 +1,43 @@
+// A look at a kernel's intake from outside.
+ghost use Rattle.std.specs.Prelude.{◌≡◌};
+ghost use Rattle.ports.specs.History.{SameNames, AllFit, RoomStays};
+
+use crate::stepping::Kernel;
+use blocks::Disk;
+use ports::{Herald, Intake};
+
+/// What is done to an intake between two steps, beside the kernel's own calls: it gives no kept
+/// place up, and changes no history. Each end of a ring learns so what the other did.
+pub trait Visit<I: Intake> {
+    ghost use Rattle.std.specs.Prelude.{◌≡◌};
+
+    /// What the visitor brings back.
+    type Gift;
+
+    /// What it asks of the intake.
+    ghost asks: { Self → I → Type 0 };
+
+    /// What it tells of the intake as it was and as it is.
+    ghost tells: { Self → I → I → Self.Gift → Type 0 };
+
+    /// Visits the intake.
+    fn visit(self, intake: &mut I) -> Self::Gift
+        requires { asks self intake.old }
+        ensures tells { tells self intake.old intake.new result }
+        ensures processes { I.process_count intake.new ≡ I.process_count intake.old }
+        ensures names { SameNames (I.name intake.old) (I.name intake.new) }
+        ensures room { RoomStays (I.side intake.old) (I.side intake.new) }
+        ensures fits { AllFit (I.fits intake.old) (I.fits intake.new) };
+}
+
+impl<D: Disk, I: Intake, H: Herald> Kernel<D, I, H> {
+    /// Lets a visitor to the intake. It takes no step, and nothing but the intake changes.
+    pub fn visit<V: Visit<I>>(&mut self, visitor: V) -> V::Gift
+        requires { V.asks visitor self.old.intake }
+        ensures tells { V.tells visitor self.old.intake self.new.intake result }
+        ensures names { SameNames (I.name self.old.intake) (I.name self.new.intake) }
+        ensures same { self.new ≡ record self.old { intake = self.new.intake } }
+    {
+        visitor.visit(&mut self.intake)
+    }
+}

@@ -1,0 +1,48 @@
+-- A shared kernel may cross threads, as its disk and its herald may: each struct that remembers a `Snapshot` by
+-- itself, since a `search` that goes down through them runs out of steps.
+use denote.RattleType.{RattleType}
+use denote.Param.Send.{IsSend, IsSync, sendable}
+use Rattle.std.proofs.Crossing.{crosses}
+use Rattle.blocks.specs.declared.disk.Disk as disk
+use Rattle.ports.specs.declared.herald.Herald as herald
+use Rattle.ports.specs.declared.intake.Intake as intake
+use Rattle.inodes.specs.contracts.tasks.Task as Task
+use Rattle.inodes.specs.contracts.tasks.Tasks as Tasks
+use Rattle.inodes.specs.contracts.store.Store as Store
+use Rattle.inodes.proofs.tasks.Place.TheSendSync as place
+use Rattle.inodes.proofs.table.Inodes.TheSendSync as inodes
+use Rattle.model.proofs.gathered.Gathered.TheSendSync as gathered
+use Rattle.wal.proofs.volume.Volume.TheSendSync as volume
+use Rattle.journal.proofs.processes.Processes.TheSendSync as processes
+use Rattle.kernel.specs.contracts.stepping.Kernel as Kernel
+use Rattle.rings.proofs.intake.RingIntake.TheSendSync as rings
+use Rattle.sysring.specs.contracts.frame.Framed as Framed
+use Rattle.sysring.specs.contracts.serving.Serving as Serving
+use Rattle.sysring.specs.contracts.shared.Shared as Shared
+use Rattle.sysring.specs.declared.frame.Frame as frame
+
+pub ruleset parts = (crosses, place.the_field_send, gathered.the_send, inodes.the_send, volume.the_send, processes.the_send)
+
+pub Serving-sync : IsSync Serving.the_row
+Serving-sync = search (sendable, crosses) depth 20
+
+Task-send : IsSend Task.the_row
+Task-send = search (sendable, parts) depth 20
+
+Tasks-send : IsSend Tasks.the_row
+Tasks-send = let a = Task-send in search (sendable, parts) depth 20
+
+module _ (D N : RattleType) (g : disk.Ghosts D.Denot N.Denot) where
+  Store-send : IsSend D → IsSend (Store.the_row D N g)
+  Store-send s = let a = Tasks-send in search (sendable, parts) depth 20
+
+module _ (D I H N M : RattleType) (g : disk.Ghosts D.Denot N.Denot) (i : intake.Ghosts I.Denot M.Denot) (h : herald.Ghosts H.Denot) where
+  Kernel-send : IsSend D → IsSend I → IsSend H → IsSend (Kernel.the_row D I H N M g i h)
+  Kernel-send d n e = let a = Store-send D N g d in search (sendable, parts) depth 20
+
+module _ (D H K N : RattleType) (g : disk.Ghosts D.Denot N.Denot) (h : herald.Ghosts H.Denot) (k : frame.Ghosts K.Denot) where
+  Framed-send : IsSend D → IsSend H → IsSend K → IsSend (Framed.the_row D H K N g h k)
+  Framed-send d n e = search (sendable, crosses, rings.the_send, Kernel-send) depth 20
+
+  pub Shared-sync : IsSend D → IsSend H → IsSend K → IsSync (Shared.the_field D H K N g h k).row
+  Shared-sync d n e = let a = Framed-send d n e in search (sendable, crosses) depth 20

@@ -1,0 +1,23 @@
+//! A kernel that threads share: rings and a board between it and its callers, a lock round it, and
+//! workers that make its steps.
+//!
+//! A caller's own calls (`Caller::submit`, `poll` and `finish`, `Board::durable` and `ask_shut`)
+//! take no lock and wait for nobody. Workers step the kernel under its lock, which they get anew
+//! for each step. What `Kernel::known` says of a kernel is true each time the lock is got, whoever
+//! had it before: above all what a stop then leaves. A `Frame` is what stays of a kernel behind a
+//! lock: the image over which it was opened, the number of its processes, and their rings.
+#![tactic(auto)]
+
+mod frame;
+mod serving;
+mod settling;
+mod shared;
+mod workers;
+
+pub use board::{Board, BoardHerald, Keeper, Watch};
+pub use frame::{Frame, Framed};
+pub use rings::{Caller, Finished, RingIntake, rings};
+pub use serving::{Serving, serve_while};
+pub use settling::{Account, Settling, settle};
+pub use shared::Shared;
+pub use workers::{Gate, serve};

@@ -1,0 +1,148 @@
+// A kernel that is served while its callers go on.
+ghost use Rattle.std.specs.Prelude.{◌≡◌, IfSome};
+ghost use Rattle.kernel.specs.Known.{Known};
+ghost use Rattle.rings.specs.declared.intake.RingIntake.{RingIntake};
+ghost use Rattle.sysring.specs.Frames.{AreWorkers, HasFrameOf, IsFramed};
+
+use crate::frame::Frame;
+use crate::shared::Shared;
+use crate::workers::{Gate, serve};
+use blocks::Disk;
+use kernel::Kernel;
+use ports::{Herald, Intake};
+use rings::RingIntake;
+use std::marker::Brand;
+use std::rt::Clock;
+use std::sync::Wait;
+use std::sync::atomic::{AtomicU64, Ordering};
+use std::thread;
+use std::thread::Threads;
+
+/// Whether the workers still go on.
+#[derive(Drop)]
+pub struct Serving {
+    // 1 once they have ended.
+    ended: AtomicU64,
+}
+
+impl Serving {
+    fn new() -> Serving {
+        Serving {
+            ended: AtomicU64::new(0),
+        }
+    }
+
+    /// Whether they have ended: no process goes on any more.
+    pub fn has_ended(&self) -> bool {
+        self.ended.load(Ordering::SeqCst) == 1
+    }
+
+    fn end(&self) {
+        self.ended.store(1, Ordering::SeqCst);
+    }
+}
+
+/// Serves a kernel with so many workers, from 1 to 32, on threads of their own, while the calling
+/// thread does what `callers` does: it hands operations in, polls answers, and at last asks for a
+/// shutdown, without which the workers go on. It may ask whether they have ended, as they do after
+/// a fault of the disk. Hands the kernel back when both have ended: it is still the one that was
+/// opened over that image, with the same rings, and whatever a stop at any moment of it leaves
+/// keeps some of the groups that it has committed.
+///
+/// None where no thread can be started: then nothing was done.
+pub fn serve_while<
+    D: Disk + Send,
+    H: Herald + Send,
+    R: Threads + Wait + Clock + Sync,
+    G: Gate + Sync,
+    T,
+    F: FnOnce(&Serving) -> T,
+>(
+    rt: &R,
+    kernel: Kernel<D, RingIntake, H>,
+    workers: u32,
+    gate: &G,
+    callers: F,
+) -> (Option<T>, Kernel<D, RingIntake, H>)
+    requires workers { AreWorkers workers }
+    requires callers { F.IsAlwaysCallable callers }
+    ensures done { IfSome result.0 (λ gift. (at : _) × F.post callers at gift) }
+    ensures known { Known D.Disk ⟦<RingIntake as Intake>⟧ H.Herald result.1 }
+    ensures framed { HasFrameOf D.Disk kernel result.1 }
+{
+    kernel.known();
+    serve_under::<D, H, Brand, R, G, T, F>(rt, kernel, workers, gate, callers)
+}
+
+// The same with a frame.
+fn serve_under<
+    D: Disk + Send,
+    H: Herald + Send,
+    K: Frame + Send,
+    R: Threads + Wait + Clock + Sync,
+    G: Gate + Sync,
+    T,
+    F: FnOnce(&Serving) -> T,
+>(
+    rt: &R,
+    kernel: Kernel<D, RingIntake, H>,
+    workers: u32,
+    gate: &G,
+    callers: F,
+) -> (Option<T>, Kernel<D, RingIntake, H>)
+    requires workers { AreWorkers workers }
+    requires callers { F.IsAlwaysCallable callers }
+    requires framed { IsFramed D.Disk K.opening K.since K.processes K.names kernel }
+    ensures done { IfSome result.0 (λ gift. (at : _) × F.post callers at gift) }
+    ensures known { Known D.Disk ⟦<RingIntake as Intake>⟧ H.Herald result.1 }
+    ensures framed { IsFramed D.Disk K.opening K.since K.processes K.names result.1 }
+{
+    let shared = Shared::<D, H, K>::new(kernel);
+    let serving = Serving::new();
+    let done = serve_beside(rt, &shared, &serving, workers, gate, callers);
+    (done, shared.into_kernel())
+}
+
+// Serves the kernel on another thread, while this one does `callers`.
+fn serve_beside<
+    D: Disk + Send,
+    H: Herald + Send,
+    K: Frame + Send,
+    R: Threads + Wait + Clock + Sync,
+    G: Gate + Sync,
+    T,
+    F: FnOnce(&Serving) -> T,
+>(
+    rt: &R,
+    shared: &Shared<D, H, K>,
+    serving: &Serving,
+    workers: u32,
+    gate: &G,
+    callers: F,
+) -> Option<T>
+    requires workers { AreWorkers workers }
+    requires callers { F.IsAlwaysCallable callers }
+    ensures done { IfSome result (λ gift. (at : _) × F.post callers at gift) }
+{
+    thread::scope(
+        thread::scope_env(),
+        rt,
+        |scope| -> Option<T>
+            requires { AreWorkers workers × F.IsAlwaysCallable callers }
+            ensures { IfSome result (λ gift. (at : _) × F.post callers at gift) }
+        {
+            let served = scope.spawn(
+                move ||
+                    requires { AreWorkers workers }
+                {
+                    serve(rt, shared, workers, gate);
+                    serving.end();
+                },
+            );
+            if served.is_err() {
+                return None;
+            }
+            Some(callers(serving))
+        },
+    )
+}

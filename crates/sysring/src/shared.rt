@@ -1,0 +1,86 @@
+// A kernel behind a lock.
+ghost use Rattle.std.specs.Prelude.{◌<◌};
+ghost use Rattle.std.specs.Sync.Mutex.{mutex_guard_value};
+ghost use Rattle.kernel.specs.Known.{Known};
+ghost use Rattle.sysring.specs.Frames.{IsFramed};
+
+use crate::frame::{Frame, Framed};
+use blocks::Disk;
+use kernel::{Kernel, Step};
+use ports::{Herald, Intake};
+use rings::RingIntake;
+use std::sync::atomic::{AtomicU64, Ordering};
+use std::sync::{Condvar, Mutex, MutexGuard, Wait};
+
+/// A kernel that threads share.
+#[derive(Drop)]
+pub struct Shared<D: Disk, H: Herald, K: Frame> {
+    kernel: Mutex<Framed<D, H, K>>,
+    // The steps that changed something, wrapping. It is written under the lock.
+    changes: AtomicU64,
+    changed: Condvar,
+}
+
+impl<D: Disk, H: Herald, K: Frame> Shared<D, H, K> {
+    /// Puts a lock round a kernel.
+    pub fn new(kernel: Kernel<D, RingIntake, H>) -> Shared<D, H, K>
+        requires { IsFramed D.Disk K.opening K.since K.processes K.names kernel }
+    {
+        Shared {
+            kernel: Mutex::new(Framed::new(kernel)),
+            changes: AtomicU64::new(0),
+            changed: Condvar::new(),
+        }
+    }
+
+    /// Gets the lock. Whoever had the kernel before: what is known of any kernel is true of it,
+    /// above all what a stop now leaves, and it is still the one that was opened over that image.
+    pub fn lock<R: Wait>(&self, rt: &R) -> MutexGuard<'_, Framed<D, H, K>>
+        ensures known { Known D.Disk ⟦<RingIntake as Intake>⟧ H.Herald (mutex_guard_value result) }
+        ensures framed { IsFramed D.Disk K.opening K.since K.processes K.names (mutex_guard_value result) }
+    {
+        let kernel = self.kernel.lock(rt);
+        kernel.kernel().known();
+        kernel
+    }
+
+    /// The kernel, once nobody shares it any more.
+    pub fn into_kernel(self) -> Kernel<D, RingIntake, H>
+        ensures known { Known D.Disk ⟦<RingIntake as Intake>⟧ H.Herald result }
+        ensures framed { IsFramed D.Disk K.opening K.since K.processes K.names result }
+    {
+        let Shared { kernel, .. } = self;
+        let kernel = kernel.into_inner().into_kernel();
+        kernel.known();
+        kernel
+    }
+
+    // Makes a step of a process under the lock, and wakes all who wait where it changed something.
+    pub(crate) fn step<R: Wait>(&self, rt: &R, pid: u32) -> Step
+        requires { pid < K.processes }
+    {
+        let mut kernel = self.lock(rt);
+        let step = kernel.step(pid);
+        // A fault is a change, too: without a wake-up there who waits would wait for ever.
+        if matches!(step, Step::Moved | Step::Answered | Step::Halted) {
+            self.changes.fetch_add(1, Ordering::SeqCst);
+            self.changed.notify_all();
+        }
+        step
+    }
+
+    // How many steps changed something, wrapping.
+    pub(crate) fn changes(&self) -> u64 {
+        self.changes.load(Ordering::SeqCst)
+    }
+
+    // Waits until there were other than so many changes.
+    pub(crate) fn wait_past<R: Wait>(&self, rt: &R, seen: u64) {
+        let changes = &self.changes;
+        let _kernel = self
+            .changed
+            .wait_while(rt, self.kernel.lock(rt), |_kernel| {
+                changes.load(Ordering::SeqCst) == seen
+            });
+    }
+}

@@ -1,0 +1,170 @@
+// The workers that make a shared kernel's steps.
+ghost use Rattle.std.specs.Prelude.{◌≡◌, ◌≤◌, ◌<◌, ◌^◌, true};
+ghost use Rattle.sysring.specs.Frames.{AreWorkers};
+
+use crate::frame::Frame;
+use crate::shared::Shared;
+use blocks::Disk;
+use kernel::Step;
+use model::types::Why;
+use ports::Herald;
+use std::rt::Clock;
+use std::sync::Wait;
+use std::thread;
+use std::thread::Threads;
+use std::time::Duration;
+
+// How many microseconds a worker rests after a round in which nothing moved, since a submission
+// wakes nobody: twice as long after each further one, up to the longest.
+const SHORTEST_REST: u64 = 50;
+
+const LONGEST_REST: u64 = 3200;
+
+/// What is called outside the lock, round each step.
+pub trait Gate {
+    /// A step of this process comes.
+    fn before(&self, pid: u32);
+
+    /// A step of this process was made.
+    fn after(&self, pid: u32);
+}
+
+// What a round of steps came to, one of each process.
+enum Round {
+    // No process goes on any more.
+    Over,
+    // Each sleeps until another process moves.
+    Asleep,
+    // None moved.
+    Quiet,
+    // Some moved.
+    Busy,
+}
+
+/// Makes the steps of all processes with so many workers, from 1 to 32, the calling thread among
+/// them, until each has answered `ShutDown` or `Halted`. Worker w has the processes whose numbers
+/// leave w when divided by the number of workers. The calling thread is worker 0, and has the
+/// processes of each worker that can't be started, too.
+///
+/// The lock is got anew for each step. A worker waits after a round in which each of its processes
+/// sleeps until another one moves, if no step changed anything since. After any other round in
+/// which nothing moved it rests for a moment.
+pub fn serve<
+    D: Disk + Send,
+    H: Herald + Send,
+    K: Frame + Send,
+    R: Threads + Wait + Clock + Sync,
+    G: Gate + Sync,
+>(rt: &R, shared: &Shared<D, H, K>, workers: u32, gate: &G)
+    requires { AreWorkers workers }
+{
+    let processes = processes_of(rt, shared);
+    thread::scope(
+        thread::scope_env(),
+        rt,
+        |scope|
+            requires { AreWorkers workers × (processes ≡ K.processes) }
+        {
+            let mut mine = 1u32;
+            for worker in 1..workers {
+                let theirs = 1u32 << worker;
+                let started = scope.spawn(
+                    move ||
+                        requires { AreWorkers workers × (processes ≡ K.processes) }
+                    {
+                        work(rt, shared, processes, theirs, workers, gate);
+                    },
+                );
+                if started.is_err() {
+                    mine |= theirs;
+                }
+            }
+            work(rt, shared, processes, mine, workers, gate);
+        },
+    );
+}
+
+// How many processes there are.
+fn processes_of<D: Disk, H: Herald, K: Frame, R: Wait>(rt: &R, shared: &Shared<D, H, K>) -> u32
+    ensures { result ≡ K.processes }
+{
+    shared.lock(rt).kernel().processes() as u32
+}
+
+// Makes rounds of steps of the processes of some workers, until none of them goes on.
+fn work<D: Disk, H: Herald, K: Frame, R: Wait + Clock, G: Gate>(
+    rt: &R,
+    shared: &Shared<D, H, K>,
+    processes: u32,
+    mine: u32,
+    workers: u32,
+    gate: &G,
+)
+    requires { AreWorkers workers × (processes ≡ K.processes) }
+{
+    let mut rest = SHORTEST_REST;
+    for _ in rt.forever() {
+        let seen = shared.changes();
+        match make_round(rt, shared, processes, mine, workers, gate) {
+            Round::Over => return,
+            Round::Asleep => shared.wait_past(rt, seen),
+            Round::Quiet => {
+                thread::sleep(rt, Duration::from_micros(rest));
+                rest = rest.saturating_mul(2).min(LONGEST_REST);
+            }
+            Round::Busy => rest = SHORTEST_REST,
+        }
+    }
+}
+
+// Makes a step of each process of some workers.
+fn make_round<D: Disk, H: Herald, K: Frame, R: Wait, G: Gate>(
+    rt: &R,
+    shared: &Shared<D, H, K>,
+    processes: u32,
+    mine: u32,
+    workers: u32,
+    gate: &G,
+) -> Round
+    requires { AreWorkers workers × (processes ≡ K.processes) }
+{
+    let mut over = true;
+    let mut asleep = true;
+    let mut quiet = true;
+    for pid in 0..processes {
+        if (mine >> (pid % workers)) & 1 == 0 {
+            continue;
+        }
+        gate.before(pid);
+        let step = shared.step(rt, pid);
+        gate.after(pid);
+        over &= is_over(step);
+        asleep &= is_asleep(step);
+        quiet &= !is_move(step);
+    }
+    if over {
+        Round::Over
+    } else if asleep {
+        Round::Asleep
+    } else if quiet {
+        Round::Quiet
+    } else {
+        Round::Busy
+    }
+}
+
+fn is_over(step: Step) -> bool {
+    matches!(step, Step::ShutDown | Step::Halted)
+}
+
+// It waits for another process, and not for its caller.
+fn is_asleep(step: Step) -> bool {
+    match step {
+        Step::Sleeping(why) => why != Why::AnswersFull,
+        _ => false,
+    }
+}
+
+fn is_move(step: Step) -> bool {
+    matches!(step, Step::Moved | Step::Answered)
+}
