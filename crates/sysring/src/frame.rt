@@ -19,6 +19,12 @@ pub trait Frame {
     /// The moment since which what a stop leaves is known.
     ghost since: { ℕ };
 
+    /// How many groups were committed then.
+    ghost least: { ℕ };
+
+    /// What a stop might have left then, by the moment since which it was.
+    ghost left: { ℕ → Image → Type 0 };
+
     /// How many processes it has.
     ghost processes: { ℕ };
 
@@ -32,6 +38,10 @@ impl Frame for Brand {
     ghost opening = { [] };
 
     ghost since = { 0 };
+
+    ghost least = { 0 };
+
+    ghost left = { λ t x. ⊥ };
 
     ghost processes = { 0 };
 
@@ -54,7 +64,7 @@ impl<D: Disk, H: Herald, K: Frame> Model for Framed<D, H, K> {
 
     ghost view = { λ f. f.kernel };
 
-    ghost invariant = { λ f. IsFramed D.Disk K.opening K.since K.processes K.names f.kernel };
+    ghost invariant = { λ f. IsFramed D.Disk K.opening K.since K.least K.left K.processes K.names f.kernel };
 }
 
 impl<D: Disk, H: Herald, K: Frame> Framed<D, H, K> {
@@ -64,7 +74,7 @@ impl<D: Disk, H: Herald, K: Frame> Framed<D, H, K> {
 
     // Puts a kernel into its frame.
     pub(crate) fn new(kernel: Kernel<D, RingIntake, H>) -> Framed<D, H, K>
-        requires { IsFramed D.Disk K.opening K.since K.processes K.names kernel }
+        requires { IsFramed D.Disk K.opening K.since K.least K.left K.processes K.names kernel }
         ensures { result ≡ kernel }
     {
         Framed {
@@ -76,7 +86,7 @@ impl<D: Disk, H: Herald, K: Frame> Framed<D, H, K> {
     /// The kernel, for who only asks.
     pub fn kernel(&self) -> &Kernel<D, RingIntake, H>
         ensures same { result.now ≡ self.now }
-        ensures framed { IsFramed D.Disk K.opening K.since K.processes K.names self.now }
+        ensures framed { IsFramed D.Disk K.opening K.since K.least K.left K.processes K.names self.now }
     {
         &self.kernel
     }
@@ -92,7 +102,7 @@ impl<D: Disk, H: Herald, K: Frame> Framed<D, H, K> {
     // The kernel, out of its frame.
     pub(crate) fn into_kernel(self) -> Kernel<D, RingIntake, H>
         ensures same { result ≡ self }
-        ensures framed { IsFramed D.Disk K.opening K.since K.processes K.names result }
+        ensures framed { IsFramed D.Disk K.opening K.since K.least K.left K.processes K.names result }
     {
         let Framed { kernel, .. } = self;
         kernel
