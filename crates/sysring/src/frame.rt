@@ -7,45 +7,24 @@ use ports::{Herald, Intake};
 use rings::RingIntake;
 use std::marker::{Brand, Model, PhantomData};
 
-/// What stays of a kernel while threads share it. A call that shares one picks it.
+/// What a kernel was when threads began to share it. A call that shares one picks it.
 pub trait Frame {
-    ghost use Rattle.std.specs.Prelude.{ℕ, Option};
-    ghost use Rattle.blocks.specs.Disk.{Image};
-    ghost use Rattle.rings.specs.declared.name.Names.{Names};
+    ghost use Rattle.sysring.specs.Frames.{Outset};
 
-    /// The image over which the kernel was opened.
-    ghost opening: { Image };
-
-    /// The moment since which what a stop leaves is known.
-    ghost since: { ℕ };
-
-    /// How many groups were committed then.
-    ghost least: { ℕ };
-
-    /// What a stop might have left then, by the moment since which it was.
-    ghost left: { ℕ → Image → Type 0 };
-
-    /// How many processes it has.
-    ghost processes: { ℕ };
-
-    /// Which rings each of them has.
-    ghost names: { ℕ → Option Names };
+    ghost outset: { Outset };
 }
 
 impl Frame for Brand {
     ghost use Rattle.std.specs.Prelude.{[], None};
 
-    ghost opening = { [] };
-
-    ghost since = { 0 };
-
-    ghost least = { 0 };
-
-    ghost left = { λ t x. ⊥ };
-
-    ghost processes = { 0 };
-
-    ghost names = { λ p. None };
+    ghost outset = { record {
+      opening = [];
+      moment = 0;
+      committed = 0;
+      leaves = λ t x. ⊥;
+      processes = 0;
+      names = λ p. None;
+    } };
 }
 
 /// A kernel of that frame.
@@ -64,7 +43,7 @@ impl<D: Disk, H: Herald, K: Frame> Model for Framed<D, H, K> {
 
     ghost view = { λ f. f.kernel };
 
-    ghost invariant = { λ f. IsFramed D.Disk K.opening K.since K.least K.left K.processes K.names f.kernel };
+    ghost invariant = { λ f. IsFramed D.Disk K.outset f.kernel };
 }
 
 impl<D: Disk, H: Herald, K: Frame> Framed<D, H, K> {
@@ -74,7 +53,7 @@ impl<D: Disk, H: Herald, K: Frame> Framed<D, H, K> {
 
     // Puts a kernel into its frame.
     pub(crate) fn new(kernel: Kernel<D, RingIntake, H>) -> Framed<D, H, K>
-        requires { IsFramed D.Disk K.opening K.since K.least K.left K.processes K.names kernel }
+        requires { IsFramed D.Disk K.outset kernel }
         ensures { result ≡ kernel }
     {
         Framed {
@@ -86,14 +65,14 @@ impl<D: Disk, H: Herald, K: Frame> Framed<D, H, K> {
     /// The kernel, for who only asks.
     pub fn kernel(&self) -> &Kernel<D, RingIntake, H>
         ensures same { result.now ≡ self.now }
-        ensures framed { IsFramed D.Disk K.opening K.since K.least K.left K.processes K.names self.now }
+        ensures framed { IsFramed D.Disk K.outset self.now }
     {
         &self.kernel
     }
 
     /// A step of a process, as `Kernel::step` makes it.
     pub fn step(&mut self, pid: u32) -> Step
-        requires { pid < K.processes }
+        requires { pid < K.outset.processes }
         ensures { MakesStep D.Disk ⟦<RingIntake as Intake>⟧ H.Herald pid result self.old self.new }
     {
         self.kernel.step(pid)
@@ -102,7 +81,7 @@ impl<D: Disk, H: Herald, K: Frame> Framed<D, H, K> {
     // The kernel, out of its frame.
     pub(crate) fn into_kernel(self) -> Kernel<D, RingIntake, H>
         ensures same { result ≡ self }
-        ensures framed { IsFramed D.Disk K.opening K.since K.least K.left K.processes K.names result }
+        ensures framed { IsFramed D.Disk K.outset result }
     {
         let Framed { kernel, .. } = self;
         kernel

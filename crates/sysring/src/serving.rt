@@ -92,10 +92,10 @@ fn serve_under<
 ) -> (Option<T>, Kernel<D, RingIntake, H>)
     requires workers { AreWorkers workers }
     requires callers { F.IsAlwaysCallable callers }
-    requires framed { IsFramed D.Disk K.opening K.since K.least K.left K.processes K.names kernel }
+    requires framed { IsFramed D.Disk K.outset kernel }
     ensures done { IfSome result.0 (λ gift. (at : _) × F.post callers at gift) }
     ensures known { Known D.Disk ⟦<RingIntake as Intake>⟧ H.Herald result.1 }
-    ensures framed { IsFramed D.Disk K.opening K.since K.least K.left K.processes K.names result.1 }
+    ensures framed { IsFramed D.Disk K.outset result.1 }
 {
     let shared = Shared::<D, H, K>::new(kernel);
     let serving = Serving::new();

@@ -24,7 +24,7 @@ pub struct Shared<D: Disk, H: Herald, K: Frame> {
 impl<D: Disk, H: Herald, K: Frame> Shared<D, H, K> {
     /// Puts a lock round a kernel.
     pub fn new(kernel: Kernel<D, RingIntake, H>) -> Shared<D, H, K>
-        requires { IsFramed D.Disk K.opening K.since K.least K.left K.processes K.names kernel }
+        requires { IsFramed D.Disk K.outset kernel }
     {
         Shared {
             kernel: Mutex::new(Framed::new(kernel)),
@@ -37,7 +37,7 @@ impl<D: Disk, H: Herald, K: Frame> Shared<D, H, K> {
     /// above all what a stop now leaves, and it is still the one that was opened over that image.
     pub fn lock<R: Wait>(&self, rt: &R) -> MutexGuard<'_, Framed<D, H, K>>
         ensures known { Known D.Disk ⟦<RingIntake as Intake>⟧ H.Herald (mutex_guard_value result) }
-        ensures framed { IsFramed D.Disk K.opening K.since K.least K.left K.processes K.names (mutex_guard_value result) }
+        ensures framed { IsFramed D.Disk K.outset (mutex_guard_value result) }
     {
         let kernel = self.kernel.lock(rt);
         kernel.kernel().known();
@@ -47,7 +47,7 @@ impl<D: Disk, H: Herald, K: Frame> Shared<D, H, K> {
     /// The kernel, once nobody shares it any more.
     pub fn into_kernel(self) -> Kernel<D, RingIntake, H>
         ensures known { Known D.Disk ⟦<RingIntake as Intake>⟧ H.Herald result }
-        ensures framed { IsFramed D.Disk K.opening K.since K.least K.left K.processes K.names result }
+        ensures framed { IsFramed D.Disk K.outset result }
     {
         let Shared { kernel, .. } = self;
         let kernel = kernel.into_inner().into_kernel();
@@ -57,7 +57,7 @@ impl<D: Disk, H: Herald, K: Frame> Shared<D, H, K> {
 
     // Makes a step of a process under the lock, and wakes all who wait where it changed something.
     pub(crate) fn step<R: Wait>(&self, rt: &R, pid: u32) -> Step
-        requires { pid < K.processes }
+        requires { pid < K.outset.processes }
     {
         let mut kernel = self.lock(rt);
         let step = kernel.step(pid);

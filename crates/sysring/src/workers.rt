@@ -63,14 +63,14 @@ pub fn serve<
         thread::scope_env(),
         rt,
         |scope|
-            requires { AreWorkers workers × (processes ≡ K.processes) }
+            requires { AreWorkers workers × (processes ≡ K.outset.processes) }
         {
             let mut mine = 1u32;
             for worker in 1..workers {
                 let theirs = 1u32 << worker;
                 let started = scope.spawn(
                     move ||
-                        requires { AreWorkers workers × (processes ≡ K.processes) }
+                        requires { AreWorkers workers × (processes ≡ K.outset.processes) }
                     {
                         work(rt, shared, processes, theirs, workers, gate);
                     },
@@ -86,7 +86,7 @@ pub fn serve<
 
 // How many processes there are.
 fn processes_of<D: Disk, H: Herald, K: Frame, R: Wait>(rt: &R, shared: &Shared<D, H, K>) -> u32
-    ensures { result ≡ K.processes }
+    ensures { result ≡ K.outset.processes }
 {
     shared.lock(rt).kernel().processes() as u32
 }
@@ -100,7 +100,7 @@ fn work<D: Disk, H: Herald, K: Frame, R: Wait + Clock, G: Gate>(
     workers: u32,
     gate: &G,
 )
-    requires { AreWorkers workers × (processes ≡ K.processes) }
+    requires { AreWorkers workers × (processes ≡ K.outset.processes) }
 {
     let mut rest = SHORTEST_REST;
     for _ in rt.forever() {
@@ -126,7 +126,7 @@ fn make_round<D: Disk, H: Herald, K: Frame, R: Wait, G: Gate>(
     workers: u32,
     gate: &G,
 ) -> Round
-    requires { AreWorkers workers × (processes ≡ K.processes) }
+    requires { AreWorkers workers × (processes ≡ K.outset.processes) }
 {
     let mut over = true;
     let mut asleep = true;

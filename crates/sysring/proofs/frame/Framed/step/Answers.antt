@@ -3,4 +3,4 @@ use Rattle.sysring.proofs.frame.Framed.step.Goals as goal
 
 pub invariant_of-self : goal.invariant_of-self
 invariant_of-self g c =
-    framed_then g.D.Disk _ g.H.Herald g.K.Frame.opening g.K.Frame.since g.K.Frame.least g.K.Frame.left g.K.Frame.processes g.K.Frame.names c.args.pid c.step.result c.self.inside.kernel c.step.new.self c.self.invariant c.step.ensures c.step.ensures.acts.sides.names
+    framed_then g.D.Disk _ g.H.Herald g.K.Frame.outset c.args.pid c.step.result c.self.inside.kernel c.step.new.self c.self.invariant c.step.ensures c.step.ensures.acts.sides.names
