@@ -1,5 +1,5 @@
 // Calls of one kernel over rings and a board.
-ghost use Rattle.std.specs.Prelude.{◌≡◌, ◌<◌, All, length};
+ghost use Rattle.std.specs.Prelude.{◌≡◌, ◌<◌, All, IfOk, Some, length, map};
 ghost use Rattle.board.specs.Boards.{KeeperOf, WatchOf, published};
 ghost use Rattle.ring_desk.specs.Sessions.{AreCallersOf};
 
@@ -8,7 +8,7 @@ use desk::{done, operation, text_of, told_answer};
 use kernel::{Kernel, Step};
 use layout::mkfs;
 use model::types::Op;
-use std::alloc::Global;
+use std::alloc::{AllocError, Global};
 use sysring::{Board, BoardHerald, Caller, Keeper, RingIntake, Watch, rings, settle};
 
 // How many watches a board has here.
@@ -71,20 +71,31 @@ fn open<'a>(
         Ok(kernel) => kernel,
         Err((fault, _disk)) => return Err(fault.into()),
     };
-    let mut ends = Vec::new(alloc);
-    for caller in callers {
-        ends.push(Some(caller))?;
-    }
+    let callers = held(alloc, callers)?;
     Ok(Session {
         alloc,
         board,
         watches,
         kernel,
-        callers: ends,
+        callers,
     })
 }
 
+// Callers none of which has finished.
+fn held(alloc: Global, callers: Vec<Caller>) -> Result<Vec<Option<Caller>>, AllocError>
+    ensures { IfOk result (λ held. held.items ≡ map Some callers.items) }
+{
+    let mut held = Vec::new(alloc);
+    for caller in callers {
+        held.push(Some(caller))?;
+    }
+    Ok(held)
+}
+
 impl<'a> Session<'a> {
+    ghost use Rattle.std.specs.Prelude.{◌≡◌, IfSome, Some};
+    ghost use Rattle.rings.specs.Callers.{caller_names, intake_names};
+
     // Does the call of a line, if it is one for which all holds that it asks.
     fn call(&mut self, line: &str) -> anyhow::Result<Option<String>> {
         let words: Vec<&str> = line.split_whitespace().collect(self.alloc)?;
@@ -107,36 +118,67 @@ impl<'a> Session<'a> {
         }
     }
 
+    // Takes the caller of a process, if it has not finished.
+    fn take(&mut self, pid: usize) -> Option<Caller>
+        ensures rings { IfSome result (λ c.
+            intake_names self.new.kernel.intake pid ≡ Some (caller_names c)) }
+        ensures same { self.new.kernel ≡ self.old.kernel }
+    {
+        if pid >= self.callers.len() {
+            return None;
+        }
+        self.callers[pid].take()
+    }
+
+    // Puts a caller back.
+    fn put(&mut self, pid: usize, caller: Caller)
+        requires { intake_names self.old.kernel.intake pid ≡ Some (caller_names caller) }
+    {
+        if pid < self.callers.len() {
+            self.callers[pid] = Some(caller);
+        }
+    }
+
     fn submit(&mut self, pid: usize, op: Op) -> anyhow::Result<Option<String>> {
-        let Some(Some(caller)) = self.callers.get_mut(pid) else {
+        let Some(mut caller) = self.take(pid) else {
             return Ok(None);
         };
-        match caller.submit(op) {
+        let answer = caller.submit(op);
+        self.put(pid, caller);
+        match answer {
             Ok(number) => Ok(Some(format!(in self.alloc; "{number}")?)),
             Err(_) => Ok(Some(String::from_str(self.alloc, "handed back")?)),
         }
     }
 
     fn poll(&mut self, pid: usize) -> anyhow::Result<Option<String>> {
-        let Some(Some(caller)) = self.callers.get_mut(pid) else {
+        let Some(mut caller) = self.take(pid) else {
             return Ok(None);
         };
         let answer = caller.poll();
+        self.put(pid, caller);
         Ok(Some(told_answer(self.alloc, answer)?))
     }
 
     // Steps until one doesn't answer Moved, or so many.
     fn steps(&mut self, pid: u32, most: u32) -> anyhow::Result<Option<String>> {
         for moved in 0..most {
-            if pid as usize >= self.kernel.processes() {
+            let Some(answer) = self.step(pid) else {
                 return Ok(None);
-            }
-            let answer = self.kernel.step(pid);
+            };
             if answer != Step::Moved {
                 return Ok(Some(format!(in self.alloc; "{moved} Moved, {answer:?}")?));
             }
         }
         Ok(Some(format!(in self.alloc; "{most} Moved")?))
+    }
+
+    // A step of a process, if there is one of that number.
+    fn step(&mut self, pid: u32) -> Option<Step> {
+        if pid as usize >= self.kernel.processes() {
+            return None;
+        }
+        Some(self.kernel.step(pid))
     }
 
     fn durable(&mut self, watch: usize) -> anyhow::Result<Option<String>> {
@@ -168,10 +210,7 @@ impl<'a> Session<'a> {
         if pid as usize >= self.kernel.processes() {
             return Ok(None);
         }
-        let Some(caller) = self.callers.get_mut(pid as usize) else {
-            return Ok(None);
-        };
-        let Some(caller) = caller.take() else {
+        let Some(caller) = self.take(pid as usize) else {
             return Ok(None);
         };
         let Some(finished) = caller.finish() else {
