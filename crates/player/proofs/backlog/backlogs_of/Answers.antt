@@ -3,8 +3,8 @@ use Rattle.std.specs.Prelude.{All}
 use Rattle.std.proofs.lemmas.List.{length-set}
 use Rattle.std.proofs.lemmas.Option.{slice_get_read}
 use Rattle.scripts.specs.declared.script.Task.{Task}
-use Rattle.clients.proofs.Backlogs.{one_added}
-use Rattle.clients.proofs.backlog.backlogs_of.Goals as goal
+use Rattle.player.proofs.Backlogs.{one_added}
+use Rattle.player.proofs.backlog.backlogs_of.Goals as goal
 
 pub loop-task-preserved : goal.loop-task-preserved
 loop-task-preserved c =

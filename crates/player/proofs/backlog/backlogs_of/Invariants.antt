@@ -1,7 +1,7 @@
 use Rattle.std.proofs.Common.{◌≡◌, ◌<◌, ℕ, length}
 use Rattle.std.specs.Prelude.{All}
-use Rattle.clients.specs.Backlogs.{backlog_at, ops_of}
-use Rattle.clients.proofs.backlog.backlogs_of.Given as goal
+use Rattle.player.specs.Backlog.{backlog_at, ops_of}
+use Rattle.player.proofs.backlog.backlogs_of.Given as goal
 
 abbrev pub invariant-loop-task : goal.invariant-loop-task
 invariant-loop-task l = record {

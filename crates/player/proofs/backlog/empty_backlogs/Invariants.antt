@@ -1,7 +1,7 @@
 use Rattle.std.proofs.Common.{◌≡◌, [], length}
 use Rattle.std.specs.Prelude.{All}
-use Rattle.clients.specs.Backlogs.{backlog_of}
-use Rattle.clients.proofs.backlog.empty_backlogs.Given as goal
+use Rattle.player.specs.Backlog.{backlog_of}
+use Rattle.player.proofs.backlog.empty_backlogs.Given as goal
 
 abbrev pub invariant-loop-process : goal.invariant-loop-process
 invariant-loop-process l = record {

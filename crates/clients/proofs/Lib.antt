@@ -1,3 +1,0 @@
-pub mod Backlogs
-pub mod Called
-pub mod Pairs

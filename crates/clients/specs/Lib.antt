@@ -1,2 +1,0 @@
-pub mod Backlogs
-pub mod Clients
