@@ -6,15 +6,9 @@ use Rattle.blocks.specs.Lemmas.Moments.{joined}
 use Rattle.blocks.specs.declared.disk.Disk.{Ghosts}
 use Rattle.blocks.specs.declared.faulty.FaultyDisk.{FaultyDisk}
 use Rattle.blocks.specs.declared.faulty.Trap.{Trap}
-use Rattle.model.specs.declared.types.operations.Entry.{Entry}
-use Rattle.model.specs.Crash.{IsUntouched, Keeps as KeepsGroups, labels_of, due_labels}
-use Rattle.model.specs.Files.{files_of}
-use Rattle.model.specs.Journal.{kept, replay, is_number}
-use Rattle.model.specs.Layout.{form_of, inode_of, inode_count_of}
 use Rattle.model.specs.Log.{is_lawful_log, recovered}
 use Rattle.model.specs.Lemmas.Recovery.{logged_count-left, recovers_once}
 use Rattle.model.specs.Lemmas.Soundness.{verdict_sound}
-use Rattle.model.specs.Soundness.{IsSound}
 use Rattle.model.specs.Verdict.{verdict}
 use Rattle.wal.specs.Lemmas.Commits.{empty_lawful}
 use Rattle.wal.specs.Recovery.{RecoversAs}
@@ -23,6 +17,7 @@ use Rattle.kernel.specs.declared.types.Step.{Step}
 use Rattle.kernel.specs.declared.types.Step.TheVariants as step
 use Rattle.kernel.specs.Lemmas.Turns.{Keeps, runs_on_none, runs_on_shut, runs_on_step, runs_on_then}
 use Rattle.kernel.specs.Runs.{RunsOn, with_shutdown}
+use Rattle.opening.specs.Lemmas.Keeping.{leaves_wider, recovers_kept}
 use Rattle.scripts.specs.declared.schedule.Word.{Word}
 use Rattle.scripts.specs.declared.schedule.Word.TheVariants as word
 use Rattle.scripts.specs.declared.script.Task.{Task}
@@ -91,25 +86,6 @@ module _ {D N : Type 0} (disk : Ghosts (FaultyDisk D) (N × Trap)) (stop : ℕ) 
   pub turns_keep : (words : List Word) (events : List Event) (old new : Player D N) → Keeps disk plain_queues plain_herald old.kernel → MakesTurns disk stop words events old new → KeepsOn disk old.kernel new.kernel
   turns_keep words events old new keeps makes = keeps_turns words events old.kernel old new (keeps_none disk old.kernel keeps) makes
 
--- recovery keeps of an image what it keeps of another that it gives the same image for
-keeps_alike : (opening x y : Image) (es : List Entry) (c : ℕ) → recovered x ≡ recovered y → is_lawful_log x ≡ true → KeepsGroups opening es y c → KeepsGroups opening es x c
-keeps_alike opening x y es c same lawful k = record {
-  log = lawful;
-  sound = subst IsSound (sym same) k.sound;
-  files = subst (λ z. replay (form_of opening) (files_of opening) (kept (inode_count_of opening) es c) ≡ Some (files_of z)) (sym same) k.files;
-  untouched = subst (IsUntouched opening) (sym same) k.untouched;
-  labels = subst (λ z. (i : ℕ) → (inode_of z i).kind ≢ 0 → IsTrue (is_number (inode_count_of opening) i) → labels_of z i ≡ due_labels opening (kept (inode_count_of opening) es c) i) (sym same) k.labels;
-}
-
--- what leaves only images of one kind leaves only those of a wider one
-pub leaves_wider : {D : Type 0} (moment : D → ℕ) (leaves : D → ℕ → Image → Type 0) (old new : D) (P Q : Image → Type 0) → ((x : Image) → P x → Q x) → LeavesOnly moment leaves old new P → LeavesOnly moment leaves old new Q
-leaves_wider moment leaves old new P Q wider only = record {
-  later = only.later;
-  each = λ x left. wider x (only.each x left);
-  before = λ t x le left. ⊎_elim (λ was. inl was) (λ p. inr (wider x p)) (only.before t x le left);
-  keeps = only.keeps;
-}
-
 -- what is recovered as the recovered image is recovered as the image before
 pub recovers_before : (x y z : Image) → verdict x ≡ None → y ≡ recovered x → RecoversAs y z → RecoversAs x z
 recovers_before x y z sound is alike = record {
@@ -132,14 +108,7 @@ module _ {D N : Type 0} (below : Ghosts D N) (has_now : (d : D) → below.leaves
   recovers_first = ap (λ s. below.image s.volume.device.inner) ready.opened.store ∙ ready.opened.recovers ∙ recovers_once (below.image d)
 
   alike_kept : (x : Image) → RecoversAs (below.image d) x → KeepsSome (faulty below) last.kernel x
-  alike_kept x alike =
-      let k = first_kept in
-      record {
-        groups = k.groups;
-        low = k.low;
-        high = k.high;
-        keeps = keeps_alike _ x (below.image first) _ k.groups (alike.image ∙ sym (ap recovered recovers_first ∙ recovers_once (below.image d))) (alike.lawful ∙ (verdict_sound (below.image d) ready.sound).1) k.keeps;
-      }
+  alike_kept x alike = recovers_kept 0 _ _ (below.image d) (below.image first) x _ ready.sound recovers_first alike first_kept
 
   -- what a run makes of a disk that a player was opened over
   pub played_on : (e : D) → e ≡ last.kernel.store.volume.device.inner → (faulty below).name last.kernel.store.volume.device ≡ (faulty below).name player.kernel.store.volume.device → IsPlayedOn below (faulty below) d e player last

@@ -1,6 +1,6 @@
 pub mod Plays
 pub mod Refused
-pub mod Backlogs
+pub mod Waiting
 pub mod Openings
 pub mod Steps
 mod Disks

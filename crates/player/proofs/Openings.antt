@@ -19,13 +19,14 @@ use Rattle.ports.specs.declared.queues.QueueIntake.{QueueIntake}
 use Rattle.scripts.specs.declared.script.Task.{Task}
 use Rattle.wal.specs.Recovery.{RecoversAs, writes_to_recover}
 use Rattle.player.specs.Afterwards.{IsUnopenedOver, RefusesOver}
-use Rattle.player.specs.Backlog.{backlog_at, ops_of}
+use Rattle.clients.specs.Backlogs.{backlog_at, ops_of}
 use Rattle.player.specs.Opening.{IsOpenedOver}
 use Rattle.player.specs.Stepping.{Plain}
 use Rattle.texts.specs.declared.refusal.Refusal.{Refusal}
 use Rattle.player.specs.declared.turns.Player.{Player}
 use Rattle.player.proofs.Disks.{faulty}
-use Rattle.player.proofs.Keeping.{leaves_wider, recovers_before}
+use Rattle.opening.specs.Lemmas.Keeping.{leaves_wider}
+use Rattle.player.proofs.Keeping.{recovers_before}
 
 -- a player whose kernel was opened with empty queues
 pub opened_over : {D N : Type 0} (disk : Ghosts (FaultyDisk D) (N × Trap)) (d : FaultyDisk D) (i : QueueIntake) (h : PlainHerald) (x : Image) (tasks : List Task) (processes : ℕ) (player : Player D N) → disk.image d ≡ x → IsOpened disk d i h processes player.kernel

@@ -5,8 +5,6 @@ use Rattle.blocks.specs.declared.disk.Disk.{Ghosts}
 use Rattle.blocks.specs.declared.errors.DiskFault.{DiskFault}
 use Rattle.blocks.specs.declared.faulty.FaultyDisk.{FaultyDisk}
 use Rattle.blocks.specs.declared.faulty.Trap.{Trap}
-use Rattle.kernel.specs.declared.types.OpenFault.{OpenFault}
-use Rattle.kernel.specs.declared.types.OpenFault.TheVariants as open_fault
 use Rattle.scripts.specs.declared.schedule.Word.{Word}
 use Rattle.scripts.specs.declared.script.Task.{Task}
 use Rattle.player.specs.Afterwards.{IsUnopenedOver}
@@ -14,9 +12,11 @@ use Rattle.player.specs.Causes.{IsUnrecovered}
 use Rattle.player.specs.Opening.{HasNotBegun, IsNotReplayed, IsPlayedOn, IsReadyOver, Replays}
 use Rattle.player.specs.declared.turns.Player.{Player}
 use Rattle.texts.specs.declared.refusal.Refusal.{Refusal}
-use Rattle.texts.specs.declared.refusal.Refusal.TheVariants.{File, Mkfs, Check, Recover, Open, Script, Schedule, Disk, Cat, Input, Output}
+use Rattle.texts.specs.declared.refusal.Refusal.TheVariants.{File, Mkfs, Check, Recover, Open, Script, Schedule, Disk, Cat, Run, Input, Output}
 use Rattle.player.specs.Stepping.{BreaksOff, IsBrokenOff, RunsTo, kernel_fault}
-use Rattle.player.specs.Refusal.{IsOfReplay, IsOpening, OnRefusal, open_refusal}
+use Rattle.opening.specs.Openings.{IsOpening}
+use Rattle.opening.specs.Lemmas.Telling.{told_of_opening}
+use Rattle.player.specs.Refusal.{IsOfReplay, OnRefusal}
 
 pub on_ok_both : (r : Result (Unit {0}) Refusal) (P Q R : Type 0) → (P → Q → R) → OnOk r P → OnOk r Q → OnOk r R
 on_ok_both (Ok _) P Q R f h k = f h k
@@ -41,17 +41,11 @@ module _ {D N : Type 0} (disk : Ghosts (FaultyDisk D) (N × Trap)) (stop base : 
   broken_off (Err (Script _)) P f breaks h is = h
   broken_off (Err (Schedule _)) P f breaks h is = h
   broken_off (Err (Cat _)) P f breaks h is = h
+  broken_off (Err (Run _)) P f breaks h is = h
   broken_off (Err (Input _)) P f breaks h is = h
 
   pub broken_output : (r : Refusal) → r ≡ Output → BreaksOff disk stop words old new → IsBrokenOff disk stop base words old new text printed r
   broken_output r is breaks = subst (IsBrokenOff disk stop base words old new text printed) (sym is) breaks
-
--- the opening's faults are told as those of their layers
-pub told_of_opening : (o : OpenFault) (r : Refusal) → r ≡ open_refusal o → IsOpening r
-told_of_opening (open_fault.Check fault) r is = subst IsOpening (sym is) tt
-told_of_opening (open_fault.Recover fault) r is = subst IsOpening (sym is) tt
-told_of_opening open_fault.NoMemory r is = subst IsOpening (sym is) tt
-told_of_opening open_fault.ProcRange r is = subst IsOpening (sym is) tt
 
 -- where a replay was not begun
 module _ {D N : Type 0} (below : Ghosts D N) (disk : Ghosts (FaultyDisk D) (N × Trap)) (processes : ℕ) (d e : D) where
@@ -68,6 +62,7 @@ module _ {D N : Type 0} (below : Ghosts D N) (disk : Ghosts (FaultyDisk D) (N ×
   unrecovered_so (Schedule fault) other why = absurd why
   unrecovered_so (Disk fault) other why = absurd why
   unrecovered_so (Cat fault) other why = absurd why
+  unrecovered_so (Run fault) other why = absurd why
   unrecovered_so (Input fault) other why = absurd why
   unrecovered_so (Open fault) other why = absurd why
 
@@ -81,6 +76,7 @@ module _ {D N : Type 0} (below : Ghosts D N) (disk : Ghosts (FaultyDisk D) (N ×
   not_begun tasks words stop text printed none (Schedule fault) opens why nothing = absurd opens
   not_begun tasks words stop text printed none (Disk fault) opens why nothing = absurd opens
   not_begun tasks words stop text printed none (Cat fault) opens why nothing = absurd opens
+  not_begun tasks words stop text printed none (Run fault) opens why nothing = absurd opens
   not_begun tasks words stop text printed none (Input fault) opens why nothing = absurd opens
   not_begun tasks words stop text printed none Output opens why nothing = absurd opens
 
@@ -94,6 +90,7 @@ opening_of_replay (Script fault) opens = absurd opens
 opening_of_replay (Schedule fault) opens = absurd opens
 opening_of_replay (Disk fault) opens = absurd opens
 opening_of_replay (Cat fault) opens = absurd opens
+opening_of_replay (Run fault) opens = absurd opens
 opening_of_replay (Input fault) opens = absurd opens
 opening_of_replay Output opens = absurd opens
 
@@ -126,6 +123,7 @@ module _ {D N : Type 0} (below : Ghosts D N) (disk : Ghosts (FaultyDisk D) (N ×
   run_refused none (Script fault) why = absurd why
   run_refused none (Schedule fault) why = absurd why
   run_refused none (Cat fault) why = absurd why
+  run_refused none (Run fault) why = absurd why
   run_refused none (Input fault) why = absurd why
 
   pub run_of_replay : (r : Refusal) → IsBrokenOff disk s base words player last text printed r → IsOfReplay r
@@ -139,4 +137,5 @@ module _ {D N : Type 0} (below : Ghosts D N) (disk : Ghosts (FaultyDisk D) (N ×
   run_of_replay (Script fault) why = absurd why
   run_of_replay (Schedule fault) why = absurd why
   run_of_replay (Cat fault) why = absurd why
+  run_of_replay (Run fault) why = absurd why
   run_of_replay (Input fault) why = absurd why

@@ -5,24 +5,24 @@ use Rattle.std.proofs.KnownBytes.{Appends-trans}
 use Rattle.std.specs.Prelude.{◌⊎◌, option_map}
 use Rattle.std.specs.Io.KnownBytes.{Appends, Keeps}
 use Rattle.blocks.specs.Calls.{OnlyReads}
-use Rattle.blocks.specs.Disk.{Image, IsSettled, LeavesOnly, Rose}
-use Rattle.blocks.specs.Lemmas.Moments.{started, stays}
+use Rattle.blocks.specs.Disk.{Image, LeavesOnly, Rose}
+use Rattle.blocks.specs.Lemmas.Moments.{stays}
 use Rattle.blocks.specs.declared.disk.Disk.{Ghosts}
 use Rattle.model.specs.Files.{Files, files_of, file_in}
 use Rattle.model.specs.Log.{logged_count, recovered}
 use Rattle.model.specs.Operations.{part_of}
 use Rattle.model.specs.declared.types.image.File.{File}
 use Rattle.wal.specs.Recovery.{RecoversAs}
-use Rattle.player.specs.Afterwards.{FailsRecovered, IsUnopened}
+use Rattle.opening.specs.Openings.{IsOpening, IsUnopened}
+use Rattle.player.specs.Afterwards.{FailsRecovered}
 use Rattle.player.specs.Asking.{IsUnanswered, part_at, size_at}
 use Rattle.player.specs.Causes.{IsRecovered}
-use Rattle.player.specs.Refusal.{IsOfCat, IsOpening}
+use Rattle.player.specs.Refusal.{IsOfCat}
 use Rattle.player.specs.Showing.{IsNotShown, IsPartly, IsReaderOf, IsUnwritten, ShowsFile, ShowsFirst, ShowsPart, bytes_at, bytes_of}
 use Rattle.player.specs.Stepping.{Plain}
 use Rattle.texts.specs.declared.faults.CatFault.TheVariants as cat
 use Rattle.texts.specs.declared.refusal.Refusal.{Refusal}
-use Rattle.texts.specs.declared.refusal.Refusal.TheVariants.{File as OfFile, Mkfs, Check, Recover, Open, Script, Schedule, Disk, Cat, Input, Output}
-use Rattle.player.proofs.Refused.{told_of_opening}
+use Rattle.texts.specs.declared.refusal.Refusal.TheVariants.{File as OfFile, Mkfs, Check, Recover, Open, Script, Schedule, Disk, Cat, Run, Input, Output}
 
 part_is : (o : Option File) (bytes : List ℕ) (off n : ℕ) → Some bytes ≡ option_map (λ (f : File). part_of f.bytes off n) o → bytes ≡ part_of (bytes_of o) off n
 part_is None bytes off n is = absurd (cc is)
@@ -68,6 +68,7 @@ unanswered disk d e x i old new none (Check fault) nothing why = absurd why
 unanswered disk d e x i old new none (Recover fault) nothing why = absurd why
 unanswered disk d e x i old new none (Open fault) nothing why = absurd why
 unanswered disk d e x i old new none (Script fault) nothing why = absurd why
+unanswered disk d e x i old new none (Run fault) nothing why = absurd why
 unanswered disk d e x i old new none (Schedule fault) nothing why = absurd why
 unanswered disk d e x i old new none (Input fault) nothing why = absurd why
 unanswered disk d e x i old new none Output nothing why = absurd why
@@ -93,6 +94,7 @@ partly disk d e x i size old new none (Check fault) has why = absurd why
 partly disk d e x i size old new none (Recover fault) has why = absurd why
 partly disk d e x i size old new none (Open fault) has why = absurd why
 partly disk d e x i size old new none (Script fault) has why = absurd why
+partly disk d e x i size old new none (Run fault) has why = absurd why
 partly disk d e x i size old new none (Schedule fault) has why = absurd why
 partly disk d e x i size old new none (Input fault) has why = absurd why
 partly disk d e x i size old new none Output has why = why
@@ -131,6 +133,7 @@ module _ {D N : Type 0} (disk : Ghosts D N) (d : D) (k : Plain D) (reader : IsRe
   not_shown i old new none (Recover fault) why = absurd why
   not_shown i old new none (Open fault) why = absurd why
   not_shown i old new none (Script fault) why = absurd why
+  not_shown i old new none (Run fault) why = absurd why
   not_shown i old new none (Schedule fault) why = absurd why
   not_shown i old new none (Input fault) why = absurd why
   not_shown i old new none Output why = recovered_still why
@@ -138,21 +141,6 @@ module _ {D N : Type 0} (disk : Ghosts D N) (d : D) (k : Plain D) (reader : IsRe
   -- what a stop leaves
   pub leaves_still : LeavesOnly disk.moment disk.leaves d e (RecoversAs (disk.image d))
   leaves_still = stays disk.moment disk.leaves d k.opening e (RecoversAs (disk.image d)) reader.leaves reads.time
-
-module _ {D N : Type 0} (disk : Ghosts D N) (only_now : (d : D) → IsSettled (disk.image d) (disk.leaves d (disk.moment d))) (processes : ℕ) (d e : D) where
-  pub unopened_so : (r : Refusal) → IsUnopened disk processes d e r → IsOpening r
-  unopened_so r why = ⊎_elim (λ refused. subst IsOpening (sym refused.0) tt) (λ told. told_of_opening told.0 r told.1) why
-
-  -- what a stop leaves where no kernel was opened, and which disk it is
-  pub unopened_leaves : (r : Refusal) → IsUnopened disk processes d e r → LeavesOnly disk.moment disk.leaves d e (RecoversAs (disk.image d))
-  unopened_leaves r why = ⊎_elim (λ refused. stayed refused.1) (λ told. told.2.leaves) why
-    where
-      stayed : e ≡ d → LeavesOnly disk.moment disk.leaves d e (RecoversAs (disk.image d))
-      stayed is = subst (λ o. LeavesOnly disk.moment disk.leaves d o (RecoversAs (disk.image d))) (sym is)
-          (started disk.moment disk.leaves d (RecoversAs (disk.image d)) (λ x left. subst (RecoversAs (disk.image d)) (sym (only_now d x left)) (record { image = refl; lawful = refl })))
-
-  pub unopened_name : (r : Refusal) → IsUnopened disk processes d e r → disk.name e ≡ disk.name d
-  unopened_name r why = ⊎_elim (λ refused. ap disk.name refused.1) (λ told. told.2.name) why
 
 -- a refusal of the opening is one of a file that isn't shown
 pub opening_refused : {D N : Type 0} (disk : Ghosts D N) (d e : D) (i : ℕ) (old new : Option (List ℕ)) (none : Type 0) (r : Refusal) → IsOpening r → IsUnopened disk 1 d e r → none → IsNotShown disk d e i old new none r
@@ -162,6 +150,7 @@ opening_refused disk d e i old new none (Open fault) opens why nothing = (why, n
 opening_refused disk d e i old new none (OfFile fault) opens why nothing = absurd opens
 opening_refused disk d e i old new none (Mkfs fault) opens why nothing = absurd opens
 opening_refused disk d e i old new none (Script fault) opens why nothing = absurd opens
+opening_refused disk d e i old new none (Run fault) opens why nothing = absurd opens
 opening_refused disk d e i old new none (Schedule fault) opens why nothing = absurd opens
 opening_refused disk d e i old new none (Disk fault) opens why nothing = absurd opens
 opening_refused disk d e i old new none (Cat fault) opens why nothing = absurd opens
@@ -175,6 +164,7 @@ opening_of_cat (Open fault) opens = tt
 opening_of_cat (OfFile fault) opens = absurd opens
 opening_of_cat (Mkfs fault) opens = absurd opens
 opening_of_cat (Script fault) opens = absurd opens
+opening_of_cat (Run fault) opens = absurd opens
 opening_of_cat (Schedule fault) opens = absurd opens
 opening_of_cat (Disk fault) opens = absurd opens
 opening_of_cat (Cat fault) opens = absurd opens
@@ -191,5 +181,6 @@ unwritten_of_cat disk d e x i old new none (Check fault) why = absurd why
 unwritten_of_cat disk d e x i old new none (Recover fault) why = absurd why
 unwritten_of_cat disk d e x i old new none (Open fault) why = absurd why
 unwritten_of_cat disk d e x i old new none (Script fault) why = absurd why
+unwritten_of_cat disk d e x i old new none (Run fault) why = absurd why
 unwritten_of_cat disk d e x i old new none (Schedule fault) why = absurd why
 unwritten_of_cat disk d e x i old new none (Input fault) why = absurd why

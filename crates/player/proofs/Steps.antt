@@ -13,7 +13,7 @@ use Rattle.journal.specs.Processes.{process}
 use Rattle.kernel.specs.Bound.{left_of}
 use Rattle.kernel.specs.declared.types.Step.{Step}
 use Rattle.kernel.specs.declared.types.Step.TheVariants as step
-use Rattle.player.specs.declared.backlog.Backlog.{Backlog}
+use Rattle.clients.specs.declared.backlog.Backlog.{Backlog}
 use Rattle.texts.specs.declared.events.Event.{Event}
 use Rattle.player.specs.declared.turns.Player.{Player}
 use Rattle.player.specs.Stepping.{Plain, MakesPlainStep, MakesSteps, Moves, HandsIn, Polls, MakesTurnOf}

@@ -11,10 +11,8 @@ use Rattle.wal.specs.Recovery.{RecoversAs, writes_to_recover}
 use Rattle.kernel.specs.Opening.{RefusesToOpen}
 use Rattle.kernel.specs.declared.types.OpenFault.{OpenFault}
 use Rattle.player.specs.Causes.{IsRecovered, IsUnrecovered}
-use Rattle.player.specs.Refusal.{open_refusal}
-use Rattle.texts.specs.declared.faults.KernelFault.TheVariants as kernel
+use Rattle.opening.specs.Openings.{HasNoRoom, open_refusal}
 use Rattle.texts.specs.declared.refusal.Refusal.{Refusal}
-use Rattle.texts.specs.declared.refusal.Refusal.TheVariants.{Open}
 
 -- the disk d, now e, was recovered, and a call of it failed behind that
 pub record FailsRecovered {D N : Type 0} (disk : Ghosts D N) (d e : D) : Type 0 where
@@ -24,17 +22,8 @@ pub record FailsRecovered {D N : Type 0} (disk : Ghosts D N) (d e : D) : Type 0 
       ≡ counted (disk.write_count d) (writes_to_recover (logged_count (disk.image d)))
   pub faults : Rose (disk.fault_count d) (disk.fault_count e)
 
--- memory was refused before anything was done with the disk d, now e
-abbrev pub HasNoRoom : {D : Type 0} → D → D → Refusal → Type 0
-HasNoRoom d e r = (r ≡ Open kernel.NoMemory) × (e ≡ d)
-
--- why no kernel of so many processes was opened over the disk d, now e
-abbrev pub IsUnopened : {D N : Type 0} → Ghosts D N → ℕ → D → D → Refusal → Type 0
-IsUnopened disk processes d e r = HasNoRoom d e r
-    ⊎ ((fault : OpenFault) × (r ≡ open_refusal fault) × RefusesToOpen disk d e processes fault)
-
--- The same where the kernel is to have a disk over d, of which a write may be stopped: what failed
--- is told of that one.
+-- why no kernel of so many processes was opened over a disk over d, now e, of which a write may be
+-- stopped: what failed is told of that one
 pub record RefusesOver {D N : Type 0} (disk : Ghosts (FaultyDisk D) (N × Trap)) (processes : ℕ)
     (d e : D) (r : Refusal) : Type 0 where
   pub over : FaultyDisk D

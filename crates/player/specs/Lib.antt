@@ -2,7 +2,7 @@ pub mod Refusal
 pub mod Causes
 pub mod Afterwards
 pub mod Turns
-pub mod Backlog
+pub mod Handing
 pub mod Stepping
 pub mod Opening
 pub mod Asking

@@ -22,7 +22,7 @@ use Rattle.journal.specs.Keeps.{KeepsBetween, most_of}
 use Rattle.kernel.specs.Runs.{RunsOn}
 use Rattle.wal.specs.Recovery.{RecoversAs, writes_to_recover}
 use Rattle.player.specs.Afterwards.{IsUnready}
-use Rattle.player.specs.Backlog.{backlog_at, ops_of}
+use Rattle.clients.specs.Backlogs.{backlog_at, ops_of}
 use Rattle.player.specs.Stepping.{BreaksOff, Plain, RunsTo}
 use Rattle.texts.specs.declared.refusal.Refusal.{Refusal}
 use Rattle.texts.specs.declared.refusal.Refusal.TheVariants.{Disk, Output}

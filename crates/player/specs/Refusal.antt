@@ -1,17 +1,7 @@
--- Which commands have which refusals, and what an opening's fault is told as.
+-- Which commands have which refusals.
 use Rattle.std.specs.Prelude.{⊤}
-use Rattle.kernel.specs.declared.types.OpenFault.{OpenFault}
-use Rattle.kernel.specs.declared.types.OpenFault.TheVariants as open_fault
-use Rattle.texts.specs.declared.faults.KernelFault.TheVariants as kernel
 use Rattle.texts.specs.declared.refusal.Refusal.{Refusal}
-use Rattle.texts.specs.declared.refusal.Refusal.TheVariants.{File, Mkfs, Check, Recover, Open, Script, Schedule, Disk, Cat, Input, Output}
-
--- why a kernel isn't opened; a fault of the check or of the recovery inside is told as its own
-abbrev pub open_refusal : OpenFault → Refusal
-open_refusal (open_fault.Check fault) = Check fault
-open_refusal (open_fault.Recover fault) = Recover fault
-open_refusal open_fault.NoMemory = Open kernel.NoMemory
-open_refusal open_fault.ProcRange = Open kernel.ProcRange
+use Rattle.texts.specs.declared.refusal.Refusal.TheVariants.{File, Mkfs, Check, Recover, Script, Schedule, Disk, Cat, Run, Input, Output}
 
 -- the refusals that a check has: of the file, of the image, or of the output
 abbrev pub IsOfCheck : Refusal → Type 0
@@ -40,6 +30,7 @@ IsOfRecover _ = ⊥
 abbrev pub IsOfReplay : Refusal → Type 0
 IsOfReplay (Mkfs _) = ⊥
 IsOfReplay (Cat _) = ⊥
+IsOfReplay (Run _) = ⊥
 IsOfReplay (Input _) = ⊥
 IsOfReplay _ = ⊤
 
@@ -49,6 +40,7 @@ abbrev pub IsOfCat : Refusal → Type 0
 IsOfCat (Mkfs _) = ⊥
 IsOfCat (Script _) = ⊥
 IsOfCat (Schedule _) = ⊥
+IsOfCat (Run _) = ⊥
 IsOfCat (Input _) = ⊥
 IsOfCat _ = ⊤
 
@@ -56,13 +48,6 @@ IsOfCat _ = ⊤
 abbrev pub IsOfInput : Refusal → Type 0
 IsOfInput (Input _) = ⊤
 IsOfInput _ = ⊥
-
--- why a kernel isn't opened
-abbrev pub IsOpening : Refusal → Type 0
-IsOpening (Check _) = ⊤
-IsOpening (Recover _) = ⊤
-IsOpening (Open _) = ⊤
-IsOpening _ = ⊥
 
 -- after the disk failed all was printed; before the run nothing was
 abbrev pub OnRefusal : Refusal → Type 0 → Type 0 → Type 0

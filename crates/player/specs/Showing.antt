@@ -8,7 +8,8 @@ use Rattle.model.specs.Log.{logged_count, recovered}
 use Rattle.model.specs.Verdict.{verdict}
 use Rattle.model.specs.declared.types.image.File.{File}
 use Rattle.wal.specs.Recovery.{RecoversAs}
-use Rattle.player.specs.Afterwards.{FailsRecovered, IsUnopened}
+use Rattle.opening.specs.Openings.{IsUnopened}
+use Rattle.player.specs.Afterwards.{FailsRecovered}
 use Rattle.player.specs.Asking.{Rests, IsRefusedMemory, asked_count}
 use Rattle.player.specs.Causes.{IsRecovered}
 use Rattle.player.specs.Stepping.{Plain}

@@ -20,11 +20,12 @@ use Rattle.kernel.specs.declared.types.Step.TheVariants as step
 use Rattle.kernel.specs.Runs.{with_shutdown}
 use Rattle.kernel.specs.State.{State}
 use Rattle.kernel.specs.Steps.{MakesStep}
-use Rattle.player.specs.declared.backlog.Backlog.{Backlog}
+use Rattle.clients.specs.declared.backlog.Backlog.{Backlog}
 use Rattle.texts.specs.declared.events.Event.{Event}
 use Rattle.texts.specs.declared.events.Event.TheVariants.{Shut}
 use Rattle.player.specs.declared.turns.Player.{Player}
-use Rattle.player.specs.Backlog.{backlog_at, HasHandedIn}
+use Rattle.clients.specs.Backlogs.{backlog_at}
+use Rattle.player.specs.Handing.{HasHandedIn}
 use Rattle.texts.specs.declared.refusal.Refusal.{Refusal}
 use Rattle.texts.specs.declared.refusal.Refusal.TheVariants.{Disk, Output}
 use Rattle.texts.specs.Events.{event_line, is_last}

@@ -7,8 +7,8 @@
 #![tactic(auto)]
 
 mod asking;
-mod backlog;
 mod checking;
+mod handing;
 mod making;
 mod playing;
 mod recovering;
@@ -18,7 +18,6 @@ mod stepping;
 mod told;
 mod turns;
 
-pub use backlog::Backlog;
 pub use checking::check_disk;
 pub use making::make_disk;
 pub use recovering::{recover_disk, recover_image};

@@ -3,7 +3,8 @@ ghost use Rattle.std.specs.Prelude.{◌≡◌, ◌<◌, length, All, IsTrue, IfO
 ghost use Rattle.std.specs.List.{list_all};
 ghost use Rattle.scripts.specs.Schedule.{is_word_of};
 ghost use Rattle.player.specs.Opening.{HasNotBegun, IsNotReplayed, IsReadyOver, Replays};
-ghost use Rattle.player.specs.Refusal.{IsOfReplay, IsOpening};
+ghost use Rattle.opening.specs.Openings.{IsOpening};
+ghost use Rattle.player.specs.Refusal.{IsOfReplay};
 
 use crate::playing::run;
 use crate::recovering::recover_image;

@@ -5,16 +5,16 @@ ghost use Rattle.blocks.specs.Calls.{OnlyReads};
 ghost use Rattle.blocks.specs.Disk.{LeavesOnly};
 ghost use Rattle.model.specs.Log.{logged_count};
 ghost use Rattle.wal.specs.Recovery.{RecoversAs};
-ghost use Rattle.player.specs.Afterwards.{IsUnopened};
+ghost use Rattle.opening.specs.Openings.{IsUnopened};
 ghost use Rattle.player.specs.Asking.{Rests, asked_count, size_at};
 ghost use Rattle.player.specs.Causes.{IsRecovered};
 ghost use Rattle.player.specs.Refusal.{IsOfCat};
 ghost use Rattle.player.specs.Showing.{IsNotShown, IsPartly, IsReaderOf, IsUnwritten, Shows, ShowsFile, bytes_at};
 
 use crate::asking::{piece_of, size_of};
-use crate::told::open_refusal;
 use blocks::Disk;
 use kernel::Kernel;
+use opening::open_refusal;
 use ports::{PlainHerald, QueueIntake};
 use std::alloc::Global;
 use std::io::Write;

@@ -9,16 +9,18 @@ ghost use Rattle.scripts.specs.Schedule.{is_word_of};
 ghost use Rattle.wal.specs.Recovery.{RecoversAs, writes_to_recover};
 ghost use Rattle.player.specs.Afterwards.{IsUnopenedOver};
 ghost use Rattle.player.specs.Stepping.{MakesPlainStep, MakesSteps, HandsIn, Polls, MakesTurnOf, MakesTurn, kernel_fault};
-ghost use Rattle.player.specs.Backlog.{backlog_at, ops_of};
+ghost use Rattle.clients.specs.Backlogs.{backlog_at, ops_of};
 ghost use Rattle.player.specs.Opening.{IsArmed, IsOpenedOver};
 ghost use Rattle.player.specs.Turns.{event_of};
 
-use crate::backlog::{Backlog, backlogs_of};
+use crate::handing::hand_in;
 use crate::stepping::make_steps;
-use crate::told::{open_refusal, progress_of};
+use crate::told::progress_of;
 use blocks::{Disk, DiskFault, FaultyDisk, Kind};
+use clients::{Backlog, backlogs_of};
 use kernel::{Kernel, Step};
 use model::types::Answer;
+use opening::open_refusal;
 use ports::{PlainHerald, QueueIntake};
 use scripts::{Task, Word};
 use std::alloc::Global;
@@ -182,7 +184,7 @@ impl<D: Disk + Drop> Player<D> {
             self.old.kernel self.old.backlogs.items self.new.kernel self.new.backlogs.items }
     {
         if let Some(backlog) = self.backlogs.get_mut(pid as usize) {
-            backlog.hand_in(&mut self.kernel, pid);
+            hand_in(backlog, &mut self.kernel, pid);
         }
     }
 

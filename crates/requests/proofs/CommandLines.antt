@@ -11,7 +11,8 @@ use Rattle.clap.specs.declared.parser.matches.Found.{Found}
 use Rattle.clap.proofs.OnLiterals.{clap_on_literals}
 use Rattle.clap.proofs.WalkLemmas.{first_value-rows}
 use Rattle.requests.specs.declared.words.Request.{Request}
-use Rattle.requests.specs.CommandLine.{Asks, AsksBy, HasApp, IsMistakeIn, mistakes_in, xvfs_app}
+use Rattle.requests.specs.declared.words.Request.TheVariants.{Mkfs, Check, Recover, Cat, Replay, Run}
+use Rattle.requests.specs.CommandLine.{AskFor, Asks, AsksBy, HasApp, HasFewWorkers, IsMistakeIn, mistakes_in, xvfs_app}
 
 pub one_word : (app : App) (rule : Rule) (old : Command) (word : Arg) (new : Command) → HasApp app old → rule_of word ≡ rule → word.global ≡ false → AddsArg old word new → HasApp (with_rule app rule) new
 one_word app rule old word new has is local adds =
@@ -46,7 +47,7 @@ met app words m request is matches asks =
 some_is : {A : Type 0} (x y : A) → Some x ≡ Some y → x ≡ y
 some_is x y same = ap (λ o. unwrap_or o x) same
 
-some_is_not_none : {A : Type 0} (x : A) → Some x ≡ None → ⊥
+pub some_is_not_none : {A : Type 0} (x : A) → Some x ≡ None → ⊥
 some_is_not_none x same = subst (λ o. MatchOption o ⊥ (λ _. ⊤)) same tt
 
 -- a request of the command that was met
@@ -59,3 +60,19 @@ asked f (Some b) name rows request named has asks =
 -- the first value of a word
 pub value_read : (f : Found) (id text : List ℕ) → Some text ≡ first_value f id → first_of id (rows_of f) ≡ Some text
 value_read f id text gives = sym (gives ∙ first_value-rows f id)
+
+few_by : (name : List ℕ) (rows : List Row) (request : Request) → AsksBy name rows request → HasFewWorkers request
+few_by name rows (Mkfs image size ninodes) asks = tt
+few_by name rows (Check image) asks = tt
+few_by name rows (Recover image) asks = tt
+few_by name rows (Cat image inum) asks = tt
+few_by name rows (Replay image script schedule stop) asks = tt
+few_by name rows (Run image script workers) asks = (asks.3.0, asks.3.1)
+
+few_of : (command : Option (List ℕ × List Row)) (request : Request) → Asks command request → HasFewWorkers request
+few_of None request asks = absurd asks
+few_of (Some command) request asks = few_by command.0 command.1 request asks
+
+-- what words ask for has few workers
+pub few_workers : (words : List (List ℕ)) (request : Request) → AskFor words request → HasFewWorkers request
+few_workers words request asks = few_of (subcommand_of xvfs_app words) request asks.asks

@@ -1,10 +1,10 @@
 -- The command line, as clap is told it.
-use Rattle.std.specs.Prelude.{◌≡◌, ◌⊎◌, ℕ, List, [], Option, Some, None, true, false, codes, pos}
-use Rattle.clap.specs.Words.{App, HasKind, Kinds, Row, Rule, new_app, new_rule, app_of, fault_of, first_of, kind_of, subcommand_of, with_rule, with_subcommand}
+use Rattle.std.specs.Prelude.{◌≡◌, ◌⊎◌, ◌≤◌, ⊤, ℕ, List, [], Option, Some, None, true, false, codes, pos}
+use Rattle.clap.specs.Words.{App, HasKind, Kinds, Row, Rule, new_app, new_rule, app_of, fault_of, first_of, kind_of, one_of, subcommand_of, with_rule, with_subcommand}
 use Rattle.clap.specs.declared.error.Error.{Error}
 use Rattle.clap.specs.declared.error.kind.ErrorKind.TheVariants as kind
 use Rattle.requests.specs.declared.words.Request.{Request}
-use Rattle.requests.specs.declared.words.Request.TheVariants.{Mkfs, Check, Recover, Cat, Replay}
+use Rattle.requests.specs.declared.words.Request.TheVariants.{Mkfs, Check, Recover, Cat, Replay, Run}
 use Rattle.clap.specs.declared.builder.command.Command.{Command}
 use Rattle.clap.specs.declared.builder.command.Command.TheViews.{out-Command}
 use Rattle.clap.specs.declared.builder.value_parser.ValueParser.TheVariants.{Signed, Unsigned}
@@ -40,6 +40,18 @@ abbrev pub replay_app : App
 replay_app = with_rule (with_rule (with_rule (image_app (codes "replay"))
     (required_rule (codes "SCRIPT"))) (required_rule (codes "SCHEDULE"))) stop_rule
 
+-- `--workers N`, where N is from 1 to 32
+abbrev pub workers_rule : Rule
+workers_rule = record (new_rule (codes "workers")) {
+  long = Some (codes "workers");
+  value_names = 1;
+  parser = Some (Signed (pos 1) (pos 32));
+}
+
+abbrev pub run_app : App
+run_app = with_rule (with_rule (image_app (codes "run")) (required_rule (codes "SCRIPT")))
+    workers_rule
+
 -- the program, with no command yet
 abbrev pub bare_app : App
 bare_app = record (new_app (codes "xvfs")) {
@@ -52,9 +64,9 @@ bare_app = record (new_app (codes "xvfs")) {
 
 abbrev pub xvfs_app : App
 xvfs_app =
-    with_subcommand (with_subcommand (with_subcommand (with_subcommand (with_subcommand bare_app
-    mkfs_app.top) (image_app (codes "check")).top) (image_app (codes "recover")).top) cat_app.top)
-    replay_app.top
+    with_subcommand (with_subcommand (with_subcommand (with_subcommand (with_subcommand
+    (with_subcommand bare_app mkfs_app.top) (image_app (codes "check")).top)
+    (image_app (codes "recover")).top) cat_app.top) replay_app.top) run_app.top
 
 -- a command of this shape, whose arguments are its own
 abbrev pub HasApp : App → Command → Type 0
@@ -64,6 +76,15 @@ HasApp app c = (app_of c ≡ app) × ((out-Command c).has_globals ≡ false)
 -- command
 abbrev pub mistakes_in : List (List ℕ) → Kinds
 mistakes_in words = fault_of xvfs_app words
+
+-- so many workers are asked for: from 1 to 32, and 1 where no number is given
+abbrev pub HasWorkers : List Row → ℕ → Type 0
+HasWorkers rows n = (1 ≤ n) × (n ≤ 32) × (one_of (codes "workers") rows ≡ None → n ≡ 1)
+
+-- a run that is asked for has from 1 to 32 workers
+abbrev pub HasFewWorkers : Request → Type 0
+HasFewWorkers (Run image script workers) = (1 ≤ workers) × (workers ≤ 32)
+HasFewWorkers request = ⊤
 
 -- a command of this name, with these values, asks for the request
 abbrev pub AsksBy : List ℕ → List Row → Request → Type 0
@@ -79,6 +100,9 @@ AsksBy name rows (Replay image script schedule stop) =
     (name ≡ codes "replay") × (first_of (codes "IMAGE") rows ≡ Some image.now)
     × (first_of (codes "SCRIPT") rows ≡ Some script.now)
     × (first_of (codes "SCHEDULE") rows ≡ Some schedule.now)
+AsksBy name rows (Run image script workers) =
+    (name ≡ codes "run") × (first_of (codes "IMAGE") rows ≡ Some image.now)
+    × (first_of (codes "SCRIPT") rows ≡ Some script.now) × HasWorkers rows workers
 
 abbrev pub Asks : Option (List ℕ × List Row) → Request → Type 0
 Asks None request = ⊥

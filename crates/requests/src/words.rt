@@ -1,7 +1,25 @@
 // What the words of a command line ask for.
 ghost use Rattle.std.specs.Prelude.{◌≡◌, false, codes, map, IfErr, IfOk, IfSome};
-ghost use Rattle.clap.specs.Words.{rule_of, subcommand_rows_of};
-ghost use Rattle.requests.specs.CommandLine.{AskFor, Asks, HasApp, IsMistakeIn, bare_app, cat_app, image_app, mkfs_app, number_rule, replay_app, required_rule, stop_rule, xvfs_app};
+ghost use Rattle.clap.specs.Words.{found_of, rows_of, rule_of, subcommand_rows_of};
+ghost use Rattle.requests.specs.CommandLine.{
+  AskFor,
+  Asks,
+  HasApp,
+  HasFewWorkers,
+  HasWorkers,
+  IsMistakeIn,
+  bare_app,
+  cat_app,
+  image_app,
+  mkfs_app,
+  number_rule,
+  replay_app,
+  required_rule,
+  run_app,
+  stop_rule,
+  workers_rule,
+  xvfs_app,
+};
 ghost use Rattle.requests.specs.Told.{IsToldOf};
 
 use crate::explanation::Explanation;
@@ -50,6 +68,15 @@ pub enum Request<'a> {
         /// The write, counted from 1 after the opening, before which it stops.
         stop: Option<u64>,
     },
+    /// A script's operations over an image, by callers and workers on threads.
+    Run {
+        /// The path of the image's file.
+        image: &'a str,
+        /// The path of the script.
+        script: &'a str,
+        /// The threads that make the steps, from 1 to 32.
+        workers: u32,
+    },
 }
 
 /// What these words, without the program's name, ask for.
@@ -60,6 +87,7 @@ pub enum Request<'a> {
 /// memory was refused. How words are read is clap's definition, at this program's command line.
 pub fn parse<'a, S: AsStr>(alloc: Global, words: &'a [S]) -> Result<Request<'a>, Explanation>
     ensures ok { IfOk result (AskFor (map S.text words.entry.now)) }
+    ensures workers { IfOk result HasFewWorkers }
     ensures err { IfErr result (IsToldOf (map S.text words.entry.now)) }
 {
     match read(alloc, words) {
@@ -105,7 +133,22 @@ fn request_of<'a>(matches: &ArgMatches<'a>) -> Option<Request<'a>>
             schedule: values.get_str("SCHEDULE")?,
             stop: values.get_one("stop"),
         }),
+        "run" => Some(Request::Run {
+            image,
+            script: values.get_str("SCRIPT")?,
+            workers: workers_of(values),
+        }),
         _ => None,
+    }
+}
+
+// How many workers the words ask for. Clap has refused what is out of bounds.
+fn workers_of(values: &ArgMatches<'_>) -> u32
+    ensures { HasWorkers (rows_of (found_of values.now)) result }
+{
+    match values.get_one::<u32>("workers") {
+        Some(workers) => workers.clamp(1, 32),
+        None => 1,
     }
 }
 
@@ -117,7 +160,8 @@ fn program<'a>(alloc: Global) -> Result<Command<'a>, AllocError>
         .subcommand(check_words(alloc)?)?
         .subcommand(recover_words(alloc)?)?
         .subcommand(cat_words(alloc)?)?
-        .subcommand(replay_words(alloc)?)
+        .subcommand(replay_words(alloc)?)?
+        .subcommand(run_words(alloc)?)
 }
 
 // The program, without its commands.
@@ -128,7 +172,7 @@ fn bare_program<'a>(alloc: Global) -> Result<Command<'a>, AllocError>
         Command::new(alloc, "xvfs")
             .version("0.1.0")
             .about(
-                "Makes, checks, recovers, reads and replays images of the xv6 file system; without words, does the command lines of standard input",
+                "Makes, checks, recovers, reads, replays and runs images of the xv6 file system; without words, does the command lines of standard input",
             )
             .bin_name("xvfs")?
             .no_binary_name(true)
@@ -215,6 +259,31 @@ fn stop_word<'a>(alloc: Global) -> Arg<'a>
         .value_name("N")
         .value_parser(value_parser!(u64).range(1..))
         .help("Stops before this write, counted from 1 once the image is recovered")
+}
+
+fn run_words<'a>(alloc: Global) -> Result<Command<'a>, AllocError>
+    ensures { IfOk result (HasApp run_app) }
+{
+    Command::new(alloc, "run")
+        .about("Recovers an image, and makes a script's operations, each process's in order, by threads")
+        .arg(word(alloc, "IMAGE", "The path of the image's file"))?
+        .arg(word(
+            alloc,
+            "SCRIPT",
+            "The path of the script, whose lines are the operations of processes",
+        ))?
+        .arg(workers_word(alloc))
+}
+
+fn workers_word<'a>(alloc: Global) -> Arg<'a>
+    ensures rule { rule_of result ≡ workers_rule }
+    ensures local { result.global ≡ false }
+{
+    Arg::new(alloc, "workers")
+        .long("workers")
+        .value_name("N")
+        .value_parser(value_parser!(u32).range(1..=32))
+        .help("Threads that make the steps, from 1 to 32; 1 where it is not given")
 }
 
 // A word that has to be there.

@@ -69,6 +69,16 @@ pub record IsNewCaller (names : ℕ → Option Names) (p : ℕ) (c : Caller) : T
   pub nothing_polled : polled c ≡ []
   pub all_free : places c ≡ 16
 
+-- Both ends of process p's rings met, where the kernel's were i and are j, and the caller's were c
+-- and are d: what was submitted is what was taken and then what is known to wait, and what was given
+-- is what was polled and then what the caller knows.
+pub record Meets (i : RingIntake) (p : ℕ) (c : Caller) (j : RingIntake) (d : Caller) : Type 0 where
+  pub taken : (h : History) → IntakeFits i p h → h.taken ++ (intake_side j p).ahead ≡ submitted d
+  pub given : (h : History) → IntakeFits i p h → polled d ++ unpolled d ≡ h.given
+  pub submitted_stay : submitted d ≡ submitted c
+  pub polled_stay : polled d ≡ polled c
+  pub rings : caller_names d ≡ caller_names c
+
 -- What was submitted is what was taken and then what is left, in order, and what was polled is a
 -- beginning of what was given.
 pub record Settles (ops : List Op) (answers : List Answer) (left : ℕ) (h : History) : Type 0 where

@@ -7,6 +7,7 @@
 //! is room, the caller's where it hands in and polls. A place that the kernel has seen free stays
 //! free until it answers, since nobody else puts answers in.
 //!
+//! `RingIntake::meet` lets both ends see what the other did, where one thread has both.
 //! `Caller::finish` and `RingIntake::settle` compare the two ends once the caller is done.
 #![tactic(auto)]
 
@@ -14,6 +15,7 @@ mod caller;
 mod ends;
 mod intake;
 mod making;
+mod meeting;
 mod name;
 mod settling;
 

@@ -1,5 +1,5 @@
 -- What a settled process comes to.
-use Rattle.std.specs.Prelude.{◌≡◌, ℕ, List, ◌++◌, map, length}
+use Rattle.std.specs.Prelude.{◌≡◌, ℕ, List, [], ◌++◌, map, length}
 use mathlib.Core.List.{IsPrefix}
 use Rattle.std.specs.List.{filter}
 use Rattle.model.specs.declared.types.operations.Answer.{Answer}
@@ -22,8 +22,9 @@ pub record Accounts {D I H : Type 0} (inode_count : ℕ) (k : State D I H) (p : 
   -- what was handed in was taken or is left, in order
   pub rest : List Op
   pub order : ops ≡ history.taken ++ rest
-  -- what was polled are the first answers that were given
-  pub given : IsPrefix answers history.given
+  -- what was given is what was polled, and then what was not
+  pub unpolled : List Answer
+  pub given : answers ++ unpolled ≡ history.given
   -- what is kept is a beginning of the changing ones that were handed in
   pub beginning : IsPrefix (map (λ (e : Entry). e.op) (kept_of inode_count k p))
       (filter (is_changing inode_count) ops)
@@ -31,3 +32,9 @@ pub record Accounts {D I H : Type 0} (inode_count : ℕ) (k : State D I H) (p : 
   pub begun : a.begun ≡ length history.taken
   pub left : a.left ≡ length rest
   pub kept : a.kept ≡ length (kept_of inode_count k p)
+
+-- The same, and these answers are all that it was given.
+pub record AccountsForAll {D I H : Type 0} (inode_count : ℕ) (k : State D I H) (p : ℕ)
+    (ops : List Op) (answers : List Answer) (a : Account) : Type 0 where
+  pub accounts : Accounts inode_count k p ops answers a
+  pub all : accounts.unpolled ≡ []

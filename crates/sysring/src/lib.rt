@@ -8,12 +8,14 @@
 //! lock: the image over which it was opened, the number of its processes, and their rings.
 #![tactic(auto)]
 
+mod accounting;
 mod frame;
 mod serving;
 mod settling;
 mod shared;
 mod workers;
 
+pub use accounting::{Meeting, account};
 pub use board::{Board, BoardHerald, Keeper, Watch};
 pub use frame::{Frame, Framed};
 pub use rings::{Caller, Finished, RingIntake, rings};

@@ -19,6 +19,8 @@ use Rattle.texts.specs.declared.faults.InputFault.{InputFault}
 use Rattle.texts.specs.declared.faults.InputFault.TheVariants as input
 use Rattle.texts.specs.declared.faults.KernelFault.{KernelFault}
 use Rattle.texts.specs.declared.faults.KernelFault.TheVariants as kernel
+use Rattle.texts.specs.declared.faults.RunFault.{RunFault}
+use Rattle.texts.specs.declared.faults.RunFault.TheVariants as run
 use Rattle.texts.specs.declared.told.Told.{Told}
 
 -- a fault's number among its layer's, its name, and the inode, the block, the line or the word that
@@ -89,6 +91,9 @@ disk_telling fault = naming 1 (codes "DiskFault") fault.0
 abbrev pub cat_telling : CatFault → Telling
 cat_telling cat.NoFile = plain 1 (codes "NoFile")
 cat_telling cat.NoMemory = plain 2 (codes "NoMemory")
+
+abbrev pub run_telling : RunFault → Telling
+run_telling run.Thread = plain 1 (codes "Thread")
 
 abbrev pub input_telling : InputFault → Telling
 input_telling input.Read = plain 1 (codes "Read")

@@ -123,7 +123,7 @@ impl fmt::Display for AnswerText<'_> {
 
 // A reply, as a line tells it.
 #[derive(Drop)]
-struct ReplyText<'a>(&'a Reply);
+pub(crate) struct ReplyText<'a>(pub(crate) &'a Reply);
 
 impl fmt::Display for ReplyText<'_> {
     ghost output = { λ reply. Some (reply_text reply.0.now) };

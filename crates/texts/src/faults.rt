@@ -10,6 +10,7 @@ ghost use Rattle.texts.specs.Telling.{
   kernel_telling,
   mkfs_telling,
   recover_telling,
+  run_telling,
   schedule_telling,
   script_telling,
 };
@@ -79,6 +80,14 @@ pub enum CatFault {
     /// Memory was refused.
     #[error("memory was refused")]
     NoMemory,
+}
+
+/// Why a script isn't run by threads.
+#[derive(Clone, Copy, Debug, Error)]
+pub enum RunFault {
+    /// The thread of the workers can't be started.
+    #[error("no thread can be started")]
+    Thread,
 }
 
 impl From<NoMemory> for KernelFault {
@@ -210,6 +219,16 @@ impl Fault for CatFault {
         match self {
             CatFault::NoFile => Told::new(1, "NoFile"),
             CatFault::NoMemory => Told::new(2, "NoMemory"),
+        }
+    }
+}
+
+impl Fault for RunFault {
+    ghost telling = { run_telling };
+
+    fn told(&self) -> Told {
+        match self {
+            RunFault::Thread => Told::new(1, "Thread"),
         }
     }
 }

@@ -1,5 +1,6 @@
-//! What the program prints: the lines of a replay's turns, what a command found or did, and the
-//! refusals, each of which names its layer and that layer's fault.
+//! What the program prints: the lines of a replay's turns, those of a run's answers and accounts,
+//! what a command found or did, and the refusals, each of which names its layer and that layer's
+//! fault.
 //!
 //! Nothing here knows how it came to be. What a kernel answers has small enums here, to which the
 //! layer above maps its own.
@@ -7,12 +8,14 @@
 
 mod events;
 mod faults;
+mod lines;
 mod output;
 mod refusal;
 mod told;
 
 pub use events::{Event, Progress};
-pub use faults::{CatFault, InputFault, KernelFault, input_unread};
+pub use faults::{CatFault, InputFault, KernelFault, RunFault, input_unread};
+pub use lines::{AccountLine, AnswerLine};
 pub use output::{
     pass_on, print, print_copied, print_counts, print_last, print_numbers, print_report,
     write_bytes,

@@ -3,7 +3,7 @@ ghost use Rattle.std.specs.Prelude.{◌≡◌, Some};
 ghost use Rattle.texts.specs.Refusal.{layer_of, refusal_telling, refusal_text};
 ghost use Rattle.texts.specs.Telling.{telling_of};
 
-use crate::faults::{CatFault, InputFault, KernelFault};
+use crate::faults::{CatFault, InputFault, KernelFault, RunFault};
 use crate::told::{Fault, Told};
 use blocks::{DiskFault, FileFault};
 use itoa::Buffer;
@@ -33,6 +33,8 @@ pub enum Refusal {
     Disk(DiskFault),
     /// The file can't be shown.
     Cat(CatFault),
+    /// The script can't be run by threads.
+    Run(RunFault),
     /// The command lines can't be had.
     Input(InputFault),
     /// The output can't be written.
@@ -54,6 +56,7 @@ impl Refusal {
             Refusal::Schedule(_) => "schedule",
             Refusal::Disk(_) => "disk",
             Refusal::Cat(_) => "cat",
+            Refusal::Run(_) => "run",
             Refusal::Input(_) => "input",
             Refusal::Output => "output",
         }
@@ -73,6 +76,7 @@ impl Refusal {
             Refusal::Schedule(fault) => fault.told(),
             Refusal::Disk(fault) => fault.told(),
             Refusal::Cat(fault) => fault.told(),
+            Refusal::Run(fault) => fault.told(),
             Refusal::Input(fault) => fault.told(),
             Refusal::Output => Told::new(1, "Write"),
         }

@@ -9,10 +9,11 @@ use Rattle.player.specs.Opening.{IsNotReplayed}
 use Rattle.player.specs.Showing.{IsNotShown}
 use Rattle.texts.specs.declared.faults.CatFault.TheVariants as cat
 use Rattle.texts.specs.declared.refusal.Refusal.{Refusal}
-use Rattle.texts.specs.declared.refusal.Refusal.TheVariants.{File, Mkfs, Check, Recover, Open, Script, Schedule, Disk, Cat, Input, Output}
+use Rattle.texts.specs.declared.refusal.Refusal.TheVariants.{File, Mkfs, Check, Recover, Open, Script, Schedule, Disk, Cat, Run, Input, Output}
 use Rattle.scripts.specs.declared.schedule.Word.{Word}
 use Rattle.scripts.specs.declared.script.Task.{Task}
-use Rattle.xvfs.specs.Files.{IsNotRun}
+use Rattle.runner.specs.Running.{IsNotRun as IsNotRunOver}
+use Rattle.xvfs.specs.Files.{IsNotRun, IsUnreplayed}
 
 module _ {D N : Type 0} (disk : Ghosts D N) (d e : D) (old new : Option (List ℕ)) (none other : Type 0) (f : none → other) where
   pub not_shown : (i : ℕ) (r : Refusal) → IsNotShown disk d e i old new none r → IsNotShown disk d e i old new other r
@@ -27,6 +28,7 @@ module _ {D N : Type 0} (disk : Ghosts D N) (d e : D) (old new : Option (List �
   not_shown i (Open fault) why = (why.0, f why.1)
   not_shown i (Script fault) why = (why.0, f why.1)
   not_shown i (Schedule fault) why = (why.0, f why.1)
+  not_shown i (Run fault) why = (why.0, f why.1)
   not_shown i (Input fault) why = (why.0, f why.1)
 
   not_replayed : (over : Ghosts (FaultyDisk D) (N × Trap)) (tasks : List Task) (processes : ℕ) (words : List Word) (stop : ℕ) (r : Refusal)
@@ -40,10 +42,30 @@ module _ {D N : Type 0} (disk : Ghosts D N) (d e : D) (old new : Option (List �
   not_replayed over tasks processes words stop (Open fault) why = (why.0, f why.1)
   not_replayed over tasks processes words stop (Script fault) why = (why.0, f why.1)
   not_replayed over tasks processes words stop (Schedule fault) why = (why.0, f why.1)
+  not_replayed over tasks processes words stop (Run fault) why = (why.0, f why.1)
   not_replayed over tasks processes words stop (Cat fault) why = (why.0, f why.1)
   not_replayed over tasks processes words stop (Input fault) why = (why.0, f why.1)
 
-pub not_run : {F N : Type 0} (disk : Ghosts (FileDisk F) N) (over : Ghosts (FaultyDisk (FileDisk F)) (N × Trap)) (d e : FileDisk F) (stop : ℕ) (old new : Option (List ℕ)) (none other : Type 0) → (none → other)
-    → (r : Refusal) → IsNotRun disk over stop old new none d e r → IsNotRun disk over stop old new other d e r
-not_run disk over d e stop old new none other f r why =
+  not_run_over : (tasks : List Task) (processes : ℕ) (r : Refusal) → IsNotRunOver disk d e tasks processes old new none r → IsNotRunOver disk d e tasks processes old new other r
+  not_run_over tasks processes (Disk fault) why = why
+  not_run_over tasks processes Output why = why
+  not_run_over tasks processes (Run fault) why = (why.0, f why.1)
+  not_run_over tasks processes (File fault) why = (why.0, f why.1)
+  not_run_over tasks processes (Mkfs fault) why = (why.0, f why.1)
+  not_run_over tasks processes (Check fault) why = (why.0, f why.1)
+  not_run_over tasks processes (Recover fault) why = (why.0, f why.1)
+  not_run_over tasks processes (Open fault) why = (why.0, f why.1)
+  not_run_over tasks processes (Script fault) why = (why.0, f why.1)
+  not_run_over tasks processes (Schedule fault) why = (why.0, f why.1)
+  not_run_over tasks processes (Cat fault) why = (why.0, f why.1)
+  not_run_over tasks processes (Input fault) why = (why.0, f why.1)
+
+pub unreplayed : {F N : Type 0} (disk : Ghosts (FileDisk F) N) (over : Ghosts (FaultyDisk (FileDisk F)) (N × Trap)) (d e : FileDisk F) (stop : ℕ) (old new : Option (List ℕ)) (none other : Type 0) → (none → other)
+    → (r : Refusal) → IsUnreplayed disk over stop old new none d e r → IsUnreplayed disk over stop old new other d e r
+unreplayed disk over d e stop old new none other f r why =
     record { tasks = why.tasks; processes = why.processes; words = why.words; refused = not_replayed disk d e old new none other f over why.tasks why.processes why.words stop r why.refused }
+
+pub not_run : {F N : Type 0} (disk : Ghosts (FileDisk F) N) (d e : FileDisk F) (old new : Option (List ℕ)) (none other : Type 0) → (none → other)
+    → (r : Refusal) → IsNotRun disk old new none d e r → IsNotRun disk old new other d e r
+not_run disk d e old new none other f r why =
+    record { tasks = why.tasks; processes = why.processes; refused = not_run_over disk d e old new none other f why.tasks why.processes r why.refused }

@@ -17,6 +17,7 @@ use Rattle.model.specs.Log.{logged_count, recovered}
 use Rattle.model.specs.Verdict.{verdict}
 use Rattle.player.specs.Causes.{IsRecovered}
 use Rattle.player.specs.Opening.{IsNotReplayed, Replays}
+use Rattle.runner.specs.Running.{IsNotRun as IsNotRunOver, Runs}
 use Rattle.texts.specs.Output.{copied_text, numbers_text, report_text}
 use Rattle.player.specs.Showing.{Shows}
 use Rattle.texts.specs.declared.refusal.Refusal.{Refusal}
@@ -79,13 +80,21 @@ IsShown disk i old new d e = IsRecovered disk (logged_count (disk.image d)) d e
 
 -- it was recovered, a player of some operations was opened over it, and the turns of some words
 -- made and printed
-pub record IsRun {F N : Type 0} (disk : Ghosts (FileDisk F) N)
+pub record IsReplayed {F N : Type 0} (disk : Ghosts (FileDisk F) N)
     (over : Ghosts (FaultyDisk (FileDisk F)) (N × Trap)) (stop : ℕ) (old new : Option (List ℕ))
     (d e : FileDisk F) : Type 0 where
   pub tasks : List Task
   pub processes : ℕ
   pub words : List Word
   pub replays : Replays disk over d e tasks processes words stop None old new
+
+-- it was recovered, the operations of a script were run over it by threads, and what they came to
+-- printed
+pub record IsRun {F N : Type 0} (disk : Ghosts (FileDisk F) N) (old new : Option (List ℕ))
+    (d e : FileDisk F) : Type 0 where
+  pub tasks : List Task
+  pub processes : ℕ
+  pub runs : Runs disk d e tasks processes None old new
 
 -- Where a command over the disk of a file was refused: its script, its schedule or the file could
 -- not be had, and then no disk was opened; or one was, and is now another, as P says. `none` says
@@ -98,10 +107,17 @@ OnDiskRefusal remaining image none P (File fault) = none
 OnDiskRefusal remaining image none P r = OpensDisk remaining image (λ d e. P d e r)
 
 -- why some operations were not replayed over it in the turns of some words, and what was printed
-pub record IsNotRun {F N : Type 0} (disk : Ghosts (FileDisk F) N)
+pub record IsUnreplayed {F N : Type 0} (disk : Ghosts (FileDisk F) N)
     (over : Ghosts (FaultyDisk (FileDisk F)) (N × Trap)) (stop : ℕ) (old new : Option (List ℕ))
     (none : Type 0) (d e : FileDisk F) (r : Refusal) : Type 0 where
   pub tasks : List Task
   pub processes : ℕ
   pub words : List Word
   pub refused : IsNotReplayed disk over d e tasks processes words stop old new none r
+
+-- why some operations were not run over it by threads, and what was printed
+pub record IsNotRun {F N : Type 0} (disk : Ghosts (FileDisk F) N) (old new : Option (List ℕ))
+    (none : Type 0) (d e : FileDisk F) (r : Refusal) : Type 0 where
+  pub tasks : List Task
+  pub processes : ℕ
+  pub refused : IsNotRunOver disk d e tasks processes old new none r

@@ -8,8 +8,8 @@ use Rattle.requests.specs.CommandLine.{AskFor}
 use Rattle.requests.specs.Told.{AskForHelp, IsToldOf}
 use Rattle.requests.specs.declared.explanation.Explanation.{Explanation}
 use Rattle.requests.specs.declared.words.Request.{Request}
-use Rattle.requests.specs.declared.words.Request.TheVariants.{Mkfs, Check, Recover, Cat, Replay}
-use Rattle.xvfs.specs.Files.{FileGhosts, IsCopied, IsMade, IsNotRun, IsReported, IsRun, IsShown, OnDiskRefusal, OpensDisk}
+use Rattle.requests.specs.declared.words.Request.TheVariants.{Mkfs, Check, Recover, Cat, Replay, Run}
+use Rattle.xvfs.specs.Files.{FileGhosts, IsCopied, IsMade, IsNotRun, IsReplayed, IsReported, IsRun, IsShown, IsUnreplayed, OnDiskRefusal, OpensDisk}
 use Rattle.xvfs.specs.Status.{IsHelp}
 use Rattle.xvfs.specs.declared.command.Failure.{Failure}
 use Rattle.xvfs.specs.declared.command.Failure.TheVariants.{Refused, Misused}
@@ -27,7 +27,9 @@ Answers file (Cat image inum) old new =
     OpensDisk file.remaining file.disk.image (IsShown file.disk inum old new)
 Answers file (Replay image script schedule stop) old new =
     OpensDisk file.remaining file.disk.image
-    (IsRun file.disk file.over (unwrap_or stop 0) old new)
+    (IsReplayed file.disk file.over (unwrap_or stop 0) old new)
+Answers file (Run image script workers) old new =
+    OpensDisk file.remaining file.disk.image (IsRun file.disk old new)
 
 -- why a request was refused, and what was printed; `none` says that nothing was
 abbrev pub OnRefused : {F N : Type 0} → FileGhosts F N → Request → Refusal → Option (List ℕ)
@@ -44,7 +46,9 @@ OnRefused file (Cat image inum) r old new none =
     (λ d e. IsNotShown file.disk d e inum old new none) r
 OnRefused file (Replay image script schedule stop) r old new none =
     OnDiskRefusal file.remaining file.disk.image none
-    (IsNotRun file.disk file.over (unwrap_or stop 0) old new none) r
+    (IsUnreplayed file.disk file.over (unwrap_or stop 0) old new none) r
+OnRefused file (Run image script workers) r old new none =
+    OnDiskRefusal file.remaining file.disk.image none (IsNotRun file.disk old new none) r
 
 -- a request of the words was done and answered; what is printed of help is clap's
 abbrev pub IsDone : {F N : Type 0} → FileGhosts F N → List (List ℕ) → Option (List ℕ)

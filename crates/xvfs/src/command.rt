@@ -1,6 +1,7 @@
 // One command, and the exit status that it ends with.
 ghost use Rattle.std.specs.Prelude.{◌≡◌, ◌≤◌, map, Err, OnOk, IfErr, IsOkUnless};
 ghost use Rattle.std.specs.Io.KnownBytes.{Appends};
+ghost use Rattle.requests.specs.CommandLine.{HasFewWorkers};
 ghost use Rattle.requests.specs.Told.{explanation_text};
 ghost use Rattle.xvfs.specs.Files.{ghosts_of};
 ghost use Rattle.xvfs.specs.Requests.{Answers, IsDone, IsMisused, IsUndone, OnRefused};
@@ -9,12 +10,14 @@ ghost use Rattle.xvfs.specs.declared.command.Failure.TheVariants as failure;
 ghost use Rattle.texts.specs.declared.refusal.Refusal.{Refusal as SomeRefusal};
 ghost use Rattle.requests.specs.declared.explanation.Explanation.{Explanation as SomeExplanation};
 
-use crate::images::{cat_file, check_file, make_file, recover_file, replay_files};
+use crate::images::{cat_file, check_file, make_file, recover_file, replay_files, run_files};
 use blocks::{Disk, FaultyDisk, FileDisk};
 use requests::{Explanation, Request, parse};
 use std::convert::AsStr;
 use std::io::Write;
-use std::rt::Files;
+use std::rt::{Clock, Files};
+use std::sync::Wait;
+use std::thread::Threads;
 use texts::{Refusal, print_last};
 
 /// Why a command wasn't done.
@@ -46,12 +49,14 @@ impl From<Refusal> for Failure {
 /// replay whose disk failed, of a file in whose reading that or memory failed, and of an output
 /// that failed. With 2 nothing is written to `out`, with 0 nothing to `err`. What else `err` gets
 /// no contract tells, since it may fail at any byte.
-pub fn command<R: Files + AllocGlobal, S: AsStr, O: Write, E: Write>(
+pub fn command<R: Files + AllocGlobal + Threads + Wait + Clock + Sync, S: AsStr, O: Write, E: Write>(
     rt: &R,
     words: &[S],
     out: &mut O,
     err: &mut E,
 ) -> u8
+where
+    R::File: Send,
     ensures status { result ≤ 2 }
     ensures done { result ≡ 0 → IsDone (ghosts_of R.File.remaining
         ⟦<FileDisk<R::File> as Disk>⟧ ⟦<FaultyDisk<FileDisk<R::File>> as Disk>⟧)
@@ -102,11 +107,13 @@ fn report<E: Write>(failure: Failure, err: &mut E) -> Result<(), Refusal>
     }
 }
 
-fn perform<R: Files + AllocGlobal, S: AsStr, O: Write>(
+fn perform<R: Files + AllocGlobal + Threads + Wait + Clock + Sync, S: AsStr, O: Write>(
     rt: &R,
     words: &[S],
     out: &mut O,
 ) -> Result<(), Failure>
+where
+    R::File: Send,
     ensures ok { OnOk result (IsDone (ghosts_of R.File.remaining
         ⟦<FileDisk<R::File> as Disk>⟧ ⟦<FaultyDisk<FileDisk<R::File>> as Disk>⟧)
         (map S.text words.now) (O.contents out.old) (O.contents out.new)) }
@@ -136,11 +143,14 @@ fn explain<O: Write>(explanation: Explanation, out: &mut O) -> Result<(), Failur
 }
 
 // Does what is asked for, and prints the answer.
-fn dispatch<R: Files + AllocGlobal, O: Write>(
+fn dispatch<R: Files + AllocGlobal + Threads + Wait + Clock + Sync, O: Write>(
     rt: &R,
     request: Request<'_>,
     out: &mut O,
 ) -> Result<(), Refusal>
+where
+    R::File: Send,
+    requires { HasFewWorkers request }
     ensures ok { OnOk result (Answers (ghosts_of R.File.remaining
         ⟦<FileDisk<R::File> as Disk>⟧ ⟦<FaultyDisk<FileDisk<R::File>> as Disk>⟧)
         request.entry (O.contents out.old) (O.contents out.new)) }
@@ -163,5 +173,10 @@ fn dispatch<R: Files + AllocGlobal, O: Write>(
             schedule,
             stop,
         } => replay_files(rt, image, script, schedule, stop, out),
+        Request::Run {
+            image,
+            script,
+            workers,
+        } => run_files(rt, image, script, workers, out),
     }
 }

@@ -10,7 +10,9 @@ use crate::command::{command, refuse};
 use blocks::{Disk, FaultyDisk, FileDisk};
 use std::alloc::{AllocError, Global};
 use std::io::{Read, Write};
-use std::rt::Files;
+use std::rt::{Clock, Files};
+use std::sync::Wait;
+use std::thread::Threads;
 use texts::{InputFault, Refusal, input_unread};
 
 /// The most bytes of the command lines.
@@ -20,12 +22,14 @@ pub const LIMIT: usize = 65_536;
 /// lines are none. Ends at the first whose exit status isn't 0, and answers that, else 0. Prints as
 /// `command` does, and so nothing to `err` where the status is 0; then each line's command was
 /// done. Status 1, and no command is done, where the text can't be had.
-pub fn commands<R: Files + AllocGlobal, I: Read + Drop, O: Write, E: Write>(
+pub fn commands<R: Files + AllocGlobal + Threads + Wait + Clock + Sync, I: Read + Drop, O: Write, E: Write>(
     rt: &R,
     input: I,
     out: &mut O,
     err: &mut E,
 ) -> u8
+where
+    R::File: Send,
     ensures status { result ≤ 2 }
     ensures large { IfSome (I.remaining input)
         (λ bytes. LIMIT < length bytes → (result ≡ 1) × (out.new ≡ out.old)) }
@@ -69,12 +73,14 @@ fn text_of(bytes: Vec<u8>) -> Result<String, InputFault>
     String::from_utf8(bytes).map_err(|_| InputFault::Read)
 }
 
-fn perform_text<R: Files + AllocGlobal, O: Write, E: Write>(
+fn perform_text<R: Files + AllocGlobal + Threads + Wait + Clock + Sync, O: Write, E: Write>(
     rt: &R,
     text: &str,
     out: &mut O,
     err: &mut E,
 ) -> u8
+where
+    R::File: Send,
     ensures status { result ≤ 2 }
     ensures done { result ≡ 0 → AreDone (ghosts_of R.File.remaining
         ⟦<FileDisk<R::File> as Disk>⟧ ⟦<FaultyDisk<FileDisk<R::File>> as Disk>⟧)
@@ -91,12 +97,14 @@ fn perform_text<R: Files + AllocGlobal, O: Write, E: Write>(
     }
 }
 
-fn perform_lines<R: Files + AllocGlobal, O: Write, E: Write>(
+fn perform_lines<R: Files + AllocGlobal + Threads + Wait + Clock + Sync, O: Write, E: Write>(
     rt: &R,
     lines: &[Vec<&str>],
     out: &mut O,
     err: &mut E,
 ) -> u8
+where
+    R::File: Send,
     ensures status { result ≤ 2 }
     ensures none { lines.now ≡ [] → (result ≡ 0) × (out.new ≡ out.old) }
     ensures done { result ≡ 0 → AreDone (ghosts_of R.File.remaining

@@ -7,15 +7,31 @@ ghost use Rattle.texts.specs.declared.refusal.Refusal.TheVariants as refusal;
 ghost use Rattle.player.specs.Causes.{IsUnchecked, IsUnrecovered};
 ghost use Rattle.player.specs.Refusal.{IsOfCat, IsOfCheck, IsOfMkfs, IsOfRecover, IsOfReplay};
 ghost use Rattle.player.specs.Showing.{IsNotShown};
-ghost use Rattle.xvfs.specs.Files.{IsCopied, IsMade, IsNotRun, IsReported, IsRun, IsShown, OnDiskRefusal, OpensDisk};
+ghost use Rattle.runner.specs.Running.{IsOfRun};
+ghost use Rattle.sysring.specs.Frames.{AreWorkers};
+ghost use Rattle.xvfs.specs.Files.{
+  IsCopied,
+  IsMade,
+  IsNotRun,
+  IsReplayed,
+  IsReported,
+  IsRun,
+  IsShown,
+  IsUnreplayed,
+  OnDiskRefusal,
+  OpensDisk,
+};
 
 use crate::inputs::{schedule_from, script_from};
 use blocks::{Disk, FaultyDisk, FileDisk};
 use layout::plan;
 use player::{cat_disk, check_disk, make_disk, recover_disk, replay_disk};
+use runner::run_disk;
 use scripts::processes;
 use std::io::{Read, Write};
-use std::rt::Files;
+use std::rt::{Clock, Files};
+use std::sync::Wait;
+use std::thread::Threads;
 use texts::Refusal;
 
 /// Makes an image of `size` blocks of 1024 bytes with `ninodes` inode numbers in a file at this
@@ -135,13 +151,13 @@ pub fn replay_files<R: Files + AllocGlobal, O: Write>(
     out: &mut O,
 ) -> Result<(), Refusal>
     ensures opened { OnOk result (OpensDisk R.File.remaining ⟦<FileDisk<R::File> as Disk>⟧.image
-        (IsRun ⟦<FileDisk<R::File> as Disk>⟧
+        (IsReplayed ⟦<FileDisk<R::File> as Disk>⟧
         ⟦<FaultyDisk<FileDisk<R::File>> as Disk>⟧ (unwrap_or stop 0)
         (O.contents out.old) (O.contents out.new))) }
     ensures layers { IfErr result IsOfReplay }
     ensures refused { IfErr result (OnDiskRefusal R.File.remaining
         ⟦<FileDisk<R::File> as Disk>⟧.image (out.new ≡ out.old)
-        (IsNotRun ⟦<FileDisk<R::File> as Disk>⟧
+        (IsUnreplayed ⟦<FileDisk<R::File> as Disk>⟧
         ⟦<FaultyDisk<FileDisk<R::File>> as Disk>⟧ (unwrap_or stop 0)
         (O.contents out.old) (O.contents out.new) (out.new ≡ out.old))) }
 {
@@ -158,5 +174,36 @@ pub fn replay_files<R: Files + AllocGlobal, O: Write>(
         stop,
         out,
     );
+    ran
+}
+
+/// Recovers the image in the file at this path, and makes the operations of a script by callers and
+/// so many workers, from 1 to 32, on threads, as `run_disk`.
+///
+/// # Errors
+///
+/// A fault of the script, then of `FileDisk::open` or of `run_disk`.
+pub fn run_files<R: Files + AllocGlobal + Threads + Wait + Clock + Sync, O: Write>(
+    rt: &R,
+    image: &str,
+    script: &str,
+    workers: u32,
+    out: &mut O,
+) -> Result<(), Refusal>
+where
+    R::File: Send,
+    requires { AreWorkers workers }
+    ensures opened { OnOk result (OpensDisk R.File.remaining ⟦<FileDisk<R::File> as Disk>⟧.image
+        (IsRun ⟦<FileDisk<R::File> as Disk>⟧ (O.contents out.old) (O.contents out.new))) }
+    ensures layers { IfErr result IsOfRun }
+    ensures refused { IfErr result (OnDiskRefusal R.File.remaining
+        ⟦<FileDisk<R::File> as Disk>⟧.image (out.new ≡ out.old)
+        (IsNotRun ⟦<FileDisk<R::File> as Disk>⟧
+        (O.contents out.old) (O.contents out.new) (out.new ≡ out.old))) }
+{
+    let tasks = script_from(rt, script).map_err(Refusal::Script)?;
+    let processes = processes(tasks.as_slice());
+    let disk = FileDisk::open(rt, image).map_err(Refusal::File)?;
+    let (ran, _disk) = run_disk(rt, disk, tasks, processes, workers, out);
     ran
 }

@@ -1,4 +1,4 @@
-//! Makes, checks, recovers, reads and replays images of the xv6 file system.
+//! Makes, checks, recovers, reads, replays and runs images of the xv6 file system.
 #![tactic(auto)]
 
 mod arguments;

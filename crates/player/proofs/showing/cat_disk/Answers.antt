@@ -4,17 +4,19 @@ use Rattle.blocks.specs.Calls.{OnlyReads}
 use Rattle.blocks.specs.Disk.{LeavesOnly}
 use Rattle.wal.specs.Recovery.{RecoversAs}
 use Rattle.player.specs.Showing.{IsNotShown, ShowsFile}
-use Rattle.player.proofs.Shown.{leaves_still, not_shown, opening_of_cat, opening_refused, recovered_still, unopened_leaves, unopened_name, unopened_so, unwritten_of_cat}
+use Rattle.opening.specs.Lemmas.Keeping.{unopened_leaves, unopened_name}
+use Rattle.opening.specs.Lemmas.Telling.{unopened_so}
+use Rattle.player.proofs.Shown.{leaves_still, not_shown, opening_of_cat, opening_refused, recovered_still, unwritten_of_cat}
 use Rattle.player.proofs.showing.cat_disk.Goals as goal
 
 pub returns-in-Err-clause-refused : goal.returns-in-Err-clause-refused
 returns-in-Err-clause-refused g c =
     let why = c.in-Err.ensures.refused in
     opening_refused g.D.Disk c.args.disk c.in-Err.disk c.args.number (g.O.Write.contents c.args.out.now) (g.O.Write.contents c.args.out.now) (c.args.out.now ≡ c.args.out.now) c.in-Err.refusal
-    (unopened_so g.D.Disk g.met.D.Disk.only_now 1 c.args.disk c.in-Err.disk c.in-Err.refusal why) why refl
+    (unopened_so g.D.Disk 1 c.args.disk c.in-Err.disk c.in-Err.refusal why) why refl
 
 pub returns-in-Err-clause-layers : goal.returns-in-Err-clause-layers
-returns-in-Err-clause-layers g c = opening_of_cat c.in-Err.refusal (unopened_so g.D.Disk g.met.D.Disk.only_now 1 c.args.disk c.in-Err.disk c.in-Err.refusal c.in-Err.ensures.refused)
+returns-in-Err-clause-layers g c = opening_of_cat c.in-Err.refusal (unopened_so g.D.Disk 1 c.args.disk c.in-Err.disk c.in-Err.refusal c.in-Err.ensures.refused)
 
 pub returns-in-Err-clause-name : goal.returns-in-Err-clause-name
 returns-in-Err-clause-name g c = unopened_name g.D.Disk g.met.D.Disk.only_now 1 c.args.disk c.in-Err.disk c.in-Err.refusal c.in-Err.ensures.refused

@@ -1,6 +1,6 @@
 use Rattle.std.proofs.Common.{codes}
 use Rattle.std.proofs.lemmas.Result.{IfOk-weaker}
-use Rattle.requests.specs.CommandLine.{cat_app, image_app, mkfs_app, replay_app}
+use Rattle.requests.specs.CommandLine.{cat_app, image_app, mkfs_app, replay_app, run_app}
 use Rattle.requests.proofs.CommandLines.{one_command}
 use Rattle.requests.proofs.words.program.Goals as goal
 
@@ -10,4 +10,5 @@ returns c =
     let two = one_command _ (image_app (codes "check")) c.in_ok-subcommand.field-0 c.in_ok-check_words.field-0 c.in_ok-subcommand-2.field-0 one c.in_ok-check_words.ensures c.in_ok-subcommand-2.ensures in
     let three = one_command _ (image_app (codes "recover")) c.in_ok-subcommand-2.field-0 c.in_ok-recover_words.field-0 c.in_ok-subcommand-3.field-0 two c.in_ok-recover_words.ensures c.in_ok-subcommand-3.ensures in
     let four = one_command _ cat_app c.in_ok-subcommand-3.field-0 c.in_ok-cat_words.field-0 c.in_ok-subcommand-4.field-0 three c.in_ok-cat_words.ensures c.in_ok-subcommand-4.ensures in
-    IfOk-weaker c.subcommand-5.result _ _ (λ r adds. one_command _ replay_app c.in_ok-subcommand-4.field-0 c.in_ok-replay_words.field-0 r four c.in_ok-replay_words.ensures adds) c.subcommand-5.ensures
+    let five = one_command _ replay_app c.in_ok-subcommand-4.field-0 c.in_ok-replay_words.field-0 c.in_ok-subcommand-5.field-0 four c.in_ok-replay_words.ensures c.in_ok-subcommand-5.ensures in
+    IfOk-weaker c.subcommand-6.result _ _ (λ r adds. one_command _ run_app c.in_ok-subcommand-5.field-0 c.in_ok-run_words.field-0 r five c.in_ok-run_words.ensures adds) c.subcommand-6.ensures

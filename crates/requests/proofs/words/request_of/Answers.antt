@@ -32,3 +32,9 @@ returns-in_ok-get_str-in-replay-2 c =
     let found = found_of c.in_ok-name.values.now in
     asked _ _ c.in_ok-name.name.now (rows_of found) _ c.in_ok-name.ensures.name c.in_ok-name.ensures.rows
     (search rules, value_read found (codes "IMAGE") _ c.in_ok-image.ensures, value_read found (codes "SCRIPT") _ c.in_ok-get_str-in-replay.ensures, value_read found (codes "SCHEDULE") _ c.in_ok-get_str-in-replay-2.ensures)
+
+pub returns-in_ok-get_str-in-run : goal.returns-in_ok-get_str-in-run
+returns-in_ok-get_str-in-run c =
+    let found = found_of c.in_ok-name.values.now in
+    asked _ _ c.in_ok-name.name.now (rows_of found) _ c.in_ok-name.ensures.name c.in_ok-name.ensures.rows
+    (search rules, value_read found (codes "IMAGE") _ c.in_ok-image.ensures, value_read found (codes "SCRIPT") _ c.in_ok-get_str-in-run.ensures, c.workers_of.ensures)

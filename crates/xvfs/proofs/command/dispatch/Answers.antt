@@ -19,3 +19,11 @@ returns-in-Replay-clause-ok g c =
 pub returns-in-Replay-clause-err : goal.returns-in-Replay-clause-err
 returns-in-Replay-clause-err g c =
     subst (λ request. IfErr c.replay_files.result (λ r. OnRefused (seen_by g.R.File.Read.remaining) request r (g.O.Write.contents c.args.out.now) (g.O.Write.contents c.replay_files.new.out) (c.replay_files.new.out ≡ c.args.out.now))) (sym c.in-Replay.is) c.replay_files.ensures.refused
+
+pub returns-in-Run-clause-ok : goal.returns-in-Run-clause-ok
+returns-in-Run-clause-ok g c =
+    subst (λ request. OnOk c.run_files.result (Answers (seen_by g.R.File.Read.remaining) request (g.O.Write.contents c.args.out.now) (g.O.Write.contents c.run_files.new.out))) (sym c.in-Run.is) c.run_files.ensures.opened
+
+pub returns-in-Run-clause-err : goal.returns-in-Run-clause-err
+returns-in-Run-clause-err g c =
+    subst (λ request. IfErr c.run_files.result (λ r. OnRefused (seen_by g.R.File.Read.remaining) request r (g.O.Write.contents c.args.out.now) (g.O.Write.contents c.run_files.new.out) (c.run_files.new.out ≡ c.args.out.now))) (sym c.in-Run.is) c.run_files.ensures.refused

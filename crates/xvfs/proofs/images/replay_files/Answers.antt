@@ -1,6 +1,6 @@
 use Rattle.std.proofs.Common.{rules}
 use Rattle.std.proofs.lemmas.Result.{IfErr-weaker}
-use Rattle.xvfs.specs.Files.{IsNotRun}
+use Rattle.xvfs.specs.Files.{IsUnreplayed}
 use Rattle.xvfs.proofs.Disks.{faulty_disk, file_disk}
 use Rattle.xvfs.proofs.Opened.{opens_disk, refuses_disk}
 use Rattle.xvfs.proofs.images.replay_files.Goals as goal
@@ -14,7 +14,7 @@ pub returns-clause-refused : goal.returns-clause-refused
 returns-clause-refused g c =
     let disk = c.in_ok-disk in
     IfErr-weaker c.replay_disk-ran.result.0 _ _
-    (λ r why. refuses_disk g.R.File.Read.remaining file_disk.image disk.disk c.replay_disk-ran.result.1 _ (IsNotRun file_disk faulty_disk _ (g.O.Write.contents c.args.out.now) (g.O.Write.contents c.replay_disk-ran.new.out) _)
+    (λ r why. refuses_disk g.R.File.Read.remaining file_disk.image disk.disk c.replay_disk-ran.result.1 _ (IsUnreplayed file_disk faulty_disk _ (g.O.Write.contents c.args.out.now) (g.O.Write.contents c.replay_disk-ran.new.out) _)
     (search rules) (search (rules, c.«open».ensures.at_most, c.map_err-3.ensures, c.in_ok-disk.was)) (search (rules, c.«open».ensures.bytes, c.map_err-3.ensures, c.in_ok-disk.was))
     (λ fault not. not.refused.1) (λ fault not. not.refused.1) (λ fault not. not.refused.1)
     r (record { tasks = _; processes = _; words = _; refused = why }))

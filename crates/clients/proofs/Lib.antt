@@ -1,0 +1,3 @@
+pub mod Backlogs
+pub mod Called
+pub mod Pairs

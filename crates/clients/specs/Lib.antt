@@ -1,0 +1,2 @@
+pub mod Backlogs
+pub mod Clients

@@ -1,0 +1,32 @@
+-- Why no kernel is opened, and what becomes of the disk.
+use Rattle.std.specs.Prelude.{◌≡◌, ◌⊎◌, ⊤, ℕ}
+use Rattle.blocks.specs.declared.disk.Disk.{Ghosts}
+use Rattle.kernel.specs.Opening.{RefusesToOpen}
+use Rattle.kernel.specs.declared.types.OpenFault.{OpenFault}
+use Rattle.kernel.specs.declared.types.OpenFault.TheVariants as open_fault
+use Rattle.texts.specs.declared.faults.KernelFault.TheVariants as kernel
+use Rattle.texts.specs.declared.refusal.Refusal.{Refusal}
+use Rattle.texts.specs.declared.refusal.Refusal.TheVariants.{Check, Recover, Open}
+
+-- why a kernel isn't opened; a fault of the check or of the recovery inside is told as its own
+abbrev pub open_refusal : OpenFault → Refusal
+open_refusal (open_fault.Check fault) = Check fault
+open_refusal (open_fault.Recover fault) = Recover fault
+open_refusal open_fault.NoMemory = Open kernel.NoMemory
+open_refusal open_fault.ProcRange = Open kernel.ProcRange
+
+-- the refusals of an opening: of the image, of the recovery, or of the kernel
+abbrev pub IsOpening : Refusal → Type 0
+IsOpening (Check _) = ⊤
+IsOpening (Recover _) = ⊤
+IsOpening (Open _) = ⊤
+IsOpening _ = ⊥
+
+-- memory was refused before anything was done with the disk d, now e
+abbrev pub HasNoRoom : {D : Type 0} → D → D → Refusal → Type 0
+HasNoRoom d e r = (r ≡ Open kernel.NoMemory) × (e ≡ d)
+
+-- why no kernel of so many processes was opened over the disk d, now e
+abbrev pub IsUnopened : {D N : Type 0} → Ghosts D N → ℕ → D → D → Refusal → Type 0
+IsUnopened disk processes d e r = HasNoRoom d e r
+    ⊎ ((fault : OpenFault) × (r ≡ open_refusal fault) × RefusesToOpen disk d e processes fault)

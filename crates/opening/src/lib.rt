@@ -1,0 +1,24 @@
+//! Why no kernel is opened over a disk, as a command tells it, and what is known of the disk then.
+//!
+//! The commands that open a kernel share these words: a check or a recovery that refuses is told as
+//! its own layer's fault, and the kernel's own two faults as those of `open`.
+#![tactic(auto)]
+
+ghost use Rattle.std.specs.Prelude.{◌≡◌};
+ghost use Rattle.opening.specs.Openings.{open_refusal};
+
+use kernel::OpenFault;
+use texts::{KernelFault, Refusal};
+
+/// Why a kernel wasn't opened. A fault of the check or of the recovery inside is told as its own
+/// layer's.
+pub fn open_refusal(fault: OpenFault) -> Refusal
+    ensures { result ≡ open_refusal fault }
+{
+    match fault {
+        OpenFault::Check(fault) => Refusal::Check(fault),
+        OpenFault::Recover(fault) => Refusal::Recover(fault),
+        OpenFault::NoMemory => Refusal::Open(KernelFault::NoMemory),
+        OpenFault::ProcRange => Refusal::Open(KernelFault::ProcRange),
+    }
+}

@@ -1,0 +1,4 @@
+mod Calls
+mod Lines
+mod Reports
+mod Served

@@ -1,0 +1,95 @@
+-- What a run by threads comes to.
+use Rattle.std.specs.Prelude.{◌≡◌, ⊤, ℕ, List, Option, Some, None, IfNone, length}
+use Rattle.blocks.specs.Disk.{Image, LeavesOnly}
+use Rattle.blocks.specs.declared.disk.Disk.{Ghosts}
+use Rattle.blocks.specs.declared.errors.DiskFault.{DiskFault}
+use Rattle.model.specs.Layout.{inode_count_of}
+use Rattle.model.specs.Log.{recovered}
+use Rattle.model.specs.Verdict.{verdict}
+use Rattle.model.specs.declared.types.operations.Op.{Op}
+use Rattle.wal.specs.Recovery.{RecoversAs}
+use Rattle.board.specs.declared.herald.BoardHerald.{BoardHerald}
+use Rattle.rings.specs.declared.intake.RingIntake.{RingIntake}
+use Rattle.journal.specs.Keeps.{KeepsNow}
+use Rattle.kernel.specs.Known.{IsCurrent}
+use Rattle.kernel.specs.State.{State}
+use Rattle.sysring.specs.Frames.{KeepsSince}
+use Rattle.scripts.specs.declared.script.Task.{Task}
+use Rattle.clients.specs.Backlogs.{ops_of}
+use Rattle.opening.specs.Openings.{IsUnopened}
+use Rattle.texts.specs.declared.refusal.Refusal.{Refusal}
+use Rattle.texts.specs.declared.refusal.Refusal.TheVariants.{File, Mkfs, Check, Recover, Open, Script, Schedule, Disk, Cat, Run, Input, Output}
+use Rattle.runner.specs.Reports.{IsReported}
+
+-- a kernel over rings and a board
+abbrev pub Ringed : Type 0 → Type 0
+Ringed D = State D RingIntake BoardHerald
+
+-- A kernel of so many processes was opened over the disk d, whose image was sound, and steps made m
+-- of it. What a stop leaves on its disk e keeps all groups that it committed; at any moment since
+-- the recovery began one leaves an image that keeps some of them, in order.
+pub record IsServed {D N H : Type 0} (disk : Ghosts D N) (d e : D) (processes : ℕ)
+    (m : State D RingIntake H) : Type 0 where
+  pub sound : verdict (disk.image d) ≡ None
+  pub opening : disk.image m.opening ≡ recovered (disk.image d)
+  pub many : length m.world.processes ≡ processes
+  pub now : e ≡ m.store.volume.device
+  pub keeps : (x : Image) → disk.leaves e (disk.moment e) x
+      → KeepsNow m.store.volume (disk.image m.opening) m.world.journal.list x
+  pub current : IfNone m.store.volume.fault (IsCurrent disk.image m)
+  pub leaves : LeavesOnly disk.moment disk.leaves d e (KeepsSince disk 0 m)
+
+-- what a kernel's processes came to was printed, and this fault is told of its disk
+pub record Ends {D I H : Type 0} (inode_count : ℕ) (k : State D I H) (ops : ℕ → List Op)
+    (processes : ℕ) (fault : Option DiskFault) (old new : Option (List ℕ)) : Type 0 where
+  pub tells : k.store.volume.fault ≡ fault
+  pub reported : IsReported inode_count k ops processes old new
+
+-- the same where it was refused: the disk had failed, or the output did
+abbrev pub IsEndedBy : {D I H : Type 0} → ℕ → State D I H → (ℕ → List Op) → ℕ → Option (List ℕ)
+    → Option (List ℕ) → Refusal → Type 0
+IsEndedBy inode_count k ops processes old new (Disk fault) =
+    Ends inode_count k ops processes (Some fault) old new
+IsEndedBy inode_count k ops processes old new Output = ⊤
+IsEndedBy inode_count k ops processes old new r = ⊥
+
+-- The operations of a script were handed in over the disk d, now e, and what its processes came to
+-- was printed; this fault is told of the disk.
+pub record Runs {D N : Type 0} (disk : Ghosts D N) (d e : D) (tasks : List Task) (processes : ℕ)
+    (fault : Option DiskFault) (old new : Option (List ℕ)) : Type 0 where
+  pub last : Ringed D
+  pub served : IsServed disk d e processes last
+  pub ends : Ends (inode_count_of (disk.image last.opening)) last (λ p. ops_of p tasks) processes
+      fault old new
+
+-- the same where not all was printed
+pub record RunsPart {D N : Type 0} (disk : Ghosts D N) (d e : D) (processes : ℕ) : Type 0 where
+  pub last : Ringed D
+  pub served : IsServed disk d e processes last
+
+-- no kernel was opened over the disk d, now e, for this reason; whatever a stop left is recovered
+-- as d is
+pub record HasNotBegun {D N : Type 0} (disk : Ghosts D N) (d e : D) (processes : ℕ) (r : Refusal)
+    : Type 0 where
+  pub cause : IsUnopened disk processes d e r
+  pub name : disk.name e ≡ disk.name d
+  pub leaves : LeavesOnly disk.moment disk.leaves d e (RecoversAs (disk.image d))
+
+-- why a script's operations were not run over the disk d, now e, and what it came to; `none` says
+-- that nothing was printed
+abbrev pub IsNotRun : {D N : Type 0} → Ghosts D N → D → D → List Task → ℕ → Option (List ℕ)
+    → Option (List ℕ) → Type 0 → Refusal → Type 0
+IsNotRun disk d e tasks processes old new none (Disk fault) =
+    Runs disk d e tasks processes (Some fault) old new
+IsNotRun disk d e tasks processes old new none Output = RunsPart disk d e processes
+IsNotRun disk d e tasks processes old new none (Run fault) = RunsPart disk d e processes × none
+IsNotRun disk d e tasks processes old new none r = HasNotBegun disk d e processes r × none
+
+-- the refusals of a run: of its files, of the image, of the recovery, of the kernel's opening, of
+-- the threads, of the disk, or of the output
+abbrev pub IsOfRun : Refusal → Type 0
+IsOfRun (Mkfs _) = ⊥
+IsOfRun (Schedule _) = ⊥
+IsOfRun (Cat _) = ⊥
+IsOfRun (Input _) = ⊥
+IsOfRun _ = ⊤

@@ -1,0 +1,47 @@
+// The calling thread's part of a run.
+ghost use Rattle.std.specs.Prelude.{All};
+ghost use Rattle.board.specs.Boards.{WatchOf};
+ghost use Rattle.clients.specs.Clients.{AreSameClients};
+
+use clients::{Client, call_all};
+use std::rt::Clock;
+use std::sync::Wait;
+use std::thread;
+use std::time::Duration;
+use sysring::{Board, Serving, Watch};
+
+// How many microseconds it rests after a round in which no client handed anything in or got an
+// answer: twice as long after each further one, up to the longest.
+const SHORTEST_REST: u64 = 50;
+
+const LONGEST_REST: u64 = 1600;
+
+/// Calls the clients in turn until each has all its answers, or the workers have ended, and then
+/// asks for a shutdown. The watches are of that board.
+pub fn drive<R: Wait + Clock>(
+    rt: &R,
+    board: &Board,
+    mut watches: Vec<Watch>,
+    mut clients: Vec<Client>,
+    serving: &Serving,
+) -> Vec<Client>
+    requires { All (WatchOf board.now) watches.items }
+    ensures { AreSameClients clients.items result.items }
+{
+    let mut rest = SHORTEST_REST;
+    for _round in rt.forever() {
+        if call_all(&mut clients) {
+            rest = SHORTEST_REST;
+            continue;
+        }
+        if serving.has_ended() || clients.iter().all(|client| client.is_done()) {
+            break;
+        }
+        thread::sleep(rt, Duration::from_micros(rest));
+        rest = rest.saturating_mul(2).min(LONGEST_REST);
+    }
+    if let Some(mut watch) = watches.pop() {
+        board.ask_shut(&mut watch);
+    }
+    clients
+}

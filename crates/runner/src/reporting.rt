@@ -1,0 +1,108 @@
+// What a run's processes were answered, and what became of their operations.
+ghost use Rattle.std.specs.Prelude.{◌≡◌, ◌<◌, ◌≤◌, Some, length, flat_map, OnOk, IsOkUnless};
+ghost use Rattle.std.specs.Io.KnownBytes.{Appends};
+ghost use Rattle.model.specs.Layout.{inode_count_of};
+ghost use Rattle.ports.specs.History.{SameNames};
+ghost use Rattle.rings.specs.Callers.{caller_names, intake_names, unpolled};
+ghost use Rattle.clients.specs.Clients.{HaveRings, client_names, client_ops, ops_at};
+ghost use Rattle.texts.specs.Answers.{answer_line};
+ghost use Rattle.runner.specs.Reports.{IsReported, PrintsReport};
+
+use blocks::Disk;
+use clients::Client;
+use kernel::Kernel;
+use model::types::Answer;
+use ports::Herald;
+use std::io::Write;
+use sysring::{Caller, RingIntake, account};
+use texts::{AccountLine, AnswerLine, Refusal, pass_on, print};
+
+/// Prints, process by process, a line for each answer and one for what became of its operations.
+/// There is a client for each process, with its rings.
+///
+/// # Errors
+///
+/// `Output` where the writer fails.
+pub fn report<D: Disk, H: Herald, O: Write>(
+    kernel: &mut Kernel<D, RingIntake, H>,
+    clients: Vec<Client>,
+    out: &mut O,
+) -> Result<(), Refusal>
+    requires many { length clients.items ≡ length kernel.old.world.processes }
+    requires rings { HaveRings (intake_names kernel.old.intake) clients.items }
+    ensures reported { OnOk result (IsReported (inode_count_of (D.image kernel.old.opening))
+        kernel.old (ops_at clients.items) (length clients.items)
+        (O.contents out.old) (O.contents out.new)) }
+    ensures same { kernel.new ≡ record kernel.old { intake = kernel.new.intake } }
+    ensures err { IsOkUnless result Refusal.Output }
+{
+    kernel.known();
+    let mut pid = 0u32;
+    for client in clients {
+        report_one(kernel, pid, client, out)?;
+        pid += 1;
+    }
+    pass_on(out)
+}
+
+// The same for one process.
+fn report_one<D: Disk, H: Herald, O: Write>(
+    kernel: &mut Kernel<D, RingIntake, H>,
+    pid: u32,
+    client: Client,
+    out: &mut O,
+) -> Result<(), Refusal>
+    requires pid { pid < length kernel.old.world.processes }
+    requires rings { intake_names kernel.old.intake pid ≡ Some (client_names client) }
+    ensures reported { OnOk result (PrintsReport (inode_count_of (D.image kernel.old.opening))
+        kernel.old pid (client_ops client) (O.contents out.old) (O.contents out.new)) }
+    ensures same { kernel.new ≡ record kernel.old { intake = kernel.new.intake } }
+    ensures names { SameNames (intake_names kernel.old.intake) (intake_names kernel.new.intake) }
+    ensures err { IsOkUnless result Refusal.Output }
+{
+    let (caller, answers) = client.into_parts();
+    let (account, caller) = account(kernel, pid, caller);
+    print_answers(pid, answers.as_slice(), out)?;
+    print_known(pid, caller, out)?;
+    print(
+        out,
+        AccountLine {
+            pid,
+            submitted: account.submitted,
+            begun: account.begun,
+            left: account.left,
+            kept: account.kept,
+        },
+    )
+}
+
+// Prints a line for each of the answers of a process.
+fn print_answers<O: Write>(pid: u32, answers: &[Answer], out: &mut O) -> Result<(), Refusal>
+    ensures printed { OnOk result (Appends (O.contents out.old) (O.contents out.new)
+        (flat_map (answer_line pid) answers.now)) }
+    ensures err { IsOkUnless result Refusal.Output }
+{
+    for answer in answers {
+        print(out, AnswerLine { pid, answer })?;
+    }
+    Ok(())
+}
+
+// Prints a line for each answer that the caller of a process knows and has not polled.
+fn print_known<O: Write>(pid: u32, mut caller: Caller, out: &mut O) -> Result<(), Refusal>
+    ensures printed { OnOk result (Appends (O.contents out.old) (O.contents out.new)
+        (flat_map (answer_line pid) (unpolled caller))) }
+    ensures err { IsOkUnless result Refusal.Output }
+{
+    for _known in 0..caller.answers_known() {
+        let Some(answer) = caller.poll() else {
+            unreachable!()
+        };
+        let line = AnswerLine {
+            pid,
+            answer: &answer,
+        };
+        print(out, line)?;
+    }
+    Ok(())
+}

@@ -1,0 +1,161 @@
+// A script's operations over a disk, by threads.
+ghost use Rattle.std.specs.Prelude.{◌≡◌, ◌<◌, ℕ, false, length, All, IfOk, OnOk, IfErr, IfSome, None};
+ghost use Rattle.board.specs.Boards.{KeeperOf, WatchOf, published};
+ghost use Rattle.clients.specs.Clients.{AreSameClients, HaveRings, ops_at};
+ghost use Rattle.kernel.specs.Known.{Known};
+ghost use Rattle.kernel.specs.Opening.{IsOpened};
+ghost use Rattle.model.specs.Layout.{inode_count_of};
+ghost use Rattle.opening.specs.Openings.{IsUnopened};
+ghost use Rattle.ports.specs.History.{nothing_yet};
+ghost use Rattle.rings.specs.declared.intake.RingIntake.{RingIntake};
+ghost use Rattle.rings.specs.Callers.{intake_count, intake_names, IntakeFits};
+ghost use Rattle.sysring.specs.Frames.{AreWorkers, HasFrameOf};
+ghost use Rattle.runner.specs.Running.{Ends, IsEndedBy, IsNotRun, IsOfRun, Runs};
+
+use crate::driving::drive;
+use crate::reporting::report;
+use blocks::Disk;
+use clients::{Client, clients};
+use kernel::Kernel;
+use opening::open_refusal;
+use ports::{Herald, Intake};
+use scripts::Task;
+use std::alloc::{AllocGlobal, Global};
+use std::io::Write;
+use std::rt::Clock;
+use std::sync::Wait;
+use std::thread::Threads;
+use sysring::{Board, BoardHerald, Gate, Keeper, RingIntake, Watch, serve_while};
+use texts::{KernelFault, Refusal, RunFault};
+
+// Nothing is called round a step.
+struct NoGate;
+
+impl Gate for NoGate {
+    fn before(&self, _pid: u32) {}
+
+    fn after(&self, _pid: u32) {}
+}
+
+/// Recovers the image of a disk, and makes the operations of a script of so many processes, each
+/// process's in order, with so many workers, from 1 to 32, on threads of their own. Prints, process
+/// by process, a line for each answer and one for what became of the operations.
+///
+/// Hands the disk back as the last step left it. Whatever a stop at any moment leaves keeps some of
+/// the groups that were committed, in order, and what one now leaves keeps all of them.
+///
+/// # Errors
+///
+/// A fault of the kernel's opening, with `NoMemory` also where memory for the operations, the rings
+/// or the board is refused: then nothing was printed, and whatever a stop leaves is recovered to the
+/// same image. `Run` with `Thread` where no thread can be started. `Disk` where a step found that
+/// the disk failed, and then all was printed; else `Output`.
+pub fn run_disk<D: Disk + Drop + Send, R: Threads + Wait + Clock + AllocGlobal + Sync, O: Write>(
+    rt: &R,
+    disk: D,
+    tasks: Vec<Task>,
+    processes: u32,
+    workers: u32,
+    out: &mut O,
+) -> (Result<(), Refusal>, D)
+    requires tasks { All (λ task. task.pid < processes) tasks.items }
+    requires workers { AreWorkers workers }
+    ensures ran { OnOk result.0 (Runs D.Disk disk result.1 tasks.items processes None
+        (O.contents out.old) (O.contents out.new)) }
+    ensures refused { IfErr result.0 (IsNotRun D.Disk disk result.1 tasks.items processes
+        (O.contents out.old) (O.contents out.new) (out.new ≡ out.old)) }
+    ensures layers { IfErr result.0 IsOfRun }
+{
+    let (intake, clients) = match clients(rt.alloc(), tasks, processes) {
+        Ok(made) => made,
+        Err(refused) => return (Err(KernelFault::from(refused).into()), disk),
+    };
+    let (board, keeper, watches) = match Board::new(rt.alloc(), 1) {
+        Ok(made) => made,
+        Err(refused) => return (Err(KernelFault::from(refused).into()), disk),
+    };
+    let kernel = match open(rt.alloc(), &board, keeper, disk, intake, processes) {
+        Ok(kernel) => kernel,
+        Err((refusal, disk)) => return (Err(refusal), disk),
+    };
+    let (called, kernel) = call(rt, kernel, &board, watches, clients, workers);
+    match called {
+        Some(clients) => close(kernel, clients, out),
+        None => (Err(Refusal::Run(RunFault::Thread)), kernel.into_disk()),
+    }
+}
+
+// Opens a kernel over rings and a board. The keeper is of that board.
+fn open<'a, D: Disk + Drop>(
+    alloc: Global,
+    board: &'a Board,
+    keeper: Keeper,
+    disk: D,
+    intake: RingIntake,
+    processes: u32,
+) -> Result<Kernel<D, RingIntake, BoardHerald<'a>>, (Refusal, D)>
+    requires keeper { KeeperOf board.now keeper × (published keeper ≡ 0) }
+    requires served { intake_count intake ≡ processes }
+    requires fresh { (p : ℕ) → IntakeFits intake p nothing_yet }
+    ensures opened { IfOk result (λ k. IsOpened D.Disk disk intake k.herald processes k) }
+    ensures refused { IfErr result (λ e. IsUnopened D.Disk processes disk e.1 e.0) }
+{
+    let herald = BoardHerald::new(board, keeper);
+    match Kernel::open(alloc, disk, intake, herald, processes) {
+        Ok(kernel) => Ok(kernel),
+        Err((fault, disk)) => Err((open_refusal(fault), disk)),
+    }
+}
+
+// Serves the kernel while the clients are called. The watches are of that board.
+fn call<D: Disk + Send, H: Herald + Send, R: Threads + Wait + Clock + Sync>(
+    rt: &R,
+    kernel: Kernel<D, RingIntake, H>,
+    board: &Board,
+    watches: Vec<Watch>,
+    clients: Vec<Client>,
+    workers: u32,
+) -> (Option<Vec<Client>>, Kernel<D, RingIntake, H>)
+    requires workers { AreWorkers workers }
+    requires watches { All (WatchOf board.now) watches.items }
+    ensures same { IfSome result.0 (λ after. AreSameClients clients.items after.items) }
+    ensures known { Known D.Disk ⟦<RingIntake as Intake>⟧ H.Herald result.1 }
+    ensures framed { HasFrameOf D.Disk kernel result.1 }
+{
+    serve_while(
+        rt,
+        kernel,
+        workers,
+        &NoGate,
+        move |serving| -> Vec<Client>
+            requires { All (WatchOf board.now) watches.items }
+            ensures { AreSameClients clients.items result.items }
+        { drive(rt, board, watches, clients, serving) },
+    )
+}
+
+// Prints what the clients of a kernel came to, and hands its disk back. There is one for each
+// process, with its rings.
+fn close<D: Disk + Drop, H: Herald, O: Write>(
+    mut kernel: Kernel<D, RingIntake, H>,
+    clients: Vec<Client>,
+    out: &mut O,
+) -> (Result<(), Refusal>, D)
+    requires many { length clients.items ≡ length kernel.world.processes }
+    requires rings { HaveRings (intake_names kernel.intake) clients.items }
+    ensures disk { result.1 ≡ kernel.store.volume.device }
+    ensures ended { OnOk result.0 (Ends (inode_count_of (D.image kernel.opening)) kernel
+        (ops_at clients.items) (length clients.items) None
+        (O.contents out.old) (O.contents out.new)) }
+    ensures refused { IfErr result.0 (IsEndedBy (inode_count_of (D.image kernel.opening)) kernel
+        (ops_at clients.items) (length clients.items)
+        (O.contents out.old) (O.contents out.new)) }
+{
+    let fault = kernel.fault();
+    let reported = report(&mut kernel, clients, out);
+    let disk = kernel.into_disk();
+    match (reported, fault) {
+        (Ok(()), Some(fault)) => (Err(Refusal::Disk(fault)), disk),
+        (reported, _) => (reported, disk),
+    }
+}
