@@ -28,11 +28,7 @@ impl Client {
     ghost use Rattle.clients.specs.Clients.{client_names, client_ops, IsSameClient};
 
     // A caller that has done nothing, with these operations, and with places for all answers.
-    pub(crate) fn new(
-        alloc: Global,
-        caller: Caller,
-        backlog: Backlog,
-    ) -> Result<Client, AllocError>
+    pub(crate) fn new(alloc: Global, caller: Caller, backlog: Backlog) -> Result<Client, AllocError>
         requires { (submitted caller ≡ []) × (polled caller ≡ []) }
         ensures names { IfOk result (λ c. client_names c ≡ caller_names caller) }
         ensures ops { IfOk result (λ c. client_ops c ≡ backlog_of backlog) }
@@ -107,7 +103,9 @@ impl Client {
         ensures answers { polled result.0 ≡ result.1.items }
     {
         let Client {
-            caller, answers, ..
+            caller,
+            answers,
+            ..
         } = self;
         (caller, answers)
     }

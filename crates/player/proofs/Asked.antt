@@ -1,7 +1,7 @@
 -- What an operation of a kernel's only process is answered.
-use Rattle.std.proofs.Common.{◌≡◌, ◌≢◌, ◌∙◌, ◌<◌, ◌≤◌, ℕ, ◌+◌, ◌^◌, ◌-◌, zero, suc, true, false, ◌&&◌, List, [], ◌∷◌, ◌++◌, length, map, Option, Some, None, refl, sym, ap, subst, arith}
+use Rattle.std.proofs.Common.{◌≡◌, ◌∙◌, ◌<◌, ◌≤◌, ℕ, ◌+◌, ◌^◌, ◌-◌, zero, suc, true, false, List, [], ◌∷◌, ◌++◌, length, map, Option, Some, None, refl, sym, ap, subst, arith}
 use Rattle.std.specs.Prelude.{min, ◌==◌, ◌↔◌, IsSome, option_map, slice_get}
-use Rattle.std.specs.List.{list_all, filter}
+use Rattle.std.specs.List.{list_all}
 use Rattle.std.proofs.lemmas.Bool.{and_parts}
 use Rattle.std.proofs.lemmas.List.{length-append, length-map, map-append}
 use Rattle.std.proofs.lemmas.List.Folds.{list_all-append}
@@ -29,7 +29,7 @@ use Rattle.ports.specs.declared.lane.Lane.{Lane}
 use Rattle.ports.specs.declared.queues.QueueIntake.{QueueIntake}
 use Rattle.journal.specs.declared.types.At.TheVariants as at
 use Rattle.journal.specs.declared.types.At.{At}
-use Rattle.journal.specs.Histories.{IsHistory, Owed, entry_answer, pending_at}
+use Rattle.journal.specs.Histories.{Owed, entry_answer, pending_at}
 use Rattle.journal.specs.Processes.{process}
 use Rattle.kernel.specs.Known.{Known}
 use Rattle.kernel.specs.declared.types.Step.{Step}
@@ -39,7 +39,7 @@ use Rattle.player.specs.Stepping.{Plain, MakesPlainStep, MakesSteps, Moves, plai
 use Rattle.player.proofs.Looks.{last_answer_is}
 use Rattle.blocks.specs.Lemmas.Reads.{reads_none, reads_then}
 use Rattle.player.proofs.DiskReads.{looked_at}
-use Rattle.player.proofs.Stages.{HasMore, StageAt, OverAt, busy_stands, commits_none, step_moves, step_answers, step_opens_none}
+use Rattle.player.proofs.Stages.{StageAt, OverAt, busy_stands, commits_none, step_moves, step_answers, step_opens_none}
 use Rattle.player.proofs.Unshut.{unshut_still}
 
 -- the operation of a kernel's only process waits, or is under way, as it was handed in to k

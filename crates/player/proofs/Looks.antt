@@ -1,7 +1,7 @@
 -- What operations that look at a file leave, and what their replies say.
 use Rattle.std.specs.Option.{option_map}
 use Rattle.std.specs.Str.{bytes_eq}
-use Rattle.std.proofs.Common.{◌≡◌, ◌∙◌, ℕ, Bool, true, false, ◌&&◌, ◌<◌, ◌≤◌, List, [], ◌∷◌, ◌++◌, length, Option, Some, None, refl, sym, ap, subst, arith}
+use Rattle.std.proofs.Common.{◌≡◌, ◌∙◌, ℕ, Bool, true, false, ◌&&◌, ◌≤◌, List, [], ◌∷◌, ◌++◌, length, Option, Some, None, refl, sym, ap, subst, arith}
 use Rattle.std.specs.Prelude.{◌==◌, is_some, if◌then◌else◌}
 use Rattle.std.specs.List.{list_all}
 use Rattle.std.proofs.lemmas.Bool.{and_parts, le-ltb}
@@ -16,8 +16,8 @@ use Rattle.model.specs.declared.types.operations.Op.TheVariants.{Create, Write, 
 use Rattle.model.specs.declared.types.operations.Reply.{Reply}
 use Rattle.model.specs.declared.types.operations.Reply.TheVariants.{Made, NoInode, Wrote, Bytes, Done, StatOf, NoFile, BadOffset, TooBig, TooLong, BadType}
 use Rattle.model.specs.Files.{Files, file_in}
-use Rattle.model.specs.Operations.{after, after_refusal, after_done, after_at, after_on, refusal_of, no_file_refusal, is_refusal, where_true, transfer_limit, part_of}
-use Rattle.model.specs.Journal.{replay, and_then, after_answer, answered}
+use Rattle.model.specs.Operations.{after, after_refusal, after_at, refusal_of, no_file_refusal, is_refusal, transfer_limit, part_of}
+use Rattle.model.specs.Journal.{replay, after_answer, answered}
 use Rattle.model.specs.Lemmas.Runs.{where_true_some, and_then_some, replays_in_parts}
 use Rattle.player.specs.Asking.{is_look, is_own_look, size_in, bytes_told}
 

@@ -1,5 +1,5 @@
 -- A file that is shown, piece by piece.
-use Rattle.std.proofs.Common.{◌≡◌, ◌∙◌, ◌≤◌, ℕ, ◌+◌, ◌*◌, List, [], ◌++◌, length, take, Option, Some, None, refl, sym, ap, subst, inl, inr, arith, ⊎_elim}
+use Rattle.std.proofs.Common.{◌≡◌, ◌∙◌, ℕ, ◌+◌, ◌*◌, List, ◌++◌, length, take, Option, Some, None, refl, sym, ap, subst, inl, inr, arith, ⊎_elim}
 use Rattle.std.proofs.Math.Seq.{take-add}
 use Rattle.std.proofs.KnownBytes.{Appends-trans}
 use Rattle.std.specs.Prelude.{◌⊎◌, option_map}
@@ -8,8 +8,8 @@ use Rattle.blocks.specs.Calls.{OnlyReads}
 use Rattle.blocks.specs.Disk.{Image, LeavesOnly, Rose}
 use Rattle.blocks.specs.Lemmas.Moments.{stays}
 use Rattle.blocks.specs.declared.disk.Disk.{Ghosts}
-use Rattle.model.specs.Files.{Files, files_of, file_in}
-use Rattle.model.specs.Log.{logged_count, recovered}
+use Rattle.model.specs.Files.{files_of, file_in}
+use Rattle.model.specs.Log.{logged_count}
 use Rattle.model.specs.Operations.{part_of}
 use Rattle.model.specs.declared.types.image.File.{File}
 use Rattle.wal.specs.Recovery.{RecoversAs}

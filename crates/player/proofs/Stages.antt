@@ -1,5 +1,5 @@
 -- An operation of a kernel's only process, step by step.
-use Rattle.std.proofs.Common.{◌≡◌, ◌≢◌, ◌∙◌, ◌⊎◌, inl, inr, ◌<◌, ◌≤◌, ℕ, ◌+◌, zero, suc, Bool, true, false, List, [], ◌∷◌, ◌++◌, length, set, Option, Some, None, refl, sym, ap, subst, arith, ⊎_elim}
+use Rattle.std.proofs.Common.{◌≡◌, ◌∙◌, inl, inr, ◌<◌, ℕ, ◌+◌, zero, suc, Bool, true, false, List, [], ◌∷◌, ◌++◌, length, set, Option, Some, None, refl, sym, ap, subst, ⊎_elim}
 use Rattle.std.specs.Prelude.{◌==◌, ◌-◌, if◌then◌else◌, slice_set}
 use Rattle.std.proofs.lemmas.List.{set-get_or}
 use Rattle.std.proofs.Math.Seq.{set-append_seam}
@@ -23,17 +23,17 @@ use Rattle.ports.specs.History.{Side, first_in}
 use Rattle.journal.specs.declared.types.At.{At}
 use Rattle.journal.specs.declared.types.At.TheVariants as at
 use Rattle.journal.specs.declared.types.Process.{Process}
-use Rattle.journal.specs.Journal.{entry_in, entry_of, journal_with}
+use Rattle.journal.specs.Journal.{entry_in, entry_of}
 use Rattle.journal.specs.Alone.{is_committing_at}
 use Rattle.journal.specs.AtOnce.{at_once_reply}
 use Rattle.journal.specs.Open.{told}
-use Rattle.journal.specs.Processes.{World, process, idle, with_place, taken, turned_from, told_at, entry_place, over_at, at_place, place_behind, refused, refusal, answered}
+use Rattle.journal.specs.Processes.{World, process, idle, turned_from, told_at, entry_place, over_at, place_behind, refusal, answered}
 use Rattle.journal.specs.Lemmas.Places.{there_now}
 use Rattle.kernel.specs.declared.types.Step.{Step}
 use Rattle.kernel.specs.declared.types.Step.TheVariants as step
 use Rattle.kernel.specs.declared.waiting.Waiting.{Waiting}
 use Rattle.kernel.specs.declared.waiting.Waiting.TheVariants as waiting_as
-use Rattle.kernel.specs.Next.{NextIf, NextAt, BeginsNext, HearsShutdown, HearsNone, TakesChange, TakesLook, TakesRefused, TakesNone, IsNotTaken, Works, Finishes, Ends, world_after, world_behind, world_ended, step_of, step_behind, step_of_end}
+use Rattle.kernel.specs.Next.{NextIf, NextAt, BeginsNext, TakesChange, TakesLook, TakesRefused, TakesNone, IsNotTaken, world_after, world_behind, world_ended, step_of, step_behind, step_of_end}
 use Rattle.player.specs.Asking.{is_look}
 
 -- the journal has one entry more, of the first process's operation, at that place

@@ -18,9 +18,9 @@ use Rattle.kernel.specs.Known.{Known}
 use Rattle.kernel.specs.Sleeping.{SoleWaitsForAnswers}
 use Rattle.kernel.specs.declared.types.Step.{Step}
 use Rattle.kernel.specs.declared.types.Step.TheVariants as step
-use Rattle.player.specs.Asking.{IsUnanswered, IsRefusedMemory, Rests, is_look, is_own_look}
+use Rattle.player.specs.Asking.{IsRefusedMemory, Rests, is_look, is_own_look}
 use Rattle.player.specs.Stepping.{Plain, MakesSteps, plain_herald, plain_queues}
-use Rattle.player.proofs.Asked.{HandedIn, Stage, all_given, begun_is, counts, handed_in, stage_first, stages_move}
+use Rattle.player.proofs.Asked.{HandedIn, all_given, begun_is, counts, handed_in, stage_first, stages_move}
 use Rattle.player.proofs.Stages.{StageAt}
 use Rattle.player.proofs.Unshut.{GoesOnOrEnds, goes_or_ends}
 

@@ -1,6 +1,6 @@
 -- A look of a kernel's only process goes on, or ends: no step of it finds a shutdown, or nothing that
 -- waits.
-use Rattle.std.proofs.Common.{◌≡◌, ◌∙◌, ◌⊎◌, inl, inr, ℕ, zero, suc, Bool, true, false, List, [], ◌∷◌, ◌++◌, Option, Some, None, refl, sym, ap, subst, ⊎_elim}
+use Rattle.std.proofs.Common.{◌≡◌, ◌∙◌, inl, inr, ℕ, zero, suc, Bool, false, List, [], ◌∷◌, Option, Some, None, refl, sym, ap, subst, ⊎_elim}
 use Rattle.std.specs.Option.{option_map}
 use mathlib.Core.List.{IsPrefix}
 use Rattle.blocks.specs.declared.disk.Disk.{Ghosts}
@@ -10,7 +10,6 @@ use Rattle.model.specs.declared.types.operations.Op.{Op}
 use Rattle.model.specs.declared.types.operations.Reply.{Reply}
 use Rattle.model.specs.declared.types.operations.TaskProgress.{TaskProgress}
 use Rattle.model.specs.declared.types.operations.TaskProgress.TheVariants as progress
-use Rattle.model.specs.declared.types.operations.Why.{Why}
 use Rattle.wal.specs.Machine.{LogState, end_answer}
 use Rattle.wal.specs.declared.types.Ended.{Ended}
 use Rattle.wal.specs.declared.types.Ended.TheVariants as ended_as
@@ -23,7 +22,7 @@ use Rattle.kernel.specs.declared.types.Step.{Step}
 use Rattle.kernel.specs.declared.types.Step.TheVariants as step
 use Rattle.kernel.specs.declared.waiting.Waiting.{Waiting}
 use Rattle.kernel.specs.declared.waiting.Waiting.TheVariants as waiting_as
-use Rattle.kernel.specs.Next.{NextIf, NextAt, BeginsNext, BeginsWith, HearsShutdown, IsNotTaken, step_of, step_behind, step_of_end, world_after, world_behind, world_ended}
+use Rattle.kernel.specs.Next.{NextIf, NextAt, BeginsWith, HearsShutdown, IsNotTaken, step_of, step_behind, step_of_end, world_after, world_behind, world_ended}
 use Rattle.kernel.specs.State.{waiting_of}
 use Rattle.player.proofs.Stages.{StageAt}
 

@@ -1,5 +1,5 @@
 -- Queues of processes other than one.
-use Rattle.std.proofs.Common.{◌≡◌, ℕ, refl, ◌∙◌}
+use Rattle.std.proofs.Common.{ℕ, refl, ◌∙◌}
 use Rattle.ports.specs.Queues.{OthersWait}
 use Rattle.ports.specs.declared.queues.QueueIntake.{QueueIntake}
 

@@ -1,13 +1,13 @@
 -- What becomes of a disk over which a kernel is opened.
-use Rattle.std.specs.Prelude.{◌≡◌, ◌⊎◌, ℕ, take, List, None}
-use Rattle.blocks.specs.Disk.{LeavesOnly, Rose, counted}
+use Rattle.std.specs.Prelude.{◌≡◌, ◌⊎◌, ℕ, None}
+use Rattle.blocks.specs.Disk.{Rose, counted}
 use Rattle.blocks.specs.FaultyDisk.{inner_of}
 use Rattle.blocks.specs.declared.disk.Disk.{Ghosts}
 use Rattle.blocks.specs.declared.faulty.FaultyDisk.{FaultyDisk}
 use Rattle.blocks.specs.declared.faulty.Trap.{Trap}
 use Rattle.model.specs.Log.{logged_count, recovered}
 use Rattle.model.specs.Verdict.{verdict}
-use Rattle.wal.specs.Recovery.{RecoversAs, writes_to_recover}
+use Rattle.wal.specs.Recovery.{writes_to_recover}
 use Rattle.kernel.specs.Opening.{RefusesToOpen}
 use Rattle.kernel.specs.declared.types.OpenFault.{OpenFault}
 use Rattle.player.specs.Causes.{IsRecovered, IsUnrecovered}

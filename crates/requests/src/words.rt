@@ -265,7 +265,9 @@ fn run_words<'a>(alloc: Global) -> Result<Command<'a>, AllocError>
     ensures { IfOk result (HasApp run_app) }
 {
     Command::new(alloc, "run")
-        .about("Recovers an image, and makes a script's operations, each process's in order, by threads")
+        .about(
+            "Recovers an image, and makes a script's operations, each process's in order, by threads",
+        )
         .arg(word(alloc, "IMAGE", "The path of the image's file"))?
         .arg(word(
             alloc,

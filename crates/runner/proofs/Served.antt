@@ -1,37 +1,32 @@
 -- A kernel that was opened and served, and what its clients came to.
-use Rattle.std.proofs.Common.{◌≡◌, ◌∙◌, ◌≤◌, ◌<◌, ℕ, List, length, Option, Some, None, refl, sym, ap, subst, arith, inl, inr, ⊎_elim}
+use Rattle.std.proofs.Common.{◌≡◌, ◌∙◌, ◌<◌, ℕ, List, length, Option, Some, sym, ap, subst, arith, inl, inr, ⊎_elim}
 use Rattle.std.proofs.lemmas.List.{length-replicate}
 use Rattle.std.proofs.lemmas.Option.{slice_get_cases, slice_get_within}
-use Rattle.std.specs.Prelude.{slice_get}
-use Rattle.blocks.specs.Disk.{Image, IsSettled, LeavesOnly}
+use Rattle.blocks.specs.Disk.{Image, LeavesOnly}
 use Rattle.blocks.specs.Lemmas.Moments.{joined}
 use Rattle.blocks.specs.declared.disk.Disk.{Ghosts}
 use Rattle.blocks.specs.declared.errors.DiskFault.{DiskFault}
 use Rattle.model.specs.Layout.{inode_count_of}
-use Rattle.model.specs.Log.{recovered}
 use Rattle.wal.specs.Recovery.{RecoversAs}
-use Rattle.board.specs.declared.herald.BoardHerald.{BoardHerald}
 use Rattle.ports.specs.declared.herald.Herald as herald_trait
 use Rattle.ports.specs.declared.intake.Intake as intake_trait
 use Rattle.rings.specs.Callers.{intake_names}
 use Rattle.rings.specs.declared.intake.RingIntake.{RingIntake}
 use Rattle.rings.specs.declared.name.Names.{Names}
 use Rattle.scripts.specs.declared.script.Task.{Task}
-use Rattle.journal.specs.Keeps.{KeepsBetween, KeepsNow, most_of}
+use Rattle.journal.specs.Keeps.{KeepsNow, most_of}
 use Rattle.kernel.specs.Known.{Known}
 use Rattle.kernel.specs.Opening.{IsOpened}
 use Rattle.kernel.specs.State.{State}
 use Rattle.sysring.specs.Frames.{HasFrameOf, KeepsSince}
 use Rattle.clients.specs.Backlogs.{ops_of}
-use Rattle.clients.specs.Clients.{AreClients, AreSameClients, HaveRings, ops_at, ops_in}
+use Rattle.clients.specs.Clients.{AreClients, HaveRings, ops_at, ops_in}
 use Rattle.clients.specs.declared.client.Client.{Client}
-use Rattle.opening.specs.Lemmas.Keeping.{leaves_wider, recovers_kept, unopened_leaves, unopened_name}
-use Rattle.opening.specs.Lemmas.Telling.{unopened_so}
-use Rattle.opening.specs.Openings.{IsOpening, IsUnopened}
+use Rattle.opening.specs.Lemmas.Keeping.{leaves_wider, recovers_kept}
 use Rattle.texts.specs.declared.refusal.Refusal.{Refusal}
 use Rattle.texts.specs.declared.refusal.Refusal.TheVariants.{File, Mkfs, Check, Recover, Open, Script, Schedule, Disk, Cat, Run, Input, Output}
 use Rattle.runner.specs.Reports.{IsReport}
-use Rattle.runner.specs.Running.{Ends, HasNotBegun, IsEndedBy, IsNotRun, IsOfRun, IsServed, Ringed}
+use Rattle.runner.specs.Running.{Ends, IsEndedBy, IsNotRun, IsServed, Ringed}
 
 -- the clients of a script have its operations
 ops_are : (names : ℕ → Option Names) (tasks : List Task) (processes : ℕ) (cs : List Client) → AreClients names tasks processes cs → (p : ℕ) → p < length cs → ops_at cs p ≡ ops_of p tasks

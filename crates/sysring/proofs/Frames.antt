@@ -1,5 +1,5 @@
 -- A kernel is of its frame, and stays so in each step.
-use Rattle.std.proofs.Common.{◌≡◌, ◌≤◌, ◌∙◌, inl, inr, ◌⊎◌, ⊎_elim, ℕ, refl, sym, subst, ap, arith, List}
+use Rattle.std.proofs.Common.{◌≤◌, ◌∙◌, inl, inr, ⊎_elim, ℕ, refl, sym, subst, ap, arith, List}
 use Rattle.blocks.specs.Disk.{Image}
 use Rattle.blocks.specs.declared.disk.Disk as disk_trait
 use Rattle.ports.specs.History.{SameNames}

@@ -49,12 +49,12 @@ impl From<Refusal> for Failure {
 /// replay whose disk failed, of a file in whose reading that or memory failed, and of an output
 /// that failed. With 2 nothing is written to `out`, with 0 nothing to `err`. What else `err` gets
 /// no contract tells, since it may fail at any byte.
-pub fn command<R: Files + AllocGlobal + Threads + Wait + Clock + Sync, S: AsStr, O: Write, E: Write>(
-    rt: &R,
-    words: &[S],
-    out: &mut O,
-    err: &mut E,
-) -> u8
+pub fn command<
+    R: Files + AllocGlobal + Threads + Wait + Clock + Sync,
+    S: AsStr,
+    O: Write,
+    E: Write,
+>(rt: &R, words: &[S], out: &mut O, err: &mut E) -> u8
 where
     R::File: Send,
     ensures status { result ≤ 2 }

@@ -22,12 +22,12 @@ pub const LIMIT: usize = 65_536;
 /// lines are none. Ends at the first whose exit status isn't 0, and answers that, else 0. Prints as
 /// `command` does, and so nothing to `err` where the status is 0; then each line's command was
 /// done. Status 1, and no command is done, where the text can't be had.
-pub fn commands<R: Files + AllocGlobal + Threads + Wait + Clock + Sync, I: Read + Drop, O: Write, E: Write>(
-    rt: &R,
-    input: I,
-    out: &mut O,
-    err: &mut E,
-) -> u8
+pub fn commands<
+    R: Files + AllocGlobal + Threads + Wait + Clock + Sync,
+    I: Read + Drop,
+    O: Write,
+    E: Write,
+>(rt: &R, input: I, out: &mut O, err: &mut E) -> u8
 where
     R::File: Send,
     ensures status { result ≤ 2 }

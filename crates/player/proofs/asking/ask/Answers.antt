@@ -1,4 +1,4 @@
-use Rattle.std.proofs.Common.{◌≡◌, ◌∙◌, ◌<◌, ◌≤◌, ◌⊎◌, ◌+◌, ◌^◌, length, rules, subst, sym, ap, Some, None, ⊎_elim}
+use Rattle.std.proofs.Common.{◌≡◌, ◌∙◌, ◌<◌, ◌≤◌, ◌⊎◌, ◌+◌, ◌^◌, length, rules, subst, sym, ap, ⊎_elim}
 use Rattle.ports.specs.History.{first_in}
 use Rattle.ports.specs.Lanes.{polled_after}
 use Rattle.ports.specs.Queues.{polled, waiting}
@@ -8,7 +8,7 @@ use Rattle.kernel.specs.declared.types.Step.TheVariants as step
 use Rattle.player.specs.Asking.{IsAnswer, IsUnanswered}
 use Rattle.texts.specs.declared.refusal.Refusal.TheVariants.{Disk}
 use Rattle.blocks.specs.Calls.{OnlyReads}
-use Rattle.player.proofs.Asked.{asked, asked_reads, none_failed, opening_stays, rests_again, IsAnswered}
+use Rattle.player.proofs.Asked.{asked, asked_reads, none_failed, opening_stays, rests_again}
 use Rattle.player.proofs.Unanswered.{EndsSo, asked_ends, has_failed, is_faultless, is_handed_in, is_refused}
 use Rattle.player.proofs.asking.ask.Goals as goal
 

@@ -7,7 +7,7 @@ use Rattle.player.specs.Causes.{IsRecovered}
 use Rattle.player.specs.Opening.{HasNotBegun}
 use Rattle.player.proofs.Disks.{faulty}
 use Rattle.player.proofs.Openings.{none_counted, opened_again, over_name, over_only, recovered_then}
-use Rattle.player.proofs.Refused.{unopened_over_so, unrecovered_so}
+use Rattle.player.proofs.Refused.{unrecovered_so}
 use Rattle.player.proofs.replaying.open_recovered.Goals as goal
 
 pub returns-in-Err-clause-refused : goal.returns-in-Err-clause-refused

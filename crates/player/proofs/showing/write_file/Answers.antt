@@ -1,7 +1,7 @@
-use Rattle.std.proofs.Common.{◌≡◌, ◌∙◌, ◌*◌, Some, rules, subst, sym, ap, arith}
+use Rattle.std.proofs.Common.{◌≡◌, ◌∙◌, ◌*◌, Some, rules, ap, arith}
 use Rattle.std.specs.Io.KnownBytes.{Appends}
 use Rattle.player.specs.Asking.{RestsThen, part_at}
-use Rattle.blocks.specs.Lemmas.Reads.{reads_none, reads_then}
+use Rattle.blocks.specs.Lemmas.Reads.{reads_then}
 use Rattle.player.proofs.Shown.{one_more}
 use Rattle.player.proofs.showing.write_file.Goals as goal
 

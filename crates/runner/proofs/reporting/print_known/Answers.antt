@@ -1,4 +1,4 @@
-use Rattle.std.proofs.Common.{◌≡◌, ◌∙◌, ◌<◌, ◌+◌, [], ◌∷◌, ◌++◌, ap, arith, length, sym}
+use Rattle.std.proofs.Common.{◌∙◌, ◌<◌, ◌+◌, [], ◌∷◌, ◌++◌, ap, arith, length, sym}
 use Rattle.std.proofs.lemmas.List.{append_assoc, length-append}
 use Rattle.rings.specs.Callers.{unpolled}
 use Rattle.texts.specs.Answers.{answer_line}

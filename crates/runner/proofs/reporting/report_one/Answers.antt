@@ -1,4 +1,4 @@
-use Rattle.std.proofs.Common.{◌≡◌, ◌∙◌, ◌++◌, ap, flat_map, refl, subst, sym}
+use Rattle.std.proofs.Common.{◌∙◌, ◌++◌, flat_map, refl, subst, sym}
 use Rattle.std.proofs.lemmas.Result.{on_ok_weaker}
 use Rattle.std.specs.Io.KnownBytes.{Appends}
 use Rattle.rings.specs.Callers.{polled, submitted, unpolled}
