@@ -2,6 +2,7 @@
 use blocks::{DiskFault, FaultyDisk, Kind, MemDisk};
 use layout::mkfs;
 use player::{check_disk, recover_disk, replay_disk};
+use runner::run_disk;
 use scripts::{processes, read_schedule, read_script};
 use std::io::{BufWriter, Write};
 use std::test::Fail;
@@ -56,6 +57,22 @@ fn tells_of_a_failing_disk(rt: HostRuntime) -> Result<(), Fail> {
     assert!(rt; disk.fired());
     let out = String::from_utf8(out)?;
     assert_eq!(rt; out.as_str(), "0 halted\nwrites 1\ncommitted 0\n");
+    Ok(())
+}
+
+// The callers end where the workers do, and what was answered is printed.
+#[test]
+fn a_run_tells_of_a_failing_disk(rt: HostRuntime) -> Result<(), Fail> {
+    let alloc = rt.alloc();
+    let disk = FaultyDisk::new(new_image(&rt)?, 6, Kind::WriteOld);
+    let tasks = read_script(alloc, b"0 create 2\n0 create 2\n0 stat 1\n".as_slice())?;
+    let processes = processes(tasks.as_slice());
+    let mut out = Vec::new(alloc);
+    let (ended, disk) = run_disk(&rt, disk, tasks, processes, 2, &mut out);
+    assert!(rt; matches!(ended, Err(Refusal::Disk(DiskFault(2)))));
+    assert!(rt; disk.fired());
+    let out = String::from_utf8(out)?;
+    assert_eq!(rt; out.as_str(), "0 1 made 1\n0 submitted 3 begun 2 left 1 kept 1\n");
     Ok(())
 }
 

@@ -14,7 +14,7 @@ use sysring::{Board, Serving, Watch};
 // answer: twice as long after each further one, up to the longest.
 const SHORTEST_REST: u64 = 50;
 
-const LONGEST_REST: u64 = 1600;
+const LONGEST_REST: u64 = 200;
 
 /// Calls the clients in turn until each has all its answers, or the workers have ended, and then
 /// asks for a shutdown. The watches are of that board.

@@ -11,6 +11,10 @@ use ports::{Herald, Intake};
 use rings::RingIntake;
 use std::sync::atomic::{AtomicU64, Ordering};
 use std::sync::{Condvar, Mutex, MutexGuard, Wait};
+use std::thread;
+
+// How often others are let go on before who waits for them sleeps.
+const LOOKS: u32 = 250;
 
 /// A kernel that threads share.
 #[derive(Drop)]
@@ -18,6 +22,8 @@ pub struct Shared<D: Disk, H: Herald, K: Frame> {
     kernel: Mutex<Framed<D, H, K>>,
     // The steps that changed something, wrapping. It is written under the lock.
     changes: AtomicU64,
+    // Those who wait for a change. It is written under the lock.
+    waiting: AtomicU64,
     changed: Condvar,
 }
 
@@ -29,6 +35,7 @@ impl<D: Disk, H: Herald, K: Frame> Shared<D, H, K> {
         Shared {
             kernel: Mutex::new(Framed::new(kernel)),
             changes: AtomicU64::new(0),
+            waiting: AtomicU64::new(0),
             changed: Condvar::new(),
         }
     }
@@ -39,9 +46,21 @@ impl<D: Disk, H: Herald, K: Frame> Shared<D, H, K> {
         ensures known { Known D.Disk ⟦<RingIntake as Intake>⟧ H.Herald (mutex_guard_value result) }
         ensures framed { IsFramed D.Disk K.outset (mutex_guard_value result) }
     {
-        let kernel = self.kernel.lock(rt);
+        let kernel = self.acquire(rt);
         kernel.kernel().known();
         kernel
+    }
+
+    // Gets the lock. It is sought for a while first, since who sleeps for it costs who has it a call
+    // of the system.
+    fn acquire<R: Wait>(&self, rt: &R) -> MutexGuard<'_, Framed<D, H, K>> {
+        for _look in 0..LOOKS {
+            if let Some(kernel) = self.kernel.try_lock() {
+                return kernel;
+            }
+            thread::yield_now();
+        }
+        self.kernel.lock(rt)
     }
 
     /// The kernel, once nobody shares it any more.
@@ -64,7 +83,9 @@ impl<D: Disk, H: Herald, K: Frame> Shared<D, H, K> {
         // A fault is a change, too: without a wake-up there who waits would wait for ever.
         if matches!(step, Step::Moved | Step::Answered | Step::Halted) {
             self.changes.fetch_add(1, Ordering::SeqCst);
-            self.changed.notify_all();
+            if self.waiting.load(Ordering::SeqCst) > 0 {
+                self.changed.notify_all();
+            }
         }
         step
     }
@@ -74,13 +95,21 @@ impl<D: Disk, H: Herald, K: Frame> Shared<D, H, K> {
         self.changes.load(Ordering::SeqCst)
     }
 
-    // Waits until there were other than so many changes.
+    // Waits until there were other than so many changes. At first it only lets others go on for a
+    // while: where they change much, who sleeps would be woken at each change.
     pub(crate) fn wait_past<R: Wait>(&self, rt: &R, seen: u64) {
+        for _look in 0..LOOKS {
+            thread::yield_now();
+        }
+        if self.changes() != seen {
+            return;
+        }
         let changes = &self.changes;
-        let _kernel = self
-            .changed
-            .wait_while(rt, self.kernel.lock(rt), |_kernel| {
-                changes.load(Ordering::SeqCst) == seen
-            });
+        let kernel = self.acquire(rt);
+        self.waiting.fetch_add(1, Ordering::SeqCst);
+        let _kernel = self.changed.wait_while(rt, kernel, |_kernel| {
+            changes.load(Ordering::SeqCst) == seen
+        });
+        self.waiting.fetch_sub(1, Ordering::SeqCst);
     }
 }
