@@ -1,21 +1,19 @@
 -- What a client is.
-use Rattle.std.specs.Prelude.{◌≡◌, ℕ, List, [], ◌∷◌, ◌++◌, Option, Some, None, length, slice_get}
+use Rattle.std.specs.Prelude.{◌≡◌, ℕ, List, [], Option, Some, None, length, slice_get}
 use Rattle.model.specs.declared.types.operations.Op.{Op}
-use Rattle.rings.specs.Callers.{caller_names, polled, submitted}
-use Rattle.rings.specs.declared.caller.Caller.{Caller}
 use Rattle.rings.specs.declared.name.Names.{Names}
 use Rattle.scripts.specs.declared.script.Task.{Task}
-use Rattle.clients.specs.Backlogs.{backlog_of, ops_of}
-use Rattle.clients.specs.declared.backlog.Backlog.{Backlog}
+use Rattle.clients.specs.Backlogs.{ops_of}
+use Rattle.clients.specs.Sources.{source_names, source_ops}
 use Rattle.clients.specs.declared.client.Client.{Client}
 
 -- the rings that it has
 abbrev pub client_names : Client → Names
-client_names c = caller_names c.caller
+client_names c = source_names c.source
 
--- all its operations: those that it handed in, and then those that it still has
+-- all its operations
 abbrev pub client_ops : Client → List Op
-client_ops c = submitted c.caller ++ backlog_of c.backlog
+client_ops c = source_ops c.source
 
 -- a client of these rings with these operations
 pub record IsClient (names : Option Names) (ops : List Op) (c : Client) : Type 0 where
@@ -40,23 +38,6 @@ pub record AreClients (names : ℕ → Option Names) (tasks : List Task) (proces
     (cs : List Client) : Type 0 where
   pub count : length cs ≡ processes
   pub each : (p : ℕ) (c : Client) → slice_get cs p ≡ Some c → IsClient (names p) (ops_of p tasks) c
-
--- callers that have done nothing
-abbrev pub AreNew : List Caller → Type 0
-AreNew ks = (p : ℕ) (k : Caller) → slice_get ks p ≡ Some k → (submitted k ≡ []) × (polled k ≡ [])
-
--- a client has that caller, and those operations
-abbrev pub IsPaired : Caller → Backlog → Client → Type 0
-IsPaired k b c = (client_names c ≡ caller_names k) × (client_ops c ≡ backlog_of b)
-
--- each of the clients has its caller and its operations
-abbrev pub ArePaired : List Caller → List Backlog → List Client → Type 0
-ArePaired [] [] [] = Unit {0}
-ArePaired [] [] (c ∷ cs) = ⊥
-ArePaired [] (b ∷ bs) cs = ⊥
-ArePaired (k ∷ ks) [] cs = ⊥
-ArePaired (k ∷ ks) (b ∷ bs) [] = ⊥
-ArePaired (k ∷ ks) (b ∷ bs) (c ∷ cs) = IsPaired k b c × ArePaired ks bs cs
 
 -- the same clients, after calls
 abbrev pub IsSameClient : Client → Client → Type 0

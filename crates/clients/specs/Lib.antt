@@ -1,2 +1,3 @@
 pub mod Backlogs
+pub mod Sources
 pub mod Clients

@@ -1,9 +1,10 @@
 // A caller with the operations of a script.
-ghost use Rattle.std.specs.Prelude.{◌≡◌, [], ◌++◌, length};
+ghost use Rattle.std.specs.Prelude.{◌≡◌, [], length};
 ghost use Rattle.rings.specs.Callers.{polled, submitted};
 ghost use Rattle.clients.specs.Backlogs.{backlog_of};
+ghost use Rattle.clients.specs.Sources.{source_ops};
 
-use crate::backlog::Backlog;
+use crate::source::Source;
 use model::types::Answer;
 use rings::{Caller, PLACES};
 use std::alloc::{AllocError, Global};
@@ -11,13 +12,12 @@ use std::alloc::{AllocError, Global};
 /// A process's caller, the operations that it still has to hand in, and the answers that it got.
 #[derive(Drop)]
 pub struct Client {
-    pub(crate) caller: Caller,
-    pub(crate) backlog: Backlog,
+    pub(crate) source: Source,
     answers: Vec<Answer>,
     // How many answers it waits for in all.
     wanted: usize,
-    ghost got: { polled caller ≡ answers.items },
-    ghost all: { wanted ≡ length (submitted caller ++ backlog_of backlog) },
+    ghost got: { polled source.caller ≡ answers.items },
+    ghost all: { wanted ≡ length (source_ops source) },
 }
 
 impl Client {
@@ -27,17 +27,15 @@ impl Client {
     ghost use Rattle.clients.specs.Backlogs.{backlog_of};
     ghost use Rattle.clients.specs.Clients.{client_names, client_ops, IsSameClient};
 
-    // A caller that has done nothing, with these operations, and with places for all answers.
-    pub(crate) fn new(alloc: Global, caller: Caller, backlog: Backlog) -> Result<Client, AllocError>
-        requires { (submitted caller ≡ []) × (polled caller ≡ []) }
-        ensures names { IfOk result (λ c. client_names c ≡ caller_names caller) }
-        ensures ops { IfOk result (λ c. client_ops c ≡ backlog_of backlog) }
+    // A source that has done nothing, with places for all its answers.
+    pub(crate) fn new(alloc: Global, source: Source) -> Result<Client, AllocError>
+        requires { (submitted source.caller ≡ []) × (polled source.caller ≡ []) }
+        ensures { IfOk result (λ c. c.source ≡ source) }
     {
-        let wanted = backlog.count();
+        let wanted = source.backlog.count();
         let answers = Vec::with_capacity(alloc, wanted)?;
         Ok(Client {
-            caller,
-            backlog,
+            source,
             answers,
             wanted,
         })
@@ -48,26 +46,8 @@ impl Client {
     pub fn call(&mut self) -> bool
         ensures { IsSameClient self.old self.new }
     {
-        let handed_in = self.hand_in();
+        let handed_in = self.source.hand_in();
         self.poll() || handed_in
-    }
-
-    // Hands in as many operations as the ring takes. Whether it took any.
-    fn hand_in(&mut self) -> bool
-        ensures { IsSameClient self.old self.new }
-    {
-        let mut moved = false;
-        for _place in 0..PLACES {
-            let Some(op) = self.backlog.next() else {
-                break;
-            };
-            if let Err(op) = self.caller.submit(op) {
-                self.backlog.put_back(op);
-                break;
-            }
-            moved = true;
-        }
-        moved
     }
 
     // Polls the answers that there are, as long as there are places for them. Whether there were
@@ -80,7 +60,7 @@ impl Client {
             if self.answers.len() >= self.answers.capacity() {
                 break;
             }
-            let Some(answer) = self.caller.poll() else {
+            let Some(answer) = self.source.poll() else {
                 break;
             };
             self.answers.push_reserved(answer);
@@ -91,7 +71,7 @@ impl Client {
 
     /// Whether it has an answer to each operation.
     pub fn is_done(&self) -> bool
-        ensures { result ≡ nat_le (length (client_ops self.now)) (length (polled self.now.caller)) }
+        ensures { result ≡ nat_le (length (client_ops self.now)) (length (polled self.now.source.caller)) }
     {
         self.answers.len() >= self.wanted
     }
@@ -103,10 +83,10 @@ impl Client {
         ensures answers { polled result.0 ≡ result.1.items }
     {
         let Client {
-            caller,
+            source,
             answers,
             ..
         } = self;
-        (caller, answers)
+        (source.caller, answers)
     }
 }

@@ -9,8 +9,10 @@ mod backlog;
 mod calling;
 mod client;
 mod making;
+mod source;
 
 pub use backlog::{Backlog, backlogs_of};
 pub use calling::call_all;
 pub use client::Client;
-pub use making::clients;
+pub use making::{clients, sources};
+pub use source::Source;

@@ -106,20 +106,33 @@ fn idle<R: Threads + Wait + Clock + AllocGlobal + Sync>(
         Ok(kernel) => kernel,
         Err((fault, _disk)) => return Err(fault.into()),
     };
-    let board = &board;
-    let (_served, _kernel) = serve_while(
+    rest(rt, kernel, &board, watches, milliseconds);
+    Ok(())
+}
+
+// The same over a kernel. The watches are of that board.
+fn rest<R: Threads + Wait + Clock + Sync>(
+    rt: &R,
+    kernel: Kernel<MemDisk, RingIntake, BoardHerald<'_>>,
+    board: &Board,
+    watches: Vec<Watch>,
+    milliseconds: u64,
+)
+    requires watches { All (WatchOf board.now) watches.items }
+{
+    let (_rested, _kernel) = serve_while(
         rt,
         kernel,
         WORKERS,
         &NoGate,
-        move |_serving| -> ()
+        move |_serving| -> u32
             requires { All (WatchOf board.now) watches.items }
         {
             thread::sleep(rt, Duration::from_millis(milliseconds));
             shut(board, watches);
+            0
         },
     );
-    Ok(())
 }
 
 // Asks for a shutdown. The watches are of that board.

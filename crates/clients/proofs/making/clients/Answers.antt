@@ -1,11 +1,19 @@
-use Rattle.std.proofs.Common.{arith}
+use Rattle.std.proofs.Common.{◌≡◌, ◌∙◌, [], ◌∷◌, ◌++◌, append-nil, length, ap, arith, sym}
+use Rattle.std.proofs.lemmas.List.{nil_from_length}
+use Rattle.std.specs.Prelude.{slice_get}
 use Rattle.rings.specs.Callers.{intake_names}
-use Rattle.clients.proofs.Pairs.{are_clients}
+use Rattle.clients.proofs.Pairs.{are_clients, source_at}
 use Rattle.clients.proofs.making.clients.Goals as goal
 
-pub paired-requires-clause-new : goal.paired-requires-clause-new
-paired-requires-clause-new c p k at = let new = c.in_ok-intake.ensures.callers p k at in (new.nothing_submitted, new.nothing_polled)
+pub new-requires : goal.new-requires
+new-requires c =
+    let yielded = c.loop-source.yielded in
+    let here = sym c.into_iter-source-iterator.ensures.into_iter_gives.0 ∙ c.loop-source.invariant.all ∙ ap (λ ss. yielded ++ ss) c.in-Some.ensures.steps.0 in
+    (c.in_ok-intake.ensures.sources.each (length yielded) c.in-Some.source (ap (λ ss. slice_get ss (length yielded)) here ∙ source_at yielded c.next.new.self.rest.items c.in-Some.source)).fresh
 
 pub returns-clause-clients : goal.returns-clause-clients
-returns-clause-clients c = are_clients (intake_names c.in_ok-intake.intake) c.args.tasks.items c.args.processes c.in_ok-intake.callers.items c.in_ok-backlogs.backlogs.items c.in_ok-clients.clients.items
-    (let count = c.in_ok-intake.ensures.counts.1 in let ok = c.in_ok-intake.callers.ok in omega (arith, count, ok)) c.in_ok-intake.ensures.callers c.in_ok-backlogs.ensures.ops c.in_ok-clients.ensures
+returns-clause-clients c =
+    let yielded = c.loop-source.yielded in
+    let none : c.loop-source.source-iterator.rest.items ≡ [] = (let len = c.in-None.ensures.steps.0 in let ok = c.loop-source.source-iterator.rest.ok in nil_from_length c.loop-source.source-iterator.rest.items (omega (arith, len, ok))) in
+    let all = sym c.into_iter-source-iterator.ensures.into_iter_gives.0 ∙ c.loop-source.invariant.all ∙ ap (λ ss. yielded ++ ss) none ∙ append-nil yielded in
+    are_clients (intake_names c.in_ok-intake.intake) c.args.tasks.items c.args.processes c.loop-source.clients.items c.in_ok-intake.sources.items (c.loop-source.invariant.made ∙ sym all) c.in_ok-intake.ensures.sources
