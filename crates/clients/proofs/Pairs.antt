@@ -13,7 +13,7 @@ use Rattle.clients.specs.Sources.{AreNewSources, ArePaired, IsPaired}
 use Rattle.clients.specs.declared.backlog.Backlog.{Backlog}
 use Rattle.clients.specs.declared.client.Client.{Client}
 use Rattle.clients.specs.declared.source.Source.{Source}
-use Rattle.clients.proofs.Called.{only}
+use Rattle.clients.specs.Lemmas.Sets.{only}
 
 -- one pair more
 pub one_paired : (ks : List Caller) (bs : List Backlog) (ss : List Source) (k : Caller) (b : Backlog) (s : Source) → ArePaired ks bs ss → IsPaired k b s → ArePaired (ks ++ k ∷ []) (bs ++ b ∷ []) (ss ++ s ∷ [])

@@ -1,3 +1,4 @@
 pub mod Backlogs
 pub mod Sources
 pub mod Clients
+pub mod Lemmas

@@ -14,65 +14,59 @@ use Rattle.wal.specs.Recovery.{RecoversAs}
 use Rattle.journal.specs.Keeps.{KeepsBetween, most_of}
 use Rattle.kernel.specs.declared.types.Step.{Step}
 use Rattle.kernel.specs.declared.types.Step.TheVariants as step
-use Rattle.kernel.specs.Lemmas.Turns.{Keeps, runs_on_none, runs_on_shut, runs_on_step, runs_on_then}
-use Rattle.kernel.specs.Runs.{RunsOn, with_shutdown}
+use Rattle.kernel.specs.Lemmas.Turns.{Keeps, runs_on_none, runs_on_step, runs_on_then}
+use Rattle.kernel.specs.Runs.{RunsOn}
 use Rattle.opening.specs.Lemmas.Keeping.{leaves_wider, recovers_kept}
 use Rattle.scripts.specs.declared.schedule.Word.{Word}
 use Rattle.scripts.specs.declared.schedule.Word.TheVariants as word
 use Rattle.scripts.specs.declared.script.Task.{Task}
 use Rattle.texts.specs.declared.events.Event.{Event}
-use Rattle.player.specs.declared.turns.Player.{Player}
+use Rattle.player.specs.declared.player.Player.{Player}
 use Rattle.texts.specs.Events.{is_last}
 use Rattle.player.specs.Opening.{IsPlayedOn, IsReadyOver, KeepsSome}
-use Rattle.player.specs.Stepping.{Plain, MakesPlainStep, MakesSteps, MakesTurn, MakesTurns, Moves, plain_herald, plain_queues}
+use Rattle.player.specs.Stepping.{Ringed, MakesRingedStep, MakesSteps, MakesTurn, MakesTurns, Moves, board_herald, ring_ends}
 use Rattle.player.specs.Turns.{IfLast}
 use Rattle.player.proofs.Disks.{faulty}
 
 -- no committed group is lost, and the disk is the same one
-pub record KeepsOn {D N : Type 0} (disk : Ghosts D N) (k m : Plain D) : Type 0 where
+pub record KeepsOn {D N : Type 0} (disk : Ghosts D N) (k m : Ringed D) : Type 0 where
   pub runs : RunsOn disk k m
   pub name : disk.name m.store.volume.device ≡ disk.name k.store.volume.device
 
 module _ {D N : Type 0} (disk : Ghosts D N) where
-  keeps_none : (k : Plain D) → Keeps disk plain_queues plain_herald k → KeepsOn disk k k
-  keeps_none k keeps = record { runs = runs_on_none disk plain_queues plain_herald k keeps; name = refl }
+  keeps_none : (k : Ringed D) → Keeps disk ring_ends board_herald k → KeepsOn disk k k
+  keeps_none k keeps = record { runs = runs_on_none disk ring_ends board_herald k keeps; name = refl }
 
   -- where only the queues changed
-  keeps_queues : (k m n : Plain D) → KeepsOn disk k m → n ≡ record m { intake = n.intake } → KeepsOn disk k n
-  keeps_queues k m n kept same = subst (λ (o : Plain D). KeepsOn disk k o) (sym same) (record {
+  keeps_queues : (k m n : Ringed D) → KeepsOn disk k m → n ≡ record m { intake = n.intake } → KeepsOn disk k n
+  keeps_queues k m n kept same = subst (λ (o : Ringed D). KeepsOn disk k o) (sym same) (record {
     runs = record { opening = kept.runs.opening; many = kept.runs.many; shut = kept.runs.shut; keeps = kept.runs.keeps; grows = kept.runs.grows; leaves = kept.runs.leaves };
     name = kept.name;
   })
 
-  keeps_step : (p : ℕ) (r : Step) (k m n : Plain D) → KeepsOn disk k m → MakesPlainStep disk p r m n → KeepsOn disk k n
+  keeps_step : (p : ℕ) (r : Step) (k m n : Ringed D) → KeepsOn disk k m → MakesRingedStep disk p r m n → KeepsOn disk k n
   keeps_step p r k m n kept made = record {
-    runs = runs_on_then disk plain_queues plain_herald k m n kept.runs (runs_on_step disk plain_queues plain_herald p r m n made);
+    runs = runs_on_then disk ring_ends board_herald k m n kept.runs (runs_on_step disk ring_ends board_herald p r m n made);
     name = made.acts.device.name ∙ kept.name;
   }
 
-  keeps_moves : (p count : ℕ) (k m n : Plain D) → KeepsOn disk k m → Moves disk p count m n → KeepsOn disk k n
+  keeps_moves : (p count : ℕ) (k m n : Ringed D) → KeepsOn disk k m → Moves (MakesRingedStep disk p) count m n → KeepsOn disk k n
   unfolding Moves
-  keeps_moves p zero k m n kept moves = subst (λ (o : Plain D). KeepsOn disk k o) (sym moves) kept
+  keeps_moves p zero k m n kept moves = subst (λ (o : Ringed D). KeepsOn disk k o) (sym moves) kept
   keeps_moves p (suc count) k m n kept (mid, made, moves) = keeps_moves p count k mid n (keeps_step p step.Moved k m mid kept made) moves
 
-  keeps_steps : (p : ℕ) (r : Step) (k m n : Plain D) → KeepsOn disk k m → MakesSteps disk p r m n → KeepsOn disk k n
+  keeps_steps : (p : ℕ) (r : Step) (k m n : Ringed D) → KeepsOn disk k m → MakesSteps (MakesRingedStep disk p) r m n → KeepsOn disk k n
   keeps_steps p r k m n kept makes = keeps_step p r k makes.mid n (keeps_moves p makes.moved k m makes.mid kept makes.moves) makes.made
 
-  keeps_shut : (k m n : Plain D) → KeepsOn disk k m → n ≡ with_shutdown m → KeepsOn disk k n
-  keeps_shut k m n kept is = subst (λ (o : Plain D). KeepsOn disk k o) (sym is) (record {
-    runs = runs_on_then disk plain_queues plain_herald k m (with_shutdown m) kept.runs (runs_on_shut disk plain_queues plain_herald m kept.runs.keeps);
-    name = kept.name;
-  })
-
 module _ {D N : Type 0} (disk : Ghosts (FaultyDisk D) (N × Trap)) (stop : ℕ) where
-  keeps_turn : (w : Word) (event : Event) (k : Plain (FaultyDisk D)) (old new : Player D N) → KeepsOn disk k old.kernel → MakesTurn disk stop w event old new → KeepsOn disk k new.kernel
+  keeps_turn : (w : Word) (event : Event) (k : Ringed (FaultyDisk D)) (old new : Player D N) → KeepsOn disk k old.kernel → MakesTurn disk stop w event old new → KeepsOn disk k new.kernel
   keeps_turn (word.Step p) event k old new kept turn =
       keeps_queues disk k turn.stepped new.kernel (keeps_step disk p turn.answer k turn.handed turn.stepped (keeps_queues disk k old.kernel turn.handed kept turn.hands_in.same) turn.steps) turn.polls.same
   keeps_turn (word.Steps p) event k old new kept turn =
       keeps_queues disk k turn.stepped new.kernel (keeps_steps disk p turn.answer k turn.handed turn.stepped (keeps_queues disk k old.kernel turn.handed kept turn.hands_in.same) turn.steps) turn.polls.same
-  keeps_turn word.Shutdown event k old new kept turn = keeps_shut disk k old.kernel new.kernel kept turn.1
+  keeps_turn word.Shutdown event k old new kept turn = subst (λ (o : Ringed (FaultyDisk D)). KeepsOn disk k o) (sym turn.2) kept
 
-  keeps_turns : (words : List Word) (events : List Event) (k : Plain (FaultyDisk D)) (old new : Player D N) → KeepsOn disk k old.kernel → MakesTurns disk stop words events old new → KeepsOn disk k new.kernel
+  keeps_turns : (words : List Word) (events : List Event) (k : Ringed (FaultyDisk D)) (old new : Player D N) → KeepsOn disk k old.kernel → MakesTurns disk stop words events old new → KeepsOn disk k new.kernel
   keeps_turns [] events k old new so makes = subst (λ (o : Player D N). KeepsOn disk k o.kernel) (sym makes.1) so
   keeps_turns (w ∷ words) [] k old new so makes = absurd makes
   keeps_turns (w ∷ words) (event ∷ events) k old new so (mid, turn, rest) = here (is_last event) (keeps_turn w event k old mid so turn) (λ kept_mid more. keeps_turns words events k mid new kept_mid more) rest
@@ -82,7 +76,7 @@ module _ {D N : Type 0} (disk : Ghosts (FaultyDisk D) (N × Trap)) (stop : ℕ) 
       here false so_mid on more = on so_mid more
 
   -- what turns keep of a player's kernel
-  pub turns_keep : (words : List Word) (events : List Event) (old new : Player D N) → Keeps disk plain_queues plain_herald old.kernel → MakesTurns disk stop words events old new → KeepsOn disk old.kernel new.kernel
+  pub turns_keep : (words : List Word) (events : List Event) (old new : Player D N) → Keeps disk ring_ends board_herald old.kernel → MakesTurns disk stop words events old new → KeepsOn disk old.kernel new.kernel
   turns_keep words events old new keeps makes = keeps_turns words events old.kernel old new (keeps_none disk old.kernel keeps) makes
 
 -- what is recovered as the recovered image is recovered as the image before

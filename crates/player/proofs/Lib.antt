@@ -1,6 +1,5 @@
 pub mod Plays
 pub mod Refused
-pub mod Waiting
 pub mod Openings
 pub mod Steps
 mod Disks
@@ -12,3 +11,4 @@ pub mod Asked
 pub mod Unanswered
 pub mod Shown
 pub mod Keeping
+pub mod Seats

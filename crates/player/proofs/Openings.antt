@@ -1,5 +1,5 @@
 -- A whole replay, from the recovery on.
-use Rattle.std.proofs.Common.{◌≡◌, ◌∙◌, ◌<◌, ℕ, List, [], refl, sym, ap, subst, replicate, None, ⊎_elim}
+use Rattle.std.proofs.Common.{◌≡◌, ◌∙◌, ℕ, false, List, refl, sym, ap, subst, replicate, None, ⊎_elim}
 use Rattle.blocks.specs.Disk.{Image, IsSettled, LeavesOnly}
 use Rattle.blocks.specs.Lemmas.Moments.{joined, started}
 use Rattle.blocks.specs.declared.disk.Disk.{Ghosts}
@@ -13,33 +13,34 @@ use Rattle.kernel.specs.Opening.{IsOpened}
 use Rattle.model.specs.Layout.{inode_count_of}
 use Rattle.model.specs.Log.{recovered}
 use Rattle.model.specs.Verdict.{verdict}
-use Rattle.ports.specs.Queues.{waiting, answers}
-use Rattle.ports.specs.declared.herald.PlainHerald.{PlainHerald}
-use Rattle.ports.specs.declared.queues.QueueIntake.{QueueIntake}
+use Rattle.board.specs.Boards.{asked}
+use Rattle.board.specs.declared.herald.BoardHerald.{BoardHerald}
+use Rattle.clients.specs.Sources.{AreNewSources}
+use Rattle.rings.specs.Callers.{intake_names}
+use Rattle.rings.specs.declared.intake.RingIntake.{RingIntake}
 use Rattle.scripts.specs.declared.script.Task.{Task}
 use Rattle.wal.specs.Recovery.{RecoversAs, writes_to_recover}
 use Rattle.player.specs.Afterwards.{IsUnopenedOver, RefusesOver}
-use Rattle.clients.specs.Backlogs.{backlog_at, ops_of}
 use Rattle.player.specs.Opening.{IsOpenedOver}
-use Rattle.player.specs.Stepping.{Plain}
+use Rattle.player.specs.Stepping.{Ringed}
 use Rattle.texts.specs.declared.refusal.Refusal.{Refusal}
-use Rattle.player.specs.declared.turns.Player.{Player}
+use Rattle.player.specs.declared.player.Player.{Player}
 use Rattle.player.proofs.Disks.{faulty}
 use Rattle.opening.specs.Lemmas.Keeping.{leaves_wider}
 use Rattle.player.proofs.Keeping.{recovers_before}
 
--- a player whose kernel was opened with empty queues
-pub opened_over : {D N : Type 0} (disk : Ghosts (FaultyDisk D) (N × Trap)) (d : FaultyDisk D) (i : QueueIntake) (h : PlainHerald) (x : Image) (tasks : List Task) (processes : ℕ) (player : Player D N) → disk.image d ≡ x → IsOpened disk d i h processes player.kernel
-    → ((p : ℕ) → (waiting i p ≡ []) × (answers i p ≡ [])) → ((p : ℕ) → p < processes → backlog_at player.backlogs.items p ≡ ops_of p tasks) → IsOpenedOver disk.image x tasks processes player
-opened_over disk d i h x tasks processes player same opened empty backlogs =
+-- a player whose kernel was opened over new rings
+pub opened_over : {D N : Type 0} (disk : Ghosts (FaultyDisk D) (N × Trap)) (d : FaultyDisk D) (i : RingIntake) (h : BoardHerald) (x : Image) (tasks : List Task) (processes : ℕ) (player : Player D N) → disk.image d ≡ x → IsOpened disk d i h processes player.kernel
+    → AreNewSources (intake_names i) tasks processes player.sources.items → asked player.watch ≡ false → IsOpenedOver disk.image x tasks processes player
+opened_over disk d i h x tasks processes player same opened sources unasked =
     let k = player.kernel in
     record {
       sound = subst (λ y. verdict y ≡ None) same opened.sound;
       recovers = opened.opening ∙ ap recovered same;
       store = subst (λ y. k.store ≡ record { volume = fresh_volume disk.image k.opening; tasks = replicate processes no_task; table = new_table (inode_count_of y) }) same opened.store;
       world = opened.world;
-      queues = subst (λ q. (p : ℕ) → (waiting q p ≡ []) × (answers q p ≡ [])) (sym opened.intake) empty;
-      backlogs = backlogs;
+      sources = subst (λ q. AreNewSources (intake_names q) tasks processes player.sources.items) (sym opened.intake) sources;
+      unasked = unasked;
     }
 
 -- the same over an image that is the recovered one
@@ -56,10 +57,10 @@ module _ {D N : Type 0} (below : Ghosts D N) where
   leaves_below fd fe P only = record { later = only.later; each = only.each; before = only.before; keeps = only.keeps }
 
   -- the disk below a player that was opened
-  pub opened_name : (d : D) (fd : FaultyDisk D) (i : QueueIntake) (h : PlainHerald) (processes : ℕ) (k : Plain (FaultyDisk D)) → fd.inner ≡ d → IsOpened (faulty below) fd i h processes k → below.name k.store.volume.device.inner ≡ below.name d
+  pub opened_name : (d : D) (fd : FaultyDisk D) (i : RingIntake) (h : BoardHerald) (processes : ℕ) (k : Ringed (FaultyDisk D)) → fd.inner ≡ d → IsOpened (faulty below) fd i h processes k → below.name k.store.volume.device.inner ≡ below.name d
   opened_name d fd i h processes k is opened = ap (λ s. below.name s.volume.device.inner) opened.store ∙ ap (λ n. n.0) opened.name ∙ ap below.name is
 
-  pub opened_only : (d : D) (fd : FaultyDisk D) (i : QueueIntake) (h : PlainHerald) (processes : ℕ) (k : Plain (FaultyDisk D)) → fd.inner ≡ d → IsOpened (faulty below) fd i h processes k → LeavesOnly below.moment below.leaves d k.store.volume.device.inner (RecoversAs (below.image d))
+  pub opened_only : (d : D) (fd : FaultyDisk D) (i : RingIntake) (h : BoardHerald) (processes : ℕ) (k : Ringed (FaultyDisk D)) → fd.inner ≡ d → IsOpened (faulty below) fd i h processes k → LeavesOnly below.moment below.leaves d k.store.volume.device.inner (RecoversAs (below.image d))
   opened_only d fd i h processes k is opened =
       subst (λ o. LeavesOnly below.moment below.leaves o k.store.volume.device.inner (RecoversAs (below.image o))) is
       (subst (λ o. LeavesOnly below.moment below.leaves fd.inner o (RecoversAs (below.image fd.inner))) (sym (ap (λ s. s.volume.device.inner) opened.store)) (leaves_below fd k.opening (RecoversAs (below.image fd.inner)) opened.leaves))

@@ -10,7 +10,7 @@ use Rattle.blocks.specs.declared.errors.DiskFault.{DiskFault}
 use Rattle.blocks.specs.declared.faulty.FaultyDisk.{FaultyDisk}
 use Rattle.scripts.specs.declared.schedule.Word.{Word}
 use Rattle.texts.specs.declared.events.Event.{Event}
-use Rattle.player.specs.declared.turns.Player.{Player}
+use Rattle.player.specs.declared.player.Player.{Player}
 use Rattle.texts.specs.Events.{event_line, is_last}
 use Rattle.player.specs.Stepping.{BreaksOff, MakesTurn, MakesTurns, PlaysTo, RunsTo, kernel_counts, kernel_fault}
 use Rattle.player.specs.Turns.{IfLast}

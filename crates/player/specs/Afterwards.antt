@@ -38,9 +38,11 @@ abbrev pub IsUnopenedOver : {D N : Type 0} → Ghosts (FaultyDisk D) (N × Trap)
     → Type 0
 IsUnopenedOver disk processes d e r = HasNoRoom d e r ⊎ RefusesOver disk processes d e r
 
--- why the disk d, now e, was not recovered; or, where it was, why no kernel was opened over it
+-- why the disk d, now e, was not recovered; or, where it was, why no kernel was opened over it;
+-- memory may be refused before either
 abbrev pub IsUnready : {D N : Type 0} → Ghosts D N → Ghosts (FaultyDisk D) (N × Trap) → ℕ → D → D
     → Refusal → Type 0
-IsUnready {D} below disk processes d e r = IsUnrecovered below.image below.fault_count d e r
+IsUnready {D} below disk processes d e r = HasNoRoom d e r
+    ⊎ (IsUnrecovered below.image below.fault_count d e r
     ⊎ ((mid : D) × IsRecovered below (logged_count (below.image d)) d mid
-    × IsUnopenedOver disk processes mid e r)
+    × IsUnopenedOver disk processes mid e r))

@@ -2,7 +2,6 @@ pub mod Refusal
 pub mod Causes
 pub mod Afterwards
 pub mod Turns
-pub mod Handing
 pub mod Stepping
 pub mod Opening
 pub mod Asking

@@ -1,5 +1,5 @@
 -- A player at its opening, and a whole replay.
-use Rattle.std.specs.Prelude.{◌≡◌, ◌<◌, ℕ, List, [], replicate, Option, Some, None}
+use Rattle.std.specs.Prelude.{◌≡◌, ℕ, false, List, replicate, Option, Some, None}
 use Rattle.blocks.specs.Disk.{Image, LeavesOnly}
 use Rattle.blocks.specs.declared.errors.DiskFault.{DiskFault}
 use Rattle.blocks.specs.FaultyDisk.{inner_of, trap_of}
@@ -15,18 +15,19 @@ use Rattle.blocks.specs.Disk.{counted}
 use Rattle.model.specs.Layout.{inode_count_of}
 use Rattle.model.specs.Log.{logged_count, recovered}
 use Rattle.model.specs.Verdict.{verdict}
-use Rattle.ports.specs.Queues.{waiting, answers}
 use Rattle.scripts.specs.declared.schedule.Word.{Word}
 use Rattle.scripts.specs.declared.script.Task.{Task}
 use Rattle.journal.specs.Keeps.{KeepsBetween, most_of}
 use Rattle.kernel.specs.Runs.{RunsOn}
 use Rattle.wal.specs.Recovery.{RecoversAs, writes_to_recover}
 use Rattle.player.specs.Afterwards.{IsUnready}
-use Rattle.clients.specs.Backlogs.{backlog_at, ops_of}
-use Rattle.player.specs.Stepping.{BreaksOff, Plain, RunsTo}
+use Rattle.board.specs.Boards.{asked}
+use Rattle.clients.specs.Sources.{AreNewSources}
+use Rattle.rings.specs.Callers.{intake_names}
+use Rattle.player.specs.Stepping.{BreaksOff, Ringed, RunsTo}
 use Rattle.texts.specs.declared.refusal.Refusal.{Refusal}
 use Rattle.texts.specs.declared.refusal.Refusal.TheVariants.{Disk, Output}
-use Rattle.player.specs.declared.turns.Player.{Player}
+use Rattle.player.specs.declared.player.Player.{Player}
 
 -- The player of these operations, of so many processes, over a disk whose image was x: the image
 -- was recovered, a kernel was opened over it, and nothing was handed in.
@@ -40,9 +41,9 @@ pub record IsOpenedOver {D N : Type 0} (image : FaultyDisk D → Image) (x : Ima
     table = new_table (inode_count_of x);
   }
   pub world : player.kernel.world ≡ fresh_world processes
-  pub queues : (p : ℕ)
-      → (waiting player.kernel.intake p ≡ []) × (answers player.kernel.intake p ≡ [])
-  pub backlogs : (p : ℕ) → p < processes → backlog_at player.backlogs.items p ≡ ops_of p tasks
+  pub sources : AreNewSources (intake_names player.kernel.intake) tasks processes
+      player.sources.items
+  pub unasked : asked player.watch ≡ false
 
 -- The write of that number, from 1, is the one that isn't made, counted from here on: since the
 -- trap was set no write was counted, and no fault.
@@ -68,7 +69,7 @@ pub record IsReadyOver {D N : Type 0} (below : Ghosts D N) (disk : Ghosts (Fault
       d (inner_of player.kernel.store.volume.device) (RecoversAs (below.image d))
 
 -- what a stop leaves that keeps some of the groups that a kernel committed, on a disk that was d
-abbrev pub KeepsSome : {D N : Type 0} → Ghosts (FaultyDisk D) (N × Trap) → Plain (FaultyDisk D)
+abbrev pub KeepsSome : {D N : Type 0} → Ghosts (FaultyDisk D) (N × Trap) → Ringed (FaultyDisk D)
     → Image → Type 0
 KeepsSome disk k x = KeepsBetween 0 (most_of k.store.volume) (disk.image k.opening)
     k.world.journal.list x

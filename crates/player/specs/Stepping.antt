@@ -1,31 +1,37 @@
--- What turns make of a player: of its kernel, and of the operations that wait to be handed in.
-use Rattle.std.specs.Prelude.{◌≡◌, ◌≢◌, ℕ, zero, suc, ◌-◌, ◌<◌, false, List, [], ◌∷◌, ◌++◌, flat_map, take, Option, Some, option_to_list}
+-- What steps and turns make of a kernel, and of the operations that wait to be handed in.
+use Rattle.std.specs.Prelude.{◌≡◌, ◌≢◌, ℕ, zero, suc, ◌-◌, ◌<◌, true, false, length, List, [], ◌∷◌, ◌++◌, flat_map, set, slice_get, take, Option, Some, None}
 use Rattle.std.specs.Io.KnownBytes.{Appends}
+use mathlib.Core.List.{IsPrefix}
 use Rattle.blocks.specs.declared.errors.DiskFault.{DiskFault}
 use Rattle.blocks.specs.declared.disk.Disk.{Ghosts}
 use Rattle.blocks.specs.declared.faulty.Trap.{Trap}
 use Rattle.blocks.specs.FaultyDisk.{has_fired}
 use Rattle.blocks.specs.declared.faulty.FaultyDisk.{FaultyDisk}
-use Rattle.ports.specs.History.{first_in}
+use Rattle.model.specs.declared.types.operations.Answer.{Answer}
 use Rattle.ports.specs.PlainHerald.{count_of, IsSame, CountsOne}
-use Rattle.ports.specs.Queues.{waiting, answers, queue_count, queue_name, queue_side, OthersWait, QueueFits}
+use Rattle.ports.specs.Queues.{queue_count, queue_name, queue_side, QueueFits}
 use Rattle.ports.specs.declared.herald.Herald.{Ghosts as Heralds}
 use Rattle.ports.specs.declared.intake.Intake.{Ghosts as Intakes}
 use Rattle.ports.specs.declared.herald.PlainHerald.{PlainHerald}
 use Rattle.ports.specs.declared.queues.QueueIntake.{QueueIntake}
+use Rattle.board.specs.Boards.{HasHeeded, HasPublished, WatchOf, asked, heard, published}
+use Rattle.board.specs.declared.herald.BoardHerald.{BoardHerald}
+use Rattle.rings.specs.Callers.{Meets, intake_count, intake_names, intake_side, polled, submitted, unpolled, IntakeFits}
+use Rattle.rings.specs.declared.caller.Caller.{Caller}
+use Rattle.rings.specs.declared.intake.RingIntake.{RingIntake}
+use Rattle.rings.specs.declared.name.Names.{Names}
 use Rattle.scripts.specs.declared.schedule.Word.{Word}
 use Rattle.scripts.specs.declared.schedule.Word.TheVariants as word
+use Rattle.clients.specs.Backlogs.{backlog_of}
+use Rattle.clients.specs.Sources.{HasHandedIn, HaveSourceRings, source_ops}
+use Rattle.clients.specs.declared.source.Source.{Source}
 use Rattle.kernel.specs.declared.types.Step.{Step}
 use Rattle.kernel.specs.declared.types.Step.TheVariants as step
-use Rattle.kernel.specs.Runs.{with_shutdown}
 use Rattle.kernel.specs.State.{State}
 use Rattle.kernel.specs.Steps.{MakesStep}
-use Rattle.clients.specs.declared.backlog.Backlog.{Backlog}
 use Rattle.texts.specs.declared.events.Event.{Event}
 use Rattle.texts.specs.declared.events.Event.TheVariants.{Shut}
-use Rattle.player.specs.declared.turns.Player.{Player}
-use Rattle.clients.specs.Backlogs.{backlog_at}
-use Rattle.player.specs.Handing.{HasHandedIn}
+use Rattle.player.specs.declared.player.Player.{Player}
 use Rattle.texts.specs.declared.refusal.Refusal.{Refusal}
 use Rattle.texts.specs.declared.refusal.Refusal.TheVariants.{Disk, Output}
 use Rattle.texts.specs.Events.{event_line, is_last}
@@ -53,67 +59,132 @@ plain_herald = record { count = count_of; told = λ h. false; asks = IsSame; hea
 abbrev pub MakesPlainStep : {D N : Type 0} → Ghosts D N → ℕ → Step → Plain D → Plain D → Type 0
 MakesPlainStep disk p r k m = MakesStep disk plain_queues plain_herald p r k m
 
--- n steps of process p, each of which moves, make m of k
-unfoldable pub Moves : {D N : Type 0} → Ghosts D N → ℕ → ℕ → Plain D → Plain D → Type 0
-Moves disk p zero k m = m ≡ k
-Moves {D} disk p (suc n) k m =
-    (mid : Plain D) × MakesPlainStep disk p step.Moved k mid × Moves disk p n mid m
+-- a kernel over rings and a board
+abbrev pub Ringed : Type 0 → Type 0
+Ringed D = State D RingIntake BoardHerald
 
--- Steps of process p make m of k: fewer than 2,000 that move, and one that doesn't and answers r.
-pub record MakesSteps {D N : Type 0} (disk : Ghosts D N) (p : ℕ) (r : Step)
-    (k m : Plain D) : Type 0 where
+-- what contracts see of rings
+abbrev pub ring_ends : Intakes RingIntake (Option Names)
+ring_ends = record {
+  name = intake_names;
+  process_count = intake_count;
+  side = intake_side;
+  fits = IntakeFits;
+}
+
+-- and of a board's herald
+abbrev pub board_herald : Heralds BoardHerald
+board_herald = record {
+  count = λ h. published h.keeper;
+  told = λ h. heard h.keeper;
+  asks = λ old new. HasHeeded old.keeper new.keeper;
+  hears = λ old new. HasPublished old.keeper new.keeper;
+}
+
+abbrev pub MakesRingedStep : {D N : Type 0} → Ghosts D N → ℕ → Step → Ringed D → Ringed D → Type 0
+MakesRingedStep disk p r k m = MakesStep disk ring_ends board_herald p r k m
+
+-- n steps, each of which moves, make m of k, where one step does as `steps` says
+unfoldable pub Moves : {K : Type 0} → (Step → K → K → Type 0) → ℕ → K → K → Type 0
+Moves steps zero k m = m ≡ k
+Moves {K} steps (suc n) k m = (mid : K) × steps step.Moved k mid × Moves steps n mid m
+
+-- Steps make m of k: fewer than 2,000 that move, and one that doesn't and answers r.
+pub record MakesSteps {K : Type 0} (steps : Step → K → K → Type 0) (r : Step) (k m : K)
+    : Type 0 where
   pub moved : ℕ
-  pub mid : Plain D
-  pub moves : Moves disk p moved k mid
+  pub mid : K
+  pub moves : Moves steps moved k mid
   pub few : moved < 2000
   pub last : r ≢ step.Moved
-  pub made : MakesPlainStep disk p r mid m
+  pub made : steps r mid m
 
--- Operations of process p went from the front of its backlog to the end of its queue, until none
--- was left, or the queue was full, or no number was left. No other process's backlog or queue
--- changed, and nothing else of the kernel.
-pub record HandsIn {D : Type 0} (p : ℕ) (k : Plain D) (b : List Backlog) (m : Plain D)
-    (c : List Backlog) : Type 0 where
-  pub order : waiting m.intake p ++ backlog_at c p ≡ waiting k.intake p ++ backlog_at b p
-  pub all : HasHandedIn p m (backlog_at c p)
-  pub unpolled : answers m.intake p ≡ answers k.intake p
-  pub others : (q : ℕ) → q ≢ p → backlog_at c q ≡ backlog_at b q
-  pub queues : OthersWait k.intake m.intake p
-  pub same : m ≡ record k { intake = m.intake }
+-- nothing of the kernel changed but its ends of the rings
+abbrev pub HasSame : {D : Type 0} → Ringed D → Ringed D → Type 0
+HasSame k m = m ≡ record k { intake = m.intake }
 
--- the oldest answer of process p was taken, if there was one, and nothing else of the kernel
--- changed
-pub record Polls {D : Type 0} (p : ℕ) (k m : Plain D) : Type 0 where
-  pub oldest : answers k.intake p
-      ≡ option_to_list (first_in (answers k.intake p)) ++ answers m.intake p
-  pub untaken : waiting m.intake p ≡ waiting k.intake p
-  pub queues : OthersWait k.intake m.intake p
-  pub same : m ≡ record k { intake = m.intake }
+-- both ends of the rings of process p met, and no other source changed
+pub record MeetsAt (p : ℕ) (i : RingIntake) (b : List Source) (j : RingIntake) (c : List Source)
+    : Type 0 where
+  pub source : Source
+  pub met : Caller
+  pub is : slice_get b p ≡ Some source
+  pub set : c ≡ set b p (record source { caller = met })
+  pub meets : Meets i p source.caller j met
 
--- The turn of process p: its operations are handed in, its steps are made, and the event tells what
--- they came to.
+-- Both ends of the rings of process p met, and then its source handed in what its ring takes. No
+-- other source changed, and nothing of the kernel but what it knows of that ring.
+pub record HandsIn {D : Type 0} (p : ℕ) (k : Ringed D) (b : List Source) (m : Ringed D)
+    (c : List Source) : Type 0 where
+  pub source : Source
+  pub met : Caller
+  pub now : Source
+  pub is : slice_get b p ≡ Some source
+  pub set : c ≡ set b p now
+  pub meets : Meets k.intake p source.caller m.intake met
+  pub ops : source_ops now ≡ submitted met ++ backlog_of source.backlog
+  pub polled : polled now.caller ≡ polled met
+  pub all : HasHandedIn now
+  pub same : HasSame k m
+
+-- the oldest answer of those that a caller knew was polled, if there was one
+abbrev pub TakesOldest : Option Answer → Caller → Caller → Type 0
+TakesOldest None old new = (polled new ≡ polled old) × (unpolled old ≡ [])
+TakesOldest (Some a) old new = (polled new ≡ polled old ++ a ∷ [])
+    × IsPrefix (unpolled old) (a ∷ unpolled new)
+
+-- Both ends of the rings of process p met, so that its caller knew all answers that were given, and
+-- then it polled the oldest. No other source changed, and nothing of the kernel but what it knows of
+-- that ring.
+pub record Polls {D : Type 0} (p : ℕ) (answer : Option Answer) (k : Ringed D) (b : List Source)
+    (m : Ringed D) (c : List Source) : Type 0 where
+  pub source : Source
+  pub met : Caller
+  pub now : Source
+  pub is : slice_get b p ≡ Some source
+  pub set : c ≡ set b p now
+  pub meets : Meets k.intake p source.caller m.intake met
+  pub takes : TakesOldest answer met now.caller
+  pub untouched : (submitted now.caller ≡ submitted met) × (now.backlog ≡ source.backlog)
+  pub same : HasSame k m
+
+-- the watch is of the player's board, and each process has a source, of its own rings
+pub record IsSeated {D N : Type 0} (player : Player D N) : Type 0 where
+  pub watched : WatchOf player.board.now player.watch
+  pub ringed : HaveSourceRings (intake_names player.kernel.intake) player.sources.items
+  pub many : length player.sources.items ≡ length player.kernel.world.processes
+
+-- it still has its board and its watch
+abbrev pub HasItsWatch : {D N : Type 0} → Player D N → Player D N → Type 0
+HasItsWatch old new = (new.board ≡ old.board) × (new.watch ≡ old.watch)
+
+-- The turn of process p: its operations are handed in, its steps are made, its oldest answer is
+-- polled, and the event tells what they came to.
 pub record MakesTurnOf {D N : Type 0}
-    (makes : Step → Plain (FaultyDisk D) → Plain (FaultyDisk D) → Type 0) (stop p : ℕ)
+    (makes : Step → Ringed (FaultyDisk D) → Ringed (FaultyDisk D) → Type 0) (stop p : ℕ)
     (event : Event) (old new : Player D N) : Type 0 where
-  pub handed : Plain (FaultyDisk D)
-  pub stepped : Plain (FaultyDisk D)
+  pub handed : Ringed (FaultyDisk D)
+  pub stepped : Ringed (FaultyDisk D)
+  pub sources : List Source
   pub answer : Step
-  pub hands_in : HandsIn p old.kernel old.backlogs.items handed new.backlogs.items
+  pub polled : Option Answer
+  pub hands_in : HandsIn p old.kernel old.sources.items handed sources
   pub steps : makes answer handed stepped
-  pub polls : Polls p stepped new.kernel
-  pub tells : event
-      ≡ event_of (has_fired stepped.store.volume.device) stop p answer
-      (first_in (answers stepped.intake p))
+  pub polls : Polls p polled stepped sources new.kernel new.sources.items
+  pub tells : event ≡ event_of (has_fired stepped.store.volume.device) stop p answer polled
+  pub watch : HasItsWatch old new
 
--- the turn of a word, where that write is stopped, makes new of old, and comes to the event
+-- the turn of a word, where that write is stopped, makes new of old, and comes to the event; a
+-- shutdown is asked for by the watch, and the next beginning hears of it
 abbrev pub MakesTurn : {D N : Type 0} → Ghosts (FaultyDisk D) (N × Trap) → ℕ → Word → Event
     → Player D N → Player D N → Type 0
 MakesTurn disk stop (word.Step p) event old new =
-    MakesTurnOf (MakesPlainStep disk p) stop p event old new
+    MakesTurnOf (MakesRingedStep disk p) stop p event old new
 MakesTurn disk stop (word.Steps p) event old new =
-    MakesTurnOf (MakesSteps disk p) stop p event old new
+    MakesTurnOf (MakesSteps (MakesRingedStep disk p)) stop p event old new
 MakesTurn disk stop word.Shutdown event old new =
-    (event ≡ Shut) × (new.kernel ≡ with_shutdown old.kernel) × (new.backlogs ≡ old.backlogs)
+    (event ≡ Shut) × (asked new.watch ≡ true) × (new.kernel ≡ old.kernel)
+    × (new.sources ≡ old.sources)
 
 -- the turns of these words, one for each up to the last that is made, make new of old, and come to
 -- these events
@@ -134,12 +205,12 @@ pub record PlaysTo {D N : Type 0} (disk : Ghosts (FaultyDisk D) (N × Trap)) (st
   pub lines : Appends text printed (flat_map event_line events)
 
 -- the counts of a kernel, of writes over a disk that had counted `base` of them before
-abbrev pub kernel_counts : {D N : Type 0} → Ghosts D N → ℕ → Plain D → List ℕ
+abbrev pub kernel_counts : {D N : Type 0} → Ghosts D N → ℕ → Ringed D → List ℕ
 kernel_counts disk base k =
     counts_text (disk.write_count k.store.volume.device - base) k.store.volume.log.committed
 
 -- the fault that is told of a kernel's disk
-abbrev pub kernel_fault : {D : Type 0} → Plain (FaultyDisk D) → Option DiskFault
+abbrev pub kernel_fault : {D : Type 0} → Ringed (FaultyDisk D) → Option DiskFault
 kernel_fault k = told_fault (has_fired k.store.volume.device) k.store.volume.fault
 
 -- The turns of these words made new of old, and a line was printed for each; behind them the counts

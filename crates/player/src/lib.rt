@@ -8,8 +8,9 @@
 
 mod asking;
 mod checking;
-mod handing;
 mod making;
+mod meeting;
+mod player;
 mod playing;
 mod recovering;
 mod replaying;
@@ -20,7 +21,8 @@ mod turns;
 
 pub use checking::check_disk;
 pub use making::make_disk;
+pub use player::Player;
 pub use recovering::{recover_disk, recover_image};
 pub use replaying::replay_disk;
 pub use showing::cat_disk;
-pub use turns::{Outcome, Player, open_player};
+pub use turns::{Hands, Outcome, open_player};

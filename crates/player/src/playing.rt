@@ -4,11 +4,11 @@ ghost use Rattle.std.specs.Io.KnownBytes.{Appends};
 ghost use Rattle.std.specs.List.{list_all};
 ghost use Rattle.scripts.specs.Schedule.{is_word_of};
 ghost use Rattle.texts.specs.declared.refusal.Refusal.TheVariants as refusal;
-ghost use Rattle.player.specs.Stepping.{BreaksOff, IsBrokenOff, PlaysTo, RunsTo, kernel_counts, kernel_fault};
+ghost use Rattle.player.specs.Stepping.{BreaksOff, IsBrokenOff, IsSeated, PlaysTo, RunsTo, kernel_counts, kernel_fault};
 ghost use Rattle.kernel.specs.Runs.{RunsOn};
 ghost use Rattle.player.specs.Refusal.{OnRefusal};
 
-use crate::turns::Player;
+use crate::player::Player;
 use blocks::{Disk, FaultyDisk};
 use scripts::Word;
 use std::io::Write;
@@ -23,13 +23,15 @@ use texts::{Refusal, print, print_counts};
 /// `Output`, and then the turns of the first words were made; else `Disk` where a step found that
 /// the disk failed, and then all was printed.
 pub fn run<D: Disk + Drop, O: Write>(
-    player: &mut Player<D>,
+    player: &mut Player<'_, D>,
     words: &[Word],
     stop: u64,
     base: u64,
     out: &mut O,
 ) -> Result<(), Refusal>
-    requires { IsTrue (list_all (is_word_of (length player.old.kernel.world.processes)) words.now) }
+    requires words { IsTrue
+        (list_all (is_word_of (length player.old.kernel.world.processes)) words.now) }
+    requires seated { IsSeated player.old }
     ensures printed { OnOk result (RunsTo ⟦<FaultyDisk<D> as Disk>⟧ stop base words.now
         player.old player.new None (O.contents out.old) (O.contents out.new)) }
     ensures refused { IfErr result (IsBrokenOff ⟦<FaultyDisk<D> as Disk>⟧ stop base words.now
@@ -45,12 +47,14 @@ pub fn run<D: Disk + Drop, O: Write>(
 
 // Makes the turns of the words, and prints a line for each, up to the last that can be made.
 fn play<D: Disk + Drop, O: Write>(
-    player: &mut Player<D>,
+    player: &mut Player<'_, D>,
     words: &[Word],
     stop: u64,
     out: &mut O,
 ) -> Result<(), Refusal>
-    requires { IsTrue (list_all (is_word_of (length player.old.kernel.world.processes)) words.now) }
+    requires words { IsTrue
+        (list_all (is_word_of (length player.old.kernel.world.processes)) words.now) }
+    requires seated { IsSeated player.old }
     ensures printed { OnOk result (PlaysTo ⟦<FaultyDisk<D> as Disk>⟧
         stop words.now player.old player.new (O.contents out.old) (O.contents out.new)) }
     ensures err { IsOkUnless result refusal.Output }
@@ -68,7 +72,7 @@ fn play<D: Disk + Drop, O: Write>(
 
 // Prints what the turns came to.
 fn close<D: Disk + Drop, O: Write>(
-    player: &Player<D>,
+    player: &Player<'_, D>,
     base: u64,
     out: &mut O,
 ) -> Result<(), Refusal>

@@ -1,19 +1,23 @@
 // A script's operations over a disk, in the turns of a schedule.
-ghost use Rattle.std.specs.Prelude.{◌≡◌, ◌<◌, length, All, IsTrue, IfOk, OnOk, IfErr, None, unwrap_or};
+ghost use Rattle.std.specs.Prelude.{◌≡◌, ◌<◌, false, length, All, IsTrue, IfOk, OnOk, IfErr, IsOkUnless, None, unwrap_or};
+ghost use Rattle.board.specs.Boards.{KeeperOf, WatchOf, asked, published};
 ghost use Rattle.std.specs.List.{list_all};
 ghost use Rattle.scripts.specs.Schedule.{is_word_of};
 ghost use Rattle.player.specs.Opening.{HasNotBegun, IsNotReplayed, IsReadyOver, Replays};
 ghost use Rattle.opening.specs.Openings.{IsOpening};
 ghost use Rattle.player.specs.Refusal.{IsOfReplay};
+ghost use Rattle.player.specs.Stepping.{IsSeated};
 
+use crate::player::Player;
 use crate::playing::run;
 use crate::recovering::recover_image;
-use crate::turns::{Player, open_player};
+use crate::turns::{Hands, open_player};
 use blocks::{Disk, FaultyDisk};
+use board::Board;
 use scripts::{Task, Word};
 use std::alloc::Global;
 use std::io::Write;
-use texts::Refusal;
+use texts::{KernelFault, Refusal};
 
 /// Recovers the image of a disk, and makes the operations of a script of so many processes in the
 /// turns of a schedule. Prints a line for each word of the schedule, up to the one in whose turn
@@ -26,8 +30,9 @@ use texts::Refusal;
 ///
 /// # Errors
 ///
-/// A fault of `recover_image` or of the kernel's opening: then nothing was printed, and whatever a
-/// stop leaves is recovered to the same image. `Output`, and then the turns of the first words were
+/// A fault of `recover_image` or of the kernel's opening, with `NoMemory` also where memory for the
+/// board, the operations or the rings is refused: then nothing was printed, and whatever a stop
+/// leaves is recovered to the same image. `Output`, and then the turns of the first words were
 /// made. `Disk` where a step found that the disk failed, and then all was printed.
 pub fn replay_disk<D: Disk + Drop, O: Write>(
     alloc: Global,
@@ -50,7 +55,12 @@ pub fn replay_disk<D: Disk + Drop, O: Write>(
     ensures name { D.name result.1 ≡ D.name disk }
 {
     let stop = stop.unwrap_or(0);
-    let (mut player, base) = match open_recovered(alloc, disk, tasks, processes, stop) {
+    let (board, hands) = match take_board(alloc) {
+        Ok(made) => made,
+        Err(fault) => return (Err(fault.into()), disk),
+    };
+    let opened = open_recovered(alloc, &board, hands, disk, tasks, processes, stop);
+    let (mut player, base) = match opened {
         Ok(opened) => opened,
         Err((refusal, disk)) => return (Err(refusal), disk),
     };
@@ -58,19 +68,39 @@ pub fn replay_disk<D: Disk + Drop, O: Write>(
     (ran, player.into_disk())
 }
 
+// A board, and a player's hands at it.
+fn take_board(alloc: Global) -> Result<(Board, Hands), KernelFault>
+    ensures keeper { IfOk result (λ made. KeeperOf made.0 made.1.keeper
+        × (published made.1.keeper ≡ 0)) }
+    ensures watch { IfOk result (λ made. WatchOf made.0 made.1.watch
+        × (asked made.1.watch ≡ false)) }
+    ensures err { IsOkUnless result KernelFault.NoMemory }
+{
+    let (board, keeper, mut watches) = Board::new(alloc, 1)?;
+    let Some(watch) = watches.pop() else {
+        unreachable!()
+    };
+    Ok((board, Hands { keeper, watch }))
+}
+
 // Recovers the image of a disk, and opens a player over it. How many writes the disk had counted
-// then.
-fn open_recovered<D: Disk + Drop>(
+// then. The hands are of that board.
+fn open_recovered<'a, D: Disk + Drop>(
     alloc: Global,
+    board: &'a Board,
+    hands: Hands,
     mut disk: D,
     tasks: Vec<Task>,
     processes: u32,
     stop: u64,
-) -> Result<(Player<D>, u64), (Refusal, D)>
-    requires { All (λ task. task.pid < processes) tasks.items }
+) -> Result<(Player<'a, D>, u64), (Refusal, D)>
+    requires tasks { All (λ task. task.pid < processes) tasks.items }
+    requires keeper { KeeperOf board.now hands.keeper × (published hands.keeper ≡ 0) }
+    requires watch { WatchOf board.now hands.watch × (asked hands.watch ≡ false) }
     ensures ready { IfOk result (λ made. IsReadyOver D.Disk ⟦<FaultyDisk<D> as Disk>⟧
         disk tasks.items processes stop made.0) }
     ensures processes { IfOk result (λ made. length made.0.kernel.world.processes ≡ processes) }
+    ensures seated { IfOk result (λ made. IsSeated made.0) }
     ensures base { IfOk result (λ made. made.1
         ≡ ⟦<FaultyDisk<D> as Disk>⟧.write_count made.0.kernel.store.volume.device) }
     ensures refused { IfErr result (λ e. HasNotBegun D.Disk ⟦<FaultyDisk<D> as Disk>⟧
@@ -81,6 +111,6 @@ fn open_recovered<D: Disk + Drop>(
         return Err((refusal, disk));
     }
     let base = disk.writes();
-    let player = open_player(alloc, disk, tasks, processes, stop)?;
+    let player = open_player(alloc, board, hands, disk, tasks, processes, stop)?;
     Ok((player, base))
 }

@@ -72,7 +72,10 @@ fn a_run_tells_of_a_failing_disk(rt: HostRuntime) -> Result<(), Fail> {
     assert!(rt; matches!(ended, Err(Refusal::Disk(DiskFault(2)))));
     assert!(rt; disk.fired());
     let out = String::from_utf8(out)?;
-    assert_eq!(rt; out.as_str(), "0 1 made 1\n0 submitted 3 begun 2 left 1 kept 1\n");
+    assert_eq!(rt;
+        out.as_str(),
+        "0 1 made 1\n0 submitted 3 begun 2 left 1 kept 1\n"
+    );
     Ok(())
 }
 

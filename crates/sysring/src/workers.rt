@@ -18,7 +18,7 @@ use std::time::Duration;
 // wakes nobody: twice as long after each further one, up to the longest.
 const SHORTEST_REST: u64 = 50;
 
-const LONGEST_REST: u64 = 3200;
+const LONGEST_REST: u64 = 5000;
 
 /// What is called outside the lock, round each step.
 pub trait Gate {

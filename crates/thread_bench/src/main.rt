@@ -15,12 +15,11 @@ use layout::mkfs;
 use model::types::{Answer, Op, Reply};
 use ports::Intake;
 use std::alloc::{AllocGlobal, Global};
-use std::env;
 use std::rt::Clock;
 use std::sync::Wait;
-use std::thread;
 use std::thread::Threads;
 use std::time::Duration;
+use std::{env, thread};
 use sysring::{Board, BoardHerald, Caller, Gate, RingIntake, Watch, rings, serve_while};
 
 const PROCESSES: u32 = 32;

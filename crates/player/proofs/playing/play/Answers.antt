@@ -24,6 +24,7 @@ pub loop-word-preserved : goal.loop-word-preserved
 loop-word-preserved g c = record {
   played = one_played (faulty g.D.Disk) c.args.stop c.args.words.now c.loop-word.word-index _ _ _ _ _ _ c.turn-event.result c.loop-word.invariant.played c.loop-word-test.true (next_word c.args.words.now c.loop-word.word-index (word.Step 0) c.loop-word-test.true)
       c.turn-event.ensures.makes _ (sym c.is_last.ensures ∙ c.if-is_last.false) c.in_ok-print.ensures.ok;
+  seated = c.turn-event.ensures.seated;
   processes = c.turn-event.ensures.processes ∙ c.loop-word.invariant.processes;
 }
 

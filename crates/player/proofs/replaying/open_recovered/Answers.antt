@@ -12,7 +12,7 @@ use Rattle.player.proofs.replaying.open_recovered.Goals as goal
 
 pub returns-in-Err-clause-refused : goal.returns-in-Err-clause-refused
 returns-in-Err-clause-refused g c = record {
-  cause = inl c.in-Err.ensures.refused;
+  cause = inr (inl c.in-Err.ensures.refused);
   name = c.recover_image.ensures.name;
   leaves = c.recover_image.ensures.any_moment;
 }
@@ -28,7 +28,7 @@ returns-in_err-player-clause-refused g c =
     let same : c.from_residual.result ≡ Err e = search rules in
     subst (λ o. IfErr o (λ f. HasNotBegun g.D.Disk (faulty g.D.Disk) c.args.disk f.1 c.args.processes f.0)) (sym same)
     (record {
-      cause = inr (mid, subst (λ n. IsRecovered g.D.Disk n c.args.disk mid) r.count r, c.in_err-player.ensures.refused);
+      cause = inr (inr (mid, subst (λ n. IsRecovered g.D.Disk n c.args.disk mid) r.count r, c.in_err-player.ensures.refused));
       name = over_name g.D.Disk c.args.processes mid e.1 e.0 c.in_err-player.ensures.refused ∙ c.recover_image.ensures.name;
       leaves = recovered_then g.D.Disk c.args.disk mid e.1 r.sound r.image c.recover_image.ensures.any_moment (over_only g.D.Disk g.met.D.Disk.only_now c.args.processes mid e.1 e.0 c.in_err-player.ensures.refused);
     })

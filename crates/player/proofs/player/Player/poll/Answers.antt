@@ -1,0 +1,19 @@
+use Rattle.std.proofs.Common.{length, refl}
+use Rattle.std.proofs.lemmas.Option.{slice_get_read}
+use Rattle.std.specs.Vec.{with_item}
+use Rattle.player.proofs.Seats.{polls_then, takes, low_in, set_seated}
+use Rattle.player.proofs.player.Player.poll.Goals as goal
+
+pub returns-clause-polls : goal.returns-clause-polls
+returns-clause-polls g c =
+    let met = c.meet.new.self in
+    let low = low_in c.args.pid c.args.self.now met c.requires.pid c.meet.ensures.same c.meet.ensures.seated in
+    polls_then c.args.pid c.args.self.now.kernel met.kernel c.args.self.now.sources.items met.sources.items c.meet.ensures.meets c.index_mut.result.now c.poll.new.self
+    (slice_get_read met.sources.items (length met.sources.items) c.args.pid c.index_mut.result.now refl low c.index_mut.ensures.value) c.meet.ensures.same c.poll.result (takes c.poll.result c.index_mut.result.now.caller c.poll.new.self.caller c.poll.ensures.some c.poll.ensures.oldest c.poll.ensures.none c.poll.ensures.succeeds) c.poll.ensures.untouched
+
+pub returns-clause-seated : goal.returns-clause-seated
+returns-clause-seated g c =
+    let met = c.meet.new.self in
+    let low = low_in c.args.pid c.args.self.now met c.requires.pid c.meet.ensures.same c.meet.ensures.seated in
+    set_seated met (record { alloc = met.alloc; kernel = met.kernel; board = met.board; watch = met.watch; sources = with_item met.sources c.args.pid c.poll.new.self }) c.meet.ensures.seated (refl, refl) (λ q. refl) refl
+    c.args.pid c.index_mut.result.now c.poll.new.self (slice_get_read met.sources.items (length met.sources.items) c.args.pid c.index_mut.result.now refl low c.index_mut.ensures.value) c.poll.ensures.same.0 refl

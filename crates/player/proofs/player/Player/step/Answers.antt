@@ -1,0 +1,8 @@
+use Rattle.std.proofs.Common.{refl}
+use Rattle.player.proofs.Seats.{still_seated}
+use Rattle.player.proofs.player.Player.step.Goals as goal
+
+pub returns-clause-seated : goal.returns-clause-seated
+returns-clause-seated g c =
+    let old = c.args.self.now in
+    still_seated old (record { alloc = old.alloc; kernel = c.step.new.self; board = old.board; watch = old.watch; sources = old.sources }) c.requires.seated (refl, refl) c.step.ensures.acts.sides.names c.step.ensures.many refl
