@@ -1,10 +1,11 @@
 -- What a client is.
-use Rattle.std.specs.Prelude.{◌≡◌, ℕ, List, [], Option, Some, None, length, slice_get}
+use Rattle.std.specs.Prelude.{◌≡◌, ◌⊎◌, ◌≤◌, ℕ, List, [], Option, Some, None, length, slice_get}
 use Rattle.model.specs.declared.types.operations.Op.{Op}
+use Rattle.rings.specs.Callers.{answers_known, polled}
 use Rattle.rings.specs.declared.name.Names.{Names}
 use Rattle.scripts.specs.declared.script.Task.{Task}
 use Rattle.clients.specs.Backlogs.{ops_of}
-use Rattle.clients.specs.Sources.{source_names, source_ops}
+use Rattle.clients.specs.Sources.{HasHandedIn, source_names, source_ops}
 use Rattle.clients.specs.declared.client.Client.{Client}
 
 -- the rings that it has
@@ -46,3 +47,15 @@ IsSameClient old new = (client_names new ≡ client_names old) × (client_ops ne
 abbrev pub AreSameClients : List Client → List Client → Type 0
 AreSameClients old new = (names : ℕ → Option Names) (tasks : List Task) (processes : ℕ)
     → AreClients names tasks processes old → AreClients names tasks processes new
+
+-- no answer is known to it, or it has one for each operation
+abbrev pub HasPolled : Client → Type 0
+HasPolled c = (answers_known c.source.caller ≡ 0)
+    ⊎ (length (client_ops c) ≤ length (polled c.source.caller))
+
+-- it has handed in what its ring takes, and polled what there is
+abbrev pub IsCalled : Client → Type 0
+IsCalled c = HasHandedIn c.source × HasPolled c
+
+abbrev pub AreCalled : List Client → Type 0
+AreCalled cs = (p : ℕ) (c : Client) → slice_get cs p ≡ Some c → IsCalled c

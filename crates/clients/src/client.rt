@@ -1,12 +1,12 @@
 // A caller with the operations of a script.
-ghost use Rattle.std.specs.Prelude.{◌≡◌, [], length};
+ghost use Rattle.std.specs.Prelude.{◌≡◌, ◌≤◌, length};
 ghost use Rattle.rings.specs.Callers.{polled, submitted};
 ghost use Rattle.clients.specs.Backlogs.{backlog_of};
 ghost use Rattle.clients.specs.Sources.{source_ops};
 
 use crate::source::Source;
 use model::types::Answer;
-use rings::{Caller, PLACES};
+use rings::Caller;
 use std::alloc::{AllocError, Global};
 
 /// A process's caller, the operations that it still has to hand in, and the answers that it got.
@@ -18,14 +18,16 @@ pub struct Client {
     wanted: usize,
     ghost got: { polled source.caller ≡ answers.items },
     ghost all: { wanted ≡ length (source_ops source) },
+    ghost room: { wanted ≤ answers.cap },
 }
 
 impl Client {
-    ghost use Rattle.std.specs.Prelude.{◌≡◌, ◌++◌, IfOk, List, length, nat_le};
+    ghost use Rattle.std.specs.Prelude.{◌≡◌, [], ◌++◌, IfOk, List, length, nat_le};
     ghost use Rattle.model.specs.declared.types.operations.Op.{Op};
     ghost use Rattle.rings.specs.Callers.{caller_names};
     ghost use Rattle.clients.specs.Backlogs.{backlog_of};
-    ghost use Rattle.clients.specs.Clients.{client_names, client_ops, IsSameClient};
+    ghost use Rattle.clients.specs.Clients.{client_names, client_ops, HasPolled, IsCalled, IsSameClient};
+    ghost use Rattle.clients.specs.Sources.{HasHandedIn};
 
     // A source that has done nothing, with places for all its answers.
     pub(crate) fn new(alloc: Global, source: Source) -> Result<Client, AllocError>
@@ -41,25 +43,24 @@ impl Client {
         })
     }
 
-    /// Hands in as many operations as the ring takes, and polls the answers that there are. Whether
-    /// there were any.
+    /// Hands in as many operations as the ring takes, and polls the answers that there are, up to
+    /// one for each operation. Whether there were any.
     pub fn call(&mut self) -> bool
-        ensures { IsSameClient self.old self.new }
+        ensures same { IsSameClient self.old self.new }
+        ensures called { IsCalled self.new }
     {
         let handed_in = self.source.hand_in();
         self.poll() || handed_in
     }
 
-    // Polls the answers that there are, as long as there are places for them. Whether there were
-    // any.
+    // Polls the answers that there are. Whether there were any.
     fn poll(&mut self) -> bool
-        ensures { IsSameClient self.old self.new }
+        ensures same { IsSameClient self.old self.new }
+        ensures handed_in { HasHandedIn self.old.source → HasHandedIn self.new.source }
+        ensures polled { HasPolled self.new }
     {
         let mut moved = false;
-        for _place in 0..PLACES {
-            if self.answers.len() >= self.answers.capacity() {
-                break;
-            }
+        for _answer in self.answers.len()..self.wanted {
             let Some(answer) = self.source.poll() else {
                 break;
             };

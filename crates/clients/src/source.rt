@@ -15,7 +15,7 @@ pub struct Source {
 impl Source {
     ghost use Rattle.std.specs.Prelude.{◌≡◌, ◌∷◌, ◌++◌, [], IfSome, IfNone, IsSome, ◌<◌};
     ghost use mathlib.Core.List.{IsPrefix};
-    ghost use Rattle.rings.specs.Callers.{answers_known, polled, submitted, unpolled};
+    ghost use Rattle.rings.specs.Callers.{answers_known, places, polled, submitted, unpolled};
     ghost use Rattle.clients.specs.Sources.{HasHandedIn, IsSameSource};
 
     /// Hands in as many operations as the ring takes. Whether it took any.
@@ -46,9 +46,11 @@ impl Source {
         ensures oldest { IfSome result (λ answer.
             IsPrefix (unpolled self.old.caller) (answer ∷ unpolled self.new.caller)) }
         ensures none { IfNone result (polled self.new.caller ≡ polled self.old.caller) }
+        ensures known { IfNone result (answers_known self.new.caller ≡ 0) }
         ensures succeeds { 0 < answers_known self.old.caller → IsSome result }
         ensures untouched { (submitted self.new.caller ≡ submitted self.old.caller)
-            × (self.new.backlog ≡ self.old.backlog) }
+            × (self.new.backlog ≡ self.old.backlog)
+            × (places self.new.caller ≡ places self.old.caller) }
     {
         self.caller.poll()
     }

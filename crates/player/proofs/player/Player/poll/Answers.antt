@@ -9,7 +9,7 @@ returns-clause-polls g c =
     let met = c.meet.new.self in
     let low = low_in c.args.pid c.args.self.now met c.requires.pid c.meet.ensures.same c.meet.ensures.seated in
     polls_then c.args.pid c.args.self.now.kernel met.kernel c.args.self.now.sources.items met.sources.items c.meet.ensures.meets c.index_mut.result.now c.poll.new.self
-    (slice_get_read met.sources.items (length met.sources.items) c.args.pid c.index_mut.result.now refl low c.index_mut.ensures.value) c.meet.ensures.same c.poll.result (takes c.poll.result c.index_mut.result.now.caller c.poll.new.self.caller c.poll.ensures.some c.poll.ensures.oldest c.poll.ensures.none c.poll.ensures.succeeds) c.poll.ensures.untouched
+    (slice_get_read met.sources.items (length met.sources.items) c.args.pid c.index_mut.result.now refl low c.index_mut.ensures.value) c.meet.ensures.same c.poll.result (takes c.poll.result c.index_mut.result.now.caller c.poll.new.self.caller c.poll.ensures.some c.poll.ensures.oldest c.poll.ensures.none c.poll.ensures.succeeds) (c.poll.ensures.untouched.0, c.poll.ensures.untouched.1)
 
 pub returns-clause-seated : goal.returns-clause-seated
 returns-clause-seated g c =
