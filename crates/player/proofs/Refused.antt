@@ -12,7 +12,7 @@ use Rattle.player.specs.Causes.{IsUnrecovered}
 use Rattle.player.specs.Opening.{HasNotBegun, IsNotReplayed, IsPlayedOn, IsReadyOver, Replays}
 use Rattle.player.specs.declared.player.Player.{Player}
 use Rattle.texts.specs.declared.refusal.Refusal.{Refusal}
-use Rattle.texts.specs.declared.refusal.Refusal.TheVariants.{File, Mkfs, Check, Recover, Open, Script, Schedule, Disk, Cat, Run, Input, Output}
+use Rattle.texts.specs.declared.refusal.Refusal.TheVariants.{File, Mkfs, Check, Recover, Open, Script, Schedule, Disk, Cat, Run, Stops, Input, Output}
 use Rattle.player.specs.Stepping.{BreaksOff, IsBrokenOff, RunsTo, kernel_fault}
 use Rattle.opening.specs.Openings.{IsOpening}
 use Rattle.opening.specs.Lemmas.Telling.{told_of_opening}
@@ -42,6 +42,7 @@ module _ {D N : Type 0} (disk : Ghosts (FaultyDisk D) (N × Trap)) (stop base : 
   broken_off (Err (Schedule _)) P f breaks h is = h
   broken_off (Err (Cat _)) P f breaks h is = h
   broken_off (Err (Run _)) P f breaks h is = h
+  broken_off (Err (Stops _)) P f breaks h is = h
   broken_off (Err (Input _)) P f breaks h is = h
 
   pub broken_output : (r : Refusal) → r ≡ Output → BreaksOff disk stop words old new → IsBrokenOff disk stop base words old new text printed r
@@ -63,6 +64,7 @@ module _ {D N : Type 0} (below : Ghosts D N) (disk : Ghosts (FaultyDisk D) (N ×
   unrecovered_so (Disk fault) other why = absurd why
   unrecovered_so (Cat fault) other why = absurd why
   unrecovered_so (Run fault) other why = absurd why
+  unrecovered_so (Stops fault) other why = absurd why
   unrecovered_so (Input fault) other why = absurd why
   unrecovered_so (Open fault) other why = absurd why
 
@@ -77,6 +79,7 @@ module _ {D N : Type 0} (below : Ghosts D N) (disk : Ghosts (FaultyDisk D) (N ×
   not_begun tasks words stop text printed none (Disk fault) opens why nothing = absurd opens
   not_begun tasks words stop text printed none (Cat fault) opens why nothing = absurd opens
   not_begun tasks words stop text printed none (Run fault) opens why nothing = absurd opens
+  not_begun tasks words stop text printed none (Stops fault) opens why nothing = absurd opens
   not_begun tasks words stop text printed none (Input fault) opens why nothing = absurd opens
   not_begun tasks words stop text printed none Output opens why nothing = absurd opens
 
@@ -91,6 +94,7 @@ opening_of_replay (Schedule fault) opens = absurd opens
 opening_of_replay (Disk fault) opens = absurd opens
 opening_of_replay (Cat fault) opens = absurd opens
 opening_of_replay (Run fault) opens = absurd opens
+opening_of_replay (Stops fault) opens = absurd opens
 opening_of_replay (Input fault) opens = absurd opens
 opening_of_replay Output opens = absurd opens
 
@@ -124,6 +128,7 @@ module _ {D N : Type 0} (below : Ghosts D N) (disk : Ghosts (FaultyDisk D) (N ×
   run_refused none (Schedule fault) why = absurd why
   run_refused none (Cat fault) why = absurd why
   run_refused none (Run fault) why = absurd why
+  run_refused none (Stops fault) why = absurd why
   run_refused none (Input fault) why = absurd why
 
   pub run_of_replay : (r : Refusal) → IsBrokenOff disk s base words player last text printed r → IsOfReplay r
@@ -138,4 +143,5 @@ module _ {D N : Type 0} (below : Ghosts D N) (disk : Ghosts (FaultyDisk D) (N ×
   run_of_replay (Schedule fault) why = absurd why
   run_of_replay (Cat fault) why = absurd why
   run_of_replay (Run fault) why = absurd why
+  run_of_replay (Stops fault) why = absurd why
   run_of_replay (Input fault) why = absurd why

@@ -22,7 +22,7 @@ use Rattle.player.specs.Showing.{IsNotShown, IsPartly, IsReaderOf, IsUnwritten, 
 use Rattle.player.specs.Stepping.{Plain}
 use Rattle.texts.specs.declared.faults.CatFault.TheVariants as cat
 use Rattle.texts.specs.declared.refusal.Refusal.{Refusal}
-use Rattle.texts.specs.declared.refusal.Refusal.TheVariants.{File as OfFile, Mkfs, Check, Recover, Open, Script, Schedule, Disk, Cat, Run, Input, Output}
+use Rattle.texts.specs.declared.refusal.Refusal.TheVariants.{File as OfFile, Mkfs, Check, Recover, Open, Script, Schedule, Disk, Cat, Run, Stops, Input, Output}
 
 part_is : (o : Option File) (bytes : List ℕ) (off n : ℕ) → Some bytes ≡ option_map (λ (f : File). part_of f.bytes off n) o → bytes ≡ part_of (bytes_of o) off n
 part_is None bytes off n is = absurd (cc is)
@@ -69,6 +69,7 @@ unanswered disk d e x i old new none (Recover fault) nothing why = absurd why
 unanswered disk d e x i old new none (Open fault) nothing why = absurd why
 unanswered disk d e x i old new none (Script fault) nothing why = absurd why
 unanswered disk d e x i old new none (Run fault) nothing why = absurd why
+unanswered disk d e x i old new none (Stops fault) nothing why = absurd why
 unanswered disk d e x i old new none (Schedule fault) nothing why = absurd why
 unanswered disk d e x i old new none (Input fault) nothing why = absurd why
 unanswered disk d e x i old new none Output nothing why = absurd why
@@ -95,6 +96,7 @@ partly disk d e x i size old new none (Recover fault) has why = absurd why
 partly disk d e x i size old new none (Open fault) has why = absurd why
 partly disk d e x i size old new none (Script fault) has why = absurd why
 partly disk d e x i size old new none (Run fault) has why = absurd why
+partly disk d e x i size old new none (Stops fault) has why = absurd why
 partly disk d e x i size old new none (Schedule fault) has why = absurd why
 partly disk d e x i size old new none (Input fault) has why = absurd why
 partly disk d e x i size old new none Output has why = why
@@ -134,6 +136,7 @@ module _ {D N : Type 0} (disk : Ghosts D N) (d : D) (k : Plain D) (reader : IsRe
   not_shown i old new none (Open fault) why = absurd why
   not_shown i old new none (Script fault) why = absurd why
   not_shown i old new none (Run fault) why = absurd why
+  not_shown i old new none (Stops fault) why = absurd why
   not_shown i old new none (Schedule fault) why = absurd why
   not_shown i old new none (Input fault) why = absurd why
   not_shown i old new none Output why = recovered_still why
@@ -151,6 +154,7 @@ opening_refused disk d e i old new none (OfFile fault) opens why nothing = absur
 opening_refused disk d e i old new none (Mkfs fault) opens why nothing = absurd opens
 opening_refused disk d e i old new none (Script fault) opens why nothing = absurd opens
 opening_refused disk d e i old new none (Run fault) opens why nothing = absurd opens
+opening_refused disk d e i old new none (Stops fault) opens why nothing = absurd opens
 opening_refused disk d e i old new none (Schedule fault) opens why nothing = absurd opens
 opening_refused disk d e i old new none (Disk fault) opens why nothing = absurd opens
 opening_refused disk d e i old new none (Cat fault) opens why nothing = absurd opens
@@ -165,6 +169,7 @@ opening_of_cat (OfFile fault) opens = absurd opens
 opening_of_cat (Mkfs fault) opens = absurd opens
 opening_of_cat (Script fault) opens = absurd opens
 opening_of_cat (Run fault) opens = absurd opens
+opening_of_cat (Stops fault) opens = absurd opens
 opening_of_cat (Schedule fault) opens = absurd opens
 opening_of_cat (Disk fault) opens = absurd opens
 opening_of_cat (Cat fault) opens = absurd opens
@@ -182,5 +187,6 @@ unwritten_of_cat disk d e x i old new none (Recover fault) why = absurd why
 unwritten_of_cat disk d e x i old new none (Open fault) why = absurd why
 unwritten_of_cat disk d e x i old new none (Script fault) why = absurd why
 unwritten_of_cat disk d e x i old new none (Run fault) why = absurd why
+unwritten_of_cat disk d e x i old new none (Stops fault) why = absurd why
 unwritten_of_cat disk d e x i old new none (Schedule fault) why = absurd why
 unwritten_of_cat disk d e x i old new none (Input fault) why = absurd why

@@ -1,7 +1,7 @@
 -- Which commands have which refusals.
 use Rattle.std.specs.Prelude.{⊤}
 use Rattle.texts.specs.declared.refusal.Refusal.{Refusal}
-use Rattle.texts.specs.declared.refusal.Refusal.TheVariants.{File, Mkfs, Check, Recover, Script, Schedule, Disk, Cat, Run, Input, Output}
+use Rattle.texts.specs.declared.refusal.Refusal.TheVariants.{File, Mkfs, Check, Recover, Script, Schedule, Disk, Cat, Run, Stops, Input, Output}
 
 -- the refusals that a check has: of the file, of the image, or of the output
 abbrev pub IsOfCheck : Refusal → Type 0
@@ -31,6 +31,7 @@ abbrev pub IsOfReplay : Refusal → Type 0
 IsOfReplay (Mkfs _) = ⊥
 IsOfReplay (Cat _) = ⊥
 IsOfReplay (Run _) = ⊥
+IsOfReplay (Stops _) = ⊥
 IsOfReplay (Input _) = ⊥
 IsOfReplay _ = ⊤
 
@@ -41,6 +42,7 @@ IsOfCat (Mkfs _) = ⊥
 IsOfCat (Script _) = ⊥
 IsOfCat (Schedule _) = ⊥
 IsOfCat (Run _) = ⊥
+IsOfCat (Stops _) = ⊥
 IsOfCat (Input _) = ⊥
 IsOfCat _ = ⊤
 

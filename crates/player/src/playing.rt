@@ -1,18 +1,19 @@
 // The turns of a schedule's words, with a line for each.
-ghost use Rattle.std.specs.Prelude.{◌≡◌, ◌≢◌, OnOk, IsTrue, IfErr, IsOkUnless, Some, None, length, option_map};
+ghost use Rattle.std.specs.Prelude.{◌≡◌, ◌≢◌, List, OnOk, IsTrue, IfErr, IsOkUnless, Some, None, length, option_map};
 ghost use Rattle.std.specs.Io.KnownBytes.{Appends};
 ghost use Rattle.std.specs.List.{list_all};
 ghost use Rattle.scripts.specs.Schedule.{is_word_of};
+ghost use Rattle.texts.specs.declared.events.Event.{Event as SomeEvent};
 ghost use Rattle.texts.specs.declared.refusal.Refusal.TheVariants as refusal;
-ghost use Rattle.player.specs.Stepping.{BreaksOff, IsBrokenOff, IsSeated, PlaysTo, RunsTo, kernel_counts, kernel_fault};
+ghost use Rattle.player.specs.Stepping.{BreaksOff, IsBrokenOff, IsSeated, MakesTurns, PlaysTo, RunsTo, kernel_counts, kernel_fault};
 ghost use Rattle.kernel.specs.Runs.{RunsOn};
 ghost use Rattle.player.specs.Refusal.{OnRefusal};
 
 use crate::player::Player;
-use blocks::{Disk, FaultyDisk};
+use blocks::{Disk, FaultyDisk, NoMemory};
 use scripts::Word;
 use std::io::Write;
-use texts::{Refusal, print, print_counts};
+use texts::{Event, Progress, Refusal, print, print_counts};
 
 /// Makes the turns of the words over a disk that had counted `base` writes before them, and prints
 /// what they came to. The write of number `stop` isn't made. The processes that the words name are
@@ -43,6 +44,35 @@ pub fn run<D: Disk + Drop, O: Write>(
     player.kernel.known();
     play(player, words, stop, out)?;
     close(player, base, out)
+}
+
+/// Makes the turns of the words, up to the last that can be made, and prints nothing. The write of
+/// number `stop` isn't made. The processes that the words name are the player's.
+///
+/// # Errors
+///
+/// `NoMemory` where memory for an operation was refused, and then no turn behind that was made.
+pub fn make_turns<D: Disk + Drop>(
+    player: &mut Player<'_, D>,
+    words: &[Word],
+    stop: u64,
+) -> Result<(), NoMemory>
+    requires words { IsTrue
+        (list_all (is_word_of (length player.old.kernel.world.processes)) words.now) }
+    requires seated { IsSeated player.old }
+    ensures made { OnOk result ((events : List SomeEvent)
+        × MakesTurns ⟦<FaultyDisk<D> as Disk>⟧ stop words.now events player.old player.new) }
+{
+    for word in words {
+        let event = player.turn(*word, stop);
+        if matches!(event, Event::Stepped(_, Progress::NoMemory)) {
+            return Err(NoMemory);
+        }
+        if event.is_last() {
+            return Ok(());
+        }
+    }
+    Ok(())
 }
 
 // Makes the turns of the words, and prints a line for each, up to the last that can be made.

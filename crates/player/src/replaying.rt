@@ -68,8 +68,12 @@ pub fn replay_disk<D: Disk + Drop, O: Write>(
     (ran, player.into_disk())
 }
 
-// A board, and a player's hands at it.
-fn take_board(alloc: Global) -> Result<(Board, Hands), KernelFault>
+/// A board, and a player's hands at it.
+///
+/// # Errors
+///
+/// `NoMemory` where the allocator refuses the board.
+pub fn take_board(alloc: Global) -> Result<(Board, Hands), KernelFault>
     ensures keeper { IfOk result (λ made. KeeperOf made.0 made.1.keeper
         × (published made.1.keeper ≡ 0)) }
     ensures watch { IfOk result (λ made. WatchOf made.0 made.1.watch

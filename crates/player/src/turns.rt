@@ -32,7 +32,7 @@ use blocks::{Disk, DiskFault, FaultyDisk, Kind};
 use board::{Board, BoardHerald, Keeper, Watch};
 use clients::sources;
 use kernel::{Kernel, Step};
-use model::types::Answer;
+use model::types::{Answer, Entry};
 use opening::open_refusal;
 use scripts::{Task, Word};
 use std::alloc::Global;
@@ -184,6 +184,13 @@ impl<'a, D: Disk + Drop> Player<'a, D> {
             committed: self.kernel.committed(),
             fault: if fired { None } else { self.kernel.fault() },
         }
+    }
+
+    /// The operations that had their turn, the oldest first.
+    pub fn journal(&self) -> &[Entry]
+        ensures { result.now ≡ self.now.kernel.world.journal.list }
+    {
+        self.kernel.journal()
     }
 
     /// The disk as it is.

@@ -8,26 +8,30 @@ use plain::journal::{is_kept, replay_answered, replay_kept};
 use plain::report::files_after_recovery;
 use std::alloc::Global;
 
-/// The writes of a run, its committed groups, and the operations that these keep.
+/// What a run came to.
 #[derive(Clone, Copy)]
 pub struct Left {
+    /// Whether a call of the disk failed, and whether it was a write that committed a group.
+    pub has_failed: bool,
+    pub is_committed: bool,
     pub writes: u64,
+    /// The committed groups, and how many operations these keep.
     pub committed: u64,
     pub kept: u64,
 }
 
-/// Whether the replies of a journal are right at their places; all are known unless the run was
-/// stopped. How many entries the committed groups keep, and the files after these.
+/// Whether the replies of a journal are right at their places; all are known unless the disk
+/// failed. How many entries the committed groups keep, and the files after these.
 pub fn judge_journal(
     alloc: Global,
     journal: &[Entry],
     inode_count: u32,
     committed: u64,
-    is_stopped: bool,
+    has_failed: bool,
 ) -> anyhow::Result<(u64, Files)> {
     let mut kept: u64 = 0;
     for entry in journal {
-        ensure!(is_stopped || entry.reply.is_some(), "a reply is missing");
+        ensure!(has_failed || entry.reply.is_some(), "a reply is missing");
         if is_kept(inode_count, entry, committed) {
             kept = kept.saturating_add(1);
         }
@@ -42,7 +46,8 @@ pub fn judge_journal(
     Ok((kept, files))
 }
 
-fn no_files(alloc: Global, inode_count: u32) -> anyhow::Result<Files> {
+/// No file for any number.
+pub fn no_files(alloc: Global, inode_count: u32) -> anyhow::Result<Files> {
     let mut files = Vec::new(alloc);
     for _number in 0..inode_count {
         files.push(None)?;

@@ -3,58 +3,97 @@ ghost use Rattle.std.specs.Prelude.{◌≤◌};
 
 use crate::judging::{Left, judge_image, judge_journal};
 use crate::script::Script;
+use crate::setting::Setting;
 use crate::tally::Tally;
 use anyhow::{bail, ensure};
 use blocks::{Disk, FaultyDisk, Kind, MemDisk};
 use kernel::{Kernel, Step};
 use layout::mkfs;
+use plain::files::Files;
 use ports::{PlainHerald, QueueIntake};
 use std::alloc::Global;
 
-// A kernel over a disk of which a write may fail.
-type Stopped = Kernel<FaultyDisk<MemDisk>, QueueIntake, PlainHerald>;
+// A kernel over a disk of which a call may fail.
+type Failing = Kernel<FaultyDisk<MemDisk>, QueueIntake, PlainHerald>;
 
 // More turns than any of the scripts needs.
 const MOST_TURNS: u32 = 4_000_000;
 
-/// Makes the run of a script over a new image, and judges what it leaves. The write of number `stop`
-/// isn't made, counted from 1, and ends the run; each is made where that is 0.
+// The log's header.
+const HEADER: u32 = 2;
+
+/// Which call of the disk fails: the nth of a kind, counted from 1 and from the opening on. None
+/// does where `nth` is 0.
+#[derive(Clone, Copy)]
+pub struct Failure {
+    pub kind: Kind,
+    pub nth: u64,
+}
+
+impl Failure {
+    /// The write of this number isn't made, and ends the run.
+    pub fn stop(nth: u64) -> Failure {
+        Failure {
+            kind: Kind::WriteOld,
+            nth,
+        }
+    }
+}
+
+/// Makes the run of a script over a new image, in which a call of the disk may fail, and judges what
+/// it leaves: the files after the committed groups, and after one group more where the write failed
+/// that commits it, but left its block as it was handed in.
 pub fn run(
     alloc: Global,
     mut script: Script,
-    stop: u64,
+    failure: Failure,
     tally: &mut Tally,
 ) -> anyhow::Result<Left> {
     let setting = script.setting;
-    let mut disk = MemDisk::new(alloc, setting.size)?;
-    mkfs(alloc, &mut disk, setting.size, setting.inode_count)?;
-    let mut kernel = opened(alloc, disk, stop, setting.processes)?;
+    let disk = new_image(alloc, setting)?;
+    let mut kernel = opened(alloc, disk, failure, setting.processes)?;
     play(alloc, &mut kernel, &mut script, tally)?;
-    let (is_stopped, committed) = (kernel.fault().is_some(), kernel.committed());
-    ensure!(is_stopped == (stop > 0), "the disk failed, or did not");
+    let has_failed = kernel.fault().is_some();
+    ensure!(has_failed == kernel.disk().fired(), "a fault is not known");
     ensure!(
-        is_stopped || committed == kernel.opened(),
+        has_failed || kernel.committed() == kernel.opened(),
         "a group is not committed"
     );
+    let is_committed = has_failed && has_committed(&kernel, failure.kind);
+    let committed = kernel.committed().saturating_add(is_committed as u64);
     let journal = kernel.journal();
     tally.journal(journal);
-    let (kept, files) = judge_journal(alloc, journal, setting.inode_count, committed, is_stopped)?;
+    let (kept, files) = judge_journal(alloc, journal, setting.inode_count, committed, has_failed)?;
     let disk = kernel.into_disk();
-    let writes = disk.writes();
-    let recovered = opened(alloc, disk.into_inner(), 0, 1)?;
-    judge_image(alloc, recovered.into_disk().into_inner(), &files)?;
+    let writes = disk.writes().saturating_sub(setting.size as u64);
+    judge_disk(alloc, disk.into_inner(), &files)?;
     Ok(Left {
-        writes: writes.saturating_sub(setting.size as u64),
+        has_failed,
+        is_committed,
+        writes,
         committed,
         kept,
     })
 }
 
-// Opens a kernel over a disk, which recovers its image. The write of number `stop` fails.
-fn opened(alloc: Global, disk: MemDisk, stop: u64, processes: u32) -> anyhow::Result<Stopped>
+/// A disk with an image that has no files.
+pub fn new_image(alloc: Global, setting: Setting) -> anyhow::Result<MemDisk> {
+    let mut disk = MemDisk::new(alloc, setting.size)?;
+    mkfs(alloc, &mut disk, setting.size, setting.inode_count)?;
+    Ok(disk)
+}
+
+/// Whether a disk has these files once a kernel was opened over it, which recovers its image.
+pub fn judge_disk(alloc: Global, disk: MemDisk, files: &Files) -> anyhow::Result<()> {
+    let recovered = opened(alloc, disk, Failure::stop(0), 1)?;
+    judge_image(alloc, recovered.into_disk().into_inner(), files)
+}
+
+// Opens a kernel over a disk, which recovers its image.
+fn opened(alloc: Global, disk: MemDisk, failure: Failure, processes: u32) -> anyhow::Result<Failing>
     requires { processes ≤ 32 }
 {
-    let disk = FaultyDisk::new(disk, stop, Kind::WriteOld);
+    let disk = FaultyDisk::new(disk, failure.nth, failure.kind);
     let intake = QueueIntake::new(alloc, processes)?;
     match Kernel::open(alloc, disk, intake, PlainHerald::new(), processes) {
         Ok(kernel) => Ok(kernel),
@@ -62,10 +101,17 @@ fn opened(alloc: Global, disk: MemDisk, stop: u64, processes: u32) -> anyhow::Re
     }
 }
 
+// Whether the write that failed has committed a group all the same: it left the new header, and a
+// group is open that is not committed. (The empty header comes when all groups are committed.)
+fn has_committed(kernel: &Failing, kind: Kind) -> bool {
+    let is_header = kernel.fault().is_some_and(|fault| fault.0 == HEADER);
+    matches!(kind, Kind::WriteNew) && is_header && kernel.committed() < kernel.opened()
+}
+
 // Makes the turns of a script, until all of it is answered or the disk fails.
 fn play(
     alloc: Global,
-    kernel: &mut Stopped,
+    kernel: &mut Failing,
     script: &mut Script,
     tally: &mut Tally,
 ) -> anyhow::Result<()> {
@@ -82,11 +128,21 @@ fn play(
         let step = kernel.step(pid);
         tally.step(step);
         if step == Step::Halted {
-            return Ok(());
+            return ensure_halted(kernel);
         }
         if script.fetches() && kernel.poll(pid).is_some() {
             script.answered = script.answered.saturating_add(1);
         }
     }
     bail!("the run doesn't end")
+}
+
+// Whether no process makes a step any more.
+fn ensure_halted(kernel: &mut Failing) -> anyhow::Result<()> {
+    for pid in 0..32 {
+        if (pid as usize) < kernel.processes() {
+            ensure!(kernel.step(pid) == Step::Halted, "a step after a fault");
+        }
+    }
+    Ok(())
 }

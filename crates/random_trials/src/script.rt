@@ -1,8 +1,8 @@
 // Which operations are handed in, and whose turn it is.
 ghost use Rattle.std.specs.Prelude.{◌<◌};
 
-use crate::chance::Chance;
 use crate::setting::Setting;
+use chance::Chance;
 use model::content::Content;
 use model::types::{Entry, Op, Reply};
 use std::alloc::{AllocError, Global};

@@ -1,7 +1,7 @@
 // What a script is made for.
 ghost use Rattle.std.specs.Prelude.{◌≤◌, ◌<◌};
 
-use crate::chance::Chance;
+use chance::Chance;
 
 /// An image, the processes that work on it, and how they do.
 #[derive(Clone, Copy)]
@@ -58,6 +58,13 @@ impl Setting {
             fetch: if chance.is_one_in(4) { 50 } else { 1 },
             stops: 20,
         }
+    }
+
+    /// That of a seed, with at most 24 operations.
+    pub fn short(seed: u64) -> Setting {
+        let mut setting = Setting::drawn(seed);
+        setting.operations = setting.operations.min(24);
+        setting
     }
 
     /// That of a script in rows: each of 32 processes makes a file, then each writes to one, and

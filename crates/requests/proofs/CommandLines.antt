@@ -11,7 +11,7 @@ use Rattle.clap.specs.declared.parser.matches.Found.{Found}
 use Rattle.clap.proofs.OnLiterals.{clap_on_literals}
 use Rattle.clap.proofs.WalkLemmas.{first_value-rows}
 use Rattle.requests.specs.declared.words.Request.{Request}
-use Rattle.requests.specs.declared.words.Request.TheVariants.{Mkfs, Check, Recover, Cat, Replay, Run}
+use Rattle.requests.specs.declared.words.Request.TheVariants.{Mkfs, Check, Recover, Cat, Replay, Run, Stops}
 use Rattle.requests.specs.CommandLine.{AskFor, Asks, AsksBy, HasApp, HasFewWorkers, IsMistakeIn, mistakes_in, xvfs_app}
 
 pub one_word : (app : App) (rule : Rule) (old : Command) (word : Arg) (new : Command) → HasApp app old → rule_of word ≡ rule → word.global ≡ false → AddsArg old word new → HasApp (with_rule app rule) new
@@ -68,6 +68,7 @@ few_by name rows (Recover image) asks = tt
 few_by name rows (Cat image inum) asks = tt
 few_by name rows (Replay image script schedule stop) asks = tt
 few_by name rows (Run image script workers) asks = (asks.3.0, asks.3.1)
+few_by name rows (Stops script schedule) asks = tt
 
 few_of : (command : Option (List ℕ × List Row)) (request : Request) → Asks command request → HasFewWorkers request
 few_of None request asks = absurd asks

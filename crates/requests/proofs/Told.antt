@@ -1,11 +1,11 @@
 -- What is told of an error of clap's.
 use Rattle.std.proofs.Common.{◌≡◌, ◌∙◌, ℕ, List, inl, inr, rules, sym}
-use Rattle.clap.specs.Words.{IsAmong, kind_of}
+use Rattle.clap.specs.Words.{kind_of}
 use Rattle.clap.specs.declared.error.Error.{Error}
 use Rattle.clap.specs.declared.error.kind.ErrorKind.{ErrorKind}
 use Rattle.clap.specs.declared.error.kind.ErrorKind.TheVariants.{DisplayHelp, DisplayVersion, MissingSubcommand, OutOfMemory}
-use Rattle.requests.specs.CommandLine.{IsMistakeIn, mistakes_in}
-use Rattle.requests.specs.Told.{AreMistaken, AskForHelp, IsHelp, IsOfKind, IsToldOf}
+use Rattle.requests.specs.CommandLine.{IsMistakeIn}
+use Rattle.requests.specs.Told.{IsHelp, IsOfKind, IsToldOf}
 use Rattle.requests.specs.declared.explanation.Explanation.{Explanation}
 use Rattle.requests.specs.declared.explanation.Explanation.TheVariants.{Help, Mistake, NoMemory}
 

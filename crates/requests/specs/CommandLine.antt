@@ -4,7 +4,7 @@ use Rattle.clap.specs.Words.{App, HasKind, Kinds, Row, Rule, new_app, new_rule, 
 use Rattle.clap.specs.declared.error.Error.{Error}
 use Rattle.clap.specs.declared.error.kind.ErrorKind.TheVariants as kind
 use Rattle.requests.specs.declared.words.Request.{Request}
-use Rattle.requests.specs.declared.words.Request.TheVariants.{Mkfs, Check, Recover, Cat, Replay, Run}
+use Rattle.requests.specs.declared.words.Request.TheVariants.{Mkfs, Check, Recover, Cat, Replay, Run, Stops}
 use Rattle.clap.specs.declared.builder.command.Command.{Command}
 use Rattle.clap.specs.declared.builder.command.Command.TheViews.{out-Command}
 use Rattle.clap.specs.declared.builder.value_parser.ValueParser.TheVariants.{Signed, Unsigned}
@@ -52,6 +52,10 @@ abbrev pub run_app : App
 run_app = with_rule (with_rule (image_app (codes "run")) (required_rule (codes "SCRIPT")))
     workers_rule
 
+abbrev pub stops_app : App
+stops_app = with_rule (with_rule (new_app (codes "stops")) (required_rule (codes "SCRIPT")))
+    (required_rule (codes "SCHEDULE"))
+
 -- the program, with no command yet
 abbrev pub bare_app : App
 bare_app = record (new_app (codes "xvfs")) {
@@ -65,8 +69,8 @@ bare_app = record (new_app (codes "xvfs")) {
 abbrev pub xvfs_app : App
 xvfs_app =
     with_subcommand (with_subcommand (with_subcommand (with_subcommand (with_subcommand
-    (with_subcommand bare_app mkfs_app.top) (image_app (codes "check")).top)
-    (image_app (codes "recover")).top) cat_app.top) replay_app.top) run_app.top
+    (with_subcommand (with_subcommand bare_app mkfs_app.top) (image_app (codes "check")).top)
+    (image_app (codes "recover")).top) cat_app.top) replay_app.top) run_app.top) stops_app.top
 
 -- a command of this shape, whose arguments are its own
 abbrev pub HasApp : App → Command → Type 0
@@ -103,6 +107,9 @@ AsksBy name rows (Replay image script schedule stop) =
 AsksBy name rows (Run image script workers) =
     (name ≡ codes "run") × (first_of (codes "IMAGE") rows ≡ Some image.now)
     × (first_of (codes "SCRIPT") rows ≡ Some script.now) × HasWorkers rows workers
+AsksBy name rows (Stops script schedule) =
+    (name ≡ codes "stops") × (first_of (codes "SCRIPT") rows ≡ Some script.now)
+    × (first_of (codes "SCHEDULE") rows ≡ Some schedule.now)
 
 abbrev pub Asks : Option (List ℕ × List Row) → Request → Type 0
 Asks None request = ⊥

@@ -4,6 +4,7 @@ ghost use Rattle.clap.specs.Words.{found_of, rows_of, rule_of, subcommand_rows_o
 ghost use Rattle.requests.specs.CommandLine.{
   AskFor,
   Asks,
+  AsksBy,
   HasApp,
   HasFewWorkers,
   HasWorkers,
@@ -17,6 +18,7 @@ ghost use Rattle.requests.specs.CommandLine.{
   required_rule,
   run_app,
   stop_rule,
+  stops_app,
   workers_rule,
   xvfs_app,
 };
@@ -77,6 +79,13 @@ pub enum Request<'a> {
         /// The threads that make the steps, from 1 to 32.
         workers: u32,
     },
+    /// A check of a script's operations at each of their stops.
+    Stops {
+        /// The path of the script.
+        script: &'a str,
+        /// The path of the schedule.
+        schedule: &'a str,
+    },
 }
 
 /// What these words, without the program's name, ask for.
@@ -114,6 +123,19 @@ fn request_of<'a>(matches: &ArgMatches<'a>) -> Option<Request<'a>>
     ensures { IfSome result (Asks (subcommand_rows_of matches.now)) }
 {
     let (name, values) = matches.subcommand()?;
+    match name {
+        "stops" => Some(Request::Stops {
+            script: values.get_str("SCRIPT")?,
+            schedule: values.get_str("SCHEDULE")?,
+        }),
+        _ => request_over(name, values),
+    }
+}
+
+// What the words of a command over an image ask for.
+fn request_over<'a>(name: &str, values: &ArgMatches<'a>) -> Option<Request<'a>>
+    ensures { IfSome result (AsksBy name.now (rows_of (found_of values.now))) }
+{
     let image = values.get_str("IMAGE")?;
     match name {
         "mkfs" => Some(Request::Mkfs {
@@ -161,7 +183,8 @@ fn program<'a>(alloc: Global) -> Result<Command<'a>, AllocError>
         .subcommand(recover_words(alloc)?)?
         .subcommand(cat_words(alloc)?)?
         .subcommand(replay_words(alloc)?)?
-        .subcommand(run_words(alloc)?)
+        .subcommand(run_words(alloc)?)?
+        .subcommand(stops_words(alloc)?)
 }
 
 // The program, without its commands.
@@ -172,7 +195,7 @@ fn bare_program<'a>(alloc: Global) -> Result<Command<'a>, AllocError>
         Command::new(alloc, "xvfs")
             .version("0.1.0")
             .about(
-                "Makes, checks, recovers, reads, replays and runs images of the xv6 file system; without words, does the command lines of standard input",
+                "Makes, checks, recovers, reads, replays and runs images of the xv6 file system, and checks scripts at each of their stops; without words, does the command lines of standard input",
             )
             .bin_name("xvfs")?
             .no_binary_name(true)
@@ -286,6 +309,25 @@ fn workers_word<'a>(alloc: Global) -> Arg<'a>
         .value_name("N")
         .value_parser(value_parser!(u32).range(1..=32))
         .help("Threads that make the steps, from 1 to 32; 1 where it is not given")
+}
+
+fn stops_words<'a>(alloc: Global) -> Result<Command<'a>, AllocError>
+    ensures { IfOk result (HasApp stops_app) }
+{
+    Command::new(alloc, "stops")
+        .about(
+            "Makes a script's operations up to each of their writes, and checks what each stop leaves",
+        )
+        .arg(word(
+            alloc,
+            "SCRIPT",
+            "The path of the script, whose lines are the operations of processes",
+        ))?
+        .arg(word(
+            alloc,
+            "SCHEDULE",
+            "The path of the schedule, whose words are turns of the processes",
+        ))
 }
 
 // A word that has to be there.

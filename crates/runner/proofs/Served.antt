@@ -24,7 +24,7 @@ use Rattle.clients.specs.Clients.{AreClients, HaveRings, ops_at, ops_in}
 use Rattle.clients.specs.declared.client.Client.{Client}
 use Rattle.opening.specs.Lemmas.Keeping.{leaves_wider, recovers_kept}
 use Rattle.texts.specs.declared.refusal.Refusal.{Refusal}
-use Rattle.texts.specs.declared.refusal.Refusal.TheVariants.{File, Mkfs, Check, Recover, Open, Script, Schedule, Disk, Cat, Run, Input, Output}
+use Rattle.texts.specs.declared.refusal.Refusal.TheVariants.{File, Mkfs, Check, Recover, Open, Script, Schedule, Disk, Cat, Run, Stops, Input, Output}
 use Rattle.runner.specs.Reports.{IsReport}
 use Rattle.runner.specs.Running.{Ends, IsEndedBy, IsNotRun, IsServed, Ringed}
 
@@ -109,4 +109,5 @@ module _ {D N : Type 0} (disk : Ghosts D N) (d e : D) (tasks : List Task) (proce
   not_run m names cs served are (Schedule fault) why = absurd why
   not_run m names cs served are (Cat fault) why = absurd why
   not_run m names cs served are (Run fault) why = absurd why
+  not_run m names cs served are (Stops fault) why = absurd why
   not_run m names cs served are (Input fault) why = absurd why

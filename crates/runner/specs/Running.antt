@@ -18,7 +18,7 @@ use Rattle.scripts.specs.declared.script.Task.{Task}
 use Rattle.clients.specs.Backlogs.{ops_of}
 use Rattle.opening.specs.Openings.{IsUnopened}
 use Rattle.texts.specs.declared.refusal.Refusal.{Refusal}
-use Rattle.texts.specs.declared.refusal.Refusal.TheVariants.{Mkfs, Schedule, Disk, Cat, Run, Input, Output}
+use Rattle.texts.specs.declared.refusal.Refusal.TheVariants.{Mkfs, Schedule, Disk, Cat, Run, Stops, Input, Output}
 use Rattle.runner.specs.Reports.{IsReported}
 
 -- a kernel over rings and a board
@@ -91,5 +91,6 @@ abbrev pub IsOfRun : Refusal → Type 0
 IsOfRun (Mkfs _) = ⊥
 IsOfRun (Schedule _) = ⊥
 IsOfRun (Cat _) = ⊥
+IsOfRun (Stops _) = ⊥
 IsOfRun (Input _) = ⊥
 IsOfRun _ = ⊤

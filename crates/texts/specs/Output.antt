@@ -21,3 +21,7 @@ copied_text copied = codes "recovered " ++ decimal copied ++ codes "\n"
 abbrev pub counts_text : ℕ → ℕ → List ℕ
 counts_text writes committed =
     codes "writes " ++ decimal writes ++ codes "\ncommitted " ++ decimal committed ++ codes "\n"
+
+-- how many images the stops of a script left
+abbrev pub images_text : ℕ → List ℕ
+images_text images = codes "images " ++ decimal images ++ codes "\n"

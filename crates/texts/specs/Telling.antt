@@ -21,6 +21,8 @@ use Rattle.texts.specs.declared.faults.KernelFault.{KernelFault}
 use Rattle.texts.specs.declared.faults.KernelFault.TheVariants as kernel
 use Rattle.texts.specs.declared.faults.RunFault.{RunFault}
 use Rattle.texts.specs.declared.faults.RunFault.TheVariants as run
+use Rattle.texts.specs.declared.faults.StopsFault.{StopsFault}
+use Rattle.texts.specs.declared.faults.StopsFault.TheVariants as stops
 use Rattle.texts.specs.declared.told.Told.{Told}
 
 -- a fault's number among its layer's, its name, and the inode, the block, the line or the word that
@@ -94,6 +96,10 @@ cat_telling cat.NoMemory = plain 2 (codes "NoMemory")
 
 abbrev pub run_telling : RunFault → Telling
 run_telling run.Thread = plain 1 (codes "Thread")
+
+abbrev pub stops_telling : StopsFault → Telling
+stops_telling stops.Mismatch = plain 1 (codes "Mismatch")
+stops_telling stops.NoMemory = plain 2 (codes "NoMemory")
 
 abbrev pub input_telling : InputFault → Telling
 input_telling input.Read = plain 1 (codes "Read")

@@ -13,6 +13,7 @@ ghost use Rattle.texts.specs.Telling.{
   run_telling,
   schedule_telling,
   script_telling,
+  stops_telling,
 };
 
 use crate::told::{Fault, Told};
@@ -88,6 +89,27 @@ pub enum RunFault {
     /// The thread of the workers can't be started.
     #[error("no thread can be started")]
     Thread,
+}
+
+/// Why the check of a script's stops ended before its end.
+#[derive(Clone, Copy, Debug, Error)]
+pub enum StopsFault {
+    /// The image that a stop left is not recovered to the files that it has to have.
+    #[error("a stop left an image with other files")]
+    Mismatch,
+    /// Memory was refused.
+    #[error("memory was refused")]
+    NoMemory,
+}
+
+impl From<NoMemory> for StopsFault {
+    ghost use Rattle.texts.specs.declared.faults.StopsFault.TheVariants as fault;
+
+    ghost from_gives = { λ _ e. e ≡ fault.NoMemory };
+
+    fn from(_refused: NoMemory) -> StopsFault {
+        StopsFault::NoMemory
+    }
 }
 
 impl From<NoMemory> for KernelFault {
@@ -229,6 +251,17 @@ impl Fault for RunFault {
     fn told(&self) -> Told {
         match self {
             RunFault::Thread => Told::new(1, "Thread"),
+        }
+    }
+}
+
+impl Fault for StopsFault {
+    ghost telling = { stops_telling };
+
+    fn told(&self) -> Told {
+        match self {
+            StopsFault::Mismatch => Told::new(1, "Mismatch"),
+            StopsFault::NoMemory => Told::new(2, "NoMemory"),
         }
     }
 }

@@ -14,11 +14,11 @@ mod refusal;
 mod told;
 
 pub use events::{Event, Progress};
-pub use faults::{CatFault, InputFault, KernelFault, RunFault, input_unread};
+pub use faults::{CatFault, InputFault, KernelFault, RunFault, StopsFault, input_unread};
 pub use lines::{AccountLine, AnswerLine};
 pub use output::{
-    pass_on, print, print_copied, print_counts, print_last, print_numbers, print_report,
-    write_bytes,
+    pass_on, print, print_copied, print_counts, print_images, print_last, print_numbers,
+    print_report, write_bytes,
 };
 pub use refusal::Refusal;
 pub use told::{Fault, Told};

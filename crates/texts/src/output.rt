@@ -1,7 +1,7 @@
 // What a command prints.
 ghost use Rattle.std.specs.Prelude.{IfSome, OnOk, IsOkUnless};
 ghost use Rattle.std.specs.Io.KnownBytes.{Appends, Keeps};
-ghost use Rattle.texts.specs.Output.{copied_text, counts_text, numbers_text, report_text};
+ghost use Rattle.texts.specs.Output.{copied_text, counts_text, images_text, numbers_text, report_text};
 
 use crate::refusal::Refusal;
 use itoa::Buffer;
@@ -129,4 +129,19 @@ pub fn print_counts<O: Write>(out: &mut O, writes: u64, committed: u64) -> Resul
         out,
         format_args!("writes {writes}\ncommitted {committed}\n"),
     )
+}
+
+/// Prints how many images the stops of a script left, as the last text of a command.
+///
+/// # Errors
+///
+/// `Output` where the writer fails.
+pub fn print_images<O: Write>(out: &mut O, images: u64) -> Result<(), Refusal>
+    ensures ok { OnOk result
+        (Appends (O.contents out.old) (O.contents out.new) (images_text images)) }
+    ensures err { IsOkUnless result Refusal.Output }
+{
+    let mut buffer = Buffer::new();
+    let images = buffer.format(images);
+    print_last(out, format_args!("images {images}\n"))
 }

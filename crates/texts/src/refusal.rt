@@ -3,7 +3,7 @@ ghost use Rattle.std.specs.Prelude.{◌≡◌, Some};
 ghost use Rattle.texts.specs.Refusal.{layer_of, refusal_telling, refusal_text};
 ghost use Rattle.texts.specs.Telling.{telling_of};
 
-use crate::faults::{CatFault, InputFault, KernelFault, RunFault};
+use crate::faults::{CatFault, InputFault, KernelFault, RunFault, StopsFault};
 use crate::told::{Fault, Told};
 use blocks::{DiskFault, FileFault};
 use itoa::Buffer;
@@ -35,6 +35,8 @@ pub enum Refusal {
     Cat(CatFault),
     /// The script can't be run by threads.
     Run(RunFault),
+    /// A stop of the script kept other files than it has to, or the check wasn't ended.
+    Stops(StopsFault),
     /// The command lines can't be had.
     Input(InputFault),
     /// The output can't be written.
@@ -57,6 +59,7 @@ impl Refusal {
             Refusal::Disk(_) => "disk",
             Refusal::Cat(_) => "cat",
             Refusal::Run(_) => "run",
+            Refusal::Stops(_) => "stops",
             Refusal::Input(_) => "input",
             Refusal::Output => "output",
         }
@@ -77,6 +80,7 @@ impl Refusal {
             Refusal::Disk(fault) => fault.told(),
             Refusal::Cat(fault) => fault.told(),
             Refusal::Run(fault) => fault.told(),
+            Refusal::Stops(fault) => fault.told(),
             Refusal::Input(fault) => fault.told(),
             Refusal::Output => Told::new(1, "Write"),
         }

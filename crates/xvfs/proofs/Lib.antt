@@ -4,3 +4,4 @@ pub mod Undone
 pub mod Sequences
 pub mod Opened
 mod Disks
+pub mod Unchecked

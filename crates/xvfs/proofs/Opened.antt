@@ -12,7 +12,7 @@ use Rattle.layout.specs.Making.{Makes}
 use Rattle.model.specs.Layout.{planned_super}
 use Rattle.texts.specs.Output.{numbers_text}
 use Rattle.texts.specs.declared.refusal.Refusal.{Refusal}
-use Rattle.texts.specs.declared.refusal.Refusal.TheVariants.{File, Mkfs, Check, Recover, Open, Script, Schedule, Disk, Cat, Run, Input, Output}
+use Rattle.texts.specs.declared.refusal.Refusal.TheVariants.{File, Mkfs, Check, Recover, Open, Script, Schedule, Disk, Cat, Run, Stops, Input, Output}
 use Rattle.scripts.specs.declared.schedule.ScheduleFault.{ScheduleFault}
 use Rattle.scripts.specs.declared.script.ScriptFault.{ScriptFault}
 use Rattle.xvfs.specs.Files.{IsMade, OnDiskRefusal, OpensDisk}
@@ -44,6 +44,7 @@ module _ {F : Type 0} (remaining : F → Option (List ℕ)) (image : FileDisk F 
   refuses_disk opened now none P some few bytes f g h (Disk fault) why = (opened, (now, record { some = some; at_most = few; bytes = bytes }, why))
   refuses_disk opened now none P some few bytes f g h (Cat fault) why = (opened, (now, record { some = some; at_most = few; bytes = bytes }, why))
   refuses_disk opened now none P some few bytes f g h (Run fault) why = (opened, (now, record { some = some; at_most = few; bytes = bytes }, why))
+  refuses_disk opened now none P some few bytes f g h (Stops fault) why = (opened, (now, record { some = some; at_most = few; bytes = bytes }, why))
   refuses_disk opened now none P some few bytes f g h (Input fault) why = (opened, (now, record { some = some; at_most = few; bytes = bytes }, why))
   refuses_disk opened now none P some few bytes f g h Output why = (opened, (now, record { some = some; at_most = few; bytes = bytes }, why))
 
@@ -60,5 +61,6 @@ module _ {F : Type 0} (remaining : F → Option (List ℕ)) (image : FileDisk F 
   refused_so none other P Q f g (Disk fault) why = (why.0, (why.1.0, why.1.1, g _ _ (Disk fault) why.1.2))
   refused_so none other P Q f g (Cat fault) why = (why.0, (why.1.0, why.1.1, g _ _ (Cat fault) why.1.2))
   refused_so none other P Q f g (Run fault) why = (why.0, (why.1.0, why.1.1, g _ _ (Run fault) why.1.2))
+  refused_so none other P Q f g (Stops fault) why = (why.0, (why.1.0, why.1.1, g _ _ (Stops fault) why.1.2))
   refused_so none other P Q f g (Input fault) why = (why.0, (why.1.0, why.1.1, g _ _ (Input fault) why.1.2))
   refused_so none other P Q f g Output why = (why.0, (why.1.0, why.1.1, g _ _ Output why.1.2))

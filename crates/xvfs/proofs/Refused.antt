@@ -9,7 +9,7 @@ use Rattle.player.specs.Opening.{IsNotReplayed}
 use Rattle.player.specs.Showing.{IsNotShown}
 use Rattle.texts.specs.declared.faults.CatFault.TheVariants as cat
 use Rattle.texts.specs.declared.refusal.Refusal.{Refusal}
-use Rattle.texts.specs.declared.refusal.Refusal.TheVariants.{File, Mkfs, Check, Recover, Open, Script, Schedule, Disk, Cat, Run, Input, Output}
+use Rattle.texts.specs.declared.refusal.Refusal.TheVariants.{File, Mkfs, Check, Recover, Open, Script, Schedule, Disk, Cat, Run, Stops, Input, Output}
 use Rattle.scripts.specs.declared.schedule.Word.{Word}
 use Rattle.scripts.specs.declared.script.Task.{Task}
 use Rattle.runner.specs.Running.{IsNotRun as IsNotRunOver}
@@ -29,6 +29,7 @@ module _ {D N : Type 0} (disk : Ghosts D N) (d e : D) (old new : Option (List â„
   not_shown i (Script fault) why = (why.0, f why.1)
   not_shown i (Schedule fault) why = (why.0, f why.1)
   not_shown i (Run fault) why = (why.0, f why.1)
+  not_shown i (Stops fault) why = (why.0, f why.1)
   not_shown i (Input fault) why = (why.0, f why.1)
 
   not_replayed : (over : Ghosts (FaultyDisk D) (N Ã— Trap)) (tasks : List Task) (processes : â„•) (words : List Word) (stop : â„•) (r : Refusal)
@@ -43,6 +44,7 @@ module _ {D N : Type 0} (disk : Ghosts D N) (d e : D) (old new : Option (List â„
   not_replayed over tasks processes words stop (Script fault) why = (why.0, f why.1)
   not_replayed over tasks processes words stop (Schedule fault) why = (why.0, f why.1)
   not_replayed over tasks processes words stop (Run fault) why = (why.0, f why.1)
+  not_replayed over tasks processes words stop (Stops fault) why = (why.0, f why.1)
   not_replayed over tasks processes words stop (Cat fault) why = (why.0, f why.1)
   not_replayed over tasks processes words stop (Input fault) why = (why.0, f why.1)
 
@@ -50,6 +52,7 @@ module _ {D N : Type 0} (disk : Ghosts D N) (d e : D) (old new : Option (List â„
   not_run_over tasks processes (Disk fault) why = why
   not_run_over tasks processes Output why = why
   not_run_over tasks processes (Run fault) why = (why.0, f why.1)
+  not_run_over tasks processes (Stops fault) why = (why.0, f why.1)
   not_run_over tasks processes (File fault) why = (why.0, f why.1)
   not_run_over tasks processes (Mkfs fault) why = (why.0, f why.1)
   not_run_over tasks processes (Check fault) why = (why.0, f why.1)

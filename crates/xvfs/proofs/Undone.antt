@@ -7,12 +7,13 @@ use Rattle.xvfs.specs.declared.command.Failure.TheVariants.{Refused, Misused}
 use Rattle.player.specs.Causes.{IsUnchecked, IsUnrecovered}
 use Rattle.texts.specs.declared.refusal.Refusal.{Refusal}
 use Rattle.requests.specs.declared.words.Request.{Request}
-use Rattle.requests.specs.declared.words.Request.TheVariants.{Mkfs, Check, Recover, Cat, Replay, Run}
+use Rattle.requests.specs.declared.words.Request.TheVariants.{Mkfs, Check, Recover, Cat, Replay, Run, Stops}
 use Rattle.xvfs.specs.Files.{FileGhosts}
 use Rattle.xvfs.specs.Requests.{IsMisused, IsNotDone, IsUndone, OnRefused}
 use Rattle.xvfs.specs.Status.{status_of}
 use Rattle.xvfs.proofs.Opened.{refused_so}
 use Rattle.xvfs.proofs.Refused.{not_run, not_shown, unreplayed}
+use Rattle.xvfs.proofs.Unchecked.{script_unchecked}
 
 module _ {F N : Type 0} (file : FileGhosts F N) (words : List (List ℕ)) (old new : Option (List ℕ)) where
   pub refused_at_one : (none : Type 0) (f : Failure) → status_of (Err f) ≡ 1 → IsUndone file words old new none f → (r : Refusal) × IsUndone file words old new none (Refused r)
@@ -27,6 +28,7 @@ module _ {F N : Type 0} (file : FileGhosts F N) (words : List (List ℕ)) (old n
   on_refused (Cat image inum) r P Q f why = refused_so _ _ P Q _ _ f (λ d e r why. not_shown file.disk d e old new P Q f inum r why) r why
   on_refused (Replay image script schedule stop) r P Q f why = refused_so _ _ P Q _ _ f (λ d e r why. unreplayed file.disk file.over d e (unwrap_or stop 0) old new P Q f r why) r why
   on_refused (Run image script workers) r P Q f why = refused_so _ _ P Q _ _ f (λ d e r why. not_run file.disk d e old new P Q f r why) r why
+  on_refused (Stops script schedule) r P Q f why = script_unchecked P Q f r why
 
   undone_by : (P Q : Type 0) → (P → Q) → (f : Failure) → IsUndone file words old new P f → IsUndone file words old new Q f
   undone_by P Q f (Refused r) undone =

@@ -2,3 +2,4 @@ pub mod Status
 pub mod Lines
 pub mod Files
 pub mod Requests
+pub mod Scripts

@@ -8,8 +8,9 @@ use Rattle.requests.specs.CommandLine.{AskFor}
 use Rattle.requests.specs.Told.{AskForHelp, IsToldOf}
 use Rattle.requests.specs.declared.explanation.Explanation.{Explanation}
 use Rattle.requests.specs.declared.words.Request.{Request}
-use Rattle.requests.specs.declared.words.Request.TheVariants.{Mkfs, Check, Recover, Cat, Replay, Run}
+use Rattle.requests.specs.declared.words.Request.TheVariants.{Mkfs, Check, Recover, Cat, Replay, Run, Stops}
 use Rattle.xvfs.specs.Files.{FileGhosts, IsCopied, IsMade, IsNotRun, IsReplayed, IsReported, IsRun, IsShown, IsUnreplayed, OnDiskRefusal, OpensDisk}
+use Rattle.xvfs.specs.Scripts.{ChecksScript, IsScriptUnchecked}
 use Rattle.xvfs.specs.Status.{IsHelp}
 use Rattle.xvfs.specs.declared.command.Failure.{Failure}
 use Rattle.xvfs.specs.declared.command.Failure.TheVariants.{Refused, Misused}
@@ -30,6 +31,7 @@ Answers file (Replay image script schedule stop) old new =
     (IsReplayed file.disk file.over (unwrap_or stop 0) old new)
 Answers file (Run image script workers) old new =
     OpensDisk file.remaining file.disk.image (IsRun file.disk old new)
+Answers file (Stops script schedule) old new = ChecksScript old new
 
 -- why a request was refused, and what was printed; `none` says that nothing was
 abbrev pub OnRefused : {F N : Type 0} → FileGhosts F N → Request → Refusal → Option (List ℕ)
@@ -49,6 +51,7 @@ OnRefused file (Replay image script schedule stop) r old new none =
     (IsUnreplayed file.disk file.over (unwrap_or stop 0) old new none) r
 OnRefused file (Run image script workers) r old new none =
     OnDiskRefusal file.remaining file.disk.image none (IsNotRun file.disk old new none) r
+OnRefused file (Stops script schedule) r old new none = IsScriptUnchecked none r
 
 -- a request of the words was done and answered; what is printed of help is clap's
 abbrev pub IsDone : {F N : Type 0} → FileGhosts F N → List (List ℕ) → Option (List ℕ)

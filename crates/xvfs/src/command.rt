@@ -10,7 +10,10 @@ ghost use Rattle.xvfs.specs.declared.command.Failure.TheVariants as failure;
 ghost use Rattle.texts.specs.declared.refusal.Refusal.{Refusal as SomeRefusal};
 ghost use Rattle.requests.specs.declared.explanation.Explanation.{Explanation as SomeExplanation};
 
-use crate::images::{cat_file, check_file, make_file, recover_file, replay_files, run_files};
+use crate::images::{
+    cat_file, check_file, make_file, recover_file, replay_files, run_files, stops_files,
+};
+use crate::progress::Screen;
 use blocks::{Disk, FaultyDisk, FileDisk};
 use requests::{Explanation, Request, parse};
 use std::convert::AsStr;
@@ -50,7 +53,7 @@ impl From<Refusal> for Failure {
 /// that failed. With 2 nothing is written to `out`, with 0 nothing to `err`. What else `err` gets
 /// no contract tells, since it may fail at any byte.
 pub fn command<
-    R: Files + AllocGlobal + Threads + Wait + Clock + Sync,
+    R: Files + AllocGlobal + Threads + Wait + Clock + Screen + Sync,
     S: AsStr,
     O: Write,
     E: Write,
@@ -107,7 +110,7 @@ fn report<E: Write>(failure: Failure, err: &mut E) -> Result<(), Refusal>
     }
 }
 
-fn perform<R: Files + AllocGlobal + Threads + Wait + Clock + Sync, S: AsStr, O: Write>(
+fn perform<R: Files + AllocGlobal + Threads + Wait + Clock + Screen + Sync, S: AsStr, O: Write>(
     rt: &R,
     words: &[S],
     out: &mut O,
@@ -143,7 +146,7 @@ fn explain<O: Write>(explanation: Explanation, out: &mut O) -> Result<(), Failur
 }
 
 // Does what is asked for, and prints the answer.
-fn dispatch<R: Files + AllocGlobal + Threads + Wait + Clock + Sync, O: Write>(
+fn dispatch<R: Files + AllocGlobal + Threads + Wait + Clock + Screen + Sync, O: Write>(
     rt: &R,
     request: Request<'_>,
     out: &mut O,
@@ -178,5 +181,6 @@ where
             script,
             workers,
         } => run_files(rt, image, script, workers, out),
+        Request::Stops { script, schedule } => stops_files(rt, script, schedule, out),
     }
 }

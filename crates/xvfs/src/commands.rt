@@ -7,6 +7,7 @@ ghost use Rattle.xvfs.specs.Lines.{lines_in, words_in, script_in};
 ghost use Rattle.xvfs.specs.Requests.{AreDone, StopsAmong};
 
 use crate::command::{command, refuse};
+use crate::progress::Screen;
 use blocks::{Disk, FaultyDisk, FileDisk};
 use std::alloc::{AllocError, Global};
 use std::io::{Read, Write};
@@ -23,7 +24,7 @@ pub const LIMIT: usize = 65_536;
 /// `command` does, and so nothing to `err` where the status is 0; then each line's command was
 /// done. Status 1, and no command is done, where the text can't be had.
 pub fn commands<
-    R: Files + AllocGlobal + Threads + Wait + Clock + Sync,
+    R: Files + AllocGlobal + Threads + Wait + Clock + Screen + Sync,
     I: Read + Drop,
     O: Write,
     E: Write,
@@ -73,12 +74,11 @@ fn text_of(bytes: Vec<u8>) -> Result<String, InputFault>
     String::from_utf8(bytes).map_err(|_| InputFault::Read)
 }
 
-fn perform_text<R: Files + AllocGlobal + Threads + Wait + Clock + Sync, O: Write, E: Write>(
-    rt: &R,
-    text: &str,
-    out: &mut O,
-    err: &mut E,
-) -> u8
+fn perform_text<
+    R: Files + AllocGlobal + Threads + Wait + Clock + Screen + Sync,
+    O: Write,
+    E: Write,
+>(rt: &R, text: &str, out: &mut O, err: &mut E) -> u8
 where
     R::File: Send,
     ensures status { result ≤ 2 }
@@ -97,12 +97,11 @@ where
     }
 }
 
-fn perform_lines<R: Files + AllocGlobal + Threads + Wait + Clock + Sync, O: Write, E: Write>(
-    rt: &R,
-    lines: &[Vec<&str>],
-    out: &mut O,
-    err: &mut E,
-) -> u8
+fn perform_lines<
+    R: Files + AllocGlobal + Threads + Wait + Clock + Screen + Sync,
+    O: Write,
+    E: Write,
+>(rt: &R, lines: &[Vec<&str>], out: &mut O, err: &mut E) -> u8
 where
     R::File: Send,
     ensures status { result ≤ 2 }

@@ -1,4 +1,5 @@
-//! Makes, checks, recovers, reads, replays and runs images of the xv6 file system.
+//! Makes, checks, recovers, reads, replays and runs images of the xv6 file system, and checks scripts
+//! at each of their stops.
 #![tactic(auto)]
 
 mod arguments;
@@ -6,6 +7,7 @@ mod command;
 mod commands;
 mod images;
 mod inputs;
+mod progress;
 
 use command::{command, refuse};
 use commands::commands;

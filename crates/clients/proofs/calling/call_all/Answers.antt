@@ -1,4 +1,4 @@
-use Rattle.std.proofs.Common.{◌≡◌, ◌<◌, ◌+◌, ◌∙◌, ap, length, refl, Some, arith}
+use Rattle.std.proofs.Common.{◌<◌, ◌∙◌, ap, length, refl, Some, arith}
 use Rattle.std.proofs.lemmas.Option.{slice_get_read, slice_get_within}
 use Rattle.clients.proofs.Called.{called_so_far, one_called}
 use Rattle.clients.proofs.calling.call_all.Goals as goal

@@ -1,4 +1,4 @@
-use Rattle.std.proofs.Common.{◌≡◌, ◌∙◌, [], ◌∷◌, ◌++◌, append-nil, length, ap, arith, sym}
+use Rattle.std.proofs.Common.{◌≡◌, ◌∙◌, [], ◌++◌, append-nil, length, ap, arith, sym}
 use Rattle.std.proofs.lemmas.List.{nil_from_length}
 use Rattle.std.specs.Prelude.{slice_get}
 use Rattle.rings.specs.Callers.{intake_names}

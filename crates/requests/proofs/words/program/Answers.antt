@@ -1,6 +1,6 @@
 use Rattle.std.proofs.Common.{codes}
 use Rattle.std.proofs.lemmas.Result.{IfOk-weaker}
-use Rattle.requests.specs.CommandLine.{cat_app, image_app, mkfs_app, replay_app, run_app}
+use Rattle.requests.specs.CommandLine.{cat_app, image_app, mkfs_app, replay_app, run_app, stops_app}
 use Rattle.requests.proofs.CommandLines.{one_command}
 use Rattle.requests.proofs.words.program.Goals as goal
 
@@ -11,4 +11,5 @@ returns c =
     let three = one_command _ (image_app (codes "recover")) c.in_ok-subcommand-2.field-0 c.in_ok-recover_words.field-0 c.in_ok-subcommand-3.field-0 two c.in_ok-recover_words.ensures c.in_ok-subcommand-3.ensures in
     let four = one_command _ cat_app c.in_ok-subcommand-3.field-0 c.in_ok-cat_words.field-0 c.in_ok-subcommand-4.field-0 three c.in_ok-cat_words.ensures c.in_ok-subcommand-4.ensures in
     let five = one_command _ replay_app c.in_ok-subcommand-4.field-0 c.in_ok-replay_words.field-0 c.in_ok-subcommand-5.field-0 four c.in_ok-replay_words.ensures c.in_ok-subcommand-5.ensures in
-    IfOk-weaker c.subcommand-6.result _ _ (λ r adds. one_command _ run_app c.in_ok-subcommand-5.field-0 c.in_ok-run_words.field-0 r five c.in_ok-run_words.ensures adds) c.subcommand-6.ensures
+    let six = one_command _ run_app c.in_ok-subcommand-5.field-0 c.in_ok-run_words.field-0 c.in_ok-subcommand-6.field-0 five c.in_ok-run_words.ensures c.in_ok-subcommand-6.ensures in
+    IfOk-weaker c.subcommand-7.result _ _ (λ r adds. one_command _ stops_app c.in_ok-subcommand-6.field-0 c.in_ok-stops_words.field-0 r six c.in_ok-stops_words.ensures adds) c.subcommand-7.ensures

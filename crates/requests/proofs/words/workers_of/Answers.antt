@@ -1,4 +1,4 @@
-use Rattle.std.proofs.Common.{◌≡◌, ◌∙◌, codes, rules}
+use Rattle.std.proofs.Common.{◌∙◌, codes, rules}
 use Rattle.clap.specs.Words.{found_of}
 use Rattle.clap.proofs.WalkLemmas.{one_text-rows}
 use Rattle.requests.proofs.CommandLines.{some_is_not_none}

@@ -27,3 +27,11 @@ returns-in-Run-clause-ok g c =
 pub returns-in-Run-clause-err : goal.returns-in-Run-clause-err
 returns-in-Run-clause-err g c =
     subst (λ request. IfErr c.run_files.result (λ r. OnRefused (seen_by g.R.File.Read.remaining) request r (g.O.Write.contents c.args.out.now) (g.O.Write.contents c.run_files.new.out) (c.run_files.new.out ≡ c.args.out.now))) (sym c.in-Run.is) c.run_files.ensures.refused
+
+pub returns-in-Stops-clause-ok : goal.returns-in-Stops-clause-ok
+returns-in-Stops-clause-ok g c =
+    subst (λ request. OnOk c.stops_files.result (Answers (seen_by g.R.File.Read.remaining) request (g.O.Write.contents c.args.out.now) (g.O.Write.contents c.stops_files.new.out))) (sym c.in-Stops.is) c.stops_files.ensures.checked
+
+pub returns-in-Stops-clause-err : goal.returns-in-Stops-clause-err
+returns-in-Stops-clause-err g c =
+    subst (λ request. IfErr c.stops_files.result (λ r. OnRefused (seen_by g.R.File.Read.remaining) request r (g.O.Write.contents c.args.out.now) (g.O.Write.contents c.stops_files.new.out) (c.stops_files.new.out ≡ c.args.out.now))) (sym c.in-Stops.is) c.stops_files.ensures.refused

@@ -1,4 +1,6 @@
-// Numbers that look like chance.
+//! Numbers that look like chance, for programs that try a lot.
+#![tactic(auto)]
+
 ghost use Rattle.std.specs.Prelude.{◌<◌};
 
 /// A row of numbers that looks like chance, and is the same from the same seed (splitmix64).

@@ -1,0 +1,63 @@
+//! Hurt images, judged by `layout::check` and by the plain program, which have to agree on the first
+//! fault of each.
+//!
+//! With no words the program does two things, and prints what they came to. It takes an image whose
+//! log has a block of inodes, sets each byte of the superblock, the log's header, that block, its
+//! home and the bitmap to four values in turn, and cuts the image to each smaller number of blocks.
+//! Over each of these a kernel is opened: where the check finds a fault, the opening is refused with
+//! it and writes nothing; else the image is then the one that the plain program recovers. Where the
+//! superblock is lawful it is recovered, too. Then the program takes 100,000 images, with and without
+//! a log, of which up to eight bytes are changed by chance, and checks them.
+//!
+//! With two words it takes so many images changed by chance, from the seed on that is the first word.
+//! The first image that is not judged right ends it, with status 1.
+#![tactic(auto)]
+
+mod bases;
+mod faults;
+mod image;
+mod judging;
+mod random;
+mod sweep;
+
+use crate::faults::Faults;
+use crate::random::hurt_by_chance;
+use crate::sweep::hurt_each;
+use anyhow::bail;
+use std::alloc::Global;
+use std::env;
+
+fn main(rt: HostRuntime) -> anyhow::Result<()> {
+    let alloc = rt.alloc();
+    let words: Vec<String> = env::args(&rt)?.skip(1).collect(alloc)?;
+    match words.as_slice() {
+        [] => {
+            print_each(&rt, alloc)?;
+            println!(rt)?;
+            print_by_chance(&rt, alloc, 1, 100_000)
+        }
+        [first, count] => {
+            print_by_chance(&rt, alloc, first.as_str().parse()?, count.as_str().parse()?)
+        }
+        _ => bail!("the words are the first seed and how many there are, or none"),
+    }
+}
+
+fn print_each(rt: &impl Print, alloc: Global) -> anyhow::Result<()> {
+    let seen = hurt_each(alloc)?;
+    println!(rt; "each byte of five blocks, and each cut")?;
+    seen.faults.print(rt)?;
+    println!(rt; "openings refused {}", seen.refused)?;
+    println!(rt; "openings made {}", seen.opened)?;
+    println!(rt; "recoveries refused {}", seen.unrecovered)?;
+    println!(rt; "recoveries made {}", seen.recovered)?;
+    Ok(())
+}
+
+fn print_by_chance(rt: &impl Print, alloc: Global, first: u64, count: u64) -> anyhow::Result<()> {
+    let mut faults = Faults::new();
+    hurt_by_chance(alloc, first, count, &mut faults)?;
+    println!(rt; "bytes changed by chance")?;
+    faults.print(rt)?;
+    Ok(())
+}

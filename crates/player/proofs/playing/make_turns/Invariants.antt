@@ -1,0 +1,13 @@
+use Rattle.std.proofs.Common.{◌≡◌, length, None}
+use Rattle.player.specs.Stepping.{IsSeated}
+use Rattle.player.proofs.Plays.{PlayedSo}
+use Rattle.player.proofs.Disks.{faulty}
+use Rattle.player.proofs.playing.make_turns.Given as goal
+
+-- where no output is known, nothing is said of it
+abbrev pub invariant-loop-word : goal.invariant-loop-word
+invariant-loop-word g l = record {
+  played : PlayedSo (faulty g.D.Disk) l.stop l.words l.word-index l.fn.player l.player None None;
+  seated : IsSeated l.player;
+  processes : length l.player.kernel.world.processes ≡ length l.fn.player.kernel.world.processes;
+}

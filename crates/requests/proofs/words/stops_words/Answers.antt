@@ -1,0 +1,14 @@
+use Rattle.std.proofs.Common.{◌≡◌, codes, rules}
+use Rattle.std.proofs.lemmas.Result.{IfOk-weaker}
+use Rattle.clap.specs.Words.{new_app, rule_of}
+use Rattle.requests.specs.CommandLine.{HasApp, required_rule}
+use Rattle.requests.proofs.CommandLines.{one_word}
+use Rattle.requests.proofs.words.stops_words.Goals as goal
+
+pub returns : goal.returns
+returns c =
+    let script : rule_of c.word.result ≡ required_rule (codes "SCRIPT") = search rules in
+    let schedule : rule_of c.word-2.result ≡ required_rule (codes "SCHEDULE") = search rules in
+    let start : HasApp (new_app (codes "stops")) c.about.result = search rules in
+    let one = one_word _ _ c.about.result c.word.result c.in_ok-arg.field-0 start script c.word.ensures.local c.in_ok-arg.ensures in
+    IfOk-weaker c.arg-2.result _ _ (λ r adds. one_word _ _ c.in_ok-arg.field-0 c.word-2.result r one schedule c.word-2.ensures.local adds) c.arg-2.ensures

@@ -1,0 +1,151 @@
+-- The runs of a script over a new image, and the files that what they leave has to have.
+use Rattle.std.specs.Prelude.{◌≡◌, ◌≢◌, ◌<◌, ◌⊎◌, ◌+◌, ◌-◌, ℕ, Bool, true, false, List, replicate, Option, Some, None}
+use Rattle.std.specs.Io.KnownBytes.{Appends}
+use Rattle.blocks.specs.Disk.{Image, counted}
+use Rattle.blocks.specs.contracts.memory.MemDiskDisk.TheImpl.{ghosts}
+use Rattle.blocks.specs.declared.disk.Disk.{Ghosts}
+use Rattle.blocks.specs.declared.faulty.FaultyDisk.{FaultyDisk}
+use Rattle.blocks.specs.declared.faulty.Trap.{Trap}
+use Rattle.blocks.specs.declared.memory.MemDisk.{MemDisk}
+use Rattle.model.specs.declared.types.fault.CheckFault.TheVariants as check
+use Rattle.model.specs.declared.types.image.Form.TheVariants.{One}
+use Rattle.model.specs.declared.types.operations.Entry.{Entry}
+use Rattle.model.specs.Codec.{made_image}
+use Rattle.model.specs.Files.{Files, files_of}
+use Rattle.model.specs.Journal.{kept, replay}
+use Rattle.model.specs.Log.{recovered}
+use Rattle.model.specs.Verdict.{verdict}
+use Rattle.wal.specs.declared.faults.RecoverFault.TheVariants as recover
+use Rattle.scripts.specs.declared.schedule.Word.{Word}
+use Rattle.scripts.specs.declared.script.Task.{Task}
+use Rattle.texts.specs.Output.{images_text}
+use Rattle.texts.specs.declared.events.Event.{Event}
+use Rattle.texts.specs.declared.faults.KernelFault.TheVariants as kernel
+use Rattle.texts.specs.declared.faults.StopsFault.TheVariants.{Mismatch, NoMemory}
+use Rattle.texts.specs.declared.refusal.Refusal.{Refusal}
+use Rattle.texts.specs.declared.refusal.Refusal.TheVariants.{Check, Recover, Open, Stops, Output}
+use Rattle.player.specs.Afterwards.{IsUnopenedOver}
+use Rattle.player.specs.Opening.{IsArmed, IsOpenedOver}
+use Rattle.player.specs.Stepping.{MakesTurns}
+use Rattle.player.specs.declared.player.Player.{Player}
+
+-- what contracts see of a disk in memory of which one call fails
+abbrev pub memory : Ghosts (FaultyDisk MemDisk) (Unit {0} × Trap)
+memory = record {
+  name = λ d. (tt, d.trap);
+  image = λ d. ghosts.image d.inner;
+  moment = λ d. ghosts.moment d.inner;
+  leaves = λ d. ghosts.leaves d.inner;
+  write_count = λ d. d.writes;
+  fault_count = λ d. d.faults;
+}
+
+-- a player over one
+abbrev pub MemoryPlayer : Type 0
+MemoryPlayer = Player MemDisk (Unit {0})
+
+-- a new image of 48 blocks with 16 inode numbers
+abbrev pub new_image : Image
+new_image = made_image One 48 16
+
+-- the files after the operations of the committed groups, where there was none before; None where
+-- one of them can't have its reply
+abbrev pub kept_files : List Entry → ℕ → Option Files
+kept_files entries committed = replay One (replicate 16 None) (kept 16 entries committed)
+
+-- the image can be recovered, and then has exactly these files
+pub record HasFiles (x : Image) (due : Option Files) : Type 0 where
+  pub sound : verdict x ≡ None
+  pub files : due ≡ Some (files_of (recovered x))
+
+-- the refusals that memory was refused
+abbrev pub is_want_of_memory : Refusal → Bool
+is_want_of_memory (Check check.NoMemory) = true
+is_want_of_memory (Recover recover.NoMemory) = true
+is_want_of_memory (Open kernel.NoMemory) = true
+is_want_of_memory r = false
+
+-- A player of these operations was opened over a new image, and made the turns of these words. The
+-- write of that number, from 1, was the one that isn't made.
+pub record MakesRun (tasks : List Task) (processes : ℕ) (words : List Word) (stop : ℕ)
+    (player last : MemoryPlayer) : Type 0 where
+  pub opened : IsOpenedOver memory.image new_image tasks processes player
+  pub armed : IsArmed memory stop player.kernel.store.volume.device
+  pub events : List Event
+  pub makes : MakesTurns memory stop words events player last
+
+-- the writes of a run
+abbrev pub writes_of : MemoryPlayer → MemoryPlayer → ℕ
+writes_of player last = memory.write_count last.kernel.store.volume.device
+    - memory.write_count player.kernel.store.volume.device
+
+-- what a run left has exactly the files of the groups that it committed
+abbrev pub IsKept : MemoryPlayer → Type 0
+IsKept last = HasFiles (memory.image last.kernel.store.volume.device)
+    (kept_files last.kernel.world.journal.list last.kernel.store.volume.log.committed)
+
+-- a run of so many writes was made, and kept its files
+pub record IsTried (tasks : List Task) (processes : ℕ) (words : List Word) (stop count : ℕ)
+    : Type 0 where
+  pub player : MemoryPlayer
+  pub last : MemoryPlayer
+  pub run : MakesRun tasks processes words stop player last
+  pub writes : count ≡ writes_of player last
+  pub kept : IsKept last
+
+-- a run was made, and didn't keep its files
+pub record HasLost (tasks : List Task) (processes : ℕ) (words : List Word) (stop : ℕ)
+    : Type 0 where
+  pub player : MemoryPlayer
+  pub last : MemoryPlayer
+  pub run : MakesRun tasks processes words stop player last
+  pub lost : ¬ (IsKept last)
+
+-- over a new image no player was opened, and not for want of memory
+pub record IsUnopenedNew (processes : ℕ) : Type 0 where
+  pub before : MemDisk
+  pub now : MemDisk
+  pub refusal : Refusal
+  pub new : ghosts.image before ≡ new_image
+  pub unopened : IsUnopenedOver memory processes before now refusal
+  pub other : is_want_of_memory refusal ≡ false
+
+-- why a run doesn't pass
+abbrev pub Fails : List Task → ℕ → List Word → ℕ → Type 0
+Fails tasks processes words stop = HasLost tasks processes words stop ⊎ IsUnopenedNew processes
+
+-- the run that is stopped behind so many writes made just these, and kept its files
+abbrev pub Passes : List Task → ℕ → List Word → ℕ → Type 0
+Passes tasks processes words before = IsTried tasks processes words (before + 1) before
+
+-- it doesn't pass, or made other writes
+abbrev pub FailsBehind : List Task → ℕ → List Word → ℕ → Type 0
+FailsBehind tasks processes words before = Fails tasks processes words (before + 1)
+    ⊎ ((writes : ℕ) × (writes ≢ before) × IsTried tasks processes words (before + 1) writes)
+
+-- A run made so many writes, and kept its files; and so did one stopped before each of them. There
+-- is an image for each, and one more.
+pub record AllPass (tasks : List Task) (processes : ℕ) (words : List Word) (images : ℕ)
+    : Type 0 where
+  pub writes : ℕ
+  pub whole : IsTried tasks processes words 0 writes
+  pub each : (before : ℕ) → before < writes → Passes tasks processes words before
+  pub count : images ≡ counted writes 1
+
+-- the whole run doesn't pass, or one of those that are stopped
+abbrev pub SomeFails : List Task → ℕ → List Word → Type 0
+SomeFails tasks processes words = Fails tasks processes words 0
+    ⊎ ((before : ℕ) × FailsBehind tasks processes words before)
+
+-- all images passed, and how many there were was printed
+abbrev pub ChecksAll : List Task → ℕ → List Word → Option (List ℕ) → Option (List ℕ) → Type 0
+ChecksAll tasks processes words old new = (images : ℕ) × AllPass tasks processes words images
+    × Appends old new (images_text images)
+
+-- why a check wasn't done; `none` says that nothing was printed
+abbrev pub IsUnchecked : List Task → ℕ → List Word → Type 0 → Refusal → Type 0
+IsUnchecked tasks processes words none (Stops Mismatch) = SomeFails tasks processes words × none
+IsUnchecked tasks processes words none (Stops NoMemory) = none
+IsUnchecked tasks processes words none Output =
+    (images : ℕ) × AllPass tasks processes words images
+IsUnchecked tasks processes words none r = ⊥

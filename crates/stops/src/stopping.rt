@@ -1,0 +1,95 @@
+// A script at each of its stops, and what is printed of it.
+ghost use Rattle.std.specs.Prelude.{◌≡◌, ◌<◌, ◌+◌, ◌^◌, All, IfOk, IfErr, IsTrue, OnOk};
+ghost use Rattle.std.specs.List.{list_all};
+ghost use Rattle.scripts.specs.Schedule.{is_word_of};
+ghost use Rattle.texts.specs.declared.faults.StopsFault.TheVariants as fault;
+ghost use Rattle.stops.specs.Trials.{AllPass, ChecksAll, FailsBehind, IsUnchecked, Passes, SomeFails};
+
+use crate::trial::try_run;
+use scripts::{Task, Word};
+use std::alloc::Global;
+use std::io::Write;
+use texts::{Refusal, StopsFault, print_images};
+
+/// Who is told how far a check is.
+pub trait Progress {
+    /// So many of so many stops were tried, and their images passed.
+    fn tried(&mut self, stops: u64, of: u64);
+
+    /// The check is over, however it ended.
+    fn ended(&mut self);
+}
+
+/// Checks a script of so many processes, in the turns of a schedule, at each of its stops, and
+/// prints how many images these left: one more than the writes of the whole run.
+///
+/// # Errors
+///
+/// `Stops` with `Mismatch` at the first image that can't be recovered or has other files than those
+/// after the committed groups, and with `NoMemory` where memory was refused, also that of an
+/// operation: then nothing was printed. Else `Output`.
+pub fn check_stops<P: Progress, O: Write>(
+    alloc: Global,
+    tasks: &[Task],
+    processes: u32,
+    words: &[Word],
+    progress: &mut P,
+    out: &mut O,
+) -> Result<(), Refusal>
+    requires tasks { All (λ task. task.pid < processes) tasks.now }
+    requires words { IsTrue (list_all (is_word_of processes) words.now) }
+    ensures checked { OnOk result (ChecksAll tasks.now processes words.now
+        (O.contents out.old) (O.contents out.new)) }
+    ensures refused { IfErr result (IsUnchecked tasks.now processes words.now
+        (out.new ≡ out.old)) }
+{
+    let tried = try_stops(alloc, tasks, processes, words, progress);
+    progress.ended();
+    let images = tried.map_err(Refusal::Stops)?;
+    print_images(out, images)
+}
+
+// Makes the whole run, and then one up to each of its writes. How many images there were.
+fn try_stops<P: Progress>(
+    alloc: Global,
+    tasks: &[Task],
+    processes: u32,
+    words: &[Word],
+    progress: &mut P,
+) -> Result<u64, StopsFault>
+    requires tasks { All (λ task. task.pid < processes) tasks.now }
+    requires words { IsTrue (list_all (is_word_of processes) words.now) }
+    ensures all { IfOk result (AllPass tasks.now processes words.now) }
+    ensures some { IfErr result (λ f. f ≡ fault.Mismatch
+        → SomeFails tasks.now processes words.now) }
+{
+    let writes = try_run(alloc, tasks, processes, words, 0)?;
+    for before in 0..writes {
+        try_stop(alloc, tasks, processes, words, before)?;
+        progress.tried(before + 1, writes);
+    }
+    Ok(writes.saturating_add(1))
+}
+
+// Makes the run up to the write behind so many.
+fn try_stop(
+    alloc: Global,
+    tasks: &[Task],
+    processes: u32,
+    words: &[Word],
+    before: u64,
+) -> Result<(), StopsFault>
+    requires tasks { All (λ task. task.pid < processes) tasks.now }
+    requires words { IsTrue (list_all (is_word_of processes) words.now) }
+    requires some { before + 1 < 2 ^ 64 }
+    ensures passes { OnOk result (Passes tasks.now processes words.now before) }
+    ensures fails { IfErr result (λ f. f ≡ fault.Mismatch
+        → FailsBehind tasks.now processes words.now before) }
+{
+    let writes = try_run(alloc, tasks, processes, words, before + 1)?;
+    if writes != before {
+        // It is not the run that was made before.
+        return Err(StopsFault::Mismatch);
+    }
+    Ok(())
+}
