@@ -1,3 +1,4 @@
 pub mod BlockLemmas
 mod Kept
+mod HeldLemmas
 mod TrapLemmas

@@ -2,4 +2,5 @@
 -- use.
 pub mod Blocks
 pub mod Moments
+pub mod Held
 pub mod Reads

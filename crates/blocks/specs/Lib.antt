@@ -2,9 +2,12 @@ pub mod Block
 pub mod Disk
 pub mod Calls
 pub mod Past
+pub mod Moments
+pub mod Held
 pub mod Images
 pub mod Trap
 pub mod FaultyDisk
 pub mod File
 pub mod FileDisk
+pub mod SyncDisk
 pub mod Lemmas

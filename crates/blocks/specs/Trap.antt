@@ -1,7 +1,7 @@
 -- How the counts of a disk of which one call fails stand to that call.
 use Rattle.std.specs.Prelude.{◌≡◌, ◌≢◌, ℕ, ◌+◌, ◌-◌, ◌<◌, ◌≤◌, ◌^◌, Bool, true, false, ◌&&◌, ◌==◌, if◌then◌else◌}
 use Rattle.blocks.specs.declared.faulty.Kind.{Kind}
-use Rattle.blocks.specs.declared.faulty.Kind.TheVariants.{Read, WriteOld, WriteNew}
+use Rattle.blocks.specs.declared.faulty.Kind.TheVariants.{Read, WriteOld, WriteNew, Sync}
 use Rattle.blocks.specs.declared.faulty.Trap.{Trap}
 use Rattle.blocks.specs.Disk.{counted}
 
@@ -10,6 +10,21 @@ abbrev pub is_write : Kind → Bool
 is_write Read = false
 is_write WriteOld = true
 is_write WriteNew = true
+is_write Sync = false
+
+-- it counts reads
+abbrev pub is_read : Kind → Bool
+is_read Read = true
+is_read WriteOld = false
+is_read WriteNew = false
+is_read Sync = false
+
+-- it counts syncs
+abbrev pub is_sync : Kind → Bool
+is_sync Read = false
+is_sync WriteOld = false
+is_sync WriteNew = false
+is_sync Sync = true
 
 -- a call, of the kind or not, is the one that fails, with so many up to that
 abbrev pub is_due : Bool → ℕ → Bool
@@ -33,4 +48,5 @@ pub record KeepsCounts (trap : Trap) (left : ℕ) (fired : Bool) (writes faults 
   pub few : left ≤ trap.nth
   pub grown : trap.faults ≤ faults
   pub made : trap.nth ≢ 0 → left ≡ 0 → fired ≡ true
-  pub told : trap.kind ≢ Read → trap.faults + 2 < 2 ^ 64 → KeepsWrites trap left fired writes faults
+  pub told : is_write trap.kind ≡ true → trap.faults + 2 < 2 ^ 64
+      → KeepsWrites trap left fired writes faults

@@ -30,6 +30,11 @@ impl<T: Drop> From<AllocFailed<T>> for NoMemory {
 #[error("block {0}: the disk failed")]
 pub struct DiskFault(pub u32);
 
+/// A sync failed.
+#[derive(Clone, Copy, Debug, PartialEq, Eq, Error)]
+#[error("the disk failed to sync")]
+pub struct SyncFault;
+
 /// Why a file can't be used as a disk.
 #[derive(Clone, Copy, Debug, PartialEq, Eq, Error)]
 pub enum FileFault {

@@ -1,9 +1,9 @@
 // A disk of which one call fails.
-ghost use Rattle.std.specs.Prelude.{◌≡◌, ◌≢◌, ◌<◌, ◌^◌, ◌⊎◌, ◌||◌, length, IsTrue, IsErr, IfErr};
-ghost use Rattle.blocks.specs.Calls.{ReadsOne, WritesOne};
-ghost use Rattle.blocks.specs.Trap.{KeepsCounts, is_due, is_write, left_after};
+ghost use Rattle.std.specs.Prelude.{◌≡◌, ◌≢◌, ◌<◌, ◌^◌, ◌⊎◌, ◌||◌, false, length, IsTrue, IsErr, IfErr};
+ghost use Rattle.blocks.specs.Calls.{ReadsOne, SyncsOne, WritesOne};
+ghost use Rattle.blocks.specs.Trap.{KeepsCounts, is_due, is_read, is_sync, is_write, left_after};
 
-use crate::{Block, Disk, DiskFault};
+use crate::{Block, Disk, DiskFault, SyncFault};
 
 /// Which calls are counted, and what the one that fails leaves.
 #[derive(Clone, Copy)]
@@ -14,6 +14,8 @@ pub enum Kind {
     WriteOld,
     /// Writes. The one that fails writes its block all the same.
     WriteNew,
+    /// Syncs. The one that fails syncs nothing.
+    Sync,
 }
 
 impl Kind {
@@ -22,8 +24,28 @@ impl Kind {
         ensures { result ≡ is_write self }
     {
         match self {
-            Kind::Read => false,
+            Kind::Read | Kind::Sync => false,
             Kind::WriteOld | Kind::WriteNew => true,
+        }
+    }
+
+    // Whether it counts reads.
+    fn is_read(self) -> bool
+        ensures { result ≡ is_read self }
+    {
+        match self {
+            Kind::Read => true,
+            Kind::WriteOld | Kind::WriteNew | Kind::Sync => false,
+        }
+    }
+
+    // Whether it counts syncs.
+    fn is_sync(self) -> bool
+        ensures { result ≡ is_sync self }
+    {
+        match self {
+            Kind::Sync => true,
+            Kind::Read | Kind::WriteOld | Kind::WriteNew => false,
         }
     }
 }
@@ -41,7 +63,7 @@ pub struct Trap {
     pub faults: u64,
 }
 
-/// A disk over another, of which one call fails: the nth read, or the nth write. It shows the
+/// A disk over another, of which one call fails: the nth read, write or sync. It shows the
 /// layers above how they take a fault in any place.
 #[derive(Drop)]
 pub struct FaultyDisk<D> {
@@ -135,8 +157,8 @@ impl<D: Disk> FaultyDisk<D> {
 }
 
 impl<D: Disk> Disk for FaultyDisk<D> {
-    ghost use Rattle.blocks.specs.FaultyDisk.{inner_of, kind_of, CountsDown, IsReadDue, IsWriteDue, TrapsRead, TrapsWrite};
-    ghost use Rattle.blocks.specs.declared.faulty.Kind.TheVariants.{Read};
+    ghost use Rattle.blocks.specs.FaultyDisk.{inner_of, kind_of, CountsDown, IsReadDue, IsSyncDue, IsWriteDue, TrapsRead, TrapsSync, TrapsWrite};
+    ghost use Rattle.blocks.specs.declared.faulty.Kind.TheVariants.{Read, Sync};
 
     // The disk below, and the call that fails.
     type Name = (D::Name, Trap);
@@ -153,11 +175,15 @@ impl<D: Disk> Disk for FaultyDisk<D> {
 
     ghost fault_count = { λ d. d.faults };
 
+    ghost sync_count = { λ d. D.sync_count d.inner };
+
+    ghost holding = { λ n. D.holding n.0 };
+
     ghost is_image = { λ d. D.is_image d.inner };
 
     ghost leaves_images = { λ d. D.leaves_images d.inner };
 
-    ghost counts_fit = { λ d. (d.writes_fit, d.faults_fit) };
+    ghost counts_fit = { λ d. (d.writes_fit, d.faults_fit, (D.counts_fit d.inner).2) };
 
     ghost counts_now = { λ d. D.counts_now d.inner };
 
@@ -177,6 +203,14 @@ impl<D: Disk> Disk for FaultyDisk<D> {
         self.faults
     }
 
+    fn syncs(&self) -> u64 {
+        self.inner.syncs()
+    }
+
+    fn holds(&self) -> bool {
+        self.inner.holds()
+    }
+
     /// Besides what each disk promises: the read that is due fails, and any other fails only
     /// where the disk below does.
     fn read(&mut self, block: u32, into: &mut Block) -> Result<(), DiskFault>
@@ -191,7 +225,7 @@ impl<D: Disk> Disk for FaultyDisk<D> {
         ensures counts { CountsDown (kind_of self.old ≡ Read) (kind_of self.old ≢ Read)
             (IsReadDue self.old) self.old self.new }
     {
-        let is_counted = !self.trap.kind.is_write();
+        let is_counted = self.trap.kind.is_read();
         let is_due = is_due(is_counted, self.left);
         let done = if is_due {
             Err(DiskFault(block))
@@ -218,8 +252,8 @@ impl<D: Disk> Disk for FaultyDisk<D> {
 
         // Of this one.
         ensures trap { TrapsWrite D.Disk block from.now result self.old self.new }
-        ensures counts { CountsDown (kind_of self.old ≢ Read) (kind_of self.old ≡ Read)
-            (IsWriteDue self.old) self.old self.new }
+        ensures counts { CountsDown (IsTrue (is_write (kind_of self.old)))
+            (is_write (kind_of self.old) ≡ false) (IsWriteDue self.old) self.old self.new }
     {
         let is_counted = self.trap.kind.is_write();
         let is_due = is_due(is_counted, self.left);
@@ -232,6 +266,32 @@ impl<D: Disk> Disk for FaultyDisk<D> {
         }
         self.writes = self.writes.saturating_add(1);
         Ok(())
+    }
+
+    /// Besides what each disk promises: the sync that is due fails, and any other fails only
+    /// where the disk below does.
+    fn sync(&mut self) -> Result<(), SyncFault>
+        // As of each disk.
+        ensures syncs { SyncsOne ⟦<FaultyDisk<D> as Disk>⟧ result self.old self.new }
+
+        // Of this one.
+        ensures trap { TrapsSync D.Disk result self.old self.new }
+        ensures counts { CountsDown (kind_of self.old ≡ Sync) (kind_of self.old ≢ Sync)
+            (IsSyncDue self.old) self.old self.new }
+    {
+        let is_counted = self.trap.kind.is_sync();
+        let is_due = is_due(is_counted, self.left);
+        let done = if is_due {
+            Err(SyncFault)
+        } else {
+            self.inner.sync()
+        };
+        self.left = left_after(is_counted, self.left);
+        self.fired = either(self.fired, is_due);
+        if done.is_err() {
+            self.faults = self.faults.saturating_add(1);
+        }
+        done
     }
 }
 

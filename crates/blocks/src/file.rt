@@ -1,16 +1,18 @@
 // A disk over a file. It keeps a copy of the blocks, which reads give; each write goes to both.
-ghost use Rattle.std.specs.Prelude.{◌≡◌, ◌≢◌, ◌<◌, ◌≤◌, ◌^◌, ◌+◌, ◌*◌, ◌/◌, ◌%◌, ◌++◌, ◌↔◌, ℕ, false, length, replicate, refl, [], slice_get, slice_set, Some, IfOk, IfErr, IsOk, IsOkUnless, OnOk, OnErr, IsErrOf};
+ghost use Rattle.std.specs.Prelude.{◌≡◌, ◌≢◌, ◌<◌, ◌≤◌, ◌^◌, ◌+◌, ◌*◌, ◌/◌, ◌%◌, ◌++◌, ◌↔◌, ℕ, false, true, length, replicate, refl, [], slice_get, slice_set, Some, IfOk, IfErr, IsOk, IsOkUnless, OnOk, OnErr, IsErrOf};
 ghost use Rattle.std.proofs.Common.{inl};
 ghost use Rattle.std.specs.List.{concat};
 ghost use Rattle.std.specs.IoError.{error_kind};
 ghost use Rattle.std.specs.Io.KnownBytes.{Consumes};
 ghost use Rattle.blocks.specs.Block.{zero_block};
-ghost use Rattle.blocks.specs.Calls.{ReadsOne, WritesOne};
-ghost use Rattle.blocks.specs.Disk.{IsImage};
+ghost use Rattle.blocks.specs.Calls.{HasCountsOf, IsPlain, ReadsOne, UnlessHolds, WritesOne};
+ghost use Rattle.blocks.specs.Disk.{AddsNone, IsImage, IsSettled};
 ghost use Rattle.blocks.specs.File.{IsReadFrom, IsWrittenAt, is_disk_size};
-ghost use Rattle.blocks.specs.Images.{only_last, has_left-image};
+ghost use Rattle.blocks.specs.Held.{IsShadow, LeftSince};
+ghost use Rattle.blocks.specs.Lemmas.Held.{left_whole, shadow_has, shadow_now, shadow_plain};
 
-use crate::{BLOCK_SIZE, Block, Disk, DiskFault, FileFault, MemDisk, NoMemory};
+use crate::floating::Shadow;
+use crate::{BLOCK_SIZE, Block, Disk, DiskFault, FileFault, MemDisk, NoMemory, SyncFault};
 use std::alloc::Global;
 use std::fs::{OpenFile, OpenOptions};
 use std::io;
@@ -26,14 +28,22 @@ const PIECE: u32 = 64;
 /// A disk over a file `F`, in which block b stands at byte 1024 * b. The file is read once, when
 /// it is opened; reads are answered from a copy in memory, and a write goes to the file first.
 ///
-/// Contracts speak of the copy. What the file itself holds after a write of it failed, or after
-/// the system stopped, is the system's affair.
+/// It is a plain disk, whose writes are taken to reach the file in their order; or, after
+/// `hold_back`, one that holds them back, where a stop of the system may lose any of those since
+/// the last sync. A sync of either syncs the file.
+///
+/// Contracts speak of the copy. What the file itself holds after a write of it failed is the
+/// system's affair.
 #[derive(Drop)]
 pub struct FileDisk<F> {
     copy: MemDisk,
     file: F,
     faults: u64,
+    // Whether what is written may be lost up to the next sync.
+    holds: bool,
+    shadow: Shadow,
     ghost faults_fit: { faults < 2 ^ 64 },
+    ghost shadowed: { IsShadow holds copy.blocks.items shadow },
 }
 
 impl<F: Read + Write + Seek + OpenFile + Drop> FileDisk<F> {
@@ -59,6 +69,7 @@ impl<F: Read + Write + Seek + OpenFile + Drop> FileDisk<F> {
             (⟦<FileDisk<F> as Disk>⟧.image disk)) }
         ensures writes { IfOk result (λ disk. ⟦<FileDisk<F> as Disk>⟧.write_count disk ≡ 0) }
         ensures faults { IfOk result (λ disk. ⟦<FileDisk<F> as Disk>⟧.fault_count disk ≡ 0) }
+        ensures plain { IfOk result (λ disk. IsPlain ⟦<FileDisk<F> as Disk>⟧ disk) }
     {
         let file = OpenOptions::new()
             .read(true)
@@ -86,6 +97,7 @@ impl<F: Read + Write + Seek + OpenFile + Drop> FileDisk<F> {
             (concat (⟦<FileDisk<F> as Disk>⟧.image disk))) }
         ensures writes { IfOk result (λ disk. ⟦<FileDisk<F> as Disk>⟧.write_count disk ≡ 0) }
         ensures faults { IfOk result (λ disk. ⟦<FileDisk<F> as Disk>⟧.fault_count disk ≡ 0) }
+        ensures plain { IfOk result (λ disk. IsPlain ⟦<FileDisk<F> as Disk>⟧ disk) }
     {
         let count = blocks_of_length(size)?;
         let blocks = read_blocks(alloc, &mut file, count)?;
@@ -109,6 +121,7 @@ impl<F: Read + Write + Seek + OpenFile + Drop> FileDisk<F> {
             (λ disk. ⟦<FileDisk<F> as Disk>⟧.image disk ≡ replicate size zero_block) }
         ensures writes { IfOk result (λ disk. ⟦<FileDisk<F> as Disk>⟧.write_count disk ≡ 0) }
         ensures faults { IfOk result (λ disk. ⟦<FileDisk<F> as Disk>⟧.fault_count disk ≡ 0) }
+        ensures plain { IfOk result (λ disk. IsPlain ⟦<FileDisk<F> as Disk>⟧ disk) }
         ensures err { IfErr result (λ fault. fault ≢ FileFault.Length) }
     {
         let copy = MemDisk::new(rt.alloc(), size)?;
@@ -125,17 +138,56 @@ impl<F: Read + Write + Seek + OpenFile + Drop> FileDisk<F> {
     }
 }
 
+impl<F: Write + Seek + OpenFile + Drop> FileDisk<F> {
+    ghost use Rattle.blocks.specs.FileDisk.{file_of};
+
+    /// The same disk, which from here on holds its writes back until a sync.
+    pub fn hold_back(self) -> FileDisk<F>
+        ensures holds { ⟦<FileDisk<F> as Disk>⟧.holding (⟦<FileDisk<F> as Disk>⟧.name result)
+            ≡ true }
+        ensures image { ⟦<FileDisk<F> as Disk>⟧.image result
+            ≡ ⟦<FileDisk<F> as Disk>⟧.image self }
+        ensures settled { UnlessHolds ⟦<FileDisk<F> as Disk>⟧ self (IsSettled
+            (⟦<FileDisk<F> as Disk>⟧.image result) (⟦<FileDisk<F> as Disk>⟧.leaves result
+            (⟦<FileDisk<F> as Disk>⟧.moment result))) }
+        ensures time { AddsNone (⟦<FileDisk<F> as Disk>⟧.moment self)
+            (⟦<FileDisk<F> as Disk>⟧.moment result) (⟦<FileDisk<F> as Disk>⟧.leaves self)
+            (⟦<FileDisk<F> as Disk>⟧.leaves result) }
+        ensures file { file_of result ≡ file_of self }
+        ensures counts { HasCountsOf ⟦<FileDisk<F> as Disk>⟧ self result }
+    {
+        let FileDisk {
+            copy,
+            file,
+            faults,
+            shadow,
+            ..
+        } = self;
+        FileDisk {
+            copy,
+            file,
+            faults,
+            holds: true,
+            shadow,
+        }
+    }
+}
+
 impl<F> FileDisk<F> {
     // A disk over a file that holds the blocks of the copy.
     fn over(copy: MemDisk, file: F) -> FileDisk<F>
         ensures copy { result.copy ≡ copy }
         ensures file { result.file ≡ file }
         ensures faults { result.faults ≡ 0 }
+        ensures plain { result.holds ≡ false }
     {
+        let shadow = Shadow::over(copy.blocks());
         FileDisk {
             copy,
             file,
             faults: 0,
+            holds: false,
+            shadow,
         }
     }
 }
@@ -228,36 +280,39 @@ fn write_through<F: Write + Seek>(file: &mut F, block: u32, from: &Block) -> io:
     file.write_all(from.as_slice())
 }
 
-impl<F: Write + Seek + Drop> Disk for FileDisk<F> {
+impl<F: Write + Seek + OpenFile + Drop> Disk for FileDisk<F> {
     ghost use Rattle.blocks.specs.FileDisk.{file_of};
 
-    type Name = ();
+    type Name = bool;
 
-    ghost name = { λ d. tt };
+    ghost name = { λ d. d.holds };
 
     ghost image = { λ d. ⟦<MemDisk as Disk>⟧.image d.copy };
 
-    ghost moment = { λ d. ⟦<MemDisk as Disk>⟧.moment d.copy };
+    ghost moment = { λ d. length d.shadow.past };
 
-    ghost leaves = { λ d. ⟦<MemDisk as Disk>⟧.leaves d.copy };
+    ghost leaves = { λ d. LeftSince d.shadow };
 
     ghost write_count = { λ d. ⟦<MemDisk as Disk>⟧.write_count d.copy };
 
     ghost fault_count = { λ d. d.faults };
 
+    ghost sync_count = { λ d. ⟦<MemDisk as Disk>⟧.sync_count d.copy };
+
+    ghost holding = { λ n. n };
+
     ghost is_image = { λ d. d.copy.is_image };
 
-    ghost leaves_images = { λ d t x left.
-        has_left-image d.copy.past d.copy.blocks.items t x d.copy.were_images
-        d.copy.is_image left };
+    ghost leaves_images = { λ d. left_whole d.holds d.copy.blocks.items d.shadow d.shadowed };
 
-    ghost counts_fit = { λ d. (d.copy.writes_fit, d.faults_fit) };
+    ghost counts_fit = { λ d. (d.copy.writes_fit, d.faults_fit, d.copy.syncs_fit) };
 
-    ghost counts_now = { λ d t x le left. inl (only_last d.copy.past d.copy.blocks.items x left) };
+    ghost counts_now = { λ d t x le left.
+        shadow_now d.holds d.copy.blocks.items d.shadow d.shadowed t x left };
 
-    ghost has_now = { λ d. inl refl };
+    ghost has_now = { λ d. shadow_has d.holds d.copy.blocks.items d.shadow d.shadowed };
 
-    ghost only_now = { λ d x left. only_last d.copy.past d.copy.blocks.items x left };
+    ghost only_now = { λ d. shadow_plain d.holds d.copy.blocks.items d.shadow d.shadowed };
 
     fn size(&self) -> u32 {
         self.copy.size()
@@ -269,6 +324,23 @@ impl<F: Write + Seek + Drop> Disk for FileDisk<F> {
 
     fn faults(&self) -> u64 {
         self.faults
+    }
+
+    fn syncs(&self) -> u64 {
+        self.copy.syncs()
+    }
+
+    fn holds(&self) -> bool {
+        self.holds
+    }
+
+    fn sync(&mut self) -> Result<(), SyncFault> {
+        if self.file.sync_data().is_err() {
+            self.faults = self.faults.saturating_add(1);
+            return Err(SyncFault);
+        }
+        self.shadow.settle(self.copy.blocks());
+        self.copy.sync()
     }
 
     /// Never fails, and leaves the file alone.
@@ -305,6 +377,9 @@ impl<F: Write + Seek + Drop> Disk for FileDisk<F> {
             self.faults = self.faults.saturating_add(1);
             return Err(DiskFault(block));
         }
-        self.copy.write(block, from)
+        self.copy.write(block, from)?;
+        self.shadow
+            .write(self.holds, block, from, self.copy.blocks());
+        Ok(())
     }
 }

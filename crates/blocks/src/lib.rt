@@ -1,5 +1,5 @@
-//! Blocks of 1024 bytes, and the disks that hold them: in memory, over a file, and one of which
-//! a call fails.
+//! Blocks of 1024 bytes, and the disks that hold them: in memory, over a file, one that holds
+//! writes back, and one of which a call fails.
 #![tactic(auto)]
 
 mod block;
@@ -7,12 +7,17 @@ mod disk;
 mod errors;
 mod faulty;
 mod file;
+mod floating;
+mod held;
 mod memory;
+mod moments;
 mod past;
+mod sync;
 
 pub use block::{BLOCK_SIZE, Block};
 pub use disk::Disk;
-pub use errors::{DiskFault, FileFault, NoMemory};
+pub use errors::{DiskFault, FileFault, NoMemory, SyncFault};
 pub use faulty::{FaultyDisk, Kind, Trap};
 pub use file::{FileDisk, MAX_BLOCKS};
 pub use memory::MemDisk;
+pub use sync::SyncDisk;

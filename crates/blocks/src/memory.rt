@@ -1,12 +1,12 @@
 // A disk in memory, whose reads and writes never fail.
-ghost use Rattle.std.specs.Prelude.{◌≡◌, ◌<◌, ◌^◌, length, replicate, refl, IfOk};
+ghost use Rattle.std.specs.Prelude.{◌≡◌, ◌<◌, ◌^◌, length, replicate, slice_get, false, refl, IfOk, Some};
 ghost use Rattle.std.proofs.Common.{inl, lit<};
 ghost use Rattle.blocks.specs.Block.{zero_block};
 ghost use Rattle.blocks.specs.Disk.{IsImage};
 ghost use Rattle.blocks.specs.Images.{AreImages, HasLeft, only_last, has_left-image};
 
 use crate::past::Past;
-use crate::{BLOCK_SIZE, Block, Disk, DiskFault, NoMemory};
+use crate::{BLOCK_SIZE, Block, Disk, DiskFault, NoMemory, SyncFault};
 use std::alloc::Global;
 
 /// A disk in memory. Its reads and writes never fail, and it is gone with the program: what a
@@ -18,10 +18,12 @@ pub struct MemDisk {
     blocks: Vec<[u8; BLOCK_SIZE]>,
     past: Past,
     writes: u64,
+    syncs: u64,
     ghost sized: { size ≡ length blocks.items },
     ghost is_image: { IsImage blocks.items },
     ghost were_images: { AreImages past },
     ghost writes_fit: { writes < 2 ^ 64 },
+    ghost syncs_fit: { syncs < 2 ^ 64 },
 }
 
 impl MemDisk {
@@ -35,6 +37,7 @@ impl MemDisk {
             (λ disk. ⟦<MemDisk as Disk>⟧.image disk ≡ replicate size zero_block) }
         ensures writes { IfOk result (λ disk. ⟦<MemDisk as Disk>⟧.write_count disk ≡ 0) }
         ensures faults { IfOk result (λ disk. ⟦<MemDisk as Disk>⟧.fault_count disk ≡ 0) }
+        ensures syncs { IfOk result (λ disk. ⟦<MemDisk as Disk>⟧.sync_count disk ≡ 0) }
     {
         Ok(MemDisk::of(alloc, zeroed_blocks(alloc, size)?, size))
     }
@@ -45,6 +48,7 @@ impl MemDisk {
         requires blocks { IsImage blocks.items }
         ensures image { result.blocks.items ≡ blocks.items }
         ensures writes { result.writes ≡ 0 }
+        ensures syncs { result.syncs ≡ 0 }
     {
         MemDisk {
             alloc,
@@ -52,7 +56,35 @@ impl MemDisk {
             blocks,
             past: Past::new(),
             writes: 0,
+            syncs: 0,
         }
+    }
+
+    // Its blocks.
+    pub(crate) fn blocks(&self) -> &Vec<[u8; BLOCK_SIZE]>
+        ensures blocks { result.now ≡ self.now.blocks }
+        ensures image { IsImage result.now.items }
+    {
+        &self.blocks
+    }
+
+    // Its blocks, and its counts of writes and syncs.
+    pub(crate) fn into_parts(self) -> (Vec<[u8; BLOCK_SIZE]>, u64, u64)
+        ensures blocks { result.0 ≡ self.blocks }
+        ensures image { IsImage result.0.items }
+        ensures size { length result.0.items < 2 ^ 32 }
+        ensures writes { result.1 ≡ self.writes }
+        ensures syncs { result.2 ≡ self.syncs }
+        ensures writes_fit { result.1 < 2 ^ 64 }
+        ensures syncs_fit { result.2 < 2 ^ 64 }
+    {
+        let MemDisk {
+            blocks,
+            writes,
+            syncs,
+            ..
+        } = self;
+        (blocks, writes, syncs)
     }
 }
 
@@ -63,6 +95,15 @@ fn zeroed_blocks(alloc: Global, size: u32) -> Result<Vec<[u8; BLOCK_SIZE]>, NoMe
     let mut blocks = Vec::new(alloc);
     blocks.resize(size as usize, [0; BLOCK_SIZE])?;
     Ok(blocks)
+}
+
+// The bytes of the block with this number.
+pub(crate) fn read_block(blocks: &Vec<[u8; BLOCK_SIZE]>, block: u32, into: &mut Block)
+    requires inside { block < length blocks.now.items }
+    requires image { IsImage blocks.now.items }
+    ensures { slice_get blocks.now.items block ≡ Some into.new }
+{
+    into.put(0, &blocks[block as usize]);
 }
 
 impl Disk for MemDisk {
@@ -80,18 +121,22 @@ impl Disk for MemDisk {
 
     ghost fault_count = { λ d. 0 };
 
+    ghost sync_count = { λ d. d.syncs };
+
+    ghost holding = { λ n. false };
+
     ghost is_image = { λ d. d.is_image };
 
     ghost leaves_images = { λ d t x left.
         has_left-image d.past d.blocks.items t x d.were_images d.is_image left };
 
-    ghost counts_fit = { λ d. (d.writes_fit, lit< tt) };
+    ghost counts_fit = { λ d. (d.writes_fit, lit< tt, d.syncs_fit) };
 
     ghost counts_now = { λ d t x le left. inl (only_last d.past d.blocks.items x left) };
 
     ghost has_now = { λ d. inl refl };
 
-    ghost only_now = { λ d x left. only_last d.past d.blocks.items x left };
+    ghost only_now = { λ d no x left. only_last d.past d.blocks.items x left };
 
     fn size(&self) -> u32 {
         self.size
@@ -105,8 +150,16 @@ impl Disk for MemDisk {
         0
     }
 
+    fn syncs(&self) -> u64 {
+        self.syncs
+    }
+
+    fn holds(&self) -> bool {
+        false
+    }
+
     fn read(&mut self, block: u32, into: &mut Block) -> Result<(), DiskFault> {
-        into.put(0, &self.blocks[block as usize]);
+        read_block(&self.blocks, block, into);
         Ok(())
     }
 
@@ -114,6 +167,11 @@ impl Disk for MemDisk {
         self.past.remember(self.alloc, &mut self.blocks);
         self.blocks[block as usize].copy_from_slice(from.as_slice());
         self.writes = self.writes.saturating_add(1);
+        Ok(())
+    }
+
+    fn sync(&mut self) -> Result<(), SyncFault> {
+        self.syncs = self.syncs.saturating_add(1);
         Ok(())
     }
 }

@@ -3,11 +3,12 @@ use Rattle.std.proofs.Common.{◌≡◌, inl, ⊎_elim, ℕ, List, refl, sym, �
 use Rattle.blocks.specs.Calls.{OnlyReads}
 use Rattle.blocks.specs.Disk.{Image}
 use Rattle.blocks.specs.declared.disk.Disk.{Ghosts}
-use Rattle.blocks.specs.declared.errors.DiskFault.{DiskFault}
+use Rattle.wal.specs.declared.types.DeviceFault.{DeviceFault}
+use Rattle.wal.specs.declared.types.DeviceFault.TheVariants.{Block}
 use Rattle.model.specs.declared.types.operations.TaskProgress.{TaskProgress}
 use Rattle.model.specs.declared.types.operations.Why.{Why}
 use Rattle.model.specs.declared.types.operations.Why.TheVariants as why
-use Rattle.model.specs.Tasks.{fault_of_task}
+use Rattle.wal.specs.Volume.{fault_of_task}
 use Rattle.bcache.specs.Buffers.{Buffers}
 use Rattle.wal.specs.declared.types.Get.{Get}
 use Rattle.wal.specs.declared.types.Get.TheVariants as get
@@ -31,11 +32,11 @@ pub record HasOne (c d : Buffers) (l : LogState) (p b : ℕ) (slot : Option ℕ)
   pub holds : HoldsAt d p b slot
 
 -- the fault of a machine's answer
-abbrev pub fault_of : {T : Type 0} → Progress T → Option DiskFault
+abbrev pub fault_of : {T : Type 0} → Progress T → Option DeviceFault
 fault_of machine.Moved = None
 fault_of (machine.Sleeping cause) = None
 fault_of (machine.Over out) = None
-fault_of (machine.Fault fault) = Some fault
+fault_of (machine.Fault fault) = Some (Block fault)
 
 -- the task of process p has got this slot alone
 abbrev pub HasOnly : List TaskState → ℕ → Option ℕ → Type 0
@@ -118,7 +119,7 @@ module _ {D N T : Type 0} (disk : Ghosts D N) (s t : StoreState D) (p b : ℕ) (
       record {
         device = gets.reads.device;
         fault = gets.reads.fault ∙ sym same;
-        faults = gets.reads.faults ∙ ap (λ (o : Option DiskFault). faults_after o (disk.fault_count s.volume.device)) (sym same);
+        faults = gets.reads.faults ∙ ap (λ (o : Option DeviceFault). faults_after o (disk.fault_count s.volume.device)) (sym same);
       }
 
   asleep : (a : Get) (cause : Why) → r ≡ progress_of a → r ≡ machine.Sleeping cause → a ≡ get.Sleeping cause
@@ -155,8 +156,9 @@ module _ {D N : Type 0} (disk : Ghosts D N) (s t : StoreState D) (device : t.vol
       name = refl;
       image = refl;
       writes = refl;
+      syncs = refl;
       time = record { later = omega arith; adds = λ n x le old. old; keeps = λ n x le old. old };
     });
     fault = well ∙ sym fine;
-    faults = ap disk.fault_count device ∙ ap (λ (o : Option DiskFault). faults_after o (disk.fault_count s.volume.device)) (sym fine);
+    faults = ap disk.fault_count device ∙ ap (λ (o : Option DeviceFault). faults_after o (disk.fault_count s.volume.device)) (sym fine);
   }

@@ -4,7 +4,7 @@
 use Rattle.std.proofs.Common.{◌≡◌, ◌≢◌, ℕ, Bool, true, false, refl, sym, ◌∙◌, ap, Option, Some, None, inl, inr}
 use Rattle.std.specs.Prelude.{is_some, IfNone, not}
 use Rattle.std.proofs.lemmas.Bool.{both_ways}
-use Rattle.blocks.specs.declared.errors.DiskFault.{DiskFault}
+use Rattle.wal.specs.declared.types.DeviceFault.{DeviceFault}
 use Rattle.blocks.specs.Disk.{Image}
 use Rattle.bcache.specs.Buffers.{Buffers, buffer, block_or_zero, victim}
 use Rattle.wal.specs.Held.{HasLock}
@@ -183,6 +183,6 @@ pub unless_failed : {D : Type 0} (image : D → Image) (s : StoreState D) → Is
     IfNone s.volume.fault (Joint (image s.volume.device) s.volume.buffers s.volume.log) → IfNone s.volume.fault (NobodyWaitsForEver s)
 unless_failed image s store joint = by s.volume.fault refl joint
   where
-    by : (o : Option DiskFault) → s.volume.fault ≡ o → IfNone o (Joint (image s.volume.device) s.volume.buffers s.volume.log) → IfNone o (NobodyWaitsForEver s)
+    by : (o : Option DeviceFault) → s.volume.fault ≡ o → IfNone o (Joint (image s.volume.device) s.volume.buffers s.volume.log) → IfNone o (NobodyWaitsForEver s)
     by None well here = nobody_waits_for_ever image s store well here
     by (Some fault) well here = tt

@@ -16,7 +16,8 @@ use Rattle.model.specs.Gathered.{GatheredBytes}
 use Rattle.model.specs.Journal.{is_number}
 use Rattle.model.specs.Layout.{form_of, inode_of, inode_count_of}
 use Rattle.model.specs.Operations.{after, part_of}
-use Rattle.model.specs.Tasks.{Answers, fault_of_task}
+use Rattle.model.specs.Tasks.{Answers}
+use Rattle.wal.specs.Volume.{fault_of_task}
 use Rattle.loose.specs.Lemmas.HeldLooks.{resting_tells}
 use Rattle.inodes.specs.declared.tasks.Place.{Place}
 use Rattle.inodes.specs.declared.tasks.Place.TheVariants as place

@@ -68,7 +68,7 @@ finds_free cur bytes m i behind same e =
 
 -- a disk that stays is only read
 reads_none : {D N : Type 0} (disk : Ghosts D N) (d e : D) → e ≡ d → OnlyReads disk d e
-reads_none disk d e same = subst (λ (k : _). OnlyReads disk d k) (sym same) (record { name = refl; image = refl; writes = refl; time = record { later = omega arith; adds = λ t x low is. is; keeps = λ t x low is. is } })
+reads_none disk d e same = subst (λ (k : _). OnlyReads disk d k) (sym same) (record { name = refl; image = refl; writes = refl; syncs = refl; time = record { later = omega arith; adds = λ t x low is. is; keeps = λ t x low is. is } })
 
 -- a look that claims a number
 pub look_claims : {D N : Type 0} (disk : Ghosts D N) (v w : VolumeState D) (pid slot i : ℕ) (bytes : List ℕ) (m : SearchState) → MayStep disk.image v pid m → v.fault ≡ None → m.slot ≡ Some slot → bytes ≡ block_at (seen (disk.image v.device) v.buffers) m.block

@@ -5,7 +5,7 @@ use Rattle.std.proofs.lemmas.Bool.{cases_eq}
 use Rattle.std.proofs.lemmas.List.{get_or-set_same, get_or-set_other}
 use Rattle.blocks.specs.Disk.{Image}
 use Rattle.blocks.specs.declared.disk.Disk.{Ghosts}
-use Rattle.blocks.specs.declared.errors.DiskFault.{DiskFault}
+use Rattle.wal.specs.declared.types.DeviceFault.{DeviceFault}
 use Rattle.model.specs.declared.types.operations.Op.{Op}
 use Rattle.model.specs.declared.types.image.Dinode.{Dinode}
 use Rattle.model.specs.declared.types.image.Form.{Form}
@@ -14,7 +14,8 @@ use Rattle.model.specs.declared.types.operations.TaskProgress.TheVariants as pro
 use Rattle.model.specs.Files.{Files}
 use Rattle.model.specs.Journal.{is_making}
 use Rattle.model.specs.Layout.{form_of, inode_count_of}
-use Rattle.model.specs.Tasks.{FilesThen, fault_of_task, reply_at_turn, Marks}
+use Rattle.model.specs.Tasks.{FilesThen, reply_at_turn, Marks}
+use Rattle.wal.specs.Volume.{fault_of_task}
 use Rattle.loose.specs.Held.{FitsHeld}
 use Rattle.loose.specs.Lemmas.HeldFrames.{held_alike}
 use Rattle.wal.specs.Held.{HasLock}
@@ -169,12 +170,12 @@ module _ {D N : Type 0} (disk : Ghosts D N) (s : StoreState D) (p i : ℕ) (op :
       looks = looks_by (fault_of_task r) refl;
     }
       where
-        by_fault : (o : Option DiskFault) → fault_of_task r ≡ o → IfNone t.volume.fault (Agrees t.volume.buffers t.volume.log t.table.inode_count t.tasks)
+        by_fault : (o : Option DeviceFault) → fault_of_task r ≡ o → IfNone t.volume.fault (Agrees t.volume.buffers t.volume.log t.table.inode_count t.tasks)
         by_fault None e = if_none t.volume.fault (subst (λ (ts : List TaskState). Agrees t.volume.buffers t.volume.log t.table.inode_count ts) (sym stepped.tasks)
             (subst (λ (n : ℕ). Agrees t.volume.buffers t.volume.log n (set s.tasks p u)) (sym stepped.count) (agrees_then (stepped.now e))))
         by_fault (Some f) e = if_some (Agrees t.volume.buffers t.volume.log t.table.inode_count t.tasks) t.volume.fault f (stepped.reads.fault ∙ e)
 
-        looks_by : (o : Option DiskFault) → fault_of_task r ≡ o → IfNone t.volume.fault (AreLooking new t.table t.tasks)
+        looks_by : (o : Option DeviceFault) → fault_of_task r ≡ o → IfNone t.volume.fault (AreLooking new t.table t.tasks)
         looks_by None e = if_none t.volume.fault (subst (λ (ts : List TaskState). AreLooking new t.table ts) (sym stepped.tasks) (looking_then (stepped.now e)))
         looks_by (Some f) e = if_some (AreLooking new t.table t.tasks) t.volume.fault f (stepped.reads.fault ∙ e)
 

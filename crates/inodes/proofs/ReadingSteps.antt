@@ -17,7 +17,8 @@ use Rattle.model.specs.Journal.{is_making}
 use Rattle.model.specs.Layout.{form_of}
 use Rattle.model.specs.Operations.{part_of}
 use Rattle.model.specs.Places.{address_in}
-use Rattle.model.specs.Tasks.{FilesThen, fault_of_task, reply_at_turn}
+use Rattle.model.specs.Tasks.{FilesThen, reply_at_turn}
+use Rattle.wal.specs.Volume.{fault_of_task}
 use Rattle.bcache.specs.Buffers.{Buffers}
 use Rattle.wal.specs.Held.{LocksAfter, WaitsFor}
 use Rattle.wal.specs.Joint.{Joint}

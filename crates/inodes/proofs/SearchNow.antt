@@ -6,11 +6,11 @@ use Rattle.std.proofs.lemmas.List.{get_or-set_same}
 use Rattle.blocks.specs.Disk.{IsImage}
 use Rattle.blocks.specs.declared.disk.Disk.{Ghosts}
 use Rattle.blocks.specs.Disk.{Image}
-use Rattle.blocks.specs.declared.errors.DiskFault.{DiskFault}
+use Rattle.wal.specs.declared.types.DeviceFault.{DeviceFault}
 use Rattle.model.specs.declared.types.operations.Op.{Op}
 use Rattle.model.specs.declared.types.operations.Op.TheVariants.{Create}
 use Rattle.model.specs.Lemmas.Log.{both_of}
-use Rattle.model.specs.Tasks.{fault_of_task}
+use Rattle.wal.specs.Volume.{fault_of_task}
 use Rattle.wal.specs.Joint.{Joint}
 use Rattle.wal.specs.Machine.{LogState, SameGroups}
 use Rattle.wal.specs.Volume.{VolumeState, faults_after}
@@ -129,7 +129,7 @@ module _ {D N : Type 0} (disk : Ghosts D N) (s now : StoreState D) (p : ℕ) (m 
         reads = record {
           device = steps.device;
           fault = steps.fault ∙ sym (fault_then r);
-          faults = steps.faults ∙ ap (λ (o : Option DiskFault). faults_after o (disk.fault_count s.volume.device)) (sym (fault_then r));
+          faults = steps.faults ∙ ap (λ (o : Option DeviceFault). faults_after o (disk.fault_count s.volume.device)) (sym (fault_then r));
         };
         groups = subst (λ (l : LogState). SameGroups s.volume.log l) (sym steps.log) (groups_after s.volume.log p m.block r pid);
         marks = marks_now disk.image s t p m new op r agrees is.numbers lt stood is_op steps.current claimed_same is.geometry filled few m.slot steps.goes;

@@ -1,5 +1,5 @@
 -- Each call of a store keeps what is true of every store.
-use Rattle.std.proofs.Common.{◌≡◌, ◌≢◌, ℕ, ◌<◌, ◌≤◌, ◌==◌, true, false, List, length, set, replicate, refl, sym, ◌∙◌, ap, subst, arith, ⊎_elim, Option, Some, None}
+use Rattle.std.proofs.Common.{◌≡◌, ◌≢◌, ◌⊎◌, inl, inr, ℕ, ◌<◌, ◌≤◌, ◌==◌, Bool, true, false, List, length, set, replicate, refl, sym, ◌∙◌, ap, subst, arith, ⊎_elim, Option, Some, None}
 use Rattle.std.specs.Prelude.{IsTrue}
 use Rattle.std.proofs.lemmas.Bool.{cases_eq, cases_lt}
 use Rattle.std.proofs.lemmas.List.{get_or_past}
@@ -18,12 +18,10 @@ use Rattle.loose.specs.Lemmas.Claims.{claims}
 use Rattle.bcache.specs.Buffers.{Buffers, fresh_buffers}
 use Rattle.wal.specs.declared.types.Commit.{Commit}
 use Rattle.wal.specs.declared.types.Commit.TheVariants as commit
-use Rattle.wal.specs.declared.types.Committed.{Committed}
-use Rattle.wal.specs.declared.types.Committed.TheVariants as committed
+use Rattle.wal.specs.declared.types.Part.TheVariants as part
 use Rattle.wal.specs.Held.{LeavesLocks}
-use Rattle.wal.specs.Joint.{written_at}
+use Rattle.wal.specs.Joint.{stepped_at}
 use Rattle.wal.specs.Machine.{LogState, IsLogAt, is_among, is_quiet, used_by, begun, ended}
-use Rattle.wal.specs.Step.{Stepped, Faulted, CommitsTo}
 use Rattle.wal.specs.Volume.{VolumeState}
 use Rattle.wal.specs.Lemmas.Held.{none_locked}
 use Rattle.wal.specs.Lemmas.Log.{is_open, quiet_of}
@@ -138,19 +136,21 @@ agrees_ended c l n p ts agrees stood = record {
     by_place q apart t (place.Writing k m) s = record { logged = logged_write_still l (ended l p) q m (used_ended l p q apart) (λ homes b had has. ended_grows l p b has) s.logged; kept = s.kept; used = s.used }
     by_place q apart t (place.Leaving k) s = s
 
--- a commit's write
-used_written : (k : Commit) (l : LogState) (q : ℕ) → used_by (written_at k l) q ≡ used_by l q
-used_written commit.Quiet l q = refl
-used_written (commit.Logging j) l q = refl
-used_written commit.Heading l q = refl
-used_written (commit.Homing j) l q = refl
-used_written commit.Clearing l q = refl
+-- a step of a commit
+used_stepped : (h : Bool) (k : Commit) (l : LogState) (q : ℕ) → used_by (stepped_at h k l) q ≡ used_by l q
+used_stepped h commit.Quiet l q = refl
+used_stepped h (commit.Logging j) l q = refl
+used_stepped h commit.Heading l q = refl
+used_stepped h (commit.Homing j) l q = refl
+used_stepped h commit.Clearing l q = refl
+used_stepped h (commit.Syncing part.Log) l q = refl
+used_stepped h (commit.Syncing part.Header) l q = refl
+used_stepped h (commit.Syncing part.Homes) l q = refl
+used_stepped h (commit.Syncing part.Clear) l q = refl
 
-pub used_committed : (h : List ℕ) (x y : Image) (c d : Buffers) (l m : LogState) (r : Committed) → CommitsTo l.commit l.opened r (Stepped h x c l y d m) (Faulted h x c l y d m) → (q : ℕ) → used_by m q ≡ used_by l q
-used_committed h x y c d l m committed.More made q = ap (λ (k : LogState). used_by k q) made.1.log ∙ used_written l.commit l q
-used_committed h x y c d l m (committed.Durable group) made q = ap (λ (k : LogState). used_by k q) made.1.log ∙ used_written l.commit l q
-used_committed h x y c d l m committed.Done made q = ap (λ (k : LogState). used_by k q) made.1.log ∙ used_written l.commit l q
-used_committed h x y c d l m (committed.Fault fault) made q = ap (λ (k : LogState). used_by k q) made.log
+pub used_committed : (h : Bool) (l m : LogState) → (m ≡ stepped_at h l.commit l) ⊎ (m ≡ l) → (q : ℕ) → used_by m q ≡ used_by l q
+used_committed h l m (inl made) q = ap (λ (k : LogState). used_by k q) made ∙ used_stepped h l.commit l q
+used_committed h l m (inr same) q = ap (λ (k : LogState). used_by k q) same
 
 -- while a commit is under way, nobody has an operation open
 none_open : (l : LogState) (q k : ℕ) → IsLogAt l.commit l → is_quiet l.commit ≡ false → used_by l q ≡ Some k → ⊥
@@ -162,8 +162,8 @@ none_open l q k is busy used = ⊎_elim inside outside (cases_lt q 32)
     outside : 32 ≤ q → ⊥
     outside past = let no : None ≡ Some k = sym (get_or_past l.used q None (let size = is.pids in omega (arith, past, size))) ∙ used in cc no
 
-pub agrees_committed : (h : List ℕ) (x y : Image) (c d : Buffers) (l m : LogState) (r : Committed) (n : ℕ) (ts : List TaskState) → CommitsTo l.commit l.opened r (Stepped h x c l y d m) (Faulted h x c l y d m) → LeavesLocks c d → IsLogAt l.commit l → is_quiet l.commit ≡ false → Agrees c l n ts → Agrees d m n ts
-agrees_committed h x y c d l m r n ts made leaves log busy agrees = agrees_still c d l m n ts leaves.held leaves.none (used_committed h x y c d l m r made) (λ q k b used has. absurd (none_open l q k log busy used)) agrees
+pub agrees_committed : (h : Bool) (c d : Buffers) (l m : LogState) (n : ℕ) (ts : List TaskState) → (m ≡ stepped_at h l.commit l) ⊎ (m ≡ l) → LeavesLocks c d → IsLogAt l.commit l → is_quiet l.commit ≡ false → Agrees c l n ts → Agrees d m n ts
+agrees_committed h c d l m n ts made leaves log busy agrees = agrees_still c d l m n ts leaves.held leaves.none (used_committed h l m made) (λ q k b used has. absurd (none_open l q k log busy used)) agrees
 
 -- no task is under way at the opening
 pub agrees_opened : (l : LogState) (n k : ℕ) → Agrees fresh_buffers l n (replicate k no_task)

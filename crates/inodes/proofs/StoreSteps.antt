@@ -49,7 +49,8 @@ use Rattle.inodes.proofs.Frames.{groups_noted, groups_same, marks_same, within_i
 use Rattle.inodes.proofs.Gripping.{same_task}
 use Rattle.inodes.proofs.LooksKept.{KeepsUsed, keeps_claimed, keeps_same}
 use Rattle.inodes.proofs.Searching.{search as searching}
-use Rattle.model.specs.Tasks.{FilesThen, Answers, reply_at_turn, fault_of_task, Marks}
+use Rattle.model.specs.Tasks.{FilesThen, Answers, reply_at_turn, Marks}
+use Rattle.wal.specs.Volume.{fault_of_task}
 use Rattle.inodes.specs.Steps.{IsHeldByAnother, LeavesNumber, LeavesLate, is_made}
 use Rattle.inodes.proofs.Unclaimed.{late_used}
 

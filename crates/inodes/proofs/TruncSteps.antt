@@ -14,7 +14,8 @@ use Rattle.model.specs.declared.types.operations.Why.TheVariants as why
 use Rattle.model.specs.Files.{Files}
 use Rattle.model.specs.Journal.{is_number}
 use Rattle.model.specs.Layout.{form_of}
-use Rattle.model.specs.Tasks.{FilesThen, Marks, fault_of_task, reply_at_turn}
+use Rattle.model.specs.Tasks.{FilesThen, Marks, reply_at_turn}
+use Rattle.wal.specs.Volume.{fault_of_task}
 use Rattle.loose.specs.Held.{Claims, FitsHeld, IsClaimedNow, frees}
 use Rattle.wal.specs.Held.{HasLock}
 use Rattle.wal.specs.Machine.{SameGroups}

@@ -3,7 +3,8 @@ use Rattle.std.specs.Prelude.{◌≡◌, ◌<◌, ◌≤◌, ℕ, ◌+◌, ◌-�
 use Rattle.blocks.specs.Calls.{OnlyReads}
 use Rattle.blocks.specs.Disk.{Image, block_at}
 use Rattle.blocks.specs.declared.disk.Disk.{Ghosts}
-use Rattle.blocks.specs.declared.errors.DiskFault.{DiskFault}
+use Rattle.wal.specs.declared.types.DeviceFault.{DeviceFault}
+use Rattle.wal.specs.declared.types.DeviceFault.TheVariants.{Block}
 use Rattle.model.specs.declared.types.operations.Why.{Why}
 use Rattle.model.specs.Journal.{is_number}
 use Rattle.model.specs.Layout.{inode_block, inode_of, inode_count_of, HasNoFreeInode}
@@ -88,11 +89,11 @@ current_after cur m (progress.Over (Some i)) = with_inode cur i (new_inode m.kin
 current_after cur m (progress.Fault fault) = cur
 
 -- the fault of an answer
-abbrev pub fault_in : {T : Type 0} → Progress T → Option DiskFault
+abbrev pub fault_in : {T : Type 0} → Progress T → Option DeviceFault
 fault_in progress.Moved = None
 fault_in (progress.Sleeping why) = None
 fault_in (progress.Over out) = None
-fault_in (progress.Fault fault) = Some fault
+fault_in (progress.Fault fault) = Some (Block fault)
 
 -- P holds where there are more steps
 abbrev pub OnMore : {T : Type 0} → Progress T → Type 0 → Type 0

@@ -1,5 +1,7 @@
 // A volume with the tasks of the processes that work on its files.
 ghost use Rattle.std.specs.Prelude.{◌≡◌, ◌<◌, ◌≤◌, false, length, replicate, Some, None, IsSome, IfNone};
+ghost use Rattle.blocks.specs.Disk.{Image};
+ghost use Rattle.wal.specs.Floats.{Survives};
 ghost use Rattle.wal.specs.Joint.{Joint};
 ghost use Rattle.model.specs.Files.{files_of};
 ghost use Rattle.model.specs.declared.types.operations.Op.{Op};
@@ -88,6 +90,9 @@ impl<D: Disk> Store<D> {
         ensures store { IsStore D.image self.now }
         ensures volume { IfNone self.now.volume.fault (Joint (D.image self.now.volume.device)
             self.now.volume.buffers self.now.volume.log) }
+        ensures survives { IfNone self.now.volume.fault ((z : Image)
+            → D.leaves self.now.volume.device (D.moment self.now.volume.device) z
+            → Survives self.now.volume.log.commit (D.image self.now.volume.device) z) }
         ensures goes { IfNone self.now.volume.fault (NobodyWaitsForEver self.now) }
     {
         self.volume.known();

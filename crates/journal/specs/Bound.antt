@@ -1,28 +1,55 @@
 -- How many steps an operation has left at most.
-use Rattle.std.specs.Prelude.{◌≡◌, ◌≢◌, ◌<◌, ◌≤◌, ℕ, ◌+◌, ◌-◌, Bool, true, false, length}
+use Rattle.std.specs.Prelude.{◌≡◌, ◌≢◌, ◌<◌, ◌≤◌, ℕ, ◌+◌, ◌-◌, Bool, true, false, not, length}
 use Rattle.model.specs.declared.types.operations.TaskProgress.{TaskProgress}
 use Rattle.model.specs.declared.types.operations.TaskProgress.TheVariants as progress
 use Rattle.wal.specs.declared.types.Commit.{Commit}
 use Rattle.wal.specs.declared.types.Commit.TheVariants as commit
+use Rattle.wal.specs.declared.types.Part.{Part}
+use Rattle.wal.specs.declared.types.Part.TheVariants as part
 use Rattle.wal.specs.Machine.{LogState}
 use Rattle.journal.specs.declared.types.At.{At}
 use Rattle.journal.specs.declared.types.At.TheVariants as at
 
--- the writes that a commit of n homes has left
+-- the sync of a header commits its group
+abbrev pub is_header : Part → Bool
+is_header part.Log = false
+is_header part.Header = true
+is_header part.Homes = false
+is_header part.Clear = false
+
+-- The next step of a commit commits its group: the write of the header, or the sync behind it over
+-- a disk that holds writes back.
+abbrev pub is_durable : Bool → Commit → Bool
+is_durable holds commit.Quiet = false
+is_durable holds (commit.Logging k) = false
+is_durable holds commit.Heading = not holds
+is_durable holds (commit.Homing k) = false
+is_durable holds commit.Clearing = false
+is_durable holds (commit.Syncing part) = is_header part
+
+-- the steps that a commit of n homes has left while a part waits for its sync
+abbrev pub synced_left : Part → ℕ → ℕ
+synced_left part.Log n = 1 + 2 + (n + 1) + 2
+synced_left part.Header n = 1 + (n + 1) + 2
+synced_left part.Homes n = 1 + 2
+synced_left part.Clear n = 1
+
+-- the steps that a commit of n homes has left at most: its writes, and a sync behind each part
 abbrev pub writes_left : Commit → ℕ → ℕ
 writes_left commit.Quiet n = 0
-writes_left (commit.Logging k) n = (n - k) + 1 + n + 1
-writes_left commit.Heading n = 1 + n + 1
-writes_left (commit.Homing k) n = (n - k) + 1
-writes_left commit.Clearing n = 1
+writes_left (commit.Logging k) n = (n - k) + 1 + 2 + (n + 1) + 2
+writes_left commit.Heading n = 2 + (n + 1) + 2
+writes_left (commit.Homing k) n = (n - k) + 1 + 2
+writes_left commit.Clearing n = 2
+writes_left (commit.Syncing part) n = synced_left part n
 
--- An operation's steps: those that its task has left, one for its end in the log, and at most 62
+-- An operation's steps: those that its task has left, one for its end in the log, and at most 66
 -- for its group's commit.
 abbrev pub all_steps_left : At → ℕ → LogState → ℕ
 all_steps_left at.Idle left l = 0
-all_steps_left (at.Before group op) left l = left + 63
-all_steps_left (at.Behind group k) left l = left + 63
-all_steps_left (at.Ending group k) left l = 63
+all_steps_left (at.Before group op) left l = left + 67
+all_steps_left (at.Behind group k) left l = left + 67
+all_steps_left (at.Ending group k) left l = 67
 all_steps_left (at.Committing group k) left l = writes_left l.commit (length l.homes)
 
 -- an operation is under way

@@ -1,5 +1,5 @@
 -- A kernel over a store, as its facts see it.
-use Rattle.std.specs.Prelude.{◌≡◌, ◌≢◌, ℕ, zero, suc, ◌==◌, ◌||◌, IsSome, is_some, IsTrue, nat_lt, true, false, List, Option, Some, None}
+use Rattle.std.specs.Prelude.{◌≡◌, ◌≢◌, ℕ, Bool, zero, suc, ◌==◌, ◌||◌, IsSome, is_some, IsTrue, nat_lt, true, false, List, Option, Some, None}
 use Rattle.blocks.specs.Disk.{Image}
 use Rattle.model.specs.declared.types.image.Form.{Form}
 use Rattle.model.specs.declared.types.operations.Entry.{Entry}
@@ -9,10 +9,11 @@ use Rattle.model.specs.Agreement.{IsSameOutsideLog}
 use Rattle.model.specs.Files.{Files, files_of}
 use Rattle.model.specs.Journal.{is_changing, is_making, is_number, is_at_once}
 use Rattle.model.specs.Layout.{form_of, inode_count_of}
-use Rattle.model.specs.Log.{is_lawful_log}
+use Rattle.model.specs.Log.{is_lawful_log, recovered, cleared}
 use Rattle.model.specs.Operations.{after}
 use Rattle.model.specs.Tasks.{Marks}
-use Rattle.wal.specs.Joint.{written_at}
+use Rattle.wal.specs.declared.types.Commit.TheVariants as commit
+use Rattle.wal.specs.Joint.{stepped_at}
 use Rattle.wal.specs.Kept.{KeepsCommitted}
 use Rattle.wal.specs.Machine.{LogState, used_by, SameGroups, IsLogAt}
 use Rattle.journal.specs.declared.types.At.{At}
@@ -139,11 +140,15 @@ pub record CallsLog (l : LogState) (s t : View) : Type 0 where
   pub holds : (q : ℕ) → t.holds q ≡ s.holds q
   pub files : (m : Files) → s.fits m → t.fits m
 
--- a write of a commit, which the log tells
-pub record Writes (s t : View) : Type 0 where
-  pub log : t.log ≡ written_at s.log.commit s.log
+-- A step of a commit, which the log tells, over a disk that holds writes back or doesn't: a write,
+-- or a sync, which leaves the image alone.
+pub record Writes (holds_back : Bool) (s t : View) : Type 0 where
+  pub log : t.log ≡ stepped_at holds_back s.log.commit s.log
   pub lawful : IsTrue (is_lawful_log t.disk)
   pub keeps : KeepsCommitted s.log.commit s.disk s.current t.disk
+  -- without the header that was written, the image is as it was
+  pub unheaded : s.log.commit ≡ commit.Heading
+      → IsSameOutsideLog (recovered s.disk) (cleared t.disk)
   pub same : IsSameOutsideLog s.current t.current
   pub holds : (q : ℕ) → t.holds q ≡ s.holds q
   pub files : (m : Files) → s.fits m → t.fits m

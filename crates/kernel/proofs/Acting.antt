@@ -1,16 +1,18 @@
 -- What each event of a process is, as a step's acts.
-use Rattle.std.proofs.Common.{◌≡◌, ◌≢◌, ◌↔◌, inl, inr, ℕ, zero, suc, Bool, true, false, List, [], refl, sym, ◌∙◌, ap, subst, Option, Some, None}
+use Rattle.std.proofs.Common.{◌≡◌, ◌≢◌, ◌↔◌, ⊎_elim, inl, inr, ℕ, zero, suc, Bool, true, false, List, [], refl, sym, ◌∙◌, ap, subst, Option, Some, None}
 use Rattle.std.specs.Prelude.{IsSome, IfSome, is_none, not, ◌&&◌}
 use Rattle.std.proofs.lemmas.Bool.{false≢true}
 use Rattle.std.proofs.lemmas.List.{append-nil}
 use mathlib.Core.List.{IsPrefix}
-use Rattle.blocks.specs.Disk.{one_more}
+use Rattle.blocks.specs.Calls.{OnlyReads}
+use Rattle.blocks.specs.Disk.{Elapses, one_more}
+use Rattle.blocks.specs.Lemmas.Reads.{reads_none}
 use Rattle.blocks.specs.declared.disk.Disk as disk_trait
 use Rattle.blocks.specs.declared.errors.DiskFault.{DiskFault}
 use Rattle.model.specs.declared.types.operations.Op.{Op}
 use Rattle.model.specs.declared.types.operations.TaskProgress.{TaskProgress}
 use Rattle.model.specs.declared.types.operations.TaskProgress.TheVariants as progress
-use Rattle.model.specs.Tasks.{fault_of_task}
+use Rattle.wal.specs.Volume.{fault_of_task}
 use Rattle.ports.specs.declared.herald.Herald as herald_trait
 use Rattle.ports.specs.declared.intake.Intake as intake_trait
 use Rattle.ports.specs.History.{Side, first_in}
@@ -19,8 +21,14 @@ use Rattle.wal.specs.declared.types.Committed.TheVariants as committed
 use Rattle.wal.specs.declared.types.Ended.{Ended}
 use Rattle.wal.specs.declared.types.Ended.TheVariants as ended_as
 use Rattle.wal.specs.Joint.{place_at}
-use Rattle.wal.specs.Machine.{end_answer}
-use Rattle.wal.specs.Step.{IsFault}
+use Rattle.wal.specs.Machine.{end_answer, is_syncing, is_writing}
+use Rattle.wal.specs.Lemmas.Commits.{commit_kinds}
+use Rattle.wal.specs.Step.{CommitSyncs, CommitWrites, FailsAt, FailsToSync, IsFault}
+use Rattle.wal.specs.declared.types.Commit.{Commit}
+use Rattle.wal.specs.declared.types.Commit.TheVariants as commit
+use Rattle.wal.specs.declared.types.DeviceFault.{DeviceFault}
+use Rattle.wal.specs.declared.types.DeviceFault.TheVariants.{Block, Sync}
+use Rattle.wal.specs.declared.types.Part.{Part}
 use Rattle.wal.specs.Volume.{faults_after, fault_of_step}
 use Rattle.inodes.specs.Goes.{Goes}
 use Rattle.inodes.specs.Lemmas.StepEnds.{fails_at}
@@ -36,7 +44,7 @@ use Rattle.journal.specs.Journal.{entry_in}
 use Rattle.journal.specs.Processes.{World, process}
 use Rattle.kernel.specs.declared.types.Step.{Step}
 use Rattle.kernel.specs.declared.types.Step.TheVariants as step
-use Rattle.kernel.specs.Device.{UsesDisk, CountsItsFault, WritesOnce, block_at_step}
+use Rattle.kernel.specs.Device.{UsesDisk, CountsItsFault, FailsSo, UsesOnce, block_at_step, counts_of}
 use Rattle.std.specs.Option.{option_map}
 use Rattle.kernel.specs.declared.waiting.Waiting.{Waiting}
 use Rattle.kernel.specs.Next.{NextIf, NextAt, BeginsWith, Ends, step_of, step_behind, step_of_last, step_of_told, step_of_end, step_of_write, world_after, world_behind, world_written}
@@ -55,44 +63,45 @@ sides_same intake p i = record { names = λ q. refl; others = λ q apart. refl }
 pub same_prefix : {A : Type 0} (xs ys : List A) → ys ≡ xs → IsPrefix xs ys
 same_prefix xs ys same = ([], append-nil xs ∙ sym same)
 
--- what a step that uses block b says of the disk's fault
-record TellsFault {D N : Type 0} (disk : disk_trait.Ghosts D N) (b : ℕ) (r : Step) (s t : StoreState D) : Type 0 where
+-- what a step says of the disk's fault, which is of this kind
+record TellsFault {D N : Type 0} (disk : disk_trait.Ghosts D N) (so : DeviceFault → Type 0) (r : Step) (s t : StoreState D) : Type 0 where
   pub halted : (r ≡ step.Halted) ↔ IsSome t.volume.fault
-  pub faults : CountsItsFault t.volume.fault (disk.write_count s.volume.device) (disk.write_count t.volume.device) (disk.fault_count s.volume.device) (disk.fault_count t.volume.device)
-  pub block : IfSome t.volume.fault (λ fault. fault.0 ≡ b)
+  pub faults : CountsItsFault t.volume.fault (counts_of disk s.volume.device) (counts_of disk t.volume.device) (disk.fault_count s.volume.device) (disk.fault_count t.volume.device)
+  pub block : IfSome t.volume.fault so
 
 module _ {D N : Type 0} (disk : disk_trait.Ghosts D N) (s t : StoreState D) where
-  abbrev Counts : Option DiskFault → Type 0
-  Counts o = CountsItsFault o (disk.write_count s.volume.device) (disk.write_count t.volume.device) (disk.fault_count s.volume.device) (disk.fault_count t.volume.device)
+  abbrev Counted : Option DeviceFault → Type 0
+  Counted o = CountsItsFault o (counts_of disk s.volume.device) (counts_of disk t.volume.device) (disk.fault_count s.volume.device) (disk.fault_count t.volume.device)
 
   -- there is none
-  tells_none : (b : ℕ) (r : Step) → r ≢ step.Halted → t.volume.fault ≡ None → disk.fault_count t.volume.device ≡ disk.fault_count s.volume.device → TellsFault disk b r s t
-  tells_none b r runs none same = record {
+  tells_none : (so : DeviceFault → Type 0) (r : Step) → r ≢ step.Halted → t.volume.fault ≡ None → disk.fault_count t.volume.device ≡ disk.fault_count s.volume.device → TellsFault disk so r s t
+  tells_none so r runs none same = record {
     halted = ((λ e. absurd (runs e)), (λ some. absurd (let no = subst IsSome none some in cc no)));
-    faults = subst Counts (sym none) same;
-    block = subst (λ (o : Option DiskFault). IfSome o (λ fault. fault.0 ≡ b)) (sym none) tt;
+    faults = subst Counted (sym none) same;
+    block = subst (λ (o : Option DeviceFault). IfSome o so) (sym none) tt;
   }
 
   -- it failed
-  tells_fault : (b : ℕ) (fault : DiskFault) → t.volume.fault ≡ Some fault → fault.0 ≡ b → Counts (Some fault) → TellsFault disk b step.Halted s t
-  tells_fault b fault is here counts = record {
+  tells_fault : (so : DeviceFault → Type 0) (fault : DeviceFault) → t.volume.fault ≡ Some fault → so fault → Counted (Some fault) → TellsFault disk so step.Halted s t
+  tells_fault so fault is here counts = record {
     halted = ((λ e. subst IsSome (sym is) refl), (λ some. refl));
-    faults = subst Counts (sym is) counts;
-    block = subst (λ (o : Option DiskFault). IfSome o (λ fault. fault.0 ≡ b)) (sym is) here;
+    faults = subst Counted (sym is) counts;
+    block = subst (λ (o : Option DeviceFault). IfSome o so) (sym is) here;
   }
 
   -- the disk isn't used
   pub rests : (a : At) (p : ℕ) (r : Step) → is_committing_at a ≡ false → r ≢ step.Halted → s.volume.fault ≡ None → t.volume.fault ≡ s.volume.fault → t.volume.device ≡ s.volume.device → UsesDisk disk a p r s t
   rests a p r quiet runs well same is =
-      let tells = tells_none (block_at_step a s p) r runs (same ∙ well) (ap disk.fault_count is) in
+      let tells = tells_none (FailsSo a s p) r runs (same ∙ well) (ap disk.fault_count is) in
       record {
         halted = tells.halted;
         name = ap disk.name is;
         time = elapses_same disk.moment disk.leaves s.volume.device t.volume.device is;
-        image = λ e. ap disk.image is;
-        unwritten = λ e. ap disk.write_count is;
+        reads = λ e. subst (OnlyReads disk s.volume.device) (sym is) (reads_none disk s.volume.device);
         written = λ e. absurd (false≢true (sym quiet ∙ e));
-        writes = inl (ap disk.write_count is);
+        synced = λ e. absurd (false≢true (sym quiet ∙ e.0));
+        plain = λ free. ap disk.sync_count is;
+        once = inl (ap disk.write_count is, ap disk.sync_count is);
         faults = λ e. tells.faults;
         block = λ e. tells.block;
       }
@@ -106,64 +115,137 @@ module _ {D N : Type 0} (disk : disk_trait.Ghosts D N) (s t : StoreState D) wher
         halted = tells.halted;
         name = steps.reads.device.name;
         time = elapses_none steps.reads.device.time;
-        image = λ e. steps.reads.device.image;
-        unwritten = λ e. steps.reads.device.writes;
+        reads = λ e. steps.reads.device;
         written = λ e. absurd (false≢true (sym quiet ∙ e));
-        writes = inl steps.reads.device.writes;
+        synced = λ e. absurd (false≢true (sym quiet ∙ e.0));
+        plain = λ free. steps.reads.device.syncs;
+        once = inl (steps.reads.device.writes, steps.reads.device.syncs);
         faults = λ e. tells.faults;
         block = λ e. tells.block;
       }
     where
-      b : ℕ
-      b = block_at_step a s p
-
-      none : (q : TaskProgress) → fault_of_task q ≡ None → t.volume.fault ≡ fault_of_task q → disk.fault_count t.volume.device ≡ faults_after (fault_of_task q) (disk.fault_count s.volume.device) → TellsFault disk b (answer q) s t
-      none q well is same = tells_none b (answer q) (runs q well) (is ∙ well) (same ∙ ap (λ (o : Option DiskFault). faults_after o (disk.fault_count s.volume.device)) well)
+      none : (q : TaskProgress) → fault_of_task q ≡ None → t.volume.fault ≡ fault_of_task q → disk.fault_count t.volume.device ≡ faults_after (fault_of_task q) (disk.fault_count s.volume.device) → TellsFault disk (FailsSo a s p) (answer q) s t
+      none q well is same = tells_none (FailsSo a s p) (answer q) (runs q well) (is ∙ well) (same ∙ ap (λ (o : Option DeviceFault). faults_after o (disk.fault_count s.volume.device)) well)
 
       by_answer : (r : TaskProgress) → t.volume.fault ≡ fault_of_task r → disk.fault_count t.volume.device ≡ faults_after (fault_of_task r) (disk.fault_count s.volume.device) → Goes disk (task s.tasks p).place s p op r t
-          → TellsFault disk b (answer r) s t
+          → TellsFault disk (FailsSo a s p) (answer r) s t
       by_answer progress.Moved is same goes = none progress.Moved refl is same
       by_answer (progress.Turned reply) is same goes = none (progress.Turned reply) refl is same
       by_answer (progress.Decided reply) is same goes = none (progress.Decided reply) refl is same
       by_answer progress.Over is same goes = none progress.Over refl is same
       by_answer (progress.Sleeping why) is same goes = none (progress.Sleeping why) refl is same
-      by_answer (progress.Fault fault) is same goes = subst (λ (q : Step). TellsFault disk b q s t) (sym (halts fault))
-          (tells_fault b fault is (fails_at disk s p op fault t (task s.tasks p).place goes ∙ sym here) (steps.reads.device.writes, same))
+      by_answer (progress.Fault fault) is same goes = subst (λ (q : Step). TellsFault disk (FailsSo a s p) q s t) (sym (halts fault))
+          (tells_fault (FailsSo a s p) (Block fault) is (fails_at disk s p op fault t (task s.tasks p).place goes ∙ sym here) ((steps.reads.device.writes, steps.reads.device.syncs), same))
 
-  -- a write of a commit
+  -- what a step of a commit that writes, or syncs, does to the counts
+  record Uses (p group k : ℕ) (r : Committed) : Type 0 where
+    pub tells : TellsFault disk (FailsSo (at.Committing group k) s p) (step_of_write r) s t
+    pub written : is_syncing s.volume.log.commit ≡ false → step_of_write r ≢ step.Halted → disk.write_count t.volume.device ≡ one_more (disk.write_count s.volume.device)
+    pub synced : is_syncing s.volume.log.commit ≡ true → step_of_write r ≢ step.Halted → disk.sync_count t.volume.device ≡ one_more (disk.sync_count s.volume.device)
+    pub once : UsesOnce (counts_of disk s.volume.device) (counts_of disk t.volume.device)
+    pub name : disk.name t.volume.device ≡ disk.name s.volume.device
+    pub time : Elapses (disk.moment s.volume.device) (disk.moment t.volume.device) (disk.leaves s.volume.device) (disk.leaves t.volume.device)
+
+  writing_calm : (k : Commit) → is_writing k ≡ true → is_syncing k ≡ false
+  writing_calm commit.Quiet writing = refl
+  writing_calm (commit.Logging j) writing = refl
+  writing_calm commit.Heading writing = refl
+  writing_calm (commit.Homing j) writing = refl
+  writing_calm commit.Clearing writing = refl
+  writing_calm (commit.Syncing q) writing = absurd (false≢true writing)
+
+  abbrev More : Type 0
+  More = disk.fault_count t.volume.device ≡ one_more (disk.fault_count s.volume.device)
+
+  -- a write
+  uses_write : (p group k : ℕ) (r : Committed) → t.volume.fault ≡ fault_of_step r → is_writing s.volume.log.commit ≡ true → CommitWrites disk s.volume.device s.volume.buffers s.volume.log r t.volume.device t.volume.buffers t.volume.log → Uses p group k r
+  uses_write p group k r is writing w = by_result r is w.writes w.faults
+    where
+      no_sync : is_syncing s.volume.log.commit ≡ true → ⊥
+      no_sync syncs = false≢true (sym (writing_calm s.volume.log.commit writing) ∙ syncs)
+
+      made : (q : Committed) → step_of_write q ≢ step.Halted → t.volume.fault ≡ None → disk.write_count t.volume.device ≡ one_more (disk.write_count s.volume.device) → disk.fault_count t.volume.device ≡ disk.fault_count s.volume.device → Uses p group k q
+      made q runs well wrote same = record {
+        tells = tells_none (FailsSo (at.Committing group k) s p) (step_of_write q) runs well same;
+        written = λ calm on. wrote;
+        synced = λ syncs. absurd (no_sync syncs);
+        once = inr (inl (wrote, w.syncs));
+        name = w.name;
+        time = w.time;
+      }
+
+      here : (f : DeviceFault) → FailsAt (place_at s.volume.log.commit s.volume.log.homes) f → FailsSo (at.Committing group k) s p f
+      here (Block f) at_place = at_place
+      here (Sync f) never = absurd never
+
+      by_result : (q : Committed) → t.volume.fault ≡ fault_of_step q → IsFault q (λ fault. disk.write_count t.volume.device ≡ disk.write_count s.volume.device) More (disk.write_count t.volume.device ≡ one_more (disk.write_count s.volume.device))
+          → IsFault q (FailsAt (place_at s.volume.log.commit s.volume.log.homes)) More (disk.fault_count t.volume.device ≡ disk.fault_count s.volume.device) → Uses p group k q
+      by_result committed.More is wrote same = made committed.More (λ e. cc e) is wrote same
+      by_result (committed.Durable g) is wrote same = made (committed.Durable g) (λ e. cc e) is wrote same
+      by_result committed.Done is wrote same = made committed.Done (λ e. cc e) is wrote same
+      by_result (committed.Fault fault) is wrote failed = record {
+        tells = tells_fault (FailsSo (at.Committing group k) s p) fault is (here fault failed.0) ((wrote.0, w.syncs), wrote.1);
+        written = λ calm runs. absurd (runs refl);
+        synced = λ syncs runs. absurd (runs refl);
+        once = inl (wrote.0, w.syncs);
+        name = w.name;
+        time = w.time;
+      }
+
+  -- a sync
+  uses_sync : (p group k : ℕ) (part : Part) (r : Committed) → t.volume.fault ≡ fault_of_step r → s.volume.log.commit ≡ commit.Syncing part → CommitSyncs disk part s.volume.device s.volume.buffers s.volume.log r t.volume.device t.volume.buffers t.volume.log → Uses p group k r
+  uses_sync p group k part r is due w = by_result r is w.faults w.syncs
+    where
+      syncs : is_syncing s.volume.log.commit ≡ true
+      syncs = ap is_syncing due
+
+      made : (q : Committed) → step_of_write q ≢ step.Halted → t.volume.fault ≡ None → disk.sync_count t.volume.device ≡ one_more (disk.sync_count s.volume.device) → disk.fault_count t.volume.device ≡ disk.fault_count s.volume.device → Uses p group k q
+      made q runs well synced same = record {
+        tells = tells_none (FailsSo (at.Committing group k) s p) (step_of_write q) runs well same;
+        written = λ calm. absurd (false≢true (sym calm ∙ syncs));
+        synced = λ at_sync on. synced;
+        once = inr (inr (w.writes, synced));
+        name = w.name;
+        time = elapses_none w.time;
+      }
+
+      here : (f : DeviceFault) → FailsToSync f → FailsSo (at.Committing group k) s p f
+      here (Block f) never = absurd never
+      here (Sync f) at_sync = (refl, syncs)
+
+      by_result : (q : Committed) → t.volume.fault ≡ fault_of_step q → IsFault q FailsToSync More (disk.fault_count t.volume.device ≡ disk.fault_count s.volume.device)
+          → IsFault q (λ fault. disk.sync_count t.volume.device ≡ disk.sync_count s.volume.device) More (disk.sync_count t.volume.device ≡ one_more (disk.sync_count s.volume.device)) → Uses p group k q
+      by_result committed.More is same synced = made committed.More (λ e. cc e) is synced same
+      by_result (committed.Durable g) is same synced = made (committed.Durable g) (λ e. cc e) is synced same
+      by_result committed.Done is same synced = made committed.Done (λ e. cc e) is synced same
+      by_result (committed.Fault fault) is failed unsynced = record {
+        tells = tells_fault (FailsSo (at.Committing group k) s p) fault is (here fault failed.0) ((w.writes, unsynced.0), failed.1);
+        written = λ calm runs. absurd (runs refl);
+        synced = λ at_sync runs. absurd (runs refl);
+        once = inl (w.writes, unsynced.0);
+        name = w.name;
+        time = elapses_none w.time;
+      }
+
+  -- a step of a commit
   pub writes : (p group k : ℕ) (r : Committed) → Commits disk s r t → UsesDisk disk (at.Committing group k) p (step_of_write r) s t
   writes p group k r made =
-      let told = by_result r made.volume.fault made.volume.write.writes made.volume.write.faults in
+      let uses : Uses p group k r = ⊎_elim
+      (λ (w : (is_writing s.volume.log.commit ≡ true) × CommitWrites disk s.volume.device s.volume.buffers s.volume.log r t.volume.device t.volume.buffers t.volume.log). uses_write p group k r made.volume.fault w.0 w.1)
+      (λ (y : (q : Part) × (s.volume.log.commit ≡ commit.Syncing q) × CommitSyncs disk q s.volume.device s.volume.buffers s.volume.log r t.volume.device t.volume.buffers t.volume.log). uses_sync p group k y.0 r made.volume.fault y.1 y.2)
+      (commit_kinds disk s.volume.log.commit s.volume.device s.volume.buffers s.volume.log r t.volume.device t.volume.buffers t.volume.log made.volume.write) in
       record {
-        halted = told.0.halted;
-        name = made.volume.write.name;
-        time = made.volume.write.time;
-        image = λ e. absurd (false≢true (sym e));
-        unwritten = λ e. absurd (false≢true (sym e));
-        written = λ e runs. told.1 runs;
-        writes = told.2;
-        faults = λ e. told.0.faults;
-        block = λ e. told.0.block;
+        halted = uses.tells.halted;
+        name = uses.name;
+        time = uses.time;
+        reads = λ e. absurd (false≢true (sym e));
+        written = λ e calm runs. uses.written calm runs;
+        synced = λ e runs. uses.synced e.1 runs;
+        plain = made.volume.unsynced;
+        once = uses.once;
+        faults = λ e. uses.tells.faults;
+        block = λ e. uses.tells.block;
       }
-    where
-      old : ℕ
-      old = disk.write_count s.volume.device
-
-      new : ℕ
-      new = disk.write_count t.volume.device
-
-      more : Type 0
-      more = disk.fault_count t.volume.device ≡ one_more (disk.fault_count s.volume.device)
-
-      b : ℕ
-      b = place_at s.volume.log.commit s.volume.log.homes
-
-      by_result : (r : Committed) → t.volume.fault ≡ fault_of_step r → IsFault r (λ fault. new ≡ old) more (new ≡ one_more old) → IsFault r (λ fault. fault.0 ≡ b) more (disk.fault_count t.volume.device ≡ disk.fault_count s.volume.device)
-          → TellsFault disk b (step_of_write r) s t × (step_of_write r ≢ step.Halted → new ≡ one_more old) × WritesOnce old new
-      by_result committed.More is wrote same = (tells_none b step.Moved (λ e. cc e) is same, (λ runs. wrote), inr wrote)
-      by_result (committed.Durable g) is wrote same = (tells_none b step.Moved (λ e. cc e) is same, (λ runs. wrote), inr wrote)
-      by_result committed.Done is wrote same = (tells_none b step.Answered (λ e. cc e) is same, (λ runs. wrote), inr wrote)
-      by_result (committed.Fault fault) is wrote failed = (tells_fault b fault is failed.0 (wrote.0, wrote.1), (λ runs. absurd (runs refl)), inl wrote.0)
 
 -- who is under way comes to no beginning
 begins_not : (well unshut busy : Bool) → busy ≡ true → (well && unshut && not busy) ≡ true → ⊥
@@ -182,7 +264,7 @@ module _ {D N I M H : Type 0} (disk : disk_trait.Ghosts D N) (intake : intake_tr
       → KeepsOthers intake p k.intake m.intake → (r ≢ step.Moved → r ≢ step.Answered → IsPrefix (intake.side k.intake p).ahead (intake.side m.intake p).ahead)
       → (is_busy_at a ≡ true → (intake.side m.intake p).ahead ≡ (intake.side k.intake p).ahead) → (may_begin k p ≡ true → herald.asks k.herald m.herald) → (may_begin k p ≡ false → IsUnasked herald k.herald m.herald) → Acts disk intake herald p r k m
   acts_at r a well stands next device opening sides waits ahead asked unasked = record {
-    next = subst (λ (o : Option DiskFault). NextIf disk o k.store k.world p (intake.side k.intake p).ahead (intake.side m.intake p) (herald.told m.herald) r m.store m.world) (sym well)
+    next = subst (λ (o : Option DeviceFault). NextIf disk o k.store k.world p (intake.side k.intake p).ahead (intake.side m.intake p) (herald.told m.herald) r m.store m.world) (sym well)
         (subst (λ (b : At). NextAt disk b k.store k.world p (intake.side k.intake p).ahead (intake.side m.intake p) (herald.told m.herald) r m.store m.world) (sym stands) next);
     device = subst (λ (b : At). UsesDisk disk b p r k.store m.store) (sym stands) device;
     opening = opening;

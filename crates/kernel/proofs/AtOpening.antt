@@ -49,7 +49,7 @@ module _ {D : Type 0} (image : D → Image) (s : StoreState D) (fresh : s.volume
   facts_at_open sound lawful numbers over agreed fits =
       let opening = image s.volume.device in
       inv_new opening (view_of image s) (valid_joint image s (inode_count_of opening) numbers agreed) (λ q. unread_holds (task s.tasks q) (over_unread (task s.tasks q).place (over q))) none_open fits
-      (subst (λ (x : Image). Survives opening opening x s.volume.log []) (sym shown) (recovers_opened opening s.volume.log sound lawful sound.empty_log))
+      (subst (λ (x : Image). Survives opening opening x s.volume.log []) (sym shown) (recovers_opened opening s.volume.log sound lawful sound.empty_log (ap (λ (v : VolumeState D). v.log.commit) fresh)))
 
 -- where each process is idle, it is so by either name
 facts_idle : (opening : Image) (s : View) (w : World) → ((q : ℕ) → ats_of w q ≡ at.Idle) → KernelFacts opening s [] (λ q. at.Idle) → KernelFacts opening s [] (ats_of w)

@@ -1,10 +1,10 @@
 -- Nobody waits for ever in a kernel, as none of its store's tasks does.
-use Rattle.std.proofs.Common.{◌≡◌, ◌≢◌, ℕ, zero, suc, ◌<◌, Bool, true, false, not, length, List, refl, sym, ◌∙◌, ap, subst, arith, Option, Some, None, inl, inr, ◌⊎◌}
+use Rattle.std.proofs.Common.{◌≡◌, ◌≢◌, ℕ, zero, suc, ◌<◌, Bool, true, false, not, length, List, refl, sym, ◌∙◌, ap, subst, arith, Option, Some, None, inl, inr}
+use Rattle.wal.specs.declared.types.DeviceFault.{DeviceFault}
 use Rattle.std.specs.Option.{option_map}
 use Rattle.std.proofs.lemmas.Bool.{both_ways, cases_lt}
 use Rattle.std.proofs.lemmas.List.{get_or_past}
 use Rattle.blocks.specs.Disk.{Image}
-use Rattle.blocks.specs.declared.errors.DiskFault.{DiskFault}
 use Rattle.blocks.specs.declared.disk.Disk as disk_trait
 use Rattle.model.specs.declared.types.operations.Op.{Op}
 use Rattle.model.specs.declared.types.operations.TaskProgress.{TaskProgress}
@@ -19,7 +19,7 @@ use Rattle.wal.specs.declared.types.Committed.TheVariants as committed
 use Rattle.wal.specs.declared.types.Ended.{Ended}
 use Rattle.wal.specs.declared.types.Ended.TheVariants as ended_as
 use Rattle.wal.specs.Joint.{Joint}
-use Rattle.wal.specs.Machine.{LogState, begin_cause, is_quiet, end_answer, IsLogAt, Idle}
+use Rattle.wal.specs.Machine.{LogState, begin_cause, is_quiet, end_answer, IsLogAt}
 use Rattle.inodes.specs.declared.tasks.Place.{Place}
 use Rattle.inodes.specs.Lemmas.Faults.{where_none}
 use Rattle.inodes.specs.Lemmas.Sought.{passes_busy}
@@ -98,6 +98,7 @@ module _ {D I H : Type 0} (image : D → Image) (opening : Image) (k : State D I
   no_homes commit.Heading l stands quiet is closed = absurd (cc quiet)
   no_homes (commit.Homing i) l stands quiet is closed = absurd (cc quiet)
   no_homes commit.Clearing l stands quiet is closed = absurd (cc quiet)
+  no_homes (commit.Syncing part) l stands quiet is closed = absurd (cc quiet)
 
   -- where none is under way, the log lets each begin
   let_in : Joint (image k.store.volume.device) k.store.volume.buffers k.store.volume.log → AreIdle k.world → begin_cause k.store.volume.log ≡ None
@@ -185,14 +186,14 @@ idle_not (at.Committing group k) e = absurd (cc e)
 module _ {D N I M H : Type 0} (disk : disk_trait.Ghosts D N) (intake : intake_trait.Ghosts I M) (herald : herald_trait.Ghosts H) where
   pub next_of : (k m : State D I H) (p : ℕ) (r : Step) → k.store.volume.fault ≡ None → MakesStep disk intake herald p r k m →
       NextAt disk (ats_of k.world p) k.store k.world p (intake.side k.intake p).ahead (intake.side m.intake p) (herald.told m.herald) r m.store m.world
-  next_of k m p r well makes = subst (λ (o : Option DiskFault). NextIf disk o k.store k.world p (intake.side k.intake p).ahead (intake.side m.intake p) (herald.told m.herald) r m.store m.world) well makes.acts.next
+  next_of k m p r well makes = subst (λ (o : Option DeviceFault). NextIf disk o k.store k.world p (intake.side k.intake p).ahead (intake.side m.intake p) (herald.told m.herald) r m.store m.world) well makes.acts.next
 
   -- a step that has to wait was made while the disk had no fault
-  well_if_asleep : (k m : State D I H) (p : ℕ) (cause : Why) → MakesStep disk intake herald p (step.Sleeping cause) k m → (o : Option DiskFault) → k.store.volume.fault ≡ o → k.store.volume.fault ≡ None
+  well_if_asleep : (k m : State D I H) (p : ℕ) (cause : Why) → MakesStep disk intake herald p (step.Sleeping cause) k m → (o : Option DeviceFault) → k.store.volume.fault ≡ o → k.store.volume.fault ≡ None
   well_if_asleep k m p cause makes None e = e
   well_if_asleep k m p cause makes (Some fault) e =
       let next : NextIf disk (Some fault) k.store k.world p (intake.side k.intake p).ahead (intake.side m.intake p) (herald.told m.herald) (step.Sleeping cause) m.store m.world =
-      subst (λ (o : Option DiskFault). NextIf disk o k.store k.world p (intake.side k.intake p).ahead (intake.side m.intake p) (herald.told m.herald) (step.Sleeping cause) m.store m.world) e makes.acts.next in
+      subst (λ (o : Option DeviceFault). NextIf disk o k.store k.world p (intake.side k.intake p).ahead (intake.side m.intake p) (herald.told m.herald) (step.Sleeping cause) m.store m.world) e makes.acts.next in
       let unlike = next.0 in absurd (cc unlike)
 
   module _ (sleeps : SleepsForCause disk) (k m : State D I H) (p : ℕ) (cause : Why) (before : List Op) (side : Side) (told : Bool) where

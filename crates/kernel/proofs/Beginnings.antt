@@ -1,5 +1,6 @@
 -- What is true of store and processes stays so where an operation begins or is answered at once.
 use Rattle.std.proofs.Common.{◌≡◌, ◌≢◌, ℕ, ◌+◌, ◌<◌, ◌≤◌, Bool, true, false, not, ◌||◌, cond, eqb, ltb, length, length-set, refl, sym, ◌∙◌, ap, subst, arith, ⊎_elim, Option, Some, None}
+use Rattle.wal.specs.declared.types.DeviceFault.{DeviceFault}
 use Rattle.std.proofs.lemmas.Bool.{cases_eq, false≢true, le-leb, ltb-false, not-false}
 use Rattle.std.proofs.lemmas.List.{get_or-set_other}
 use Rattle.blocks.specs.declared.disk.Disk.{Ghosts}
@@ -10,7 +11,6 @@ use Rattle.model.specs.Layout.{inode_count_of}
 use Rattle.model.specs.Operations.{is_kind}
 use Rattle.std.specs.Option.{option_map}
 use Rattle.std.specs.Prelude.{IfSome}
-use Rattle.blocks.specs.declared.errors.DiskFault.{DiskFault}
 use Rattle.kernel.specs.Lasting.{Lasts}
 use Rattle.wal.specs.Machine.{LogState, begun, begin_cause}
 use Rattle.inodes.specs.Lemmas.Faults.{where_none}
@@ -212,7 +212,7 @@ right_shut disk opening s w b right = record {
   faults = right.faults;
 }
   where
-    shut_lasts : (o : Option DiskFault) → IfSome o (λ (f : DiskFault). Lasts s w) → IfSome o (λ (f : DiskFault). Lasts s (record w { is_shut = b }))
+    shut_lasts : (o : Option DeviceFault) → IfSome o (λ (f : DeviceFault). Lasts s w) → IfSome o (λ (f : DeviceFault). Lasts s (record w { is_shut = b }))
     shut_lasts None lasts = tt
     shut_lasts (Some fault) lasts = record { locks = lasts.locks; unanswered = λ k e is none. (let u = lasts.unanswered k e is none in record { late = u.late; group = u.group; behind = u.behind }); left = lasts.left }
 

@@ -1,7 +1,7 @@
 -- The operations that were begun of each process: a turn leaves their count, or adds one.
-use Rattle.std.proofs.Common.{◌≡◌, ◌⊎◌, inl, inr, ℕ, zero, suc, ◌+◌, ◌<◌, ◌≤◌, Bool, true, false, List, [], ◌∷◌, length, get_or, set, refl, sym, ◌∙◌, ap, subst, arith, Option, Some, None}
+use Rattle.std.proofs.Common.{◌≡◌, inl, inr, ℕ, zero, suc, ◌+◌, ◌<◌, ◌≤◌, Bool, List, [], ◌∷◌, length, get_or, set, refl, sym, ◌∙◌, ap, subst, arith, Option, Some, None}
+use Rattle.wal.specs.declared.types.DeviceFault.{DeviceFault}
 use Rattle.blocks.specs.declared.disk.Disk as disk_trait
-use Rattle.blocks.specs.declared.errors.DiskFault.{DiskFault}
 use Rattle.model.specs.declared.types.operations.Op.{Op}
 use Rattle.model.specs.declared.types.operations.Reply.{Reply}
 use Rattle.model.specs.declared.types.operations.TaskProgress.{TaskProgress}
@@ -16,7 +16,7 @@ use Rattle.journal.specs.declared.types.At.{At}
 use Rattle.journal.specs.declared.types.At.TheVariants as at
 use Rattle.journal.specs.declared.types.Process.{Process}
 use Rattle.journal.specs.Lemmas.Places.{there_now}
-use Rattle.journal.specs.Processes.{World, process, idle, with_process, with_place, taken, turned_from, turned, decided, told_at, entry_place, refused, over, committing, answered}
+use Rattle.journal.specs.Processes.{World, process, idle, with_process, with_place, turned_from, decided, told_at, entry_place, refused, over, committing, answered}
 use Rattle.kernel.specs.declared.types.Step.{Step}
 use Rattle.kernel.specs.declared.waiting.Waiting.{Waiting}
 use Rattle.kernel.specs.Next.{BeginsWith, NextAt, NextIf, world_after, world_behind, world_of_last, world_of_told, world_ended, world_written}
@@ -116,7 +116,7 @@ module _ {D N : Type 0} (disk : disk_trait.Ghosts D N) (s t : StoreState D) (w z
   at_grows (at.Ending group k) ends = grows_along w z _ ends.world (ended_grows _ w p)
   at_grows (at.Committing group k) writes = grows_along w z _ writes.world (written_grows writes.result w p)
 
-  pub next_grows : (o : Option DiskFault) → NextIf disk o s w p before side told r t z → Grows w z
+  pub next_grows : (o : Option DeviceFault) → NextIf disk o s w p before side told r t z → Grows w z
   next_grows None next = at_grows (process w p).at next
   next_grows (Some fault) next = grows_along w z w next.1.1 (grows_none w)
 

@@ -1,11 +1,11 @@
 -- The causes of answers that give less than was asked for: what the turns of a run saw.
 use Rattle.std.proofs.Common.{◌≡◌, ◌≢◌, ◌⊎◌, ◌<◌, ◌≤◌, ◌+◌, inl, inr, ℕ, zero, suc, Bool, true, false, cond, List, [], ◌∷◌, ◌++◌, length, get_or, set, refl, sym, ◌∙◌, ap, subst, ⊎_elim, arith, Option, Some, None, length-set}
+use Rattle.wal.specs.declared.types.DeviceFault.{DeviceFault}
 use Rattle.std.specs.Prelude.{IsTrue}
 use Rattle.std.proofs.lemmas.Bool.{cases_eq, cases_lt}
 use Rattle.std.proofs.Math.Seq.{get_or-append_seam}
 use Rattle.std.proofs.lemmas.List.{length-append, get_or-set_same, get_or_past}
 use Rattle.blocks.specs.declared.disk.Disk as disk_trait
-use Rattle.blocks.specs.declared.errors.DiskFault.{DiskFault}
 use Rattle.model.specs.declared.types.operations.Entry.{Entry}
 use Rattle.model.specs.declared.types.operations.Op.{Op}
 use Rattle.model.specs.declared.types.operations.Op.TheVariants.{Create, Write, Read, Trunc, Remove, Stat}
@@ -324,7 +324,7 @@ module _ {D N I M H : Type 0} (disk : disk_trait.Ghosts D N) (intake : intake_tr
       own_at (at.Ending group k) ahead side b r stands turn next = own_behind (at.Ending group k) stands (λ e. cc e) (λ g o e. cc e) turn
       own_at (at.Committing group k) ahead side b r stands turn next = own_behind (at.Committing group k) stands (λ e. cc e) (λ g o e. cc e) turn
 
-      own_turn : (o : Option DiskFault) (ahead : List Op) (side : Side) (b : Bool) (r : Step) → Turned p (process w p).at s w t z → NextIf disk o s w p ahead side b r t z → Own s t w z
+      own_turn : (o : Option DeviceFault) (ahead : List Op) (side : Side) (b : Bool) (r : Step) → Turned p (process w p).at s w t z → NextIf disk o s w p ahead side b r t z → Own s t w z
       own_turn None ahead side b r turn next = own_at (process w p).at ahead side b r refl turn next
       own_turn (Some fault) ahead side b r turn next = inr (record {
         tracks = same_now next.1.0 (ap (λ (o : World). (process o p).at) next.1.1);

@@ -1,21 +1,25 @@
 -- What is true of store and processes stays so where an operation ends in the log, and with each write of a commit.
-use Rattle.std.proofs.Common.{◌≡◌, ◌≢◌, ℕ, ◌<◌, true, false, List, [], ◌∷◌, length, set, refl, sym, ◌∙◌, ap, subst, arith, inl, inr, Option, Some, None}
+use Rattle.std.proofs.Common.{◌≡◌, ◌≢◌, ℕ, ◌<◌, true, false, List, [], ◌∷◌, length, set, refl, sym, ◌∙◌, ap, subst, arith, ◌⊎◌, ⊎_elim, inl, inr, Option, Some, None}
 use Rattle.std.proofs.lemmas.Bool.{false≢true}
 use Rattle.std.proofs.lemmas.List.{set-get_or}
-use Rattle.blocks.specs.Disk.{one_more}
+use Rattle.blocks.specs.Disk.{Image, one_more}
 use Rattle.blocks.specs.declared.disk.Disk.{Ghosts}
-use Rattle.blocks.specs.declared.errors.DiskFault.{DiskFault}
+use Rattle.wal.specs.declared.types.DeviceFault.{DeviceFault}
+use Rattle.wal.specs.declared.types.Commit.TheVariants as commit
+use Rattle.wal.specs.declared.types.Part.{Part}
+use Rattle.wal.specs.Floats.{Survives as SurvivesAt}
+use Rattle.wal.specs.Step.{CommitWrites, CommitSyncs}
 use Rattle.model.specs.Gathered.{GatheredBytes}
 use Rattle.model.specs.Layout.{inode_count_of}
-use Rattle.model.specs.Log.{recovered}
+use Rattle.model.specs.Log.{is_lawful_log, recovered}
 use Rattle.wal.specs.declared.types.Commit.{Commit}
 use Rattle.wal.specs.declared.types.Committed.{Committed}
 use Rattle.wal.specs.declared.types.Committed.TheVariants as committed
 use Rattle.wal.specs.declared.types.Ended.TheVariants as ended_as
-use Rattle.wal.specs.Joint.{Joint, JointAt, seen, written_at}
-use Rattle.wal.specs.Lemmas.Commits.{quiet_is_current}
-use Rattle.wal.specs.Machine.{LogState, is_quiet, ended, end_answer}
-use Rattle.wal.specs.Volume.{faults_after}
+use Rattle.wal.specs.Joint.{Joint, JointAt, seen}
+use Rattle.wal.specs.Lemmas.Commits.{commit_kinds, quiet_is_current}
+use Rattle.wal.specs.Machine.{LogState, is_quiet, is_writing, ended, end_answer}
+use Rattle.wal.specs.Volume.{faults_after, fault_of_step}
 use Rattle.inodes.specs.Lemmas.Faults.{where_none}
 use Rattle.inodes.specs.Steps.{Commits}
 use Rattle.inodes.specs.Store.{StoreState, IsStore, KeepsFiles, with_log}
@@ -26,18 +30,18 @@ use Rattle.journal.specs.declared.types.At.TheVariants as at
 use Rattle.journal.specs.declared.types.Process.{Process}
 use Rattle.journal.specs.Alone.{CommitsAlone, is_committing_at}
 use Rattle.journal.specs.Lemmas.Alone.{alone_end_leaves, alone_end_commits, alone_written, alone_done}
-use Rattle.journal.specs.Lemmas.Groups.{ended_opened, open_of, written_same}
-use Rattle.journal.specs.Lemmas.Known.{known_failed}
+use Rattle.journal.specs.Lemmas.Groups.{ended_opened, open_of, SameOpen, stepped_same}
+use Rattle.journal.specs.Lemmas.Known.{known_failed, known_keeps}
 use Rattle.journal.specs.Lemmas.LogEvents.{inv_end_leaves, inv_end_commits, inv_written}
 use Rattle.journal.specs.Processes.{World, process, idle, committing, committing_at, answered, is_before}
 use Rattle.journal.specs.Bound.{is_busy_at}
 use Rattle.journal.specs.Journal.{Entries, IsItsRoom}
-use Rattle.journal.specs.Views.{IsValidView, KernelFacts, StandsAt}
+use Rattle.journal.specs.Views.{IsValidView, KernelFacts, StandsAt, Writes}
 use Rattle.kernel.specs.Invariant.{IsRight, HasFacts, IsPaired, TaskStands}
 use Rattle.kernel.specs.State.{ats_of}
 use Rattle.kernel.specs.View.{view_of}
 use Rattle.journal.specs.Lemmas.Answers.{group_there}
-use Rattle.kernel.proofs.Committing.{writes_of}
+use Rattle.kernel.proofs.Committing.{holds_back, writes_of}
 use Rattle.kernel.proofs.LogCalls.{logs_ended}
 use Rattle.kernel.proofs.Valid.{HasAgreed, valid_joint}
 use Rattle.journal.specs.Lemmas.Counting.{counted_same}
@@ -83,7 +87,7 @@ module _ {D N : Type 0} (disk : Ghosts D N) (opening : D) (s : StoreState D) (w 
   had = where_none _ well right.facts
 
   faults_well : disk.fault_count s.volume.device ≡ disk.fault_count opening
-  faults_well = right.faults ∙ ap (λ (o : Option DiskFault). faults_after o (disk.fault_count opening)) well
+  faults_well = right.faults ∙ ap (λ (o : Option DeviceFault). faults_after o (disk.fault_count opening)) well
 
   inside : p < length s.volume.log.used
   inside = let few = right.paired.few in let pids = had.facts.valid.log.pids in omega (arith, lt, few, pids)
@@ -163,7 +167,8 @@ module _ {D N : Type 0} (disk : Ghosts D N) (opening : D) (s : StoreState D) (w 
         shown none = quiet_is_current (disk.image s.volume.device) s.volume.buffers s.volume.log
             (subst (λ (c : Commit). JointAt c (disk.image s.volume.device) s.volume.buffers s.volume.log) (open_of s.volume.log p had.facts.valid.log stood.1.0).quiet before) (no_homes s.volume.log.homes none)
 
-  module _ (group k : ℕ) (stands : (process w p).at ≡ at.Committing group k) (t : StoreState D) (r : Committed) (made : Commits disk s r t) (has_now : (d : D) → disk.leaves d (disk.moment d) (disk.image d)) where
+  module _ (group k : ℕ) (stands : (process w p).at ≡ at.Committing group k) (t : StoreState D) (r : Committed) (made : Commits disk s r t) (has_now : (d : D) → disk.leaves d (disk.moment d) (disk.image d))
+      (before : Joint (disk.image s.volume.device) s.volume.buffers s.volume.log) where
     stood_committing : StandsAt n (view_of disk.image s) w.journal.list p (at.Committing group k)
     stood_committing = subst (λ (a : At). StandsAt n (view_of disk.image s) w.journal.list p a) stands (had.facts.stands p)
 
@@ -176,43 +181,67 @@ module _ {D N : Type 0} (disk : Ghosts D N) (opening : D) (s : StoreState D) (w 
     none_open : s.volume.log.outstanding ≡ 0
     none_open = had.alone.none_open p alone_here
 
+    -- the step is a write, or a sync
+    abbrev IsWrite : Committed → Type 0
+    IsWrite q = CommitWrites disk s.volume.device s.volume.buffers s.volume.log q t.volume.device t.volume.buffers t.volume.log
+
+    abbrev IsSync : Part → Committed → Type 0
+    IsSync part q = CommitSyncs disk part s.volume.device s.volume.buffers s.volume.log q t.volume.device t.volume.buffers t.volume.log
+
+    kinds : ((is_writing s.volume.log.commit ≡ true) × IsWrite r) ⊎ ((part : Part) × (s.volume.log.commit ≡ commit.Syncing part) × IsSync part r)
+    kinds = commit_kinds disk s.volume.log.commit s.volume.device s.volume.buffers s.volume.log r t.volume.device t.volume.buffers t.volume.log made.volume.write
+
     module _ (agreed : HasAgreed disk.image t) (well_now : t.volume.fault ≡ None) where
       valid_now : IsValidView n (view_of disk.image t)
       valid_now = valid_joint disk.image t n (numbers_now ∙ right.numbers) agreed
 
-      -- a write is made, and more are to come
-      pub right_written : (t.volume.log ≡ written_at s.volume.log.commit s.volume.log) → is_quiet (written_at s.volume.log.commit s.volume.log).commit ≡ false → disk.fault_count t.volume.device ≡ disk.fault_count s.volume.device → IsRight disk opening t w
-      right_written log more counts =
-          let same = written_same s.volume.log.commit s.volume.log in
-          let opened = ap (λ (l : LogState). l.opened) log ∙ same.opened in
+      fine : fault_of_step r ≡ None
+      fine = sym made.volume.fault ∙ well_now
+
+      lawful_now : is_lawful_log (disk.image t.volume.device) ≡ true
+      lawful_now = ⊎_elim
+          (λ (wr : (is_writing s.volume.log.commit ≡ true) × IsWrite r). wr.1.lawful (disk.image t.volume.device) (has_now t.volume.device))
+          (λ (sy : (part : Part) × (s.volume.log.commit ≡ commit.Syncing part) × IsSync part r). ap is_lawful_log sy.2.image ∙ had.facts.recovers.lawful)
+          kinds
+
+      wrote : Writes (holds_back disk s t) (view_of disk.image s) (view_of disk.image t)
+      wrote = writes_of disk s t r fine before lawful_now made
+
+      same_open : SameOpen s.volume.log t.volume.log
+      same_open = subst (SameOpen s.volume.log) (sym wrote.log) (stepped_same (holds_back disk s t) s.volume.log.commit s.volume.log)
+
+      facts_now : (new : ℕ → At) → ((q : ℕ) → q ≢ p → new q ≡ ats_of w q) → (new p ≡ at.Committing group k) ⊎ (new p ≡ at.Idle) → KernelFacts (disk.image opening) (view_of disk.image t) w.journal.list new
+      facts_now new others_at now = inv_written (disk.image opening) (view_of disk.image s) (view_of disk.image t) w.journal.list (ats_of w) had.facts valid_now p new others_at (holds_back disk s t) group k wrote stands none_open now
+
+      -- a step is made, and more are to come
+      pub right_written : is_quiet t.volume.log.commit ≡ false → disk.fault_count t.volume.device ≡ disk.fault_count s.volume.device → IsRight disk opening t w
+      right_written more counts =
           let g : GoesTo w w p (at.Committing group k) (at.Committing group k) = record { stands = stands; was = refl; behind = refl; kept = (process w p).room; keeps = λ busy. (refl, refl); processes = sym (set-get_or w.processes p idle) ∙ ap (λ (a : At). set w.processes p (record (process w p) { at = a })) stands; journal = refl } in
-          goes_right t made.tasks numbers_now well_now opened counts w (at.Committing group k) (at.Committing group k) g (λ over. over)
-          (inv_written (disk.image opening) (view_of disk.image s) (view_of disk.image t) w.journal.list (ats_of w) had.facts valid_now p (ats_of w) (λ q apart. refl) group k
-          (writes_of disk s t r has_now (sym made.volume.fault ∙ well_now) made) stands none_open (inl stands))
-          (subst (λ (l : LogState). CommitsAlone (ats_of w) l) (sym log) (alone_written (ats_of w) (ats_of w) s.volume.log had.alone p (λ q apart. refl) alone_here alone_here more))
+          goes_right t made.tasks numbers_now well_now same_open.opened counts w (at.Committing group k) (at.Committing group k) g (λ over. over) (facts_now (ats_of w) (λ q apart. refl) (inl stands))
+          (alone_written (ats_of w) (ats_of w) s.volume.log had.alone p (λ q apart. refl) t.volume.log same_open.outstanding alone_here alone_here more)
 
-      -- the last write is made, and the operation is answered
-      pub right_done : (t.volume.log ≡ written_at s.volume.log.commit s.volume.log) → is_quiet (written_at s.volume.log.commit s.volume.log).commit ≡ true → disk.fault_count t.volume.device ≡ disk.fault_count s.volume.device → IsRight disk opening t (answered w p)
-      right_done log last counts =
-          let same = written_same s.volume.log.commit s.volume.log in
-          let opened = ap (λ (l : LogState). l.opened) log ∙ same.opened in
+      -- the last step is made, and the operation is answered
+      pub right_done : is_quiet t.volume.log.commit ≡ true → disk.fault_count t.volume.device ≡ disk.fault_count s.volume.device → IsRight disk opening t (answered w p)
+      right_done last counts =
           let g = goes_answered w p (at.Committing group k) stands refl in
-          let at_p = now t made.tasks numbers_now well_now opened counts (answered w p) (at.Committing group k) at.Idle g in
-          let others_at = others t made.tasks numbers_now well_now opened counts (answered w p) (at.Committing group k) at.Idle g in
-          goes_right t made.tasks numbers_now well_now opened counts (answered w p) (at.Committing group k) at.Idle g (λ st. st.0)
-          (inv_written (disk.image opening) (view_of disk.image s) (view_of disk.image t) w.journal.list (ats_of w) had.facts valid_now p (ats_of (answered w p)) others_at group k
-          (writes_of disk s t r has_now (sym made.volume.fault ∙ well_now) made) stands none_open (inr at_p))
-          (subst (λ (l : LogState). CommitsAlone (ats_of (answered w p)) l) (sym log) (alone_done (ats_of w) (ats_of (answered w p)) s.volume.log had.alone p others_at alone_here (ap is_committing_at at_p) last))
+          let at_p = now t made.tasks numbers_now well_now same_open.opened counts (answered w p) (at.Committing group k) at.Idle g in
+          let others_at = others t made.tasks numbers_now well_now same_open.opened counts (answered w p) (at.Committing group k) at.Idle g in
+          goes_right t made.tasks numbers_now well_now same_open.opened counts (answered w p) (at.Committing group k) at.Idle g (λ st. st.0) (facts_now (ats_of (answered w p)) others_at (inr at_p))
+          (alone_done (ats_of w) (ats_of (answered w p)) s.volume.log had.alone p others_at t.volume.log alone_here (ap is_committing_at at_p) last)
 
-    -- the write failed
-    pub right_unwritten : IsStore disk.image s → (fault : DiskFault) → r ≡ committed.Fault fault → t.volume.log ≡ s.volume.log → fault.0 ≡ Rattle.wal.specs.Joint.place_at s.volume.log.commit s.volume.log.homes
+    -- the step failed
+    pub right_unwritten : IsStore disk.image s → (fault : DeviceFault) → r ≡ committed.Fault fault → ((x : Image) → disk.leaves s.volume.device (disk.moment s.volume.device) x → SurvivesAt s.volume.log.commit (disk.image s.volume.device) x) → t.volume.log ≡ s.volume.log
         → disk.fault_count t.volume.device ≡ one_more (disk.fault_count s.volume.device) → IsRight disk opening t w
-    right_unwritten store fault is log place counts =
+    right_unwritten store fault is survives log counts =
         let failed : t.volume.fault ≡ Some fault = made.volume.fault ∙ ap Rattle.wal.specs.Volume.fault_of_step is in
         right_failed disk opening s t w fault right well failed numbers_now
         (paired_goes s t w w p (process w p) right.paired lt (sym (set-get_or w.processes p idle)) (ap (λ (l : List TaskState). length l) made.tasks) (λ q apart. ap (λ (l : List TaskState). task l q) made.tasks) (keeps_behind w w p refl)
         (subst (λ (l : List TaskState). IsPaired w.journal.list (task l p) (process w p).at (process w p).room) (sym made.tasks) (right.paired.stand p)))
         (ap (λ (l : LogState). l.opened) log)
-        (known_failed (disk.image opening) (view_of disk.image s) w.journal.list (ats_of w) had.facts t.volume fault (disk.image t.volume.device) failed place log none_open
-        (made.volume.write.recovers (disk.image t.volume.device) (has_now t.volume.device)) (made.volume.write.lawful (disk.image t.volume.device) (has_now t.volume.device)))
+        (λ x left. ⊎_elim
+        (λ (wr : (is_writing s.volume.log.commit ≡ true) × IsWrite r). let at_fault : IsWrite (committed.Fault fault) = subst IsWrite is wr.1 in
+        known_failed (disk.image opening) (view_of disk.image s) w.journal.list (ats_of w) had.facts t.volume fault x failed at_fault.faults.0 log wr.0 none_open (wr.1.recovers x left) (wr.1.lawful x left))
+        (λ (sy : (part : Part) × (s.volume.log.commit ≡ commit.Syncing part) × IsSync part r). known_keeps (disk.image opening) (view_of disk.image s) w.journal.list (ats_of w) had.facts t.volume
+        (ap (λ (l : LogState). l.committed) log) (ap (λ (l : LogState). l.commit) log) x (survives x (sy.2.fewer x left)))
+        kinds)
         counts (lasts_unwritten disk opening s w store right t made.tasks made.table log)

@@ -6,7 +6,6 @@ use Rattle.std.proofs.lemmas.Bool.{false≢true}
 use Rattle.std.proofs.lemmas.List.{get_or-set_same, get_or-set_other, set-get_or}
 use Rattle.blocks.specs.Disk.{Image}
 use Rattle.blocks.specs.declared.disk.Disk.{Ghosts}
-use Rattle.blocks.specs.declared.errors.DiskFault.{DiskFault}
 use Rattle.model.specs.declared.types.operations.Entry.{Entry}
 use Rattle.model.specs.declared.types.operations.Op.{Op}
 use Rattle.model.specs.declared.types.operations.Op.TheVariants.{Create, Write, Read, Trunc, Remove, Stat}
@@ -17,17 +16,20 @@ use Rattle.model.specs.declared.types.operations.Why.{Why}
 use Rattle.model.specs.Journal.{is_at_once}
 use Rattle.model.specs.Layout.{inode_count_of}
 use Rattle.ports.specs.History.{Side, first_in}
-use Rattle.wal.specs.declared.types.Commit.{Commit}
-use Rattle.wal.specs.declared.types.Commit.TheVariants as commit
+use Rattle.wal.specs.declared.types.DeviceFault.{DeviceFault}
 use Rattle.wal.specs.declared.types.Committed.{Committed}
 use Rattle.wal.specs.declared.types.Committed.TheVariants as committed
 use Rattle.wal.specs.declared.types.Ended.{Ended}
 use Rattle.wal.specs.declared.types.Ended.TheVariants as ended_as
-use Rattle.wal.specs.Joint.{written_at}
+use Rattle.wal.specs.Joint.{stepped_at}
+use Rattle.wal.specs.Lemmas.Commits.{commit_fails, commit_log, commit_makes}
+use Rattle.wal.specs.Volume.{fault_of_step}
+use Rattle.journal.specs.Crash.{in_reads}
+use Rattle.journal.specs.Lemmas.Commits.{reads_up, reads_written, stepped_count}
 use Rattle.wal.specs.Lemmas.Log.{few_homes, let_in}
 use Rattle.model.specs.Gathered.{GatheredBytes}
-use Rattle.wal.specs.Machine.{LogState, begun, ended, end_answer, is_quiet, used_by, IsLogAt}
-use Rattle.wal.specs.Step.{answer_at}
+use Rattle.wal.specs.Machine.{LogState, begun, ended, end_answer, is_quiet, used_by}
+use Rattle.wal.specs.Step.{CommitMakes}
 use Rattle.inodes.specs.declared.ilock.LockAt.TheVariants as lock_at
 use Rattle.inodes.specs.declared.tasks.Place.TheVariants as place
 use Rattle.inodes.specs.Places.{asked, is_over, owes_reply, steps_left}
@@ -56,7 +58,7 @@ use Rattle.kernel.specs.declared.waiting.Waiting.TheVariants as waiting
 use Rattle.kernel.specs.declared.types.Step.{Step}
 use Rattle.kernel.specs.declared.types.Step.TheVariants as step
 use Rattle.kernel.specs.Next.{IsNotTaken, BeginsWith, Works, Finishes, Ends, Writes, NextAt, NextIf, Next, step_of, world_after, step_behind, world_behind, step_of_last, world_of_last, step_of_told, world_of_told, step_of_end, world_ended, step_of_write, world_written}
-use Rattle.kernel.specs.Progress.{is_heading, commits, CountsCommitted}
+use Rattle.kernel.specs.Progress.{commits, CountsCommitted}
 use Rattle.kernel.specs.Invariant.{IsBehind}
 use Rattle.kernel.specs.State.{waiting_of, ats_of, room_for}
 use Rattle.kernel.proofs.Beginnings.{refused_at_once}
@@ -67,14 +69,6 @@ use Rattle.inodes.specs.Lemmas.Bounds.{few_steps}
 use Rattle.journal.specs.Lemmas.Ends.{commits_now, ended_count}
 use Rattle.inodes.specs.Lemmas.StepEnds.{StepEnds, ends_of, logs_of}
 
--- a write of a commit commits its group where it is that of the header
-written_count : (k : Commit) (l : LogState) → IsLogAt k l → (written_at k l).committed ≡ l.committed + cond (is_heading k) 1 0
-written_count commit.Quiet l is = omega arith
-written_count (commit.Logging j) l is = omega arith
-written_count commit.Heading l is = omega (arith, is.counts)
-written_count (commit.Homing j) l is = omega arith
-written_count commit.Clearing l is = omega arith
-
 -- what is counted is never less
 at_least : (t : Bool) (old new : ℕ) → new ≡ old + cond t 1 0 → old ≤ new
 at_least true old new is = omega (arith, is)
@@ -84,20 +78,20 @@ at_least false old new is = omega (arith, is)
 pub record Rests (r : Step) : Type 0 where
   pub unmoved : r ≢ step.Moved
   pub runs : r ≢ step.Halted
-  pub none : (a : At) (l : LogState) → commits r a l ≡ false
+  pub none : (h : Bool) (a : At) (l : LogState) → commits h r a l ≡ false
 
 -- such are the answers where nothing is taken
 pub not_taken : (what : Option Waiting) (l : LogState) (room : Bool) (r : Step) → IsNotTaken what l room r → Rests r
 not_taken what l room r is = by_case what is
   where
     sleeps : (cause : Why) → r ≡ step.Sleeping cause → Rests r
-    sleeps cause e = subst Rests (sym e) (record { unmoved = λ e. cc e; runs = λ e. cc e; none = λ a l. refl })
+    sleeps cause e = subst Rests (sym e) (record { unmoved = λ e. cc e; runs = λ e. cc e; none = λ h a l. refl })
 
     lacks : r ≡ step.NoMemory → Rests r
-    lacks e = subst Rests (sym e) (record { unmoved = λ e. cc e; runs = λ e. cc e; none = λ a l. refl })
+    lacks e = subst Rests (sym e) (record { unmoved = λ e. cc e; runs = λ e. cc e; none = λ h a l. refl })
 
     by_case : (what : Option Waiting) → IsNotTaken what l room r → Rests r
-    by_case None is = subst Rests (sym is) (record { unmoved = λ e. cc e; runs = λ e. cc e; none = λ a l. refl })
+    by_case None is = subst Rests (sym is) (record { unmoved = λ e. cc e; runs = λ e. cc e; none = λ h a l. refl })
     by_case (Some waiting.Refused) (inl full) = sleeps _ full.0
     by_case (Some waiting.Refused) (inr none) = lacks none.0
     by_case (Some (waiting.Look count)) (inl full) = sleeps _ full.0
@@ -110,11 +104,12 @@ not_taken what l room r is = by_case what is
 abbrev pub task_left : {D : Type 0} → StoreState D → ℕ → ℕ
 task_left s q = steps_left (task s.tasks q).place s.table.inode_count
 
--- the other processes keep their tasks, and the log where they commit
+-- the other processes keep their tasks, and the log where they commit; reads give no fewer groups
 pub record LeavesOthers {D : Type 0} (p : ℕ) (s : StoreState D) (w : World) (t : StoreState D) : Type 0 where
   pub tasks : (q : ℕ) → q ≢ p → task t.tasks q ≡ task s.tasks q
   pub numbers : t.table.inode_count ≡ s.table.inode_count
   pub log : (q : ℕ) → q ≢ p → is_committing_at (process w q).at ≡ true → t.volume.log ≡ s.volume.log
+  pub reads : in_reads s.volume.log ≤ in_reads t.volume.log
 
 -- process p, which becomes u, has a step less left, or has begun with few; and it has some
 abbrev pub HasFewer : {D : Type 0} → ℕ → StoreState D → World → StoreState D → Process → Type 0
@@ -124,11 +119,11 @@ HasFewer p s w t u =
     × (0 < all_steps_left u.at (task_left t p) t.volume.log)
 
 -- what an event of process p makes of store and processes
-pub record Event {D : Type 0} (n p : ℕ) (s : StoreState D) (w : World) (t : StoreState D) (z : World) (r : Step) : Type 0 where
+pub record Event {D : Type 0} (n : ℕ) (holds : Bool) (p : ℕ) (s : StoreState D) (w : World) (t : StoreState D) (z : World) (r : Step) : Type 0 where
   pub now : Process
   pub processes : z.processes ≡ set w.processes p now
   pub grows : Grows n s.volume w.journal.list t.volume z.journal.list
-  pub committed : CountsCommitted r (process w p).at s.volume.log t.volume.log
+  pub committed : CountsCommitted holds r (process w p).at s.volume.log t.volume.log
   pub shut : w.is_shut ≡ true → z.is_shut ≡ true
   pub begun : z.is_shut ≡ true → now.begun ≡ (process w p).begun
   pub others : LeavesOthers p s w t
@@ -138,14 +133,17 @@ module _ {D N : Type 0} (disk : Ghosts D N) (opening : Image) (p : ℕ) (s t : S
   abbrev n : ℕ
   n = inode_count_of opening
 
+  abbrev holds : Bool
+  holds = disk.holding (disk.name s.volume.device)
+
   abbrev Made : Step → Type 0
-  Made r = Event n p s w t z r
+  Made r = Event n holds p s w t z r
 
   others_same : t ≡ s → LeavesOthers p s w t
-  others_same is = record { tasks = λ q apart. ap (λ (o : StoreState D). task o.tasks q) is; numbers = ap (λ (o : StoreState D). o.table.inode_count) is; log = λ q apart commits. ap (λ (o : StoreState D). o.volume.log) is }
+  others_same is = record { tasks = λ q apart. ap (λ (o : StoreState D). task o.tasks q) is; numbers = ap (λ (o : StoreState D). o.table.inode_count) is; log = λ q apart commits. ap (λ (o : StoreState D). o.volume.log) is; reads = let same = ap (λ (o : StoreState D). in_reads o.volume.log) is in omega (arith, same) }
 
   -- nothing happened, but that a shutdown may have been heard of
-  rests : (r : Step) (b : Bool) → commits r (process w p).at s.volume.log ≡ false → r ≢ step.Moved → t ≡ s → z ≡ record w { is_shut = b } → (w.is_shut ≡ true → b ≡ true) → Made r
+  rests : (r : Step) (b : Bool) → commits holds r (process w p).at s.volume.log ≡ false → r ≢ step.Moved → t ≡ s → z ≡ record w { is_shut = b } → (w.is_shut ≡ true → b ≡ true) → Made r
   rests r b none unmoved is to shut = record {
     now = process w p;
     processes = ap (λ (o : World). o.processes) to ∙ sym (set-get_or w.processes p idle);
@@ -160,12 +158,12 @@ module _ {D N : Type 0} (disk : Ghosts D N) (opening : Image) (p : ℕ) (s t : S
   module _ (is : IsWell disk.image opening s w p) where
     -- process p becomes u
     goes : (r : Step) (o : World) (u : Process) → z ≡ o → o.processes ≡ set w.processes p u → o.is_shut ≡ w.is_shut → (w.is_shut ≡ false) ⊎ (u.begun ≡ (process w p).begun)
-        → JournalGoes n p s.volume.log.committed w.journal.list o.journal.list → CountsCommitted r (process w p).at s.volume.log t.volume.log → LeavesOthers p s w t → (r ≡ step.Moved → HasFewer p s w t u) → Made r
+        → JournalGoes n p (in_reads s.volume.log) w.journal.list o.journal.list → CountsCommitted holds r (process w p).at s.volume.log t.volume.log → LeavesOthers p s w t → (r ≡ step.Moved → HasFewer p s w t u) → Made r
     goes r o u to here shut begun journal counted others bound = record {
       now = u;
       processes = ap (λ (v : World). v.processes) to ∙ here;
-      grows = grows_goes n p s.volume t.volume w.journal.list z.journal.list is.well (at_least (commits r (process w p).at s.volume.log) s.volume.log.committed t.volume.log.committed counted)
-          (subst (λ (v : World). JournalGoes n p s.volume.log.committed w.journal.list v.journal.list) (sym to) journal);
+      grows = grows_goes n p s.volume t.volume w.journal.list z.journal.list is.well (at_least (commits holds r (process w p).at s.volume.log) s.volume.log.committed t.volume.log.committed counted) others.reads
+          (subst (λ (v : World). JournalGoes n p (in_reads s.volume.log) w.journal.list v.journal.list) (sym to) journal);
       committed = counted;
       shut = λ was. ap (λ (v : World). v.is_shut) to ∙ shut ∙ was;
       begun = λ now. ⊎_elim (λ free. absurd (false≢true (sym free ∙ sym shut ∙ sym (ap (λ (v : World). v.is_shut) to) ∙ now))) (λ same. same) begun;
@@ -174,12 +172,12 @@ module _ {D N : Type 0} (disk : Ghosts D N) (opening : Image) (p : ℕ) (s t : S
     }
 
     -- it stays where it is
-    stays : (r : Step) → z ≡ w → CountsCommitted r (process w p).at s.volume.log t.volume.log → LeavesOthers p s w t → (r ≡ step.Moved → HasFewer p s w t (process w p)) → Made r
+    stays : (r : Step) → z ≡ w → CountsCommitted holds r (process w p).at s.volume.log t.volume.log → LeavesOthers p s w t → (r ≡ step.Moved → HasFewer p s w t (process w p)) → Made r
     stays r to counted others bound = goes r w (process w p) to (sym (set-get_or w.processes p idle)) refl (inr refl) (inl refl) counted others bound
 
     -- what is counted where it stands
-    counted_at : (a : At) (r : Step) → (process w p).at ≡ a → CountsCommitted r a s.volume.log t.volume.log → CountsCommitted r (process w p).at s.volume.log t.volume.log
-    counted_at a r stands counted = subst (λ (b : At). CountsCommitted r b s.volume.log t.volume.log) (sym stands) counted
+    counted_at : (a : At) (r : Step) → (process w p).at ≡ a → CountsCommitted holds r a s.volume.log t.volume.log → CountsCommitted holds r (process w p).at s.volume.log t.volume.log
+    counted_at a r stands counted = subst (λ (b : At). CountsCommitted holds r b s.volume.log t.volume.log) (sym stands) counted
 
     -- from place to place
     fewer : (u : Process) (a b : At) → (process w p).at ≡ a → u.at ≡ b → all_steps_left b (task_left t p) t.volume.log < all_steps_left a (task_left s p) s.volume.log → 0 < all_steps_left b (task_left t p) t.volume.log → HasFewer p s w t u
@@ -195,25 +193,26 @@ module _ {D N : Type 0} (disk : Ghosts D N) (opening : Image) (p : ℕ) (s t : S
     alone quiet q apart commits = absurd (false≢true (sym (none_commits (ats_of w) s.volume.log is.has.alone quiet q) ∙ commits))
 
     -- who begins is alone to change its task
-    begins_others : (o : StoreState D) (u : TaskState) → t ≡ o → o.tasks ≡ set s.tasks p u → o.table ≡ s.table → ((q : ℕ) → q ≢ p → is_committing_at (process w q).at ≡ true → t.volume.log ≡ s.volume.log) → LeavesOthers p s w t
-    begins_others o u to tasks table log = record {
+    begins_others : (o : StoreState D) (u : TaskState) → t ≡ o → o.tasks ≡ set s.tasks p u → o.table ≡ s.table → ((q : ℕ) → q ≢ p → is_committing_at (process w q).at ≡ true → t.volume.log ≡ s.volume.log) → in_reads s.volume.log ≤ in_reads o.volume.log → LeavesOthers p s w t
+    begins_others o u to tasks table log reads = record {
       tasks = λ q apart. ap (λ (v : StoreState D). task v.tasks q) to ∙ ap (λ (ts : List TaskState). task ts q) tasks ∙ get_or-set_other s.tasks p q u no_task apart;
       numbers = ap (λ (v : StoreState D). v.table.inode_count) to ∙ ap (λ (v : TableState). v.inode_count) table;
       log = log;
+      reads = let same = ap (λ (v : StoreState D). in_reads v.volume.log) to in omega (arith, same, reads);
     }
 
     -- and has few steps to make
-    begins_few : (o : StoreState D) (u : TaskState) (begun_now group : ℕ) (op : Op) (room : Option GatheredBytes) → t ≡ o → o.tasks ≡ set s.tasks p u → (process w p).at ≡ at.Idle → steps_left u.place o.table.inode_count < 1937 → HasFewer p s w t (record { begun = begun_now; at = at.Before group op; room = room })
+    begins_few : (o : StoreState D) (u : TaskState) (begun_now group : ℕ) (op : Op) (room : Option GatheredBytes) → t ≡ o → o.tasks ≡ set s.tasks p u → (process w p).at ≡ at.Idle → steps_left u.place o.table.inode_count < 1933 → HasFewer p s w t (record { begun = begun_now; at = at.Before group op; room = room })
     begins_few o u begun_now group op room to tasks stands few =
         let inside : p < length s.tasks = (let many = is.paired.many in let lt = is.inside in omega (arith, many, lt)) in
         let left : task_left t p ≡ steps_left u.place o.table.inode_count
         = ap (λ (v : StoreState D). task_left v p) to ∙ ap (λ (x : TaskState). steps_left x.place o.table.inode_count) (ap (λ (ts : List TaskState). task ts p) tasks ∙ get_or-set_same s.tasks p u no_task inside) in
         ((λ busy. absurd (false≢true (ap is_busy_at (sym stands) ∙ busy))), omega (arith, left, few), omega arith)
 
-    begins_there : (op : Op) → steps_left (first_place op s.table.inode_count) s.table.inode_count < 1937
+    begins_there : (op : Op) → steps_left (first_place op s.table.inode_count) s.table.inode_count < 1933
     begins_there op = by_op op
       where
-        by_op : (o : Op) → steps_left (first_place o s.table.inode_count) s.table.inode_count < 1937
+        by_op : (o : Op) → steps_left (first_place o s.table.inode_count) s.table.inode_count < 1933
         by_op (Create kind) = let few = is.numbers in omega (arith, few)
         by_op (Write i off bytes) = omega arith
         by_op (Read i off m) = omega arith
@@ -226,14 +225,14 @@ module _ {D N : Type 0} (disk : Ghosts D N) (opening : Image) (p : ℕ) (s t : S
         let same = ap (λ (o : StoreState D). o.volume.log.committed) made.store in
         subst Made (sym made.answer)
         (goes step.Moved _ _ made.world refl refl (inl free) (inl refl) (counted_at at.Idle step.Moved stands (omega (arith, same)))
-        (begins_others (with_begun s p made.op) _ made.store refl refl (alone (ap is_quiet (let_in s.volume.log.commit _ s.volume.log.outstanding made.free).0)))
+        (begins_others (with_begun s p made.op) _ made.store refl refl (alone (ap is_quiet (let_in s.volume.log.commit _ s.volume.log.outstanding made.free).0)) (omega arith))
         (λ moved. begins_few (with_begun s p made.op) (record { op = Some made.op; place = first_place made.op s.table.inode_count; gathered = None }) ((process w p).begun + 1) (begun s.volume.log p).opened made.op None made.store refl stands (begins_there made.op)))
     begins what ahead r stands free (inr (inl made)) =
         let same = ap (λ (o : StoreState D). o.volume.log) made.store in
         let committed = ap (λ (l : LogState). l.committed) same in
         subst Made (sym made.answer)
         (goes step.Moved _ _ made.world refl refl (inl free) (inl refl) (counted_at at.Idle step.Moved stands (omega (arith, committed)))
-        (begins_others (with_look s p made.op (room_for made.count)) _ made.store refl refl (λ q apart commits. same))
+        (begins_others (with_look s p made.op (room_for made.count)) _ made.store refl refl (λ q apart commits. same) (omega arith))
         (λ moved. begins_few (with_look s p made.op (room_for made.count)) (record { op = Some made.op; place = place.Taking (record { number = asked made.op; at = lock_at.Reference }); gathered = room_for made.count }) ((process w p).begun + 1) 0 made.op (room_for made.count) made.store refl stands (omega arith)))
     begins what ahead r stands free (inr (inr (inl made))) =
         let same = ap (λ (o : StoreState D). o.volume.log.committed) made.store in
@@ -243,7 +242,7 @@ module _ {D N : Type 0} (disk : Ghosts D N) (opening : Image) (p : ℕ) (s t : S
         (counted_at at.Idle step.Answered stands (omega (arith, same))) (others_same made.store) (λ moved. absurd (cc moved)))
     begins what ahead r stands free (inr (inr (inr made))) =
         let waits = not_taken what s.volume.log side.has_room r made.answer in
-        rests r w.is_shut (waits.none (process w p).at s.volume.log) waits.unmoved made.same.0 made.same.1 (λ shut. shut)
+        rests r w.is_shut (waits.none holds (process w p).at s.volume.log) waits.unmoved made.same.0 made.same.1 (λ shut. shut)
 
     -- a task that is not over ends its step so
     stops : (op : Op) → (task s.tasks p).op ≡ Some op → is_over (task s.tasks p).place ≡ false → (q : TaskProgress) → Steps disk s p op q t → StepEnds s.table.inode_count (task s.tasks p).place op q (task t.tasks p).place
@@ -255,6 +254,7 @@ module _ {D N : Type 0} (disk : Ghosts D N) (opening : Image) (p : ℕ) (s t : S
       tasks = done.tasks.others;
       numbers = done.tasks.numbers;
       log = ⊎_elim (λ used. alone (quiet_if_open s.volume.log p (log_of disk.image opening s w p is) used)) (λ same q apart commits. same) (logs_of disk s p op q t (task s.tasks p).place more (is.agrees.stands p) done.goes);
+      reads = let same = done.groups.committed in reads_up s.volume.log t.volume.log (omega (arith, same)) (inl done.groups.commit);
     }
 
     falls_here : (op : Op) → is_over (task s.tasks p).place ≡ false → (q : TaskProgress) → is_made q ≡ true → Steps disk s p op q t → task_left t p < task_left s p
@@ -266,7 +266,7 @@ module _ {D N : Type 0} (disk : Ghosts D N) (opening : Image) (p : ℕ) (s t : S
         there : ((task s.tasks p).op ≡ Some op) × (is_over (task s.tasks p).place ≡ false)
         there = before_there disk.image opening s w p is group op stands
 
-        behind : (b : Bool) (left k : ℕ) → (all_steps_left (place_behind b group k) left t.volume.log ≤ left + 63) × (0 < all_steps_left (place_behind b group k) left t.volume.log)
+        behind : (b : Bool) (left k : ℕ) → (all_steps_left (place_behind b group k) left t.volume.log ≤ left + 67) × (0 < all_steps_left (place_behind b group k) left t.volume.log)
         behind true left k = (omega arith, omega arith)
         behind false left k = (omega arith, omega arith)
 
@@ -319,7 +319,7 @@ module _ {D N : Type 0} (disk : Ghosts D N) (opening : Image) (p : ℕ) (s t : S
         counted q done = done.groups.committed
 
         -- its entry is told its reply
-        tells : (reply : Reply) → Steps disk s p op (progress.Decided reply) t → IsTold n p s.volume.log.committed w.journal.list (set w.journal.list k (Rattle.journal.specs.Open.told (entry_in w.journal.list k) reply))
+        tells : (reply : Reply) → Steps disk s p op (progress.Decided reply) t → IsTold n p (in_reads s.volume.log) w.journal.list (set w.journal.list k (Rattle.journal.specs.Open.told (entry_in w.journal.list k) reply))
         tells reply done =
             let reads = (stops op same_op more (progress.Decided reply) done).0 in
             record {
@@ -383,7 +383,7 @@ module _ {D N : Type 0} (disk : Ghosts D N) (opening : Image) (p : ℕ) (s t : S
         log : t.volume.log ≡ ended s.volume.log p
         log = ap (λ (o : StoreState D). o.volume.log) made.store
 
-        counted : CountsCommitted step.Moved (at.Ending group k) s.volume.log t.volume.log
+        counted : CountsCommitted holds step.Moved (at.Ending group k) s.volume.log t.volume.log
         counted = ap (λ (l : LogState). l.committed) log ∙ ended_count s.volume.log p (open_of s.volume.log p (log_of disk.image opening s w p is) used)
 
         others : LeavesOthers p s w t
@@ -391,12 +391,13 @@ module _ {D N : Type 0} (disk : Ghosts D N) (opening : Image) (p : ℕ) (s t : S
           tasks = λ q apart. ap (λ (o : StoreState D). task o.tasks q) made.store;
           numbers = ap (λ (o : StoreState D). o.table.inode_count) made.store;
           log = alone (quiet_if_open s.volume.log p (log_of disk.image opening s w p is) used);
+          reads = reads_up s.volume.log t.volume.log (at_least _ s.volume.log.committed t.volume.log.committed counted) (inr (open_of s.volume.log p (log_of disk.image opening s w p is) used).quiet);
         }
 
         by_answer : (e : Ended) → end_answer s.volume.log ≡ e → z ≡ world_ended e w p → Made (step_of_end e)
         by_answer ended_as.Commit e to =
             let few = few_homes (log_of disk.image opening s w p is) in
-            let left : writes_left t.volume.log.commit (length t.volume.log.homes) ≡ (length s.volume.log.homes - 0) + 1 + length s.volume.log.homes + 1
+            let left : writes_left t.volume.log.commit (length t.volume.log.homes) ≡ (length s.volume.log.homes - 0) + 1 + 2 + (length s.volume.log.homes + 1) + 2
             = ap (λ (l : LogState). writes_left l.commit (length l.homes)) (log ∙ commits_now s.volume.log p e) in
             goes step.Moved (committing w p) (record (process w p) { at = committing_at (process w p).at }) to refl refl (inr refl) (inl refl) (counted_at (at.Ending group k) step.Moved stands counted) others
             (λ moved. fewer (record (process w p) { at = committing_at (process w p).at }) (at.Ending group k) (at.Committing group k) stands (ap committing_at stands) (omega (arith, left, few)) (omega (arith, left)))
@@ -406,8 +407,18 @@ module _ {D N : Type 0} (disk : Ghosts D N) (opening : Image) (p : ℕ) (s t : S
     writes : (group k : ℕ) (r : Step) → (process w p).at ≡ at.Committing group k → Writes disk s w p r t z → Made r
     writes group k r stands made = subst Made (sym made.answer) (by_result made.result made.commits made.world)
       where
-        counted : t.volume.log ≡ written_at s.volume.log.commit s.volume.log → CountsCommitted step.Moved (at.Committing group k) s.volume.log t.volume.log
-        counted log = ap (λ (l : LogState). l.committed) log ∙ written_count s.volume.log.commit s.volume.log (log_of disk.image opening s w p is)
+        log : LogState
+        log = s.volume.log
+
+        counted : t.volume.log ≡ stepped_at holds log.commit log → CountsCommitted holds step.Moved (at.Committing group k) log t.volume.log
+        counted made = ap (λ (l : LogState). l.committed) made ∙ stepped_count holds log.commit log (log_of disk.image opening s w p is).counts
+
+        reads_on : (t.volume.log ≡ stepped_at holds log.commit log) ⊎ (t.volume.log ≡ log) → in_reads log ≤ in_reads t.volume.log
+        reads_on (inl made) = subst (λ (l : LogState). in_reads log ≤ in_reads l) (sym made) (reads_written holds log.commit log (log_of disk.image opening s w p is).counts)
+        reads_on (inr same) = let kept = ap in_reads same in omega (arith, kept)
+
+        makes : (q : Committed) → fault_of_step q ≡ None → Commits disk s q t → CommitMakes disk s.volume.device s.volume.buffers log q t.volume.device t.volume.buffers t.volume.log
+        makes q well done = commit_makes disk s.volume.device s.volume.buffers log t.volume.device t.volume.buffers t.volume.log q well done.volume.write
 
         -- one commits at most
         others : (q : Committed) → Commits disk s q t → LeavesOthers p s w t
@@ -415,25 +426,28 @@ module _ {D N : Type 0} (disk : Ghosts D N) (opening : Image) (p : ℕ) (s t : S
           tasks = λ q apart. ap (λ ts. task ts q) done.tasks;
           numbers = ap (λ (o : TableState). o.inode_count) done.table;
           log = λ q apart other. absurd (apart (is.has.alone.sole q p other (ap is_committing_at stands)));
+          reads = reads_on (commit_log disk s.volume.device s.volume.buffers log t.volume.device t.volume.buffers t.volume.log q done.volume.write);
         }
 
-        more : (q : Committed) → Commits disk s q t → (answer_at s.volume.log.commit s.volume.log.opened ≡ committed.Done → ⊥) → t.volume.log ≡ written_at s.volume.log.commit s.volume.log → z ≡ w → Made step.Moved
-        more q done goes_further log to =
+        more : (q : Committed) → fault_of_step q ≡ None → Commits disk s q t → (q ≡ committed.Done → ⊥) → z ≡ w → Made step.Moved
+        more q well done further to =
+            let made = makes q well done in
             let busy = is.has.alone.busy p (ap is_committing_at stands) in
-            let going = goes_on s.volume.log.commit s.volume.log s.volume.log.opened busy goes_further in
-            let less = writes_fall s.volume.log.commit s.volume.log (log_of disk.image opening s w p is).idle busy going in
-            stays step.Moved to (counted_at (at.Committing group k) step.Moved stands (counted log)) (others q done)
+            let going = goes_on holds log.commit log log.opened busy (λ over. further (sym made.answer ∙ over)) in
+            let less = writes_fall holds log.commit log (log_of disk.image opening s w p is).idle busy going in
+            stays step.Moved to (counted_at (at.Committing group k) step.Moved stands (counted made.log)) (others q done)
             (λ moved. fewer (process w p) (at.Committing group k) (at.Committing group k) stands stands
-            (subst (λ (l : LogState). writes_left l.commit (length l.homes) < writes_left s.volume.log.commit (length s.volume.log.homes)) (sym log) less)
-            (subst (λ (l : LogState). 0 < writes_left l.commit (length l.homes)) (sym log) (some_write _ _ going)))
+            (subst (λ (l : LogState). writes_left l.commit (length l.homes) < writes_left log.commit (length log.homes)) (sym made.log) less)
+            (subst (λ (l : LogState). 0 < writes_left l.commit (length l.homes)) (sym made.log) (some_write _ _ going)))
 
         by_result : (q : Committed) → Commits disk s q t → z ≡ world_written q w p → Made (step_of_write q)
-        by_result committed.More done to = more committed.More done (λ over. let no = sym done.volume.write.step.0 ∙ over in absurd (cc no)) done.volume.write.step.1.log to
-        by_result (committed.Durable g) done to = more (committed.Durable g) done (λ over. let no = sym done.volume.write.step.0 ∙ over in absurd (cc no)) done.volume.write.step.1.log to
+        by_result committed.More done to = more committed.More refl done (λ over. cc over) to
+        by_result (committed.Durable g) done to = more (committed.Durable g) refl done (λ over. cc over) to
         by_result committed.Done done to =
-            goes step.Answered (answered w p) (record (process w p) { at = at.Idle; room = None }) to refl refl (inr refl) (inl refl) (counted_at (at.Committing group k) step.Answered stands (counted done.volume.write.step.1.log)) (others committed.Done done) (λ moved. absurd (cc moved))
+            goes step.Answered (answered w p) (record (process w p) { at = at.Idle; room = None }) to refl refl (inr refl) (inl refl) (counted_at (at.Committing group k) step.Answered stands (counted (makes committed.Done refl done).log)) (others committed.Done done) (λ moved. absurd (cc moved))
         by_result (committed.Fault fault) done to =
-            let same = ap (λ (l : LogState). l.committed) done.volume.write.step.log in stays step.Halted to (omega (arith, same)) (others (committed.Fault fault) done) (λ moved. absurd (cc moved))
+            let same = ap (λ (l : LogState). l.committed) (commit_fails disk s.volume.device s.volume.buffers log t.volume.device t.volume.buffers t.volume.log fault (committed.Fault fault) refl done.volume.write).1 in
+            stays step.Halted to (omega (arith, same)) (others (committed.Fault fault) done) (λ moved. absurd (cc moved))
 
     event_at : (r : Step) (a : At) → (process w p).at ≡ a → NextAt disk a s w p before side told r t z → Made r
     event_at r at.Idle stands (inl heard) = subst Made (sym heard.answer) (rests step.ShutDown true refl (λ e. cc e) heard.store heard.world (λ shut. refl))
@@ -447,6 +461,6 @@ module _ {D N : Type 0} (disk : Ghosts D N) (opening : Image) (p : ℕ) (s t : S
   pub event_of : (r : Step) → (s.volume.fault ≡ None → IsWell disk.image opening s w p) → Next disk s w p before side told r t z → Made r
   event_of r well made = by_fault s.volume.fault refl made
     where
-      by_fault : (o : Option DiskFault) → s.volume.fault ≡ o → NextIf disk o s w p before side told r t z → Made r
+      by_fault : (o : Option DeviceFault) → s.volume.fault ≡ o → NextIf disk o s w p before side told r t z → Made r
       by_fault None is next = event_at (well is) r (process w p).at refl next
       by_fault (Some fault) is next = subst Made (sym next.0) (rests step.Halted w.is_shut refl (λ e. cc e) next.1.0 next.1.1 (λ shut. shut))

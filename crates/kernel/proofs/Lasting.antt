@@ -1,5 +1,6 @@
 -- What stays true of store and processes after a fault of the disk.
-use Rattle.std.proofs.Common.{◌≡◌, ◌≢◌, ⊎_elim, ℕ, ◌<◌, ◌≤◌, Bool, true, false, length, refl, sym, ◌∙◌, ap, subst, arith, Option, Some, None}
+use Rattle.std.proofs.Common.{◌≡◌, ◌≢◌, ⊎_elim, ℕ, Bool, true, false, length, refl, sym, ◌∙◌, ap, subst, arith, Option, Some, None}
+use Rattle.wal.specs.declared.types.DeviceFault.{DeviceFault}
 use Rattle.std.specs.Prelude.{IfSome}
 use Rattle.std.proofs.lemmas.Bool.{cases_eq, false≢true}
 use Rattle.blocks.specs.declared.disk.Disk.{Ghosts}
@@ -22,7 +23,7 @@ use Rattle.inodes.specs.Lemmas.Faults.{where_none}
 use Rattle.inodes.specs.Lemmas.StepEnds.{logs_of}
 use Rattle.inodes.specs.LockState.{LockState}
 use Rattle.inodes.specs.Places.{is_over, steps_left}
-use Rattle.inodes.specs.Steps.{Commits, Steps}
+use Rattle.inodes.specs.Steps.{Steps}
 use Rattle.inodes.specs.Store.{StoreState, IsStore, current_of}
 use Rattle.inodes.specs.Table.{TableState, copy_at, holder_at}
 use Rattle.inodes.specs.Tasks.{TaskState, task}
@@ -99,7 +100,7 @@ module _ {D N : Type 0} (disk : Ghosts D N) (opening : D) (s : StoreState D) (w 
   pub lasts_now : Lasts s w
   lasts_now = by_fault s.volume.fault refl right.lasts
     where
-      by_fault : (o : Option DiskFault) → s.volume.fault ≡ o → IfSome o (λ (f : DiskFault). Lasts s w) → Lasts s w
+      by_fault : (o : Option DeviceFault) → s.volume.fault ≡ o → IfSome o (λ (f : DeviceFault). Lasts s w) → Lasts s w
       by_fault None well lasts =
           let looks = where_none s.volume.fault well store.looks in
           let has : HasFacts disk.image (disk.image opening) s w = where_none s.volume.fault well right.facts in

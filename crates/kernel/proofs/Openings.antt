@@ -1,10 +1,10 @@
 -- What a kernel that is opened has.
-use Rattle.std.proofs.Common.{get_or, ◌≡◌, ℕ, ◌+◌, ◌*◌, ◌<◌, ◌≤◌, true, false, cond, eqb, List, [], length, replicate, sym, ◌∙◌, ap, subst, arith, ⊎_elim, None, Err, inl, inr}
+use Rattle.std.proofs.Common.{get_or, ◌≡◌, ℕ, ◌+◌, ◌*◌, ◌<◌, ◌≤◌, true, cond, eqb, List, [], length, replicate, sym, ◌∙◌, ap, subst, arith, ⊎_elim, None, Err, inl, inr}
 use Rattle.std.specs.Prelude.{count_by, Result, Ok, IfOk, OnErr, ◌⊎◌}
 use Rattle.std.proofs.lemmas.Bool.{cases_lt, false≢true}
 use Rattle.std.proofs.lemmas.List.{get_or-replicate, get_or_past, length-replicate}
 use Rattle.std.proofs.lemmas.List.Folds.{sum_by-replicate}
-use Rattle.blocks.specs.Disk.{Image, Rose}
+use Rattle.blocks.specs.Disk.{Image, Rose, counted}
 use Rattle.model.specs.Layout.{super_of, inode_count_of, is_lawful_super, magic_of}
 use Rattle.model.specs.Log.{is_lawful_log, logged_count, recovered}
 use Rattle.model.specs.Fields.{u32_at}
@@ -19,7 +19,7 @@ use Rattle.model.specs.Lemmas.Super.{super_of-recovered}
 use Rattle.model.specs.Lemmas.Soundness.{verdict_sound, sound_verdict, facts_of, long_geometry}
 use Rattle.wal.specs.Volume.{VolumeState}
 use Rattle.wal.specs.Lemmas.Commits.{empty_lawful}
-use Rattle.wal.specs.Recovery.{OnDisk, OnBadLog, OnNoMemory, Looks}
+use Rattle.wal.specs.Recovery.{OnBadLog, OnNoMemory, Looks, Recovers, RefusesToRecover, syncs_to_recover}
 use Rattle.wal.specs.declared.faults.RecoverFault.{RecoverFault}
 use Rattle.wal.specs.declared.faults.RecoverFault.TheVariants as recover
 use Rattle.kernel.specs.Lemmas.Openings.{lawful_super}
@@ -59,11 +59,19 @@ opens_again opening x journal c k =
     )
 
 -- the fault of a recovery after that check
-pub recover_cause : (T : Type 0) (x y : Image) (fault : RecoverFault) (old mid new : ℕ) → verdict x ≡ None → y ≡ x → mid ≡ old → OnDisk {T = T} (Err fault) (Rose mid new) → OnBadLog {T = T} (Err fault) (is_lawful_log y ≡ false)
-    → IsRecoverCause fault old new
-recover_cause T x y recover.Disk old mid new none is same rose bad = subst (λ (n : ℕ). Rose n new) same rose
-recover_cause T x y recover.BadLog old mid new none is same rose bad = false≢true (sym bad ∙ ap is_lawful_log is ∙ (verdict_sound x none).1)
-recover_cause T x y recover.NoMemory old mid new none is same rose bad = tt
+pub recover_cause : {D N : Type 0} (T : Type 0) (disk : Ghosts D N) (d e f : D) (fault : RecoverFault) → verdict (disk.image d) ≡ None → OnlyReads disk d e → disk.fault_count e ≡ disk.fault_count d → RefusesToRecover {T = T} disk e f (Err fault)
+    → IsRecoverCause disk d f fault
+recover_cause T disk d e f recover.Disk none reads same r = subst (λ (n : ℕ). Rose n (disk.fault_count f)) same r.fault
+recover_cause T disk d e f recover.BadLog none reads same r = false≢true (sym r.bad ∙ ap is_lawful_log reads.image ∙ (verdict_sound (disk.image d) none).1)
+recover_cause T disk d e f recover.NoMemory none reads same r = tt
+recover_cause T disk d e f recover.Sync none reads same r = (subst (λ (n : ℕ). Rose n (disk.fault_count f)) same r.unsynced, sym (ap disk.holding reads.name) ∙ r.holds)
+
+-- the syncs of an opening
+pub syncs_at_open : {D N : Type 0} (disk : Ghosts D N) (d e f : D) (n : ℕ) → OnlyReads disk d e → Recovers disk n e f → disk.sync_count f ≡ counted (disk.sync_count d) (syncs_to_recover (disk.holding (disk.name d)) (logged_count (disk.image d)))
+syncs_at_open disk d e f n reads r =
+    r.settles.syncs ∙ ap (λ h. counted (disk.sync_count e) (syncs_to_recover h n)) (ap disk.holding reads.name)
+    ∙ ap (λ m. counted (disk.sync_count e) (syncs_to_recover (disk.holding (disk.name d)) m)) (r.count ∙ ap logged_count reads.image)
+    ∙ ap (λ c. counted c (syncs_to_recover (disk.holding (disk.name d)) (logged_count (disk.image d)))) reads.syncs
 
 -- a list of the same everywhere
 pub same_at : {A : Type 0} (n p : ℕ) (a : A) → get_or (replicate n a) p a ≡ a
@@ -118,12 +126,13 @@ where_err P Q (Err b) goes p = goes p
 pub empty_left : (x y : Image) → y ≡ recovered x → is_lawful_log y ≡ true
 empty_left x y is = empty_lawful y (ap logged_count is ∙ logged_count-left x)
 
--- only a recovery whose write failed wrote
+-- only a recovery that failed by the disk, or by a sync, may have written
 pub recover_unwritten : {D N : Type 0} (T : Type 0) (disk : Ghosts D N) (d e f : D) (fault : RecoverFault) → OnlyReads disk d e → OnBadLog {T = T} (Err fault) (Looks disk e f) → OnNoMemory {T = T} (Err fault) (f ≡ e)
     → MayWrite (Recover fault) ⊎ ((disk.image f ≡ disk.image d) × (disk.write_count f ≡ disk.write_count d))
 recover_unwritten T disk d e f recover.Disk reads looks same = inl tt
-recover_unwritten T disk d e f recover.BadLog reads looks same = inr (looks.reads.image ∙ reads.image, looks.reads.writes ∙ reads.writes)
+recover_unwritten T disk d e f recover.BadLog reads looks same = inr (looks.rests.image ∙ reads.image, looks.rests.writes ∙ reads.writes)
 recover_unwritten T disk d e f recover.NoMemory reads looks same = inr (ap disk.image same ∙ reads.image, ap disk.write_count same ∙ reads.writes)
+recover_unwritten T disk d e f recover.Sync reads looks same = inl tt
 
 -- a store by its parts
 pub store_is : {D : Type 0} (v u : VolumeState D) (ts us : List TaskState) (m n : ℕ) → v ≡ u → ts ≡ us → m ≡ n

@@ -1,5 +1,5 @@
 -- From what a step does follows what it promises.
-use Rattle.std.proofs.Common.{◌≡◌, ◌≢◌, ⊎_elim, ℕ, ◌<◌, ◌≤◌, length, sym, ◌∙◌, ap, subst, arith, None}
+use Rattle.std.proofs.Common.{◌≡◌, ◌≢◌, ⊎_elim, ℕ, ◌<◌, ◌≤◌, length, sym, ◌∙◌, ap, subst, arith, None, Bool}
 use Rattle.std.specs.Prelude.{IfNone}
 use Rattle.std.proofs.lemmas.Bool.{cases_eq}
 use Rattle.blocks.specs.Disk.{Image, LeavesOnly}
@@ -30,7 +30,7 @@ use Rattle.kernel.proofs.Events.{Event, event_of, task_left}
 use Rattle.journal.specs.Lemmas.Places.{as_many, others_stay, there_now}
 use Rattle.kernel.proofs.Well.{IsWell, few_numbers}
 
-module _ {D I H : Type 0} (n p : ℕ) (r : Step) (k m : State D I H) (lt : p < length k.world.processes) (e : Event n p k.store k.world m.store m.world r) where
+module _ {D I H : Type 0} (n : ℕ) (holds : Bool) (p : ℕ) (r : Step) (k m : State D I H) (lt : p < length k.world.processes) (e : Event n holds p k.store k.world m.store m.world r) where
   others_are : (q : ℕ) → q ≢ p → process m.world q ≡ process k.world q
   others_are q apart = others_stay k.world m.world p e.now e.processes q apart
 
@@ -85,7 +85,8 @@ module _ {D N I M H : Type 0} (disk : disk_trait.Ghosts D N) (intake : intake_tr
   makes_step inv store lt before acts after awake =
       let opening = disk.image k.opening in
       let n = inode_count_of opening in
-      let e : Event n p k.store k.world m.store m.world r = event_of disk opening p k.store m.store k.world m.world _ _ _ r (well_of inv store lt) acts.next in
+      let holds = disk.holding (disk.name k.store.volume.device) in
+      let e : Event n holds p k.store k.world m.store m.world r = event_of disk opening p k.store m.store k.world m.world _ _ _ r (well_of inv store lt) acts.next in
       let leaves : LeavesOnly disk.moment disk.leaves k.store.volume.device m.store.volume.device (KeepsBetween k.store.volume.log.committed (most_of m.store.volume) opening m.world.journal.list)
       = leaves_between opening k.store.volume m.store.volume k.world.journal.list m.world.journal.list e.grows disk.moment disk.leaves before
       (subst (λ (o : D). (x : Image) → disk.leaves m.store.volume.device (disk.moment m.store.volume.device) x → KeepsNow m.store.volume (disk.image o) m.world.journal.list x) acts.opening after)
@@ -94,9 +95,9 @@ module _ {D N I M H : Type 0} (disk : disk_trait.Ghosts D N) (intake : intake_tr
         acts = acts;
         many = as_many k.world m.world p e.now e.processes;
         committed = e.committed;
-        shut = keeps_shutdown n p r k m lt e;
-        bound = takes_one n p r k m lt e;
-        others = gives_none n p r k m lt e;
+        shut = keeps_shutdown n holds p r k m lt e;
+        bound = takes_one n holds p r k m lt e;
+        others = gives_none n holds p r k m lt e;
         awake = awake;
         keeps = after;
         grows = e.grows;

@@ -1,12 +1,11 @@
 -- The current image and the log, while the disk has not failed.
-use Rattle.std.proofs.Common.{◌≡◌, ℕ, ◌∙◌, sym, ap, subst, Option, Some, None}
-use Rattle.std.specs.Prelude.{IfNone, is_some}
+use Rattle.std.proofs.Common.{◌≡◌, ◌∙◌, sym, ap, subst, Option, Some, None}
+use Rattle.wal.specs.declared.types.DeviceFault.{DeviceFault}
+use Rattle.std.specs.Prelude.{IfNone}
 use Rattle.blocks.specs.Disk.{Image}
-use Rattle.blocks.specs.declared.errors.DiskFault.{DiskFault}
 use Rattle.model.specs.Files.{Files, files_of}
 use Rattle.model.specs.Journal.{answered, replay}
 use Rattle.model.specs.Layout.{form_of}
-use Rattle.wal.specs.Machine.{used_by}
 use Rattle.inodes.specs.Store.{StoreState, FitsFiles}
 use Rattle.journal.specs.Alone.{is_committing_at}
 use Rattle.journal.specs.Lemmas.Groups.{outstanding_none}
@@ -19,7 +18,7 @@ use Rattle.kernel.specs.Known.{IsAtRest}
 use Rattle.kernel.specs.State.{ats_of}
 use Rattle.kernel.specs.View.{view_of}
 
-pub if_both : {R S T : Type 0} (o : Option DiskFault) → (R → S → T) → IfNone o R → IfNone o S → IfNone o T
+pub if_both : {R S T : Type 0} (o : Option DeviceFault) → (R → S → T) → IfNone o R → IfNone o S → IfNone o T
 if_both None f r s = f r s
 if_both (Some fault) f r s = tt
 

@@ -1,22 +1,27 @@
 -- What is true of store and processes follows from a few facts.
-use Rattle.std.specs.Prelude.{IfSome}
 use Rattle.kernel.specs.Lasting.{Lasts}
-use Rattle.std.proofs.Common.{◌≡◌, ℕ, refl, sym, ◌∙◌, ap, subst, Option, Some, None}
-use Rattle.blocks.specs.Disk.{one_more}
+use Rattle.std.proofs.Common.{◌≡◌, ◌≤◌, ℕ, refl, sym, ◌∙◌, ap, subst, Option, Some, None}
+use Rattle.std.specs.Prelude.{IfNone, IfSome}
+use Rattle.blocks.specs.Disk.{Image, one_more}
+use Rattle.blocks.specs.Calls.{OnlyReads}
+use Rattle.blocks.specs.Lemmas.Moments.{now_stays}
 use Rattle.blocks.specs.declared.disk.Disk.{Ghosts}
-use Rattle.blocks.specs.declared.errors.DiskFault.{DiskFault}
+use Rattle.wal.specs.declared.types.DeviceFault.{DeviceFault}
 use Rattle.model.specs.Layout.{inode_count_of}
 use Rattle.wal.specs.Volume.{faults_after}
-use Rattle.inodes.specs.Lemmas.Faults.{if_none, if_some}
+use Rattle.inodes.specs.Lemmas.Faults.{if_none, if_some, where_none}
 use Rattle.inodes.specs.Store.{StoreState}
 use Rattle.journal.specs.Follows.{IsJournal}
 use Rattle.journal.specs.Keeps.{KeepsNow}
-use Rattle.journal.specs.Lemmas.Known.{known_run, known_keeps}
+use Rattle.journal.specs.Lemmas.Known.{known_keeps, known_run}
 use Rattle.journal.specs.Processes.{World}
+use Rattle.wal.specs.Floats.{Survives as SurvivesAt}
+use Rattle.kernel.specs.State.{ats_of}
+use Rattle.kernel.specs.View.{view_of}
 use Rattle.kernel.specs.Invariant.{IsRight, HasFacts, ArePaired}
 use Rattle.journal.specs.Counting.{IsCounted}
 
-unfailed : {D : Type 0} (s : StoreState D) (w : World) (o : Option DiskFault) → o ≡ None → IfSome o (λ (f : DiskFault). Lasts s w)
+unfailed : {D : Type 0} (s : StoreState D) (w : World) (o : Option DeviceFault) → o ≡ None → IfSome o (λ (f : DeviceFault). Lasts s w)
 unfailed s w None none = tt
 unfailed s w (Some fault) none = absurd (cc none)
 
@@ -34,24 +39,38 @@ module _ {D N : Type 0} (disk : Ghosts D N) (opening : D) where
         lasts = unfailed s w s.volume.fault well;
         journal = has.facts.journal;
         replays = record { files = run.0; run = run.1 };
-        keeps = known_keeps _ _ _ _ has.facts s.volume refl;
-        faults = faults ∙ sym (ap (λ (o : Option DiskFault). faults_after o (disk.fault_count opening)) well);
+        keeps = subst (λ (o : Option DeviceFault). IfSome o (λ f. (x : Image) → disk.leaves s.volume.device (disk.moment s.volume.device) x → KeepsNow s.volume (disk.image opening) w.journal.list x)) (sym well) tt;
+        faults = faults ∙ sym (ap (λ (o : Option DeviceFault). faults_after o (disk.fault_count opening)) well);
       }
 
   -- and once it failed, with the same log
-  pub right_failed : (s t : StoreState D) (w : World) (fault : DiskFault) → IsRight disk opening s w → s.volume.fault ≡ None → t.volume.fault ≡ Some fault → t.table.inode_count ≡ s.table.inode_count → ArePaired t w
-      → t.volume.log.opened ≡ s.volume.log.opened → KeepsNow t.volume (disk.image opening) w.journal.list (disk.image t.volume.device)
+  pub right_failed : (s t : StoreState D) (w : World) (fault : DeviceFault) → IsRight disk opening s w → s.volume.fault ≡ None → t.volume.fault ≡ Some fault → t.table.inode_count ≡ s.table.inode_count → ArePaired t w
+      → t.volume.log.opened ≡ s.volume.log.opened → ((x : Image) → disk.leaves t.volume.device (disk.moment t.volume.device) x → KeepsNow t.volume (disk.image opening) w.journal.list x)
       → disk.fault_count t.volume.device ≡ one_more (disk.fault_count s.volume.device) → Lasts t w → IsRight disk opening t w
   right_failed s t w fault right well failed numbers paired same keeps faults lasts =
-      let before : disk.fault_count s.volume.device ≡ disk.fault_count opening = right.faults ∙ ap (λ (o : Option DiskFault). faults_after o (disk.fault_count opening)) well in
+      let before : disk.fault_count s.volume.device ≡ disk.fault_count opening = right.faults ∙ ap (λ (o : Option DeviceFault). faults_after o (disk.fault_count opening)) well in
       record {
         numbers = numbers ∙ right.numbers;
         paired = paired;
         counted = subst (λ (k : ℕ). IsCounted k w) (sym same) right.counted;
         facts = if_some (HasFacts disk.image (disk.image opening) t w) t.volume.fault fault failed;
-        lasts = subst (λ (o : Option DiskFault). IfSome o (λ (f : DiskFault). Lasts t w)) (sym failed) lasts;
+        lasts = subst (λ (o : Option DeviceFault). IfSome o (λ (f : DeviceFault). Lasts t w)) (sym failed) lasts;
         journal = subst (λ (k : ℕ). IsJournal (inode_count_of (disk.image opening)) k w.journal.list) (sym same) right.journal;
         replays = right.replays;
-        keeps = keeps;
-        faults = faults ∙ ap one_more before ∙ sym (ap (λ (o : Option DiskFault). faults_after o (disk.fault_count opening)) failed);
+        keeps = subst (λ (o : Option DeviceFault). IfSome o (λ f. (x : Image) → disk.leaves t.volume.device (disk.moment t.volume.device) x → KeepsNow t.volume (disk.image opening) w.journal.list x)) (sym failed) keeps;
+        faults = faults ∙ ap one_more before ∙ sym (ap (λ (o : Option DeviceFault). faults_after o (disk.fault_count opening)) failed);
       }
+
+  -- what a stop leaves is kept: while the disk is well by the facts, and then as at its fault
+  pub keeps_now : (s : StoreState D) (w : World) (o : Option DeviceFault) → IfNone o (HasFacts disk.image (disk.image opening) s w)
+      → IfSome o (λ f. (x : Image) → disk.leaves s.volume.device (disk.moment s.volume.device) x → KeepsNow s.volume (disk.image opening) w.journal.list x)
+      → IfNone o ((x : Image) → disk.leaves s.volume.device (disk.moment s.volume.device) x → SurvivesAt s.volume.log.commit (disk.image s.volume.device) x)
+      → (x : Image) → disk.leaves s.volume.device (disk.moment s.volume.device) x → KeepsNow s.volume (disk.image opening) w.journal.list x
+  keeps_now s w None has keeps survives x left = known_keeps (disk.image opening) (view_of disk.image s) w.journal.list (ats_of w) has.facts s.volume refl refl x (survives x left)
+  keeps_now s w (Some fault) has keeps survives x left = keeps x left
+
+  -- what a stop leaves after reads survives as it did before them
+  pub survives_reading : (s t : StoreState D) → ((d : D) (n : ℕ) (x : Image) → n ≤ disk.moment d → disk.leaves d (disk.moment d) x → disk.leaves d n x) → OnlyReads disk s.volume.device t.volume.device → s.volume.fault ≡ None
+      → IfNone s.volume.fault ((x : Image) → disk.leaves s.volume.device (disk.moment s.volume.device) x → SurvivesAt s.volume.log.commit (disk.image s.volume.device) x)
+      → (x : Image) → disk.leaves t.volume.device (disk.moment t.volume.device) x → SurvivesAt s.volume.log.commit (disk.image s.volume.device) x
+  survives_reading s t counts_now reads well survives x left = where_none s.volume.fault well survives x (now_stays disk.moment disk.leaves s.volume.device t.volume.device (counts_now t.volume.device) reads.time x left)

@@ -1,12 +1,12 @@
 -- Turns that go round all processes end every operation that is under way: in each round one goes
 -- on, and takes one of the steps that are left.
-use Rattle.std.proofs.Common.{◌≡◌, ◌≢◌, ◌⊎◌, inl, inr, ⊎_elim, ℕ, zero, suc, ◌+◌, ◌<◌, ◌≤◌, Bool, true, false, IsTrue, List, [], ◌∷◌, ◌++◌, length, get_or, set, refl, sym, ◌∙◌, ap, subst, arith, Option, Some, None}
+use Rattle.std.proofs.Common.{◌≡◌, ◌≢◌, ◌⊎◌, inl, inr, ⊎_elim, ℕ, zero, suc, ◌<◌, ◌≤◌, Bool, true, false, IsTrue, List, [], ◌∷◌, ◌++◌, length, get_or, set, refl, sym, ◌∙◌, ap, subst, arith, Option, Some, None}
+use Rattle.wal.specs.declared.types.DeviceFault.{DeviceFault}
 use Rattle.std.specs.Prelude.{IfNone, IsSome}
 use Rattle.std.specs.List.{list_all, All, Contains}
 use Rattle.std.proofs.lemmas.Bool.{and_parts, both_ways, cases_eq, cases_lt, ltb-true}
 use Rattle.std.proofs.lemmas.List.{get_or_past}
 use Rattle.blocks.specs.declared.disk.Disk as disk_trait
-use Rattle.blocks.specs.declared.errors.DiskFault.{DiskFault}
 use Rattle.model.specs.declared.types.operations.Op.{Op}
 use Rattle.model.specs.declared.types.operations.Reply.{Reply}
 use Rattle.model.specs.declared.types.operations.TaskProgress.{TaskProgress}
@@ -22,14 +22,12 @@ use Rattle.inodes.specs.Lemmas.Sought.{sought}
 use Rattle.inodes.specs.Steps.{Steps}
 use Rattle.inodes.specs.Store.{StoreState}
 use Rattle.inodes.specs.Waiting.{sleep_cause}
-use Rattle.ports.specs.History.{Side}
 use Rattle.ports.specs.declared.herald.Herald as herald_trait
 use Rattle.ports.specs.declared.intake.Intake as intake_trait
 use Rattle.journal.specs.declared.types.At.{At}
 use Rattle.journal.specs.declared.types.At.TheVariants as at
 use Rattle.journal.specs.declared.types.Process.{Process}
 use Rattle.journal.specs.Bound.{is_busy_at, all_steps_left}
-use Rattle.journal.specs.Lemmas.Places.{there_now}
 use Rattle.journal.specs.Processes.{World, process, idle, answered, decided}
 use Rattle.kernel.specs.declared.types.Step.{Step}
 use Rattle.kernel.specs.declared.types.Step.TheVariants as step
@@ -37,7 +35,6 @@ use Rattle.kernel.specs.declared.types.Turn.{Turn}
 use Rattle.kernel.specs.declared.types.Turn.TheVariants.{Proc, Shut}
 use Rattle.kernel.specs.Awake.{AreIdle, IsAwake, IsBusy, cause_by, cause_of}
 use Rattle.kernel.specs.Bound.{left_of, GivesNone}
-use Rattle.kernel.specs.Known.{Known}
 use Rattle.kernel.specs.Next.{NextAt, NextIf, step_of, step_behind, step_of_told, step_of_last, step_of_end, step_of_write, world_after, world_behind, world_ended, world_written, world_of_told, world_of_last}
 use Rattle.kernel.specs.Rounds.{IsRound, turns_of, sum_below, all_left, BeginsNone, RoundsEndAll}
 use Rattle.kernel.specs.Runs.{Makes, Runs, is_turn_of, with_shutdown}
@@ -135,7 +132,7 @@ module _ {D I H : Type 0} where
   idle_left k q is = ap (λ (a : At). all_steps_left a (task_left k.store q) k.store.volume.log) is
 
   -- a shutdown leaves who goes on
-  shut_awake : (k : State D I H) (o : Option DiskFault) → IfNone o (IsAwake k) → IfNone o (IsAwake (with_shutdown k))
+  shut_awake : (k : State D I H) (o : Option DeviceFault) → IfNone o (IsAwake k) → IfNone o (IsAwake (with_shutdown k))
   shut_awake k None was = record {
     under_way = λ p busy. let one = was.under_way p busy in record { pid = one.pid; busy = one.busy; goes = one.goes };
     begins = was.begins;
@@ -153,7 +150,7 @@ answered_list (s ∷ ps) (suc p) t is = answered_list ps p t is
 answered_idle : (v w : World) (p : ℕ) → w ≡ answered v p → ats_of w p ≡ at.Idle
 answered_idle v w p is = ap (λ (u : World). ats_of u p) is ∙ answered_list v.processes p (record (process v p) { at = at.Idle; room = None }) refl
 
-some_fault : (o : Option DiskFault) → o ≡ None → IsSome o → ⊥
+some_fault : (o : Option DeviceFault) → o ≡ None → IsSome o → ⊥
 some_fault None none some = cc some
 some_fault (Some fault) none some = cc none
 
@@ -237,11 +234,11 @@ module _ {D N I M H : Type 0} (disk : disk_trait.Ghosts D N) (intake : intake_tr
   -- ---- turns
 
   -- before a step that leaves the disk without a fault it had none
-  well_before : (p : ℕ) (r : Step) (k m : State D I H) → MakesStep disk intake herald p r k m → m.store.volume.fault ≡ None → (o : Option DiskFault) → k.store.volume.fault ≡ o → k.store.volume.fault ≡ None
+  well_before : (p : ℕ) (r : Step) (k m : State D I H) → MakesStep disk intake herald p r k m → m.store.volume.fault ≡ None → (o : Option DeviceFault) → k.store.volume.fault ≡ o → k.store.volume.fault ≡ None
   well_before p r k m makes still None e = e
   well_before p r k m makes still (Some fault) e =
       let next : NextIf disk (Some fault) k.store k.world p (intake.side k.intake p).ahead (intake.side m.intake p) (herald.told m.herald) r m.store m.world =
-      subst (λ (o : Option DiskFault). NextIf disk o k.store k.world p (intake.side k.intake p).ahead (intake.side m.intake p) (herald.told m.herald) r m.store m.world) e makes.acts.next in
+      subst (λ (o : Option DeviceFault). NextIf disk o k.store k.world p (intake.side k.intake p).ahead (intake.side m.intake p) (herald.told m.herald) r m.store m.world) e makes.acts.next in
       sym (ap (λ (s : StoreState D). s.volume.fault) next.1.0) ∙ still
 
   -- what any turns keep

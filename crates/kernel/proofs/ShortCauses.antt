@@ -1,9 +1,9 @@
 -- The cause of a short write: what the turns of a run saw.
 use Rattle.std.proofs.Common.{◌≡◌, ◌≢◌, ◌⊎◌, ◌<◌, ◌≤◌, ◌+◌, inl, inr, ℕ, zero, suc, Bool, true, false, cond, ltb, List, [], ◌∷◌, ◌++◌, length, set, refl, sym, ◌∙◌, ap, subst, ⊎_elim, arith, Option, Some, None}
+use Rattle.wal.specs.declared.types.DeviceFault.{DeviceFault}
 use Rattle.std.proofs.lemmas.Bool.{cases_eq, cases_lt}
 use Rattle.std.proofs.lemmas.List.{length-append}
 use Rattle.blocks.specs.declared.disk.Disk as disk_trait
-use Rattle.blocks.specs.declared.errors.DiskFault.{DiskFault}
 use Rattle.model.specs.declared.types.operations.Entry.{Entry}
 use Rattle.model.specs.declared.types.operations.Op.{Op}
 use Rattle.model.specs.declared.types.operations.Op.TheVariants.{Write}
@@ -211,7 +211,7 @@ module _ {D N I M H : Type 0} (disk : disk_trait.Ghosts D N) (intake : intake_tr
           by_progress (progress.Sleeping why) to on = inl (goes (progress.Sleeping why) to (λ r e. cc e) on)
           by_progress (progress.Fault fault) to on = inl (goes (progress.Fault fault) to (λ r e. cc e) on)
 
-      own_turn : (o : Option DiskFault) (ahead : List Op) (side : Side) (b : Bool) (r : Step) → StillWrites s w at_place → NextIf disk o s w p ahead side b r t z → Then
+      own_turn : (o : Option DeviceFault) (ahead : List Op) (side : Side) (b : Bool) (r : Step) → StillWrites s w at_place → NextIf disk o s w p ahead side b r t z → Then
       own_turn None ahead side b r was next = finishes was.group r was was.stands (subst (λ (a : At). NextAt disk a s w p ahead side b r t z) was.stands next)
       own_turn (Some fault) ahead side b r was next = inr (inl (still was (ap (λ (o : World). (process o p).at) next.1.1)
           (subst (λ (o : World). IsEntry o.journal.list at_place was.entry) (sym next.1.1) was.there) (ap (λ (o : StoreState D). (task o.tasks p).place) next.1.0)))
@@ -364,7 +364,7 @@ module _ {D N I M H : Type 0} (disk : disk_trait.Ghosts D N) (intake : intake_tr
           late (inl is) = let no = sym stands ∙ is in cc no
           late (inr is) = let no = sym stands ∙ is.2 in cc no
 
-      starts_by : (o : Option DiskFault) (ahead : List Op) (side : Side) (b : Bool) (r : Step) → NextIf disk o s w p ahead side b r t z → (adds : Adds) → Starts adds.entry
+      starts_by : (o : Option DeviceFault) (ahead : List Op) (side : Side) (b : Bool) (r : Step) → NextIf disk o s w p ahead side b r t z → (adds : Adds) → Starts adds.entry
       starts_by None ahead side b r next adds = starts_at (process w p).at ahead side b r refl next adds
       starts_by (Some fault) ahead side b r next adds = absurd (none_added (ap (λ (v : World). v.journal.list) next.1.1) adds)
 

@@ -1,8 +1,8 @@
 -- What any turn of a process makes of the others, of the journal, and of where it stands.
 use Rattle.std.proofs.Common.{◌≡◌, ◌≢◌, ◌⊎◌, inl, inr, ℕ, ◌+◌, zero, suc, Bool, true, false, List, [], ◌∷◌, ◌++◌, length, set, refl, sym, ◌∙◌, ap, Option, Some, None}
+use Rattle.wal.specs.declared.types.DeviceFault.{DeviceFault}
 use Rattle.std.proofs.lemmas.List.{get_or-set_other, set-get_or}
 use Rattle.blocks.specs.declared.disk.Disk as disk_trait
-use Rattle.blocks.specs.declared.errors.DiskFault.{DiskFault}
 use Rattle.model.specs.declared.types.operations.Entry.{Entry}
 use Rattle.model.specs.declared.types.operations.Op.{Op}
 use Rattle.model.specs.declared.types.operations.Reply.{Reply}
@@ -14,7 +14,9 @@ use Rattle.wal.specs.declared.types.Committed.{Committed}
 use Rattle.wal.specs.declared.types.Committed.TheVariants as committed
 use Rattle.wal.specs.declared.types.Ended.{Ended}
 use Rattle.wal.specs.declared.types.Ended.TheVariants as ended_as
-use Rattle.wal.specs.Joint.{written_at}
+use Rattle.wal.specs.Joint.{stepped_at}
+use Rattle.wal.specs.Lemmas.Commits.{commit_log}
+use Rattle.wal.specs.declared.types.Part.TheVariants as part
 use Rattle.wal.specs.Machine.{LogState, begun, ended, end_answer}
 use Rattle.inodes.specs.Places.{is_over}
 use Rattle.inodes.specs.Steps.{Steps, Commits}
@@ -107,28 +109,27 @@ module _ {D : Type 0} (q : ℕ) (s t : StoreState D) where
     size = ap (λ (v : StoreState D). v.volume.log.size) to ∙ size_ended s.volume.log q;
   }
 
-  size_written : (k : Commit) (l : LogState) → (written_at k l).size ≡ l.size
-  size_written commit.Quiet l = refl
-  size_written (commit.Logging k) l = refl
-  size_written commit.Heading l = refl
-  size_written (commit.Homing k) l = refl
-  size_written commit.Clearing l = refl
+  size_stepped : (h : Bool) (k : Commit) (l : LogState) → (stepped_at h k l).size ≡ l.size
+  size_stepped h commit.Quiet l = refl
+  size_stepped h (commit.Logging k) l = refl
+  size_stepped h commit.Heading l = refl
+  size_stepped h (commit.Homing k) l = refl
+  size_stepped h commit.Clearing l = refl
+  size_stepped h (commit.Syncing part.Log) l = refl
+  size_stepped h (commit.Syncing part.Header) l = refl
+  size_stepped h (commit.Syncing part.Homes) l = refl
+  size_stepped h (commit.Syncing part.Clear) l = refl
 
   store_commits : {N : Type 0} (disk : disk_trait.Ghosts D N) (r : Committed) → Commits disk s r t → LeavesStore q s t
   store_commits disk r commits = record {
     tasks = λ p apart. ap (λ (ts : List TaskState). task ts p) commits.tasks;
     numbers = ap (λ v. v.inode_count) commits.table;
-    size = by_answer r commits;
+    size = by_log (commit_log disk s.volume.device s.volume.buffers s.volume.log t.volume.device t.volume.buffers t.volume.log r commits.volume.write);
   }
     where
-      log_written : t.volume.log ≡ written_at s.volume.log.commit s.volume.log → t.volume.log.size ≡ s.volume.log.size
-      log_written is = ap (λ (l : LogState). l.size) is ∙ size_written s.volume.log.commit s.volume.log
-
-      by_answer : (x : Committed) → Commits disk s x t → t.volume.log.size ≡ s.volume.log.size
-      by_answer committed.More made = log_written made.volume.write.step.1.log
-      by_answer (committed.Durable group) made = log_written made.volume.write.step.1.log
-      by_answer committed.Done made = log_written made.volume.write.step.1.log
-      by_answer (committed.Fault fault) made = ap (λ (l : LogState). l.size) made.volume.write.step.log
+      by_log : (t.volume.log ≡ stepped_at (disk.holding (disk.name s.volume.device)) s.volume.log.commit s.volume.log) ⊎ (t.volume.log ≡ s.volume.log) → t.volume.log.size ≡ s.volume.log.size
+      by_log (inl is) = ap (λ (l : LogState). l.size) is ∙ size_stepped (disk.holding (disk.name s.volume.device)) s.volume.log.commit s.volume.log
+      by_log (inr same) = ap (λ (l : LogState). l.size) same
 
 -- ---- the turn
 
@@ -271,6 +272,6 @@ module _ {D N : Type 0} (disk : disk_trait.Ghosts D N) (q : ℕ) (s : StoreState
   turned_at (at.Ending group k) ahead side b r stands next = ends group k r stands next
   turned_at (at.Committing group k) ahead side b r stands next = writes group k r stands next
 
-  pub turned_by : (o : Option DiskFault) (ahead : List Op) (side : Side) (b : Bool) (r : Step) → NextIf disk o s w q ahead side b r t z → To (process w q).at
+  pub turned_by : (o : Option DeviceFault) (ahead : List Op) (side : Side) (b : Bool) (r : Step) → NextIf disk o s w q ahead side b r t z → To (process w q).at
   turned_by None ahead side b r next = turned_at (process w q).at ahead side b r refl next
   turned_by (Some fault) ahead side b r next = rests (process w q).at w refl next.1.1 refl refl (store_same q s t next.1.0)

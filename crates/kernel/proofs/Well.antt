@@ -16,9 +16,10 @@ use Rattle.inodes.specs.Tasks.{task}
 use Rattle.journal.specs.declared.types.At.{At}
 use Rattle.journal.specs.declared.types.At.TheVariants as at
 use Rattle.journal.specs.Lemmas.Events.{changing_later}
-use Rattle.journal.specs.Lemmas.Groups.{in_later}
+use Rattle.journal.specs.Lemmas.Groups.{group_unread}
 use Rattle.journal.specs.Open.{IsEntry}
 use Rattle.journal.specs.Processes.{World, process}
+use Rattle.journal.specs.Crash.{in_reads}
 use Rattle.journal.specs.Views.{InGroup, HasEntry, StandsAt}
 use Rattle.kernel.specs.Invariant.{ArePaired, HasFacts, IsBehind, TaskStands}
 use Rattle.kernel.specs.State.{ats_of}
@@ -65,14 +66,14 @@ module _ {D : Type 0} (image : D → Image) (opening : Image) (s : StoreState D)
       let has = (stands_at (at.Behind group k) stands).1 in (has.0, has.1, there has.0 has.1.at)
 
   -- the group of a changing one is not committed
-  pub later_before : (group : ℕ) (op : Op) → (process w p).at ≡ at.Before group op → is_changing (inode_count_of opening) op ≡ true → s.volume.log.committed < group
+  pub later_before : (group : ℕ) (op : Op) → (process w p).at ≡ at.Before group op → is_changing (inode_count_of opening) op ≡ true → in_reads s.volume.log < group
   later_before group op stands changing = by_group group (stands_at (at.Before group op) stands).1 (stands_at (at.Before group op) stands).2
     where
-      by_group : (g : ℕ) → InGroup s.volume.log p g → ltb 0 g ≡ is_changing (inode_count_of opening) op → s.volume.log.committed < g
+      by_group : (g : ℕ) → InGroup s.volume.log p g → ltb 0 g ≡ is_changing (inode_count_of opening) op → in_reads s.volume.log < g
       by_group zero is_in same = absurd (false≢true (same ∙ changing))
-      by_group (suc g) is_in same = in_later s.volume.log p (suc g) log_of is_in
+      by_group (suc g) is_in same = group_unread s.volume.log p (suc g) log_of is_in (omega arith)
 
   -- also behind the turn
-  pub later_behind : (group k : ℕ) (e : Entry) → (process w p).at ≡ at.Behind group k → IsEntry w.journal.list k e → is_changing (inode_count_of opening) e.op ≡ true → s.volume.log.committed < e.group
+  pub later_behind : (group k : ℕ) (e : Entry) → (process w p).at ≡ at.Behind group k → IsEntry w.journal.list k e → is_changing (inode_count_of opening) e.op ≡ true → in_reads s.volume.log < e.group
   later_behind group k e stands there =
       changing_later opening (view_of image s) (view_of image s) w.journal.list (ats_of w) is.has.facts is.has.facts.valid p (ats_of w) (λ q apart. refl) group k e stands there

@@ -1,5 +1,8 @@
 -- What is true of store and processes stays so with a step of a task.
 use Rattle.std.proofs.Common.{◌≡◌, ◌≢◌, ℕ, ◌<◌, ◌≤◌, Bool, true, false, cond, List, [], ◌∷◌, ◌++◌, length, set, length-set, ltb, refl, sym, ◌∙◌, ap, subst, inl, inr, Option, Some, None}
+use Rattle.wal.specs.declared.types.DeviceFault.{DeviceFault}
+use Rattle.wal.specs.declared.types.DeviceFault.TheVariants.{Block}
+use Rattle.wal.specs.Floats.{Survives as SurvivesAt}
 use Rattle.std.specs.Prelude.{IsTrue, is_none}
 use Rattle.std.proofs.lemmas.Bool.{false≢true, le-leb, le-ltb}
 use Rattle.std.proofs.lemmas.List.{set-get_or}
@@ -16,7 +19,7 @@ use Rattle.model.specs.declared.types.operations.TaskProgress.TheVariants as pro
 use Rattle.model.specs.Journal.{is_changing, is_making, is_number}
 use Rattle.model.specs.Operations.{transfer_limit}
 use Rattle.model.specs.Layout.{inode_count_of, form_of}
-use Rattle.model.specs.Tasks.{fault_of_task}
+use Rattle.wal.specs.Volume.{fault_of_task}
 use Rattle.wal.specs.Volume.{faults_after}
 use Rattle.inodes.specs.Lemmas.Faults.{where_none}
 use Rattle.inodes.specs.Lemmas.Looks.{late_is}
@@ -37,7 +40,6 @@ use Rattle.journal.specs.Bound.{is_busy_at}
 use Rattle.journal.specs.Counting.{IsCounted}
 use Rattle.journal.specs.Grows.{JournalGoes}
 use Rattle.journal.specs.Journal.{IsItsRoom, entry_of, entry_in}
-use Rattle.journal.specs.Keeps.{KeepsNow}
 use Rattle.journal.specs.Lemmas.Alone.{alone_stepped}
 use Rattle.journal.specs.Lemmas.Answers.{changing_in_group, entry_inside, group_tells}
 use Rattle.journal.specs.Lemmas.Known.{known_keeps}
@@ -46,6 +48,7 @@ use Rattle.journal.specs.Lemmas.Nexts.{task_next, task_journal, others_back}
 use Rattle.journal.specs.Next.{TaskNext}
 use Rattle.journal.specs.Open.{IsEntry, number_of, told}
 use Rattle.journal.specs.Processes.{World, process, idle, turned, turned_from, place_behind, decided, told_at, entry_place, answered, at_place, over, over_at}
+use Rattle.journal.specs.Crash.{in_reads}
 use Rattle.journal.specs.Views.{View, HasEntry, StandsAt, Takes, IsValidView}
 use Rattle.kernel.specs.Invariant.{IsRight, HasFacts, ArePaired, IsBehind, TaskStands}
 use Rattle.kernel.specs.State.{ats_of}
@@ -147,7 +150,7 @@ module _ {D N : Type 0} (disk : Ghosts D N) (opening : D) (s : StoreState D) (w 
       (record { stands = subst (λ (b : At). TaskStands es (task t.tasks p) b) (sym stands) there; room_is = λ under. room_stays r steps under })
 
   faults_same : (r : TaskProgress) → Steps disk s p op r t → fault_of_task r ≡ None → disk.fault_count t.volume.device ≡ disk.fault_count opening
-  faults_same r steps none = steps.reads.faults ∙ ap (λ (o : Option DiskFault). faults_after o (disk.fault_count s.volume.device)) none ∙ right.faults ∙ ap (λ (o : Option DiskFault). faults_after o (disk.fault_count opening)) well
+  faults_same r steps none = steps.reads.faults ∙ ap (λ (o : Option DeviceFault). faults_after o (disk.fault_count s.volume.device)) none ∙ right.faults ∙ ap (λ (o : Option DeviceFault). faults_after o (disk.fault_count opening)) well
 
   -- WHATEVER A STEP IS TO THE JOURNAL: process p, which stood at a, becomes u
   module _ (r : TaskProgress) (steps : Steps disk s p op r t) (none : fault_of_task r ≡ None) (agreed : HasAgreed disk.image t) (z : World) (u : Process) (is : z.processes ≡ set w.processes p u) (a : At) (stands : (process w p).at ≡ a) where
@@ -164,10 +167,10 @@ module _ {D N : Type 0} (disk : Ghosts D N) (opening : D) (s : StoreState D) (w 
         → TaskStands z.journal.list (task t.tasks p) u.at → (is_busy_at u.at ≡ true → IsItsRoom (task t.tasks p).op u.room) → is_committing_at a ≡ false → is_committing_at u.at ≡ false → IsRight disk opening t z
     right_stepped e made counted there room quiet still =
         let goes_on : TaskNext a e n form p (process w p).begun before es now z.journal.list (ats_of z p) = subst (λ (b : At). TaskNext a e n form p (process w p).begun before es now z.journal.list b) (sym at_p) made in
-        let goes : JournalGoes n p s.volume.log.committed es z.journal.list = task_journal (disk.image opening) before now es z.journal.list (ats_of w) (ats_of z) had.facts valid p (process w p).begun others a e stands goes_on in
+        let goes : JournalGoes n p (in_reads s.volume.log) es z.journal.list = task_journal (disk.image opening) before now es z.journal.list (ats_of w) (ats_of z) had.facts valid p (process w p).begun others a e stands goes_on in
         right_well disk opening t z (steps.reads.fault ∙ none) (steps.tasks.numbers ∙ right.numbers)
         (paired_goes s t w z p u right.paired lt is steps.tasks.many steps.tasks.others
-        (λ q apart g k f there. others_back (disk.image opening) before es z.journal.list (ats_of w) had.facts n p s.volume.log.committed goes q apart g k f there)
+        (λ q apart g k f there. others_back (disk.image opening) before es z.journal.list (ats_of w) had.facts n p (in_reads s.volume.log) goes q apart g k f there)
         (record { stands = there; room_is = room }))
         counted
         (record {
@@ -185,11 +188,14 @@ module _ {D N : Type 0} (disk : Ghosts D N) (opening : D) (s : StoreState D) (w 
       (subst (λ (k : ℕ). IsCounted k w) (sym steps.groups.opened) right.counted)
       (subst (λ (b : At). TaskStands es (task t.tasks p) b) (sym stands) there) (room_stays progress.Moved steps) quiet (ap is_committing_at stands ∙ quiet)
 
-  fails_with : (a : At) → (process w p).at ≡ a → is_busy_at a ≡ true → (fault : DiskFault) → Steps disk s p op (progress.Fault fault) t → TaskStands es (task t.tasks p) a → IsRight disk opening t w
-  fails_with a stands busy fault steps there =
-      let kept : KeepsNow t.volume (disk.image opening) es (disk.image s.volume.device) = known_keeps (disk.image opening) before es (ats_of w) had.facts t.volume steps.groups.committed in
-      right_failed disk opening s t w fault right well steps.reads.fault steps.tasks.numbers (paired_here (progress.Fault fault) a stands busy steps there) steps.groups.opened
-      (subst (λ (x : Image). KeepsNow t.volume (disk.image opening) es x) (sym steps.reads.device.image) kept) steps.reads.faults (lasts_failed disk opening s w was right p op fault t well steps)
+  -- what a stop leaves after a read survives as it did before it
+  abbrev StillSurvives : Type 0
+  StillSurvives = (x : Image) → disk.leaves t.volume.device (disk.moment t.volume.device) x → SurvivesAt s.volume.log.commit (disk.image s.volume.device) x
+
+  fails_with : (a : At) → (process w p).at ≡ a → is_busy_at a ≡ true → (fault : DiskFault) → StillSurvives → Steps disk s p op (progress.Fault fault) t → TaskStands es (task t.tasks p) a → IsRight disk opening t w
+  fails_with a stands busy fault survives steps there =
+      right_failed disk opening s t w (Block fault) right well steps.reads.fault steps.tasks.numbers (paired_here (progress.Fault fault) a stands busy steps there) steps.groups.opened
+      (λ x left. known_keeps (disk.image opening) before es (ats_of w) had.facts t.volume steps.groups.committed steps.groups.commit x (survives x left)) steps.reads.faults (lasts_failed disk opening s w was right p op fault t well steps)
 
   -- BEFORE ITS TURN
   module _ (group : ℕ) (stands : (process w p).at ≡ at.Before group op) where
@@ -204,8 +210,8 @@ module _ {D N : Type 0} (disk : Ghosts D N) (opening : D) (s : StoreState D) (w 
         let on = ends_now progress.Moved more steps in
         moved_with (at.Before group op) stands refl refl steps agreed (moves_of disk s t p op on steps, refl, refl) (before_goes group progress.Moved steps unturned on)
 
-    pub right_fault : (fault : DiskFault) → Steps disk s p op (progress.Fault fault) t → IsRight disk opening t w
-    right_fault fault steps = fails_with (at.Before group op) stands refl fault steps (before_goes group (progress.Fault fault) steps unturned (ends_now (progress.Fault fault) more steps))
+    pub right_fault : (fault : DiskFault) → StillSurvives → Steps disk s p op (progress.Fault fault) t → IsRight disk opening t w
+    right_fault fault survives steps = fails_with (at.Before group op) stands refl fault survives steps (before_goes group (progress.Fault fault) steps unturned (ends_now (progress.Fault fault) more steps))
 
     -- it had its turn
     module _ (reply : Option Reply) (steps : Steps disk s p op (progress.Turned reply) t) (agreed : HasAgreed disk.image t) where
@@ -315,8 +321,8 @@ module _ {D N : Type 0} (disk : Ghosts D N) (opening : D) (s : StoreState D) (w 
         let on = ends_now progress.Moved its.unfinished steps in
         moved_with (at.Behind group k) stands refl refl steps agreed (moves_of disk s t p op on steps, refl, refl) (behind_goes group k progress.Moved steps behind on)
 
-    pub right_fault_behind : (fault : DiskFault) → Steps disk s p op (progress.Fault fault) t → IsRight disk opening t w
-    right_fault_behind fault steps = fails_with (at.Behind group k) stands refl fault steps (behind_goes group k (progress.Fault fault) steps behind (ends_now (progress.Fault fault) its.unfinished steps))
+    pub right_fault_behind : (fault : DiskFault) → StillSurvives → Steps disk s p op (progress.Fault fault) t → IsRight disk opening t w
+    right_fault_behind fault survives steps = fails_with (at.Behind group k) stands refl fault survives steps (behind_goes group k (progress.Fault fault) steps behind (ends_now (progress.Fault fault) its.unfinished steps))
 
     -- its reading is over, and answered
     pub right_decided : group ≡ 0 → (reply : Reply) → Steps disk s p op (progress.Decided reply) t → HasAgreed disk.image t → IsRight disk opening t (answered (decided w p reply) p)

@@ -1,8 +1,8 @@
 -- What is true of every kernel, between two steps.
 use Rattle.std.specs.Prelude.{◌≡◌, ◌<◌, ◌≤◌, ℕ, true, false, is_none, List, length, IfNone, IfSome, Option, Some}
+use Rattle.wal.specs.declared.types.DeviceFault.{DeviceFault}
 use Rattle.blocks.specs.Disk.{Image}
 use Rattle.blocks.specs.declared.disk.Disk as disk_trait
-use Rattle.blocks.specs.declared.errors.DiskFault.{DiskFault}
 use Rattle.model.specs.declared.types.operations.Entry.{Entry}
 use Rattle.model.specs.Files.{Files, files_of}
 use Rattle.model.specs.Gathered.{GatheredBytes}
@@ -78,11 +78,14 @@ pub record IsRight {D N : Type 0} (disk : disk_trait.Ghosts D N) (opening : D) (
   pub paired : ArePaired s w
   pub counted : IsCounted s.volume.log.opened w
   pub facts : IfNone s.volume.fault (HasFacts disk.image (disk.image opening) s w)
-  pub lasts : IfSome s.volume.fault (λ (fault : DiskFault). Lasts s w)
+  pub lasts : IfSome s.volume.fault (λ (fault : DeviceFault). Lasts s w)
   pub journal : IsJournal (inode_count_of (disk.image opening)) s.volume.log.opened w.journal.list
   pub replays : CanReplay (disk.image opening) w
-  -- what recovery of the disk gives
-  pub keeps : KeepsNow s.volume (disk.image opening) w.journal.list (disk.image s.volume.device)
+  -- what recovery gives of each image that the disk may leave, once it has failed; before, it
+  -- follows from the facts and from what the store says of those images
+  pub keeps : IfSome s.volume.fault (λ fault. (x : Image)
+      → disk.leaves s.volume.device (disk.moment s.volume.device) x
+      → KeepsNow s.volume (disk.image opening) w.journal.list x)
   -- the disk counted no fault since the opening, or this one
   pub faults : disk.fault_count s.volume.device
       ≡ faults_after s.volume.fault (disk.fault_count opening)

@@ -20,7 +20,7 @@ use Rattle.ports.specs.declared.intake.Intake as intake_trait
 use Rattle.journal.specs.Follows.{IsJournal}
 use Rattle.journal.specs.Histories.{IsHistory}
 use Rattle.journal.specs.Keeps.{HasFilesAfter, KeepsBeginnings, KeepsNow}
-use Rattle.journal.specs.Processes.{World, process}
+use Rattle.journal.specs.Processes.{process}
 use Rattle.kernel.specs.Awake.{AreIdle, IsAwake}
 use Rattle.kernel.specs.Bound.{left_of}
 use Rattle.kernel.specs.Invariant.{CanReplay, HasHistory}

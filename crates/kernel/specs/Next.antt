@@ -4,7 +4,7 @@ use Rattle.std.specs.Option.{option_map}
 use Rattle.std.specs.Prelude.{◌≡◌, ◌⊎◌, ℕ, zero, suc, ◌∷◌, Bool, false, true, List, Option, Some, None}
 use mathlib.Core.List.{IsPrefix}
 use Rattle.blocks.specs.declared.disk.Disk.{Ghosts}
-use Rattle.blocks.specs.declared.errors.DiskFault.{DiskFault}
+use Rattle.wal.specs.declared.types.DeviceFault.{DeviceFault}
 use Rattle.model.specs.declared.types.operations.Op.{Op}
 use Rattle.model.specs.declared.types.operations.Reply.{Reply}
 use Rattle.model.specs.declared.types.operations.TaskProgress.{TaskProgress}
@@ -262,7 +262,7 @@ NextAt disk (at.Ending group k) s w p before side told r t z = Ends s w p r t z
 NextAt disk (at.Committing group k) s w p before side told r t z = Writes disk s w p r t z
 
 -- after a fault nothing is done any more
-abbrev pub NextIf : {D N : Type 0} → Ghosts D N → Option DiskFault → StoreState D → World → ℕ
+abbrev pub NextIf : {D N : Type 0} → Ghosts D N → Option DeviceFault → StoreState D → World → ℕ
     → List Op → Side → Bool → Step → StoreState D → World → Type 0
 NextIf disk None s w p before side told r t z =
     NextAt disk (process w p).at s w p before side told r t z

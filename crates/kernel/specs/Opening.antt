@@ -1,12 +1,13 @@
 -- A kernel that was opened, and why one isn't.
-use Rattle.std.specs.Prelude.{◌≡◌, ◌≤◌, ◌<◌, ◌⊎◌, ℕ, replicate, None}
-use Rattle.blocks.specs.Disk.{Rose, LeavesOnly, counted}
+use Rattle.std.specs.Prelude.{◌≡◌, ◌≤◌, ◌<◌, ◌⊎◌, ℕ, true, replicate, None}
+use Rattle.blocks.specs.Disk.{AddsOnly, HasTurned, Rose, counted}
+use Rattle.blocks.specs.Calls.{UnlessHolds}
 use Rattle.blocks.specs.declared.disk.Disk.{Ghosts}
 use Rattle.model.specs.Layout.{inode_count_of}
 use Rattle.model.specs.Log.{recovered, logged_count}
 use Rattle.model.specs.Verdict.{verdict}
 use Rattle.layout.specs.Cause.{IsCause}
-use Rattle.wal.specs.Recovery.{RecoversAs, writes_to_recover}
+use Rattle.wal.specs.Recovery.{IsCalm, LeavesIfCalm, RecoversAs, syncs_to_recover, writes_to_recover}
 use Rattle.wal.specs.declared.faults.RecoverFault.{RecoverFault}
 use Rattle.wal.specs.declared.faults.RecoverFault.TheVariants as recover
 use Rattle.inodes.specs.Store.{fresh_volume}
@@ -16,6 +17,15 @@ use Rattle.journal.specs.Processes.{fresh_world}
 use Rattle.kernel.specs.State.{State}
 use Rattle.kernel.specs.declared.types.OpenFault.{OpenFault}
 use Rattle.kernel.specs.declared.types.OpenFault.TheVariants.{Check, Recover, NoMemory, ProcRange}
+
+-- What a stop leaves of an opening, whose recovery begins with a sync of a disk that holds writes
+-- back: it adds nothing else to what a crash may leave, and from that sync on that is all; where
+-- nothing is held at the start, that is all from the start on.
+pub record LeavesRecovered {D N : Type 0} (disk : Ghosts D N) (d e : D) : Type 0 where
+  pub any_moment : LeavesIfCalm disk d e (RecoversAs (disk.image d))
+  pub adds : AddsOnly disk.moment disk.leaves d e (RecoversAs (disk.image d))
+  pub from_sync : (disk.sync_count e ≡ disk.sync_count d)
+      ⊎ HasTurned disk.moment disk.leaves d e (RecoversAs (disk.image d))
 
 -- k was opened with so many processes over the disk d, whose image was sound: it was recovered, and
 -- nothing else happened
@@ -37,20 +47,26 @@ pub record IsOpened {D N I H : Type 0} (disk : Ghosts D N) (d : D) (i : I) (h : 
   pub writes : disk.write_count k.opening
       ≡ counted (disk.write_count d) (writes_to_recover (logged_count (disk.image d)))
   pub faults : disk.fault_count k.opening ≡ disk.fault_count d
-  pub leaves : LeavesOnly disk.moment disk.leaves d k.opening (RecoversAs (disk.image d))
+  pub syncs : disk.sync_count k.opening ≡ counted (disk.sync_count d)
+      (syncs_to_recover (disk.holding (disk.name d)) (logged_count (disk.image d)))
+  pub settled : IsCalm disk k.opening
+  pub leaves : LeavesRecovered disk d k.opening
 
 -- the fault of a recovery after a check that found none
-abbrev pub IsRecoverCause : RecoverFault → ℕ → ℕ → Type 0
-IsRecoverCause recover.Disk old new = Rose old new
-IsRecoverCause recover.BadLog old new = ⊥
-IsRecoverCause recover.NoMemory old new = Unit {0}
+abbrev pub IsRecoverCause : {D N : Type 0} → Ghosts D N → D → D → RecoverFault → Type 0
+IsRecoverCause disk d e recover.Disk = Rose (disk.fault_count d) (disk.fault_count e)
+IsRecoverCause disk d e recover.BadLog = ⊥
+IsRecoverCause disk d e recover.NoMemory = Unit {0}
+IsRecoverCause disk d e recover.Sync =
+    Rose (disk.fault_count d) (disk.fault_count e) × (disk.holding (disk.name d) ≡ true)
 
--- the faults at which blocks may have been written: a write of the recovery failed
+-- the faults at which blocks may have been written: a write of the recovery failed, or a sync
 abbrev pub MayWrite : OpenFault → Type 0
 MayWrite (Check fault) = ⊥
 MayWrite (Recover recover.Disk) = Unit {0}
 MayWrite (Recover recover.BadLog) = ⊥
 MayWrite (Recover recover.NoMemory) = ⊥
+MayWrite (Recover recover.Sync) = Unit {0}
 MayWrite NoMemory = ⊥
 MayWrite ProcRange = ⊥
 
@@ -61,7 +77,7 @@ IsOpenCause disk d e processes (Check fault) =
     × IsCause (verdict (disk.image d)) (disk.fault_count d) (disk.fault_count e) fault
 IsOpenCause disk d e processes (Recover fault) =
     (1 ≤ processes) × (processes ≤ 32) × (verdict (disk.image d) ≡ None)
-    × IsRecoverCause fault (disk.fault_count d) (disk.fault_count e)
+    × IsRecoverCause disk d e fault
 IsOpenCause disk d e processes NoMemory =
     (1 ≤ processes) × (processes ≤ 32) × (verdict (disk.image d) ≡ None)
 IsOpenCause disk d e processes ProcRange = ((processes < 1) ⊎ (32 < processes)) × (e ≡ d)
@@ -73,4 +89,6 @@ pub record RefusesToOpen {D N : Type 0} (disk : Ghosts D N) (d e : D) (processes
   pub unwritten : MayWrite fault
       ⊎ ((disk.image e ≡ disk.image d) × (disk.write_count e ≡ disk.write_count d))
   pub name : disk.name e ≡ disk.name d
-  pub leaves : LeavesOnly disk.moment disk.leaves d e (RecoversAs (disk.image d))
+  pub leaves : LeavesRecovered disk d e
+  -- a disk that holds no writes back is not synced
+  pub plain : UnlessHolds disk d (disk.sync_count e ≡ disk.sync_count d)

@@ -50,7 +50,8 @@ pub record MakesStep {D N I M H : Type 0} (disk : disk_trait.Ghosts D N)
     (k m : State D I H) : Type 0 where
   pub acts : Acts disk intake herald p r k m
   pub many : length m.world.processes ≡ length k.world.processes
-  pub committed : CountsCommitted r (process k.world p).at k.store.volume.log m.store.volume.log
+  pub committed : CountsCommitted (disk.holding (disk.name k.store.volume.device)) r
+      (process k.world p).at k.store.volume.log m.store.volume.log
   pub shut : KeepsShutdown k.world m.world
   -- an operation has fewer than 2,000 steps
   pub bound : r ≡ step.Moved → TakesOne k p m

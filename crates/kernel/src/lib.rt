@@ -2,8 +2,8 @@
 //! chapter "File system").
 //!
 //! A step is what a process does in one piece: it begins the operation that waits for it, gets one
-//! block or looks at it, ends its operation in the log, or makes one write of a commit. A step
-//! never blocks. Where a process would have to wait, the step is `Sleeping` with the cause and
+//! block or looks at it, ends its operation in the log, or makes one write of a commit, or one sync
+//! of a disk that holds writes back. A step never blocks. Where a process would have to wait, the step is `Sleeping` with the cause and
 //! changes nothing, and the same step is tried again when the process has its next turn.
 //!
 //! Who takes the next turn is not the kernel's choice: its user calls `step` with the number of a
@@ -17,17 +17,19 @@
 //! or finds that none is free, or that in which any other takes its inode. So the journal has the
 //! operations in the order in which they took effect. Next a creation ends in the log. It is
 //! answered then, or, where it was the last of its group, after the commit, which its process makes.
-//! The others go on behind their turn: a read gathers its bytes, which its entry is told last; a truncation or a
-//! removal, whose entry has its reply, frees the blocks of its file one by one and writes the inode
-//! back. A write's reply is decided when its inode is written back: its entry is told it then, and
-//! it is given at the end of its operation. With its last step each gives its inode up. Then a look
+//! The others go on behind their turn: a read gathers its bytes, which its entry is told last; a
+//! truncation or a removal, whose entry has its reply, frees the blocks of its file one by one and
+//! writes the inode back. A write's reply is decided when its inode is written back: its entry is
+//! told it then, and it is given at the end of its operation. With its last step each gives its inode up. Then a look
 //! is answered, and who changed files ends in the log as a creation does.
 //!
 //! Memory is taken at an operation's beginning: a place in the journal, and for a read room for its
 //! bytes, once for the journal and once for the answer. That no later step takes any is by test: no
 //! clause can say it.
 //!
-//! A stop keeps the groups that are committed, each whole, and nothing of a later one. So an answer
+//! A stop keeps the groups that are committed, each whole, and nothing of a later one: of a disk
+//! that holds writes back, whichever of these it loses. Only between the write of a header and its
+//! sync such a disk keeps one group more, exactly where the header got through. So an answer
 //! outlives a stop once the group that it names is committed, which the herald hears.
 //!
 //! After a fault of the disk each step is `Halted`. After a shutdown no operation begins, and those

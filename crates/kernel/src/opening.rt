@@ -10,7 +10,7 @@ ghost use Rattle.ports.specs.History.{nothing_yet};
 use crate::OpenFault;
 use crate::stepping::Kernel;
 use bcache::Cache;
-use blocks::{Disk, DiskFault, NoMemory};
+use blocks::{Disk, NoMemory};
 use inodes::{Store, Tasks};
 use journal::Processes;
 use layout::{Super, check};
@@ -18,7 +18,7 @@ use model::types::Entry;
 use ports::{Herald, Intake};
 use std::alloc::Global;
 use std::snapshot::Snapshot;
-use wal::{Log, Volume, recover};
+use wal::{DeviceFault, Log, Volume, recover};
 
 // What a kernel has in memory.
 #[derive(Drop)]
@@ -53,7 +53,7 @@ impl<D: Disk, I: Intake, H: Herald> Kernel<D, I, H> {
     ///
     /// Hands the disk back with `ProcRange` where there are not 1 to 32 processes; with the fault
     /// of the check; with `NoMemory` where memory was refused; with the fault of the recovery. But
-    /// for the last of them no block was written.
+    /// for the last of them no block was written, and no disk synced.
     pub fn open(
         alloc: Global,
         mut disk: D,
@@ -150,7 +150,7 @@ impl<D: Disk, I: Intake, H: Herald> Kernel<D, I, H> {
     }
 
     /// The fault of the disk, after which no step is made any more.
-    pub fn fault(&self) -> Option<DiskFault>
+    pub fn fault(&self) -> Option<DeviceFault>
         ensures { result ≡ self.now.store.volume.fault }
     {
         self.store.volume().fault()

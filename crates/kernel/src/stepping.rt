@@ -198,7 +198,7 @@ impl<D: Disk, I: Intake, H: Herald> Kernel<D, I, H> {
         }
     }
 
-    // Makes the next write of a commit.
+    // Makes the next write, or sync, of a commit.
     fn commit(&mut self, pid: u32) -> Step
         requires pid { pid < length self.old.world.processes }
         requires fault { self.old.store.volume.fault ≡ None }

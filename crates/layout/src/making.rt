@@ -1,7 +1,7 @@
 // A new image on a disk.
 ghost use Rattle.std.specs.Prelude.{◌≡◌, ◌↔◌, ◌≤◌, ◌<◌, ◌&&◌, ◌==◌, false, length, IsTrue, IsOk, OnOk, OnErr, IfErr};
 ghost use Rattle.std.specs.Result.{IsErrOf};
-ghost use Rattle.blocks.specs.Calls.{WritesOne};
+ghost use Rattle.blocks.specs.Calls.{UnlessHolds, WritesOne};
 ghost use Rattle.blocks.specs.Disk.{Rose, LeavesOnly};
 ghost use Rattle.model.specs.declared.types.image.Form.TheVariants.{One};
 ghost use Rattle.model.specs.Layout.{is_inode_count, is_size};
@@ -33,8 +33,8 @@ fn write_behind<D: Disk>(disk: &mut D, image: &NewImage) -> Result<(), MkfsFault
     ensures name { D.name disk.new ≡ D.name disk.old }
     ensures disk { IfErr result (λ fault. fault ≡ MkfsFault.Disk) }
     ensures rose { OnErr result (Rose (D.fault_count disk.old) (D.fault_count disk.new)) }
-    ensures order { LeavesOnly D.moment D.leaves disk.old disk.new
-        (IsMadeInPart (D.image disk.old) image.now.size image.now.ninodes) }
+    ensures order { UnlessHolds D.Disk disk.old (LeavesOnly D.moment D.leaves disk.old disk.new
+        (IsMadeInPart (D.image disk.old) image.now.size image.now.ninodes)) }
 {
     write_block(disk, image, 0)?;
     for b in 2..image.size {
@@ -51,8 +51,8 @@ fn write_image<D: Disk>(disk: &mut D, image: &NewImage) -> Result<(), MkfsFault>
     ensures name { D.name disk.new ≡ D.name disk.old }
     ensures disk { IfErr result (λ fault. fault ≡ MkfsFault.Disk) }
     ensures rose { OnErr result (Rose (D.fault_count disk.old) (D.fault_count disk.new)) }
-    ensures order { LeavesOnly D.moment D.leaves disk.old disk.new
-        (IsMadeInPart (D.image disk.old) image.now.size image.now.ninodes) }
+    ensures order { UnlessHolds D.Disk disk.old (LeavesOnly D.moment D.leaves disk.old disk.new
+        (IsMadeInPart (D.image disk.old) image.now.size image.now.ninodes)) }
 {
     write_behind(disk, image)?;
     write_block(disk, image, 1)?;
@@ -83,9 +83,10 @@ pub fn mkfs<D: Disk>(alloc: Global, disk: &mut D, size: u32, ninodes: u32) -> Re
     ensures disk { OnDisk result (Rose (D.fault_count disk.old) (D.fault_count disk.new)) }
     ensures refused { OnRefusal result (disk.new ≡ disk.old) }
 
-    // A crash at any moment leaves the image after some of these writes, in this order.
-    ensures order { LeavesOnly D.moment D.leaves disk.old disk.new
-        (IsMadeInPart (D.image disk.old) size ninodes) }
+    // A crash at any moment leaves the image after some of these writes, in this order, unless the
+    // disk holds writes back: it makes no sync.
+    ensures order { UnlessHolds D.Disk disk.old (LeavesOnly D.moment D.leaves disk.old disk.new
+        (IsMadeInPart (D.image disk.old) size ninodes)) }
 {
     let fields = plan(size, ninodes)?;
     if disk.size() != size {

@@ -1,7 +1,6 @@
 -- What the steps of a process's operation make of files and image, by what they answer.
 use Rattle.std.specs.Prelude.{◌≡◌, ◌≢◌, ℕ, true, IsTrue, length, Option, Some, None}
 use Rattle.blocks.specs.Disk.{Image}
-use Rattle.blocks.specs.declared.errors.DiskFault.{DiskFault}
 use Rattle.model.specs.declared.types.image.Form.{Form}
 use Rattle.model.specs.declared.types.operations.Op.{Op}
 use Rattle.model.specs.declared.types.operations.Reply.{Reply}
@@ -29,15 +28,6 @@ FilesThen form op (progress.Decided reply) files P = Answers form op reply files
 FilesThen form op progress.Over files P = P files
 FilesThen form op (progress.Sleeping why) files P = P files
 FilesThen form op (progress.Fault fault) files P = P files
-
--- the fault of an answer
-abbrev pub fault_of_task : TaskProgress → Option DiskFault
-fault_of_task progress.Moved = None
-fault_of_task (progress.Turned reply) = None
-fault_of_task (progress.Decided reply) = None
-fault_of_task progress.Over = None
-fault_of_task (progress.Sleeping why) = None
-fault_of_task (progress.Fault fault) = Some fault
 
 -- the reply that stands from the turn on
 abbrev pub reply_at_turn : TaskProgress → Option Reply

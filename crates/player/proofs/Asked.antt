@@ -6,9 +6,9 @@ use Rattle.std.proofs.lemmas.Bool.{and_parts}
 use Rattle.std.proofs.lemmas.List.{length-append, length-map, map-append}
 use Rattle.std.proofs.lemmas.List.Folds.{list_all-append}
 use Rattle.blocks.specs.Calls.{OnlyReads}
-use Rattle.blocks.specs.Disk.{Image, IsSettled}
+use Rattle.blocks.specs.Disk.{Image}
 use Rattle.blocks.specs.declared.disk.Disk.{Ghosts}
-use Rattle.blocks.specs.declared.errors.DiskFault.{DiskFault}
+use Rattle.wal.specs.declared.types.DeviceFault.{DeviceFault}
 use Rattle.model.specs.Log.{logged_count}
 use Rattle.model.specs.Lemmas.Recovery.{logged_count-left}
 use Rattle.wal.specs.Volume.{faults_after}
@@ -38,7 +38,6 @@ use Rattle.player.specs.Asking.{IsAnswer, Rests, RestsThen, is_look, is_own_look
 use Rattle.player.specs.Stepping.{Plain, MakesPlainStep, MakesSteps, Moves, plain_herald, plain_queues}
 use Rattle.player.proofs.Looks.{last_answer_is}
 use Rattle.blocks.specs.Lemmas.Reads.{reads_none, reads_then}
-use Rattle.player.proofs.DiskReads.{looked_at}
 use Rattle.player.proofs.Stages.{StageAt, OverAt, busy_stands, commits_none, step_moves, step_answers, step_opens_none}
 use Rattle.player.proofs.Unshut.{unshut_still}
 
@@ -98,13 +97,10 @@ module _ {D N : Type 0} (disk : Ghosts D N) (op : Op) (look : is_look op ≡ tru
   over_then k m stage makes = stage_over k makes.mid m (stages_move makes.moved k k makes.mid stage makes.moves) makes.made
 
   -- a step of a look only reads
-  module _ (has_now : (d : D) → disk.leaves d (disk.moment d) (disk.image d)) (only_now : (d : D) → IsSettled (disk.image d) (disk.leaves d (disk.moment d)))
-      (counts_now : (d : D) (t : ℕ) (x : Image) → t ≤ disk.moment d → disk.leaves d (disk.moment d) x → disk.leaves d t x) where
+  module _ where
     step_reads : (r : Step) (k m n : Plain D) → Stage op k m → MakesPlainStep disk 0 r m n → OnlyReads disk m.store.volume.device n.store.volume.device
     step_reads r k m n stage made =
-        let uses = made.acts.device in
-        let none = commits_none op k.world.journal.list m.world.journal.list (process m.world 0).at (waiting m.intake 0) stage.stands in
-        looked_at disk has_now only_now counts_now m.store.volume.device n.store.volume.device uses.name (uses.image none) (uses.unwritten none) uses.time
+        made.acts.device.reads (commits_none op k.world.journal.list m.world.journal.list (process m.world 0).at (waiting m.intake 0) stage.stands)
 
     moves_read : (count : ℕ) (k m n : Plain D) → Stage op k m → Moves (MakesPlainStep disk 0) count m n → OnlyReads disk m.store.volume.device n.store.volume.device
     unfolding Moves
@@ -316,16 +312,15 @@ asked disk op r n k l m rests look same waits number bound fetched known_l known
     (subst (λ x. MakesSteps (MakesPlainStep disk 0) x l m) answered_so makes)
 
 -- meanwhile the disk was only read
-pub asked_reads : {D N : Type 0} (disk : Ghosts D N) (op : Op) (r : Step) (k l m : Plain D) → ((d : D) → disk.leaves d (disk.moment d) (disk.image d)) → ((d : D) → IsSettled (disk.image d) (disk.leaves d (disk.moment d)))
-    → ((d : D) (t : ℕ) (x : Image) → t ≤ disk.moment d → disk.leaves d (disk.moment d) x → disk.leaves d t x) → Rests disk.fault_count k → is_look op ≡ true → l ≡ record k { intake = l.intake }
+pub asked_reads : {D N : Type 0} (disk : Ghosts D N) (op : Op) (r : Step) (k l m : Plain D) → Rests disk.fault_count k → is_look op ≡ true → l ≡ record k { intake = l.intake }
     → waiting l.intake 0 ≡ waiting k.intake 0 ++ op ∷ [] → MakesSteps (MakesPlainStep disk 0) r l m → OnlyReads disk k.store.volume.device m.store.volume.device
-asked_reads disk op r k l m has_now only_now counts_now rests look same waits makes =
+asked_reads disk op r k l m rests look same waits makes =
     let handed = handed_in disk.fault_count op k l rests same waits in
     subst (λ d. OnlyReads disk d m.store.volume.device) (ap (λ s. s.store.volume.device) same)
-    (steps_read disk op look has_now only_now counts_now r l m (stage_first op l handed) makes)
+    (steps_read disk op look r l m (stage_first op l handed) makes)
 
 -- a step that isn't halted leaves no fault
-no_fault : (r : Step) (fault : Option DiskFault) (old new : ℕ) → r ≡ step.Answered → (r ≡ step.Halted) ↔ IsSome fault → new ≡ faults_after fault old → new ≡ old
+no_fault : (r : Step) (fault : Option DeviceFault) (old new : ℕ) → r ≡ step.Answered → (r ≡ step.Halted) ↔ IsSome fault → new ≡ faults_after fault old → new ≡ old
 no_fault r None old new so halted is = is
 no_fault r (Some fault) old new so halted is = let e : step.Answered ≡ step.Halted = sym so ∙ halted.1 refl in absurd (cc e)
 
@@ -366,10 +361,11 @@ rests_first disk d i h k opened empty fits =
         image = opened.opening;
         none = ap logged_count opened.opening ∙ logged_count-left (disk.image d);
         writes = opened.writes;
+        syncs = opened.syncs;
         faults = opened.faults;
       };
       name = opened.name;
-      leaves = opened.leaves;
+      leaves = opened.leaves.any_moment;
       device = ap (λ s. s.volume.device) opened.store;
       rests = record {
         one = ap (λ w. length w.processes) world;

@@ -12,4 +12,6 @@ faulty disk = record {
   leaves = λ d. disk.leaves d.inner;
   write_count = λ d. d.writes;
   fault_count = λ d. d.faults;
+  sync_count = λ d. disk.sync_count d.inner;
+  holding = λ n. disk.holding n.0;
 }

@@ -1,6 +1,6 @@
 -- What a run of turns keeps.
 use Rattle.std.proofs.Common.{◌≡◌, ◌∙◌, ℕ, zero, suc, Bool, true, false, List, [], ◌∷◌, refl, sym, ap, subst, arith, inl, inr, ⊎_elim, None}
-use Rattle.blocks.specs.Disk.{Image, LeavesOnly}
+use Rattle.blocks.specs.Disk.{Image}
 use Rattle.blocks.specs.Lemmas.Moments.{joined}
 use Rattle.blocks.specs.declared.disk.Disk.{Ghosts}
 use Rattle.blocks.specs.declared.faulty.FaultyDisk.{FaultyDisk}
@@ -10,7 +10,7 @@ use Rattle.model.specs.Lemmas.Recovery.{logged_count-left, recovers_once}
 use Rattle.model.specs.Lemmas.Soundness.{verdict_sound}
 use Rattle.model.specs.Verdict.{verdict}
 use Rattle.wal.specs.Lemmas.Commits.{empty_lawful}
-use Rattle.wal.specs.Recovery.{RecoversAs}
+use Rattle.wal.specs.Recovery.{LeavesIfCalm, RecoversAs}
 use Rattle.journal.specs.Keeps.{KeepsBetween, most_of}
 use Rattle.kernel.specs.declared.types.Step.{Step}
 use Rattle.kernel.specs.declared.types.Step.TheVariants as step
@@ -109,8 +109,8 @@ module _ {D N : Type 0} (below : Ghosts D N) (has_now : (d : D) → below.leaves
     now = is;
     keeps = runs;
     name = ap below.name is ∙ ap (λ n. n.0) name ∙ ready.name;
-    leaves = subst (λ o. LeavesOnly below.moment below.leaves d o P) (sym is)
-        (joined below.moment below.leaves d first last.kernel.store.volume.device.inner P (leaves_wider below.moment below.leaves d first (RecoversAs (below.image d)) P alike_kept ready.leaves)
+    leaves = subst (λ o. LeavesIfCalm below d o P) (sym is)
+        (λ calm. joined below.moment below.leaves d first last.kernel.store.volume.device.inner P (leaves_wider below.moment below.leaves d first (RecoversAs (below.image d)) P alike_kept (ready.leaves calm))
         (record {
           later = runs.leaves.later;
           each = λ x left. lower x (runs.leaves.each x left);

@@ -4,7 +4,6 @@ pub mod Openings
 pub mod Steps
 mod Disks
 pub mod Looks
-pub mod DiskReads
 pub mod Stages
 pub mod Unshut
 pub mod Asked

@@ -1,6 +1,6 @@
 -- A whole replay, from the recovery on.
 use Rattle.std.proofs.Common.{◌≡◌, ◌∙◌, ℕ, false, List, refl, sym, ap, subst, replicate, None, ⊎_elim}
-use Rattle.blocks.specs.Disk.{Image, IsSettled, LeavesOnly}
+use Rattle.blocks.specs.Disk.{Image, LeavesOnly}
 use Rattle.blocks.specs.Lemmas.Moments.{joined, started}
 use Rattle.blocks.specs.declared.disk.Disk.{Ghosts}
 use Rattle.blocks.specs.declared.faulty.FaultyDisk.{FaultyDisk}
@@ -19,7 +19,7 @@ use Rattle.clients.specs.Sources.{AreNewSources}
 use Rattle.rings.specs.Callers.{intake_names}
 use Rattle.rings.specs.declared.intake.RingIntake.{RingIntake}
 use Rattle.scripts.specs.declared.script.Task.{Task}
-use Rattle.wal.specs.Recovery.{RecoversAs, writes_to_recover}
+use Rattle.wal.specs.Recovery.{IsCalm, LeavesIfCalm, RecoversAs, writes_to_recover}
 use Rattle.player.specs.Afterwards.{IsUnopenedOver, RefusesOver}
 use Rattle.player.specs.Opening.{IsOpenedOver}
 use Rattle.player.specs.Stepping.{Ringed}
@@ -60,31 +60,31 @@ module _ {D N : Type 0} (below : Ghosts D N) where
   pub opened_name : (d : D) (fd : FaultyDisk D) (i : RingIntake) (h : BoardHerald) (processes : ℕ) (k : Ringed (FaultyDisk D)) → fd.inner ≡ d → IsOpened (faulty below) fd i h processes k → below.name k.store.volume.device.inner ≡ below.name d
   opened_name d fd i h processes k is opened = ap (λ s. below.name s.volume.device.inner) opened.store ∙ ap (λ n. n.0) opened.name ∙ ap below.name is
 
-  pub opened_only : (d : D) (fd : FaultyDisk D) (i : RingIntake) (h : BoardHerald) (processes : ℕ) (k : Ringed (FaultyDisk D)) → fd.inner ≡ d → IsOpened (faulty below) fd i h processes k → LeavesOnly below.moment below.leaves d k.store.volume.device.inner (RecoversAs (below.image d))
+  pub opened_only : (d : D) (fd : FaultyDisk D) (i : RingIntake) (h : BoardHerald) (processes : ℕ) (k : Ringed (FaultyDisk D)) → fd.inner ≡ d → IsOpened (faulty below) fd i h processes k → LeavesIfCalm below d k.store.volume.device.inner (RecoversAs (below.image d))
   opened_only d fd i h processes k is opened =
-      subst (λ o. LeavesOnly below.moment below.leaves o k.store.volume.device.inner (RecoversAs (below.image o))) is
-      (subst (λ o. LeavesOnly below.moment below.leaves fd.inner o (RecoversAs (below.image fd.inner))) (sym (ap (λ s. s.volume.device.inner) opened.store)) (leaves_below fd k.opening (RecoversAs (below.image fd.inner)) opened.leaves))
+      subst (λ o. LeavesIfCalm below o k.store.volume.device.inner (RecoversAs (below.image o))) is
+      (subst (λ o. LeavesIfCalm below fd.inner o (RecoversAs (below.image fd.inner))) (sym (ap (λ s. s.volume.device.inner) opened.store)) (λ calm. leaves_below fd k.opening (RecoversAs (below.image fd.inner)) (opened.leaves.any_moment calm)))
 
   -- and below one that was not
   pub over_name : (processes : ℕ) (d e : D) (r : Refusal) → IsUnopenedOver (faulty below) processes d e r → below.name e ≡ below.name d
   over_name processes d e r why =
       ⊎_elim (λ refused. ap below.name refused.1) (λ refuses. sym (ap below.name refuses.below_now) ∙ ap (λ n. n.0) refuses.refuses.name ∙ ap below.name refuses.below) why
 
-  pub over_only : ((d : D) → IsSettled (below.image d) (below.leaves d (below.moment d))) → (processes : ℕ) (d e : D) (r : Refusal) → IsUnopenedOver (faulty below) processes d e r → LeavesOnly below.moment below.leaves d e (RecoversAs (below.image d))
-  over_only only_now processes d e r why = ⊎_elim (λ refused. stayed refused.1) told why
+  pub over_only : (processes : ℕ) (d e : D) (r : Refusal) → IsUnopenedOver (faulty below) processes d e r → LeavesIfCalm below d e (RecoversAs (below.image d))
+  over_only processes d e r why = ⊎_elim (λ refused. stayed refused.1) told why
     where
-      stayed : e ≡ d → LeavesOnly below.moment below.leaves d e (RecoversAs (below.image d))
-      stayed is = subst (λ o. LeavesOnly below.moment below.leaves d o (RecoversAs (below.image d))) (sym is)
-          (started below.moment below.leaves d (RecoversAs (below.image d)) (λ x left. subst (RecoversAs (below.image d)) (sym (only_now d x left)) (record { image = refl; lawful = refl })))
+      stayed : e ≡ d → LeavesIfCalm below d e (RecoversAs (below.image d))
+      stayed is = subst (λ o. LeavesIfCalm below d o (RecoversAs (below.image d))) (sym is)
+          (λ calm. started below.moment below.leaves d (RecoversAs (below.image d)) (λ x left. subst (RecoversAs (below.image d)) (sym (calm x left)) (record { image = refl; lawful = refl })))
 
-      told : RefusesOver (faulty below) processes d e r → LeavesOnly below.moment below.leaves d e (RecoversAs (below.image d))
+      told : RefusesOver (faulty below) processes d e r → LeavesIfCalm below d e (RecoversAs (below.image d))
       told refuses =
-          subst (λ o. LeavesOnly below.moment below.leaves o e (RecoversAs (below.image o))) refuses.below
-          (subst (λ o. LeavesOnly below.moment below.leaves refuses.over.inner o (RecoversAs (below.image refuses.over.inner))) refuses.below_now (leaves_below refuses.over refuses.now (RecoversAs (below.image refuses.over.inner)) refuses.refuses.leaves))
+          subst (λ o. LeavesIfCalm below o e (RecoversAs (below.image o))) refuses.below
+          (subst (λ o. LeavesIfCalm below refuses.over.inner o (RecoversAs (below.image refuses.over.inner))) refuses.below_now (λ calm. leaves_below refuses.over refuses.now (RecoversAs (below.image refuses.over.inner)) (refuses.refuses.leaves.any_moment calm)))
 
   -- a recovery, and what follows it
-  pub recovered_then : (d mid e : D) → verdict (below.image d) ≡ None → below.image mid ≡ recovered (below.image d) → LeavesOnly below.moment below.leaves d mid (RecoversAs (below.image d)) → LeavesOnly below.moment below.leaves mid e (RecoversAs (below.image mid))
-      → LeavesOnly below.moment below.leaves d e (RecoversAs (below.image d))
-  recovered_then d mid e sound is first then_on =
-      joined below.moment below.leaves d mid e (RecoversAs (below.image d)) first
-      (leaves_wider below.moment below.leaves mid e (RecoversAs (below.image mid)) (RecoversAs (below.image d)) (λ z alike. recovers_before (below.image d) (below.image mid) z sound is alike) then_on)
+  pub recovered_then : (d mid e : D) → verdict (below.image d) ≡ None → below.image mid ≡ recovered (below.image d) → IsCalm below mid → LeavesIfCalm below d mid (RecoversAs (below.image d)) → LeavesIfCalm below mid e (RecoversAs (below.image mid))
+      → LeavesIfCalm below d e (RecoversAs (below.image d))
+  recovered_then d mid e sound is settled first then_on calm =
+      joined below.moment below.leaves d mid e (RecoversAs (below.image d)) (first calm)
+      (leaves_wider below.moment below.leaves mid e (RecoversAs (below.image mid)) (RecoversAs (below.image d)) (λ z alike. recovers_before (below.image d) (below.image mid) z sound is alike) (then_on settled))

@@ -6,7 +6,7 @@ use Rattle.std.proofs.lemmas.List.{flat_map_more, take_more, take-append-drop, t
 use Rattle.std.proofs.KnownBytes.{Appends-trans}
 use Rattle.blocks.specs.declared.disk.Disk.{Ghosts}
 use Rattle.blocks.specs.declared.faulty.Trap.{Trap}
-use Rattle.blocks.specs.declared.errors.DiskFault.{DiskFault}
+use Rattle.wal.specs.declared.types.DeviceFault.{DeviceFault}
 use Rattle.blocks.specs.declared.faulty.FaultyDisk.{FaultyDisk}
 use Rattle.scripts.specs.declared.schedule.Word.{Word}
 use Rattle.texts.specs.declared.events.Event.{Event}
@@ -104,7 +104,7 @@ all_broken disk stop words old new text printed plays = record {
 }
 
 -- the counts behind the turns
-pub counts_printed : {D N : Type 0} (disk : Ghosts (FaultyDisk D) (N × Trap)) (stop base : ℕ) (words : List Word) (old new : Player D N) (fault : Option DiskFault) (text mid printed : Option (List ℕ)) → PlaysTo disk stop words old new text mid
+pub counts_printed : {D N : Type 0} (disk : Ghosts (FaultyDisk D) (N × Trap)) (stop base : ℕ) (words : List Word) (old new : Player D N) (fault : Option DeviceFault) (text mid printed : Option (List ℕ)) → PlaysTo disk stop words old new text mid
     → kernel_fault new.kernel ≡ fault → Appends mid printed (kernel_counts disk base new.kernel) → RunsTo disk stop base words old new fault text printed
 counts_printed disk stop base words old new fault text mid printed plays told counts = record {
   events = plays.events;

@@ -2,7 +2,7 @@
 use Rattle.std.proofs.Common.{ℕ, List, refl, subst, sym, ⊎_elim}
 use Rattle.std.specs.Prelude.{◌≡◌, ◌≢◌, Result, Ok, Err, OnOk, IfErr, Option, Some, None, option_map}
 use Rattle.blocks.specs.declared.disk.Disk.{Ghosts}
-use Rattle.blocks.specs.declared.errors.DiskFault.{DiskFault}
+use Rattle.wal.specs.declared.types.DeviceFault.{DeviceFault}
 use Rattle.blocks.specs.declared.faulty.FaultyDisk.{FaultyDisk}
 use Rattle.blocks.specs.declared.faulty.Trap.{Trap}
 use Rattle.scripts.specs.declared.schedule.Word.{Word}
@@ -22,13 +22,13 @@ pub on_ok_both : (r : Result (Unit {0}) Refusal) (P Q R : Type 0) → (P → Q �
 on_ok_both (Ok _) P Q R f h k = f h k
 on_ok_both (Err _) P Q R f h k = h
 
-told : (found : Option DiskFault) (fault : DiskFault) → option_map Disk found ≡ Some (Disk fault) → found ≡ Some fault
+told : (found : Option DeviceFault) (fault : DeviceFault) → option_map Disk found ≡ Some (Disk fault) → found ≡ Some fault
 told None fault is = cc
 told (Some other) fault is = cc
 
 -- a refusal of a run that is no want of output tells the fault that was found
 module _ {D N : Type 0} (disk : Ghosts (FaultyDisk D) (N × Trap)) (stop base : ℕ) (words : List Word) (old new : Player D N) (text printed : Option (List ℕ)) where
-  pub broken_off : (r : Result (Unit {0}) Refusal) (P : Type 0) → ((fault : Option DiskFault) → kernel_fault new.kernel ≡ fault → P → RunsTo disk stop base words old new fault text printed) → BreaksOff disk stop words old new → IfErr r (λ x. OnRefusal x P ⊥)
+  pub broken_off : (r : Result (Unit {0}) Refusal) (P : Type 0) → ((fault : Option DeviceFault) → kernel_fault new.kernel ≡ fault → P → RunsTo disk stop base words old new fault text printed) → BreaksOff disk stop words old new → IfErr r (λ x. OnRefusal x P ⊥)
       → IfErr r (λ x. x ≢ Output → option_map Disk (kernel_fault new.kernel) ≡ Some x) → IfErr r (IsBrokenOff disk stop base words old new text printed)
   broken_off (Ok _) P f breaks h is = h
   broken_off (Err (Disk fault)) P f breaks h is = f (Some fault) (told (kernel_fault new.kernel) fault (is (λ e. cc))) h
@@ -53,7 +53,7 @@ module _ {D N : Type 0} (below : Ghosts D N) (disk : Ghosts (FaultyDisk D) (N ×
   pub unopened_over_so : (r : Refusal) → IsUnopenedOver disk processes d e r → IsOpening r
   unopened_over_so r why = ⊎_elim (λ refused. subst IsOpening (sym refused.0) tt) (λ refuses. told_of_opening refuses.fault r refuses.told) why
 
-  pub unrecovered_so : (r : Refusal) → r ≢ Output → IsUnrecovered below.image below.fault_count d e r → IsOpening r
+  pub unrecovered_so : (r : Refusal) → r ≢ Output → IsUnrecovered below d e r → IsOpening r
   unrecovered_so (Check fault) other why = tt
   unrecovered_so (Recover fault) other why = tt
   unrecovered_so Output other why = absurd (other refl)
@@ -101,7 +101,7 @@ opening_of_replay Output opens = absurd opens
 -- what a run that was refused is to the whole replay
 module _ {D N : Type 0} (below : Ghosts D N) (disk : Ghosts (FaultyDisk D) (N × Trap)) (d e : D) (tasks : List Task) (processes : ℕ) (words : List Word) (stop s base : ℕ) (same : s ≡ stop) (text printed : Option (List ℕ)) (player last : Player D N)
     (ready : IsReadyOver below disk d tasks processes s player) (counts : base ≡ disk.write_count player.kernel.store.volume.device) (played : IsPlayedOn below disk d e player last) where
-  pub replayed : (fault : Option DiskFault) → RunsTo disk s base words player last fault text printed → Replays below disk d e tasks processes words stop fault text printed
+  pub replayed : (fault : Option DeviceFault) → RunsTo disk s base words player last fault text printed → Replays below disk d e tasks processes words stop fault text printed
   replayed fault runs = record {
     player = player;
     last = last;

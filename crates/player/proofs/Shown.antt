@@ -5,14 +5,14 @@ use Rattle.std.proofs.KnownBytes.{Appends-trans}
 use Rattle.std.specs.Prelude.{◌⊎◌, option_map}
 use Rattle.std.specs.Io.KnownBytes.{Appends, Keeps}
 use Rattle.blocks.specs.Calls.{OnlyReads}
-use Rattle.blocks.specs.Disk.{Image, LeavesOnly, Rose}
+use Rattle.blocks.specs.Disk.{Image, Rose}
 use Rattle.blocks.specs.Lemmas.Moments.{stays}
 use Rattle.blocks.specs.declared.disk.Disk.{Ghosts}
 use Rattle.model.specs.Files.{files_of, file_in}
 use Rattle.model.specs.Log.{logged_count}
 use Rattle.model.specs.Operations.{part_of}
 use Rattle.model.specs.declared.types.image.File.{File}
-use Rattle.wal.specs.Recovery.{RecoversAs}
+use Rattle.wal.specs.Recovery.{LeavesIfCalm, RecoversAs}
 use Rattle.opening.specs.Openings.{IsOpening, IsUnopened}
 use Rattle.player.specs.Afterwards.{FailsRecovered}
 use Rattle.player.specs.Asking.{IsUnanswered, part_at, size_at}
@@ -110,6 +110,7 @@ module _ {D N : Type 0} (disk : Ghosts D N) (d : D) (k : Plain D) (reader : IsRe
     image = reads.image ∙ reader.recovers.image;
     none = ap logged_count reads.image ∙ reader.recovers.none;
     writes = reads.writes ∙ reader.recovers.writes;
+    syncs = reads.syncs ∙ reader.recovers.syncs;
     faults = same ∙ reader.recovers.faults;
   }
 
@@ -142,8 +143,8 @@ module _ {D N : Type 0} (disk : Ghosts D N) (d : D) (k : Plain D) (reader : IsRe
   not_shown i old new none Output why = recovered_still why
 
   -- what a stop leaves
-  pub leaves_still : LeavesOnly disk.moment disk.leaves d e (RecoversAs (disk.image d))
-  leaves_still = stays disk.moment disk.leaves d k.opening e (RecoversAs (disk.image d)) reader.leaves reads.time
+  pub leaves_still : LeavesIfCalm disk d e (RecoversAs (disk.image d))
+  leaves_still calm = stays disk.moment disk.leaves d k.opening e (RecoversAs (disk.image d)) (reader.leaves calm) reads.time
 
 -- a refusal of the opening is one of a file that isn't shown
 pub opening_refused : {D N : Type 0} (disk : Ghosts D N) (d e : D) (i : ℕ) (old new : Option (List ℕ)) (none : Type 0) (r : Refusal) → IsOpening r → IsUnopened disk 1 d e r → none → IsNotShown disk d e i old new none r

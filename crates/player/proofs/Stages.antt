@@ -5,7 +5,7 @@ use Rattle.std.proofs.lemmas.List.{set-get_or}
 use Rattle.std.proofs.Math.Seq.{set-append_seam}
 use mathlib.Core.List.{IsPrefix}
 use Rattle.blocks.specs.declared.disk.Disk.{Ghosts}
-use Rattle.blocks.specs.declared.errors.DiskFault.{DiskFault}
+use Rattle.wal.specs.declared.types.DeviceFault.{DeviceFault}
 use Rattle.model.specs.declared.types.operations.Entry.{Entry}
 use Rattle.model.specs.declared.types.operations.Op.{Op}
 use Rattle.model.specs.declared.types.operations.Op.TheVariants.{Create, Write, Read, Trunc, Remove, Stat}
@@ -243,12 +243,12 @@ module _ {D N : Type 0} (disk : Ghosts D N) (op : Op) (es : List Entry) (s : Sto
   answered_at (at.Committing group k) stands next stage = absurd stage
 
   -- a step that moves
-  pub step_moves : (f : Option DiskFault) → NextIf disk f s w 0 before side heard step.Moved t z → StageAt op es (process w 0).at before w.journal.list → BusyAt op es (process z 0).at z.journal.list
+  pub step_moves : (f : Option DeviceFault) → NextIf disk f s w 0 before side heard step.Moved t z → StageAt op es (process w 0).at before w.journal.list → BusyAt op es (process z 0).at z.journal.list
   step_moves None next stage = moved_at (process w 0).at refl next stage
   step_moves (Some fault) next stage = let e = next.0 in absurd (cc e)
 
   -- and one with which the operation is answered
-  pub step_answers : (f : Option DiskFault) → NextIf disk f s w 0 before side heard step.Answered t z → StageAt op es (process w 0).at before w.journal.list → OverAt op es z
+  pub step_answers : (f : Option DeviceFault) → NextIf disk f s w 0 before side heard step.Answered t z → StageAt op es (process w 0).at before w.journal.list → OverAt op es z
   step_answers None next stage = answered_at (process w 0).at refl next stage
   step_answers (Some fault) next stage = let e = next.0 in absurd (cc e)
 
@@ -298,6 +298,6 @@ module _ {D N : Type 0} (disk : Ghosts D N) (op : Op) (es : List Entry) (s : Sto
   open_at r (at.Committing group k) look next stage = absurd stage
 
   -- no step of a look opens an operation in the log
-  pub step_opens_none : (r : Step) (f : Option DiskFault) → is_look op ≡ true → NextIf disk f s w 0 before side heard r t z → StageAt op es (process w 0).at before w.journal.list → t.volume.log.outstanding ≡ 0
+  pub step_opens_none : (r : Step) (f : Option DeviceFault) → is_look op ≡ true → NextIf disk f s w 0 before side heard r t z → StageAt op es (process w 0).at before w.journal.list → t.volume.log.outstanding ≡ 0
   step_opens_none r None look next stage = open_at r (process w 0).at look next stage
   step_opens_none r (Some fault) look next stage = ap (λ (o : StoreState D). o.volume.log.outstanding) next.1.0 ∙ unopened

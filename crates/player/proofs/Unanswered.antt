@@ -5,7 +5,7 @@ use Rattle.std.specs.Prelude.{min, nat_lt, ◌⊎◌, ◌↔◌, IsSome}
 use Rattle.std.specs.List.{list_all}
 use Rattle.blocks.specs.Disk.{Rose, one_more}
 use Rattle.blocks.specs.declared.disk.Disk.{Ghosts}
-use Rattle.blocks.specs.declared.errors.DiskFault.{DiskFault}
+use Rattle.wal.specs.declared.types.DeviceFault.{DeviceFault}
 use Rattle.model.specs.declared.types.operations.Entry.{Entry}
 use Rattle.model.specs.declared.types.operations.Op.{Op}
 use Rattle.model.specs.declared.types.operations.Why.{Why}
@@ -75,7 +75,7 @@ module _ {D N : Type 0} (disk : Ghosts D N) (sole : SoleWaitsForAnswers disk pla
       let there = stages_move disk op look makes.moved l l mid (stage_first op l handed) makes.moves in
       goes_or_ends disk op l.world.journal.list mid.store mid.world there.unshut (waiting mid.intake 0) (plain_queues.side m.intake 0) false refl m.store m.world r mid.store.volume.fault makes.made.acts.next there.stands
 
-  halts_not : (f : Option DiskFault) → f ≡ None → (step.Halted ≡ step.Halted) ↔ IsSome f → ⊥
+  halts_not : (f : Option DeviceFault) → f ≡ None → (step.Halted ≡ step.Halted) ↔ IsSome f → ⊥
   halts_not None well halted = let is = halted.0 refl in cc is
   halts_not (Some fault) well halted = cc well
 
@@ -103,9 +103,9 @@ same_at_most : (a b : ℕ) → b ≡ a → a ≤ b
 same_at_most a b is = omega (arith, is)
 
 -- the disk failed
-pub has_failed : {D N : Type 0} (disk : Ghosts D N) (m : Plain D) (fault : DiskFault) → Known disk plain_queues plain_herald m → m.store.volume.fault ≡ Some fault → Rose (disk.fault_count m.opening) (disk.fault_count m.store.volume.device)
-has_failed disk m fault known is = same_at_most (one_more (disk.fault_count m.opening)) (disk.fault_count m.store.volume.device) (known.faults ∙ ap (λ (f : Option DiskFault). faults_after f (disk.fault_count m.opening)) is)
+pub has_failed : {D N : Type 0} (disk : Ghosts D N) (m : Plain D) (fault : DeviceFault) → Known disk plain_queues plain_herald m → m.store.volume.fault ≡ Some fault → Rose (disk.fault_count m.opening) (disk.fault_count m.store.volume.device)
+has_failed disk m fault known is = same_at_most (one_more (disk.fault_count m.opening)) (disk.fault_count m.store.volume.device) (known.faults ∙ ap (λ (f : Option DeviceFault). faults_after f (disk.fault_count m.opening)) is)
 
 -- or it did not
 pub is_faultless : {D N : Type 0} (disk : Ghosts D N) (m : Plain D) → Known disk plain_queues plain_herald m → m.store.volume.fault ≡ None → disk.fault_count m.store.volume.device ≡ disk.fault_count m.opening
-is_faultless disk m known is = known.faults ∙ ap (λ (f : Option DiskFault). faults_after f (disk.fault_count m.opening)) is
+is_faultless disk m known is = known.faults ∙ ap (λ (f : Option DeviceFault). faults_after f (disk.fault_count m.opening)) is

@@ -4,7 +4,7 @@ use Rattle.std.proofs.Common.{◌≡◌, ◌∙◌, inl, inr, ℕ, zero, suc, Bo
 use Rattle.std.specs.Option.{option_map}
 use mathlib.Core.List.{IsPrefix}
 use Rattle.blocks.specs.declared.disk.Disk.{Ghosts}
-use Rattle.blocks.specs.declared.errors.DiskFault.{DiskFault}
+use Rattle.wal.specs.declared.types.DeviceFault.{DeviceFault}
 use Rattle.model.specs.declared.types.operations.Entry.{Entry}
 use Rattle.model.specs.declared.types.operations.Op.{Op}
 use Rattle.model.specs.declared.types.operations.Reply.{Reply}
@@ -130,7 +130,7 @@ module _ {D N : Type 0} (disk : Ghosts D N) (op : Op) (es : List Entry) (s : Sto
   unshut_at r (at.Committing group k) next stage = absurd stage
 
   -- behind a step the kernel is not shut
-  pub unshut_still : (r : Step) (f : Option DiskFault) → NextIf disk f s w 0 before side heard r t z → StageAt op es (process w 0).at before w.journal.list → z.is_shut ≡ false
+  pub unshut_still : (r : Step) (f : Option DeviceFault) → NextIf disk f s w 0 before side heard r t z → StageAt op es (process w 0).at before w.journal.list → z.is_shut ≡ false
   unshut_still r None next stage = same_shut (unshut_at r (process w 0).at next stage)
   unshut_still r (Some fault) next stage = same_shut (ap (λ (v : World). v.is_shut) next.1.1)
 
@@ -151,6 +151,6 @@ module _ {D N : Type 0} (disk : Ghosts D N) (op : Op) (es : List Entry) (s : Sto
   goes_at r (at.Committing group k) next stage = absurd stage
 
   -- and it does not answer that it was, nor that nothing waits
-  pub goes_or_ends : (r : Step) (f : Option DiskFault) → NextIf disk f s w 0 before side heard r t z → StageAt op es (process w 0).at before w.journal.list → GoesOnOrEnds r
+  pub goes_or_ends : (r : Step) (f : Option DeviceFault) → NextIf disk f s w 0 before side heard r t z → StageAt op es (process w 0).at before w.journal.list → GoesOnOrEnds r
   goes_or_ends r None next stage = goes_at r (process w 0).at next stage
   goes_or_ends r (Some fault) next stage = as_said r step.Halted next.0 tt

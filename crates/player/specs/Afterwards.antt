@@ -43,6 +43,6 @@ IsUnopenedOver disk processes d e r = HasNoRoom d e r ⊎ RefusesOver disk proce
 abbrev pub IsUnready : {D N : Type 0} → Ghosts D N → Ghosts (FaultyDisk D) (N × Trap) → ℕ → D → D
     → Refusal → Type 0
 IsUnready {D} below disk processes d e r = HasNoRoom d e r
-    ⊎ (IsUnrecovered below.image below.fault_count d e r
+    ⊎ (IsUnrecovered below d e r
     ⊎ ((mid : D) × IsRecovered below (logged_count (below.image d)) d mid
     × IsUnopenedOver disk processes mid e r))

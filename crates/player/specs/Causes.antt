@@ -10,7 +10,8 @@ use Rattle.model.specs.Layout.{is_inode_count, is_size}
 use Rattle.model.specs.Log.{logged_count, recovered}
 use Rattle.model.specs.Verdict.{verdict}
 use Rattle.model.specs.declared.types.image.Form.TheVariants.{One}
-use Rattle.wal.specs.Recovery.{writes_to_recover}
+use Rattle.wal.specs.Recovery.{syncs_to_recover, writes_to_recover}
+use Rattle.kernel.specs.Opening.{IsRecoverCause}
 use Rattle.wal.specs.declared.faults.RecoverFault.TheVariants as recover
 use Rattle.texts.specs.declared.refusal.Refusal.{Refusal}
 use Rattle.texts.specs.declared.refusal.Refusal.TheVariants.{Mkfs, Check, Recover, Output}
@@ -34,16 +35,17 @@ IsUnmade image faults size ninodes d e _ = ⊥
 
 -- the disk d, now e, was checked and not recovered, or how many blocks were copied could not be
 -- printed
-abbrev pub IsUnrecovered : {D : Type 0} → (D → Image) → (D → ℕ) → D → D → Refusal → Type 0
-IsUnrecovered image faults d e (Check fault) =
-    IsCause (verdict (image d)) (faults d) (faults e) fault × (image e ≡ image d)
-IsUnrecovered image faults d e (Recover recover.Disk) =
-    (verdict (image d) ≡ None) × Rose (faults d) (faults e)
-IsUnrecovered image faults d e (Recover recover.BadLog) = ⊥
-IsUnrecovered image faults d e (Recover recover.NoMemory) =
-    (verdict (image d) ≡ None) × (image e ≡ image d)
-IsUnrecovered image faults d e Output = (verdict (image d) ≡ None) × (image e ≡ recovered (image d))
-IsUnrecovered image faults d e _ = ⊥
+abbrev pub IsUnrecovered : {D N : Type 0} → Ghosts D N → D → D → Refusal → Type 0
+IsUnrecovered disk d e (Check fault) =
+    IsCause (verdict (disk.image d)) (disk.fault_count d) (disk.fault_count e) fault
+    × (disk.image e ≡ disk.image d)
+IsUnrecovered disk d e (Recover recover.NoMemory) =
+    (verdict (disk.image d) ≡ None) × (disk.image e ≡ disk.image d)
+IsUnrecovered disk d e (Recover fault) =
+    (verdict (disk.image d) ≡ None) × IsRecoverCause disk d e fault
+IsUnrecovered disk d e Output =
+    (verdict (disk.image d) ≡ None) × (disk.image e ≡ recovered (disk.image d))
+IsUnrecovered disk d e _ = ⊥
 
 -- the disk of an image without a fault was recovered, with so many blocks copied, and nothing is
 -- logged any more
@@ -53,4 +55,6 @@ pub record IsRecovered {D N : Type 0} (disk : Ghosts D N) (copied : ℕ) (old ne
   pub image : disk.image new ≡ recovered (disk.image old)
   pub none : logged_count (disk.image new) ≡ 0
   pub writes : disk.write_count new ≡ counted (disk.write_count old) (writes_to_recover copied)
+  pub syncs : disk.sync_count new
+      ≡ counted (disk.sync_count old) (syncs_to_recover (disk.holding (disk.name old)) copied)
   pub faults : disk.fault_count new ≡ disk.fault_count old

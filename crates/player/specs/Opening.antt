@@ -1,7 +1,7 @@
 -- A player at its opening, and a whole replay.
 use Rattle.std.specs.Prelude.{◌≡◌, ℕ, false, List, replicate, Option, Some, None}
-use Rattle.blocks.specs.Disk.{Image, LeavesOnly}
-use Rattle.blocks.specs.declared.errors.DiskFault.{DiskFault}
+use Rattle.blocks.specs.Disk.{Image}
+use Rattle.wal.specs.declared.types.DeviceFault.{DeviceFault}
 use Rattle.blocks.specs.FaultyDisk.{inner_of, trap_of}
 use Rattle.blocks.specs.declared.disk.Disk.{Ghosts}
 use Rattle.blocks.specs.declared.faulty.FaultyDisk.{FaultyDisk}
@@ -19,7 +19,7 @@ use Rattle.scripts.specs.declared.schedule.Word.{Word}
 use Rattle.scripts.specs.declared.script.Task.{Task}
 use Rattle.journal.specs.Keeps.{KeepsBetween, most_of}
 use Rattle.kernel.specs.Runs.{RunsOn}
-use Rattle.wal.specs.Recovery.{RecoversAs, writes_to_recover}
+use Rattle.wal.specs.Recovery.{LeavesIfCalm, RecoversAs, writes_to_recover}
 use Rattle.player.specs.Afterwards.{IsUnready}
 use Rattle.board.specs.Boards.{asked}
 use Rattle.clients.specs.Sources.{AreNewSources}
@@ -56,7 +56,7 @@ IsArmed disk stop d = trap_of d ≡ record {
 }
 
 -- The disk d was recovered, and a player of these operations opened over it, which made no write.
--- Whatever a stop left until then is recovered as d is.
+-- Whatever a stop left until then, where nothing was held on d, is recovered as d is.
 pub record IsReadyOver {D N : Type 0} (below : Ghosts D N) (disk : Ghosts (FaultyDisk D) (N × Trap))
     (d : D) (tasks : List Task) (processes stop : ℕ) (player : Player D N) : Type 0 where
   pub sound : verdict (below.image d) ≡ None
@@ -65,8 +65,8 @@ pub record IsReadyOver {D N : Type 0} (below : Ghosts D N) (disk : Ghosts (Fault
       ≡ counted (below.write_count d) (writes_to_recover (logged_count (below.image d)))
   pub armed : IsArmed disk stop player.kernel.store.volume.device
   pub name : below.name (inner_of player.kernel.store.volume.device) ≡ below.name d
-  pub leaves : LeavesOnly below.moment below.leaves
-      d (inner_of player.kernel.store.volume.device) (RecoversAs (below.image d))
+  pub leaves : LeavesIfCalm below d (inner_of player.kernel.store.volume.device)
+      (RecoversAs (below.image d))
 
 -- what a stop leaves that keeps some of the groups that a kernel committed, on a disk that was d
 abbrev pub KeepsSome : {D N : Type 0} → Ghosts (FaultyDisk D) (N × Trap) → Ringed (FaultyDisk D)
@@ -81,14 +81,14 @@ pub record IsPlayedOn {D N : Type 0} (below : Ghosts D N) (disk : Ghosts (Faulty
   pub now : e ≡ inner_of last.kernel.store.volume.device
   pub keeps : RunsOn disk player.kernel last.kernel
   pub name : below.name e ≡ below.name d
-  pub leaves : LeavesOnly below.moment below.leaves d e (KeepsSome disk last.kernel)
+  pub leaves : LeavesIfCalm below d e (KeepsSome disk last.kernel)
 
 -- The disk d, now e, was recovered. A player was opened over it, and made the turns of these words.
 -- Printed are their lines and the counts, of writes from behind the recovery on; the write to be
 -- stopped is counted from there, too. This fault is told of the disk.
 pub record Replays {D N : Type 0} (below : Ghosts D N) (disk : Ghosts (FaultyDisk D) (N × Trap))
     (d e : D) (tasks : List Task) (processes : ℕ) (words : List Word) (stop : ℕ)
-    (fault : Option DiskFault) (text printed : Option (List ℕ)) : Type 0 where
+    (fault : Option DeviceFault) (text printed : Option (List ℕ)) : Type 0 where
   pub player : Player D N
   pub last : Player D N
   pub ready : IsReadyOver below disk d tasks processes stop player
@@ -113,7 +113,7 @@ pub record HasNotBegun {D N : Type 0} (below : Ghosts D N)
     : Type 0 where
   pub cause : IsUnready below disk processes d e r
   pub name : below.name e ≡ below.name d
-  pub leaves : LeavesOnly below.moment below.leaves d e (RecoversAs (below.image d))
+  pub leaves : LeavesIfCalm below d e (RecoversAs (below.image d))
 
 -- why a replay over the disk d, now e, was refused, and what it came to; `none` says that nothing
 -- was printed

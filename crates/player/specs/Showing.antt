@@ -1,13 +1,13 @@
 -- What is written of a file of an image.
 use Rattle.std.specs.Prelude.{◌≡◌, ◌⊎◌, ℕ, List, [], take, Option, Some, None}
 use Rattle.std.specs.Io.KnownBytes.{Appends}
-use Rattle.blocks.specs.Disk.{Image, LeavesOnly, Rose}
+use Rattle.blocks.specs.Disk.{Image, Rose}
 use Rattle.blocks.specs.declared.disk.Disk.{Ghosts}
 use Rattle.model.specs.Files.{files_of, file_in}
 use Rattle.model.specs.Log.{logged_count, recovered}
 use Rattle.model.specs.Verdict.{verdict}
 use Rattle.model.specs.declared.types.image.File.{File}
-use Rattle.wal.specs.Recovery.{RecoversAs}
+use Rattle.wal.specs.Recovery.{LeavesIfCalm, RecoversAs}
 use Rattle.opening.specs.Openings.{IsUnopened}
 use Rattle.player.specs.Afterwards.{FailsRecovered}
 use Rattle.player.specs.Asking.{Rests, IsRefusedMemory, asked_count}
@@ -53,7 +53,7 @@ bytes_at x i = bytes_of (file_in (files_of x) i)
 pub record IsReaderOf {D N : Type 0} (disk : Ghosts D N) (d : D) (k : Plain D) : Type 0 where
   pub recovers : IsRecovered disk (logged_count (disk.image d)) d k.opening
   pub name : disk.name k.opening ≡ disk.name d
-  pub leaves : LeavesOnly disk.moment disk.leaves d k.opening (RecoversAs (disk.image d))
+  pub leaves : LeavesIfCalm disk d k.opening (RecoversAs (disk.image d))
   pub device : k.store.volume.device ≡ k.opening
   pub rests : Rests disk.fault_count k
   pub none_asked : asked_count k ≡ 0

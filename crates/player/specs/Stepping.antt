@@ -2,7 +2,7 @@
 use Rattle.std.specs.Prelude.{◌≡◌, ◌≢◌, ℕ, zero, suc, ◌-◌, ◌<◌, true, false, length, List, [], ◌∷◌, ◌++◌, flat_map, set, slice_get, take, Option, Some, None}
 use Rattle.std.specs.Io.KnownBytes.{Appends}
 use mathlib.Core.List.{IsPrefix}
-use Rattle.blocks.specs.declared.errors.DiskFault.{DiskFault}
+use Rattle.wal.specs.declared.types.DeviceFault.{DeviceFault}
 use Rattle.blocks.specs.declared.disk.Disk.{Ghosts}
 use Rattle.blocks.specs.declared.faulty.Trap.{Trap}
 use Rattle.blocks.specs.FaultyDisk.{has_fired}
@@ -210,13 +210,13 @@ kernel_counts disk base k =
     counts_text (disk.write_count k.store.volume.device - base) k.store.volume.log.committed
 
 -- the fault that is told of a kernel's disk
-abbrev pub kernel_fault : {D : Type 0} → Ringed (FaultyDisk D) → Option DiskFault
+abbrev pub kernel_fault : {D : Type 0} → Ringed (FaultyDisk D) → Option DeviceFault
 kernel_fault k = told_fault (has_fired k.store.volume.device) k.store.volume.fault
 
 -- The turns of these words made new of old, and a line was printed for each; behind them the counts
 -- of the kernel, over a disk that had counted `base` writes before. This fault is told of it.
 pub record RunsTo {D N : Type 0} (disk : Ghosts (FaultyDisk D) (N × Trap)) (stop base : ℕ)
-    (words : List Word) (old new : Player D N) (fault : Option DiskFault)
+    (words : List Word) (old new : Player D N) (fault : Option DeviceFault)
     (text printed : Option (List ℕ)) : Type 0 where
   pub events : List Event
   pub makes : MakesTurns disk stop words events old new

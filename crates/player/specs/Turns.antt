@@ -1,6 +1,6 @@
 -- What a turn of a process comes to.
 use Rattle.std.specs.Prelude.{ℕ, Bool, true, false, Option, Some, None, if◌then◌else◌}
-use Rattle.blocks.specs.declared.errors.DiskFault.{DiskFault}
+use Rattle.wal.specs.declared.types.DeviceFault.{DeviceFault}
 use Rattle.model.specs.declared.types.operations.Answer.{Answer}
 use Rattle.kernel.specs.declared.types.Step.{Step}
 use Rattle.kernel.specs.declared.types.Step.TheVariants as step
@@ -33,5 +33,5 @@ IfLast true last more = last
 IfLast false last more = more
 
 -- the fault that is told: none where the write that was to be stopped was reached
-abbrev pub told_fault : Bool → Option DiskFault → Option DiskFault
+abbrev pub told_fault : Bool → Option DeviceFault → Option DeviceFault
 told_fault fired fault = if fired then None else fault

@@ -1,6 +1,7 @@
 // A new image on a disk, and what is printed of it.
 ghost use Rattle.std.specs.Prelude.{◌≡◌, ◌≢◌, OnOk, IfErr};
 ghost use Rattle.std.specs.Io.KnownBytes.{Appends};
+ghost use Rattle.blocks.specs.Calls.{UnlessHolds};
 ghost use Rattle.blocks.specs.Disk.{LeavesOnly};
 ghost use Rattle.layout.specs.Making.{IsMadeInPart, Makes};
 ghost use Rattle.model.specs.Layout.{planned_super};
@@ -33,8 +34,8 @@ pub fn make_disk<D: Disk, O: Write>(
         (numbers_text (planned_super size ninodes))) }
     ensures refused { IfErr result (IsUnmade D.image D.fault_count size ninodes disk.old disk.new) }
     ensures silent { IfErr result (λ r. r ≢ refusal.Output → out.new ≡ out.old) }
-    ensures order { LeavesOnly D.moment D.leaves disk.old disk.new
-        (IsMadeInPart (D.image disk.old) size ninodes) }
+    ensures order { UnlessHolds D.Disk disk.old (LeavesOnly D.moment D.leaves disk.old disk.new
+        (IsMadeInPart (D.image disk.old) size ninodes)) }
 {
     let fields = plan(size, ninodes).map_err(Refusal::Mkfs)?;
     mkfs(alloc, disk, size, ninodes).map_err(Refusal::Mkfs)?;

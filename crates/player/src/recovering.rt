@@ -1,10 +1,10 @@
 // A recovery of a disk's image, and what it prints.
 ghost use Rattle.std.specs.Prelude.{◌≡◌, ◌≢◌, IfOk, OnOk, IfErr};
 ghost use Rattle.std.specs.Io.KnownBytes.{Appends};
-ghost use Rattle.blocks.specs.Disk.{LeavesOnly};
 ghost use Rattle.model.specs.Log.{logged_count};
-ghost use Rattle.wal.specs.Recovery.{RecoversAs};
+ghost use Rattle.wal.specs.Recovery.{IsCalm};
 ghost use Rattle.texts.specs.declared.refusal.Refusal.TheVariants as refusal;
+ghost use Rattle.kernel.specs.Opening.{LeavesRecovered};
 ghost use Rattle.player.specs.Causes.{IsRecovered, IsUnrecovered};
 ghost use Rattle.texts.specs.Output.{copied_text};
 
@@ -23,7 +23,8 @@ use wal::recover;
 /// with a fault of the recovery, which may be made again. With these nothing was printed. Else
 /// `Output`, and the image is recovered.
 ///
-/// Whatever a crash at any moment leaves is recovered to the same image.
+/// Whatever a crash at any moment leaves is recovered to the same image: of a disk that holds
+/// writes back from the first sync on, or from the start where nothing was held then.
 pub fn recover_disk<D: Disk, O: Write>(
     alloc: Global,
     disk: &mut D,
@@ -34,10 +35,10 @@ pub fn recover_disk<D: Disk, O: Write>(
     ensures name { D.name disk.new ≡ D.name disk.old }
     ensures printed { OnOk result (Appends (O.contents out.old) (O.contents out.new)
         (copied_text (logged_count (D.image disk.old)))) }
-    ensures refused { IfErr result (IsUnrecovered D.image D.fault_count disk.old disk.new) }
+    ensures refused { IfErr result (IsUnrecovered D.Disk disk.old disk.new) }
     ensures silent { IfErr result (λ r. r ≢ refusal.Output → out.new ≡ out.old) }
-    ensures any_moment { LeavesOnly D.moment D.leaves disk.old disk.new
-        (RecoversAs (D.image disk.old)) }
+    ensures stops { LeavesRecovered D.Disk disk.old disk.new }
+    ensures settled { OnOk result (IsCalm D.Disk disk.new) }
 {
     let copied = recover_image(alloc, disk)?;
     print_copied(out, copied)
@@ -51,10 +52,10 @@ pub fn recover_disk<D: Disk, O: Write>(
 pub fn recover_image<D: Disk>(alloc: Global, disk: &mut D) -> Result<u32, Refusal>
     ensures ok { IfOk result (λ copied. IsRecovered D.Disk copied disk.old disk.new) }
     ensures name { D.name disk.new ≡ D.name disk.old }
-    ensures refused { IfErr result (IsUnrecovered D.image D.fault_count disk.old disk.new) }
+    ensures refused { IfErr result (IsUnrecovered D.Disk disk.old disk.new) }
     ensures output { IfErr result (λ r. r ≢ refusal.Output) }
-    ensures any_moment { LeavesOnly D.moment D.leaves disk.old disk.new
-        (RecoversAs (D.image disk.old)) }
+    ensures stops { LeavesRecovered D.Disk disk.old disk.new }
+    ensures settled { OnOk result (IsCalm D.Disk disk.new) }
 {
     let report = check(alloc, disk)?;
     match recover(alloc, disk, &report.sup) {

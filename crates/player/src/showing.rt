@@ -2,9 +2,8 @@
 ghost use Rattle.std.specs.Prelude.{◌≡◌, OnOk, IfOk, IfErr, Some};
 ghost use Rattle.std.specs.Io.KnownBytes.{Appends};
 ghost use Rattle.blocks.specs.Calls.{OnlyReads};
-ghost use Rattle.blocks.specs.Disk.{LeavesOnly};
 ghost use Rattle.model.specs.Log.{logged_count};
-ghost use Rattle.wal.specs.Recovery.{RecoversAs};
+ghost use Rattle.wal.specs.Recovery.{LeavesIfCalm, RecoversAs};
 ghost use Rattle.opening.specs.Openings.{IsUnopened};
 ghost use Rattle.player.specs.Asking.{Rests, asked_count, size_at};
 ghost use Rattle.player.specs.Causes.{IsRecovered};
@@ -48,7 +47,7 @@ pub fn cat_disk<D: Disk + Drop, O: Write>(
         (O.contents out.old) (O.contents out.new) (out.new ≡ out.old)) }
     ensures layers { IfErr result.0 IsOfCat }
     ensures name { D.name result.1 ≡ D.name disk }
-    ensures any_moment { LeavesOnly D.moment D.leaves disk result.1 (RecoversAs (D.image disk)) }
+    ensures any_moment { LeavesIfCalm D.Disk disk result.1 (RecoversAs (D.image disk)) }
 {
     let mut kernel = match open_reader(alloc, disk) {
         Ok(kernel) => kernel,

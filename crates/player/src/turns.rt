@@ -1,12 +1,12 @@
 // The turns of a schedule, over a kernel with a script's operations.
 ghost use Rattle.std.specs.Prelude.{◌≡◌, ◌-◌, ◌<◌, false, All, IsTrue, length, IfOk, IfErr, Option};
 ghost use Rattle.blocks.specs.FaultyDisk.{has_fired, inner_of};
-ghost use Rattle.blocks.specs.Disk.{counted, LeavesOnly};
+ghost use Rattle.blocks.specs.Disk.{counted};
 ghost use Rattle.board.specs.Boards.{KeeperOf, WatchOf, asked, published};
 ghost use Rattle.model.specs.Log.{logged_count};
 ghost use Rattle.model.specs.declared.types.operations.Answer.{Answer as SomeAnswer};
 ghost use Rattle.scripts.specs.Schedule.{is_word_of};
-ghost use Rattle.wal.specs.Recovery.{RecoversAs, writes_to_recover};
+ghost use Rattle.wal.specs.Recovery.{LeavesIfCalm, RecoversAs, writes_to_recover};
 ghost use Rattle.player.specs.Afterwards.{IsUnopenedOver};
 ghost use Rattle.player.specs.Stepping.{
   HandsIn,
@@ -28,7 +28,7 @@ use crate::meeting::Meeting;
 use crate::player::Player;
 use crate::stepping::make_steps;
 use crate::told::progress_of;
-use blocks::{Disk, DiskFault, FaultyDisk, Kind};
+use blocks::{Disk, FaultyDisk, Kind};
 use board::{Board, BoardHerald, Keeper, Watch};
 use clients::sources;
 use kernel::{Kernel, Step};
@@ -38,6 +38,7 @@ use scripts::{Task, Word};
 use std::alloc::Global;
 use std::mem;
 use texts::{Event, KernelFault, Refusal};
+use wal::DeviceFault;
 
 /// What the turns came to.
 #[derive(Clone, Copy)]
@@ -47,7 +48,7 @@ pub struct Outcome {
     /// The committed groups.
     pub committed: u64,
     /// The disk's fault, but for the one that was asked for.
-    pub fault: Option<DiskFault>,
+    pub fault: Option<DeviceFault>,
 }
 
 /// The hands at a board that a player needs.
@@ -88,7 +89,7 @@ pub fn open_player<'a, D: Disk + Drop>(
         → IsArmed ⟦<FaultyDisk<D> as Disk>⟧ stop player.kernel.store.volume.device) }
     ensures name { IfOk result (λ player.
         D.name (inner_of player.kernel.store.volume.device) ≡ D.name disk) }
-    ensures leaves { IfOk result (λ player. LeavesOnly D.moment D.leaves
+    ensures leaves { IfOk result (λ player. LeavesIfCalm D.Disk
         disk (inner_of player.kernel.store.volume.device) (RecoversAs (D.image disk))) }
     ensures refused { IfErr result (λ e. IsUnopenedOver ⟦<FaultyDisk<D> as Disk>⟧
         processes disk e.1 e.0) }

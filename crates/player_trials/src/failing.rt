@@ -7,6 +7,7 @@ use scripts::{processes, read_schedule, read_script};
 use std::io::{BufWriter, Write};
 use std::test::Fail;
 use texts::Refusal;
+use wal::DeviceFault;
 
 // A writer that fails once this many bytes are written.
 #[derive(Drop)]
@@ -53,7 +54,7 @@ fn tells_of_a_failing_disk(rt: HostRuntime) -> Result<(), Fail> {
         None,
         &mut out,
     );
-    assert!(rt; matches!(ended, Err(Refusal::Disk(DiskFault(2)))));
+    assert!(rt; matches!(ended, Err(Refusal::Disk(DeviceFault::Block(DiskFault(2))))));
     assert!(rt; disk.fired());
     let out = String::from_utf8(out)?;
     assert_eq!(rt; out.as_str(), "0 halted\nwrites 1\ncommitted 0\n");
@@ -69,7 +70,7 @@ fn a_run_tells_of_a_failing_disk(rt: HostRuntime) -> Result<(), Fail> {
     let processes = processes(tasks.as_slice());
     let mut out = Vec::new(alloc);
     let (ended, disk) = run_disk(&rt, disk, tasks, processes, 2, &mut out);
-    assert!(rt; matches!(ended, Err(Refusal::Disk(DiskFault(2)))));
+    assert!(rt; matches!(ended, Err(Refusal::Disk(DeviceFault::Block(DiskFault(2))))));
     assert!(rt; disk.fired());
     let out = String::from_utf8(out)?;
     assert_eq!(rt;

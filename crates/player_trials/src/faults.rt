@@ -23,6 +23,10 @@ fn faults_have_texts(rt: HostRuntime) -> Result<(), Fail> {
             OpenFault::Recover(RecoverFault::NoMemory),
             "the image can't be recovered: memory was refused",
         ),
+        (
+            OpenFault::Recover(RecoverFault::Sync),
+            "the image can't be recovered: the disk failed to sync",
+        ),
         (OpenFault::NoMemory, "memory was refused"),
         (OpenFault::ProcRange, "a kernel has 1 to 32 processes"),
     ] {

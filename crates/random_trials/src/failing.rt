@@ -50,6 +50,8 @@ impl Failures {
             Kind::Read => self.reads = self.reads.saturating_add(1),
             Kind::WriteOld => self.writes_left_old = self.writes_left_old.saturating_add(1),
             Kind::WriteNew => self.writes_left_new = self.writes_left_new.saturating_add(1),
+            // A plain disk is not synced.
+            Kind::Sync => {}
         }
         self.groups = self.groups.saturating_add(left.committed);
         self.operations = self.operations.saturating_add(left.kept);

@@ -8,15 +8,17 @@
 //! each of its writes. Then it runs the scripts of 100 seeds, with at most 24 operations each, once
 //! for each read and twice for each write that they make: that call fails, and a write that fails
 //! leaves its block as it was, and the second time as it was handed in. Where that is the header
-//! that commits a group, the files are those after one group more. It prints what all of these came
-//! to.
+//! that commits a group, the files are those after one group more. Last it runs the scripts of 100
+//! seeds over a disk that holds writes back: a stop at random turns, and wherever writes are held,
+//! loses random ones of these, and each sync fails in turn. It prints what all of these came to.
 //!
 //! With two words it runs the scripts of so many seeds from the first word on; with the word `calls`
-//! before these, each call of them fails in turn. The first script that is not right ends it, with
-//! status 1.
+//! before these, each call of them fails in turn, and with the word `held` they are run over a disk
+//! that holds writes back. The first script that is not right ends it, with status 1.
 #![tactic(auto)]
 
 mod failing;
+mod holding;
 mod judging;
 mod playing;
 mod script;
@@ -24,6 +26,7 @@ mod setting;
 mod tally;
 
 use crate::failing::{Failures, fail_each};
+use crate::holding::{Losses, lose_some};
 use crate::playing::{Failure, run};
 use crate::script::Script;
 use crate::setting::Setting;
@@ -44,6 +47,9 @@ fn main(rt: HostRuntime) -> anyhow::Result<()> {
         [calls, first, count] if calls.as_str() == "calls" => {
             fail_calls(&rt, alloc, first.as_str().parse()?, count.as_str().parse()?)
         }
+        [held, first, count] if held.as_str() == "held" => {
+            lose_writes(&rt, alloc, first.as_str().parse()?, count.as_str().parse()?)
+        }
         _ => bail!("the words are the first seed and how many there are, or none"),
     }
 }
@@ -56,7 +62,22 @@ fn try_all(rt: &impl Print, alloc: Global) -> anyhow::Result<()> {
     println!(rt; "\nin rows")?;
     tally.print(rt)?;
     println!(rt; "\neach call failing")?;
-    fail_calls(rt, alloc, 1, 100)
+    fail_calls(rt, alloc, 1, 100)?;
+    println!(rt; "\nover a disk that holds writes back")?;
+    lose_writes(rt, alloc, 1, 100)
+}
+
+// Runs the short scripts of so many seeds over a disk that holds writes back.
+fn lose_writes(rt: &impl Print, alloc: Global, first: u64, count: u64) -> anyhow::Result<()> {
+    let mut losses = Losses::new();
+    for k in 0..count {
+        let seed = first.wrapping_add(k);
+        lose_some(alloc, seed, Setting::short(seed), &mut losses).context(format_args!(
+            "seed {seed}"
+        ))?;
+    }
+    losses.print(rt)?;
+    Ok(())
 }
 
 // Runs the scripts of so many seeds, each whole and up to some of its writes.

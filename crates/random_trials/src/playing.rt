@@ -6,18 +6,19 @@ use crate::script::Script;
 use crate::setting::Setting;
 use crate::tally::Tally;
 use anyhow::{bail, ensure};
-use blocks::{Disk, FaultyDisk, Kind, MemDisk};
+use blocks::{Disk, DiskFault, FaultyDisk, Kind, MemDisk};
 use kernel::{Kernel, Step};
 use layout::mkfs;
 use plain::files::Files;
 use ports::{PlainHerald, QueueIntake};
 use std::alloc::Global;
+use wal::DeviceFault;
 
 // A kernel over a disk of which a call may fail.
 type Failing = Kernel<FaultyDisk<MemDisk>, QueueIntake, PlainHerald>;
 
-// More turns than any of the scripts needs.
-const MOST_TURNS: u32 = 4_000_000;
+/// More turns than any of the scripts needs.
+pub const MOST_TURNS: u32 = 4_000_000;
 
 // The log's header.
 const HEADER: u32 = 2;
@@ -93,7 +94,21 @@ pub fn judge_disk(alloc: Global, disk: MemDisk, files: &Files) -> anyhow::Result
 fn opened(alloc: Global, disk: MemDisk, failure: Failure, processes: u32) -> anyhow::Result<Failing>
     requires { processes ≤ 32 }
 {
-    let disk = FaultyDisk::new(disk, failure.nth, failure.kind);
+    open_over(
+        alloc,
+        FaultyDisk::new(disk, failure.nth, failure.kind),
+        processes,
+    )
+}
+
+/// Opens a kernel of so many processes over a disk.
+pub fn open_over<D: Disk + Drop>(
+    alloc: Global,
+    disk: D,
+    processes: u32,
+) -> anyhow::Result<Kernel<D, QueueIntake, PlainHerald>>
+    requires { processes ≤ 32 }
+{
     let intake = QueueIntake::new(alloc, processes)?;
     match Kernel::open(alloc, disk, intake, PlainHerald::new(), processes) {
         Ok(kernel) => Ok(kernel),
@@ -104,14 +119,14 @@ fn opened(alloc: Global, disk: MemDisk, failure: Failure, processes: u32) -> any
 // Whether the write that failed has committed a group all the same: it left the new header, and a
 // group is open that is not committed. (The empty header comes when all groups are committed.)
 fn has_committed(kernel: &Failing, kind: Kind) -> bool {
-    let is_header = kernel.fault().is_some_and(|fault| fault.0 == HEADER);
+    let is_header = matches!(kernel.fault(), Some(DeviceFault::Block(DiskFault(HEADER))));
     matches!(kind, Kind::WriteNew) && is_header && kernel.committed() < kernel.opened()
 }
 
-// Makes the turns of a script, until all of it is answered or the disk fails.
-fn play(
+/// Makes the turns of a script, until all of it is answered or the disk fails.
+pub fn play<D: Disk + Drop>(
     alloc: Global,
-    kernel: &mut Failing,
+    kernel: &mut Kernel<D, QueueIntake, PlainHerald>,
     script: &mut Script,
     tally: &mut Tally,
 ) -> anyhow::Result<()> {
@@ -119,26 +134,38 @@ fn play(
         if script.is_over() {
             return Ok(());
         }
-        if let Some((pid, op)) = script.next(alloc, kernel.journal())? {
-            ensure!((pid as usize) < kernel.processes(), "a process too many");
-            script.held = kernel.submit(pid, op).err().map(|op| (pid, op));
-        }
-        let pid = script.turn();
-        ensure!((pid as usize) < kernel.processes(), "a process too many");
-        let step = kernel.step(pid);
-        tally.step(step);
-        if step == Step::Halted {
+        if take_turn(alloc, kernel, script, tally)? == Step::Halted {
             return ensure_halted(kernel);
-        }
-        if script.fetches() && kernel.poll(pid).is_some() {
-            script.answered = script.answered.saturating_add(1);
         }
     }
     bail!("the run doesn't end")
 }
 
+/// Makes one turn of a script.
+pub fn take_turn<D: Disk + Drop>(
+    alloc: Global,
+    kernel: &mut Kernel<D, QueueIntake, PlainHerald>,
+    script: &mut Script,
+    tally: &mut Tally,
+) -> anyhow::Result<Step> {
+    if let Some((pid, op)) = script.next(alloc, kernel.journal())? {
+        ensure!((pid as usize) < kernel.processes(), "a process too many");
+        script.held = kernel.submit(pid, op).err().map(|op| (pid, op));
+    }
+    let pid = script.turn();
+    ensure!((pid as usize) < kernel.processes(), "a process too many");
+    let step = kernel.step(pid);
+    tally.step(step);
+    if step != Step::Halted && script.fetches() && kernel.poll(pid).is_some() {
+        script.answered = script.answered.saturating_add(1);
+    }
+    Ok(step)
+}
+
 // Whether no process makes a step any more.
-fn ensure_halted(kernel: &mut Failing) -> anyhow::Result<()> {
+fn ensure_halted<D: Disk + Drop>(
+    kernel: &mut Kernel<D, QueueIntake, PlainHerald>,
+) -> anyhow::Result<()> {
     for pid in 0..32 {
         if (pid as usize) < kernel.processes() {
             ensure!(kernel.step(pid) == Step::Halted, "a step after a fault");

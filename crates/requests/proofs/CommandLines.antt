@@ -1,18 +1,18 @@
 -- The command line, word by word, and what a parse of it says.
 use Rattle.std.proofs.Common.{◌≡◌, ◌∙◌, ℕ, List, [], Bool, true, false, ◌||◌, Option, Some, None, Ok, Err, refl, sym, ap, ap₂, subst, inl}
-use Rattle.std.specs.Prelude.{⊤, MatchOption, option_map, unwrap_or}
+use Rattle.std.specs.Prelude.{⊤, codes, MatchOption, option_map, unwrap_or}
 use Rattle.clap.specs.Built.{AddsArg, AddsSubcommand}
-use Rattle.clap.specs.Words.{App, FailsBy, HasKind, HasMatchesOf, Row, Rule, fault_of, first_of, first_value, is_simple, is_simple_and_free, rows_of, rule_of, subcommand_of, subcommand_rows_of, with_rule, with_subcommand}
+use Rattle.clap.specs.Words.{one_text, App, FailsBy, HasKind, HasMatchesOf, Row, Rule, fault_of, first_of, first_value, is_simple, is_simple_and_free, rows_of, rule_of, subcommand_of, subcommand_rows_of, with_rule, with_subcommand}
 use Rattle.clap.specs.declared.builder.arg.Arg.{Arg}
 use Rattle.clap.specs.declared.builder.command.Command.{Command}
 use Rattle.clap.specs.declared.error.Error.{Error}
 use Rattle.clap.specs.declared.parser.matches.ArgMatches.{ArgMatches}
 use Rattle.clap.specs.declared.parser.matches.Found.{Found}
 use Rattle.clap.proofs.OnLiterals.{clap_on_literals}
-use Rattle.clap.proofs.WalkLemmas.{first_value-rows}
+use Rattle.clap.proofs.WalkLemmas.{first_value-rows, one_text-rows}
 use Rattle.requests.specs.declared.words.Request.{Request}
 use Rattle.requests.specs.declared.words.Request.TheVariants.{Mkfs, Check, Recover, Cat, Replay, Run, Stops}
-use Rattle.requests.specs.CommandLine.{AskFor, Asks, AsksBy, HasApp, HasFewWorkers, IsMistakeIn, mistakes_in, xvfs_app}
+use Rattle.requests.specs.CommandLine.{AskFor, Asks, AsksBy, HasApp, HasFewWorkers, HasFlag, IsMistakeIn, mistakes_in, xvfs_app}
 
 pub one_word : (app : App) (rule : Rule) (old : Command) (word : Arg) (new : Command) → HasApp app old → rule_of word ≡ rule → word.global ≡ false → AddsArg old word new → HasApp (with_rule app rule) new
 one_word app rule old word new has is local adds =
@@ -61,13 +61,21 @@ asked f (Some b) name rows request named has asks =
 pub value_read : (f : Found) (id text : List ℕ) → Some text ≡ first_value f id → first_of id (rows_of f) ≡ Some text
 value_read f id text gives = sym (gives ∙ first_value-rows f id)
 
+-- what clap says of a word that may be given
+pub flag_read : (f : Found) (id : List ℕ) (given : Bool) → (one_text f id ≡ None → given ≡ false) → (one_text f id ≡ Some (codes "true") → given ≡ true) → (one_text f id ≡ Some (codes "false") → given ≡ false) → HasFlag id (rows_of f) given
+flag_read f id given none set unset = record {
+  set = λ is. set (one_text-rows f id ∙ is);
+  unset = λ is. unset (one_text-rows f id ∙ is);
+  none = λ is. none (one_text-rows f id ∙ is);
+}
+
 few_by : (name : List ℕ) (rows : List Row) (request : Request) → AsksBy name rows request → HasFewWorkers request
 few_by name rows (Mkfs image size ninodes) asks = tt
 few_by name rows (Check image) asks = tt
-few_by name rows (Recover image) asks = tt
+few_by name rows (Recover image sync) asks = tt
 few_by name rows (Cat image inum) asks = tt
-few_by name rows (Replay image script schedule stop) asks = tt
-few_by name rows (Run image script workers) asks = (asks.3.0, asks.3.1)
+few_by name rows (Replay image script schedule stop sync) asks = tt
+few_by name rows (Run image script workers sync) asks = (asks.3.0, asks.3.1)
 few_by name rows (Stops script schedule) asks = tt
 
 few_of : (command : Option (List ℕ × List Row)) (request : Request) → Asks command request → HasFewWorkers request

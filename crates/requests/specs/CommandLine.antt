@@ -1,5 +1,5 @@
 -- The command line, as clap is told it.
-use Rattle.std.specs.Prelude.{◌≡◌, ◌⊎◌, ◌≤◌, ⊤, ℕ, List, [], Option, Some, None, true, false, codes, pos}
+use Rattle.std.specs.Prelude.{◌≡◌, ◌⊎◌, ◌≤◌, ⊤, ℕ, List, [], Bool, Option, Some, None, true, false, codes, pos}
 use Rattle.clap.specs.Words.{App, HasKind, Kinds, Row, Rule, new_app, new_rule, app_of, fault_of, first_of, kind_of, one_of, subcommand_of, with_rule, with_subcommand}
 use Rattle.clap.specs.declared.error.Error.{Error}
 use Rattle.clap.specs.declared.error.kind.ErrorKind.TheVariants as kind
@@ -7,6 +7,7 @@ use Rattle.requests.specs.declared.words.Request.{Request}
 use Rattle.requests.specs.declared.words.Request.TheVariants.{Mkfs, Check, Recover, Cat, Replay, Run, Stops}
 use Rattle.clap.specs.declared.builder.command.Command.{Command}
 use Rattle.clap.specs.declared.builder.command.Command.TheViews.{out-Command}
+use Rattle.clap.specs.declared.builder.action.ArgAction.TheVariants.{SetTrue}
 use Rattle.clap.specs.declared.builder.value_parser.ValueParser.TheVariants.{Signed, Unsigned}
 
 -- a word that has to be there
@@ -25,6 +26,10 @@ stop_rule = record (new_rule (codes "stop")) {
   parser = Some (Unsigned 1 18446744073709551615);
 }
 
+-- a word `--` that may be given
+abbrev pub flag_rule : List ℕ → Rule
+flag_rule id = record (new_rule id) { long = Some id; action = Some SetTrue }
+
 -- a command over an image
 abbrev pub image_app : List ℕ → App
 image_app name = with_rule (new_app name) (required_rule (codes "IMAGE"))
@@ -33,12 +38,16 @@ abbrev pub mkfs_app : App
 mkfs_app = with_rule (with_rule (image_app (codes "mkfs")) (number_rule (codes "SIZE")))
     (number_rule (codes "NINODES"))
 
+abbrev pub recover_app : App
+recover_app = with_rule (image_app (codes "recover")) (flag_rule (codes "sync"))
+
 abbrev pub cat_app : App
 cat_app = with_rule (image_app (codes "cat")) (number_rule (codes "INUM"))
 
 abbrev pub replay_app : App
-replay_app = with_rule (with_rule (with_rule (image_app (codes "replay"))
-    (required_rule (codes "SCRIPT"))) (required_rule (codes "SCHEDULE"))) stop_rule
+replay_app = with_rule (with_rule (with_rule (with_rule (image_app (codes "replay"))
+    (required_rule (codes "SCRIPT"))) (required_rule (codes "SCHEDULE"))) stop_rule)
+    (flag_rule (codes "sync"))
 
 -- `--workers N`, where N is from 1 to 32
 abbrev pub workers_rule : Rule
@@ -49,8 +58,8 @@ workers_rule = record (new_rule (codes "workers")) {
 }
 
 abbrev pub run_app : App
-run_app = with_rule (with_rule (image_app (codes "run")) (required_rule (codes "SCRIPT")))
-    workers_rule
+run_app = with_rule (with_rule (with_rule (image_app (codes "run"))
+    (required_rule (codes "SCRIPT"))) workers_rule) (flag_rule (codes "sync"))
 
 abbrev pub stops_app : App
 stops_app = with_rule (with_rule (new_app (codes "stops")) (required_rule (codes "SCRIPT")))
@@ -70,7 +79,7 @@ abbrev pub xvfs_app : App
 xvfs_app =
     with_subcommand (with_subcommand (with_subcommand (with_subcommand (with_subcommand
     (with_subcommand (with_subcommand bare_app mkfs_app.top) (image_app (codes "check")).top)
-    (image_app (codes "recover")).top) cat_app.top) replay_app.top) run_app.top) stops_app.top
+    recover_app.top) cat_app.top) replay_app.top) run_app.top) stops_app.top
 
 -- a command of this shape, whose arguments are its own
 abbrev pub HasApp : App → Command → Type 0
@@ -85,9 +94,15 @@ mistakes_in words = fault_of xvfs_app words
 abbrev pub HasWorkers : List Row → ℕ → Type 0
 HasWorkers rows n = (1 ≤ n) × (n ≤ 32) × (one_of (codes "workers") rows ≡ None → n ≡ 1)
 
+-- a word that may be given is there, or isn't
+pub record HasFlag (id : List ℕ) (rows : List Row) (given : Bool) : Type 0 where
+  pub set : one_of id rows ≡ Some (codes "true") → given ≡ true
+  pub unset : one_of id rows ≡ Some (codes "false") → given ≡ false
+  pub none : one_of id rows ≡ None → given ≡ false
+
 -- a run that is asked for has from 1 to 32 workers
 abbrev pub HasFewWorkers : Request → Type 0
-HasFewWorkers (Run image script workers) = (1 ≤ workers) × (workers ≤ 32)
+HasFewWorkers (Run image script workers sync) = (1 ≤ workers) × (workers ≤ 32)
 HasFewWorkers request = ⊤
 
 -- a command of this name, with these values, asks for the request
@@ -96,17 +111,18 @@ AsksBy name rows (Mkfs image size ninodes) = (name ≡ codes "mkfs")
     × (first_of (codes "IMAGE") rows ≡ Some image.now)
 AsksBy name rows (Check image) = (name ≡ codes "check")
     × (first_of (codes "IMAGE") rows ≡ Some image.now)
-AsksBy name rows (Recover image) = (name ≡ codes "recover")
-    × (first_of (codes "IMAGE") rows ≡ Some image.now)
+AsksBy name rows (Recover image sync) = (name ≡ codes "recover")
+    × (first_of (codes "IMAGE") rows ≡ Some image.now) × HasFlag (codes "sync") rows sync
 AsksBy name rows (Cat image inum) = (name ≡ codes "cat")
     × (first_of (codes "IMAGE") rows ≡ Some image.now)
-AsksBy name rows (Replay image script schedule stop) =
+AsksBy name rows (Replay image script schedule stop sync) =
     (name ≡ codes "replay") × (first_of (codes "IMAGE") rows ≡ Some image.now)
     × (first_of (codes "SCRIPT") rows ≡ Some script.now)
-    × (first_of (codes "SCHEDULE") rows ≡ Some schedule.now)
-AsksBy name rows (Run image script workers) =
+    × (first_of (codes "SCHEDULE") rows ≡ Some schedule.now) × HasFlag (codes "sync") rows sync
+AsksBy name rows (Run image script workers sync) =
     (name ≡ codes "run") × (first_of (codes "IMAGE") rows ≡ Some image.now)
     × (first_of (codes "SCRIPT") rows ≡ Some script.now) × HasWorkers rows workers
+    × HasFlag (codes "sync") rows sync
 AsksBy name rows (Stops script schedule) =
     (name ≡ codes "stops") × (first_of (codes "SCRIPT") rows ≡ Some script.now)
     × (first_of (codes "SCHEDULE") rows ≡ Some schedule.now)

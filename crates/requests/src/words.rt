@@ -11,9 +11,11 @@ ghost use Rattle.requests.specs.CommandLine.{
   IsMistakeIn,
   bare_app,
   cat_app,
+  flag_rule,
   image_app,
   mkfs_app,
   number_rule,
+  recover_app,
   replay_app,
   required_rule,
   run_app,
@@ -26,7 +28,7 @@ ghost use Rattle.requests.specs.Told.{IsToldOf};
 
 use crate::explanation::Explanation;
 use clap::error::ErrorKind;
-use clap::{Arg, ArgMatches, Command, Error, value_parser};
+use clap::{Arg, ArgAction, ArgMatches, Command, Error, value_parser};
 use std::alloc::{AllocError, Global};
 use std::convert::AsStr;
 
@@ -51,6 +53,8 @@ pub enum Request<'a> {
     Recover {
         /// The path of its file.
         image: &'a str,
+        /// Whether the file holds writes back until it is synced.
+        sync: bool,
     },
     /// The bytes of a file of an image.
     Cat {
@@ -69,6 +73,8 @@ pub enum Request<'a> {
         schedule: &'a str,
         /// The write, counted from 1 after the opening, before which it stops.
         stop: Option<u64>,
+        /// Whether the file holds writes back until it is synced.
+        sync: bool,
     },
     /// A script's operations over an image, by callers and workers on threads.
     Run {
@@ -78,6 +84,8 @@ pub enum Request<'a> {
         script: &'a str,
         /// The threads that make the steps, from 1 to 32.
         workers: u32,
+        /// Whether the file holds writes back until it is synced.
+        sync: bool,
     },
     /// A check of a script's operations at each of their stops.
     Stops {
@@ -144,7 +152,10 @@ fn request_over<'a>(name: &str, values: &ArgMatches<'a>) -> Option<Request<'a>>
             ninodes: values.get_one("NINODES")?,
         }),
         "check" => Some(Request::Check { image }),
-        "recover" => Some(Request::Recover { image }),
+        "recover" => Some(Request::Recover {
+            image,
+            sync: values.get_flag("sync"),
+        }),
         "cat" => Some(Request::Cat {
             image,
             inum: values.get_one("INUM")?,
@@ -154,11 +165,13 @@ fn request_over<'a>(name: &str, values: &ArgMatches<'a>) -> Option<Request<'a>>
             script: values.get_str("SCRIPT")?,
             schedule: values.get_str("SCHEDULE")?,
             stop: values.get_one("stop"),
+            sync: values.get_flag("sync"),
         }),
         "run" => Some(Request::Run {
             image,
             script: values.get_str("SCRIPT")?,
             workers: workers_of(values),
+            sync: values.get_flag("sync"),
         }),
         _ => None,
     }
@@ -238,11 +251,22 @@ fn check_words<'a>(alloc: Global) -> Result<Command<'a>, AllocError>
 }
 
 fn recover_words<'a>(alloc: Global) -> Result<Command<'a>, AllocError>
-    ensures { IfOk result (HasApp (image_app (codes "recover"))) }
+    ensures { IfOk result (HasApp recover_app) }
 {
     Command::new(alloc, "recover")
         .about("Checks an image, and copies the blocks of its log home")
-        .arg(word(alloc, "IMAGE", "The path of the image's file"))
+        .arg(word(alloc, "IMAGE", "The path of the image's file"))?
+        .arg(sync_word(alloc))
+}
+
+fn sync_word<'a>(alloc: Global) -> Arg<'a>
+    ensures rule { rule_of result ≡ flag_rule (codes "sync") }
+    ensures local { result.global ≡ false }
+{
+    Arg::new(alloc, "sync")
+        .long("sync")
+        .action(ArgAction::SetTrue)
+        .help("Syncs the image's file where the log needs it, for a system that may lose writes")
 }
 
 fn cat_words<'a>(alloc: Global) -> Result<Command<'a>, AllocError>
@@ -270,7 +294,8 @@ fn replay_words<'a>(alloc: Global) -> Result<Command<'a>, AllocError>
             "SCHEDULE",
             "The path of the schedule, whose words are turns of the processes",
         ))?
-        .arg(stop_word(alloc))
+        .arg(stop_word(alloc))?
+        .arg(sync_word(alloc))
 }
 
 fn stop_word<'a>(alloc: Global) -> Arg<'a>
@@ -297,7 +322,8 @@ fn run_words<'a>(alloc: Global) -> Result<Command<'a>, AllocError>
             "SCRIPT",
             "The path of the script, whose lines are the operations of processes",
         ))?
-        .arg(workers_word(alloc))
+        .arg(workers_word(alloc))?
+        .arg(sync_word(alloc))
 }
 
 fn workers_word<'a>(alloc: Global) -> Arg<'a>

@@ -5,9 +5,9 @@ use Rattle.std.proofs.lemmas.Option.{slice_get_cases, slice_get_within}
 use Rattle.blocks.specs.Disk.{Image, LeavesOnly}
 use Rattle.blocks.specs.Lemmas.Moments.{joined}
 use Rattle.blocks.specs.declared.disk.Disk.{Ghosts}
-use Rattle.blocks.specs.declared.errors.DiskFault.{DiskFault}
+use Rattle.wal.specs.declared.types.DeviceFault.{DeviceFault}
 use Rattle.model.specs.Layout.{inode_count_of}
-use Rattle.wal.specs.Recovery.{RecoversAs}
+use Rattle.wal.specs.Recovery.{LeavesIfCalm, RecoversAs}
 use Rattle.ports.specs.declared.herald.Herald as herald_trait
 use Rattle.ports.specs.declared.intake.Intake as intake_trait
 use Rattle.rings.specs.Callers.{intake_names}
@@ -22,11 +22,13 @@ use Rattle.sysring.specs.Frames.{HasFrameOf, KeepsSince}
 use Rattle.clients.specs.Backlogs.{ops_of}
 use Rattle.clients.specs.Clients.{AreClients, HaveRings, ops_at, ops_in}
 use Rattle.clients.specs.declared.client.Client.{Client}
-use Rattle.opening.specs.Lemmas.Keeping.{leaves_wider, recovers_kept}
+use Rattle.opening.specs.Lemmas.Keeping.{leaves_wider, recovers_kept, unopened_leaves, unopened_name}
+use Rattle.opening.specs.Lemmas.Telling.{unopened_so}
+use Rattle.opening.specs.Openings.{IsOpening, IsUnopened}
 use Rattle.texts.specs.declared.refusal.Refusal.{Refusal}
 use Rattle.texts.specs.declared.refusal.Refusal.TheVariants.{File, Mkfs, Check, Recover, Open, Script, Schedule, Disk, Cat, Run, Stops, Input, Output}
 use Rattle.runner.specs.Reports.{IsReport}
-use Rattle.runner.specs.Running.{Ends, IsEndedBy, IsNotRun, IsServed, Ringed}
+use Rattle.runner.specs.Running.{HasNotBegun, Ends, IsEndedBy, IsNotRun, IsServed, Ringed}
 
 -- the clients of a script have its operations
 ops_are : (names : ℕ → Option Names) (tasks : List Task) (processes : ℕ) (cs : List Client) → AreClients names tasks processes cs → (p : ℕ) → p < length cs → ops_at cs p ≡ ops_of p tasks
@@ -34,7 +36,7 @@ ops_are names tasks processes cs are p low =
     ⊎_elim (λ here. ap ops_in here.2 ∙ (are.each p here.0 here.2).all) (λ past. let no = past.0 in absurd (omega (arith, low, no))) (slice_get_cases cs p).1
 
 -- what they came to is what its processes did
-pub ends_so : {D I H : Type 0} (n : ℕ) (k : State D I H) (names : ℕ → Option Names) (tasks : List Task) (processes : ℕ) (cs : List Client) (fault : Option DiskFault) (old new : Option (List ℕ)) → AreClients names tasks processes cs
+pub ends_so : {D I H : Type 0} (n : ℕ) (k : State D I H) (names : ℕ → Option Names) (tasks : List Task) (processes : ℕ) (cs : List Client) (fault : Option DeviceFault) (old new : Option (List ℕ)) → AreClients names tasks processes cs
     → Ends n k (ops_at cs) (length cs) fault old new → Ends n k (λ p. ops_of p tasks) processes fault old new
 ends_so n k names tasks processes cs fault old new are ends = record {
   tells = ends.tells;
@@ -73,9 +75,9 @@ module _ {D N H : Type 0} (disk : Ghosts D N) (has_now : (d : D) → disk.leaves
   alike_kept : (x : Image) → RecoversAs (disk.image d) x → P x
   alike_kept x alike = recovers_kept 0 (most_of m.store.volume) (disk.image m.opening) (disk.image d) (disk.image k.opening) x m.world.journal.list opened.sound opened.opening alike first_kept
 
-  leaves_some : LeavesOnly disk.moment disk.leaves d m.store.volume.device P
-  leaves_some = joined disk.moment disk.leaves d k.opening m.store.volume.device P
-      (leaves_wider disk.moment disk.leaves d k.opening (RecoversAs (disk.image d)) P alike_kept opened.leaves)
+  leaves_some : LeavesIfCalm disk d m.store.volume.device P
+  leaves_some calm = joined disk.moment disk.leaves d k.opening m.store.volume.device P
+      (leaves_wider disk.moment disk.leaves d k.opening (RecoversAs (disk.image d)) P alike_kept (opened.leaves.any_moment calm))
       (subst (λ s. LeavesOnly disk.moment disk.leaves s.volume.device m.store.volume.device P) opened.store (record {
         later = framed.later;
         each = λ x left. lower x (framed.each x left);
@@ -91,7 +93,7 @@ module _ {D N H : Type 0} (disk : Ghosts D N) (has_now : (d : D) → disk.leaves
     now = is;
     keeps = subst (λ o. (x : Image) → disk.leaves o (disk.moment o) x → KeepsNow m.store.volume (disk.image m.opening) m.world.journal.list x) (sym is) known.keeps;
     current = known.current;
-    leaves = subst (λ o. LeavesOnly disk.moment disk.leaves d o P) (sym is) leaves_some;
+    leaves = subst (λ o. LeavesIfCalm disk d o P) (sym is) leaves_some;
   }
 
 module _ {D N : Type 0} (disk : Ghosts D N) (d e : D) (tasks : List Task) (processes : ℕ) (old new : Option (List ℕ)) (none : Type 0) where
@@ -111,3 +113,26 @@ module _ {D N : Type 0} (disk : Ghosts D N) (d e : D) (tasks : List Task) (proce
   not_run m names cs served are (Run fault) why = absurd why
   not_run m names cs served are (Stops fault) why = absurd why
   not_run m names cs served are (Input fault) why = absurd why
+
+  -- what it came to where no kernel was opened
+  begun_none : (r : Refusal) → IsOpening r → HasNotBegun disk d e processes r → none → IsNotRun disk d e tasks processes old new none r
+  begun_none (Check fault) opens why nothing = (why, nothing)
+  begun_none (Recover fault) opens why nothing = (why, nothing)
+  begun_none (Open fault) opens why nothing = (why, nothing)
+  begun_none (File fault) opens why nothing = absurd opens
+  begun_none (Mkfs fault) opens why nothing = absurd opens
+  begun_none (Script fault) opens why nothing = absurd opens
+  begun_none (Schedule fault) opens why nothing = absurd opens
+  begun_none (Disk fault) opens why nothing = absurd opens
+  begun_none (Cat fault) opens why nothing = absurd opens
+  begun_none (Run fault) opens why nothing = absurd opens
+  begun_none (Stops fault) opens why nothing = absurd opens
+  begun_none (Input fault) opens why nothing = absurd opens
+  begun_none Output opens why nothing = absurd opens
+
+  pub unopened_run : (r : Refusal) → IsUnopened disk processes d e r → none → IsNotRun disk d e tasks processes old new none r
+  unopened_run r why nothing = begun_none r (unopened_so disk processes d e r why) (record {
+    cause = why;
+    name = unopened_name disk processes d e r why;
+    leaves = unopened_leaves disk processes d e r why;
+  }) nothing

@@ -1,13 +1,13 @@
 -- What a run by threads comes to.
 use Rattle.std.specs.Prelude.{◌≡◌, ⊤, ℕ, List, Option, Some, None, IfNone, length}
-use Rattle.blocks.specs.Disk.{Image, LeavesOnly}
+use Rattle.blocks.specs.Disk.{Image}
 use Rattle.blocks.specs.declared.disk.Disk.{Ghosts}
-use Rattle.blocks.specs.declared.errors.DiskFault.{DiskFault}
+use Rattle.wal.specs.declared.types.DeviceFault.{DeviceFault}
 use Rattle.model.specs.Layout.{inode_count_of}
 use Rattle.model.specs.Log.{recovered}
 use Rattle.model.specs.Verdict.{verdict}
 use Rattle.model.specs.declared.types.operations.Op.{Op}
-use Rattle.wal.specs.Recovery.{RecoversAs}
+use Rattle.wal.specs.Recovery.{LeavesIfCalm, RecoversAs}
 use Rattle.board.specs.declared.herald.BoardHerald.{BoardHerald}
 use Rattle.rings.specs.declared.intake.RingIntake.{RingIntake}
 use Rattle.journal.specs.Keeps.{KeepsNow}
@@ -37,11 +37,11 @@ pub record IsServed {D N H : Type 0} (disk : Ghosts D N) (d e : D) (processes : 
   pub keeps : (x : Image) → disk.leaves e (disk.moment e) x
       → KeepsNow m.store.volume (disk.image m.opening) m.world.journal.list x
   pub current : IfNone m.store.volume.fault (IsCurrent disk.image m)
-  pub leaves : LeavesOnly disk.moment disk.leaves d e (KeepsSince disk 0 m)
+  pub leaves : LeavesIfCalm disk d e (KeepsSince disk 0 m)
 
 -- what a kernel's processes came to was printed, and this fault is told of its disk
 pub record Ends {D I H : Type 0} (inode_count : ℕ) (k : State D I H) (ops : ℕ → List Op)
-    (processes : ℕ) (fault : Option DiskFault) (old new : Option (List ℕ)) : Type 0 where
+    (processes : ℕ) (fault : Option DeviceFault) (old new : Option (List ℕ)) : Type 0 where
   pub tells : k.store.volume.fault ≡ fault
   pub reported : IsReported inode_count k ops processes old new
 
@@ -56,7 +56,7 @@ IsEndedBy inode_count k ops processes old new r = ⊥
 -- The operations of a script were handed in over the disk d, now e, and what its processes came to
 -- was printed; this fault is told of the disk.
 pub record Runs {D N : Type 0} (disk : Ghosts D N) (d e : D) (tasks : List Task) (processes : ℕ)
-    (fault : Option DiskFault) (old new : Option (List ℕ)) : Type 0 where
+    (fault : Option DeviceFault) (old new : Option (List ℕ)) : Type 0 where
   pub last : Ringed D
   pub served : IsServed disk d e processes last
   pub ends : Ends (inode_count_of (disk.image last.opening)) last (λ p. ops_of p tasks) processes
@@ -73,7 +73,7 @@ pub record HasNotBegun {D N : Type 0} (disk : Ghosts D N) (d e : D) (processes :
     : Type 0 where
   pub cause : IsUnopened disk processes d e r
   pub name : disk.name e ≡ disk.name d
-  pub leaves : LeavesOnly disk.moment disk.leaves d e (RecoversAs (disk.image d))
+  pub leaves : LeavesIfCalm disk d e (RecoversAs (disk.image d))
 
 -- why a script's operations were not run over the disk d, now e, and what it came to; `none` says
 -- that nothing was printed

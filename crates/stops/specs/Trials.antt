@@ -38,6 +38,8 @@ memory = record {
   leaves = λ d. ghosts.leaves d.inner;
   write_count = λ d. d.writes;
   fault_count = λ d. d.faults;
+  sync_count = λ d. ghosts.sync_count d.inner;
+  holding = λ n. false;
 }
 
 -- a player over one

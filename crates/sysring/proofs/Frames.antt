@@ -28,7 +28,7 @@ module _ {D N M H : Type 0} (disk : disk_trait.Ghosts D N) (intake : intake_trai
     rings = λ p. refl;
     committed = omega arith;
     later = omega arith;
-    each = known.keeps;
+    each = λ x left. (known.keeps x left).between;
     before = λ t x le left. inl left;
     stays = λ t x le left. left;
   }

@@ -1,6 +1,7 @@
 -- How the layers' faults are told.
 use Rattle.std.specs.Prelude.{ℕ, List, Option, Some, None, codes}
-use Rattle.blocks.specs.declared.errors.DiskFault.{DiskFault}
+use Rattle.wal.specs.declared.types.DeviceFault.{DeviceFault}
+use Rattle.wal.specs.declared.types.DeviceFault.TheVariants.{Block, Sync}
 use Rattle.blocks.specs.declared.errors.FileFault.{FileFault}
 use Rattle.blocks.specs.declared.errors.FileFault.TheVariants as file
 use Rattle.layout.specs.declared.geometry.MkfsFault.{MkfsFault}
@@ -70,6 +71,7 @@ abbrev pub recover_telling : RecoverFault → Telling
 recover_telling recover.Disk = plain 1 (codes "Disk")
 recover_telling recover.BadLog = plain 2 (codes "BadLog")
 recover_telling recover.NoMemory = plain 3 (codes "NoMemory")
+recover_telling recover.Sync = plain 4 (codes "Sync")
 
 abbrev pub kernel_telling : KernelFault → Telling
 kernel_telling kernel.NoMemory = plain 3 (codes "NoMemory")
@@ -87,8 +89,9 @@ schedule_telling schedule.TooLarge = plain 2 (codes "TooLarge")
 schedule_telling schedule.NoMemory = plain 3 (codes "NoMemory")
 schedule_telling schedule.File = plain 4 (codes "File")
 
-abbrev pub disk_telling : DiskFault → Telling
-disk_telling fault = naming 1 (codes "DiskFault") fault.0
+abbrev pub disk_telling : DeviceFault → Telling
+disk_telling (Block fault) = naming 1 (codes "DiskFault") fault.0
+disk_telling (Sync fault) = plain 2 (codes "SyncFault")
 
 abbrev pub cat_telling : CatFault → Telling
 cat_telling cat.NoFile = plain 1 (codes "NoFile")

@@ -24,7 +24,7 @@ use std::alloc::AllocError;
 use std::io;
 use std::io::ErrorKind;
 use thiserror::Error;
-use wal::RecoverFault;
+use wal::{DeviceFault, RecoverFault};
 
 /// Why command lines can't be had from a reader.
 #[derive(Clone, Copy, Debug, Error)]
@@ -185,6 +185,7 @@ impl Fault for RecoverFault {
             RecoverFault::Disk => Told::new(1, "Disk"),
             RecoverFault::BadLog => Told::new(2, "BadLog"),
             RecoverFault::NoMemory => Told::new(3, "NoMemory"),
+            RecoverFault::Sync => Told::new(4, "Sync"),
         }
     }
 }
@@ -226,11 +227,14 @@ impl Fault for ScheduleFault {
     }
 }
 
-impl Fault for DiskFault {
+impl Fault for DeviceFault {
     ghost telling = { disk_telling };
 
     fn told(&self) -> Told {
-        Told::naming(1, "DiskFault", self.0)
+        match self {
+            DeviceFault::Block(DiskFault(block)) => Told::naming(1, "DiskFault", *block),
+            DeviceFault::Sync(_) => Told::new(2, "SyncFault"),
+        }
     }
 }
 

@@ -5,12 +5,12 @@ ghost use Rattle.texts.specs.Telling.{telling_of};
 
 use crate::faults::{CatFault, InputFault, KernelFault, RunFault, StopsFault};
 use crate::told::{Fault, Told};
-use blocks::{DiskFault, FileFault};
+use blocks::FileFault;
 use itoa::Buffer;
 use layout::{CheckFault, MkfsFault};
 use scripts::{ScheduleFault, ScriptFault};
 use std::fmt;
-use wal::RecoverFault;
+use wal::{DeviceFault, RecoverFault};
 
 /// A layer's fault that ends a command.
 #[derive(Clone, Copy, Debug)]
@@ -30,7 +30,7 @@ pub enum Refusal {
     /// The schedule can't be had.
     Schedule(ScheduleFault),
     /// The disk failed in a step of the kernel.
-    Disk(DiskFault),
+    Disk(DeviceFault),
     /// The file can't be shown.
     Cat(CatFault),
     /// The script can't be run by threads.

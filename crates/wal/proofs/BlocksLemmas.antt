@@ -1,7 +1,7 @@
 -- Each buffer keeps the bytes of a block.
-use Rattle.std.proofs.Common.{◌≡◌, ℕ, ◌+◌, ◌-◌, ◌<◌, Bool, true, false, cond, length, List, refl, sym, ◌∙◌, ap, subst, arith, Option, Some, None, length-set}
+use Rattle.std.proofs.Common.{◌≡◌, ⊎_elim, ℕ, ◌+◌, ◌-◌, ◌<◌, Bool, true, false, cond, eqb, length, List, refl, sym, ◌∙◌, ap, subst, arith, Option, Some, None, length-set}
 use Rattle.std.specs.Prelude.{slice_index, IfNone}
-use Rattle.blocks.specs.declared.errors.DiskFault.{DiskFault}
+use Rattle.wal.specs.declared.types.DeviceFault.{DeviceFault}
 use Rattle.blocks.specs.Block.{IsBlock}
 use Rattle.blocks.specs.Disk.{Image, IsImage, block_at}
 use Rattle.blocks.specs.Lemmas.Blocks.{is_block-zero_block}
@@ -12,9 +12,15 @@ use Rattle.wal.specs.declared.types.Commit.{Commit}
 use Rattle.wal.specs.declared.types.Commit.TheVariants as commit
 use Rattle.wal.specs.declared.types.Committed.{Committed}
 use Rattle.wal.specs.declared.types.Committed.TheVariants as committed
-use Rattle.wal.specs.Machine.{LogState, is_among, noted_cache}
-use Rattle.wal.specs.Joint.{seen, AreBlocks, IsVolume, unpinned_found, written_cache}
-use Rattle.wal.specs.Step.{Stepped, Faulted, CommitsTo}
+use Rattle.wal.specs.Machine.{LogState, is_among, is_syncing, is_writing, noted_cache}
+use Rattle.wal.specs.Joint.{seen, AreBlocks, stepped_at, unpinned_found, written_cache}
+use Rattle.std.proofs.lemmas.Bool.{true≢false}
+use Rattle.wal.specs.Lemmas.Commits.{commit_kinds}
+use Rattle.wal.specs.Floats.{IsVolume}
+use Rattle.blocks.specs.declared.disk.Disk.{Ghosts}
+use Rattle.model.specs.Codec.{header_block}
+use Rattle.wal.specs.declared.types.Part.{Part}
+use Rattle.wal.specs.Step.{CommitSteps, CommitStepsAt, CommitSyncs, CommitWrites, Stepped, Faulted, Synced, Unsynced, CommitsTo, answer_at, answer_synced}
 use Rattle.wal.specs.Volume.{fault_of_step}
 use Rattle.wal.specs.Lemmas.Volume.{fresh_slot, image_seen}
 
@@ -69,6 +75,7 @@ blocks_written commit.Quiet hs c are = are
 blocks_written (commit.Logging n) hs c are = are
 blocks_written commit.Heading hs c are = are
 blocks_written commit.Clearing hs c are = are
+blocks_written (commit.Syncing part) hs c are = are
 blocks_written (commit.Homing n) hs c are = by_found (found c (slice_index hs n)) refl
   where
     by_found : (o : Option ℕ) → found c (slice_index hs n) ≡ o → AreBlocks (unpinned_found c o)
@@ -76,20 +83,83 @@ blocks_written (commit.Homing n) hs c are = by_found (found c (slice_index hs n)
     by_found (Some i) e = blocks_set c i (record (buffer c i) { pins = (buffer c i).pins - 1 }) (some_found c (slice_index hs n) i e).0 (are i) are
 
 -- a step of a commit
-pub whole_stepped : (h : List ℕ) (x : Image) (c : Buffers) (l : LogState) (y : Image) (d : Buffers) (m : LogState) (r : Committed) (fault : Option DiskFault) → fault ≡ fault_of_step r → AreBlocks c
-    → CommitsTo l.commit l.opened r (Stepped h x c l y d m) (Faulted h x c l y d m) → IfNone fault (IsVolume y d m)
-whole_stepped h x c l y d m r fault is are step = subst (λ (f : Option DiskFault). IfNone f (IsVolume y d m)) (sym is) (by_answer r step)
-  where
-    made : Stepped h x c l y d m → IsVolume y d m
-    made s = record { joint = s.joint; blocks = subst AreBlocks (sym s.cache) (blocks_written l.commit l.homes c are) }
+module _ {D N : Type 0} (disk : Ghosts D N) (d : D) (c : Buffers) (l : LogState) (r : Committed) (e : D) (f : Buffers) (m : LogState) (are : AreBlocks c) (plain : disk.holding (disk.name d) ≡ false → is_syncing l.commit ≡ false) where
+  abbrev pub left : Image → Type 0
+  left = disk.leaves e (disk.moment e)
 
-    by_answer : (r : Committed) → CommitsTo l.commit l.opened r (Stepped h x c l y d m) (Faulted h x c l y d m) → IfNone (fault_of_step r) (IsVolume y d m)
-    by_answer committed.More step = made step.1
-    by_answer (committed.Durable n) step = made step.1
-    by_answer committed.Done step = made step.1
-    by_answer (committed.Fault f) step = tt
+  abbrev holds : Bool
+  holds = disk.holding (disk.name d)
+
+  abbrev Whole : Type 0
+  Whole = IsVolume (disk.holding (disk.name e)) (disk.image e) f m left
+
+  -- over a disk that holds no writes back no part waits then, either
+  calm : (b : Bool) (k : Commit) → is_writing k ≡ true → b ≡ false → is_syncing (stepped_at b k l).commit ≡ false
+  calm true k writing free = absurd (true≢false free)
+  calm false commit.Quiet writing free = absurd (cc writing)
+  calm false (commit.Logging n) writing free = by_last (eqb (n + 1) (length l.homes))
+    where
+      by_last : (b : Bool) → is_syncing (cond b commit.Heading (commit.Logging (n + 1))) ≡ false
+      by_last true = refl
+      by_last false = refl
+  calm false commit.Heading writing free = refl
+  calm false (commit.Homing n) writing free = by_last (eqb (n + 1) (length l.homes))
+    where
+      by_last : (b : Bool) → is_syncing (cond b commit.Clearing (commit.Homing (n + 1))) ≡ false
+      by_last true = refl
+      by_last false = refl
+  calm false commit.Clearing writing free = refl
+  calm false (commit.Syncing p) writing free = absurd (cc writing)
+
+  writes : is_writing l.commit ≡ true → CommitWrites disk d c l r e f m → IfNone (fault_of_step r) Whole
+  writes writing w = by_answer r w.step
+    where
+      made : Stepped holds (header_block l.homes) (disk.image d) c l (disk.image e) f m left → Whole
+      made s = record {
+        joint = s.joint;
+        blocks = subst AreBlocks (sym s.cache) (blocks_written l.commit l.homes c are);
+        floats = record { each = s.floats; plain = λ free. ap (λ (n : LogState). is_syncing n.commit) s.log ∙ calm holds l.commit writing (sym (ap disk.holding w.name) ∙ free) };
+      }
+
+      by_answer : (r : Committed) → CommitsTo (answer_at holds l.commit l.opened) r (Stepped holds (header_block l.homes) (disk.image d) c l (disk.image e) f m left) (Faulted (header_block l.homes) (disk.image d) c l (disk.image e) f m) → IfNone (fault_of_step r) Whole
+      by_answer committed.More step = made step.1
+      by_answer (committed.Durable n) step = made step.1
+      by_answer committed.Done step = made step.1
+      by_answer (committed.Fault fault) step = tt
+
+  -- only a disk that holds writes back is synced
+  held : (p : Part) → l.commit ≡ commit.Syncing p → holds ≡ false → ⊥
+  held p due free = let no : true ≡ false = sym (ap is_syncing due) ∙ plain free in absurd (true≢false no)
+
+  syncs : (p : Part) → l.commit ≡ commit.Syncing p → CommitSyncs disk p d c l r e f m → IfNone (fault_of_step r) Whole
+  syncs p due w = by_answer r w.step
+    where
+      made : Synced p c l (disk.image e) f m left → Whole
+      made s = record {
+        joint = s.joint;
+        blocks = subst AreBlocks (sym s.cache) are;
+        floats = record { each = s.floats; plain = λ free. absurd (held p due (sym (ap disk.holding w.name) ∙ free)) };
+      }
+
+      by_answer : (r : Committed) → CommitsTo (answer_synced p l.opened) r (Synced p c l (disk.image e) f m left) (Unsynced c l f m) → IfNone (fault_of_step r) Whole
+      by_answer committed.More step = made step.1
+      by_answer (committed.Durable n) step = made step.1
+      by_answer committed.Done step = made step.1
+      by_answer (committed.Fault fault) step = tt
+
+  pub whole_stepped : (fault : Option DeviceFault) → fault ≡ fault_of_step r → CommitSteps disk d c l r e f m → IfNone fault Whole
+  whole_stepped fault is step = subst (λ (o : Option DeviceFault). IfNone o Whole) (sym is) (⊎_elim
+      (λ (w : (is_writing l.commit ≡ true) × CommitWrites disk d c l r e f m). writes w.0 w.1)
+      (λ (s : (q : Part) × (l.commit ≡ commit.Syncing q) × CommitSyncs disk q d c l r e f m). syncs s.0 s.1 s.2)
+      (commit_kinds disk l.commit d c l r e f m step))
+
+  pub step_unsynced : CommitSteps disk d c l r e f m → holds ≡ false → disk.sync_count e ≡ disk.sync_count d
+  step_unsynced step free = ⊎_elim
+      (λ (w : (is_writing l.commit ≡ true) × CommitWrites disk d c l r e f m). w.1.syncs)
+      (λ (s : (q : Part) × (l.commit ≡ commit.Syncing q) × CommitSyncs disk q d c l r e f m). absurd (held s.0 s.1 free))
+      (commit_kinds disk l.commit d c l r e f m step)
 
 -- the current image is one of blocks of 1024 bytes
-pub image_known : (x : Image) (c : Buffers) (l : LogState) (fault : Option DiskFault) → IsImage x → IfNone fault (IsVolume x c l) → IfNone fault (IsImage (seen x c))
-image_known x c l None is whole = image_seen x c is whole.blocks
-image_known x c l (Some f) is whole = tt
+pub image_known : (holds : Bool) (x : Image) (c : Buffers) (l : LogState) (left : Image → Type 0) (fault : Option DeviceFault) → IsImage x → IfNone fault (IsVolume holds x c l left) → IfNone fault (IsImage (seen x c))
+image_known holds x c l left None is whole = image_seen x c is whole.blocks
+image_known holds x c l left (Some f) is whole = tt

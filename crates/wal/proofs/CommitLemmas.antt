@@ -15,10 +15,11 @@ use Rattle.bcache.specs.Lemmas.Slots.{each_buffer, none_found, some_found, block
 use Rattle.bcache.specs.Lemmas.Current.{length-current, current_kept, current_same_write, current_write}
 use Rattle.wal.specs.declared.types.Commit.{Commit}
 use Rattle.wal.specs.declared.types.Commit.TheVariants as commit
+use Rattle.wal.specs.declared.types.Part.TheVariants as part
 use Rattle.model.specs.Agreement.{IsSameOutsideLog}
 use Rattle.model.specs.Log.{logged_count, homes_of, logged_in, homes_in}
 use Rattle.wal.proofs.LawfulLogs.{home_facts}
-use Rattle.wal.specs.Machine.{is_among, AreHomes, LogState, Idle, Counts, IsLogAt}
+use Rattle.wal.specs.Machine.{is_among, is_writing, AreHomes, LogState, Idle, Counts, IsLogAt}
 use Rattle.wal.proofs.LogLemmas.{no_homes, none_added}
 use Rattle.model.specs.Fields.{u32_at}
 use Rattle.model.specs.Lemmas.Log.{zero_header}
@@ -280,16 +281,17 @@ wrote_home x c l n j = by_found (found c h) refl
             whole (commit.Homing (n + 1)) (in_phase (commit.Homing n) (commit.Homing (n + 1)) l hs l.committed j.log j.log.idle.0 (j.log.idle.0, more) j.log.places (omega arith) j.log.counts) refl (header, logs)
 
 -- any write of a commit
-pub wrote_next : (x : Image) (c : Buffers) (l : LogState) (h : List ℕ) → Joint x c l → l.commit ≢ commit.Quiet → IsHeader h l.homes
+pub wrote_next : (x : Image) (c : Buffers) (l : LogState) (h : List ℕ) → Joint x c l → is_writing l.commit ≡ true → IsHeader h l.homes
     → Joint (set x (place_at l.commit l.homes) (bytes_at l.commit l.homes h (seen x c))) (written_cache l.commit l.homes c) (written_at l.commit l)
 wrote_next x c l h j busy head = by_phase l.commit j busy
   where
-    by_phase : (k : Commit) → JointAt k x c l → k ≢ commit.Quiet → Joint (set x (place_at k l.homes) (bytes_at k l.homes h (seen x c))) (written_cache k l.homes c) (written_at k l)
-    by_phase commit.Quiet j busy = absurd (busy refl)
+    by_phase : (k : Commit) → JointAt k x c l → is_writing k ≡ true → Joint (set x (place_at k l.homes) (bytes_at k l.homes h (seen x c))) (written_cache k l.homes c) (written_at k l)
+    by_phase commit.Quiet j busy = absurd (cc busy)
     by_phase (commit.Logging n) j busy = wrote_log x c l n j
     by_phase commit.Heading j busy = wrote_header x c l h j head
     by_phase (commit.Homing n) j busy = wrote_home x c l n j
     by_phase commit.Clearing j busy = wrote_empty x c l j
+    by_phase (commit.Syncing part) j busy = absurd (cc busy)
 
 same_low : (x : Image) (c : Buffers) (k : Commit) (l : LogState) (b : ℕ) (v : List ℕ) → JointAt k x c l → 2 ≤ b → b < 33 → IsSameOutsideLog (seen x c) (seen (set x b v) c)
 same_low x c k l b v j far low =
@@ -308,6 +310,7 @@ write_current x c l h j = by_phase l.commit j
     by_phase (commit.Logging n) j = same_low x c (commit.Logging n) l (3 + n) (block_at (seen x c) (slice_index l.homes n)) j (omega arith) (omega (arith, j.log.idle.1, j.log.room))
     by_phase commit.Heading j = same_low x c commit.Heading l 2 h j (omega arith) (omega arith)
     by_phase commit.Clearing j = same_low x c commit.Clearing l 2 zero_block j (omega arith) (omega arith)
+    by_phase (commit.Syncing part) j = same_low x c (commit.Syncing part) l 2 zero_block j (omega arith) (omega arith)
     by_phase (commit.Homing n) j =
         let g : ℕ = slice_index l.homes n in
         let among : is_among g (drop n l.homes) ≡ true = ap (is_among g) (drop-cons l.homes n 0 j.log.idle.1) ∙ ap (λ (t : Bool). t || is_among g (drop (suc n) l.homes)) (eq-eqb g g refl) in
@@ -321,6 +324,7 @@ unpinned_current commit.Quiet hs y c = refl
 unpinned_current (commit.Logging n) hs y c = refl
 unpinned_current commit.Heading hs y c = refl
 unpinned_current commit.Clearing hs y c = refl
+unpinned_current (commit.Syncing part) hs y c = refl
 unpinned_current (commit.Homing n) hs y c = by_found (found c (slice_index hs n))
   where
     by_found : (o : Option ℕ) → seen y (unpinned_found c o) ≡ seen y c
@@ -333,9 +337,16 @@ log_cleared l hs is at none =
     subst (λ (gs : List ℕ). IsLogAt commit.Quiet (record l { commit = commit.Quiet; homes = gs })) (sym none)
     (in_phase commit.Clearing commit.Quiet l [] l.committed was was.idle.0 (λ over. refl) (no_homes l.size) (omega arith) (omega (arith, was.counts, was.idle.0)))
 
+pub log_cleared_synced : (l : LogState) (hs : List ℕ) → IsLogAt l.commit l → l.commit ≡ commit.Syncing part.Clear → hs ≡ [] → IsLogAt commit.Quiet (record l { commit = commit.Quiet; homes = hs })
+log_cleared_synced l hs is at none =
+    let was : IsLogAt (commit.Syncing part.Clear) l = subst (λ (m : Commit). IsLogAt m l) at is in
+    subst (λ (gs : List ℕ). IsLogAt commit.Quiet (record l { commit = commit.Quiet; homes = gs })) (sym none)
+    (in_phase (commit.Syncing part.Clear) commit.Quiet l [] l.committed was was.idle.0 (λ over. refl) (no_homes l.size) (omega arith) (omega (arith, was.counts, was.idle.0)))
+
 pub is_within : (k : Commit) (l : LogState) → IsLogAt k l → IsWithin k l.homes
 is_within commit.Quiet l is = tt
 is_within (commit.Logging n) l is = is.idle.1
 is_within commit.Heading l is = tt
 is_within (commit.Homing n) l is = is.idle.1
 is_within commit.Clearing l is = tt
+is_within (commit.Syncing part) l is = tt

@@ -19,7 +19,10 @@ use Rattle.wal.specs.declared.types.Get.{Get}
 use Rattle.wal.specs.declared.types.Get.TheVariants as get
 use Rattle.wal.specs.Machine.{LogState, is_among, noted_cache}
 use Rattle.wal.specs.Joint.{Joint, seen, unpinned_found, written_cache}
-use Rattle.wal.specs.Step.{Stepped, Faulted, CommitsTo}
+use Rattle.blocks.specs.declared.disk.Disk.{Ghosts}
+use Rattle.model.specs.Codec.{header_block}
+use Rattle.wal.specs.declared.types.Part.{Part}
+use Rattle.wal.specs.Step.{CommitSteps, CommitStepsAt, CommitSyncs, CommitWrites, Stepped, Faulted, Synced, Unsynced, CommitsTo, answer_at, answer_synced}
 use Rattle.wal.specs.Volume.{VolumeState, OnFault, UnlessFault, why_busy}
 use Rattle.wal.specs.Held.{HasLock, HoldsBlock, KeepsHeld, TakesLock, LeavesLocks, GetsLock, GivesUpLock, WaitsFor, LocksAfter}
 use Rattle.wal.specs.Lemmas.Volume.{IsAcquired}
@@ -65,6 +68,7 @@ leaves_written commit.Quiet hs c = leaves_same c c refl
 leaves_written (commit.Logging n) hs c = leaves_same c c refl
 leaves_written commit.Heading hs c = leaves_same c c refl
 leaves_written commit.Clearing hs c = leaves_same c c refl
+leaves_written (commit.Syncing part) hs c = leaves_same c c refl
 leaves_written (commit.Homing n) hs c = by_found (found c (slice_index hs n)) refl
   where
     by_found : (o : Option ℕ) → found c (slice_index hs n) ≡ o → LeavesLocks c (unpinned_found c o)
@@ -72,11 +76,34 @@ leaves_written (commit.Homing n) hs c = by_found (found c (slice_index hs n)) re
     by_found (Some i) e = leaves_kept c i (record (buffer c i) { pins = (buffer c i).pins - 1 }) (some_found c (slice_index hs n) i e).0 (record { holder = refl; block = refl; valid = λ v. v })
 
 -- a step of a commit, whether or not its write was made
-pub leaves_stepped : (h : List ℕ) (x : Image) (c : Buffers) (l : LogState) (y : Image) (d : Buffers) (m : LogState) (r : Committed) → CommitsTo l.commit l.opened r (Stepped h x c l y d m) (Faulted h x c l y d m) → LeavesLocks c d
-leaves_stepped h x c l y d m committed.More step = subst (LeavesLocks c) (sym step.1.cache) (leaves_written l.commit l.homes c)
-leaves_stepped h x c l y d m (committed.Durable n) step = subst (LeavesLocks c) (sym step.1.cache) (leaves_written l.commit l.homes c)
-leaves_stepped h x c l y d m committed.Done step = subst (LeavesLocks c) (sym step.1.cache) (leaves_written l.commit l.homes c)
-leaves_stepped h x c l y d m (committed.Fault f) step = leaves_same c d step.cache
+pub leaves_stepped : {D N : Type 0} (disk : Ghosts D N) (d : D) (c : Buffers) (l : LogState) (r : Committed) (e : D) (f : Buffers) (m : LogState) → CommitSteps disk d c l r e f m → LeavesLocks c f
+leaves_stepped {D} {N} disk d c l r e f m step = by_phase l.commit step
+  where
+    writes : CommitWrites disk d c l r e f m → LeavesLocks c f
+    writes w = by_answer r w.step
+      where
+        by_answer : (r : Committed) → CommitsTo (answer_at (disk.holding (disk.name d)) l.commit l.opened) r (Stepped (disk.holding (disk.name d)) (header_block l.homes) (disk.image d) c l (disk.image e) f m (disk.leaves e (disk.moment e))) (Faulted (header_block l.homes) (disk.image d) c l (disk.image e) f m) → LeavesLocks c f
+        by_answer committed.More step = subst (LeavesLocks c) (sym step.1.cache) (leaves_written l.commit l.homes c)
+        by_answer (committed.Durable n) step = subst (LeavesLocks c) (sym step.1.cache) (leaves_written l.commit l.homes c)
+        by_answer committed.Done step = subst (LeavesLocks c) (sym step.1.cache) (leaves_written l.commit l.homes c)
+        by_answer (committed.Fault fault) step = leaves_same c f step.cache
+
+    syncs : (p : Part) → CommitSyncs disk p d c l r e f m → LeavesLocks c f
+    syncs p w = by_answer r w.step
+      where
+        by_answer : (r : Committed) → CommitsTo (answer_synced p l.opened) r (Synced p c l (disk.image e) f m (disk.leaves e (disk.moment e))) (Unsynced c l f m) → LeavesLocks c f
+        by_answer committed.More step = leaves_same c f step.1.cache
+        by_answer (committed.Durable n) step = leaves_same c f step.1.cache
+        by_answer committed.Done step = leaves_same c f step.1.cache
+        by_answer (committed.Fault fault) step = leaves_same c f step.cache
+
+    by_phase : (k : Commit) → CommitStepsAt disk k d c l r e f m → LeavesLocks c f
+    by_phase commit.Quiet w = absurd w
+    by_phase (commit.Logging n) w = writes w
+    by_phase commit.Heading w = writes w
+    by_phase (commit.Homing n) w = writes w
+    by_phase commit.Clearing w = writes w
+    by_phase (commit.Syncing p) w = syncs p w
 
 -- the lock of a slot is given up
 pub gives_up : (c d : Buffers) (pid i : ℕ) → IsCache c → i < 40 → (buffer c i).holder ≡ Some pid → d ≡ released c i → GivesUpLock c d pid i

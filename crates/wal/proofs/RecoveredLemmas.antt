@@ -1,5 +1,5 @@
 -- What recovery gives in each phase of a commit.
-use Rattle.std.proofs.Common.{◌≡◌, ◌≢◌, ⊎_elim, inl, inr, ℕ, zero, suc, ◌+◌, ◌<◌, ◌≤◌, ltb, false, List, [], ◌∷◌, length, set, refl, sym, ◌∙◌, ap, subst, arith, length-set, Option, Some, None}
+use Rattle.std.proofs.Common.{◌≡◌, ◌≢◌, ⊎_elim, inl, inr, ℕ, zero, suc, ◌+◌, ◌<◌, ◌≤◌, ltb, true, false, List, [], ◌∷◌, length, set, refl, sym, ◌∙◌, ap, subst, arith, length-set, Option, Some, None}
 use Rattle.std.specs.Prelude.{slice_index}
 use Rattle.std.proofs.lemmas.Bool.{cases_eq, cases_lt, ltb-true, or_cases}
 use Rattle.std.proofs.lemmas.List.{get_or-set_same, get_or-set_other, set-set}
@@ -11,9 +11,10 @@ use Rattle.wal.specs.Joint.{seen}
 use Rattle.bcache.specs.Lemmas.Current.{length-current}
 use Rattle.wal.specs.declared.types.Commit.{Commit}
 use Rattle.wal.specs.declared.types.Commit.TheVariants as commit
+use Rattle.wal.specs.declared.types.Part.TheVariants as part
 use Rattle.model.specs.Log.{logged_count, recovered}
 use Rattle.wal.proofs.LawfulLogs.{home_facts}
-use Rattle.wal.specs.Machine.{is_among, AreHomes}
+use Rattle.wal.specs.Machine.{is_among, is_writing, AreHomes}
 use Rattle.wal.specs.Joint.{IsHeader}
 use Rattle.wal.specs.Machine.{LogState}
 use Rattle.wal.specs.Joint.{JointAt, Joint, Logs, HasHeader, SameButLog, place_at, bytes_at}
@@ -94,9 +95,13 @@ committed_at (commit.Logging n) x c l j = recovered_empty x j.phase.0
 committed_at commit.Heading x c l j = recovered_empty x j.phase.0
 committed_at (commit.Homing n) x c l j = after_header l.size x (seen x c) l.homes j.size j.log.big j.log.places (omega (arith, j.log.idle.1)) j.phase.0 j.phase.1 (length-current x c) (λ b out. j.clean b (among_drop b n l.homes out))
 committed_at commit.Clearing x c l j = after_header l.size x (seen x c) l.homes j.size j.log.big j.log.places j.log.idle.1 j.phase.0 j.phase.1 (length-current x c) (λ b out. j.clean b (among_drop b (length l.homes) l.homes out))
+committed_at (commit.Syncing part.Log) x c l j = recovered_empty x j.phase.0
+committed_at (commit.Syncing part.Header) x c l j = after_header l.size x (seen x c) l.homes j.size j.log.big j.log.places j.log.idle.1 j.phase.0 j.phase.1 (length-current x c) (λ b out. j.clean b out)
+committed_at (commit.Syncing part.Homes) x c l j = after_header l.size x (seen x c) l.homes j.size j.log.big j.log.places j.log.idle.1 j.phase.0 j.phase.1 (length-current x c) (λ b out. j.clean b (among_drop b (length l.homes) l.homes out))
+committed_at (commit.Syncing part.Clear) x c l j = recovered_empty x j.phase
 
 -- a write to a log block
-but_log_write : (x : Image) (n : ℕ) (v : List ℕ) → n < 30 → SameButLog x (set x (3 + n) v)
+pub but_log_write : (x : Image) (n : ℕ) (v : List ℕ) → n < 30 → SameButLog x (set x (3 + n) v)
 but_log_write x n v few = same_but_log x (set x (3 + n) v) (length-set x (3 + n) v)
     (λ b lt. get_or-set_other x (3 + n) b v [] (λ e. omega (arith, e, lt)))
     (λ b le. get_or-set_other x (3 + n) b v [] (λ e. omega (arith, e, le, few)))
@@ -114,15 +119,16 @@ but_log_two x y v s big = record {
 }
 
 -- A write of a commit: outside the log blocks recovery gives the same, but for the header, and then the current image with an empty header.
-pub kept_write : (x : Image) (c : Buffers) (l : LogState) (h : List ℕ) → Joint x c l → l.commit ≢ commit.Quiet → IsHeader h l.homes
+pub kept_write : (x : Image) (c : Buffers) (l : LogState) (h : List ℕ) → Joint x c l → is_writing l.commit ≡ true → IsHeader h l.homes
     → KeepsCommitted l.commit x (seen x c) (set x (place_at l.commit l.homes) (bytes_at l.commit l.homes h (seen x c)))
 kept_write x c l h joint busy head = by_phase l.commit joint busy
   where
     cur : Image
     cur = seen x c
 
-    by_phase : (k : Commit) → JointAt k x c l → k ≢ commit.Quiet → KeepsCommitted k x cur (set x (place_at k l.homes) (bytes_at k l.homes h cur))
-    by_phase commit.Quiet j busy = absurd (busy refl)
+    by_phase : (k : Commit) → JointAt k x c l → is_writing k ≡ true → KeepsCommitted k x cur (set x (place_at k l.homes) (bytes_at k l.homes h cur))
+    by_phase commit.Quiet j busy = absurd (cc busy)
+    by_phase (commit.Syncing part) j busy = absurd (cc busy)
     by_phase (commit.Logging n) j busy =
         let few : n < 30 = omega (arith, j.log.idle.1, j.log.room) in
         let v = block_at cur (slice_index l.homes n) in

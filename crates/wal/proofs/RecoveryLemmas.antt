@@ -1,16 +1,19 @@
 -- The steps of a recovery, over plain images.
-use Rattle.std.proofs.Common.{◌≡◌, ◌≢◌, inl, inr, ℕ, ◌+◌, ◌<◌, ◌≤◌, true, ◌&&◌, leb, List, [], length, set, Some, sym, ◌∙◌, ap, subst, arith}
-use Rattle.std.specs.Prelude.{slice_get}
-use Rattle.std.proofs.lemmas.Bool.{leb-true}
+use Rattle.std.proofs.Common.{◌≡◌, ◌≢◌, ◌⊎◌, inl, inr, ⊎_elim, ℕ, ◌+◌, ◌<◌, ◌≤◌, Bool, true, false, cond, eqb, ◌&&◌, leb, List, [], length, set, Some, Result, Ok, Err, refl, sym, ◌∙◌, ap, subst, arith}
+use Rattle.std.specs.Prelude.{slice_get, IfOk}
+use Rattle.std.proofs.lemmas.Bool.{leb-true, ne_eqb}
 use Rattle.std.proofs.lemmas.Option.{get_or_from_slice_get}
 use Rattle.blocks.specs.Block.{zero_block, IsBlock}
-use Rattle.blocks.specs.Disk.{Image, block_at, IsOldOrNew, LeavesOldOrNew, IsSettled, AddsNone, Elapses, LeavesOnly}
-use Rattle.blocks.specs.Lemmas.Moments.{started, stays, goes_on, joined}
-use Rattle.model.specs.Log.{logged_count, homes_of, is_lawful_log, are_in_place, are_distinct}
+use Rattle.blocks.specs.Disk.{Image, block_at, IsOldOrNew, LeavesOldOrNew, IsSettled, AddsNone, Elapses, LeavesOnly, Rose, counted}
+use Rattle.blocks.specs.Lemmas.Moments.{started, stays, goes_on, joined, adds_after, only_added, turned}
+use Rattle.model.specs.Log.{logged_in, homes_in, logged_count, homes_of, is_lawful_log, are_in_place, are_distinct, recovered}
 use Rattle.model.specs.Lemmas.Log.{both_of, recovered_empty, none_cleared}
 use Rattle.model.specs.Lemmas.Recovery.{few_homes}
-use Rattle.wal.specs.Recovery.{HasCopied, IsRecoveredInPart, RecoversAs, MayStop}
+use Rattle.wal.specs.Recovery.{HasCopied, IsCalm, IsRecoveredInPart, Looks, MayStop, OnBadLog, OnDisk, OnNoMemory, OnSync, Recovers, RecoversAs, RecoversBy, RefusesToRecover, Rests, Settles, StopsAlike, syncs_to_restore, syncs_to_settle, writes_to_recover}
+use Rattle.wal.specs.declared.faults.RecoverFault.{RecoverFault}
+use Rattle.wal.specs.declared.faults.RecoverFault.TheVariants as fault
 use Rattle.blocks.specs.Calls.{OnlyReads}
+use Rattle.blocks.specs.Lemmas.Reads.{reads_then}
 use Rattle.blocks.specs.declared.disk.Disk.{Ghosts}
 use Rattle.wal.proofs.CopyLemmas.{SameBesides, home_at, besides_copied, besides_old_or_new, recovers_besides, recovers_same, copied_more, copied_none, low_stays, cleared, length-homes_of}
 use Rattle.wal.specs.Lemmas.Commits.{empty_lawful}
@@ -72,45 +75,233 @@ clear_recovers x y z long lawful some copied (inr is) =
     })
 
 -- where a recovery may stop: at its start, in its copying, and at the write that clears the header
-module _ {D N : Type 0} (disk : Ghosts D N) (settled : (d : D) → IsSettled (disk.image d) (disk.leaves d (disk.moment d))) where
-  pub stops_here : (d : D) → MayStop disk d d
-  stops_here d =
+module _ {D N : Type 0} (disk : Ghosts D N) where
+  -- what is left has a property that follows
+  weaker : (old new : D) (P Q : Image → Type 0) → ((x : Image) → P x → Q x) → LeavesOnly disk.moment disk.leaves old new P → LeavesOnly disk.moment disk.leaves old new Q
+  weaker old new P Q so run = record {
+    later = run.later;
+    each = λ x left. so x (run.each x left);
+    before = λ t x le left. ⊎_elim (λ was. inl was) (λ p. inr (so x p)) (run.before t x le left);
+    keeps = run.keeps;
+  }
+
+  pub stops_here : (d : D) → IsSettled (disk.image d) (disk.leaves d (disk.moment d)) → StopsAlike disk d d
+  stops_here d settled =
       let x = disk.image d in
       record {
-        in_order = started disk.moment disk.leaves d (IsRecoveredInPart x) (λ z crash. copied_in_part x x z 0 (omega arith) (copied_none x) (settled d z crash));
-        any_moment = started disk.moment disk.leaves d (RecoversAs x) (λ z crash. recovers_same x z (settled d z crash));
+        in_order = λ plain. started disk.moment disk.leaves d (IsRecoveredInPart x) (λ z crash. copied_in_part x x z 0 (omega arith) (copied_none x) (settled z crash));
+        any_moment = started disk.moment disk.leaves d (RecoversAs x) (λ z crash. recovers_same x z (settled z crash));
+        plain = λ free. refl;
+      }
+
+  -- and then a call that adds nothing
+  pub stops_resting : (old mid new : D) → StopsAlike disk old mid → AddsNone (disk.moment mid) (disk.moment new) (disk.leaves mid) (disk.leaves new)
+      → (disk.holding (disk.name old) ≡ false → disk.sync_count new ≡ disk.sync_count mid) → StopsAlike disk old new
+  stops_resting old mid new stops time unsynced =
+      let x = disk.image old in
+      record {
+        in_order = λ plain. stays disk.moment disk.leaves old mid new (IsRecoveredInPart x) (stops.in_order plain) time;
+        any_moment = stays disk.moment disk.leaves old mid new (RecoversAs x) stops.any_moment time;
+        plain = λ free. unsynced free ∙ stops.plain free;
       }
 
   -- after reads alone
-  pub stops_read : (old read : D) → AddsNone (disk.moment old) (disk.moment read) (disk.leaves old) (disk.leaves read) → MayStop disk old read
-  stops_read old read reading =
-      let x = disk.image old in
-      let here = stops_here old in
-      record {
-        in_order = stays disk.moment disk.leaves old old read (IsRecoveredInPart x) here.in_order reading;
-        any_moment = stays disk.moment disk.leaves old old read (RecoversAs x) here.any_moment reading;
-      }
+  pub stops_read : (old read : D) → IsSettled (disk.image old) (disk.leaves old (disk.moment old)) → OnlyReads disk old read → StopsAlike disk old read
+  stops_read old read settled reads = stops_resting old old read (stops_here old settled) reads.time (λ free. reads.syncs)
 
-  pub stops_copying : (old read mid : D) → OnlyReads disk old read → MayStop disk read mid → MayStop disk old mid
-  stops_copying old read mid reads copying =
+  pub stops_copying : (old read mid : D) → IsSettled (disk.image old) (disk.leaves old (disk.moment old)) → OnlyReads disk old read → StopsAlike disk read mid → StopsAlike disk old mid
+  stops_copying old read mid settled reads copying =
       let x = disk.image old in
-      let first = stops_read old read reads.time in
+      let first = stops_read old read settled reads in
       record {
-        in_order = joined disk.moment disk.leaves old read mid (IsRecoveredInPart x) first.in_order
-            (subst (λ (z : Image). LeavesOnly disk.moment disk.leaves read mid (IsRecoveredInPart z)) reads.image copying.in_order);
+        in_order = λ plain. joined disk.moment disk.leaves old read mid (IsRecoveredInPart x) (first.in_order plain)
+            (subst (λ (z : Image). LeavesOnly disk.moment disk.leaves read mid (IsRecoveredInPart z)) reads.image (copying.in_order (ap disk.holding reads.name ∙ plain)));
         any_moment = joined disk.moment disk.leaves old read mid (RecoversAs x) first.any_moment
             (subst (λ (z : Image). LeavesOnly disk.moment disk.leaves read mid (RecoversAs z)) reads.image copying.any_moment);
+        plain = λ free. copying.plain (ap disk.holding reads.name ∙ free) ∙ reads.syncs;
       }
 
-  pub stops_clearing : (old read mid new : D) → 33 ≤ length (disk.image old) → is_lawful_log (disk.image old) ≡ true → logged_count (disk.image old) ≢ 0 →
-      OnlyReads disk old read → HasCopied (length (homes_of (disk.image old))) (disk.image old) (disk.image mid) → MayStop disk read mid →
-      IsOldOrNew (disk.image mid) 2 zero_block (disk.image new) → Elapses (disk.moment mid) (disk.moment new) (disk.leaves mid) (disk.leaves new) → MayStop disk old new
-  stops_clearing old read mid new long lawful some reads copied copying written time =
+  pub stops_clearing : (old read mid new : D) → IsSettled (disk.image old) (disk.leaves old (disk.moment old)) → 33 ≤ length (disk.image old) → is_lawful_log (disk.image old) ≡ true → logged_count (disk.image old) ≢ 0 →
+      OnlyReads disk old read → HasCopied (length (homes_of (disk.image old))) (disk.image old) (disk.image mid) → StopsAlike disk read mid →
+      LeavesOnly disk.moment disk.leaves mid new (IsOldOrNew (disk.image mid) 2 zero_block) → (disk.holding (disk.name old) ≡ false → disk.sync_count new ≡ disk.sync_count mid) → StopsAlike disk old new
+  stops_clearing old read mid new settled long lawful some reads copied copying clearing unsynced =
       let x = disk.image old in
-      let home = stops_copying old read mid reads copying in
+      let y = disk.image mid in
+      let home = stops_copying old read mid settled reads copying in
       record {
-        in_order = goes_on disk.moment disk.leaves old mid new (IsRecoveredInPart x) home.in_order time
-            (λ z crash. cleared_in_part x (disk.image mid) (disk.image new) z (omega (arith, long)) some copied written (settled new z crash));
-        any_moment = goes_on disk.moment disk.leaves old mid new (RecoversAs x) home.any_moment time
-            (λ z crash. subst (RecoversAs x) (sym (settled new z crash)) (clear_recovers x (disk.image mid) (disk.image new) long lawful some copied written));
+        in_order = λ plain. joined disk.moment disk.leaves old mid new (IsRecoveredInPart x) (home.in_order plain)
+            (weaker mid new (IsOldOrNew y 2 zero_block) (IsRecoveredInPart x) (λ z left. cleared_in_part x y z z (omega (arith, long)) some copied left refl) clearing);
+        any_moment = joined disk.moment disk.leaves old mid new (RecoversAs x) home.any_moment
+            (weaker mid new (IsOldOrNew y 2 zero_block) (RecoversAs x) (λ z left. clear_recovers x y z long lawful some copied left) clearing);
+        plain = λ free. unsynced free ∙ home.plain free;
       }
+
+  -- a settled disk, one write, and then a call that adds nothing
+  pub stops_write : (old mid new : D) (b : ℕ) (v : List ℕ) → IsSettled (disk.image old) (disk.leaves old (disk.moment old)) → Elapses (disk.moment old) (disk.moment mid) (disk.leaves old) (disk.leaves mid)
+      → LeavesOldOrNew b v (disk.leaves old (disk.moment old)) (disk.leaves mid (disk.moment mid)) → AddsNone (disk.moment mid) (disk.moment new) (disk.leaves mid) (disk.leaves new)
+      → LeavesOnly disk.moment disk.leaves old new (IsOldOrNew (disk.image old) b v)
+  stops_write old mid new b v settled time crash rest =
+      let P : Image → Type 0 = IsOldOrNew (disk.image old) b v in
+      stays disk.moment disk.leaves old mid new P
+      (goes_on disk.moment disk.leaves old old mid P (started disk.moment disk.leaves old P (λ z left. inl (settled z left))) time
+      (λ z left. let before = crash z left in subst (λ (w : Image). IsOldOrNew w b v z) (settled before.0 before.1) before.2)) rest
+
+  -- a disk that was only read, and then so again
+  pub rests_then : (old mid new : D) → Rests disk old mid → Rests disk mid new → Rests disk old new
+  rests_then old mid new first next = record {
+    name = next.name ∙ first.name;
+    image = next.image ∙ first.image;
+    writes = next.writes ∙ first.writes;
+    time = record {
+      later = omega (arith, first.time.later, next.time.later);
+      adds = λ t x le left. first.time.adds t x le (next.time.adds t x (omega (arith, le, first.time.later)) left);
+      keeps = λ t x le left. next.time.keeps t x (omega (arith, le, first.time.later)) (first.time.keeps t x le left);
+    };
+    reads = λ plain. reads_then disk old mid new (first.reads plain) (next.reads (ap disk.holding first.name ∙ plain));
+  }
+
+  pub rests_same : (d : D) → Rests disk d d
+  rests_same d = record {
+    name = refl;
+    image = refl;
+    writes = refl;
+    time = record { later = omega arith; adds = λ t x le left. left; keeps = λ t x le left. left };
+    reads = λ plain. record { name = refl; image = refl; writes = refl; syncs = refl; time = record { later = omega arith; adds = λ t x le left. left; keeps = λ t x le left. left } };
+  }
+
+  pub rests_reading : (old new : D) → OnlyReads disk old new → Rests disk old new
+  rests_reading old new reads = record { name = reads.name; image = reads.image; writes = reads.writes; time = reads.time; reads = λ plain. reads }
+
+  -- nothing was done but what adds nothing, and no sync
+  pub may_stop_none : (old new : D) → (disk.holding (disk.name old) ≡ false → IsSettled (disk.image old) (disk.leaves old (disk.moment old)))
+      → AddsNone (disk.moment old) (disk.moment new) (disk.leaves old) (disk.leaves new) → disk.sync_count new ≡ disk.sync_count old → MayStop disk old new
+  may_stop_none old new settled time unsynced = record {
+    in_order = λ plain. (stops_resting old old new (stops_here old (settled plain)) time (λ free. unsynced)).in_order plain;
+    any_moment = λ calm. (stops_resting old old new (stops_here old calm) time (λ free. unsynced)).any_moment;
+    adds = record { later = time.later; adds = λ t x le left. inl (time.adds t x le left); keeps = time.keeps };
+    from_sync = inl unsynced;
+    plain = λ free. unsynced;
+  }
+
+  -- the first sync, and then the rest
+  pub may_stop_then : (old mid new : D) → Rests disk old mid → (disk.holding (disk.name old) ≡ false → mid ≡ old) → StopsAlike disk mid new → MayStop disk old new
+  may_stop_then old mid new first plain_same stops =
+      let x = disk.image old in
+      let run : LeavesOnly disk.moment disk.leaves mid new (RecoversAs x) = subst (λ (z : Image). LeavesOnly disk.moment disk.leaves mid new (RecoversAs z)) first.image stops.any_moment in
+      record {
+        in_order = λ plain. subst (λ (d : D). LeavesOnly disk.moment disk.leaves d new (IsRecoveredInPart (disk.image d))) (plain_same plain) (stops.in_order (ap disk.holding first.name ∙ plain));
+        any_moment = λ calm. only_added disk.moment disk.leaves old new (RecoversAs x) (λ z left. recovers_same x z (calm z left)) (adds_after disk.moment disk.leaves old mid new (RecoversAs x) first.time run);
+        adds = adds_after disk.moment disk.leaves old mid new (RecoversAs x) first.time run;
+        from_sync = inr (turned disk.moment disk.leaves old mid new (RecoversAs x) first.time.later run);
+        plain = λ free. stops.plain (ap disk.holding first.name ∙ free) ∙ ap disk.sync_count (plain_same free);
+      }
+
+  -- the syncs of a recovery
+  syncs_all : (h b : Bool) (s : ℕ) → counted (counted s (cond h 1 0)) (cond h (cond b 0 2) 0) ≡ counted s (cond h (cond b 1 3) 0)
+  syncs_all true true s = refl
+  syncs_all true false s = refl
+  syncs_all false b s = refl
+
+  pub syncs_none : (h : Bool) (s : ℕ) → s ≡ counted s (syncs_to_restore h 0)
+  syncs_none true s = refl
+  syncs_none false s = refl
+
+  pub syncs_some : (h : Bool) (n s : ℕ) → n ≢ 0 → counted (counted s (syncs_to_settle h)) (syncs_to_settle h) ≡ counted s (syncs_to_restore h n)
+  syncs_some true n s some = sym (ap (λ (b : Bool). counted s (cond b 0 2)) (ne_eqb n 0 some))
+  syncs_some false n s some = refl
+
+  -- a recovery after the first sync
+  pub recovers_then : (n : ℕ) (old mid new : D) → Rests disk old mid → disk.fault_count mid ≡ disk.fault_count old → Settles disk (syncs_to_settle (disk.holding (disk.name old))) old mid
+      → RecoversBy disk n (syncs_to_restore (disk.holding (disk.name mid)) n) mid new → Recovers disk n old new
+  recovers_then n old mid new first faults settles r = record {
+    lawful = subst (λ (z : Image). is_lawful_log z ≡ true) first.image r.lawful;
+    count = r.count ∙ ap logged_count first.image;
+    image = r.image ∙ ap recovered first.image;
+    none = r.none;
+    writes = r.writes ∙ ap (λ (k : ℕ). counted k (writes_to_recover n)) first.writes;
+    faults = r.faults ∙ faults;
+    unwritten = λ none. rests_then old mid new first (r.unwritten none);
+    settles = record {
+      settled = r.settles.settled;
+      syncs = r.settles.syncs ∙ ap (λ (h : Bool). counted (disk.sync_count mid) (syncs_to_restore h n)) (ap disk.holding first.name)
+          ∙ ap (λ (s : ℕ). counted s (syncs_to_restore (disk.holding (disk.name old)) n)) settles.syncs ∙ syncs_all (disk.holding (disk.name old)) (eqb n 0) (disk.sync_count old);
+    };
+  }
+
+  pub refuses_then : {T : Type 0} (old mid new : D) (result : Result T RecoverFault) → Rests disk old mid → disk.fault_count mid ≡ disk.fault_count old → OnNoMemory result ⊥
+      → RefusesToRecover disk mid new result → RefusesToRecover disk old new result
+  refuses_then {T} old mid new result first faults none r = record {
+    bad = by_bad result r.bad;
+    unwritten = by_unwritten result r.unwritten;
+    memory = by_memory result none;
+    fault = by_fault result r.fault;
+    unsynced = by_unsynced result r.unsynced;
+    holds = by_holds result r.holds;
+  }
+    where
+      by_bad : (o : Result T RecoverFault) → OnBadLog o (is_lawful_log (disk.image mid) ≡ false) → OnBadLog o (is_lawful_log (disk.image old) ≡ false)
+      by_bad (Ok v) p = p
+      by_bad (Err fault.Disk) p = p
+      by_bad (Err fault.BadLog) p = sym (ap is_lawful_log first.image) ∙ p
+      by_bad (Err fault.NoMemory) p = p
+      by_bad (Err fault.Sync) p = p
+
+      by_unwritten : (o : Result T RecoverFault) → OnBadLog o (Looks disk mid new) → OnBadLog o (Looks disk old new)
+      by_unwritten (Ok v) p = p
+      by_unwritten (Err fault.Disk) p = p
+      by_unwritten (Err fault.BadLog) p = record { rests = rests_then old mid new first p.rests; faults = p.faults ∙ faults }
+      by_unwritten (Err fault.NoMemory) p = p
+      by_unwritten (Err fault.Sync) p = p
+
+      by_memory : (o : Result T RecoverFault) → OnNoMemory o ⊥ → OnNoMemory o (new ≡ old)
+      by_memory (Ok v) p = p
+      by_memory (Err fault.Disk) p = p
+      by_memory (Err fault.BadLog) p = p
+      by_memory (Err fault.NoMemory) p = absurd p
+      by_memory (Err fault.Sync) p = p
+
+      by_fault : (o : Result T RecoverFault) → OnDisk o (Rose (disk.fault_count mid) (disk.fault_count new)) → OnDisk o (Rose (disk.fault_count old) (disk.fault_count new))
+      by_fault (Ok v) p = p
+      by_fault (Err fault.Disk) p = subst (λ (k : ℕ). Rose k (disk.fault_count new)) faults p
+      by_fault (Err fault.BadLog) p = p
+      by_fault (Err fault.NoMemory) p = p
+      by_fault (Err fault.Sync) p = p
+
+      by_unsynced : (o : Result T RecoverFault) → OnSync o (Rose (disk.fault_count mid) (disk.fault_count new)) → OnSync o (Rose (disk.fault_count old) (disk.fault_count new))
+      by_unsynced (Ok v) p = p
+      by_unsynced (Err fault.Disk) p = p
+      by_unsynced (Err fault.BadLog) p = p
+      by_unsynced (Err fault.NoMemory) p = p
+      by_unsynced (Err fault.Sync) p = subst (λ (k : ℕ). Rose k (disk.fault_count new)) faults p
+
+      by_holds : (o : Result T RecoverFault) → OnSync o (disk.holding (disk.name mid) ≡ true) → OnSync o (disk.holding (disk.name old) ≡ true)
+      by_holds (Ok v) p = p
+      by_holds (Err fault.Disk) p = p
+      by_holds (Err fault.BadLog) p = p
+      by_holds (Err fault.NoMemory) p = p
+      by_holds (Err fault.Sync) p = sym (ap disk.holding first.name) ∙ p
+
+  pub recovers_ok : (old mid new : D) (result : Result ℕ RecoverFault) → Rests disk old mid → disk.fault_count mid ≡ disk.fault_count old → Settles disk (syncs_to_settle (disk.holding (disk.name old))) old mid
+      → IfOk result (λ n. RecoversBy disk n (syncs_to_restore (disk.holding (disk.name mid)) n) mid new) → IfOk result (λ n. Recovers disk n old new)
+  recovers_ok old mid new (Ok n) first faults settles r = recovers_then n old mid new first faults settles r
+  recovers_ok old mid new (Err fault) first faults settles r = r
+
+  -- behind the first write a recovery fails by the disk or by a sync alone
+  pub refuses_late : {T : Type 0} (old mid new : D) (e : RecoverFault) → disk.fault_count mid ≡ disk.fault_count old → disk.holding (disk.name mid) ≡ disk.holding (disk.name old)
+      → (e ≡ fault.Disk) ⊎ ((e ≡ fault.Sync) × (disk.holding (disk.name mid) ≡ true)) → Rose (disk.fault_count mid) (disk.fault_count new) → RefusesToRecover {T = T} disk old new (Err e)
+  refuses_late {T} old mid new e faults kind (inl is) rose =
+      let grown : Rose (disk.fault_count old) (disk.fault_count new) = subst (λ (k : ℕ). Rose k (disk.fault_count new)) faults rose in
+      subst (λ (f : RecoverFault). RefusesToRecover {T = T} disk old new (Err f)) (sym is) (record { bad = tt; unwritten = tt; memory = tt; fault = grown; unsynced = tt; holds = tt })
+  refuses_late {T} old mid new e faults kind (inr is) rose =
+      let grown : Rose (disk.fault_count old) (disk.fault_count new) = subst (λ (k : ℕ). Rose k (disk.fault_count new)) faults rose in
+      subst (λ (f : RecoverFault). RefusesToRecover {T = T} disk old new (Err f)) (sym is.0) (record { bad = tt; unwritten = tt; memory = tt; fault = tt; unsynced = grown; holds = sym kind ∙ is.1 })
+
+  pub none_late : (T : Type 0) (mid : D) (e : RecoverFault) → (e ≡ fault.Disk) ⊎ ((e ≡ fault.Sync) × (disk.holding (disk.name mid) ≡ true)) → OnNoMemory {T = T} (Err e) ⊥
+  none_late T mid e (inl is) = subst (λ (f : RecoverFault). OnNoMemory {T = T} (Err f) ⊥) (sym is) tt
+  none_late T mid e (inr is) = subst (λ (f : RecoverFault). OnNoMemory {T = T} (Err f) ⊥) (sym is.0) tt
+
+pub none_as : (A B : Type 0) (e : RecoverFault) → OnNoMemory {T = A} (Err e) ⊥ → OnNoMemory {T = B} (Err e) ⊥
+none_as A B fault.Disk p = tt
+none_as A B fault.BadLog p = tt
+none_as A B fault.NoMemory p = p
+none_as A B fault.Sync p = tt

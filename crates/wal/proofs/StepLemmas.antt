@@ -11,6 +11,7 @@ use Rattle.wal.specs.Joint.{seen, JointAt, Joint}
 use Rattle.bcache.specs.Lemmas.Slots.{block_is, buffer_same, some_found, victim_free}
 use Rattle.wal.specs.declared.types.Commit.{Commit}
 use Rattle.wal.specs.declared.types.Commit.TheVariants as commit
+use Rattle.wal.specs.declared.types.Part.TheVariants as part
 use Rattle.wal.specs.Machine.{is_among, LogState, HasRoom, appended, noted, noted_cache, used_by, begin_cause, begun, after_begin, after_begin_by, ended}
 use Rattle.model.specs.declared.types.operations.Why.{Why}
 use Rattle.model.specs.Log.{is_lawful_log}
@@ -31,6 +32,10 @@ joint_lawful x c l j = by_phase l.commit j
     by_phase commit.Heading j = empty_lawful x j.phase.0
     by_phase (commit.Homing n) j = header_lawful x l.size l.homes j.size (few_homes j.log) j.log.places j.phase.0
     by_phase commit.Clearing j = header_lawful x l.size l.homes j.size (few_homes j.log) j.log.places j.phase.0
+    by_phase (commit.Syncing part.Log) j = empty_lawful x j.phase.0
+    by_phase (commit.Syncing part.Header) j = header_lawful x l.size l.homes j.size (few_homes j.log) j.log.places j.phase.0
+    by_phase (commit.Syncing part.Homes) j = header_lawful x l.size l.homes j.size (few_homes j.log) j.log.places j.phase.0
+    by_phase (commit.Syncing part.Clear) j = empty_lawful x j.phase
 
 -- a block is logged, and then its bytes are changed: the current image changes in that block alone
 pub joint_used : {x : Image} (c e d : Buffers) (l m : LogState) (p i b : ℕ) (bytes : List ℕ) → Joint x c l → p < 32 → HasRoom (get_or l.used p None) → i < 40 → (buffer c i).block ≡ Some b → (buffer c i).valid ≡ true

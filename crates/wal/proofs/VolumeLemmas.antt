@@ -1,9 +1,9 @@
 -- What the calls on a disk with its buffers and its log keep, and what they give.
-use Rattle.std.proofs.Common.{◌≡◌, ⊎_elim, ℕ, ◌<◌, true, false, List, length, refl, sym, ◌∙◌, ap, subst, arith, Option, Some, None}
+use Rattle.std.proofs.Common.{◌≡◌, ⊎_elim, ℕ, ◌<◌, Bool, true, false, cond, eqb, List, length, refl, sym, ◌∙◌, ap, subst, arith, Option, Some, None}
 use Rattle.std.specs.Prelude.{IfNone, IsSome}
 use Rattle.std.proofs.lemmas.Bool.{eq-eqb}
-use Rattle.blocks.specs.declared.errors.DiskFault.{DiskFault}
-use Rattle.blocks.specs.Disk.{Image, block_at}
+use Rattle.wal.specs.declared.types.DeviceFault.{DeviceFault}
+use Rattle.blocks.specs.Disk.{Image, IsSettled, block_at}
 use Rattle.bcache.specs.declared.types.Buffer.{Buffer}
 use Rattle.bcache.specs.Current.{is_number_in, is_of}
 use Rattle.bcache.specs.Buffers.{Buffers, buffer, found, victim, filled, changed, EndsUnfilled, IsCache, block_or_zero, after_lock, after_take, after_acquire_by, after_acquire}
@@ -12,36 +12,111 @@ use Rattle.bcache.specs.Lemmas.Current.{current_kept, current_hidden, current_fi
 use Rattle.wal.specs.declared.types.Commit.{Commit}
 use Rattle.wal.specs.declared.types.Committed.{Committed}
 use Rattle.wal.specs.declared.types.Committed.TheVariants as committed
-use Rattle.wal.specs.Machine.{LogState, noted_cache}
+use Rattle.wal.specs.Machine.{LogState, HasRoom, after_begin, after_begin_by, appended, begin_cause, closed, ended, is_among, is_syncing, left_by, noted, noted_cache, used_by}
 use Rattle.model.specs.Agreement.{IsSameOutsideLog}
-use Rattle.wal.specs.Joint.{JointAt, Joint, AreBlocks, IsVolume, seen}
-use Rattle.wal.specs.Step.{Stepped, Faulted, CommitsTo}
+use Rattle.wal.specs.Joint.{JointAt, Joint, AreBlocks, seen}
+use Rattle.wal.specs.Floats.{AreAfloat, IsAfloat, IsVolume, Survives}
+use Rattle.wal.specs.Lemmas.Log.{some_open, is_open, quiet_of}
+use Rattle.wal.proofs.FloatLemmas.{floats_here, survives}
+use Rattle.wal.proofs.LogLemmas.{room_of}
+use Rattle.model.specs.Log.{is_lawful_log}
+use Rattle.model.specs.declared.types.operations.Why.{Why}
+use Rattle.blocks.specs.declared.disk.Disk.{Ghosts}
+use Rattle.model.specs.Codec.{header_block}
+use Rattle.wal.specs.declared.types.Commit.TheVariants as commit
+use Rattle.wal.specs.declared.types.Part.{Part}
+use Rattle.wal.specs.Step.{CommitSteps, CommitStepsAt, CommitSyncs, CommitWrites, Stepped, Faulted, Synced, Unsynced, CommitsTo, answer_at, answer_synced}
 use Rattle.wal.specs.declared.types.Get.{Get}
 use Rattle.wal.specs.declared.types.Get.TheVariants as get
 use Rattle.wal.specs.Volume.{VolumeState, Holds, OnGot, UnlessFault}
 use Rattle.wal.proofs.CommitLemmas.{write_current, unpinned_current}
 use Rattle.wal.proofs.CacheCallLemmas.{clean_shows, joint_filled}
-use Rattle.wal.proofs.StepLemmas.{some_block}
+use Rattle.wal.proofs.StepLemmas.{joint_lawful, some_block}
 use Rattle.wal.specs.Lemmas.Volume.{IsAcquired, holds_now, changed_lock}
 
-whole_of : {J : Type 0} (fault : Option DiskFault) → fault ≡ None → IfNone fault J → J
+whole_of : {J : Type 0} (fault : Option DeviceFault) → fault ≡ None → IfNone fault J → J
 whole_of None none whole = whole
 whole_of (Some f) none whole = absurd (cc none)
 
-pub if_whole : {x : Image} {c : Buffers} {l : LogState} (fault : Option DiskFault) → Joint x c l → AreBlocks c → IfNone fault (IsVolume x c l)
-if_whole None joint are = record { joint = joint; blocks = are }
-if_whole (Some f) joint are = tt
+pub if_whole : {holds : Bool} {x : Image} {c : Buffers} {l : LogState} {left : Image → Type 0} (fault : Option DeviceFault) → Joint x c l → AreBlocks c → IsAfloat holds l.commit x l.homes left → IfNone fault (IsVolume holds x c l left)
+if_whole None joint are floats = record { joint = joint; blocks = are; floats = floats }
+if_whole (Some f) joint are floats = tt
 
-pub if_joint : (x : Image) (c : Buffers) (l : LogState) (fault : Option DiskFault) → IfNone fault (IsVolume x c l) → IfNone fault (Joint x c l)
-if_joint x c l None whole = whole.joint
-if_joint x c l (Some f) whole = tt
+pub if_joint : (holds : Bool) (x : Image) (c : Buffers) (l : LogState) (left : Image → Type 0) (fault : Option DeviceFault) → IfNone fault (IsVolume holds x c l left) → IfNone fault (Joint x c l)
+if_joint holds x c l left None whole = whole.joint
+if_joint holds x c l left (Some f) whole = tt
+
+-- what recovery gives for each image that may be left
+pub if_survives : (holds : Bool) (x : Image) (c : Buffers) (l : LogState) (left : Image → Type 0) (fault : Option DeviceFault) → IfNone fault (IsVolume holds x c l left) → IfNone fault ((z : Image) → left z → Survives l.commit x z)
+if_survives holds x c l left None whole = λ z now. survives l.commit x c l z whole.joint (joint_lawful x c l whole.joint) (whole.floats.each z now)
+if_survives holds x c l left (Some f) whole = tt
 
 -- where the disk hasn't failed: v is what the fields of w were
-pub joint_here : {D : Type 0} (image : D → Image) (v w : VolumeState D) → v ≡ w → w.fault ≡ None → IfNone v.fault (IsVolume (image v.device) v.buffers v.log) → Joint (image v.device) v.buffers v.log
-joint_here {D} image v w is none whole = (whole_of v.fault (ap (λ (u : VolumeState D). u.fault) is ∙ none) whole).joint
+pub joint_here : {D N : Type 0} (disk : Ghosts D N) (v w : VolumeState D) → v ≡ w → w.fault ≡ None → IfNone v.fault (IsVolume (disk.holding (disk.name v.device)) (disk.image v.device) v.buffers v.log (disk.leaves v.device (disk.moment v.device))) → Joint (disk.image v.device) v.buffers v.log
+joint_here {D} {N} disk v w is none whole = (whole_of v.fault (ap (λ (u : VolumeState D). u.fault) is ∙ none) whole).joint
 
-pub blocks_here : {D : Type 0} (image : D → Image) (v w : VolumeState D) → v ≡ w → w.fault ≡ None → IfNone v.fault (IsVolume (image v.device) v.buffers v.log) → AreBlocks v.buffers
-blocks_here {D} image v w is none whole = (whole_of v.fault (ap (λ (u : VolumeState D). u.fault) is ∙ none) whole).blocks
+pub blocks_here : {D N : Type 0} (disk : Ghosts D N) (v w : VolumeState D) → v ≡ w → w.fault ≡ None → IfNone v.fault (IsVolume (disk.holding (disk.name v.device)) (disk.image v.device) v.buffers v.log (disk.leaves v.device (disk.moment v.device))) → AreBlocks v.buffers
+blocks_here {D} {N} disk v w is none whole = (whole_of v.fault (ap (λ (u : VolumeState D). u.fault) is ∙ none) whole).blocks
+
+pub floats_at : {D N : Type 0} (disk : Ghosts D N) (v w : VolumeState D) → v ≡ w → w.fault ≡ None → IfNone v.fault (IsVolume (disk.holding (disk.name v.device)) (disk.image v.device) v.buffers v.log (disk.leaves v.device (disk.moment v.device))) → IsAfloat (disk.holding (disk.name v.device)) v.log.commit (disk.image v.device) v.log.homes (disk.leaves v.device (disk.moment v.device))
+floats_at {D} {N} disk v w is none whole = (whole_of v.fault (ap (λ (u : VolumeState D). u.fault) is ∙ none) whole).floats
+
+-- nothing is held: that is so in each phase
+pub any_afloat : (x : Image) (left : Image → Type 0) (k : Commit) (hs : List ℕ) → is_lawful_log x ≡ true → IsSettled x left → AreAfloat k x hs left
+any_afloat x left k hs lawful settled z now = floats_here k x z hs lawful (settled z now)
+
+-- nothing is held while an operation is open
+open_afloat : {holds : Bool} {x : Image} {c : Buffers} {left : Image → Type 0} (l m : LogState) (p u : ℕ) → Joint x c l → p < 32 → used_by l p ≡ Some u → is_syncing m.commit ≡ false → IsAfloat holds l.commit x l.homes left → IsAfloat holds m.commit x m.homes left
+open_afloat {holds} {x} {c} {left} l m p u j lt held calm are =
+    let quiet = quiet_of l.commit l j.log (is_open l l.commit p u j.log lt held) in
+    record { each = any_afloat x left m.commit m.homes (joint_lawful x c l j) (subst (λ (k : Commit). AreAfloat k x l.homes left) quiet are.each); plain = λ free. calm }
+
+-- an operation that is open in a quiet log
+open_quiet : {x : Image} {c : Buffers} (l : LogState) (p u : ℕ) → Joint x c l → p < 32 → used_by l p ≡ Some u → is_syncing l.commit ≡ false
+open_quiet l p u j lt held = ap is_syncing (quiet_of l.commit l j.log (is_open l l.commit p u j.log lt held))
+
+ended_calm : (l : LogState) (p : ℕ) → is_syncing l.commit ≡ false → is_syncing (ended l p).commit ≡ false
+ended_calm l p calm = by_last (eqb l.outstanding 1)
+  where
+    by_homes : (b : Bool) → is_syncing (cond b (record (left_by l p) { committed = l.opened }) (record (left_by l p) { commit = commit.Logging 0 })).commit ≡ false
+    by_homes true = calm
+    by_homes false = refl
+
+    by_last : (b : Bool) → is_syncing (cond b (closed (left_by l p)) (left_by l p)).commit ≡ false
+    by_last true = by_homes (eqb (length l.homes) 0)
+    by_last false = calm
+
+pub end_afloat : {holds : Bool} {x : Image} {c : Buffers} {left : Image → Type 0} (l m : LogState) (p : ℕ) → Joint x c l → p < 32 → IsSome (used_by l p) → IsAfloat holds l.commit x l.homes left → m ≡ ended l p → IsAfloat holds m.commit x m.homes left
+end_afloat l m p j lt some are is =
+    let had = some_open (used_by l p) some in
+    open_afloat l m p had.0 j lt had.1 (ap (λ (n : LogState). is_syncing n.commit) is ∙ ended_calm l p (open_quiet l p had.0 j lt had.1)) are
+
+noted_calm : (l : LogState) (p b : ℕ) → is_syncing l.commit ≡ false → is_syncing (noted l p b).commit ≡ false
+noted_calm l p b calm = by_home (is_among b l.homes)
+  where
+    by_home : (a : Bool) → is_syncing (cond a l (appended l p b)).commit ≡ false
+    by_home true = calm
+    by_home false = calm
+
+pub room_afloat : {holds : Bool} {x : Image} {c : Buffers} {left : Image → Type 0} (l m : LogState) (p b : ℕ) → Joint x c l → p < 32 → HasRoom (used_by l p) → IsAfloat holds l.commit x l.homes left → m ≡ noted l p b → IsAfloat holds m.commit x m.homes left
+room_afloat l m p b j lt room are is =
+    let had = room_of (used_by l p) room in
+    open_afloat l m p had.0 j lt had.1 (ap (λ (n : LogState). is_syncing n.commit) is ∙ noted_calm l p b (open_quiet l p had.0 j lt had.1)) are
+
+-- a beginning leaves a commit that is under way alone
+pub begin_afloat : {holds : Bool} (x : Image) (left : Image → Type 0) (l m : LogState) (p : ℕ) → IsAfloat holds l.commit x l.homes left → m ≡ after_begin l p → IsAfloat holds m.commit x m.homes left
+begin_afloat {holds} x left l m p are is = subst (λ (n : LogState). IsAfloat holds n.commit x n.homes left) (sym is) (by_cause (begin_cause l))
+  where
+    by_cause : (o : Option Why) → IsAfloat holds (after_begin_by o l p).commit x (after_begin_by o l p).homes left
+    by_cause None = are
+    by_cause (Some cause) = are
+
+-- a read adds nothing
+pub read_afloat : {holds now : Bool} {x y : Image} {old new : Image → Type 0} (k : Commit) (hs : List ℕ) → IsAfloat holds k x hs old → y ≡ x → ((z : Image) → new z → old z) → now ≡ holds → IsAfloat now k y hs new
+read_afloat {holds} {now} {x} {y} {old} {new} k hs are same fewer kind = record {
+  each = subst (λ (w : Image). AreAfloat k w hs new) (sym same) (λ z left. are.each z (fewer z left));
+  plain = λ free. are.plain (sym kind ∙ free);
+}
 
 pub buffer_here : {D : Type 0} (v w : VolumeState D) (i : ℕ) → v ≡ w → buffer v.buffers i ≡ buffer w.buffers i
 buffer_here {D} v w i is = ap (λ (u : VolumeState D). buffer u.buffers i) is
@@ -107,8 +182,8 @@ filled_holds c d pid b i (get.Sleeping why) j has answer is same = tt
 filled_holds c d pid b i (get.Fault fault) j has answer is same = tt
 
 -- outside the log the current image stays
-stepped_current : (h : List ℕ) (x : Image) (c : Buffers) (l : LogState) (y : Image) (d : Buffers) (m : LogState) → Joint x c l → Stepped h x c l y d m → IsSameOutsideLog (seen x c) (seen y d)
-stepped_current h x c l y d m j step =
+stepped_current : (holds : Bool) (h : List ℕ) (x : Image) (c : Buffers) (l : LogState) (y : Image) (d : Buffers) (m : LogState) (left : Image → Type 0) → Joint x c l → Stepped holds h x c l y d m left → IsSameOutsideLog (seen x c) (seen y d)
+stepped_current holds h x c l y d m left j step =
     subst (λ (e : Buffers). IsSameOutsideLog (seen x c) (seen y e)) (sym step.cache)
     (subst (IsSameOutsideLog (seen x c)) (sym (unpinned_current l.commit l.homes y c))
     (subst (λ (z : Image). IsSameOutsideLog (seen x c) (seen z c)) (sym step.image) (write_current x c l h j)))
@@ -119,9 +194,41 @@ faulted_current h x c l y d m j step = subst (λ (e : Buffers). IsSameOutsideLog
     (λ new. subst (λ (z : Image). IsSameOutsideLog (seen x c) (seen z c)) (sym new) (write_current x c l h j))
     step.image)
 
-pub step_current : (h : List ℕ) (x : Image) (c : Buffers) (l : LogState) (y : Image) (d : Buffers) (m : LogState) (r : Committed) → Joint x c l
-    → CommitsTo l.commit l.opened r (Stepped h x c l y d m) (Faulted h x c l y d m) → IsSameOutsideLog (seen x c) (seen y d)
-step_current h x c l y d m committed.More j step = stepped_current h x c l y d m j step.1
-step_current h x c l y d m (committed.Durable n) j step = stepped_current h x c l y d m j step.1
-step_current h x c l y d m committed.Done j step = stepped_current h x c l y d m j step.1
-step_current h x c l y d m (committed.Fault f) j step = faulted_current h x c l y d m j step
+-- the same disk and the same buffers
+synced_current : (x : Image) (c : Buffers) (y : Image) (d : Buffers) → y ≡ x → d ≡ c → IsSameOutsideLog (seen x c) (seen y d)
+synced_current x c y d same cache = subst (λ (e : Buffers). IsSameOutsideLog (seen x c) (seen y e)) (sym cache) (subst (λ (z : Image). IsSameOutsideLog (seen x c) (seen z c)) (sym same) (record { size = refl; agree = λ a out. refl }))
+
+-- what a step makes of the buffers, whether it is a write or a sync
+module _ {D N : Type 0} (disk : Ghosts D N) (d : D) (c : Buffers) (l : LogState) (r : Committed) (e : D) (f : Buffers) (m : LogState) where
+  write_current_at : Joint (disk.image d) c l → CommitWrites disk d c l r e f m → IsSameOutsideLog (seen (disk.image d) c) (seen (disk.image e) f)
+  write_current_at j w = by_answer r w.step
+    where
+      holds : Bool
+      holds = disk.holding (disk.name d)
+
+      by_answer : (r : Committed) → CommitsTo (answer_at holds l.commit l.opened) r (Stepped holds (header_block l.homes) (disk.image d) c l (disk.image e) f m (disk.leaves e (disk.moment e))) (Faulted (header_block l.homes) (disk.image d) c l (disk.image e) f m)
+          → IsSameOutsideLog (seen (disk.image d) c) (seen (disk.image e) f)
+      by_answer committed.More step = stepped_current holds _ _ c l _ f m _ j step.1
+      by_answer (committed.Durable n) step = stepped_current holds _ _ c l _ f m _ j step.1
+      by_answer committed.Done step = stepped_current holds _ _ c l _ f m _ j step.1
+      by_answer (committed.Fault fault) step = faulted_current _ _ c l _ f m j step
+
+  sync_current_at : (p : Part) → CommitSyncs disk p d c l r e f m → IsSameOutsideLog (seen (disk.image d) c) (seen (disk.image e) f)
+  sync_current_at p w = synced_current (disk.image d) c (disk.image e) f w.image (by_answer r w.step)
+    where
+      by_answer : (r : Committed) → CommitsTo (answer_synced p l.opened) r (Synced p c l (disk.image e) f m (disk.leaves e (disk.moment e))) (Unsynced c l f m) → f ≡ c
+      by_answer committed.More step = step.1.cache
+      by_answer (committed.Durable n) step = step.1.cache
+      by_answer committed.Done step = step.1.cache
+      by_answer (committed.Fault fault) step = step.cache
+
+  pub step_current : Joint (disk.image d) c l → CommitSteps disk d c l r e f m → IsSameOutsideLog (seen (disk.image d) c) (seen (disk.image e) f)
+  step_current j step = by_phase l.commit step
+    where
+      by_phase : (k : Commit) → CommitStepsAt disk k d c l r e f m → IsSameOutsideLog (seen (disk.image d) c) (seen (disk.image e) f)
+      by_phase commit.Quiet w = absurd w
+      by_phase (commit.Logging n) w = write_current_at j w
+      by_phase commit.Heading w = write_current_at j w
+      by_phase (commit.Homing n) w = write_current_at j w
+      by_phase commit.Clearing w = write_current_at j w
+      by_phase (commit.Syncing p) w = sync_current_at p w

@@ -1,5 +1,5 @@
 -- Disk, buffers and log together.
-use Rattle.std.specs.Prelude.{◌≡◌, ◌<◌, ◌≤◌, ◌==◌, ◌+◌, ℕ, true, false, List, [], length, drop, slice_index, if◌then◌else◌, Option, Some, None}
+use Rattle.std.specs.Prelude.{◌≡◌, ◌<◌, ◌≤◌, ◌==◌, ◌+◌, ℕ, Bool, true, false, List, [], length, drop, slice_index, if◌then◌else◌, Option, Some, None}
 use Rattle.blocks.specs.Block.{zero_block, IsBlock}
 use Rattle.blocks.specs.Disk.{Image, block_at}
 use Rattle.bcache.specs.Current.{is_of, shows, current}
@@ -8,6 +8,8 @@ use Rattle.model.specs.Log.{logged_in, homes_in, logged_count, homes_of}
 use Rattle.bcache.specs.Buffers.{Buffers, buffer, found, unpinned, IsCache}
 use Rattle.wal.specs.declared.types.Commit.{Commit}
 use Rattle.wal.specs.declared.types.Commit.TheVariants as commit
+use Rattle.wal.specs.declared.types.Part.{Part}
+use Rattle.wal.specs.declared.types.Part.TheVariants as part
 use Rattle.wal.specs.Machine.{LogState, is_among, IsLogAt}
 
 -- the current image: the disk's, with each valid buffer in its block's place
@@ -21,6 +23,7 @@ place_at (commit.Logging k) hs = 3 + k
 place_at commit.Heading hs = 2
 place_at (commit.Homing k) hs = slice_index hs k
 place_at commit.Clearing hs = 2
+place_at (commit.Syncing part) hs = 2
 
 -- what it writes: h is the header with the homes
 abbrev pub bytes_at : Commit → List ℕ → List ℕ → Image → List ℕ
@@ -29,6 +32,7 @@ bytes_at (commit.Logging k) hs h cur = block_at cur (slice_index hs k)
 bytes_at commit.Heading hs h cur = h
 bytes_at (commit.Homing k) hs h cur = block_at cur (slice_index hs k)
 bytes_at commit.Clearing hs h cur = zero_block
+bytes_at (commit.Syncing part) hs h cur = zero_block
 
 -- the log after that write
 abbrev pub written_at : Commit → LogState → LogState
@@ -41,6 +45,50 @@ written_at (commit.Homing k) l = record l {
   commit = if k + 1 == length l.homes then commit.Clearing else commit.Homing (k + 1);
 }
 written_at commit.Clearing l = record l { commit = commit.Quiet; homes = [] }
+written_at (commit.Syncing part) l = l
+
+-- the same over a disk that holds writes back, where each part waits for its sync
+abbrev pub held_at : Commit → LogState → LogState
+held_at commit.Quiet l = l
+held_at (commit.Logging k) l = record l {
+  commit = if k + 1 == length l.homes then commit.Syncing part.Log else commit.Logging (k + 1);
+}
+held_at commit.Heading l = record l { commit = commit.Syncing part.Header }
+held_at (commit.Homing k) l = record l {
+  commit = if k + 1 == length l.homes then commit.Syncing part.Homes else commit.Homing (k + 1);
+}
+held_at commit.Clearing l = record l { commit = commit.Syncing part.Clear }
+held_at (commit.Syncing part) l = l
+
+-- the log after the sync of a part: with that of the header the group is committed
+abbrev pub synced_at : Part → LogState → LogState
+synced_at part.Log l = record l { commit = commit.Heading }
+synced_at part.Header l = record l { commit = commit.Homing 0; committed = l.opened }
+synced_at part.Homes l = record l { commit = commit.Clearing }
+synced_at part.Clear l = record l { commit = commit.Quiet; homes = [] }
+
+-- the log after a step, over a disk that holds writes back or doesn't
+abbrev pub stepped_at : Bool → Commit → LogState → LogState
+stepped_at holds commit.Quiet l = l
+stepped_at holds (commit.Logging k) l = record l {
+  commit = if k + 1 == length l.homes
+      then (if holds then commit.Syncing part.Log else commit.Heading)
+      else commit.Logging (k + 1);
+}
+stepped_at holds commit.Heading l = record l {
+  commit = if holds then commit.Syncing part.Header else commit.Homing 0;
+  committed = if holds then l.committed else l.opened;
+}
+stepped_at holds (commit.Homing k) l = record l {
+  commit = if k + 1 == length l.homes
+      then (if holds then commit.Syncing part.Homes else commit.Clearing)
+      else commit.Homing (k + 1);
+}
+stepped_at holds commit.Clearing l = record l {
+  commit = if holds then commit.Syncing part.Clear else commit.Quiet;
+  homes = if holds then l.homes else [];
+}
+stepped_at holds (commit.Syncing part) l = synced_at part l
 
 abbrev pub unpinned_found : Buffers → Option ℕ → Buffers
 unpinned_found c None = c
@@ -53,6 +101,14 @@ written_cache (commit.Logging k) hs c = c
 written_cache commit.Heading hs c = c
 written_cache (commit.Homing k) hs c = unpinned_found c (found c (slice_index hs k))
 written_cache commit.Clearing hs c = c
+written_cache (commit.Syncing part) hs c = c
+
+-- the homes whose buffers are pinned while a part waits for its sync
+abbrev pub live_synced : Part → List ℕ → List ℕ
+live_synced part.Log hs = hs
+live_synced part.Header hs = hs
+live_synced part.Homes hs = drop (length hs) hs
+live_synced part.Clear hs = drop (length hs) hs
 
 -- the homes whose buffers are pinned
 abbrev pub live_at : Commit → List ℕ → List ℕ
@@ -61,6 +117,7 @@ live_at (commit.Logging k) hs = hs
 live_at commit.Heading hs = hs
 live_at (commit.Homing k) hs = drop k hs
 live_at commit.Clearing hs = drop (length hs) hs
+live_at (commit.Syncing part) hs = live_synced part hs
 
 -- the first k log blocks are the current ones of their homes
 abbrev pub Logs : ℕ → Image → Image → List ℕ → Type 0
@@ -75,6 +132,13 @@ pub record IsHeader (bytes hs : List ℕ) : Type 0 where
   pub count : logged_in bytes ≡ length hs
   pub each : homes_in bytes ≡ hs
 
+-- what reads of the disk give of the group while a part waits for its sync
+abbrev pub PhaseSynced : Part → Image → Image → List ℕ → Type 0
+PhaseSynced part.Log x cur hs = (logged_count x ≡ 0) × Logs (length hs) x cur hs
+PhaseSynced part.Header x cur hs = HasHeader x hs × Logs (length hs) x cur hs
+PhaseSynced part.Homes x cur hs = HasHeader x hs × Logs (length hs) x cur hs
+PhaseSynced part.Clear x cur hs = logged_count x ≡ 0
+
 -- what the disk has of the group, in each phase
 abbrev pub Phase : Commit → Image → Image → List ℕ → Type 0
 Phase commit.Quiet x cur hs = logged_count x ≡ 0
@@ -82,6 +146,7 @@ Phase (commit.Logging k) x cur hs = (logged_count x ≡ 0) × Logs k x cur hs
 Phase commit.Heading x cur hs = (logged_count x ≡ 0) × Logs (length hs) x cur hs
 Phase (commit.Homing k) x cur hs = HasHeader x hs × Logs (length hs) x cur hs
 Phase commit.Clearing x cur hs = HasHeader x hs × Logs (length hs) x cur hs
+Phase (commit.Syncing part) x cur hs = PhaseSynced part x cur hs
 
 -- the pins of a slot: one where its block is such a home
 abbrev pub pins_of : List ℕ → Option ℕ → ℕ
@@ -112,11 +177,6 @@ Joint x c l = JointAt l.commit x c l
 abbrev pub AreBlocks : Buffers → Type 0
 AreBlocks c = (i : ℕ) → IsBlock (buffer c i).bytes
 
--- what is true of a volume whose disk hasn't failed
-pub record IsVolume (x : Image) (c : Buffers) (l : LogState) : Type 0 where
-  pub joint : Joint x c l
-  pub blocks : AreBlocks c
-
 -- the header is the same too: all but the 30 logged blocks
 pub record SameButLog (x y : Image) : Type 0 where
   pub outside : IsSameOutsideLog x y
@@ -134,6 +194,7 @@ source_at (commit.Logging k) hs h c = bytes_found c (found c (slice_index hs k))
 source_at commit.Heading hs h c = h
 source_at (commit.Homing k) hs h c = bytes_found c (found c (slice_index hs k))
 source_at commit.Clearing hs h c = zero_block
+source_at (commit.Syncing part) hs h c = zero_block
 
 -- a slot that was found has a pin
 abbrev pub HasPin : Buffers → Option ℕ → Type 0
@@ -147,6 +208,7 @@ IsPinned (commit.Logging k) hs c = Unit {0}
 IsPinned commit.Heading hs c = Unit {0}
 IsPinned (commit.Homing k) hs c = HasPin c (found c (slice_index hs k))
 IsPinned commit.Clearing hs c = Unit {0}
+IsPinned (commit.Syncing part) hs c = Unit {0}
 
 -- the place of the next write is one of the homes
 abbrev pub IsWithin : Commit → List ℕ → Type 0
@@ -155,3 +217,4 @@ IsWithin (commit.Logging k) hs = k < length hs
 IsWithin commit.Heading hs = Unit {0}
 IsWithin (commit.Homing k) hs = k < length hs
 IsWithin commit.Clearing hs = Unit {0}
+IsWithin (commit.Syncing part) hs = Unit {0}

@@ -7,6 +7,8 @@ use Rattle.model.specs.Reservations.{unused_reservation, log_cause}
 use Rattle.bcache.specs.Buffers.{Buffers, buffer, block_or_zero, pinned}
 use Rattle.wal.specs.declared.types.Commit.{Commit}
 use Rattle.wal.specs.declared.types.Commit.TheVariants as commit
+use Rattle.wal.specs.declared.types.Part.{Part}
+use Rattle.wal.specs.declared.types.Part.TheVariants as part
 use Rattle.wal.specs.declared.types.Began.{Began}
 use Rattle.wal.specs.declared.types.Began.TheVariants as began
 use Rattle.wal.specs.declared.types.Ended.{Ended}
@@ -44,6 +46,25 @@ is_quiet (commit.Logging k) = false
 is_quiet commit.Heading = false
 is_quiet (commit.Homing k) = false
 is_quiet commit.Clearing = false
+is_quiet (commit.Syncing part) = false
+
+-- a part of a commit waits for its sync
+abbrev pub is_syncing : Commit → Bool
+is_syncing commit.Quiet = false
+is_syncing (commit.Logging k) = false
+is_syncing commit.Heading = false
+is_syncing (commit.Homing k) = false
+is_syncing commit.Clearing = false
+is_syncing (commit.Syncing part) = true
+
+-- a commit's next step is a write
+abbrev pub is_writing : Commit → Bool
+is_writing commit.Quiet = false
+is_writing (commit.Logging k) = true
+is_writing commit.Heading = true
+is_writing (commit.Homing k) = true
+is_writing commit.Clearing = true
+is_writing (commit.Syncing part) = false
 
 -- why a beginning has to sleep
 abbrev pub begin_cause : LogState → Option Why
@@ -163,6 +184,14 @@ Idle (commit.Logging k) l = (l.outstanding ≡ 0) × (k < length l.homes)
 Idle commit.Heading l = (l.outstanding ≡ 0) × (0 < length l.homes)
 Idle (commit.Homing k) l = (l.outstanding ≡ 0) × (k < length l.homes)
 Idle commit.Clearing l = (l.outstanding ≡ 0) × (0 < length l.homes)
+Idle (commit.Syncing part) l = (l.outstanding ≡ 0) × (0 < length l.homes)
+
+-- a group is committed with the sync after its header
+abbrev pub CountsSynced : Part → LogState → Type 0
+CountsSynced part.Log l = l.committed + 1 ≡ l.opened
+CountsSynced part.Header l = l.committed + 1 ≡ l.opened
+CountsSynced part.Homes l = l.committed ≡ l.opened
+CountsSynced part.Clear l = l.committed ≡ l.opened
 
 -- all groups but the open one are committed; that of a commit under way from its header on
 abbrev pub Counts : Commit → LogState → Type 0
@@ -171,6 +200,7 @@ Counts (commit.Logging k) l = l.committed + 1 ≡ l.opened
 Counts commit.Heading l = l.committed + 1 ≡ l.opened
 Counts (commit.Homing k) l = l.committed ≡ l.opened
 Counts commit.Clearing l = l.committed ≡ l.opened
+Counts (commit.Syncing part) l = CountsSynced part l
 
 -- what is true of every log in that phase
 pub record IsLogAt (k : Commit) (l : LogState) : Type 0 where

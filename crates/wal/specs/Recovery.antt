@@ -1,18 +1,20 @@
 -- What recovery makes of an image, and why it may refuse.
-use Rattle.std.specs.Prelude.{◌≡◌, ◌⊎◌, ◌≤◌, ℕ, false, ◌+◌, ◌==◌, ⊤, nat_lt, if◌then◌else◌, IsTrue, List, length, Result, Ok, Err, Option, Some, None}
-use Rattle.blocks.specs.Calls.{OnlyReads}
+use Rattle.std.specs.Prelude.{◌≡◌, ◌⊎◌, ◌≤◌, ℕ, Bool, true, false, ◌+◌, ◌==◌, ⊤, nat_lt, if◌then◌else◌, IsTrue, List, length, slice_set, Result, Ok, Err, IfErr, OnErr, Option, Some, None}
+use Rattle.blocks.specs.Block.{zero_block}
+use Rattle.blocks.specs.Calls.{OnlyReads, UnlessHolds}
 use Rattle.blocks.specs.declared.disk.Disk.{Ghosts}
-use Rattle.blocks.specs.Disk.{Image, block_at, counted, Rose, LeavesOnly}
+use Rattle.blocks.specs.Disk.{Image, AddsNone, AddsOnly, HasTurned, IsSettled, block_at, counted, one_more, Rose, LeavesOnly}
 use Rattle.layout.specs.declared.header.Header.{Header}
 use Rattle.model.specs.Log.{homes_of, is_lawful_log, logged_count, place_among, recovered}
 use Rattle.wal.specs.declared.faults.RecoverFault.{RecoverFault}
-use Rattle.wal.specs.declared.faults.RecoverFault.TheVariants.{Disk, BadLog, NoMemory}
+use Rattle.wal.specs.declared.faults.RecoverFault.TheVariants.{Disk, BadLog, NoMemory, Sync}
 
 -- P holds where the disk failed
 abbrev pub OnDisk : {T : Type 0} → Result T RecoverFault → Type 0 → Type 0
 OnDisk (Err Disk) P = P
 OnDisk (Err BadLog) P = ⊤
 OnDisk (Err NoMemory) P = ⊤
+OnDisk (Err Sync) P = ⊤
 OnDisk (Ok v) P = ⊤
 
 -- P holds where the log was found unlawful
@@ -20,6 +22,7 @@ abbrev pub OnBadLog : {T : Type 0} → Result T RecoverFault → Type 0 → Type
 OnBadLog (Err BadLog) P = P
 OnBadLog (Err Disk) P = ⊤
 OnBadLog (Err NoMemory) P = ⊤
+OnBadLog (Err Sync) P = ⊤
 OnBadLog (Ok v) P = ⊤
 
 -- P holds where memory was refused
@@ -27,7 +30,16 @@ abbrev pub OnNoMemory : {T : Type 0} → Result T RecoverFault → Type 0 → Ty
 OnNoMemory (Err NoMemory) P = P
 OnNoMemory (Err Disk) P = ⊤
 OnNoMemory (Err BadLog) P = ⊤
+OnNoMemory (Err Sync) P = ⊤
 OnNoMemory (Ok v) P = ⊤
+
+-- P holds where a sync failed
+abbrev pub OnSync : {T : Type 0} → Result T RecoverFault → Type 0 → Type 0
+OnSync (Err Sync) P = P
+OnSync (Err Disk) P = ⊤
+OnSync (Err BadLog) P = ⊤
+OnSync (Err NoMemory) P = ⊤
+OnSync (Ok v) P = ⊤
 
 -- recovery gives the same image for both, and finds the log of both lawful, or of none
 pub record RecoversAs (x y : Image) : Type 0 where
@@ -37,6 +49,19 @@ pub record RecoversAs (x y : Image) : Type 0 where
 -- the writes of a recovery that copies that many blocks: each of them, and the header
 abbrev pub writes_to_recover : ℕ → ℕ
 writes_to_recover n = if n == 0 then 0 else n + 1
+
+-- the syncs that a call makes once it has written, of a disk that holds writes back or doesn't
+abbrev pub syncs_to_settle : Bool → ℕ
+syncs_to_settle holds = if holds then 1 else 0
+
+-- the syncs of a recovery that copies that many blocks, behind its first: after the copies, and
+-- after the header
+abbrev pub syncs_to_restore : Bool → ℕ → ℕ
+syncs_to_restore holds n = if holds then (if n == 0 then 0 else 2) else 0
+
+-- and all of them, the first before the header is read
+abbrev pub syncs_to_recover : Bool → ℕ → ℕ
+syncs_to_recover holds n = if holds then (if n == 0 then 1 else 3) else 0
 
 -- block b, or the logged one at its place among the homes, if that is one of the first k
 abbrev pub copied_block : Image → ℕ → ℕ → Option ℕ → List ℕ
@@ -52,9 +77,25 @@ pub record HasCopied (k : ℕ) (x y : Image) : Type 0 where
 abbrev pub IsRecoveredInPart : Image → Image → Type 0
 IsRecoveredInPart x z = ((k : ℕ) × (k ≤ length (homes_of x)) × HasCopied k x z) ⊎ (z ≡ recovered x)
 
--- a disk was only read, and no call of it failed
+-- nothing is held, so that a crash leaves what reads give
+abbrev pub IsCalm : {D N : Type 0} → Ghosts D N → D → Type 0
+IsCalm disk d = IsSettled (disk.image d) (disk.leaves d (disk.moment d))
+
+-- where nothing is held at the start, a crash at any moment leaves an image that has P
+abbrev pub LeavesIfCalm : {D N : Type 0} → Ghosts D N → D → D → (Image → Type 0) → Type 0
+LeavesIfCalm disk old new P = IsCalm disk old → LeavesOnly disk.moment disk.leaves old new P
+
+-- a disk was only read; one that holds writes back may have been synced, too
+pub record Rests {D N : Type 0} (disk : Ghosts D N) (old new : D) : Type 0 where
+  pub name : disk.name new ≡ disk.name old
+  pub image : disk.image new ≡ disk.image old
+  pub writes : disk.write_count new ≡ disk.write_count old
+  pub time : AddsNone (disk.moment old) (disk.moment new) (disk.leaves old) (disk.leaves new)
+  pub reads : UnlessHolds disk old (OnlyReads disk old new)
+
+-- and no call of it failed
 pub record Looks {D N : Type 0} (disk : Ghosts D N) (old new : D) : Type 0 where
-  pub reads : OnlyReads disk old new
+  pub rests : Rests disk old new
   pub faults : disk.fault_count new ≡ disk.fault_count old
 
 -- the header of a lawful log was read
@@ -72,6 +113,8 @@ pub record RefusesToRecover {D N T : Type 0} (disk : Ghosts D N) (old new : D)
   pub unwritten : OnBadLog result (Looks disk old new)
   pub memory : OnNoMemory result (new ≡ old)
   pub fault : OnDisk result (Rose (disk.fault_count old) (disk.fault_count new))
+  pub unsynced : OnSync result (Rose (disk.fault_count old) (disk.fault_count new))
+  pub holds : OnSync result (disk.holding (disk.name old) ≡ true)
 
 -- the first n logged blocks were copied home, and no call failed
 pub record Copies {D N : Type 0} (disk : Ghosts D N) (n : ℕ) (old new : D) : Type 0 where
@@ -79,19 +122,66 @@ pub record Copies {D N : Type 0} (disk : Ghosts D N) (n : ℕ) (old new : D) : T
   pub writes : disk.write_count new ≡ counted (disk.write_count old) n
   pub faults : disk.fault_count new ≡ disk.fault_count old
 
--- A crash at any moment leaves an image with the first homes copied, or the recovered one. It is
--- recovered to the same image, and its log is lawful where that of the start is.
-pub record MayStop {D N : Type 0} (disk : Ghosts D N) (old new : D) : Type 0 where
-  pub in_order : LeavesOnly disk.moment disk.leaves old new (IsRecoveredInPart (disk.image old))
-  pub any_moment : LeavesOnly disk.moment disk.leaves old new (RecoversAs (disk.image old))
+-- nothing is held any more, by that many syncs
+pub record Settles {D N : Type 0} (disk : Ghosts D N) (count : ℕ) (old new : D) : Type 0 where
+  pub settled : IsCalm disk new
+  pub syncs : disk.sync_count new ≡ counted (disk.sync_count old) count
 
--- A disk with a lawful log of n blocks was recovered, and nothing is logged any more. Where nothing
--- was logged it was only read.
-pub record Recovers {D N : Type 0} (disk : Ghosts D N) (n : ℕ) (old new : D) : Type 0 where
+-- the header was cleared
+pub record Clears {D N : Type 0} (disk : Ghosts D N) (old new : D) : Type 0 where
+  pub image : disk.image new ≡ slice_set (disk.image old) 2 zero_block
+  pub writes : disk.write_count new ≡ one_more (disk.write_count old)
+  pub faults : disk.fault_count new ≡ disk.fault_count old
+  pub settles : Settles disk (syncs_to_settle (disk.holding (disk.name old))) old new
+
+-- the homes were copied, and nothing is held any more
+pub record BringsHome {D N : Type 0} (disk : Ghosts D N) (n : ℕ) (old new : D) : Type 0 where
+  pub copies : Copies disk n old new
+  pub settles : Settles disk (syncs_to_settle (disk.holding (disk.name old))) old new
+
+-- once a recovery has written it fails by the disk, or by a sync where that holds writes back
+pub record FailsLate {D N T : Type 0} (disk : Ghosts D N) (old new : D)
+    (result : Result T RecoverFault) : Type 0 where
+  pub name : disk.name new ≡ disk.name old
+  pub kinds : IfErr result (λ e. (e ≡ Disk) ⊎ ((e ≡ Sync) × (disk.holding (disk.name old) ≡ true)))
+  pub rose : OnErr result (Rose (disk.fault_count old) (disk.fault_count new))
+  pub plain : UnlessHolds disk old (disk.sync_count new ≡ disk.sync_count old)
+
+-- A crash at any moment leaves an image that is recovered to the same one, and whose log is lawful
+-- where that of the start is; of a disk that holds no writes back it has the first homes copied, or
+-- is the recovered one.
+pub record StopsAlike {D N : Type 0} (disk : Ghosts D N) (old new : D) : Type 0 where
+  pub in_order : UnlessHolds disk old
+      (LeavesOnly disk.moment disk.leaves old new (IsRecoveredInPart (disk.image old)))
+  pub any_moment : LeavesOnly disk.moment disk.leaves old new (RecoversAs (disk.image old))
+  pub plain : UnlessHolds disk old (disk.sync_count new ≡ disk.sync_count old)
+
+-- What a stop leaves of a recovery. Of a disk that holds writes back it begins with a sync: the
+-- recovery adds nothing else to what a crash may leave, and from that sync on that is all; where
+-- nothing is held at its start, that is all from the start on.
+pub record MayStop {D N : Type 0} (disk : Ghosts D N) (old new : D) : Type 0 where
+  pub in_order : UnlessHolds disk old
+      (LeavesOnly disk.moment disk.leaves old new (IsRecoveredInPart (disk.image old)))
+  pub any_moment : LeavesIfCalm disk old new (RecoversAs (disk.image old))
+  pub adds : AddsOnly disk.moment disk.leaves old new (RecoversAs (disk.image old))
+  pub from_sync : (disk.sync_count new ≡ disk.sync_count old)
+      ⊎ HasTurned disk.moment disk.leaves old new (RecoversAs (disk.image old))
+  -- a disk that holds no writes back is not synced
+  pub plain : UnlessHolds disk old (disk.sync_count new ≡ disk.sync_count old)
+
+-- A disk with a lawful log of n blocks was recovered by that many syncs, and nothing is logged any
+-- more, or held. Where nothing was logged it was only read.
+pub record RecoversBy {D N : Type 0} (disk : Ghosts D N) (n syncs : ℕ) (old new : D) : Type 0 where
   pub lawful : IsTrue (is_lawful_log (disk.image old))
   pub count : n ≡ logged_count (disk.image old)
   pub image : disk.image new ≡ recovered (disk.image old)
   pub none : logged_count (disk.image new) ≡ 0
   pub writes : disk.write_count new ≡ counted (disk.write_count old) (writes_to_recover n)
   pub faults : disk.fault_count new ≡ disk.fault_count old
-  pub unwritten : n ≡ 0 → OnlyReads disk old new
+  pub unwritten : n ≡ 0 → Rests disk old new
+  pub settles : Settles disk syncs old new
+
+-- the same by all syncs of a recovery
+abbrev pub Recovers : {D N : Type 0} → Ghosts D N → ℕ → D → D → Type 0
+Recovers disk n old new =
+    RecoversBy disk n (syncs_to_recover (disk.holding (disk.name old)) n) old new

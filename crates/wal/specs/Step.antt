@@ -1,36 +1,51 @@
 -- One step of a commit.
-use Rattle.std.specs.Prelude.{◌≡◌, ℕ, List, slice_set, IsTrue}
+use Rattle.std.specs.Prelude.{◌≡◌, ℕ, Bool, true, List, slice_set, if◌then◌else◌, IsTrue}
 use Rattle.blocks.specs.declared.disk.Disk.{Ghosts}
-use Rattle.blocks.specs.declared.errors.DiskFault.{DiskFault}
-use Rattle.blocks.specs.Disk.{Image, IsOldOrNew, one_more, Elapses, LeavesOldOrNew}
+use Rattle.wal.specs.declared.types.DeviceFault.{DeviceFault}
+use Rattle.wal.specs.declared.types.DeviceFault.TheVariants.{Block, Sync}
+use Rattle.wal.specs.declared.types.Part.{Part}
+use Rattle.wal.specs.declared.types.Part.TheVariants as part
+use Rattle.blocks.specs.Disk.{Image, AddsNone, IsOldOrNew, IsSettled, one_more, Elapses, LeavesOldOrNew}
 use Rattle.model.specs.Codec.{header_block}
-use Rattle.model.specs.Log.{is_lawful_log}
+use Rattle.model.specs.Agreement.{IsSameOutsideLog}
+use Rattle.model.specs.Log.{cleared, is_lawful_log, recovered}
 use Rattle.bcache.specs.Buffers.{Buffers}
 use Rattle.wal.specs.declared.types.Commit.{Commit}
 use Rattle.wal.specs.declared.types.Commit.TheVariants as commit
 use Rattle.wal.specs.declared.types.Committed.{Committed}
 use Rattle.wal.specs.declared.types.Committed.TheVariants as committed
 use Rattle.wal.specs.Machine.{LogState}
-use Rattle.wal.specs.Joint.{Joint, seen, place_at, bytes_at, written_at, written_cache}
+use Rattle.wal.specs.Joint.{Joint, seen, place_at, bytes_at, stepped_at, synced_at, written_cache}
+use Rattle.wal.specs.Floats.{AreAfloat}
 use Rattle.wal.specs.Kept.{KeepsCommitted, CrashKeeps}
 
--- what a write that succeeds answers in this phase, for the group of that number
-abbrev pub answer_at : Commit → ℕ → Committed
-answer_at commit.Quiet g = committed.More
-answer_at (commit.Logging k) g = committed.More
-answer_at commit.Heading g = committed.Durable g
-answer_at (commit.Homing k) g = committed.More
-answer_at commit.Clearing g = committed.Done
+-- what a sync that succeeds answers, for the group of that number
+abbrev pub answer_synced : Part → ℕ → Committed
+answer_synced part.Log g = committed.More
+answer_synced part.Header g = committed.Durable g
+answer_synced part.Homes g = committed.More
+answer_synced part.Clear g = committed.Done
+
+-- what a step that succeeds answers in this phase, over a disk that holds writes back or doesn't
+abbrev pub answer_at : Bool → Commit → ℕ → Committed
+answer_at holds commit.Quiet g = committed.More
+answer_at holds (commit.Logging k) g = committed.More
+answer_at holds commit.Heading g = if holds then committed.More else committed.Durable g
+answer_at holds (commit.Homing k) g = committed.More
+answer_at holds commit.Clearing g = if holds then committed.More else committed.Done
+answer_at holds (commit.Syncing part) g = answer_synced part g
 
 -- the write was made
-pub record Stepped (h : List ℕ) (x : Image) (c : Buffers) (l : LogState)
-    (y : Image) (d : Buffers) (m : LogState) : Type 0 where
+pub record Stepped (holds : Bool) (h : List ℕ) (x : Image) (c : Buffers) (l : LogState)
+    (y : Image) (d : Buffers) (m : LogState) (left : Image → Type 0) : Type 0 where
   pub image : y ≡ slice_set x
       (place_at l.commit l.homes) (bytes_at l.commit l.homes h (seen x c))
   pub cache : d ≡ written_cache l.commit l.homes c
-  pub log : m ≡ written_at l.commit l
+  pub log : m ≡ stepped_at holds l.commit l
   pub joint : Joint y d m
   pub keeps : KeepsCommitted l.commit x (seen x c) y
+  -- of what a crash now may leave
+  pub floats : AreAfloat m.commit y m.homes left
 
 -- it failed
 pub record Faulted (h : List ℕ) (x : Image) (c : Buffers) (l : LogState)
@@ -39,26 +54,36 @@ pub record Faulted (h : List ℕ) (x : Image) (c : Buffers) (l : LogState)
   pub cache : d ≡ c
   pub log : m ≡ l
 
--- the answer of the phase with the first fact, or a fault with the second
-abbrev pub CommitsTo : Commit → ℕ → Committed → Type 0 → Type 0 → Type 0
-CommitsTo k group committed.More made failed = (answer_at k group ≡ committed.More) × made
-CommitsTo k group (committed.Durable g) made failed =
-    (answer_at k group ≡ committed.Durable g) × made
-CommitsTo k group committed.Done made failed = (answer_at k group ≡ committed.Done) × made
-CommitsTo k group (committed.Fault fault) made failed = failed
+-- this answer with the first fact, or a fault with the second
+abbrev pub CommitsTo : Committed → Committed → Type 0 → Type 0 → Type 0
+CommitsTo answer committed.More made failed = (answer ≡ committed.More) × made
+CommitsTo answer (committed.Durable g) made failed = (answer ≡ committed.Durable g) × made
+CommitsTo answer committed.Done made failed = (answer ≡ committed.Done) × made
+CommitsTo answer (committed.Fault fault) made failed = failed
 
 -- at a fault the first two facts, else the third
-abbrev pub IsFault : Committed → (DiskFault → Type 0) → Type 0 → Type 0 → Type 0
+abbrev pub IsFault : Committed → (DeviceFault → Type 0) → Type 0 → Type 0 → Type 0
 IsFault committed.More P failed made = made
 IsFault (committed.Durable g) P failed made = made
 IsFault committed.Done P failed made = made
 IsFault (committed.Fault fault) P failed made = P fault × failed
 
+-- a write of this block failed
+abbrev pub FailsAt : ℕ → DeviceFault → Type 0
+FailsAt place (Block fault) = fault.0 ≡ place
+FailsAt place (Sync fault) = ⊥
+
+-- a sync failed
+abbrev pub FailsToSync : DeviceFault → Type 0
+FailsToSync (Block fault) = ⊥
+FailsToSync (Sync fault) = Unit {0}
+
 -- THE PROMISE OF A COMMIT'S WRITE: what it makes of disk d, buffers c and log l.
 pub record CommitWrites {D N : Type 0} (disk : Ghosts D N) (d : D) (c : Buffers) (l : LogState)
     (r : Committed) (e : D) (f : Buffers) (m : LogState) : Type 0 where
-  pub step : CommitsTo l.commit l.opened r
-      (Stepped (header_block l.homes) (disk.image d) c l (disk.image e) f m)
+  pub step : CommitsTo (answer_at (disk.holding (disk.name d)) l.commit l.opened) r
+      (Stepped (disk.holding (disk.name d)) (header_block l.homes) (disk.image d) c l
+      (disk.image e) f m (disk.leaves e (disk.moment e)))
       (Faulted (header_block l.homes) (disk.image d) c l (disk.image e) f m)
   pub name : disk.name e ≡ disk.name d
   pub time : Elapses (disk.moment d) (disk.moment e) (disk.leaves d) (disk.leaves e)
@@ -73,6 +98,66 @@ pub record CommitWrites {D N : Type 0} (disk : Ghosts D N) (d : D) (c : Buffers)
   pub writes : IsFault r (λ fault. disk.write_count e ≡ disk.write_count d)
       (disk.fault_count e ≡ one_more (disk.fault_count d))
       (disk.write_count e ≡ one_more (disk.write_count d))
-  pub faults : IsFault r (λ fault. fault.0 ≡ place_at l.commit l.homes)
+  pub faults : IsFault r (FailsAt (place_at l.commit l.homes))
       (disk.fault_count e ≡ one_more (disk.fault_count d))
       (disk.fault_count e ≡ disk.fault_count d)
+  pub syncs : disk.sync_count e ≡ disk.sync_count d
+
+-- a part was synced
+pub record Synced (p : Part) (c : Buffers) (l : LogState) (y : Image) (d : Buffers) (m : LogState)
+    (left : Image → Type 0) : Type 0 where
+  pub cache : d ≡ c
+  pub log : m ≡ synced_at p l
+  pub joint : Joint y d m
+  pub floats : AreAfloat m.commit y m.homes left
+  pub settled : IsSettled y left
+
+-- it was not: all is as before
+pub record Unsynced (c : Buffers) (l : LogState) (d : Buffers) (m : LogState) : Type 0 where
+  pub cache : d ≡ c
+  pub log : m ≡ l
+
+-- THE PROMISE OF A COMMIT'S SYNC, of a disk that holds writes back.
+pub record CommitSyncs {D N : Type 0} (disk : Ghosts D N) (p : Part) (d : D) (c : Buffers)
+    (l : LogState) (r : Committed) (e : D) (f : Buffers) (m : LogState) : Type 0 where
+  pub step : CommitsTo (answer_synced p l.opened) r
+      (Synced p c l (disk.image e) f m (disk.leaves e (disk.moment e)))
+      (Unsynced c l f m)
+  pub name : disk.name e ≡ disk.name d
+  pub image : disk.image e ≡ disk.image d
+  pub time : AddsNone (disk.moment d) (disk.moment e) (disk.leaves d) (disk.leaves e)
+  -- a crash may leave no more than before
+  pub fewer : (z : Image) → disk.leaves e (disk.moment e) z → disk.leaves d (disk.moment d) z
+  pub writes : disk.write_count e ≡ disk.write_count d
+  pub faults : IsFault r FailsToSync
+      (disk.fault_count e ≡ one_more (disk.fault_count d))
+      (disk.fault_count e ≡ disk.fault_count d)
+  pub syncs : IsFault r (λ fault. disk.sync_count e ≡ disk.sync_count d)
+      (disk.fault_count e ≡ one_more (disk.fault_count d))
+      (disk.sync_count e ≡ one_more (disk.sync_count d))
+
+-- WHAT EITHER KIND OF STEP MAKES that succeeds.
+pub record CommitMakes {D N : Type 0} (disk : Ghosts D N) (d : D) (c : Buffers) (l : LogState)
+    (r : Committed) (e : D) (f : Buffers) (m : LogState) : Type 0 where
+  pub answer : answer_at (disk.holding (disk.name d)) l.commit l.opened ≡ r
+  pub log : m ≡ stepped_at (disk.holding (disk.name d)) l.commit l
+  pub joint : Joint (disk.image e) f m
+  pub keeps : KeepsCommitted l.commit (disk.image d) (seen (disk.image d) c) (disk.image e)
+  -- without the header that was written, the image is as it was
+  pub unheaded : Joint (disk.image d) c l → l.commit ≡ commit.Heading
+      → IsSameOutsideLog (recovered (disk.image d)) (cleared (disk.image e))
+  pub faults : disk.fault_count e ≡ disk.fault_count d
+
+-- one or the other, by what is next
+abbrev pub CommitStepsAt : {D N : Type 0} → Ghosts D N → Commit → D → Buffers → LogState
+    → Committed → D → Buffers → LogState → Type 0
+CommitStepsAt disk commit.Quiet d c l r e f m = ⊥
+CommitStepsAt disk (commit.Logging k) d c l r e f m = CommitWrites disk d c l r e f m
+CommitStepsAt disk commit.Heading d c l r e f m = CommitWrites disk d c l r e f m
+CommitStepsAt disk (commit.Homing k) d c l r e f m = CommitWrites disk d c l r e f m
+CommitStepsAt disk commit.Clearing d c l r e f m = CommitWrites disk d c l r e f m
+CommitStepsAt disk (commit.Syncing p) d c l r e f m = CommitSyncs disk p d c l r e f m
+
+abbrev pub CommitSteps : {D N : Type 0} → Ghosts D N → D → Buffers → LogState → Committed → D
+    → Buffers → LogState → Type 0
+CommitSteps disk d c l r e f m = CommitStepsAt disk l.commit d c l r e f m

@@ -1,11 +1,15 @@
 -- A disk with its buffers and its log, and what each call makes of them.
 use Rattle.std.specs.Prelude.{◌≡◌, ◌<◌, ℕ, true, false, List, if◌then◌else◌, Option, Some, None, ⊤}
 use Rattle.blocks.specs.declared.errors.DiskFault.{DiskFault}
+use Rattle.wal.specs.declared.types.DeviceFault.{DeviceFault}
+use Rattle.wal.specs.declared.types.DeviceFault.TheVariants.{Block}
 use Rattle.blocks.specs.Block.{overwritten}
-use Rattle.blocks.specs.Calls.{OnlyReads}
+use Rattle.blocks.specs.Calls.{OnlyReads, UnlessHolds}
 use Rattle.blocks.specs.declared.disk.Disk.{Ghosts}
 use Rattle.blocks.specs.Disk.{Image, block_at, one_more}
 use Rattle.model.specs.Agreement.{IsSameOutsideLog}
+use Rattle.model.specs.declared.types.operations.TaskProgress.{TaskProgress}
+use Rattle.model.specs.declared.types.operations.TaskProgress.TheVariants as task
 use Rattle.model.specs.declared.types.operations.Why.{Why}
 use Rattle.model.specs.declared.types.operations.Why.TheVariants as why
 use Rattle.bcache.specs.declared.types.Busy.{Busy}
@@ -19,7 +23,7 @@ use Rattle.wal.specs.declared.types.Get.{Get}
 use Rattle.wal.specs.declared.types.Get.TheVariants as get
 use Rattle.wal.specs.Machine.{LogState, new_log, noted, noted_cache, MayLog, HasSlot}
 use Rattle.wal.specs.Joint.{seen}
-use Rattle.wal.specs.Step.{CommitWrites}
+use Rattle.wal.specs.Step.{CommitSteps}
 use Rattle.wal.specs.Held.{LeavesLocks}
 
 pub record VolumeState (D : Type 0) : Type 0 where
@@ -27,7 +31,7 @@ pub record VolumeState (D : Type 0) : Type 0 where
   pub buffers : Buffers
   pub log : LogState
   -- the disk's fault, after which nothing is done any more
-  pub fault : Option DiskFault
+  pub fault : Option DeviceFault
 
 -- buffers that were never taken, and a new log for an image of that size
 pub record IsNewMemory (c : Buffers) (l : LogState) (size : ℕ) : Type 0 where
@@ -112,19 +116,28 @@ UnlessFault (get.Sleeping why) P = P
 UnlessFault (get.Fault fault) P = ⊤
 
 -- the fault of an answer
-abbrev pub fault_of_get : Get → Option DiskFault
+abbrev pub fault_of_get : Get → Option DeviceFault
 fault_of_get (get.Got i) = None
 fault_of_get (get.Sleeping why) = None
-fault_of_get (get.Fault fault) = Some fault
+fault_of_get (get.Fault fault) = Some (Block fault)
 
-abbrev pub fault_of_step : Committed → Option DiskFault
+-- the fault of a step of a task, which only reads
+abbrev pub fault_of_task : TaskProgress → Option DeviceFault
+fault_of_task task.Moved = None
+fault_of_task (task.Turned reply) = None
+fault_of_task (task.Decided reply) = None
+fault_of_task task.Over = None
+fault_of_task (task.Sleeping why) = None
+fault_of_task (task.Fault fault) = Some (Block fault)
+
+abbrev pub fault_of_step : Committed → Option DeviceFault
 fault_of_step committed.More = None
 fault_of_step (committed.Durable group) = None
 fault_of_step committed.Done = None
 fault_of_step (committed.Fault fault) = Some fault
 
 -- a count of faults after an answer
-abbrev pub faults_after : Option DiskFault → ℕ → ℕ
+abbrev pub faults_after : Option DeviceFault → ℕ → ℕ
 faults_after None count = count
 faults_after (Some fault) count = one_more count
 
@@ -164,12 +177,15 @@ after_change v pid i at bytes = record v {
   log = noted v.log pid (block_or_zero (buffer v.buffers i).block);
 }
 
--- THE PROMISE OF A COMMIT'S WRITE to a volume: outside the log its current image stays, and so does
+-- THE PROMISE OF A COMMIT'S STEP to a volume: outside the log its current image stays, and so does
 -- who holds what.
 pub record VolumeCommits {D N : Type 0} (disk : Ghosts D N) (old : VolumeState D) (r : Committed)
     (new : VolumeState D) : Type 0 where
-  pub write : CommitWrites disk old.device old.buffers old.log r new.device new.buffers new.log
+  pub write : CommitSteps disk old.device old.buffers old.log r new.device new.buffers new.log
   pub fault : new.fault ≡ fault_of_step r
   pub current : IsSameOutsideLog (seen (disk.image old.device) old.buffers)
       (seen (disk.image new.device) new.buffers)
   pub locks : LeavesLocks old.buffers new.buffers
+  -- a disk that holds no writes back is not synced
+  pub unsynced : UnlessHolds disk old.device
+      (disk.sync_count new.device ≡ disk.sync_count old.device)

@@ -1,7 +1,7 @@
 // Why a recovery ends without success.
 ghost use Rattle.std.specs.Prelude.{◌≡◌};
 
-use blocks::{DiskFault, NoMemory};
+use blocks::{DiskFault, NoMemory, SyncFault};
 use thiserror::Error;
 
 /// Why a recovery was not done, or not to its end.
@@ -16,6 +16,9 @@ pub enum RecoverFault {
     /// Memory was refused.
     #[error("memory was refused")]
     NoMemory,
+    /// A sync of the disk failed.
+    #[error("the disk failed to sync")]
+    Sync,
 }
 
 impl From<NoMemory> for RecoverFault {
@@ -35,5 +38,15 @@ impl From<DiskFault> for RecoverFault {
 
     fn from(_failed: DiskFault) -> RecoverFault {
         RecoverFault::Disk
+    }
+}
+
+impl From<SyncFault> for RecoverFault {
+    ghost use Rattle.wal.specs.declared.faults.RecoverFault.TheVariants as fault;
+
+    ghost from_gives = { λ _ e. e ≡ fault.Sync };
+
+    fn from(_failed: SyncFault) -> RecoverFault {
+        RecoverFault::Sync
     }
 }

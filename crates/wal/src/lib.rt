@@ -21,6 +21,12 @@
 //! The header's write commits the group. A stop before it leaves nothing of the group; a stop after
 //! it leaves all of it, since `recover` copies the logged blocks to their homes and then empties
 //! the header. A stop during that is recovered to the same image.
+//!
+//! A disk may hold writes back, so that a stop loses any of those since the last sync. It is synced
+//! behind each of the four parts, with a `commit_step` each, and by `recover` at its start, behind
+//! the homes and behind the header. So what is held at one time are log blocks, homes, or one
+//! write of the header, and none of these is in front of what it rests on. There the sync behind
+//! the header commits the group: until then a stop keeps it exactly where the header got through.
 #![tactic(auto)]
 
 mod faults;
@@ -32,5 +38,5 @@ mod volume;
 pub use faults::RecoverFault;
 pub use log::Log;
 pub use recovery::recover;
-pub use types::{Began, Commit, Committed, Ended, Get};
+pub use types::{Began, Commit, Committed, DeviceFault, Ended, Get, Part};
 pub use volume::Volume;

@@ -1,15 +1,17 @@
 // The log: which blocks belong to the open group, and how far its commit is.
-ghost use Rattle.std.specs.Prelude.{◌≡◌, ◌≢◌, ◌<◌, ◌≤◌, ◌+◌, ◌==◌, ◌^◌, false, length, slice_set, Some, None, IsSome, IsTrue, ◌↔◌, IfOk, IfErr, OnOk, OnErr, if◌then◌else◌};
+ghost use Rattle.std.specs.Prelude.{◌≡◌, ◌≢◌, ◌<◌, ◌≤◌, ◌+◌, ◌==◌, ◌^◌, false, length, slice_set, Some, None, IsSome, IsTrue, ◌↔◌, IfOk, IfErr, OnOk, OnErr, true, if◌then◌else◌};
 ghost use Rattle.bcache.specs.Buffers.{buffer, block_or_zero, found};
 ghost use Rattle.blocks.specs.Block.{zero_block};
-ghost use Rattle.blocks.specs.Calls.{WritesOne};
+ghost use Rattle.blocks.specs.Calls.{SyncsOne, WritesOne};
 ghost use Rattle.model.specs.Codec.{header_block};
 ghost use Rattle.model.specs.Layout.{is_lawful_super};
-ghost use Rattle.wal.specs.Joint.{Joint, place_at, source_at, written_at, written_cache, bytes_found, unpinned_found, HasPin, IsPinned, IsWithin};
-ghost use Rattle.wal.specs.Step.{CommitWrites, answer_at};
-ghost use Rattle.wal.specs.Machine.{IsLog, is_quiet, new_log, begin_cause, begin_answer, after_begin, begun, used_by, HasRoom, MayLog, HasSlot, is_among, MayPin, one_used, appended, noted, noted_cache, ended, end_answer};
+ghost use Rattle.wal.specs.Joint.{Joint, place_at, source_at, stepped_at, synced_at, written_cache, bytes_found, unpinned_found, HasPin, IsPinned, IsWithin};
+ghost use Rattle.wal.specs.Floats.{AreAfloat};
+ghost use Rattle.wal.specs.Step.{CommitSteps, CommitSyncs, CommitWrites, answer_at, answer_synced};
+ghost use Rattle.wal.specs.declared.types.Part.TheVariants as part;
+ghost use Rattle.wal.specs.Machine.{IsLog, is_quiet, is_writing, new_log, begin_cause, begin_answer, after_begin, begun, used_by, HasRoom, MayLog, HasSlot, is_among, MayPin, one_used, appended, noted, noted_cache, ended, end_answer};
 
-use crate::{Began, Commit, Committed, Ended};
+use crate::{Began, Commit, Committed, DeviceFault, Ended, Part};
 use arrayvec::ArrayVec;
 use bcache::Cache;
 use blocks::{Block, Disk, DiskFault, NoMemory};
@@ -302,20 +304,82 @@ impl Log {
     /// last an empty header (`Done`); else `More`. So a commit of n blocks is 2n + 2 writes. Blocks
     /// are written from their buffers, and nothing is read.
     ///
-    /// A crash during the step leaves what recovery turns into what was committed before it, or, at
-    /// the header, into the closed group.
+    /// A disk that holds writes back is synced behind each of these four parts, by a step of its
+    /// own: the group is committed with the sync behind the header, and the last sync is `Done`.
     ///
-    /// `Fault` where the disk failed: buffers and log are as before, and the block is as it was or
-    /// as it was to be.
+    /// A crash during the step leaves what recovery turns into what was committed before it, or
+    /// into the closed group: that only at the header, or while the header waits for its sync.
+    ///
+    /// `Fault` where the disk failed: buffers and log are as before, and of a write the block is as
+    /// it was or as it was to be.
     pub fn commit_step<D: Disk>(&mut self, cache: &mut Cache, disk: &mut D) -> Committed
         requires busy { is_quiet self.old.commit ≡ false }
         requires joint { Joint (D.image disk.old) cache.old self.old }
+        requires floats { AreAfloat self.old.commit (D.image disk.old) self.old.homes
+            (D.leaves disk.old (D.moment disk.old)) }
+        ensures step { CommitSteps D.Disk disk.old cache.old self.old result disk.new cache.new
+            self.new }
+    {
+        match self.commit {
+            Commit::Syncing(part) => self.sync_part(part, cache, disk),
+            _ => self.write_part(cache, disk),
+        }
+    }
+
+    // Makes the next write of a commit.
+    fn write_part<D: Disk>(&mut self, cache: &mut Cache, disk: &mut D) -> Committed
+        requires writing { is_writing self.old.commit ≡ true }
+        requires joint { Joint (D.image disk.old) cache.old self.old }
+        requires floats { AreAfloat self.old.commit (D.image disk.old) self.old.homes
+            (D.leaves disk.old (D.moment disk.old)) }
         ensures write { CommitWrites D.Disk disk.old cache.old self.old result disk.new cache.new
             self.new }
     {
         match self.write_next(cache, disk) {
-            Ok(()) => self.go_on(cache),
-            Err(fault) => Committed::Fault(fault),
+            Ok(()) => self.go_on(cache, disk.holds()),
+            Err(fault) => Committed::Fault(DeviceFault::Block(fault)),
+        }
+    }
+
+    // Syncs a part of a commit.
+    fn sync_part<D: Disk>(&mut self, part: Part, cache: &Cache, disk: &mut D) -> Committed
+        requires syncing { self.old.commit ≡ Commit.Syncing part }
+        requires joint { Joint (D.image disk.old) cache.now self.old }
+        ensures sync { CommitSyncs D.Disk part disk.old cache.now self.old result disk.new
+            cache.now self.new }
+    {
+        match disk.sync() {
+            Ok(()) => self.pass(part),
+            Err(fault) => Committed::Fault(DeviceFault::Sync(fault)),
+        }
+    }
+
+    // Goes on after a sync.
+    fn pass(&mut self, part: Part) -> Committed
+        requires syncing { self.old.commit ≡ Commit.Syncing part }
+        ensures answer { result ≡ answer_synced part self.old.opened }
+        ensures log { self.new ≡ synced_at part self.old }
+    {
+        match part {
+            Part::Log => {
+                self.commit = Commit::Heading;
+                Committed::More
+            }
+            Part::Header => {
+                self.committed = self.opened;
+                self.commit = Commit::Homing(0);
+                Committed::Durable(self.opened)
+            }
+            Part::Homes => {
+                self.commit = Commit::Clearing;
+                Committed::More
+            }
+            Part::Clear => {
+                self.header.n = 0;
+                self.header.homes.clear();
+                self.commit = Commit::Quiet;
+                Committed::Done
+            }
         }
     }
 
@@ -335,16 +399,17 @@ impl Log {
         disk.write(place, source)
     }
 
-    // Goes on after a write that was made.
-    fn go_on(&mut self, cache: &mut Cache) -> Committed
+    // Goes on after a write that was made, of a disk that holds it back or doesn't.
+    fn go_on(&mut self, cache: &mut Cache, holds: bool) -> Committed
+        requires writing { is_writing self.old.commit ≡ true }
         requires pinned { IsPinned self.old.commit self.old.homes cache.old }
-        ensures answer { result ≡ answer_at self.old.commit self.old.opened }
-        ensures log { self.new ≡ written_at self.old.commit self.old }
+        ensures answer { result ≡ answer_at holds self.old.commit self.old.opened }
+        ensures log { self.new ≡ stepped_at holds self.old.commit self.old }
         ensures cache { cache.new ≡ written_cache self.old.commit self.old.homes cache.old }
     {
         self.unpin_home(cache);
-        let answer = self.answer();
-        self.wrote();
+        let answer = self.answer(holds);
+        self.wrote(holds);
         answer
     }
 
@@ -359,32 +424,42 @@ impl Log {
     }
 
     // What a write that was made answers.
-    fn answer(&self) -> Committed
-        ensures { result ≡ answer_at self.now.commit self.now.opened }
+    fn answer(&self, holds: bool) -> Committed
+        requires { is_writing self.now.commit ≡ true }
+        ensures { result ≡ answer_at holds self.now.commit self.now.opened }
     {
         match self.commit {
-            Commit::Quiet | Commit::Logging(_) | Commit::Homing(_) => Committed::More,
-            Commit::Heading => Committed::Durable(self.opened),
-            Commit::Clearing => Committed::Done,
+            Commit::Heading if !holds => Committed::Durable(self.opened),
+            Commit::Clearing if !holds => Committed::Done,
+            _ => Committed::More,
         }
     }
 
     // The log after a write.
-    fn wrote(&mut self)
-        ensures { self.new ≡ written_at self.old.commit self.old }
+    fn wrote(&mut self, holds: bool)
+        requires { is_writing self.old.commit ≡ true }
+        ensures { self.new ≡ stepped_at holds self.old.commit self.old }
     {
         match self.commit {
-            Commit::Quiet => {}
-            Commit::Logging(k) => self.commit = after_log_block(k, self.header.homes.len()),
+            Commit::Quiet | Commit::Syncing(_) => {}
+            Commit::Logging(k) => self.commit = after_log_block(k, self.header.homes.len(), holds),
             Commit::Heading => {
-                self.committed = self.opened;
-                self.commit = Commit::Homing(0);
+                if holds {
+                    self.commit = Commit::Syncing(Part::Header);
+                } else {
+                    self.committed = self.opened;
+                    self.commit = Commit::Homing(0);
+                }
             }
-            Commit::Homing(k) => self.commit = after_home(k, self.header.homes.len()),
+            Commit::Homing(k) => self.commit = after_home(k, self.header.homes.len(), holds),
             Commit::Clearing => {
-                self.header.n = 0;
-                self.header.homes.clear();
-                self.commit = Commit::Quiet;
+                if holds {
+                    self.commit = Commit::Syncing(Part::Clear);
+                } else {
+                    self.header.n = 0;
+                    self.header.homes.clear();
+                    self.commit = Commit::Quiet;
+                }
             }
         }
     }
@@ -409,7 +484,7 @@ fn place(commit: Commit, homes: &[u32]) -> u32
     match commit {
         Commit::Logging(k) => 3 + k,
         Commit::Homing(k) => homes[k as usize],
-        Commit::Quiet | Commit::Heading | Commit::Clearing => 2,
+        Commit::Quiet | Commit::Heading | Commit::Clearing | Commit::Syncing(_) => 2,
     }
 }
 
@@ -430,31 +505,41 @@ fn source<'a>(
         Commit::Logging(k) => bytes_for(cache, homes[k as usize], empty),
         Commit::Homing(k) => bytes_for(cache, homes[k as usize], empty),
         Commit::Heading => made,
-        Commit::Quiet | Commit::Clearing => empty,
+        Commit::Quiet | Commit::Clearing | Commit::Syncing(_) => empty,
     }
 }
 
-fn after_log_block(k: u32, count: usize) -> Commit
+fn after_log_block(k: u32, count: usize, holds: bool) -> Commit
     requires inside { k < count }
     requires few { count ≤ 30 }
-    ensures { result ≡ (if k + 1 == count then Commit.Heading else Commit.Logging (k + 1)) }
+    ensures { result ≡ (if k + 1 == count
+        then (if holds then Commit.Syncing part.Log else Commit.Heading)
+        else Commit.Logging (k + 1)) }
 {
-    if k as usize + 1 == count {
+    if (k as usize) + 1 < count {
+        return Commit::Logging(k + 1);
+    }
+    if holds {
+        Commit::Syncing(Part::Log)
+    } else {
         Commit::Heading
-    } else {
-        Commit::Logging(k + 1)
     }
 }
 
-fn after_home(k: u32, count: usize) -> Commit
+fn after_home(k: u32, count: usize, holds: bool) -> Commit
     requires inside { k < count }
     requires few { count ≤ 30 }
-    ensures { result ≡ (if k + 1 == count then Commit.Clearing else Commit.Homing (k + 1)) }
+    ensures { result ≡ (if k + 1 == count
+        then (if holds then Commit.Syncing part.Homes else Commit.Clearing)
+        else Commit.Homing (k + 1)) }
 {
-    if k as usize + 1 == count {
-        Commit::Clearing
+    if (k as usize) + 1 < count {
+        return Commit::Homing(k + 1);
+    }
+    if holds {
+        Commit::Syncing(Part::Homes)
     } else {
-        Commit::Homing(k + 1)
+        Commit::Clearing
     }
 }
 
@@ -484,7 +569,11 @@ fn is_quiet(commit: Commit) -> bool
 {
     match commit {
         Commit::Quiet => true,
-        Commit::Logging(_) | Commit::Heading | Commit::Homing(_) | Commit::Clearing => false,
+        Commit::Logging(_)
+        | Commit::Heading
+        | Commit::Homing(_)
+        | Commit::Clearing
+        | Commit::Syncing(_) => false,
     }
 }
 

@@ -1,7 +1,8 @@
 // A disk with its buffer cache and its log, as the layers above use them.
 ghost use Rattle.std.specs.Prelude.{◌≡◌, ◌<◌, ◌≤◌, ◌+◌, ◌^◌, ℕ, false, length, slice_set, Some, None, IsSome, IfNone};
 ghost use Rattle.blocks.specs.Block.{IsBlock, overwritten};
-ghost use Rattle.blocks.specs.Disk.{IsImage, block_at};
+ghost use Rattle.blocks.specs.Disk.{Image, IsImage, IsSettled, block_at};
+ghost use Rattle.wal.specs.Floats.{Survives};
 ghost use Rattle.model.specs.Log.{logged_count};
 ghost use Rattle.bcache.specs.Buffers.{buffer, block_or_zero, filled, fresh_buffers, released, EndsUnfilled};
 ghost use Rattle.wal.specs.Machine.{is_quiet, new_log, begin_cause, begin_answer, after_begin, used_by, ended, end_answer};
@@ -9,9 +10,9 @@ ghost use Rattle.wal.specs.Joint.{Joint, seen};
 ghost use Rattle.wal.specs.Held.{HoldsBlock, LeavesLocks, GivesUpLock, LocksAfter};
 ghost use Rattle.wal.specs.Volume.{Holds, IsNewMemory, MayChange, LacksBlock, Gets, ReadsFor, VolumeCommits, why_busy, after_change, fault_of_step, OnFault, UnlessFault};
 
-use crate::{Began, Committed, Ended, Get, Log};
+use crate::{Began, Committed, DeviceFault, Ended, Get, Log};
 use bcache::{Acquired, Busy, Cache};
-use blocks::{Block, Disk, DiskFault};
+use blocks::{Block, Disk};
 use model::types::Why;
 use std::marker::Model;
 
@@ -26,12 +27,12 @@ pub struct Volume<D: Disk> {
     disk: D,
     cache: Cache,
     log: Log,
-    fault: Option<DiskFault>,
+    fault: Option<DeviceFault>,
 }
 
 impl<D: Disk> Model for Volume<D> {
     ghost use Rattle.std.specs.Prelude.{IfNone};
-    ghost use Rattle.wal.specs.Joint.{IsVolume};
+    ghost use Rattle.wal.specs.Floats.{IsVolume};
     ghost use Rattle.wal.specs.Volume.{VolumeState};
 
     ghost Value = { VolumeState D };
@@ -43,15 +44,18 @@ impl<D: Disk> Model for Volume<D> {
       fault = v.fault;
     } };
 
-    ghost invariant = { λ v. IfNone v.fault (IsVolume (D.image v.disk) v.cache v.log) };
+    ghost invariant = { λ v. IfNone v.fault (IsVolume (D.holding (D.name v.disk))
+        (D.image v.disk) v.cache v.log
+        (D.leaves v.disk (D.moment v.disk))) };
 }
 
 impl<D: Disk> Volume<D> {
-    /// A disk on which nothing is logged, with a cache whose slots were never taken, and a new log
-    /// for an image of its size.
+    /// A disk on which nothing is logged and nothing is held, with a cache whose slots were never
+    /// taken, and a new log for an image of its size.
     pub fn open(disk: D, cache: Cache, log: Log) -> Volume<D>
         requires memory { IsNewMemory cache log (length (D.image disk)) }
         requires none { logged_count (D.image disk) ≡ 0 }
+        requires settled { IsSettled (D.image disk) (D.leaves disk (D.moment disk)) }
         ensures volume { result ≡ record {
           device = disk;
           buffers = fresh_buffers;
@@ -71,10 +75,13 @@ impl<D: Disk> Volume<D> {
     }
 
     /// Does nothing: where the disk hasn't failed, it says what is true of disk, buffers and log
-    /// together.
+    /// together, and what recovery gives for each image that a crash now may leave.
     pub fn known(&self)
-        ensures { IfNone self.now.fault (Joint
+        ensures joint { IfNone self.now.fault (Joint
             (D.image self.now.device) self.now.buffers self.now.log) }
+        ensures survives { IfNone self.now.fault ((z : Image)
+            → D.leaves self.now.device (D.moment self.now.device) z
+            → Survives self.now.log.commit (D.image self.now.device) z) }
     {
         let _ = &self.fault;
     }
@@ -109,7 +116,7 @@ impl<D: Disk> Volume<D> {
     }
 
     /// The fault of the disk, after which nothing is done any more.
-    pub fn fault(&self) -> Option<DiskFault>
+    pub fn fault(&self) -> Option<DeviceFault>
         ensures { result ≡ self.now.fault }
     {
         self.fault
@@ -191,7 +198,7 @@ impl<D: Disk> Volume<D> {
         match self.cache.fill(slot, &mut self.disk) {
             Ok(()) => Get::Got(slot),
             Err(fault) => {
-                self.fault = Some(fault);
+                self.fault = Some(DeviceFault::Block(fault));
                 Get::Fault(fault)
             }
         }
@@ -242,8 +249,8 @@ impl<D: Disk> Volume<D> {
         self.cache.put(pid, slot, at, bytes);
     }
 
-    /// Makes the next write of a commit that is under way, as the log's `commit_step`. Outside the
-    /// log the current image stays.
+    /// Makes the next write, or sync, of a commit that is under way, as the log's `commit_step`.
+    /// Outside the log the current image stays.
     pub fn commit_step(&mut self) -> Committed
         requires fault { self.old.fault ≡ None }
         requires busy { is_quiet self.old.log.commit ≡ false }
@@ -265,7 +272,8 @@ fn why(busy: Busy) -> Why
     }
 }
 
-fn fault_of(answer: Committed) -> Option<DiskFault>
+// The fault of a step.
+fn fault_of(answer: Committed) -> Option<DeviceFault>
     ensures { result ≡ fault_of_step answer }
 {
     match answer {

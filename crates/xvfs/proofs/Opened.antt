@@ -1,10 +1,7 @@
 -- The disk in a file that a command created or opened.
-use Rattle.std.specs.Prelude.{◌≡◌, ◌≤◌, ℕ, List, length, replicate, Option, Result, Ok, Err, OnOk}
+use Rattle.std.specs.Prelude.{◌≡◌, ◌≤◌, ℕ, Bool, List, length, replicate, Option, Result, Ok, Err, OnOk}
 use Rattle.std.specs.Io.KnownBytes.{Appends}
 use Rattle.blocks.specs.Block.{zero_block}
-use Rattle.blocks.specs.Disk.{Image}
-use Rattle.blocks.specs.File.{IsReadFrom}
-use Rattle.blocks.specs.FileDisk.{file_of}
 use Rattle.blocks.specs.declared.disk.Disk.{Ghosts}
 use Rattle.blocks.specs.declared.errors.FileFault.{FileFault}
 use Rattle.blocks.specs.declared.file.FileDisk.{FileDisk}
@@ -15,7 +12,8 @@ use Rattle.texts.specs.declared.refusal.Refusal.{Refusal}
 use Rattle.texts.specs.declared.refusal.Refusal.TheVariants.{File, Mkfs, Check, Recover, Open, Script, Schedule, Disk, Cat, Run, Stops, Input, Output}
 use Rattle.scripts.specs.declared.schedule.ScheduleFault.{ScheduleFault}
 use Rattle.scripts.specs.declared.script.ScriptFault.{ScriptFault}
-use Rattle.xvfs.specs.Files.{IsMade, OnDiskRefusal, OpensDisk}
+use Rattle.xvfs.specs.Files.{IsMade, IsOfFile, IsOpened, OnDiskRefusal, OpensDisk}
+use Rattle.std.proofs.Common.{subst, sym}
 
 -- what was made on the disk that was created, where it was
 pub made_on : {F N : Type 0} (disk : Ghosts (FileDisk F) N) (r : Result (Unit {0}) Refusal) (size inode_count : ℕ) (old new : Option (List ℕ)) (created now : FileDisk F) → disk.image created ≡ replicate size zero_block
@@ -23,34 +21,38 @@ pub made_on : {F N : Type 0} (disk : Ghosts (FileDisk F) N) (r : Result (Unit {0
 made_on disk (Ok _) size inode_count old new created now zeroes makes printed = record { created = created; now = now; zeroes = zeroes; makes = makes; printed = printed }
 made_on disk (Err _) size inode_count old new created now zeroes makes printed = tt
 
-module _ {F : Type 0} (remaining : F → Option (List ℕ)) (image : FileDisk F → Image) where
+module _ {F N : Type 0} (remaining : F → Option (List ℕ)) (disk : Ghosts (FileDisk F) N) (holds : Bool) where
   -- what was done to the disk that was opened, where two things say it
-  pub opens_disk : (r : Result (Unit {0}) Refusal) (opened now : FileDisk F) (P : FileDisk F → FileDisk F → Type 0) (A B : Type 0) → 1 ≤ length (image opened) → length (image opened) ≤ 8191
-      → IsReadFrom remaining (file_of opened) (image opened) → (A → B → P opened now) → OnOk r A → OnOk r B → OnOk r (OpensDisk remaining image P)
-  opens_disk (Ok _) opened now P A B some few bytes f a b = (opened, (now, record { some = some; at_most = few; bytes = bytes }, f a b))
-  opens_disk (Err _) opened now P A B some few bytes f a b = a
+  pub opens_disk : (r : Result (Unit {0}) Refusal) (opened now : FileDisk F) (P : FileDisk F → FileDisk F → Type 0) (A B : Type 0) → IsOpened remaining disk holds opened
+      → (A → B → P opened now) → OnOk r A → OnOk r B → OnOk r (OpensDisk remaining disk holds P)
+  opens_disk (Ok _) opened now P A B is f a b = (opened, (now, is, f a b))
+  opens_disk (Err _) opened now P A B is f a b = a
 
   -- why it was not done, where no disk's refusal is one of the files
-  pub refuses_disk : (opened now : FileDisk F) (none : Type 0) (P : FileDisk F → FileDisk F → Refusal → Type 0) → 1 ≤ length (image opened) → length (image opened) ≤ 8191 → IsReadFrom remaining (file_of opened) (image opened)
+  pub refuses_disk : (opened now : FileDisk F) (none : Type 0) (P : FileDisk F → FileDisk F → Refusal → Type 0) → IsOpened remaining disk holds opened
       → ((fault : ScriptFault) → P opened now (Script fault) → none) → ((fault : ScheduleFault) → P opened now (Schedule fault) → none) → ((fault : FileFault) → P opened now (File fault) → none)
-      → (r : Refusal) → P opened now r → OnDiskRefusal remaining image none P r
-  refuses_disk opened now none P some few bytes f g h (Script fault) why = f fault why
-  refuses_disk opened now none P some few bytes f g h (Schedule fault) why = g fault why
-  refuses_disk opened now none P some few bytes f g h (File fault) why = h fault why
-  refuses_disk opened now none P some few bytes f g h (Mkfs fault) why = (opened, (now, record { some = some; at_most = few; bytes = bytes }, why))
-  refuses_disk opened now none P some few bytes f g h (Check fault) why = (opened, (now, record { some = some; at_most = few; bytes = bytes }, why))
-  refuses_disk opened now none P some few bytes f g h (Recover fault) why = (opened, (now, record { some = some; at_most = few; bytes = bytes }, why))
-  refuses_disk opened now none P some few bytes f g h (Open fault) why = (opened, (now, record { some = some; at_most = few; bytes = bytes }, why))
-  refuses_disk opened now none P some few bytes f g h (Disk fault) why = (opened, (now, record { some = some; at_most = few; bytes = bytes }, why))
-  refuses_disk opened now none P some few bytes f g h (Cat fault) why = (opened, (now, record { some = some; at_most = few; bytes = bytes }, why))
-  refuses_disk opened now none P some few bytes f g h (Run fault) why = (opened, (now, record { some = some; at_most = few; bytes = bytes }, why))
-  refuses_disk opened now none P some few bytes f g h (Stops fault) why = (opened, (now, record { some = some; at_most = few; bytes = bytes }, why))
-  refuses_disk opened now none P some few bytes f g h (Input fault) why = (opened, (now, record { some = some; at_most = few; bytes = bytes }, why))
-  refuses_disk opened now none P some few bytes f g h Output why = (opened, (now, record { some = some; at_most = few; bytes = bytes }, why))
+      → (r : Refusal) → P opened now r → OnDiskRefusal remaining disk holds none P r
+  refuses_disk opened now none P is f g h (Script fault) why = f fault why
+  refuses_disk opened now none P is f g h (Schedule fault) why = g fault why
+  refuses_disk opened now none P is f g h (File fault) why = h fault why
+  refuses_disk opened now none P is f g h (Mkfs fault) why = (opened, (now, is, why))
+  refuses_disk opened now none P is f g h (Check fault) why = (opened, (now, is, why))
+  refuses_disk opened now none P is f g h (Recover fault) why = (opened, (now, is, why))
+  refuses_disk opened now none P is f g h (Open fault) why = (opened, (now, is, why))
+  refuses_disk opened now none P is f g h (Disk fault) why = (opened, (now, is, why))
+  refuses_disk opened now none P is f g h (Cat fault) why = (opened, (now, is, why))
+  refuses_disk opened now none P is f g h (Run fault) why = (opened, (now, is, why))
+  refuses_disk opened now none P is f g h (Stops fault) why = (opened, (now, is, why))
+  refuses_disk opened now none P is f g h (Input fault) why = (opened, (now, is, why))
+  refuses_disk opened now none P is f g h Output why = (opened, (now, is, why))
+
+  -- where none was opened, the refusal is of the file
+  pub unopened_disk : (none : Type 0) (P : FileDisk F → FileDisk F → Refusal → Type 0) (r : Refusal) → IsOfFile r → none → OnDiskRefusal remaining disk holds none P r
+  unopened_disk none P r is silent = subst (λ (q : Refusal). OnDiskRefusal remaining disk holds none P q) (sym is.1) silent
 
   -- what follows of a refusal, where no disk was opened and where one was
   pub refused_so : (none other : Type 0) (P Q : FileDisk F → FileDisk F → Refusal → Type 0) → (none → other) → ((d e : FileDisk F) (r : Refusal) → P d e r → Q d e r)
-      → (r : Refusal) → OnDiskRefusal remaining image none P r → OnDiskRefusal remaining image other Q r
+      → (r : Refusal) → OnDiskRefusal remaining disk holds none P r → OnDiskRefusal remaining disk holds other Q r
   refused_so none other P Q f g (Script fault) why = f why
   refused_so none other P Q f g (Schedule fault) why = f why
   refused_so none other P Q f g (File fault) why = f why

@@ -1,5 +1,5 @@
 -- A command that ended with status 1 or 2.
-use Rattle.std.proofs.Common.{◌≡◌, ◌≢◌, ℕ, zero, suc, List, Option, Err, arith, refl, inl, inr, ⊎_elim}
+use Rattle.std.proofs.Common.{◌≡◌, ◌≢◌, ℕ, zero, suc, false, List, Option, Err, arith, refl, inl, inr, ⊎_elim}
 use Rattle.std.specs.Prelude.{◌≤◌, unwrap_or}
 use Rattle.requests.specs.declared.explanation.Explanation.{Explanation}
 use Rattle.xvfs.specs.declared.command.Failure.{Failure}
@@ -23,11 +23,11 @@ module _ {F N : Type 0} (file : FileGhosts F N) (words : List (List ℕ)) (old n
   -- what was printed where a request was refused, by what is known where nothing was
   on_refused : (request : Request) (r : Refusal) (P Q : Type 0) → (P → Q) → OnRefused file request r old new P → OnRefused file request r old new Q
   on_refused (Mkfs image size ninodes) r P Q f why = λ other. f (why other)
-  on_refused (Check image) r P Q f why = (λ other. f (why.0 other), refused_so _ _ P Q (IsUnchecked file.disk.image file.disk.fault_count) (IsUnchecked file.disk.image file.disk.fault_count) f (λ d e r why. why) r why.1)
-  on_refused (Recover image) r P Q f why = (λ other. f (why.0 other), refused_so _ _ P Q (IsUnrecovered file.disk.image file.disk.fault_count) (IsUnrecovered file.disk.image file.disk.fault_count) f (λ d e r why. why) r why.1)
-  on_refused (Cat image inum) r P Q f why = refused_so _ _ P Q _ _ f (λ d e r why. not_shown file.disk d e old new P Q f inum r why) r why
-  on_refused (Replay image script schedule stop) r P Q f why = refused_so _ _ P Q _ _ f (λ d e r why. unreplayed file.disk file.over d e (unwrap_or stop 0) old new P Q f r why) r why
-  on_refused (Run image script workers) r P Q f why = refused_so _ _ P Q _ _ f (λ d e r why. not_run file.disk d e old new P Q f r why) r why
+  on_refused (Check image) r P Q f why = (λ other. f (why.0 other), refused_so file.remaining file.disk false P Q (IsUnchecked file.disk.image file.disk.fault_count) (IsUnchecked file.disk.image file.disk.fault_count) f (λ d e r why. why) r why.1)
+  on_refused (Recover image sync) r P Q f why = (λ other. f (why.0 other), refused_so file.remaining file.disk sync P Q (IsUnrecovered file.disk) (IsUnrecovered file.disk) f (λ d e r why. why) r why.1)
+  on_refused (Cat image inum) r P Q f why = refused_so file.remaining file.disk false P Q _ _ f (λ d e r why. not_shown file.disk d e old new P Q f inum r why) r why
+  on_refused (Replay image script schedule stop sync) r P Q f why = refused_so file.remaining file.disk sync P Q _ _ f (λ d e r why. unreplayed file.disk file.over d e (unwrap_or stop 0) old new P Q f r why) r why
+  on_refused (Run image script workers sync) r P Q f why = refused_so file.remaining file.disk sync P Q _ _ f (λ d e r why. not_run file.disk d e old new P Q f r why) r why
   on_refused (Stops script schedule) r P Q f why = script_unchecked P Q f r why
 
   undone_by : (P Q : Type 0) → (P → Q) → (f : Failure) → IsUndone file words old new P f → IsUndone file words old new Q f

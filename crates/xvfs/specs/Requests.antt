@@ -1,5 +1,5 @@
 -- What a request is answered.
-use Rattle.std.specs.Prelude.{◌≡◌, ◌≢◌, ◌⊎◌, ℕ, List, [], ◌∷◌, ◌++◌, Option, unwrap_or}
+use Rattle.std.specs.Prelude.{◌≡◌, ◌≢◌, ◌⊎◌, ℕ, false, List, [], ◌∷◌, ◌++◌, Option, unwrap_or}
 use Rattle.player.specs.Causes.{IsUnchecked, IsUnrecovered}
 use Rattle.player.specs.Showing.{IsNotShown}
 use Rattle.texts.specs.declared.refusal.Refusal.{Refusal}
@@ -21,16 +21,16 @@ abbrev pub Answers : {F N : Type 0} → FileGhosts F N → Request → Option (L
     → Option (List ℕ) → Type 0
 Answers file (Mkfs image size ninodes) old new = IsMade file.disk size ninodes old new
 Answers file (Check image) old new =
-    OpensDisk file.remaining file.disk.image (IsReported file.disk old new)
-Answers file (Recover image) old new =
-    OpensDisk file.remaining file.disk.image (IsCopied file.disk old new)
+    OpensDisk file.remaining file.disk false (IsReported file.disk old new)
+Answers file (Recover image sync) old new =
+    OpensDisk file.remaining file.disk sync (IsCopied file.disk old new)
 Answers file (Cat image inum) old new =
-    OpensDisk file.remaining file.disk.image (IsShown file.disk inum old new)
-Answers file (Replay image script schedule stop) old new =
-    OpensDisk file.remaining file.disk.image
+    OpensDisk file.remaining file.disk false (IsShown file.disk inum old new)
+Answers file (Replay image script schedule stop sync) old new =
+    OpensDisk file.remaining file.disk sync
     (IsReplayed file.disk file.over (unwrap_or stop 0) old new)
-Answers file (Run image script workers) old new =
-    OpensDisk file.remaining file.disk.image (IsRun file.disk old new)
+Answers file (Run image script workers sync) old new =
+    OpensDisk file.remaining file.disk sync (IsRun file.disk old new)
 Answers file (Stops script schedule) old new = ChecksScript old new
 
 -- why a request was refused, and what was printed; `none` says that nothing was
@@ -38,19 +38,18 @@ abbrev pub OnRefused : {F N : Type 0} → FileGhosts F N → Request → Refusal
     → Option (List ℕ) → Type 0 → Type 0
 OnRefused file (Mkfs image size ninodes) r old new none = r ≢ Output → none
 OnRefused file (Check image) r old new none = (r ≢ Output → none)
-    × OnDiskRefusal file.remaining file.disk.image none
+    × OnDiskRefusal file.remaining file.disk false none
     (IsUnchecked file.disk.image file.disk.fault_count) r
-OnRefused file (Recover image) r old new none = (r ≢ Output → none)
-    × OnDiskRefusal file.remaining file.disk.image none
-    (IsUnrecovered file.disk.image file.disk.fault_count) r
+OnRefused file (Recover image sync) r old new none = (r ≢ Output → none)
+    × OnDiskRefusal file.remaining file.disk sync none (IsUnrecovered file.disk) r
 OnRefused file (Cat image inum) r old new none =
-    OnDiskRefusal file.remaining file.disk.image none
+    OnDiskRefusal file.remaining file.disk false none
     (λ d e. IsNotShown file.disk d e inum old new none) r
-OnRefused file (Replay image script schedule stop) r old new none =
-    OnDiskRefusal file.remaining file.disk.image none
+OnRefused file (Replay image script schedule stop sync) r old new none =
+    OnDiskRefusal file.remaining file.disk sync none
     (IsUnreplayed file.disk file.over (unwrap_or stop 0) old new none) r
-OnRefused file (Run image script workers) r old new none =
-    OnDiskRefusal file.remaining file.disk.image none (IsNotRun file.disk old new none) r
+OnRefused file (Run image script workers sync) r old new none =
+    OnDiskRefusal file.remaining file.disk sync none (IsNotRun file.disk old new none) r
 OnRefused file (Stops script schedule) r old new none = IsScriptUnchecked none r
 
 -- a request of the words was done and answered; what is printed of help is clap's

@@ -168,19 +168,21 @@ where
             ninodes,
         } => make_file(rt, image, size, ninodes, out),
         Request::Check { image } => check_file(rt, image, out),
-        Request::Recover { image } => recover_file(rt, image, out),
+        Request::Recover { image, sync } => recover_file(rt, image, sync, out),
         Request::Cat { image, inum } => cat_file(rt, image, inum, out),
         Request::Replay {
             image,
             script,
             schedule,
             stop,
-        } => replay_files(rt, image, script, schedule, stop, out),
+            sync,
+        } => replay_files(rt, image, script, schedule, stop, sync, out),
         Request::Run {
             image,
             script,
             workers,
-        } => run_files(rt, image, script, workers, out),
+            sync,
+        } => run_files(rt, image, script, workers, sync, out),
         Request::Stops { script, schedule } => stops_files(rt, script, schedule, out),
     }
 }

@@ -1,5 +1,5 @@
 // The commands over the files that they name: each opens its files, and does nothing else.
-ghost use Rattle.std.specs.Prelude.{◌≡◌, ◌≢◌, ◌↔◌, false, IsTrue, IfErr, OnOk, unwrap_or};
+ghost use Rattle.std.specs.Prelude.{◌≡◌, ◌≢◌, ◌↔◌, false, IsTrue, IfErr, IfOk, OnOk, unwrap_or};
 ghost use Rattle.std.specs.Result.{IsErrOf};
 ghost use Rattle.layout.specs.declared.geometry.MkfsFault.TheVariants as fault;
 ghost use Rattle.model.specs.Layout.{is_inode_count, is_size};
@@ -14,6 +14,8 @@ ghost use Rattle.xvfs.specs.Files.{
   IsCopied,
   IsMade,
   IsNotRun,
+  IsOfFile,
+  IsOpened,
   IsReplayed,
   IsReported,
   IsRun,
@@ -65,6 +67,23 @@ pub fn make_file<R: Files + AllocGlobal, O: Write>(
     make_disk(rt.alloc(), &mut disk, size, ninodes, out)
 }
 
+// The disk in the file at this path, which holds writes back or doesn't.
+fn open_disk<R: Files + AllocGlobal>(
+    rt: &R,
+    image: &str,
+    sync: bool,
+) -> Result<FileDisk<R::File>, Refusal>
+    ensures opened { IfOk result
+        (IsOpened R.File.remaining ⟦<FileDisk<R::File> as Disk>⟧ sync) }
+    ensures refused { IfErr result IsOfFile }
+{
+    let disk = FileDisk::open(rt, image).map_err(Refusal::File)?;
+    if sync {
+        return Ok(disk.hold_back());
+    }
+    Ok(disk)
+}
+
 /// Checks the image in the file at this path, and prints how many blocks its log holds and how many
 /// files there are.
 ///
@@ -77,21 +96,21 @@ pub fn check_file<R: Files + AllocGlobal, O: Write>(
     image: &str,
     out: &mut O,
 ) -> Result<(), Refusal>
-    ensures opened { OnOk result (OpensDisk R.File.remaining ⟦<FileDisk<R::File> as Disk>⟧.image
+    ensures opened { OnOk result (OpensDisk R.File.remaining ⟦<FileDisk<R::File> as Disk>⟧ false
         (IsReported ⟦<FileDisk<R::File> as Disk>⟧ (O.contents out.old) (O.contents out.new))) }
     ensures refused { IfErr result (OnDiskRefusal R.File.remaining
-        ⟦<FileDisk<R::File> as Disk>⟧.image (out.new ≡ out.old)
+        ⟦<FileDisk<R::File> as Disk>⟧ false (out.new ≡ out.old)
         (IsUnchecked ⟦<FileDisk<R::File> as Disk>⟧.image
         ⟦<FileDisk<R::File> as Disk>⟧.fault_count)) }
     ensures silent { IfErr result (λ r. r ≢ refusal.Output → out.new ≡ out.old) }
     ensures layers { IfErr result IsOfCheck }
 {
-    let mut disk = FileDisk::open(rt, image).map_err(Refusal::File)?;
+    let mut disk = open_disk(rt, image, false)?;
     check_disk(rt.alloc(), &mut disk, out)
 }
 
 /// Checks the image in the file at this path, copies the blocks of its log home, and prints how
-/// many these were.
+/// many these were. With `sync` the file is a disk that holds writes back, and is synced.
 ///
 /// # Errors
 ///
@@ -99,18 +118,18 @@ pub fn check_file<R: Files + AllocGlobal, O: Write>(
 pub fn recover_file<R: Files + AllocGlobal, O: Write>(
     rt: &R,
     image: &str,
+    sync: bool,
     out: &mut O,
 ) -> Result<(), Refusal>
-    ensures opened { OnOk result (OpensDisk R.File.remaining ⟦<FileDisk<R::File> as Disk>⟧.image
+    ensures opened { OnOk result (OpensDisk R.File.remaining ⟦<FileDisk<R::File> as Disk>⟧ sync
         (IsCopied ⟦<FileDisk<R::File> as Disk>⟧ (O.contents out.old) (O.contents out.new))) }
     ensures refused { IfErr result (OnDiskRefusal R.File.remaining
-        ⟦<FileDisk<R::File> as Disk>⟧.image (out.new ≡ out.old)
-        (IsUnrecovered ⟦<FileDisk<R::File> as Disk>⟧.image
-        ⟦<FileDisk<R::File> as Disk>⟧.fault_count)) }
+        ⟦<FileDisk<R::File> as Disk>⟧ sync (out.new ≡ out.old)
+        (IsUnrecovered ⟦<FileDisk<R::File> as Disk>⟧)) }
     ensures silent { IfErr result (λ r. r ≢ refusal.Output → out.new ≡ out.old) }
     ensures layers { IfErr result IsOfRecover }
 {
-    let mut disk = FileDisk::open(rt, image).map_err(Refusal::File)?;
+    let mut disk = open_disk(rt, image, sync)?;
     recover_disk(rt.alloc(), &mut disk, out)
 }
 
@@ -125,22 +144,22 @@ pub fn cat_file<R: Files + AllocGlobal, O: Write>(
     inum: u32,
     out: &mut O,
 ) -> Result<(), Refusal>
-    ensures opened { OnOk result (OpensDisk R.File.remaining ⟦<FileDisk<R::File> as Disk>⟧.image
+    ensures opened { OnOk result (OpensDisk R.File.remaining ⟦<FileDisk<R::File> as Disk>⟧ false
         (IsShown ⟦<FileDisk<R::File> as Disk>⟧ inum (O.contents out.old) (O.contents out.new))) }
     ensures layers { IfErr result IsOfCat }
     ensures refused { IfErr result (OnDiskRefusal R.File.remaining
-        ⟦<FileDisk<R::File> as Disk>⟧.image (out.new ≡ out.old)
+        ⟦<FileDisk<R::File> as Disk>⟧ false (out.new ≡ out.old)
         (λ d e. IsNotShown ⟦<FileDisk<R::File> as Disk>⟧ d e inum
         (O.contents out.old) (O.contents out.new) (out.new ≡ out.old))) }
 {
-    let disk = FileDisk::open(rt, image).map_err(Refusal::File)?;
+    let disk = open_disk(rt, image, false)?;
     let (shown, _disk) = cat_disk(rt.alloc(), disk, inum, out);
     shown
 }
 
 /// Recovers the image in the file at this path, and makes the operations of a script in the turns
 /// of a schedule, as `replay_disk`. With `stop` the write of this number, from 1, is not made, and
-/// ends the run.
+/// ends the run. With `sync` the file is a disk that holds writes back, and is synced.
 ///
 /// # Errors
 ///
@@ -151,15 +170,16 @@ pub fn replay_files<R: Files + AllocGlobal, O: Write>(
     script: &str,
     schedule: &str,
     stop: Option<u64>,
+    sync: bool,
     out: &mut O,
 ) -> Result<(), Refusal>
-    ensures opened { OnOk result (OpensDisk R.File.remaining ⟦<FileDisk<R::File> as Disk>⟧.image
+    ensures opened { OnOk result (OpensDisk R.File.remaining ⟦<FileDisk<R::File> as Disk>⟧ sync
         (IsReplayed ⟦<FileDisk<R::File> as Disk>⟧
         ⟦<FaultyDisk<FileDisk<R::File>> as Disk>⟧ (unwrap_or stop 0)
         (O.contents out.old) (O.contents out.new))) }
     ensures layers { IfErr result IsOfReplay }
     ensures refused { IfErr result (OnDiskRefusal R.File.remaining
-        ⟦<FileDisk<R::File> as Disk>⟧.image (out.new ≡ out.old)
+        ⟦<FileDisk<R::File> as Disk>⟧ sync (out.new ≡ out.old)
         (IsUnreplayed ⟦<FileDisk<R::File> as Disk>⟧
         ⟦<FaultyDisk<FileDisk<R::File>> as Disk>⟧ (unwrap_or stop 0)
         (O.contents out.old) (O.contents out.new) (out.new ≡ out.old))) }
@@ -167,7 +187,7 @@ pub fn replay_files<R: Files + AllocGlobal, O: Write>(
     let tasks = script_from(rt, script).map_err(Refusal::Script)?;
     let processes = processes(tasks.as_slice());
     let words = schedule_from(rt, schedule, processes).map_err(Refusal::Schedule)?;
-    let disk = FileDisk::open(rt, image).map_err(Refusal::File)?;
+    let disk = open_disk(rt, image, sync)?;
     let (ran, _disk) = replay_disk(
         rt.alloc(),
         disk,
@@ -181,7 +201,8 @@ pub fn replay_files<R: Files + AllocGlobal, O: Write>(
 }
 
 /// Recovers the image in the file at this path, and makes the operations of a script by callers and
-/// so many workers, from 1 to 32, on threads, as `run_disk`.
+/// so many workers, from 1 to 32, on threads, as `run_disk`. With `sync` the file is a disk that
+/// holds writes back, and is synced.
 ///
 /// # Errors
 ///
@@ -191,22 +212,23 @@ pub fn run_files<R: Files + AllocGlobal + Threads + Wait + Clock + Sync, O: Writ
     image: &str,
     script: &str,
     workers: u32,
+    sync: bool,
     out: &mut O,
 ) -> Result<(), Refusal>
 where
     R::File: Send,
     requires { AreWorkers workers }
-    ensures opened { OnOk result (OpensDisk R.File.remaining ⟦<FileDisk<R::File> as Disk>⟧.image
+    ensures opened { OnOk result (OpensDisk R.File.remaining ⟦<FileDisk<R::File> as Disk>⟧ sync
         (IsRun ⟦<FileDisk<R::File> as Disk>⟧ (O.contents out.old) (O.contents out.new))) }
     ensures layers { IfErr result IsOfRun }
     ensures refused { IfErr result (OnDiskRefusal R.File.remaining
-        ⟦<FileDisk<R::File> as Disk>⟧.image (out.new ≡ out.old)
+        ⟦<FileDisk<R::File> as Disk>⟧ sync (out.new ≡ out.old)
         (IsNotRun ⟦<FileDisk<R::File> as Disk>⟧
         (O.contents out.old) (O.contents out.new) (out.new ≡ out.old))) }
 {
     let tasks = script_from(rt, script).map_err(Refusal::Script)?;
     let processes = processes(tasks.as_slice());
-    let disk = FileDisk::open(rt, image).map_err(Refusal::File)?;
+    let disk = open_disk(rt, image, sync)?;
     let (ran, _disk) = run_disk(rt, disk, tasks, processes, workers, out);
     ran
 }

@@ -6,7 +6,7 @@ use Rattle.blocks.specs.declared.disk.Disk.{Ghosts}
 module _ {D N : Type 0} (disk : Ghosts D N) where
   -- none yet
   pub reads_none : (d : D) → OnlyReads disk d d
-  reads_none d = record { name = refl; image = refl; writes = refl; time = record { later = omega arith; adds = λ t x le left. left; keeps = λ t x le left. left } }
+  reads_none d = record { name = refl; image = refl; writes = refl; syncs = refl; time = record { later = omega arith; adds = λ t x le left. left; keeps = λ t x le left. left } }
 
   -- reads, and then reads
   pub reads_then : (old mid new : D) → OnlyReads disk old mid → OnlyReads disk mid new → OnlyReads disk old new
@@ -14,6 +14,7 @@ module _ {D N : Type 0} (disk : Ghosts D N) where
     name = then_on.name ∙ first.name;
     image = then_on.image ∙ first.image;
     writes = then_on.writes ∙ first.writes;
+    syncs = then_on.syncs ∙ first.syncs;
     time = record {
       later = omega (arith, first.time.later, then_on.time.later);
       adds = λ t x le left. first.time.adds t x le (then_on.time.adds t x (omega (arith, le, first.time.later)) left);

@@ -103,7 +103,7 @@ few_writes m (write_at.Updating u) few = let most = few_uses u.slot in omega (ar
 
 -- there are 64 inode blocks at most, each of which takes two steps
 pub few_steps : (cur : Image) (table : TableState) (t : TaskState) (a : Place) →
-    table.inode_count ≤ 1024 → LooksAt cur table t a → steps_left a table.inode_count < 1937
+    table.inode_count ≤ 1024 → LooksAt cur table t a → steps_left a table.inode_count < 1933
 few_steps cur table t place.Nowhere few looks = omega arith
 few_steps cur table t (place.Creating m) few looks =
     let most = few_looks m.slot in
@@ -137,7 +137,7 @@ some_step (place.Leaving k) n unfinished = omega arith
 -- any task that a store has
 pub few_in_task : (x : Image) (table : TableState) (p : ℕ) (ts : List TaskState) →
     IsLawfulGeometry x → table.inode_count ≡ inode_count_of x → AreLooking x table ts →
-    steps_left (task ts p).place table.inode_count < 1937
+    steps_left (task ts p).place table.inode_count < 1933
 few_in_task x table p ts geometry numbers looks =
     let few = (facts_of x geometry).few in
     few_steps x table (task ts p) (task ts p).place (omega (arith, few, numbers)) (looks.stand p)

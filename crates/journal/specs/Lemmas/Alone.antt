@@ -6,14 +6,14 @@ use Rattle.wal.specs.declared.types.Commit.{Commit}
 use Rattle.wal.specs.declared.types.Commit.TheVariants as commit
 use Rattle.wal.specs.declared.types.Committed.TheVariants as committed
 use Rattle.wal.specs.declared.types.Ended.TheVariants as ended_as
-use Rattle.wal.specs.Joint.{written_at}
+use Rattle.wal.specs.declared.types.Part.TheVariants as part
+use Rattle.wal.specs.Joint.{stepped_at}
 use Rattle.wal.specs.Machine.{LogState, used_by, begin_cause, begun, ended, end_answer, left_by, closed, is_quiet, SameGroups, IsLogAt}
 use Rattle.wal.specs.Step.{answer_at}
 use Rattle.wal.specs.Lemmas.Log.{let_in}
 use Rattle.journal.specs.declared.types.At.{At}
-use Rattle.journal.specs.declared.types.At.TheVariants as at
 use Rattle.journal.specs.Alone.{is_committing_at, CommitsAlone}
-use Rattle.journal.specs.Lemmas.Groups.{end_leaves, end_commits, open_of, written_same}
+use Rattle.journal.specs.Lemmas.Groups.{end_leaves, end_commits, open_of}
 
 -- while the log has no commit under way, nobody commits
 pub none_commits : (ats : ℕ → At) (l : LogState) → CommitsAlone ats l → is_quiet l.commit ≡ true → (q : ℕ) → is_committing_at (ats q) ≡ false
@@ -103,21 +103,21 @@ module _ (ats new : ℕ → At) (l : LogState) (alone : CommitsAlone ats l) (p :
   pub alone_end_commits : IsLogAt l.commit l → IsSome (used_by l p) → end_answer l ≡ ended_as.Commit → is_committing_at (new p) ≡ true → CommitsAlone new (ended l p)
   alone_end_commits is used last mine = let at = end_commits l last in alone_closed is used at.0 at.1 mine
 
-  -- a write of a commit, after which more are to come
-  pub alone_written : is_committing_at (ats p) ≡ true → is_committing_at (new p) ≡ true → is_quiet (written_at l.commit l).commit ≡ false → CommitsAlone new (written_at l.commit l)
-  alone_written was mine more = record {
+  -- a step of a commit, after which more are to come
+  pub alone_written : (m : LogState) → m.outstanding ≡ l.outstanding → is_committing_at (ats p) ≡ true → is_committing_at (new p) ≡ true → is_quiet m.commit ≡ false → CommitsAlone new m
+  alone_written m open_ones was mine more = record {
     sole = λ q r first second. own q first ∙ sym (own r second);
     busy = λ q first. more;
-    none_open = λ q first. (written_same l.commit l).outstanding ∙ alone.none_open p was;
+    none_open = λ q first. open_ones ∙ alone.none_open p was;
     quiet = λ nobody. absurd (false≢true (sym (nobody p) ∙ mine));
   }
     where
       own : (q : ℕ) → is_committing_at (new q) ≡ true → q ≡ p
       own q is = ⊎_elim (λ (e : q ≡ p). e) (λ (e : q ≢ p). alone.sole q p (ap is_committing_at (sym (others q e)) ∙ is) was) (cases_eq q p)
 
-  -- its last write
-  pub alone_done : is_committing_at (ats p) ≡ true → is_committing_at (new p) ≡ false → is_quiet (written_at l.commit l).commit ≡ true → CommitsAlone new (written_at l.commit l)
-  alone_done was mine over = record {
+  -- its last step
+  pub alone_done : (m : LogState) → is_committing_at (ats p) ≡ true → is_committing_at (new p) ≡ false → is_quiet m.commit ≡ true → CommitsAlone new m
+  alone_done m was mine over = record {
     sole = λ q r first second. absurd (nobody_else q first);
     busy = λ q first. absurd (nobody_else q first);
     none_open = λ q first. absurd (nobody_else q first);
@@ -130,45 +130,70 @@ module _ (ats new : ℕ → At) (l : LogState) (alone : CommitsAlone ats l) (p :
           (λ (e : q ≢ p). e (alone.sole q p (ap is_committing_at (sym (others q e)) ∙ is) was))
           (cases_eq q p)
 
--- a write that is not the last leaves the commit under way; the last one ends it
-pub goes_on : (k : Commit) (l : LogState) (g : ℕ) → is_quiet k ≡ false → (answer_at k g ≡ committed.Done → ⊥) → is_quiet (written_at k l).commit ≡ false
-goes_on commit.Quiet l g busy more = absurd (false≢true (sym busy))
-goes_on (commit.Logging j) l g busy more = by_last (eqb (j + 1) (length l.homes))
+-- A step that is not the last leaves the commit under way; the last one ends it.
+pub goes_on : (h : Bool) (k : Commit) (l : LogState) (g : ℕ) → is_quiet k ≡ false → (answer_at h k g ≡ committed.Done → ⊥) → is_quiet (stepped_at h k l).commit ≡ false
+goes_on h commit.Quiet l g busy more = absurd (false≢true (sym busy))
+goes_on h (commit.Logging j) l g busy more = by_last (eqb (j + 1) (length l.homes)) h
   where
-    by_last : (t : Bool) → is_quiet (cond t commit.Heading (commit.Logging (j + 1))) ≡ false
-    by_last true = refl
-    by_last false = refl
-goes_on commit.Heading l g busy more = refl
-goes_on (commit.Homing j) l g busy more = by_last (eqb (j + 1) (length l.homes))
+    by_last : (t h : Bool) → is_quiet (cond t (cond h (commit.Syncing part.Log) commit.Heading) (commit.Logging (j + 1))) ≡ false
+    by_last true true = refl
+    by_last true false = refl
+    by_last false h = refl
+goes_on true commit.Heading l g busy more = refl
+goes_on false commit.Heading l g busy more = refl
+goes_on h (commit.Homing j) l g busy more = by_last (eqb (j + 1) (length l.homes)) h
   where
-    by_last : (t : Bool) → is_quiet (cond t commit.Clearing (commit.Homing (j + 1))) ≡ false
-    by_last true = refl
-    by_last false = refl
-goes_on commit.Clearing l g busy more = absurd (more refl)
+    by_last : (t h : Bool) → is_quiet (cond t (cond h (commit.Syncing part.Homes) commit.Clearing) (commit.Homing (j + 1))) ≡ false
+    by_last true true = refl
+    by_last true false = refl
+    by_last false h = refl
+goes_on true commit.Clearing l g busy more = refl
+goes_on false commit.Clearing l g busy more = absurd (more refl)
+goes_on h (commit.Syncing part.Log) l g busy more = refl
+goes_on h (commit.Syncing part.Header) l g busy more = refl
+goes_on h (commit.Syncing part.Homes) l g busy more = refl
+goes_on h (commit.Syncing part.Clear) l g busy more = absurd (more refl)
 
 -- the last one ends it
-pub over_now : (k : Commit) (l : LogState) (g : ℕ) → answer_at k g ≡ committed.Done → is_quiet (written_at k l).commit ≡ true
-over_now commit.Quiet l g done = absurd (cc done)
-over_now (commit.Logging j) l g done = absurd (cc done)
-over_now commit.Heading l g done = absurd (cc done)
-over_now (commit.Homing j) l g done = absurd (cc done)
-over_now commit.Clearing l g done = refl
+pub over_now : (h : Bool) (k : Commit) (l : LogState) (g : ℕ) → answer_at h k g ≡ committed.Done → is_quiet (stepped_at h k l).commit ≡ true
+over_now h commit.Quiet l g done = absurd (cc done)
+over_now h (commit.Logging j) l g done = absurd (cc done)
+over_now true commit.Heading l g done = absurd (cc done)
+over_now false commit.Heading l g done = absurd (cc done)
+over_now h (commit.Homing j) l g done = absurd (cc done)
+over_now true commit.Clearing l g done = absurd (cc done)
+over_now false commit.Clearing l g done = refl
+over_now h (commit.Syncing part.Log) l g done = absurd (cc done)
+over_now h (commit.Syncing part.Header) l g done = absurd (cc done)
+over_now h (commit.Syncing part.Homes) l g done = absurd (cc done)
+over_now h (commit.Syncing part.Clear) l g done = refl
 
--- only the header's write changes how many groups are committed
-pub same_committed : (k : Commit) (l : LogState) (g : ℕ) → ((n : ℕ) → answer_at k g ≡ committed.Durable n → ⊥) → (written_at k l).committed ≡ l.committed
-same_committed commit.Quiet l g other = refl
-same_committed (commit.Logging j) l g other = refl
-same_committed commit.Heading l g other = absurd (other g refl)
-same_committed (commit.Homing j) l g other = refl
-same_committed commit.Clearing l g other = refl
+-- only the step that answers so changes how many groups are committed
+pub same_committed : (h : Bool) (k : Commit) (l : LogState) (g : ℕ) → ((n : ℕ) → answer_at h k g ≡ committed.Durable n → ⊥) → (stepped_at h k l).committed ≡ l.committed
+same_committed h commit.Quiet l g other = refl
+same_committed h (commit.Logging j) l g other = refl
+same_committed true commit.Heading l g other = refl
+same_committed false commit.Heading l g other = absurd (other g refl)
+same_committed h (commit.Homing j) l g other = refl
+same_committed h commit.Clearing l g other = refl
+same_committed h (commit.Syncing part.Log) l g other = refl
+same_committed h (commit.Syncing part.Header) l g other = absurd (other g refl)
+same_committed h (commit.Syncing part.Homes) l g other = refl
+same_committed h (commit.Syncing part.Clear) l g other = refl
 
--- the header's write commits the group that it answers
-pub durable_count : (l m : LogState) (n : ℕ) → answer_at l.commit l.opened ≡ committed.Durable n → m ≡ written_at l.commit l → n ≡ m.committed
-durable_count l m n answer is = by_phase l.commit answer ∙ sym (ap (λ (o : LogState). o.committed) is)
+-- it commits the group that it answers
+pub durable_count : (h : Bool) (l m : LogState) (n : ℕ) → answer_at h l.commit l.opened ≡ committed.Durable n → m ≡ stepped_at h l.commit l → n ≡ m.committed
+durable_count h l m n answer is = by_phase h l.commit answer ∙ sym (ap (λ (o : LogState). o.committed) is)
   where
-    by_phase : (k : Commit) → answer_at k l.opened ≡ committed.Durable n → n ≡ (written_at k l).committed
-    by_phase commit.Quiet e = absurd (cc e)
-    by_phase (commit.Logging j) e = absurd (cc e)
-    by_phase commit.Heading e = sym (cc e)
-    by_phase (commit.Homing j) e = absurd (cc e)
-    by_phase commit.Clearing e = absurd (cc e)
+    by_phase : (h : Bool) (k : Commit) → answer_at h k l.opened ≡ committed.Durable n → n ≡ (stepped_at h k l).committed
+    by_phase h commit.Quiet e = absurd (cc e)
+    by_phase h (commit.Logging j) e = absurd (cc e)
+    by_phase true commit.Heading e = absurd (cc e)
+    by_phase false commit.Heading e = sym (cc e)
+    by_phase h (commit.Homing j) e = absurd (cc e)
+    by_phase true commit.Clearing e = absurd (cc e)
+    by_phase false commit.Clearing e = absurd (cc e)
+    by_phase h (commit.Syncing part.Log) e = absurd (cc e)
+    by_phase h (commit.Syncing part.Header) e = sym (cc e)
+    by_phase h (commit.Syncing part.Homes) e = absurd (cc e)
+    by_phase h (commit.Syncing part.Clear) e = absurd (cc e)

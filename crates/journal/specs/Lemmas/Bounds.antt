@@ -1,5 +1,5 @@
 -- A step takes one of the steps that its operation has left, and gives no other process more.
-use Rattle.std.proofs.Common.{◌≡◌, ◌≢◌, ◌⊎◌, inl, inr, ℕ, ◌+◌, ◌-◌, ◌<◌, ◌≤◌, true, false, cond, eqb, List, length, refl, sym, ◌∙◌, ap, subst, arith, Some, None}
+use Rattle.std.proofs.Common.{◌≡◌, ◌≢◌, ◌⊎◌, inl, inr, ℕ, ◌+◌, ◌-◌, ◌<◌, ◌≤◌, Bool, true, false, cond, eqb, List, length, refl, sym, ◌∙◌, ap, subst, arith, Some, None}
 use Rattle.std.specs.Prelude.{IsSome}
 use Rattle.std.proofs.lemmas.Bool.{cases_eq, eq-eqb, ne_eqb, false≢true}
 use Rattle.model.specs.declared.types.image.Form.{Form}
@@ -8,40 +8,67 @@ use Rattle.model.specs.declared.types.operations.TaskProgress.{TaskProgress}
 use Rattle.model.specs.declared.types.operations.TaskProgress.TheVariants as progress
 use Rattle.wal.specs.declared.types.Commit.{Commit}
 use Rattle.wal.specs.declared.types.Commit.TheVariants as commit
-use Rattle.wal.specs.Joint.{written_at}
+use Rattle.wal.specs.declared.types.Part.{Part}
+use Rattle.wal.specs.declared.types.Part.TheVariants as part
+use Rattle.wal.specs.Joint.{stepped_at, synced_at}
 use Rattle.wal.specs.Machine.{LogState, used_by, ended, left_by, is_quiet, IsLogAt, Idle}
 use Rattle.wal.specs.Lemmas.Log.{few_homes}
 use Rattle.journal.specs.declared.types.At.{At}
 use Rattle.journal.specs.declared.types.At.TheVariants as at
 use Rattle.journal.specs.Alone.{is_committing_at, CommitsAlone}
-use Rattle.journal.specs.Bound.{writes_left, all_steps_left, is_busy_at, Lowers, TakesStep}
+use Rattle.journal.specs.Bound.{synced_left, writes_left, all_steps_left, is_busy_at, Lowers, TakesStep}
 use Rattle.journal.specs.Next.{TaskNext}
 use Rattle.journal.specs.Views.{View}
 use Rattle.journal.specs.Lemmas.Alone.{none_commits, quiet_if_open}
 
--- a write of a commit, after which more are to come
-pub writes_fall : (k : Commit) (l : LogState) → Idle k l → is_quiet k ≡ false → is_quiet (written_at k l).commit ≡ false → writes_left (written_at k l).commit (length (written_at k l).homes) < writes_left k (length l.homes)
-writes_fall commit.Quiet l idle busy more = absurd (false≢true (sym busy))
-writes_fall (commit.Logging j) l idle busy more = by_last (cases_eq (j + 1) (length l.homes))
-  where
-    by_last : (j + 1 ≡ length l.homes) ⊎ ((j + 1 ≡ length l.homes) → ⊥) → writes_left (cond (eqb (j + 1) (length l.homes)) commit.Heading (commit.Logging (j + 1))) (length l.homes) < (length l.homes - j) + 1 + length l.homes + 1
-    by_last (inl last) = rw (eq-eqb (j + 1) (length l.homes) last) (omega (arith, last))
-    by_last (inr other) = rw (ne_eqb (j + 1) (length l.homes) other) (let lt = idle.1 in omega (arith, lt, other))
-writes_fall commit.Heading l idle busy more = omega arith
-writes_fall (commit.Homing j) l idle busy more = by_last (cases_eq (j + 1) (length l.homes))
-  where
-    by_last : (j + 1 ≡ length l.homes) ⊎ ((j + 1 ≡ length l.homes) → ⊥) → writes_left (cond (eqb (j + 1) (length l.homes)) commit.Clearing (commit.Homing (j + 1))) (length l.homes) < (length l.homes - j) + 1
-    by_last (inl last) = rw (eq-eqb (j + 1) (length l.homes) last) (omega (arith, last))
-    by_last (inr other) = rw (ne_eqb (j + 1) (length l.homes) other) (let lt = idle.1 in omega (arith, lt, other))
-writes_fall commit.Clearing l idle busy more = absurd (false≢true (sym more))
+-- a sync, after which more steps are to come
+syncs_fall : (p : Part) (l : LogState) → is_quiet (synced_at p l).commit ≡ false → writes_left (synced_at p l).commit (length (synced_at p l).homes) < synced_left p (length l.homes)
+syncs_fall part.Log l more = omega arith
+syncs_fall part.Header l more = omega arith
+syncs_fall part.Homes l more = omega arith
+syncs_fall part.Clear l more = absurd (false≢true (sym more))
 
--- a commit has 62 writes at most, and one that is under way has some
-most_writes : (k : Commit) (n : ℕ) → n ≤ 30 → writes_left k n ≤ 62
+-- a step of a commit, after which more are to come
+pub writes_fall : (h : Bool) (k : Commit) (l : LogState) → Idle k l → is_quiet k ≡ false → is_quiet (stepped_at h k l).commit ≡ false → writes_left (stepped_at h k l).commit (length (stepped_at h k l).homes) < writes_left k (length l.homes)
+writes_fall h commit.Quiet l idle busy more = absurd (false≢true (sym busy))
+writes_fall h (commit.Logging j) l idle busy more = by_last (cases_eq (j + 1) (length l.homes)) h
+  where
+    by_last : (j + 1 ≡ length l.homes) ⊎ ((j + 1 ≡ length l.homes) → ⊥) → (h : Bool) → writes_left (cond (eqb (j + 1) (length l.homes)) (cond h (commit.Syncing part.Log) commit.Heading) (commit.Logging (j + 1))) (length l.homes) < (length l.homes - j) + 1 + 2 + (length l.homes + 1) + 2
+    by_last (inl last) true = rw (eq-eqb (j + 1) (length l.homes) last) (omega (arith, last))
+    by_last (inl last) false = rw (eq-eqb (j + 1) (length l.homes) last) (omega (arith, last))
+    by_last (inr other) h = rw (ne_eqb (j + 1) (length l.homes) other) (let lt = idle.1 in omega (arith, lt, other))
+writes_fall true commit.Heading l idle busy more = omega arith
+writes_fall false commit.Heading l idle busy more = omega arith
+writes_fall h (commit.Homing j) l idle busy more = by_last (cases_eq (j + 1) (length l.homes)) h
+  where
+    by_last : (j + 1 ≡ length l.homes) ⊎ ((j + 1 ≡ length l.homes) → ⊥) → (h : Bool) → writes_left (cond (eqb (j + 1) (length l.homes)) (cond h (commit.Syncing part.Homes) commit.Clearing) (commit.Homing (j + 1))) (length l.homes) < (length l.homes - j) + 1 + 2
+    by_last (inl last) true = rw (eq-eqb (j + 1) (length l.homes) last) (omega (arith, last))
+    by_last (inl last) false = rw (eq-eqb (j + 1) (length l.homes) last) (omega (arith, last))
+    by_last (inr other) h = rw (ne_eqb (j + 1) (length l.homes) other) (let lt = idle.1 in omega (arith, lt, other))
+writes_fall true commit.Clearing l idle busy more = omega arith
+writes_fall false commit.Clearing l idle busy more = absurd (false≢true (sym more))
+writes_fall h (commit.Syncing p) l idle busy more = syncs_fall p l more
+
+-- a commit has 66 steps at most, and one that is under way has some
+most_syncs : (p : Part) (n : ℕ) → n ≤ 30 → synced_left p n ≤ 66
+most_syncs part.Log n le = omega (arith, le)
+most_syncs part.Header n le = omega (arith, le)
+most_syncs part.Homes n le = omega arith
+most_syncs part.Clear n le = omega arith
+
+most_writes : (k : Commit) (n : ℕ) → n ≤ 30 → writes_left k n ≤ 66
 most_writes commit.Quiet n le = omega arith
 most_writes (commit.Logging i) n le = omega (arith, le)
 most_writes commit.Heading n le = omega (arith, le)
 most_writes (commit.Homing i) n le = omega (arith, le)
 most_writes commit.Clearing n le = omega arith
+most_writes (commit.Syncing p) n le = most_syncs p n le
+
+some_sync : (p : Part) (n : ℕ) → 0 < synced_left p n
+some_sync part.Log n = omega arith
+some_sync part.Header n = omega arith
+some_sync part.Homes n = omega arith
+some_sync part.Clear n = omega arith
 
 pub some_write : (k : Commit) (n : ℕ) → is_quiet k ≡ false → 0 < writes_left k n
 some_write commit.Quiet n busy = absurd (false≢true (sym busy))
@@ -49,9 +76,10 @@ some_write (commit.Logging i) n busy = omega arith
 some_write commit.Heading n busy = omega arith
 some_write (commit.Homing i) n busy = omega arith
 some_write commit.Clearing n busy = omega arith
+some_write (commit.Syncing p) n busy = some_sync p n
 
--- an operation has fewer than 2,000 left, where its task has fewer than 1,937
-pub steps_few : (a : At) (left : ℕ) (l : LogState) → IsLogAt l.commit l → left < 1937 → all_steps_left a left l < 2000
+-- an operation has fewer than 2,000 left, where its task has fewer than 1,933
+pub steps_few : (a : At) (left : ℕ) (l : LogState) → IsLogAt l.commit l → left < 1933 → all_steps_left a left l < 2000
 steps_few at.Idle left l is few = omega arith
 steps_few (at.Before group op) left l is few = omega (arith, few)
 steps_few (at.Behind group k) left l is few = omega (arith, few)
@@ -121,10 +149,10 @@ module _ (p : ℕ) (ats new : ℕ → At) (old left : ℕ → ℕ) (l : LogState
       subst (λ (o : LogState). TakesStep p ats old l new left o) (sym same)
       (takes m (alone_now m (while_open is used)) (λ busy. from_to m (at.Ending group k) (at.Committing group k) stood now (omega (arith, few))))
 
-  -- it makes a write of the commit, and more are to come, or it was the last
-  pub takes_written : (group k : ℕ) → IsLogAt l.commit l → is_quiet (written_at l.commit l).commit ≡ false → ats p ≡ at.Committing group k → new p ≡ at.Committing group k → TakesStep p ats old l new left (written_at l.commit l)
-  takes_written group k is more stood now =
-      takes (written_at l.commit l) (alone_now (written_at l.commit l) sole) (λ busy. from_to (written_at l.commit l) (at.Committing group k) (at.Committing group k) stood now (writes_fall l.commit l is.idle (alone.busy p (ap is_committing_at stood)) more))
+  -- it makes a step of the commit, and more are to come
+  pub takes_written : (h : Bool) (group k : ℕ) → IsLogAt l.commit l → is_quiet l.commit ≡ false → is_quiet (stepped_at h l.commit l).commit ≡ false → ats p ≡ at.Committing group k → new p ≡ at.Committing group k → TakesStep p ats old l new left (stepped_at h l.commit l)
+  takes_written h group k is busy more stood now =
+      takes (stepped_at h l.commit l) (alone_now (stepped_at h l.commit l) sole) (λ own. from_to (stepped_at h l.commit l) (at.Committing group k) (at.Committing group k) stood now (writes_fall h l.commit l is.idle busy more))
     where
       sole : (q : ℕ) → q ≢ p → is_committing_at (ats q) ≡ true → ⊥
       sole q other commits = other (alone.sole q p commits (ap is_committing_at stood))

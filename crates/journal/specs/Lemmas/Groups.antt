@@ -8,9 +8,12 @@ use Rattle.std.proofs.lemmas.List.{get_or_past}
 use Rattle.wal.specs.declared.types.Commit.{Commit}
 use Rattle.wal.specs.declared.types.Commit.TheVariants as commit
 use Rattle.wal.specs.declared.types.Ended.TheVariants as ended_as
-use Rattle.wal.specs.Joint.{written_at}
+use Rattle.wal.specs.declared.types.Part.TheVariants as part
+use Rattle.wal.specs.Joint.{stepped_at}
 use Rattle.wal.specs.Machine.{LogState, used_by, ended, end_answer, left_by, is_quiet, ten, IsLogAt, Idle, Counts}
 use Rattle.wal.specs.Lemmas.Log.{some_open, is_open, quiet_of}
+use Rattle.journal.specs.Crash.{in_reads, AwaitsHeader}
+use Rattle.journal.specs.Keeps.{most_kept}
 use Rattle.journal.specs.Views.{InGroup, IsIn}
 
 -- only the 32 processes have an operation open
@@ -36,6 +39,18 @@ open_of l q is used =
     let known : IsLogAt commit.Quiet l = subst (λ (k : Commit). IsLogAt k l) quiet is in
     record { quiet = quiet; some = some; later = omega (arith, known.counts, some) }
 
+-- while a header waits for its sync, one group more than are committed is opened
+pub one_waits : (l : LogState) → IsLogAt l.commit l → AwaitsHeader l → l.committed + 1 ≡ l.opened
+one_waits l is waits = let known : IsLogAt (commit.Syncing part.Header) l = subst (λ (k : Commit). IsLogAt k l) waits is in known.counts
+
+-- while no commit is under way, reads give the committed groups alone
+pub reads_quiet : (l : LogState) → l.commit ≡ commit.Quiet → in_reads l ≡ l.committed
+reads_quiet l quiet = ap (λ (k : Commit). most_kept None k l.committed) quiet
+
+-- and no header waits for its sync
+pub none_waits : (l : LogState) → l.commit ≡ commit.Quiet → AwaitsHeader l → ⊥
+none_waits l quiet waits = let t : commit.Quiet ≡ commit.Syncing part.Header = sym quiet ∙ waits in absurd (cc t)
+
 -- its group is not committed
 pub in_later : (l : LogState) (q group : ℕ) → IsLogAt l.commit l → IsIn l q group → l.committed < group
 in_later l q group is in_group = let o = (open_of l q is in_group.0).later in omega (arith, o, in_group.1)
@@ -49,6 +64,14 @@ group_up l q (suc g) is = let s = is.1 in omega (arith, s)
 pub group_newest : (l : LogState) (q g : ℕ) → InGroup l q g → 0 < g → l.opened ≤ g
 group_newest l q zero is some = omega (arith, some)
 group_newest l q (suc g) is some = let s = is.1 in omega (arith, s)
+
+-- nor is it one that reads give
+pub group_unread : (l : LogState) (q g : ℕ) → IsLogAt l.commit l → InGroup l q g → 0 < g → in_reads l < g
+group_unread l q zero log is some = omega (arith, some)
+group_unread l q (suc g) log is some =
+    let o = open_of l q log is.0 in
+    let same = reads_quiet l o.quiet in
+    let later = o.later in let newest = is.1 in omega (arith, same, later, newest)
 
 -- and not committed
 pub group_later : (l : LogState) (q g : ℕ) → IsLogAt l.commit l → InGroup l q g → 0 < g → l.committed < g
@@ -74,13 +97,17 @@ pub record SameOpen (l m : LogState) : Type 0 where
   pub opened : m.opened ≡ l.opened
   pub outstanding : m.outstanding ≡ l.outstanding
 
--- each write of a commit is so
-pub written_same : (k : Commit) (l : LogState) → SameOpen l (written_at k l)
-written_same commit.Quiet l = record { used = refl; opened = refl; outstanding = refl }
-written_same (commit.Logging j) l = record { used = refl; opened = refl; outstanding = refl }
-written_same commit.Heading l = record { used = refl; opened = refl; outstanding = refl }
-written_same (commit.Homing j) l = record { used = refl; opened = refl; outstanding = refl }
-written_same commit.Clearing l = record { used = refl; opened = refl; outstanding = refl }
+-- each step of a commit is so
+pub stepped_same : (h : Bool) (k : Commit) (l : LogState) → SameOpen l (stepped_at h k l)
+stepped_same h commit.Quiet l = record { used = refl; opened = refl; outstanding = refl }
+stepped_same h (commit.Logging j) l = record { used = refl; opened = refl; outstanding = refl }
+stepped_same h commit.Heading l = record { used = refl; opened = refl; outstanding = refl }
+stepped_same h (commit.Homing j) l = record { used = refl; opened = refl; outstanding = refl }
+stepped_same h commit.Clearing l = record { used = refl; opened = refl; outstanding = refl }
+stepped_same h (commit.Syncing part.Log) l = record { used = refl; opened = refl; outstanding = refl }
+stepped_same h (commit.Syncing part.Header) l = record { used = refl; opened = refl; outstanding = refl }
+stepped_same h (commit.Syncing part.Homes) l = record { used = refl; opened = refl; outstanding = refl }
+stepped_same h (commit.Syncing part.Clear) l = record { used = refl; opened = refl; outstanding = refl }
 
 -- while a commit is under way, no operation is open
 pub none_while_busy : (l : LogState) → IsLogAt l.commit l → is_quiet l.commit ≡ false → l.outstanding ≡ 0
@@ -92,6 +119,7 @@ none_while_busy l is busy = by_phase l.commit is.idle busy
     by_phase commit.Heading idle busy = idle.0
     by_phase (commit.Homing j) idle busy = idle.0
     by_phase commit.Clearing idle busy = idle.0
+    by_phase (commit.Syncing p) idle busy = idle.0
 
 -- where no operation is open and no commit under way, all groups are committed
 pub all_committed : (l : LogState) → IsLogAt l.commit l → l.outstanding ≡ 0 → is_quiet l.commit ≡ true → l.committed ≡ l.opened
@@ -103,6 +131,7 @@ all_committed l is none quiet = by_phase l.commit is.counts quiet
     by_phase commit.Heading counts quiet = absurd (false≢true quiet)
     by_phase (commit.Homing j) counts quiet = absurd (false≢true quiet)
     by_phase commit.Clearing counts quiet = absurd (false≢true quiet)
+    by_phase (commit.Syncing p) counts quiet = absurd (false≢true quiet)
 
 -- where nobody has an operation open, none is counted
 none_used : (us : List (Option ℕ)) → ((q : ℕ) → is_some (get_or us q None) ≡ false) → us ≡ replicate (length us) None

@@ -1,12 +1,11 @@
 -- What every kernel tells of itself.
-use Rattle.std.proofs.Common.{◌≡◌, ℕ, Bool, true, false, cond, eqb, leb, List, [], ◌∷◌, ◌++◌, length, map, refl, sym, ◌∙◌, ap, subst, arith, Option, Some, None}
+use Rattle.std.proofs.Common.{◌≡◌, ℕ, Bool, true, false, cond, eqb, leb, List, [], ◌∷◌, ◌++◌, length, map, refl, sym, ◌∙◌, ap, subst, Option, Some, None}
 use Rattle.std.specs.Prelude.{IsSome, is_some, All}
 use Rattle.std.specs.List.{filter, list_all}
 use mathlib.Core.List.{IsPrefix}
 use Rattle.std.proofs.lemmas.List.{append_assoc, map-append}
 use Rattle.std.proofs.lemmas.List.Elements.{filter-append, All-nil, All-cons}
 use Rattle.blocks.specs.Disk.{Image, block_at}
-use Rattle.blocks.specs.declared.errors.DiskFault.{DiskFault}
 use Rattle.model.specs.declared.types.image.Form.{Form}
 use Rattle.model.specs.declared.types.operations.Entry.{Entry}
 use Rattle.model.specs.declared.types.operations.Op.{Op}
@@ -23,7 +22,10 @@ use Rattle.model.specs.Lemmas.Runs.{and_then_some}
 use Rattle.ports.specs.History.{History}
 use Rattle.wal.specs.Joint.{place_at}
 use Rattle.wal.specs.Kept.{CrashKeeps}
-use Rattle.wal.specs.Machine.{used_by}
+use Rattle.wal.specs.declared.types.DeviceFault.{DeviceFault}
+use Rattle.wal.specs.Floats.{Survives as SurvivesAt}
+use Rattle.wal.specs.Machine.{LogState, used_by, is_writing}
+use Rattle.wal.specs.Step.{FailsAt}
 use Rattle.wal.specs.Volume.{VolumeState}
 use Rattle.journal.specs.declared.types.At.{At}
 use Rattle.journal.specs.declared.types.At.TheVariants as at
@@ -37,7 +39,7 @@ use Rattle.journal.specs.Lemmas.Following.{follows_moved}
 use Rattle.journal.specs.Lemmas.Groups.{outstanding_none}
 use Rattle.journal.specs.Lemmas.Kept.{own_beginning}
 use Rattle.journal.specs.Lemmas.Shapes.{rising_beginnings}
-use Rattle.journal.specs.Lemmas.Stops.{quiet_files, least_most, keeps_count, commit_fails}
+use Rattle.journal.specs.Lemmas.Stops.{quiet_files, left_keeps, write_fails}
 use Rattle.journal.specs.Lemmas.Opens.{first_open, open_entry}
 
 -- each entry of a run has its reply: so has each that is kept of the committed groups, also after a fault
@@ -136,19 +138,15 @@ module _ (opening : Image) (s : View) (es : List Entry) (ats : ℕ → At) (i : 
       ap (replay (form_of opening) (files_of opening)) (sym (all_answered (length (files_of opening)) s.holds es i.follows.are (λ q. idle_holds (inode_count_of opening) q (ats q) (idle q) (i.stands q))))
       ∙ i.follows.run ∙ ap (λ (f : Files). Some f) (i.valid.store.quiet none i.follows.files i.follows.fits).1
 
-  -- what a stop leaves keeps the committed groups, also after a fault of a read
-  pub known_keeps : {D : Type 0} (u : VolumeState D) → u.log.committed ≡ s.log.committed → KeepsNow u opening es s.disk
-  known_keeps u same = record {
-    groups = s.log.committed;
-    low = omega (arith, same);
-    high = let more = least_most u.fault u.log.commit u.log.committed in omega (arith, same, more);
-    keeps = keeps_count opening es s.disk s.log.committed i.recovers.lawful i.recovers.committed;
-  }
+  -- What a stop leaves keeps the committed groups, also after a fault of a read or of a sync; while
+  -- a header waits for its sync, one more where it got through.
+  pub known_keeps : {D : Type 0} (u : VolumeState D) → u.log.committed ≡ s.log.committed → u.log.commit ≡ s.log.commit → (z : Image) → SurvivesAt s.log.commit s.disk z → KeepsNow u opening es z
+  known_keeps u committed commits z survives = left_keeps opening s.disk s.current s.log es i.recovers u committed commits z survives
 
   -- and after a write of a commit that failed at its place
-  pub known_failed : {D : Type 0} (u : VolumeState D) (fault : DiskFault) (y : Image) → u.fault ≡ Some fault → fault.0 ≡ place_at s.log.commit s.log.homes → u.log ≡ s.log → s.log.outstanding ≡ 0 → CrashKeeps s.log.commit s.disk s.current y
-      → is_lawful_log y ≡ true → KeepsNow u opening es y
-  known_failed u fault y fails place same none keeps lawful = commit_fails opening s.disk s.current s.log es i.recovers (known_current none) u fault y fails place same i.valid.log.counts keeps lawful
+  pub known_failed : {D : Type 0} (u : VolumeState D) (fault : DeviceFault) (y : Image) → u.fault ≡ Some fault → FailsAt (place_at s.log.commit s.log.homes) fault → u.log ≡ s.log → is_writing s.log.commit ≡ true → s.log.outstanding ≡ 0
+      → CrashKeeps s.log.commit s.disk s.current y → is_lawful_log y ≡ true → KeepsNow u opening es y
+  known_failed u fault y fails place same writing none keeps lawful = write_fails opening s.disk s.current s.log es i.recovers (known_current none) u (ap (λ (l : LogState). l.committed) same) (ap (λ (l : LogState). l.commit) same) y fault fails place writing i.valid.log.counts keeps lawful
 
 -- what is kept of all groups are the operations of the process that may change a file
 kept_ops : (n p k : ℕ) (es : List Entry) → AreUpTo k es → map (λ (e : Entry). e.op) (own p (kept n es k)) ≡ filter (is_changing n) (map (λ (e : Entry). e.op) (own p es))

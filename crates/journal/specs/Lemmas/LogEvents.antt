@@ -6,25 +6,27 @@ use Rattle.std.proofs.lemmas.List.{get_or-set_same, get_or-set_other}
 use Rattle.blocks.specs.Disk.{Image}
 use Rattle.model.specs.declared.types.operations.Entry.{Entry}
 use Rattle.model.specs.declared.types.operations.Op.{Op}
-use Rattle.model.specs.Files.{files_of}
+use Rattle.model.specs.Files.{Files, files_of}
 use Rattle.model.specs.Journal.{is_changing, is_at_once, kept}
-use Rattle.model.specs.Laws.{is_writing}
+use Rattle.model.specs.Laws.{is_writing as is_writing_op}
 use Rattle.model.specs.Layout.{form_of, inode_count_of}
 use Rattle.model.specs.Log.{recovered, cleared}
 use Rattle.model.specs.Lemmas.Runs.{at_once_is_not_changing}
+use Rattle.wal.specs.declared.types.Commit.{Commit}
 use Rattle.wal.specs.declared.types.Commit.TheVariants as commit
+use Rattle.wal.specs.declared.types.Part.TheVariants as part
 use Rattle.wal.specs.declared.types.Ended.TheVariants as ended_as
 use Rattle.wal.specs.Machine.{LogState, used_by, begun, ended, end_answer, left_by, closed, IsLogAt}
 use Rattle.journal.specs.declared.types.At.{At}
 use Rattle.journal.specs.declared.types.At.TheVariants as at
 use Rattle.journal.specs.Crash.{HasMarks, Survives}
 use Rattle.journal.specs.Follows.{Follows}
-use Rattle.journal.specs.Keeps.{HasFilesAfter}
+use Rattle.journal.specs.Keeps.{HasFilesAfter, most_kept}
 use Rattle.journal.specs.Views.{View, InGroup, IsIn, StandsAt, IsValidView, KernelFacts, CallsLog, Writes}
 use Rattle.journal.specs.Lemmas.Following.{follows_moved}
-use Rattle.journal.specs.Lemmas.Groups.{end_leaves, end_commits, open_now, open_of, ended_opened, written_same}
+use Rattle.journal.specs.Lemmas.Groups.{end_leaves, end_commits, open_now, open_of, ended_opened, SameOpen, stepped_same}
 use Rattle.journal.specs.Lemmas.Shapes.{journal_later}
-use Rattle.journal.specs.Lemmas.Stops.{quiet_files, closes_empty, commit_goes}
+use Rattle.journal.specs.Lemmas.Stops.{quiet_files, SameReads, reads_same, reads_calm, closes_empty, commit_goes}
 
 -- what a call of the log by p leaves the other processes
 record KeepsOthers (l m : LogState) (p : ℕ) : Type 0 where
@@ -97,9 +99,14 @@ module _ (opening : Image) (s t : View) (es : List Entry) (ats : ℕ → At) (i 
     follows_log : Follows (form_of opening) (files_of opening) t.holds t.fits es
     follows_log = follows_moved (form_of opening) (files_of opening) s.holds s.fits es i.follows t.holds t.fits (λ q h held. c.holds q ∙ held) c.files
 
-    -- with as many groups committed
-    recovers_log : t.log.committed ≡ s.log.committed → Survives opening t.disk t.current t.log es
-    recovers_log same = recovers_same c.disk c.current (record { marks = i.recovers.marks; lawful = i.recovers.lawful; committed = subst (λ (k : ℕ). HasFilesAfter opening (kept n es k) (recovered s.disk)) (sym same) i.recovers.committed })
+    -- where the log tells the same of the disk
+    recovers_log : SameReads s.log t.log → Survives opening t.disk t.current t.log es
+    recovers_log same = recovers_same c.disk c.current (record {
+      marks = i.recovers.marks;
+      lawful = i.recovers.lawful;
+      committed = subst (λ (k : ℕ). HasFilesAfter opening (kept n es k) (recovered s.disk)) (sym same.reads) i.recovers.committed;
+      unheaded = λ w. subst (λ (k : ℕ). HasFilesAfter opening (kept n es k) (cleared s.disk)) (sym same.committed) (i.recovers.unheaded (same.waits w));
+    })
 
   -- a changing operation begins
   pub inv_begun : (op : Op) → CallsLog (begun s.log p) s t → ats p ≡ at.Idle → new p ≡ at.Before (begun s.log p).opened op → is_changing n op ≡ true → p < length s.log.used → KernelFacts opening t es new
@@ -110,7 +117,7 @@ module _ (opening : Image) (s t : View) (es : List Entry) (ats : ℕ → At) (i 
         valid = v;
         journal = journal_later n s.log.opened es i.journal t.log.opened (subst (λ (l : LogState). s.log.opened ≤ l.opened) (sym c.log) up);
         follows = follows_log (begun s.log p) c;
-        recovers = recovers_log (begun s.log p) c (ap (λ (l : LogState). l.committed) c.log);
+        recovers = recovers_log (begun s.log p) c (reads_same s.log t.log (ap (λ (l : LogState). l.committed) c.log) (ap (λ (l : LogState). l.commit) c.log));
         stands = stands_by (subst (λ (l : LogState). KeepsOthers s.log l p) (sym c.log) (keeps_begun s.log p i.valid.log)) c.holds
             (subst (λ (a : At). StandsAt n t es p a) (sym now) (
               c.holds p ∙ was.0,
@@ -139,7 +146,7 @@ module _ (opening : Image) (s t : View) (es : List Entry) (ats : ℕ → At) (i 
       counted_some = lt-ltb 0 (begun s.log p).opened counted
 
       not_at_once : is_at_once n op ≡ false
-      not_at_once = by_writing (is_writing op) (is_at_once n op) (sym (at_once_is_not_changing n op) ∙ changing)
+      not_at_once = by_writing (is_writing_op op) (is_at_once n op) (sym (at_once_is_not_changing n op) ∙ changing)
         where
           by_writing : (a b : Bool) → (a && not b) ≡ true → b ≡ false
           by_writing true b h = not-true b h
@@ -148,6 +155,10 @@ module _ (opening : Image) (s t : View) (es : List Entry) (ats : ℕ → At) (i 
   module _ (group k : ℕ) (e : Entry) (stood : ats p ≡ at.Ending group k) where
     ends : StandsAt n s es p (at.Ending group k)
     ends = subst (λ (a : At). StandsAt n s es p a) stood (i.stands p)
+
+    -- no commit is under way
+    quiet_now : s.log.commit ≡ commit.Quiet
+    quiet_now = (open_of s.log p i.valid.log ends.1.0).quiet
 
     idle_now : (c : CallsLog (ended s.log p) s t) → p < length s.log.used → new p ≡ at.Idle → StandsAt n t es p (new p)
     idle_now c lt now = subst (λ (a : At). StandsAt n t es p a) (sym now) (c.holds p ∙ ends.0, subst (λ (l : LogState). is_some (used_by l p) ≡ false) (sym c.log) (none_after_end s.log p lt))
@@ -165,13 +176,15 @@ module _ (opening : Image) (s t : View) (es : List Entry) (ats : ℕ → At) (i 
     pub inv_ended : CallsLog (ended s.log p) s t → p < length s.log.used → s.log.outstanding ≢ 1 → new p ≡ at.Idle → KernelFacts opening t es new
     inv_ended c lt more now =
         let same : ended s.log p ≡ left_by s.log p = ap (λ (b : Bool). cond b (closed (left_by s.log p)) (left_by s.log p)) (ne_eqb s.log.outstanding 1 more) in
-        ended_with c (recovers_log (ended s.log p) c (ap (λ (l : LogState). l.committed) (c.log ∙ same))) (idle_now c lt now)
+        ended_with c (recovers_log (ended s.log p) c (reads_same s.log t.log (ap (λ (l : LogState). l.committed) (c.log ∙ same)) (ap (λ (l : LogState). l.commit) (c.log ∙ same)))) (idle_now c lt now)
 
     -- it was the last of its group, and makes the group's commit
     pub inv_closed : CallsLog (ended s.log p) s t → p < length s.log.used → s.log.outstanding ≡ 1 → length s.log.homes ≢ 0 → new p ≡ at.Committing group k → KernelFacts opening t es new
     inv_closed c lt last some now =
         let same : ended s.log p ≡ record (left_by s.log p) { commit = commit.Logging 0 } = rw (eq-eqb s.log.outstanding 1 last, ne_eqb (length s.log.homes) 0 some) refl in
-        ended_with c (recovers_log (ended s.log p) c (ap (λ (l : LogState). l.committed) (c.log ∙ same)))
+        let commits : t.log.commit ≡ commit.Logging 0 = ap (λ (l : LogState). l.commit) (c.log ∙ same) in
+        ended_with c (recovers_log (ended s.log p) c (reads_calm s.log t.log quiet_now (ap (λ (l : LogState). l.committed) (c.log ∙ same)) (ap (λ (k : Commit). most_kept None k t.log.committed) commits)
+        (λ w. let never : commit.Logging 0 ≡ commit.Syncing part.Header = sym commits ∙ w in absurd (cc never))))
         (subst (λ (a : At). StandsAt n t es p a) (sym now) (c.holds p ∙ ends.0, subst (λ (l : LogState). is_some (used_by l p) ≡ false) (sym c.log) (none_after_end s.log p lt), ends.2))
 
     -- it was the last of a group without homes, which is committed
@@ -185,7 +198,7 @@ module _ (opening : Image) (s t : View) (es : List Entry) (ats : ℕ → At) (i 
         let marks = subst (λ (x : Image). HasMarks opening es x) (sym c.current) i.recovers.marks in
         let has = quiet_files opening t.current t.log t.holds t.fits es (follows_log (ended s.log p) c) j.groups marks v.store v.log quiet in
         let before : HasFilesAfter opening (kept n es s.log.opened) (cleared s.current) = subst (λ (x : Image). HasFilesAfter opening (kept n es s.log.opened) (cleared x)) c.current (subst (λ (k : ℕ). HasFilesAfter opening (kept n es k) (cleared t.current)) opened has) in
-        ended_with c (recovers_same c.disk c.current (closes_empty opening s.disk s.current s.log es i.recovers before t.log shown (ap (λ (l : LogState). l.committed) same))) (idle_now c lt now)
+        ended_with c (recovers_same c.disk c.current (closes_empty opening s.disk s.current s.log es i.recovers before t.log shown (ap (λ (l : LogState). l.committed) same) (ap (λ (l : LogState). l.commit) same ∙ quiet_now))) (idle_now c lt now)
 
     -- it ends, as the log answers: nothing is to be done, or its process makes the commit
     pub inv_end_leaves : CallsLog (ended s.log p) s t → p < length s.log.used → end_answer s.log ≡ ended_as.Left → (length s.log.homes ≡ 0 → recovered s.disk ≡ s.current) → new p ≡ at.Idle → KernelFacts opening t es new
@@ -197,23 +210,29 @@ module _ (opening : Image) (s t : View) (es : List Entry) (ats : ℕ → At) (i 
     pub inv_end_commits : CallsLog (ended s.log p) s t → p < length s.log.used → end_answer s.log ≡ ended_as.Commit → new p ≡ at.Committing group k → KernelFacts opening t es new
     inv_end_commits c lt last now = let is = end_commits s.log last in inv_closed c lt is.0 is.1 now
 
-  -- a write of a commit; where it is the header's, the group is committed
-  pub inv_written : (group k : ℕ) → Writes s t → ats p ≡ at.Committing group k → s.log.outstanding ≡ 0 → (new p ≡ at.Committing group k) ⊎ (new p ≡ at.Idle) → KernelFacts opening t es new
-  inv_written group k w stood none now =
-      let same = written_same s.log.commit s.log in
-      let opened : t.log.opened ≡ s.log.opened = ap (λ (l : LogState). l.opened) w.log ∙ same.opened in
-      let used : (q : ℕ) → is_some (used_by t.log q) ≡ is_some (used_by s.log q) = λ q. ap (λ (l : LogState). is_some (used_by l q)) w.log ∙ ap (λ (us : List (Option ℕ)). is_some (get_or us q None)) same.used in
+  -- a step of a commit, which opens no operation and no group, and ends none
+  commit_with : (group k : ℕ) → SameOpen s.log t.log → ((q : ℕ) → t.holds q ≡ s.holds q) → ((m : Files) → s.fits m → t.fits m) → Survives opening t.disk t.current t.log es
+      → ats p ≡ at.Committing group k → (new p ≡ at.Committing group k) ⊎ (new p ≡ at.Idle) → KernelFacts opening t es new
+  commit_with group k same holds files r stood now =
+      let opened : t.log.opened ≡ s.log.opened = same.opened in
+      let used : (q : ℕ) → is_some (used_by t.log q) ≡ is_some (used_by s.log q) = λ q. ap (λ (us : List (Option ℕ)). is_some (get_or us q None)) same.used in
       let mine : StandsAt n s es p (at.Committing group k) = subst (λ (a : At). StandsAt n s es p a) stood (i.stands p) in
       record {
         valid = v;
         journal = journal_later n s.log.opened es i.journal t.log.opened (omega (arith, opened));
-        follows = follows_moved (form_of opening) (files_of opening) s.holds s.fits es i.follows t.holds t.fits (λ q h held. w.holds q ∙ held) w.files;
-        recovers = commit_goes opening s.disk s.current s.log es i.recovers (now_has none) t.disk t.current t.log w.log w.keeps w.same w.lawful;
-        stands = stands_by (record { used = λ q other. used q; newest = λ q other has. opened }) w.holds (⊎_elim
-            (λ (e : new p ≡ at.Committing group k). subst (λ (a : At). StandsAt n t es p a) (sym e) (w.holds p ∙ mine.0, used p ∙ mine.1, mine.2))
-            (λ (e : new p ≡ at.Idle). subst (λ (a : At). StandsAt n t es p a) (sym e) (w.holds p ∙ mine.0, used p ∙ mine.1))
+        follows = follows_moved (form_of opening) (files_of opening) s.holds s.fits es i.follows t.holds t.fits (λ q h held. holds q ∙ held) files;
+        recovers = r;
+        stands = stands_by (record { used = λ q other. used q; newest = λ q other has. opened }) holds (⊎_elim
+            (λ (e : new p ≡ at.Committing group k). subst (λ (a : At). StandsAt n t es p a) (sym e) (holds p ∙ mine.0, used p ∙ mine.1, mine.2))
+            (λ (e : new p ≡ at.Idle). subst (λ (a : At). StandsAt n t es p a) (sym e) (holds p ∙ mine.0, used p ∙ mine.1))
             now);
       }
+
+  -- a step of a commit; with the header's, or the sync behind it, the group is committed
+  pub inv_written : (h : Bool) (group k : ℕ) → Writes h s t → ats p ≡ at.Committing group k → s.log.outstanding ≡ 0 → (new p ≡ at.Committing group k) ⊎ (new p ≡ at.Idle) → KernelFacts opening t es new
+  inv_written h group k w stood none now =
+      commit_with group k (subst (λ (l : LogState). SameOpen s.log l) (sym w.log) (stepped_same h s.log.commit s.log)) w.holds w.files
+      (commit_goes opening s.disk s.current s.log es i.recovers (now_has none) h t.disk t.current t.log w.log i.valid.log.counts w.keeps w.unheaded w.same w.lawful) stood now
 
   -- another operation is taken: it is none of the log's
   pub inv_taken : (op : Op) → CallsLog s.log s t → ats p ≡ at.Idle → new p ≡ at.Before 0 op → is_changing n op ≡ false → is_at_once n op ≡ false → KernelFacts opening t es new
@@ -223,7 +242,7 @@ module _ (opening : Image) (s t : View) (es : List Entry) (ats : ℕ → At) (i 
         valid = v;
         journal = journal_later n s.log.opened es i.journal t.log.opened (let same : t.log.opened ≡ s.log.opened = ap (λ (l : LogState). l.opened) c.log in omega (arith, same));
         follows = follows_log s.log c;
-        recovers = recovers_log s.log c (ap (λ (l : LogState). l.committed) c.log);
+        recovers = recovers_log s.log c (reads_same s.log t.log (ap (λ (l : LogState). l.committed) c.log) (ap (λ (l : LogState). l.commit) c.log));
         stands = stands_by (subst (λ (l : LogState). KeepsOthers s.log l p) (sym c.log) (record { used = λ q other. refl; newest = λ q other has. refl })) c.holds
             (subst (λ (a : At). StandsAt n t es p a) (sym now) (c.holds p ∙ was.0, subst (λ (l : LogState). is_some (used_by l p) ≡ false) (sym c.log) was.1, sym still, later));
       }

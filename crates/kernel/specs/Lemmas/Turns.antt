@@ -26,7 +26,7 @@ shut_more w z y kept had shut = let here = had shut in record { shut = kept.stay
 -- what a stop leaves where nothing happened
 leaves_none : {D : Type 0} (opening : Image) (moment : D → ℕ) (leaves : D → ℕ → Image → Type 0) (v : VolumeState D) (es : List Entry)
     → ((x : Image) → leaves v.device (moment v.device) x → KeepsNow v opening es x) → LeavesOnly moment leaves v.device v.device (KeepsBetween v.log.committed (most_of v) opening es)
-leaves_none opening moment leaves v es keeps = started moment leaves v.device (KeepsBetween v.log.committed (most_of v) opening es) keeps
+leaves_none opening moment leaves v es keeps = started moment leaves v.device (KeepsBetween v.log.committed (most_of v) opening es) (λ x left. (keeps x left).between)
 
 module _ {D N I M H : Type 0} (disk : disk_trait.Ghosts D N) (intake : intake_trait.Ghosts I M) (herald : herald_trait.Ghosts H) where
   -- what a stop leaves now

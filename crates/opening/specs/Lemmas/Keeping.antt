@@ -1,7 +1,7 @@
 -- What an opening leaves behind, and what a stop leaves of it.
 use Rattle.std.proofs.Common.{◌≡◌, ◌∙◌, ℕ, true, List, refl, sym, ap, subst, inl, inr, ⊎_elim, Some, None}
 use Rattle.std.specs.Prelude.{IsTrue, ◌≢◌}
-use Rattle.blocks.specs.Disk.{Image, IsSettled, LeavesOnly}
+use Rattle.blocks.specs.Disk.{Image, LeavesOnly}
 use Rattle.blocks.specs.Lemmas.Moments.{started}
 use Rattle.blocks.specs.declared.disk.Disk.{Ghosts}
 use Rattle.model.specs.declared.types.operations.Entry.{Entry}
@@ -14,7 +14,7 @@ use Rattle.model.specs.Lemmas.Recovery.{recovers_once}
 use Rattle.model.specs.Lemmas.Soundness.{verdict_sound}
 use Rattle.model.specs.Soundness.{IsSound}
 use Rattle.model.specs.Verdict.{verdict}
-use Rattle.wal.specs.Recovery.{RecoversAs}
+use Rattle.wal.specs.Recovery.{LeavesIfCalm, RecoversAs}
 use Rattle.journal.specs.Keeps.{KeepsBetween}
 use Rattle.texts.specs.declared.refusal.Refusal.{Refusal}
 use Rattle.opening.specs.Openings.{IsUnopened}
@@ -59,18 +59,16 @@ leaves_wider moment leaves old new P Q wider only = record {
   keeps = only.keeps;
 }
 
-module _ {D N : Type 0} (disk : Ghosts D N)
-    (only_now : (d : D) → IsSettled (disk.image d) (disk.leaves d (disk.moment d)))
-    (processes : ℕ) (d e : D) where
+module _ {D N : Type 0} (disk : Ghosts D N) (processes : ℕ) (d e : D) where
   -- what a stop leaves where no kernel was opened, and which disk it is
   pub unopened_leaves : (r : Refusal) → IsUnopened disk processes d e r
-      → LeavesOnly disk.moment disk.leaves d e (RecoversAs (disk.image d))
-  unopened_leaves r why = ⊎_elim (λ refused. stayed refused.1) (λ told. told.2.leaves) why
+      → LeavesIfCalm disk d e (RecoversAs (disk.image d))
+  unopened_leaves r why = ⊎_elim (λ refused. stayed refused.1) (λ told. told.2.leaves.any_moment) why
     where
-      stayed : e ≡ d → LeavesOnly disk.moment disk.leaves d e (RecoversAs (disk.image d))
-      stayed is = subst (λ o. LeavesOnly disk.moment disk.leaves d o (RecoversAs (disk.image d)))
-          (sym is) (started disk.moment disk.leaves d (RecoversAs (disk.image d))
-          (λ x left. subst (RecoversAs (disk.image d)) (sym (only_now d x left))
+      stayed : e ≡ d → LeavesIfCalm disk d e (RecoversAs (disk.image d))
+      stayed is = subst (λ o. LeavesIfCalm disk d o (RecoversAs (disk.image d)))
+          (sym is) (λ calm. started disk.moment disk.leaves d (RecoversAs (disk.image d))
+          (λ x left. subst (RecoversAs (disk.image d)) (sym (calm x left))
           (record { image = refl; lawful = refl })))
 
   pub unopened_name : (r : Refusal) → IsUnopened disk processes d e r

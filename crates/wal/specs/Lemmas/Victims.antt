@@ -14,6 +14,7 @@ use Rattle.bcache.specs.Lemmas.Order.{counted_below}
 use Rattle.bcache.specs.Lemmas.Slots.{some_found, found_at, block_is, victim_none_in_use}
 use Rattle.wal.specs.declared.types.Commit.{Commit}
 use Rattle.wal.specs.declared.types.Commit.TheVariants as commit
+use Rattle.wal.specs.declared.types.Part.TheVariants as part
 use Rattle.wal.specs.Held.{HasLock}
 use Rattle.wal.specs.Joint.{JointAt, live_at, pins_of}
 use Rattle.wal.specs.Machine.{LogState, used_by, is_among, ten, added_by, unused}
@@ -75,6 +76,10 @@ few_live (commit.Logging k) hs = omega arith
 few_live commit.Heading hs = omega arith
 few_live (commit.Homing k) hs = let e = length-drop k hs in omega (arith, e)
 few_live commit.Clearing hs = let e = length-drop (length hs) hs in omega (arith, e)
+few_live (commit.Syncing part.Log) hs = omega arith
+few_live (commit.Syncing part.Header) hs = omega arith
+few_live (commit.Syncing part.Homes) hs = let e = length-drop (length hs) hs in omega (arith, e)
+few_live (commit.Syncing part.Clear) hs = let e = length-drop (length hs) hs in omega (arith, e)
 
 -- what a pinned slot is for
 pinned_home : (hs : List ℕ) (o : Option ℕ) → pins_of hs o ≢ 0 → (b : ℕ) × (o ≡ Some b) × (is_among b hs ≡ true)

@@ -32,7 +32,7 @@ returns-in-Some-clause-refused g c =
 
 pub returns-in-Some-clause-reads : goal.returns-in-Some-clause-reads
 returns-in-Some-clause-reads g c =
-    asked_reads g.D.Disk c.args.op c.make_steps-step.result c.args.kernel.now c.submit.new.self c.make_steps-step.new.kernel g.met.D.Disk.has_now g.met.D.Disk.only_now g.met.D.Disk.counts_now c.requires.rests c.requires.look c.submit.ensures.same c.in-Ok.ensures.ok
+    asked_reads g.D.Disk c.args.op c.make_steps-step.result c.args.kernel.now c.submit.new.self c.make_steps-step.new.kernel c.requires.rests c.requires.look c.submit.ensures.same c.in-Ok.ensures.ok
     c.make_steps-step.ensures.makes
 
 pub returns-in-NoMemory-clause-opening : goal.returns-in-NoMemory-clause-opening
@@ -49,7 +49,7 @@ returns-in-NoMemory-clause-refused g c =
 
 pub returns-in-NoMemory-clause-reads : goal.returns-in-NoMemory-clause-reads
 returns-in-NoMemory-clause-reads g c =
-    asked_reads g.D.Disk c.args.op c.make_steps-step.result c.args.kernel.now c.submit.new.self c.make_steps-step.new.kernel g.met.D.Disk.has_now g.met.D.Disk.only_now g.met.D.Disk.counts_now c.requires.rests c.requires.look c.submit.ensures.same c.in-Ok.ensures.ok
+    asked_reads g.D.Disk c.args.op c.make_steps-step.result c.args.kernel.now c.submit.new.self c.make_steps-step.new.kernel c.requires.rests c.requires.look c.submit.ensures.same c.in-Ok.ensures.ok
     c.make_steps-step.ensures.makes
 
 pub returns-in-Some-poll-clause-rests : goal.returns-in-Some-poll-clause-rests
@@ -81,7 +81,7 @@ returns-in-Some-poll-clause-answer g c =
 pub returns-in-Some-poll-clause-reads : goal.returns-in-Some-poll-clause-reads
 returns-in-Some-poll-clause-reads g c =
     subst (λ d. OnlyReads g.D.Disk c.args.kernel.now.store.volume.device d) (sym (ap (λ k. k.store.volume.device) c.poll.ensures.same))
-    (asked_reads g.D.Disk c.args.op c.make_steps-step.result c.args.kernel.now c.submit.new.self c.make_steps-step.new.kernel g.met.D.Disk.has_now g.met.D.Disk.only_now g.met.D.Disk.counts_now c.requires.rests c.requires.look c.submit.ensures.same c.in-Ok.ensures.ok
+    (asked_reads g.D.Disk c.args.op c.make_steps-step.result c.args.kernel.now c.submit.new.self c.make_steps-step.new.kernel c.requires.rests c.requires.look c.submit.ensures.same c.in-Ok.ensures.ok
     c.make_steps-step.ensures.makes)
 
 pub unreachable-requires-in-None : goal.unreachable-requires-in-None

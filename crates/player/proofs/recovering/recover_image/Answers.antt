@@ -1,11 +1,13 @@
-use Rattle.std.proofs.Common.{◌≡◌, ℕ, ◌∙◌, sym, ap, subst, length, false, None, Err}
+use Rattle.std.proofs.Common.{◌≡◌, ℕ, ◌∙◌, sym, ap, subst, length, None, Err}
 use Rattle.std.proofs.lemmas.Bool.{false≢true}
-use Rattle.blocks.specs.Disk.{Image, Rose}
+use Rattle.blocks.specs.Disk.{Rose}
+use Rattle.blocks.specs.Calls.{OnlyReads}
+use Rattle.blocks.specs.declared.disk.Disk.{Ghosts}
 use Rattle.model.specs.Layout.{is_lawful_super}
 use Rattle.model.specs.Log.{is_lawful_log}
 use Rattle.model.specs.Verdict.{verdict}
 use Rattle.model.specs.Lemmas.Soundness.{verdict_sound}
-use Rattle.wal.specs.Recovery.{OnDisk, OnBadLog, OnNoMemory}
+use Rattle.wal.specs.Recovery.{RefusesToRecover}
 use Rattle.wal.specs.declared.faults.RecoverFault.{RecoverFault}
 use Rattle.wal.specs.declared.faults.RecoverFault.TheVariants as recover
 use Rattle.kernel.specs.Lemmas.Openings.{opened_leaves, lawful_super}
@@ -14,12 +16,12 @@ use Rattle.player.specs.Causes.{IsUnrecovered}
 use Rattle.player.proofs.recovering.recover_image.Goals as goal
 
 -- the fault of a recovery that follows a check without one
-refused_by : {D : Type 0} (image : D → Image) (faults : D → ℕ) (T : Type 0) (d mid e : D) (fault : RecoverFault) → verdict (image d) ≡ None → image mid ≡ image d → faults mid ≡ faults d
-    → OnDisk {T = T} (Err fault) (Rose (faults mid) (faults e)) → OnBadLog {T = T} (Err fault) (is_lawful_log (image mid) ≡ false) → OnNoMemory {T = T} (Err fault) (e ≡ mid)
-    → IsUnrecovered image faults d e (refusal.Recover fault)
-refused_by image faults T d mid e recover.Disk none same count rose bad memory = (none, subst (λ (n : ℕ). Rose n (faults e)) count rose)
-refused_by image faults T d mid e recover.BadLog none same count rose bad memory = false≢true (sym bad ∙ ap is_lawful_log same ∙ (verdict_sound (image d) none).1)
-refused_by image faults T d mid e recover.NoMemory none same count rose bad memory = (none, ap image memory ∙ same)
+refused_by : {D N : Type 0} (T : Type 0) (disk : Ghosts D N) (d mid e : D) (fault : RecoverFault) → verdict (disk.image d) ≡ None → OnlyReads disk d mid → disk.fault_count mid ≡ disk.fault_count d → RefusesToRecover {T = T} disk mid e (Err fault)
+    → IsUnrecovered disk d e (refusal.Recover fault)
+refused_by T disk d mid e recover.Disk none reads same r = (none, subst (λ (n : ℕ). Rose n (disk.fault_count e)) same r.fault)
+refused_by T disk d mid e recover.BadLog none reads same r = absurd (false≢true (sym r.bad ∙ ap is_lawful_log reads.image ∙ (verdict_sound (disk.image d) none).1))
+refused_by T disk d mid e recover.NoMemory none reads same r = (none, ap disk.image r.memory ∙ reads.image)
+refused_by T disk d mid e recover.Sync none reads same r = (none, (subst (λ (n : ℕ). Rose n (disk.fault_count e)) same r.unsynced, sym (ap disk.holding reads.name) ∙ r.holds))
 
 pub recover-requires : goal.recover-requires
 recover-requires g c =
@@ -27,13 +29,10 @@ recover-requires g c =
 
 pub returns-in-Err-clause-refused : goal.returns-in-Err-clause-refused
 returns-in-Err-clause-refused g c =
-    refused_by g.D.Disk.image g.D.Disk.fault_count ℕ c.args.disk.now c.check.new.disk c.recover.new.disk c.in-Err.fault c.in_ok-report.ensures.ok c.check.ensures.reads.image c.in_ok-report.ensures.faults
-    c.in-Err.ensures.refused.fault c.in-Err.ensures.refused.bad c.in-Err.ensures.refused.memory
+    refused_by ℕ g.D.Disk c.args.disk.now c.check.new.disk c.recover.new.disk c.in-Err.fault c.in_ok-report.ensures.ok c.check.ensures.reads c.in_ok-report.ensures.faults c.in-Err.ensures.refused
 
-pub returns-in-Err-clause-any_moment : goal.returns-in-Err-clause-any_moment
-returns-in-Err-clause-any_moment g c =
-    opened_leaves g.D.Disk g.met.D.Disk.only_now c.args.disk.now c.check.new.disk c.recover.new.disk c.check.ensures.reads c.recover.ensures.stops.any_moment
+pub returns-in-Err-clause-stops : goal.returns-in-Err-clause-stops
+returns-in-Err-clause-stops g c = opened_leaves g.D.Disk c.args.disk.now c.check.new.disk c.recover.new.disk c.check.ensures.reads c.recover.ensures.stops
 
-pub returns-in-Ok-clause-any_moment : goal.returns-in-Ok-clause-any_moment
-returns-in-Ok-clause-any_moment g c =
-    opened_leaves g.D.Disk g.met.D.Disk.only_now c.args.disk.now c.check.new.disk c.recover.new.disk c.check.ensures.reads c.recover.ensures.stops.any_moment
+pub returns-in-Ok-clause-stops : goal.returns-in-Ok-clause-stops
+returns-in-Ok-clause-stops g c = opened_leaves g.D.Disk c.args.disk.now c.check.new.disk c.recover.new.disk c.check.ensures.reads c.recover.ensures.stops

@@ -14,7 +14,7 @@ pub returns-in-Err-clause-refused : goal.returns-in-Err-clause-refused
 returns-in-Err-clause-refused g c = record {
   cause = inr (inl c.in-Err.ensures.refused);
   name = c.recover_image.ensures.name;
-  leaves = c.recover_image.ensures.any_moment;
+  leaves = c.recover_image.ensures.stops.any_moment;
 }
 
 pub returns-in-Err-clause-opening : goal.returns-in-Err-clause-opening
@@ -30,7 +30,7 @@ returns-in_err-player-clause-refused g c =
     (record {
       cause = inr (inr (mid, subst (λ n. IsRecovered g.D.Disk n c.args.disk mid) r.count r, c.in_err-player.ensures.refused));
       name = over_name g.D.Disk c.args.processes mid e.1 e.0 c.in_err-player.ensures.refused ∙ c.recover_image.ensures.name;
-      leaves = recovered_then g.D.Disk c.args.disk mid e.1 r.sound r.image c.recover_image.ensures.any_moment (over_only g.D.Disk g.met.D.Disk.only_now c.args.processes mid e.1 e.0 c.in_err-player.ensures.refused);
+      leaves = recovered_then g.D.Disk c.args.disk mid e.1 r.sound r.image c.in_default.ensures.settled c.recover_image.ensures.stops.any_moment (over_only g.D.Disk c.args.processes mid e.1 e.0 c.in_err-player.ensures.refused);
     })
 
 pub returns-clause-ready : goal.returns-clause-ready
@@ -44,5 +44,5 @@ returns-clause-ready g c =
       writes = made.writes ∙ none_counted (g.D.Disk.write_count mid) (logged_count (g.D.Disk.image mid)) r.none ∙ r.writes ∙ ap (λ n. counted (g.D.Disk.write_count c.args.disk) (writes_to_recover n)) r.count;
       armed = made.armed r.none;
       name = made.name ∙ c.recover_image.ensures.name;
-      leaves = recovered_then g.D.Disk c.args.disk mid c.in_ok-player.player.kernel.store.volume.device.inner r.sound r.image c.recover_image.ensures.any_moment made.leaves;
+      leaves = recovered_then g.D.Disk c.args.disk mid c.in_ok-player.player.kernel.store.volume.device.inner r.sound r.image c.in_default.ensures.settled c.recover_image.ensures.stops.any_moment made.leaves;
     }

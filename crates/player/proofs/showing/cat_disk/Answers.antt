@@ -1,8 +1,7 @@
 use Rattle.std.proofs.Common.{◌≡◌, ◌∙◌, subst, sym, ap, refl}
 use Rattle.std.proofs.lemmas.Result.{IfErr-weaker, on_ok_weaker}
 use Rattle.blocks.specs.Calls.{OnlyReads}
-use Rattle.blocks.specs.Disk.{LeavesOnly}
-use Rattle.wal.specs.Recovery.{RecoversAs}
+use Rattle.wal.specs.Recovery.{LeavesIfCalm, RecoversAs}
 use Rattle.player.specs.Showing.{IsNotShown, ShowsFile}
 use Rattle.opening.specs.Lemmas.Keeping.{unopened_leaves, unopened_name}
 use Rattle.opening.specs.Lemmas.Telling.{unopened_so}
@@ -19,10 +18,10 @@ pub returns-in-Err-clause-layers : goal.returns-in-Err-clause-layers
 returns-in-Err-clause-layers g c = opening_of_cat c.in-Err.refusal (unopened_so g.D.Disk 1 c.args.disk c.in-Err.disk c.in-Err.refusal c.in-Err.ensures.refused)
 
 pub returns-in-Err-clause-name : goal.returns-in-Err-clause-name
-returns-in-Err-clause-name g c = unopened_name g.D.Disk g.met.D.Disk.only_now 1 c.args.disk c.in-Err.disk c.in-Err.refusal c.in-Err.ensures.refused
+returns-in-Err-clause-name g c = unopened_name g.D.Disk 1 c.args.disk c.in-Err.disk c.in-Err.refusal c.in-Err.ensures.refused
 
 pub returns-in-Err-clause-any_moment : goal.returns-in-Err-clause-any_moment
-returns-in-Err-clause-any_moment g c = unopened_leaves g.D.Disk g.met.D.Disk.only_now 1 c.args.disk c.in-Err.disk c.in-Err.refusal c.in-Err.ensures.refused
+returns-in-Err-clause-any_moment g c = unopened_leaves g.D.Disk 1 c.args.disk c.in-Err.disk c.in-Err.refusal c.in-Err.ensures.refused
 
 pub returns-clause-shown : goal.returns-clause-shown
 returns-clause-shown g c =
@@ -61,4 +60,4 @@ returns-clause-any_moment g c =
     let reader = c.in-Ok.ensures.opened in
     let now = c.show-shown.new.kernel.store.volume.device in
     let reads : OnlyReads g.D.Disk c.in-Ok.kernel.opening now = subst (λ o. OnlyReads g.D.Disk o now) reader.device c.show-shown.ensures.reads in
-    subst (λ e. LeavesOnly g.D.Disk.moment g.D.Disk.leaves c.args.disk e (RecoversAs (g.D.Disk.image c.args.disk))) (sym c.into_disk.ensures) (leaves_still g.D.Disk c.args.disk c.in-Ok.kernel reader now reads)
+    subst (λ e. LeavesIfCalm g.D.Disk c.args.disk e (RecoversAs (g.D.Disk.image c.args.disk))) (sym c.into_disk.ensures) (leaves_still g.D.Disk c.args.disk c.in-Ok.kernel reader now reads)

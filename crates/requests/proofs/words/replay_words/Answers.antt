@@ -14,4 +14,5 @@ returns c =
     let one = one_word _ _ c.about.result c.word.result c.in_ok-arg.field-0 start image c.word.ensures.local c.in_ok-arg.ensures in
     let two = one_word _ _ c.in_ok-arg.field-0 c.word-2.result c.in_ok-arg-2.field-0 one script c.word-2.ensures.local c.in_ok-arg-2.ensures in
     let three = one_word _ _ c.in_ok-arg-2.field-0 c.word-3.result c.in_ok-arg-3.field-0 two schedule c.word-3.ensures.local c.in_ok-arg-3.ensures in
-    IfOk-weaker c.arg-4.result _ _ (λ r adds. one_word _ _ c.in_ok-arg-3.field-0 c.stop_word.result r three c.stop_word.ensures.rule c.stop_word.ensures.local adds) c.arg-4.ensures
+    let four = one_word _ _ c.in_ok-arg-3.field-0 c.stop_word.result c.in_ok-arg-4.field-0 three c.stop_word.ensures.rule c.stop_word.ensures.local c.in_ok-arg-4.ensures in
+    IfOk-weaker c.arg-5.result _ _ (λ r adds. one_word _ _ c.in_ok-arg-4.field-0 c.sync_word.result r four c.sync_word.ensures.rule c.sync_word.ensures.local adds) c.arg-5.ensures

@@ -12,4 +12,5 @@ returns c =
     let start : HasApp (new_app (codes "run")) c.about.result = search rules in
     let one = one_word _ _ c.about.result c.word.result c.in_ok-arg.field-0 start image c.word.ensures.local c.in_ok-arg.ensures in
     let two = one_word _ _ c.in_ok-arg.field-0 c.word-2.result c.in_ok-arg-2.field-0 one script c.word-2.ensures.local c.in_ok-arg-2.ensures in
-    IfOk-weaker c.arg-3.result _ _ (λ r adds. one_word _ _ c.in_ok-arg-2.field-0 c.workers_word.result r two c.workers_word.ensures.rule c.workers_word.ensures.local adds) c.arg-3.ensures
+    let three = one_word _ _ c.in_ok-arg-2.field-0 c.workers_word.result c.in_ok-arg-3.field-0 two c.workers_word.ensures.rule c.workers_word.ensures.local c.in_ok-arg-3.ensures in
+    IfOk-weaker c.arg-4.result _ _ (λ r adds. one_word _ _ c.in_ok-arg-3.field-0 c.sync_word.result r three c.sync_word.ensures.rule c.sync_word.ensures.local adds) c.arg-4.ensures

@@ -4,7 +4,7 @@ use Rattle.std.proofs.lemmas.Result.{IfErr-weaker, on_ok_weaker}
 use Rattle.model.specs.Layout.{inode_count_of}
 use Rattle.rings.specs.Callers.{intake_names}
 use Rattle.clients.specs.Clients.{AreSameClients}
-use Rattle.runner.proofs.Served.{ends_so, have_rings, is_served, many_are, not_run}
+use Rattle.runner.proofs.Served.{ends_so, have_rings, is_served, many_are, not_run, unopened_run}
 use Rattle.runner.proofs.running.run_disk.Goals as goal
 
 pub call-called-requires-clause-watches : goal.call-called-requires-clause-watches
@@ -23,6 +23,10 @@ close-requires-clause-rings g c =
     let same = subst (λ o. IfSome o (λ after. AreSameClients c.in-Ok.made.1.items after.items)) c.in-Some.is called.ensures.same in
     let are = same (intake_names c.in-Ok.made.0) c.args.tasks.items c.args.processes c.in-Ok.ensures.clients in
     have_rings g.D.Disk c.args.disk c.in-Ok.made.0 c.in-Ok-open.kernel.herald c.args.processes c.in-Ok-open.kernel called.result.1 c.in-Ok-open.ensures.opened called.ensures.framed c.args.tasks.items c.in-Some.clients.items are
+
+pub returns-in-Err-open-clause-refused : goal.returns-in-Err-open-clause-refused
+returns-in-Err-open-clause-refused g c =
+    unopened_run g.D.Disk c.args.disk c.in-Err-open.disk c.args.tasks.items c.args.processes (g.O.Write.contents c.args.out.now) (g.O.Write.contents c.args.out.now) (c.args.out.now ≡ c.args.out.now) c.in-Err-open.refusal c.in-Err-open.ensures.refused refl
 
 pub returns-in-Some-clause-ran : goal.returns-in-Some-clause-ran
 returns-in-Some-clause-ran g c =

@@ -25,9 +25,10 @@ loop-k-init g c =
       besides = λ z now. subst (SameBesides x) (sym (c.requires.settled z now)) (same_besides x);
       name = refl;
       writes = refl;
+      syncs = refl;
       faults = refl;
       any_moment = started d.moment d.leaves old (RecoversAs x) (λ z now. recovers_same x z (c.requires.settled z now));
-      in_order = started d.moment d.leaves old (IsRecoveredInPart x) (λ z now. copied_in_part x x z 0 (omega arith) (copied_none x) (c.requires.settled z now));
+      in_order = λ plain. started d.moment d.leaves old (IsRecoveredInPart x) (λ z now. copied_in_part x x z 0 (omega arith) (copied_none x) (c.requires.settled z now));
     }
 
 pub returns-in_err-write-clause-stops : goal.returns-in_err-write-clause-stops
@@ -40,13 +41,14 @@ returns-in_err-write-clause-stops g c =
     let before = λ (z : Image) (now : d.leaves c.read.new.self (d.moment c.read.new.self) z). kept.besides z (now_stays d.moment d.leaves c.loop-k.disk c.read.new.self (g.met.D.Disk.counts_now c.read.new.self) c.read.ensures.time z now) in
     let left = subst (λ (y : Image). IsOldOrNew y (get_or c.args.homes.now c.loop-k.k 0) c.read.new.into (d.image c.write.new.self)) c.in_ok-read.ensures.image c.in_err-write.ensures.err in
     record {
-      in_order = goes_on d.moment d.leaves c.args.disk.now c.read.new.self c.write.new.self (IsRecoveredInPart x)
-          (stays d.moment d.leaves c.args.disk.now c.loop-k.disk c.read.new.self (IsRecoveredInPart x) kept.in_order c.read.ensures.time) c.write.ensures.time
+      in_order = λ plain. goes_on d.moment d.leaves c.args.disk.now c.read.new.self c.write.new.self (IsRecoveredInPart x)
+          (stays d.moment d.leaves c.args.disk.now c.loop-k.disk c.read.new.self (IsRecoveredInPart x) (kept.in_order plain) c.read.ensures.time) c.write.ensures.time
           (λ z now. written_in_part x (d.image c.loop-k.disk) (d.image c.write.new.self) z c.loop-k.k _ _ c.requires.lawful lt home kept.copied
-          (ap (slice_get (d.image c.loop-k.disk)) (sym c.log_block.ensures) ∙ c.in_ok-read.ensures.ok) left (g.met.D.Disk.only_now c.write.new.self z now));
+          (ap (slice_get (d.image c.loop-k.disk)) (sym c.log_block.ensures) ∙ c.in_ok-read.ensures.ok) left (g.met.D.Disk.only_now c.write.new.self (ap d.holding (c.write.ensures.name ∙ c.read.ensures.name ∙ kept.name) ∙ plain) z now));
       any_moment = goes_on d.moment d.leaves c.args.disk.now c.read.new.self c.write.new.self (RecoversAs x)
           (stays d.moment d.leaves c.args.disk.now c.loop-k.disk c.read.new.self (RecoversAs x) kept.any_moment c.read.ensures.time) c.write.ensures.time
           (λ z now. recovers_besides x z c.requires.lawful (copy_besides x c.loop-k.k _ _ _ _ lt home before c.write.ensures.crash z now));
+      plain = λ free. c.write.ensures.syncs ∙ c.read.ensures.syncs ∙ kept.syncs;
     }
 
 pub loop-k-preserved : goal.loop-k-preserved
@@ -64,11 +66,12 @@ loop-k-preserved g c =
     record {
       copied = copied;
       name = c.in_ok-write.ensures.name ∙ c.in_ok-read.ensures.name ∙ kept.name;
-      in_order = goes_on d.moment d.leaves c.args.disk.now c.read.new.self c.write.new.self (IsRecoveredInPart x)
-          (stays d.moment d.leaves c.args.disk.now c.loop-k.disk c.read.new.self (IsRecoveredInPart x) kept.in_order c.read.ensures.time) c.write.ensures.time
-          (λ z now. copied_in_part x (d.image c.write.new.self) z (c.loop-k.k + 1) (omega (arith, lt)) copied (g.met.D.Disk.only_now c.write.new.self z now));
+      in_order = λ plain. goes_on d.moment d.leaves c.args.disk.now c.read.new.self c.write.new.self (IsRecoveredInPart x)
+          (stays d.moment d.leaves c.args.disk.now c.loop-k.disk c.read.new.self (IsRecoveredInPart x) (kept.in_order plain) c.read.ensures.time) c.write.ensures.time
+          (λ z now. copied_in_part x (d.image c.write.new.self) z (c.loop-k.k + 1) (omega (arith, lt)) copied (g.met.D.Disk.only_now c.write.new.self (ap d.holding (c.write.ensures.name ∙ c.read.ensures.name ∙ kept.name) ∙ plain) z now));
       besides = besides;
       writes = c.in_ok-write.ensures.writes ∙ ap one_more (c.in_ok-read.ensures.writes ∙ kept.writes) ∙ ap (counted (d.write_count c.args.disk.now)) (sym (add-one c.loop-k.k));
+      syncs = c.in_ok-write.ensures.syncs ∙ c.in_ok-read.ensures.syncs ∙ kept.syncs;
       faults = c.in_ok-write.ensures.faults ∙ c.in_ok-read.ensures.faults ∙ kept.faults;
       any_moment = goes_on d.moment d.leaves c.args.disk.now c.read.new.self c.write.new.self (RecoversAs x) read c.write.ensures.time (λ z now. recovers_besides x z c.requires.lawful (besides z now));
     }

@@ -1,5 +1,6 @@
 use Rattle.std.proofs.Common.{◌≡◌}
 use Rattle.blocks.specs.Disk.{Image, LeavesOnly, counted}
+use Rattle.blocks.specs.Calls.{UnlessHolds}
 use Rattle.wal.specs.Recovery.{RecoversAs, HasCopied, IsRecoveredInPart}
 use Rattle.wal.proofs.CopyLemmas.{SameBesides}
 use Rattle.wal.proofs.recovery.copy_home.Given as goal
@@ -14,7 +15,8 @@ invariant-loop-k g l =
       besides : (z : Image) → d.leaves l.disk (d.moment l.disk) z → SameBesides x z;
       name : d.name l.disk ≡ d.name l.fn.disk;
       writes : d.write_count l.disk ≡ counted (d.write_count l.fn.disk) l.k;
+      syncs : d.sync_count l.disk ≡ d.sync_count l.fn.disk;
       faults : d.fault_count l.disk ≡ d.fault_count l.fn.disk;
       any_moment : LeavesOnly d.moment d.leaves l.fn.disk l.disk (RecoversAs x);
-      in_order : LeavesOnly d.moment d.leaves l.fn.disk l.disk (IsRecoveredInPart x);
+      in_order : UnlessHolds d l.fn.disk (LeavesOnly d.moment d.leaves l.fn.disk l.disk (IsRecoveredInPart x));
     }

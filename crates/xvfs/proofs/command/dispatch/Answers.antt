@@ -1,8 +1,21 @@
 use Rattle.std.proofs.Common.{subst, sym}
-use Rattle.std.specs.Prelude.{◌≡◌, IfErr, OnOk}
+use Rattle.std.specs.Prelude.{◌≡◌, Result, Ok, Err, IfErr, OnOk}
 use Rattle.xvfs.specs.Requests.{Answers, OnRefused}
 use Rattle.xvfs.proofs.Disks.{seen_by}
 use Rattle.xvfs.proofs.command.dispatch.Goals as goal
+
+-- two things that are known of an error
+on_both : {T E : Type 0} (r : Result T E) (P Q : E → Type 0) → IfErr r P → IfErr r Q → IfErr r (λ e. P e × Q e)
+on_both (Ok _) P Q p q = tt
+on_both (Err e) P Q p q = (p, q)
+
+pub returns-in-Recover-clause-ok : goal.returns-in-Recover-clause-ok
+returns-in-Recover-clause-ok g c =
+    subst (λ request. OnOk c.recover_file.result (Answers (seen_by g.R.File.Read.remaining) request (g.O.Write.contents c.args.out.now) (g.O.Write.contents c.recover_file.new.out))) (sym c.in-Recover.is) c.recover_file.ensures.opened
+
+pub returns-in-Recover-clause-err : goal.returns-in-Recover-clause-err
+returns-in-Recover-clause-err g c =
+    subst (λ request. IfErr c.recover_file.result (λ r. OnRefused (seen_by g.R.File.Read.remaining) request r (g.O.Write.contents c.args.out.now) (g.O.Write.contents c.recover_file.new.out) (c.recover_file.new.out ≡ c.args.out.now))) (sym c.in-Recover.is) (on_both c.recover_file.result _ _ c.recover_file.ensures.silent c.recover_file.ensures.refused)
 
 pub returns-in-Cat-clause-ok : goal.returns-in-Cat-clause-ok
 returns-in-Cat-clause-ok g c =

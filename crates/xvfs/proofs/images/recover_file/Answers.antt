@@ -8,11 +8,11 @@ use Rattle.xvfs.proofs.images.recover_file.Goals as goal
 pub returns-clause-opened : goal.returns-clause-opened
 returns-clause-opened g c =
     let disk = c.in_ok-disk in
-    opens_disk g.R.File.Read.remaining file_disk.image c.recover_disk.result disk.disk c.recover_disk.new.disk _ _ _ (search rules) (search rules) (search rules) (λ recovers printed. (recovers, printed)) c.recover_disk.ensures.recovered c.recover_disk.ensures.printed
+    opens_disk g.R.File.Read.remaining file_disk c.args.sync c.recover_disk.result disk.disk c.recover_disk.new.disk _ _ _ disk.ensures.opened (λ recovers printed. (recovers, printed)) c.recover_disk.ensures.recovered c.recover_disk.ensures.printed
 
 pub returns-clause-refused : goal.returns-clause-refused
 returns-clause-refused g c =
     let disk = c.in_ok-disk in
     IfErr-weaker c.recover_disk.result _ _
-    (refuses_disk g.R.File.Read.remaining file_disk.image disk.disk c.recover_disk.new.disk _ (IsUnrecovered file_disk.image file_disk.fault_count) (search rules) (search rules) (search rules) (λ fault why. absurd why) (λ fault why. absurd why) (λ fault why. absurd why))
+    (refuses_disk g.R.File.Read.remaining file_disk c.args.sync disk.disk c.recover_disk.new.disk _ (IsUnrecovered file_disk) disk.ensures.opened (λ fault why. absurd why) (λ fault why. absurd why) (λ fault why. absurd why))
     c.recover_disk.ensures.refused

@@ -8,4 +8,4 @@ pub seek-requires-clause-sought : goal.seek-requires-clause-sought
 seek-requires-clause-sought g c =
     let v = c.args.volume.now in
     subst (λ (o : ReadState). IsSought g.D.Disk.image v c.args.pid o.target) (sym c.self.view_is)
-    (sought g.D.Disk.image v c.args.pid c.args.self.now c.requires.ready c.requires.target (size_of_log g.D.Disk.image v c.requires.fault c.known.ensures))
+    (sought g.D.Disk.image v c.args.pid c.args.self.now c.requires.ready c.requires.target (size_of_log g.D.Disk.image v c.requires.fault c.known.ensures.joint))

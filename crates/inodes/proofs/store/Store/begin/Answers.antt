@@ -22,7 +22,7 @@ invariant_of-self g c =
     let old = c.self.inside.volume in
     let n = c.self.inside.inodes.inode_count in
     let well : old.fault ≡ None = search rules in
-    let joint = where_none old.fault well c.known.ensures in
+    let joint = where_none old.fault well c.known.ensures.joint in
     let lt : c.args.pid < length c.self.inside.tasks = search rules in
     let tasks : c.begin.new.self ≡ slice_set c.self.inside.tasks c.args.pid (record { op = Some c.args.op.now; place = first_place c.args.op.now n; gathered = None }) =
     c.begin.ensures ∙ ap (λ (a : Place). slice_set c.self.inside.tasks c.args.pid (record { op = Some c.args.op.now; place = a; gathered = None })) c.first_place-place.ensures

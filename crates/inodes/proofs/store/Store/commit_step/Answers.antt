@@ -1,6 +1,6 @@
 use Rattle.std.proofs.Common.{rules, false, refl, ◌≡◌, sym, subst, ◌∙◌}
 use Rattle.std.specs.Prelude.{None}
-use Rattle.model.specs.Codec.{header_block}
+use Rattle.wal.specs.Lemmas.Commits.{commit_log}
 use Rattle.loose.specs.Lemmas.HeldOutsideLog.{held_outside}
 use Rattle.wal.specs.Machine.{is_quiet}
 use Rattle.inodes.specs.Holding.{claims_of}
@@ -20,13 +20,13 @@ invariant_of-self g c =
     let well : old.fault ≡ None = search rules in
     let e = c.commit_step.ensures.commits in
     let super = e.current.agree 1 refl in
-    let joint = where_none old.fault well c.known.ensures in
+    let joint = where_none old.fault well c.known.ensures.joint in
     let busy : is_quiet old.log.commit ≡ false = subst (λ (s : StoreState _). is_quiet s.volume.log.commit ≡ false) (sym c.self.view_is) c.requires.busy in
     record {
       few = c.self.invariant.few;
       geometry = geometry_kept (current_of image old) (current_of image new) e.current.size super c.self.invariant.geometry;
       numbers = c.self.invariant.numbers ∙ sym (count_kept (current_of image old) (current_of image new) super);
-      agrees = if_none new.fault (agrees_committed (header_block old.log.homes) (image old.device) (image new.device) old.buffers new.buffers old.log new.log c.commit_step.result n c.self.inside.tasks e.write.step e.locks joint.log busy (where_none old.fault well c.self.invariant.agrees));
+      agrees = if_none new.fault (agrees_committed (g.D.Disk.holding (g.D.Disk.name old.device)) old.buffers new.buffers old.log new.log n c.self.inside.tasks (commit_log g.D.Disk old.device old.buffers old.log new.device new.buffers new.log c.commit_step.result e.write) e.locks joint.log busy (where_none old.fault well c.self.invariant.agrees));
       looks = if_none new.fault (looks_outside (current_of image old) (current_of image new) c.self.inside.inodes c.self.inside.tasks (where_none old.fault well c.self.invariant.looks) c.self.invariant.numbers e.current);
     }
 

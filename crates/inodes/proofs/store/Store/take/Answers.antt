@@ -28,7 +28,7 @@ step-requires-clause-ready g c =
     let lt : c.args.pid < length s.tasks = search rules in
     let stood : (task s.tasks c.args.pid).place ≡ place.Taking c.args.lock = search rules in
     let is_op : (task s.tasks c.args.pid).op ≡ Some c.args.op.now = search rules in
-    let joint = where_none s.volume.fault well c.known.ensures in
+    let joint = where_none s.volume.fault well c.known.ensures.joint in
     may_lock g.D.Disk s c.args.pid c.args.op.now c.args.lock c.self.invariant well stood is_op joint
 
 pub invariant_of-self : goal.invariant_of-self
@@ -38,7 +38,7 @@ invariant_of-self g c =
     let lt : c.args.pid < length s.tasks = search rules in
     let stood : (task s.tasks c.args.pid).place ≡ place.Taking c.args.lock = search rules in
     let is_op : (task s.tasks c.args.pid).op ≡ Some c.args.op.now = search rules in
-    let joint = where_none s.volume.fault well c.known.ensures in
+    let joint = where_none s.volume.fault well c.known.ensures.joint in
     store_taken g.D.Disk s c.args.pid c.args.op.now c.args.lock c.self.invariant well lt stood is_op joint progress.Moved c.step.new.self c.step.new.volume c.step.new.table c.go.new.self c.in-Moved.ensures c.go.ensures
 
 pub invariant_of-self-in-Sleeping : goal.invariant_of-self-in-Sleeping
@@ -48,7 +48,7 @@ invariant_of-self-in-Sleeping g c =
     let lt : c.args.pid < length s.tasks = search rules in
     let stood : (task s.tasks c.args.pid).place ≡ place.Taking c.args.lock = search rules in
     let is_op : (task s.tasks c.args.pid).op ≡ Some c.args.op.now = search rules in
-    let joint = where_none s.volume.fault well c.known.ensures in
+    let joint = where_none s.volume.fault well c.known.ensures.joint in
     store_taken g.D.Disk s c.args.pid c.args.op.now c.args.lock c.self.invariant well lt stood is_op joint (progress.Sleeping c.in-Sleeping.why) c.step.new.self c.step.new.volume c.step.new.table s.tasks c.in-Sleeping.ensures (same_task s.tasks c.args.pid (place.Taking c.args.lock) stood)
 
 pub inode_at-inode-requires : goal.inode_at-inode-requires
@@ -58,7 +58,7 @@ inode_at-inode-requires g c =
     let lt : c.args.pid < length s.tasks = search rules in
     let stood : (task s.tasks c.args.pid).place ≡ place.Taking c.args.lock = search rules in
     let is_op : (task s.tasks c.args.pid).op ≡ Some c.args.op.now = search rules in
-    let joint = where_none s.volume.fault well c.known.ensures in
+    let joint = where_none s.volume.fault well c.known.ensures.joint in
     subst (λ (k : ℕ). k < 50) (sym c.place-place.ensures) (place_taken g.D.Disk s c.args.pid c.args.op.now c.args.lock c.self.invariant well lt stood is_op joint c.in-Over.is_used c.step.new.self c.step.new.volume c.step.new.table c.in-Over.ensures)
 
 pub extent_of-extent-requires : goal.extent_of-extent-requires
@@ -68,7 +68,7 @@ extent_of-extent-requires g c =
     let lt : c.args.pid < length s.tasks = search rules in
     let stood : (task s.tasks c.args.pid).place ≡ place.Taking c.args.lock = search rules in
     let is_op : (task s.tasks c.args.pid).op ≡ Some c.args.op.now = search rules in
-    let joint = where_none s.volume.fault well c.known.ensures in
+    let joint = where_none s.volume.fault well c.known.ensures.joint in
     subst (λ (n : ℕ). n ≤ 1024) (sym c.inode_count.ensures) (few_numbers g.D.Disk s c.args.pid c.args.op.now c.args.lock c.self.invariant well lt stood is_op joint c.in-Over.is_used c.step.new.self c.step.new.volume c.step.new.table c.in-Over.ensures)
 
 pub reply_when_taken-requires : goal.reply_when_taken-requires
@@ -78,7 +78,7 @@ reply_when_taken-requires g c =
     let lt : c.args.pid < length s.tasks = search rules in
     let stood : (task s.tasks c.args.pid).place ≡ place.Taking c.args.lock = search rules in
     let is_op : (task s.tasks c.args.pid).op ≡ Some c.args.op.now = search rules in
-    let joint = where_none s.volume.fault well c.known.ensures in
+    let joint = where_none s.volume.fault well c.known.ensures.joint in
     few_bytes s.table.inode_count c.args.op.now (can_take g.D.Disk s c.args.pid c.args.op.now c.args.lock c.self.invariant well stood is_op)
 
 pub place_when_taken-requires : goal.place_when_taken-requires
@@ -88,7 +88,7 @@ place_when_taken-requires g c =
     let lt : c.args.pid < length s.tasks = search rules in
     let stood : (task s.tasks c.args.pid).place ≡ place.Taking c.args.lock = search rules in
     let is_op : (task s.tasks c.args.pid).op ≡ Some c.args.op.now = search rules in
-    let joint = where_none s.volume.fault well c.known.ensures in
+    let joint = where_none s.volume.fault well c.known.ensures.joint in
     let taken = inode_taken g.D.Disk s c.args.pid c.args.op.now c.args.lock c.self.invariant well lt stood is_op joint c.in-Over.is_used c.step.new.self c.step.new.volume c.step.new.table c.in-Over.ensures in
     let is : c.inode_at-inode.result ≡ if_used c.in-Over.is_used (inode_of (current_of g.D.Disk.image s.volume) c.args.lock.number)
     = c.inode_at-inode.ensures ∙ ap (λ (k : ℕ). cond c.in-Over.is_used (copy_at c.step.new.table.places k) None) c.place-place.ensures ∙ taken in
@@ -104,7 +104,7 @@ invariant_of-self-in-Over g c =
     let lt : c.args.pid < length s.tasks = search rules in
     let stood : (task s.tasks c.args.pid).place ≡ place.Taking c.args.lock = search rules in
     let is_op : (task s.tasks c.args.pid).op ≡ Some c.args.op.now = search rules in
-    let joint = where_none s.volume.fault well c.known.ensures in
+    let joint = where_none s.volume.fault well c.known.ensures.joint in
     let taken = inode_taken g.D.Disk s c.args.pid c.args.op.now c.args.lock c.self.invariant well lt stood is_op joint c.in-Over.is_used c.step.new.self c.step.new.volume c.step.new.table c.in-Over.ensures in
     let is : c.inode_at-inode.result ≡ if_used c.in-Over.is_used (inode_of (current_of g.D.Disk.image s.volume) c.args.lock.number)
     = c.inode_at-inode.ensures ∙ ap (λ (k : ℕ). cond c.in-Over.is_used (copy_at c.step.new.table.places k) None) c.place-place.ensures ∙ taken in
@@ -125,7 +125,7 @@ returns-in-Moved g c =
     let lt : c.args.pid < length s.tasks = search rules in
     let stood : (task s.tasks c.args.pid).place ≡ place.Taking c.args.lock = search rules in
     let is_op : (task s.tasks c.args.pid).op ≡ Some c.args.op.now = search rules in
-    let joint = where_none s.volume.fault well c.known.ensures in
+    let joint = where_none s.volume.fault well c.known.ensures.joint in
     record {
       step = subst (λ (k : StoreState _). Steps g.D.Disk k c.args.pid c.args.op.now task_progress.Moved (record { volume = c.step.new.volume; tasks = c.go.new.self; table = c.step.new.table })) c.self.view_is
           (steps_taken g.D.Disk s c.args.pid c.args.op.now c.args.lock c.self.invariant well lt stood is_op joint progress.Moved c.step.new.self c.step.new.volume c.step.new.table c.go.new.self c.in-Moved.ensures c.go.ensures);
@@ -138,7 +138,7 @@ returns-in-Sleeping g c =
     let lt : c.args.pid < length s.tasks = search rules in
     let stood : (task s.tasks c.args.pid).place ≡ place.Taking c.args.lock = search rules in
     let is_op : (task s.tasks c.args.pid).op ≡ Some c.args.op.now = search rules in
-    let joint = where_none s.volume.fault well c.known.ensures in
+    let joint = where_none s.volume.fault well c.known.ensures.joint in
     record {
       step = subst (λ (k : StoreState _). Steps g.D.Disk k c.args.pid c.args.op.now (task_progress.Sleeping c.in-Sleeping.why) (record { volume = c.step.new.volume; tasks = s.tasks; table = c.step.new.table })) c.self.view_is
           (steps_taken g.D.Disk s c.args.pid c.args.op.now c.args.lock c.self.invariant well lt stood is_op joint (progress.Sleeping c.in-Sleeping.why) c.step.new.self c.step.new.volume c.step.new.table s.tasks c.in-Sleeping.ensures (same_task s.tasks c.args.pid (place.Taking c.args.lock) stood));
@@ -151,7 +151,7 @@ returns-in-Over g c =
     let lt : c.args.pid < length s.tasks = search rules in
     let stood : (task s.tasks c.args.pid).place ≡ place.Taking c.args.lock = search rules in
     let is_op : (task s.tasks c.args.pid).op ≡ Some c.args.op.now = search rules in
-    let joint = where_none s.volume.fault well c.known.ensures in
+    let joint = where_none s.volume.fault well c.known.ensures.joint in
     let d = inode_of (current_of g.D.Disk.image s.volume) c.args.lock.number in
     let taken = inode_taken g.D.Disk s c.args.pid c.args.op.now c.args.lock c.self.invariant well lt stood is_op joint c.in-Over.is_used c.step.new.self c.step.new.volume c.step.new.table c.in-Over.ensures in
     let is : c.inode_at-inode.result ≡ if_used c.in-Over.is_used d
@@ -179,7 +179,7 @@ returns-in-Fault g c =
     let lt : c.args.pid < length s.tasks = search rules in
     let stood : (task s.tasks c.args.pid).place ≡ place.Taking c.args.lock = search rules in
     let is_op : (task s.tasks c.args.pid).op ≡ Some c.args.op.now = search rules in
-    let joint = where_none s.volume.fault well c.known.ensures in
+    let joint = where_none s.volume.fault well c.known.ensures.joint in
     record {
       step = subst (λ (k : StoreState _). Steps g.D.Disk k c.args.pid c.args.op.now (task_progress.Fault c.in-Fault.fault) (record { volume = c.step.new.volume; tasks = s.tasks; table = c.step.new.table })) c.self.view_is
           (steps_taken g.D.Disk s c.args.pid c.args.op.now c.args.lock c.self.invariant well lt stood is_op joint (progress.Fault c.in-Fault.fault) c.step.new.self c.step.new.volume c.step.new.table s.tasks c.in-Fault.ensures (same_task s.tasks c.args.pid (place.Taking c.args.lock) stood));

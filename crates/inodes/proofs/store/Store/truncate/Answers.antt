@@ -20,7 +20,7 @@ step-requires-clause-ready g c =
     let s : StoreState _ = record { volume = c.self.inside.volume; tasks = c.self.inside.tasks; table = c.self.inside.inodes } in
     let well : s.volume.fault ≡ None = search rules in
     let stood : (task s.tasks c.args.pid).place ≡ place.Truncating c.args.place c.args.trunc = search rules in
-    may g.D.Disk s c.args.pid c.args.place c.args.trunc c.self.invariant well stood (where_none s.volume.fault well c.known.ensures)
+    may g.D.Disk s c.args.pid c.args.place c.args.trunc c.self.invariant well stood (where_none s.volume.fault well c.known.ensures.joint)
 
 pub invariant_of-self : goal.invariant_of-self
 invariant_of-self g c =
@@ -28,9 +28,19 @@ invariant_of-self g c =
     let well : s.volume.fault ≡ None = search rules in
     let lt : c.args.pid < length s.tasks = search rules in
     let stood : (task s.tasks c.args.pid).place ≡ place.Truncating c.args.place c.args.trunc = search rules in
-    let joint = where_none s.volume.fault well c.known.ensures in
+    let joint = where_none s.volume.fault well c.known.ensures.joint in
     let made = does g.D.Disk s c.args.pid c.args.place c.args.trunc c.self.invariant well stood lt joint progress.Moved c.step.new.self c.step.new.volume c.go.new.self c.in-Moved.ensures in
     store_truncated g.D.Disk s c.args.pid c.args.place c.args.trunc progress.Moved c.step.new.self c.step.new.volume c.go.new.self c.self.invariant well lt stood made c.go.ensures
+
+pub invariant_of-self-in-Sleeping : goal.invariant_of-self-in-Sleeping
+invariant_of-self-in-Sleeping g c =
+    let s : StoreState _ = record { volume = c.self.inside.volume; tasks = c.self.inside.tasks; table = c.self.inside.inodes } in
+    let well : s.volume.fault ≡ None = search rules in
+    let lt : c.args.pid < length s.tasks = search rules in
+    let stood : (task s.tasks c.args.pid).place ≡ place.Truncating c.args.place c.args.trunc = search rules in
+    let joint = where_none s.volume.fault well c.known.ensures.joint in
+    let made = does g.D.Disk s c.args.pid c.args.place c.args.trunc c.self.invariant well stood lt joint (progress.Sleeping c.in-Sleeping.why) c.step.new.self c.step.new.volume s.tasks c.in-Sleeping.ensures in
+    store_truncated g.D.Disk s c.args.pid c.args.place c.args.trunc (progress.Sleeping c.in-Sleeping.why) c.step.new.self c.step.new.volume s.tasks c.self.invariant well lt stood made (same_task s.tasks c.args.pid (place.Truncating c.args.place c.args.trunc) stood)
 
 pub renew-requires-clause-place : goal.renew-requires-clause-place
 renew-requires-clause-place g c =
@@ -52,7 +62,7 @@ invariant_of-self-in-Over g c =
     let well : s.volume.fault ≡ None = search rules in
     let lt : c.args.pid < length s.tasks = search rules in
     let stood : (task s.tasks c.args.pid).place ≡ place.Truncating c.args.place c.args.trunc = search rules in
-    let joint = where_none s.volume.fault well c.known.ensures in
+    let joint = where_none s.volume.fault well c.known.ensures.joint in
     let made = does g.D.Disk s c.args.pid c.args.place c.args.trunc c.self.invariant well stood lt joint (progress.Over tt) c.step.new.self c.step.new.volume c.go-in-Over.new.self c.in-Over.ensures in
     let same : inode_left c.step.new.self ≡ inode_left c.args.trunc = left_same g.D.Disk c.args.trunc.at s.volume c.args.pid c.args.trunc c.step.new.self c.step.new.volume c.in-Over.ensures in
     let end : c.left.result ≡ inode_left c.args.trunc = c.left.ensures ∙ same in
@@ -66,7 +76,7 @@ returns-in-Moved g c =
     let well : s.volume.fault ≡ None = search rules in
     let lt : c.args.pid < length s.tasks = search rules in
     let stood : (task s.tasks c.args.pid).place ≡ place.Truncating c.args.place c.args.trunc = search rules in
-    let joint = where_none s.volume.fault well c.known.ensures in
+    let joint = where_none s.volume.fault well c.known.ensures.joint in
     let made = does g.D.Disk s c.args.pid c.args.place c.args.trunc c.self.invariant well stood lt joint progress.Moved c.step.new.self c.step.new.volume c.go.new.self c.in-Moved.ensures in
     record {
       step = λ op is. subst (λ (o : StoreState _). Steps g.D.Disk o c.args.pid op task_progress.Moved (record { volume = c.step.new.volume; tasks = c.go.new.self; table = c.self.inside.inodes })) c.self.view_is
@@ -79,7 +89,7 @@ returns-in-Sleeping g c =
     let well : s.volume.fault ≡ None = search rules in
     let lt : c.args.pid < length s.tasks = search rules in
     let stood : (task s.tasks c.args.pid).place ≡ place.Truncating c.args.place c.args.trunc = search rules in
-    let joint = where_none s.volume.fault well c.known.ensures in
+    let joint = where_none s.volume.fault well c.known.ensures.joint in
     let made = does g.D.Disk s c.args.pid c.args.place c.args.trunc c.self.invariant well stood lt joint (progress.Sleeping c.in-Sleeping.why) c.step.new.self c.step.new.volume s.tasks c.in-Sleeping.ensures in
     record {
       step = λ op is. subst (λ (o : StoreState _). Steps g.D.Disk o c.args.pid op (task_progress.Sleeping c.in-Sleeping.why) (record { volume = c.step.new.volume; tasks = c.self.inside.tasks; table = c.self.inside.inodes })) c.self.view_is
@@ -92,7 +102,7 @@ returns-in-Over g c =
     let well : s.volume.fault ≡ None = search rules in
     let lt : c.args.pid < length s.tasks = search rules in
     let stood : (task s.tasks c.args.pid).place ≡ place.Truncating c.args.place c.args.trunc = search rules in
-    let joint = where_none s.volume.fault well c.known.ensures in
+    let joint = where_none s.volume.fault well c.known.ensures.joint in
     let made = does g.D.Disk s c.args.pid c.args.place c.args.trunc c.self.invariant well stood lt joint (progress.Over tt) c.step.new.self c.step.new.volume c.go-in-Over.new.self c.in-Over.ensures in
     let same : inode_left c.step.new.self ≡ inode_left c.args.trunc = left_same g.D.Disk c.args.trunc.at s.volume c.args.pid c.args.trunc c.step.new.self c.step.new.volume c.in-Over.ensures in
     let end : c.left.result ≡ inode_left c.args.trunc = c.left.ensures ∙ same in
@@ -109,7 +119,7 @@ returns-in-Fault g c =
     let well : s.volume.fault ≡ None = search rules in
     let lt : c.args.pid < length s.tasks = search rules in
     let stood : (task s.tasks c.args.pid).place ≡ place.Truncating c.args.place c.args.trunc = search rules in
-    let joint = where_none s.volume.fault well c.known.ensures in
+    let joint = where_none s.volume.fault well c.known.ensures.joint in
     let made = does g.D.Disk s c.args.pid c.args.place c.args.trunc c.self.invariant well stood lt joint (progress.Fault c.in-Fault.fault) c.step.new.self c.step.new.volume s.tasks c.in-Fault.ensures in
     record {
       step = λ op is. subst (λ (o : StoreState _). Steps g.D.Disk o c.args.pid op (task_progress.Fault c.in-Fault.fault) (record { volume = c.step.new.volume; tasks = c.self.inside.tasks; table = c.self.inside.inodes })) c.self.view_is

@@ -37,7 +37,7 @@ step-requires-clause-ready g c =
     let s : StoreState _ = record { volume = c.self.inside.volume; tasks = c.self.inside.tasks; table = c.self.inside.inodes } in
     let well : s.volume.fault ≡ None = search rules in
     let stood : (task s.tasks c.args.pid).place ≡ place.Writing c.args.place c.args.writing = search rules in
-    may g.D.Disk s c.args.pid c.args.place c.args.writing c.self.invariant well stood (where_none s.volume.fault well c.known.ensures)
+    may g.D.Disk s c.args.pid c.args.place c.args.writing c.self.invariant well stood (where_none s.volume.fault well c.known.ensures.joint)
 
 pub invariant_of-self : goal.invariant_of-self
 invariant_of-self g c =
@@ -46,7 +46,7 @@ invariant_of-self g c =
     let lt : c.args.pid < length s.tasks = search rules in
     let stood : (task s.tasks c.args.pid).place ≡ place.Writing c.args.place c.args.writing = search rules in
     let is_op : (task s.tasks c.args.pid).op ≡ Some c.args.op.now = search rules in
-    let joint = where_none s.volume.fault well c.known.ensures in
+    let joint = where_none s.volume.fault well c.known.ensures.joint in
     let did : WriteSteps g.D.Disk c.args.writing.at s.volume c.args.pid c.args.writing (bytes_of c.args.op.now) (progress.Moved) c.step.new.self c.step.new.volume
     = subst (λ (l : List ℕ). WriteSteps g.D.Disk c.args.writing.at s.volume c.args.pid c.args.writing l (progress.Moved) c.step.new.self c.step.new.volume) c.bytes_of.ensures c.in-Moved.ensures in
     store_wrote g.D.Disk s c.args.pid c.args.place c.args.writing c.self.invariant well stood lt joint c.step.new.self c.step.new.volume c.go.new.self (progress.Moved) c.args.op.now is_op did c.go.ensures
@@ -58,7 +58,7 @@ invariant_of-self-in-Sleeping g c =
     let lt : c.args.pid < length s.tasks = search rules in
     let stood : (task s.tasks c.args.pid).place ≡ place.Writing c.args.place c.args.writing = search rules in
     let is_op : (task s.tasks c.args.pid).op ≡ Some c.args.op.now = search rules in
-    let joint = where_none s.volume.fault well c.known.ensures in
+    let joint = where_none s.volume.fault well c.known.ensures.joint in
     let did : WriteSteps g.D.Disk c.args.writing.at s.volume c.args.pid c.args.writing (bytes_of c.args.op.now) (progress.Sleeping c.in-Sleeping.why) c.step.new.self c.step.new.volume
     = subst (λ (l : List ℕ). WriteSteps g.D.Disk c.args.writing.at s.volume c.args.pid c.args.writing l (progress.Sleeping c.in-Sleeping.why) c.step.new.self c.step.new.volume) c.bytes_of.ensures c.in-Sleeping.ensures in
     store_wrote g.D.Disk s c.args.pid c.args.place c.args.writing c.self.invariant well stood lt joint c.step.new.self c.step.new.volume s.tasks (progress.Sleeping c.in-Sleeping.why) c.args.op.now is_op did (same_task s.tasks c.args.pid (place.Writing c.args.place c.args.writing) stood)
@@ -84,7 +84,7 @@ invariant_of-self-in-Over g c =
     let lt : c.args.pid < length s.tasks = search rules in
     let stood : (task s.tasks c.args.pid).place ≡ place.Writing c.args.place c.args.writing = search rules in
     let is_op : (task s.tasks c.args.pid).op ≡ Some c.args.op.now = search rules in
-    let joint = where_none s.volume.fault well c.known.ensures in
+    let joint = where_none s.volume.fault well c.known.ensures.joint in
     let did : WriteSteps g.D.Disk c.args.writing.at s.volume c.args.pid c.args.writing (bytes_of c.args.op.now) (progress.Over tt) c.step.new.self c.step.new.volume
     = subst (λ (l : List ℕ). WriteSteps g.D.Disk c.args.writing.at s.volume c.args.pid c.args.writing l (progress.Over tt) c.step.new.self c.step.new.volume) c.bytes_of.ensures c.in-Over.ensures in
     let same = copy_same g.D.Disk c.args.writing.at s.volume c.args.pid c.args.writing c.step.new.self (bytes_of c.args.op.now) c.step.new.volume did in
@@ -100,7 +100,7 @@ invariant_of-self-in-Fault g c =
     let lt : c.args.pid < length s.tasks = search rules in
     let stood : (task s.tasks c.args.pid).place ≡ place.Writing c.args.place c.args.writing = search rules in
     let is_op : (task s.tasks c.args.pid).op ≡ Some c.args.op.now = search rules in
-    let joint = where_none s.volume.fault well c.known.ensures in
+    let joint = where_none s.volume.fault well c.known.ensures.joint in
     let did : WriteSteps g.D.Disk c.args.writing.at s.volume c.args.pid c.args.writing (bytes_of c.args.op.now) (progress.Fault c.in-Fault.fault) c.step.new.self c.step.new.volume
     = subst (λ (l : List ℕ). WriteSteps g.D.Disk c.args.writing.at s.volume c.args.pid c.args.writing l (progress.Fault c.in-Fault.fault) c.step.new.self c.step.new.volume) c.bytes_of.ensures c.in-Fault.ensures in
     store_wrote g.D.Disk s c.args.pid c.args.place c.args.writing c.self.invariant well stood lt joint c.step.new.self c.step.new.volume s.tasks (progress.Fault c.in-Fault.fault) c.args.op.now is_op did (same_task s.tasks c.args.pid (place.Writing c.args.place c.args.writing) stood)
@@ -112,7 +112,7 @@ returns-in-Moved g c =
     let lt : c.args.pid < length s.tasks = search rules in
     let stood : (task s.tasks c.args.pid).place ≡ place.Writing c.args.place c.args.writing = search rules in
     let is_op : (task s.tasks c.args.pid).op ≡ Some c.args.op.now = search rules in
-    let joint = where_none s.volume.fault well c.known.ensures in
+    let joint = where_none s.volume.fault well c.known.ensures.joint in
     let did : WriteSteps g.D.Disk c.args.writing.at s.volume c.args.pid c.args.writing (bytes_of c.args.op.now) (progress.Moved) c.step.new.self c.step.new.volume
     = subst (λ (l : List ℕ). WriteSteps g.D.Disk c.args.writing.at s.volume c.args.pid c.args.writing l (progress.Moved) c.step.new.self c.step.new.volume) c.bytes_of.ensures c.in-Moved.ensures in
     record {
@@ -127,7 +127,7 @@ returns-in-Sleeping g c =
     let lt : c.args.pid < length s.tasks = search rules in
     let stood : (task s.tasks c.args.pid).place ≡ place.Writing c.args.place c.args.writing = search rules in
     let is_op : (task s.tasks c.args.pid).op ≡ Some c.args.op.now = search rules in
-    let joint = where_none s.volume.fault well c.known.ensures in
+    let joint = where_none s.volume.fault well c.known.ensures.joint in
     let did : WriteSteps g.D.Disk c.args.writing.at s.volume c.args.pid c.args.writing (bytes_of c.args.op.now) (progress.Sleeping c.in-Sleeping.why) c.step.new.self c.step.new.volume
     = subst (λ (l : List ℕ). WriteSteps g.D.Disk c.args.writing.at s.volume c.args.pid c.args.writing l (progress.Sleeping c.in-Sleeping.why) c.step.new.self c.step.new.volume) c.bytes_of.ensures c.in-Sleeping.ensures in
     record {
@@ -142,7 +142,7 @@ returns-in-Over g c =
     let lt : c.args.pid < length s.tasks = search rules in
     let stood : (task s.tasks c.args.pid).place ≡ place.Writing c.args.place c.args.writing = search rules in
     let is_op : (task s.tasks c.args.pid).op ≡ Some c.args.op.now = search rules in
-    let joint = where_none s.volume.fault well c.known.ensures in
+    let joint = where_none s.volume.fault well c.known.ensures.joint in
     let did : WriteSteps g.D.Disk c.args.writing.at s.volume c.args.pid c.args.writing (bytes_of c.args.op.now) (progress.Over tt) c.step.new.self c.step.new.volume
     = subst (λ (l : List ℕ). WriteSteps g.D.Disk c.args.writing.at s.volume c.args.pid c.args.writing l (progress.Over tt) c.step.new.self c.step.new.volume) c.bytes_of.ensures c.in-Over.ensures in
     let same = copy_same g.D.Disk c.args.writing.at s.volume c.args.pid c.args.writing c.step.new.self (bytes_of c.args.op.now) c.step.new.volume did in
@@ -162,7 +162,7 @@ returns-in-Fault g c =
     let lt : c.args.pid < length s.tasks = search rules in
     let stood : (task s.tasks c.args.pid).place ≡ place.Writing c.args.place c.args.writing = search rules in
     let is_op : (task s.tasks c.args.pid).op ≡ Some c.args.op.now = search rules in
-    let joint = where_none s.volume.fault well c.known.ensures in
+    let joint = where_none s.volume.fault well c.known.ensures.joint in
     let did : WriteSteps g.D.Disk c.args.writing.at s.volume c.args.pid c.args.writing (bytes_of c.args.op.now) (progress.Fault c.in-Fault.fault) c.step.new.self c.step.new.volume
     = subst (λ (l : List ℕ). WriteSteps g.D.Disk c.args.writing.at s.volume c.args.pid c.args.writing l (progress.Fault c.in-Fault.fault) c.step.new.self c.step.new.volume) c.bytes_of.ensures c.in-Fault.ensures in
     record {

@@ -19,6 +19,10 @@ use Rattle.kernel.specs.State.{State}
 use Rattle.kernel.specs.Steps.{Acts}
 use Rattle.kernel.proofs.Acting.{acts_written, same_unasked, sides_same}
 use Rattle.kernel.proofs.Answering.{answer_commits}
+use Rattle.blocks.specs.declared.disk.Disk.{Ghosts}
+use Rattle.wal.specs.Joint.{Joint}
+use Rattle.wal.specs.Lemmas.Commits.{commit_fails}
+use Rattle.kernel.proofs.Committing.{makes_of}
 use Rattle.kernel.proofs.Closing.{right_written, right_done, right_unwritten}
 use Rattle.journal.specs.Lemmas.Places.{committing_there}
 use Rattle.kernel.proofs.Ports.{ports_given, ports_counted, ports_stay}
@@ -28,7 +32,7 @@ use Rattle.kernel.proofs.stepping.Kernel.commit.Goals.{After-known}
 use Rattle.kernel.proofs.stepping.Kernel.commit.Goals as goal
 
 -- who makes a step of a commit: it stands so, a commit is under way, and it can be answered
-record Head {D : Type 0} (s : StoreState D) (w : World) (p : ℕ) : Type 0 where
+record Head {D N : Type 0} (disk : Ghosts D N) (s : StoreState D) (w : World) (p : ℕ) : Type 0 where
   well : s.volume.fault ≡ None
   within : p < length w.processes
   group : ℕ
@@ -36,8 +40,9 @@ record Head {D : Type 0} (s : StoreState D) (w : World) (p : ℕ) : Type 0 where
   stands : (process w p).at ≡ at.Committing group place
   busy : is_quiet s.volume.log.commit ≡ false
   answer : CanAnswer (last_answer w (process w p).at) (process w p).room
+  joint : Joint (disk.image s.volume.device) s.volume.buffers s.volume.log
 
-head : (g : Over) (c : After-known g) → Head c.self.inside.store c.self.inside.processes c.args.pid
+head : (g : Over) (c : After-known g) → Head g.D.Disk c.self.inside.store c.self.inside.processes c.args.pid
 head g c =
     let k = c.self.inside in
     let disk = g.D.Disk in
@@ -55,6 +60,7 @@ head g c =
       stands = there.2;
       busy = (where_none {T = HasFacts disk.image (disk.image k.opening.value) k.store k.processes} k.store.volume.fault well right.facts).alone.busy p commits;
       answer = answer_commits disk k.opening.value k.store k.processes p right well there.0 there.1 there.2 stands.1;
+      joint = where_none k.store.volume.fault well c.known.ensures.volume;
     }
 
 pub commit_step-committed-requires-clause-busy : goal.commit_step-committed-requires-clause-busy
@@ -72,11 +78,13 @@ invariant_of-self g c =
     let t = c.commit_step-committed.new.self in let l = k.store.volume.log in
     let made : Commits g.D.Disk k.store committed.More t = subst (λ (r : Committed). Commits g.D.Disk k.store r t) c.in-More.is c.commit_step-committed.ensures.commits in
     let now : t.volume.fault ≡ fault_of_step committed.More = made.volume.fault in
+    let holds = g.D.Disk.holding (g.D.Disk.name k.store.volume.device) in
+    let makes = makes_of g.D.Disk k.store t committed.More refl made in
     record {
-      right = right_written g.D.Disk k.opening.value k.store k.processes c.self.invariant.right h.well c.args.pid h.within h.group h.place h.stands t committed.More made g.met.D.Disk.has_now
-          (agreed_now g.D.Disk.image t now c.known-2.ensures.volume c.known-2.ensures.store) now made.volume.write.step.1.log
-          (goes_on l.commit l l.opened h.busy (λ done. let both = sym made.volume.write.step.0 ∙ done in absurd (cc both))) made.volume.write.faults;
-      ports = ports_counted g.I.Intake g.H.Herald k.intake k.herald l.committed t.volume.log.committed k.processes c.self.invariant.ports (ap (λ (m : LogState). m.committed) made.volume.write.step.1.log ∙ same_committed l.commit l l.opened (λ n durable. let both = sym made.volume.write.step.0 ∙ durable in absurd (cc both)));
+      right = right_written g.D.Disk k.opening.value k.store k.processes c.self.invariant.right h.well c.args.pid h.within h.group h.place h.stands t committed.More made g.met.D.Disk.has_now h.joint
+          (agreed_now g.D.Disk.image t now c.known-2.ensures.volume c.known-2.ensures.store) now
+          (ap (λ (m : LogState). is_quiet m.commit) makes.log ∙ goes_on holds l.commit l l.opened h.busy (λ done. let both = sym makes.answer ∙ done in absurd (cc both))) makes.faults;
+      ports = ports_counted g.I.Intake g.H.Herald k.intake k.herald l.committed t.volume.log.committed k.processes c.self.invariant.ports (ap (λ (m : LogState). m.committed) makes.log ∙ same_committed holds l.commit l l.opened (λ n durable. let both = sym makes.answer ∙ durable in absurd (cc both)));
     }
 
 pub invariant_of-self-in-Durable : goal.invariant_of-self-in-Durable
@@ -85,11 +93,13 @@ invariant_of-self-in-Durable g c =
     let t = c.commit_step-committed.new.self in let l = k.store.volume.log in
     let made : Commits g.D.Disk k.store (committed.Durable c.in-Durable.group) t = subst (λ (r : Committed). Commits g.D.Disk k.store r t) c.in-Durable.is c.commit_step-committed.ensures.commits in
     let now : t.volume.fault ≡ fault_of_step (committed.Durable c.in-Durable.group) = made.volume.fault in
+    let holds = g.D.Disk.holding (g.D.Disk.name k.store.volume.device) in
+    let makes = makes_of g.D.Disk k.store t (committed.Durable c.in-Durable.group) refl made in
     record {
-      right = right_written g.D.Disk k.opening.value k.store k.processes c.self.invariant.right h.well c.args.pid h.within h.group h.place h.stands t (committed.Durable c.in-Durable.group) made g.met.D.Disk.has_now
-          (agreed_now g.D.Disk.image t now c.known-2.ensures.volume c.known-2.ensures.store) now made.volume.write.step.1.log
-          (goes_on l.commit l l.opened h.busy (λ done. let both = sym made.volume.write.step.0 ∙ done in absurd (cc both))) made.volume.write.faults;
-      ports = ports_stay g.I.Intake g.H.Herald k.intake k.intake k.herald c.durable.new.self l.committed t.volume.log.committed k.processes k.processes c.self.invariant.ports refl refl refl c.self.invariant.ports.room (λ p h fits. fits) (c.durable.ensures.count ∙ durable_count l t.volume.log c.in-Durable.group made.volume.write.step.0 made.volume.write.step.1.log);
+      right = right_written g.D.Disk k.opening.value k.store k.processes c.self.invariant.right h.well c.args.pid h.within h.group h.place h.stands t (committed.Durable c.in-Durable.group) made g.met.D.Disk.has_now h.joint
+          (agreed_now g.D.Disk.image t now c.known-2.ensures.volume c.known-2.ensures.store) now
+          (ap (λ (m : LogState). is_quiet m.commit) makes.log ∙ goes_on holds l.commit l l.opened h.busy (λ done. let both = sym makes.answer ∙ done in absurd (cc both))) makes.faults;
+      ports = ports_stay g.I.Intake g.H.Herald k.intake k.intake k.herald c.durable.new.self l.committed t.volume.log.committed k.processes k.processes c.self.invariant.ports refl refl refl c.self.invariant.ports.room (λ p h fits. fits) (c.durable.ensures.count ∙ durable_count holds l t.volume.log c.in-Durable.group makes.answer makes.log);
     }
 
 pub invariant_of-self-in-Done : goal.invariant_of-self-in-Done
@@ -98,11 +108,14 @@ invariant_of-self-in-Done g c =
     let t = c.commit_step-committed.new.self in let l = k.store.volume.log in
     let made : Commits g.D.Disk k.store committed.Done t = subst (λ (r : Committed). Commits g.D.Disk k.store r t) c.in-Done.is c.commit_step-committed.ensures.commits in
     let now : t.volume.fault ≡ fault_of_step committed.Done = made.volume.fault in
-    let same : t.volume.log.committed ≡ l.committed = (ap (λ (m : LogState). m.committed) made.volume.write.step.1.log ∙ same_committed l.commit l l.opened (λ n durable. let both = sym made.volume.write.step.0 ∙ durable in absurd (cc both))) in
+    let holds = g.D.Disk.holding (g.D.Disk.name k.store.volume.device) in
+    let makes = makes_of g.D.Disk k.store t committed.Done refl made in
+    let same : t.volume.log.committed ≡ l.committed = (ap (λ (m : LogState). m.committed) makes.log ∙ same_committed holds l.commit l l.opened (λ n durable. let both = sym makes.answer ∙ durable in absurd (cc both))) in
     record {
       right = subst (λ (w : World). IsRight g.D.Disk k.opening.value t w) (sym c.give.ensures.processes)
-          (right_done g.D.Disk k.opening.value k.store k.processes c.self.invariant.right h.well c.args.pid h.within h.group h.place h.stands t committed.Done made g.met.D.Disk.has_now
-          (agreed_now g.D.Disk.image t now c.known-2.ensures.volume c.known-2.ensures.store) now made.volume.write.step.1.log (over_now l.commit l l.opened made.volume.write.step.0) made.volume.write.faults);
+          (right_done g.D.Disk k.opening.value k.store k.processes c.self.invariant.right h.well c.args.pid h.within h.group h.place h.stands t committed.Done made g.met.D.Disk.has_now h.joint
+          (agreed_now g.D.Disk.image t now c.known-2.ensures.volume c.known-2.ensures.store) now
+          (ap (λ (m : LogState). is_quiet m.commit) makes.log ∙ over_now holds l.commit l l.opened makes.answer) makes.faults);
       ports = ports_given g.I.Intake g.H.Herald k.intake c.give.new.intake k.herald k.herald l.committed t.volume.log.committed k.processes c.give.new.processes c.args.pid
           c.self.invariant.ports h.within h.answer.0 c.give.ensures.processes c.give.ensures.gives (c.self.invariant.ports.told ∙ sym same);
     }
@@ -112,11 +125,11 @@ invariant_of-self-in-Fault g c =
     let k = c.self.inside in let h = head g (goal.at.invariant_of-self-in-Fault g c).After-known in
     let t = c.commit_step-committed.new.self in let l = k.store.volume.log in
     let made : Commits g.D.Disk k.store (committed.Fault c.in-Fault.field-0) t = subst (λ (r : Committed). Commits g.D.Disk k.store r t) c.in-Fault.is c.commit_step-committed.ensures.commits in
-    let now : t.volume.fault ≡ fault_of_step (committed.Fault c.in-Fault.field-0) = made.volume.fault in
+    let failed = commit_fails g.D.Disk k.store.volume.device k.store.volume.buffers l t.volume.device t.volume.buffers t.volume.log c.in-Fault.field-0 (committed.Fault c.in-Fault.field-0) refl made.volume.write in
     record {
-      right = right_unwritten g.D.Disk k.opening.value k.store k.processes c.self.invariant.right h.well c.args.pid h.within h.group h.place h.stands t (committed.Fault c.in-Fault.field-0) made g.met.D.Disk.has_now c.known.ensures.store
-          c.in-Fault.field-0 refl made.volume.write.step.log made.volume.write.faults.0 made.volume.write.faults.1;
-      ports = ports_counted g.I.Intake g.H.Herald k.intake k.herald l.committed t.volume.log.committed k.processes c.self.invariant.ports (ap (λ (m : LogState). m.committed) made.volume.write.step.log);
+      right = right_unwritten g.D.Disk k.opening.value k.store k.processes c.self.invariant.right h.well c.args.pid h.within h.group h.place h.stands t (committed.Fault c.in-Fault.field-0) made g.met.D.Disk.has_now h.joint c.known.ensures.store
+          c.in-Fault.field-0 refl (where_none k.store.volume.fault h.well c.known.ensures.survives) failed.1 failed.2;
+      ports = ports_counted g.I.Intake g.H.Herald k.intake k.herald l.committed t.volume.log.committed k.processes c.self.invariant.ports (ap (λ (m : LogState). m.committed) failed.1);
     }
 
 pub returns-in-More : goal.returns-in-More

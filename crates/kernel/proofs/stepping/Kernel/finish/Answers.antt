@@ -4,7 +4,7 @@ use Rattle.model.specs.declared.types.operations.Op.{Op}
 use Rattle.model.specs.declared.types.operations.Reply.{Reply}
 use Rattle.model.specs.declared.types.operations.TaskProgress.{TaskProgress}
 use Rattle.model.specs.declared.types.operations.TaskProgress.TheVariants as progress
-use Rattle.model.specs.Tasks.{fault_of_task}
+use Rattle.wal.specs.Volume.{fault_of_task}
 use Rattle.inodes.specs.Steps.{Steps}
 use Rattle.inodes.specs.Store.{StoreState}
 use Rattle.inodes.specs.Tasks.{task}
@@ -22,6 +22,7 @@ use Rattle.kernel.proofs.Acting.{acts_finished, sides_same}
 use Rattle.kernel.proofs.Answering.{IsThere, is_there, op_is, mine_is, answer_over, answer_told, some_reply}
 use Rattle.kernel.proofs.Ports.{ports_decided, ports_ending, ports_given}
 use Rattle.kernel.proofs.Valid.{HasAgreed, agreed_now}
+use Rattle.kernel.proofs.Right.{survives_reading}
 use Rattle.kernel.proofs.Working.{ends_now, right_moved_behind, right_fault_behind, right_decided, right_ends, right_over, right_told}
 use Rattle.kernel.proofs.stepping.Kernel.finish.Given.{Over}
 use Rattle.kernel.proofs.stepping.Kernel.finish.Goals.{After-known-2}
@@ -216,7 +217,8 @@ invariant_of-self-in-Fault g c =
     let h = head g (goal.at.invariant_of-self-in-Fault g c).After-known-2 in
     let steps = h.steps (progress.Fault c.in-Fault.field-0) c.in-Fault.is in
     record {
-      right = right_fault_behind g.D.Disk k.opening.value k.store k.processes c.self.invariant.right h.well c.args.pid h.within c.operation-op.result.now h.mine c.known.ensures.store c.step-progress.new.self h.there.group h.there.k h.there.stands c.in-Fault.field-0 steps;
+      right = right_fault_behind g.D.Disk k.opening.value k.store k.processes c.self.invariant.right h.well c.args.pid h.within c.operation-op.result.now h.mine c.known.ensures.store c.step-progress.new.self h.there.group h.there.k h.there.stands c.in-Fault.field-0
+          (survives_reading g.D.Disk k.opening.value k.store c.step-progress.new.self g.met.D.Disk.counts_now steps.reads.device h.well c.known.ensures.survives) steps;
       ports = subst (λ (n : ℕ). ArePorts g.I.Intake g.H.Herald k.intake k.herald n k.processes) (sym steps.groups.committed) c.self.invariant.ports;
     }
 

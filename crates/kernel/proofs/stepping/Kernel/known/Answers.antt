@@ -13,6 +13,7 @@ use Rattle.kernel.proofs.Lasting.{lasts_now}
 use Rattle.kernel.proofs.Awaking.{awake_now}
 use Rattle.kernel.proofs.Resting.{at_rest, if_both, stands_for}
 use Rattle.wal.specs.Lemmas.Volume.{none_seen}
+use Rattle.kernel.proofs.Right.{keeps_now}
 use Rattle.kernel.proofs.stepping.Kernel.known.Goals as goal
 
 pub returns : goal.returns
@@ -21,12 +22,12 @@ returns g c =
     let right = c.self.invariant.right in
     let ports = c.self.invariant.ports in
     let keeps : (x : Image) → g.D.Disk.leaves k.store.volume.device (g.D.Disk.moment k.store.volume.device) x → KeepsNow k.store.volume (g.D.Disk.image k.opening.value) k.processes.journal.list x =
-    λ x left. subst (λ (y : Image). KeepsNow k.store.volume (g.D.Disk.image k.opening.value) k.processes.journal.list y) (sym (g.met.D.Disk.only_now k.store.volume.device x left)) right.keeps in
+    keeps_now g.D.Disk k.opening.value k.store k.processes k.store.volume.fault right.facts right.keeps c.known.ensures.survives in
     let buffers : c.cache.result.now ≡ k.store.volume.buffers = search rules in
     let lasts = lasts_now g.D.Disk k.opening.value k.store k.processes c.known.ensures.store right in
     subst (λ (o : State _ _ _). Known g.D.Disk g.I.Intake g.H.Herald o) c.self.view_is (record {
       keeps = keeps;
-      reopens = λ x left. opens_again _ x _ _ (keeps x left).keeps;
+      reopens = λ x left. opens_again _ x _ _ (keeps x left).between.keeps;
       current = if_both k.store.volume.fault (λ has joint. record {
         files = λ none. known_current _ _ _ _ has.facts none;
         idle = λ all. known_files _ _ _ _ has.facts all;

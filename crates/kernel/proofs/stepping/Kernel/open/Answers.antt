@@ -1,13 +1,14 @@
 use Rattle.std.proofs.Common.{None, rules, refl, replicate, ◌≡◌, ◌≤◌, ℕ, ◌∙◌, sym, ap, subst, length, arith}
 use Rattle.std.proofs.lemmas.List.{length-replicate}
-use Rattle.blocks.specs.Disk.{Image, LeavesOnly}
+use Rattle.blocks.specs.Disk.{Image}
 use Rattle.model.specs.Layout.{is_lawful_super, inode_count_of}
 use Rattle.model.specs.Log.{recovered}
 use Rattle.model.specs.Soundness.{IsSound}
 use Rattle.model.specs.Lemmas.Log.{length-recovered}
 use Rattle.model.specs.Lemmas.Soundness.{verdict_sound}
 use Rattle.wal.specs.Machine.{new_log}
-use Rattle.wal.specs.Recovery.{RecoversAs}
+use Rattle.wal.specs.Recovery.{IsCalm}
+use Rattle.kernel.specs.Opening.{LeavesRecovered}
 use Rattle.wal.specs.Volume.{VolumeState}
 use Rattle.inodes.specs.Store.{StoreState, FitsFiles, fresh_volume}
 use Rattle.model.specs.Files.{files_of}
@@ -17,7 +18,7 @@ use Rattle.inodes.specs.Tasks.{no_task}
 use Rattle.journal.specs.Processes.{World, fresh_world}
 use Rattle.kernel.specs.Invariant.{IsRight, ArePorts}
 use Rattle.kernel.proofs.AtOpening.{right_new}
-use Rattle.kernel.proofs.Openings.{super_size, lawful_here, recover_cause, opened_numbers, empty_left, recover_unwritten, store_is}
+use Rattle.kernel.proofs.Openings.{super_size, lawful_here, recover_cause, syncs_at_open, opened_numbers, empty_left, recover_unwritten, store_is}
 use Rattle.kernel.proofs.Ports.{ports_new}
 use Rattle.kernel.specs.Lemmas.Openings.{opened_leaves, lawful_super}
 use Rattle.kernel.proofs.stepping.Kernel.open.Goals as goal
@@ -80,13 +81,20 @@ invariant_of-result g c =
           (ports_new g.I.Intake g.H.Herald c.args.intake c.args.herald s.volume.log.committed c.args.processes c.requires.served (c.requires.told ∙ sym (ap (λ (v : VolumeState _). v.log.committed) volume)) c.requires.fits);
     }
 
+pub open-requires-clause-settled : goal.open-requires-clause-settled
+open-requires-clause-settled g c = c.in_default-recover.ensures.ok.settles.settled
+
 pub returns-in-Err-recover-clause-refused : goal.returns-in-Err-recover-clause-refused
-returns-in-Err-recover-clause-refused g c = record {
-  cause = (search rules, search rules, c.in-Ok.ensures.ok, recover_cause ℕ (g.D.Disk.image c.args.disk) (g.D.Disk.image c.check.new.disk) c.in-Err-recover.fault _ (g.D.Disk.fault_count c.check.new.disk) _ c.in-Ok.ensures.ok c.check.ensures.reads.image c.in-Ok.ensures.faults c.in-Err-recover.ensures.refused.fault c.in-Err-recover.ensures.refused.bad);
-  unwritten = recover_unwritten ℕ g.D.Disk c.args.disk c.check.new.disk c.recover.new.disk c.in-Err-recover.fault c.check.ensures.reads c.in-Err-recover.ensures.refused.unwritten c.in-Err-recover.ensures.refused.memory;
-  name = c.recover.ensures.name ∙ c.check.ensures.reads.name;
-  leaves = opened_leaves g.D.Disk g.met.D.Disk.only_now c.args.disk c.check.new.disk c.recover.new.disk c.check.ensures.reads c.recover.ensures.stops.any_moment;
-}
+returns-in-Err-recover-clause-refused g c =
+    let refused = c.in-Err-recover.ensures.refused in
+    let reads = c.check.ensures.reads in
+    record {
+      cause = (search rules, search rules, c.in-Ok.ensures.ok, recover_cause ℕ g.D.Disk c.args.disk c.check.new.disk c.recover.new.disk c.in-Err-recover.fault c.in-Ok.ensures.ok reads c.in-Ok.ensures.faults refused);
+      unwritten = recover_unwritten ℕ g.D.Disk c.args.disk c.check.new.disk c.recover.new.disk c.in-Err-recover.fault reads refused.unwritten refused.memory;
+      name = c.recover.ensures.name ∙ reads.name;
+      leaves = opened_leaves g.D.Disk c.args.disk c.check.new.disk c.recover.new.disk reads c.recover.ensures.stops;
+      plain = λ free. c.recover.ensures.stops.plain (ap g.D.Disk.holding reads.name ∙ free) ∙ reads.syncs;
+    }
 
 pub returns-clause-opened : goal.returns-clause-opened
 returns-clause-opened g c =
@@ -113,6 +121,7 @@ returns-clause-opened g c =
       name = ap g.D.Disk.name opening ∙ c.recover.ensures.name ∙ c.check.ensures.reads.name;
       writes = search rules;
       faults = search rules;
-      leaves = subst (λ (o : _). LeavesOnly g.D.Disk.moment g.D.Disk.leaves c.args.disk o (RecoversAs (g.D.Disk.image c.args.disk))) (sym opening)
-          (opened_leaves g.D.Disk g.met.D.Disk.only_now c.args.disk c.check.new.disk c.recover.new.disk c.check.ensures.reads c.recover.ensures.stops.any_moment);
+      syncs = ap g.D.Disk.sync_count opening ∙ syncs_at_open g.D.Disk c.args.disk c.check.new.disk d _ c.check.ensures.reads c.in_default-recover.ensures.ok;
+      settled = subst (IsCalm g.D.Disk) (sym opening) c.in_default-recover.ensures.ok.settles.settled;
+      leaves = subst (LeavesRecovered g.D.Disk c.args.disk) (sym opening) (opened_leaves g.D.Disk c.args.disk c.check.new.disk d c.check.ensures.reads c.recover.ensures.stops);
     }

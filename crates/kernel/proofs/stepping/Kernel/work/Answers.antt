@@ -3,7 +3,7 @@ use Rattle.blocks.specs.declared.disk.Disk.{Ghosts}
 use Rattle.model.specs.declared.types.operations.Op.{Op}
 use Rattle.model.specs.declared.types.operations.TaskProgress.{TaskProgress}
 use Rattle.model.specs.declared.types.operations.TaskProgress.TheVariants as progress
-use Rattle.model.specs.Tasks.{fault_of_task}
+use Rattle.wal.specs.Volume.{fault_of_task}
 use Rattle.inodes.specs.Places.{is_over}
 use Rattle.inodes.specs.Steps.{Steps}
 use Rattle.inodes.specs.Store.{StoreState}
@@ -18,6 +18,7 @@ use Rattle.kernel.specs.Steps.{Acts}
 use Rattle.kernel.proofs.Acting.{acts_worked}
 use Rattle.kernel.proofs.Ports.{ports_turned}
 use Rattle.kernel.proofs.Valid.{HasAgreed, agreed_now}
+use Rattle.kernel.proofs.Right.{survives_reading}
 use Rattle.kernel.proofs.Working.{right_moved, right_turned, right_fault}
 use Rattle.kernel.proofs.stepping.Kernel.work.Given.{Over}
 use Rattle.kernel.proofs.stepping.Kernel.work.Goals.{After-known-2}
@@ -95,7 +96,8 @@ invariant_of-self-in-Fault g c =
     let h = head g (goal.at.invariant_of-self-in-Fault g c).After-known-2 in
     let steps = h.steps (progress.Fault c.in-Fault.field-0) c.in-Fault.is in
     record {
-      right = right_fault g.D.Disk k.opening.value k.store k.processes c.self.invariant.right h.well c.args.pid h.within c.in-Before.op h.mine c.known.ensures.store c.step-progress.new.self c.in-Before.group h.stands c.in-Fault.field-0 steps;
+      right = right_fault g.D.Disk k.opening.value k.store k.processes c.self.invariant.right h.well c.args.pid h.within c.in-Before.op h.mine c.known.ensures.store c.step-progress.new.self c.in-Before.group h.stands c.in-Fault.field-0
+          (survives_reading g.D.Disk k.opening.value k.store c.step-progress.new.self g.met.D.Disk.counts_now steps.reads.device h.well c.known.ensures.survives) steps;
       ports = subst (λ (n : ℕ). ArePorts g.I.Intake g.H.Herald k.intake k.herald n k.processes) (sym steps.groups.committed) c.self.invariant.ports;
     }
 

@@ -5,33 +5,35 @@ use Rattle.wal.proofs.BlocksLemmas.{blocks_acquired}
 use Rattle.wal.proofs.HeldLemmas.{gets_acquired, gets_filled, waits_acquired}
 use Rattle.wal.specs.declared.types.Get.TheVariants as get
 use Rattle.wal.proofs.StepLemmas.{joint_acquired}
-use Rattle.wal.proofs.VolumeLemmas.{filled_holds, if_whole, joint_here, blocks_here, seen_acquired}
+use Rattle.wal.proofs.VolumeLemmas.{filled_holds, floats_at, if_whole, joint_here, blocks_here, seen_acquired}
 use Rattle.wal.specs.Lemmas.Volume.{acquired_now, holds_now}
 use Rattle.wal.proofs.volume.Volume.get.Goals as goal
 
 pub invariant_of-self-in-Got-default-true : goal.invariant_of-self-in-Got-default-true
 invariant_of-self-in-Got-default-true g c =
-    let joint = joint_here g.D.Disk.image _ _ c.self.view_is c.requires.fault c.self.invariant in
+    let joint = joint_here g.D.Disk _ _ c.self.view_is c.requires.fault c.self.invariant in
     if_whole _ (joint_acquired _ _ c.args.pid c.args.block joint c.requires.behind (search rules) c.acquire.ensures.cache)
-    (blocks_acquired _ _ c.args.pid c.args.block joint.cache (blocks_here g.D.Disk.image _ _ c.self.view_is c.requires.fault c.self.invariant) c.acquire.ensures.cache)
+    (blocks_acquired _ _ c.args.pid c.args.block joint.cache (blocks_here g.D.Disk _ _ c.self.view_is c.requires.fault c.self.invariant) c.acquire.ensures.cache)
+    (floats_at g.D.Disk _ _ c.self.view_is c.requires.fault c.self.invariant)
 
 pub invariant_of-self-in-Got-default-false : goal.invariant_of-self-in-Got-default-false
 invariant_of-self-in-Got-default-false g c =
-    let joint = joint_here g.D.Disk.image _ _ c.self.view_is c.requires.fault c.self.invariant in
+    let joint = joint_here g.D.Disk _ _ c.self.view_is c.requires.fault c.self.invariant in
     if_whole _ (joint_acquired _ _ c.args.pid c.args.block joint c.requires.behind (search rules) c.acquire.ensures.cache)
-    (blocks_acquired _ _ c.args.pid c.args.block joint.cache (blocks_here g.D.Disk.image _ _ c.self.view_is c.requires.fault c.self.invariant) c.acquire.ensures.cache)
+    (blocks_acquired _ _ c.args.pid c.args.block joint.cache (blocks_here g.D.Disk _ _ c.self.view_is c.requires.fault c.self.invariant) c.acquire.ensures.cache)
+    (floats_at g.D.Disk _ _ c.self.view_is c.requires.fault c.self.invariant)
 
 pub fill-requires-clause-lacks : goal.fill-requires-clause-lacks
 fill-requires-clause-lacks g c =
     let arm = c.in-Got-default-false in
-    let joint = joint_here g.D.Disk.image _ _ c.self.view_is c.requires.fault c.self.invariant in
+    let joint = joint_here g.D.Disk _ _ c.self.view_is c.requires.fault c.self.invariant in
     let has = acquired_now c.self.inside.cache c.acquire.new.self c.args.pid c.args.block arm.slot false arm.valid joint.cache arm.ensures.answer arm.valid-test c.acquire.ensures.cache in
     record { slot = has.slot; block = has.block; valid = has.valid }
 
 pub returns-in-Got-default-true-clause-gets : goal.returns-in-Got-default-true-clause-gets
 returns-in-Got-default-true-clause-gets g c =
     let arm = c.in-Got-default-true in
-    let joint = joint_here g.D.Disk.image _ _ c.self.view_is c.requires.fault c.self.invariant in
+    let joint = joint_here g.D.Disk _ _ c.self.view_is c.requires.fault c.self.invariant in
     let has = acquired_now c.self.inside.cache c.acquire.new.self c.args.pid c.args.block arm.slot true arm.valid joint.cache arm.ensures.answer arm.valid-test c.acquire.ensures.cache in
     record {
       answer = search rules;
@@ -44,7 +46,7 @@ returns-in-Got-default-true-clause-gets g c =
 pub returns-in-Got-default-false-clause-gets : goal.returns-in-Got-default-false-clause-gets
 returns-in-Got-default-false-clause-gets g c =
     let arm = c.in-Got-default-false in
-    let joint = joint_here g.D.Disk.image _ _ c.self.view_is c.requires.fault c.self.invariant in
+    let joint = joint_here g.D.Disk _ _ c.self.view_is c.requires.fault c.self.invariant in
     let has = acquired_now c.self.inside.cache c.acquire.new.self c.args.pid c.args.block arm.slot false arm.valid joint.cache arm.ensures.answer arm.valid-test c.acquire.ensures.cache in
     record {
       answer = search rules;
@@ -61,7 +63,7 @@ returns-in-Got-default-true-clause-reads g c =
       fault = search rules;
       log = search rules;
       current = subst (λ s. seen x c.acquire.new.self ≡ seen (g.D.Disk.image s.device) s.buffers) c.self.view_is
-          (seen_acquired c.self.inside.cache c.acquire.new.self c.args.pid c.args.block (joint_here g.D.Disk.image _ _ c.self.view_is c.requires.fault c.self.invariant) c.acquire.ensures.cache);
+          (seen_acquired c.self.inside.cache c.acquire.new.self c.args.pid c.args.block (joint_here g.D.Disk _ _ c.self.view_is c.requires.fault c.self.invariant) c.acquire.ensures.cache);
       device = search rules;
       faults = search rules;
     }
@@ -73,7 +75,7 @@ returns-in-Got-default-false-clause-reads g c =
       fault = search rules;
       log = search rules;
       current = subst (λ s. seen (g.D.Disk.image c.fill.new.self.device) c.fill.new.self.buffers ≡ seen (g.D.Disk.image s.device) s.buffers) c.self.view_is
-          (c.fill.ensures.reads.current ∙ seen_acquired c.self.inside.cache c.acquire.new.self c.args.pid c.args.block (joint_here g.D.Disk.image _ _ c.self.view_is c.requires.fault c.self.invariant) c.acquire.ensures.cache);
+          (c.fill.ensures.reads.current ∙ seen_acquired c.self.inside.cache c.acquire.new.self c.args.pid c.args.block (joint_here g.D.Disk _ _ c.self.view_is c.requires.fault c.self.invariant) c.acquire.ensures.cache);
       device = search rules;
       faults = search rules;
     }
@@ -81,7 +83,7 @@ returns-in-Got-default-false-clause-reads g c =
 pub returns-in-Got-default-true-clause-locks : goal.returns-in-Got-default-true-clause-locks
 returns-in-Got-default-true-clause-locks g c =
     let arm = c.in-Got-default-true in
-    let joint = joint_here g.D.Disk.image _ _ c.self.view_is c.requires.fault c.self.invariant in
+    let joint = joint_here g.D.Disk _ _ c.self.view_is c.requires.fault c.self.invariant in
     let has = acquired_now c.self.inside.cache c.acquire.new.self c.args.pid c.args.block arm.slot true arm.valid joint.cache arm.ensures.answer arm.valid-test c.acquire.ensures.cache in
     subst (λ s. LocksAfter (get.Got arm.slot) s.buffers c.acquire.new.self c.args.pid c.args.block) c.self.view_is
     (gets_acquired c.self.inside.cache c.acquire.new.self c.args.pid c.args.block arm.slot arm.valid joint.cache arm.ensures.answer c.acquire.ensures.cache has)
@@ -89,7 +91,7 @@ returns-in-Got-default-true-clause-locks g c =
 pub returns-in-Got-default-false-clause-locks : goal.returns-in-Got-default-false-clause-locks
 returns-in-Got-default-false-clause-locks g c =
     let arm = c.in-Got-default-false in
-    let joint = joint_here g.D.Disk.image _ _ c.self.view_is c.requires.fault c.self.invariant in
+    let joint = joint_here g.D.Disk _ _ c.self.view_is c.requires.fault c.self.invariant in
     let joint' = joint_acquired c.self.inside.cache c.acquire.new.self c.args.pid c.args.block joint c.requires.behind (search rules) c.acquire.ensures.cache in
     let has = acquired_now c.self.inside.cache c.acquire.new.self c.args.pid c.args.block arm.slot false arm.valid joint.cache arm.ensures.answer arm.valid-test c.acquire.ensures.cache in
     subst (λ s. LocksAfter c.fill.result s.buffers c.fill.new.self.buffers c.args.pid c.args.block) c.self.view_is

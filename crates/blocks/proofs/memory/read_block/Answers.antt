@@ -2,13 +2,13 @@ use Rattle.std.proofs.Common.{◌≡◌, [], length, refl, sym, ◌∙◌, ap, S
 use Rattle.std.proofs.lemmas.List.{get_or_read}
 use Rattle.std.proofs.lemmas.Option.{slice_get_read}
 use Rattle.blocks.proofs.BlockLemmas.{overwritten-whole}
-use Rattle.blocks.proofs.memory.MemDiskDisk.read.Goals as goal
+use Rattle.blocks.proofs.memory.read_block.Goals as goal
 
-pub returns-clause-ok : goal.returns-clause-ok
-returns-clause-ok c =
-    let image = c.args.self.now.blocks.items in
+pub returns : goal.returns
+returns c =
+    let image = c.args.blocks.now.items in
     let b = c.args.block in
     let block = c.index.result.now in
-    let size : length block ≡ 1024 = ap length (get_or_read image b block c.requires c.index.ensures []) ∙ (c.args.self.now.is_image b c.requires).size in
+    let size : length block ≡ 1024 = ap length (get_or_read image b block c.requires.inside c.index.ensures []) ∙ (c.requires.image b c.requires.inside).size in
     let whole : c.put.new.self ≡ block = c.put.ensures.written ∙ overwritten-whole _ block (ap length (sym c.put.ensures.written) ∙ c.put.ensures.block.size ∙ sym size) in
-    slice_get_read image (length image) b block refl c.requires c.index.ensures ∙ ap Some (sym whole)
+    slice_get_read image (length image) b block refl c.requires.inside c.index.ensures ∙ ap Some (sym whole)

@@ -1,14 +1,15 @@
 use Rattle.std.proofs.Common.{sym, ◌∙◌, ap, subst}
 use Rattle.model.specs.Codec.{header_block}
-use Rattle.wal.specs.Machine.{LogState}
-use Rattle.wal.specs.Joint.{IsPinned, written_at, written_cache}
+use Rattle.wal.specs.Machine.{LogState, is_writing}
+use Rattle.wal.specs.Joint.{IsPinned, stepped_at, written_cache}
 use Rattle.wal.specs.Step.{Faulted, answer_at}
 use Rattle.wal.proofs.CommitBytesLemmas.{is_pinned, log_header}
-use Rattle.wal.proofs.CommitStepLemmas.{stepped, faulted, commits_to, made_counts, crash_step, crash_keeps, crash_lawful}
-use Rattle.wal.proofs.log.Log.commit_step.Goals as goal
+use Rattle.wal.proofs.CommitStepLemmas.{stepped, faulted, commits_to, made_counts, no_fault, crash_step, crash_lands}
+use Rattle.wal.proofs.log.Log.write_part.Goals as goal
 
 pub go_on-requires : goal.go_on-requires
 go_on-requires g c = record {
+  writing = ap (λ (m : LogState). is_writing m.commit) c.in-Ok.ensures.log ∙ c.requires.writing;
   pinned = subst (λ (m : LogState). IsPinned m.commit m.homes c.args.cache.now) (sym c.in-Ok.ensures.log) (is_pinned (g.D.Disk.image c.args.disk.now) c.args.cache.now c.args.self.now c.requires.joint);
 }
 
@@ -23,20 +24,25 @@ returns-in-Ok g c =
     let head = log_header l.commit l c.requires.joint.log in
     let same = c.in-Ok.ensures.log in
     let made = c.in-Ok.ensures.writes in
-    let answer = c.go_on.ensures.answer ∙ ap (λ (m : LogState). answer_at m.commit m.opened) same in
+    let holds = d.holding (d.name old) in
+    let kind = c.holds.ensures ∙ ap d.holding made.name in
+    let answer = c.go_on.ensures.answer ∙ ap (λ (m : LogState). answer_at c.holds.result m.commit m.opened) same ∙ ap (λ b. answer_at b l.commit l.opened) kind in
+    let lands = crash_lands h (d.image old) buffers l (d.leaves old (d.moment old)) (d.leaves new (d.moment new)) c.requires.joint c.requires.writing head c.requires.floats made.crash in
     record {
       write = record {
-        step = commits_to l.commit l.opened c.go_on.result _ _ c.requires.busy answer
-            (stepped h (d.image old) buffers l (d.image new) c.go_on.new.cache c.go_on.new.self c.requires.joint c.requires.busy head
+        step = commits_to (answer_at holds l.commit l.opened) c.go_on.result _ _ (no_fault holds l.commit l.opened) answer
+            (stepped holds h (d.image old) buffers l (d.image new) c.go_on.new.cache c.go_on.new.self (d.leaves old (d.moment old)) (d.leaves new (d.moment new)) c.requires.joint c.requires.writing head
+            c.requires.floats made.crash (λ plain. g.met.D.Disk.only_now new (ap d.holding made.name ∙ plain))
             made.ok (c.go_on.ensures.cache ∙ ap (λ (m : LogState). written_cache m.commit m.homes buffers) same)
-            (c.go_on.ensures.log ∙ ap (λ (m : LogState). written_at m.commit m) same));
+            (c.go_on.ensures.log ∙ ap (λ (m : LogState). stepped_at c.holds.result m.commit m) same ∙ ap (λ b. stepped_at b l.commit l) kind));
         name = made.name;
         time = made.time;
         crash = crash_step h (d.image old) buffers l (d.leaves old (d.moment old)) (d.leaves new (d.moment new)) c.requires.joint made.crash;
-        recovers = crash_keeps h (d.image old) buffers l (d.leaves old (d.moment old)) (d.leaves new (d.moment new)) c.requires.joint c.requires.busy head (g.met.D.Disk.only_now old) made.crash;
-        lawful = crash_lawful h (d.image old) buffers l (d.leaves old (d.moment old)) (d.leaves new (d.moment new)) c.requires.joint c.requires.busy head (g.met.D.Disk.only_now old) made.crash;
-        writes = made_counts l.commit l.opened c.go_on.result _ _ _ answer made.writes;
-        faults = made_counts l.commit l.opened c.go_on.result _ _ _ answer made.faults;
+        recovers = λ z left. (lands z left).keeps;
+        lawful = λ z left. (lands z left).lawful;
+        writes = made_counts (answer_at holds l.commit l.opened) c.go_on.result _ _ _ (no_fault holds l.commit l.opened) answer made.writes;
+        faults = made_counts (answer_at holds l.commit l.opened) c.go_on.result _ _ _ (no_fault holds l.commit l.opened) answer made.faults;
+        syncs = made.syncs;
       };
     }
 
@@ -50,6 +56,7 @@ returns-in-Err g c =
     let h = header_block l.homes in
     let head = log_header l.commit l c.requires.joint.log in
     let failed = c.in-Err.ensures.writes in
+    let lands = crash_lands h (d.image old) buffers l (d.leaves old (d.moment old)) (d.leaves new (d.moment new)) c.requires.joint c.requires.writing head c.requires.floats failed.crash in
     record {
       write = record {
         step = subst (λ (m : LogState). Faulted h (d.image old) buffers l (d.image new) buffers m) (sym c.in-Err.ensures.log)
@@ -57,9 +64,10 @@ returns-in-Err g c =
         name = failed.name;
         time = failed.time;
         crash = crash_step h (d.image old) buffers l (d.leaves old (d.moment old)) (d.leaves new (d.moment new)) c.requires.joint failed.crash;
-        recovers = crash_keeps h (d.image old) buffers l (d.leaves old (d.moment old)) (d.leaves new (d.moment new)) c.requires.joint c.requires.busy head (g.met.D.Disk.only_now old) failed.crash;
-        lawful = crash_lawful h (d.image old) buffers l (d.leaves old (d.moment old)) (d.leaves new (d.moment new)) c.requires.joint c.requires.busy head (g.met.D.Disk.only_now old) failed.crash;
+        recovers = λ z left. (lands z left).keeps;
+        lawful = λ z left. (lands z left).lawful;
         writes = (failed.writes, failed.faults);
         faults = (c.in-Err.ensures.fault, failed.faults);
+        syncs = failed.syncs;
       };
     }

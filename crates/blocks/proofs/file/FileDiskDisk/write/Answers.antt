@@ -1,0 +1,33 @@
+use Rattle.std.proofs.Common.{◌≡◌, ◌∙◌, ap, false, refl, set, subst, sym, [], arith, length-set}
+use Rattle.std.proofs.lemmas.List.{get_or-set_same}
+use Rattle.blocks.specs.Block.{IsBlock}
+use Rattle.blocks.specs.Disk.{Image, IsImage}
+use Rattle.blocks.specs.Held.{IsSettledOn, IsShadow}
+use Rattle.blocks.proofs.HeldLemmas.{crash_shadow, elapses_on, shadow_written}
+use Rattle.blocks.proofs.file.FileDiskDisk.write.Goals as goal
+
+pub invariant_of-self-2-clause-shadowed : goal.invariant_of-self-2-clause-shadowed
+invariant_of-self-2-clause-shadowed g c =
+    let d = c.args.self.now in
+    let done = c.in_ok-write.ensures in
+    let plain = λ (free : d.holds ≡ false). subst (λ (x : Image). IsSettledOn x c.write-2.new.self.state) (ap (λ v. v.items) c.blocks-2.ensures.blocks ∙ done.ok) (c.write-2.ensures.plain free) in
+    let block : IsBlock c.args.from.now = subst IsBlock (get_or-set_same d.copy.blocks.items c.args.block c.args.from.now [] c.requires)
+    (subst IsImage done.ok c.write.new.self.is_image c.args.block (omega (arith, c.requires, length-set d.copy.blocks.items c.args.block c.args.from.now))) in
+    subst (λ (x : Image). IsShadow d.holds x c.write-2.new.self) (sym done.ok)
+    (shadow_written d.holds d.shadow c.write-2.new.self c.write-2.ensures.past d.copy.blocks.items c.args.block c.args.from.now d.shadowed c.write-2.ensures.held plain d.copy.is_image block)
+
+pub returns-clause-writes : goal.returns-clause-writes
+returns-clause-writes g c =
+    let d = c.args.self.now in
+    let done = c.in_ok-write.ensures in
+    let plain = λ (free : d.holds ≡ false). subst (λ (x : Image). IsSettledOn x c.write-2.new.self.state) (ap (λ v. v.items) c.blocks-2.ensures.blocks ∙ done.ok) (c.write-2.ensures.plain free) in
+    record {
+      name = refl;
+      ok = done.ok;
+      err = tt;
+      writes = done.writes;
+      faults = refl;
+      syncs = done.syncs;
+      time = elapses_on d.shadow c.write-2.new.self c.write-2.ensures.past;
+      crash = crash_shadow d.holds d.shadow c.write-2.new.self c.write-2.ensures.past d.copy.blocks.items c.args.block c.args.from.now d.shadowed c.write-2.ensures.held plain;
+    }
