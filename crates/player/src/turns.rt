@@ -187,6 +187,13 @@ impl<'a, D: Disk + Drop> Player<'a, D> {
         }
     }
 
+    /// How many groups were opened.
+    pub fn opened(&self) -> u64
+        ensures { result ≡ self.now.kernel.store.volume.log.opened }
+    {
+        self.kernel.opened()
+    }
+
     /// The operations that had their turn, the oldest first.
     pub fn journal(&self) -> &[Entry]
         ensures { result.now ≡ self.now.kernel.world.journal.list }

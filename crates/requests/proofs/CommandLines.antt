@@ -76,7 +76,7 @@ few_by name rows (Recover image sync) asks = tt
 few_by name rows (Cat image inum) asks = tt
 few_by name rows (Replay image script schedule stop sync) asks = tt
 few_by name rows (Run image script workers sync) asks = (asks.3.0, asks.3.1)
-few_by name rows (Stops script schedule) asks = tt
+few_by name rows (Stops script schedule held) asks = tt
 
 few_of : (command : Option (List ℕ × List Row)) (request : Request) → Asks command request → HasFewWorkers request
 few_of None request asks = absurd asks

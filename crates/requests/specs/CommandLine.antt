@@ -62,8 +62,8 @@ run_app = with_rule (with_rule (with_rule (image_app (codes "run"))
     (required_rule (codes "SCRIPT"))) workers_rule) (flag_rule (codes "sync"))
 
 abbrev pub stops_app : App
-stops_app = with_rule (with_rule (new_app (codes "stops")) (required_rule (codes "SCRIPT")))
-    (required_rule (codes "SCHEDULE"))
+stops_app = with_rule (with_rule (with_rule (new_app (codes "stops"))
+    (required_rule (codes "SCRIPT"))) (required_rule (codes "SCHEDULE"))) (flag_rule (codes "held"))
 
 -- the program, with no command yet
 abbrev pub bare_app : App
@@ -123,9 +123,9 @@ AsksBy name rows (Run image script workers sync) =
     (name ≡ codes "run") × (first_of (codes "IMAGE") rows ≡ Some image.now)
     × (first_of (codes "SCRIPT") rows ≡ Some script.now) × HasWorkers rows workers
     × HasFlag (codes "sync") rows sync
-AsksBy name rows (Stops script schedule) =
+AsksBy name rows (Stops script schedule held) =
     (name ≡ codes "stops") × (first_of (codes "SCRIPT") rows ≡ Some script.now)
-    × (first_of (codes "SCHEDULE") rows ≡ Some schedule.now)
+    × (first_of (codes "SCHEDULE") rows ≡ Some schedule.now) × HasFlag (codes "held") rows held
 
 abbrev pub Asks : Option (List ℕ × List Row) → Request → Type 0
 Asks None request = ⊥

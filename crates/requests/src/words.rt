@@ -93,6 +93,8 @@ pub enum Request<'a> {
         script: &'a str,
         /// The path of the schedule.
         schedule: &'a str,
+        /// Whether the disk holds writes back until it is synced.
+        held: bool,
     },
 }
 
@@ -135,6 +137,7 @@ fn request_of<'a>(matches: &ArgMatches<'a>) -> Option<Request<'a>>
         "stops" => Some(Request::Stops {
             script: values.get_str("SCRIPT")?,
             schedule: values.get_str("SCHEDULE")?,
+            held: values.get_flag("held"),
         }),
         _ => request_over(name, values),
     }
@@ -263,10 +266,11 @@ fn sync_word<'a>(alloc: Global) -> Arg<'a>
     ensures rule { rule_of result ≡ flag_rule (codes "sync") }
     ensures local { result.global ≡ false }
 {
-    Arg::new(alloc, "sync")
-        .long("sync")
-        .action(ArgAction::SetTrue)
-        .help("Syncs the image's file where the log needs it, for a system that may lose writes")
+    flag(
+        alloc,
+        "sync",
+        "Syncs the image's file where the log needs it, for a system that may lose writes",
+    )
 }
 
 fn cat_words<'a>(alloc: Global) -> Result<Command<'a>, AllocError>
@@ -353,7 +357,23 @@ fn stops_words<'a>(alloc: Global) -> Result<Command<'a>, AllocError>
             alloc,
             "SCHEDULE",
             "The path of the schedule, whose words are turns of the processes",
+        ))?
+        .arg(flag(
+            alloc,
+            "held",
+            "Makes them over a disk that holds writes back, and loses any of these at each stop",
         ))
+}
+
+// A word that may be given.
+fn flag<'a>(alloc: Global, name: &'a str, help: &'a str) -> Arg<'a>
+    ensures rule { rule_of result ≡ flag_rule name.entry.now }
+    ensures local { result.global ≡ false }
+{
+    Arg::new(alloc, name)
+        .long(name)
+        .action(ArgAction::SetTrue)
+        .help(help)
 }
 
 // A word that has to be there.

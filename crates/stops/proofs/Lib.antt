@@ -1,2 +1,4 @@
+pub mod ChoiceLemmas
+pub mod HeldRuns
 pub mod Recovered
 pub mod Runs

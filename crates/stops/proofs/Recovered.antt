@@ -15,7 +15,7 @@ use Rattle.model.specs.Lemmas.Soundness.{sound_verdict, verdict_sound}
 use Rattle.wal.specs.Lemmas.Commits.{empty_lawful}
 use Rattle.player.specs.Causes.{IsRecovered}
 use Rattle.texts.specs.declared.refusal.Refusal.TheVariants.{Check}
-use Rattle.stops.specs.Trials.{HasFiles, is_want_of_memory, new_image}
+use Rattle.stops.specs.Trials.{HasFiles, IsFound, is_want_of_memory, new_image}
 
 -- nothing is logged on a new image
 pub new_empty : logged_count new_image ≡ 0
@@ -42,13 +42,12 @@ once x none = recovered_empty (recovered x) (verdict_sound x none).2.empty_log
 some_files : (a b : Files) → Some a ≡ Some b → a ≡ b
 some_files a b is = cc is
 
--- files were compared with those of an image that was recovered
-pub has_files_so : (x y : Image) (due found : Files) (same : Bool) → verdict x ≡ None → y ≡ recovered x → found ≡ files_of (recovered y) → (IsTrue same ↔ (found ≡ due)) → IsTrue same ↔ HasFiles x (Some due)
-has_files_so x y due found same none is has both =
-    let found_is : found ≡ files_of (recovered x) = has ∙ ap (λ z. files_of (recovered z)) is ∙ ap files_of (once x none) in (
-      λ alike. record { sound = none; files = ap Some (sym (both.0 alike) ∙ found_is) },
-      λ kept. both.1 (found_is ∙ sym (some_files due (files_of (recovered x)) kept.files)),
-    )
+-- files were compared with those that an image has once it is recovered
+pub found_so : (x : Image) (count : ℕ) (found due : Files) (same : Bool) → IsFound x count found → (IsTrue same ↔ (found ≡ due)) → IsTrue same ↔ HasFiles x (Some due)
+found_so x count found due same is both = (
+  λ alike. record { sound = is.sound; files = ap Some (sym (both.0 alike) ∙ is.files) },
+  λ kept. both.1 (is.files ∙ sym (some_files due (files_of (recovered x)) kept.files)),
+)
 
 -- it is another fault than that memory was refused
 pub not_memory : (fault : CheckFault) → is_want_of_memory (Check fault) ≡ false → fault ≢ check.NoMemory

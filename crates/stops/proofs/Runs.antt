@@ -18,7 +18,7 @@ module _ (last : MemoryPlayer) (disk : MemDisk) (entries : List Entry) (committe
       subst (λ d. IsTrue same ↔ HasFiles (ghosts.image d) (kept_files last.kernel.world.journal.list last.kernel.store.volume.log.committed)) is_disk
       (subst (λ f. IsTrue same ↔ HasFiles (ghosts.image disk) f) (is_due ∙ ap₂ kept_files is_journal is_committed) both)
 
-module _ (tasks : List Task) (processes : ℕ) (words : List Word) (stop : ℕ) (player last : MemoryPlayer) (run : MakesRun tasks processes words stop player last) (same : Bool) (kept : IsTrue same ↔ IsKept last) where
+module _ (tasks : List Task) (processes : ℕ) (words : List Word) (stop : ℕ) (player last : MemoryPlayer) (run : MakesRun memory tasks processes words stop player last) (same : Bool) (kept : IsTrue same ↔ IsKept last) where
   pub tried_so : (opened count : ℕ) → same ≡ true → opened ≡ memory.write_count player.kernel.store.volume.device - 0 → count ≡ memory.write_count last.kernel.store.volume.device - opened → IsTried tasks processes words stop count
   tried_so opened count whole before behind = record {
     player = player;

@@ -1,1 +1,4 @@
+pub mod Checks
+pub mod Choices
+pub mod Holding
 pub mod Trials

@@ -1,6 +1,5 @@
 -- The runs of a script over a new image, and the files that what they leave has to have.
 use Rattle.std.specs.Prelude.{◌≡◌, ◌≢◌, ◌<◌, ◌⊎◌, ◌+◌, ◌-◌, ℕ, Bool, true, false, List, replicate, Option, Some, None}
-use Rattle.std.specs.Io.KnownBytes.{Appends}
 use Rattle.blocks.specs.Disk.{Image, counted}
 use Rattle.blocks.specs.contracts.memory.MemDiskDisk.TheImpl.{ghosts}
 use Rattle.blocks.specs.declared.disk.Disk.{Ghosts}
@@ -13,17 +12,15 @@ use Rattle.model.specs.declared.types.operations.Entry.{Entry}
 use Rattle.model.specs.Codec.{made_image}
 use Rattle.model.specs.Files.{Files, files_of}
 use Rattle.model.specs.Journal.{kept, replay}
-use Rattle.model.specs.Log.{recovered}
+use Rattle.model.specs.Log.{logged_count, recovered}
 use Rattle.model.specs.Verdict.{verdict}
 use Rattle.wal.specs.declared.faults.RecoverFault.TheVariants as recover
 use Rattle.scripts.specs.declared.schedule.Word.{Word}
 use Rattle.scripts.specs.declared.script.Task.{Task}
-use Rattle.texts.specs.Output.{images_text}
 use Rattle.texts.specs.declared.events.Event.{Event}
 use Rattle.texts.specs.declared.faults.KernelFault.TheVariants as kernel
-use Rattle.texts.specs.declared.faults.StopsFault.TheVariants.{Mismatch, NoMemory}
 use Rattle.texts.specs.declared.refusal.Refusal.{Refusal}
-use Rattle.texts.specs.declared.refusal.Refusal.TheVariants.{Check, Recover, Open, Stops, Output}
+use Rattle.texts.specs.declared.refusal.Refusal.TheVariants.{Check, Recover, Open}
 use Rattle.player.specs.Afterwards.{IsUnopenedOver}
 use Rattle.player.specs.Opening.{IsArmed, IsOpenedOver}
 use Rattle.player.specs.Stepping.{MakesTurns}
@@ -60,6 +57,18 @@ pub record HasFiles (x : Image) (due : Option Files) : Type 0 where
   pub sound : verdict x ≡ None
   pub files : due ≡ Some (files_of (recovered x))
 
+-- the image was recovered to that one, with so many blocks of its log copied home
+pub record IsRecoveredTo (x : Image) (count : ℕ) (y : Image) : Type 0 where
+  pub sound : verdict x ≡ None
+  pub logged : count ≡ logged_count x
+  pub image : y ≡ recovered x
+
+-- it can be recovered, its log holds so many blocks, and these are its files then
+pub record IsFound (x : Image) (count : ℕ) (found : Files) : Type 0 where
+  pub sound : verdict x ≡ None
+  pub logged : count ≡ logged_count x
+  pub files : found ≡ files_of (recovered x)
+
 -- the refusals that memory was refused
 abbrev pub is_want_of_memory : Refusal → Bool
 is_want_of_memory (Check check.NoMemory) = true
@@ -69,12 +78,12 @@ is_want_of_memory r = false
 
 -- A player of these operations was opened over a new image, and made the turns of these words. The
 -- write of that number, from 1, was the one that isn't made.
-pub record MakesRun (tasks : List Task) (processes : ℕ) (words : List Word) (stop : ℕ)
-    (player last : MemoryPlayer) : Type 0 where
-  pub opened : IsOpenedOver memory.image new_image tasks processes player
-  pub armed : IsArmed memory stop player.kernel.store.volume.device
+pub record MakesRun {D N : Type 0} (disk : Ghosts (FaultyDisk D) (N × Trap)) (tasks : List Task)
+    (processes : ℕ) (words : List Word) (stop : ℕ) (player last : Player D N) : Type 0 where
+  pub opened : IsOpenedOver disk.image new_image tasks processes player
+  pub armed : IsArmed disk stop player.kernel.store.volume.device
   pub events : List Event
-  pub makes : MakesTurns memory stop words events player last
+  pub makes : MakesTurns disk stop words events player last
 
 -- the writes of a run
 abbrev pub writes_of : MemoryPlayer → MemoryPlayer → ℕ
@@ -91,7 +100,7 @@ pub record IsTried (tasks : List Task) (processes : ℕ) (words : List Word) (st
     : Type 0 where
   pub player : MemoryPlayer
   pub last : MemoryPlayer
-  pub run : MakesRun tasks processes words stop player last
+  pub run : MakesRun memory tasks processes words stop player last
   pub writes : count ≡ writes_of player last
   pub kept : IsKept last
 
@@ -100,21 +109,23 @@ pub record HasLost (tasks : List Task) (processes : ℕ) (words : List Word) (st
     : Type 0 where
   pub player : MemoryPlayer
   pub last : MemoryPlayer
-  pub run : MakesRun tasks processes words stop player last
+  pub run : MakesRun memory tasks processes words stop player last
   pub lost : ¬ (IsKept last)
 
 -- over a new image no player was opened, and not for want of memory
-pub record IsUnopenedNew (processes : ℕ) : Type 0 where
-  pub before : MemDisk
-  pub now : MemDisk
+pub record IsUnopenedNew {D N : Type 0} (below : Ghosts D N)
+    (disk : Ghosts (FaultyDisk D) (N × Trap)) (processes : ℕ) : Type 0 where
+  pub before : D
+  pub now : D
   pub refusal : Refusal
-  pub new : ghosts.image before ≡ new_image
-  pub unopened : IsUnopenedOver memory processes before now refusal
+  pub new : below.image before ≡ new_image
+  pub unopened : IsUnopenedOver disk processes before now refusal
   pub other : is_want_of_memory refusal ≡ false
 
 -- why a run doesn't pass
 abbrev pub Fails : List Task → ℕ → List Word → ℕ → Type 0
-Fails tasks processes words stop = HasLost tasks processes words stop ⊎ IsUnopenedNew processes
+Fails tasks processes words stop = HasLost tasks processes words stop
+    ⊎ IsUnopenedNew ghosts memory processes
 
 -- the run that is stopped behind so many writes made just these, and kept its files
 abbrev pub Passes : List Task → ℕ → List Word → ℕ → Type 0
@@ -138,16 +149,3 @@ pub record AllPass (tasks : List Task) (processes : ℕ) (words : List Word) (im
 abbrev pub SomeFails : List Task → ℕ → List Word → Type 0
 SomeFails tasks processes words = Fails tasks processes words 0
     ⊎ ((before : ℕ) × FailsBehind tasks processes words before)
-
--- all images passed, and how many there were was printed
-abbrev pub ChecksAll : List Task → ℕ → List Word → Option (List ℕ) → Option (List ℕ) → Type 0
-ChecksAll tasks processes words old new = (images : ℕ) × AllPass tasks processes words images
-    × Appends old new (images_text images)
-
--- why a check wasn't done; `none` says that nothing was printed
-abbrev pub IsUnchecked : List Task → ℕ → List Word → Type 0 → Refusal → Type 0
-IsUnchecked tasks processes words none (Stops Mismatch) = SomeFails tasks processes words × none
-IsUnchecked tasks processes words none (Stops NoMemory) = none
-IsUnchecked tasks processes words none Output =
-    (images : ℕ) × AllPass tasks processes words images
-IsUnchecked tasks processes words none r = ⊥

@@ -1,12 +1,14 @@
 // The images of runs: new ones, and what they leave.
 ghost use Rattle.std.specs.Prelude.{◌≡◌, ◌↔◌, IfNone, IfOk, IfSome, IsTrue, None};
-ghost use Rattle.model.specs.Log.{recovered};
+ghost use Rattle.model.specs.Log.{logged_count, recovered};
 ghost use Rattle.model.specs.Verdict.{verdict};
 ghost use Rattle.player.specs.Causes.{IsRecovered};
-ghost use Rattle.stops.specs.Trials.{is_want_of_memory, new_image};
+ghost use Rattle.stops.specs.Trials.{IsFound, IsRecoveredTo, is_want_of_memory, new_image};
 
 use blocks::{Block, Disk, MemDisk, NoMemory};
 use layout::{CheckFault, mkfs};
+use plain::files::Files;
+use plain::report::files_after_recovery;
 use player::recover_image;
 use std::alloc::Global;
 use texts::{KernelFault, Refusal};
@@ -28,8 +30,27 @@ pub fn new_image(alloc: Global) -> Result<MemDisk, NoMemory>
     Ok(disk)
 }
 
-/// The blocks of a disk.
-pub fn blocks_of(alloc: Global, disk: &mut MemDisk) -> Result<Vec<Block>, NoMemory>
+/// How many blocks the log of a disk's image holds, and the files that it has once it is recovered;
+/// None where it can't be recovered, twice.
+pub fn recovered_files(alloc: Global, disk: &mut MemDisk) -> Result<Option<(u32, Files)>, NoMemory>
+    ensures some { IfOk result (λ found. IfSome found (λ f.
+        IsFound (⟦<MemDisk as Disk>⟧.image disk.old) f.0 f.1.items)) }
+    ensures none { IfOk result (λ found. IfNone found
+        (¬ (verdict (⟦<MemDisk as Disk>⟧.image disk.old) ≡ None))) }
+{
+    let Some(logged) = recover_twice(alloc, disk)? else {
+        return Ok(None);
+    };
+    let blocks = blocks_of(alloc, disk)?;
+    match files_after_recovery(alloc, blocks.as_slice()) {
+        Ok(files) => Ok(Some((logged, files))),
+        Err(fault) if is_want_of_memory(&Refusal::Check(fault)) => Err(NoMemory),
+        Err(_) => Ok(None),
+    }
+}
+
+// The blocks of a disk.
+fn blocks_of(alloc: Global, disk: &mut MemDisk) -> Result<Vec<Block>, NoMemory>
     ensures { IfOk result (λ blocks. blocks.items ≡ ⟦<MemDisk as Disk>⟧.image disk.old) }
 {
     let mut blocks = Vec::new(alloc);
@@ -44,20 +65,22 @@ pub fn blocks_of(alloc: Global, disk: &mut MemDisk) -> Result<Vec<Block>, NoMemo
     Ok(blocks)
 }
 
-/// Recovers the image of a disk, and once more. Whether it can be recovered, and nothing was left to
-/// do the second time.
-pub fn recovers_twice(alloc: Global, disk: &mut MemDisk) -> Result<bool, NoMemory>
-    ensures sound { IfOk result (λ yes.
-        IsTrue yes ↔ (verdict (⟦<MemDisk as Disk>⟧.image disk.old) ≡ None)) }
-    ensures image { IfOk result (λ yes. IsTrue yes → ⟦<MemDisk as Disk>⟧.image disk.new
-        ≡ recovered (⟦<MemDisk as Disk>⟧.image disk.old)) }
+// Recovers the image of a disk, and once more. How many blocks were copied home the first time; None
+// where it can't be recovered, or something was left to do the second time.
+fn recover_twice(alloc: Global, disk: &mut MemDisk) -> Result<Option<u32>, NoMemory>
+    ensures some { IfOk result (λ logged. IfSome logged (λ n.
+        IsRecoveredTo (⟦<MemDisk as Disk>⟧.image disk.old) n
+        (⟦<MemDisk as Disk>⟧.image disk.new))) }
+    ensures none { IfOk result (λ logged. IfNone logged
+        (¬ (verdict (⟦<MemDisk as Disk>⟧.image disk.old) ≡ None))) }
 {
-    let Some(_copied) = recover(alloc, disk)? else {
-        return Ok(false);
+    let Some(logged) = recover(alloc, disk)? else {
+        return Ok(None);
     };
     match recover(alloc, disk)? {
-        Some(copied) => Ok(copied == 0),
-        None => Ok(false),
+        Some(left) if left == 0 => Ok(Some(logged)),
+        Some(_) => Ok(None),
+        None => Ok(None),
     }
 }
 

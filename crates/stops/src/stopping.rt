@@ -3,8 +3,10 @@ ghost use Rattle.std.specs.Prelude.{◌≡◌, ◌<◌, ◌+◌, ◌^◌, All, I
 ghost use Rattle.std.specs.List.{list_all};
 ghost use Rattle.scripts.specs.Schedule.{is_word_of};
 ghost use Rattle.texts.specs.declared.faults.StopsFault.TheVariants as fault;
-ghost use Rattle.stops.specs.Trials.{AllPass, ChecksAll, FailsBehind, IsUnchecked, Passes, SomeFails};
+ghost use Rattle.stops.specs.Checks.{ChecksAll, FailsSome, IsUnchecked, PassesAll};
+ghost use Rattle.stops.specs.Trials.{AllPass, FailsBehind, Passes, SomeFails};
 
+use crate::holding::try_held_stops;
 use crate::trial::try_run;
 use scripts::{Task, Word};
 use std::alloc::Global;
@@ -21,32 +23,59 @@ pub trait Progress {
 }
 
 /// Checks a script of so many processes, in the turns of a schedule, at each of its stops, and
-/// prints how many images these left: one more than the writes of the whole run.
+/// prints how many images these left: one more than the writes of the whole run. Where `held` is
+/// said, it is made over a disk that holds writes back, and stopped before each sync, too; each stop
+/// then leaves an image for each choice of the held writes that get through, or, where more than 6
+/// are held, for each beginning of them.
 ///
 /// # Errors
 ///
 /// `Stops` with `Mismatch` at the first image that can't be recovered or has other files than those
-/// after the committed groups, and with `NoMemory` where memory was refused, also that of an
-/// operation: then nothing was printed. Else `Output`.
+/// after the committed groups (over a disk that holds writes back those after all groups that were
+/// opened, where the image's own header logs something), and with `NoMemory` where memory was
+/// refused, also that of an operation: then nothing was printed. Else `Output`.
 pub fn check_stops<P: Progress, O: Write>(
     alloc: Global,
     tasks: &[Task],
     processes: u32,
     words: &[Word],
+    held: bool,
     progress: &mut P,
     out: &mut O,
 ) -> Result<(), Refusal>
     requires tasks { All (λ task. task.pid < processes) tasks.now }
     requires words { IsTrue (list_all (is_word_of processes) words.now) }
-    ensures checked { OnOk result (ChecksAll tasks.now processes words.now
+    ensures checked { OnOk result (ChecksAll held tasks.now processes words.now
         (O.contents out.old) (O.contents out.new)) }
-    ensures refused { IfErr result (IsUnchecked tasks.now processes words.now
+    ensures refused { IfErr result (IsUnchecked held tasks.now processes words.now
         (out.new ≡ out.old)) }
 {
-    let tried = try_stops(alloc, tasks, processes, words, progress);
+    let tried = try_all(alloc, tasks, processes, words, held, progress);
     progress.ended();
     let images = tried.map_err(Refusal::Stops)?;
     print_images(out, images)
+}
+
+// Makes all runs over a disk of that kind. How many images there were.
+fn try_all<P: Progress>(
+    alloc: Global,
+    tasks: &[Task],
+    processes: u32,
+    words: &[Word],
+    held: bool,
+    progress: &mut P,
+) -> Result<u64, StopsFault>
+    requires tasks { All (λ task. task.pid < processes) tasks.now }
+    requires words { IsTrue (list_all (is_word_of processes) words.now) }
+    ensures all { IfOk result (PassesAll held tasks.now processes words.now) }
+    ensures some { IfErr result (λ f. f ≡ fault.Mismatch
+        → FailsSome held tasks.now processes words.now) }
+{
+    if held {
+        try_held_stops(alloc, tasks, processes, words, progress)
+    } else {
+        try_stops(alloc, tasks, processes, words, progress)
+    }
 }
 
 // Makes the whole run, and then one up to each of its writes. How many images there were.

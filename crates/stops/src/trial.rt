@@ -10,11 +10,10 @@ ghost use Rattle.stops.specs.Trials.{Fails, HasFiles, IsTried, IsUnopenedNew, me
 
 use crate::copying::copies_of;
 use crate::files::{are_same_files, kept_files};
-use crate::images::{blocks_of, is_want_of_memory, new_image, recovers_twice};
+use crate::images::{is_want_of_memory, new_image, recovered_files};
 use blocks::{Disk, MemDisk, NoMemory};
 use board::Board;
 use plain::files::Files;
-use plain::report::files_after_recovery;
 use player::{Hands, Player, make_turns, open_player, take_board};
 use scripts::{Task, Word};
 use std::alloc::Global;
@@ -72,7 +71,8 @@ fn open<'a>(
         IsArmed memory stop player.kernel.store.volume.device) }
     ensures processes { IfOk result (λ player. length player.kernel.world.processes ≡ processes) }
     ensures seated { IfOk result IsSeated }
-    ensures fails { IfErr result (λ f. f ≡ fault.Mismatch → IsUnopenedNew processes) }
+    ensures fails { IfErr result (λ f. f ≡ fault.Mismatch
+        → IsUnopenedNew ⟦<MemDisk as Disk>⟧ memory processes) }
 {
     let disk = new_image(alloc)?;
     let tasks = copies_of(alloc, tasks)?;
@@ -91,13 +91,8 @@ fn has_files(alloc: Global, disk: &mut MemDisk, files: Option<Files>) -> Result<
     let Some(files) = files else {
         return Ok(false);
     };
-    if !recovers_twice(alloc, disk)? {
-        return Ok(false);
-    }
-    let blocks = blocks_of(alloc, disk)?;
-    match files_after_recovery(alloc, blocks.as_slice()) {
-        Ok(found) => Ok(are_same_files(found.as_slice(), files.as_slice())),
-        Err(fault) if is_want_of_memory(&Refusal::Check(fault)) => Err(NoMemory),
-        Err(_) => Ok(false),
+    match recovered_files(alloc, disk)? {
+        Some((_logged, found)) => Ok(are_same_files(found.as_slice(), files.as_slice())),
+        None => Ok(false),
     }
 }

@@ -1,16 +1,16 @@
 -- What was printed where a script was not checked.
-use Rattle.std.proofs.Common.{ℕ, List, Option}
+use Rattle.std.proofs.Common.{ℕ, Bool, List, Option}
 use Rattle.std.specs.Prelude.{Result, Ok, Err, OnOk, IfErr}
 use Rattle.scripts.specs.declared.schedule.Word.{Word}
 use Rattle.scripts.specs.declared.script.Task.{Task}
-use Rattle.stops.specs.Trials.{ChecksAll, IsUnchecked}
+use Rattle.stops.specs.Checks.{ChecksAll, IsUnchecked}
 use Rattle.texts.specs.declared.faults.StopsFault.TheVariants.{Mismatch, NoMemory}
 use Rattle.texts.specs.declared.refusal.Refusal.{Refusal}
 use Rattle.texts.specs.declared.refusal.Refusal.TheVariants.{File, Mkfs, Check, Recover, Open, Script, Schedule, Disk, Cat, Run, Stops, Input, Output}
 use Rattle.xvfs.specs.Scripts.{ChecksScript, IsScriptUnchecked, IsUncheckedFor}
 
-module _ (P Q : Type 0) (f : P → Q) where
-  unchecked : (tasks : List Task) (processes : ℕ) (words : List Word) (r : Refusal) → IsUnchecked tasks processes words P r → IsUnchecked tasks processes words Q r
+module _ (held : Bool) (P Q : Type 0) (f : P → Q) where
+  unchecked : (tasks : List Task) (processes : ℕ) (words : List Word) (r : Refusal) → IsUnchecked held tasks processes words P r → IsUnchecked held tasks processes words Q r
   unchecked tasks processes words (Stops Mismatch) why = (why.0, f why.1)
   unchecked tasks processes words (Stops NoMemory) why = f why
   unchecked tasks processes words Output why = why
@@ -26,7 +26,7 @@ module _ (P Q : Type 0) (f : P → Q) where
   unchecked tasks processes words (Run fault) why = absurd why
   unchecked tasks processes words (Input fault) why = absurd why
 
-  unchecked_for : (r : Refusal) → IsUncheckedFor P r → IsUncheckedFor Q r
+  unchecked_for : (r : Refusal) → IsUncheckedFor held P r → IsUncheckedFor held Q r
   unchecked_for r why = record {
     tasks = why.tasks;
     processes = why.processes;
@@ -35,7 +35,7 @@ module _ (P Q : Type 0) (f : P → Q) where
   }
 
   -- what is known where nothing was printed
-  pub script_unchecked : (r : Refusal) → IsScriptUnchecked P r → IsScriptUnchecked Q r
+  pub script_unchecked : (r : Refusal) → IsScriptUnchecked held P r → IsScriptUnchecked held Q r
   script_unchecked (Script fault) why = f why
   script_unchecked (Schedule fault) why = f why
   script_unchecked (File fault) why = unchecked_for (File fault) why
@@ -51,12 +51,12 @@ module _ (P Q : Type 0) (f : P → Q) where
   script_unchecked Output why = unchecked_for Output why
 
 -- a script that was checked, or not, and the operations and words that it was read as
-module _ (tasks : List Task) (processes : ℕ) (words : List Word) where
-  pub checks_script : (r : Result (Unit {0}) Refusal) (old new : Option (List ℕ)) → OnOk r (ChecksAll tasks processes words old new) → OnOk r (ChecksScript old new)
+module _ (held : Bool) (tasks : List Task) (processes : ℕ) (words : List Word) where
+  pub checks_script : (r : Result (Unit {0}) Refusal) (old new : Option (List ℕ)) → OnOk r (ChecksAll held tasks processes words old new) → OnOk r (ChecksScript held old new)
   checks_script (Ok _) old new all = record { tasks = tasks; processes = processes; words = words; checks = all }
   checks_script (Err _) old new all = all
 
-  unchecked_as : (none : Type 0) (r : Refusal) → IsUnchecked tasks processes words none r → IsScriptUnchecked none r
+  unchecked_as : (none : Type 0) (r : Refusal) → IsUnchecked held tasks processes words none r → IsScriptUnchecked held none r
   unchecked_as none (Script fault) why = absurd why
   unchecked_as none (Schedule fault) why = absurd why
   unchecked_as none (File fault) why = record { tasks = tasks; processes = processes; words = words; refused = why }
@@ -71,6 +71,6 @@ module _ (tasks : List Task) (processes : ℕ) (words : List Word) where
   unchecked_as none (Input fault) why = record { tasks = tasks; processes = processes; words = words; refused = why }
   unchecked_as none Output why = record { tasks = tasks; processes = processes; words = words; refused = why }
 
-  pub unchecked_script : (r : Result (Unit {0}) Refusal) (none : Type 0) → IfErr r (IsUnchecked tasks processes words none) → IfErr r (IsScriptUnchecked none)
+  pub unchecked_script : (r : Result (Unit {0}) Refusal) (none : Type 0) → IfErr r (IsUnchecked held tasks processes words none) → IfErr r (IsScriptUnchecked held none)
   unchecked_script (Ok _) none why = why
   unchecked_script (Err refusal) none why = unchecked_as none refusal why

@@ -28,7 +28,7 @@ module _ {F N : Type 0} (file : FileGhosts F N) (words : List (List ℕ)) (old n
   on_refused (Cat image inum) r P Q f why = refused_so file.remaining file.disk false P Q _ _ f (λ d e r why. not_shown file.disk d e old new P Q f inum r why) r why
   on_refused (Replay image script schedule stop sync) r P Q f why = refused_so file.remaining file.disk sync P Q _ _ f (λ d e r why. unreplayed file.disk file.over d e (unwrap_or stop 0) old new P Q f r why) r why
   on_refused (Run image script workers sync) r P Q f why = refused_so file.remaining file.disk sync P Q _ _ f (λ d e r why. not_run file.disk d e old new P Q f r why) r why
-  on_refused (Stops script schedule) r P Q f why = script_unchecked P Q f r why
+  on_refused (Stops script schedule held) r P Q f why = script_unchecked held P Q f r why
 
   undone_by : (P Q : Type 0) → (P → Q) → (f : Failure) → IsUndone file words old new P f → IsUndone file words old new Q f
   undone_by P Q f (Refused r) undone =

@@ -31,7 +31,7 @@ Answers file (Replay image script schedule stop sync) old new =
     (IsReplayed file.disk file.over (unwrap_or stop 0) old new)
 Answers file (Run image script workers sync) old new =
     OpensDisk file.remaining file.disk sync (IsRun file.disk old new)
-Answers file (Stops script schedule) old new = ChecksScript old new
+Answers file (Stops script schedule held) old new = ChecksScript held old new
 
 -- why a request was refused, and what was printed; `none` says that nothing was
 abbrev pub OnRefused : {F N : Type 0} → FileGhosts F N → Request → Refusal → Option (List ℕ)
@@ -50,7 +50,7 @@ OnRefused file (Replay image script schedule stop sync) r old new none =
     (IsUnreplayed file.disk file.over (unwrap_or stop 0) old new none) r
 OnRefused file (Run image script workers sync) r old new none =
     OnDiskRefusal file.remaining file.disk sync none (IsNotRun file.disk old new none) r
-OnRefused file (Stops script schedule) r old new none = IsScriptUnchecked none r
+OnRefused file (Stops script schedule held) r old new none = IsScriptUnchecked held none r
 
 -- a request of the words was done and answered; what is printed of help is clap's
 abbrev pub IsDone : {F N : Type 0} → FileGhosts F N → List (List ℕ) → Option (List ℕ)

@@ -183,6 +183,10 @@ where
             workers,
             sync,
         } => run_files(rt, image, script, workers, sync, out),
-        Request::Stops { script, schedule } => stops_files(rt, script, schedule, out),
+        Request::Stops {
+            script,
+            schedule,
+            held,
+        } => stops_files(rt, script, schedule, held, out),
     }
 }

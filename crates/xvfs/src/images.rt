@@ -244,10 +244,11 @@ pub fn stops_files<R: Files + AllocGlobal + Clock + Screen, O: Write>(
     rt: &R,
     script: &str,
     schedule: &str,
+    held: bool,
     out: &mut O,
 ) -> Result<(), Refusal>
-    ensures checked { OnOk result (ChecksScript (O.contents out.old) (O.contents out.new)) }
-    ensures refused { IfErr result (IsScriptUnchecked (out.new ≡ out.old)) }
+    ensures checked { OnOk result (ChecksScript held (O.contents out.old) (O.contents out.new)) }
+    ensures refused { IfErr result (IsScriptUnchecked held (out.new ≡ out.old)) }
 {
     let tasks = script_from(rt, script).map_err(Refusal::Script)?;
     let processes = processes(tasks.as_slice());
@@ -257,6 +258,7 @@ pub fn stops_files<R: Files + AllocGlobal + Clock + Screen, O: Write>(
         tasks.as_slice(),
         processes,
         words.as_slice(),
+        held,
         &mut Meter::new(rt),
         out,
     )

@@ -1,7 +1,7 @@
 use Rattle.std.proofs.Common.{◌≡◌, codes, rules}
 use Rattle.std.proofs.lemmas.Result.{IfOk-weaker}
 use Rattle.clap.specs.Words.{new_app, rule_of}
-use Rattle.requests.specs.CommandLine.{HasApp, required_rule}
+use Rattle.requests.specs.CommandLine.{HasApp, flag_rule, required_rule}
 use Rattle.requests.proofs.CommandLines.{one_word}
 use Rattle.requests.proofs.words.stops_words.Goals as goal
 
@@ -11,4 +11,6 @@ returns c =
     let schedule : rule_of c.word-2.result ≡ required_rule (codes "SCHEDULE") = search rules in
     let start : HasApp (new_app (codes "stops")) c.about.result = search rules in
     let one = one_word _ _ c.about.result c.word.result c.in_ok-arg.field-0 start script c.word.ensures.local c.in_ok-arg.ensures in
-    IfOk-weaker c.arg-2.result _ _ (λ r adds. one_word _ _ c.in_ok-arg.field-0 c.word-2.result r one schedule c.word-2.ensures.local adds) c.arg-2.ensures
+    let two = one_word _ _ c.in_ok-arg.field-0 c.word-2.result c.in_ok-arg-2.field-0 one schedule c.word-2.ensures.local c.in_ok-arg-2.ensures in
+    let held : rule_of c.flag.result ≡ flag_rule (codes "held") = search rules in
+    IfOk-weaker c.arg-3.result _ _ (λ r adds. one_word _ _ c.in_ok-arg-2.field-0 c.flag.result r two held c.flag.ensures.local adds) c.arg-3.ensures

@@ -1,0 +1,84 @@
+-- Whether a run over a disk that holds writes back kept its files.
+use Rattle.std.proofs.Common.{◌≡◌, ◌∙◌, ◌-◌, ℕ, Bool, List, Option, Ok, Err, ap, arith, inl, subst, sym, length}
+use Rattle.std.specs.Prelude.{IfErr, Result, option_map}
+use Rattle.std.specs.Result.{IsErrAnd}
+use Rattle.blocks.specs.contracts.sync.SyncDiskDisk.TheImpl.{ghosts}
+use Rattle.scripts.specs.declared.schedule.Word.{Word}
+use Rattle.scripts.specs.declared.script.Task.{Task}
+use Rattle.texts.specs.declared.faults.StopsFault.{StopsFault}
+use Rattle.texts.specs.declared.faults.StopsFault.TheVariants.{Mismatch, NoMemory}
+use Rattle.blocks.specs.SyncDisk.{held_of}
+use Rattle.blocks.specs.declared.sync.SyncDisk.{SyncDisk}
+use Rattle.model.specs.Files.{Files}
+use Rattle.stops.specs.Choices.{HasAllDue, HasDue, IsChoice, LacksDue, choice_count, due_files, left_by}
+use Rattle.stops.specs.Holding.{FailsHeld, HeldPlayer, IsKeptBy, IsTriedHeld, KeepsAll, LosesSome, MakesHeldRun, disk_of, over, sync_behind, write_behind}
+use Rattle.stops.specs.Trials.{HasFiles, kept_files}
+use Rattle.stops.specs.declared.choices.Due.{Due}
+use Rattle.stops.specs.declared.held_trial.Calls.{Calls}
+use Rattle.stops.specs.declared.held_trial.HeldRun.{HeldRun}
+
+module _ (last : HeldPlayer) (d : SyncDisk) (due : Due) (is_disk : d ≡ disk_of last)
+    (committed : option_map (λ f. f.items) due.committed ≡ kept_files last.kernel.world.journal.list last.kernel.store.volume.log.committed)
+    (opened : option_map (λ f. f.items) due.opened ≡ kept_files last.kernel.world.journal.list last.kernel.store.volume.log.opened) where
+  abbrev of_files : SyncDisk → List Bool → Option Files → Option Files → Type 0
+  of_files e keep one more = HasFiles (left_by e keep) (due_files one more (left_by e keep))
+
+  abbrev here : Option Files
+  here = option_map (λ f. f.items) due.committed
+
+  abbrev there : Option Files
+  there = kept_files last.kernel.world.journal.list last.kernel.store.volume.log.committed
+
+  abbrev more_here : Option Files
+  more_here = option_map (λ f. f.items) due.opened
+
+  abbrev more_there : Option Files
+  more_there = kept_files last.kernel.world.journal.list last.kernel.store.volume.log.opened
+
+  to_kept : (keep : List Bool) → HasDue d due keep → IsKeptBy last keep
+  to_kept keep has = subst (λ e. of_files e keep there more_there) is_disk (subst (λ f. of_files d keep there f) opened (subst (λ f. of_files d keep f more_here) committed has))
+
+  of_kept : (keep : List Bool) → IsKeptBy last keep → HasDue d due keep
+  of_kept keep kept = subst (λ f. of_files d keep f more_here) (sym committed) (subst (λ f. of_files d keep there f) (sym opened) (subst (λ e. of_files e keep there more_there) (sym is_disk) kept))
+
+  -- each image has its files
+  pub keeps_all : HasAllDue d due → KeepsAll last
+  keeps_all all keep choice = to_kept keep (all keep (subst (λ e. IsChoice (length (held_of e)) keep) (sym is_disk) choice))
+
+  -- one has not
+  pub loses_some : LacksDue d due → LosesSome last
+  loses_some lost = (lost.0, subst (λ e. IsChoice (length (held_of e)) lost.0) is_disk lost.1, λ kept. lost.2 (of_kept lost.0 kept))
+
+  module _ (tasks : List Task) (processes : ℕ) (words : List Word) (write sync : ℕ) (player : HeldPlayer) (run : MakesHeldRun tasks processes words write sync player last) where
+    pub tried_held : (count : HeldRun) (base : ℕ) → base ≡ over.write_count player.kernel.store.volume.device - 0 → count.writes ≡ over.write_count last.kernel.store.volume.device - base
+        → count.syncs ≡ ghosts.sync_count d → count.images ≡ choice_count (length (held_of d)) → HasAllDue d due → IsTriedHeld tasks processes words write sync count
+    tried_held count base before writes syncs images all = record {
+      player = player;
+      last = last;
+      run = run;
+      writes = writes ∙ ap (λ (n : ℕ). over.write_count last.kernel.store.volume.device - n) (before ∙ none (over.write_count player.kernel.store.volume.device));
+      syncs = syncs ∙ ap ghosts.sync_count is_disk;
+      images = images ∙ ap (λ e. choice_count (length (held_of e))) is_disk;
+      kept = keeps_all all;
+    }
+      where
+        none : (n : ℕ) → n - 0 ≡ n
+        none n = omega arith
+
+    pub lost_held : LacksDue d due → FailsHeld tasks processes words write sync
+    lost_held lost = inl (record { player = player; last = last; run = run; lost = loses_some lost })
+
+-- a refusal is passed on as it was
+pub passed_on : {T : Type 0} (r : Result T StopsFault) (f : StopsFault) (X : Type 0) → IsErrAnd r (λ e. e ≡ f) → (f ≡ Mismatch → X) → IfErr r (λ e. e ≡ Mismatch → X)
+passed_on (Ok _) f X is x = tt
+passed_on (Err e) f X is x = λ mismatch. x (sym is ∙ mismatch)
+
+-- memory that was refused is no mismatch
+pub refused_memory : {T : Type 0} (r : Result T StopsFault) (X : Type 0) → IsErrAnd r (λ e. e ≡ NoMemory) → IfErr r (λ e. e ≡ Mismatch → X)
+refused_memory r X is = passed_on r NoMemory X is (λ no. absurd (cc no))
+
+-- a run that was stopped by these numbers
+pub tried_behind : (tasks : List Task) (processes : ℕ) (words : List Word) (calls : Calls) (before write sync : ℕ) (run : HeldRun) → write ≡ write_behind calls before → sync ≡ sync_behind calls before
+    → IsTriedHeld tasks processes words write sync run → IsTriedHeld tasks processes words (write_behind calls before) (sync_behind calls before) run
+tried_behind tasks processes words calls before write sync run is_write is_sync tried =
+    subst (λ (n : ℕ). IsTriedHeld tasks processes words n (sync_behind calls before) run) is_write (subst (λ (n : ℕ). IsTriedHeld tasks processes words write n run) is_sync tried)

@@ -1,0 +1,5 @@
+use Rattle.stops.specs.Holding.{PassEach}
+use Rattle.stops.proofs.holding.try_before.Given as goal
+
+abbrev pub invariant-loop-before : goal.invariant-loop-before
+invariant-loop-before g l = PassEach l.tasks l.processes l.words l.calls l.before l.images

@@ -1,0 +1,37 @@
+-- What a check of a script's stops comes to, over a disk that holds writes back or over one that
+-- doesn't.
+use Rattle.std.specs.Prelude.{ℕ, Bool, true, false, List, Option}
+use Rattle.std.specs.Io.KnownBytes.{Appends}
+use Rattle.scripts.specs.declared.schedule.Word.{Word}
+use Rattle.scripts.specs.declared.script.Task.{Task}
+use Rattle.texts.specs.Output.{images_text}
+use Rattle.texts.specs.declared.faults.StopsFault.TheVariants.{Mismatch, NoMemory}
+use Rattle.texts.specs.declared.refusal.Refusal.{Refusal}
+use Rattle.texts.specs.declared.refusal.Refusal.TheVariants.{Stops, Output}
+use Rattle.stops.specs.Holding.{AllHeldPass, SomeHeldFails}
+use Rattle.stops.specs.Trials.{AllPass, SomeFails}
+
+-- every run passes, with so many images in all
+abbrev pub PassesAll : Bool → List Task → ℕ → List Word → ℕ → Type 0
+PassesAll false tasks processes words images = AllPass tasks processes words images
+PassesAll true tasks processes words images = AllHeldPass tasks processes words images
+
+-- one doesn't
+abbrev pub FailsSome : Bool → List Task → ℕ → List Word → Type 0
+FailsSome false tasks processes words = SomeFails tasks processes words
+FailsSome true tasks processes words = SomeHeldFails tasks processes words
+
+-- all images passed, and how many there were was printed
+abbrev pub ChecksAll : Bool → List Task → ℕ → List Word → Option (List ℕ) → Option (List ℕ)
+    → Type 0
+ChecksAll held tasks processes words old new = (images : ℕ)
+    × PassesAll held tasks processes words images × Appends old new (images_text images)
+
+-- why a check wasn't done; `none` says that nothing was printed
+abbrev pub IsUnchecked : Bool → List Task → ℕ → List Word → Type 0 → Refusal → Type 0
+IsUnchecked held tasks processes words none (Stops Mismatch) =
+    FailsSome held tasks processes words × none
+IsUnchecked held tasks processes words none (Stops NoMemory) = none
+IsUnchecked held tasks processes words none Output =
+    (images : ℕ) × PassesAll held tasks processes words images
+IsUnchecked held tasks processes words none r = ⊥

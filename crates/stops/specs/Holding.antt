@@ -1,0 +1,169 @@
+-- The runs of a script over a disk that holds writes back, and the images that their stops may leave.
+use Rattle.std.specs.Prelude.{◌≡◌, ◌⊎◌, ◌+◌, ◌-◌, ℕ, zero, suc, Bool, true, List, length, min, ◌^◌}
+use Rattle.blocks.specs.FaultyDisk.{inner_of, kind_of, trap_of}
+use Rattle.blocks.specs.SyncDisk.{held_of}
+use Rattle.blocks.specs.contracts.sync.SyncDiskDisk.TheImpl.{ghosts}
+use Rattle.blocks.specs.declared.disk.Disk.{Ghosts}
+use Rattle.blocks.specs.declared.faulty.FaultyDisk.{FaultyDisk}
+use Rattle.blocks.specs.declared.faulty.Kind.TheVariants.{Sync}
+use Rattle.blocks.specs.declared.faulty.Trap.{Trap}
+use Rattle.blocks.specs.declared.sync.SyncDisk.{SyncDisk}
+use Rattle.scripts.specs.declared.schedule.Word.{Word}
+use Rattle.scripts.specs.declared.script.Task.{Task}
+use Rattle.player.specs.declared.player.Player.{Player}
+use Rattle.stops.specs.Choices.{IsChoice, choice_count, due_files, left_by}
+use Rattle.stops.specs.Trials.{HasFiles, IsUnopenedNew, MakesRun, kept_files}
+use Rattle.stops.specs.declared.held_trial.Calls.{Calls}
+use Rattle.stops.specs.declared.held_trial.Calls.TheVariants.{Writes, Syncs}
+use Rattle.stops.specs.declared.held_trial.HeldRun.{HeldRun}
+
+-- a disk in memory that holds writes back, of which one sync fails
+abbrev pub HeldDisk : Type 0
+HeldDisk = FaultyDisk SyncDisk
+
+-- what contracts see of one
+abbrev pub below : Ghosts HeldDisk (Unit {0} × Trap)
+below = record {
+  name = λ d. (tt, d.trap);
+  image = λ d. ghosts.image d.inner;
+  moment = λ d. ghosts.moment d.inner;
+  leaves = λ d. ghosts.leaves d.inner;
+  write_count = λ d. d.writes;
+  fault_count = λ d. d.faults;
+  sync_count = λ d. ghosts.sync_count d.inner;
+  holding = λ n. true;
+}
+
+-- and of one over that, of which one write is not made
+abbrev pub over : Ghosts (FaultyDisk HeldDisk) ((Unit {0} × Trap) × Trap)
+over = record {
+  name = λ d. (below.name d.inner, d.trap);
+  image = λ d. below.image d.inner;
+  moment = λ d. below.moment d.inner;
+  leaves = λ d. below.leaves d.inner;
+  write_count = λ d. d.writes;
+  fault_count = λ d. d.faults;
+  sync_count = λ d. below.sync_count d.inner;
+  holding = λ n. true;
+}
+
+-- a player over it
+abbrev pub HeldPlayer : Type 0
+HeldPlayer = Player HeldDisk (Unit {0} × Trap)
+
+-- the disk of a player that holds writes back
+abbrev pub disk_of : HeldPlayer → SyncDisk
+disk_of player = inner_of (inner_of player.kernel.store.volume.device)
+
+-- the sync of that number fails, counted from 1, the opening's among them; none does where it is 0
+pub record FailsSync (sync : ℕ) (d : HeldDisk) : Type 0 where
+  pub kind : kind_of d ≡ Sync
+  pub nth : (trap_of d).nth ≡ sync
+
+-- A player was opened over a new image on a disk that holds writes back, and made the turns of these
+-- words. The write of that number, from 1, was the one that isn't made, or that sync the one that
+-- fails.
+pub record MakesHeldRun (tasks : List Task) (processes : ℕ) (words : List Word) (write sync : ℕ)
+    (player last : HeldPlayer) : Type 0 where
+  pub run : MakesRun over tasks processes words write player last
+  pub trap : FailsSync sync (inner_of player.kernel.store.volume.device)
+
+-- The image that a choice leaves has exactly the files of the committed groups; and where its own
+-- header logs something, those of all groups that were opened.
+abbrev pub IsKeptBy : HeldPlayer → List Bool → Type 0
+IsKeptBy last keep = HasFiles (left_by (disk_of last) keep)
+    (due_files (kept_files last.kernel.world.journal.list last.kernel.store.volume.log.committed)
+    (kept_files last.kernel.world.journal.list last.kernel.store.volume.log.opened)
+    (left_by (disk_of last) keep))
+
+-- each choice does
+abbrev pub KeepsAll : HeldPlayer → Type 0
+KeepsAll last = (keep : List Bool) → IsChoice (length (held_of (disk_of last))) keep
+    → IsKeptBy last keep
+
+-- one doesn't
+abbrev pub LosesSome : HeldPlayer → Type 0
+LosesSome last = (keep : List Bool) × IsChoice (length (held_of (disk_of last))) keep
+    × ¬ (IsKeptBy last keep)
+
+-- A run was made and came to this, and each image that it may have left at its end keeps its files.
+pub record IsTriedHeld (tasks : List Task) (processes : ℕ) (words : List Word) (write sync : ℕ)
+    (count : HeldRun) : Type 0 where
+  pub player : HeldPlayer
+  pub last : HeldPlayer
+  pub run : MakesHeldRun tasks processes words write sync player last
+  pub writes : count.writes ≡ over.write_count last.kernel.store.volume.device
+      - over.write_count player.kernel.store.volume.device
+  pub syncs : count.syncs ≡ over.sync_count last.kernel.store.volume.device
+  pub images : count.images ≡ choice_count (length (held_of (disk_of last)))
+  pub kept : KeepsAll last
+
+-- a run was made, and one of the images that it may have left doesn't
+pub record HasLostHeld (tasks : List Task) (processes : ℕ) (words : List Word) (write sync : ℕ)
+    : Type 0 where
+  pub player : HeldPlayer
+  pub last : HeldPlayer
+  pub run : MakesHeldRun tasks processes words write sync player last
+  pub lost : LosesSome last
+
+-- why a run doesn't pass
+abbrev pub FailsHeld : List Task → ℕ → List Word → ℕ → ℕ → Type 0
+FailsHeld tasks processes words write sync =
+    HasLostHeld tasks processes words write sync ⊎ IsUnopenedNew below over processes
+
+-- The call that a run is stopped before, where so many of its kind were made in front of it: the
+-- number of the write, and that of the sync, for which the opening's is the first.
+abbrev pub write_behind : Calls → ℕ → ℕ
+write_behind Writes before = before + 1
+write_behind Syncs before = 0
+
+abbrev pub sync_behind : Calls → ℕ → ℕ
+sync_behind Writes before = 0
+sync_behind Syncs before = before + 2
+
+-- so many calls of a kind that a run made behind its opening
+abbrev pub calls_of : Calls → HeldRun → ℕ
+calls_of Writes run = run.writes
+calls_of Syncs run = run.syncs - 1
+
+-- the run that is stopped before that call made just those before it, and kept its files in each of
+-- so many images
+abbrev pub PassesHeld : List Task → ℕ → List Word → Calls → ℕ → ℕ → Type 0
+PassesHeld tasks processes words calls before images = (run : HeldRun)
+    × IsTriedHeld tasks processes words (write_behind calls before) (sync_behind calls before) run
+    × (calls_of calls run ≡ before) × (run.images ≡ images)
+
+-- it doesn't pass, or made other calls
+abbrev pub FailsHeldBehind : List Task → ℕ → List Word → Calls → ℕ → Type 0
+FailsHeldBehind tasks processes words calls before =
+    FailsHeld tasks processes words (write_behind calls before) (sync_behind calls before)
+    ⊎ ((run : HeldRun) × ¬ (calls_of calls run ≡ before)
+    × IsTriedHeld tasks processes words (write_behind calls before) (sync_behind calls before) run)
+
+-- a sum of counts, which stays at the limit
+abbrev pub limited_sum : ℕ → ℕ → ℕ
+limited_sum a b = min (a + b) (2 ^ 64 - 1)
+
+-- the runs that are stopped before each of so many calls pass, with so many images in all
+abbrev pub PassEach : List Task → ℕ → List Word → Calls → ℕ → ℕ → Type 0
+PassEach tasks processes words calls zero images = images ≡ 0
+PassEach tasks processes words calls (suc k) images = (before : ℕ) × (one : ℕ)
+    × PassEach tasks processes words calls k before
+    × PassesHeld tasks processes words calls k one × (images ≡ limited_sum before one)
+
+-- The whole run passes, and each that is stopped before one of its writes or its syncs, with so many
+-- images in all.
+pub record AllHeldPass (tasks : List Task) (processes : ℕ) (words : List Word) (images : ℕ)
+    : Type 0 where
+  pub run : HeldRun
+  pub whole : IsTriedHeld tasks processes words 0 0 run
+  pub before_writes : ℕ
+  pub writes : PassEach tasks processes words Writes run.writes before_writes
+  pub before_syncs : ℕ
+  pub syncs : PassEach tasks processes words Syncs (run.syncs - 1) before_syncs
+  pub count : images ≡ limited_sum (limited_sum run.images before_writes) before_syncs
+
+-- the whole run doesn't pass, or one of those that are stopped
+abbrev pub SomeHeldFails : List Task → ℕ → List Word → Type 0
+SomeHeldFails tasks processes words = FailsHeld tasks processes words 0 0
+    ⊎ ((calls : Calls) × (before : ℕ) × FailsHeldBehind tasks processes words calls before)
