@@ -1,2 +1,1 @@
-mod Freeing
 mod Taking

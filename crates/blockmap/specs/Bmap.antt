@@ -5,9 +5,9 @@ use Rattle.blocks.specs.declared.disk.Disk.{Ghosts}
 use Rattle.model.specs.Fields.{words_of}
 use Rattle.wal.specs.Joint.{seen}
 use Rattle.wal.specs.Volume.{VolumeState}
-use Rattle.blockmap.specs.declared.progress.Progress.{Progress}
-use Rattle.blockmap.specs.declared.progress.Progress.TheVariants as progress
-use Rattle.blockmap.specs.Getting.{GetsFor, Releases, HoldsWhereGot}
+use Rattle.driver.specs.declared.progress.Progress.{Progress}
+use Rattle.driver.specs.declared.progress.Progress.TheVariants as progress
+use Rattle.driver.specs.Getting.{GetsFor, Releases, HoldsWhereGot}
 
 -- Where the reading of an entry stands.
 pub record EntryState : Type 0 where

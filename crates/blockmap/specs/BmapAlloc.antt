@@ -12,11 +12,11 @@ use Rattle.wal.specs.Joint.{seen}
 use Rattle.wal.specs.Volume.{VolumeState, Holds}
 use Rattle.blockmap.specs.Balloc.{AllocState, Allocs, MayAlloc, first_alloc}
 use Rattle.blockmap.specs.Bmap.{some_address}
-use Rattle.blockmap.specs.Getting.{GetsFor, HoldsWhereGot, Releases, WritesBlock}
+use Rattle.driver.specs.Getting.{GetsFor, HoldsWhereGot, Releases, WritesBlock}
 use Rattle.blockmap.specs.declared.bmap_alloc.MapAt.{MapAt}
 use Rattle.blockmap.specs.declared.bmap_alloc.MapAt.TheVariants as map_at
-use Rattle.blockmap.specs.declared.progress.Progress.{Progress}
-use Rattle.blockmap.specs.declared.progress.Progress.TheVariants as progress
+use Rattle.driver.specs.declared.progress.Progress.{Progress}
+use Rattle.driver.specs.declared.progress.Progress.TheVariants as progress
 
 -- Where a writer's way to a block of a file stands.
 pub record MapState : Type 0 where

@@ -3,6 +3,5 @@
 pub mod Addresses
 pub mod Bitmap
 pub mod Leading
-pub mod Putting
 pub mod Reading
 pub mod Resting

@@ -1,4 +1,3 @@
-pub mod Getting
 pub mod Bfree
 pub mod Balloc
 pub mod Bmap

@@ -6,8 +6,8 @@ ghost use Rattle.wal.specs.Volume.{Holds};
 ghost use Rattle.blockmap.specs.Balloc.{MayAlloc, Allocs, Zeroes, byte_with, lowest_clear};
 ghost use Rattle.blockmap.specs.declared.balloc.AllocAt.TheVariants as alloc_at;
 
-use crate::{Progress, get_block, put_block, release_block};
 use blocks::{BLOCK_SIZE, Block, Disk};
+use driver::{Progress, get_block, put_block, release_block};
 use std::marker::Model;
 use wal::Volume;
 

@@ -2,8 +2,8 @@
 ghost use Rattle.std.specs.Prelude.{◌≡◌, ◌<◌, None};
 ghost use Rattle.blockmap.specs.Bmap.{some_address, IsReady, LooksUp};
 
-use crate::{Progress, get_block, release_block};
 use blocks::Disk;
+use driver::{Progress, get_block, release_block};
 use layout::entries::entry;
 use std::marker::Model;
 use wal::Volume;

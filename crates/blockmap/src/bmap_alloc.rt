@@ -6,8 +6,9 @@ ghost use Rattle.blockmap.specs.Bmap.{some_address};
 ghost use Rattle.blockmap.specs.BmapAlloc.{MayMap, MapSteps, LeadsThere, first_place, first_way};
 ghost use Rattle.blockmap.specs.declared.bmap_alloc.MapAt.TheVariants as map_at;
 
-use crate::{Balloc, Progress, get_block, put_block, release_block};
+use crate::Balloc;
 use blocks::Disk;
+use driver::{Progress, get_block, put_block, release_block};
 use layout::entries::{bytes, entry};
 use model::types::Dinode;
 use std::marker::Model;

@@ -1,11 +1,7 @@
 //! From the blocks of a file to those of the image (the xv6 book, the chapter "File system": "Code:
 //! Inode content").
 //!
-//! What an operation does to blocks is done by machines. A machine is a plain value that says where
-//! its work stands, with a `step` of its own over a volume: one step gets a block, the next one uses
-//! it and releases it, and between two steps other processes make theirs. A step that has to wait
-//! changes nothing. What a step comes to is a `Progress`, and a step that gets a block promises what
-//! the volume's `get` does (`GetsFor`).
+//! What is done here to blocks is done by machines, over the steps of the crate `driver`.
 //!
 //! An inode has the addresses of its file's first 12 blocks, and that of a block with the addresses
 //! of 256 more. So `map` answers at once for one of the first; behind them the entry has to be read,
@@ -18,10 +14,9 @@
 //! inode is given to each step, which names there what was taken for the inode itself. Where they
 //! are over with a block, the inode leads to it in the image as it is then.
 //!
-//! A machine that changes a block ends with `put_block`, which logs it. `Balloc` takes a block: it
-//! sets the lowest clear bit of the bitmap, and then zeroes the block of that bit. `Bfree` clears
-//! the bit of a block in the bitmap, as a truncation or a removal does for each block that it gives
-//! up. Which bit is the lowest clear one is said by a law (`laws`).
+//! `Balloc` takes a block: it sets the lowest clear bit of the bitmap, and then zeroes the block of
+//! that bit. Which bit is the lowest clear one is said by a law (`laws`). `Bfree` is the machine
+//! that clears the bit of a block in the bitmap.
 //!
 //! What is said of a file's bytes asks that the file may be read (`MayRead`). Where an image stands
 //! for files, that of each used number which no task holds may (`laws`).
@@ -31,18 +26,14 @@ mod balloc;
 mod bfree;
 mod bmap;
 mod bmap_alloc;
-mod getting;
 pub mod laws;
 mod mapping;
-mod progress;
 mod target;
 
 pub use balloc::{AllocAt, Balloc};
 pub use bfree::Bfree;
 pub use bmap::Bmap;
 pub use bmap_alloc::{BmapAlloc, MapAt};
-pub use getting::{get_block, put_block, release_block};
 pub use mapping::{Mapped, MappedForWriting, map, map_for_writing};
 pub use model::types::Why;
-pub use progress::Progress;
 pub use target::{Target, seek, target_for};

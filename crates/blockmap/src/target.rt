@@ -3,8 +3,9 @@ ghost use Rattle.std.specs.Prelude.{◌≡◌, ◌<◌, true, length, None};
 ghost use Rattle.blockmap.specs.Map.{address_or_zero};
 ghost use Rattle.blockmap.specs.Target.{is_entry, target_for, IsSought, Seeks};
 
-use crate::{Bmap, Mapped, Progress, get_block, map};
+use crate::{Bmap, Mapped, map};
 use blocks::Disk;
+use driver::{Progress, get_block};
 use model::types::Dinode;
 use wal::Volume;
 

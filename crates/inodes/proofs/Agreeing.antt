@@ -1,6 +1,5 @@
 -- One task goes on, and all of them agree with buffers and log as before.
 use Rattle.std.proofs.Common.{eqb, cond, Bool, false, ◌≡◌, ◌≤◌, ◌≢◌, ℕ, ◌<◌, inl, inr, true, List, length, set, refl, sym, ◌∙◌, subst, ⊎_elim, Option, Some, None, arith, Bool, cond, eqb}
-use Rattle.std.specs.Prelude.{slice_index}
 use Rattle.std.proofs.lemmas.Bool.{cases_eq}
 use Rattle.std.proofs.lemmas.List.{get_or-set_same, get_or-set_other}
 use Rattle.bcache.specs.Buffers.{Buffers}
@@ -8,11 +7,13 @@ use Rattle.wal.specs.Held.{HoldsBlock, HasLock}
 use Rattle.wal.specs.Machine.{LogState, is_among, used_by}
 use Rattle.model.specs.declared.types.operations.Op.{Op}
 use Rattle.model.specs.declared.types.operations.Op.TheVariants.{Create, Write, Read, Trunc, Remove, Stat}
+use Rattle.driver.specs.Lemmas.Others.{StaysForOthers}
+use Rattle.driver.specs.Lemmas.Slots.{holds_still}
 use Rattle.inodes.specs.declared.tasks.Place.{Place}
 use Rattle.inodes.specs.declared.tasks.Place.TheVariants as place
 use Rattle.inodes.specs.Tasks.{TaskState, task, no_task}
-use Rattle.inodes.specs.Places.{HasSlot, block_of_trunc}
-use Rattle.inodes.specs.Holding.{kept_slot, used_slot}
+use Rattle.inodes.specs.Places.{HasSlot}
+use Rattle.inodes.specs.Itrunc.{trunc_next}
 use Rattle.inodes.specs.Store.{HoldsAt, HasLogged, IsOpenFor, Stands, Agrees}
 use Rattle.inodes.specs.LockState.{slot_of}
 use Rattle.blockmap.specs.Target.{block_of, slot_in}
@@ -20,16 +21,6 @@ use Rattle.model.specs.Layout.{inode_block}
 use Rattle.inodes.specs.Writei.{WriteState}
 use Rattle.blockmap.specs.BmapAlloc.{indirect_of}
 use Rattle.inodes.specs.Writing.{counted, HasLoggedWrite, kept_by_write, at_hand, block_of_write, used_by_write}
-
--- what the others hold and have in the log stays, while process p works
-pub record StaysForOthers (c d : Buffers) (l m : LogState) (p : ℕ) : Type 0 where
-  pub holds : (q b i : ℕ) → q ≢ p → HoldsBlock c q b i → HoldsBlock d q b i
-  pub locks : (q b i : ℕ) → q ≢ p → HasLock d q b i → HasLock c q b i
-  pub used : (q : ℕ) → q ≢ p → used_by m q ≡ used_by l q
-  pub among : (b : ℕ) → is_among b l.homes ≡ true → is_among b m.homes ≡ true
-
-pub stays_same : (c : Buffers) (l : LogState) (p : ℕ) → StaysForOthers c c l l p
-stays_same c l p = record { holds = λ q b i apart has. has; locks = λ q b i apart has. has; used = λ q apart. refl; among = λ b has. has }
 
 -- process p's task is t now
 pub record TaskIsNow (c d : Buffers) (l m : LogState) (n p : ℕ) (ts : List TaskState) (t : TaskState) : Type 0 where
@@ -92,9 +83,8 @@ stands_other c d l m n p q t (place.Taking lock) stays apart s = (holds_other c 
 stands_other c d l m n p q t (place.Reading k reading) stays apart s = holds_other c d l m p q (block_of reading.target) (slot_in reading.target) stays apart s
 stands_other c d l m n p q t (place.Delivering k) stays apart s = tt
 stands_other c d l m n p q t (place.Truncating k trunc) stays apart s = record {
-  logged = logged_still l m q trunc.bitmap (stays.used q apart) (λ one has. stays.among trunc.bitmap has) s.logged;
-  kept = holds_other c d l m p q (slice_index trunc.inode.addrs 12) (kept_slot trunc.at) stays apart s.kept;
-  used = holds_other c d l m p q (block_of_trunc trunc trunc.at) (used_slot trunc.at) stays apart s.used;
+  logged = logged_still l m q trunc.machine.bitmap (stays.used q apart) (λ one has. stays.among trunc.machine.bitmap has) s.logged;
+  holds = holds_still c d q (trunc_next trunc) trunc.kept trunc.used (λ b i has. stays.holds q b i apart has) s.holds;
 }
 stands_other c d l m n p q t (place.Writing k w) stays apart s = record {
   logged = logged_write_still l m q w (stays.used q apart) (λ homes b had has. stays.among b has) s.logged;
@@ -140,9 +130,8 @@ agrees_still c d l m n ts holds locks used among are = record {
     by_place q t (place.Reading k reading) s = by_slot q (block_of reading.target) (slot_in reading.target) s
     by_place q t (place.Delivering k) s = tt
     by_place q t (place.Truncating k trunc) s = record {
-      logged = logged_still l m q trunc.bitmap (used q) (λ one has. among q 1 trunc.bitmap one has) s.logged;
-      kept = by_slot q (slice_index trunc.inode.addrs 12) (kept_slot trunc.at) s.kept;
-      used = by_slot q (block_of_trunc trunc trunc.at) (used_slot trunc.at) s.used;
+      logged = logged_still l m q trunc.machine.bitmap (used q) (λ one has. among q 1 trunc.machine.bitmap one has) s.logged;
+      holds = holds_still c d q (trunc_next trunc) trunc.kept trunc.used (holds q) s.holds;
     }
     by_place q t (place.Writing k w) s = record {
       logged = logged_write_still l m q w (used q) (λ homes b had has. among q homes b had has) s.logged;

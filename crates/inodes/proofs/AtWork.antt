@@ -17,6 +17,7 @@ use Rattle.loose.specs.Held.{Claims, FitsHeld, IsClaimedNow}
 use Rattle.wal.specs.Held.{HasLock}
 use Rattle.wal.specs.Machine.{SameGroups}
 use Rattle.wal.specs.Volume.{VolumeState}
+use Rattle.driver.specs.Lemmas.Others.{StaysForOthers}
 use Rattle.inodes.specs.declared.tasks.Place.{Place}
 use Rattle.inodes.specs.Goes.{Goes}
 use Rattle.inodes.specs.Grips.{Grip, KeepsTable, locked_grip, with_grip}
@@ -28,7 +29,6 @@ use Rattle.inodes.specs.Store.{StoreState, IsStore, FitsFiles, Stands, current_o
 use Rattle.inodes.specs.Table.{TableState}
 use Rattle.inodes.specs.Tasks.{TaskState, task, no_task}
 use Rattle.inodes.specs.Lemmas.Holding.{claimed_now}
-use Rattle.inodes.proofs.Agreeing.{StaysForOthers}
 use Rattle.inodes.proofs.Looking.{Stepped, store_stepped, steps_stepped}
 use Rattle.inodes.proofs.LooksKept.{KeepsUsed}
 use Rattle.inodes.proofs.Unclaimed.{LocksAlone, holds_alone_of}

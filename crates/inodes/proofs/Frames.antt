@@ -1,8 +1,7 @@
--- What a step leaves as it was: an image in which nothing is done, the groups of the log.
-use Rattle.std.proofs.Common.{◌≡◌, ◌≢◌, ℕ, ◌<◌, Bool, true, false, cond, ltb, ⊎_elim, length, refl, sym, ◌∙◌, ap, subst, arith, Option, Some, None}
-use Rattle.std.specs.Prelude.{IsTrue, is_some}
-use Rattle.std.proofs.lemmas.Bool.{ltb-true, cases_eq}
-use Rattle.std.proofs.lemmas.List.{get_or-set_same, get_or-set_other}
+-- What a step leaves as it was: an image in which nothing is done.
+use Rattle.std.proofs.Common.{◌≡◌, ℕ, ◌<◌, true, ltb, length, refl, arith, Option}
+use Rattle.std.specs.Prelude.{IsTrue}
+use Rattle.std.proofs.lemmas.Bool.{ltb-true}
 use Rattle.blocks.specs.Disk.{Image}
 use Rattle.model.specs.declared.types.operations.Reply.{Reply}
 use Rattle.model.specs.Journal.{is_making, is_number}
@@ -11,7 +10,6 @@ use Rattle.model.specs.Lemmas.Log.{both_of}
 use Rattle.model.specs.Lemmas.Soundness.{facts_of}
 use Rattle.model.specs.Soundness.{IsLawfulGeometry}
 use Rattle.model.specs.Tasks.{Marks}
-use Rattle.wal.specs.Machine.{LogState, SameGroups, used_by, is_among, noted, appended, one_used}
 
 -- a number's inode block lies in the image
 pub within_image : (x : Image) (i : ℕ) → IsLawfulGeometry x → IsTrue (is_number (inode_count_of x) i) → inode_block i < length x
@@ -30,24 +28,3 @@ marks_same made x none = record {
   others = λ i number other used. (used, refl);
   fresh = λ i number makes. absurd (none i makes);
 }
-
--- the log has the same groups, whatever an operation logs
-pub groups_noted : (l : LogState) (p b : ℕ) → p < length l.used → SameGroups l (noted l p b)
-groups_noted l p b lt = by_home (is_among b l.homes)
-  where
-    one_more : (o : Option ℕ) → is_some (one_used o) ≡ is_some o
-    one_more None = refl
-    one_more (Some u) = refl
-
-    used : (q : ℕ) → is_some (used_by (appended l p b) q) ≡ is_some (used_by l q)
-    used q = ⊎_elim
-        (λ (same : q ≡ p). subst (λ (k : ℕ). is_some (used_by (appended l p b) k) ≡ is_some (used_by l k)) (sym same) (ap is_some (get_or-set_same l.used p (one_used (used_by l p)) None lt) ∙ one_more (used_by l p)))
-        (λ (apart : q ≢ p). ap is_some (get_or-set_other l.used p q (one_used (used_by l p)) None apart))
-        (cases_eq q p)
-
-    by_home : (t : Bool) → SameGroups l (cond t l (appended l p b))
-    by_home true = record { size = refl; outstanding = refl; opened = refl; committed = refl; commit = refl; used = λ q. refl }
-    by_home false = record { size = refl; outstanding = refl; opened = refl; committed = refl; commit = refl; used = used }
-
-pub groups_same : (l : LogState) → SameGroups l l
-groups_same l = record { size = refl; outstanding = refl; opened = refl; committed = refl; commit = refl; used = λ q. refl }

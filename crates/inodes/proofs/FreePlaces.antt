@@ -1,38 +1,34 @@
 -- A task by its place: whether its next step uses what it has got, what it keeps while it gets
 -- another block, and that it waits for this alone.
 use Rattle.std.proofs.Common.{◌≡◌, ℕ, Bool, true, false, refl, inl, inr, ◌⊎◌, Option, Some, None}
-use Rattle.std.specs.Prelude.{is_some, not}
+use Rattle.std.specs.Prelude.{is_none, is_some, not}
 use Rattle.bcache.specs.Buffers.{Buffers}
 use Rattle.blockmap.specs.declared.bmap_alloc.MapAt.{MapAt}
 use Rattle.blockmap.specs.declared.bmap_alloc.MapAt.TheVariants as map_at
 use Rattle.blockmap.specs.Target.{slot_in}
+use Rattle.driver.specs.Holds.{slot_kept, slot_used}
+use Rattle.driver.specs.Next.{wanted_by}
+use Rattle.driver.specs.declared.machine.Next.{Next}
+use Rattle.driver.specs.declared.machine.Next.TheVariants as next
 use Rattle.inodes.specs.declared.ilock.LockAt.{LockAt}
 use Rattle.inodes.specs.declared.ilock.LockAt.TheVariants as lock_at
-use Rattle.inodes.specs.declared.itrunc.TruncAt.{TruncAt}
-use Rattle.inodes.specs.declared.itrunc.TruncAt.TheVariants as trunc_at
 use Rattle.inodes.specs.declared.tasks.Place.{Place}
 use Rattle.inodes.specs.declared.tasks.Place.TheVariants as place
 use Rattle.inodes.specs.declared.writei.WriteAt.{WriteAt}
 use Rattle.inodes.specs.declared.writei.WriteAt.TheVariants as write_at
-use Rattle.inodes.specs.Holding.{kept_slot, used_slot}
-use Rattle.inodes.specs.Itrunc.{TruncState}
+use Rattle.inodes.specs.Itrunc.{trunc_next}
 use Rattle.inodes.specs.LockState.{slot_of}
 use Rattle.inodes.specs.Places.{HasSlot}
 use Rattle.inodes.specs.Table.{TableState}
 use Rattle.inodes.specs.Writei.{WriteState}
 use Rattle.inodes.specs.Writing.{slot_of_alloc, kept_by_write, used_on_way, used_by_write}
-use Rattle.inodes.specs.Waiting.{unless_got, wanted_by_trunc, wanted_on_way, wanted_by_write, cause_to_lock, cause_at}
+use Rattle.inodes.specs.Waiting.{unless_got, wanted_on_way, wanted_by_write, cause_to_lock, cause_at}
 use Rattle.wal.specs.Volume.{cause_to_get}
 
 -- ---- whose next step gets nothing
 
-abbrev pub frees_freely : TruncAt → Bool
-frees_freely (trunc_at.Direct k f) = is_some f.slot
-frees_freely trunc_at.Getting = false
-frees_freely (trunc_at.Entry i f) = is_some f.slot
-frees_freely (trunc_at.Releasing i) = true
-frees_freely (trunc_at.Indirect f) = is_some f.slot
-frees_freely (trunc_at.Writing u) = is_some u.slot
+abbrev pub drives_freely : Next → Option ℕ → Bool
+drives_freely a used = is_none (wanted_by a used)
 
 abbrev pub maps_freely : MapAt → Bool
 maps_freely (map_at.Direct t) = is_some (slot_of_alloc t.at)
@@ -57,7 +53,7 @@ is_free (place.Creating m) = is_some m.slot
 is_free (place.Taking m) = locks_freely m.at
 is_free (place.Reading k m) = is_some (slot_in m.target)
 is_free (place.Delivering k) = true
-is_free (place.Truncating k m) = frees_freely m.at
+is_free (place.Truncating k m) = drives_freely (trunc_next m) m.used
 is_free (place.Writing k m) = writes_freely m.at
 is_free (place.Leaving k) = true
 
@@ -65,13 +61,9 @@ got_some : (c : Buffers) (o : Option ℕ) (b : ℕ) → is_some o ≡ true → c
 got_some c None b e = absurd (cc e)
 got_some c (Some i) b e = refl
 
-free_trunc : (c : Buffers) (m : TruncState) (a : TruncAt) → frees_freely a ≡ true → cause_to_get c (wanted_by_trunc m a) ≡ None
-free_trunc c m (trunc_at.Direct k f) e = got_some c f.slot f.bitmap e
-free_trunc c m trunc_at.Getting e = absurd (cc e)
-free_trunc c m (trunc_at.Entry i f) e = got_some c f.slot f.bitmap e
-free_trunc c m (trunc_at.Releasing i) e = refl
-free_trunc c m (trunc_at.Indirect f) e = got_some c f.slot f.bitmap e
-free_trunc c m (trunc_at.Writing u) e = got_some c u.slot _ e
+free_driven : (c : Buffers) (o : Option ℕ) → is_none o ≡ true → cause_to_get c o ≡ None
+free_driven c None e = refl
+free_driven c (Some b) e = absurd (cc e)
 
 free_way : (c : Buffers) (m : WriteState) (a : MapAt) → maps_freely a ≡ true → cause_to_get c (wanted_on_way m.inode a) ≡ None
 free_way c m (map_at.Direct t) e = got_some c (slot_of_alloc t.at) _ e
@@ -97,7 +89,7 @@ free_goes c t (place.Creating m) e = got_some c m.slot _ e
 free_goes c t (place.Taking m) e = free_lock c t m.at m.number e
 free_goes c t (place.Reading k m) e = got_some c (slot_in m.target) _ e
 free_goes c t (place.Delivering k) e = refl
-free_goes c t (place.Truncating k m) e = free_trunc c m m.at e
+free_goes c t (place.Truncating k m) e = free_driven c (wanted_by (trunc_next m) m.used) e
 free_goes c t (place.Writing k m) e = free_write c m m.at e
 free_goes c t (place.Leaving k) e = refl
 
@@ -110,7 +102,7 @@ kept_at (place.Creating m) = None
 kept_at (place.Taking m) = None
 kept_at (place.Reading k m) = None
 kept_at (place.Delivering k) = None
-kept_at (place.Truncating k m) = kept_slot m.at
+kept_at (place.Truncating k m) = slot_kept m.kept
 kept_at (place.Writing k m) = kept_by_write m.at
 kept_at (place.Leaving k) = None
 
@@ -118,13 +110,11 @@ not_got : (o : Option ℕ) (i : ℕ) → is_some o ≡ false → o ≡ Some i �
 not_got None i e has = cc has
 not_got (Some j) i e has = cc e
 
-used_trunc : (a : TruncAt) (i : ℕ) → frees_freely a ≡ false → used_slot a ≡ Some i → ⊥
-used_trunc (trunc_at.Direct k f) i e has = not_got f.slot i e has
-used_trunc trunc_at.Getting i e has = cc has
-used_trunc (trunc_at.Entry j f) i e has = not_got f.slot i e has
-used_trunc (trunc_at.Releasing j) i e has = cc has
-used_trunc (trunc_at.Indirect f) i e has = not_got f.slot i e has
-used_trunc (trunc_at.Writing u) i e has = not_got u.slot i e has
+used_driven : (a : Next) (used : Option ℕ) (i : ℕ) → drives_freely a used ≡ false → slot_used a used ≡ Some i → ⊥
+used_driven (next.Use b) None i e has = cc has
+used_driven (next.Use b) (Some j) i e has = cc e
+used_driven (next.Keep b) used i e has = cc has
+used_driven next.Kept used i e has = cc has
 
 used_way : (a : MapAt) (i : ℕ) → maps_freely a ≡ false → used_on_way a ≡ Some i → ⊥
 used_way (map_at.Direct t) i e has = not_got (slot_of_alloc t.at) i e has
@@ -154,7 +144,7 @@ has_kept (place.Creating m) i e has = absurd (not_got m.slot i e has)
 has_kept (place.Taking m) i e has = absurd (locks_none m.at i e has)
 has_kept (place.Reading k m) i e has = absurd (not_got (slot_in m.target) i e has)
 has_kept (place.Delivering k) i e has = has
-has_kept (place.Truncating k m) i e has = either has (used_trunc m.at i e)
+has_kept (place.Truncating k m) i e has = either has (used_driven (trunc_next m) m.used i e)
 has_kept (place.Writing k m) i e has = either has (used_write m.at i e)
 has_kept (place.Leaving k) i e has = has
 
@@ -185,13 +175,9 @@ pub some_got : (c : Buffers) (o : Option ℕ) (b : ℕ) → is_some o ≡ false 
 some_got c None b e = refl
 some_got c (Some i) b e = absurd (cc e)
 
-trunc_waits : (c : Buffers) (m : TruncState) (a : TruncAt) → frees_freely a ≡ false → (b : ℕ) × (cause_to_get c (wanted_by_trunc m a) ≡ cause_to_get c (Some b))
-trunc_waits c m (trunc_at.Direct k f) e = (_, some_got c f.slot f.bitmap e)
-trunc_waits c m trunc_at.Getting e = (_, refl)
-trunc_waits c m (trunc_at.Entry i f) e = (_, some_got c f.slot f.bitmap e)
-trunc_waits c m (trunc_at.Releasing i) e = absurd (cc e)
-trunc_waits c m (trunc_at.Indirect f) e = (_, some_got c f.slot f.bitmap e)
-trunc_waits c m (trunc_at.Writing u) e = (_, some_got c u.slot _ e)
+driven_waits : (c : Buffers) (o : Option ℕ) → is_none o ≡ false → (b : ℕ) × (cause_to_get c o ≡ cause_to_get c (Some b))
+driven_waits c None e = absurd (cc e)
+driven_waits c (Some b) e = (b, refl)
 
 way_waits : (c : Buffers) (m : WriteState) (a : MapAt) → maps_freely a ≡ false → (b : ℕ) × (cause_to_get c (wanted_on_way m.inode a) ≡ cause_to_get c (Some b))
 way_waits c m (map_at.Direct t) e = (_, some_got c (slot_of_alloc t.at) _ e)
@@ -220,6 +206,6 @@ getting_waits c t (place.Creating m) e is = (_, some_got c m.slot _ e)
 getting_waits c t (place.Taking m) e is = lock_waits c t m.at m.number e (not_lock (is_lock m.at) is)
 getting_waits c t (place.Reading k m) e is = (_, some_got c (slot_in m.target) _ e)
 getting_waits c t (place.Delivering k) e is = absurd (cc e)
-getting_waits c t (place.Truncating k m) e is = trunc_waits c m m.at e
+getting_waits c t (place.Truncating k m) e is = driven_waits c (wanted_by (trunc_next m) m.used) e
 getting_waits c t (place.Writing k m) e is = write_waits c m m.at e
 getting_waits c t (place.Leaving k) e is = absurd (cc e)

@@ -1,5 +1,5 @@
 -- What a look's steps make of buffers and device: a block is got, or released, or nothing is done.
-use Rattle.std.proofs.Common.{◌≡◌, inl, ⊎_elim, ℕ, List, refl, sym, ◌∙◌, ap, subst, arith, Option, Some, None}
+use Rattle.std.proofs.Common.{◌≡◌, ⊎_elim, ℕ, List, refl, sym, ◌∙◌, ap, subst, arith, Option, Some, None}
 use Rattle.blocks.specs.Calls.{OnlyReads}
 use Rattle.blocks.specs.Disk.{Image}
 use Rattle.blocks.specs.declared.disk.Disk.{Ghosts}
@@ -15,15 +15,15 @@ use Rattle.wal.specs.declared.types.Get.TheVariants as get
 use Rattle.wal.specs.Held.{HasLock, IsLocked, LocksAfter, GetsLock, GivesUpLock}
 use Rattle.wal.specs.Machine.{LogState}
 use Rattle.wal.specs.Volume.{VolumeState, OnSleeping, fault_of_get, faults_after}
-use Rattle.blockmap.specs.declared.progress.Progress.{Progress}
-use Rattle.blockmap.specs.declared.progress.Progress.TheVariants as machine
-use Rattle.blockmap.specs.Getting.{GetsFor, progress_of, slot_of}
+use Rattle.driver.specs.declared.progress.Progress.{Progress}
+use Rattle.driver.specs.declared.progress.Progress.TheVariants as machine
+use Rattle.driver.specs.Getting.{GetsFor, progress_of, slot_of}
 use Rattle.inodes.specs.Goes.{ShowsSame}
 use Rattle.inodes.specs.Places.{HasSlot}
 use Rattle.inodes.specs.Steps.{Reads, IsHeldByAnother}
 use Rattle.inodes.specs.Store.{StoreState, HoldsAt, Agrees, current_of}
 use Rattle.inodes.specs.Tasks.{TaskState, task}
-use Rattle.inodes.proofs.Agreeing.{StaysForOthers, stays_same}
+use Rattle.driver.specs.Lemmas.Others.{StaysForOthers, stays_same, stays_got, stays_left}
 
 -- Process p has block b where it was got, and nothing else; the others have what they had.
 pub record HasOne (c d : Buffers) (l : LogState) (p b : ℕ) (slot : Option ℕ) : Type 0 where
@@ -41,24 +41,6 @@ fault_of (machine.Fault fault) = Some (Block fault)
 -- the task of process p has got this slot alone
 abbrev pub HasOnly : List TaskState → ℕ → Option ℕ → Type 0
 HasOnly ts p slot = (i : ℕ) → HasSlot (task ts p).place i → slot ≡ Some i
-
--- the others have what they had, where it gets a lock
-pub stays_got : (c d : Buffers) (l : LogState) (p b i : ℕ) → GetsLock c d p b i → StaysForOthers c d l l p
-stays_got c d l p b i gets = record {
-  holds = λ q a j apart has. gets.held q a j has;
-  locks = λ q a j apart has. ⊎_elim (λ (was : HasLock c q a j). was) (λ mine. absurd (apart mine.0)) (gets.takes q a j has);
-  used = λ q apart. refl;
-  among = λ a has. has;
-}
-
--- and where it gives one up
-pub stays_left : (c d : Buffers) (l : LogState) (p i : ℕ) → GivesUpLock c d p i → StaysForOthers c d l l p
-stays_left c d l p i gives = record {
-  holds = λ q a j apart has. gives.others q a j (inl apart) has;
-  locks = λ q a j apart has. gives.none q a j has;
-  used = λ q apart. refl;
-  among = λ a has. has;
-}
 
 module _ (c : Buffers) (l : LogState) (n p : ℕ) (ts : List TaskState) (agrees : Agrees c l n ts) where
   -- it has what its task has

@@ -24,6 +24,10 @@ use Rattle.blockmap.specs.declared.balloc.AllocAt.{AllocAt}
 use Rattle.blockmap.specs.declared.balloc.AllocAt.TheVariants as alloc_at
 use Rattle.blockmap.specs.declared.bmap_alloc.MapAt.{MapAt}
 use Rattle.blockmap.specs.declared.bmap_alloc.MapAt.TheVariants as map_at
+use Rattle.driver.specs.Holds.{HasKept, slot_kept}
+use Rattle.driver.specs.Next.{wanted_by}
+use Rattle.driver.specs.declared.driving.Got.{Got}
+use Rattle.driver.specs.declared.machine.Next.TheVariants as next
 use Rattle.inodes.specs.declared.itrunc.TruncAt.{TruncAt}
 use Rattle.inodes.specs.declared.itrunc.TruncAt.TheVariants as trunc_at
 use Rattle.inodes.specs.declared.tasks.Place.{Place}
@@ -33,8 +37,8 @@ use Rattle.inodes.specs.declared.writei.WriteAt.TheVariants as write_at
 use Rattle.inodes.specs.Grips.{locked_grip}
 use Rattle.inodes.specs.Growing.{growth_of, bytes_by, HasComeTo, IsOnWay, taken_at, taken_on_way, taken_by}
 use Rattle.inodes.specs.declared.writei.Extent.{Extent}
-use Rattle.inodes.specs.Holding.{claims_of, kept_slot, bitmap_block, HasGivenUp, IsTruncating}
-use Rattle.inodes.specs.Itrunc.{TruncState}
+use Rattle.inodes.specs.Holding.{claims_of, bitmap_block, HasGivenUp, IsKept, IsTruncating, KeepsAt}
+use Rattle.inodes.specs.Itrunc.{Freeing, next_of_trunc, trunc_next}
 use Rattle.inodes.specs.Looks.{AreLooking, LooksAt}
 use Rattle.inodes.specs.Places.{grip_of}
 use Rattle.inodes.specs.Store.{HoldsAt, HasLogged, Stands}
@@ -44,11 +48,15 @@ use Rattle.inodes.specs.Writei.{WriteState}
 use Rattle.inodes.specs.Writing.{IsWriting, slot_of_alloc, block_of_alloc, kept_on_way, kept_by_write}
 use Rattle.inodes.specs.Lemmas.Looks.{trunc_locks, write_locks}
 use Rattle.wal.specs.Volume.{cause_to_get}
-use Rattle.inodes.specs.Waiting.{cause_at, wanted_by_trunc, wanted_by_write, wanted_on_way}
+use Rattle.inodes.specs.Waiting.{cause_at, wanted_by_write, wanted_on_way}
 use Rattle.inodes.proofs.Unclaimed.{one_holder, own_claim, own_growth}
-use Rattle.inodes.proofs.FreePlaces.{is_free, frees_freely, maps_freely, writes_freely, kept_at, some_got}
+use Rattle.inodes.proofs.FreePlaces.{is_free, drives_freely, maps_freely, writes_freely, kept_at, some_got}
 
 -- ---- what is kept
+
+abbrev pub kept_by : Option Got → ℕ
+kept_by None = 0
+kept_by (Some g) = g.block
 
 -- the block of addresses that a task keeps, or 0
 abbrev pub kept_block : Place → ℕ
@@ -57,7 +65,7 @@ kept_block (place.Creating m) = 0
 kept_block (place.Taking m) = 0
 kept_block (place.Reading k m) = 0
 kept_block (place.Delivering k) = 0
-kept_block (place.Truncating k m) = get_or m.inode.addrs 12 0
+kept_block (place.Truncating k m) = kept_by m.kept
 kept_block (place.Writing k m) = indirect_of m.inode
 kept_block (place.Leaving k) = 0
 
@@ -71,6 +79,10 @@ some_logged : (l : LogState) (p b : ℕ) → HasLogged l p b → (u : ℕ) × (u
 some_logged l p b (inl none) = (0, none)
 some_logged l p b (inr one) = (1, one.0)
 
+by_kept : {c : Buffers} {p i : ℕ} (o : Option Got) → slot_kept o ≡ Some i → HasKept c p o → HoldsBlock c p (kept_by o) i
+by_kept None has kept = absurd (cc has)
+by_kept {c} {p} {i} (Some g) has kept = let same : g.slot ≡ i = cc has in subst (HoldsBlock c p g.block) same kept
+
 pub keeps_open : (c : Buffers) (l : LogState) (n p i : ℕ) (o : Option Op) (a : Place) → kept_at a ≡ Some i → Stands c l n p o a → KeepsOpen c l p i (kept_block a)
 keeps_open c l n p i o place.Nowhere has stands = absurd (cc has)
 keeps_open c l n p i o (place.Creating m) has stands = absurd (cc has)
@@ -78,9 +90,9 @@ keeps_open c l n p i o (place.Taking m) has stands = absurd (cc has)
 keeps_open c l n p i o (place.Reading k m) has stands = absurd (cc has)
 keeps_open c l n p i o (place.Delivering k) has stands = absurd (cc has)
 keeps_open c l n p i o (place.Truncating k m) has stands =
-    let log = some_logged l p m.bitmap stands.logged in
+    let log = some_logged l p m.machine.bitmap stands.logged in
     record {
-      holds = subst (HoldsAt c p (get_or m.inode.addrs 12 0)) has stands.kept;
+      holds = by_kept m.kept has stands.holds.has_kept;
       used = log.0;
       has = log.1;
     }
@@ -105,14 +117,14 @@ module _ (cur : Image) (t : TableState) (ts : List TaskState) (are : AreLooking 
   named : (i : ℕ) → IsTrue (is_number t.inode_count i) → IsTrue (is_number (inode_count_of cur) i)
   named i is = subst (λ (n : ℕ). IsTrue (is_number n i)) numbers is
 
-  trunc_own : (p k : ℕ) (m : TruncState) → (task ts p).place ≡ place.Truncating k m → IsTrue (is_number t.inode_count m.number) → get_or m.inode.addrs 12 0 ≢ 0 → IsOwn p (get_or m.inode.addrs 12 0)
+  trunc_own : (p k : ℕ) (m : Freeing) → (task ts p).place ≡ place.Truncating k m → IsTrue (is_number t.inode_count m.machine.number) → get_or m.machine.inode.addrs 12 0 ≢ 0 → IsOwn p (get_or m.machine.inode.addrs 12 0)
   trunc_own p k m at number some = record {
-    number = m.number;
+    number = m.machine.number;
     entry = k;
     locked = trunc_locks cur t ts are p k m at;
-    is = named m.number number;
-    owned = subst (λ (o : Option Claim). 1 ≤ count_of (get_or m.inode.addrs 12 0) (names_claimed cur m.number o)) (sym (own_claim cur t ts are p k m at))
-        (first_entry cur _ (get_or m.inode.addrs 12 0) m.given_up some);
+    is = named m.machine.number number;
+    owned = subst (λ (o : Option Claim). 1 ≤ count_of (get_or m.machine.inode.addrs 12 0) (names_claimed cur m.machine.number o)) (sym (own_claim cur t ts are p k m at))
+        (first_entry cur _ (get_or m.machine.inode.addrs 12 0) m.machine.given_up some);
   }
 
   held_in : (p k : ℕ) (m : WriteState) → (task ts p).place ≡ place.Writing k m → IsTrue (is_number t.inode_count m.number) →
@@ -133,13 +145,28 @@ module _ (cur : Image) (t : TableState) (ts : List TaskState) (are : AreLooking 
         owned = omega (arith, mine, has);
       }
 
-  trunc_kept : (m : TruncState) (i : ℕ) (a : TruncAt) → kept_slot a ≡ Some i → frees_freely a ≡ false → HasGivenUp cur m a → get_or m.inode.addrs 12 0 ≢ 0
-  trunc_kept m i (trunc_at.Direct k f) has waits given = absurd (cc has)
-  trunc_kept m i trunc_at.Getting has waits given = absurd (cc has)
-  trunc_kept m i (trunc_at.Entry j f) has waits given = given.2
-  trunc_kept m i (trunc_at.Releasing j) has waits given = absurd (cc waits)
-  trunc_kept m i (trunc_at.Indirect f) has waits given = absurd (cc has)
-  trunc_kept m i (trunc_at.Writing u) has waits given = absurd (cc has)
+  -- who keeps a block in the freeing of a file's keeps that of addresses, to which it comes by entries
+  kept_is : (o : Option Got) (b i : ℕ) → slot_kept o ≡ Some i → IsKept o b → kept_by o ≡ b
+  kept_is None b i has keeps = absurd (cc has)
+  kept_is (Some g) b i has keeps = keeps
+
+  not_kept : {A : Type 0} (o : Option Got) (i : ℕ) → slot_kept o ≡ Some i → o ≡ None → A
+  not_kept o i has none = absurd (let e : None ≡ Some i = sym (ap slot_kept none) ∙ has in cc e)
+
+  -- it waits for the bitmap's block then
+  pub record KeepsEntries (m : Freeing) : Type 0 where
+    pub at : m.machine.at ≡ trunc_at.Entry
+    pub some : get_or m.machine.inode.addrs 12 0 ≢ 0
+    pub block : kept_by m.kept ≡ get_or m.machine.inode.addrs 12 0
+
+  trunc_kept : (m : Freeing) (i : ℕ) (a : TruncAt) → m.machine.at ≡ a → slot_kept m.kept ≡ Some i → drives_freely (next_of_trunc m.machine a) m.used ≡ false → HasGivenUp cur m.machine a
+      → KeepsAt m.kept (get_or m.machine.inode.addrs 12 0) a → KeepsEntries m
+  trunc_kept m i (trunc_at.Direct k) at has waits given keeps = not_kept m.kept i has keeps
+  trunc_kept m i trunc_at.Loading at has waits given keeps = not_kept m.kept i has keeps
+  trunc_kept m i trunc_at.Entry at has waits given keeps = record { at = at; some = given.2; block = kept_is m.kept (get_or m.machine.inode.addrs 12 0) i has keeps }
+  trunc_kept m i trunc_at.Unloading at has waits given keeps = absurd (cc waits)
+  trunc_kept m i trunc_at.Indirect at has waits given keeps = not_kept m.kept i has keeps
+  trunc_kept m i trunc_at.Updating at has waits given keeps = not_kept m.kept i has keeps
 
   way_kept : (m : WriteState) (i k : ℕ) (a : MapAt) → kept_on_way a ≡ Some i → maps_freely a ≡ false → IsOnWay cur m.inode m.extent k a → indirect_of m.inode ≢ 0
   way_kept m i k (map_at.Direct s) has waits on = absurd (cc has)
@@ -164,7 +191,9 @@ module _ (cur : Image) (t : TableState) (ts : List TaskState) (are : AreLooking 
       by_place (place.Taking m) at looks has waits = absurd (cc has)
       by_place (place.Reading k m) at looks has waits = absurd (cc has)
       by_place (place.Delivering k) at looks has waits = absurd (cc has)
-      by_place (place.Truncating k m) at looks has waits = trunc_own p k m at looks.number (trunc_kept m i m.at has waits looks.given)
+      by_place (place.Truncating k m) at looks has waits =
+          let entries = trunc_kept m i m.machine.at refl has waits looks.given looks.keeps in
+          subst (IsOwn p) (sym entries.block) (trunc_own p k m at looks.number entries.some)
       by_place (place.Writing k m) at looks has waits = write_own p k m at looks.number (write_kept m i m.at has waits looks.come)
       by_place (place.Leaving k) at looks has waits = absurd (cc has)
 
@@ -184,18 +213,16 @@ module _ (cur : Image) (t : TableState) (ts : List TaskState) (are : AreLooking 
   the_bitmap : bitmap_block t.inode_count ≡ bitmap_block (inode_count_of cur)
   the_bitmap = ap bitmap_block numbers
 
-  trunc_behind : (c : Buffers) (p k i : ℕ) (m : TruncState) (a : TruncAt) → (task ts p).place ≡ place.Truncating k m → m.at ≡ a → IsTruncating cur t.inode_count (task ts p) m →
-      HasGivenUp cur m a → kept_slot a ≡ Some i → frees_freely a ≡ false → WaitsBehind c p
-  trunc_behind c p k i m (trunc_at.Direct e f) at is work given has waits = absurd (cc has)
-  trunc_behind c p k i m trunc_at.Getting at is work given has waits = absurd (cc has)
-  trunc_behind c p k i m (trunc_at.Entry j f) at is work given has waits = record {
-    block = f.bitmap;
-    cause = ap (cause_at c t) at ∙ ap (λ (b : TruncAt). cause_to_get c (wanted_by_trunc m b)) is ∙ some_got c f.slot f.bitmap waits;
-    what = inl (given.3.bitmap ∙ work.bitmap ∙ the_bitmap);
+  trunc_behind : (c : Buffers) (p k : ℕ) (m : Freeing) → (task ts p).place ≡ place.Truncating k m → IsTruncating cur t.inode_count (task ts p) m → KeepsEntries m → drives_freely (trunc_next m) m.used ≡ false → WaitsBehind c p
+  trunc_behind c p k m at work entries waits = record {
+    block = m.machine.bitmap;
+    cause = ap (cause_at c t) at ∙ ap (λ (a : TruncAt). cause_to_get c (wanted_by (next_of_trunc m.machine a) m.used)) entries.at ∙ by_used m.used (ap (λ (a : TruncAt). drives_freely (next_of_trunc m.machine a) m.used) (sym entries.at) ∙ waits);
+    what = inl (work.bitmap ∙ the_bitmap);
   }
-  trunc_behind c p k i m (trunc_at.Releasing j) at is work given has waits = absurd (cc waits)
-  trunc_behind c p k i m (trunc_at.Indirect f) at is work given has waits = absurd (cc has)
-  trunc_behind c p k i m (trunc_at.Writing u) at is work given has waits = absurd (cc has)
+    where
+      by_used : (o : Option ℕ) → drives_freely (next.Use m.machine.bitmap) o ≡ false → cause_to_get c (wanted_by (next.Use m.machine.bitmap) o) ≡ cause_to_get c (Some m.machine.bitmap)
+      by_used None e = refl
+      by_used (Some i) e = absurd (cc e)
 
   -- the writing of a file's bytes
   taken_own : (p k b : ℕ) (m : WriteState) → (task ts p).place ≡ place.Writing k m → IsTrue (is_number t.inode_count m.number) → indirect_of m.inode ≢ 0 → taken_by m.at ≡ Some b → IsTaken p b
@@ -251,7 +278,7 @@ module _ (cur : Image) (t : TableState) (ts : List TaskState) (are : AreLooking 
       by_place (place.Taking m) at looks has waits = absurd (cc has)
       by_place (place.Reading k m) at looks has waits = absurd (cc has)
       by_place (place.Delivering k) at looks has waits = absurd (cc has)
-      by_place (place.Truncating k m) at looks has waits = trunc_behind c p k i m m.at at refl looks looks.given has waits
+      by_place (place.Truncating k m) at looks has waits = trunc_behind c p k m at looks (trunc_kept m i m.machine.at refl has waits looks.given looks.keeps) waits
       by_place (place.Writing k m) at looks has waits = write_behind c p k i m m.at at refl looks looks.come has waits
       by_place (place.Leaving k) at looks has waits = absurd (cc has)
 

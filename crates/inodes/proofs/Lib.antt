@@ -1,8 +1,6 @@
 pub mod LookLemmas
 pub mod ReadLemmas
-pub mod NextAddress
-pub mod Truncs
-mod Frames
+pub mod Frames
 mod Agreeing
 mod Gripping
 mod Unclaimed
@@ -12,8 +10,9 @@ mod TruncSlots
 mod Truncating
 mod TruncFiles
 mod AtWork
+mod Driving
+mod TruncMakes
 mod TruncSteps
-mod TruncDoes
 mod Searching
 mod SearchNow
 mod StoreSteps
@@ -39,4 +38,4 @@ mod WriteEnds
 mod FreePlaces
 mod KeptBlocks
 mod GoesOn
-mod Sleeping
+pub mod Sleeping

@@ -20,6 +20,7 @@ use Rattle.loose.specs.Held.{FitsHeld}
 use Rattle.loose.specs.Lemmas.HeldFrames.{held_alike}
 use Rattle.wal.specs.Held.{HasLock}
 use Rattle.wal.specs.Machine.{LogState, SameGroups}
+use Rattle.driver.specs.Lemmas.Others.{StaysForOthers, groups_same}
 use Rattle.inodes.specs.declared.tasks.Place.{Place}
 use Rattle.inodes.specs.declared.tasks.Place.TheVariants as place
 use Rattle.inodes.specs.Goes.{Shown, Goes, ShowsSame}
@@ -33,9 +34,9 @@ use Rattle.inodes.specs.Steps.{Steps, Waits, Reads, LeavesLate, is_made}
 use Rattle.inodes.specs.Store.{StoreState, IsStore, FitsFiles, Agrees, Stands, current_of}
 use Rattle.inodes.specs.Table.{copy_at}
 use Rattle.inodes.specs.Tasks.{TaskState, task, no_task}
-use Rattle.inodes.proofs.Agreeing.{StaysForOthers, agrees_now}
+use Rattle.inodes.proofs.Agreeing.{agrees_now}
 use Rattle.inodes.proofs.Gripping.{grip_is, grips_set}
-use Rattle.inodes.proofs.Frames.{groups_same, marks_same}
+use Rattle.inodes.proofs.Frames.{marks_same}
 use Rattle.inodes.proofs.LooksKept.{KeepsUsed, keeps_same, stands_still}
 use Rattle.inodes.proofs.Shares.{shares}
 use Rattle.inodes.specs.Writing.{IsWriting}

@@ -37,8 +37,8 @@ use Rattle.inodes.specs.declared.itrunc.TruncAt.TheVariants as trunc_at
 use Rattle.inodes.specs.declared.tasks.Place.{Place}
 use Rattle.inodes.specs.declared.tasks.Place.TheVariants as place
 use Rattle.inodes.specs.Grips.{Grip, KeepsUsedInodes, TableIs, grip, locked_grip}
-use Rattle.inodes.specs.Holding.{HasGivenUp, IsFreeing, claim_by, claims_of, held_of, claim_of}
-use Rattle.inodes.specs.Itrunc.{TruncState, entries_in}
+use Rattle.inodes.specs.Holding.{HasGivenUp, claim_by, claims_of, held_of, claim_of}
+use Rattle.inodes.specs.Itrunc.{Freeing, entries_in}
 use Rattle.inodes.specs.Looks.{AreLooking, HasFiles, LeadsToBlock, LooksAt}
 use Rattle.inodes.specs.Places.{asked_by, grip_by, grip_of, grips_of}
 use Rattle.inodes.specs.Store.{CanBegin, first_place}
@@ -165,22 +165,22 @@ module _ (old new : Image) (t : TableState) (ts : List TaskState) (i : ℕ) (are
   leads_still d k (target.Block b slot) same leads = leads ∙ sym (same.addresses k)
 
   -- the block of addresses that a task frees lies among the data
-  entries_still : (p k : ℕ) (m : TruncState) → ((k : ℕ) → grip_of (task ts p) ≡ Some (locked_grip k i) → ⊥) → (task ts p).place ≡ place.Truncating k m
-      → slice_index m.inode.addrs 12 ≢ 0 → entries_in new m ≡ entries_in old m
+  entries_still : (p k : ℕ) (m : Freeing) → ((k : ℕ) → grip_of (task ts p) ≡ Some (locked_grip k i) → ⊥) → (task ts p).place ≡ place.Truncating k m
+      → slice_index m.machine.inode.addrs 12 ≢ 0 → entries_in new m.machine ≡ entries_in old m.machine
   entries_still p k m free at some =
-      let locked = claim_locks old t ts are p m.number (frees (held_of m)) (ap (λ (a : Place). claim_by (task ts p).op a m.number) at ∙ own_holds k m) in
-      let apart : m.number ≢ i = λ same. free locked.0 (locked.1 ∙ ap (λ (n : ℕ). Some (locked_grip locked.0 n)) same) in
-      ap words_of
-      ((keeps.held m.number (frees (held_of m)) (trunc_names old t ts are p k m at) apart (own_claim old t ts are p k m at)).indirect some)
+      let h = frees (held_of m.machine) in
+      let locked = claim_locks old t ts are p m.machine.number h (ap (λ (a : Place). claim_by (task ts p).op a m.machine.number) at ∙ own_holds k m) in
+      let apart : m.machine.number ≢ i = λ same. free locked.0 (locked.1 ∙ ap (λ (n : ℕ). Some (locked_grip locked.0 n)) same) in
+      ap words_of ((keeps.held m.machine.number h (trunc_names old t ts are p k m at) apart (own_claim old t ts are p k m at)).indirect some)
 
-  given_still : (p k : ℕ) (m : TruncState) (a : TruncAt) → ((k : ℕ) → grip_of (task ts p) ≡ Some (locked_grip k i) → ⊥) → (task ts p).place ≡ place.Truncating k m → HasGivenUp old m a → HasGivenUp new m a
-  given_still p k m (trunc_at.Direct e f) free at given = given
-  given_still p k m trunc_at.Getting free at given = given
-  given_still p k m (trunc_at.Entry s f) free at given =
-      (given.0, given.1, given.2, subst (λ (entries : List ℕ). IsFreeing m f (slice_index entries m.given_up)) (sym (entries_still p k m free at given.2)) given.3)
-  given_still p k m (trunc_at.Releasing s) free at given = given
-  given_still p k m (trunc_at.Indirect f) free at given = given
-  given_still p k m (trunc_at.Writing u) free at given = given
+  given_still : (p k : ℕ) (m : Freeing) (a : TruncAt) → ((k : ℕ) → grip_of (task ts p) ≡ Some (locked_grip k i) → ⊥) → (task ts p).place ≡ place.Truncating k m → HasGivenUp old m.machine a → HasGivenUp new m.machine a
+  given_still p k m (trunc_at.Direct e) free at given = given
+  given_still p k m trunc_at.Loading free at given = given
+  given_still p k m trunc_at.Entry free at given =
+      (given.0, given.1, given.2, subst (λ (entries : List ℕ). slice_index entries m.machine.given_up ≢ 0) (sym (entries_still p k m free at given.2)) given.3)
+  given_still p k m trunc_at.Unloading free at given = given
+  given_still p k m trunc_at.Indirect free at given = given
+  given_still p k m trunc_at.Updating free at given = given
 
   -- of a task that has not locked number i
   pub stands_still : (p : ℕ) (a : Place) → ((k : ℕ) → grip_of (task ts p) ≡ Some (locked_grip k i) → ⊥) → (task ts p).place ≡ a → LooksAt old t (task ts p) a → LooksAt new t (task ts p) a
@@ -218,7 +218,8 @@ module _ (old new : Image) (t : TableState) (ts : List TaskState) (i : ℕ) (are
     op = stands.op;
     number = stands.number;
     bitmap = stands.bitmap;
-    given = given_still p k m m.at free at stands.given;
+    given = given_still p k m m.machine.at free at stands.given;
+    keeps = stands.keeps;
   }
   stands_still p (place.Writing k m) free at stands =
       let locked = write_locks old t ts are p k m at in

@@ -9,7 +9,7 @@ use Rattle.model.specs.Layout.{inode_count_of}
 use Rattle.model.specs.Places.{address_in}
 use Rattle.bcache.specs.Lemmas.Current.{length-current}
 use Rattle.wal.specs.Joint.{Joint}
-use Rattle.blockmap.specs.Getting.{HoldsWhereGot}
+use Rattle.driver.specs.Getting.{HoldsWhereGot}
 use Rattle.blockmap.specs.Lemmas.Resting.{resting_may_be_read}
 use Rattle.blockmap.specs.Reading.{MayRead}
 use Rattle.blockmap.specs.Target.{LeadsTo, block_of, slot_in}

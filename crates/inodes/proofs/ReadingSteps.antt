@@ -27,15 +27,16 @@ use Rattle.wal.specs.Volume.{VolumeState}
 use Rattle.wal.specs.declared.types.Get.{Get}
 use Rattle.wal.specs.declared.types.Get.TheVariants as get
 use Rattle.blockmap.specs.Bmap.{EntryState, LooksUp, entry_in, some_address, with_slot}
-use Rattle.blockmap.specs.Getting.{GetsFor, Releases, progress_of}
+use Rattle.driver.specs.Getting.{GetsFor, Releases, progress_of}
 use Rattle.blockmap.specs.Lemmas.Addresses.{address_or_zero_of}
 use Rattle.blockmap.specs.Lemmas.Reading.{length-bytes, part_cut, part_in_two}
 use Rattle.blockmap.specs.Map.{address_or_zero}
 use Rattle.blockmap.specs.Target.{LeadsTo, LooksUpFor, block_of, progress_behind, slot_in, steps_at, target_behind, target_for}
-use Rattle.blockmap.specs.declared.progress.Progress.{Progress}
-use Rattle.blockmap.specs.declared.progress.Progress.TheVariants as machine
+use Rattle.driver.specs.declared.progress.Progress.{Progress}
+use Rattle.driver.specs.declared.progress.Progress.TheVariants as machine
 use Rattle.blockmap.specs.declared.target.Target.{Target}
 use Rattle.blockmap.specs.declared.target.Target.TheVariants as target
+use Rattle.driver.specs.Lemmas.Others.{StaysForOthers}
 use Rattle.inodes.specs.declared.tasks.Place.{Place}
 use Rattle.inodes.specs.declared.tasks.Place.TheVariants as place
 use Rattle.inodes.specs.Goes.{Goes, Shown, ShowsSame, progress_of_read, place_of_reading}
@@ -48,7 +49,6 @@ use Rattle.inodes.specs.Steps.{Steps, Waits, Reads, LeavesNumber, IsHeldByAnothe
 use Rattle.inodes.specs.Store.{StoreState, IsStore, FitsFiles, HoldsAt, Stands, Agrees, current_of}
 use Rattle.inodes.specs.Table.{copy_at}
 use Rattle.inodes.specs.Tasks.{TaskState, task, no_task}
-use Rattle.inodes.proofs.Agreeing.{StaysForOthers}
 use Rattle.inodes.proofs.Getting.{HasOne, has_left, reads_none, reads_got, shows_got, sleeps_got, held_got, has_then, fault_of}
 use Rattle.inodes.proofs.Looking.{Looked, Stepped, files_same, stepped_looked, store_stepped, steps_stepped}
 use Rattle.inodes.specs.Holding.{claim_by, claim_of}

@@ -13,7 +13,8 @@ use Rattle.wal.specs.Joint.{Joint, seen}
 use Rattle.wal.specs.Machine.{LogState, used_by}
 use Rattle.wal.specs.Lemmas.Held.{held_is}
 use Rattle.wal.specs.Lemmas.Rooms.{GrowsHomes}
-use Rattle.blockmap.specs.Getting.{HoldsWhereGot}
+use Rattle.driver.specs.Getting.{HoldsWhereGot}
+use Rattle.driver.specs.Lemmas.Others.{StaysForOthers, stays_got, stays_same}
 use Rattle.inodes.specs.Ialloc.{SearchState}
 use Rattle.inodes.specs.declared.tasks.Place.{Place}
 use Rattle.inodes.specs.declared.tasks.Place.TheVariants as place
@@ -21,8 +22,7 @@ use Rattle.inodes.specs.Ialloc.{IsReady, at_slot, at_next_block, is_last_block}
 use Rattle.inodes.specs.Tasks.{TaskState, task}
 use Rattle.inodes.specs.Places.{HasSlot}
 use Rattle.inodes.specs.Store.{IsSearching, HoldsAt, Stands, Agrees}
-use Rattle.inodes.proofs.Agreeing.{StaysForOthers, TaskIsNow, stays_same}
-use Rattle.inodes.proofs.Getting.{stays_got}
+use Rattle.inodes.proofs.Agreeing.{TaskIsNow}
 
 module _ (c d : Buffers) (l : LogState) (n p : ℕ) (ts : List TaskState) (m : SearchState) (agrees : Agrees c l n ts) (inside : p < length ts) (stood : (task ts p).place ≡ place.Creating m) where
   pub search : IsSearching c l n p (task ts p).op m

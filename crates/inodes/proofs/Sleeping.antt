@@ -6,7 +6,6 @@ use Rattle.blocks.specs.declared.errors.DiskFault.{DiskFault}
 use Rattle.bcache.specs.Buffers.{Buffers}
 use Rattle.bcache.specs.declared.types.Acquired.{Acquired}
 use Rattle.model.specs.declared.types.image.Dinode.{Dinode}
-use Rattle.model.specs.declared.types.operations.Op.{Op}
 use Rattle.model.specs.declared.types.operations.TaskProgress.{TaskProgress}
 use Rattle.model.specs.declared.types.operations.TaskProgress.TheVariants as progress
 use Rattle.model.specs.declared.types.operations.Why.{Why}
@@ -15,23 +14,28 @@ use Rattle.wal.specs.declared.types.Get.{Get}
 use Rattle.wal.specs.declared.types.Get.TheVariants as get
 use Rattle.wal.specs.Volume.{VolumeState, UnlessFault, OnFault, FailsToFill, get_answer, get_answer_by, cause_of_get, cause_to_get}
 use Rattle.blockmap.specs.Balloc.{AllocState, Allocs}
-use Rattle.blockmap.specs.Bfree.{FreeState, Frees}
 use Rattle.blockmap.specs.Bmap.{EntryState, LooksUp}
 use Rattle.blockmap.specs.BmapAlloc.{MapState, MapSteps, TakesOne}
 use Rattle.blockmap.specs.declared.balloc.AllocAt.{AllocAt}
 use Rattle.blockmap.specs.declared.balloc.AllocAt.TheVariants as alloc_at
 use Rattle.blockmap.specs.declared.bmap_alloc.MapAt.{MapAt}
 use Rattle.blockmap.specs.declared.bmap_alloc.MapAt.TheVariants as map_at
-use Rattle.blockmap.specs.declared.progress.Progress.{Progress}
-use Rattle.blockmap.specs.declared.progress.Progress.TheVariants as machine
+use Rattle.driver.specs.declared.progress.Progress.{Progress}
+use Rattle.driver.specs.declared.progress.Progress.TheVariants as machine
 use Rattle.blockmap.specs.declared.target.Target.{Target}
 use Rattle.blockmap.specs.declared.target.Target.TheVariants as target
-use Rattle.blockmap.specs.Getting.{GetsFor, progress_of}
+use Rattle.driver.specs.Getting.{GetsFor, progress_of}
 use Rattle.blockmap.specs.Target.{block_of, slot_in, progress_behind}
+use Rattle.driver.specs.Driver.{Drives}
+use Rattle.driver.specs.Lemmas.Others.{never_sleeps}
+use Rattle.driver.specs.Next.{block_of_next, used_now, wanted_by}
+use Rattle.driver.specs.declared.driving.Driven.{Driven}
+use Rattle.driver.specs.declared.driving.Got.{Got}
+use Rattle.driver.specs.declared.machine.Machine.{Ghosts as Pure}
+use Rattle.driver.specs.declared.machine.Next.{Next}
+use Rattle.driver.specs.declared.machine.Next.TheVariants as next
 use Rattle.inodes.specs.declared.ilock.LockAt.{LockAt}
 use Rattle.inodes.specs.declared.ilock.LockAt.TheVariants as lock_at
-use Rattle.inodes.specs.declared.itrunc.TruncAt.{TruncAt}
-use Rattle.inodes.specs.declared.itrunc.TruncAt.TheVariants as trunc_at
 use Rattle.inodes.specs.declared.tasks.Place.{Place}
 use Rattle.inodes.specs.declared.tasks.Place.TheVariants as place
 use Rattle.inodes.specs.declared.writei.WriteAt.{WriteAt}
@@ -40,15 +44,14 @@ use Rattle.inodes.specs.Goes.{Goes, GoesFrom, Shown, progress_of_search, progres
 use Rattle.inodes.specs.Growing.{bytes_of}
 use Rattle.inodes.specs.Ialloc.{BuffersAfter, SearchState}
 use Rattle.inodes.specs.Ilock.{LockSteps, Locks}
-use Rattle.inodes.specs.Itrunc.{FreesOne, TruncState, TruncSteps, last_inode_of, progress_among}
+use Rattle.inodes.specs.Itrunc.{Freeing, itrunc, trunc_next}
 use Rattle.inodes.specs.Iupdate.{UpdateState, Updates}
 use Rattle.inodes.specs.LockState.{LockState}
 use Rattle.inodes.specs.Readi.{ReadState, Works}
-use Rattle.inodes.specs.Steps.{Steps}
-use Rattle.inodes.specs.Store.{StoreState, current_of}
+use Rattle.inodes.specs.Store.{current_of}
 use Rattle.inodes.specs.Table.{TableState, copy_at, holder_at}
 use Rattle.inodes.specs.Tasks.{task}
-use Rattle.inodes.specs.Waiting.{WaitsWithCause, cause_at, cause_of_holder, cause_to_lock, unless_got, wanted_by_alloc, wanted_by_trunc, wanted_by_write, wanted_on_way}
+use Rattle.inodes.specs.Waiting.{WaitsWithCause, cause_at, cause_of_holder, cause_to_lock, unless_got, wanted_by_alloc, wanted_by_write, wanted_on_way}
 use Rattle.inodes.specs.Writei.{WriteState, WriteSteps, progress_mapped}
 use Rattle.inodes.specs.Writing.{block_of_alloc, slot_of_alloc}
 
@@ -85,10 +88,6 @@ module _ {D N : Type 0} (disk : Ghosts D N) (v w : VolumeState D) (p : ℕ) (cau
   searches m None (machine.Over found) n next x y e goes after = absurd goes.0
   searches m None (machine.Fault fault) n next x y e goes after = absurd (fails after e)
 
-  frees : (f n : FreeState) (o : Option ℕ) (r : Progress (Unit {0})) → HasCause (unless_got o f.bitmap) → Frees disk o v p f r n w → r ≡ machine.Sleeping cause
-  frees f n None r e does = gets e does.1
-  frees f n (Some i) r e does = absurd (cc e)
-
   updates : (u n : UpdateState) (d : Dinode) (o : Option ℕ) (r : Progress (Unit {0})) → HasCause (unless_got o (inode_block u.number)) → Updates disk o v p u d r n w → r ≡ machine.Sleeping cause
   updates u n d None r e does = gets e does.1
   updates u n d (Some i) r e does = absurd (cc e)
@@ -110,17 +109,16 @@ module _ {D N : Type 0} (disk : Ghosts D N) (v w : VolumeState D) (p : ℕ) (cau
   reads m n (target.Block b None) r e does = gets e does.1.2
   reads m n (target.Block b (Some i)) r e does = absurd (cc e)
 
-  frees_one : {m : TruncState} {f : FreeState} {here : FreeState → TruncAt} {behind : TruncState} {r : Progress (Unit {0})} {n : TruncState} →
-      HasCause (unless_got f.slot f.bitmap) → FreesOne disk v p m f here behind r n w → r ≡ machine.Sleeping cause
-  frees_one {m} {f} e does = does.gives ∙ ap progress_among (frees f does.now f.slot does.answer e does.frees)
+  none_wanted : (a : Next) (kept : Option Got) (used : Option ℕ) (g : Got) → used_now a kept used ≡ Some g → wanted_by a used ≡ None
+  none_wanted (next.Use b) kept None g some = absurd (cc some)
+  none_wanted (next.Use b) kept (Some i) g some = refl
+  none_wanted (next.Keep b) kept used g some = absurd (cc some)
+  none_wanted next.Kept kept used g some = refl
 
-  truncs : (m n : TruncState) (a : TruncAt) (r : Progress (Unit {0})) → HasCause (wanted_by_trunc m a) → TruncSteps disk a v p m r n w → r ≡ machine.Sleeping cause
-  truncs m n (trunc_at.Direct k f) r e does = frees_one e does
-  truncs m n trunc_at.Getting r e does = gets e does.1
-  truncs m n (trunc_at.Entry i f) r e does = frees_one e does
-  truncs m n (trunc_at.Releasing i) r e does = absurd (cc e)
-  truncs m n (trunc_at.Indirect f) r e does = frees_one e does
-  truncs m n (trunc_at.Writing u) r e does = updates u does.0 (last_inode_of m) u.slot r e does.1
+  drives : {M : Type 0} (pure : Pure M (Unit {0})) (m n : Driven M) (o : Option Got) (r : Progress (Unit {0})) → used_now (pure.next_of m.machine) m.kept m.used ≡ o → HasCause (wanted_by (pure.next_of m.machine) m.used)
+      → Drives pure disk o v p m r n w → r ≡ machine.Sleeping cause
+  drives pure m n None r here e does = gets (subst HasCause does.wants e) does.gets
+  drives pure m n (Some g) r here e does = absurd (let no : None ≡ Some cause = ap (cause_to_get v.buffers) (sym (none_wanted (pure.next_of m.machine) m.kept m.used g here)) ∙ e in cc no)
 
   takes_one : {m : MapState} {t : AllocState} {after : Progress (Option ℕ) → Progress (Option ℕ)} {at : Progress (Option ℕ) → AllocState → MapAt} {named : Progress (Option ℕ) → Dinode}
       {r : Progress (Option ℕ)} {n : MapState} {d : Dinode} → HasCause (wanted_by_alloc t) → TakesOne disk v p m t after at named r n d w → r ≡ after (machine.Sleeping cause)
@@ -151,6 +149,19 @@ module _ {D N : Type 0} (disk : Ghosts D N) (v w : VolumeState D) (p : ℕ) (cau
   locks t u m n (lock_at.Read k None) r e does = gets e does.0.1
   locks t u m n (lock_at.Read k (Some i)) r e does = absurd (cc e)
 
+-- who frees a file's blocks and has to wait has the cause to get the next one
+gets_asleep : {D N T : Type 0} (disk : Ghosts D N) (v w : VolumeState D) (p b : ℕ) (cause : Why) (slot : Option ℕ) → GetsFor {T = T} disk v p b (machine.Sleeping cause) slot w → cause_to_get v.buffers (Some b) ≡ Some cause
+gets_asleep {T = T} disk v w p b cause slot g = by g.answer g.gives g.gets.answer
+  where
+    by : (a : Get) → machine.Sleeping cause ≡ progress_of {T = T} a → UnlessFault a (a ≡ get_answer v.buffers b) → cause_to_get v.buffers (Some b) ≡ Some cause
+    by (get.Got i) is answer = absurd (cc is)
+    by (get.Sleeping other) is answer = let same : cause ≡ other = cc is in ap cause_of_get (sym answer) ∙ ap Some (sym same)
+    by (get.Fault fault) is answer = absurd (cc is)
+
+pub trunc_asleep : {D N : Type 0} (disk : Ghosts D N) (v w : VolumeState D) (p : ℕ) (cause : Why) (m n : Freeing) (o : Option Got) → Drives itrunc disk o v p m (machine.Sleeping cause) n w → cause_to_get v.buffers (wanted_by (trunc_next m) m.used) ≡ Some cause
+trunc_asleep disk v w p cause m n None does = subst (λ (o : Option ℕ). cause_to_get v.buffers o ≡ Some cause) (sym does.wants) (gets_asleep disk v w p (block_of_next (trunc_next m)) cause does.slot does.gets)
+trunc_asleep disk v w p cause m n (Some g) does = absurd (never_sleeps _ cause (sym does.answer))
+
 pub waits_with_cause : {D N : Type 0} (disk : Ghosts D N) → WaitsWithCause disk
 waits_with_cause {D} {N} disk s t p op r cause waits steps = by (task s.tasks p).place waits steps.goes
   where
@@ -165,6 +176,6 @@ waits_with_cause {D} {N} disk s t p op r cause waits steps = by (task s.tasks p)
         take.gives ∙ ap (progress_of_lock (inode_of (current_of disk.image s.volume) m.number) op) (locks disk s.volume t.volume p cause s.table t.table m take.now m.at take.answer e take.locks)
     by (place.Reading k m) e goes = let read = goes.0 in read.gives ∙ ap progress_of_read (reads disk s.volume t.volume p cause m read.now m.target read.answer e read.reads.works)
     by (place.Delivering k) e goes = absurd (cc e)
-    by (place.Truncating k m) e goes = goes.gives ∙ ap progress_of_trunc (truncs disk s.volume t.volume p cause m goes.now m.at goes.answer e goes.truncs)
+    by (place.Truncating k m) e goes = goes.gives ∙ ap progress_of_trunc (drives disk s.volume t.volume p cause itrunc m goes.now (used_now (trunc_next m) m.kept m.used) goes.answer refl e goes.drives)
     by (place.Writing k m) e goes = goes.gives ∙ ap (progress_of_write m.done) (writes disk s.volume t.volume p cause m goes.now m.at (bytes_of op) goes.answer e goes.writes)
     by (place.Leaving k) e goes = absurd (cc e)

@@ -27,8 +27,8 @@ use Rattle.wal.specs.Lemmas.Held.{none_locked}
 use Rattle.wal.specs.Lemmas.Log.{is_open, quiet_of}
 use Rattle.wal.specs.Lemmas.Rooms.{GrowsHomes, begun_grows, ended_grows, noted_grows, used_begun, used_noted, used_ended, used_first}
 use Rattle.inodes.specs.Ialloc.{SearchState}
-use Rattle.blockmap.specs.declared.progress.Progress.{Progress}
-use Rattle.blockmap.specs.declared.progress.Progress.TheVariants as search
+use Rattle.driver.specs.declared.progress.Progress.{Progress}
+use Rattle.driver.specs.declared.progress.Progress.TheVariants as search
 use Rattle.inodes.specs.declared.tasks.Place.{Place}
 use Rattle.inodes.specs.declared.tasks.Place.TheVariants as place
 use Rattle.inodes.specs.Ialloc.{SearchSteps, SearchGoes, SearchLocks, IsFree, current_after, log_after, fault_in, at_slot}
@@ -132,7 +132,7 @@ agrees_ended c l n p ts agrees stood = record {
     by_place q apart t (place.Taking m) s = (s.0, open_still l (ended l p) q t.op (used_ended l p q apart) s.1)
     by_place q apart t (place.Reading k m) s = s
     by_place q apart t (place.Delivering k) s = s
-    by_place q apart t (place.Truncating k m) s = record { logged = logged_still l (ended l p) q m.bitmap (used_ended l p q apart) (λ one has. ended_grows l p m.bitmap has) s.logged; kept = s.kept; used = s.used }
+    by_place q apart t (place.Truncating k m) s = record { logged = logged_still l (ended l p) q m.machine.bitmap (used_ended l p q apart) (λ one has. ended_grows l p m.machine.bitmap has) s.logged; holds = s.holds }
     by_place q apart t (place.Writing k m) s = record { logged = logged_write_still l (ended l p) q m (used_ended l p q apart) (λ homes b had has. ended_grows l p b has) s.logged; kept = s.kept; used = s.used }
     by_place q apart t (place.Leaving k) s = s
 

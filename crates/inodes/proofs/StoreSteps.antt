@@ -27,9 +27,10 @@ use Rattle.loose.specs.Lemmas.HeldLooks.{free_tells}
 use Rattle.loose.specs.Lemmas.WriteBacks.{claim_fits}
 use Rattle.wal.specs.Machine.{LogState, SameGroups}
 use Rattle.wal.specs.Volume.{VolumeState}
+use Rattle.driver.specs.Lemmas.Others.{groups_noted, groups_same}
 use Rattle.inodes.specs.Ialloc.{SearchState}
-use Rattle.blockmap.specs.declared.progress.Progress.{Progress}
-use Rattle.blockmap.specs.declared.progress.Progress.TheVariants as search
+use Rattle.driver.specs.declared.progress.Progress.{Progress}
+use Rattle.driver.specs.declared.progress.Progress.TheVariants as search
 use Rattle.model.specs.declared.types.operations.TaskProgress.TheVariants as progress
 use Rattle.inodes.specs.declared.tasks.Place.{Place}
 use Rattle.inodes.specs.declared.tasks.Place.TheVariants as place
@@ -45,7 +46,7 @@ use Rattle.inodes.specs.Places.{HasSlot, asked_by, grip_by, grip_of, looks_left,
 use Rattle.inodes.specs.Store.{StoreState, FitsFiles, Agrees, IsSearching, current_of}
 use Rattle.inodes.specs.Lemmas.Bounds.{some_step}
 use Rattle.inodes.specs.Lemmas.Looks.{late_number}
-use Rattle.inodes.proofs.Frames.{groups_noted, groups_same, marks_same, within_image}
+use Rattle.inodes.proofs.Frames.{marks_same, within_image}
 use Rattle.inodes.proofs.Gripping.{same_task}
 use Rattle.inodes.proofs.LooksKept.{KeepsUsed, keeps_claimed, keeps_same}
 use Rattle.inodes.proofs.Searching.{search as searching}

@@ -11,7 +11,8 @@ use Rattle.model.specs.Journal.{is_number}
 use Rattle.model.specs.Layout.{inode_block, inode_count_of}
 use Rattle.bcache.specs.Lemmas.Current.{length-current}
 use Rattle.wal.specs.Joint.{Joint}
-use Rattle.blockmap.specs.Getting.{HoldsWhereGot}
+use Rattle.driver.specs.Getting.{HoldsWhereGot}
+use Rattle.driver.specs.Lemmas.Others.{stays_same}
 use Rattle.inodes.specs.declared.ilock.LockAt.{LockAt}
 use Rattle.inodes.specs.declared.ilock.LockAt.TheVariants as lock_at
 use Rattle.inodes.specs.declared.tasks.Place.{Place}
@@ -32,7 +33,7 @@ use Rattle.loose.specs.Lemmas.HeldFrames.{held_alike}
 use Rattle.model.specs.Files.{Files}
 use Rattle.model.specs.Lemmas.Log.{both_of}
 use Rattle.wal.specs.Machine.{LogState}
-use Rattle.inodes.proofs.Agreeing.{agrees_now, stays_same}
+use Rattle.inodes.proofs.Agreeing.{agrees_now}
 use Rattle.inodes.proofs.Gripping.{grip_is}
 use Rattle.inodes.proofs.LooksKept.{looks_set}
 use Rattle.inodes.proofs.Searching.{where_got}

@@ -21,9 +21,10 @@ use Rattle.wal.specs.Machine.{LogState}
 use Rattle.wal.specs.Volume.{VolumeState}
 use Rattle.wal.specs.declared.types.Get.{Get}
 use Rattle.wal.specs.declared.types.Get.TheVariants as get
-use Rattle.blockmap.specs.declared.progress.Progress.{Progress}
-use Rattle.blockmap.specs.declared.progress.Progress.TheVariants as machine
-use Rattle.blockmap.specs.Getting.{GetsFor, progress_of, slot_of as got_slot_of}
+use Rattle.driver.specs.declared.progress.Progress.{Progress}
+use Rattle.driver.specs.declared.progress.Progress.TheVariants as machine
+use Rattle.driver.specs.Getting.{GetsFor, progress_of, slot_of as got_slot_of}
+use Rattle.driver.specs.Lemmas.Others.{StaysForOthers}
 use Rattle.inodes.specs.declared.ilock.LockAt.{LockAt}
 use Rattle.inodes.specs.declared.ilock.LockAt.TheVariants as lock_at
 use Rattle.inodes.specs.declared.tasks.Place.{Place}
@@ -42,7 +43,6 @@ use Rattle.inodes.specs.Table.{TableState, entry_at, is_of, holder_at, copy_at, 
 use Rattle.inodes.specs.Tasks.{TaskState, task, no_task}
 use Rattle.inodes.specs.Turning.{IsReadable, if_used, reply_when_taken, place_when_taken}
 use Rattle.inodes.specs.Lemmas.Looks.{late_locks}
-use Rattle.inodes.proofs.Agreeing.{StaysForOthers}
 use Rattle.inodes.proofs.Getting.{HasOne, has_same, has_left, reads_none, reads_got, shows_got, sleeps_got, held_got, has_then}
 use Rattle.inodes.proofs.Gripping.{grip_is}
 use Rattle.inodes.proofs.Looking.{Looked, Stepped, files_same, stepped_looked, store_stepped, steps_stepped}

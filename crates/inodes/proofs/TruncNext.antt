@@ -1,13 +1,15 @@
 -- What is freed next: what stands before it is not there.
-use Rattle.std.proofs.Common.{◌≡◌, ◌≢◌, ℕ, ◌+◌, ◌-◌, ◌*◌, ◌<◌, ◌≤◌, Bool, true, false, not, cond, eqb, List, length, set, get_or, replicate, refl, sym, ◌∙◌, ap, subst, ⊎_elim, arith, Option, Some, None}
+use Rattle.std.proofs.Common.{◌≡◌, ◌≢◌, ℕ, ◌+◌, ◌-◌, ◌*◌, ◌<◌, ◌≤◌, Bool, true, false, not, cond, eqb, List, [], length, set, get_or, replicate, refl, sym, ◌∙◌, ap, subst, ⊎_elim, arith, Option, Some, None}
 use Rattle.std.proofs.lemmas.Bool.{eqb-true, eqb-false, not-true, not-false, cases_eq, cases_lt}
 use Rattle.std.proofs.lemmas.List.{get_or-set_same, get_or-set_other, get_or-replicate, length-set, length-replicate, ext_get_or}
 use Rattle.blocks.specs.Disk.{Image}
 use Rattle.model.specs.declared.types.image.Dinode.{Dinode}
+use Rattle.driver.specs.declared.driving.Got.{Got}
 use Rattle.inodes.specs.declared.itrunc.TruncAt.{TruncAt}
 use Rattle.inodes.specs.declared.itrunc.TruncAt.TheVariants as trunc_at
-use Rattle.inodes.specs.Holding.{AreGivenUp, HasGivenUp, kept_slot, used_slot, frees_left, truncs_left, uses_left}
-use Rattle.inodes.specs.Itrunc.{TruncState, present_from, first_update, direct_or_on, next_direct, first_trunc, entry_or_on, at_entries, after_direct, after_indirect, entries_in}
+use Rattle.inodes.specs.declared.itrunc.Itrunc.{Itrunc}
+use Rattle.inodes.specs.Holding.{AreGivenUp, HasGivenUp, IsKept, KeepsAt, frees_left, uses_left}
+use Rattle.inodes.specs.Itrunc.{after_trunc, at_entries, direct_or_on, entries_in, entry_or_on, first_trunc, next_direct, present_from}
 use Rattle.inodes.specs.Lemmas.Looks.{find-range, passed_by}
 
 -- ---- the next number of a list that is there
@@ -51,74 +53,69 @@ none_left addrs long none last = ext_get_or 0 addrs (replicate 13 0) (long ∙ s
     ap (λ (j : ℕ). get_or addrs j 0) here ∙ last ∙ sym (get_or-replicate {A = ℕ} 13 i 0 0 (omega (arith, low, long))))
     (cases_lt i 12))
 
--- what is known before the next one of a number's inode is sought
-pub record Before (m : TruncState) (from : ℕ) : Type 0 where
+-- what is known before the next one is sought
+pub record Before (m : Itrunc) (from : ℕ) : Type 0 where
   pub long : length m.inode.addrs ≡ 13
   pub below : from ≤ 12
   pub none : m.given_up ≡ 0
   pub given : AreGivenUp m from
 
-module _ (cur : Image) (m : TruncState) (from : ℕ) (b : Before m from) where
+module _ (cur : Image) (m : Itrunc) (from : ℕ) (b : Before m from) where
   given_all : present_from m.inode.addrs from 12 ≡ None → AreGivenUp m 12
   given_all found j low = ⊎_elim (λ (below : j < from). b.given j below) (λ (above : from ≤ j). none_is m.inode.addrs from 12 found j above low) (cases_lt j from)
 
-  on_given : (t : Bool) → eqb (get_or m.inode.addrs 12 0) 0 ≡ t → present_from m.inode.addrs from 12 ≡ None
-      → HasGivenUp cur m (cond t (trunc_at.Writing (first_update m.number)) trunc_at.Getting)
-  on_given true last found = (refl, none_left m.inode.addrs b.long (given_all found) (eqb-true (get_or m.inode.addrs 12 0) 0 last))
+  on_given : (t : Bool) → eqb (get_or m.inode.addrs 12 0) 0 ≡ t → present_from m.inode.addrs from 12 ≡ None → HasGivenUp cur m (cond t trunc_at.Updating trunc_at.Loading)
+  on_given true last found = none_left m.inode.addrs b.long (given_all found) (eqb-true (get_or m.inode.addrs 12 0) 0 last)
   on_given false last found = (b.none, given_all found, eqb-false (get_or m.inode.addrs 12 0) 0 last)
 
-  by_next : (o : Option ℕ) → present_from m.inode.addrs from 12 ≡ o → HasGivenUp cur m (direct_or_on m.number m.inode m.bitmap o)
+  by_next : (o : Option ℕ) → present_from m.inode.addrs from 12 ≡ o → HasGivenUp cur m (direct_or_on m.inode o)
   by_next None found = on_given (eqb (get_or m.inode.addrs 12 0) 0) refl found
   by_next (Some k) found =
-      let next = next_is m.inode.addrs from 12 k found in (
-        next.high,
-        b.none,
-        λ j low. ⊎_elim (λ (below : j < from). b.given j below) (λ (above : from ≤ j). next.before j above low) (cases_lt j from),
-        record { bitmap = refl; block = refl; some = next.some },
-      )
+      let next = next_is m.inode.addrs from 12 k found in
+      (next.high, b.none, λ j low. ⊎_elim (λ (below : j < from). b.given j below) (λ (above : from ≤ j). next.before j above low) (cases_lt j from), next.some)
 
-  pub next_given : HasGivenUp cur m (next_direct m.number m.inode m.bitmap from)
+  pub next_given : HasGivenUp cur m (next_direct m.inode from)
   next_given = by_next (present_from m.inode.addrs from 12) refl
 
--- no block was got yet
-on_slots : (number : ℕ) (t : Bool) → (kept_slot (cond t (trunc_at.Writing (first_update number)) trunc_at.Getting) ≡ None) × (used_slot (cond t (trunc_at.Writing (first_update number)) trunc_at.Getting) ≡ None)
-on_slots number true = (refl, refl)
-on_slots number false = (refl, refl)
+-- nothing is kept there
+pub direct_keeps : (d : Dinode) (own from : ℕ) → KeepsAt None own (next_direct d from)
+direct_keeps d own from = by_next (present_from d.addrs from 12)
+  where
+    by_last : (t : Bool) → KeepsAt None own (cond t trunc_at.Updating trunc_at.Loading)
+    by_last true = refl
+    by_last false = refl
 
-next_slots_by : (number : ℕ) (d : Dinode) (bitmap : ℕ) (o : Option ℕ) → (kept_slot (direct_or_on number d bitmap o) ≡ None) × (used_slot (direct_or_on number d bitmap o) ≡ None)
-next_slots_by number d bitmap None = on_slots number (eqb (get_or d.addrs 12 0) 0)
-next_slots_by number d bitmap (Some k) = (refl, refl)
-
-pub next_slots : (number : ℕ) (d : Dinode) (bitmap from : ℕ) → (kept_slot (next_direct number d bitmap from) ≡ None) × (used_slot (next_direct number d bitmap from) ≡ None)
-next_slots number d bitmap from = next_slots_by number d bitmap (present_from d.addrs from 12)
+    by_next : (o : Option ℕ) → KeepsAt None own (direct_or_on d o)
+    by_next None = by_last (eqb (get_or d.addrs 12 0) 0)
+    by_next (Some k) = refl
 
 -- fewer steps are left than where the address before was freed
-on_left : (number : ℕ) (given_up : ℕ) (t : Bool) → frees_left given_up (cond t (trunc_at.Writing (first_update number)) trunc_at.Getting) ≤ 518
-on_left number given_up true = omega arith
-on_left number given_up false = omega arith
+pub next_left : (d : Dinode) (given_up from : ℕ) → frees_left given_up None (next_direct d from) ≤ 2 * (12 - from) + 518
+next_left d given_up from = by_next (present_from d.addrs from 12) refl
+  where
+    by_last : (t : Bool) → frees_left given_up None (cond t trunc_at.Updating trunc_at.Loading) ≤ 518
+    by_last true = omega arith
+    by_last false = omega arith
 
-next_left_by : (number : ℕ) (d : Dinode) (bitmap given_up from : ℕ) (o : Option ℕ) → present_from d.addrs from 12 ≡ o → frees_left given_up (direct_or_on number d bitmap o) ≤ 2 * (12 - from) + 518
-next_left_by number d bitmap given_up from None found = let left = on_left number given_up (eqb (get_or d.addrs 12 0) 0) in omega (arith, left)
-next_left_by number d bitmap given_up from (Some k) found =
-    let next = next_is d.addrs from 12 k found in
-    let low = next.low in
-    let high = next.high in
-    omega (arith, low, high)
-
-pub next_left : (number : ℕ) (d : Dinode) (bitmap given_up from : ℕ) → frees_left given_up (next_direct number d bitmap from) ≤ 2 * (12 - from) + 518
-next_left number d bitmap given_up from = next_left_by number d bitmap given_up from (present_from d.addrs from 12) refl
+    by_next : (o : Option ℕ) → present_from d.addrs from 12 ≡ o → frees_left given_up None (direct_or_on d o) ≤ 2 * (12 - from) + 518
+    by_next None found = let left = by_last (eqb (get_or d.addrs 12 0) 0) in omega (arith, left)
+    by_next (Some k) found =
+        let next = next_is d.addrs from 12 k found in
+        let low = next.low in
+        let high = next.high in
+        omega (arith, low, high)
 
 -- ---- the first of a truncation
 
 pub first_given : (cur : Image) (i bitmap : ℕ) (d : Dinode) (removes : Bool) → length d.addrs ≡ 13 → HasGivenUp cur (first_trunc i d removes bitmap) (first_trunc i d removes bitmap).at
 first_given cur i bitmap d removes long = next_given cur (first_trunc i d removes bitmap) 0 (record { long = long; below = omega arith; none = refl; given = λ j low. absurd (omega (arith, low)) })
 
-pub first_slots : (i bitmap : ℕ) (d : Dinode) (removes : Bool) → (kept_slot (first_trunc i d removes bitmap).at ≡ None) × (used_slot (first_trunc i d removes bitmap).at ≡ None)
-first_slots i bitmap d removes = next_slots i d bitmap 0
-
 -- ---- an address was given up
 
-pub direct_given : (cur : Image) (m : TruncState) (k : ℕ) → length m.inode.addrs ≡ 13 → k < 12 → m.given_up ≡ 0 → AreGivenUp m k → HasGivenUp cur (after_direct m k) (after_direct m k).at
+abbrev pub after_direct : Itrunc → ℕ → Itrunc
+after_direct m k = after_trunc m [] (trunc_at.Direct k)
+
+pub direct_given : (cur : Image) (m : Itrunc) (k : ℕ) → length m.inode.addrs ≡ 13 → k < 12 → m.given_up ≡ 0 → AreGivenUp m k → HasGivenUp cur (after_direct m k) (after_direct m k).at
 direct_given cur m k long low none given = next_given cur (after_direct m k) (k + 1) (record {
   long = length-set m.inode.addrs k 0 ∙ long;
   below = omega (arith, low);
@@ -129,76 +126,58 @@ direct_given cur m k long low none given = next_given cur (after_direct m k) (k 
       (cases_eq j k);
 })
 
-pub indirect_given : (cur : Image) (m : TruncState) → length m.inode.addrs ≡ 13 → AreGivenUp m 12 → HasGivenUp cur (after_indirect m) (after_indirect m).at
-indirect_given cur m long given = (
-  refl,
-  none_left (set m.inode.addrs 12 0) (length-set m.inode.addrs 12 0 ∙ long)
-      (λ j low. get_or-set_other m.inode.addrs 12 j 0 0 (λ same. omega (arith, same, low)) ∙ given j low)
-      (get_or-set_same m.inode.addrs 12 0 0 (omega (arith, long))),
-)
+pub indirect_given : (m : Itrunc) → length m.inode.addrs ≡ 13 → AreGivenUp m 12 → set m.inode.addrs 12 0 ≡ replicate 13 0
+indirect_given m long given = none_left (set m.inode.addrs 12 0) (length-set m.inode.addrs 12 0 ∙ long)
+    (λ j low. get_or-set_other m.inode.addrs 12 j 0 0 (λ same. omega (arith, same, low)) ∙ given j low)
+    (get_or-set_same m.inode.addrs 12 0 0 (omega (arith, long)))
 
 -- ---- an entry of the block of addresses
 
-module _ (cur : Image) (m : TruncState) (slot : ℕ) (entries : List ℕ) (from : ℕ) (same : entries ≡ entries_in cur m) (given : AreGivenUp m 12) (some : get_or m.inode.addrs 12 0 ≢ 0) where
-  entry_given : (o : Option ℕ) → present_from entries from 256 ≡ o → HasGivenUp cur (entry_or_on m slot entries o) (entry_or_on m slot entries o).at
-  entry_given None found = (refl, given, some)
-  entry_given (Some e) found =
-      let next = next_is entries from 256 e found in
-      (next.high, given, some, record { bitmap = refl; block = ap (λ (l : List ℕ). get_or l e 0) same; some = subst (λ (l : List ℕ). get_or l e 0 ≢ 0) same next.some })
-
-  pub entries_given : HasGivenUp cur (at_entries m slot entries from) (at_entries m slot entries from).at
-  entries_given = entry_given (present_from entries from 256) refl
-
--- the block of addresses is kept
-entry_slots : (m : TruncState) (slot : ℕ) (entries : List ℕ) (o : Option ℕ) → (kept_slot (entry_or_on m slot entries o).at ≡ Some slot) × (used_slot (entry_or_on m slot entries o).at ≡ None)
-entry_slots m slot entries None = (refl, refl)
-entry_slots m slot entries (Some e) = (refl, refl)
-
-pub entries_slots : (m : TruncState) (slot : ℕ) (entries : List ℕ) (from : ℕ) → (kept_slot (at_entries m slot entries from).at ≡ Some slot) × (used_slot (at_entries m slot entries from).at ≡ None)
-entries_slots m slot entries from = entry_slots m slot entries (present_from entries from 256)
-
-entry_left : (m : TruncState) (slot : ℕ) (entries : List ℕ) (from : ℕ) (o : Option ℕ) → present_from entries from 256 ≡ o → truncs_left (entry_or_on m slot entries o) ≤ 2 * (256 - from) + 5
-entry_left m slot entries from None found = omega arith
-entry_left m slot entries from (Some e) found =
-    let next = next_is entries from 256 e found in
-    let low = next.low in
-    let high = next.high in
-    omega (arith, low, high)
-
-pub entries_left : (m : TruncState) (slot : ℕ) (entries : List ℕ) (from : ℕ) → truncs_left (at_entries m slot entries from) ≤ 2 * (256 - from) + 5
-entries_left m slot entries from = entry_left m slot entries from (present_from entries from 256) refl
-
--- what changes is the place, and how many entries were given up: those that were passed over are not there
-entry_same : (m : TruncState) (slot : ℕ) (entries : List ℕ) (o : Option ℕ) → entry_or_on m slot entries o ≡ record m { given_up = (entry_or_on m slot entries o).given_up; at = (entry_or_on m slot entries o).at }
-entry_same m slot entries None = refl
-entry_same m slot entries (Some e) = refl
-
-pub entries_same : (m : TruncState) (slot : ℕ) (entries : List ℕ) (from : ℕ) → at_entries m slot entries from ≡ record m { given_up = (at_entries m slot entries from).given_up; at = (at_entries m slot entries from).at }
-entries_same m slot entries from = entry_same m slot entries (present_from entries from 256)
-
--- the entries before a place that are given up there
+-- the entries before an index that are given up there
 pub record PassesTo (entries : List ℕ) (from to : ℕ) : Type 0 where
   pub low : from ≤ to
   pub none : (e : ℕ) → from ≤ e → e < to → get_or entries e 0 ≡ 0
 
-entry_passes : (m : TruncState) (slot : ℕ) (entries : List ℕ) (from : ℕ) (o : Option ℕ) → from ≤ 256 → present_from entries from 256 ≡ o → PassesTo entries from (entry_or_on m slot entries o).given_up
-entry_passes m slot entries from None below found = record { low = below; none = none_is entries from 256 found }
-entry_passes m slot entries from (Some e) below found =
-    let next = next_is entries from 256 e found in
-    record { low = next.low; none = next.before }
+-- What comes with the next entry: the index and how many were given up change alone, and those that are passed over are not there.
+pub record AtNext (m n : Itrunc) (entries : List ℕ) (from : ℕ) : Type 0 where
+  pub same : n ≡ record m { given_up = n.given_up; at = n.at }
+  pub pass : PassesTo entries from n.given_up
+  pub keeps : (kept : Option Got) (own : ℕ) → IsKept kept own → KeepsAt kept own n.at
+  pub left : frees_left n.given_up None n.at ≤ 2 * (256 - from) + 5
+  pub given : (cur : Image) → entries ≡ entries_in cur m → AreGivenUp m 12 → get_or m.inode.addrs 12 0 ≢ 0 → HasGivenUp cur n n.at
 
-pub entries_pass : (m : TruncState) (slot : ℕ) (entries : List ℕ) (from : ℕ) → from ≤ 256 → PassesTo entries from (at_entries m slot entries from).given_up
-entries_pass m slot entries from below = entry_passes m slot entries from (present_from entries from 256) below refl
+pub at_next : (m : Itrunc) (entries : List ℕ) (from : ℕ) → from ≤ 256 → AtNext m (at_entries m entries from) entries from
+at_next m entries from below = by_next (present_from entries from 256) refl
+  where
+    by_next : (o : Option ℕ) → present_from entries from 256 ≡ o → AtNext m (entry_or_on m o) entries from
+    by_next None found = record {
+      same = refl;
+      pass = record { low = below; none = none_is entries from 256 found };
+      keeps = λ kept own is. is;
+      left = omega arith;
+      given = λ cur same given some. (refl, given, some);
+    }
+    by_next (Some e) found =
+        let next = next_is entries from 256 e found in
+        let low = next.low in
+        let high = next.high in
+        record {
+          same = refl;
+          pass = record { low = next.low; none = next.before };
+          keeps = λ kept own is. is;
+          left = omega (arith, low, high);
+          given = λ cur same given some. (next.high, given, some, subst (λ (l : List ℕ). get_or l e 0 ≢ 0) same next.some);
+        }
 
 -- no step is left out
 pub some_uses : (o : Option ℕ) → 1 ≤ uses_left o
 some_uses None = omega arith
 some_uses (Some i) = omega arith
 
-pub some_left : (given_up : ℕ) (a : TruncAt) → 1 ≤ frees_left given_up a
-some_left given_up (trunc_at.Direct k f) = let some = some_uses f.slot in omega (arith, some)
-some_left given_up trunc_at.Getting = omega arith
-some_left given_up (trunc_at.Entry i f) = let some = some_uses f.slot in omega (arith, some)
-some_left given_up (trunc_at.Releasing i) = omega arith
-some_left given_up (trunc_at.Indirect f) = let some = some_uses f.slot in omega (arith, some)
-some_left given_up (trunc_at.Writing u) = some_uses u.slot
+pub some_left : (given_up : ℕ) (used : Option ℕ) (a : TruncAt) → 1 ≤ frees_left given_up used a
+some_left given_up used (trunc_at.Direct k) = let some = some_uses used in omega (arith, some)
+some_left given_up used trunc_at.Loading = omega arith
+some_left given_up used trunc_at.Entry = let some = some_uses used in omega (arith, some)
+some_left given_up used trunc_at.Unloading = omega arith
+some_left given_up used trunc_at.Indirect = let some = some_uses used in omega (arith, some)
+some_left given_up used trunc_at.Updating = some_uses used

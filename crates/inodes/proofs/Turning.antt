@@ -23,16 +23,18 @@ use Rattle.bcache.specs.Buffers.{Buffers}
 use Rattle.bcache.specs.Lemmas.Current.{length-current}
 use Rattle.wal.specs.Joint.{Joint}
 use Rattle.wal.specs.Machine.{LogState, used_by}
+use Rattle.driver.specs.Driver.{first_driven}
+use Rattle.driver.specs.Lemmas.Slots.{holds_none}
 use Rattle.inodes.specs.declared.tasks.Place.{Place}
 use Rattle.inodes.specs.declared.tasks.Place.TheVariants as place
 use Rattle.inodes.specs.Grips.{locked_grip}
 use Rattle.inodes.specs.Holding.{IsTruncating, bitmap_block, claim_by, claims_of, claim_of}
-use Rattle.inodes.specs.Itrunc.{first_trunc}
+use Rattle.inodes.specs.Itrunc.{first_trunc, trunc_next}
 use Rattle.inodes.specs.LockState.{LockState}
 use Rattle.inodes.specs.Lemmas.Holding.{HoldsAlone, claimed_now, none_held, own_grows}
 use Rattle.inodes.specs.Lemmas.ReadRuns.{begins}
 use Rattle.inodes.specs.Looks.{CanLook, CanTake, HasRoom, LooksAt, WasAnswered}
-use Rattle.inodes.specs.Places.{asked, block_of_trunc, grip_by, grip_of, steps_left}
+use Rattle.inodes.specs.Places.{asked, grip_by, grip_of, steps_left}
 use Rattle.inodes.specs.Readi.{ReadState, first_read}
 use Rattle.inodes.specs.Store.{StoreState, IsStore, FitsFiles, HoldsAt, IsOpenFor, Stands, current_of}
 use Rattle.inodes.specs.Table.{TableState, copy_at}
@@ -41,7 +43,7 @@ use Rattle.inodes.specs.Turning.{IsReadable, if_used, reply_of_look, reply_when_
 use Rattle.inodes.proofs.Starting.{new_target, has_begun, has_none, few_reads}
 use Rattle.inodes.proofs.Taking.{taking, looking, can_take, number, same_op, may_name, may_name_now}
 use Rattle.inodes.proofs.Unclaimed.{holds_alone_of}
-use Rattle.inodes.proofs.TruncNext.{first_given, first_slots, next_left}
+use Rattle.inodes.proofs.TruncNext.{direct_keeps, first_given, next_left}
 use Rattle.inodes.specs.Writei.{WriteState, first_write, next_place}
 use Rattle.inodes.specs.declared.writei.Extent.{Extent}
 use Rattle.model.specs.declared.types.operations.Reply.{Reply}
@@ -95,8 +97,8 @@ left_of_read : (d : Dinode) (k off n c : ℕ) (o : Option ReadState) → n ≤ 3
 left_of_read d k off n c None few first = omega arith
 left_of_read d k off n c (Some m) few first = let at = few_reads d off n m few first in omega (arith, at)
 
-left_of_trunc : (b c : ℕ) (d : Dinode) (k j : ℕ) (removes : Bool) → steps_left (place.Truncating k (first_trunc j d removes b)) c ≤ 543
-left_of_trunc b c d k j removes = let few = next_left j d b 0 0 in omega (arith, few)
+left_of_trunc : (b c : ℕ) (d : Dinode) (k j : ℕ) (removes : Bool) → steps_left (place.Truncating k (first_driven (first_trunc j d removes b))) c ≤ 543
+left_of_trunc b c d k j removes = let few = next_left d 0 0 in omega (arith, few)
 
 left_of_write : (c k i : ℕ) (d : Dinode) (off n : ℕ) (e : Extent) (o : Option Reply) → n ≤ 3072 → steps_left (place_by_refusal k (first_write i d off n e) o) c ≤ 543
 left_of_write c k i d off n e None few =
@@ -136,7 +138,7 @@ claims_at_turn o c d k (Stat i) true j other = refl
 abbrev held_at_turn : Dinode → Bool → Held
 held_at_turn d removes = record { copy = d; given_up = 0; last_kind = cond removes 0 d.kind }
 
-claim_at_turn : (b : ℕ) (d : Dinode) (k i : ℕ) (removes : Bool) → claim_by None (place.Truncating k (first_trunc i d removes b)) i ≡ Some (frees (held_at_turn d removes))
+claim_at_turn : (b : ℕ) (d : Dinode) (k i : ℕ) (removes : Bool) → claim_by None (place.Truncating k (first_driven (first_trunc i d removes b))) i ≡ Some (frees (held_at_turn d removes))
 claim_at_turn b d k i removes = rw (eq-eqb i i refl) refl
 
 -- nothing is got there
@@ -163,20 +165,8 @@ stands_at_turn b l n p t c d k op false can open_for = tt
 stands_at_turn b l n p t c d k (Create kind) true can open_for = tt
 stands_at_turn b l n p t c d k (Write i off bytes) true can open_for = stands_of_write b l n p t k i d off (length bytes) c (write_refusal d off (length bytes)) can.1 open_for
 stands_at_turn b l n p t c d k (Read i off count) true can open_for = stands_of_read b l n p t d k off count (first_read d off count) refl
-stands_at_turn b l n p t c d k (Trunc i) true can open_for =
-    let first = first_slots i c.bitmap d false in
-    record {
-      logged = inl open_for;
-      kept = subst (λ (s : Option ℕ). HoldsAt b p (slice_index d.addrs 12) s) (sym first.0) tt;
-      used = subst (λ (s : Option ℕ). HoldsAt b p (block_of_trunc (first_trunc i d false c.bitmap) (first_trunc i d false c.bitmap).at) s) (sym first.1) tt;
-    }
-stands_at_turn b l n p t c d k (Remove i) true can open_for =
-    let first = first_slots i c.bitmap d true in
-    record {
-      logged = inl open_for;
-      kept = subst (λ (s : Option ℕ). HoldsAt b p (slice_index d.addrs 12) s) (sym first.0) tt;
-      used = subst (λ (s : Option ℕ). HoldsAt b p (block_of_trunc (first_trunc i d true c.bitmap) (first_trunc i d true c.bitmap).at) s) (sym first.1) tt;
-    }
+stands_at_turn b l n p t c d k (Trunc i) true can open_for = record { logged = inl open_for; holds = holds_none b p (trunc_next (first_driven (first_trunc i d false c.bitmap))) }
+stands_at_turn b l n p t c d k (Remove i) true can open_for = record { logged = inl open_for; holds = holds_none b p (trunc_next (first_driven (first_trunc i d true c.bitmap))) }
 stands_at_turn b l n p t c d k (Stat i) true can open_for = tt
 
 -- in a store whose process p takes its inode, which the image has as d
@@ -242,7 +232,7 @@ module _ {D N : Type 0} (disk : Ghosts D N) (s : StoreState D) (p : ℕ) (op : O
     fits_before files fits = fits
 
     -- the number is held now
-    begins_freeing : (removes : Bool) → u.place ≡ place.Truncating k (first_trunc m.number inode removes extent.bitmap) → inode.kind ≢ 0 → (files : Files) → FitsHeld files cur (claims_of s.tasks)
+    begins_freeing : (removes : Bool) → u.place ≡ place.Truncating k (first_driven (first_trunc m.number inode removes extent.bitmap)) → inode.kind ≢ 0 → (files : Files) → FitsHeld files cur (claims_of s.tasks)
         → FitsFiles disk.image t (set files m.number (file_left (cond removes 0 inode.kind)))
     begins_freeing removes there used files fits =
         let own : claim_of u m.number ≡ Some (frees (held_at_turn inode removes)) = ap (λ (a : Place). claim_by u.op a m.number) there ∙ claim_at_turn extent.bitmap inode k m.number removes in
@@ -315,14 +305,14 @@ module _ {D N : Type 0} (disk : Ghosts D N) (s : StoreState D) (p : ℕ) (op : O
           set files m.number (file_left inode.kind),
           subst (λ (j : ℕ). after (form_of cur) files (Trunc j) Done ≡ Some (set files m.number (file_left inode.kind))) named
               (turn_answers files cur (claims_of s.tasks) m.number before (may_name_now disk s p op m is well stood is_op, used) none).0,
-          begins_freeing false (there ∙ ap (λ (j : ℕ). place.Truncating k (first_trunc j inode false extent.bitmap)) (sym named)) used files before,
+          begins_freeing false (there ∙ ap (λ (j : ℕ). place.Truncating k (first_driven (first_trunc j inode false extent.bitmap))) (sym named)) used files before,
         )
     used_turn (Remove i) allowed named there used files fits =
         let before = fits_before files fits in (
           set files m.number (file_left 0),
           subst (λ (j : ℕ). after (form_of cur) files (Remove j) Done ≡ Some (set files m.number (file_left 0))) named
               (turn_answers files cur (claims_of s.tasks) m.number before (may_name_now disk s p op m is well stood is_op, used) none).1,
-          begins_freeing true (there ∙ ap (λ (j : ℕ). place.Truncating k (first_trunc j inode true extent.bitmap)) (sym named)) used files before,
+          begins_freeing true (there ∙ ap (λ (j : ℕ). place.Truncating k (first_driven (first_trunc j inode true extent.bitmap))) (sym named)) used files before,
         )
     used_turn (Stat i) allowed named there used files fits = (
       files,
@@ -401,12 +391,13 @@ module _ {D N : Type 0} (disk : Ghosts D N) (s : StoreState D) (p : ℕ) (op : O
         }
 
     truncates : (removes : Bool) (i : ℕ) → op ≡ cond removes (Remove i) (Trunc i) → i ≡ asked op → inode.kind ≢ 0 → (u : TaskState) → u.op ≡ Some op
-        → IsTruncating cur tab.inode_count u (first_trunc i inode removes extent.bitmap)
+        → IsTruncating cur tab.inode_count u (first_driven (first_trunc i inode removes extent.bitmap))
     truncates removes i same named used u has = record {
       op = has ∙ ap Some same;
       number = subst (λ (j : ℕ). IsTrue (is_number tab.inode_count j)) (asks ∙ sym named) (subst (λ (n : ℕ). IsTrue (is_number n m.number)) (sym count) (may_name disk s p op m is well stood is_op));
       bitmap = ap bitmap_block (sym count);
       given = first_given cur i extent.bitmap inode removes (may used).fit.fields.count;
+      keeps = direct_keeps inode (slice_index inode.addrs 12) 0;
     }
 
     writes : (i off : ℕ) (bytes : List ℕ) → op ≡ Write i off bytes → inode.kind ≢ 0 → (u : TaskState) → u.op ≡ Some op

@@ -6,7 +6,7 @@ use Rattle.inodes.specs.declared.tasks.Place.{Place}
 use Rattle.inodes.specs.declared.tasks.Place.TheVariants as place
 use Rattle.inodes.specs.Grips.{locked_grip, grip}
 use Rattle.inodes.specs.Holding.{claim_by, claims_of, held_of, claim_of}
-use Rattle.inodes.specs.Itrunc.{TruncState}
+use Rattle.inodes.specs.Itrunc.{Freeing}
 use Rattle.inodes.specs.Looks.{AreLooking, LooksAt}
 use Rattle.inodes.specs.Places.{grip_of, grips_of, owes_reply, asked_by, grip_by}
 use Rattle.inodes.specs.Table.{TableState, copy_at}
@@ -35,7 +35,7 @@ module _ (cur : Image) (t : TableState) (ts : List TaskState) (are : AreLooking 
       let is = holding_is (task ts q).op (task ts q).place i h claimed in (
         is.0,
         ⊎_elim
-            (λ (frees : (m : TruncState) × ((task ts q).place ≡ place.Truncating is.0 m) × (m.number ≡ i)).
+            (λ (frees : (m : Freeing) × ((task ts q).place ≡ place.Truncating is.0 m) × (m.machine.number ≡ i)).
             subst (λ (j : ℕ). grip_of (task ts q) ≡ Some (locked_grip is.0 j)) frees.2 (trunc_locks cur t ts are q is.0 frees.0 frees.1))
             (λ (writes : (m : WriteState) × ((task ts q).place ≡ place.Writing is.0 m) × (m.number ≡ i)).
             subst (λ (j : ℕ). grip_of (task ts q) ≡ Some (locked_grip is.0 j)) writes.2 (write_locks cur t ts are q is.0 writes.0 writes.1))
@@ -69,8 +69,8 @@ module _ (cur : Image) (t : TableState) (ts : List TaskState) (are : AreLooking 
   unclaimed p k i mine none = claim_of_locked p k i mine ∙ none
 
   -- and else what is left of them
-  pub own_claim : (p k : ℕ) (m : TruncState) → (task ts p).place ≡ place.Truncating k m → claims_of ts m.number ≡ Some (frees (held_of m))
-  own_claim p k m at = claim_of_locked p k m.number (trunc_locks cur t ts are p k m at) ∙ ap (λ (a : Place). claim_by (task ts p).op a m.number) at ∙ own_holds k m
+  pub own_claim : (p k : ℕ) (m : Freeing) → (task ts p).place ≡ place.Truncating k m → claims_of ts m.machine.number ≡ Some (frees (held_of m.machine))
+  own_claim p k m at = claim_of_locked p k m.machine.number (trunc_locks cur t ts are p k m at) ∙ ap (λ (a : Place). claim_by (task ts p).op a m.machine.number) at ∙ own_holds k m
 
   -- and so is what a write made of them
   pub own_growth : (p k : ℕ) (m : WriteState) → (task ts p).place ≡ place.Writing k m → claims_of ts m.number ≡ Some (grows (growth_of m (bytes_by (task ts p).op)))

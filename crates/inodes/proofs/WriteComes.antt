@@ -20,7 +20,7 @@ use Rattle.inodes.specs.declared.writei.Extent.{Extent}
 use Rattle.inodes.specs.declared.writei.WriteAt.{WriteAt}
 use Rattle.inodes.specs.declared.writei.WriteAt.TheVariants as write_at
 use Rattle.inodes.specs.Growing.{HasComeTo, HasNoEntry, IsMapping, IsOnWay, next_block, taken_by}
-use Rattle.inodes.specs.Itrunc.{first_update}
+use Rattle.inodes.specs.Iupdate.{first_update}
 use Rattle.inodes.specs.Writei.{WriteState, next_byte, next_place, place_of_mapped}
 use Rattle.inodes.specs.Writing.{blocks_behind, blocks_left, kept_by_write, used_by_write, writes_left_at}
 

@@ -27,18 +27,17 @@ use Rattle.wal.specs.declared.types.Get.TheVariants as get
 use Rattle.blockmap.specs.Balloc.{AllocState, first_alloc}
 use Rattle.blockmap.specs.Bmap.{some_address}
 use Rattle.blockmap.specs.BmapAlloc.{FindsEntry, MapState, SetsEntry, TakesOne, after_behind, after_direct, after_indirect, behind_at, direct_at, entry_for, indirect_at, indirect_of, naming, with_entry_for}
-use Rattle.blockmap.specs.Getting.{GetsFor, progress_of, slot_of}
+use Rattle.driver.specs.Getting.{GetsFor, progress_of, slot_of}
 use Rattle.blockmap.specs.Lemmas.Leading.{leads_behind, leads_direct}
 use Rattle.blockmap.specs.declared.bmap_alloc.MapAt.TheVariants as map_at
-use Rattle.blockmap.specs.declared.progress.Progress.{Progress}
-use Rattle.blockmap.specs.declared.progress.Progress.TheVariants as machine
+use Rattle.driver.specs.declared.progress.Progress.{Progress}
+use Rattle.driver.specs.declared.progress.Progress.TheVariants as machine
 use Rattle.inodes.specs.declared.tasks.Place.TheVariants as place
 use Rattle.inodes.specs.declared.writei.WriteAt.{WriteAt}
 use Rattle.inodes.specs.declared.writei.WriteAt.TheVariants as write_at
 use Rattle.inodes.specs.Growing.{HasComeTo, IsMapping, IsOnWay, growth_of, next_block, taken_by}
 use Rattle.inodes.specs.Holding.{claims_of, uses_left}
-use Rattle.inodes.specs.Itrunc.{first_update}
-use Rattle.inodes.specs.Iupdate.{UpdateState}
+use Rattle.inodes.specs.Iupdate.{UpdateState, first_update}
 use Rattle.inodes.specs.Store.{StoreState, IsStore, current_of}
 use Rattle.inodes.specs.Tasks.{TaskState, task}
 use Rattle.inodes.specs.Writei.{GetsNext, MapsOn, WriteState, WritesNext, next_byte, next_place, piece, piece_of, progress_mapped, with_piece, with_written, write_mapped}

@@ -28,11 +28,12 @@ use Rattle.wal.specs.Machine.{LogState, SameGroups}
 use Rattle.wal.specs.Volume.{VolumeState}
 use Rattle.blockmap.specs.BmapAlloc.{MapState, MapSteps, entry_for, indirect_of}
 use Rattle.blockmap.specs.Bmap.{some_address}
-use Rattle.blockmap.specs.Getting.{WritesBlock, progress_of}
+use Rattle.driver.specs.Getting.{WritesBlock, progress_of}
 use Rattle.blockmap.specs.declared.bmap_alloc.MapAt.{MapAt}
 use Rattle.blockmap.specs.declared.bmap_alloc.MapAt.TheVariants as map_at
-use Rattle.blockmap.specs.declared.progress.Progress.{Progress}
-use Rattle.blockmap.specs.declared.progress.Progress.TheVariants as machine
+use Rattle.driver.specs.declared.progress.Progress.{Progress}
+use Rattle.driver.specs.declared.progress.Progress.TheVariants as machine
+use Rattle.driver.specs.Lemmas.Others.{StaysForOthers, groups_noted, stays_noted}
 use Rattle.inodes.specs.declared.tasks.Place.TheVariants as place
 use Rattle.inodes.specs.declared.writei.WriteAt.{WriteAt}
 use Rattle.inodes.specs.declared.writei.WriteAt.TheVariants as write_at
@@ -49,12 +50,9 @@ use Rattle.inodes.specs.Tasks.{TaskState, task, no_task}
 use Rattle.inodes.specs.Writei.{MapsOn, WriteState, WriteSteps, progress_mapped}
 use Rattle.inodes.specs.Writing.{IsWriting, block_of_write, kept_by_write, used_by_write, writes_left, writes_left_at}
 use Rattle.inodes.specs.Lemmas.Grips.{kept_by_renew}
-use Rattle.inodes.proofs.Agreeing.{StaysForOthers}
 use Rattle.inodes.proofs.AtWork.{steps_worked, store_then, store_worked}
-use Rattle.inodes.proofs.Frames.{groups_noted}
 use Rattle.inodes.proofs.Getting.{reads_none}
 use Rattle.inodes.proofs.LooksKept.{KeepsUsed}
-use Rattle.inodes.proofs.TruncDoes.{stays_noted}
 use Rattle.inodes.proofs.TruncFiles.{with_claim, with_claim_is}
 use Rattle.inodes.proofs.TruncSlots.{Slots, slots_put}
 use Rattle.inodes.proofs.WriteDoes.{does_behind, does_block, does_direct, does_entry, does_indirect, does_inode, does_look, does_piece, does_setting}

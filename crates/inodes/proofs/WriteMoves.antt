@@ -25,9 +25,10 @@ use Rattle.wal.specs.Held.{GetsLock, HasLock}
 use Rattle.wal.specs.Machine.{LogState, SameGroups}
 use Rattle.wal.specs.Volume.{VolumeState}
 use Rattle.blockmap.specs.BmapAlloc.{indirect_of}
-use Rattle.blockmap.specs.Getting.{GetsFor, Releases, WritesBlock}
-use Rattle.blockmap.specs.declared.progress.Progress.{Progress}
-use Rattle.blockmap.specs.declared.progress.Progress.TheVariants as machine
+use Rattle.driver.specs.Getting.{GetsFor, Releases, WritesBlock}
+use Rattle.driver.specs.declared.progress.Progress.{Progress}
+use Rattle.driver.specs.declared.progress.Progress.TheVariants as machine
+use Rattle.driver.specs.Lemmas.Others.{StaysForOthers, groups_noted, groups_same, stays_got, stays_left, stays_noted, stays_same}
 use Rattle.inodes.specs.declared.tasks.Place.{Place}
 use Rattle.inodes.specs.declared.tasks.Place.TheVariants as place
 use Rattle.inodes.specs.Goes.{place_of_writing, progress_of_write, table_of_writing}
@@ -42,12 +43,10 @@ use Rattle.inodes.specs.Writei.{WriteState}
 use Rattle.inodes.specs.Writing.{HasLoggedWrite, IsWriting, block_of_write, kept_by_write, used_by_write, writes_left, extent_of}
 use Rattle.inodes.specs.Lemmas.Grips.{kept_by_image}
 use Rattle.inodes.specs.Lemmas.Holding.{own_grows}
-use Rattle.inodes.proofs.Agreeing.{StaysForOthers, stays_same}
 use Rattle.inodes.proofs.AtWork.{Does, Works, store_then}
-use Rattle.inodes.proofs.Frames.{groups_noted, groups_same, marks_same}
-use Rattle.inodes.proofs.Getting.{reads_none, stays_got, stays_left, fault_of}
+use Rattle.inodes.proofs.Frames.{marks_same}
+use Rattle.inodes.proofs.Getting.{reads_none, fault_of}
 use Rattle.inodes.proofs.LooksKept.{KeepsUsed, keeps_same}
-use Rattle.inodes.proofs.TruncDoes.{stays_noted}
 use Rattle.inodes.proofs.TruncFiles.{same_claims, with_claim, with_claim_is}
 use Rattle.inodes.proofs.TruncSlots.{Gains, Slots, gains, held_for, never_inode, never_over, reads_for, sleeps}
 use Rattle.inodes.proofs.Writing as of

@@ -18,13 +18,13 @@ use Rattle.wal.specs.declared.types.Get.{Get}
 use Rattle.wal.specs.declared.types.Get.TheVariants as get
 use Rattle.blockmap.specs.Balloc.{AllocState, Allocs, IsLowestClear, TakesLowest, lowest_in, with_taken}
 use Rattle.blockmap.specs.BmapAlloc.{MapState, indirect_of}
-use Rattle.blockmap.specs.Getting.{GetsFor, WritesBlock, progress_of, slot_of}
+use Rattle.driver.specs.Getting.{GetsFor, WritesBlock, progress_of, slot_of}
 use Rattle.blockmap.specs.Lemmas.Bitmap.{lowest_clear_is_lowest}
 use Rattle.blockmap.specs.declared.balloc.AllocAt.{AllocAt}
 use Rattle.blockmap.specs.declared.balloc.AllocAt.TheVariants as alloc_at
 use Rattle.blockmap.specs.declared.bmap_alloc.MapAt.{MapAt}
-use Rattle.blockmap.specs.declared.progress.Progress.{Progress}
-use Rattle.blockmap.specs.declared.progress.Progress.TheVariants as machine
+use Rattle.driver.specs.declared.progress.Progress.{Progress}
+use Rattle.driver.specs.declared.progress.Progress.TheVariants as machine
 use Rattle.inodes.specs.declared.tasks.Place.TheVariants as place
 use Rattle.inodes.specs.declared.writei.Extent.{Extent}
 use Rattle.inodes.specs.declared.writei.WriteAt.TheVariants as write_at

@@ -23,7 +23,7 @@ use Rattle.wal.specs.Joint.{Joint}
 use Rattle.wal.specs.Machine.{HasRoom, used_by}
 use Rattle.blockmap.specs.Balloc.{AllocState, MayAlloc, MayAllocAt}
 use Rattle.blockmap.specs.BmapAlloc.{HasEntries, MapState, MayMapAt, indirect_of}
-use Rattle.blockmap.specs.Getting.{HoldsWhereGot}
+use Rattle.driver.specs.Getting.{HoldsWhereGot}
 use Rattle.blockmap.specs.declared.balloc.AllocAt.{AllocAt}
 use Rattle.blockmap.specs.declared.balloc.AllocAt.TheVariants as alloc_at
 use Rattle.blockmap.specs.declared.bmap_alloc.MapAt.{MapAt}

@@ -15,14 +15,16 @@ use Rattle.bcache.specs.Buffers.{Buffers}
 use Rattle.wal.specs.Machine.{LogState, noted}
 use Rattle.wal.specs.Volume.{VolumeState, get_answer}
 use Rattle.wal.specs.declared.types.Get.TheVariants as get
-use Rattle.blockmap.specs.declared.progress.Progress.{Progress}
-use Rattle.blockmap.specs.declared.progress.Progress.TheVariants as machine
+use Rattle.driver.specs.Driver.{Drives}
+use Rattle.driver.specs.Next.{used_now}
+use Rattle.driver.specs.declared.progress.Progress.{Progress}
+use Rattle.driver.specs.declared.progress.Progress.TheVariants as machine
 use Rattle.inodes.specs.declared.tasks.Place.{Place}
 use Rattle.inodes.specs.declared.tasks.Place.TheVariants as place
 use Rattle.inodes.specs.Creation.{lowest_free}
 use Rattle.inodes.specs.Ialloc.{SearchState, BuffersAfter, at_slot, at_next_block}
 use Rattle.inodes.specs.Ilock.{LockSteps}
-use Rattle.inodes.specs.Itrunc.{TruncState, TruncSteps, inode_left}
+use Rattle.inodes.specs.Itrunc.{Freeing, inode_left, itrunc, trunc_next}
 use Rattle.inodes.specs.LockState.{LockState, place_of}
 use Rattle.inodes.specs.Readi.{ReadState, ReadSteps}
 use Rattle.inodes.specs.Store.{StoreState, current_of, reply_of}
@@ -189,25 +191,26 @@ progress_of_trunc (machine.Over out) = progress.Moved
 progress_of_trunc (machine.Fault fault) = progress.Fault fault
 
 -- where the task stands then
-abbrev pub place_of_trunc : ℕ → TruncState → TruncState → Progress (Unit {0}) → Place
+abbrev pub place_of_trunc : ℕ → Freeing → Freeing → Progress (Unit {0}) → Place
 place_of_trunc k m n machine.Moved = place.Truncating k n
 place_of_trunc k m n (machine.Sleeping why) = place.Truncating k m
 place_of_trunc k m n (machine.Over out) = place.Leaving k
 place_of_trunc k m n (machine.Fault fault) = place.Truncating k m
 
 -- and the table: with the last step the inode is read no more from it, or is what was written
-abbrev pub table_of_trunc : TableState → ℕ → TruncState → Progress (Unit {0}) → TableState
+abbrev pub table_of_trunc : TableState → ℕ → Freeing → Progress (Unit {0}) → TableState
 table_of_trunc t k m machine.Moved = t
 table_of_trunc t k m (machine.Sleeping why) = t
-table_of_trunc t k m (machine.Over out) = renewed t k (inode_left m)
+table_of_trunc t k m (machine.Over out) = renewed t k (inode_left m.machine)
 table_of_trunc t k m (machine.Fault fault) = t
 
 -- a step of freeing a file's blocks, whose inode stands at place k of the table
 pub record Truncates {D N : Type 0} (disk : Ghosts D N) (s : StoreState D) (p k : ℕ)
-    (m : TruncState) (r : TaskProgress) (t : StoreState D) : Type 0 where
+    (m : Freeing) (r : TaskProgress) (t : StoreState D) : Type 0 where
   pub answer : Progress (Unit {0})
-  pub now : TruncState
-  pub truncs : TruncSteps disk m.at s.volume p m answer now t.volume
+  pub now : Freeing
+  pub drives : Drives itrunc disk (used_now (trunc_next m) m.kept m.used)
+      s.volume p m answer now t.volume
   pub gives : r ≡ progress_of_trunc answer
   pub next : (task t.tasks p).place ≡ place_of_trunc k m now answer
   pub table : t.table ≡ table_of_trunc s.table k m answer

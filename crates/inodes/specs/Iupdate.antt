@@ -7,15 +7,19 @@ use Rattle.model.specs.Codec.{with_inode}
 use Rattle.model.specs.Layout.{inode_block}
 use Rattle.wal.specs.Joint.{seen}
 use Rattle.wal.specs.Volume.{VolumeState}
-use Rattle.blockmap.specs.Getting.{GetsFor, HoldsWhereGot, WritesBlock}
-use Rattle.blockmap.specs.declared.progress.Progress.{Progress}
-use Rattle.blockmap.specs.declared.progress.Progress.TheVariants as progress
+use Rattle.driver.specs.Getting.{GetsFor, HoldsWhereGot, WritesBlock}
+use Rattle.driver.specs.declared.progress.Progress.{Progress}
+use Rattle.driver.specs.declared.progress.Progress.TheVariants as progress
 
 -- Where the writing of an inode stands.
 pub record UpdateState : Type 0 where
   pub number : ℕ
   -- the slot that holds its block, where it was got
   pub slot : Option ℕ
+
+-- the writing of an inode that begins
+abbrev pub first_update : ℕ → UpdateState
+first_update number = record { number = number; slot = None }
 
 -- the inode may be written back over this volume
 pub record MayUpdate {D : Type 0} (image : D → Image) (v : VolumeState D) (p : ℕ) (m : UpdateState)

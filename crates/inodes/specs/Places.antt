@@ -1,18 +1,18 @@
 -- What a task's place says of its process.
-use Rattle.std.specs.Prelude.{◌≡◌, ◌⊎◌, ℕ, ◌+◌, ◌-◌, ◌*◌, Bool, true, false, List, map, slice_index, Option, Some, None}
+use Rattle.std.specs.Prelude.{◌≡◌, ◌⊎◌, ℕ, ◌+◌, ◌-◌, ◌*◌, Bool, true, false, List, map, Option, Some, None}
 use Rattle.model.specs.declared.types.operations.Op.{Op}
 use Rattle.model.specs.declared.types.operations.Op.TheVariants.{Create, Write, Read, Trunc, Remove, Stat}
 use Rattle.model.specs.Layout.{inode_block}
 use Rattle.blockmap.specs.Target.{block_of, slot_in}
+use Rattle.driver.specs.Holds.{IsGot}
+use Rattle.driver.specs.Next.{block_of_next}
 use Rattle.inodes.specs.declared.ilock.LockAt.{LockAt}
 use Rattle.inodes.specs.declared.ilock.LockAt.TheVariants as lock_at
 use Rattle.inodes.specs.declared.tasks.Place.{Place}
 use Rattle.inodes.specs.declared.tasks.Place.TheVariants as place
-use Rattle.inodes.specs.declared.itrunc.TruncAt.{TruncAt}
-use Rattle.inodes.specs.declared.itrunc.TruncAt.TheVariants as trunc_at
 use Rattle.inodes.specs.Grips.{Grip, unlocked_grip, locked_grip}
-use Rattle.inodes.specs.Holding.{kept_slot, used_slot, truncs_left}
-use Rattle.inodes.specs.Itrunc.{TruncState}
+use Rattle.inodes.specs.Holding.{truncs_left}
+use Rattle.inodes.specs.Itrunc.{trunc_next}
 use Rattle.inodes.specs.LockState.{slot_of, locks_left}
 use Rattle.inodes.specs.Readi.{reads_left}
 use Rattle.inodes.specs.Tasks.{TaskState}
@@ -60,19 +60,10 @@ HasSlot (place.Creating m) i = m.slot ≡ Some i
 HasSlot (place.Taking m) i = slot_of m.at ≡ Some i
 HasSlot (place.Reading k m) i = slot_in m.target ≡ Some i
 HasSlot (place.Delivering k) i = None ≡ Some i
-HasSlot (place.Truncating k m) i = (kept_slot m.at ≡ Some i) ⊎ (used_slot m.at ≡ Some i)
+HasSlot (place.Truncating k m) i = IsGot (trunc_next m) m.kept m.used i
 HasSlot (place.Writing k m) i =
     (kept_by_write m.at ≡ Some i) ⊎ (used_by_write m.at ≡ Some i)
 HasSlot (place.Leaving k) i = None ≡ Some i
-
--- the block that the freeing of a file's blocks gets or uses next
-abbrev pub block_of_trunc : TruncState → TruncAt → ℕ
-block_of_trunc m (trunc_at.Direct k f) = f.bitmap
-block_of_trunc m trunc_at.Getting = slice_index m.inode.addrs 12
-block_of_trunc m (trunc_at.Entry i f) = f.bitmap
-block_of_trunc m (trunc_at.Releasing i) = 0
-block_of_trunc m (trunc_at.Indirect f) = f.bitmap
-block_of_trunc m (trunc_at.Writing u) = inode_block u.number
 
 -- the block that a task gets or uses next
 abbrev pub block_at_place : Place → ℕ
@@ -81,7 +72,7 @@ block_at_place (place.Creating m) = m.block
 block_at_place (place.Taking m) = inode_block m.number
 block_at_place (place.Reading k m) = block_of m.target
 block_at_place (place.Delivering k) = 0
-block_at_place (place.Truncating k m) = block_of_trunc m m.at
+block_at_place (place.Truncating k m) = block_of_next (trunc_next m)
 block_at_place (place.Writing k m) = block_of_write m m.at
 block_at_place (place.Leaving k) = 0
 

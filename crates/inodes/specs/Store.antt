@@ -1,5 +1,5 @@
 -- A volume with the tasks of processes, and what is true of it between any two steps.
-use Rattle.std.specs.Prelude.{◌≡◌, ◌⊎◌, true, slice_index, ◌<◌, ◌≤◌, ◌^◌, ℕ, ◌+◌, ◌-◌, IsTrue, IfNone, List, length, slice_set, Option, Some, None}
+use Rattle.std.specs.Prelude.{◌≡◌, ◌⊎◌, true, ◌<◌, ◌≤◌, ◌^◌, ℕ, ◌+◌, ◌-◌, IsTrue, IfNone, List, length, slice_set, Option, Some, None}
 use Rattle.blocks.specs.Disk.{Image}
 use Rattle.model.specs.declared.types.operations.Op.{Op}
 use Rattle.model.specs.declared.types.operations.Op.TheVariants.{Create, Write, Read, Trunc, Remove, Stat}
@@ -19,15 +19,16 @@ use Rattle.wal.specs.Volume.{VolumeState}
 use Rattle.model.specs.Gathered.{GatheredBytes}
 use Rattle.blockmap.specs.BmapAlloc.{indirect_of}
 use Rattle.blockmap.specs.Target.{block_of, slot_in}
+use Rattle.driver.specs.Holds.{HoldsBlocks}
 use Rattle.inodes.specs.Ialloc.{SearchState}
 use Rattle.inodes.specs.declared.ilock.LockAt.TheVariants as lock_at
 use Rattle.inodes.specs.declared.tasks.Place.{Place}
 use Rattle.inodes.specs.declared.tasks.Place.TheVariants as place
-use Rattle.inodes.specs.Holding.{claims_of, kept_slot, used_slot}
-use Rattle.inodes.specs.Itrunc.{TruncState}
+use Rattle.inodes.specs.Holding.{claims_of}
+use Rattle.inodes.specs.Itrunc.{Freeing, trunc_next}
 use Rattle.inodes.specs.LockState.{slot_of}
 use Rattle.inodes.specs.Looks.{AreLooking}
-use Rattle.inodes.specs.Places.{asked, HasSlot, block_of_trunc}
+use Rattle.inodes.specs.Places.{asked, HasSlot}
 use Rattle.inodes.specs.Table.{TableState}
 use Rattle.inodes.specs.Tasks.{TaskState, task}
 use Rattle.inodes.specs.Writei.{WriteState}
@@ -163,10 +164,9 @@ HasLogged l p bitmap =
     ⊎ ((used_by l p ≡ Some 1) × (is_among bitmap l.homes ≡ true))
 
 -- it holds what it has got: the block of addresses, and what it uses next
-pub record HoldsForFreeing (c : Buffers) (l : LogState) (p : ℕ) (m : TruncState) : Type 0 where
-  pub logged : HasLogged l p m.bitmap
-  pub kept : HoldsAt c p (slice_index m.inode.addrs 12) (kept_slot m.at)
-  pub used : HoldsAt c p (block_of_trunc m m.at) (used_slot m.at)
+pub record HoldsForFreeing (c : Buffers) (l : LogState) (p : ℕ) (m : Freeing) : Type 0 where
+  pub logged : HasLogged l p m.machine.bitmap
+  pub holds : HoldsBlocks c p (trunc_next m) m.kept m.used
 
 -- and so does one that writes a file's bytes
 pub record HoldsForWriting (c : Buffers) (l : LogState) (p : ℕ) (m : WriteState) : Type 0 where

@@ -5,6 +5,7 @@ use Rattle.model.specs.declared.types.operations.Op.{Op}
 use Rattle.model.specs.declared.types.operations.Op.TheVariants.{Create, Write, Read, Trunc, Remove, Stat}
 use Rattle.model.specs.declared.types.operations.Reply.{Reply}
 use Rattle.model.specs.declared.types.operations.Reply.TheVariants.{Done, StatOf, NoFile, BadOffset, TooBig}
+use Rattle.driver.specs.Driver.{first_driven}
 use Rattle.inodes.specs.declared.tasks.Place.{Place}
 use Rattle.inodes.specs.declared.tasks.Place.TheVariants as place
 use Rattle.inodes.specs.declared.writei.Extent.{Extent}
@@ -57,8 +58,10 @@ abbrev pub place_of_look : Extent → Dinode → ℕ → Op → Place
 place_of_look e d k (Create kind) = place.Leaving k
 place_of_look e d k (Write i off bytes) = place_of_write k i d off (length bytes) e
 place_of_look e d k (Read i off count) = place_of_read k (first_read d off count)
-place_of_look e d k (Trunc i) = place.Truncating k (first_trunc i d false e.bitmap)
-place_of_look e d k (Remove i) = place.Truncating k (first_trunc i d true e.bitmap)
+place_of_look e d k (Trunc i) =
+    place.Truncating k (first_driven (first_trunc i d false e.bitmap))
+place_of_look e d k (Remove i) =
+    place.Truncating k (first_driven (first_trunc i d true e.bitmap))
 place_of_look e d k (Stat i) = place.Leaving k
 
 -- where it goes, with the inode at that place of the table

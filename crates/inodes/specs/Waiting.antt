@@ -1,5 +1,5 @@
 -- Why a task's next step has to wait, and that of the tasks under way one need not.
-use Rattle.std.specs.Prelude.{◌≡◌, ℕ, false, slice_index, Option, Some, None}
+use Rattle.std.specs.Prelude.{◌≡◌, ℕ, false, Option, Some, None}
 use Rattle.blocks.specs.declared.disk.Disk.{Ghosts}
 use Rattle.model.specs.declared.types.image.Dinode.{Dinode}
 use Rattle.model.specs.declared.types.operations.Op.{Op}
@@ -15,15 +15,14 @@ use Rattle.blockmap.specs.BmapAlloc.{indirect_of}
 use Rattle.blockmap.specs.Target.{block_of, slot_in}
 use Rattle.blockmap.specs.declared.bmap_alloc.MapAt.{MapAt}
 use Rattle.blockmap.specs.declared.bmap_alloc.MapAt.TheVariants as map_at
+use Rattle.driver.specs.Next.{wanted_by}
 use Rattle.inodes.specs.declared.ilock.LockAt.{LockAt}
 use Rattle.inodes.specs.declared.ilock.LockAt.TheVariants as lock_at
-use Rattle.inodes.specs.declared.itrunc.TruncAt.{TruncAt}
-use Rattle.inodes.specs.declared.itrunc.TruncAt.TheVariants as trunc_at
 use Rattle.inodes.specs.declared.tasks.Place.{Place}
 use Rattle.inodes.specs.declared.tasks.Place.TheVariants as place
 use Rattle.inodes.specs.declared.writei.WriteAt.{WriteAt}
 use Rattle.inodes.specs.declared.writei.WriteAt.TheVariants as write_at
-use Rattle.inodes.specs.Itrunc.{TruncState}
+use Rattle.inodes.specs.Itrunc.{trunc_next}
 use Rattle.inodes.specs.Places.{is_over}
 use Rattle.inodes.specs.Steps.{Steps}
 use Rattle.inodes.specs.Store.{StoreState}
@@ -38,14 +37,6 @@ use Rattle.inodes.specs.Writing.{slot_of_alloc, block_of_alloc}
 abbrev pub unless_got : Option ℕ → ℕ → Option ℕ
 unless_got None b = Some b
 unless_got (Some i) b = None
-
-abbrev pub wanted_by_trunc : TruncState → TruncAt → Option ℕ
-wanted_by_trunc m (trunc_at.Direct k f) = unless_got f.slot f.bitmap
-wanted_by_trunc m trunc_at.Getting = Some (slice_index m.inode.addrs 12)
-wanted_by_trunc m (trunc_at.Entry i f) = unless_got f.slot f.bitmap
-wanted_by_trunc m (trunc_at.Releasing i) = None
-wanted_by_trunc m (trunc_at.Indirect f) = unless_got f.slot f.bitmap
-wanted_by_trunc m (trunc_at.Writing u) = unless_got u.slot (inode_block u.number)
 
 abbrev pub wanted_by_alloc : AllocState → Option ℕ
 wanted_by_alloc t = unless_got (slot_of_alloc t.at) (block_of_alloc t t.at)
@@ -81,7 +72,7 @@ cause_at c t (place.Taking m) = cause_to_lock c t m.at m.number
 cause_at c t (place.Reading k m) =
     cause_to_get c (unless_got (slot_in m.target) (block_of m.target))
 cause_at c t (place.Delivering k) = None
-cause_at c t (place.Truncating k m) = cause_to_get c (wanted_by_trunc m m.at)
+cause_at c t (place.Truncating k m) = cause_to_get c (wanted_by (trunc_next m) m.used)
 cause_at c t (place.Writing k m) = cause_to_get c (wanted_by_write m m.at)
 cause_at c t (place.Leaving k) = None
 

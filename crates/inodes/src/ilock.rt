@@ -9,8 +9,8 @@ ghost use Rattle.inodes.specs.Ilock.{MayLock, IsAt, LockSteps, Refers, Locks, Ge
 ghost use Rattle.inodes.specs.declared.ilock.LockAt.TheVariants as lock_at;
 
 use crate::{Inodes, Progress};
-use blockmap::{get_block, release_block};
 use blocks::Disk;
+use driver::{get_block, release_block};
 use layout::inode;
 use model::types::Why;
 use std::marker::Model;

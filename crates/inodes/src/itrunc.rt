@@ -1,84 +1,54 @@
 // The blocks of a file are freed.
-ghost use Rattle.std.specs.Prelude.{◌≡◌, ◌≢◌, ◌<◌, ◌≤◌, length, slice_set, slice_index, Some, None};
-ghost use Rattle.blocks.specs.Disk.{block_at};
+ghost use Rattle.std.specs.Prelude.{◌≡◌, ◌≤◌, length};
 ghost use Rattle.model.specs.Fields.{words_of};
-ghost use Rattle.wal.specs.Joint.{seen};
-ghost use Rattle.wal.specs.Machine.{HasRoom, used_by};
-ghost use Rattle.inodes.specs.Itrunc.{MayTrunc, TruncSteps, last_inode_of, inode_left, first_trunc, at_entries, next_direct, present_from};
-ghost use Rattle.inodes.specs.declared.itrunc.TruncAt.TheVariants as trunc_at;
+ghost use Rattle.inodes.specs.Itrunc.{first_trunc, inode_left, last_inode_of, at_entries, next_direct, present_from};
 
-use crate::Iupdate;
-use blockmap::{Bfree, Progress, get_block, release_block};
-use blocks::{Block, Disk};
+use blocks::Block;
+use driver::{Deed, Machine, Next, Patch};
 use layout::entries::entry;
 use model::types::Dinode;
-use std::marker::Model;
-use wal::Volume;
 
 /// Where the freeing of a file's blocks stands.
 #[derive(Clone, Copy)]
 pub enum TruncAt {
-    /// A data block is freed, which the inode's address at that place names, from 0 to 11.
-    Direct { place: usize, free: Bfree },
-    /// The block of addresses is got next.
-    Getting,
-    /// That slot holds the block of addresses, and a block is freed that one of its entries names.
-    Entry { slot: u32, free: Bfree },
-    /// That slot holds it still, and it is released next: no entry is left.
-    Releasing { slot: u32 },
-    /// The block of addresses is freed itself.
-    Indirect(Bfree),
+    /// A data block is freed, which the inode's address at that index names, from 0 to 11.
+    Direct(usize),
+    /// The block of addresses is got next, and kept.
+    Loading,
+    /// A block is freed that the next entry names which wasn't given up.
+    Entry,
+    /// No entry is left, and the block of addresses is given back.
+    Unloading,
+    /// It is freed itself.
+    Indirect,
     /// No block is left, and the inode is written back.
-    Writing(Iupdate),
+    Updating,
 }
 
-/// The steps in which a file's blocks are freed, and its inode is written back (`itrunc`; the xv6
-/// book, the chapter "File system": "Code: Inodes"): the blocks of the inode's own addresses first,
-/// then those that the block of addresses names, then that block, each in two steps. An address that
-/// isn't there takes no step. Where the file is removed, the inode that is written is a free one.
+/// The machine that frees a file's blocks and writes its inode back (`itrunc`; the xv6 book, the
+/// chapter "File system": "Code: Inodes"): the blocks of the inode's own addresses first, then those
+/// that the block of addresses names, then that block, each in two steps. An address that isn't
+/// there takes no step. Where the file is removed, the inode that is written is a free one.
 #[derive(Clone, Copy)]
 pub struct Itrunc {
     /// The inode's number.
-    number: u32,
+    pub number: u32,
     /// The inode as it was read, without the addresses that were given up.
-    inode: Dinode,
+    pub inode: Dinode,
     /// Of the block of addresses, so many of the first entries were given up.
-    given_up: u32,
+    pub given_up: u32,
     /// Whether the file is removed.
-    removes: bool,
+    pub removes: bool,
     /// The bitmap's block.
-    bitmap: u32,
-    at: TruncAt,
-}
-
-impl Model for Itrunc {
-    ghost use Rattle.inodes.specs.Itrunc.{TruncState};
-
-    ghost Value = { TruncState };
-
-    ghost view = { λ m. record {
-      number = m.number;
-      inode = m.inode;
-      given_up = m.given_up;
-      removes = m.removes;
-      bitmap = m.bitmap;
-      at = m.at;
-    } };
-
-    ghost inverse = { λ m. record {
-      number = m.number;
-      inode = m.inode;
-      given_up = m.given_up;
-      removes = m.removes;
-      bitmap = m.bitmap;
-      at = m.at;
-    } };
+    pub bitmap: u32,
+    /// Where it stands.
+    pub at: TruncAt,
 }
 
 impl Itrunc {
     /// Begins to free the blocks of a number's inode, over an image with that block of the bitmap.
     pub fn new(number: u32, inode: &Dinode, removes: bool, bitmap: u32) -> Itrunc
-        requires addrs { length inode.now.addrs ≡ 13 }
+        requires { length inode.now.addrs ≡ 13 }
         ensures { result ≡ first_trunc number inode.now removes bitmap }
     {
         Itrunc {
@@ -87,7 +57,7 @@ impl Itrunc {
             given_up: 0,
             removes,
             bitmap,
-            at: next_direct(number, inode, bitmap, 0),
+            at: next_direct(inode, 0),
         }
     }
 
@@ -102,187 +72,6 @@ impl Itrunc {
         }
     }
 
-    /// Makes the next step. `Over` where the inode is written back. `Sleeping` where the buffer of a
-    /// block is held by another process, or none is to be had.
-    pub fn step<D: Disk>(&mut self, volume: &mut Volume<D>, pid: u32) -> Progress<()>
-        requires fault { volume.old.fault ≡ None }
-        requires pid { pid < 32 }
-        requires room { HasRoom (used_by volume.old.log pid) }
-        requires ready { MayTrunc D.image volume.old pid self.old }
-        ensures { TruncSteps D.Disk self.old.at volume.old pid self.old result
-            self.new volume.new }
-    {
-        let at = self.at;
-        match at {
-            TruncAt::Direct { place, free } => self.free_direct(volume, pid, place, free),
-            TruncAt::Getting => self.get_entries(volume, pid),
-            TruncAt::Entry { slot, free } => self.free_entry(volume, pid, slot, free),
-            TruncAt::Releasing { slot } => self.release(volume, pid, slot),
-            TruncAt::Indirect(free) => self.free_indirect(volume, pid, free),
-            TruncAt::Writing(update) => self.write(volume, pid, update),
-        }
-    }
-
-    // Makes the next step of freeing a data block of the inode's own.
-    fn free_direct<D: Disk>(
-        &mut self,
-        volume: &mut Volume<D>,
-        pid: u32,
-        place: usize,
-        mut free: Bfree,
-    ) -> Progress<()>
-        requires fault { volume.old.fault ≡ None }
-        requires pid { pid < 32 }
-        requires room { HasRoom (used_by volume.old.log pid) }
-        requires ready { MayTrunc D.image volume.old pid self.old }
-        requires at { self.old.at ≡ trunc_at.Direct place free }
-        ensures { TruncSteps D.Disk (trunc_at.Direct place free) volume.old pid self.old result
-            self.new volume.new }
-    {
-        match free.step(volume, pid) {
-            Progress::Moved => {
-                self.at = TruncAt::Direct { place, free };
-                Progress::Moved
-            }
-            Progress::Over(()) => {
-                self.inode.addrs[place] = 0;
-                self.at = next_direct(self.number, &self.inode, self.bitmap, place + 1);
-                Progress::Moved
-            }
-            Progress::Sleeping(why) => Progress::Sleeping(why),
-            Progress::Fault(fault) => Progress::Fault(fault),
-        }
-    }
-
-    // Gets the block of addresses.
-    fn get_entries<D: Disk>(&mut self, volume: &mut Volume<D>, pid: u32) -> Progress<()>
-        requires fault { volume.old.fault ≡ None }
-        requires ready { MayTrunc D.image volume.old pid self.old }
-        requires at { self.old.at ≡ trunc_at.Getting }
-        ensures { TruncSteps D.Disk trunc_at.Getting volume.old pid self.old result
-            self.new volume.new }
-    {
-        let mut got = None;
-        let progress = get_block(volume, pid, self.inode.addrs[12], &mut got);
-        if let Some(slot) = got {
-            self.go_to_entry(volume.data(slot), slot, 0);
-        }
-        progress
-    }
-
-    // Goes on with the first entry from a place on that is there.
-    fn go_to_entry(&mut self, entries: &Block, slot: u32, from: u32)
-        requires { from ≤ 256 }
-        ensures { self.new ≡ at_entries self.old slot (words_of entries.now) from }
-    {
-        match next_entry(entries, from) {
-            Some(e) => {
-                self.given_up = e;
-                self.at = TruncAt::Entry {
-                    slot,
-                    free: Bfree::new(self.bitmap, entry(entries, e)),
-                };
-            }
-            None => {
-                self.given_up = 256;
-                self.at = TruncAt::Releasing { slot };
-            }
-        }
-    }
-
-    // Makes the next step of freeing a block that an entry names.
-    fn free_entry<D: Disk>(
-        &mut self,
-        volume: &mut Volume<D>,
-        pid: u32,
-        slot: u32,
-        mut free: Bfree,
-    ) -> Progress<()>
-        requires fault { volume.old.fault ≡ None }
-        requires pid { pid < 32 }
-        requires room { HasRoom (used_by volume.old.log pid) }
-        requires ready { MayTrunc D.image volume.old pid self.old }
-        requires at { self.old.at ≡ trunc_at.Entry slot free }
-        ensures { TruncSteps D.Disk (trunc_at.Entry slot free) volume.old pid self.old result
-            self.new volume.new }
-    {
-        match free.step(volume, pid) {
-            Progress::Moved => {
-                self.at = TruncAt::Entry { slot, free };
-                Progress::Moved
-            }
-            Progress::Over(()) => {
-                self.go_to_entry(volume.data(slot), slot, self.given_up + 1);
-                Progress::Moved
-            }
-            Progress::Sleeping(why) => Progress::Sleeping(why),
-            Progress::Fault(fault) => Progress::Fault(fault),
-        }
-    }
-
-    // Releases the block of addresses.
-    fn release<D: Disk>(&mut self, volume: &mut Volume<D>, pid: u32, slot: u32) -> Progress<()>
-        requires fault { volume.old.fault ≡ None }
-        requires ready { MayTrunc D.image volume.old pid self.old }
-        requires at { self.old.at ≡ trunc_at.Releasing slot }
-        ensures { TruncSteps D.Disk (trunc_at.Releasing slot) volume.old pid self.old result
-            self.new volume.new }
-    {
-        release_block(volume, pid, slot);
-        self.at = TruncAt::Indirect(Bfree::new(self.bitmap, self.inode.addrs[12]));
-        Progress::Moved
-    }
-
-    // Makes the next step of freeing the block of addresses.
-    fn free_indirect<D: Disk>(
-        &mut self,
-        volume: &mut Volume<D>,
-        pid: u32,
-        mut free: Bfree,
-    ) -> Progress<()>
-        requires fault { volume.old.fault ≡ None }
-        requires pid { pid < 32 }
-        requires room { HasRoom (used_by volume.old.log pid) }
-        requires ready { MayTrunc D.image volume.old pid self.old }
-        requires at { self.old.at ≡ trunc_at.Indirect free }
-        ensures { TruncSteps D.Disk (trunc_at.Indirect free) volume.old pid self.old result
-            self.new volume.new }
-    {
-        match free.step(volume, pid) {
-            Progress::Moved => {
-                self.at = TruncAt::Indirect(free);
-                Progress::Moved
-            }
-            Progress::Over(()) => {
-                self.inode.addrs[12] = 0;
-                self.at = TruncAt::Writing(Iupdate::new(self.number));
-                Progress::Moved
-            }
-            Progress::Sleeping(why) => Progress::Sleeping(why),
-            Progress::Fault(fault) => Progress::Fault(fault),
-        }
-    }
-
-    // Makes the next step of writing the inode back.
-    fn write<D: Disk>(
-        &mut self,
-        volume: &mut Volume<D>,
-        pid: u32,
-        mut update: Iupdate,
-    ) -> Progress<()>
-        requires fault { volume.old.fault ≡ None }
-        requires pid { pid < 32 }
-        requires room { HasRoom (used_by volume.old.log pid) }
-        requires ready { MayTrunc D.image volume.old pid self.old }
-        requires at { self.old.at ≡ trunc_at.Writing update }
-        ensures { TruncSteps D.Disk (trunc_at.Writing update) volume.old pid self.old result
-            self.new volume.new }
-    {
-        let progress = update.step(volume, pid, &self.last_inode());
-        self.at = TruncAt::Writing(update);
-        progress
-    }
-
     // The inode that is written back: without bytes, and a free one where the file is removed.
     fn last_inode(&self) -> Dinode
         ensures { result ≡ last_inode_of self.now }
@@ -293,37 +82,115 @@ impl Itrunc {
             ..self.inode
         }
     }
-}
 
-// What is freed next, where the inode's own addresses before a place were given up.
-fn next_direct(number: u32, inode: &Dinode, bitmap: u32, from: usize) -> TruncAt
-    requires addrs { length inode.now.addrs ≡ 13 }
-    requires from { from ≤ 12 }
-    ensures { result ≡ next_direct number inode.now bitmap from }
-{
-    match next_address(inode, from) {
-        Some(place) => TruncAt::Direct {
-            place,
-            free: Bfree::new(bitmap, inode.addrs[place]),
-        },
-        None if inode.addrs[12] == 0 => TruncAt::Writing(Iupdate::new(number)),
-        None => TruncAt::Getting,
+    // Goes on with the first entry from an index on that is there.
+    fn go_to_entry(&mut self, entries: &Block, from: u32)
+        requires { from ≤ 256 }
+        ensures { self.new ≡ at_entries self.old (words_of entries.now) from }
+    {
+        match next_entry(entries, from) {
+            Some(index) => {
+                self.given_up = index;
+                self.at = TruncAt::Entry;
+            }
+            None => {
+                self.given_up = 256;
+                self.at = TruncAt::Unloading;
+            }
+        }
     }
 }
 
-// The first of the inode's own addresses from a place on that is there.
+impl Machine for Itrunc {
+    ghost use Rattle.model.specs.Fields.{words_of};
+    ghost use Rattle.inodes.specs.Itrunc.{Fits, after_trunc, at_entries, deed_of_trunc, next_of_trunc, over_of_trunc};
+
+    type Out = ();
+
+    ghost fits = { Fits };
+
+    ghost next_of = { λ m. next_of_trunc m m.at };
+
+    ghost after_keep = { λ m bytes. at_entries m (words_of bytes) 0 };
+
+    ghost deed_of = { λ m used kept. deed_of_trunc m (words_of kept) m.at };
+
+    ghost over_of = { λ m used kept. over_of_trunc m.at };
+
+    ghost after_deed = { λ m used kept. after_trunc m (words_of kept) m.at };
+
+    fn next(&self) -> Next {
+        match self.at {
+            TruncAt::Direct(_) | TruncAt::Entry | TruncAt::Indirect => Next::Use(self.bitmap),
+            TruncAt::Loading => Next::Keep(self.inode.addrs[12]),
+            TruncAt::Unloading => Next::Kept,
+            TruncAt::Updating => Next::Use(33 + self.number / 16),
+        }
+    }
+
+    fn keep(&mut self, block: &Block) {
+        self.go_to_entry(block, 0);
+    }
+
+    fn step(&mut self, _used: &Block, kept: &Block) -> (Deed, Option<()>) {
+        match self.at {
+            TruncAt::Direct(index) => {
+                let freed = self.inode.addrs[index];
+                self.inode.addrs[index] = 0;
+                self.at = next_direct(&self.inode, index + 1);
+                (Deed::Put(Patch::ClearBit(freed)), None)
+            }
+            TruncAt::Loading => unreachable!(),
+            TruncAt::Entry => {
+                let freed = entry(kept, self.given_up);
+                self.go_to_entry(kept, self.given_up + 1);
+                (Deed::Put(Patch::ClearBit(freed)), None)
+            }
+            TruncAt::Unloading => {
+                self.at = TruncAt::Indirect;
+                (Deed::Release, None)
+            }
+            TruncAt::Indirect => {
+                let freed = self.inode.addrs[12];
+                self.inode.addrs[12] = 0;
+                self.at = TruncAt::Updating;
+                (Deed::Put(Patch::ClearBit(freed)), None)
+            }
+            TruncAt::Updating => {
+                let number = self.number;
+                let inode = self.last_inode();
+                (Deed::Put(Patch::WriteInode { number, inode }), Some(()))
+            }
+        }
+    }
+}
+
+// What is freed next, where the inode's own addresses before an index were given up.
+fn next_direct(inode: &Dinode, from: usize) -> TruncAt
+    requires addrs { length inode.now.addrs ≡ 13 }
+    requires from { from ≤ 12 }
+    ensures { result ≡ next_direct inode.now from }
+{
+    match next_address(inode, from) {
+        Some(index) => TruncAt::Direct(index),
+        None if inode.addrs[12] == 0 => TruncAt::Updating,
+        None => TruncAt::Loading,
+    }
+}
+
+// The first of the inode's own addresses from an index on that is there.
 fn next_address(inode: &Dinode, from: usize) -> Option<usize>
     requires addrs { length inode.now.addrs ≡ 13 }
     requires from { from ≤ 12 }
     ensures { result ≡ present_from inode.now.addrs from 12 }
 {
-    (from..12).find(|place| inode.addrs[*place] != 0)
+    (from..12).find(|index| inode.addrs[*index] != 0)
 }
 
-// The first entry of a block of addresses from a place on that is there.
+// The first entry of a block of addresses from an index on that is there.
 fn next_entry(entries: &Block, from: u32) -> Option<u32>
     requires { from ≤ 256 }
     ensures { result ≡ present_from (words_of entries.now) from 256 }
 {
-    (from..256).find(|e| entry(entries, *e) != 0)
+    (from..256).find(|index| entry(entries, *index) != 0)
 }

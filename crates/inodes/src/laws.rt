@@ -69,6 +69,7 @@ pub fn grips_say()
 
 /// A step that has to wait says why: it has the cause that the buffers or the table give to where
 /// its task stands. And where they give one, the step does wait.
+#[tactic(auto, using(crate::proofs::Sleeping::trunc_asleep))]
 pub fn sleeps_for_cause<D: Disk>()
     ensures sleeps { SleepsForCause D.Disk }
     ensures waits { WaitsWithCause D.Disk }

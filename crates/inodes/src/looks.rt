@@ -15,6 +15,7 @@ ghost use Rattle.inodes.specs.declared.tasks.Place.TheVariants as stands_at;
 
 use crate::{Extent, Ilock, Inodes, Itrunc, Place, Progress, Readi, Store, Writei};
 use blocks::Disk;
+use driver::Driven;
 use model::gathered::Gathered;
 use model::types::{Dinode, Op, Reply, TaskProgress};
 
@@ -105,7 +106,12 @@ impl<D: Disk> Store<D> {
     }
 
     // The next step of freeing a file's blocks.
-    pub(crate) fn truncate(&mut self, pid: u32, place: usize, mut trunc: Itrunc) -> TaskProgress
+    pub(crate) fn truncate(
+        &mut self,
+        pid: u32,
+        place: usize,
+        mut trunc: Driven<Itrunc>,
+    ) -> TaskProgress
         requires fault { self.old.volume.fault ≡ None }
         requires pid { pid < length self.old.tasks }
         requires at { (task self.old.tasks pid).place ≡ stands_at.Truncating place trunc }
@@ -120,7 +126,7 @@ impl<D: Disk> Store<D> {
             }
             Progress::Sleeping(why) => TaskProgress::Sleeping(why),
             Progress::Over(()) => {
-                self.inodes.renew(place, trunc.left());
+                self.inodes.renew(place, trunc.machine.left());
                 self.tasks.go(pid, Place::Leaving { place });
                 TaskProgress::Moved
             }
@@ -261,11 +267,11 @@ fn place_when_taken(inode: &Option<Dinode>, place: usize, op: &Op, extent: Exten
     match op {
         Op::Read(_, offset, count) => place_of_read(place, Readi::new(inode, *offset, *count)),
         Op::Trunc(number) => {
-            let trunc = Itrunc::new(*number, inode, false, bitmap);
+            let trunc = Driven::new(Itrunc::new(*number, inode, false, bitmap));
             Place::Truncating { place, trunc }
         }
         Op::Remove(number) => {
-            let trunc = Itrunc::new(*number, inode, true, bitmap);
+            let trunc = Driven::new(Itrunc::new(*number, inode, true, bitmap));
             Place::Truncating { place, trunc }
         }
         Op::Write(number, offset, bytes) => {

@@ -5,8 +5,9 @@ ghost use Rattle.blockmap.specs.Target.{got_slot};
 ghost use Rattle.inodes.specs.Readi.{first_read, IsReading, HasRoomLeft, ReadSteps};
 
 use crate::Progress;
-use blockmap::{Target, release_block, seek, target_for};
+use blockmap::{Target, seek, target_for};
 use blocks::Disk;
+use driver::release_block;
 use model::gathered::Gathered;
 use model::types::Dinode;
 use std::marker::Model;

@@ -5,6 +5,7 @@ ghost use Rattle.inodes.specs.Tasks.{no_task, task};
 
 use crate::{Ialloc, Ilock, Itrunc, Readi, Writei};
 use blocks::NoMemory;
+use driver::Driven;
 use model::gathered::Gathered;
 use model::types::Op;
 use std::alloc::Global;
@@ -26,7 +27,7 @@ pub enum Place {
     Delivering { place: usize },
     /// The blocks of a file are freed and its inode written back, which stands at that place of the
     /// table; the reply is known.
-    Truncating { place: usize, trunc: Itrunc },
+    Truncating { place: usize, trunc: Driven<Itrunc> },
     /// The bytes of a file are written, whose inode stands at that place of the table, and then the
     /// inode is written back. With that the reply is known.
     Writing { place: usize, writing: Writei },

@@ -5,8 +5,9 @@ ghost use Rattle.inodes.specs.Writei.{MayWrite, WriteSteps, MapsOn, GetsNext, Wr
 ghost use Rattle.inodes.specs.declared.writei.WriteAt.TheVariants as write_at;
 
 use crate::Iupdate;
-use blockmap::{BmapAlloc, MappedForWriting, Progress, get_block, map_for_writing, put_block};
+use blockmap::{BmapAlloc, MappedForWriting, map_for_writing};
 use blocks::Disk;
+use driver::{Progress, get_block, put_block};
 use model::types::Dinode;
 use std::marker::Model;
 use wal::Volume;

@@ -18,7 +18,7 @@ use Rattle.inodes.specs.declared.tasks.Place.TheVariants as place
 use Rattle.inodes.specs.declared.itrunc.TruncAt.{TruncAt}
 use Rattle.inodes.specs.declared.itrunc.TruncAt.TheVariants as trunc_at
 use Rattle.inodes.specs.Holding.{HasGivenUp, frees_left, uses_left}
-use Rattle.inodes.specs.Itrunc.{TruncState}
+use Rattle.inodes.specs.declared.itrunc.Itrunc.{Itrunc}
 use Rattle.inodes.specs.LockState.{locks_left}
 use Rattle.inodes.specs.Looks.{AreLooking, LooksAt, IsAtRead}
 use Rattle.inodes.specs.Places.{is_over, looks_left, steps_left}
@@ -74,14 +74,14 @@ few_uses (Some slot) = omega arith
 
 -- who frees a file's blocks has so few steps left: two for each of 269 blocks, one that gets the
 -- block of addresses, one that releases it, and two for the inode
-pub few_frees : (cur : Image) (m : TruncState) (a : TruncAt) → HasGivenUp cur m a →
-    frees_left m.given_up a ≤ 542
-few_frees cur m (trunc_at.Direct k f) given = let most = few_uses f.slot in omega (arith, most)
-few_frees cur m trunc_at.Getting given = omega arith
-few_frees cur m (trunc_at.Entry i f) given = let most = few_uses f.slot in omega (arith, most)
-few_frees cur m (trunc_at.Releasing i) given = omega arith
-few_frees cur m (trunc_at.Indirect f) given = let most = few_uses f.slot in omega (arith, most)
-few_frees cur m (trunc_at.Writing u) given = let most = few_uses u.slot in omega (arith, most)
+pub few_frees : (cur : Image) (m : Itrunc) (used : Option ℕ) (a : TruncAt) →
+    HasGivenUp cur m a → frees_left m.given_up used a ≤ 542
+few_frees cur m used (trunc_at.Direct k) given = let most = few_uses used in omega (arith, most)
+few_frees cur m used trunc_at.Loading given = omega arith
+few_frees cur m used trunc_at.Entry given = let most = few_uses used in omega (arith, most)
+few_frees cur m used trunc_at.Unloading given = omega arith
+few_frees cur m used trunc_at.Indirect given = let most = few_uses used in omega (arith, most)
+few_frees cur m used trunc_at.Updating given = let most = few_uses used in omega (arith, most)
 
 few_allocs : (a : AllocAt) → alloc_left a ≤ 4
 few_allocs (alloc_at.Looking slot) = let most = few_uses slot in omega (arith, most)
@@ -114,7 +114,7 @@ few_steps cur table t (place.Reading k m) few looks =
     omega (arith, most)
 few_steps cur table t (place.Delivering k) few looks = omega arith
 few_steps cur table t (place.Truncating k m) few looks =
-    let most = few_frees cur m m.at looks.given in
+    let most = few_frees cur m.machine m.used m.machine.at looks.given in
     omega (arith, most)
 few_steps cur table t (place.Writing k m) few looks =
     let all = looks.all in

@@ -6,7 +6,7 @@ use Rattle.loose.specs.Held.{IsClaimedNow, Claim, frees, grows}
 use Rattle.inodes.specs.declared.tasks.Place.{Place}
 use Rattle.inodes.specs.declared.tasks.Place.TheVariants as place
 use Rattle.inodes.specs.Holding.{claim_by, claims_of, held_of, claim_of}
-use Rattle.inodes.specs.Itrunc.{TruncState}
+use Rattle.inodes.specs.Itrunc.{Freeing}
 use Rattle.inodes.specs.Table.{or_else}
 use Rattle.inodes.specs.Tasks.{TaskState, task, no_task}
 use Rattle.model.specs.declared.types.operations.Op.{Op}
@@ -23,7 +23,7 @@ HoldsAlone ts p i = (q : ℕ) → q ≢ p → claim_of (task ts q) i ≡ None
 -- that entry of the table
 abbrev pub IsHolding : Place → ℕ → ℕ → Type 0
 IsHolding a entry i =
-    ((m : TruncState) × (a ≡ place.Truncating entry m) × (m.number ≡ i))
+    ((m : Freeing) × (a ≡ place.Truncating entry m) × (m.machine.number ≡ i))
     ⊎ ((m : WriteState) × (a ≡ place.Writing entry m) × (m.number ≡ i))
 
 -- so does who holds a number
@@ -42,15 +42,15 @@ holding_is op (place.Taking m) i h claimed = absurd (cc claimed)
 holding_is op (place.Reading k m) i h claimed = absurd (cc claimed)
 holding_is op (place.Delivering k) i h claimed = absurd (cc claimed)
 holding_is op (place.Truncating k m) i h claimed =
-    (k, inl (m, refl, claims_own m.number i (frees (held_of m)) h claimed))
+    (k, inl (m, refl, claims_own m.machine.number i (frees (held_of m.machine)) h claimed))
 holding_is op (place.Writing k m) i h claimed =
     (k, inr (m, refl, claims_own m.number i (grows (growth_of m (bytes_by op))) h claimed))
 holding_is op (place.Leaving k) i h claimed = absurd (cc claimed)
 
 -- the freeing of a file's blocks holds its number
-pub own_holds : (k : ℕ) (m : TruncState) →
-    claim_by None (place.Truncating k m) m.number ≡ Some (frees (held_of m))
-own_holds k m = rw (eq-eqb m.number m.number refl) refl
+pub own_holds : (k : ℕ) (m : Freeing) →
+    claim_by None (place.Truncating k m) m.machine.number ≡ Some (frees (held_of m.machine))
+own_holds k m = rw (eq-eqb m.machine.number m.machine.number refl) refl
 
 -- and so does the writing of its bytes
 pub own_grows : (op : Option Op) (k : ℕ) (m : WriteState) →

@@ -19,7 +19,8 @@ use Rattle.inodes.specs.declared.tasks.Place.TheVariants as place
 use Rattle.inodes.specs.Grips.{grip, locked_grip}
 use Rattle.inodes.specs.Looks.{AreLooking, LooksAt, HasAllRead, HoldsInode, IsRead, IsLate, IsWrite}
 use Rattle.inodes.specs.Holding.{IsTruncating, trunc_op}
-use Rattle.inodes.specs.Itrunc.{TruncState}
+use Rattle.inodes.specs.Itrunc.{Freeing}
+use Rattle.inodes.specs.declared.itrunc.Itrunc.{Itrunc}
 use Rattle.inodes.specs.Places.{asked, asked_by, grip_by, grip_of, grips_of, is_over, owes_reply, is_unturned}
 use Rattle.inodes.specs.Table.{TableState, copy_at}
 use Rattle.inodes.specs.Tasks.{TaskState, task}
@@ -126,7 +127,7 @@ locks_own (place.Writing k m) i is = (k, refl)
 locks_own (place.Leaving k) i unlike = absurd (cc unlike)
 
 -- the operation that frees a file's blocks asks for its number
-asked_to_free : (m : TruncState) → asked (trunc_op m) ≡ m.number
+asked_to_free : (m : Itrunc) → asked (trunc_op m) ≡ m.number
 asked_to_free m = by_end m.removes
   where
     by_end : (removes : Bool) → asked (cond removes (Remove m.number) (Trunc m.number)) ≡ m.number
@@ -229,23 +230,23 @@ module _ (cur : Image) (t : TableState) (ts : List TaskState) (are : AreLooking 
 
   -- ---- the freeing of a file's blocks
 
-  pub truncating_is : (p k : ℕ) (m : TruncState) → (task ts p).place ≡ place.Truncating k m →
+  pub truncating_is : (p k : ℕ) (m : Freeing) → (task ts p).place ≡ place.Truncating k m →
       IsTruncating cur t.inode_count (task ts p) m
   truncating_is p k m at = subst (λ (a : Place). LooksAt cur t (task ts p) a) at (are.stand p)
 
   -- its operation asks for its number
-  pub trunc_number : (p k : ℕ) (m : TruncState) → (task ts p).place ≡ place.Truncating k m →
-      asked_by (task ts p).op ≡ m.number
-  trunc_number p k m at = ap asked_by (truncating_is p k m at).op ∙ asked_to_free m
+  pub trunc_number : (p k : ℕ) (m : Freeing) → (task ts p).place ≡ place.Truncating k m →
+      asked_by (task ts p).op ≡ m.machine.number
+  trunc_number p k m at = ap asked_by (truncating_is p k m at).op ∙ asked_to_free m.machine
 
   -- which operations may name
-  pub trunc_names : (p k : ℕ) (m : TruncState) → (task ts p).place ≡ place.Truncating k m →
-      IsTrue (is_number t.inode_count m.number)
+  pub trunc_names : (p k : ℕ) (m : Freeing) → (task ts p).place ≡ place.Truncating k m →
+      IsTrue (is_number t.inode_count m.machine.number)
   trunc_names p k m at = (truncating_is p k m at).number
 
   -- and it has locked it
-  pub trunc_locks : (p k : ℕ) (m : TruncState) → (task ts p).place ≡ place.Truncating k m →
-      grip_of (task ts p) ≡ Some (locked_grip k m.number)
+  pub trunc_locks : (p k : ℕ) (m : Freeing) → (task ts p).place ≡ place.Truncating k m →
+      grip_of (task ts p) ≡ Some (locked_grip k m.machine.number)
   trunc_locks p k m at =
       ap (λ (a : Place). grip_by a (asked_by (task ts p).op)) at
       ∙ ap (λ (i : ℕ). Some (locked_grip k i)) (trunc_number p k m at)

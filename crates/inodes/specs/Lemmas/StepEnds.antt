@@ -1,6 +1,6 @@
 -- How the steps of any task end.
 use Rattle.std.proofs.Common.{◌≡◌, ◌⊎◌, ⊎_elim, inl, inr, ℕ, Bool, true, false, List, refl, sym, ◌∙◌, ap, subst, Option, Some, None, length}
-use Rattle.std.specs.Prelude.{IsSome, slice_index}
+use Rattle.std.specs.Prelude.{IsSome}
 use Rattle.std.proofs.lemmas.Bool.{false≢true}
 use Rattle.blocks.specs.declared.disk.Disk.{Ghosts}
 use Rattle.blocks.specs.declared.errors.DiskFault.{DiskFault}
@@ -14,14 +14,13 @@ use Rattle.model.specs.declared.types.operations.TaskProgress.TheVariants as pro
 use Rattle.model.specs.Layout.{inode_of, inode_block}
 use Rattle.wal.specs.Machine.{used_by}
 use Rattle.wal.specs.Volume.{VolumeState}
-use Rattle.wal.specs.declared.types.Get.{Get}
-use Rattle.wal.specs.declared.types.Get.TheVariants as get
-use Rattle.blockmap.specs.Bfree.{FreeState, Frees}
 use Rattle.blockmap.specs.Bmap.{EntryState, LooksUp, some_address}
-use Rattle.blockmap.specs.Getting.{GetsFor}
+use Rattle.driver.specs.Driver.{Drives}
+use Rattle.driver.specs.Lemmas.Others.{drives_fails, gets_fails}
+use Rattle.driver.specs.Next.{block_of_next, used_now}
 use Rattle.blockmap.specs.Target.{block_of, progress_behind}
-use Rattle.blockmap.specs.declared.progress.Progress.{Progress}
-use Rattle.blockmap.specs.declared.progress.Progress.TheVariants as machine
+use Rattle.driver.specs.declared.progress.Progress.{Progress}
+use Rattle.driver.specs.declared.progress.Progress.TheVariants as machine
 use Rattle.blockmap.specs.declared.target.Target.{Target}
 use Rattle.blockmap.specs.declared.target.Target.TheVariants as target
 use Rattle.inodes.specs.declared.ilock.LockAt.{LockAt}
@@ -30,13 +29,11 @@ use Rattle.inodes.specs.declared.tasks.Place.{Place}
 use Rattle.inodes.specs.declared.tasks.Place.TheVariants as place
 use Rattle.inodes.specs.Goes.{Goes, GoesFrom, Shown, shown_of, progress_of_lock, place_of_lock, progress_of_read, place_of_reading, progress_of_trunc, place_of_trunc, progress_of_write, place_of_writing}
 use Rattle.inodes.specs.Ilock.{LockSteps, Locks}
-use Rattle.inodes.specs.declared.itrunc.TruncAt.{TruncAt}
-use Rattle.inodes.specs.declared.itrunc.TruncAt.TheVariants as trunc_at
-use Rattle.inodes.specs.Itrunc.{FreesOne, TruncState, TruncSteps, last_inode_of, progress_among}
+use Rattle.inodes.specs.Itrunc.{itrunc, trunc_next}
 use Rattle.inodes.specs.Iupdate.{UpdateState, Updates}
 use Rattle.inodes.specs.LockState.{LockState, place_of}
 use Rattle.inodes.specs.Looks.{CanTake, LooksAt}
-use Rattle.inodes.specs.Places.{is_over, owes_reply, is_unturned, block_at_place, block_of_trunc}
+use Rattle.inodes.specs.Places.{is_over, owes_reply, is_unturned, block_at_place}
 use Rattle.inodes.specs.Readi.{ReadState, Works}
 use Rattle.inodes.specs.Store.{StoreState, CanBegin, Stands, current_of}
 use Rattle.inodes.specs.Table.{TableState, holder_at, copy_at}
@@ -253,15 +250,6 @@ module _ {D N : Type 0} (disk : Ghosts D N) (s : StoreState D) (p : ℕ) (op : O
   logs_of (place.Writing k m) unfinished stands goes = inl (subst IsSome (sym stands.logged.used) refl)
   logs_of (place.Leaving k) unfinished stands goes = inr (ap (λ (v : VolumeState D). v.log) goes.1.volume)
 
--- the block at which a machine fails that gets it
-gets_fails : {D N T : Type 0} (disk : Ghosts D N) (v : VolumeState D) (p b : ℕ) (fault : DiskFault) (slot : Option ℕ) (w : VolumeState D) → GetsFor {T = T} disk v p b (machine.Fault fault) slot w → fault.0 ≡ b
-gets_fails {T = T} disk v p b fault slot w got = by_answer got.answer got.gives got.gets.failed
-  where
-    by_answer : (x : Get) → machine.Fault fault ≡ Rattle.blockmap.specs.Getting.progress_of {T = T} x → Rattle.wal.specs.Volume.OnFault x (Rattle.wal.specs.Volume.FailsToFill v.buffers w.buffers p b) → fault.0 ≡ b
-    by_answer (get.Got i) is failed = absurd (cc is)
-    by_answer (get.Sleeping why) is failed = absurd (cc is)
-    by_answer (get.Fault other) is failed = let same : fault ≡ other = cc is in ap (λ (f : DiskFault). f.0) same ∙ failed.block
-
 module _ {D N : Type 0} (disk : Ghosts D N) (s : StoreState D) (p : ℕ) (op : Op) (fault : DiskFault) (t : StoreState D) where
   -- a machine that reads an entry
   entry_fails : (e : EntryState) (x : Progress (Option ℕ)) (e2 : EntryState) → LooksUp disk e.slot s.volume p e x e2 t.volume → machine.Fault fault ≡ progress_behind x → fault.0 ≡ e.indirect
@@ -290,28 +278,9 @@ module _ {D N : Type 0} (disk : Ghosts D N) (s : StoreState D) (p : ℕ) (op : O
   taking_fails (lock_at.Read k None) m x u locks = gets_fails disk s.volume p (inode_block m.number) fault locks.0.0 t.volume locks.0.1
   taking_fails (lock_at.Read k (Some i)) m x u locks = let no = locks.0.answer in absurd (cc no)
 
-  -- a machine that frees a block
-  frees_fails : (f : FreeState) (m : TruncState) (here : FreeState → TruncAt) (behind n : TruncState) → FreesOne disk s.volume p m f here behind (machine.Fault fault) n t.volume → fault.0 ≡ f.bitmap
-  frees_fails f m here behind n frees = by_slot f.slot frees.answer frees.gives frees.frees
-    where
-      by_slot : (o : Option ℕ) (x : Progress (Unit {0})) → machine.Fault fault ≡ progress_among x → Frees disk o s.volume p f x frees.now t.volume → fault.0 ≡ f.bitmap
-      by_slot None machine.Moved is gets = absurd (cc is)
-      by_slot None (machine.Sleeping why) is gets = absurd (cc is)
-      by_slot None (machine.Over out) is gets = absurd (cc is)
-      by_slot None (machine.Fault other) is gets = let same : fault ≡ other = cc is in ap (λ (f : DiskFault). f.0) same ∙ gets_fails disk s.volume p f.bitmap other frees.now.slot t.volume gets.1
-      by_slot (Some i) x is clears = let no = is ∙ ap progress_among clears.0 in absurd (cc no)
-
   updates_fails : (o : Option ℕ) (u x : UpdateState) (d : Dinode) → Updates disk o s.volume p u d (machine.Fault fault) x t.volume → fault.0 ≡ inode_block u.number
   updates_fails None u x d gets = gets_fails disk s.volume p (inode_block u.number) fault x.slot t.volume gets.1
   updates_fails (Some i) u x d writes = let no = writes.0 in absurd (cc no)
-
-  truncating_fails : (a : TruncAt) (m x : TruncState) → TruncSteps disk a s.volume p m (machine.Fault fault) x t.volume → fault.0 ≡ block_of_trunc m a
-  truncating_fails (trunc_at.Direct k f) m x truncs = frees_fails f m _ _ x truncs
-  truncating_fails trunc_at.Getting m x truncs = gets_fails disk s.volume p (slice_index m.inode.addrs 12) fault truncs.0 t.volume truncs.1
-  truncating_fails (trunc_at.Entry i f) m x truncs = frees_fails f m _ _ x truncs
-  truncating_fails (trunc_at.Releasing i) m x truncs = let no = truncs.0 in absurd (cc no)
-  truncating_fails (trunc_at.Indirect f) m x truncs = frees_fails f m _ _ x truncs
-  truncating_fails (trunc_at.Writing u) m x truncs = updates_fails u.slot u truncs.0 (last_inode_of m) truncs.1
 
   -- a machine that takes a block
   allocs_fail : (a : AllocAt) (t2 x : AllocState) → Allocs disk a s.volume p t2 (machine.Fault fault) x t.volume → fault.0 ≡ block_of_alloc t2 a
@@ -393,14 +362,14 @@ module _ {D N : Type 0} (disk : Ghosts D N) (s : StoreState D) (p : ℕ) (op : O
       by_answer (machine.Fault other) is works = let same : fault ≡ other = cc is in
           reading_fails m.target m goes.0.now (subst (λ (f : DiskFault). Works disk m.target s.volume p m (machine.Fault f) t.volume goes.0.now) (sym same) works)
   fails_at (place.Delivering k) goes = let no = goes.gives in absurd (cc no)
-  fails_at (place.Truncating k m) goes = by_answer goes.answer goes.gives goes.truncs
+  fails_at (place.Truncating k m) goes = by_answer goes.answer goes.gives goes.drives
     where
-      by_answer : (x : Progress (Unit {0})) → progress.Fault fault ≡ progress_of_trunc x → TruncSteps disk m.at s.volume p m x goes.now t.volume → fault.0 ≡ block_of_trunc m m.at
-      by_answer machine.Moved is truncs = absurd (cc is)
-      by_answer (machine.Sleeping why) is truncs = absurd (cc is)
-      by_answer (machine.Over out) is truncs = absurd (cc is)
-      by_answer (machine.Fault other) is truncs = let same : fault ≡ other = cc is in
-          truncating_fails m.at m goes.now (subst (λ (f : DiskFault). TruncSteps disk m.at s.volume p m (machine.Fault f) goes.now t.volume) (sym same) truncs)
+      by_answer : (x : Progress (Unit {0})) → progress.Fault fault ≡ progress_of_trunc x → Drives itrunc disk (used_now (trunc_next m) m.kept m.used) s.volume p m x goes.now t.volume → fault.0 ≡ block_of_next (trunc_next m)
+      by_answer machine.Moved is drives = absurd (cc is)
+      by_answer (machine.Sleeping why) is drives = absurd (cc is)
+      by_answer (machine.Over out) is drives = absurd (cc is)
+      by_answer (machine.Fault other) is drives = let same : fault ≡ other = cc is in
+          ap (λ (f : DiskFault). f.0) same ∙ drives_fails itrunc disk s.volume t.volume p m goes.now (machine.Fault other) (used_now (trunc_next m) m.kept m.used) drives other refl
   fails_at (place.Writing k m) goes = by_answer goes.answer goes.gives goes.writes
     where
       by_answer : (x : Progress (Unit {0})) → progress.Fault fault ≡ progress_of_write m.done x → WriteSteps disk m.at s.volume p m (bytes_of op) x goes.now t.volume → fault.0 ≡ block_of_write m m.at

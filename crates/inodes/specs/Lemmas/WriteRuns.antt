@@ -17,7 +17,7 @@ use Rattle.wal.specs.declared.types.Get.TheVariants as get
 use Rattle.blockmap.specs.Balloc.{AllocState, Allocs, IsLowestClear, TakesLowest, first_alloc, lowest_in}
 use Rattle.blockmap.specs.Bmap.{some_address}
 use Rattle.blockmap.specs.BmapAlloc.{FindsEntry, MapState, MapSteps, TakesOne, after_behind, after_indirect, behind_at, entry_for, first_way, indirect_at, indirect_of}
-use Rattle.blockmap.specs.Getting.{progress_of}
+use Rattle.driver.specs.Getting.{progress_of}
 use Rattle.blockmap.specs.Lemmas.Bitmap.{lowest_clear_is_lowest}
 use Rattle.blockmap.specs.Map.{mapped_for_writing}
 use Rattle.blockmap.specs.declared.balloc.AllocAt.{AllocAt}
@@ -25,15 +25,15 @@ use Rattle.blockmap.specs.declared.balloc.AllocAt.TheVariants as alloc_at
 use Rattle.blockmap.specs.declared.bmap_alloc.MapAt.{MapAt}
 use Rattle.blockmap.specs.declared.bmap_alloc.MapAt.TheVariants as map_at
 use Rattle.blockmap.specs.declared.mapping.MappedForWriting.TheVariants as for_writing
-use Rattle.blockmap.specs.declared.progress.Progress.{Progress}
-use Rattle.blockmap.specs.declared.progress.Progress.TheVariants as machine
+use Rattle.driver.specs.declared.progress.Progress.{Progress}
+use Rattle.driver.specs.declared.progress.Progress.TheVariants as machine
 use Rattle.inodes.specs.declared.tasks.Place.TheVariants as place
 use Rattle.inodes.specs.declared.writei.Extent.{Extent}
 use Rattle.inodes.specs.declared.writei.WriteAt.{WriteAt}
 use Rattle.inodes.specs.declared.writei.WriteAt.TheVariants as write_at
 use Rattle.inodes.specs.Goes.{WritesOn, place_of_writing, progress_of_write}
 use Rattle.inodes.specs.Growing.{TakesIn}
-use Rattle.inodes.specs.Itrunc.{first_update}
+use Rattle.inodes.specs.Iupdate.{first_update}
 use Rattle.inodes.specs.Lemmas.Runs.{IsAt, goes_from, nothing_behind, seen_first, seen_later}
 use Rattle.inodes.specs.Runs.{StepMade, IsRun, EndsWith}
 use Rattle.inodes.specs.Store.{StoreState, current_of}

@@ -5,7 +5,7 @@ use Rattle.model.specs.Codec.{with_entry}
 use Rattle.wal.specs.Joint.{seen}
 use Rattle.blockmap.specs.BmapAlloc.{MapState, MayMapAt, indirect_of}
 use Rattle.blockmap.specs.Lemmas.Leading.{entry_set, leads_behind}
-use Rattle.blockmap.specs.Lemmas.Putting.{writes_put}
+use Rattle.driver.specs.Lemmas.Putting.{writes_put}
 use Rattle.blockmap.specs.declared.bmap_alloc.MapAt.{MapAt}
 use Rattle.blockmap.specs.declared.bmap_alloc.MapAt.TheVariants as map_at
 use Rattle.blockmap.proofs.bmap_alloc.BmapAlloc.set_entry.Goals as goal

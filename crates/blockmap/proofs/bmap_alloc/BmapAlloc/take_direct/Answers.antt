@@ -5,8 +5,8 @@ use Rattle.blockmap.specs.BmapAlloc.{LeadsThere, MapState, MayMapAt}
 use Rattle.blockmap.specs.Lemmas.Leading.{leads_direct}
 use Rattle.blockmap.specs.declared.bmap_alloc.MapAt.{MapAt}
 use Rattle.blockmap.specs.declared.bmap_alloc.MapAt.TheVariants as map_at
-use Rattle.blockmap.specs.declared.progress.Progress.{Progress}
-use Rattle.blockmap.specs.declared.progress.Progress.TheVariants as progress
+use Rattle.driver.specs.declared.progress.Progress.{Progress}
+use Rattle.driver.specs.declared.progress.Progress.TheVariants as progress
 use Rattle.blockmap.proofs.bmap_alloc.BmapAlloc.take_direct.Goals as goal
 
 pub returns-in-Over-Some-clause-there : goal.returns-in-Over-Some-clause-there

@@ -7,7 +7,7 @@ use Rattle.bcache.specs.Buffers.{block_or_zero, buffer}
 use Rattle.wal.specs.Joint.{seen}
 use Rattle.wal.specs.Machine.{noted}
 use Rattle.wal.specs.Volume.{VolumeState, Holds}
-use Rattle.blockmap.specs.Getting.{Puts, WritesBlock, block_at_slot, with_block_written}
+use Rattle.driver.specs.Getting.{Puts, WritesBlock, block_at_slot, with_block_written}
 
 -- block b is written, where those bytes make it the new one
 pub writes_put : {D N : Type 0} (disk : Ghosts D N) (v : VolumeState D) (p i b at : ℕ)

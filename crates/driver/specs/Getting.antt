@@ -10,8 +10,8 @@ use Rattle.wal.specs.Machine.{LogState, noted, noted_cache}
 use Rattle.wal.specs.Volume.{VolumeState, Holds, Gets, ReadsFor, after_change}
 use Rattle.wal.specs.declared.types.Get.{Get}
 use Rattle.wal.specs.declared.types.Get.TheVariants as get
-use Rattle.blockmap.specs.declared.progress.Progress.{Progress}
-use Rattle.blockmap.specs.declared.progress.Progress.TheVariants as progress
+use Rattle.driver.specs.declared.progress.Progress.{Progress}
+use Rattle.driver.specs.declared.progress.Progress.TheVariants as progress
 
 -- what the volume's answer is to a machine
 abbrev pub progress_of : {T : Type 0} → Get → Progress T

@@ -4,7 +4,7 @@ ghost use Rattle.bcache.specs.Buffers.{buffer};
 ghost use Rattle.wal.specs.Joint.{seen};
 ghost use Rattle.wal.specs.Machine.{HasRoom, used_by};
 ghost use Rattle.wal.specs.Volume.{Holds};
-ghost use Rattle.blockmap.specs.Getting.{GetsFor, Releases, Puts, block_at_slot};
+ghost use Rattle.driver.specs.Getting.{GetsFor, Releases, Puts, block_at_slot};
 
 use crate::Progress;
 use blocks::Disk;

@@ -1,0 +1,39 @@
+-- What a driven machine has got.
+use Rattle.std.specs.Prelude.{◌≡◌, ◌≢◌, ◌⊎◌, ℕ, Option, Some, None}
+use Rattle.bcache.specs.Buffers.{Buffers}
+use Rattle.wal.specs.Held.{HoldsBlock}
+use Rattle.driver.specs.declared.driving.Got.{Got}
+use Rattle.driver.specs.declared.machine.Next.{Next}
+use Rattle.driver.specs.declared.machine.Next.TheVariants as next
+
+-- process p holds the block that is kept, if there is one
+abbrev pub HasKept : Buffers → ℕ → Option Got → Type 0
+HasKept c p None = Unit {0}
+HasKept c p (Some g) = HoldsBlock c p g.block g.slot
+
+-- and the one that is used next, where it was got
+abbrev pub HasUsed : Buffers → ℕ → Next → Option ℕ → Type 0
+HasUsed c p (next.Use b) None = Unit {0}
+HasUsed c p (next.Use b) (Some i) = HoldsBlock c p b i
+HasUsed c p (next.Keep b) used = Unit {0}
+HasUsed c p next.Kept used = Unit {0}
+
+abbrev pub slot_kept : Option Got → Option ℕ
+slot_kept None = None
+slot_kept (Some g) = Some g.slot
+
+abbrev pub slot_used : Next → Option ℕ → Option ℕ
+slot_used (next.Use b) used = used
+slot_used (next.Keep b) used = None
+slot_used next.Kept used = None
+
+-- a slot that the machine has got
+abbrev pub IsGot : Next → Option Got → Option ℕ → ℕ → Type 0
+IsGot a kept used i = (slot_kept kept ≡ Some i) ⊎ (slot_used a used ≡ Some i)
+
+-- the process holds what its machine has got, in two slots
+pub record HoldsBlocks (c : Buffers) (p : ℕ) (a : Next) (kept : Option Got) (used : Option ℕ)
+    : Type 0 where
+  pub has_kept : HasKept c p kept
+  pub has_used : HasUsed c p a used
+  pub apart : (i : ℕ) → slot_used a used ≡ Some i → slot_kept kept ≢ Some i
