@@ -1,6 +1,6 @@
 -- What is known of a disk for which a command was refused, by what is known where nothing was
 -- printed.
-use Rattle.std.proofs.Common.{ℕ, List, Option, inl, inr, ⊎_elim}
+use Rattle.std.proofs.Common.{ℕ, Bool, List, Option, inl, inr, ⊎_elim}
 use Rattle.blocks.specs.declared.disk.Disk.{Ghosts}
 use Rattle.blocks.specs.declared.faulty.FaultyDisk.{FaultyDisk}
 use Rattle.blocks.specs.declared.file.FileDisk.{FileDisk}
@@ -13,7 +13,7 @@ use Rattle.texts.specs.declared.refusal.Refusal.TheVariants.{File, Mkfs, Check, 
 use Rattle.scripts.specs.declared.schedule.Word.{Word}
 use Rattle.scripts.specs.declared.script.Task.{Task}
 use Rattle.runner.specs.Running.{IsNotRun as IsNotRunOver}
-use Rattle.xvfs.specs.Files.{IsNotRun, IsUnreplayed}
+use Rattle.images.specs.Files.{IsNotRun, IsUnreplayed, OnDiskRefusal}
 
 module _ {D N : Type 0} (disk : Ghosts D N) (d e : D) (old new : Option (List ℕ)) (none other : Type 0) (f : none → other) where
   pub not_shown : (i : ℕ) (r : Refusal) → IsNotShown disk d e i old new none r → IsNotShown disk d e i old new other r
@@ -72,3 +72,21 @@ pub not_run : {F N : Type 0} (disk : Ghosts (FileDisk F) N) (d e : FileDisk F) (
     → (r : Refusal) → IsNotRun disk old new none d e r → IsNotRun disk old new other d e r
 not_run disk d e old new none other f r why =
     record { tasks = why.tasks; processes = why.processes; refused = not_run_over disk d e old new none other f why.tasks why.processes r why.refused }
+
+module _ {F N : Type 0} (remaining : F → Option (List ℕ)) (disk : Ghosts (FileDisk F) N) (holds : Bool) where
+  -- what follows of a refusal, where no disk was opened and where one was
+  pub refused_so : (none other : Type 0) (P Q : FileDisk F → FileDisk F → Refusal → Type 0) → (none → other) → ((d e : FileDisk F) (r : Refusal) → P d e r → Q d e r)
+      → (r : Refusal) → OnDiskRefusal remaining disk holds none P r → OnDiskRefusal remaining disk holds other Q r
+  refused_so none other P Q f g (Script fault) why = f why
+  refused_so none other P Q f g (Schedule fault) why = f why
+  refused_so none other P Q f g (File fault) why = f why
+  refused_so none other P Q f g (Mkfs fault) why = (why.0, (why.1.0, why.1.1, g _ _ (Mkfs fault) why.1.2))
+  refused_so none other P Q f g (Check fault) why = (why.0, (why.1.0, why.1.1, g _ _ (Check fault) why.1.2))
+  refused_so none other P Q f g (Recover fault) why = (why.0, (why.1.0, why.1.1, g _ _ (Recover fault) why.1.2))
+  refused_so none other P Q f g (Open fault) why = (why.0, (why.1.0, why.1.1, g _ _ (Open fault) why.1.2))
+  refused_so none other P Q f g (Disk fault) why = (why.0, (why.1.0, why.1.1, g _ _ (Disk fault) why.1.2))
+  refused_so none other P Q f g (Cat fault) why = (why.0, (why.1.0, why.1.1, g _ _ (Cat fault) why.1.2))
+  refused_so none other P Q f g (Run fault) why = (why.0, (why.1.0, why.1.1, g _ _ (Run fault) why.1.2))
+  refused_so none other P Q f g (Stops fault) why = (why.0, (why.1.0, why.1.1, g _ _ (Stops fault) why.1.2))
+  refused_so none other P Q f g (Input fault) why = (why.0, (why.1.0, why.1.1, g _ _ (Input fault) why.1.2))
+  refused_so none other P Q f g Output why = (why.0, (why.1.0, why.1.1, g _ _ Output why.1.2))

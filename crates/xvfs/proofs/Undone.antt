@@ -11,8 +11,7 @@ use Rattle.requests.specs.declared.words.Request.TheVariants.{Mkfs, Check, Recov
 use Rattle.xvfs.specs.Files.{FileGhosts}
 use Rattle.xvfs.specs.Requests.{IsMisused, IsNotDone, IsUndone, OnRefused}
 use Rattle.xvfs.specs.Status.{status_of}
-use Rattle.xvfs.proofs.Opened.{refused_so}
-use Rattle.xvfs.proofs.Refused.{not_run, not_shown, unreplayed}
+use Rattle.xvfs.proofs.Refused.{not_run, not_shown, refused_so, unreplayed}
 use Rattle.xvfs.proofs.Unchecked.{script_unchecked}
 
 module _ {F N : Type 0} (file : FileGhosts F N) (words : List (List ℕ)) (old new : Option (List ℕ)) where

@@ -9,7 +9,8 @@ use Rattle.requests.specs.Told.{AskForHelp, IsToldOf}
 use Rattle.requests.specs.declared.explanation.Explanation.{Explanation}
 use Rattle.requests.specs.declared.words.Request.{Request}
 use Rattle.requests.specs.declared.words.Request.TheVariants.{Mkfs, Check, Recover, Cat, Replay, Run, Stops}
-use Rattle.xvfs.specs.Files.{FileGhosts, IsCopied, IsMade, IsNotRun, IsReplayed, IsReported, IsRun, IsShown, IsUnreplayed, OnDiskRefusal, OpensDisk}
+use Rattle.images.specs.Files.{IsCopied, IsMade, IsNotRun, IsReplayed, IsReported, IsRun, IsShown, IsUnreplayed, OnDiskRefusal, OpensDisk}
+use Rattle.xvfs.specs.Files.{FileGhosts}
 use Rattle.xvfs.specs.Scripts.{ChecksScript, IsScriptUnchecked}
 use Rattle.xvfs.specs.Status.{IsHelp}
 use Rattle.xvfs.specs.declared.command.Failure.{Failure}

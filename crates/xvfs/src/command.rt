@@ -10,11 +10,10 @@ ghost use Rattle.xvfs.specs.declared.command.Failure.TheVariants as failure;
 ghost use Rattle.texts.specs.declared.refusal.Refusal.{Refusal as SomeRefusal};
 ghost use Rattle.requests.specs.declared.explanation.Explanation.{Explanation as SomeExplanation};
 
-use crate::images::{
-    cat_file, check_file, make_file, recover_file, replay_files, run_files, stops_files,
-};
 use crate::progress::Screen;
+use crate::stopping::stops_files;
 use blocks::{Disk, FaultyDisk, FileDisk};
+use images::{cat_file, check_file, make_file, recover_file, replay_files, run_files};
 use requests::{Explanation, Request, parse};
 use std::convert::AsStr;
 use std::io::Write;

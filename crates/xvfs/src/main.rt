@@ -5,9 +5,8 @@
 mod arguments;
 mod command;
 mod commands;
-mod images;
-mod inputs;
 mod progress;
+mod stopping;
 
 use command::{command, refuse};
 use commands::commands;

@@ -1,9 +1,9 @@
-use Rattle.std.proofs.Common.{false, rules}
+use Rattle.std.proofs.Common.{false}
 use Rattle.std.proofs.lemmas.Result.{IfErr-weaker}
 use Rattle.player.specs.Causes.{IsUnchecked}
-use Rattle.xvfs.proofs.Disks.{file_disk}
-use Rattle.xvfs.proofs.Opened.{opens_disk, refuses_disk}
-use Rattle.xvfs.proofs.images.check_file.Goals as goal
+use Rattle.images.specs.Lemmas.Disks.{file_disk}
+use Rattle.images.proofs.Opened.{opens_disk, refuses_disk}
+use Rattle.images.proofs.files.check_file.Goals as goal
 
 pub returns-clause-opened : goal.returns-clause-opened
 returns-clause-opened g c =

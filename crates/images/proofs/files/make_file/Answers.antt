@@ -1,7 +1,7 @@
 use Rattle.std.proofs.Common.{rules}
-use Rattle.xvfs.proofs.Disks.{file_disk}
-use Rattle.xvfs.proofs.Opened.{made_on}
-use Rattle.xvfs.proofs.images.make_file.Goals as goal
+use Rattle.images.specs.Lemmas.Disks.{file_disk}
+use Rattle.images.proofs.Opened.{made_on}
+use Rattle.images.proofs.files.make_file.Goals as goal
 
 pub returns-clause-made : goal.returns-clause-made
 returns-clause-made g c =

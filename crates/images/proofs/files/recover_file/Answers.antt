@@ -1,9 +1,8 @@
-use Rattle.std.proofs.Common.{rules}
 use Rattle.std.proofs.lemmas.Result.{IfErr-weaker}
 use Rattle.player.specs.Causes.{IsUnrecovered}
-use Rattle.xvfs.proofs.Disks.{file_disk}
-use Rattle.xvfs.proofs.Opened.{opens_disk, refuses_disk}
-use Rattle.xvfs.proofs.images.recover_file.Goals as goal
+use Rattle.images.specs.Lemmas.Disks.{file_disk}
+use Rattle.images.proofs.Opened.{opens_disk, refuses_disk}
+use Rattle.images.proofs.files.recover_file.Goals as goal
 
 pub returns-clause-opened : goal.returns-clause-opened
 returns-clause-opened g c =

@@ -9,8 +9,7 @@ ghost use Rattle.player.specs.Refusal.{IsOfCat, IsOfCheck, IsOfMkfs, IsOfRecover
 ghost use Rattle.player.specs.Showing.{IsNotShown};
 ghost use Rattle.runner.specs.Running.{IsOfRun};
 ghost use Rattle.sysring.specs.Frames.{AreWorkers};
-ghost use Rattle.xvfs.specs.Scripts.{ChecksScript, IsScriptUnchecked};
-ghost use Rattle.xvfs.specs.Files.{
+ghost use Rattle.images.specs.Files.{
   IsCopied,
   IsMade,
   IsNotRun,
@@ -26,7 +25,6 @@ ghost use Rattle.xvfs.specs.Files.{
 };
 
 use crate::inputs::{schedule_from, script_from};
-use crate::progress::{Meter, Screen};
 use blocks::{Disk, FaultyDisk, FileDisk};
 use layout::plan;
 use player::{cat_disk, check_disk, make_disk, recover_disk, replay_disk};
@@ -36,7 +34,6 @@ use std::io::{Read, Write};
 use std::rt::{Clock, Files};
 use std::sync::Wait;
 use std::thread::Threads;
-use stops::check_stops;
 use texts::Refusal;
 
 /// Makes an image of `size` blocks of 1024 bytes with `ninodes` inode numbers in a file at this
@@ -231,35 +228,4 @@ where
     let disk = open_disk(rt, image, sync)?;
     let (ran, _disk) = run_disk(rt, disk, tasks, processes, workers, out);
     ran
-}
-
-/// Makes the operations of a script in the turns of a schedule over a new image in memory, up to each
-/// of the run's writes, and checks the image that each of these stops leaves, as `check_stops`. A
-/// terminal at the standard error shows how far that is.
-///
-/// # Errors
-///
-/// A fault of the script, then of the schedule, then of `check_stops`.
-pub fn stops_files<R: Files + AllocGlobal + Clock + Screen, O: Write>(
-    rt: &R,
-    script: &str,
-    schedule: &str,
-    held: bool,
-    out: &mut O,
-) -> Result<(), Refusal>
-    ensures checked { OnOk result (ChecksScript held (O.contents out.old) (O.contents out.new)) }
-    ensures refused { IfErr result (IsScriptUnchecked held (out.new ≡ out.old)) }
-{
-    let tasks = script_from(rt, script).map_err(Refusal::Script)?;
-    let processes = processes(tasks.as_slice());
-    let words = schedule_from(rt, schedule, processes).map_err(Refusal::Schedule)?;
-    check_stops(
-        rt.alloc(),
-        tasks.as_slice(),
-        processes,
-        words.as_slice(),
-        held,
-        &mut Meter::new(rt),
-        out,
-    )
 }

@@ -1,9 +1,8 @@
-use Rattle.std.proofs.Common.{rules}
 use Rattle.std.proofs.lemmas.Result.{IfErr-weaker}
-use Rattle.xvfs.specs.Files.{IsUnreplayed}
-use Rattle.xvfs.proofs.Disks.{faulty_disk, file_disk}
-use Rattle.xvfs.proofs.Opened.{opens_disk, refuses_disk}
-use Rattle.xvfs.proofs.images.replay_files.Goals as goal
+use Rattle.images.specs.Files.{IsUnreplayed}
+use Rattle.images.specs.Lemmas.Disks.{faulty_disk, file_disk}
+use Rattle.images.proofs.Opened.{opens_disk, refuses_disk}
+use Rattle.images.proofs.files.replay_files.Goals as goal
 
 pub returns-clause-opened : goal.returns-clause-opened
 returns-clause-opened g c =

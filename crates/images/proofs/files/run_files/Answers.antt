@@ -1,9 +1,8 @@
-use Rattle.std.proofs.Common.{rules}
 use Rattle.std.proofs.lemmas.Result.{IfErr-weaker}
-use Rattle.xvfs.specs.Files.{IsNotRun}
-use Rattle.xvfs.proofs.Disks.{file_disk}
-use Rattle.xvfs.proofs.Opened.{opens_disk, refuses_disk}
-use Rattle.xvfs.proofs.images.run_files.Goals as goal
+use Rattle.images.specs.Files.{IsNotRun}
+use Rattle.images.specs.Lemmas.Disks.{file_disk}
+use Rattle.images.proofs.Opened.{opens_disk, refuses_disk}
+use Rattle.images.proofs.files.run_files.Goals as goal
 
 pub returns-clause-opened : goal.returns-clause-opened
 returns-clause-opened g c =

@@ -1,5 +1,5 @@
 -- The disk in a file that a command created or opened.
-use Rattle.std.specs.Prelude.{◌≡◌, ◌≤◌, ℕ, Bool, List, length, replicate, Option, Result, Ok, Err, OnOk}
+use Rattle.std.specs.Prelude.{◌≡◌, ℕ, Bool, List, replicate, Option, Result, Ok, Err, OnOk}
 use Rattle.std.specs.Io.KnownBytes.{Appends}
 use Rattle.blocks.specs.Block.{zero_block}
 use Rattle.blocks.specs.declared.disk.Disk.{Ghosts}
@@ -12,7 +12,7 @@ use Rattle.texts.specs.declared.refusal.Refusal.{Refusal}
 use Rattle.texts.specs.declared.refusal.Refusal.TheVariants.{File, Mkfs, Check, Recover, Open, Script, Schedule, Disk, Cat, Run, Stops, Input, Output}
 use Rattle.scripts.specs.declared.schedule.ScheduleFault.{ScheduleFault}
 use Rattle.scripts.specs.declared.script.ScriptFault.{ScriptFault}
-use Rattle.xvfs.specs.Files.{IsMade, IsOfFile, IsOpened, OnDiskRefusal, OpensDisk}
+use Rattle.images.specs.Files.{IsMade, IsOfFile, IsOpened, OnDiskRefusal, OpensDisk}
 use Rattle.std.proofs.Common.{subst, sym}
 
 -- what was made on the disk that was created, where it was
@@ -49,20 +49,3 @@ module _ {F N : Type 0} (remaining : F → Option (List ℕ)) (disk : Ghosts (Fi
   -- where none was opened, the refusal is of the file
   pub unopened_disk : (none : Type 0) (P : FileDisk F → FileDisk F → Refusal → Type 0) (r : Refusal) → IsOfFile r → none → OnDiskRefusal remaining disk holds none P r
   unopened_disk none P r is silent = subst (λ (q : Refusal). OnDiskRefusal remaining disk holds none P q) (sym is.1) silent
-
-  -- what follows of a refusal, where no disk was opened and where one was
-  pub refused_so : (none other : Type 0) (P Q : FileDisk F → FileDisk F → Refusal → Type 0) → (none → other) → ((d e : FileDisk F) (r : Refusal) → P d e r → Q d e r)
-      → (r : Refusal) → OnDiskRefusal remaining disk holds none P r → OnDiskRefusal remaining disk holds other Q r
-  refused_so none other P Q f g (Script fault) why = f why
-  refused_so none other P Q f g (Schedule fault) why = f why
-  refused_so none other P Q f g (File fault) why = f why
-  refused_so none other P Q f g (Mkfs fault) why = (why.0, (why.1.0, why.1.1, g _ _ (Mkfs fault) why.1.2))
-  refused_so none other P Q f g (Check fault) why = (why.0, (why.1.0, why.1.1, g _ _ (Check fault) why.1.2))
-  refused_so none other P Q f g (Recover fault) why = (why.0, (why.1.0, why.1.1, g _ _ (Recover fault) why.1.2))
-  refused_so none other P Q f g (Open fault) why = (why.0, (why.1.0, why.1.1, g _ _ (Open fault) why.1.2))
-  refused_so none other P Q f g (Disk fault) why = (why.0, (why.1.0, why.1.1, g _ _ (Disk fault) why.1.2))
-  refused_so none other P Q f g (Cat fault) why = (why.0, (why.1.0, why.1.1, g _ _ (Cat fault) why.1.2))
-  refused_so none other P Q f g (Run fault) why = (why.0, (why.1.0, why.1.1, g _ _ (Run fault) why.1.2))
-  refused_so none other P Q f g (Stops fault) why = (why.0, (why.1.0, why.1.1, g _ _ (Stops fault) why.1.2))
-  refused_so none other P Q f g (Input fault) why = (why.0, (why.1.0, why.1.1, g _ _ (Input fault) why.1.2))
-  refused_so none other P Q f g Output why = (why.0, (why.1.0, why.1.1, g _ _ Output why.1.2))

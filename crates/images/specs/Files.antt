@@ -1,0 +1,120 @@
+-- What became of the disk in a file that a command created or opened, where it was done and where
+-- refused.
+use Rattle.std.specs.Prelude.{◌≡◌, ◌≤◌, ℕ, Bool, List, length, replicate, Option, None}
+use Rattle.std.specs.Io.KnownBytes.{Appends}
+use Rattle.blocks.specs.Block.{zero_block}
+use Rattle.blocks.specs.Disk.{IsSettled}
+use Rattle.blocks.specs.File.{IsReadFrom}
+use Rattle.blocks.specs.FileDisk.{file_of}
+use Rattle.blocks.specs.declared.disk.Disk.{Ghosts}
+use Rattle.blocks.specs.declared.faulty.FaultyDisk.{FaultyDisk}
+use Rattle.blocks.specs.declared.faulty.Trap.{Trap}
+use Rattle.blocks.specs.declared.file.FileDisk.{FileDisk}
+use Rattle.layout.specs.Making.{Makes}
+use Rattle.model.specs.Files.{file_count, files_of}
+use Rattle.model.specs.Layout.{planned_super}
+use Rattle.model.specs.Log.{logged_count, recovered}
+use Rattle.model.specs.Verdict.{verdict}
+use Rattle.player.specs.Causes.{IsRecovered}
+use Rattle.player.specs.Opening.{IsNotReplayed, Replays}
+use Rattle.runner.specs.Running.{IsNotRun as IsNotRunOver, Runs}
+use Rattle.texts.specs.Output.{copied_text, numbers_text, report_text}
+use Rattle.player.specs.Showing.{Shows}
+use Rattle.texts.specs.declared.refusal.Refusal.{Refusal}
+use Rattle.blocks.specs.declared.errors.FileFault.{FileFault}
+use Rattle.texts.specs.declared.refusal.Refusal.TheVariants.{File, Schedule, Script}
+use Rattle.scripts.specs.declared.schedule.Word.{Word}
+use Rattle.scripts.specs.declared.script.Task.{Task}
+
+-- a disk of so many blocks of zeroes was created in a file, an image made on it, and its numbers
+-- printed
+pub record IsMade {F N : Type 0} (disk : Ghosts (FileDisk F) N) (size inode_count : ℕ)
+    (old new : Option (List ℕ)) : Type 0 where
+  pub created : FileDisk F
+  pub now : FileDisk F
+  pub zeroes : disk.image created ≡ replicate size zero_block
+  pub makes : Makes disk size inode_count created now
+  pub printed : Appends old new (numbers_text (planned_super size inode_count))
+
+-- The disk that a file holds, just opened: its blocks were read from the file, one after another,
+-- where that tells of its bytes. It holds writes back, or doesn't, and now holds none.
+pub record IsOpened {F N : Type 0} (remaining : F → Option (List ℕ)) (disk : Ghosts (FileDisk F) N)
+    (holds : Bool) (d : FileDisk F) : Type 0 where
+  pub some : 1 ≤ length (disk.image d)
+  pub at_most : length (disk.image d) ≤ 8191
+  pub bytes : IsReadFrom remaining (file_of d) (disk.image d)
+  pub kind : disk.holding (disk.name d) ≡ holds
+  pub calm : IsSettled (disk.image d) (disk.leaves d (disk.moment d))
+
+-- the disk of a file was opened, and is now another, as P says
+abbrev pub OpensDisk : {F N : Type 0} → (F → Option (List ℕ)) → Ghosts (FileDisk F) N → Bool
+    → (FileDisk F → FileDisk F → Type 0) → Type 0
+OpensDisk {F} remaining disk holds P = (opened : FileDisk F) × ((now : FileDisk F)
+    × IsOpened remaining disk holds opened × P opened now)
+
+-- it was checked, and the report of it printed
+abbrev pub IsReported : {F N : Type 0} → Ghosts (FileDisk F) N → Option (List ℕ) → Option (List ℕ)
+    → FileDisk F → FileDisk F → Type 0
+IsReported disk old new d e = (disk.image e ≡ disk.image d) × (verdict (disk.image d) ≡ None)
+    × Appends old new (report_text (logged_count (disk.image d))
+    (file_count (files_of (recovered (disk.image d)))))
+
+-- it was recovered, and how many blocks were copied was printed
+abbrev pub IsCopied : {F N : Type 0} → Ghosts (FileDisk F) N → Option (List ℕ) → Option (List ℕ)
+    → FileDisk F → FileDisk F → Type 0
+IsCopied disk old new d e = IsRecovered disk (logged_count (disk.image d)) d e
+    × Appends old new (copied_text (logged_count (disk.image d)))
+
+-- it was recovered, and the bytes of its file of a number written
+abbrev pub IsShown : {F N : Type 0} → Ghosts (FileDisk F) N → ℕ → Option (List ℕ)
+    → Option (List ℕ) → FileDisk F → FileDisk F → Type 0
+IsShown disk i old new d e = IsRecovered disk (logged_count (disk.image d)) d e
+    × Shows (disk.image d) i old new
+
+-- it was recovered, a player of some operations was opened over it, and the turns of some words
+-- made and printed
+pub record IsReplayed {F N : Type 0} (disk : Ghosts (FileDisk F) N)
+    (over : Ghosts (FaultyDisk (FileDisk F)) (N × Trap)) (stop : ℕ) (old new : Option (List ℕ))
+    (d e : FileDisk F) : Type 0 where
+  pub tasks : List Task
+  pub processes : ℕ
+  pub words : List Word
+  pub replays : Replays disk over d e tasks processes words stop None old new
+
+-- it was recovered, the operations of a script were run over it by threads, and what they came to
+-- printed
+pub record IsRun {F N : Type 0} (disk : Ghosts (FileDisk F) N) (old new : Option (List ℕ))
+    (d e : FileDisk F) : Type 0 where
+  pub tasks : List Task
+  pub processes : ℕ
+  pub runs : Runs disk d e tasks processes None old new
+
+-- Where a command over the disk of a file was refused: its script, its schedule or the file could
+-- not be had, and then no disk was opened; or one was, and is now another, as P says. `none` says
+-- that nothing was printed.
+abbrev pub OnDiskRefusal : {F N : Type 0} → (F → Option (List ℕ)) → Ghosts (FileDisk F) N → Bool
+    → Type 0 → (FileDisk F → FileDisk F → Refusal → Type 0) → Refusal → Type 0
+OnDiskRefusal remaining disk holds none P (Script fault) = none
+OnDiskRefusal remaining disk holds none P (Schedule fault) = none
+OnDiskRefusal remaining disk holds none P (File fault) = none
+OnDiskRefusal remaining disk holds none P r = OpensDisk remaining disk holds (λ d e. P d e r)
+
+-- the refusal is one of the file at a path
+abbrev pub IsOfFile : Refusal → Type 0
+IsOfFile r = (fault : FileFault) × (r ≡ File fault)
+
+-- why some operations were not replayed over it in the turns of some words, and what was printed
+pub record IsUnreplayed {F N : Type 0} (disk : Ghosts (FileDisk F) N)
+    (over : Ghosts (FaultyDisk (FileDisk F)) (N × Trap)) (stop : ℕ) (old new : Option (List ℕ))
+    (none : Type 0) (d e : FileDisk F) (r : Refusal) : Type 0 where
+  pub tasks : List Task
+  pub processes : ℕ
+  pub words : List Word
+  pub refused : IsNotReplayed disk over d e tasks processes words stop old new none r
+
+-- why some operations were not run over it by threads, and what was printed
+pub record IsNotRun {F N : Type 0} (disk : Ghosts (FileDisk F) N) (old new : Option (List ℕ))
+    (none : Type 0) (d e : FileDisk F) (r : Refusal) : Type 0 where
+  pub tasks : List Task
+  pub processes : ℕ
+  pub refused : IsNotRunOver disk d e tasks processes old new none r
