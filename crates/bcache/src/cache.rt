@@ -1,7 +1,7 @@
 // The cache.
 ghost use Rattle.std.specs.Prelude.{◌≡◌, ℕ, ◌<◌, ◌≤◌, ◌+◌, ◌^◌, length, slice_index, Some, None, IfOk, OnOk, OnErr, IfErr, IfSome, IsSome, position, reverse};
 ghost use Rattle.std.specs.Borrow.{Lends, sem};
-ghost use Rattle.blocks.specs.Block.{IsBlock, overwritten};
+ghost use Rattle.blocks.specs.Block.{IsBlock, overwritten, block_size};
 ghost use Rattle.blocks.specs.Calls.{OnlyReads};
 ghost use Rattle.blocks.specs.Disk.{CountsFault, block_at};
 ghost use Rattle.blocks.specs.contracts.block.Block.{the_row as block_row};
@@ -147,7 +147,7 @@ impl Cache {
     pub fn put(&mut self, pid: u32, slot: u32, at: usize, bytes: &[u8])
         requires slot { slot < 40 }
         requires held { (buffer self.old slot).holder ≡ Some pid }
-        requires fits { at + length bytes.now ≤ 1024 }
+        requires fits { at + length bytes.now ≤ block_size }
         ensures cache { self.new
             ≡ changed self.old slot (overwritten (buffer self.old slot).bytes at bytes.now) }
         ensures block { IsBlock (overwritten (buffer self.old slot).bytes at bytes.now) }

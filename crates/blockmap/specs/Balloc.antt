@@ -4,6 +4,7 @@ use Rattle.std.specs.List.{range_with_len}
 use Rattle.blocks.specs.Block.{zero_block}
 use Rattle.blocks.specs.Disk.{Image, block_at}
 use Rattle.blocks.specs.declared.disk.Disk.{Ghosts}
+use Rattle.model.specs.Format.{inode_start, bits_per_block}
 use Rattle.model.specs.Codec.{with_bit}
 use Rattle.model.specs.Fields.{has_bit}
 use Rattle.wal.specs.Joint.{seen}
@@ -48,15 +49,15 @@ abbrev pub MayAllocAt : {D : Type 0} → (D → Image) → VolumeState D → ℕ
 MayAllocAt image v p m (alloc_at.Looking slot) =
     HoldsWhereGot (seen (image v.device) v.buffers) v.buffers p m.bitmap slot
 MayAllocAt image v p m (alloc_at.Zeroing b slot) =
-    (33 ≤ b) × (b < v.log.size)
+    (inode_start ≤ b) × (b < v.log.size)
     × HoldsWhereGot (seen (image v.device) v.buffers) v.buffers p b slot
 
 -- a block may be taken over this volume
 pub record MayAlloc {D : Type 0} (image : D → Image) (v : VolumeState D) (p : ℕ) (m : AllocState)
     : Type 0 where
-  pub behind : 33 ≤ m.bitmap
+  pub behind : inode_start ≤ m.bitmap
   pub within : m.bitmap < v.log.size
-  pub size : m.size < 8192
+  pub size : m.size < bits_per_block
   pub at : MayAllocAt image v p m m.at
 
 -- an image in which a block's bit is set in that block of the bitmap

@@ -2,6 +2,7 @@
 use Rattle.std.specs.Prelude.{◌≡◌, ◌<◌, ◌≤◌, ℕ, ◌==◌, if◌then◌else◌, slice_index, Option, Some, None}
 use Rattle.blocks.specs.Disk.{Image, block_at}
 use Rattle.blocks.specs.declared.disk.Disk.{Ghosts}
+use Rattle.model.specs.Format.{inode_start, addresses_per_block}
 use Rattle.model.specs.Fields.{words_of}
 use Rattle.wal.specs.Joint.{seen}
 use Rattle.wal.specs.Volume.{VolumeState}
@@ -28,9 +29,9 @@ entry_in x m = slice_index (words_of (block_at x m.indirect)) m.entry
 -- the entry may be read over this volume
 pub record IsReady {D : Type 0} (image : D → Image) (v : VolumeState D) (p : ℕ) (m : EntryState)
     : Type 0 where
-  pub behind : 33 ≤ m.indirect
+  pub behind : inode_start ≤ m.indirect
   pub within : m.indirect < v.log.size
-  pub entry : m.entry < 256
+  pub entry : m.entry < addresses_per_block
   pub holds : HoldsWhereGot (seen (image v.device) v.buffers) v.buffers p m.indirect m.slot
 
 abbrev pub with_slot : EntryState → Option ℕ → EntryState

@@ -2,11 +2,12 @@
 use Rattle.std.specs.Prelude.{◌≡◌, ◌<◌, ◌≤◌, ℕ, ◌-◌, ◌==◌, nat_lt, if◌then◌else◌, length, slice_index, slice_set, Option, Some, None}
 use Rattle.blocks.specs.Disk.{Image, block_at}
 use Rattle.blocks.specs.declared.disk.Disk.{Ghosts}
+use Rattle.model.specs.Format.{inode_start}
 use Rattle.model.specs.declared.types.image.Dinode.{Dinode}
 use Rattle.model.specs.declared.types.image.Form.TheVariants.{One}
 use Rattle.model.specs.Codec.{with_entry}
 use Rattle.model.specs.Fields.{words_of}
-use Rattle.model.specs.Layout.{form_of}
+use Rattle.model.specs.Layout.{form_of, direct_count, indirect_of}
 use Rattle.model.specs.Places.{address_in}
 use Rattle.wal.specs.Joint.{seen}
 use Rattle.wal.specs.Volume.{VolumeState, Holds}
@@ -26,15 +27,11 @@ pub record MapState : Type 0 where
   pub size : ℕ
   pub at : MapAt
 
--- the inode's block of addresses, 0 for none
-abbrev pub indirect_of : Dinode → ℕ
-indirect_of d = slice_index d.addrs 12
-
 -- the way begins with what isn't there: a block for the inode itself to name, the block of
 -- addresses, or its entry
 abbrev pub first_place : Dinode → ℕ → AllocState → MapAt
 first_place d k take =
-    if nat_lt k 12 then map_at.Direct take
+    if nat_lt k (direct_count One) then map_at.Direct take
     else if indirect_of d == 0 then map_at.Indirect take
     else map_at.Entry None
 
@@ -50,12 +47,13 @@ first_way d k bitmap size = record {
 
 -- the way leads behind a block of addresses, which lies behind the log
 abbrev pub HasEntries : {D : Type 0} → VolumeState D → MapState → Dinode → Type 0
-HasEntries v m d = (12 ≤ m.k) × (33 ≤ indirect_of d) × (indirect_of d < v.log.size)
+HasEntries v m d =
+    (direct_count One ≤ m.k) × (inode_start ≤ indirect_of d) × (indirect_of d < v.log.size)
 
 -- what the process holds, by where the way stands
 abbrev pub MayMapAt : {D : Type 0} → (D → Image) → VolumeState D → ℕ → MapState → Dinode → MapAt
     → Type 0
-MayMapAt image v p m d (map_at.Direct t) = (m.k < 12) × MayAlloc image v p t
+MayMapAt image v p m d (map_at.Direct t) = (m.k < direct_count One) × MayAlloc image v p t
 MayMapAt image v p m d (map_at.Indirect t) = MayAlloc image v p t
 MayMapAt image v p m d (map_at.Entry slot) =
     HasEntries v m d
@@ -133,7 +131,7 @@ pub record TakesOne {D N : Type 0} (disk : Ghosts D N) (v : VolumeState D) (p : 
 
 -- the entry of the file's block in an image, 0 for no block
 abbrev pub entry_for : Image → MapState → Dinode → ℕ
-entry_for x m d = slice_index (words_of (block_at x (indirect_of d))) (m.k - 12)
+entry_for x m d = slice_index (words_of (block_at x (indirect_of d))) (m.k - direct_count One)
 
 -- The step that reads the entry in the block of addresses, which slot i holds: where it names a
 -- block, that is the file's, and the block of addresses is released; else it is kept.
@@ -148,7 +146,7 @@ FindsEntry disk (Some b) v p i m r n w =
 -- an image in which the entry of the file's block names another
 abbrev pub with_entry_for : Image → MapState → Dinode → ℕ → Image
 with_entry_for x m d b =
-    slice_set x (indirect_of d) (with_entry (block_at x (indirect_of d)) (m.k - 12) b)
+    slice_set x (indirect_of d) (with_entry (block_at x (indirect_of d)) (m.k - direct_count One) b)
 
 -- The block of addresses in slot i is released, and where a block was found its entry is set.
 abbrev pub SetsEntry : {D N : Type 0} → Ghosts D N → Option ℕ → VolumeState D → ℕ → ℕ → MapState
@@ -163,7 +161,7 @@ abbrev pub MapSteps : {D N : Type 0} → Ghosts D N → MapAt → VolumeState D 
 MapSteps disk (map_at.Direct t) v p m d r n e w =
     TakesOne disk v p m t after_direct direct_at (naming d m.k) r n e w
 MapSteps disk (map_at.Indirect t) v p m d r n e w =
-    TakesOne disk v p m t after_indirect indirect_at (naming d 12) r n e w
+    TakesOne disk v p m t after_indirect indirect_at (naming d (direct_count One)) r n e w
 MapSteps disk (map_at.Entry None) v p m d r n e w =
     (s : Option ℕ) × GetsFor disk v p (indirect_of d) r s w
     × (n ≡ record m { at = map_at.Entry s }) × (e ≡ d)

@@ -1,6 +1,8 @@
 -- Where the addresses of an inode lead.
 use Rattle.std.specs.Prelude.{◌≡◌, ℕ, ◌-◌, ◌==◌, ◌&&◌, not, nat_lt, if◌then◌else◌, slice_index, Option, Some, None}
 use Rattle.blocks.specs.Disk.{Image}
+use Rattle.model.specs.Layout.{direct_count, indirect_of}
+use Rattle.model.specs.declared.types.image.Form.TheVariants.{One}
 use Rattle.model.specs.declared.types.image.Dinode.{Dinode}
 use Rattle.model.specs.Places.{address_in}
 use Rattle.blockmap.specs.declared.mapping.Mapped.{Mapped}
@@ -14,11 +16,11 @@ use Rattle.blockmap.specs.BmapAlloc.{first_way}
 -- block of addresses, where there is one
 abbrev pub mapped : Dinode → ℕ → Mapped
 mapped d k =
-    if nat_lt k 12 then mapped_as.At (some_address (slice_index d.addrs k))
-    else if slice_index d.addrs 12 == 0 then mapped_as.At None
+    if nat_lt k (direct_count One) then mapped_as.At (some_address (slice_index d.addrs k))
+    else if indirect_of d == 0 then mapped_as.At None
     else mapped_as.Behind (record {
-      indirect = slice_index d.addrs 12;
-      entry = k - 12;
+      indirect = indirect_of d;
+      entry = k - direct_count One;
       slot = None;
     })
 
@@ -34,7 +36,8 @@ address_mapped x (mapped_as.Behind m) = entry_in x m
 -- where a writer finds it: the inode itself names it, or there is a way to it
 abbrev pub mapped_for_writing : Dinode → ℕ → ℕ → ℕ → MappedForWriting
 mapped_for_writing d k bitmap size =
-    if nat_lt k 12 && not (slice_index d.addrs k == 0) then for_writing.At (slice_index d.addrs k)
+    if nat_lt k (direct_count One) && not (slice_index d.addrs k == 0)
+    then for_writing.At (slice_index d.addrs k)
     else for_writing.Behind (first_way d k bitmap size)
 
 -- what it finds at once is the file's block

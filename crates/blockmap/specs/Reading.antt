@@ -1,9 +1,11 @@
 -- What the reading of a file's bytes rests on.
 use Rattle.std.specs.Prelude.{◌≡◌, ◌<◌, ◌≤◌, ℕ, ◌*◌, length, slice_index, None}
 use Rattle.blocks.specs.Disk.{Image}
+use Rattle.blocks.specs.Block.{block_size}
+use Rattle.model.specs.Format.{inode_start}
 use Rattle.model.specs.declared.types.image.Dinode.{Dinode}
 use Rattle.model.specs.declared.types.image.Form.TheVariants.{One}
-use Rattle.model.specs.Layout.{form_of, inode_of}
+use Rattle.model.specs.Layout.{form_of, inode_of, direct_count, indirect_of}
 use Rattle.model.specs.Files.{Files}
 use Rattle.model.specs.Places.{address_in}
 use Rattle.loose.specs.Held.{Claims, FitsHeld}
@@ -12,7 +14,7 @@ use Rattle.loose.specs.Loose.{AreFull, IsFit}
 
 -- a block of the image behind the log
 abbrev pub LiesBehindLog : Image → ℕ → Type 0
-LiesBehindLog x b = (33 ≤ b) × (b < length x)
+LiesBehindLog x b = (inode_start ≤ b) × (b < length x)
 
 -- The file of an inode may be read: each block that its size needs lies behind the log, and so does
 -- the block of addresses.
@@ -20,8 +22,8 @@ pub record MayRead (x : Image) (d : Dinode) : Type 0 where
   pub form : form_of x ≡ One
   pub full : AreFull x
   pub fit : IsFit x d
-  pub blocks : (k : ℕ) → k * 1024 < d.size → LiesBehindLog x (address_in x d k)
-  pub indirect : 12 * 1024 < d.size → LiesBehindLog x (slice_index d.addrs 12)
+  pub blocks : (k : ℕ) → k * block_size < d.size → LiesBehindLog x (address_in x d k)
+  pub indirect : direct_count One * block_size < d.size → LiesBehindLog x (indirect_of d)
 
 -- where an image stands for files, that of each used number which no task holds may be read
 abbrev pub RestingMayBeRead : Type 0

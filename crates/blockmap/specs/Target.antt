@@ -2,6 +2,7 @@
 use Rattle.std.specs.Prelude.{◌≡◌, ◌<◌, ◌≤◌, ℕ, Bool, true, false, is_none, if◌then◌else◌, Option, None}
 use Rattle.blocks.specs.Disk.{Image}
 use Rattle.blocks.specs.declared.disk.Disk.{Ghosts}
+use Rattle.model.specs.Format.{inode_start}
 use Rattle.model.specs.declared.types.image.Dinode.{Dinode}
 use Rattle.wal.specs.Joint.{seen}
 use Rattle.wal.specs.Volume.{VolumeState}
@@ -53,7 +54,7 @@ LeadsTo image v p a (target.Block b slot) =
 -- the block may be sought over this volume
 abbrev pub IsSought : {D : Type 0} → (D → Image) → VolumeState D → ℕ → Target → Type 0
 IsSought image v p (target.Entry entry) = IsReady image v p entry
-IsSought image v p (target.Block b slot) = (slot ≡ None) × (33 ≤ b) × (b < v.log.size)
+IsSought image v p (target.Block b slot) = (slot ≡ None) × (inode_start ≤ b) × (b < v.log.size)
 
 -- what a step of an entry's reading is to the machine that seeks the block
 abbrev pub progress_behind : Progress (Option ℕ) → Progress (Unit {0})

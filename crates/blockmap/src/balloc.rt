@@ -1,5 +1,6 @@
 // A block is taken.
 ghost use Rattle.std.specs.Prelude.{◌≡◌, ◌<◌, ◌==◌, not, position, None, Some};
+ghost use Rattle.model.specs.Format.{bits_per_block};
 ghost use Rattle.wal.specs.Joint.{seen};
 ghost use Rattle.wal.specs.Machine.{HasRoom, used_by};
 ghost use Rattle.wal.specs.Volume.{Holds};
@@ -138,7 +139,7 @@ fn zero_block<D: Disk>(volume: &mut Volume<D>, pid: u32, block: u32, slot: u32)
 
 // The lowest bit below a size that is clear.
 fn lowest_clear(bits: &Block, size: u32) -> Option<u32>
-    requires { size < 8192 }
+    requires { size < bits_per_block }
     ensures { result ≡ lowest_clear bits.now size }
 {
     let bytes = bits.as_slice();
@@ -156,7 +157,7 @@ fn first_not_full(bytes: &[u8]) -> Option<usize>
 
 // The byte in which a block's bit stands, with that bit set.
 fn byte_with(bits: &Block, block: u32) -> u8
-    requires { block < 8192 }
+    requires { block < bits_per_block }
     ensures { result ≡ byte_with bits.now block }
 {
     bits.as_slice()[(block / 8) as usize] | 1 << (block % 8)

@@ -9,6 +9,7 @@ ghost use Rattle.blockmap.specs.declared.bmap_alloc.MapAt.TheVariants as map_at;
 use crate::Balloc;
 use blocks::Disk;
 use driver::{Progress, get_block, put_block, release_block};
+use layout::DIRECT_COUNT;
 use layout::entries::{bytes, entry};
 use model::types::Dinode;
 use std::marker::Model;
@@ -69,10 +70,10 @@ fn first_place(inode: &Dinode, k: u32, take: Balloc) -> MapAt
     requires { length inode.now.addrs ≡ 13 }
     ensures { result ≡ first_place inode.now k take }
 {
-    if k < 12 {
+    if k < DIRECT_COUNT as u32 {
         return MapAt::Direct(take);
     }
-    if inode.addrs[12] == 0 {
+    if inode.addrs[DIRECT_COUNT] == 0 {
         return MapAt::Indirect(take);
     }
     MapAt::Entry(None)
@@ -164,7 +165,7 @@ impl BmapAlloc {
     {
         let progress = take.step(volume, pid);
         if let Progress::Over(Some(block)) = progress {
-            inode.addrs[12] = block;
+            inode.addrs[DIRECT_COUNT] = block;
             self.at = MapAt::Entry(None);
             return Progress::Moved;
         }
@@ -190,11 +191,11 @@ impl BmapAlloc {
     {
         let Some(slot) = slot else {
             let mut got = None;
-            let progress = get_block(volume, pid, inode.addrs[12], &mut got);
+            let progress = get_block(volume, pid, inode.addrs[DIRECT_COUNT], &mut got);
             self.at = MapAt::Entry(got);
             return progress;
         };
-        let address = entry(volume.data(slot), self.k - 12);
+        let address = entry(volume.data(slot), self.k - DIRECT_COUNT as u32);
         if address == 0 {
             let take = Balloc::new(self.bitmap, self.size);
             self.at = MapAt::Behind { slot, take };
@@ -255,7 +256,7 @@ impl BmapAlloc {
         let _entries = volume.data(slot);
         match found {
             Some(block) => {
-                let at = 4 * (self.k - 12) as usize;
+                let at = 4 * (self.k - DIRECT_COUNT as u32) as usize;
                 put_block(volume, pid, slot, at, &bytes(block));
             }
             None => release_block(volume, pid, slot),

@@ -8,6 +8,7 @@ ghost use Rattle.blockmap.specs.Map.{mapped, address_mapped, mapped_for_writing,
 
 use crate::bmap::some_address;
 use crate::{Bmap, BmapAlloc};
+use layout::DIRECT_COUNT;
 use model::types::Dinode;
 
 /// Where an inode's addresses lead from one of its file's blocks.
@@ -27,13 +28,13 @@ pub fn map(inode: &Dinode, k: u32) -> Mapped
     ensures address { (x : Image) → form_of x ≡ One
         → address_in x inode.now k ≡ address_mapped x result }
 {
-    if k < 12 {
+    if k < DIRECT_COUNT as u32 {
         return Mapped::At(some_address(inode.addrs[k as usize]));
     }
-    if inode.addrs[12] == 0 {
+    if inode.addrs[DIRECT_COUNT] == 0 {
         return Mapped::At(None);
     }
-    Mapped::Behind(Bmap::new(inode.addrs[12], k - 12))
+    Mapped::Behind(Bmap::new(inode.addrs[DIRECT_COUNT], k - DIRECT_COUNT as u32))
 }
 
 /// Where a writer finds a block of a file.
@@ -53,7 +54,7 @@ pub fn map_for_writing(inode: &Dinode, k: u32, bitmap: u32, size: u32) -> Mapped
     ensures map { result ≡ mapped_for_writing inode.now k bitmap size }
     ensures there { (x : Image) → form_of x ≡ One → IsThere x inode.now k result }
 {
-    if k < 12 && inode.addrs[k as usize] != 0 {
+    if k < DIRECT_COUNT as u32 && inode.addrs[k as usize] != 0 {
         return MappedForWriting::At(inode.addrs[k as usize]);
     }
     MappedForWriting::Behind(BmapAlloc::begin(inode, k, bitmap, size))

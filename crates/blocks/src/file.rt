@@ -4,7 +4,7 @@ ghost use Rattle.std.proofs.Common.{inl};
 ghost use Rattle.std.specs.List.{concat};
 ghost use Rattle.std.specs.IoError.{error_kind};
 ghost use Rattle.std.specs.Io.KnownBytes.{Consumes};
-ghost use Rattle.blocks.specs.Block.{zero_block};
+ghost use Rattle.blocks.specs.Block.{zero_block, block_size};
 ghost use Rattle.blocks.specs.Calls.{HasCountsOf, IsPlain, ReadsOne, UnlessHolds, WritesOne};
 ghost use Rattle.blocks.specs.Disk.{AddsNone, IsImage, IsSettled};
 ghost use Rattle.blocks.specs.File.{IsReadFrom, IsWrittenAt, is_disk_size};
@@ -90,7 +90,7 @@ impl<F: Read + Write + Seek + OpenFile + Drop> FileDisk<F> {
     /// the system says so, where the file can't be read.
     pub fn over_file(alloc: Global, mut file: F, size: u64) -> Result<FileDisk<F>, FileFault>
         ensures size { IfOk result
-            (λ disk. size ≡ length (⟦<FileDisk<F> as Disk>⟧.image disk) * 1024) }
+            (λ disk. size ≡ length (⟦<FileDisk<F> as Disk>⟧.image disk) * block_size) }
         ensures refused { IsErrOf result FileFault.Length ↔ (is_disk_size size ≡ false) }
         ensures bytes { IfOk result
             (λ disk. Consumes (F.remaining file) (F.remaining (file_of disk))
@@ -205,7 +205,7 @@ fn fault_of(error: io::Error) -> FileFault
 
 // The number of blocks of a file with this many bytes.
 fn blocks_of_length(length: u64) -> Result<u32, FileFault>
-    ensures bytes { IfOk result (λ size. length ≡ size * 1024) }
+    ensures bytes { IfOk result (λ size. length ≡ size * block_size) }
     ensures some { IfOk result (λ size. 1 ≤ size) }
     ensures at_most { IfOk result (λ size. size ≤ MAX_BLOCKS) }
     ensures refused { IsErrOf result FileFault.Length ↔ (is_disk_size length ≡ false) }
@@ -259,10 +259,10 @@ fn room(alloc: Global, size: u32) -> Result<Vec<[u8; BLOCK_SIZE]>, NoMemory>
 
 // Adds the blocks that these bytes make, one after another.
 fn add_blocks(blocks: &mut Vec<[u8; BLOCK_SIZE]>, bytes: &[u8]) -> Result<(), NoMemory>
-    requires size { length bytes.now % 1024 ≡ 0 }
+    requires size { length bytes.now % block_size ≡ 0 }
     requires image { IsImage blocks.old.items }
     ensures size { OnOk result
-        (length blocks.new.items ≡ length blocks.old.items + length bytes.now / 1024) }
+        (length blocks.new.items ≡ length blocks.old.items + length bytes.now / block_size) }
     ensures image { OnOk result (IsImage blocks.new.items) }
     ensures bytes { OnOk result (concat blocks.new.items ≡ concat blocks.old.items ++ bytes.now) }
 {
@@ -274,7 +274,7 @@ fn add_blocks(blocks: &mut Vec<[u8; BLOCK_SIZE]>, bytes: &[u8]) -> Result<(), No
 // Writes the bytes of a block at its place.
 fn write_through<F: Write + Seek>(file: &mut F, block: u32, from: &Block) -> io::Result<()>
     ensures { OnOk result (IsWrittenAt F.stream_position F.contents file.old file.new
-        (block * 1024) from.now) }
+        (block * block_size) from.now) }
 {
     file.seek(SeekFrom::Start(block as u64 * BLOCK_SIZE as u64))?;
     file.write_all(from.as_slice())
@@ -369,7 +369,7 @@ impl<F: Write + Seek + OpenFile + Drop> Disk for FileDisk<F> {
 
         // Of this one.
         ensures file { OnOk result (IsWrittenAt F.stream_position F.contents
-            (file_of self.old) (file_of self.new) (block * 1024) from.now) }
+            (file_of self.old) (file_of self.new) (block * block_size) from.now) }
         ensures keeps { OnErr result
             (⟦<FileDisk<F> as Disk>⟧.image self.new ≡ ⟦<FileDisk<F> as Disk>⟧.image self.old) }
     {

@@ -4,6 +4,7 @@ use Rattle.std.specs.Int.{bit_not}
 use mir.Syntax.{w8}
 use Rattle.blocks.specs.Disk.{Image, block_at}
 use Rattle.blocks.specs.declared.disk.Disk.{Ghosts}
+use Rattle.model.specs.Format.{bits_per_block}
 use Rattle.model.specs.Codec.{without_bit, with_inode_bytes}
 use Rattle.wal.specs.Joint.{seen}
 use Rattle.wal.specs.Volume.{VolumeState}
@@ -20,7 +21,7 @@ byte_without bits b =
 
 -- the change may be made
 abbrev pub PatchFits : Patch → Type 0
-PatchFits (patch.ClearBit b) = b < 8192
+PatchFits (patch.ClearBit b) = b < bits_per_block
 PatchFits (patch.WriteInode i d) = length d.addrs ≡ 13
 
 -- the deed may be done

@@ -1,5 +1,6 @@
 -- What the next step of a machine does about blocks.
 use Rattle.std.specs.Prelude.{◌≡◌, ◌≢◌, ◌<◌, ◌≤◌, ℕ, Option, Some, None}
+use Rattle.model.specs.Format.{inode_start}
 use Rattle.driver.specs.declared.driving.Got.{Got}
 use Rattle.driver.specs.declared.machine.Next.{Next}
 use Rattle.driver.specs.declared.machine.Next.TheVariants as next
@@ -49,8 +50,8 @@ wanted_by next.Kept used = None
 
 -- a block that it gets lies behind the log, in an image of that many blocks
 abbrev pub MayGet : Next → ℕ → Type 0
-MayGet (next.Use b) size = (33 ≤ b) × (b < size)
-MayGet (next.Keep b) size = (33 ≤ b) × (b < size)
+MayGet (next.Use b) size = (inode_start ≤ b) × (b < size)
+MayGet (next.Keep b) size = (inode_start ≤ b) × (b < size)
 MayGet next.Kept size = Unit {0}
 
 -- what is kept is not got again, only one block is kept, and it is used where it is kept

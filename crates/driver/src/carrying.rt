@@ -1,5 +1,6 @@
 // A deed is carried out over a volume.
 ghost use Rattle.std.specs.Prelude.{◌≡◌, ◌<◌, None};
+ghost use Rattle.model.specs.Format.{bits_per_block};
 ghost use Rattle.wal.specs.Joint.{seen};
 ghost use Rattle.wal.specs.Machine.{HasRoom, used_by};
 ghost use Rattle.wal.specs.Volume.{Holds};
@@ -8,7 +9,7 @@ ghost use Rattle.driver.specs.Deeds.{DeedFits, PatchFits, CarriesOut, byte_witho
 
 use crate::{Deed, Patch, put_block, release_block};
 use blocks::{Block, Disk};
-use layout::inode;
+use layout::{inode, inode_offset};
 use wal::Volume;
 
 /// Carries out a deed on the block of a slot that a process holds.
@@ -45,15 +46,14 @@ fn put<D: Disk>(volume: &mut Volume<D>, pid: u32, slot: u32, patch: Patch)
             put_block(volume, pid, slot, (block / 8) as usize, &[byte]);
         }
         Patch::WriteInode { number, inode } => {
-            let at = (number % 16 * 64) as usize;
-            put_block(volume, pid, slot, at, &inode::bytes(&inode));
+            put_block(volume, pid, slot, inode_offset(number), &inode::bytes(&inode));
         }
     }
 }
 
 // The byte in which a block's bit stands, with that bit cleared.
 fn byte_without(bits: &Block, block: u32) -> u8
-    requires { block < 8192 }
+    requires { block < bits_per_block }
     ensures { result ≡ byte_without bits.now block }
 {
     bits.as_slice()[(block / 8) as usize] & !(1 << (block % 8))

@@ -1,5 +1,7 @@
 // The steps in which a machine gets a block, and is done with it.
 ghost use Rattle.std.specs.Prelude.{◌≡◌, ◌<◌, ◌≤◌, ◌+◌, length, Some, None};
+ghost use Rattle.blocks.specs.Block.{block_size};
+ghost use Rattle.model.specs.Format.{inode_start};
 ghost use Rattle.bcache.specs.Buffers.{buffer};
 ghost use Rattle.wal.specs.Joint.{seen};
 ghost use Rattle.wal.specs.Machine.{HasRoom, used_by};
@@ -19,7 +21,7 @@ pub fn get_block<D: Disk, T>(
     slot: &mut Option<u32>,
 ) -> Progress<T>
     requires fault { volume.old.fault ≡ None }
-    requires behind { 33 ≤ block }
+    requires behind { inode_start ≤ block }
     requires within { block < volume.old.log.size }
     requires none { slot.old ≡ None }
     ensures { GetsFor D.Disk volume.old pid block result slot.new volume.new }
@@ -52,7 +54,7 @@ pub fn put_block<D: Disk>(volume: &mut Volume<D>, pid: u32, slot: u32, at: usize
     requires room { HasRoom (used_by volume.old.log pid) }
     requires holds { Holds (seen (D.image volume.old.device) volume.old.buffers)
         volume.old.buffers pid (block_at_slot volume.old slot) slot }
-    requires fits { at + length bytes.now ≤ 1024 }
+    requires fits { at + length bytes.now ≤ block_size }
     ensures { Puts D.image volume.old pid slot at bytes.now volume.new }
 {
     volume.change(pid, slot, at, bytes);

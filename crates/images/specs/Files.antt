@@ -15,7 +15,7 @@ use Rattle.model.specs.Files.{file_count, files_of}
 use Rattle.model.specs.Layout.{planned_super}
 use Rattle.model.specs.Log.{logged_count, recovered}
 use Rattle.model.specs.Verdict.{verdict}
-use Rattle.player.specs.Causes.{IsRecovered}
+use Rattle.opening.specs.Recoveries.{IsRecovered}
 use Rattle.player.specs.Opening.{IsNotReplayed, Replays}
 use Rattle.runner.specs.Running.{IsNotRun as IsNotRunOver, Runs}
 use Rattle.texts.specs.Output.{copied_text, numbers_text, report_text}

@@ -17,9 +17,8 @@ use Rattle.inodes.specs.Itrunc.{trunc_next}
 use Rattle.inodes.specs.Store.{HoldsAt, HasLogged, IsOpenFor, Stands, Agrees}
 use Rattle.inodes.specs.LockState.{slot_of}
 use Rattle.blockmap.specs.Target.{block_of, slot_in}
-use Rattle.model.specs.Layout.{inode_block}
+use Rattle.model.specs.Layout.{inode_block, indirect_of}
 use Rattle.inodes.specs.Writei.{WriteState}
-use Rattle.blockmap.specs.BmapAlloc.{indirect_of}
 use Rattle.inodes.specs.Writing.{counted, HasLoggedWrite, kept_by_write, at_hand, block_of_write, used_by_write}
 
 -- process p's task is t now

@@ -6,7 +6,7 @@ use Rattle.std.proofs.lemmas.Bool.{cases_eq}
 use Rattle.blocks.specs.Disk.{Image}
 use Rattle.model.specs.declared.types.operations.Op.{Op}
 use Rattle.model.specs.Journal.{is_number}
-use Rattle.model.specs.Layout.{inode_count_of, first_data_block}
+use Rattle.model.specs.Layout.{inode_count_of, first_data_block, indirect_of, bitmap_block}
 use Rattle.model.specs.Places.{addresses_in, pointers_in}
 use Rattle.model.specs.Soundness.{count_of}
 use Rattle.loose.specs.Held.{Claim, grows, names_claimed}
@@ -19,7 +19,7 @@ use Rattle.bcache.specs.Buffers.{Buffers}
 use Rattle.wal.specs.Held.{HoldsBlock}
 use Rattle.wal.specs.Machine.{LogState, used_by}
 use Rattle.blockmap.specs.Balloc.{AllocState}
-use Rattle.blockmap.specs.BmapAlloc.{MapState, indirect_of}
+use Rattle.blockmap.specs.BmapAlloc.{MapState}
 use Rattle.blockmap.specs.declared.balloc.AllocAt.{AllocAt}
 use Rattle.blockmap.specs.declared.balloc.AllocAt.TheVariants as alloc_at
 use Rattle.blockmap.specs.declared.bmap_alloc.MapAt.{MapAt}
@@ -37,7 +37,7 @@ use Rattle.inodes.specs.declared.writei.WriteAt.TheVariants as write_at
 use Rattle.inodes.specs.Grips.{locked_grip}
 use Rattle.inodes.specs.Growing.{growth_of, bytes_by, HasComeTo, IsOnWay, taken_at, taken_on_way, taken_by}
 use Rattle.inodes.specs.declared.writei.Extent.{Extent}
-use Rattle.inodes.specs.Holding.{claims_of, bitmap_block, HasGivenUp, IsKept, IsTruncating, KeepsAt}
+use Rattle.inodes.specs.Holding.{claims_of, HasGivenUp, IsKept, IsTruncating, KeepsAt}
 use Rattle.inodes.specs.Itrunc.{Freeing, next_of_trunc, trunc_next}
 use Rattle.inodes.specs.Looks.{AreLooking, LooksAt}
 use Rattle.inodes.specs.Places.{grip_of}

@@ -7,7 +7,7 @@ use Rattle.bcache.specs.Lemmas.Current.{length-current}
 use Rattle.model.specs.Fields.{words_of}
 use Rattle.model.specs.Files.{Files, file_in}
 use Rattle.model.specs.Journal.{is_number}
-use Rattle.model.specs.Layout.{inode_block, inode_count_of, super_of}
+use Rattle.model.specs.Layout.{inode_block, inode_count_of, super_of, bitmap_block}
 use Rattle.model.specs.Lemmas.Soundness.{facts_of}
 use Rattle.loose.specs.Held.{Claims, FitsHeld, IsFine, IsHeld, frees, Claim}
 use Rattle.loose.specs.HeldLaws.{HasMarkedBlocks, IsHeldIn}
@@ -31,7 +31,7 @@ use Rattle.inodes.specs.declared.table.InMemory.{InMemory}
 use Rattle.inodes.specs.declared.tasks.Place.{Place}
 use Rattle.inodes.specs.declared.tasks.Place.TheVariants as place
 use Rattle.inodes.specs.Grips.{grip, locked_grip}
-use Rattle.inodes.specs.Holding.{HasGivenUp, IsKept, IsTruncating, KeepsAt, bitmap_block, claims_of, held_of}
+use Rattle.inodes.specs.Holding.{HasGivenUp, IsKept, IsTruncating, KeepsAt, claims_of, held_of}
 use Rattle.inodes.specs.Itrunc.{FitsAt, Freeing, deed_of_trunc, entries_in, itrunc, next_of_trunc, trunc_next}
 use Rattle.inodes.specs.Looks.{AreLooking}
 use Rattle.inodes.specs.Places.{HasSlot, grip_of, grips_of}

@@ -10,7 +10,7 @@ use Rattle.model.specs.declared.types.operations.Op.TheVariants.{Create, Write, 
 use Rattle.model.specs.declared.types.operations.Reply.TheVariants.{StatOf, NoFile, Done, BadOffset, TooBig}
 use Rattle.model.specs.Files.{Files}
 use Rattle.model.specs.Journal.{is_making, is_number}
-use Rattle.model.specs.Layout.{form_of, greatest_size, inode_of}
+use Rattle.model.specs.Layout.{form_of, greatest_size, inode_of, indirect_of, bitmap_block}
 use Rattle.model.specs.Operations.{after, transfer_limit}
 use Rattle.model.specs.Tasks.{TurnsTo}
 use Rattle.loose.specs.Held.{grows, Growth, Held, FitsHeld, IsClaimedNow, file_left, Claim, frees, Growth, grows}
@@ -28,7 +28,7 @@ use Rattle.driver.specs.Lemmas.Slots.{holds_none}
 use Rattle.inodes.specs.declared.tasks.Place.{Place}
 use Rattle.inodes.specs.declared.tasks.Place.TheVariants as place
 use Rattle.inodes.specs.Grips.{locked_grip}
-use Rattle.inodes.specs.Holding.{IsTruncating, bitmap_block, claim_by, claims_of, claim_of}
+use Rattle.inodes.specs.Holding.{IsTruncating, claim_by, claims_of, claim_of}
 use Rattle.inodes.specs.Itrunc.{first_trunc, trunc_next}
 use Rattle.inodes.specs.LockState.{LockState}
 use Rattle.inodes.specs.Lemmas.Holding.{HoldsAlone, claimed_now, none_held, own_grows}
@@ -50,7 +50,6 @@ use Rattle.model.specs.declared.types.operations.Reply.{Reply}
 use Rattle.inodes.specs.Writing.{extent_of, block_of_write}
 use Rattle.inodes.proofs.WriteComes.{fresh_next, comes_next}
 use Rattle.inodes.specs.Lemmas.Bounds.{few_writes}
-use Rattle.blockmap.specs.BmapAlloc.{indirect_of}
 use Rattle.inodes.specs.Growing.{growth_of, bytes_by, HasComeTo}
 use Rattle.loose.specs.Lemmas.GrowthEnds.{resting_refuses}
 use Rattle.loose.specs.Lemmas.BlocksTaken.{turn_grows}

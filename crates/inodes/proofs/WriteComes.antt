@@ -6,12 +6,12 @@ use Rattle.blocks.specs.Disk.{Image}
 use Rattle.model.specs.declared.types.image.Dinode.{Dinode}
 use Rattle.model.specs.declared.types.image.Form.TheVariants.{One}
 use Rattle.model.specs.Fields.{words_of}
-use Rattle.model.specs.Layout.{form_of}
+use Rattle.model.specs.Layout.{form_of, indirect_of}
 use Rattle.model.specs.Places.{address_in}
 use Rattle.loose.specs.HeldLaws.{KeepsAddresses}
 use Rattle.loose.specs.Lemmas.Addresses.{address_direct}
 use Rattle.blockmap.specs.Balloc.{AllocState, first_alloc}
-use Rattle.blockmap.specs.BmapAlloc.{first_way, indirect_of}
+use Rattle.blockmap.specs.BmapAlloc.{first_way}
 use Rattle.blockmap.specs.Map.{mapped_for_writing}
 use Rattle.blockmap.specs.declared.bmap_alloc.MapAt.{MapAt}
 use Rattle.blockmap.specs.declared.bmap_alloc.MapAt.TheVariants as map_at

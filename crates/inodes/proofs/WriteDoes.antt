@@ -9,7 +9,7 @@ use Rattle.bcache.specs.Buffers.{Buffers}
 use Rattle.model.specs.declared.types.image.Dinode.{Dinode}
 use Rattle.model.specs.Codec.{with_entry}
 use Rattle.model.specs.Files.{Files}
-use Rattle.model.specs.Layout.{form_of, inode_block, super_of, greatest_size}
+use Rattle.model.specs.Layout.{form_of, inode_block, super_of, greatest_size, indirect_of}
 use Rattle.model.specs.Places.{address_in}
 use Rattle.loose.specs.Held.{Claims, FitsHeld, Growth, IsClaimedNow, grows, zeroed}
 use Rattle.loose.specs.HeldLaws.{FitsThen}
@@ -26,7 +26,7 @@ use Rattle.wal.specs.declared.types.Get.{Get}
 use Rattle.wal.specs.declared.types.Get.TheVariants as get
 use Rattle.blockmap.specs.Balloc.{AllocState, first_alloc}
 use Rattle.blockmap.specs.Bmap.{some_address}
-use Rattle.blockmap.specs.BmapAlloc.{FindsEntry, MapState, SetsEntry, TakesOne, after_behind, after_direct, after_indirect, behind_at, direct_at, entry_for, indirect_at, indirect_of, naming, with_entry_for}
+use Rattle.blockmap.specs.BmapAlloc.{FindsEntry, MapState, SetsEntry, TakesOne, after_behind, after_direct, after_indirect, behind_at, direct_at, entry_for, indirect_at, naming, with_entry_for}
 use Rattle.driver.specs.Getting.{GetsFor, progress_of, slot_of}
 use Rattle.blockmap.specs.Lemmas.Leading.{leads_behind, leads_direct}
 use Rattle.blockmap.specs.declared.bmap_alloc.MapAt.TheVariants as map_at

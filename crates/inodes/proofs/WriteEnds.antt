@@ -13,7 +13,7 @@ use Rattle.model.specs.declared.types.operations.TaskProgress.TheVariants as pro
 use Rattle.model.specs.Codec.{IsDinode, with_inode, with_inode_bytes}
 use Rattle.model.specs.Files.{Files, file_in}
 use Rattle.model.specs.Journal.{is_number}
-use Rattle.model.specs.Layout.{form_of, greatest_size, inode_block, inode_count_of}
+use Rattle.model.specs.Layout.{form_of, greatest_size, inode_block, inode_count_of, indirect_of}
 use Rattle.model.specs.Lemmas.Inodes.{IsPlaced, inode_of-with_inode, inode_of-with_inode_other}
 use Rattle.model.specs.Operations.{after}
 use Rattle.model.specs.Tasks.{FilesThen, Marks}
@@ -26,7 +26,7 @@ use Rattle.loose.specs.Lemmas.HeldMarks.{growth_keeps}
 use Rattle.wal.specs.Joint.{Joint}
 use Rattle.wal.specs.Machine.{LogState, SameGroups}
 use Rattle.wal.specs.Volume.{VolumeState}
-use Rattle.blockmap.specs.BmapAlloc.{MapState, MapSteps, entry_for, indirect_of}
+use Rattle.blockmap.specs.BmapAlloc.{MapState, MapSteps, entry_for}
 use Rattle.blockmap.specs.Bmap.{some_address}
 use Rattle.driver.specs.Getting.{WritesBlock, progress_of}
 use Rattle.blockmap.specs.declared.bmap_alloc.MapAt.{MapAt}

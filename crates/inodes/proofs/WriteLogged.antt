@@ -1,9 +1,9 @@
 -- How many homes a writing adds to the log: a block that is a home already adds none.
 use Rattle.std.proofs.Common.{◌≡◌, ◌≢◌, ℕ, ◌+◌, ◌<◌, ◌≤◌, Bool, true, false, cond, eqb, length, refl, sym, ◌∙◌, ap, subst, arith, Some}
 use Rattle.std.proofs.lemmas.Bool.{ne_eqb}
+use Rattle.model.specs.Layout.{indirect_of}
 use Rattle.wal.specs.Machine.{LogState, is_among, noted, used_by}
 use Rattle.wal.specs.Lemmas.Rooms.{noted_among, noted_grows, noted_home, used_noted_new}
-use Rattle.blockmap.specs.BmapAlloc.{indirect_of}
 use Rattle.inodes.specs.Writei.{WriteState}
 use Rattle.inodes.specs.Writing.{HasLoggedWrite, at_hand, blocks_left, counted}
 use Rattle.inodes.proofs.Agreeing.{counts_more}

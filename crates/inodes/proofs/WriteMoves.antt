@@ -13,7 +13,7 @@ use Rattle.model.specs.declared.types.operations.Why.{Why}
 use Rattle.model.specs.declared.types.operations.Why.TheVariants as why
 use Rattle.model.specs.Files.{Files}
 use Rattle.model.specs.Journal.{is_number}
-use Rattle.model.specs.Layout.{inode_count_of, super_of}
+use Rattle.model.specs.Layout.{inode_count_of, super_of, indirect_of}
 use Rattle.model.specs.Tasks.{Marks}
 use Rattle.loose.specs.Held.{Claim, Claims, FitsHeld, Growth, IsClaimedNow, grows}
 use Rattle.loose.specs.HeldLaws.{FitsThen}
@@ -24,7 +24,6 @@ use Rattle.wal.specs.Joint.{Joint}
 use Rattle.wal.specs.Held.{GetsLock, HasLock}
 use Rattle.wal.specs.Machine.{LogState, SameGroups}
 use Rattle.wal.specs.Volume.{VolumeState}
-use Rattle.blockmap.specs.BmapAlloc.{indirect_of}
 use Rattle.driver.specs.Getting.{GetsFor, Releases, WritesBlock}
 use Rattle.driver.specs.declared.progress.Progress.{Progress}
 use Rattle.driver.specs.declared.progress.Progress.TheVariants as machine

@@ -6,7 +6,7 @@ use Rattle.blocks.specs.declared.disk.Disk.{Ghosts}
 use Rattle.model.specs.declared.types.image.Dinode.{Dinode}
 use Rattle.model.specs.Codec.{with_bit}
 use Rattle.model.specs.Files.{Files}
-use Rattle.model.specs.Layout.{super_of}
+use Rattle.model.specs.Layout.{super_of, indirect_of}
 use Rattle.model.specs.Tasks.{Marks}
 use Rattle.loose.specs.Held.{Claims, FitsHeld, Growth, IsClaimedNow, grows, zeroed}
 use Rattle.loose.specs.HeldLaws.{FitsThen}
@@ -17,7 +17,7 @@ use Rattle.wal.specs.Volume.{VolumeState}
 use Rattle.wal.specs.declared.types.Get.{Get}
 use Rattle.wal.specs.declared.types.Get.TheVariants as get
 use Rattle.blockmap.specs.Balloc.{AllocState, Allocs, IsLowestClear, TakesLowest, lowest_in, with_taken}
-use Rattle.blockmap.specs.BmapAlloc.{MapState, indirect_of}
+use Rattle.blockmap.specs.BmapAlloc.{MapState}
 use Rattle.driver.specs.Getting.{GetsFor, WritesBlock, progress_of, slot_of}
 use Rattle.blockmap.specs.Lemmas.Bitmap.{lowest_clear_is_lowest}
 use Rattle.blockmap.specs.declared.balloc.AllocAt.{AllocAt}

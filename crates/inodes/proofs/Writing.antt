@@ -8,7 +8,7 @@ use Rattle.model.specs.declared.types.image.File.{File}
 use Rattle.model.specs.declared.types.image.Form.TheVariants.{One}
 use Rattle.model.specs.Files.{Files, file_in}
 use Rattle.model.specs.Journal.{is_number}
-use Rattle.model.specs.Layout.{form_of, inode_block, inode_count_of, super_of}
+use Rattle.model.specs.Layout.{form_of, inode_block, inode_count_of, super_of, indirect_of, bitmap_block}
 use Rattle.model.specs.Lemmas.Soundness.{facts_of}
 use Rattle.loose.specs.GrowthLaws.{HasGrowthBlocks}
 use Rattle.loose.specs.Held.{Claims, FitsHeld, Growth, IsGrowing, grows}
@@ -22,7 +22,7 @@ use Rattle.loose.specs.Lemmas.Remapped.{IsMapped, mapped}
 use Rattle.wal.specs.Joint.{Joint}
 use Rattle.wal.specs.Machine.{HasRoom, used_by}
 use Rattle.blockmap.specs.Balloc.{AllocState, MayAlloc, MayAllocAt}
-use Rattle.blockmap.specs.BmapAlloc.{HasEntries, MapState, MayMapAt, indirect_of}
+use Rattle.blockmap.specs.BmapAlloc.{HasEntries, MapState, MayMapAt}
 use Rattle.driver.specs.Getting.{HoldsWhereGot}
 use Rattle.blockmap.specs.declared.balloc.AllocAt.{AllocAt}
 use Rattle.blockmap.specs.declared.balloc.AllocAt.TheVariants as alloc_at
@@ -34,7 +34,7 @@ use Rattle.inodes.specs.declared.writei.WriteAt.{WriteAt}
 use Rattle.inodes.specs.declared.writei.WriteAt.TheVariants as write_at
 use Rattle.inodes.specs.Grips.{grip, locked_grip}
 use Rattle.inodes.specs.Growing.{HasComeTo, IsOnWay, TakesIn, bytes_by, growth_of, next_block, taken_at, taken_on_way, taken_by}
-use Rattle.inodes.specs.Holding.{bitmap_block, claims_of}
+use Rattle.inodes.specs.Holding.{claims_of}
 use Rattle.inodes.specs.Looks.{AreLooking}
 use Rattle.inodes.specs.Places.{HasSlot, grip_of, grips_of}
 use Rattle.inodes.specs.Store.{StoreState, IsStore, HoldsForWriting, Stands, Agrees, current_of}

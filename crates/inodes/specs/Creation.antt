@@ -1,6 +1,7 @@
 -- What a creation looks for in an inode block.
 use Rattle.std.specs.Prelude.{ℕ, ◌-◌, ◌*◌, ◌==◌, ◌&&◌, Bool, List, find, Option}
 use Rattle.std.specs.List.{range_with_len}
+use Rattle.model.specs.Format.{inode_start, inodes_per_block}
 use Rattle.model.specs.Layout.{inode_in, inode_bytes_in}
 use Rattle.model.specs.Journal.{is_number}
 
@@ -11,7 +12,7 @@ is_free_in block inode_count i =
 
 -- the numbers whose inodes stand in that inode block
 abbrev pub numbers_in : ℕ → List ℕ
-numbers_in block = range_with_len ((block - 33) * 16) 16
+numbers_in block = range_with_len ((block - inode_start) * inodes_per_block) inodes_per_block
 
 -- the lowest free number in an inode block of these bytes
 abbrev pub lowest_free : List ℕ → ℕ → ℕ → Option ℕ

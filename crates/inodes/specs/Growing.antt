@@ -1,6 +1,9 @@
 -- What the writing of a file's bytes holds of its number, and how far it has come.
 use Rattle.std.specs.Prelude.{◌≡◌, ◌≢◌, ◌⊎◌, ◌<◌, ◌≤◌, ℕ, ◌-◌, ◌/◌, List, [], take, slice_index, Option, Some, None}
 use Rattle.blocks.specs.Disk.{Image, block_at}
+use Rattle.blocks.specs.Block.{block_size}
+use Rattle.model.specs.Layout.{direct_count, indirect_of}
+use Rattle.model.specs.declared.types.image.Form.TheVariants.{One}
 use Rattle.model.specs.declared.types.image.Dinode.{Dinode}
 use Rattle.model.specs.declared.types.operations.Op.{Op}
 use Rattle.model.specs.declared.types.operations.Op.TheVariants.{Create, Write, Read, Trunc, Remove, Stat}
@@ -8,7 +11,7 @@ use Rattle.model.specs.Fields.{words_of}
 use Rattle.model.specs.Places.{address_in}
 use Rattle.loose.specs.Held.{Growth}
 use Rattle.blockmap.specs.Balloc.{AllocState}
-use Rattle.blockmap.specs.BmapAlloc.{MapState, indirect_of}
+use Rattle.blockmap.specs.BmapAlloc.{MapState}
 use Rattle.blockmap.specs.declared.balloc.AllocAt.{AllocAt}
 use Rattle.blockmap.specs.declared.balloc.AllocAt.TheVariants as alloc_at
 use Rattle.blockmap.specs.declared.bmap_alloc.MapAt.{MapAt}
@@ -63,7 +66,7 @@ growth_of m bytes = record {
 
 -- the file's block of the next byte
 abbrev pub next_block : WriteState → ℕ
-next_block m = next_byte m / 1024
+next_block m = next_byte m / block_size
 
 -- a block is taken where the writing takes them
 pub record TakesIn (e : Extent) (t : AllocState) : Type 0 where
@@ -73,14 +76,15 @@ pub record TakesIn (e : Extent) (t : AllocState) : Type 0 where
 -- the entry of block k of the file, which has a block of addresses, names no block
 abbrev pub HasNoEntry : Image → Dinode → ℕ → Type 0
 HasNoEntry cur d k =
-    (12 ≤ k) × (indirect_of d ≢ 0)
-    × (slice_index (words_of (block_at cur (indirect_of d))) (k - 12) ≡ 0)
+    (direct_count One ≤ k) × (indirect_of d ≢ 0)
+    × (slice_index (words_of (block_at cur (indirect_of d))) (k - direct_count One) ≡ 0)
 
 -- what isn't there, by where the way stands
 abbrev pub IsOnWay : Image → Dinode → Extent → ℕ → MapAt → Type 0
-IsOnWay cur d e k (map_at.Direct t) = (k < 12) × (slice_index d.addrs k ≡ 0) × TakesIn e t
-IsOnWay cur d e k (map_at.Indirect t) = (12 ≤ k) × (indirect_of d ≡ 0) × TakesIn e t
-IsOnWay cur d e k (map_at.Entry slot) = (12 ≤ k) × (indirect_of d ≢ 0)
+IsOnWay cur d e k (map_at.Direct t) =
+    (k < direct_count One) × (slice_index d.addrs k ≡ 0) × TakesIn e t
+IsOnWay cur d e k (map_at.Indirect t) = (direct_count One ≤ k) × (indirect_of d ≡ 0) × TakesIn e t
+IsOnWay cur d e k (map_at.Entry slot) = (direct_count One ≤ k) × (indirect_of d ≢ 0)
 IsOnWay cur d e k (map_at.Behind i t) = HasNoEntry cur d k × TakesIn e t
 IsOnWay cur d e k (map_at.Setting i found) = HasNoEntry cur d k
 

@@ -2,6 +2,9 @@
 -- far each has come.
 use Rattle.std.specs.Prelude.{◌≡◌, ◌≢◌, ◌<◌, ℕ, ◌+◌, ◌-◌, ◌*◌, ◌/◌, ◌==◌, if◌then◌else◌, IsTrue, List, [], ◌∷◌, replicate, slice_index, Option, Some, None}
 use Rattle.blocks.specs.Disk.{Image}
+use Rattle.model.specs.Layout.{direct_count, indirect_of, bitmap_block}
+use Rattle.model.specs.Format.{addresses_per_block}
+use Rattle.model.specs.declared.types.image.Form.TheVariants.{One}
 use Rattle.model.specs.declared.types.operations.Op.{Op}
 use Rattle.model.specs.declared.types.operations.Op.TheVariants.{Trunc, Remove}
 use Rattle.model.specs.Journal.{is_number}
@@ -50,10 +53,6 @@ claims_of (t ∷ ts) i = or_else (claim_of t i) (claims_of ts i)
 abbrev pub trunc_op : Itrunc → Op
 trunc_op m = if m.removes then Remove m.number else Trunc m.number
 
--- the bitmap's block of an image with so many inode numbers
-abbrev pub bitmap_block : ℕ → ℕ
-bitmap_block n = 33 + n / 16 + 1
-
 -- none of the inode's own addresses before index k is there
 abbrev pub AreGivenUp : Itrunc → ℕ → Type 0
 AreGivenUp m k = (j : ℕ) → j < k → slice_index m.inode.addrs j ≡ 0
@@ -61,16 +60,16 @@ AreGivenUp m k = (j : ℕ) → j < k → slice_index m.inode.addrs j ≡ 0
 -- The freeing of a file's blocks has come so far: what stands before its place was given up.
 abbrev pub HasGivenUp : Image → Itrunc → TruncAt → Type 0
 HasGivenUp cur m (trunc_at.Direct k) =
-    (k < 12) × (m.given_up ≡ 0) × AreGivenUp m k × (slice_index m.inode.addrs k ≢ 0)
+    (k < direct_count One) × (m.given_up ≡ 0) × AreGivenUp m k × (slice_index m.inode.addrs k ≢ 0)
 HasGivenUp cur m trunc_at.Loading =
-    (m.given_up ≡ 0) × AreGivenUp m 12 × (slice_index m.inode.addrs 12 ≢ 0)
+    (m.given_up ≡ 0) × AreGivenUp m (direct_count One) × (indirect_of m.inode ≢ 0)
 HasGivenUp cur m trunc_at.Entry =
-    (m.given_up < 256) × AreGivenUp m 12 × (slice_index m.inode.addrs 12 ≢ 0)
+    (m.given_up < addresses_per_block) × AreGivenUp m (direct_count One) × (indirect_of m.inode ≢ 0)
     × (slice_index (entries_in cur m) m.given_up ≢ 0)
 HasGivenUp cur m trunc_at.Unloading =
-    (m.given_up ≡ 256) × AreGivenUp m 12 × (slice_index m.inode.addrs 12 ≢ 0)
+    (m.given_up ≡ addresses_per_block) × AreGivenUp m (direct_count One) × (indirect_of m.inode ≢ 0)
 HasGivenUp cur m trunc_at.Indirect =
-    (m.given_up ≡ 256) × AreGivenUp m 12 × (slice_index m.inode.addrs 12 ≢ 0)
+    (m.given_up ≡ addresses_per_block) × AreGivenUp m (direct_count One) × (indirect_of m.inode ≢ 0)
 HasGivenUp cur m trunc_at.Updating = m.inode.addrs ≡ replicate 13 0
 
 -- this block is kept
@@ -93,7 +92,7 @@ pub record IsTruncating (cur : Image) (n : ℕ) (t : TaskState) (m : Freeing) : 
   pub number : IsTrue (is_number n m.machine.number)
   pub bitmap : m.machine.bitmap ≡ bitmap_block n
   pub given : HasGivenUp cur m.machine m.machine.at
-  pub keeps : KeepsAt m.kept (slice_index m.machine.inode.addrs 12) m.machine.at
+  pub keeps : KeepsAt m.kept (indirect_of m.machine.inode) m.machine.at
 
 -- ---- how much is left
 

@@ -3,6 +3,7 @@ use Rattle.std.specs.Prelude.{◌≡◌, ◌<◌, ◌≤◌, ℕ, ◌+◌, ◌-�
 use Rattle.blocks.specs.Calls.{OnlyReads}
 use Rattle.blocks.specs.Disk.{Image, block_at}
 use Rattle.blocks.specs.declared.disk.Disk.{Ghosts}
+use Rattle.model.specs.Format.{inode_start, most_inodes}
 use Rattle.wal.specs.declared.types.DeviceFault.{DeviceFault}
 use Rattle.wal.specs.declared.types.DeviceFault.TheVariants.{Block}
 use Rattle.model.specs.declared.types.operations.Why.{Why}
@@ -33,11 +34,11 @@ pub record SearchState : Type 0 where
 -- the search may look at its block, which is an inode block of the image
 pub record IsReady (cur : Image) (c : Buffers) (size pid : ℕ) (m : SearchState) : Type 0 where
   pub kind : m.kind ≤ 3
-  pub behind : 33 ≤ m.block
+  pub behind : inode_start ≤ m.block
   -- up to that of the last number
   pub last : m.block ≤ inode_block (m.inode_count - 1)
   pub some : 2 ≤ m.inode_count
-  pub few : m.inode_count ≤ 1024
+  pub few : m.inode_count ≤ most_inodes
   pub within : inode_block (m.inode_count - 1) < size
   pub holds : HoldsWhereGot cur c pid m.block m.slot
 

@@ -2,9 +2,11 @@
 use Rattle.std.specs.Prelude.{◌≡◌, ◌<◌, ℕ, ◌+◌, ◌-◌, ◌==◌, not, if◌then◌else◌, Bool, List, find, slice_index, slice_set, length, Option, Some, None}
 use Rattle.std.specs.List.{range_with_len}
 use Rattle.blocks.specs.Disk.{Image, block_at}
+use Rattle.model.specs.Format.{addresses_per_block}
+use Rattle.model.specs.declared.types.image.Form.TheVariants.{One}
 use Rattle.model.specs.declared.types.image.Dinode.{Dinode}
 use Rattle.model.specs.Fields.{words_of}
-use Rattle.model.specs.Layout.{inode_block}
+use Rattle.model.specs.Layout.{inode_block, direct_count, indirect_of}
 use Rattle.driver.specs.declared.deed.Deed.{Deed}
 use Rattle.driver.specs.declared.deed.Deed.TheVariants as deed
 use Rattle.driver.specs.declared.deed.Patch.TheVariants as patch
@@ -25,10 +27,10 @@ present_from numbers from end =
 abbrev pub direct_or_on : Dinode → Option ℕ → TruncAt
 direct_or_on d (Some k) = trunc_at.Direct k
 direct_or_on d None =
-    if slice_index d.addrs 12 == 0 then trunc_at.Updating else trunc_at.Loading
+    if indirect_of d == 0 then trunc_at.Updating else trunc_at.Loading
 
 abbrev pub next_direct : Dinode → ℕ → TruncAt
-next_direct d from = direct_or_on d (present_from d.addrs from 12)
+next_direct d from = direct_or_on d (present_from d.addrs from (direct_count One))
 
 -- the freeing of an inode's blocks that begins
 abbrev pub first_trunc : ℕ → Dinode → Bool → ℕ → Itrunc
@@ -44,10 +46,10 @@ first_trunc number d removes bitmap = record {
 -- what is freed next, by the next entry that is there of the block of addresses
 abbrev pub entry_or_on : Itrunc → Option ℕ → Itrunc
 entry_or_on m (Some e) = record m { given_up = e; at = trunc_at.Entry }
-entry_or_on m None = record m { given_up = 256; at = trunc_at.Unloading }
+entry_or_on m None = record m { given_up = addresses_per_block; at = trunc_at.Unloading }
 
 abbrev pub at_entries : Itrunc → List ℕ → ℕ → Itrunc
-at_entries m entries from = entry_or_on m (present_from entries from 256)
+at_entries m entries from = entry_or_on m (present_from entries from addresses_per_block)
 
 -- the inode without its address at index k
 abbrev pub inode_without : Dinode → ℕ → Dinode
@@ -65,9 +67,9 @@ inode_left m = if m.removes then None else Some (last_inode_of m)
 
 -- an address or an entry that is freed is there
 abbrev pub FitsAt : ℕ → TruncAt → Type 0
-FitsAt given_up (trunc_at.Direct k) = k < 12
+FitsAt given_up (trunc_at.Direct k) = k < direct_count One
 FitsAt given_up trunc_at.Loading = Unit {0}
-FitsAt given_up trunc_at.Entry = given_up < 256
+FitsAt given_up trunc_at.Entry = given_up < addresses_per_block
 FitsAt given_up trunc_at.Unloading = Unit {0}
 FitsAt given_up trunc_at.Indirect = Unit {0}
 FitsAt given_up trunc_at.Updating = Unit {0}
@@ -79,7 +81,7 @@ pub record Fits (m : Itrunc) : Type 0 where
 -- what its next step does about blocks
 abbrev pub next_of_trunc : Itrunc → TruncAt → Next
 next_of_trunc m (trunc_at.Direct k) = next.Use m.bitmap
-next_of_trunc m trunc_at.Loading = next.Keep (slice_index m.inode.addrs 12)
+next_of_trunc m trunc_at.Loading = next.Keep (indirect_of m.inode)
 next_of_trunc m trunc_at.Entry = next.Use m.bitmap
 next_of_trunc m trunc_at.Unloading = next.Kept
 next_of_trunc m trunc_at.Indirect = next.Use m.bitmap
@@ -94,7 +96,7 @@ deed_of_trunc m entries trunc_at.Entry =
     deed.Put (patch.ClearBit (slice_index entries m.given_up))
 deed_of_trunc m entries trunc_at.Unloading = deed.Release
 deed_of_trunc m entries trunc_at.Indirect =
-    deed.Put (patch.ClearBit (slice_index m.inode.addrs 12))
+    deed.Put (patch.ClearBit (indirect_of m.inode))
 deed_of_trunc m entries trunc_at.Updating =
     deed.Put (patch.WriteInode m.number (last_inode_of m))
 
@@ -117,7 +119,7 @@ after_trunc m entries trunc_at.Loading = m
 after_trunc m entries trunc_at.Entry = at_entries m entries (m.given_up + 1)
 after_trunc m entries trunc_at.Unloading = record m { at = trunc_at.Indirect }
 after_trunc m entries trunc_at.Indirect =
-    record m { inode = inode_without m.inode 12; at = trunc_at.Updating }
+    record m { inode = inode_without m.inode (direct_count One); at = trunc_at.Updating }
 after_trunc m entries trunc_at.Updating = m
 
 abbrev pub itrunc : Pure Itrunc (Unit {0})
@@ -140,4 +142,4 @@ trunc_next m = next_of_trunc m.machine m.machine.at
 
 -- the entries of the block of addresses in an image
 abbrev pub entries_in : Image → Itrunc → List ℕ
-entries_in x m = words_of (block_at x (slice_index m.inode.addrs 12))
+entries_in x m = words_of (block_at x (indirect_of m.inode))

@@ -2,6 +2,7 @@
 -- between any two steps.
 use Rattle.std.specs.Prelude.{◌≡◌, ◌⊎◌, ◌<◌, ◌≤◌, ℕ, ◌+◌, ◌-◌, ◌/◌, min, IsTrue, List, [], length, Option, Some, None}
 use Rattle.blocks.specs.Disk.{Image}
+use Rattle.blocks.specs.Block.{block_size}
 use Rattle.model.specs.declared.types.image.Dinode.{Dinode}
 use Rattle.model.specs.declared.types.operations.Op.{Op}
 use Rattle.model.specs.declared.types.operations.Op.TheVariants.{Create, Write, Read, Trunc, Remove, Stat}
@@ -76,7 +77,7 @@ pub record HasRead (cur : Image) (off count : ℕ) (m : ReadState) (g : Gathered
   pub end : m.end ≡ min m.inode.size (off + count)
   pub bytes : g.bytes ≡ part_of (bytes_in cur m.inode) off (m.next - off)
   pub room : m.end - m.next ≤ g.room
-  pub leads : LeadsToBlock cur m.inode (m.next / 1024) m.target
+  pub leads : LeadsToBlock cur m.inode (m.next / block_size) m.target
 
 -- the task is that of a reading, which asks for no more bytes than there may be at once
 pub record IsRead (n : ℕ) (t : TaskState) : Type 0 where

@@ -2,6 +2,7 @@
 use Rattle.std.specs.Prelude.{◌≡◌, ◌<◌, ◌≤◌, ℕ, ◌+◌, ◌-◌, ◌*◌, ◌/◌, ◌%◌, ◌++◌, ◌==◌, ◌||◌, nat_le, min, if◌then◌else◌, Bool, true, false, List, Option, Some, None}
 use Rattle.blocks.specs.Disk.{Image}
 use Rattle.blocks.specs.declared.disk.Disk.{Ghosts}
+use Rattle.blocks.specs.Block.{block_size}
 use Rattle.model.specs.declared.types.image.Dinode.{Dinode}
 use Rattle.model.specs.declared.types.operations.Why.{Why}
 use Rattle.model.specs.Files.{bytes_in}
@@ -37,7 +38,7 @@ first_read d offset count =
       inode = d;
       next = offset;
       end = min d.size (offset + count);
-      target = target_for d (offset / 1024);
+      target = target_for d (offset / block_size);
     })
 
 -- the reading may make a step over this volume
@@ -47,7 +48,7 @@ pub record IsReading {D : Type 0} (image : D → Image) (v : VolumeState D) (p :
   pub some : m.next < m.end
   pub inside : m.end ≤ m.inode.size
   pub leads : LeadsTo image v p
-      (address_in (seen (image v.device) v.buffers) m.inode (m.next / 1024)) m.target
+      (address_in (seen (image v.device) v.buffers) m.inode (m.next / block_size)) m.target
 
 -- there is room for the bytes that are left
 abbrev pub HasRoomLeft : ReadState → GatheredBytes → Type 0
@@ -68,7 +69,7 @@ is_done (progress.Fault fault) = false
 
 -- how many bytes of the file's next block are gathered: up to its end, or that of the reading
 abbrev pub next_piece : ReadState → ℕ
-next_piece m = min (1024 - m.next % 1024) (m.end - m.next)
+next_piece m = min (block_size - m.next % block_size) (m.end - m.next)
 
 -- What a step does, by its target: it seeks the block, or uses all that is to be read of it and
 -- releases it, and goes on to the next one.
@@ -80,7 +81,7 @@ Works disk (target.Block b None) v p m r w n =
     (n ≡ record m { target = n.target }) × Seeks disk (target.Block b None) v p r n.target w
 Works disk (target.Block b (Some i)) v p m r w n =
     (n.next ≡ m.next + next_piece m) × IsMade r × Releases disk.image v p i w
-    × OnMore r (n.target ≡ target_for m.inode (n.next / 1024))
+    × OnMore r (n.target ≡ target_for m.inode (n.next / block_size))
 
 -- the bytes from the one place to the other were gathered, in room that there was
 pub record Gathers (file : List ℕ) (m n : ReadState) (g h : GatheredBytes) : Type 0 where
@@ -97,7 +98,7 @@ pub record StaysAsleep {D : Type 0} (v w : VolumeState D) (m n : ReadState) (g h
 
 -- how many steps are left at most: four for each block
 abbrev pub reads_left : ReadState → ℕ
-reads_left m = steps_at m.target + 4 * ((m.end - 1) / 1024 - m.next / 1024)
+reads_left m = steps_at m.target + 4 * ((m.end - 1) / block_size - m.next / block_size)
 
 -- THE PROMISE OF A STEP of the reading of a file: the bytes from its place to the next one are
 -- those of the file in the current image.

@@ -1,12 +1,13 @@
 -- A volume with the tasks of processes, and what is true of it between any two steps.
 use Rattle.std.specs.Prelude.{◌≡◌, ◌⊎◌, true, ◌<◌, ◌≤◌, ◌^◌, ℕ, ◌+◌, ◌-◌, IsTrue, IfNone, List, length, slice_set, Option, Some, None}
 use Rattle.blocks.specs.Disk.{Image}
+use Rattle.model.specs.Format.{inode_start}
 use Rattle.model.specs.declared.types.operations.Op.{Op}
 use Rattle.model.specs.declared.types.operations.Op.TheVariants.{Create, Write, Read, Trunc, Remove, Stat}
 use Rattle.model.specs.declared.types.operations.Reply.{Reply}
 use Rattle.model.specs.declared.types.operations.Reply.TheVariants.{Made, NoInode}
 use Rattle.model.specs.Files.{Files}
-use Rattle.model.specs.Layout.{inode_block, inode_count_of}
+use Rattle.model.specs.Layout.{inode_block, inode_count_of, indirect_of}
 use Rattle.model.specs.Journal.{is_number}
 use Rattle.model.specs.Operations.{is_kind, transfer_limit}
 use Rattle.model.specs.Soundness.{IsLawfulGeometry}
@@ -17,7 +18,6 @@ use Rattle.wal.specs.Joint.{seen}
 use Rattle.wal.specs.Machine.{LogState, used_by, is_among, begin_cause, begun, new_log}
 use Rattle.wal.specs.Volume.{VolumeState}
 use Rattle.model.specs.Gathered.{GatheredBytes}
-use Rattle.blockmap.specs.BmapAlloc.{indirect_of}
 use Rattle.blockmap.specs.Target.{block_of, slot_in}
 use Rattle.driver.specs.Holds.{HoldsBlocks}
 use Rattle.inodes.specs.Ialloc.{SearchState}
@@ -91,7 +91,7 @@ abbrev pub first_place : Op → ℕ → Place
 first_place (Create kind) n = place.Creating (record {
   kind = kind;
   inode_count = n;
-  block = 33;
+  block = inode_start;
   slot = None;
 })
 first_place (Write i off bytes) n = first_taking i
@@ -143,7 +143,7 @@ pub record IsSearching (c : Buffers) (l : LogState) (n p : ℕ) (o : Option Op) 
   pub used : used_by l p ≡ Some 0
   pub count : m.inode_count ≡ n
   pub kind : IsTrue (is_kind m.kind)
-  pub behind : 33 ≤ m.block
+  pub behind : inode_start ≤ m.block
   pub last : m.block ≤ inode_block (n - 1)
   pub holds : HoldsAt c p m.block m.slot
 

@@ -1,5 +1,7 @@
 -- Where an operation goes that has taken its inode.
 use Rattle.std.specs.Prelude.{◌≡◌, ◌≤◌, ℕ, ◌+◌, nat_lt, if◌then◌else◌, length, Option, Some, None, IfSome, Bool, true, false}
+use Rattle.model.specs.Layout.{greatest_size}
+use Rattle.model.specs.declared.types.image.Form.TheVariants.{One}
 use Rattle.model.specs.declared.types.image.Dinode.{Dinode}
 use Rattle.model.specs.declared.types.operations.Op.{Op}
 use Rattle.model.specs.declared.types.operations.Op.TheVariants.{Create, Write, Read, Trunc, Remove, Stat}
@@ -15,13 +17,13 @@ use Rattle.inodes.specs.Writei.{WriteState, first_write}
 
 -- an inode whose file may be read, if there is one
 abbrev pub IsReadable : Option Dinode → Type 0
-IsReadable inode = IfSome inode (λ d. (length d.addrs ≡ 13) × (d.size ≤ 274432))
+IsReadable inode = IfSome inode (λ d. (length d.addrs ≡ 13) × (d.size ≤ greatest_size One))
 
 -- the refusal of a write of n bytes that begins behind the file's end, or that no file has room for
 abbrev pub write_refusal : Dinode → ℕ → ℕ → Option Reply
 write_refusal d off n =
     if nat_lt d.size off then Some BadOffset
-    else if nat_lt 274432 (off + n) then Some TooBig
+    else if nat_lt (greatest_size One) (off + n) then Some TooBig
     else None
 
 -- the reply of an operation that has taken a used inode; a reading's comes later, and that of a

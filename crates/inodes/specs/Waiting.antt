@@ -7,11 +7,10 @@ use Rattle.model.specs.declared.types.operations.TaskProgress.{TaskProgress}
 use Rattle.model.specs.declared.types.operations.TaskProgress.TheVariants as progress
 use Rattle.model.specs.declared.types.operations.Why.{Why}
 use Rattle.model.specs.declared.types.operations.Why.TheVariants as why
-use Rattle.model.specs.Layout.{inode_block}
+use Rattle.model.specs.Layout.{inode_block, indirect_of}
 use Rattle.bcache.specs.Buffers.{Buffers}
 use Rattle.wal.specs.Volume.{cause_to_get}
 use Rattle.blockmap.specs.Balloc.{AllocState}
-use Rattle.blockmap.specs.BmapAlloc.{indirect_of}
 use Rattle.blockmap.specs.Target.{block_of, slot_in}
 use Rattle.blockmap.specs.declared.bmap_alloc.MapAt.{MapAt}
 use Rattle.blockmap.specs.declared.bmap_alloc.MapAt.TheVariants as map_at

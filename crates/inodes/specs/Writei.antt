@@ -1,8 +1,11 @@
 -- The steps in which bytes are written into a file, and its inode is written back.
 use Rattle.std.specs.Prelude.{◌≡◌, ◌<◌, ◌≤◌, ℕ, ◌+◌, ◌-◌, ◌/◌, ◌%◌, ◌==◌, min, max, if◌then◌else◌, List, length, slice_set, Option, Some, None}
-use Rattle.blocks.specs.Block.{overwritten}
+use Rattle.blocks.specs.Block.{overwritten, block_size}
 use Rattle.blocks.specs.Disk.{Image, block_at}
 use Rattle.blocks.specs.declared.disk.Disk.{Ghosts}
+use Rattle.model.specs.Layout.{greatest_size}
+use Rattle.model.specs.Format.{inode_start}
+use Rattle.model.specs.declared.types.image.Form.TheVariants.{One}
 use Rattle.model.specs.declared.types.image.Dinode.{Dinode}
 use Rattle.model.specs.Operations.{part_of}
 use Rattle.wal.specs.Joint.{seen}
@@ -42,7 +45,7 @@ place_of_mapped (for_writing.Behind way) = write_at.Mapping way
 abbrev pub next_place : ℕ → Dinode → ℕ → ℕ → Extent → WriteAt
 next_place number d next left extent =
     if left == 0 then write_at.Updating (first_update number)
-    else place_of_mapped (mapped_for_writing d (next / 1024) extent.bitmap extent.size)
+    else place_of_mapped (mapped_for_writing d (next / block_size) extent.bitmap extent.size)
 
 -- the writing that begins
 abbrev pub first_write : ℕ → Dinode → ℕ → ℕ → Extent → WriteState
@@ -61,7 +64,7 @@ abbrev pub next_byte : WriteState → ℕ
 next_byte m = m.offset + m.done
 
 abbrev pub piece : WriteState → ℕ
-piece m = min (1024 - next_byte m % 1024) (m.count - m.done)
+piece m = min (block_size - next_byte m % block_size) (m.count - m.done)
 
 -- those bytes
 abbrev pub piece_of : WriteState → List ℕ → List ℕ
@@ -74,7 +77,7 @@ abbrev pub MayWriteAt : {D : Type 0} → (D → Image) → VolumeState D → ℕ
     → Type 0
 MayWriteAt image v p m (write_at.Mapping way) = MayMap image v p way m.inode
 MayWriteAt image v p m (write_at.Block b slot) =
-    (m.done < m.count) × (33 ≤ b) × (b < v.log.size)
+    (m.done < m.count) × (inode_start ≤ b) × (b < v.log.size)
     × HoldsWhereGot (seen (image v.device) v.buffers) v.buffers p b slot
 MayWriteAt image v p m (write_at.Updating u) = MayUpdate image v p u
 
@@ -82,7 +85,7 @@ pub record MayWrite {D : Type 0} (image : D → Image) (v : VolumeState D) (p : 
     : Type 0 where
   pub addrs : length m.inode.addrs ≡ 13
   pub done : m.done ≤ m.count
-  pub fits : m.offset + m.count ≤ 274432
+  pub fits : m.offset + m.count ≤ greatest_size One
   pub at : MayWriteAt image v p m m.at
 
 -- the block to which the way came, or none
@@ -130,7 +133,7 @@ with_piece m =
 -- the image with them in block b
 abbrev pub with_written : Image → WriteState → List ℕ → ℕ → Image
 with_written x m bytes b =
-    slice_set x b (overwritten (block_at x b) (next_byte m % 1024) (piece_of m bytes))
+    slice_set x b (overwritten (block_at x b) (next_byte m % block_size) (piece_of m bytes))
 
 -- a step that gets the next block, or writes into it the bytes that belong there
 abbrev pub GetsNext : {D N : Type 0} → Ghosts D N → VolumeState D → ℕ → WriteState → ℕ

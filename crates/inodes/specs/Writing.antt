@@ -2,14 +2,15 @@
 -- and logged, and how much is left.
 use Rattle.std.specs.Prelude.{◌≡◌, ◌≤◌, ℕ, ◌+◌, ◌-◌, ◌*◌, ◌/◌, ◌==◌, if◌then◌else◌, IsTrue, List, length, Option, Some, None}
 use Rattle.blocks.specs.Disk.{Image}
+use Rattle.blocks.specs.Block.{block_size}
+use Rattle.model.specs.declared.types.image.Form.TheVariants.{One}
 use Rattle.model.specs.declared.types.image.Dinode.{Dinode}
 use Rattle.model.specs.declared.types.operations.Op.TheVariants.{Write}
 use Rattle.model.specs.Journal.{is_number}
-use Rattle.model.specs.Layout.{inode_block}
+use Rattle.model.specs.Layout.{inode_block, greatest_size, indirect_of, bitmap_block}
 use Rattle.model.specs.Operations.{transfer_limit}
 use Rattle.wal.specs.Machine.{LogState, is_among, used_by}
 use Rattle.blockmap.specs.Balloc.{AllocState}
-use Rattle.blockmap.specs.BmapAlloc.{indirect_of}
 use Rattle.blockmap.specs.declared.balloc.AllocAt.{AllocAt}
 use Rattle.blockmap.specs.declared.balloc.AllocAt.TheVariants as alloc_at
 use Rattle.blockmap.specs.declared.bmap_alloc.MapAt.{MapAt}
@@ -18,7 +19,7 @@ use Rattle.inodes.specs.declared.writei.Extent.{Extent}
 use Rattle.inodes.specs.declared.writei.WriteAt.{WriteAt}
 use Rattle.inodes.specs.declared.writei.WriteAt.TheVariants as write_at
 use Rattle.inodes.specs.Growing.{HasComeTo}
-use Rattle.inodes.specs.Holding.{bitmap_block, uses_left}
+use Rattle.inodes.specs.Holding.{uses_left}
 use Rattle.inodes.specs.Tasks.{TaskState}
 use Rattle.inodes.specs.Writei.{WriteState, piece}
 
@@ -34,7 +35,7 @@ pub record IsWriting (cur : Image) (n : ℕ) (t : TaskState) (m : WriteState) : 
   pub few : length bytes ≤ transfer_limit
   pub all : length bytes ≡ m.count
   pub done : m.done ≤ m.count
-  pub fits : m.offset + m.count ≤ 274432
+  pub fits : m.offset + m.count ≤ greatest_size One
   pub extent : m.extent ≡ extent_of n (length cur)
   pub come : HasComeTo cur m m.at
 
@@ -92,7 +93,7 @@ block_of_write m (write_at.Updating u) = inode_block u.number
 
 -- so many blocks of the file come behind the one at hand
 abbrev pub blocks_behind : WriteState → ℕ
-blocks_behind m = (m.count - (m.done + piece m) + 1023) / 1024
+blocks_behind m = (m.count - (m.done + piece m) + (block_size - 1)) / block_size
 
 -- the steps of taking a block: the bitmap's block is got and used, and then the block itself
 abbrev pub alloc_left : AllocAt → ℕ

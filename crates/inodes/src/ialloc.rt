@@ -1,5 +1,6 @@
 // A creation's search for a free inode number.
 ghost use Rattle.std.specs.Prelude.{◌≡◌, ◌<◌, ◌≤◌, ◌-◌, Some, None, if◌then◌else◌};
+ghost use Rattle.model.specs.Format.{inode_start, most_blocks, most_inodes};
 ghost use Rattle.model.specs.Layout.{inode_block};
 ghost use Rattle.model.specs.Codec.{new_inode, with_inode};
 ghost use Rattle.wal.specs.Machine.{used_by, HasRoom};
@@ -11,7 +12,7 @@ ghost use Rattle.inodes.specs.Ialloc.{MayStep, SearchSteps, is_last_block, at_ne
 
 use crate::Progress;
 use blocks::{Block, Disk};
-use layout::inode;
+use layout::{INODE_START, INODES_PER_BLOCK, inode, inode_block, inode_offset};
 use model::types::Dinode;
 use std::marker::Model;
 use wal::{Get, Volume};
@@ -59,14 +60,14 @@ impl Ialloc {
         ensures { result ≡ record {
           kind = kind;
           inode_count = inode_count;
-          block = 33;
+          block = inode_start;
           slot = None;
         } }
     {
         Ialloc {
             kind,
             inode_count,
-            block: 33,
+            block: INODE_START,
             slot: None,
         }
     }
@@ -135,14 +136,14 @@ impl Ialloc {
     // Goes on to the next block, if it has a number that operations may name.
     fn go_on(&mut self) -> Progress<Option<u32>>
         requires some { 2 ≤ self.old.inode_count }
-        requires few { self.old.inode_count ≤ 1024 }
+        requires few { self.old.inode_count ≤ most_inodes }
         requires last { self.old.block ≤ inode_block (self.old.inode_count - 1) }
         ensures answer { result
             ≡ (if is_last_block self.old then Progress.Over None else Progress.Moved) }
         ensures search { self.new
             ≡ (if is_last_block self.old then self.old else at_next_block self.old) }
     {
-        if self.block == 33 + (self.inode_count - 1) / 16 {
+        if self.block == inode_block(self.inode_count - 1) {
             return Progress::Over(None);
         }
         self.block += 1;
@@ -163,7 +164,7 @@ fn claim<D: Disk>(volume: &mut Volume<D>, pid: u32, slot: u32, i: u32, kind: u16
     ensures current { seen (D.image volume.new.device) volume.new.buffers
         ≡ with_inode (seen (D.image volume.old.device) volume.old.buffers) i (new_inode kind) }
 {
-    let at = (i % 16 * 64) as usize;
+    let at = inode_offset(i);
     volume.change(pid, slot, at, &inode::bytes(&new_inode(kind)));
     volume.release(pid, slot);
 }
@@ -177,12 +178,12 @@ fn is_free(block: &Block, i: u32, inode_count: u32) -> bool
 
 // The lowest free number in an inode block.
 fn lowest_free(bytes: &Block, inode_count: u32, block: u32) -> Option<u32>
-    requires behind { 33 ≤ block }
-    requires small { block < 8192 }
+    requires behind { inode_start ≤ block }
+    requires small { block ≤ most_blocks }
     ensures { result ≡ lowest_free bytes.now inode_count block }
 {
-    let first = (block - 33) * 16;
-    (first..first + 16).find(|i| is_free(bytes, *i, inode_count))
+    let first = (block - INODE_START) * INODES_PER_BLOCK;
+    (first..first + INODES_PER_BLOCK).find(|i| is_free(bytes, *i, inode_count))
 }
 
 fn new_inode(kind: u16) -> Dinode

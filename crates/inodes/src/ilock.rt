@@ -11,7 +11,7 @@ ghost use Rattle.inodes.specs.declared.ilock.LockAt.TheVariants as lock_at;
 use crate::{Inodes, Progress};
 use blocks::Disk;
 use driver::{get_block, release_block};
-use layout::inode;
+use layout::{inode, inode_block};
 use model::types::Why;
 use std::marker::Model;
 use wal::Volume;
@@ -126,7 +126,7 @@ impl Ilock {
         ensures { GetsInode D.Disk volume.old pid place self.old result volume.new self.new }
     {
         let mut slot = None;
-        let progress = get_block(volume, pid, 33 + self.number / 16, &mut slot);
+        let progress = get_block(volume, pid, inode_block(self.number), &mut slot);
         self.at = LockAt::Read { place, slot };
         progress
     }

@@ -1,11 +1,15 @@
 // The blocks of a file are freed.
 ghost use Rattle.std.specs.Prelude.{◌≡◌, ◌≤◌, length};
+ghost use Rattle.model.specs.Layout.{direct_count};
+ghost use Rattle.model.specs.Format.{addresses_per_block};
+ghost use Rattle.model.specs.declared.types.image.Form.TheVariants.{One};
 ghost use Rattle.model.specs.Fields.{words_of};
 ghost use Rattle.inodes.specs.Itrunc.{first_trunc, inode_left, last_inode_of, at_entries, next_direct, present_from};
 
 use blocks::Block;
 use driver::{Deed, Machine, Next, Patch};
 use layout::entries::entry;
+use layout::{ADDRESSES_PER_BLOCK, DIRECT_COUNT, inode_block};
 use model::types::Dinode;
 
 /// Where the freeing of a file's blocks stands.
@@ -85,7 +89,7 @@ impl Itrunc {
 
     // Goes on with the first entry from an index on that is there.
     fn go_to_entry(&mut self, entries: &Block, from: u32)
-        requires { from ≤ 256 }
+        requires { from ≤ addresses_per_block }
         ensures { self.new ≡ at_entries self.old (words_of entries.now) from }
     {
         match next_entry(entries, from) {
@@ -94,7 +98,7 @@ impl Itrunc {
                 self.at = TruncAt::Entry;
             }
             None => {
-                self.given_up = 256;
+                self.given_up = ADDRESSES_PER_BLOCK as u32;
                 self.at = TruncAt::Unloading;
             }
         }
@@ -122,9 +126,9 @@ impl Machine for Itrunc {
     fn next(&self) -> Next {
         match self.at {
             TruncAt::Direct(_) | TruncAt::Entry | TruncAt::Indirect => Next::Use(self.bitmap),
-            TruncAt::Loading => Next::Keep(self.inode.addrs[12]),
+            TruncAt::Loading => Next::Keep(self.inode.addrs[DIRECT_COUNT]),
             TruncAt::Unloading => Next::Kept,
-            TruncAt::Updating => Next::Use(33 + self.number / 16),
+            TruncAt::Updating => Next::Use(inode_block(self.number)),
         }
     }
 
@@ -151,8 +155,8 @@ impl Machine for Itrunc {
                 (Deed::Release, None)
             }
             TruncAt::Indirect => {
-                let freed = self.inode.addrs[12];
-                self.inode.addrs[12] = 0;
+                let freed = self.inode.addrs[DIRECT_COUNT];
+                self.inode.addrs[DIRECT_COUNT] = 0;
                 self.at = TruncAt::Updating;
                 (Deed::Put(Patch::ClearBit(freed)), None)
             }
@@ -168,12 +172,12 @@ impl Machine for Itrunc {
 // What is freed next, where the inode's own addresses before an index were given up.
 fn next_direct(inode: &Dinode, from: usize) -> TruncAt
     requires addrs { length inode.now.addrs ≡ 13 }
-    requires from { from ≤ 12 }
+    requires from { from ≤ direct_count One }
     ensures { result ≡ next_direct inode.now from }
 {
     match next_address(inode, from) {
         Some(index) => TruncAt::Direct(index),
-        None if inode.addrs[12] == 0 => TruncAt::Updating,
+        None if inode.addrs[DIRECT_COUNT] == 0 => TruncAt::Updating,
         None => TruncAt::Loading,
     }
 }
@@ -181,16 +185,16 @@ fn next_direct(inode: &Dinode, from: usize) -> TruncAt
 // The first of the inode's own addresses from an index on that is there.
 fn next_address(inode: &Dinode, from: usize) -> Option<usize>
     requires addrs { length inode.now.addrs ≡ 13 }
-    requires from { from ≤ 12 }
-    ensures { result ≡ present_from inode.now.addrs from 12 }
+    requires from { from ≤ direct_count One }
+    ensures { result ≡ present_from inode.now.addrs from (direct_count One) }
 {
-    (from..12).find(|index| inode.addrs[*index] != 0)
+    (from..DIRECT_COUNT).find(|index| inode.addrs[*index] != 0)
 }
 
 // The first entry of a block of addresses from an index on that is there.
 fn next_entry(entries: &Block, from: u32) -> Option<u32>
-    requires { from ≤ 256 }
-    ensures { result ≡ present_from (words_of entries.now) from 256 }
+    requires { from ≤ addresses_per_block }
+    ensures { result ≡ present_from (words_of entries.now) from addresses_per_block }
 {
-    (from..256).find(|index| entry(entries, *index) != 0)
+    (from..ADDRESSES_PER_BLOCK as u32).find(|index| entry(entries, *index) != 0)
 }

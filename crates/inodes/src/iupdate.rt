@@ -5,7 +5,7 @@ ghost use Rattle.inodes.specs.Iupdate.{MayUpdate, Updates};
 
 use blocks::Disk;
 use driver::{Progress, get_block, put_block};
-use layout::inode;
+use layout::{inode, inode_block, inode_offset};
 use model::types::Dinode;
 use std::marker::Model;
 use wal::Volume;
@@ -55,9 +55,9 @@ impl Iupdate {
             result self.new volume.new }
     {
         let Some(slot) = self.slot else {
-            return get_block(volume, pid, 33 + self.number / 16, &mut self.slot);
+            return get_block(volume, pid, inode_block(self.number), &mut self.slot);
         };
-        let at = (self.number % 16 * 64) as usize;
+        let at = inode_offset(self.number);
         put_block(volume, pid, slot, at, &inode::bytes(dinode));
         Progress::Over(())
     }

@@ -1,5 +1,6 @@
 // The steps of operations that take an inode.
 ghost use Rattle.std.specs.Prelude.{◌≡◌, ◌<◌, ◌≤◌, length, Some, None, if◌then◌else◌};
+ghost use Rattle.model.specs.Format.{most_inodes};
 ghost use Rattle.model.specs.declared.types.operations.Op.{Op};
 ghost use Rattle.model.specs.Operations.{transfer_limit};
 ghost use Rattle.inodes.specs.Looks.{CanLook, HasRoom};
@@ -16,11 +17,9 @@ ghost use Rattle.inodes.specs.declared.tasks.Place.TheVariants as stands_at;
 use crate::{Extent, Ilock, Inodes, Itrunc, Place, Progress, Readi, Store, Writei};
 use blocks::Disk;
 use driver::Driven;
+use layout::{GREATEST_SIZE, bitmap_block};
 use model::gathered::Gathered;
 use model::types::{Dinode, Op, Reply, TaskProgress};
-
-// The bytes that a file has at most.
-const GREATEST_SIZE: usize = 274_432;
 
 impl<D: Disk> Store<D> {
     /// Begins the task of an operation that looks at a file, and opens nothing in the log. A reading
@@ -226,7 +225,7 @@ fn write_refusal(inode: &Dinode, offset: u32, count: usize) -> Option<Reply>
     if offset > inode.size {
         return Some(Reply::BadOffset);
     }
-    if offset as usize + count > GREATEST_SIZE {
+    if offset as usize + count > GREATEST_SIZE as usize {
         return Some(Reply::TooBig);
     }
     None
@@ -244,11 +243,11 @@ fn bytes_of(op: &Op) -> &[u8]
 
 // Where blocks are taken in an image of so many inode numbers and blocks.
 fn extent_of(inode_count: u32, size: u32) -> Extent
-    requires { inode_count ≤ 1024 }
+    requires { inode_count ≤ most_inodes }
     ensures { result ≡ extent_of inode_count size }
 {
     Extent {
-        bitmap: 34 + inode_count / 16,
+        bitmap: bitmap_block(inode_count),
         size,
     }
 }

@@ -6,7 +6,7 @@ ghost use Rattle.inodes.specs.Readi.{first_read, IsReading, HasRoomLeft, ReadSte
 
 use crate::Progress;
 use blockmap::{Target, seek, target_for};
-use blocks::Disk;
+use blocks::{BLOCK_SIZE, Disk};
 use driver::release_block;
 use model::gathered::Gathered;
 use model::types::Dinode;
@@ -61,7 +61,7 @@ impl Readi {
             inode: *inode,
             next: offset,
             end: offset + count.min(inode.size - offset),
-            target: target_for(inode, offset / 1024),
+            target: target_for(inode, offset / BLOCK_SIZE as u32),
         })
     }
 
@@ -116,15 +116,15 @@ impl Readi {
             volume.new self.new into.new }
     {
         volume.known();
-        let at = self.next % 1024;
-        let count = (1024 - at).min(self.end - self.next);
+        let at = self.next % BLOCK_SIZE as u32;
+        let count = (BLOCK_SIZE as u32 - at).min(self.end - self.next);
         into.add(&volume.data(slot).as_slice()[at as usize..(at + count) as usize]);
         release_block(volume, pid, slot);
         self.next += count;
         if self.next == self.end {
             return Progress::Over(());
         }
-        self.target = target_for(&self.inode, self.next / 1024);
+        self.target = target_for(&self.inode, self.next / BLOCK_SIZE as u32);
         Progress::Moved
     }
 }

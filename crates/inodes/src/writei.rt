@@ -6,7 +6,7 @@ ghost use Rattle.inodes.specs.declared.writei.WriteAt.TheVariants as write_at;
 
 use crate::Iupdate;
 use blockmap::{BmapAlloc, MappedForWriting, map_for_writing};
-use blocks::Disk;
+use blocks::{BLOCK_SIZE, Disk};
 use driver::{Progress, get_block, put_block};
 use model::types::Dinode;
 use std::marker::Model;
@@ -200,8 +200,8 @@ impl Writei {
             self.new volume.new }
     {
         let next = self.offset + self.done;
-        let at = next % 1024;
-        let count = (1024 - at).min(self.count - self.done);
+        let at = next % BLOCK_SIZE as u32;
+        let count = (BLOCK_SIZE as u32 - at).min(self.count - self.done);
         let from = self.done as usize;
         put_block(
             volume,
@@ -251,7 +251,7 @@ fn next_place(number: u32, inode: &Dinode, next: u32, left: u32, extent: Extent)
     if left == 0 {
         return WriteAt::Updating(Iupdate::new(number));
     }
-    place_of_mapped(map_for_writing(inode, next / 1024, extent.bitmap, extent.size))
+    place_of_mapped(map_for_writing(inode, next / BLOCK_SIZE as u32, extent.bitmap, extent.size))
 }
 
 // Where a block is found.

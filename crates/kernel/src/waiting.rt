@@ -7,10 +7,7 @@ ghost use Rattle.journal.specs.Journal.{plain_reply};
 ghost use Rattle.kernel.specs.State.{waiting_of};
 ghost use Rattle.kernel.specs.declared.waiting.Waiting.TheVariants as waiting;
 
-use model::types::{Op, Reply};
-
-// The most bytes that one read or write moves.
-const TRANSFER_LIMIT: u32 = 3072;
+use model::types::{Op, Reply, TRANSFER_LIMIT};
 
 // What waits for a process.
 #[derive(Clone, Copy)]

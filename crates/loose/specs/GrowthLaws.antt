@@ -1,14 +1,16 @@
 -- Laws over images in which tasks write files.
 use Rattle.std.specs.Prelude.{◌≡◌, ◌≢◌, ◌⊎◌, ℕ, ◌+◌, ◌*◌, ◌/◌, ◌%◌, ◌<◌, ◌≤◌, false, List, [], length, take, slice_index, slice_set, max, Some, None}
-use Rattle.blocks.specs.Block.{overwritten, zero_block}
+use Rattle.blocks.specs.Block.{overwritten, zero_block, block_size}
 use Rattle.blocks.specs.Disk.{Image, block_at}
+use Rattle.model.specs.Format.{addresses_per_block}
+use Rattle.model.specs.declared.types.image.Form.TheVariants.{One}
 use Rattle.model.specs.declared.types.image.File.{File}
 use Rattle.model.specs.declared.types.operations.Op.TheVariants.{Write}
 use Rattle.model.specs.declared.types.operations.Reply.TheVariants.{BadOffset, TooBig, Wrote}
 use Rattle.model.specs.Codec.{with_inode}
 use Rattle.model.specs.Fields.{words_of}
 use Rattle.model.specs.Files.{Files, file_in}
-use Rattle.model.specs.Layout.{form_of, inode_of, is_marked, greatest_size}
+use Rattle.model.specs.Layout.{form_of, inode_of, is_marked, greatest_size, direct_count, indirect_of}
 use Rattle.model.specs.Operations.{after, with_bytes, transfer_limit}
 use Rattle.model.specs.Places.{address_in}
 use Rattle.model.specs.Tasks.{Marks}
@@ -54,31 +56,32 @@ TakenZeroed = (m : Files) (x : Image) (claims : Claims) (i b : ℕ) (g : Growth)
 -- by one of the copy's own addresses
 abbrev pub DirectPlaced : Type 0
 DirectPlaced = (m : Files) (x : Image) (claims new : Claims) (i k b : ℕ) (g : Growth) →
-    IsHeldIn m x claims i (grows g) → g.taken ≡ Some b → k < 12 → slice_index g.copy.addrs k ≡ 0 →
+    IsHeldIn m x claims i (grows g) → g.taken ≡ Some b → k < direct_count One →
+    slice_index g.copy.addrs k ≡ 0 →
     IsClaimedNow claims i (Some (grows (placing g k b))) new → FitsHeld m x new
 
 -- as its block of addresses, where it is one of zeroes
 abbrev pub IndirectPlaced : Type 0
 IndirectPlaced = (m : Files) (x : Image) (claims new : Claims) (i b : ℕ) (g : Growth) →
-    IsHeldIn m x claims i (grows g) → g.taken ≡ Some b → slice_index g.copy.addrs 12 ≡ 0 →
+    IsHeldIn m x claims i (grows g) → g.taken ≡ Some b → indirect_of g.copy ≡ 0 →
     block_at x b ≡ zero_block →
-    IsClaimedNow claims i (Some (grows (placing g 12 b))) new → FitsHeld m x new
+    IsClaimedNow claims i (Some (grows (placing g (direct_count One) b))) new → FitsHeld m x new
 
 -- by an entry of its block of addresses
 abbrev pub EntryPlaced : Type 0
 EntryPlaced = (m : Files) (x : Image) (claims new : Claims) (i a e b : ℕ) (g : Growth) →
-    IsHeldIn m x claims i (grows g) → g.taken ≡ Some b → slice_index g.copy.addrs 12 ≡ a → a ≢ 0 →
-    e < 256 → slice_index (words_of (block_at x a)) e ≡ 0 →
+    IsHeldIn m x claims i (grows g) → g.taken ≡ Some b → indirect_of g.copy ≡ a → a ≢ 0 →
+    e < addresses_per_block → slice_index (words_of (block_at x a)) e ≡ 0 →
     IsClaimedNow claims i (Some (grows (placed_behind g))) new →
     FitsThen m x claims i (with_address x a e b) new
-    × (address_in (with_address x a e b) g.copy (12 + e) ≡ b)
+    × (address_in (with_address x a e b) g.copy (direct_count One + e) ≡ b)
 
 -- ---- bytes are written
 
 -- the next of them into the block that has the place of the first, to whose end they may reach
 pub record WritesNext (x : Image) (g : Growth) (k at b : ℕ) (bytes : List ℕ) : Type 0 where
-  pub place : g.offset + length g.written ≡ k * 1024 + at
-  pub inside : at + length bytes ≤ 1024
+  pub place : g.offset + length g.written ≡ k * block_size + at
+  pub inside : at + length bytes ≤ block_size
   pub some : 1 ≤ length bytes
   pub fits : g.offset + length g.written + length bytes ≤ greatest_size (form_of x)
   pub block : address_in x g.copy k ≡ b
@@ -88,7 +91,7 @@ abbrev pub BytesWritten : Type 0
 BytesWritten = (m : Files) (x : Image) (claims new : Claims) (i k at b : ℕ) (bytes : List ℕ)
     (g : Growth) → IsHeldIn m x claims i (grows g) → WritesNext x g k at b bytes →
     IsClaimedNow claims i
-    (Some (grows (reaching g (max g.copy.size (k * 1024 + at + length bytes)) bytes))) new →
+    (Some (grows (reaching g (max g.copy.size (k * block_size + at + length bytes)) bytes))) new →
     FitsThen m x claims i (with_data x b at bytes) new
 
 -- ---- the end
@@ -113,7 +116,7 @@ pub record HasWritten (x : Image) (g : Growth) (off : ℕ) (bytes : List ℕ) (k
   pub few : length bytes ≤ transfer_limit
   pub fits : off + length bytes ≤ greatest_size (form_of x)
   pub ends : (k ≡ length bytes)
-      ⊎ (((off + k) % 1024 ≡ 0) × (address_in x g.copy ((off + k) / 1024) ≡ 0))
+      ⊎ (((off + k) % block_size ≡ 0) × (address_in x g.copy ((off + k) / block_size) ≡ 0))
 
 -- these are the files after that write
 abbrev pub GrowthAnswers : Type 0
@@ -130,11 +133,11 @@ pub record HasGrowthBlocks (x : Image) (g : Growth) (old : File) : Type 0 where
   pub leads : HasDataBlocks x g.copy
   pub reached : (k : ℕ) → k < 268 → address_in x g.copy k ≢ 0 →
       IsMarkedData x (address_in x g.copy k)
-  pub indirect : slice_index g.copy.addrs 12 ≢ 0 → IsMarkedData x (slice_index g.copy.addrs 12)
+  pub indirect : indirect_of g.copy ≢ 0 → IsMarkedData x (indirect_of g.copy)
   pub taken : (b : ℕ) → g.taken ≡ Some b → IsMarkedData x b
-  pub apart : (b : ℕ) → g.taken ≡ Some b → slice_index g.copy.addrs 12 ≢ b
+  pub apart : (b : ℕ) → g.taken ≡ Some b → indirect_of g.copy ≢ b
   pub reached_apart : (k : ℕ) → k < 268 → address_in x g.copy k ≢ 0 →
-      slice_index g.copy.addrs 12 ≢ address_in x g.copy k
+      indirect_of g.copy ≢ address_in x g.copy k
   pub size : g.copy.size ≡ max (length old.bytes) (g.offset + length g.written)
 
 abbrev pub GrowthHasBlocks : Type 0

@@ -3,13 +3,14 @@ use Rattle.std.specs.Prelude.{◌≡◌, ◌≢◌, ◌⊎◌, ℕ, ◌<◌, ◌
 use Rattle.std.specs.List.{filter, flat_map}
 use Rattle.blocks.specs.Block.{overwritten, zero_block}
 use Rattle.blocks.specs.Disk.{Image, block_at}
+use Rattle.model.specs.declared.types.image.Form.TheVariants.{One}
 use Rattle.model.specs.declared.types.image.Dinode.{Dinode}
 use Rattle.model.specs.declared.types.image.File.{File}
 use Rattle.model.specs.Codec.{IsDinode, with_bit, without_bit, with_entry}
 use Rattle.model.specs.Crash.{labels_of}
 use Rattle.model.specs.Fields.{words_of}
 use Rattle.model.specs.Files.{Files, file_in, bytes_in}
-use Rattle.model.specs.Layout.{super_of, inode_of, inode_count_of}
+use Rattle.model.specs.Layout.{super_of, inode_of, inode_count_of, direct_count, indirect_of}
 use Rattle.model.specs.Places.{pointers_in, pointers_of, addresses_in, numbers_of}
 use Rattle.model.specs.Soundness.{IsLawfulGeometry}
 use Rattle.loose.specs.Loose.{AreFull, IsLoose, IsFit, IsAtRest}
@@ -54,7 +55,7 @@ entries_left x address given_up =
 -- then one of a block of addresses
 abbrev pub names_left : Image → Dinode → ℕ → List ℕ
 names_left x d given_up =
-    present (take 12 d.addrs) ++ entries_left x (slice_index d.addrs 12) given_up
+    present (take (direct_count One) d.addrs) ++ entries_left x (indirect_of d) given_up
 
 -- the block that was taken, if there is one
 abbrev pub listed : Option ℕ → List ℕ

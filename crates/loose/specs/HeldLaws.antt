@@ -1,6 +1,8 @@
 -- Laws over images in which tasks hold files.
 use Rattle.std.specs.Prelude.{◌≡◌, ◌≢◌, ◌↔◌, ◌⊎◌, ℕ, ◌+◌, ◌<◌, ◌≤◌, IsTrue, true, length, replicate, slice_index, slice_set, Some, None}
 use Rattle.blocks.specs.Disk.{Image, block_at}
+use Rattle.model.specs.Format.{addresses_per_block}
+use Rattle.model.specs.declared.types.image.Form.TheVariants.{One}
 use Rattle.model.specs.declared.types.image.Dinode.{Dinode}
 use Rattle.model.specs.declared.types.operations.Op.TheVariants.{Create, Read, Trunc, Remove, Stat}
 use Rattle.model.specs.declared.types.operations.Reply.TheVariants.{Done, Made, Bytes, StatOf}
@@ -9,7 +11,7 @@ use Rattle.model.specs.Codec.{with_inode, new_inode}
 use Rattle.model.specs.Fields.{words_of}
 use Rattle.model.specs.Files.{Files, files_of, bytes_in}
 use Rattle.model.specs.Journal.{is_number}
-use Rattle.model.specs.Layout.{form_of, inode_of, inode_count_of, is_marked}
+use Rattle.model.specs.Layout.{form_of, inode_of, inode_count_of, is_marked, direct_count, indirect_of}
 use Rattle.model.specs.Log.{logged_count}
 use Rattle.model.specs.Operations.{after, is_kind, part_of, transfer_limit}
 use Rattle.model.specs.Places.{address_in}
@@ -42,8 +44,8 @@ pub record HasSameFile (x y : Image) (i : ℕ) : Type 0 where
 
 -- the block of addresses that a copy names, where it names one, is the same
 abbrev pub KeepsAddresses : Image → Image → Dinode → Type 0
-KeepsAddresses x y d = slice_index d.addrs 12 ≢ 0 →
-    block_at y (slice_index d.addrs 12) ≡ block_at x (slice_index d.addrs 12)
+KeepsAddresses x y d = indirect_of d ≢ 0 →
+    block_at y (indirect_of d) ≡ block_at x (indirect_of d)
 
 -- the task's copy of its inode
 abbrev pub copy_in : Claim → Dinode
@@ -82,19 +84,19 @@ pub record IsHeldIn (m : Files) (x : Image) (claims : Claims) (i : ℕ) (c : Cla
 
 -- an entry of the block of addresses of a task's copy
 abbrev pub entry_at : Image → Held → ℕ → ℕ
-entry_at x h e = slice_index (words_of (block_at x (slice_index h.copy.addrs 12))) e
+entry_at x h e = slice_index (words_of (block_at x (indirect_of h.copy))) e
 
 -- a data block that the copy names is given up: the address in the copy becomes 0
 abbrev pub DirectGivenUp : Type 0
 DirectGivenUp = (m : Files) (x : Image) (claims new : Claims) (i k : ℕ) (h : Held) →
-    IsHeldIn m x claims i (frees h) → k < 12 → slice_index h.copy.addrs k ≢ 0 →
+    IsHeldIn m x claims i (frees h) → k < direct_count One → slice_index h.copy.addrs k ≢ 0 →
     IsClaimedNow claims i (Some (frees (without_address h k))) new →
     FitsThen m x claims i (unmarked x (slice_index h.copy.addrs k)) new
 
 -- an entry of the block of addresses, the next in order
 abbrev pub EntryGivenUp : Type 0
 EntryGivenUp = (m : Files) (x : Image) (claims new : Claims) (i : ℕ) (h : Held) →
-    IsHeldIn m x claims i (frees h) → slice_index h.copy.addrs 12 ≢ 0 →
+    IsHeldIn m x claims i (frees h) → indirect_of h.copy ≢ 0 →
     entry_at x h h.given_up ≢ 0 →
     IsClaimedNow claims i (Some (frees (record h { given_up = h.given_up + 1 }))) new →
     FitsThen m x claims i (unmarked x (entry_at x h h.given_up)) new
@@ -109,9 +111,9 @@ EntryPassed = (m : Files) (x : Image) (claims new : Claims) (i : ℕ) (h : Held)
 -- the block of addresses itself, once all entries are given up
 abbrev pub IndirectGivenUp : Type 0
 IndirectGivenUp = (m : Files) (x : Image) (claims new : Claims) (i : ℕ) (h : Held) →
-    IsHeldIn m x claims i (frees h) → slice_index h.copy.addrs 12 ≢ 0 → 256 ≤ h.given_up →
-    IsClaimedNow claims i (Some (frees (without_address h 12))) new →
-    FitsThen m x claims i (unmarked x (slice_index h.copy.addrs 12)) new
+    IsHeldIn m x claims i (frees h) → indirect_of h.copy ≢ 0 → addresses_per_block ≤ h.given_up →
+    IsClaimedNow claims i (Some (frees (without_address h (direct_count One)))) new →
+    FitsThen m x claims i (unmarked x (indirect_of h.copy)) new
 
 -- ---- the turn, and the end
 
@@ -178,10 +180,10 @@ IsMarkedData x b = LiesInData x b × (is_marked x b ≡ true)
 
 -- what a held copy still names are data blocks whose bits are set
 pub record HasMarkedBlocks (x : Image) (h : Held) : Type 0 where
-  pub direct : (k : ℕ) → k < 12 → slice_index h.copy.addrs k ≢ 0 →
+  pub direct : (k : ℕ) → k < direct_count One → slice_index h.copy.addrs k ≢ 0 →
       IsMarkedData x (slice_index h.copy.addrs k)
-  pub indirect : slice_index h.copy.addrs 12 ≢ 0 → IsMarkedData x (slice_index h.copy.addrs 12)
-  pub entries : slice_index h.copy.addrs 12 ≢ 0 → (e : ℕ) → h.given_up ≤ e →
+  pub indirect : indirect_of h.copy ≢ 0 → IsMarkedData x (indirect_of h.copy)
+  pub entries : indirect_of h.copy ≢ 0 → (e : ℕ) → h.given_up ≤ e →
       entry_at x h e ≢ 0 → IsMarkedData x (entry_at x h e)
 
 abbrev pub HeldHasBlocks : Type 0

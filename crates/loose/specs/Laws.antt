@@ -1,6 +1,7 @@
 -- Laws over loose images.
 use Rattle.std.specs.Prelude.{◌≡◌, ℕ, ◌≤◌, IsTrue, length, replicate, Some, None}
 use Rattle.blocks.specs.Disk.{Image, IsImage, block_at}
+use Rattle.blocks.specs.Block.{block_size}
 use Rattle.model.specs.declared.types.image.Form.TheVariants.{One}
 use Rattle.model.specs.declared.types.operations.Op.TheVariants.{Create}
 use Rattle.model.specs.declared.types.operations.Reply.TheVariants.{Made}
@@ -36,7 +37,7 @@ FitsOutsideLog = (m : Files) (x y : Image) → IsSameOutsideLog x y → Fits m x
 abbrev pub ClaimsOne : Type 0
 ClaimsOne = (x : Image) (i kind : ℕ) → IsLawfulGeometry x →
     IsTrue (is_number (inode_count_of x) i) → kind ≤ 3 →
-    length (block_at x (inode_block i)) ≡ 1024 →
+    length (block_at x (inode_block i)) ≡ block_size →
     HasClaimed x i kind (with_inode x i (new_inode kind))
 
 -- a free number is claimed: the image then stands for the files that the creation leaves

@@ -1,6 +1,7 @@
 -- What looks at a file answer, where an image stands for files.
 use Rattle.std.specs.Prelude.{◌≡◌, ◌≢◌, ℕ, ◌*◌, ◌<◌, ◌≤◌, IsTrue, List, length, slice_index, Some}
 use Rattle.blocks.specs.Disk.{Image}
+use Rattle.blocks.specs.Block.{block_size}
 use Rattle.model.specs.declared.types.image.Dinode.{Dinode}
 use Rattle.model.specs.declared.types.image.Form.{Form}
 use Rattle.model.specs.declared.types.operations.Op.TheVariants.{Write, Read, Trunc, Remove, Stat}
@@ -39,7 +40,7 @@ pub record AnswersNoFile (form : Form) (m : Files) (i : ℕ) : Type 0 where
 -- what leads to an inode's bytes are data blocks: those that its size needs, and those that its
 -- addresses name
 pub record HasDataBlocks (x : Image) (d : Dinode) : Type 0 where
-  pub needed : (k : ℕ) → k * 1024 < d.size → LiesInData x (address_in x d k)
+  pub needed : (k : ℕ) → k * block_size < d.size → LiesInData x (address_in x d k)
   pub named : (e : ℕ) → e < 13 → slice_index d.addrs e ≢ 0 → LiesInData x (slice_index d.addrs e)
 
 -- a used number has its file

@@ -1,6 +1,8 @@
 -- Images whose bitmap says which blocks are owned, and the files that such an image stands for.
 use Rattle.std.specs.Prelude.{◌≡◌, ◌≢◌, ℕ, ◌*◌, ◌<◌, ◌≤◌, ◌||◌, nat_lt, List, length, Option, None}
 use Rattle.blocks.specs.Disk.{Image, block_at}
+use Rattle.blocks.specs.Block.{block_size}
+use Rattle.model.specs.Format.{inode_start}
 use Rattle.model.specs.declared.types.image.Dinode.{Dinode}
 use Rattle.model.specs.declared.types.image.File.{File}
 use Rattle.model.specs.Codec.{IsDinode}
@@ -11,7 +13,7 @@ use Rattle.model.specs.Soundness.{IsLawfulGeometry, count_of}
 
 -- each block behind the log has 1024 bytes
 abbrev pub AreFull : Image → Type 0
-AreFull x = (b : ℕ) → 33 ≤ b → b < length x → length (block_at x b) ≡ 1024
+AreFull x = (b : ℕ) → inode_start ≤ b → b < length x → length (block_at x b) ≡ block_size
 
 -- a data block of the image
 abbrev pub LiesInData : Image → ℕ → Type 0
@@ -26,7 +28,7 @@ pub record IsLoose (x : Image) (owned : List ℕ) : Type 0 where
 
 -- each block that the size needs is there
 abbrev pub IsWhole : Image → Dinode → Type 0
-IsWhole x d = (k : ℕ) → k * 1024 < d.size → address_in x d k ≢ 0
+IsWhole x d = (k : ℕ) → k * block_size < d.size → address_in x d k ≢ 0
 
 -- a used inode that has what a file needs
 pub record IsFit (x : Image) (d : Dinode) : Type 0 where

@@ -1,7 +1,8 @@
 -- Images that are alike at some of their blocks.
-use Rattle.std.specs.Prelude.{◌≡◌, ◌≢◌, ℕ, ◌||◌, nat_lt, IsTrue, Bool, List, length}
+use Rattle.std.specs.Prelude.{◌≡◌, ◌≢◌, ℕ, ◌||◌, ◌+◌, nat_lt, IsTrue, Bool, List, length}
 use Rattle.std.specs.List.{list_all}
 use Rattle.blocks.specs.Disk.{Image, block_at}
+use Rattle.model.specs.Format.{log_start, log_capacity}
 use Rattle.model.specs.declared.types.image.Dinode.{Dinode}
 use Rattle.model.specs.declared.types.image.Pointer.{Pointer}
 use Rattle.model.specs.Places.{pointers_in, address_in, addresses_in}
@@ -32,9 +33,9 @@ pub record HasSameContents (x y : Image) (d : Dinode) : Type 0 where
   pub joined : d.kind ≢ 0 → (count : ℕ) → joined y d count ≡ joined x d count
   pub bytes : d.kind ≢ 0 → bytes_in y d ≡ bytes_in x d
 
--- the blocks but for the log's header and its 30 blocks
+-- the blocks but for the log's header and the blocks that it has room for
 abbrev pub is_outside_log : ℕ → Bool
-is_outside_log b = nat_lt b 2 || nat_lt 32 b
+is_outside_log b = nat_lt b log_start || nat_lt (log_start + log_capacity) b
 
 -- one size, and the same blocks outside the log
 pub record IsSameOutsideLog (x y : Image) : Type 0 where

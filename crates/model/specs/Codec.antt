@@ -9,7 +9,7 @@ use Rattle.blocks.specs.Disk.{Image, block_at}
 use Rattle.model.specs.declared.types.image.Dinode.{Dinode}
 use Rattle.model.specs.declared.types.image.Form.{Form}
 use Rattle.model.specs.declared.types.image.Super.{Super}
-use Rattle.model.specs.Layout.{magic_of, meta_count, planned_super, inode_block}
+use Rattle.model.specs.Layout.{magic_of, meta_count, planned_super, inode_block, inode_offset}
 
 -- numbers of four bytes each, one after the other
 abbrev pub bytes_of_words : List ℕ → List ℕ
@@ -32,7 +32,7 @@ super_block form s = block_of_words (super_words form s)
 abbrev pub header_block : List ℕ → List ℕ
 header_block homes = block_of_words (length homes ∷ homes)
 
--- the 64 bytes of an inode
+-- the bytes of an inode
 unfoldable pub dinode_bytes : Dinode → List ℕ
 dinode_bytes d =
     little_bytes 2 d.kind ++ (little_bytes 2 d.major ++ (little_bytes 2 d.minor
@@ -50,7 +50,7 @@ pub record IsDinode (d : Dinode) : Type 0 where
 
 -- an inode block with another inode at the place of number i
 abbrev pub with_inode_bytes : List ℕ → ℕ → Dinode → List ℕ
-with_inode_bytes block i d = overwritten block (i % 16 * 64) (dinode_bytes d)
+with_inode_bytes block i d = overwritten block (inode_offset i) (dinode_bytes d)
 
 -- the image with another inode at the place of number i
 abbrev pub with_inode : Image → ℕ → Dinode → Image

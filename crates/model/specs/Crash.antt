@@ -2,6 +2,7 @@
 use Rattle.std.specs.Prelude.{◌≡◌, ◌≢◌, ℕ, ◌+◌, ◌*◌, ◌/◌, ◌<◌, ◌≤◌, if◌then◌else◌, IsTrue, List, length, Some}
 use Rattle.std.specs.List.{list_any}
 use Rattle.blocks.specs.Disk.{Image, block_at}
+use Rattle.model.specs.Format.{inodes_per_block, bits_per_block}
 use Rattle.model.specs.declared.types.operations.Entry.{Entry}
 use Rattle.model.specs.Layout.{form_of, inode_of, inode_bytes, inode_count_of, is_marked}
 use Rattle.model.specs.Log.{is_lawful_log, recovered}
@@ -24,8 +25,10 @@ pub record IsUntouched (opening x : Image) : Type 0 where
   pub super : block_at x 1 ≡ block_at opening 1
   pub inode_zero : inode_bytes x 0 ≡ inode_bytes opening 0
   pub inodes_past : (i : ℕ) → inode_count_of opening ≤ i →
-      i < 16 * (inode_count_of opening / 16 + 1) → inode_bytes x i ≡ inode_bytes opening i
-  pub bits_past : (b : ℕ) → length opening ≤ b → b < 8192 → is_marked x b ≡ is_marked opening b
+      i < inodes_per_block * (inode_count_of opening / inodes_per_block + 1) →
+      inode_bytes x i ≡ inode_bytes opening i
+  pub bits_past : (b : ℕ) → length opening ≤ b → b < bits_per_block →
+      is_marked x b ≡ is_marked opening b
 
 -- recovery of x gives a sound image with the opening's files after the kept entries
 pub record Keeps (opening : Image) (journal : List Entry) (x : Image) (c : ℕ) : Type 0 where

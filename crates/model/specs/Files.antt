@@ -1,7 +1,8 @@
 -- The files of an image.
-use Rattle.std.specs.Prelude.{ℕ, ◌+◌, ◌/◌, ◌==◌, if◌then◌else◌, is_some, List, [], take, map, Option, Some, None, slice_index_or, count_by}
+use Rattle.std.specs.Prelude.{ℕ, ◌+◌, ◌-◌, ◌/◌, ◌==◌, if◌then◌else◌, is_some, List, [], take, map, Option, Some, None, slice_index_or, count_by}
 use Rattle.std.specs.List.{flat_map, range_with_len}
 use Rattle.blocks.specs.Disk.{Image, block_at}
+use Rattle.blocks.specs.Block.{block_size}
 use Rattle.model.specs.declared.types.image.Dinode.{Dinode}
 use Rattle.model.specs.declared.types.image.File.{File}
 use Rattle.model.specs.Layout.{inode_of, inode_count_of}
@@ -17,7 +18,7 @@ file_in files i = slice_index_or files i None
 
 -- how many blocks hold that many bytes
 abbrev pub blocks_for : ℕ → ℕ
-blocks_for size = (size + 1023) / 1024
+blocks_for size = (size + (block_size - 1)) / block_size
 
 -- the bytes at an address; none where there is no block
 abbrev pub data_at : Image → ℕ → List ℕ

@@ -2,6 +2,7 @@
 use Rattle.std.specs.Prelude.{◌≡◌, ◌↔◌, ℕ, ◌+◌, ◌<◌, ◌≤◌, ◌==◌, ◌&&◌, not, nat_lt, IsTrue, IsSome, Bool, true, false, List, ◌++◌, length, slice_set, slice_index, Some, None}
 use Rattle.std.specs.List.{list_any}
 use Rattle.blocks.specs.Disk.{Image, block_at}
+use Rattle.model.specs.Format.{bits_per_block}
 use Rattle.model.specs.declared.types.image.Dinode.{Dinode}
 use Rattle.model.specs.declared.types.operations.Entry.{Entry}
 use Rattle.model.specs.declared.types.image.Form.{Form}
@@ -128,4 +129,4 @@ SameWhenCleared = (x : Image) → logged_count x ≡ 0 → IsSound (cleared x) �
 
 -- the first bits of a block are set, as many as asked for, and no other
 abbrev pub FirstBits : Type 0
-FirstBits = (n k : ℕ) → n ≤ 8192 → has_bit (first_bits n) k ≡ nat_lt k n
+FirstBits = (n k : ℕ) → n ≤ bits_per_block → has_bit (first_bits n) k ≡ nat_lt k n

@@ -1,6 +1,7 @@
 -- The superblock, the inodes and the bitmap of an image.
-use Rattle.std.specs.Prelude.{◌≡◌, ◌≢◌, ℕ, ◌<◌, ◌+◌, ◌-◌, ◌*◌, ◌/◌, ◌%◌, ◌^◌, ◌==◌, ◌&&◌, nat_le, nat_lt, if◌then◌else◌, Bool, List, [], ◌∷◌, ◌++◌, drop, replicate, slice_range}
+use Rattle.std.specs.Prelude.{◌≡◌, ◌≢◌, ℕ, ◌<◌, ◌+◌, ◌-◌, ◌*◌, ◌/◌, ◌%◌, ◌^◌, ◌==◌, ◌&&◌, nat_le, nat_lt, if◌then◌else◌, Bool, List, [], ◌∷◌, ◌++◌, drop, replicate, slice_index, slice_range}
 use Rattle.blocks.specs.Disk.{Image, block_at}
+use Rattle.model.specs.Format.{most_blocks, most_inodes, log_start, log_blocks, inode_start, inodes_per_block, inode_size, bits_per_block, addresses_per_block}
 use Rattle.model.specs.declared.types.image.Form.{Form}
 use Rattle.model.specs.declared.types.image.Form.TheVariants.{One, Two}
 use Rattle.model.specs.declared.types.image.Super.{Super}
@@ -24,7 +25,7 @@ depths Two = replicate (direct_count Two) 0 ++ 1 ∷ 2 ∷ []
 
 -- how many of a file's blocks an address of that depth leads to
 abbrev pub reach : ℕ → ℕ
-reach depth = 256 ^ depth
+reach depth = addresses_per_block ^ depth
 
 -- the bytes of the largest file
 abbrev pub greatest_size : Form → ℕ
@@ -58,7 +59,12 @@ super_of x = super_in (block_at x 1)
 
 -- the blocks before the first data block
 abbrev pub meta_count : ℕ → ℕ → ℕ
-meta_count size inode_count = 2 + 31 + (inode_count / 16 + 1) + (size / 8192 + 1)
+meta_count size inode_count =
+    inode_start + (inode_count / inodes_per_block + 1) + (size / bits_per_block + 1)
+
+-- the bitmap's block in an image of that many inode numbers
+abbrev pub bitmap_block : ℕ → ℕ
+bitmap_block inode_count = inode_start + inode_count / inodes_per_block + 1
 
 -- the superblock of an image of that size with that many inode numbers
 abbrev pub planned_super : ℕ → ℕ → Super
@@ -66,10 +72,10 @@ planned_super size inode_count = record {
   size = size;
   nblocks = size - meta_count size inode_count;
   ninodes = inode_count;
-  nlog = 31;
-  logstart = 2;
-  inodestart = 33;
-  bmapstart = 33 + inode_count / 16 + 1;
+  nlog = log_blocks;
+  logstart = log_start;
+  inodestart = inode_start;
+  bmapstart = bitmap_block inode_count;
 }
 
 abbrev pub are_alike : Super → Super → Bool
@@ -79,10 +85,10 @@ are_alike a b =
 
 -- the limits on the number of inodes and on the size
 abbrev pub is_inode_count : ℕ → Bool
-is_inode_count inode_count = nat_le 2 inode_count && nat_le inode_count 1024
+is_inode_count inode_count = nat_le 2 inode_count && nat_le inode_count most_inodes
 
 abbrev pub is_size : ℕ → ℕ → Bool
-is_size size inode_count = nat_lt (meta_count size inode_count) size && nat_le size 8191
+is_size size inode_count = nat_lt (meta_count size inode_count) size && nat_le size most_blocks
 
 -- the superblock is the planned one of the image's own size, within the limits
 abbrev pub is_lawful_super : Super → ℕ → Bool
@@ -108,13 +114,21 @@ inode_in bytes = record {
   addrs = words_of (drop 12 bytes);
 }
 
+-- the address of an inode's block of addresses
+abbrev pub indirect_of : Dinode → ℕ
+indirect_of d = slice_index d.addrs (direct_count One)
+
 -- the inode block of a number
 abbrev pub inode_block : ℕ → ℕ
-inode_block i = i / 16 + 33
+inode_block i = i / inodes_per_block + inode_start
 
--- the 64 bytes in an inode block that are those of number i
+-- where the bytes of number i begin in its inode block
+abbrev pub inode_offset : ℕ → ℕ
+inode_offset i = i % inodes_per_block * inode_size
+
+-- the bytes in an inode block that are those of number i
 abbrev pub inode_bytes_in : List ℕ → ℕ → List ℕ
-inode_bytes_in block i = slice_range block (i % 16 * 64) (i % 16 * 64 + 64)
+inode_bytes_in block i = slice_range block (inode_offset i) (inode_offset i + inode_size)
 
 abbrev pub inode_bytes : Image → ℕ → List ℕ
 inode_bytes x i = inode_bytes_in (block_at x (inode_block i)) i

@@ -1,3 +1,4 @@
+pub mod Format
 pub mod Fields
 pub mod Layout
 pub mod Log

@@ -2,6 +2,7 @@
 use Rattle.std.specs.Prelude.{ℕ, ◌+◌, ◌%◌, ◌==◌, ◌&&◌, ◌||◌, nat_lt, nat_le, if◌then◌else◌, Bool, true, false, List, [], take, drop, length, is_none, Option, Some, None, slice_set}
 use Rattle.std.specs.Str.{bytes_eq}
 use Rattle.blocks.specs.Block.{overwritten}
+use Rattle.blocks.specs.Block.{block_size}
 use Rattle.model.specs.declared.types.image.Form.{Form}
 use Rattle.model.specs.declared.types.image.File.{File}
 use Rattle.model.specs.declared.types.operations.Op.{Op}
@@ -55,7 +56,7 @@ part_of bytes at n = take n (drop at bytes)
 -- behind it
 abbrev pub may_have_written : ℕ → ℕ → ℕ → ℕ → Bool
 may_have_written old off n k =
-    nat_le k n && ((k == n) || (((off + k) % 1024 == 0) && nat_le old (off + k)))
+    nat_le k n && ((k == n) || (((off + k) % block_size == 0) && nat_le old (off + k)))
 
 abbrev pub with_bytes : File → List ℕ → Option File
 with_bytes file bytes = Some (record file { bytes = bytes })

@@ -3,6 +3,7 @@
 use Rattle.std.specs.Prelude.{ℕ, zero, suc, ◌+◌, ◌-◌, ◌*◌, ◌/◌, ◌%◌, ◌==◌, not, nat_lt, if◌then◌else◌, List, [], ◌∷◌, ◌++◌, map, slice_index}
 use Rattle.std.specs.List.{filter, flat_map, range_with_len}
 use Rattle.blocks.specs.Disk.{Image, block_at}
+use Rattle.blocks.specs.Block.{block_size}
 use Rattle.model.specs.declared.types.image.Dinode.{Dinode}
 use Rattle.model.specs.declared.types.image.Pointer.{Pointer}
 use Rattle.model.specs.Fields.{words_of}
@@ -17,7 +18,8 @@ pointers_behind pointers first step (address ∷ addresses) =
 
 -- an address, needed where the size reaches the file's block `first`
 abbrev pub pointer_of : ℕ → ℕ → ℕ → Pointer
-pointer_of size first address = record { address = address; needed = nat_lt (first * 1024) size }
+pointer_of size first address =
+    record { address = address; needed = nat_lt (first * block_size) size }
 
 -- the pointers from an address on, itself first, and then those in the block of addresses that it
 -- names

@@ -1,5 +1,6 @@
 -- How much of the log operations may use, and why a beginning waits for it.
 use Rattle.std.specs.Prelude.{ℕ, ◌+◌, ◌-◌, ◌*◌, nat_lt, if◌then◌else◌, Bool, Option, Some, None}
+use Rattle.model.specs.Format.{log_capacity}
 use Rattle.model.specs.declared.types.operations.Why.{Why}
 use Rattle.model.specs.declared.types.operations.Why.TheVariants.{Committing, LogFull}
 
@@ -9,7 +10,7 @@ unused_reservation homes = 10 - homes
 
 -- the log has no room for ten more blocks of each operation and one more
 abbrev pub is_log_full : ℕ → ℕ → Bool
-is_log_full logged outstanding = nat_lt 30 (logged + (outstanding + 1) * 10)
+is_log_full logged outstanding = nat_lt log_capacity (logged + (outstanding + 1) * 10)
 
 -- why `begin` waits, in the order of its tests
 abbrev pub log_cause : Bool → ℕ → ℕ → Option Why

@@ -5,4 +5,4 @@ mod operations;
 
 pub use fault::CheckFault;
 pub use image::{Dinode, File, Form, Pointer, Super};
-pub use operations::{Answer, Entry, Op, Reply, TaskProgress, Why};
+pub use operations::{Answer, Entry, Op, Reply, TRANSFER_LIMIT, TaskProgress, Why};

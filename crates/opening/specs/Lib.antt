@@ -1,2 +1,3 @@
 pub mod Openings
+pub mod Recoveries
 pub mod Lemmas

@@ -1,14 +1,19 @@
-//! Why no kernel is opened over a disk, as a command tells it, and what is known of the disk then.
+//! Why no kernel is opened over a disk, as a command tells it, and what is known of the disk then;
+//! and the recovery of a disk's image, which comes before an opening.
 //!
 //! The commands that open a kernel share these words: a check or a recovery that refuses is told as
 //! its own layer's fault, and the kernel's own two faults as those of `open`.
 #![tactic(auto)]
+
+mod recovering;
 
 ghost use Rattle.std.specs.Prelude.{◌≡◌};
 ghost use Rattle.opening.specs.Openings.{open_refusal};
 
 use kernel::OpenFault;
 use texts::{KernelFault, Refusal};
+
+pub use recovering::recover_image;
 
 /// Why a kernel wasn't opened. A fault of the check or of the recovery inside is told as its own
 /// layer's.

@@ -1,6 +1,8 @@
 // The numbers and bits in a block's bytes.
 ghost use Rattle.std.specs.Prelude.{◌≡◌, ◌≤◌, ◌<◌, length, slice_index};
 ghost use Rattle.blocks.specs.Disk.{block_at};
+ghost use Rattle.blocks.specs.Block.{block_size};
+ghost use Rattle.model.specs.Format.{bits_per_block};
 ghost use Rattle.model.specs.Fields.{words_of, has_bit};
 
 use blocks::Block;
@@ -9,7 +11,7 @@ use layout::fields::read_u32;
 
 /// Whether the bit of number `k` is set. Each byte holds eight, its lowest bit first.
 pub fn has_bit(block: &Block, k: u32) -> bool
-    requires { k < 8192 }
+    requires { k < bits_per_block }
     ensures { result ≡ has_bit block.now k }
 {
     bit(block, k)
@@ -18,7 +20,7 @@ pub fn has_bit(block: &Block, k: u32) -> bool
 /// The 1024 bytes of block `b`, and none past the image's end.
 pub fn bytes_at(image: &[Block], b: u32) -> &[u8]
     ensures value { result.now ≡ block_at image.now b }
-    ensures len { length result.now ≤ 1024 }
+    ensures len { length result.now ≤ block_size }
 {
     match image.get(b as usize) {
         Some(block) => block.as_slice(),

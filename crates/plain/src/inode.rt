@@ -2,20 +2,10 @@
 ghost use Rattle.std.specs.Prelude.{◌≡◌, ◌<◌, length};
 ghost use Rattle.model.specs.Layout.{inode_in, inode_of, inode_block, inode_bytes};
 
-use crate::superblock::{INODE_START, INODES_PER_BLOCK};
 use blocks::Block;
 use layout::inode;
+use layout::{INODE_SIZE, inode_block, inode_offset};
 use model::types::Dinode;
-
-/// The bytes of an inode.
-pub const INODE_SIZE: usize = 64;
-
-/// The block that holds inode `i`.
-pub fn inode_block(i: u32) -> u32
-    ensures { result ≡ inode_block i }
-{
-    i / INODES_PER_BLOCK + INODE_START
-}
 
 /// The 64 bytes of inode `i`.
 pub fn inode_bytes(image: &[Block], i: u32) -> &[u8]
@@ -24,7 +14,7 @@ pub fn inode_bytes(image: &[Block], i: u32) -> &[u8]
     ensures len { length result.now ≡ 64 }
 {
     let block = image[inode_block(i) as usize].as_slice();
-    let at = (i % INODES_PER_BLOCK) as usize * INODE_SIZE;
+    let at = inode_offset(i);
     &block[at..at + INODE_SIZE]
 }
 

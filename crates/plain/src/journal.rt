@@ -6,9 +6,9 @@ ghost use Rattle.model.specs.Journal.{after_answer, answered, is_number, is_chan
 ghost use Rattle.plain.specs.Replay.{IsOnTheWay, reached};
 
 use crate::files::Files;
-use crate::operations::{TRANSFER_LIMIT, apply, is_kind};
+use crate::operations::{apply, is_kind};
 use blocks::NoMemory;
-use model::types::{Entry, Form, Op};
+use model::types::{Entry, Form, Op, TRANSFER_LIMIT};
 use std::alloc::Global;
 
 /// Whether operations may name inode `i`.

@@ -1,14 +1,12 @@
 // The header of an image's log.
 ghost use Rattle.std.specs.Prelude.{◌≡◌, ◌≤◌, length, IfOk};
+ghost use Rattle.model.specs.Format.{log_capacity};
 ghost use Rattle.model.specs.Log.{logged_count, homes_of, are_distinct, are_in_place, is_lawful_log};
 
-use crate::superblock::{INODE_START, LOG_START};
 use blocks::{Block, NoMemory};
 use layout::fields::read_u32;
+use layout::{INODE_START, LOG_CAPACITY, LOG_START};
 use std::alloc::Global;
-
-/// The most blocks that a log holds.
-pub const LOG_CAPACITY: u32 = 30;
 
 /// How many blocks the header says are logged.
 pub fn logged_count(image: &[Block]) -> u32
@@ -23,7 +21,7 @@ pub fn logged_count(image: &[Block]) -> u32
 pub fn homes_of(alloc: Global, image: &[Block]) -> Result<Vec<u32>, NoMemory>
     requires { 3 ≤ length image.now }
     ensures value { IfOk result (λ homes. homes.items ≡ homes_of image.now) }
-    ensures few { IfOk result (λ homes. length homes.items ≤ 30) }
+    ensures few { IfOk result (λ homes. length homes.items ≤ log_capacity) }
 {
     let header = image[LOG_START as usize].as_slice();
     let count = logged_count(image).min(LOG_CAPACITY);

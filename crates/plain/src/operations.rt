@@ -10,11 +10,8 @@ use crate::files::Files;
 use crate::superblock::greatest_size;
 use blocks::{BLOCK_SIZE, NoMemory};
 use model::content::Content;
-use model::types::{File, Form, Op, Reply};
+use model::types::{File, Form, Op, Reply, TRANSFER_LIMIT};
 use std::alloc::Global;
-
-/// The most bytes that one read or write moves.
-pub const TRANSFER_LIMIT: u32 = 3072;
 
 /// Whether a file can have this type.
 pub fn is_kind(kind: u16) -> bool

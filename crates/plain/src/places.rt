@@ -6,13 +6,11 @@ ghost use Rattle.model.specs.Verdict.{places_below};
 
 use crate::inode::inode_of;
 use crate::superblock::{form_of, inode_count};
-use blocks::{Block, NoMemory};
+use blocks::{BLOCK_SIZE, Block, NoMemory};
+use layout::ADDRESSES_PER_BLOCK;
 use layout::fields::read_u32;
 use model::types::{Dinode, Form, Pointer};
 use std::alloc::Global;
-
-/// The addresses in a block of addresses.
-pub const ADDRESSES_PER_BLOCK: usize = 256;
 
 /// How many of a file's blocks an address leads to that is `depth` blocks of addresses away from
 /// the data, at most 2.
@@ -24,7 +22,7 @@ pub fn reach(depth: u32) -> u32
 {
     match depth {
         0 => 1,
-        1 => 256,
+        1 => ADDRESSES_PER_BLOCK as u32,
         _ => 65536,
     }
 }
@@ -45,7 +43,7 @@ pub fn depths(form: Form) -> [u32; 13]
 fn pointer_of(size: u32, first: u32, address: u32) -> Pointer
     ensures { result ≡ pointer_of size first address }
 {
-    let needed = u64::from(first) * 1024 < u64::from(size);
+    let needed = u64::from(first) * (BLOCK_SIZE as u64) < u64::from(size);
     Pointer { address, needed }
 }
 

@@ -1,10 +1,11 @@
 // The image that recovery leaves.
 ghost use Rattle.std.specs.Prelude.{◌≡◌, ◌≤◌, ◌<◌, ◌+◌, length, IfOk, IfSome};
+ghost use Rattle.model.specs.Format.{log_capacity, inode_start};
 ghost use Rattle.model.specs.Log.{homes_of, place_among, block_from_log, recovered_block, recovered};
 
 use crate::log::{homes_of, logged_count};
-use crate::superblock::LOG_START;
 use blocks::{Block, NoMemory};
+use layout::LOG_START;
 use std::alloc::Global;
 
 /// The place of block `b` among the homes, the first from 0 on.
@@ -42,9 +43,9 @@ pub fn recovered_block(
     b: usize,
 ) -> Result<Block, NoMemory>
     requires inside { b < length image.now }
-    requires log { 33 ≤ length image.now }
+    requires log { inode_start ≤ length image.now }
     requires known { homes.now ≡ homes_of image.now }
-    requires few { length homes.now ≤ 30 }
+    requires few { length homes.now ≤ log_capacity }
     ensures { IfOk result (λ block. block ≡ recovered_block image.now b) }
 {
     if b == LOG_START as usize {
@@ -67,7 +68,7 @@ pub fn copied(alloc: Global, image: &[Block]) -> Result<Vec<Block>, NoMemory>
 /// The image that recovery leaves.
 #[tactic(auto, using(model::specs::Lemmas::Steps::mapped_more), unfolding(model::specs::Log::recovered))]
 pub fn recovered(alloc: Global, image: &[Block]) -> Result<Vec<Block>, NoMemory>
-    requires { 33 ≤ length image.now }
+    requires { inode_start ≤ length image.now }
     ensures { IfOk result (λ blocks. blocks.items ≡ recovered image.now) }
 {
     if logged_count(image) == 0 {

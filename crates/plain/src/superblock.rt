@@ -1,27 +1,14 @@
 // The superblock and the bitmap of an image.
 ghost use Rattle.std.specs.Prelude.{◌≡◌, ◌≤◌, ◌<◌, length};
+ghost use Rattle.model.specs.Format.{bits_per_block};
 ghost use Rattle.model.specs.Layout.{magic_of, magic_at, has_known_magic, form_of, greatest_size, super_in, super_of, meta_count, is_lawful_super, inode_count_of, first_data_block, is_marked};
 
 use crate::fields::has_bit;
 use blocks::Block;
 use layout::fields::read_u32;
 use layout::superblock;
+use layout::{BITS_PER_BLOCK, GREATEST_SIZE, INODE_START, INODES_PER_BLOCK};
 use model::types::{Form, Super};
-
-/// The log's first block, its header.
-pub const LOG_START: u32 = 2;
-
-/// The blocks of the log, its header included.
-pub const LOG_BLOCKS: u32 = 31;
-
-/// The first inode block.
-pub const INODE_START: u32 = 33;
-
-/// The inodes in a block.
-pub const INODES_PER_BLOCK: u32 = 16;
-
-/// The bits in a block of the bitmap.
-pub const BITS_PER_BLOCK: u32 = 8192;
 
 /// The first number of a superblock.
 pub fn magic_of(form: Form) -> u32
@@ -66,7 +53,7 @@ pub fn greatest_size(form: Form) -> u32
     ensures { result ≡ greatest_size form }
 {
     match form {
-        Form::One => 274_432,
+        Form::One => GREATEST_SIZE,
         Form::Two => 67_382_272,
     }
 }
@@ -101,7 +88,7 @@ pub fn meta_count(size: u32, inode_count: u32) -> u32
 {
     let inode_blocks = inode_count / INODES_PER_BLOCK + 1;
     let bitmap_blocks = size / BITS_PER_BLOCK + 1;
-    LOG_START + LOG_BLOCKS + inode_blocks + bitmap_blocks
+    INODE_START + inode_blocks + bitmap_blocks
 }
 
 /// The number of the first data block.
@@ -127,7 +114,7 @@ pub fn is_lawful_super(fields: Super, block_count: usize) -> bool
 pub fn is_marked(image: &[Block], b: u32) -> bool
     requires known { (super_of image.now).bmapstart < length image.now }
     requires long { 2 ≤ length image.now }
-    requires small { b < 8192 }
+    requires small { b < bits_per_block }
     ensures { result ≡ is_marked image.now b }
 {
     let bitmap = &image[super_of(image).bmapstart as usize];

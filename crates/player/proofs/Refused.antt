@@ -8,7 +8,7 @@ use Rattle.blocks.specs.declared.faulty.Trap.{Trap}
 use Rattle.scripts.specs.declared.schedule.Word.{Word}
 use Rattle.scripts.specs.declared.script.Task.{Task}
 use Rattle.player.specs.Afterwards.{IsUnopenedOver}
-use Rattle.player.specs.Causes.{IsUnrecovered}
+use Rattle.opening.specs.Recoveries.{IsUnrecovered}
 use Rattle.player.specs.Opening.{HasNotBegun, IsNotReplayed, IsPlayedOn, IsReadyOver, Replays}
 use Rattle.player.specs.declared.player.Player.{Player}
 use Rattle.texts.specs.declared.refusal.Refusal.{Refusal}

@@ -16,7 +16,7 @@ use Rattle.wal.specs.Recovery.{LeavesIfCalm, RecoversAs}
 use Rattle.opening.specs.Openings.{IsOpening, IsUnopened}
 use Rattle.player.specs.Afterwards.{FailsRecovered}
 use Rattle.player.specs.Asking.{IsUnanswered, part_at, size_at}
-use Rattle.player.specs.Causes.{IsRecovered}
+use Rattle.opening.specs.Recoveries.{IsRecovered}
 use Rattle.player.specs.Refusal.{IsOfCat}
 use Rattle.player.specs.Showing.{IsNotShown, IsPartly, IsReaderOf, IsUnwritten, ShowsFile, ShowsFirst, ShowsPart, bytes_at, bytes_of}
 use Rattle.player.specs.Stepping.{Plain}

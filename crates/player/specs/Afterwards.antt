@@ -10,7 +10,7 @@ use Rattle.model.specs.Verdict.{verdict}
 use Rattle.wal.specs.Recovery.{writes_to_recover}
 use Rattle.kernel.specs.Opening.{RefusesToOpen}
 use Rattle.kernel.specs.declared.types.OpenFault.{OpenFault}
-use Rattle.player.specs.Causes.{IsRecovered, IsUnrecovered}
+use Rattle.opening.specs.Recoveries.{IsRecovered, IsUnrecovered}
 use Rattle.opening.specs.Openings.{HasNoRoom, open_refusal}
 use Rattle.texts.specs.declared.refusal.Refusal.{Refusal}
 

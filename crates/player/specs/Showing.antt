@@ -11,7 +11,7 @@ use Rattle.wal.specs.Recovery.{LeavesIfCalm, RecoversAs}
 use Rattle.opening.specs.Openings.{IsUnopened}
 use Rattle.player.specs.Afterwards.{FailsRecovered}
 use Rattle.player.specs.Asking.{Rests, IsRefusedMemory, asked_count}
-use Rattle.player.specs.Causes.{IsRecovered}
+use Rattle.opening.specs.Recoveries.{IsRecovered}
 use Rattle.player.specs.Stepping.{Plain}
 use Rattle.texts.specs.declared.faults.CatFault.TheVariants.{NoFile, NoMemory}
 use Rattle.texts.specs.declared.refusal.Refusal.{Refusal}

@@ -23,7 +23,7 @@ pub use checking::check_disk;
 pub use making::make_disk;
 pub use player::Player;
 pub use playing::make_turns;
-pub use recovering::{recover_disk, recover_image};
+pub use recovering::recover_disk;
 pub use replaying::{replay_disk, take_board};
 pub use showing::cat_disk;
 pub use turns::{Hands, Outcome, open_player};

@@ -1,19 +1,18 @@
 // A recovery of a disk's image, and what it prints.
-ghost use Rattle.std.specs.Prelude.{◌≡◌, ◌≢◌, IfOk, OnOk, IfErr};
+ghost use Rattle.std.specs.Prelude.{◌≡◌, ◌≢◌, OnOk, IfErr};
 ghost use Rattle.std.specs.Io.KnownBytes.{Appends};
 ghost use Rattle.model.specs.Log.{logged_count};
 ghost use Rattle.wal.specs.Recovery.{IsCalm};
 ghost use Rattle.texts.specs.declared.refusal.Refusal.TheVariants as refusal;
 ghost use Rattle.kernel.specs.Opening.{LeavesRecovered};
-ghost use Rattle.player.specs.Causes.{IsRecovered, IsUnrecovered};
+ghost use Rattle.opening.specs.Recoveries.{IsRecovered, IsUnrecovered};
 ghost use Rattle.texts.specs.Output.{copied_text};
 
 use blocks::Disk;
-use layout::check;
+use opening::recover_image;
 use std::alloc::Global;
 use std::io::Write;
 use texts::{Refusal, print_copied};
-use wal::recover;
 
 /// Checks the image of a disk, copies the blocks of its log home, and prints how many these were.
 ///
@@ -42,24 +41,4 @@ pub fn recover_disk<D: Disk, O: Write>(
 {
     let copied = recover_image(alloc, disk)?;
     print_copied(out, copied)
-}
-
-/// Checks the image of a disk, and then recovers it. How many blocks were copied home.
-///
-/// # Errors
-///
-/// As of `recover_disk`, but for `Output`.
-pub fn recover_image<D: Disk>(alloc: Global, disk: &mut D) -> Result<u32, Refusal>
-    ensures ok { IfOk result (λ copied. IsRecovered D.Disk copied disk.old disk.new) }
-    ensures name { D.name disk.new ≡ D.name disk.old }
-    ensures refused { IfErr result (IsUnrecovered D.Disk disk.old disk.new) }
-    ensures output { IfErr result (λ r. r ≢ refusal.Output) }
-    ensures stops { LeavesRecovered D.Disk disk.old disk.new }
-    ensures settled { OnOk result (IsCalm D.Disk disk.new) }
-{
-    let report = check(alloc, disk)?;
-    match recover(alloc, disk, &report.sup) {
-        Ok(copied) => Ok(copied),
-        Err(fault) => Err(Refusal::Recover(fault)),
-    }
 }

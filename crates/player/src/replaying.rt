@@ -10,10 +10,10 @@ ghost use Rattle.player.specs.Stepping.{IsSeated};
 
 use crate::player::Player;
 use crate::playing::run;
-use crate::recovering::recover_image;
 use crate::turns::{Hands, open_player};
 use blocks::{Disk, FaultyDisk};
 use board::Board;
+use opening::recover_image;
 use scripts::{Task, Word};
 use std::alloc::Global;
 use std::io::Write;

@@ -6,21 +6,19 @@ ghost use Rattle.model.specs.Log.{logged_count};
 ghost use Rattle.wal.specs.Recovery.{LeavesIfCalm, RecoversAs};
 ghost use Rattle.opening.specs.Openings.{IsUnopened};
 ghost use Rattle.player.specs.Asking.{Rests, asked_count, size_at};
-ghost use Rattle.player.specs.Causes.{IsRecovered};
+ghost use Rattle.opening.specs.Recoveries.{IsRecovered};
 ghost use Rattle.player.specs.Refusal.{IsOfCat};
 ghost use Rattle.player.specs.Showing.{IsNotShown, IsPartly, IsReaderOf, IsUnwritten, Shows, ShowsFile, bytes_at};
 
 use crate::asking::{piece_of, size_of};
 use blocks::Disk;
 use kernel::Kernel;
+use model::types::TRANSFER_LIMIT;
 use opening::open_refusal;
 use ports::{PlainHerald, QueueIntake};
 use std::alloc::Global;
 use std::io::Write;
 use texts::{CatFault, KernelFault, Refusal, pass_on, write_bytes};
-
-// The bytes that are read at once.
-const PIECE: u32 = 3072;
 
 /// Recovers the image of a disk, and writes the bytes of its file of a number, and nothing else.
 /// The file is read through a kernel of one process, piece by piece.
@@ -120,8 +118,8 @@ fn write_file<D: Disk, O: Write>(
     ensures reads { OnlyReads D.Disk kernel.old.store.volume.device
         kernel.new.store.volume.device }
 {
-    for piece in 0..size.div_ceil(PIECE) {
-        let Some(bytes) = piece_of(kernel, number, piece * PIECE, PIECE)? else {
+    for piece in 0..size.div_ceil(TRANSFER_LIMIT) {
+        let Some(bytes) = piece_of(kernel, number, piece * TRANSFER_LIMIT, TRANSFER_LIMIT)? else {
             unreachable!()
         };
         write_bytes(out, bytes.as_slice())?;

@@ -10,10 +10,10 @@ use Rattle.texts.specs.declared.faults.StopsFault.TheVariants.{Mismatch, NoMemor
 use Rattle.blocks.specs.SyncDisk.{held_of}
 use Rattle.blocks.specs.declared.sync.SyncDisk.{SyncDisk}
 use Rattle.model.specs.Files.{Files}
-use Rattle.stops.specs.Choices.{HasAllDue, HasDue, IsChoice, LacksDue, choice_count, due_files, left_by}
+use Rattle.recoveries.specs.Choices.{HasAllDue, HasDue, IsChoice, LacksDue, choice_count, due_files, left_by}
 use Rattle.stops.specs.Holding.{FailsHeld, HeldPlayer, IsKeptBy, IsTriedHeld, KeepsAll, LosesSome, MakesHeldRun, disk_of, over, sync_behind, write_behind}
-use Rattle.stops.specs.Trials.{HasFiles, kept_files}
-use Rattle.stops.specs.declared.choices.Due.{Due}
+use Rattle.recoveries.specs.Images.{HasFiles, kept_files}
+use Rattle.recoveries.specs.declared.choices.Due.{Due}
 use Rattle.stops.specs.declared.held_trial.Calls.{Calls}
 use Rattle.stops.specs.declared.held_trial.HeldRun.{HeldRun}
 

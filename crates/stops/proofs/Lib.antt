@@ -1,4 +1,2 @@
-pub mod ChoiceLemmas
 pub mod HeldRuns
-pub mod Recovered
 pub mod Runs

@@ -1,6 +1,5 @@
 -- Whether a run kept its files.
-use Rattle.std.proofs.Common.{◌≡◌, ℕ, ◌+◌, ◌-◌, ◌<◌, ◌∙◌, Bool, true, false, Option, arith, ap, ap₂, subst, sym, inl, ⊎_elim}
-use Rattle.std.proofs.lemmas.Bool.{cases_lt}
+use Rattle.std.proofs.Common.{◌≡◌, ℕ, ◌-◌, ◌∙◌, Bool, true, false, Option, arith, ap, ap₂, subst, sym, inl}
 use Rattle.std.specs.Prelude.{◌↔◌, IsTrue, List}
 use Rattle.blocks.specs.contracts.memory.MemDiskDisk.TheImpl.{ghosts}
 use Rattle.blocks.specs.declared.memory.MemDisk.{MemDisk}
@@ -8,7 +7,8 @@ use Rattle.model.specs.Files.{Files}
 use Rattle.model.specs.declared.types.operations.Entry.{Entry}
 use Rattle.scripts.specs.declared.schedule.Word.{Word}
 use Rattle.scripts.specs.declared.script.Task.{Task}
-use Rattle.stops.specs.Trials.{Fails, HasFiles, IsKept, IsTried, MakesRun, MemoryPlayer, kept_files, memory}
+use Rattle.recoveries.specs.Images.{HasFiles, kept_files}
+use Rattle.stops.specs.Trials.{Fails, IsKept, IsTried, MakesRun, MemoryPlayer, memory}
 
 module _ (last : MemoryPlayer) (disk : MemDisk) (entries : List Entry) (committed : ℕ) (due : Option Files) (same : Bool) where
   -- the disk that was handed back has the files that are due, or not
@@ -33,8 +33,3 @@ module _ (tasks : List Task) (processes : ℕ) (words : List Word) (stop : ℕ) 
 
   pub lost_so : same ≡ false → Fails tasks processes words stop
   lost_so not = inl (record { player = player; last = last; run = run; lost = λ keeps. absurd (cc (sym not ∙ kept.1 keeps)) })
-
--- the next of those below a count
-pub one_more_passed : (P : ℕ → Type 0) (k : ℕ) → ((n : ℕ) → n < k → P n) → P k → (n : ℕ) → n < k + 1 → P n
-one_more_passed P k each last n below =
-    ⊎_elim (λ less. each n less) (λ least. let same : n ≡ k = omega (arith, least, below) in subst P (sym same) last) (cases_lt n k)

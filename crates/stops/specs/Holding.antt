@@ -11,8 +11,9 @@ use Rattle.blocks.specs.declared.sync.SyncDisk.{SyncDisk}
 use Rattle.scripts.specs.declared.schedule.Word.{Word}
 use Rattle.scripts.specs.declared.script.Task.{Task}
 use Rattle.player.specs.declared.player.Player.{Player}
-use Rattle.stops.specs.Choices.{IsChoice, choice_count, due_files, left_by}
-use Rattle.stops.specs.Trials.{HasFiles, IsUnopenedNew, MakesRun, kept_files}
+use Rattle.recoveries.specs.Choices.{IsChoice, choice_count, due_files, left_by}
+use Rattle.recoveries.specs.Images.{HasFiles, kept_files}
+use Rattle.stops.specs.Trials.{IsUnopenedNew, MakesRun}
 use Rattle.stops.specs.declared.held_trial.Calls.{Calls}
 use Rattle.stops.specs.declared.held_trial.Calls.TheVariants.{Writes, Syncs}
 use Rattle.stops.specs.declared.held_trial.HeldRun.{HeldRun}

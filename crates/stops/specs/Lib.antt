@@ -1,4 +1,3 @@
 pub mod Checks
-pub mod Choices
 pub mod Holding
 pub mod Trials

@@ -1,30 +1,20 @@
--- The runs of a script over a new image, and the files that what they leave has to have.
-use Rattle.std.specs.Prelude.{◌≡◌, ◌≢◌, ◌<◌, ◌⊎◌, ◌+◌, ◌-◌, ℕ, Bool, true, false, List, replicate, Option, Some, None}
-use Rattle.blocks.specs.Disk.{Image, counted}
+-- The runs of a script over a new image, and whether what they leave has the files that it has to.
+use Rattle.std.specs.Prelude.{◌≡◌, ◌≢◌, ◌<◌, ◌⊎◌, ◌+◌, ◌-◌, ℕ, false, List}
+use Rattle.blocks.specs.Disk.{counted}
 use Rattle.blocks.specs.contracts.memory.MemDiskDisk.TheImpl.{ghosts}
 use Rattle.blocks.specs.declared.disk.Disk.{Ghosts}
 use Rattle.blocks.specs.declared.faulty.FaultyDisk.{FaultyDisk}
 use Rattle.blocks.specs.declared.faulty.Trap.{Trap}
 use Rattle.blocks.specs.declared.memory.MemDisk.{MemDisk}
-use Rattle.model.specs.declared.types.fault.CheckFault.TheVariants as check
-use Rattle.model.specs.declared.types.image.Form.TheVariants.{One}
-use Rattle.model.specs.declared.types.operations.Entry.{Entry}
-use Rattle.model.specs.Codec.{made_image}
-use Rattle.model.specs.Files.{Files, files_of}
-use Rattle.model.specs.Journal.{kept, replay}
-use Rattle.model.specs.Log.{logged_count, recovered}
-use Rattle.model.specs.Verdict.{verdict}
-use Rattle.wal.specs.declared.faults.RecoverFault.TheVariants as recover
 use Rattle.scripts.specs.declared.schedule.Word.{Word}
 use Rattle.scripts.specs.declared.script.Task.{Task}
 use Rattle.texts.specs.declared.events.Event.{Event}
-use Rattle.texts.specs.declared.faults.KernelFault.TheVariants as kernel
 use Rattle.texts.specs.declared.refusal.Refusal.{Refusal}
-use Rattle.texts.specs.declared.refusal.Refusal.TheVariants.{Check, Recover, Open}
 use Rattle.player.specs.Afterwards.{IsUnopenedOver}
 use Rattle.player.specs.Opening.{IsArmed, IsOpenedOver}
 use Rattle.player.specs.Stepping.{MakesTurns}
 use Rattle.player.specs.declared.player.Player.{Player}
+use Rattle.recoveries.specs.Images.{HasFiles, is_want_of_memory, kept_files, new_image}
 
 -- what contracts see of a disk in memory of which one call fails
 abbrev pub memory : Ghosts (FaultyDisk MemDisk) (Unit {0} × Trap)
@@ -42,39 +32,6 @@ memory = record {
 -- a player over one
 abbrev pub MemoryPlayer : Type 0
 MemoryPlayer = Player MemDisk (Unit {0})
-
--- a new image of 48 blocks with 16 inode numbers
-abbrev pub new_image : Image
-new_image = made_image One 48 16
-
--- the files after the operations of the committed groups, where there was none before; None where
--- one of them can't have its reply
-abbrev pub kept_files : List Entry → ℕ → Option Files
-kept_files entries committed = replay One (replicate 16 None) (kept 16 entries committed)
-
--- the image can be recovered, and then has exactly these files
-pub record HasFiles (x : Image) (due : Option Files) : Type 0 where
-  pub sound : verdict x ≡ None
-  pub files : due ≡ Some (files_of (recovered x))
-
--- the image was recovered to that one, with so many blocks of its log copied home
-pub record IsRecoveredTo (x : Image) (count : ℕ) (y : Image) : Type 0 where
-  pub sound : verdict x ≡ None
-  pub logged : count ≡ logged_count x
-  pub image : y ≡ recovered x
-
--- it can be recovered, its log holds so many blocks, and these are its files then
-pub record IsFound (x : Image) (count : ℕ) (found : Files) : Type 0 where
-  pub sound : verdict x ≡ None
-  pub logged : count ≡ logged_count x
-  pub files : found ≡ files_of (recovered x)
-
--- the refusals that memory was refused
-abbrev pub is_want_of_memory : Refusal → Bool
-is_want_of_memory (Check check.NoMemory) = true
-is_want_of_memory (Recover recover.NoMemory) = true
-is_want_of_memory (Open kernel.NoMemory) = true
-is_want_of_memory r = false
 
 -- A player of these operations was opened over a new image, and made the turns of these words. The
 -- write of that number, from 1, was the one that isn't made.

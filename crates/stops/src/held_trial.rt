@@ -9,15 +9,14 @@ ghost use Rattle.scripts.specs.Schedule.{is_word_of};
 ghost use Rattle.texts.specs.declared.faults.StopsFault.TheVariants as fault;
 ghost use Rattle.blocks.specs.FaultyDisk.{inner_of};
 ghost use Rattle.stops.specs.Holding.{FailsHeld, FailsSync, IsTriedHeld, below, calls_of, over, sync_behind, write_behind};
-ghost use Rattle.stops.specs.Trials.{IsUnopenedNew, new_image};
+ghost use Rattle.stops.specs.Trials.{IsUnopenedNew};
+ghost use Rattle.recoveries.specs.Images.{new_image};
 
-use crate::choices::{Due, try_choices};
 use crate::copying::copies_of;
-use crate::files::kept_files;
-use crate::images::{is_want_of_memory, new_image};
 use blocks::{Disk, FaultyDisk, Kind, SyncDisk};
 use board::Board;
 use player::{Hands, Player, make_turns, open_player, take_board};
+use recoveries::{Due, is_want_of_memory, kept_files, new_image, try_choices};
 use scripts::{Task, Word};
 use std::alloc::Global;
 use texts::StopsFault;

@@ -13,12 +13,9 @@
 //! A run begins anew for each stop, and takes the memory that it needs. No file is opened here.
 #![tactic(auto)]
 
-mod choices;
 mod copying;
-mod files;
 mod held_trial;
 mod holding;
-mod images;
 mod stopping;
 mod trial;
 

@@ -1,23 +1,22 @@
 // One run, and whether the image that it leaves has the files that it has to have.
-ghost use Rattle.std.specs.Prelude.{◌≡◌, ◌<◌, ◌↔◌, false, All, IfOk, IfErr, IsTrue, length, option_map};
+ghost use Rattle.std.specs.Prelude.{◌≡◌, ◌<◌, false, All, IfOk, IfErr, IsTrue, length};
 ghost use Rattle.board.specs.Boards.{KeeperOf, WatchOf, asked, published};
 ghost use Rattle.player.specs.Opening.{IsArmed, IsOpenedOver};
 ghost use Rattle.player.specs.Stepping.{IsSeated};
 ghost use Rattle.std.specs.List.{list_all};
 ghost use Rattle.scripts.specs.Schedule.{is_word_of};
 ghost use Rattle.texts.specs.declared.faults.StopsFault.TheVariants as fault;
-ghost use Rattle.stops.specs.Trials.{Fails, HasFiles, IsTried, IsUnopenedNew, memory, new_image};
+ghost use Rattle.recoveries.specs.Images.{new_image};
+ghost use Rattle.stops.specs.Trials.{Fails, IsTried, IsUnopenedNew, memory};
 
 use crate::copying::copies_of;
-use crate::files::{are_same_files, kept_files};
-use crate::images::{is_want_of_memory, new_image, recovered_files};
-use blocks::{Disk, MemDisk, NoMemory};
+use blocks::{Disk, MemDisk};
 use board::Board;
-use plain::files::Files;
 use player::{Hands, Player, make_turns, open_player, take_board};
+use recoveries::{has_files, is_want_of_memory, kept_files, new_image};
 use scripts::{Task, Word};
 use std::alloc::Global;
-use texts::{Refusal, StopsFault};
+use texts::StopsFault;
 
 /// Makes the turns of the words over a new image, and compares what they leave with what the
 /// journal keeps. The write of number `stop` isn't made, counted from 1, and ends the run; each is
@@ -80,19 +79,5 @@ fn open<'a>(
         Ok(player) => Ok(player),
         Err((refusal, _disk)) if is_want_of_memory(&refusal) => Err(StopsFault::NoMemory),
         Err(_) => Err(StopsFault::Mismatch),
-    }
-}
-
-// Whether the image of a disk can be recovered, and has these files then.
-fn has_files(alloc: Global, disk: &mut MemDisk, files: Option<Files>) -> Result<bool, NoMemory>
-    ensures { IfOk result (λ yes. IsTrue yes ↔ HasFiles (⟦<MemDisk as Disk>⟧.image disk.old)
-        (option_map (λ f. f.items) files)) }
-{
-    let Some(files) = files else {
-        return Ok(false);
-    };
-    match recovered_files(alloc, disk)? {
-        Some((_logged, found)) => Ok(are_same_files(found.as_slice(), files.as_slice())),
-        None => Ok(false),
     }
 }

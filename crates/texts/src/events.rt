@@ -4,11 +4,11 @@ ghost use Rattle.hex.specs.Hex.{encode_lower};
 ghost use Rattle.texts.specs.Events.{number_of, name_of, progress_text, bytes_text, reply_text, answer_text, event_text, is_last};
 
 use itoa::Buffer;
-use model::types::{Answer, Reply, Why};
+use model::types::{Answer, Reply, TRANSFER_LIMIT, Why};
 use std::fmt;
 
 // The most bytes whose digits are made at once: those of the longest Read.
-const PIECE: usize = 3072;
+const PIECE: usize = TRANSFER_LIMIT as usize;
 
 /// What a step of a process came to.
 #[derive(Clone, Copy)]

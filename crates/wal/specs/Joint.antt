@@ -2,6 +2,7 @@
 use Rattle.std.specs.Prelude.{◌≡◌, ◌<◌, ◌≤◌, ◌==◌, ◌+◌, ℕ, Bool, true, false, List, [], length, drop, slice_index, if◌then◌else◌, Option, Some, None}
 use Rattle.blocks.specs.Block.{zero_block, IsBlock}
 use Rattle.blocks.specs.Disk.{Image, block_at}
+use Rattle.model.specs.Format.{inode_start}
 use Rattle.bcache.specs.Current.{is_of, shows, current}
 use Rattle.model.specs.Agreement.{IsSameOutsideLog}
 use Rattle.model.specs.Log.{logged_in, homes_in, logged_count, homes_of}
@@ -159,7 +160,7 @@ pub record JointAt (k : Commit) (x : Image) (c : Buffers) (l : LogState) : Type 
   pub cache : IsCache c
   pub log : IsLogAt k l
   -- no block of the log, or past the end, is cached
-  pub behind : (i b : ℕ) → is_of b (buffer c i) ≡ true → (33 ≤ b) × (b < l.size)
+  pub behind : (i b : ℕ) → is_of b (buffer c i) ≡ true → (inode_start ≤ b) × (b < l.size)
   pub pins : (i : ℕ) → (buffer c i).pins ≡ pins_of (live_at k l.homes) (buffer c i).block
   pub cached : (h : ℕ) → is_among h (live_at k l.homes) ≡ true
       → (i : ℕ) × (i < 40) × (shows h (buffer c i) ≡ true)
@@ -182,9 +183,9 @@ pub record SameButLog (x y : Image) : Type 0 where
   pub outside : IsSameOutsideLog x y
   pub header : block_at y 2 ≡ block_at x 2
 
--- the bytes of a slot that was found
+-- the bytes of a slot that was found; each home that a commit comes to has one
 abbrev pub bytes_found : Buffers → Option ℕ → List ℕ
-bytes_found c None = zero_block
+bytes_found c None = []
 bytes_found c (Some i) = (buffer c i).bytes
 
 -- what the next write of a commit is made from
@@ -196,15 +197,15 @@ source_at (commit.Homing k) hs h c = bytes_found c (found c (slice_index hs k))
 source_at commit.Clearing hs h c = zero_block
 source_at (commit.Syncing part) hs h c = zero_block
 
--- a slot that was found has a pin
+-- a slot was found, and has a pin
 abbrev pub HasPin : Buffers → Option ℕ → Type 0
-HasPin c None = Unit {0}
+HasPin c None = ⊥
 HasPin c (Some i) = 0 < (buffer c i).pins
 
--- the buffer of the home that is written is pinned
+-- the home that is logged or written has a buffer, which is pinned
 abbrev pub IsPinned : Commit → List ℕ → Buffers → Type 0
 IsPinned commit.Quiet hs c = Unit {0}
-IsPinned (commit.Logging k) hs c = Unit {0}
+IsPinned (commit.Logging k) hs c = HasPin c (found c (slice_index hs k))
 IsPinned commit.Heading hs c = Unit {0}
 IsPinned (commit.Homing k) hs c = HasPin c (found c (slice_index hs k))
 IsPinned commit.Clearing hs c = Unit {0}

@@ -1,6 +1,7 @@
 -- The log as contracts see it, and what each call makes of it.
 use Rattle.std.specs.Prelude.{is_some, IsSome, ◌≡◌, ◌<◌, ◌≤◌, ◌==◌, ◌+◌, ◌-◌, ◌*◌, ◌^◌, ℕ, not, min, IsTrue, Bool, true, false, List, [], ◌∷◌, ◌++◌, length, replicate, slice_index_or, slice_set, if◌then◌else◌, Option, Some, None}
 use Rattle.std.specs.List.{list_any, sum_by}
+use Rattle.model.specs.Format.{log_capacity, inode_start}
 use Rattle.model.specs.declared.types.operations.Why.{Why}
 use Rattle.model.specs.Log.{are_in_place, are_distinct}
 use Rattle.model.specs.Reservations.{unused_reservation, log_cause}
@@ -204,7 +205,7 @@ Counts (commit.Syncing part) l = CountsSynced part l
 
 -- what is true of every log in that phase
 pub record IsLogAt (k : Commit) (l : LogState) : Type 0 where
-  pub big : 33 ≤ l.size
+  pub big : inode_start ≤ l.size
   pub small : l.size < 2 ^ 32
   pub places : AreHomes l.size l.homes
   pub pids : length l.used ≡ 32
@@ -213,7 +214,7 @@ pub record IsLogAt (k : Commit) (l : LogState) : Type 0 where
   pub each : (p : ℕ) → added_by (used_by l p) ≤ 10
   pub added : sum_by added_by l.used ≤ length l.homes
   -- the homes and all unused reservations fit the log
-  pub room : length l.homes + sum_by unused l.used ≤ 30
+  pub room : length l.homes + sum_by unused l.used ≤ log_capacity
   pub idle : Idle k l
   pub counts : Counts k l
 

@@ -3,6 +3,7 @@ ghost use Rattle.std.specs.Prelude.{◌≡◌, ◌≢◌, ◌<◌, ◌≤◌, �
 ghost use Rattle.bcache.specs.Buffers.{buffer, block_or_zero, found};
 ghost use Rattle.blocks.specs.Block.{zero_block};
 ghost use Rattle.blocks.specs.Calls.{SyncsOne, WritesOne};
+ghost use Rattle.model.specs.Format.{log_capacity, inode_start};
 ghost use Rattle.model.specs.Codec.{header_block};
 ghost use Rattle.model.specs.Layout.{is_lawful_super};
 ghost use Rattle.wal.specs.Joint.{Joint, place_at, source_at, stepped_at, synced_at, written_cache, bytes_found, unpinned_found, HasPin, IsPinned, IsWithin};
@@ -15,7 +16,7 @@ use crate::{Began, Commit, Committed, DeviceFault, Ended, Part};
 use arrayvec::ArrayVec;
 use bcache::Cache;
 use blocks::{Block, Disk, DiskFault, NoMemory};
-use layout::Super;
+use layout::{LOG_CAPACITY, Super};
 use layout::header::Header;
 use model::types::Why;
 use std::alloc::Global;
@@ -89,7 +90,7 @@ impl Log {
 
     // A log to which nothing was written, with the blocks for its headers.
     fn over(size: u32, made: Block, empty: Block) -> Log
-        requires long { 33 ≤ size }
+        requires long { inode_start ≤ size }
         requires empty { empty ≡ zero_block }
         ensures { result ≡ new_log size }
     {
@@ -187,7 +188,7 @@ impl Log {
             return Some(Why::Committing);
         }
         let reserved = self.header.homes.len() as u64 + (self.outstanding as u64 + 1) * 10;
-        if reserved > 30 {
+        if reserved > LOG_CAPACITY as u64 {
             return Some(Why::LogFull);
         }
         None
@@ -232,7 +233,7 @@ impl Log {
     pub fn log_write(&mut self, pid: u32, cache: &mut Cache, slot: u32)
         requires logs { MayLog self.old pid }
         requires has { HasSlot cache.old pid slot }
-        requires behind { 33 ≤ block_or_zero (buffer cache.old slot).block }
+        requires behind { inode_start ≤ block_or_zero (buffer cache.old slot).block }
         requires within { block_or_zero (buffer cache.old slot).block < self.old.size }
         requires few { MayPin self.old cache.old slot }
         ensures log { self.new ≡ noted self.old pid (block_or_zero (buffer cache.old slot).block) }
@@ -250,7 +251,7 @@ impl Log {
     // Adds a home, and answers whether it was one already.
     fn note(&mut self, pid: u32, block: u32) -> bool
         requires logs { MayLog self.old pid }
-        requires behind { 33 ≤ block }
+        requires behind { inode_start ≤ block }
         requires within { block < self.old.size }
         ensures answer { result ≡ is_among block self.old.homes }
         ensures log { self.new ≡ noted self.old pid block }
@@ -264,7 +265,7 @@ impl Log {
 
     fn append(&mut self, pid: u32, block: u32)
         requires logs { MayLog self.old pid }
-        requires behind { 33 ≤ block }
+        requires behind { inode_start ≤ block }
         requires within { block < self.old.size }
         requires other { is_among block self.old.homes ≡ false }
         ensures { self.new ≡ appended self.old pid block }
@@ -386,6 +387,7 @@ impl Log {
     // Makes the next write, and no more.
     fn write_next<D: Disk>(&mut self, cache: &Cache, disk: &mut D) -> Result<(), DiskFault>
         requires inside { place_at self.old.commit self.old.homes < length (D.image disk.old) }
+        requires pinned { IsPinned self.old.commit self.old.homes cache.now }
         ensures log { self.new ≡ self.old }
         ensures writes { WritesOne D.Disk (place_at self.old.commit self.old.homes)
             (source_at self.old.commit self.old.homes (header_block self.old.homes) cache.now)
@@ -478,7 +480,7 @@ fn make_header(commit: Commit, header: &Header, made: &mut Block)
 // Where the next write of a commit goes.
 fn place(commit: Commit, homes: &[u32]) -> u32
     requires within { IsWithin commit homes.now }
-    requires few { length homes.now ≤ 30 }
+    requires few { length homes.now ≤ log_capacity }
     ensures { result ≡ place_at commit homes.now }
 {
     match commit {
@@ -497,13 +499,13 @@ fn source<'a>(
     empty: &'a Block,
 ) -> &'a Block
     requires within { IsWithin commit homes.now }
+    requires pinned { IsPinned commit homes.now cache.now }
     requires made { commit ≡ Commit.Heading → made.now ≡ header_block homes.now }
     requires empty { empty.now ≡ zero_block }
     ensures { result.now ≡ source_at commit homes.now (header_block homes.now) cache.now }
 {
     match commit {
-        Commit::Logging(k) => bytes_for(cache, homes[k as usize], empty),
-        Commit::Homing(k) => bytes_for(cache, homes[k as usize], empty),
+        Commit::Logging(k) | Commit::Homing(k) => bytes_for(cache, homes[k as usize]),
         Commit::Heading => made,
         Commit::Quiet | Commit::Clearing | Commit::Syncing(_) => empty,
     }
@@ -511,7 +513,7 @@ fn source<'a>(
 
 fn after_log_block(k: u32, count: usize, holds: bool) -> Commit
     requires inside { k < count }
-    requires few { count ≤ 30 }
+    requires few { count ≤ log_capacity }
     ensures { result ≡ (if k + 1 == count
         then (if holds then Commit.Syncing part.Log else Commit.Heading)
         else Commit.Logging (k + 1)) }
@@ -528,7 +530,7 @@ fn after_log_block(k: u32, count: usize, holds: bool) -> Commit
 
 fn after_home(k: u32, count: usize, holds: bool) -> Commit
     requires inside { k < count }
-    requires few { count ≤ 30 }
+    requires few { count ≤ log_capacity }
     ensures { result ≡ (if k + 1 == count
         then (if holds then Commit.Syncing part.Homes else Commit.Clearing)
         else Commit.Homing (k + 1)) }
@@ -544,23 +546,24 @@ fn after_home(k: u32, count: usize, holds: bool) -> Commit
 }
 
 // The buffer's bytes of a home.
-fn bytes_for<'a>(cache: &'a Cache, home: u32, empty: &'a Block) -> &'a Block
-    requires { empty.now ≡ zero_block }
+fn bytes_for(cache: &Cache, home: u32) -> &Block
+    requires { HasPin cache.now (found cache.now home) }
     ensures { result.now ≡ bytes_found cache.now (found cache.now home) }
 {
-    match cache.find(home) {
-        Some(slot) => cache.data(slot),
-        None => empty,
-    }
+    let Some(slot) = cache.find(home) else {
+        unreachable!();
+    };
+    cache.data(slot)
 }
 
 fn unpin_block(cache: &mut Cache, home: u32)
     requires { HasPin cache.old (found cache.old home) }
     ensures { cache.new ≡ unpinned_found cache.old (found cache.old home) }
 {
-    if let Some(slot) = cache.find(home) {
-        cache.unpin(slot);
-    }
+    let Some(slot) = cache.find(home) else {
+        unreachable!();
+    };
+    cache.unpin(slot);
 }
 
 // Whether no commit is under way.

@@ -3,32 +3,27 @@ ghost use Rattle.std.specs.Prelude.{◌≡◌, ◌⊎◌, ◌<◌, ◌≤◌, �
 ghost use Rattle.blocks.specs.Block.{zero_block};
 ghost use Rattle.blocks.specs.Calls.{OnlyReads, UnlessHolds, WritesOne};
 ghost use Rattle.blocks.specs.Disk.{AddsNone, CountsFault, IsOldOrNew, IsSettled, LeavesOnly, Rose, one_more};
+ghost use Rattle.model.specs.Format.{log_capacity, inode_start, log_start};
 ghost use Rattle.model.specs.Layout.{is_lawful_super};
 ghost use Rattle.model.specs.Log.{is_lawful_log, homes_of};
 ghost use Rattle.wal.specs.Recovery.{BringsHome, Clears, Copies, FailsLate, IsCalm, MayStop, OnNoMemory, ReadsHeader, Recovers, RecoversBy, RefusesToRecover, Rests, Settles, StopsAlike, syncs_to_restore, syncs_to_settle};
 
 use crate::RecoverFault;
 use blocks::{Block, Disk, DiskFault, SyncFault};
-use layout::Super;
+use layout::{LOG_START, Super};
 use layout::header::Header;
 use std::alloc::Global;
-
-// The log's first block, its header.
-const HEADER: u32 = 2;
-
-// The first of the blocks behind the header.
-const LOG: u32 = 3;
 
 // Reads the header of a lawful log in an image of that many blocks.
 fn read_header<D: Disk>(disk: &mut D, size: u32, block: &mut Block) -> Result<Header, RecoverFault>
     requires size { size ≡ length (D.image disk.old) }
-    requires long { 33 ≤ size }
+    requires long { inode_start ≤ size }
     ensures ok { IfOk result (ReadsHeader D.Disk disk.old disk.new) }
     ensures refused { RefusesToRecover D.Disk disk.old disk.new result }
     ensures reads { OnlyReads D.Disk disk.old disk.new }
     ensures memory { OnNoMemory result ⊥ }
 {
-    disk.read(HEADER, block)?;
+    disk.read(LOG_START, block)?;
     let header = Header::read(block.as_slice());
     if !header.is_lawful(size) {
         return Err(RecoverFault::BadLog);
@@ -38,10 +33,10 @@ fn read_header<D: Disk>(disk: &mut D, size: u32, block: &mut Block) -> Result<He
 
 // The log's block for the home at a place, from 0.
 fn log_block(place: usize) -> u32
-    requires { place < 30 }
-    ensures { result ≡ 3 + place }
+    requires { place < log_capacity }
+    ensures { result ≡ log_start + 1 + place }
 {
-    LOG + place as u32
+    LOG_START + 1 + place as u32
 }
 
 // Brings what a disk holds back to the disk.
@@ -70,14 +65,14 @@ fn clear_header<D: Disk>(disk: &mut D, empty: &Block) -> Result<(), RecoverFault
     ensures stops { LeavesOnly D.moment D.leaves disk.old disk.new
         (IsOldOrNew (D.image disk.old) 2 zero_block) }
 {
-    disk.write(HEADER, empty)?;
+    disk.write(LOG_START, empty)?;
     settle(disk)?;
     Ok(())
 }
 
 // Copies each logged block home.
 fn copy_home<D: Disk>(disk: &mut D, block: &mut Block, homes: &[u32]) -> Result<(), DiskFault>
-    requires long { 33 ≤ length (D.image disk.old) }
+    requires long { inode_start ≤ length (D.image disk.old) }
     requires lawful { IsTrue (is_lawful_log (D.image disk.old)) }
     requires homes { homes.now ≡ homes_of (D.image disk.old) }
     requires settled { IsCalm D.Disk disk.old }
@@ -96,7 +91,7 @@ fn copy_home<D: Disk>(disk: &mut D, block: &mut Block, homes: &[u32]) -> Result<
 
 // Copies each logged block home, and then nothing is held.
 fn bring_home<D: Disk>(disk: &mut D, block: &mut Block, homes: &[u32]) -> Result<(), RecoverFault>
-    requires long { 33 ≤ length (D.image disk.old) }
+    requires long { inode_start ≤ length (D.image disk.old) }
     requires lawful { IsTrue (is_lawful_log (D.image disk.old)) }
     requires homes { homes.now ≡ homes_of (D.image disk.old) }
     requires settled { IsCalm D.Disk disk.old }

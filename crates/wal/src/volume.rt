@@ -1,7 +1,8 @@
 // A disk with its buffer cache and its log, as the layers above use them.
 ghost use Rattle.std.specs.Prelude.{◌≡◌, ◌<◌, ◌≤◌, ◌+◌, ◌^◌, ℕ, false, length, slice_set, Some, None, IsSome, IfNone};
-ghost use Rattle.blocks.specs.Block.{IsBlock, overwritten};
+ghost use Rattle.blocks.specs.Block.{IsBlock, overwritten, block_size};
 ghost use Rattle.blocks.specs.Disk.{Image, IsImage, IsSettled, block_at};
+ghost use Rattle.model.specs.Format.{inode_start};
 ghost use Rattle.wal.specs.Floats.{Survives};
 ghost use Rattle.model.specs.Log.{logged_count};
 ghost use Rattle.bcache.specs.Buffers.{buffer, block_or_zero, filled, fresh_buffers, released, EndsUnfilled};
@@ -167,7 +168,7 @@ impl<D: Disk> Volume<D> {
     /// failed; the slot then keeps the process's lock.
     pub fn get(&mut self, pid: u32, block: u32) -> Get
         requires fault { self.old.fault ≡ None }
-        requires behind { 33 ≤ block }
+        requires behind { inode_start ≤ block }
         requires within { block < self.old.log.size }
         ensures gets { Gets D.Disk self.old pid block result self.new }
         ensures reads { ReadsFor D.Disk self.old result self.new }
@@ -235,7 +236,7 @@ impl<D: Disk> Volume<D> {
     pub fn change(&mut self, pid: u32, slot: u32, at: usize, bytes: &[u8])
         requires fault { self.old.fault ≡ None }
         requires may { MayChange self.old pid slot }
-        requires fits { at + length bytes.now ≤ 1024 }
+        requires fits { at + length bytes.now ≤ block_size }
         ensures volume { self.new ≡ after_change self.old pid slot at bytes.now }
         ensures current { seen (D.image self.new.device) self.new.buffers ≡ slice_set
             (seen (D.image self.old.device) self.old.buffers)

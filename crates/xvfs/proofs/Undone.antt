@@ -4,7 +4,8 @@ use Rattle.std.specs.Prelude.{◌≤◌, unwrap_or}
 use Rattle.requests.specs.declared.explanation.Explanation.{Explanation}
 use Rattle.xvfs.specs.declared.command.Failure.{Failure}
 use Rattle.xvfs.specs.declared.command.Failure.TheVariants.{Refused, Misused}
-use Rattle.player.specs.Causes.{IsUnchecked, IsUnrecovered}
+use Rattle.opening.specs.Recoveries.{IsUnrecovered}
+use Rattle.player.specs.Causes.{IsUnchecked}
 use Rattle.texts.specs.declared.refusal.Refusal.{Refusal}
 use Rattle.requests.specs.declared.words.Request.{Request}
 use Rattle.requests.specs.declared.words.Request.TheVariants.{Mkfs, Check, Recover, Cat, Replay, Run, Stops}

@@ -1,6 +1,7 @@
 -- What a request is answered.
 use Rattle.std.specs.Prelude.{◌≡◌, ◌≢◌, ◌⊎◌, ℕ, false, List, [], ◌∷◌, ◌++◌, Option, unwrap_or}
-use Rattle.player.specs.Causes.{IsUnchecked, IsUnrecovered}
+use Rattle.opening.specs.Recoveries.{IsUnrecovered}
+use Rattle.player.specs.Causes.{IsUnchecked}
 use Rattle.player.specs.Showing.{IsNotShown}
 use Rattle.texts.specs.declared.refusal.Refusal.{Refusal}
 use Rattle.texts.specs.declared.refusal.Refusal.TheVariants.{Output}

@@ -8,10 +8,9 @@ use Rattle.model.specs.declared.types.image.Dinode.{Dinode}
 use Rattle.model.specs.declared.types.image.Form.TheVariants.{One}
 use Rattle.model.specs.Codec.{with_entry}
 use Rattle.model.specs.Fields.{words_of}
-use Rattle.model.specs.Layout.{form_of}
+use Rattle.model.specs.Layout.{form_of, indirect_of}
 use Rattle.model.specs.Places.{address_in}
 use Rattle.model.specs.Lemmas.Codecs.{entry-with_entry}
-use Rattle.blockmap.specs.BmapAlloc.{indirect_of}
 use Rattle.loose.specs.Lemmas.Addresses.{address_direct, address_behind}
 
 -- an inode that names a block itself leads to it

@@ -11,7 +11,7 @@ use Rattle.model.specs.declared.types.operations.Reply.{Reply}
 use Rattle.model.specs.declared.types.operations.Reply.TheVariants.{Bytes, Wrote}
 use Rattle.model.specs.declared.types.operations.TaskProgress.{TaskProgress}
 use Rattle.model.specs.declared.types.operations.TaskProgress.TheVariants as progress
-use Rattle.model.specs.Layout.{inode_of, inode_block}
+use Rattle.model.specs.Layout.{inode_of, inode_block, indirect_of}
 use Rattle.wal.specs.Machine.{used_by}
 use Rattle.wal.specs.Volume.{VolumeState}
 use Rattle.blockmap.specs.Bmap.{EntryState, LooksUp, some_address}
@@ -44,7 +44,7 @@ use Rattle.blockmap.specs.BmapAlloc.{after_direct, after_indirect, FindsEntry, e
 use Rattle.inodes.specs.declared.writei.Extent.{Extent}
 use Rattle.inodes.specs.Writing.{extent_of, block_on_way, block_of_write, block_of_alloc}
 use Rattle.blockmap.specs.declared.balloc.AllocAt.{AllocAt}
-use Rattle.blockmap.specs.BmapAlloc.{MapState, after_behind, MapSteps, TakesOne, direct_at, naming, indirect_at, indirect_of}
+use Rattle.blockmap.specs.BmapAlloc.{MapState, after_behind, MapSteps, TakesOne, direct_at, naming, indirect_at}
 use Rattle.blockmap.specs.declared.bmap_alloc.MapAt.{MapAt}
 use Rattle.inodes.specs.declared.writei.WriteAt.{WriteAt}
 use Rattle.blockmap.specs.Balloc.{AllocState, Allocs, TakesLowest, lowest_in}

@@ -5,6 +5,7 @@ use Rattle.std.specs.List.{Any}
 use Rattle.std.proofs.lemmas.Bool.{eqb-true}
 use Rattle.blocks.specs.Disk.{Image, block_at}
 use Rattle.blocks.specs.declared.disk.Disk.{Ghosts}
+use Rattle.model.specs.Layout.{indirect_of}
 use Rattle.model.specs.declared.types.image.Dinode.{Dinode}
 use Rattle.model.specs.declared.types.operations.Op.{Op}
 use Rattle.model.specs.declared.types.operations.Reply.TheVariants.{Wrote}
@@ -16,7 +17,7 @@ use Rattle.wal.specs.declared.types.Get.{Get}
 use Rattle.wal.specs.declared.types.Get.TheVariants as get
 use Rattle.blockmap.specs.Balloc.{AllocState, Allocs, IsLowestClear, TakesLowest, first_alloc, lowest_in}
 use Rattle.blockmap.specs.Bmap.{some_address}
-use Rattle.blockmap.specs.BmapAlloc.{FindsEntry, MapState, MapSteps, TakesOne, after_behind, after_indirect, behind_at, entry_for, first_way, indirect_at, indirect_of}
+use Rattle.blockmap.specs.BmapAlloc.{FindsEntry, MapState, MapSteps, TakesOne, after_behind, after_indirect, behind_at, entry_for, first_way, indirect_at}
 use Rattle.driver.specs.Getting.{progress_of}
 use Rattle.blockmap.specs.Lemmas.Bitmap.{lowest_clear_is_lowest}
 use Rattle.blockmap.specs.Map.{mapped_for_writing}

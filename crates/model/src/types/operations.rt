@@ -2,6 +2,9 @@
 use crate::content::Content;
 use blocks::DiskFault;
 
+/// The most bytes that one read or write moves.
+pub const TRANSFER_LIMIT: u32 = 3072;
+
 /// An operation on files, by inode number.
 #[derive(Debug, Drop)]
 pub enum Op {
@@ -40,7 +43,7 @@ pub enum Reply {
     BadOffset,
     /// The write would end behind the greatest size.
     TooBig,
-    /// More than 3072 bytes at once.
+    /// More bytes at once than `TRANSFER_LIMIT`.
     TooLong,
     /// No file has that type.
     BadType,

@@ -1,5 +1,5 @@
 use Rattle.std.proofs.lemmas.Result.{IfErr-weaker}
-use Rattle.player.specs.Causes.{IsUnrecovered}
+use Rattle.opening.specs.Recoveries.{IsUnrecovered}
 use Rattle.images.specs.Lemmas.Disks.{file_disk}
 use Rattle.images.proofs.Opened.{opens_disk, refuses_disk}
 use Rattle.images.proofs.files.recover_file.Goals as goal

@@ -3,7 +3,7 @@ use Rattle.std.specs.Prelude.{IfErr}
 use Rattle.blocks.specs.Disk.{counted}
 use Rattle.model.specs.Log.{logged_count}
 use Rattle.wal.specs.Recovery.{writes_to_recover}
-use Rattle.player.specs.Causes.{IsRecovered}
+use Rattle.opening.specs.Recoveries.{IsRecovered}
 use Rattle.player.specs.Opening.{HasNotBegun}
 use Rattle.player.proofs.Disks.{faulty}
 use Rattle.player.proofs.Openings.{none_counted, opened_again, over_name, over_only, recovered_then}

@@ -1,9 +1,9 @@
 use Rattle.std.proofs.Common.{◌≡◌, ◌∙◌, ap, sym}
 use Rattle.blocks.specs.contracts.sync.SyncDiskDisk.TheImpl.{ghosts}
 use Rattle.model.specs.Log.{logged_count}
+use Rattle.recoveries.specs.Images.{new_image}
+use Rattle.recoveries.specs.Lemmas.NewImages.{new_empty}
 use Rattle.stops.specs.Holding.{below}
-use Rattle.stops.specs.Trials.{new_image}
-use Rattle.stops.proofs.Recovered.{new_empty}
 use Rattle.stops.proofs.held_trial.open.Goals as goal
 
 pub returns-in-Ok-clause-armed : goal.returns-in-Ok-clause-armed

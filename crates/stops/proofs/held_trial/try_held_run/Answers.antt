@@ -1,6 +1,6 @@
 use Rattle.std.proofs.Common.{◌∙◌, ap, ap₂}
 use Rattle.blocks.specs.FaultyDisk.{inner_of}
-use Rattle.stops.specs.Trials.{kept_files}
+use Rattle.recoveries.specs.Images.{kept_files}
 use Rattle.stops.proofs.HeldRuns.{lost_held, passed_on, refused_memory, tried_held}
 use Rattle.stops.proofs.held_trial.try_held_run.Goals as goal
 

@@ -1,6 +1,6 @@
 use Rattle.std.proofs.Common.{arith}
+use Rattle.recoveries.specs.Lemmas.Counting.{one_more_passed}
 use Rattle.stops.specs.Trials.{Passes}
-use Rattle.stops.proofs.Runs.{one_more_passed}
 use Rattle.stops.proofs.stopping.try_stops.Goals as goal
 
 pub loop-before-preserved : goal.loop-before-preserved

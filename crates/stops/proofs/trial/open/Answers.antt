@@ -1,6 +1,6 @@
 use Rattle.std.proofs.Common.{◌∙◌, ap, sym}
 use Rattle.model.specs.Log.{logged_count}
-use Rattle.stops.proofs.Recovered.{new_empty}
+use Rattle.recoveries.specs.Lemmas.NewImages.{new_empty}
 use Rattle.stops.proofs.trial.open.Goals as goal
 
 pub returns-in-Ok-clause-armed : goal.returns-in-Ok-clause-armed

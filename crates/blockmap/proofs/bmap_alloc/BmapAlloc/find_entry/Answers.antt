@@ -1,9 +1,10 @@
 use Rattle.std.proofs.Common.{◌≡◌, ◌∙◌, sym, ap, subst, arith, ℕ, ◌-◌, List, Option, Some}
 use Rattle.std.specs.Prelude.{slice_index}
 use Rattle.blocks.specs.Disk.{Image, block_at}
+use Rattle.model.specs.Layout.{indirect_of}
 use Rattle.model.specs.Fields.{words_of}
 use Rattle.wal.specs.Joint.{seen}
-use Rattle.blockmap.specs.BmapAlloc.{MapState, MayMapAt, indirect_of}
+use Rattle.blockmap.specs.BmapAlloc.{MapState, MayMapAt}
 use Rattle.blockmap.specs.Lemmas.Leading.{leads_behind}
 use Rattle.blockmap.specs.declared.bmap_alloc.MapAt.{MapAt}
 use Rattle.blockmap.specs.declared.bmap_alloc.MapAt.TheVariants as map_at

@@ -1,9 +1,10 @@
 use Rattle.std.proofs.Common.{◌≡◌, ◌∙◌, sym, ap, subst, arith, ℕ, ◌*◌, ◌-◌, ◌^◌, ◌<◌, List, length}
 use Rattle.blocks.specs.Block.{overwritten}
 use Rattle.blocks.specs.Disk.{block_at}
+use Rattle.model.specs.Layout.{indirect_of}
 use Rattle.model.specs.Codec.{with_entry}
 use Rattle.wal.specs.Joint.{seen}
-use Rattle.blockmap.specs.BmapAlloc.{MapState, MayMapAt, indirect_of}
+use Rattle.blockmap.specs.BmapAlloc.{MapState, MayMapAt}
 use Rattle.blockmap.specs.Lemmas.Leading.{entry_set, leads_behind}
 use Rattle.driver.specs.Lemmas.Putting.{writes_put}
 use Rattle.blockmap.specs.declared.bmap_alloc.MapAt.{MapAt}

@@ -3,9 +3,15 @@ use Rattle.model.specs.Codec.{header_block}
 use Rattle.wal.specs.Machine.{LogState, is_writing}
 use Rattle.wal.specs.Joint.{IsPinned, stepped_at, written_cache}
 use Rattle.wal.specs.Step.{Faulted, answer_at}
-use Rattle.wal.proofs.CommitBytesLemmas.{is_pinned, log_header}
+use Rattle.wal.proofs.CommitBytesLemmas.{is_pinned, log_header, place_inside}
 use Rattle.wal.proofs.CommitStepLemmas.{stepped, faulted, commits_to, made_counts, no_fault, crash_step, crash_lands}
 use Rattle.wal.proofs.log.Log.write_part.Goals as goal
+
+pub write_next-requires : goal.write_next-requires
+write_next-requires g c = record {
+  inside = place_inside (g.D.Disk.image c.args.disk.now) c.args.cache.now c.args.self.now c.requires.joint;
+  pinned = is_pinned (g.D.Disk.image c.args.disk.now) c.args.cache.now c.args.self.now c.requires.joint;
+}
 
 pub go_on-requires : goal.go_on-requires
 go_on-requires g c = record {

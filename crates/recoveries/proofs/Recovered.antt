@@ -1,0 +1,53 @@
+-- Images that were recovered.
+use Rattle.std.proofs.Common.{◌≡◌, ◌≢◌, ◌∙◌, ℕ, Bool, false, Some, None, sym, subst, ap}
+use Rattle.std.specs.Prelude.{◌↔◌, IsTrue}
+use Rattle.blocks.specs.Disk.{Image}
+use Rattle.blocks.specs.declared.disk.Disk.{Ghosts}
+use Rattle.model.specs.Files.{Files, files_of}
+use Rattle.model.specs.Log.{recovered}
+use Rattle.model.specs.Soundness.{IsSound}
+use Rattle.model.specs.Verdict.{verdict}
+use Rattle.model.specs.declared.types.fault.CheckFault.{CheckFault}
+use Rattle.model.specs.declared.types.fault.CheckFault.TheVariants as check
+use Rattle.model.specs.Lemmas.Log.{recovered_empty}
+use Rattle.model.specs.Lemmas.Soundness.{sound_verdict, verdict_sound}
+use Rattle.wal.specs.Lemmas.Commits.{empty_lawful}
+use Rattle.opening.specs.Recoveries.{IsRecovered}
+use Rattle.texts.specs.declared.refusal.Refusal.TheVariants.{Check}
+use Rattle.recoveries.specs.Images.{HasFiles, IsFound, is_want_of_memory}
+
+-- what was recovered has no fault
+pub recovered_verdict : (x : Image) → verdict x ≡ None → verdict (recovered x) ≡ None
+recovered_verdict x none =
+    let sound = (verdict_sound x none).2 in
+    sound_verdict (recovered x) (sound.geometry, empty_lawful (recovered x) sound.empty_log, subst IsSound (sym (recovered_empty (recovered x) sound.empty_log)) sound)
+
+-- what was recovered twice is as after the first time, and nothing was copied the second time
+pub twice : {D N : Type 0} (disk : Ghosts D N) (a b c : D) (m n : ℕ) → IsRecovered disk m a b → IsRecovered disk n b c → (n ≡ 0) × (disk.image c ≡ recovered (disk.image a))
+twice disk a b c m n one two = (two.count ∙ one.none, two.image ∙ recovered_empty (disk.image b) one.none ∙ one.image)
+
+-- it can be recovered again
+pub again : {D N : Type 0} (disk : Ghosts D N) (a b : D) (m : ℕ) → IsRecovered disk m a b → verdict (disk.image b) ≡ None
+again disk a b m one = ap verdict one.image ∙ recovered_verdict (disk.image a) one.sound
+
+-- what is known of one recovery is known of the next
+pub once : (x : Image) → verdict x ≡ None → recovered (recovered x) ≡ recovered x
+once x none = recovered_empty (recovered x) (verdict_sound x none).2.empty_log
+
+some_files : (a b : Files) → Some a ≡ Some b → a ≡ b
+some_files a b is = cc is
+
+-- files were compared with those that an image has once it is recovered
+pub found_so : (x : Image) (count : ℕ) (found due : Files) (same : Bool) → IsFound x count found → (IsTrue same ↔ (found ≡ due)) → IsTrue same ↔ HasFiles x (Some due)
+found_so x count found due same is both = (
+  λ alike. record { sound = is.sound; files = ap Some (sym (both.0 alike) ∙ is.files) },
+  λ kept. both.1 (is.files ∙ sym (some_files due (files_of (recovered x)) kept.files)),
+)
+
+-- it is another fault than that memory was refused
+pub not_memory : (fault : CheckFault) → is_want_of_memory (Check fault) ≡ false → fault ≢ check.NoMemory
+not_memory fault other is = absurd (cc (subst (λ f. is_want_of_memory (Check f) ≡ false) is other))
+
+-- a sound image that was recovered has no fault
+pub no_fault : (x y : Image) (fault : CheckFault) → y ≡ recovered x → verdict y ≡ Some fault → ¬ (verdict x ≡ None)
+no_fault x y fault is has none = absurd (cc (sym has ∙ ap verdict is ∙ recovered_verdict x none))

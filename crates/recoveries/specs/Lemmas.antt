@@ -1,0 +1,3 @@
+-- What the proofs of this crate and of those above it use.
+pub mod Counting
+pub mod NewImages
