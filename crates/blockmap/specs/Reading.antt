@@ -1,5 +1,5 @@
 -- What the reading of a file's bytes rests on.
-use Rattle.std.specs.Prelude.{◌≡◌, ◌<◌, ◌≤◌, ℕ, ◌*◌, length, slice_index, None}
+use Rattle.std.specs.Prelude.{◌≡◌, ◌<◌, ◌≤◌, ℕ, ◌*◌, length, None}
 use Rattle.blocks.specs.Disk.{Image}
 use Rattle.blocks.specs.Block.{block_size}
 use Rattle.model.specs.Format.{inode_start}

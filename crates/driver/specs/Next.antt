@@ -5,13 +5,7 @@ use Rattle.driver.specs.declared.driving.Got.{Got}
 use Rattle.driver.specs.declared.machine.Next.{Next}
 use Rattle.driver.specs.declared.machine.Next.TheVariants as next
 
--- it keeps a block
-abbrev pub IsKeep : Next → Type 0
-IsKeep (next.Use b) = ⊥
-IsKeep (next.Keep b) = Unit {0}
-IsKeep next.Kept = ⊥
-
--- it uses one
+-- it uses a block
 abbrev pub IsUse : Next → Type 0
 IsUse (next.Use b) = Unit {0}
 IsUse (next.Keep b) = ⊥

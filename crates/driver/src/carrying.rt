@@ -46,7 +46,13 @@ fn put<D: Disk>(volume: &mut Volume<D>, pid: u32, slot: u32, patch: Patch)
             put_block(volume, pid, slot, (block / 8) as usize, &[byte]);
         }
         Patch::WriteInode { number, inode } => {
-            put_block(volume, pid, slot, inode_offset(number), &inode::bytes(&inode));
+            put_block(
+                volume,
+                pid,
+                slot,
+                inode_offset(number),
+                &inode::bytes(&inode),
+            );
         }
     }
 }

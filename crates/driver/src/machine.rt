@@ -1,6 +1,6 @@
 // A machine that touches no volume.
 ghost use Rattle.std.specs.Prelude.{◌≡◌, List, ℕ};
-ghost use Rattle.driver.specs.Next.{IsKeep, IsUse};
+ghost use Rattle.driver.specs.Next.{IsUse};
 
 use crate::Deed;
 use blocks::Block;
@@ -49,10 +49,10 @@ pub trait Machine {
         requires { fits self.now }
         ensures { result ≡ next_of self.now };
 
-    /// The block that it wanted to keep was got, and has these bytes.
+    /// The block that it wanted to keep was got, and has these bytes. A machine that wants none is
+    /// not asked.
     fn keep(&mut self, block: &Block)
-        requires fits { fits self.old }
-        requires keeps { IsKeep (next_of self.old) }
+        requires { fits self.old }
         ensures { self.new ≡ after_keep self.old block.now };
 
     /// Makes the next step with the block that it uses, and with the one that is kept (the same,

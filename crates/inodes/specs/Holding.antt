@@ -1,6 +1,6 @@
 -- What tasks hold of a file's number behind their turn; and of those that give up its blocks, how
 -- far each has come.
-use Rattle.std.specs.Prelude.{◌≡◌, ◌≢◌, ◌<◌, ℕ, ◌+◌, ◌-◌, ◌*◌, ◌/◌, ◌==◌, if◌then◌else◌, IsTrue, List, [], ◌∷◌, replicate, slice_index, Option, Some, None}
+use Rattle.std.specs.Prelude.{◌≡◌, ◌≢◌, ◌<◌, ℕ, ◌+◌, ◌-◌, ◌*◌, ◌==◌, if◌then◌else◌, IsTrue, List, [], ◌∷◌, replicate, slice_index, Option, Some, None}
 use Rattle.blocks.specs.Disk.{Image}
 use Rattle.model.specs.Layout.{direct_count, indirect_of, bitmap_block}
 use Rattle.model.specs.Format.{addresses_per_block}

@@ -1,5 +1,5 @@
 -- Images in which tasks at work hold files, and the files that such an image stands for.
-use Rattle.std.specs.Prelude.{◌≡◌, ◌≢◌, ◌⊎◌, ℕ, ◌<◌, ◌≤◌, ◌==◌, not, if◌then◌else◌, List, [], ◌∷◌, ◌++◌, length, take, drop, slice_index, slice_set, Option, Some, None}
+use Rattle.std.specs.Prelude.{◌≡◌, ◌≢◌, ◌⊎◌, ℕ, ◌<◌, ◌≤◌, ◌==◌, not, if◌then◌else◌, List, [], ◌∷◌, ◌++◌, length, take, drop, slice_set, Option, Some, None}
 use Rattle.std.specs.List.{filter, flat_map}
 use Rattle.blocks.specs.Block.{overwritten, zero_block}
 use Rattle.blocks.specs.Disk.{Image, block_at}

@@ -11,9 +11,8 @@ ghost use Rattle.std.specs.Prelude.{◌≡◌};
 ghost use Rattle.opening.specs.Openings.{open_refusal};
 
 use kernel::OpenFault;
-use texts::{KernelFault, Refusal};
-
 pub use recovering::recover_image;
+use texts::{KernelFault, Refusal};
 
 /// Why a kernel wasn't opened. A fault of the check or of the recovery inside is told as its own
 /// layer's.

@@ -3,8 +3,7 @@ ghost use Rattle.std.specs.Prelude.{◌≡◌, ◌<◌, length};
 ghost use Rattle.model.specs.Layout.{inode_in, inode_of, inode_block, inode_bytes};
 
 use blocks::Block;
-use layout::inode;
-use layout::{INODE_SIZE, inode_block, inode_offset};
+use layout::{INODE_SIZE, inode, inode_block, inode_offset};
 use model::types::Dinode;
 
 /// The 64 bytes of inode `i`.

@@ -6,8 +6,7 @@ ghost use Rattle.model.specs.Layout.{magic_of, magic_at, has_known_magic, form_o
 use crate::fields::has_bit;
 use blocks::Block;
 use layout::fields::read_u32;
-use layout::superblock;
-use layout::{BITS_PER_BLOCK, GREATEST_SIZE, INODE_START, INODES_PER_BLOCK};
+use layout::{BITS_PER_BLOCK, GREATEST_SIZE, INODE_START, INODES_PER_BLOCK, superblock};
 use model::types::{Form, Super};
 
 /// The first number of a superblock.

@@ -10,8 +10,8 @@ ghost use Rattle.wal.specs.Recovery.{BringsHome, Clears, Copies, FailsLate, IsCa
 
 use crate::RecoverFault;
 use blocks::{Block, Disk, DiskFault, SyncFault};
-use layout::{LOG_START, Super};
 use layout::header::Header;
+use layout::{LOG_START, Super};
 use std::alloc::Global;
 
 // Reads the header of a lawful log in an image of that many blocks.
