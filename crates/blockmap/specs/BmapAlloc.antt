@@ -1,120 +1,60 @@
 -- The steps in which a writer comes to a block of a file.
-use Rattle.std.specs.Prelude.{◌≡◌, ◌<◌, ◌≤◌, ℕ, ◌-◌, ◌==◌, nat_lt, if◌then◌else◌, length, slice_index, slice_set, Option, Some, None}
-use Rattle.blocks.specs.Disk.{Image, block_at}
+use Rattle.std.specs.Prelude.{◌≡◌, ◌<◌, ℕ, ◌==◌, if◌then◌else◌, length, slice_set, Option, Some, None}
+use Rattle.blocks.specs.Disk.{Image}
 use Rattle.blocks.specs.declared.disk.Disk.{Ghosts}
-use Rattle.model.specs.Format.{inode_start}
 use Rattle.model.specs.declared.types.image.Dinode.{Dinode}
-use Rattle.model.specs.declared.types.image.Form.TheVariants.{One}
-use Rattle.model.specs.Codec.{with_entry}
-use Rattle.model.specs.Fields.{words_of}
-use Rattle.model.specs.Layout.{form_of, direct_count, indirect_of}
-use Rattle.model.specs.Places.{address_in}
+use Rattle.loose.specs.Held.{with_address}
 use Rattle.wal.specs.Joint.{seen}
 use Rattle.wal.specs.Volume.{VolumeState, Holds}
 use Rattle.blockmap.specs.Balloc.{AllocState, Allocs, MayAlloc, first_alloc}
-use Rattle.blockmap.specs.Bmap.{some_address}
+use Rattle.blockmap.specs.Bmap.{IsNode, some_address}
+use Rattle.blockmap.specs.Branch.{LiesOnWay, address_on, entry_under, named_by, node_at, rest_under}
 use Rattle.driver.specs.Getting.{GetsFor, HoldsWhereGot, Releases, WritesBlock}
 use Rattle.blockmap.specs.declared.bmap_alloc.MapAt.{MapAt}
 use Rattle.blockmap.specs.declared.bmap_alloc.MapAt.TheVariants as map_at
+use Rattle.blockmap.specs.declared.branch.Branch.{Branch}
+use Rattle.blockmap.specs.declared.branch.Node.{Node}
 use Rattle.driver.specs.declared.progress.Progress.{Progress}
 use Rattle.driver.specs.declared.progress.Progress.TheVariants as progress
 
 -- Where a writer's way to a block of a file stands.
 pub record MapState : Type 0 where
-  -- the block of the file, the bitmap's block, and the image's size in blocks
-  pub k : ℕ
+  -- where the block stands behind the inode's addresses
+  pub branch : Branch
+  -- the bitmap's block, and the image's size in blocks
   pub bitmap : ℕ
   pub size : ℕ
   pub at : MapAt
 
--- the way begins with what isn't there: a block for the inode itself to name, the block of
--- addresses, or its entry
-abbrev pub first_place : Dinode → ℕ → AllocState → MapAt
-first_place d k take =
-    if nat_lt k (direct_count One) then map_at.Direct take
-    else if indirect_of d == 0 then map_at.Indirect take
-    else map_at.Entry None
-
-abbrev pub first_way : Dinode → ℕ → ℕ → ℕ → MapState
-first_way d k bitmap size = record {
-  k = k;
-  bitmap = bitmap;
-  size = size;
-  at = first_place d k (first_alloc bitmap size);
-}
-
 -- ---- what a step asks
 
--- the way leads behind a block of addresses, which lies behind the log
-abbrev pub HasEntries : {D : Type 0} → VolumeState D → MapState → Dinode → Type 0
-HasEntries v m d =
-    (direct_count One ≤ m.k) × (inode_start ≤ indirect_of d) × (indirect_of d < v.log.size)
-
 -- what the process holds, by where the way stands
-abbrev pub MayMapAt : {D : Type 0} → (D → Image) → VolumeState D → ℕ → MapState → Dinode → MapAt
-    → Type 0
-MayMapAt image v p m d (map_at.Direct t) = (m.k < direct_count One) × MayAlloc image v p t
-MayMapAt image v p m d (map_at.Indirect t) = MayAlloc image v p t
-MayMapAt image v p m d (map_at.Entry slot) =
-    HasEntries v m d
-    × HoldsWhereGot (seen (image v.device) v.buffers) v.buffers p (indirect_of d) slot
-MayMapAt image v p m d (map_at.Behind i t) =
-    HasEntries v m d × MayAlloc image v p t
-    × Holds (seen (image v.device) v.buffers) v.buffers p (indirect_of d) i
-MayMapAt image v p m d (map_at.Setting i found) =
-    HasEntries v m d × Holds (seen (image v.device) v.buffers) v.buffers p (indirect_of d) i
+abbrev pub MayMapAt : {D : Type 0} → (D → Image) → VolumeState D → ℕ → MapAt → Type 0
+MayMapAt image v p (map_at.Address t) = MayAlloc image v p t
+MayMapAt image v p (map_at.Entry n slot) =
+    IsNode v n × HoldsWhereGot (seen (image v.device) v.buffers) v.buffers p n.block slot
+MayMapAt image v p (map_at.Behind n i t) =
+    IsNode v n × MayAlloc image v p t
+    × Holds (seen (image v.device) v.buffers) v.buffers p n.block i
+MayMapAt image v p (map_at.Setting n i found) =
+    IsNode v n × Holds (seen (image v.device) v.buffers) v.buffers p n.block i
 
 -- the next step may be made over this volume
 pub record MayMap {D : Type 0} (image : D → Image) (v : VolumeState D) (p : ℕ) (m : MapState)
     (d : Dinode) : Type 0 where
-  pub within : m.k < 268
+  pub index : m.branch.index < 13
   pub addrs : length d.addrs ≡ 13
-  pub at : MayMapAt image v p m d m.at
+  pub at : MayMapAt image v p m.at
 
 -- ---- what it does
 
--- the inode, which names a block at that place once one was taken
-abbrev pub naming : Dinode → ℕ → Progress (Option ℕ) → Dinode
-naming d place progress.Moved = d
-naming d place (progress.Sleeping why) = d
-naming d place (progress.Over None) = d
-naming d place (progress.Over (Some b)) = record d { addrs = slice_set d.addrs place b }
-naming d place (progress.Fault fault) = d
+-- A block was come to, from which so many blocks of addresses lead to the data. It is the file's,
+-- or the way goes on with its entry
+abbrev pub come_to : ℕ → ℕ → Progress (Option ℕ)
+come_to depth b = if depth == 0 then progress.Over (Some b) else progress.Moved
 
--- what is taken for the inode itself to name ends the way
-abbrev pub after_direct : Progress (Option ℕ) → Progress (Option ℕ)
-after_direct q = q
-
-abbrev pub direct_at : Progress (Option ℕ) → AllocState → MapAt
-direct_at q t = map_at.Direct t
-
--- with a block of addresses it goes on
-abbrev pub after_indirect : Progress (Option ℕ) → Progress (Option ℕ)
-after_indirect progress.Moved = progress.Moved
-after_indirect (progress.Sleeping why) = progress.Sleeping why
-after_indirect (progress.Over None) = progress.Over None
-after_indirect (progress.Over (Some b)) = progress.Moved
-after_indirect (progress.Fault fault) = progress.Fault fault
-
-abbrev pub indirect_at : Progress (Option ℕ) → AllocState → MapAt
-indirect_at progress.Moved t = map_at.Indirect t
-indirect_at (progress.Sleeping why) t = map_at.Indirect t
-indirect_at (progress.Over None) t = map_at.Indirect t
-indirect_at (progress.Over (Some b)) t = map_at.Entry None
-indirect_at (progress.Fault fault) t = map_at.Indirect t
-
--- and so it does behind the taking of a block for an entry
-abbrev pub after_behind : Progress (Option ℕ) → Progress (Option ℕ)
-after_behind progress.Moved = progress.Moved
-after_behind (progress.Sleeping why) = progress.Sleeping why
-after_behind (progress.Over found) = progress.Moved
-after_behind (progress.Fault fault) = progress.Fault fault
-
-abbrev pub behind_at : ℕ → Progress (Option ℕ) → AllocState → MapAt
-behind_at i progress.Moved t = map_at.Behind i t
-behind_at i (progress.Sleeping why) t = map_at.Behind i t
-behind_at i (progress.Over found) t = map_at.Setting i found
-behind_at i (progress.Fault fault) t = map_at.Behind i t
+abbrev pub place_in : MapAt → ℕ → ℕ → ℕ → MapAt
+place_in at depth rest b = if depth == 0 then at else map_at.Entry (node_at depth rest b) None
 
 -- A step of the taking t of a block, by what it answers: `after` says what the way answers, `place`
 -- where it stands then, and `inode` what the inode is.
@@ -129,57 +69,104 @@ pub record TakesOne {D N : Type 0} (disk : Ghosts D N) (v : VolumeState D) (p : 
   pub next : n ≡ record m { at = place answer now }
   pub named : e ≡ inode answer
 
--- the entry of the file's block in an image, 0 for no block
-abbrev pub entry_for : Image → MapState → Dinode → ℕ
-entry_for x m d = slice_index (words_of (block_at x (indirect_of d))) (m.k - direct_count One)
+-- the inode, which names a block at that index once one was taken
+abbrev pub naming : Dinode → ℕ → Progress (Option ℕ) → Dinode
+naming d index progress.Moved = d
+naming d index (progress.Sleeping why) = d
+naming d index (progress.Over None) = d
+naming d index (progress.Over (Some b)) = record d { addrs = slice_set d.addrs index b }
+naming d index (progress.Fault fault) = d
 
--- The step that reads the entry in the block of addresses, which slot i holds: where it names a
--- block, that is the file's, and the block of addresses is released; else it is kept.
-abbrev pub FindsEntry : {D N : Type 0} → Ghosts D N → Option ℕ → VolumeState D → ℕ → ℕ → MapState
-    → Progress (Option ℕ) → MapState → VolumeState D → Type 0
-FindsEntry disk None v p i m r n w =
-    (r ≡ progress.Moved) × (n ≡ record m { at = map_at.Behind i (first_alloc m.bitmap m.size) })
+-- the block that is taken for the inode itself to name was come to
+abbrev pub after_address : Branch → Progress (Option ℕ) → Progress (Option ℕ)
+after_address b progress.Moved = progress.Moved
+after_address b (progress.Sleeping why) = progress.Sleeping why
+after_address b (progress.Over None) = progress.Over None
+after_address b (progress.Over (Some a)) = come_to b.depth a
+after_address b (progress.Fault fault) = progress.Fault fault
+
+abbrev pub address_at : Branch → Progress (Option ℕ) → AllocState → MapAt
+address_at b progress.Moved t = map_at.Address t
+address_at b (progress.Sleeping why) t = map_at.Address t
+address_at b (progress.Over None) t = map_at.Address t
+address_at b (progress.Over (Some a)) t = place_in (map_at.Address t) b.depth b.rest a
+address_at b (progress.Fault fault) t = map_at.Address t
+
+-- that for an entry has to be named there first
+abbrev pub after_behind : Progress (Option ℕ) → Progress (Option ℕ)
+after_behind progress.Moved = progress.Moved
+after_behind (progress.Sleeping why) = progress.Sleeping why
+after_behind (progress.Over found) = progress.Moved
+after_behind (progress.Fault fault) = progress.Fault fault
+
+abbrev pub behind_at : Node → ℕ → Progress (Option ℕ) → AllocState → MapAt
+behind_at n i progress.Moved t = map_at.Behind n i t
+behind_at n i (progress.Sleeping why) t = map_at.Behind n i t
+behind_at n i (progress.Over found) t = map_at.Setting n i found
+behind_at n i (progress.Fault fault) t = map_at.Behind n i t
+
+-- the block that an entry names was come to
+abbrev pub ComesBelow : MapState → Node → ℕ → Progress (Option ℕ) → MapState → Type 0
+ComesBelow m n b r k =
+    (r ≡ come_to n.level b) × (k ≡ record m { at = place_in m.at n.level (rest_under n) b })
+
+-- The step that reads the entry of block of addresses n, which slot i holds: where it names a block
+-- that is come to, and the block of addresses is released; else it is kept.
+abbrev pub FindsEntry : {D N : Type 0} → Ghosts D N → Option ℕ → VolumeState D → ℕ → Node → ℕ
+    → MapState → Progress (Option ℕ) → MapState → VolumeState D → Type 0
+FindsEntry disk None v p n i m r k w =
+    (r ≡ progress.Moved) × (k ≡ record m { at = map_at.Behind n i (first_alloc m.bitmap m.size) })
     × (w ≡ v)
-FindsEntry disk (Some b) v p i m r n w =
-    (r ≡ progress.Over (Some b)) × (n ≡ m) × Releases disk.image v p i w
+FindsEntry disk (Some b) v p n i m r k w =
+    ComesBelow m n b r k × Releases disk.image v p i w
 
--- an image in which the entry of the file's block names another
-abbrev pub with_entry_for : Image → MapState → Dinode → ℕ → Image
-with_entry_for x m d b =
-    slice_set x (indirect_of d) (with_entry (block_at x (indirect_of d)) (m.k - direct_count One) b)
+-- an image in which the entry names block b
+abbrev pub with_entry_under : Image → Node → ℕ → Image
+with_entry_under x n b = with_address x n.block (entry_under n) b
 
--- The block of addresses in slot i is released, and where a block was found its entry is set.
-abbrev pub SetsEntry : {D N : Type 0} → Ghosts D N → Option ℕ → VolumeState D → ℕ → ℕ → MapState
-    → Dinode → VolumeState D → Type 0
-SetsEntry disk None v p i m d w = Releases disk.image v p i w
-SetsEntry disk (Some b) v p i m d w = WritesBlock disk v p i (indirect_of d)
-    (with_entry_for (seen (disk.image v.device) v.buffers) m d b) w
+-- The block of addresses n in slot i is released. Where a block was found its entry is set, and that
+-- block is come to.
+abbrev pub SetsEntry : {D N : Type 0} → Ghosts D N → Option ℕ → VolumeState D → ℕ → Node → ℕ
+    → MapState → Progress (Option ℕ) → MapState → VolumeState D → Type 0
+SetsEntry disk None v p n i m r k w =
+    (r ≡ progress.Over None) × (k ≡ m) × Releases disk.image v p i w
+SetsEntry disk (Some b) v p n i m r k w =
+    ComesBelow m n b r k × WritesBlock disk v p i n.block
+    (with_entry_under (seen (disk.image v.device) v.buffers) n b) w
 
 -- WHAT A STEP DOES, by where the way stands. The inode is d before it, and e behind it.
 abbrev pub MapSteps : {D N : Type 0} → Ghosts D N → MapAt → VolumeState D → ℕ → MapState → Dinode
     → Progress (Option ℕ) → MapState → Dinode → VolumeState D → Type 0
-MapSteps disk (map_at.Direct t) v p m d r n e w =
-    TakesOne disk v p m t after_direct direct_at (naming d m.k) r n e w
-MapSteps disk (map_at.Indirect t) v p m d r n e w =
-    TakesOne disk v p m t after_indirect indirect_at (naming d (direct_count One)) r n e w
-MapSteps disk (map_at.Entry None) v p m d r n e w =
-    (s : Option ℕ) × GetsFor disk v p (indirect_of d) r s w
-    × (n ≡ record m { at = map_at.Entry s }) × (e ≡ d)
-MapSteps disk (map_at.Entry (Some i)) v p m d r n e w =
-    FindsEntry disk (some_address (entry_for (seen (disk.image v.device) v.buffers) m d))
-    v p i m r n w × (e ≡ d)
-MapSteps disk (map_at.Behind i t) v p m d r n e w =
-    TakesOne disk v p m t after_behind (behind_at i) (λ answer. d) r n e w
-MapSteps disk (map_at.Setting i found) v p m d r n e w =
-    (r ≡ progress.Over found) × (n ≡ m) × (e ≡ d) × SetsEntry disk found v p i m d w
+MapSteps disk (map_at.Address t) v p m d r k e w =
+    TakesOne disk v p m t (after_address m.branch) (address_at m.branch)
+    (naming d m.branch.index) r k e w
+MapSteps disk (map_at.Entry n None) v p m d r k e w =
+    (s : Option ℕ) × GetsFor disk v p n.block r s w
+    × (k ≡ record m { at = map_at.Entry n s }) × (e ≡ d)
+MapSteps disk (map_at.Entry n (Some i)) v p m d r k e w =
+    FindsEntry disk (some_address (named_by (seen (disk.image v.device) v.buffers) n))
+    v p n i m r k w × (e ≡ d)
+MapSteps disk (map_at.Behind n i t) v p m d r k e w =
+    TakesOne disk v p m t after_behind (behind_at n i) (λ answer. d) r k e w
+MapSteps disk (map_at.Setting n i found) v p m d r k e w =
+    SetsEntry disk found v p n i m r k w × (e ≡ d)
 
--- what the way comes to is the file's block: the inode leads there in the image as it is then
-abbrev pub LeadsThere : {D : Type 0} → (D → Image) → Progress (Option ℕ) → ℕ → Dinode
+-- ---- what the way comes to
+
+-- the block of addresses at hand, if there is one, lies on the way to the block at that branch
+abbrev pub IsLed : Image → Dinode → Branch → MapAt → Type 0
+IsLed x d b (map_at.Address t) = Unit {0}
+IsLed x d b (map_at.Entry n slot) = LiesOnWay x d b n
+IsLed x d b (map_at.Behind n i t) = LiesOnWay x d b n
+IsLed x d b (map_at.Setting n i found) = LiesOnWay x d b n
+
+-- it is the file's block: the inode leads there in the image as it is then
+abbrev pub LeadsThere : {D : Type 0} → (D → Image) → Progress (Option ℕ) → Branch → MapAt → Dinode
     → VolumeState D → Type 0
-LeadsThere image progress.Moved k e w = Unit {0}
-LeadsThere image (progress.Sleeping why) k e w = Unit {0}
-LeadsThere image (progress.Over None) k e w = Unit {0}
-LeadsThere image (progress.Over (Some b)) k e w =
-    form_of (seen (image w.device) w.buffers) ≡ One
-    → address_in (seen (image w.device) w.buffers) e k ≡ b
-LeadsThere image (progress.Fault fault) k e w = Unit {0}
+LeadsThere image progress.Moved b at e w = Unit {0}
+LeadsThere image (progress.Sleeping why) b at e w = Unit {0}
+LeadsThere image (progress.Over None) b at e w = Unit {0}
+LeadsThere image (progress.Over (Some a)) b at e w =
+    IsLed (seen (image w.device) w.buffers) e b at
+    → address_on (seen (image w.device) w.buffers) e b ≡ a
+LeadsThere image (progress.Fault fault) b at e w = Unit {0}

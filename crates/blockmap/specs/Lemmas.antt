@@ -2,6 +2,9 @@
 -- use.
 pub mod Addresses
 pub mod Bitmap
+pub mod Branches
 pub mod Leading
 pub mod Reading
 pub mod Resting
+pub mod Seeking
+pub mod Targets

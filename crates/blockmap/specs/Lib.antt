@@ -1,6 +1,7 @@
 pub mod Bfree
 pub mod Balloc
 pub mod Bmap
+pub mod Branch
 pub mod BmapAlloc
 pub mod Map
 pub mod Target

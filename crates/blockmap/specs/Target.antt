@@ -1,12 +1,17 @@
 -- What a machine gets or uses next, on its way to a block of a file.
-use Rattle.std.specs.Prelude.{◌≡◌, ◌<◌, ◌≤◌, ℕ, Bool, true, false, is_none, if◌then◌else◌, Option, None}
+use Rattle.std.specs.Prelude.{◌≡◌, ◌<◌, ◌≤◌, ◌+◌, ◌*◌, ℕ, Bool, true, false, is_none, if◌then◌else◌, Option, None}
 use Rattle.blocks.specs.Disk.{Image}
 use Rattle.blocks.specs.declared.disk.Disk.{Ghosts}
 use Rattle.model.specs.Format.{inode_start}
 use Rattle.model.specs.declared.types.image.Dinode.{Dinode}
+use Rattle.model.specs.declared.types.image.Form.{Form}
+use Rattle.model.specs.declared.types.image.Form.TheVariants.{One, Two}
+use Rattle.model.specs.Layout.{form_of}
+use Rattle.model.specs.Places.{address_in}
 use Rattle.wal.specs.Joint.{seen}
 use Rattle.wal.specs.Volume.{VolumeState}
-use Rattle.blockmap.specs.Bmap.{EntryState, IsReady, LooksUp, entry_in}
+use Rattle.blockmap.specs.Bmap.{EntryState, IsReady, LooksUp}
+use Rattle.blockmap.specs.Branch.{LiesOnWay, branch_of}
 use Rattle.driver.specs.Getting.{GetsFor, HoldsWhereGot}
 use Rattle.blockmap.specs.Map.{mapped, address_or_zero}
 use Rattle.blockmap.specs.declared.mapping.Mapped.{Mapped}
@@ -21,8 +26,8 @@ abbrev pub target_mapped : Mapped → Target
 target_mapped (mapped_as.At found) = target.Block (address_or_zero found) None
 target_mapped (mapped_as.Behind entry) = target.Entry entry
 
-abbrev pub target_for : Dinode → ℕ → Target
-target_for d k = target_mapped (mapped d k)
+abbrev pub target_for : Form → Dinode → ℕ → Target
+target_for form d k = target_mapped (mapped form d k)
 
 -- an entry has to be read
 abbrev pub is_entry : Target → Bool
@@ -36,7 +41,7 @@ got_slot (target.Block b slot) = slot
 
 -- the block that is got or used next
 abbrev pub block_of : Target → ℕ
-block_of (target.Entry entry) = entry.indirect
+block_of (target.Entry entry) = entry.node.block
 block_of (target.Block b slot) = b
 
 -- the slot that holds it, where it was got
@@ -44,12 +49,22 @@ abbrev pub slot_in : Target → Option ℕ
 slot_in (target.Entry entry) = entry.slot
 slot_in (target.Block b slot) = slot
 
--- the target leads to block a, and the process holds what was got
-abbrev pub LeadsTo : {D : Type 0} → (D → Image) → VolumeState D → ℕ → ℕ → Target → Type 0
-LeadsTo image v p a (target.Entry entry) =
-    IsReady image v p entry × (entry_in (seen (image v.device) v.buffers) entry ≡ a)
-LeadsTo image v p a (target.Block b slot) =
-    (b ≡ a) × HoldsWhereGot (seen (image v.device) v.buffers) v.buffers p b slot
+-- it leads to block k of an inode's file in an image: it is that block, or lies on the way to it
+abbrev pub LeadsToBlock : Image → Dinode → ℕ → Target → Type 0
+LeadsToBlock x d k (target.Entry entry) = LiesOnWay x d (branch_of (form_of x) k) entry.node
+LeadsToBlock x d k (target.Block b slot) = b ≡ address_in x d k
+
+-- the process holds what was got
+abbrev pub HoldsTarget : {D : Type 0} → (D → Image) → VolumeState D → ℕ → Target → Type 0
+HoldsTarget image v p (target.Entry entry) = IsReady image v p entry
+HoldsTarget image v p (target.Block b slot) =
+    HoldsWhereGot (seen (image v.device) v.buffers) v.buffers p b slot
+
+-- the target leads to block k of an inode's file in the current image, and may be used
+pub record LeadsTo {D : Type 0} (image : D → Image) (v : VolumeState D) (p : ℕ) (d : Dinode)
+    (k : ℕ) (t : Target) : Type 0 where
+  pub block : LeadsToBlock (seen (image v.device) v.buffers) d k t
+  pub holds : HoldsTarget image v p t
 
 -- the block may be sought over this volume
 abbrev pub IsSought : {D : Type 0} → (D → Image) → VolumeState D → ℕ → Target → Type 0
@@ -88,5 +103,10 @@ Seeks disk (target.Block b slot) v p r t w =
 
 -- at most so many steps lead from a target to the use of its block, this one included
 abbrev pub steps_at : Target → ℕ
-steps_at (target.Entry entry) = if is_none entry.slot then 4 else 3
+steps_at (target.Entry entry) = 2 * entry.node.level + (if is_none entry.slot then 4 else 3)
 steps_at (target.Block b slot) = if is_none slot then 2 else 1
+
+-- so many are enough for each of n blocks of a file
+abbrev pub steps_for : Form → ℕ → ℕ
+steps_for One n = 4 * n
+steps_for Two n = 6 * n

@@ -1,23 +1,23 @@
-// The entries of an inode's block of addresses.
-ghost use Rattle.std.specs.Prelude.{◌≡◌, ◌<◌, None};
-ghost use Rattle.blockmap.specs.Bmap.{some_address, IsReady, LooksUp};
+// The entries of blocks of addresses, on the way to a block of a file.
+ghost use Rattle.std.specs.Prelude.{◌≡◌, ◌<◌, ◌≤◌, ◌≢◌, None};
+ghost use Rattle.blockmap.specs.Bmap.{below, first_entry, some_address, IsReady, LooksUp};
 
+use crate::Node;
 use blocks::Disk;
 use driver::{Progress, get_block, release_block};
 use layout::entries::entry;
 use std::marker::Model;
 use wal::Volume;
 
-/// The steps in which an entry of an inode's block of addresses is read (`bmap`; the xv6 book, the
-/// chapter "File system": "Code: Inode content"): one gets the block, the other one looks at the
-/// entry and releases the block.
+/// The steps in which a block of a file is sought under a block of addresses (`bmap`; the xv6 book,
+/// the chapter "File system": "Code: Inode content"): one gets the block of addresses, the next one
+/// looks at the entry and releases the block; where the entry names another block of addresses the
+/// same follows there.
 #[derive(Clone, Copy)]
 pub struct Bmap {
     /// The block of addresses.
-    indirect: u32,
-    /// The place of the entry, from 0 to 255.
-    entry: u32,
-    /// The slot that holds the block, where it was got.
+    node: Node,
+    /// The slot that holds it, where it was got.
     slot: Option<u32>,
 }
 
@@ -26,37 +26,46 @@ impl Model for Bmap {
 
     ghost Value = { EntryState };
 
-    ghost view = { λ m. record { indirect = m.indirect; entry = m.entry; slot = m.slot } };
+    ghost view = { λ m. record { node = m.node; slot = m.slot } };
 
-    ghost inverse = { λ m. record { indirect = m.indirect; entry = m.entry; slot = m.slot } };
+    ghost inverse = { λ m. record { node = m.node; slot = m.slot } };
 }
 
 impl Bmap {
-    /// Begins to read an entry of a block of addresses, at a place from 0 to 255.
-    pub fn new(indirect: u32, entry: u32) -> Bmap
-        ensures { result ≡ record { indirect = indirect; entry = entry; slot = None } }
+    /// Begins to seek a block of a file under a block of addresses.
+    pub fn new(node: Node) -> Bmap
+        ensures { result ≡ first_entry node }
     {
-        Bmap {
-            indirect,
-            entry,
-            slot: None,
-        }
+        Bmap { node, slot: None }
     }
 
-    /// Makes the next step. `Over` with the block that the entry names; with None where it names
-    /// none. `Sleeping` where the buffer of the block of addresses is held by another process, or
-    /// none is to be had.
+    /// Makes the next step. `Over` with the block that is sought; with None where there is none.
+    /// `Sleeping` where the buffer of the block of addresses is held by another process, or none is
+    /// to be had.
     pub fn step<D: Disk>(&mut self, volume: &mut Volume<D>, pid: u32) -> Progress<Option<u32>>
         requires fault { volume.old.fault ≡ None }
         requires ready { IsReady D.image volume.old pid self.old }
         ensures { LooksUp D.Disk self.old.slot volume.old pid self.old result self.new volume.new }
     {
         let Some(slot) = self.slot else {
-            return get_block(volume, pid, self.indirect, &mut self.slot);
+            return get_block(volume, pid, self.node.block, &mut self.slot);
         };
-        let address = entry(volume.data(slot), self.entry);
+        let address = entry(volume.data(slot), self.node.entry());
         release_block(volume, pid, slot);
-        Progress::Over(some_address(address))
+        if address == 0 || self.node.level == 0 {
+            return Progress::Over(some_address(address));
+        }
+        self.go_below(address);
+        Progress::Moved
+    }
+
+    // Goes on below an entry, which names that block of addresses.
+    fn go_below(&mut self, block: u32)
+        requires shallow { self.old.node.level ≤ 1 }
+        requires more { self.old.node.level ≢ 0 }
+        ensures { self.new ≡ below self.old block }
+    {
+        *self = Bmap::new(Node::at(block, self.node.level, self.node.rest_below()));
     }
 }
 

@@ -1,15 +1,18 @@
 // The block of a file that a writer comes to, which is taken where it isn't there.
-ghost use Rattle.std.specs.Prelude.{◌≡◌, ◌<◌, length, slice_index, Some};
+ghost use Rattle.std.specs.Prelude.{◌≡◌, ◌≢◌, ◌<◌, Some, None};
+ghost use Rattle.model.specs.declared.types.image.Dinode.{Dinode};
 ghost use Rattle.wal.specs.Joint.{seen};
 ghost use Rattle.wal.specs.Machine.{HasRoom, used_by};
-ghost use Rattle.blockmap.specs.Bmap.{some_address};
-ghost use Rattle.blockmap.specs.BmapAlloc.{MayMap, MapSteps, LeadsThere, first_place, first_way};
+ghost use Rattle.wal.specs.Volume.{Holds};
+ghost use Rattle.blockmap.specs.Balloc.{MayAlloc};
+ghost use Rattle.blockmap.specs.Bmap.{IsNode, some_address};
+ghost use Rattle.blockmap.specs.Branch.{named_by, node_at};
+ghost use Rattle.blockmap.specs.BmapAlloc.{MayMap, MapSteps, FindsEntry, SetsEntry, LeadsThere, come_to, place_in};
 ghost use Rattle.blockmap.specs.declared.bmap_alloc.MapAt.TheVariants as map_at;
 
-use crate::Balloc;
+use crate::{Balloc, Branch, Node};
 use blocks::Disk;
 use driver::{Progress, get_block, put_block, release_block};
-use layout::DIRECT_COUNT;
 use layout::entries::{bytes, entry};
 use model::types::Dinode;
 use std::marker::Model;
@@ -19,20 +22,27 @@ use wal::Volume;
 #[derive(Clone, Copy)]
 pub enum MapAt {
     /// A block is taken, which the inode itself will name.
-    Direct(Balloc),
-    /// The block of addresses is taken.
-    Indirect(Balloc),
-    /// The block of addresses is got and its entry read, in that slot once it was got.
-    Entry(Option<u32>),
+    Address(Balloc),
+    /// A block of addresses is got and its entry read.
+    Entry {
+        /// The block of addresses.
+        node: Node,
+        /// The slot that holds it, where it was got.
+        slot: Option<u32>,
+    },
     /// A block is taken, which the entry will name.
     Behind {
-        /// The slot that keeps the block of addresses.
+        /// The block of addresses.
+        node: Node,
+        /// The slot that keeps it.
         slot: u32,
-        /// The steps that take it.
+        /// The steps that take the block.
         take: Balloc,
     },
     /// The entry is set next, and the block of addresses released.
     Setting {
+        /// The block of addresses.
+        node: Node,
         /// The slot that keeps it.
         slot: u32,
         /// The block that was taken; with None the entry stays as it is.
@@ -41,13 +51,13 @@ pub enum MapAt {
 }
 
 /// The steps in which a writer comes to a block of a file (`bmap`; the xv6 book, the chapter "File
-/// system": "Code: Inode content"). What isn't there is taken: the block itself, and the block of
-/// addresses. Where an entry is missing, the block of addresses is kept while a block is taken, and
-/// one step more sets the entry and releases it.
+/// system": "Code: Inode content"). What isn't there is taken: the block itself, and the blocks of
+/// addresses that lead to it. Where an entry is missing, its block of addresses is kept while a
+/// block is taken, and one step more sets the entry and releases it; the way goes on from there.
 #[derive(Clone, Copy)]
 pub struct BmapAlloc {
-    /// The block of the file, from 0 to 267.
-    k: u32,
+    /// Where the block stands.
+    branch: Branch,
     /// The bitmap's block.
     bitmap: u32,
     /// The image's size in blocks.
@@ -60,36 +70,23 @@ impl Model for BmapAlloc {
 
     ghost Value = { MapState };
 
-    ghost view = { λ m. record { k = m.k; bitmap = m.bitmap; size = m.size; at = m.at } };
+    ghost view = { λ m.
+        record { branch = m.branch; bitmap = m.bitmap; size = m.size; at = m.at } };
 
-    ghost inverse = { λ m. record { k = m.k; bitmap = m.bitmap; size = m.size; at = m.at } };
-}
-
-// Where the way to block `k` of a file begins, with that taking of a block.
-fn first_place(inode: &Dinode, k: u32, take: Balloc) -> MapAt
-    requires { length inode.now.addrs ≡ 13 }
-    ensures { result ≡ first_place inode.now k take }
-{
-    if k < DIRECT_COUNT as u32 {
-        return MapAt::Direct(take);
-    }
-    if inode.addrs[DIRECT_COUNT] == 0 {
-        return MapAt::Indirect(take);
-    }
-    MapAt::Entry(None)
+    ghost inverse = { λ m.
+        record { branch = m.branch; bitmap = m.bitmap; size = m.size; at = m.at } };
 }
 
 impl BmapAlloc {
-    // Begins the way to block `k` of an inode's file, which the inode doesn't name itself.
-    pub(crate) fn begin(inode: &Dinode, k: u32, bitmap: u32, size: u32) -> BmapAlloc
-        requires { length inode.now.addrs ≡ 13 }
-        ensures { result ≡ first_way inode.now k bitmap size }
+    // The way to the block at that branch, which stands there.
+    pub(crate) fn begin(branch: Branch, bitmap: u32, size: u32, at: MapAt) -> BmapAlloc
+        ensures { result ≡ record { branch = branch; bitmap = bitmap; size = size; at = at } }
     {
         BmapAlloc {
-            k,
+            branch,
             bitmap,
             size,
-            at: first_place(inode, k, Balloc::new(bitmap, size)),
+            at,
         }
     }
 
@@ -109,20 +106,23 @@ impl BmapAlloc {
         requires ready { MayMap D.image volume.old pid self.old inode.old }
         ensures steps { MapSteps D.Disk self.old.at volume.old pid self.old inode.old result
             self.new inode.new volume.new }
-        ensures there { LeadsThere D.image result self.old.k inode.new volume.new }
+        ensures there { LeadsThere D.image result self.old.branch self.old.at inode.new
+            volume.new }
     {
         let at = self.at;
         match at {
-            MapAt::Direct(take) => self.take_direct(volume, pid, inode, take),
-            MapAt::Indirect(take) => self.take_indirect(volume, pid, inode, take),
-            MapAt::Entry(slot) => self.find_entry(volume, pid, inode, slot),
-            MapAt::Behind { slot, take } => self.take_behind(volume, pid, inode, slot, take),
-            MapAt::Setting { slot, found } => self.set_entry(volume, pid, inode, slot, found),
+            MapAt::Address(take) => self.take_address(volume, pid, inode, take),
+            MapAt::Entry { node, slot } => match slot {
+                None => self.get(volume, pid, node),
+                Some(slot) => self.find_entry(volume, pid, node, slot),
+            },
+            MapAt::Behind { node, slot, take } => self.take_behind(volume, pid, node, slot, take),
+            MapAt::Setting { node, slot, found } => self.set_entry(volume, pid, node, slot, found),
         }
     }
 
     // Makes the next step of taking a block that the inode itself will name.
-    fn take_direct<D: Disk>(
+    fn take_address<D: Disk>(
         &mut self,
         volume: &mut Volume<D>,
         pid: u32,
@@ -133,76 +133,80 @@ impl BmapAlloc {
         requires pid { pid < 32 }
         requires room { HasRoom (used_by volume.old.log pid) }
         requires ready { MayMap D.image volume.old pid self.old inode.old }
-        requires at { self.old.at ≡ map_at.Direct take }
-        ensures steps { MapSteps D.Disk (map_at.Direct take) volume.old pid self.old inode.old
+        requires at { self.old.at ≡ map_at.Address take }
+        ensures steps { MapSteps D.Disk (map_at.Address take) volume.old pid self.old inode.old
             result self.new inode.new volume.new }
-        ensures there { LeadsThere D.image result self.old.k inode.new volume.new }
+        ensures there { LeadsThere D.image result self.old.branch (map_at.Address take) inode.new
+            volume.new }
     {
         let progress = take.step(volume, pid);
-        self.at = MapAt::Direct(take);
+        self.at = MapAt::Address(take);
         if let Progress::Over(Some(block)) = progress {
-            inode.addrs[self.k as usize] = block;
+            inode.addrs[self.branch.index] = block;
+            return self.go_on(block, self.branch.depth, self.branch.rest);
         }
         progress
     }
 
-    // Makes the next step of taking the block of addresses.
-    fn take_indirect<D: Disk>(
+    // Goes on from a block that was come to, from which so many blocks of addresses lead to the
+    // data.
+    fn go_on(&mut self, block: u32, depth: u32, rest: u32) -> Progress<Option<u32>>
+        ensures progress { result ≡ come_to depth block }
+        ensures at { self.new ≡ record self.old { at = place_in self.old.at depth rest block } }
+    {
+        if depth == 0 {
+            return Progress::Over(Some(block));
+        }
+        self.at = entry_behind(block, depth, rest);
+        Progress::Moved
+    }
+
+    // Gets a block of addresses.
+    fn get<D: Disk>(
         &mut self,
         volume: &mut Volume<D>,
         pid: u32,
-        inode: &mut Dinode,
-        mut take: Balloc,
+        node: Node,
     ) -> Progress<Option<u32>>
         requires fault { volume.old.fault ≡ None }
-        requires pid { pid < 32 }
-        requires room { HasRoom (used_by volume.old.log pid) }
-        requires ready { MayMap D.image volume.old pid self.old inode.old }
-        requires at { self.old.at ≡ map_at.Indirect take }
-        ensures steps { MapSteps D.Disk (map_at.Indirect take) volume.old pid self.old inode.old
-            result self.new inode.new volume.new }
-        ensures there { LeadsThere D.image result self.old.k inode.new volume.new }
+        requires node { IsNode volume.old node }
+        ensures steps { (d : Dinode) → MapSteps D.Disk (map_at.Entry node None) volume.old pid
+            self.old d result self.new d volume.new }
+        ensures there { (d : Dinode) → LeadsThere D.image result self.old.branch
+            (map_at.Entry node None) d volume.new }
     {
-        let progress = take.step(volume, pid);
-        if let Progress::Over(Some(block)) = progress {
-            inode.addrs[DIRECT_COUNT] = block;
-            self.at = MapAt::Entry(None);
-            return Progress::Moved;
-        }
-        self.at = MapAt::Indirect(take);
+        let mut slot = None;
+        let progress = get_block(volume, pid, node.block, &mut slot);
+        self.at = MapAt::Entry { node, slot };
         progress
     }
 
-    // Gets the block of addresses, or reads the entry in it, and keeps it where the entry names no
-    // block.
+    // Reads the entry in a block of addresses, and keeps it where the entry names no block.
     fn find_entry<D: Disk>(
         &mut self,
         volume: &mut Volume<D>,
         pid: u32,
-        inode: &Dinode,
-        slot: Option<u32>,
+        node: Node,
+        slot: u32,
     ) -> Progress<Option<u32>>
         requires fault { volume.old.fault ≡ None }
-        requires ready { MayMap D.image volume.old pid self.old inode.now }
-        requires at { self.old.at ≡ map_at.Entry slot }
-        ensures steps { MapSteps D.Disk (map_at.Entry slot) volume.old pid self.old inode.now
-            result self.new inode.now volume.new }
-        ensures there { LeadsThere D.image result self.old.k inode.now volume.new }
+        requires node { IsNode volume.old node }
+        requires holds { Holds (seen (D.image volume.old.device) volume.old.buffers)
+            volume.old.buffers pid node.block slot }
+        ensures steps { FindsEntry D.Disk
+            (some_address (named_by (seen (D.image volume.old.device) volume.old.buffers) node))
+            volume.old pid node slot self.old result self.new volume.new }
+        ensures there { (d : Dinode) → LeadsThere D.image result self.old.branch
+            (map_at.Entry node (Some slot)) d volume.new }
     {
-        let Some(slot) = slot else {
-            let mut got = None;
-            let progress = get_block(volume, pid, inode.addrs[DIRECT_COUNT], &mut got);
-            self.at = MapAt::Entry(got);
-            return progress;
-        };
-        let address = entry(volume.data(slot), self.k - DIRECT_COUNT as u32);
+        let address = entry(volume.data(slot), node.entry());
         if address == 0 {
             let take = Balloc::new(self.bitmap, self.size);
-            self.at = MapAt::Behind { slot, take };
+            self.at = MapAt::Behind { node, slot, take };
             return Progress::Moved;
         }
         release_block(volume, pid, slot);
-        Progress::Over(Some(address))
+        self.go_on(address, node.level, node.rest_below())
     }
 
     // Makes the next step of taking a block that the entry will name.
@@ -210,57 +214,68 @@ impl BmapAlloc {
         &mut self,
         volume: &mut Volume<D>,
         pid: u32,
-        inode: &Dinode,
+        node: Node,
         slot: u32,
         mut take: Balloc,
     ) -> Progress<Option<u32>>
         requires fault { volume.old.fault ≡ None }
         requires pid { pid < 32 }
         requires room { HasRoom (used_by volume.old.log pid) }
-        requires ready { MayMap D.image volume.old pid self.old inode.now }
-        requires at { self.old.at ≡ map_at.Behind slot take }
-        ensures steps { MapSteps D.Disk (map_at.Behind slot take) volume.old pid self.old
-            inode.now result self.new inode.now volume.new }
-        ensures there { LeadsThere D.image result self.old.k inode.now volume.new }
+        requires take { MayAlloc D.image volume.old pid take }
+        ensures steps { (d : Dinode) → MapSteps D.Disk (map_at.Behind node slot take) volume.old
+            pid self.old d result self.new d volume.new }
+        ensures there { (d : Dinode) → LeadsThere D.image result self.old.branch
+            (map_at.Behind node slot take) d volume.new }
     {
         match take.step(volume, pid) {
             Progress::Over(found) => {
-                self.at = MapAt::Setting { slot, found };
+                self.at = MapAt::Setting { node, slot, found };
                 Progress::Moved
             }
             progress => {
-                self.at = MapAt::Behind { slot, take };
+                self.at = MapAt::Behind { node, slot, take };
                 progress
             }
         }
     }
 
-    // Releases the block of addresses, in which the entry is set where a block was found.
+    // Releases a block of addresses, in which the entry is set where a block was found.
     fn set_entry<D: Disk>(
-        &self,
+        &mut self,
         volume: &mut Volume<D>,
         pid: u32,
-        inode: &Dinode,
+        node: Node,
         slot: u32,
         found: Option<u32>,
     ) -> Progress<Option<u32>>
         requires fault { volume.old.fault ≡ None }
         requires pid { pid < 32 }
         requires room { HasRoom (used_by volume.old.log pid) }
-        requires ready { MayMap D.image volume.old pid self.now inode.now }
-        requires at { self.now.at ≡ map_at.Setting slot found }
-        ensures steps { MapSteps D.Disk (map_at.Setting slot found) volume.old pid self.now
-            inode.now result self.now inode.now volume.new }
-        ensures there { LeadsThere D.image result self.now.k inode.now volume.new }
+        requires node { IsNode volume.old node }
+        requires holds { Holds (seen (D.image volume.old.device) volume.old.buffers)
+            volume.old.buffers pid node.block slot }
+        ensures steps { SetsEntry D.Disk found volume.old pid node slot self.old result self.new
+            volume.new }
+        ensures there { (d : Dinode) → LeadsThere D.image result self.old.branch
+            (map_at.Setting node slot found) d volume.new }
     {
         let _entries = volume.data(slot);
-        match found {
-            Some(block) => {
-                let at = 4 * (self.k - DIRECT_COUNT as u32) as usize;
-                put_block(volume, pid, slot, at, &bytes(block));
-            }
-            None => release_block(volume, pid, slot),
-        }
-        Progress::Over(found)
+        let Some(block) = found else {
+            release_block(volume, pid, slot);
+            return Progress::Over(None);
+        };
+        let at = 4 * node.entry() as usize;
+        put_block(volume, pid, slot, at, &bytes(block));
+        self.go_on(block, node.level, node.rest_below())
     }
+}
+
+// The next stage of a way that came to a block of addresses, whose entries lead to the data through
+// one block of addresses less.
+pub(crate) fn entry_behind(block: u32, depth: u32, rest: u32) -> MapAt
+    requires { depth ≢ 0 }
+    ensures { result ≡ map_at.Entry (node_at depth rest block) None }
+{
+    let node = Node::at(block, depth, rest);
+    MapAt::Entry { node, slot: None }
 }

@@ -3,16 +3,19 @@
 //!
 //! What is done here to blocks is done by machines, over the steps of the crate `driver`.
 //!
-//! An inode has the addresses of its file's first 12 blocks, and that of a block with the addresses
-//! of 256 more. So `map` answers at once for one of the first; behind them the entry has to be read,
-//! which `Bmap` does in two steps. A machine that works on a block of a file keeps a
-//! `Target`: what it gets or uses next, and `seek` makes the next step to the block. A reader makes
-//! no address that isn't there.
+//! An inode has the addresses of its file's first blocks, and behind them those of blocks of
+//! addresses, through which the others are found: one block of addresses in an image of the first
+//! form, and one more level in one of the second. A `Branch` says behind which address a block
+//! stands. So `map` answers at once where the inode itself names the block, or nothing; else the
+//! entries of the blocks of addresses (`Node`) have to be read one below the other, which `Bmap` does
+//! in two steps for each. A machine that works on a block of a file keeps a `Target`: what it gets or
+//! uses next, and `seek` makes the next step to the block. A reader makes no address that isn't
+//! there.
 //!
-//! A writer does (`map_for_writing`): the steps of `BmapAlloc` read the entry as `Bmap` does, and
-//! take what is missing, be it the file's block or the block of addresses. The writer's copy of the
-//! inode is given to each step, which names there what was taken for the inode itself. Where they
-//! are over with a block, the inode leads to it in the image as it is then.
+//! A writer does (`map_for_writing`): the steps of `BmapAlloc` go down the same way. They read the
+//! entries as `Bmap` does, and take what is missing, be it the file's block or a block of addresses.
+//! The writer's copy of the inode is given to each step, which names there what was taken for the
+//! inode itself. Where they are over with a block, the inode leads to it in the image as it is then.
 //!
 //! `Balloc` takes a block: it sets the lowest clear bit of the bitmap, and then zeroes the block of
 //! that bit. Which bit is the lowest clear one is said by a law (`laws`). `Bfree` is the machine
@@ -26,6 +29,7 @@ mod balloc;
 mod bfree;
 mod bmap;
 mod bmap_alloc;
+mod branch;
 pub mod laws;
 mod mapping;
 mod target;
@@ -34,6 +38,7 @@ pub use balloc::{AllocAt, Balloc};
 pub use bfree::Bfree;
 pub use bmap::Bmap;
 pub use bmap_alloc::{BmapAlloc, MapAt};
+pub use branch::{Branch, Node, branch_of};
 pub use mapping::{Mapped, MappedForWriting, map, map_for_writing};
 pub use model::types::Why;
 pub use target::{Target, seek, target_for};

@@ -1,40 +1,39 @@
 // From a block of a file to that of the image.
 ghost use Rattle.std.specs.Prelude.{◌≡◌, ◌<◌, length};
 ghost use Rattle.blocks.specs.Disk.{Image};
-ghost use Rattle.model.specs.declared.types.image.Form.TheVariants.{One};
 ghost use Rattle.model.specs.Layout.{form_of};
 ghost use Rattle.model.specs.Places.{address_in};
+ghost use Rattle.blockmap.specs.Branch.{block_limit};
 ghost use Rattle.blockmap.specs.Map.{mapped, address_mapped, mapped_for_writing, IsThere};
 
 use crate::bmap::some_address;
-use crate::{Bmap, BmapAlloc};
-use layout::DIRECT_COUNT;
-use model::types::Dinode;
+use crate::bmap_alloc::entry_behind;
+use crate::{Balloc, Bmap, BmapAlloc, MapAt, Node, branch_of};
+use model::types::{Dinode, Form};
 
 /// Where an inode's addresses lead from one of its file's blocks.
 #[derive(Clone, Copy)]
 pub enum Mapped {
     /// To this block; None where the file has none there.
     At(Option<u32>),
-    /// To an entry of the inode's block of addresses, which has to be read.
+    /// To an entry below a block of addresses, which has to be read.
     Behind(Bmap),
 }
 
-/// Where an inode's addresses lead from block `k` of its file, from 0 to 267.
-pub fn map(inode: &Dinode, k: u32) -> Mapped
+/// Where an inode's addresses lead from block `k` of its file in an image of that form.
+pub fn map(inode: &Dinode, form: Form, k: u32) -> Mapped
     requires addrs { length inode.now.addrs ≡ 13 }
-    requires within { k < 268 }
-    ensures map { result ≡ mapped inode.now k }
-    ensures address { (x : Image) → form_of x ≡ One
+    requires within { k < block_limit form }
+    ensures map { result ≡ mapped form inode.now k }
+    ensures address { (x : Image) → form_of x ≡ form
         → address_in x inode.now k ≡ address_mapped x result }
 {
-    if k < DIRECT_COUNT as u32 {
-        return Mapped::At(some_address(inode.addrs[k as usize]));
+    let branch = branch_of(form, k);
+    let address = inode.addrs[branch.index];
+    if address == 0 || branch.depth == 0 {
+        return Mapped::At(some_address(address));
     }
-    if inode.addrs[DIRECT_COUNT] == 0 {
-        return Mapped::At(None);
-    }
-    Mapped::Behind(Bmap::new(inode.addrs[DIRECT_COUNT], k - DIRECT_COUNT as u32))
+    Mapped::Behind(Bmap::new(Node::at(address, branch.depth, branch.rest)))
 }
 
 /// Where a writer finds a block of a file.
@@ -46,16 +45,29 @@ pub enum MappedForWriting {
     Behind(BmapAlloc),
 }
 
-/// Where a writer finds block `k` of an inode's file, from 0 to 267, in an image of that many
-/// blocks with that block of the bitmap.
-pub fn map_for_writing(inode: &Dinode, k: u32, bitmap: u32, size: u32) -> MappedForWriting
+/// Where a writer finds block `k` of an inode's file in an image of that form and of that many
+/// blocks, with that block of the bitmap.
+pub fn map_for_writing(
+    inode: &Dinode,
+    form: Form,
+    k: u32,
+    bitmap: u32,
+    size: u32,
+) -> MappedForWriting
     requires addrs { length inode.now.addrs ≡ 13 }
-    requires within { k < 268 }
-    ensures map { result ≡ mapped_for_writing inode.now k bitmap size }
-    ensures there { (x : Image) → form_of x ≡ One → IsThere x inode.now k result }
+    requires within { k < block_limit form }
+    ensures map { result ≡ mapped_for_writing form inode.now k bitmap size }
+    ensures there { (x : Image) → form_of x ≡ form → IsThere x inode.now k result }
 {
-    if k < DIRECT_COUNT as u32 && inode.addrs[k as usize] != 0 {
-        return MappedForWriting::At(inode.addrs[k as usize]);
+    let branch = branch_of(form, k);
+    let address = inode.addrs[branch.index];
+    if address != 0 && branch.depth == 0 {
+        return MappedForWriting::At(address);
     }
-    MappedForWriting::Behind(BmapAlloc::begin(inode, k, bitmap, size))
+    let at = if address == 0 {
+        MapAt::Address(Balloc::new(bitmap, size))
+    } else {
+        entry_behind(address, branch.depth, branch.rest)
+    };
+    MappedForWriting::Behind(BmapAlloc::begin(branch, bitmap, size, at))
 }

@@ -1,18 +1,19 @@
 // What a machine gets or uses next, on its way to a block of a file.
 ghost use Rattle.std.specs.Prelude.{◌≡◌, ◌<◌, true, length, None};
+ghost use Rattle.blockmap.specs.Branch.{block_limit};
 ghost use Rattle.blockmap.specs.Map.{address_or_zero};
 ghost use Rattle.blockmap.specs.Target.{is_entry, target_for, IsSought, Seeks};
 
 use crate::{Bmap, Mapped, map};
 use blocks::Disk;
 use driver::{Progress, get_block};
-use model::types::Dinode;
+use model::types::{Dinode, Form};
 use wal::Volume;
 
 /// What a machine that works on a block of a file gets or uses next.
 #[derive(Clone, Copy)]
 pub enum Target {
-    /// An entry of the inode's block of addresses, which names the block.
+    /// An entry of a block of addresses, below which the block stands.
     Entry(Bmap),
     /// The block itself.
     Block {
@@ -23,13 +24,13 @@ pub enum Target {
     },
 }
 
-/// What leads to block `k` of an inode's file, from 0 to 267.
-pub fn target_for(inode: &Dinode, k: u32) -> Target
+/// What leads to block `k` of an inode's file in an image of that form.
+pub fn target_for(inode: &Dinode, form: Form, k: u32) -> Target
     requires addrs { length inode.now.addrs ≡ 13 }
-    requires within { k < 268 }
-    ensures { result ≡ target_for inode.now k }
+    requires within { k < block_limit form }
+    ensures { result ≡ target_for form inode.now k }
 {
-    match map(inode, k) {
+    match map(inode, form, k) {
         Mapped::At(found) => Target::Block {
             block: address_or_zero(found),
             slot: None,

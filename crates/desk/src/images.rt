@@ -1,7 +1,8 @@
 // Calls of disks, of images on them, and of their recovery.
 use crate::bench::{Bench, Faulty, block_of, blocks_of, disk_of, disk_with, done, put_block};
 use blocks::{Block, Disk, FaultyDisk, Kind};
-use layout::{check, mkfs, plan, superblock};
+use layout::{check, mkfs, mkfs_as, plan, superblock};
+use model::types::Form;
 use plain::check::verdict;
 use plain::report::files_after_recovery;
 use std::alloc::Global;
@@ -35,6 +36,10 @@ fn call_image(alloc: Global, disk: &mut Faulty, words: &[&str]) -> anyhow::Resul
     match *words {
         ["mkfs", size, inodes] => {
             let answer = mkfs(alloc, disk, size.parse()?, inodes.parse()?);
+            Ok(Some(format!(in alloc; "{answer:?}")?))
+        }
+        ["mkfs", size, inodes, "large"] => {
+            let answer = mkfs_as(alloc, disk, size.parse()?, inodes.parse()?, Form::Two);
             Ok(Some(format!(in alloc; "{answer:?}")?))
         }
         ["plan", size, inodes] => {

@@ -9,4 +9,4 @@ mod operations;
 
 pub use bench::{Bench, Faulty, block_of, disk_of, done, text_of};
 pub use images::call;
-pub use operations::{operation, told_answer};
+pub use operations::{filled, operation, told_answer};

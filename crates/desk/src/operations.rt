@@ -29,8 +29,8 @@ pub fn operation(alloc: Global, words: &[&str]) -> anyhow::Result<Option<(u32, O
     Ok(Some(handed))
 }
 
-// So many bytes, each of which has these two digits.
-fn filled(alloc: Global, count: u32, digits: &str) -> anyhow::Result<Content> {
+/// So many bytes, each of which has these two digits.
+pub fn filled(alloc: Global, count: u32, digits: &str) -> anyhow::Result<Content> {
     let byte = hex::decode(alloc, digits)?.first().copied().unwrap_or(0);
     let mut bytes = Vec::new(alloc);
     for _ in 0..count {

@@ -7,7 +7,7 @@ use Rattle.wal.specs.Joint.{seen}
 use Rattle.wal.specs.Volume.{VolumeState, Holds}
 use Rattle.driver.specs.Deeds.{CarriesOut, DeedFits}
 use Rattle.driver.specs.Getting.{GetsFor}
-use Rattle.driver.specs.Next.{KeepsApart, MayGet, beside, block_of_next, kept_then, used_now, wanted_by}
+use Rattle.driver.specs.Next.{KeepsApart, MayGet, beside, block_of_next, kept_and, kept_then, no_block_kept, used_now, wanted_by}
 use Rattle.driver.specs.declared.deed.Deed.{Deed}
 use Rattle.driver.specs.declared.driving.Driven.{Driven}
 use Rattle.driver.specs.declared.driving.Got.{Got}
@@ -19,7 +19,7 @@ use Rattle.driver.specs.declared.progress.Progress.TheVariants as progress
 
 -- a machine that has got no block yet
 abbrev pub first_driven : {M : Type 0} → M → Driven M
-first_driven machine = record { machine = machine; kept = None; used = None }
+first_driven machine = record { machine = machine; kept = no_block_kept; used = None }
 
 abbrev pub progress_of_over : {T : Type 0} → Option T → Progress T
 progress_of_over None = progress.Moved
@@ -30,7 +30,7 @@ abbrev pub taken : {M T : Type 0} → Pure M T → List ℕ → Next → ℕ →
 taken pure bytes (next.Use b) i m = record m { used = Some i }
 taken pure bytes (next.Keep b) i m = record m {
   machine = pure.after_keep m.machine bytes;
-  kept = Some (record { block = b; slot = i });
+  kept = kept_and m.kept (record { block = b; slot = i });
   used = None;
 }
 taken pure bytes next.Kept i m = m
@@ -76,7 +76,7 @@ pub record MayDrive {M T D : Type 0} (pure : Pure M T) (image : D → Image) (v 
   pub apart : KeepsApart (pure.next_of m.machine) m.kept
   pub used : HoldsGot (seen (image v.device) v.buffers) v.buffers p
       (used_now (pure.next_of m.machine) m.kept m.used)
-  pub kept : HoldsGot (seen (image v.device) v.buffers) v.buffers p m.kept
+  pub kept : HoldsGot (seen (image v.device) v.buffers) v.buffers p m.kept.inner
   pub deed : MayDo pure (seen (image v.device) v.buffers) m
       (used_now (pure.next_of m.machine) m.kept m.used)
 

@@ -2,6 +2,7 @@
 use Rattle.std.specs.Prelude.{◌≡◌, ◌≢◌, ◌<◌, ◌≤◌, ℕ, Option, Some, None}
 use Rattle.model.specs.Format.{inode_start}
 use Rattle.driver.specs.declared.driving.Got.{Got}
+use Rattle.driver.specs.declared.driving.Kept.{Kept}
 use Rattle.driver.specs.declared.machine.Next.{Next}
 use Rattle.driver.specs.declared.machine.Next.TheVariants as next
 
@@ -11,23 +12,34 @@ IsUse (next.Use b) = Unit {0}
 IsUse (next.Keep b) = ⊥
 IsUse next.Kept = Unit {0}
 
+-- no block is kept
+abbrev pub no_block_kept : Kept
+no_block_kept = record { inner = None; outer = None }
+
+-- another one is kept behind the one that is
+abbrev pub kept_and : Kept → Got → Kept
+kept_and kept g = record { inner = Some g; outer = kept.inner }
+
 -- the block that the next step uses, where it was got or is kept
-abbrev pub used_now : Next → Option Got → Option ℕ → Option Got
+abbrev pub used_now : Next → Kept → Option ℕ → Option Got
 used_now (next.Use b) kept None = None
 used_now (next.Use b) kept (Some i) = Some (record { block = b; slot = i })
 used_now (next.Keep b) kept used = None
-used_now next.Kept kept used = kept
+used_now next.Kept kept used = kept.inner
 
--- the block that is kept beside one that is used, or that one
-abbrev pub beside : Option Got → Got → Got
-beside None used = used
-beside (Some kept) used = kept
+-- the block that was kept last beside one that is used, or that one
+abbrev pub got_or : Option Got → Got → Got
+got_or None used = used
+got_or (Some kept) used = kept
+
+abbrev pub beside : Kept → Got → Got
+beside kept used = got_or kept.inner used
 
 -- what is kept behind a step that used a block
-abbrev pub kept_then : Next → Option Got → Option Got
+abbrev pub kept_then : Next → Kept → Kept
 kept_then (next.Use b) kept = kept
 kept_then (next.Keep b) kept = kept
-kept_then next.Kept kept = None
+kept_then next.Kept kept = record { inner = kept.outer; outer = None }
 
 -- the block that a step gets; 0 where it gets none
 abbrev pub block_of_next : Next → ℕ
@@ -48,10 +60,18 @@ MayGet (next.Use b) size = (inode_start ≤ b) × (b < size)
 MayGet (next.Keep b) size = (inode_start ≤ b) × (b < size)
 MayGet next.Kept size = Unit {0}
 
--- what is kept is not got again, only one block is kept, and it is used where it is kept
-abbrev pub KeepsApart : Next → Option Got → Type 0
-KeepsApart (next.Use b) None = Unit {0}
-KeepsApart (next.Use b) (Some g) = g.block ≢ b
-KeepsApart (next.Keep b) kept = kept ≡ None
-KeepsApart next.Kept None = ⊥
-KeepsApart next.Kept (Some g) = Unit {0}
+-- that is another block than b, or none
+abbrev pub IsBeside : Option Got → ℕ → Type 0
+IsBeside None b = Unit {0}
+IsBeside (Some g) b = g.block ≢ b
+
+-- a block is there
+abbrev pub IsThere : Option Got → Type 0
+IsThere None = ⊥
+IsThere (Some g) = Unit {0}
+
+-- what is kept is not got again, at most two blocks are kept, and one is used where it is kept
+abbrev pub KeepsApart : Next → Kept → Type 0
+KeepsApart (next.Use b) kept = IsBeside kept.inner b × IsBeside kept.outer b
+KeepsApart (next.Keep b) kept = (kept.outer ≡ None) × IsBeside kept.inner b
+KeepsApart next.Kept kept = IsThere kept.inner

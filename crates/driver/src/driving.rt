@@ -1,7 +1,7 @@
 // The one driver of all machines.
 ghost use Rattle.std.specs.Prelude.{◌≡◌, ◌<◌, None, Some};
 ghost use Rattle.wal.specs.Machine.{HasRoom, used_by};
-ghost use Rattle.driver.specs.Next.{used_now, beside, kept_then, block_of_next};
+ghost use Rattle.driver.specs.Next.{used_now, beside, kept_and, kept_then, no_block_kept, block_of_next};
 ghost use Rattle.driver.specs.Driver.{MayDrive, Drives, first_driven, progress_of_over, taken};
 
 use crate::carrying::carry_out;
@@ -18,13 +18,57 @@ pub struct Got {
     pub slot: u32,
 }
 
+/// The blocks that a machine keeps, two at most.
+#[derive(Clone, Copy)]
+pub struct Kept {
+    /// The one that was kept last.
+    pub inner: Option<Got>,
+    /// The one that was kept before it.
+    pub outer: Option<Got>,
+}
+
+impl Kept {
+    // None is kept.
+    fn new() -> Kept
+        ensures { result ≡ no_block_kept }
+    {
+        Kept {
+            inner: None,
+            outer: None,
+        }
+    }
+
+    // Another block is kept behind the one that is.
+    fn and(self, got: Got) -> Kept
+        ensures { result ≡ kept_and self got }
+    {
+        Kept {
+            inner: Some(got),
+            outer: self.inner,
+        }
+    }
+
+    // What is kept behind a step that used a block.
+    fn then(self, next: Next) -> Kept
+        ensures { result ≡ kept_then next self }
+    {
+        match next {
+            Next::Use(_) | Next::Keep(_) => self,
+            Next::Kept => Kept {
+                inner: self.outer,
+                outer: None,
+            },
+        }
+    }
+}
+
 /// A machine that is driven over a volume.
 #[derive(Clone, Copy)]
 pub struct Driven<M> {
     /// The machine.
     pub machine: M,
-    /// The block that is kept.
-    pub kept: Option<Got>,
+    /// The blocks that are kept.
+    pub kept: Kept,
     /// The slot that holds the block which the next step uses, where it was got.
     pub used: Option<u32>,
 }
@@ -36,7 +80,7 @@ impl<M> Driven<M> {
     {
         Driven {
             machine,
-            kept: None,
+            kept: Kept::new(),
             used: None,
         }
     }
@@ -62,7 +106,7 @@ impl<M: Machine> Driven<M> {
         let (deed, over) = self
             .machine
             .step(volume.data(got.slot), volume.data(beside.slot));
-        self.kept = kept_then(next, self.kept);
+        self.kept = self.kept.then(next);
         self.used = None;
         carry_out(volume, pid, got.slot, deed);
         progress_of_over(over)
@@ -96,7 +140,7 @@ impl<M: Machine> Driven<M> {
             Next::Use(_) => self.used = Some(slot),
             Next::Keep(block) => {
                 self.machine.keep(bytes);
-                self.kept = Some(Got { block, slot });
+                self.kept = self.kept.and(Got { block, slot });
                 self.used = None;
             }
             Next::Kept => {}
@@ -105,7 +149,7 @@ impl<M: Machine> Driven<M> {
 }
 
 // The block that the next step uses, where it was got or is kept.
-fn used_now(next: Next, kept: Option<Got>, used: Option<u32>) -> Option<Got>
+fn used_now(next: Next, kept: Kept, used: Option<u32>) -> Option<Got>
     ensures { result ≡ used_now next kept used }
 {
     match next {
@@ -114,27 +158,17 @@ fn used_now(next: Next, kept: Option<Got>, used: Option<u32>) -> Option<Got>
             None => None,
         },
         Next::Keep(_) => None,
-        Next::Kept => kept,
+        Next::Kept => kept.inner,
     }
 }
 
-// The block that is kept beside one that is used.
-fn beside(kept: Option<Got>, used: Got) -> Got
+// The block that was kept last beside one that is used.
+fn beside(kept: Kept, used: Got) -> Got
     ensures { result ≡ beside kept used }
 {
-    match kept {
+    match kept.inner {
         Some(kept) => kept,
         None => used,
-    }
-}
-
-// What is kept behind a step that used a block.
-fn kept_then(next: Next, kept: Option<Got>) -> Option<Got>
-    ensures { result ≡ kept_then next kept }
-{
-    match next {
-        Next::Use(_) | Next::Keep(_) => kept,
-        Next::Kept => None,
     }
 }
 

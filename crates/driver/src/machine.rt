@@ -12,7 +12,7 @@ pub enum Next {
     Use(u32),
     /// This block is got, and kept for the steps behind.
     Keep(u32),
-    /// The block that is kept is used, and kept no longer.
+    /// The block that was kept last is used, and kept no longer.
     Kept,
 }
 
@@ -35,7 +35,7 @@ pub trait Machine {
     /// What becomes of the machine where a block of these bytes is kept from now on.
     ghost after_keep: { Self → List ℕ → Self };
 
-    /// What the step does with a block, by its bytes and by those of the block that is kept.
+    /// What the step does with a block, by its bytes and by those of the block that was kept last.
     ghost deed_of: { Self → List ℕ → List ℕ → Deed };
 
     /// What the machine is over with then, where that was its last step.
@@ -55,8 +55,8 @@ pub trait Machine {
         requires { fits self.old }
         ensures { self.new ≡ after_keep self.old block.now };
 
-    /// Makes the next step with the block that it uses, and with the one that is kept (the same,
-    /// where none is): what it does with the first, and what it is over with, where it is.
+    /// Makes the next step with the block that it uses, and with the one that was kept last (the
+    /// same, where none is): what it does with the first, and what it is over with, where it is.
     fn step(&mut self, used: &Block, kept: &Block) -> (Deed, Option<Self::Out>)
         requires fits { fits self.old }
         requires uses { IsUse (next_of self.old) }

@@ -5,7 +5,8 @@ use Rattle.blocks.specs.Block.{zero_block}
 use Rattle.blocks.specs.declared.disk.Disk.{Ghosts}
 use Rattle.blocks.specs.declared.errors.FileFault.{FileFault}
 use Rattle.blocks.specs.declared.file.FileDisk.{FileDisk}
-use Rattle.layout.specs.Making.{Makes}
+use Rattle.layout.specs.Making.{MakesAs}
+use Rattle.model.specs.declared.types.image.Form.{Form}
 use Rattle.model.specs.Layout.{planned_super}
 use Rattle.texts.specs.Output.{numbers_text}
 use Rattle.texts.specs.declared.refusal.Refusal.{Refusal}
@@ -16,10 +17,10 @@ use Rattle.images.specs.Files.{IsMade, IsOfFile, IsOpened, OnDiskRefusal, OpensD
 use Rattle.std.proofs.Common.{subst, sym}
 
 -- what was made on the disk that was created, where it was
-pub made_on : {F N : Type 0} (disk : Ghosts (FileDisk F) N) (r : Result (Unit {0}) Refusal) (size inode_count : ℕ) (old new : Option (List ℕ)) (created now : FileDisk F) → disk.image created ≡ replicate size zero_block
-    → OnOk r (Makes disk size inode_count created now) → OnOk r (Appends old new (numbers_text (planned_super size inode_count))) → OnOk r (IsMade disk size inode_count old new)
-made_on disk (Ok _) size inode_count old new created now zeroes makes printed = record { created = created; now = now; zeroes = zeroes; makes = makes; printed = printed }
-made_on disk (Err _) size inode_count old new created now zeroes makes printed = tt
+pub made_on : {F N : Type 0} (disk : Ghosts (FileDisk F) N) (r : Result (Unit {0}) Refusal) (form : Form) (size inode_count : ℕ) (old new : Option (List ℕ)) (created now : FileDisk F) → disk.image created ≡ replicate size zero_block
+    → OnOk r (MakesAs disk form size inode_count created now) → OnOk r (Appends old new (numbers_text (planned_super size inode_count))) → OnOk r (IsMade disk form size inode_count old new)
+made_on disk (Ok _) form size inode_count old new created now zeroes makes printed = record { created = created; now = now; zeroes = zeroes; makes = makes; printed = printed }
+made_on disk (Err _) form size inode_count old new created now zeroes makes printed = tt
 
 module _ {F N : Type 0} (remaining : F → Option (List ℕ)) (disk : Ghosts (FileDisk F) N) (holds : Bool) where
   -- what was done to the disk that was opened, where two things say it

@@ -10,7 +10,8 @@ use Rattle.blocks.specs.declared.disk.Disk.{Ghosts}
 use Rattle.blocks.specs.declared.faulty.FaultyDisk.{FaultyDisk}
 use Rattle.blocks.specs.declared.faulty.Trap.{Trap}
 use Rattle.blocks.specs.declared.file.FileDisk.{FileDisk}
-use Rattle.layout.specs.Making.{Makes}
+use Rattle.model.specs.declared.types.image.Form.{Form}
+use Rattle.layout.specs.Making.{MakesAs}
 use Rattle.model.specs.Files.{file_count, files_of}
 use Rattle.model.specs.Layout.{planned_super}
 use Rattle.model.specs.Log.{logged_count, recovered}
@@ -28,12 +29,12 @@ use Rattle.scripts.specs.declared.script.Task.{Task}
 
 -- a disk of so many blocks of zeroes was created in a file, an image made on it, and its numbers
 -- printed
-pub record IsMade {F N : Type 0} (disk : Ghosts (FileDisk F) N) (size inode_count : ℕ)
-    (old new : Option (List ℕ)) : Type 0 where
+pub record IsMade {F N : Type 0} (disk : Ghosts (FileDisk F) N) (form : Form)
+    (size inode_count : ℕ) (old new : Option (List ℕ)) : Type 0 where
   pub created : FileDisk F
   pub now : FileDisk F
   pub zeroes : disk.image created ≡ replicate size zero_block
-  pub makes : Makes disk size inode_count created now
+  pub makes : MakesAs disk form size inode_count created now
   pub printed : Appends old new (numbers_text (planned_super size inode_count))
 
 -- The disk that a file holds, just opened: its blocks were read from the file, one after another,

@@ -28,6 +28,7 @@ ghost use Rattle.images.specs.Files.{
 use crate::inputs::{schedule_from, script_from};
 use blocks::{Disk, FaultyDisk, FileDisk};
 use layout::plan;
+use model::types::Form;
 use player::{cat_disk, check_disk, make_disk, recover_disk, replay_disk};
 use runner::run_disk;
 use scripts::processes;
@@ -37,8 +38,8 @@ use std::sync::Wait;
 use std::thread::Threads;
 use texts::Refusal;
 
-/// Makes an image of `size` blocks of 1024 bytes with `ninodes` inode numbers in a file at this
-/// path, and prints its numbers.
+/// Makes an image of that form, of `size` blocks of 1024 bytes and with `ninodes` inode numbers, in a
+/// file at this path, and prints its numbers.
 ///
 /// # Errors
 ///
@@ -47,11 +48,12 @@ use texts::Refusal;
 pub fn make_file<R: Files + AllocGlobal, O: Write>(
     rt: &R,
     image: &str,
+    form: Form,
     size: u32,
     ninodes: u32,
     out: &mut O,
 ) -> Result<(), Refusal>
-    ensures made { OnOk result (IsMade ⟦<FileDisk<R::File> as Disk>⟧ size ninodes
+    ensures made { OnOk result (IsMade ⟦<FileDisk<R::File> as Disk>⟧ form size ninodes
         (O.contents out.old) (O.contents out.new)) }
     ensures silent { IfErr result (λ r. r ≢ refusal.Output → out.new ≡ out.old) }
     ensures layers { IfErr result IsOfMkfs }
@@ -62,7 +64,7 @@ pub fn make_file<R: Files + AllocGlobal, O: Write>(
 {
     plan(size, ninodes).map_err(Refusal::Mkfs)?;
     let mut disk = FileDisk::create(rt, image, size).map_err(Refusal::File)?;
-    make_disk(rt.alloc(), &mut disk, size, ninodes, out)
+    make_disk(rt.alloc(), &mut disk, form, size, ninodes, out)
 }
 
 // The disk in the file at this path, which holds writes back or doesn't.

@@ -17,9 +17,8 @@ use Rattle.inodes.specs.Itrunc.{trunc_next}
 use Rattle.inodes.specs.Store.{HoldsAt, HasLogged, IsOpenFor, Stands, Agrees}
 use Rattle.inodes.specs.LockState.{slot_of}
 use Rattle.blockmap.specs.Target.{block_of, slot_in}
-use Rattle.model.specs.Layout.{inode_block, indirect_of}
-use Rattle.inodes.specs.Writei.{WriteState}
-use Rattle.inodes.specs.Writing.{counted, HasLoggedWrite, kept_by_write, at_hand, block_of_write, used_by_write}
+use Rattle.model.specs.Layout.{inode_block}
+use Rattle.inodes.specs.Writing.{HasOpen, block_of_write, counted, kept_by_write, node_of_write, used_by_write}
 
 -- process p's task is t now
 pub record TaskIsNow (c d : Buffers) (l m : LogState) (n p : ℕ) (ts : List TaskState) (t : TaskState) : Type 0 where
@@ -58,14 +57,8 @@ counts_more l m b among = by_zero (eqb b 0)
     by_zero true = omega arith
     by_zero false = by_home (is_among b l.homes) refl
 
-pub logged_write_still : (l m : LogState) (q : ℕ) (w : WriteState) → used_by m q ≡ used_by l q → ((homes b : ℕ) → used_by l q ≡ Some homes → is_among b l.homes ≡ true → is_among b m.homes ≡ true)
-    → HasLoggedWrite l q w → HasLoggedWrite m q w
-logged_write_still l m q w used among has =
-    let few = has.few in
-    let map = counts_more l m w.extent.bitmap (among has.homes w.extent.bitmap has.used) in
-    let addresses = counts_more l m (indirect_of w.inode) (among has.homes (indirect_of w.inode) has.used) in
-    let hand = counts_more l m (at_hand w.at) (among has.homes (at_hand w.at) has.used) in
-    record { homes = has.homes; used = used ∙ has.used; few = omega (arith, few, map, addresses, hand) }
+pub open_write_still : (l m : LogState) (q : ℕ) → used_by m q ≡ used_by l q → HasOpen l q → HasOpen m q
+open_write_still l m q used has = record { homes = has.homes; used = used ∙ has.used }
 
 stands_other : (c d : Buffers) (l m : LogState) (n p q : ℕ) (t : TaskState) (a : Place) → StaysForOthers c d l m p → q ≢ p → Stands c l n q t.op a → Stands d m n q t.op a
 stands_other c d l m n p q t place.Nowhere stays apart s = tt
@@ -86,9 +79,9 @@ stands_other c d l m n p q t (place.Truncating k trunc) stays apart s = record {
   holds = holds_still c d q (trunc_next trunc) trunc.kept trunc.used (λ b i has. stays.holds q b i apart has) s.holds;
 }
 stands_other c d l m n p q t (place.Writing k w) stays apart s = record {
-  logged = logged_write_still l m q w (stays.used q apart) (λ homes b had has. stays.among b has) s.logged;
-  kept = holds_other c d l m p q (indirect_of w.inode) (kept_by_write w.at) stays apart s.kept;
-  used = holds_other c d l m p q (block_of_write w w.at) (used_by_write w.at) stays apart s.used;
+  logged = open_write_still l m q (stays.used q apart) s.logged;
+  kept = holds_other c d l m p q (node_of_write w.at) (kept_by_write w.at) stays apart s.kept;
+  used = holds_other c d l m p q (block_of_write w.at) (used_by_write w.at) stays apart s.used;
 }
 stands_other c d l m n p q t (place.Leaving k) stays apart s = tt
 
@@ -133,8 +126,8 @@ agrees_still c d l m n ts holds locks used among are = record {
       holds = holds_still c d q (trunc_next trunc) trunc.kept trunc.used (holds q) s.holds;
     }
     by_place q t (place.Writing k w) s = record {
-      logged = logged_write_still l m q w (used q) (λ homes b had has. among q homes b had has) s.logged;
-      kept = by_slot q (indirect_of w.inode) (kept_by_write w.at) s.kept;
-      used = by_slot q (block_of_write w w.at) (used_by_write w.at) s.used;
+      logged = open_write_still l m q (used q) s.logged;
+      kept = by_slot q (node_of_write w.at) (kept_by_write w.at) s.kept;
+      used = by_slot q (block_of_write w.at) (used_by_write w.at) s.used;
     }
     by_place q t (place.Leaving k) s = tt

@@ -25,13 +25,13 @@ use Rattle.inodes.specs.Holding.{claim_by, claim_of, claims_of}
 use Rattle.inodes.specs.Looks.{LooksAt}
 use Rattle.inodes.specs.Places.{HasSlot, asked_by, block_at_place, grip_by, grip_of, grips_of, steps_left}
 use Rattle.inodes.specs.Steps.{IsHeldByAnother, LeavesNumber, Reads, Steps, Waits, is_made}
-use Rattle.inodes.specs.Store.{StoreState, IsStore, FitsFiles, Stands, current_of}
+use Rattle.inodes.specs.Store.{StoreState, IsStore, FitsFiles, LoggedAt, Stands, current_of}
 use Rattle.inodes.specs.Table.{TableState}
 use Rattle.inodes.specs.Tasks.{TaskState, task, no_task}
 use Rattle.inodes.specs.Lemmas.Holding.{claimed_now}
 use Rattle.inodes.proofs.Looking.{Stepped, store_stepped, steps_stepped}
 use Rattle.inodes.proofs.LooksKept.{KeepsUsed}
-use Rattle.inodes.proofs.Unclaimed.{LocksAlone, holds_alone_of}
+use Rattle.inodes.specs.Lemmas.Unclaimed.{LocksAlone, holds_alone_of}
 use Rattle.inodes.specs.Looks.{AreLooking}
 use Rattle.inodes.proofs.Gripping.{grip_is}
 
@@ -77,11 +77,13 @@ module _ {D N : Type 0} (disk : Ghosts D N) (s : StoreState D) (p k i : ℕ) (he
       pub locks : (b j : ℕ) → HasLock w.buffers p b j → HasSlot next j
       pub stands : Stands w.buffers w.log count p op next
       pub looks : LooksAt now tab task_then next
+      pub logged : LoggedAt now w.log p next
 
     -- What the step makes of disk, buffers, log, image and table, and for whom it waits.
     pub record Does (its : Op) : Type 0 where
       pub reads : Reads disk s r store_then
       pub numbers : tab.inode_count ≡ count
+      pub form : tab.form ≡ s.table.form
       pub groups : SameGroups s.volume.log w.log
       pub marks : Marks None cur now
       pub keeps : KeepsUsed count i claims cur now
@@ -95,7 +97,7 @@ module _ {D N : Type 0} (disk : Ghosts D N) (s : StoreState D) (p k i : ℕ) (he
       pub asleep : (cause : Why) → r ≡ progress.Sleeping cause → (w ≡ s.volume) × (tab ≡ s.table) × (next ≡ here)
       pub held : r ≡ progress.Sleeping why.BufferHeld → IsHeldByAnother s p (block_at_place here)
       pub inode : r ≡ progress.Sleeping why.InodeHeld → ⊥
-      pub less : is_made r ≡ true → steps_left next count < steps_left here count
+      pub less : is_made r ≡ true → steps_left now next count < steps_left cur here count
 
     module _ (its : Op) (works : Works) (does : Does its) (tasks : ts ≡ set s.tasks p task_then) where
       abbrev t : StoreState D
@@ -123,6 +125,7 @@ module _ {D N : Type 0} (disk : Ghosts D N) (s : StoreState D) (p k i : ℕ) (he
         tasks = tasks;
         op = refl;
         count = does.numbers;
+        form = does.form;
         numbers = ap (λ (b : List ℕ). (super_in b).ninodes) does.marks.untouched.super;
         reads = does.reads;
         groups = does.groups;
@@ -139,6 +142,7 @@ module _ {D N : Type 0} (disk : Ghosts D N) (s : StoreState D) (p k i : ℕ) (he
               stands = on.stands;
               table = subst (λ (gs : List (Option Grip)). KeepsTable s.table tab p (grips_of s.tasks) gs now) (sym same_grips) does.table;
               looks = on.looks;
+              logged = on.logged;
             };
       }
 
@@ -168,4 +172,4 @@ module _ {D N : Type 0} (disk : Ghosts D N) (s : StoreState D) (p k i : ℕ) (he
           (subst (λ (a : Place). Goes disk a s p its r t) (sym works.stood) goes)
           waits_so
           (λ other apart reads. subst (λ (o : Option Reply). LeavesNumber its o (asked_by (task s.tasks other).op)) (sym does.late) tt)
-          (λ made going. subst (λ (a : Place). steps_left next count < steps_left a count) (sym works.stood) (does.less made))
+          (λ made going. subst (λ (a : Place). steps_left now next count < steps_left cur a count) (sym works.stood) (does.less made))

@@ -35,7 +35,7 @@ use Rattle.inodes.specs.Holding.{claim_by, claims_of}
 use Rattle.inodes.specs.Looks.{LooksAt}
 use Rattle.inodes.specs.Places.{HasSlot, asked_by, block_at_place, grip_by, grips_of, steps_left}
 use Rattle.inodes.specs.Steps.{IsHeldByAnother, Reads}
-use Rattle.inodes.specs.Store.{StoreState, Agrees, Stands, current_of}
+use Rattle.inodes.specs.Store.{StoreState, Agrees, LoggedAt, Stands, current_of}
 use Rattle.inodes.specs.Table.{TableState}
 use Rattle.inodes.specs.Tasks.{TaskState, task}
 use Rattle.inodes.specs.Lemmas.Faults.{where_none}
@@ -45,7 +45,7 @@ use Rattle.inodes.proofs.Getting.{fault_of, reads_none}
 use Rattle.inodes.proofs.LooksKept.{KeepsUsed, keeps_same}
 use Rattle.inodes.proofs.TruncFiles.{same_claims}
 use Rattle.inodes.proofs.TruncSlots.{never_over, reads_for}
-use Rattle.inodes.proofs.Unclaimed.{claim_of_locked}
+use Rattle.inodes.specs.Lemmas.Unclaimed.{claim_of_locked}
 
 -- a step was made
 abbrev pub IsDone : Progress (Unit {0}) → Type 0
@@ -92,6 +92,7 @@ module _ {M D N : Type 0} (pure : Pure M (Unit {0})) (disk : Ghosts D N) (s : St
     pub wakes : (cause : Why) → r ≡ progress.Sleeping cause → ⊥
     pub late : reply_at_turn r ≡ None
     pub numbers : tab.inode_count ≡ count
+    pub form : tab.form ≡ s.table.form
     pub marks : Marks None cur now
     pub keeps : KeepsUsed count i claims cur now
     pub table : KeepsTable s.table tab p (grips_of s.tasks) (grips_of s.tasks) now
@@ -101,7 +102,8 @@ module _ {M D N : Type 0} (pure : Pure M (Unit {0})) (disk : Ghosts D N) (s : St
     pub locks : HasGot w.buffers p (pure.next_of n.machine) n.kept n.used → (b j : ℕ) → HasLock w.buffers p b j → HasSlot next j
     pub stands : HasGot w.buffers p (pure.next_of n.machine) n.kept n.used → Stands w.buffers w.log count p op next
     pub looks : LooksAt now tab (record (task s.tasks p) { place = next }) next
-    pub less : steps_left next count < steps_left here count
+    pub logged : LoggedAt now w.log p next
+    pub less : steps_left now next count < steps_left cur here count
 
   module _ (d : Driving) (ts : List TaskState) (r : TaskProgress) (next : Place) (tab : TableState) where
     abbrev then : StoreState D
@@ -161,6 +163,7 @@ module _ {M D N : Type 0} (pure : Pure M (Unit {0})) (disk : Ghosts D N) (s : St
     does_move its done made = record {
       reads = reads (made.fine ∙ sym (well_done done));
       numbers = made.numbers;
+      form = made.form;
       groups = groups;
       marks = made.marks;
       keeps = made.keeps;
@@ -173,6 +176,7 @@ module _ {M D N : Type 0} (pure : Pure M (Unit {0})) (disk : Ghosts D N) (s : St
         locks = made.locks (has_then done);
         stands = made.stands (has_then done);
         looks = made.looks;
+        logged = made.logged;
       };
       late = made.late;
       asleep = λ cause waits. absurd (made.wakes cause waits);
@@ -249,6 +253,7 @@ module _ {M D N : Type 0} (pure : Pure M (Unit {0})) (disk : Ghosts D N) (s : St
       does_wait its = record {
         reads = reads d ts answer here s.table (sym (ap fault_of waits));
         numbers = refl;
+        form = refl;
         groups = groups d ts answer here s.table;
         marks = marks_still image_same;
         keeps = keeps_still image_same;
@@ -261,6 +266,7 @@ module _ {M D N : Type 0} (pure : Pure M (Unit {0})) (disk : Ghosts D N) (s : St
           locks = λ b j lock. subst (λ (a : Place). HasSlot a j) d.works.stood (agrees.holders p b j lock);
           stands = subst (λ (a : Place). Stands s.volume.buffers s.volume.log count p op a) d.works.stood (agrees.stands p);
           looks = subst (λ (t : TaskState). LooksAt cur s.table t t.place) (ap (λ (a : Place). record (task s.tasks p) { place = a }) d.works.stood) (d.works.looking.stand p);
+          logged = subst (LoggedAt cur s.volume.log p) d.works.stood (where_none s.volume.fault d.works.well d.works.is.logged p);
         });
         late = refl;
         asleep = λ other same. (slept.0, refl, refl);
@@ -276,6 +282,7 @@ module _ {M D N : Type 0} (pure : Pure M (Unit {0})) (disk : Ghosts D N) (s : St
         record {
           reads = reads d ts (progress.Fault fault) here s.table (sym (ap fault_of fails));
           numbers = refl;
+          form = refl;
           groups = groups d ts (progress.Fault fault) here s.table;
           marks = marks_still same;
           keeps = keeps_still same;

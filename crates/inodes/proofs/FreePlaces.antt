@@ -1,13 +1,16 @@
 -- A task by its place: whether its next step uses what it has got, what it keeps while it gets
 -- another block, and that it waits for this alone.
-use Rattle.std.proofs.Common.{◌≡◌, ℕ, Bool, true, false, refl, inl, inr, ◌⊎◌, Option, Some, None}
+use Rattle.std.proofs.Common.{◌≡◌, ◌≢◌, ℕ, ◌+◌, ◌≤◌, Bool, true, false, List, [], ◌∷◌, ◌++◌, length, map, refl, sym, ap, inl, inr, ◌⊎◌, arith, Option, Some, None}
 use Rattle.std.specs.Prelude.{is_none, is_some, not}
+use Rattle.std.proofs.lemmas.Bool.{eq-eqb}
 use Rattle.bcache.specs.Buffers.{Buffers}
 use Rattle.blockmap.specs.declared.bmap_alloc.MapAt.{MapAt}
 use Rattle.blockmap.specs.declared.bmap_alloc.MapAt.TheVariants as map_at
 use Rattle.blockmap.specs.Target.{slot_in}
 use Rattle.driver.specs.Holds.{slot_kept, slot_used}
 use Rattle.driver.specs.Next.{wanted_by}
+use Rattle.driver.specs.declared.driving.Got.{Got}
+use Rattle.driver.specs.declared.driving.Kept.{Kept}
 use Rattle.driver.specs.declared.machine.Next.{Next}
 use Rattle.driver.specs.declared.machine.Next.TheVariants as next
 use Rattle.inodes.specs.declared.ilock.LockAt.{LockAt}
@@ -20,8 +23,8 @@ use Rattle.inodes.specs.Itrunc.{trunc_next}
 use Rattle.inodes.specs.LockState.{slot_of}
 use Rattle.inodes.specs.Places.{HasSlot}
 use Rattle.inodes.specs.Table.{TableState}
-use Rattle.inodes.specs.Writei.{WriteState}
-use Rattle.inodes.specs.Writing.{slot_of_alloc, kept_by_write, used_on_way, used_by_write}
+use Rattle.model.specs.Soundness.{count_of}
+use Rattle.inodes.specs.Writing.{slot_of_alloc, kept_by_write, node_of_write, used_on_way, used_by_write}
 use Rattle.inodes.specs.Waiting.{unless_got, wanted_on_way, wanted_by_write, cause_to_lock, cause_at}
 use Rattle.wal.specs.Volume.{cause_to_get}
 
@@ -31,11 +34,10 @@ abbrev pub drives_freely : Next → Option ℕ → Bool
 drives_freely a used = is_none (wanted_by a used)
 
 abbrev pub maps_freely : MapAt → Bool
-maps_freely (map_at.Direct t) = is_some (slot_of_alloc t.at)
-maps_freely (map_at.Indirect t) = is_some (slot_of_alloc t.at)
-maps_freely (map_at.Entry slot) = is_some slot
-maps_freely (map_at.Behind i t) = is_some (slot_of_alloc t.at)
-maps_freely (map_at.Setting i found) = true
+maps_freely (map_at.Address t) = is_some (slot_of_alloc t.at)
+maps_freely (map_at.Entry n slot) = is_some slot
+maps_freely (map_at.Behind n i t) = is_some (slot_of_alloc t.at)
+maps_freely (map_at.Setting n i found) = true
 
 abbrev pub writes_freely : WriteAt → Bool
 writes_freely (write_at.Mapping way) = maps_freely way.at
@@ -65,17 +67,16 @@ free_driven : (c : Buffers) (o : Option ℕ) → is_none o ≡ true → cause_to
 free_driven c None e = refl
 free_driven c (Some b) e = absurd (cc e)
 
-free_way : (c : Buffers) (m : WriteState) (a : MapAt) → maps_freely a ≡ true → cause_to_get c (wanted_on_way m.inode a) ≡ None
-free_way c m (map_at.Direct t) e = got_some c (slot_of_alloc t.at) _ e
-free_way c m (map_at.Indirect t) e = got_some c (slot_of_alloc t.at) _ e
-free_way c m (map_at.Entry slot) e = got_some c slot _ e
-free_way c m (map_at.Behind i t) e = got_some c (slot_of_alloc t.at) _ e
-free_way c m (map_at.Setting i found) e = refl
+free_way : (c : Buffers) (a : MapAt) → maps_freely a ≡ true → cause_to_get c (wanted_on_way a) ≡ None
+free_way c (map_at.Address t) e = got_some c (slot_of_alloc t.at) _ e
+free_way c (map_at.Entry n slot) e = got_some c slot _ e
+free_way c (map_at.Behind n i t) e = got_some c (slot_of_alloc t.at) _ e
+free_way c (map_at.Setting n i found) e = refl
 
-free_write : (c : Buffers) (m : WriteState) (a : WriteAt) → writes_freely a ≡ true → cause_to_get c (wanted_by_write m a) ≡ None
-free_write c m (write_at.Mapping way) e = free_way c m way.at e
-free_write c m (write_at.Block b slot) e = got_some c slot b e
-free_write c m (write_at.Updating u) e = got_some c u.slot _ e
+free_write : (c : Buffers) (a : WriteAt) → writes_freely a ≡ true → cause_to_get c (wanted_by_write a) ≡ None
+free_write c (write_at.Mapping way) e = free_way c way.at e
+free_write c (write_at.Block b slot) e = got_some c slot b e
+free_write c (write_at.Updating u) e = got_some c u.slot _ e
 
 free_lock : (c : Buffers) (t : TableState) (a : LockAt) (i : ℕ) → locks_freely a ≡ true → cause_to_lock c t a i ≡ None
 free_lock c t lock_at.Reference i e = refl
@@ -90,21 +91,70 @@ free_goes c t (place.Taking m) e = free_lock c t m.at m.number e
 free_goes c t (place.Reading k m) e = got_some c (slot_in m.target) _ e
 free_goes c t (place.Delivering k) e = refl
 free_goes c t (place.Truncating k m) e = free_driven c (wanted_by (trunc_next m) m.used) e
-free_goes c t (place.Writing k m) e = free_write c m m.at e
+free_goes c t (place.Writing k m) e = free_write c m.at e
 free_goes c t (place.Leaving k) e = refl
 
 -- ---- what is kept while another block is got
 
--- the slot of the block of addresses
-abbrev pub kept_at : Place → Option ℕ
-kept_at place.Nowhere = None
-kept_at (place.Creating m) = None
-kept_at (place.Taking m) = None
-kept_at (place.Reading k m) = None
-kept_at (place.Delivering k) = None
-kept_at (place.Truncating k m) = slot_kept m.kept
-kept_at (place.Writing k m) = kept_by_write m.at
-kept_at (place.Leaving k) = None
+abbrev pub gots : Option Got → List Got
+gots None = []
+gots (Some g) = g ∷ []
+
+abbrev pub gots_kept : Kept → List Got
+gots_kept kept = gots kept.inner ++ gots kept.outer
+
+-- a block in the slot where it was got
+abbrev pub got_at : ℕ → Option ℕ → List Got
+got_at b None = []
+got_at b (Some i) = record { block = b; slot = i } ∷ []
+
+-- the blocks of addresses that a task keeps
+abbrev pub kept_by : Place → List Got
+kept_by place.Nowhere = []
+kept_by (place.Creating m) = []
+kept_by (place.Taking m) = []
+kept_by (place.Reading k m) = []
+kept_by (place.Delivering k) = []
+kept_by (place.Truncating k m) = gots_kept m.kept
+kept_by (place.Writing k m) = got_at (node_of_write m.at) (kept_by_write m.at)
+kept_by (place.Leaving k) = []
+
+-- one of them
+abbrev pub IsOneOf : Got → List Got → Type 0
+IsOneOf g [] = ⊥
+IsOneOf g (h ∷ hs) = (g ≡ h) ⊎ IsOneOf g hs
+
+-- their slots
+abbrev pub slots_of : List Got → List ℕ
+slots_of gs = map (λ (g : Got). g.slot) gs
+
+pub slot_counts : (gs : List Got) (g : Got) → IsOneOf g gs → count_of g.slot (slots_of gs) ≢ 0
+slot_counts [] g is = absurd is
+slot_counts (h ∷ hs) g (inl same) = λ (none : count_of g.slot (slots_of (h ∷ hs)) ≡ 0).
+    let here : count_of g.slot (slots_of (h ∷ hs)) ≡ 1 + count_of g.slot (slots_of hs) = rw (eq-eqb h.slot g.slot (ap (λ (o : Got). o.slot) (sym same))) refl in
+    omega (arith, none, here)
+slot_counts (h ∷ hs) g (inr later) = λ (none : count_of g.slot (slots_of (h ∷ hs)) ≡ 0). slot_counts hs g later (omega (arith, none))
+
+few_kept : (inner outer : Option Got) → length (slots_of (gots inner ++ gots outer)) ≤ 2
+few_kept None None = omega arith
+few_kept None (Some g) = omega arith
+few_kept (Some g) None = omega arith
+few_kept (Some g) (Some h) = omega arith
+
+few_at : (b : ℕ) (o : Option ℕ) → length (slots_of (got_at b o)) ≤ 2
+few_at b None = omega arith
+few_at b (Some i) = omega arith
+
+-- there are two at most
+pub few_by : (a : Place) → length (slots_of (kept_by a)) ≤ 2
+few_by place.Nowhere = omega arith
+few_by (place.Creating m) = omega arith
+few_by (place.Taking m) = omega arith
+few_by (place.Reading k m) = omega arith
+few_by (place.Delivering k) = omega arith
+few_by (place.Truncating k m) = few_kept m.kept.inner m.kept.outer
+few_by (place.Writing k m) = few_at (node_of_write m.at) (kept_by_write m.at)
+few_by (place.Leaving k) = omega arith
 
 not_got : (o : Option ℕ) (i : ℕ) → is_some o ≡ false → o ≡ Some i → ⊥
 not_got None i e has = cc has
@@ -117,11 +167,10 @@ used_driven (next.Keep b) used i e has = cc has
 used_driven next.Kept used i e has = cc has
 
 used_way : (a : MapAt) (i : ℕ) → maps_freely a ≡ false → used_on_way a ≡ Some i → ⊥
-used_way (map_at.Direct t) i e has = not_got (slot_of_alloc t.at) i e has
-used_way (map_at.Indirect t) i e has = not_got (slot_of_alloc t.at) i e has
-used_way (map_at.Entry slot) i e has = cc has
-used_way (map_at.Behind j t) i e has = not_got (slot_of_alloc t.at) i e has
-used_way (map_at.Setting j found) i e has = cc has
+used_way (map_at.Address t) i e has = not_got (slot_of_alloc t.at) i e has
+used_way (map_at.Entry n slot) i e has = cc has
+used_way (map_at.Behind n j t) i e has = not_got (slot_of_alloc t.at) i e has
+used_way (map_at.Setting n j found) i e has = cc has
 
 used_write : (a : WriteAt) (i : ℕ) → writes_freely a ≡ false → used_by_write a ≡ Some i → ⊥
 used_write (write_at.Mapping way) i e has = used_way way.at i e has
@@ -137,16 +186,34 @@ either : {A B : Type 0} → A ⊎ B → (B → ⊥) → A
 either (inl a) none = a
 either (inr b) none = absurd (none b)
 
+one_later : (g : Got) (gs hs : List Got) → IsOneOf g hs → IsOneOf g (gs ++ hs)
+one_later g [] hs is = is
+one_later g (o ∷ gs) hs is = inr (one_later g gs hs is)
+
+-- a kept block in that slot
+abbrev pub KeptIn : Place → ℕ → Type 0
+KeptIn a i = (g : Got) × IsOneOf g (kept_by a) × (g.slot ≡ i)
+
+kept_in : (inner outer : Option Got) (i : ℕ) → (slot_kept inner ≡ Some i) ⊎ (slot_kept outer ≡ Some i) → (g : Got) × IsOneOf g (gots inner ++ gots outer) × (g.slot ≡ i)
+kept_in None outer i (inl has) = absurd (cc has)
+kept_in (Some g) outer i (inl has) = (g, inl refl, cc has)
+kept_in inner None i (inr has) = absurd (cc has)
+kept_in inner (Some g) i (inr has) = (g, one_later g (gots inner) (g ∷ []) (inl refl), cc has)
+
+kept_one : (b : ℕ) (o : Option ℕ) (i : ℕ) → o ≡ Some i → (g : Got) × IsOneOf g (got_at b o) × (g.slot ≡ i)
+kept_one b None i has = absurd (cc has)
+kept_one b (Some j) i has = (record { block = b; slot = j }, inl refl, cc has)
+
 -- who gets a block next has no other slot
-pub has_kept : (a : Place) (i : ℕ) → is_free a ≡ false → HasSlot a i → kept_at a ≡ Some i
-has_kept place.Nowhere i e has = has
+pub has_kept : (a : Place) (i : ℕ) → is_free a ≡ false → HasSlot a i → KeptIn a i
+has_kept place.Nowhere i e has = absurd (cc has)
 has_kept (place.Creating m) i e has = absurd (not_got m.slot i e has)
 has_kept (place.Taking m) i e has = absurd (locks_none m.at i e has)
 has_kept (place.Reading k m) i e has = absurd (not_got (slot_in m.target) i e has)
-has_kept (place.Delivering k) i e has = has
-has_kept (place.Truncating k m) i e has = either has (used_driven (trunc_next m) m.used i e)
-has_kept (place.Writing k m) i e has = either has (used_write m.at i e)
-has_kept (place.Leaving k) i e has = has
+has_kept (place.Delivering k) i e has = absurd (cc has)
+has_kept (place.Truncating k m) i e has = kept_in m.kept.inner m.kept.outer i (either has (used_driven (trunc_next m) m.used i e))
+has_kept (place.Writing k m) i e has = kept_one (node_of_write m.at) (kept_by_write m.at) i (either has (used_write m.at i e))
+has_kept (place.Leaving k) i e has = absurd (cc has)
 
 -- ---- who waits for an inode's lock
 
@@ -179,17 +246,16 @@ driven_waits : (c : Buffers) (o : Option ℕ) → is_none o ≡ false → (b : �
 driven_waits c None e = absurd (cc e)
 driven_waits c (Some b) e = (b, refl)
 
-way_waits : (c : Buffers) (m : WriteState) (a : MapAt) → maps_freely a ≡ false → (b : ℕ) × (cause_to_get c (wanted_on_way m.inode a) ≡ cause_to_get c (Some b))
-way_waits c m (map_at.Direct t) e = (_, some_got c (slot_of_alloc t.at) _ e)
-way_waits c m (map_at.Indirect t) e = (_, some_got c (slot_of_alloc t.at) _ e)
-way_waits c m (map_at.Entry slot) e = (_, some_got c slot _ e)
-way_waits c m (map_at.Behind i t) e = (_, some_got c (slot_of_alloc t.at) _ e)
-way_waits c m (map_at.Setting i found) e = absurd (cc e)
+way_waits : (c : Buffers) (a : MapAt) → maps_freely a ≡ false → (b : ℕ) × (cause_to_get c (wanted_on_way a) ≡ cause_to_get c (Some b))
+way_waits c (map_at.Address t) e = (_, some_got c (slot_of_alloc t.at) _ e)
+way_waits c (map_at.Entry n slot) e = (_, some_got c slot _ e)
+way_waits c (map_at.Behind n i t) e = (_, some_got c (slot_of_alloc t.at) _ e)
+way_waits c (map_at.Setting n i found) e = absurd (cc e)
 
-write_waits : (c : Buffers) (m : WriteState) (a : WriteAt) → writes_freely a ≡ false → (b : ℕ) × (cause_to_get c (wanted_by_write m a) ≡ cause_to_get c (Some b))
-write_waits c m (write_at.Mapping way) e = way_waits c m way.at e
-write_waits c m (write_at.Block b slot) e = (_, some_got c slot b e)
-write_waits c m (write_at.Updating u) e = (_, some_got c u.slot _ e)
+write_waits : (c : Buffers) (a : WriteAt) → writes_freely a ≡ false → (b : ℕ) × (cause_to_get c (wanted_by_write a) ≡ cause_to_get c (Some b))
+write_waits c (write_at.Mapping way) e = way_waits c way.at e
+write_waits c (write_at.Block b slot) e = (_, some_got c slot b e)
+write_waits c (write_at.Updating u) e = (_, some_got c u.slot _ e)
 
 lock_waits : (c : Buffers) (t : TableState) (a : LockAt) (i : ℕ) → locks_freely a ≡ false → is_lock a ≡ false → (b : ℕ) × (cause_to_lock c t a i ≡ cause_to_get c (Some b))
 lock_waits c t lock_at.Reference i e other = absurd (cc e)
@@ -207,5 +273,5 @@ getting_waits c t (place.Taking m) e is = lock_waits c t m.at m.number e (not_lo
 getting_waits c t (place.Reading k m) e is = (_, some_got c (slot_in m.target) _ e)
 getting_waits c t (place.Delivering k) e is = absurd (cc e)
 getting_waits c t (place.Truncating k m) e is = driven_waits c (wanted_by (trunc_next m) m.used) e
-getting_waits c t (place.Writing k m) e is = write_waits c m m.at e
+getting_waits c t (place.Writing k m) e is = write_waits c m.at e
 getting_waits c t (place.Leaving k) e is = absurd (cc e)

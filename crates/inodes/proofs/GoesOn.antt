@@ -1,13 +1,15 @@
 -- Nobody waits for ever: of the tasks under way one goes on. It is one that uses what it has got;
 -- where there is none, one that keeps a block of addresses; where there is none, one that gets a
 -- block; and else any, for nobody has an inode's lock then.
-use Rattle.std.proofs.Common.{◌≡◌, ◌≢◌, ℕ, Bool, true, false, refl, sym, ◌∙◌, ap, Option, Some, None, inl, inr}
-use Rattle.std.specs.Prelude.{is_some, IfNone, not}
+use Rattle.std.proofs.Common.{◌≡◌, ◌≢◌, ℕ, Bool, true, false, List, [], ◌∷◌, refl, sym, ◌∙◌, ap, subst, Option, Some, None, inl, inr}
+use Rattle.std.specs.Prelude.{IfNone, not}
 use Rattle.std.proofs.lemmas.Bool.{both_ways}
 use Rattle.wal.specs.declared.types.DeviceFault.{DeviceFault}
 use Rattle.blocks.specs.Disk.{Image}
-use Rattle.bcache.specs.Buffers.{Buffers, buffer, block_or_zero, victim}
+use Rattle.bcache.specs.Buffers.{Buffers, buffer, victim}
+use Rattle.model.specs.Soundness.{count_of}
 use Rattle.wal.specs.Held.{HasLock}
+use Rattle.driver.specs.declared.driving.Got.{Got}
 use Rattle.wal.specs.Joint.{Joint}
 use Rattle.inodes.specs.declared.ilock.LockAt.{LockAt}
 use Rattle.inodes.specs.declared.ilock.LockAt.TheVariants as lock_at
@@ -24,9 +26,9 @@ use Rattle.inodes.specs.Waiting.{SomeoneGoesOn, NobodyWaitsForEver, cause_at, ca
 use Rattle.inodes.specs.Lemmas.Faults.{where_none}
 use Rattle.inodes.specs.Lemmas.Sought.{Sought, sought, passes_busy}
 use Rattle.inodes.proofs.Gripping.{grip_is}
-use Rattle.inodes.proofs.FreePlaces.{is_free, free_goes, kept_at, has_kept, is_lock, is_getting, getting_waits}
-use Rattle.wal.specs.Lemmas.Victims.{HoldsOne, some_victim, gets_now}
-use Rattle.inodes.proofs.KeptBlocks.{kept_block, keeps_open, KeepsOpen, kept_own, kept_waits, waits_apart, WaitsBehind}
+use Rattle.inodes.proofs.FreePlaces.{IsOneOf, KeptIn, few_by, is_free, free_goes, kept_by, has_kept, is_lock, is_getting, getting_waits, slot_counts, slots_of}
+use Rattle.wal.specs.Lemmas.Victims.{HoldsFew, some_victim, gets_now}
+use Rattle.inodes.proofs.KeptBlocks.{keeps_open, KeepsOpen, kept_own, kept_waits, waits_apart, WaitsBehind}
 
 -- ---- who has an inode's lock waits for none
 
@@ -72,13 +74,21 @@ only_lock c t (place.Truncating k m) busy is = absurd (cc is)
 only_lock c t (place.Writing k m) busy is = absurd (cc is)
 only_lock c t (place.Leaving k) busy is = absurd (cc is)
 
+abbrev has_some : List Got → Bool
+has_some [] = false
+has_some (g ∷ gs) = true
+
 -- a task that stands there keeps a block of addresses
 abbrev keeps : Place → Bool
-keeps a = is_some (kept_at a)
+keeps a = has_some (kept_by a)
 
-slot_in : (o : Option ℕ) → is_some o ≡ true → (i : ℕ) × (o ≡ Some i)
-slot_in None e = absurd (cc e)
-slot_in (Some i) e = (i, refl)
+one_in : (gs : List Got) → has_some gs ≡ true → (g : Got) × IsOneOf g gs
+one_in [] e = absurd (cc e)
+one_in (g ∷ gs) e = (g, inl refl)
+
+none_in : (gs : List Got) (g : Got) → has_some gs ≡ false → IsOneOf g gs → ⊥
+none_in [] g e is = is
+none_in (h ∷ hs) g e is = cc e
 
 module _ {D : Type 0} (image : D → Image) (s : StoreState D) (store : IsStore image s) (unfailed : s.volume.fault ≡ None) (joint : Joint (image s.volume.device) s.volume.buffers s.volume.log) where
   abbrev c : Buffers
@@ -108,43 +118,43 @@ module _ {D : Type 0} (image : D → Image) (s : StoreState D) (store : IsStore 
   -- ---- where each task that is not over waits for a block or a lock
 
   module _ (waits : (q : ℕ) → is_free (at q) ≡ false) where
-    kept_by : (p b i : ℕ) → HasLock c p b i → kept_at (at p) ≡ Some i
-    kept_by p b i lock = has_kept (at p) i (waits p) (agrees.holders p b i lock)
+    kept_of : (p b i : ℕ) → HasLock c p b i → KeptIn (at p) i
+    kept_of p b i lock = has_kept (at p) i (waits p) (agrees.holders p b i lock)
 
-    open_by : (p i : ℕ) → kept_at (at p) ≡ Some i → KeepsOpen c s.volume.log p i (kept_block (at p))
-    open_by p i has = keeps_open c s.volume.log s.table.inode_count p i (task s.tasks p).op (at p) has (agrees.stands p)
+    open_by : (p : ℕ) (g : Got) → IsOneOf g (kept_by (at p)) → KeepsOpen c s.volume.log p g
+    open_by p g has = keeps_open c s.volume.log s.table.inode_count p g (task s.tasks p).op (at p) has (agrees.stands p)
 
-    holds_one : (p i : ℕ) → (buffer c i).holder ≡ Some p → HoldsOne c s.volume.log (λ (q : ℕ). block_or_zero (kept_at (at q))) p i
-    holds_one p i held =
+    holds_few : (p i : ℕ) → (buffer c i).holder ≡ Some p → HoldsFew c s.volume.log (λ (q : ℕ). slots_of (kept_by (at q))) p i
+    holds_few p i held =
         let block = held_block p i held in
-        let kept = kept_by p block.0 i (record { holder = held; block = block.1 }) in
-        let is = open_by p i kept in
-        record { slot = ap block_or_zero kept; used = is.used; has = is.has }
+        let kept = kept_of p block.0 i (record { holder = held; block = block.1 }) in
+        let is = open_by p kept.0 kept.1 in
+        record { slot = subst (λ (j : ℕ). count_of j (slots_of (kept_by (at p))) ≢ 0) kept.2 (slot_counts (kept_by (at p)) kept.0 kept.1); used = is.used; has = is.has }
 
     left : victim c ≢ None
-    left = some_victim s.volume.log.commit (image s.volume.device) c s.volume.log joint (λ (q : ℕ). block_or_zero (kept_at (at q))) holds_one
+    left = some_victim s.volume.log.commit (image s.volume.device) c s.volume.log joint (λ (q : ℕ). slots_of (kept_by (at q))) (λ q. few_by (at q)) holds_few
 
     -- who keeps a block of addresses goes on
-    keeper_goes : (p i : ℕ) → kept_at (at p) ≡ Some i → cause_at c s.table (at p) ≡ None
-    keeper_goes p i has =
-        let w = kept_waits (current_of image s.volume) s.table s.tasks looks store.numbers c p i has (waits p) in
+    keeper_goes : (p : ℕ) (g : Got) → IsOneOf g (kept_by (at p)) → cause_at c s.table (at p) ≡ None
+    keeper_goes p g has =
+        let w = kept_waits (current_of image s.volume) s.table s.tasks looks store.numbers c p g has (waits p) in
         w.cause ∙ gets_now c w.block joint.cache (free w) left
       where
         free : (w : WaitsBehind (current_of image s.volume) s.table s.tasks looks store.numbers c p) → (q j : ℕ) → HasLock c q w.block j → ⊥
         free w q j lock =
-            let kept = kept_by q w.block j lock in
-            let same : Some w.block ≡ Some (kept_block (at q)) = sym lock.block ∙ (open_by q j kept).holds.block in
-            waits_apart (current_of image s.volume) s.table s.tasks looks store.numbers c p q w
-            (kept_own (current_of image s.volume) s.table s.tasks looks store.numbers q j kept (waits q)) (cc same)
+            let kept = kept_of q w.block j lock in
+            let same : Some w.block ≡ Some kept.0.block = sym lock.block ∙ ap (λ (i : ℕ). (buffer c i).block) (sym kept.2) ∙ (open_by q kept.0 kept.1).holds.block in
+            waits_apart (current_of image s.volume) s.table s.tasks looks store.numbers c p q kept.0 w kept.1
+            (kept_own (current_of image s.volume) s.table s.tasks looks store.numbers q kept.0 kept.1 (waits q)) (cc same)
 
     -- where nobody keeps one, who gets a block goes on
-    getter_goes : ((q : ℕ) → is_some (kept_at (at q)) ≡ false) → (p : ℕ) → is_getting (at p) ≡ true → cause_at c s.table (at p) ≡ None
+    getter_goes : ((q : ℕ) → keeps (at q) ≡ false) → (p : ℕ) → is_getting (at p) ≡ true → cause_at c s.table (at p) ≡ None
     getter_goes none p is =
         let w = getting_waits c s.table (at p) (waits p) is in
         w.1 ∙ gets_now c w.0 joint.cache (free w.0) left
       where
         free : (b q j : ℕ) → HasLock c q b j → ⊥
-        free b q j lock = both_ways _ (none q) (ap is_some (kept_by q b j lock))
+        free b q j lock = let kept = kept_of q b j lock in none_in (kept_by (at q)) kept.0 (none q) kept.1
 
     -- and where nobody gets one, who waits for a lock goes on
     locker_goes : ((q : ℕ) → is_getting (at q) ≡ false) → (p : ℕ) → is_over (at p) ≡ false → cause_at c s.table (at p) ≡ None
@@ -158,7 +168,7 @@ module _ {D : Type 0} (image : D → Image) (s : StoreState D) (store : IsStore 
             let has = looks.table.holders q k e in
             absurd (both_ways _ (none q) (locked_gets (at q) (asked_by (task s.tasks q).op) k has.0 (sym (grip_is s.tasks q) ∙ has.1)))
 
-    by_lock : (p : ℕ) → is_over (at p) ≡ false → ((q : ℕ) → is_some (kept_at (at q)) ≡ false) → SomeoneGoesOn s
+    by_lock : (p : ℕ) → is_over (at p) ≡ false → ((q : ℕ) → keeps (at q) ≡ false) → SomeoneGoesOn s
     by_lock p busy none = elim (some_task is_getting refl) [
       | inl found ↦ record { process = found.0; busy = passes_busy is_getting refl (at found.0) found.1; goes = getter_goes none found.0 found.1 }
       | inr all ↦ record { process = p; busy = busy; goes = locker_goes all p busy }
@@ -167,8 +177,8 @@ module _ {D : Type 0} (image : D → Image) (s : StoreState D) (store : IsStore 
     by_keeper : (p : ℕ) → is_over (at p) ≡ false → SomeoneGoesOn s
     by_keeper p busy = elim (some_task keeps refl) [
       | inl found ↦
-          let slot = slot_in (kept_at (at found.0)) found.1 in
-          record { process = found.0; busy = passes_busy keeps refl (at found.0) found.1; goes = keeper_goes found.0 slot.0 slot.1 }
+          let one = one_in (kept_by (at found.0)) found.1 in
+          record { process = found.0; busy = passes_busy keeps refl (at found.0) found.1; goes = keeper_goes found.0 one.0 one.1 }
       | inr none ↦ by_lock p busy none
     ]
 

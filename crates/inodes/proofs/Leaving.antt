@@ -37,7 +37,7 @@ use Rattle.inodes.proofs.Gripping.{grip_is}
 use Rattle.inodes.proofs.Looking.{Looked, Stepped, files_same, stepped_looked, store_stepped, steps_stepped}
 use Rattle.inodes.specs.Holding.{claim_by, claims_of, claim_of}
 use Rattle.inodes.proofs.Taking.{none_of_zero}
-use Rattle.inodes.proofs.Unclaimed.{unclaimed}
+use Rattle.inodes.specs.Lemmas.Unclaimed.{unclaimed}
 use Rattle.loose.specs.Held.{FitsHeld}
 
 -- a task that is over, without bytes
@@ -72,6 +72,7 @@ module _ {D N : Type 0} (disk : Ghosts D N) (s : StoreState D) (p k : ℕ) (is :
       tasks = tasks;
       op = refl;
       count = refl;
+      form = refl;
       reads = reads_none disk s (store_left ts) refl well r fine;
       shown = refl;
       alone = λ q j apart locks. none_of_zero cur s.table s.tasks looking q j locks;
@@ -82,6 +83,7 @@ module _ {D N : Type 0} (disk : Ghosts D N) (s : StoreState D) (p k : ℕ) (is :
         stands = tt;
         table = kept_by_leave s.table (grips_of s.tasks) cur p k (asked_by (task s.tasks p).op) looking.table has;
         looks = tt;
+        logged = tt;
       };
     }
 
@@ -159,7 +161,7 @@ module _ {D N : Type 0} (disk : Ghosts D N) (s : StoreState D) (p k : ℕ) (is :
       steps_delivered op is_op = steps_stepped disk s p 0 op answer (store_left ts) (finished (task s.tasks p)) is well inside (delivered op is_op)
           (subst (λ (a : Place). Goes disk a s p op answer (store_left ts)) (sym stood) (record { bytes = bytes; had = had; gives = refl; up = gives_up answer ts tasks refl free_delivering holds_delivering has_delivering }))
           (no_wait answer ts tasks refl free_delivering holds_delivering has_delivering refl) (λ q other reads. tt)
-          (λ made going. subst (λ (a : Place). 0 < steps_left a s.table.inode_count) (sym stood) (omega arith))
+          (λ made going. subst (λ (a : Place). 0 < steps_left cur a s.table.inode_count) (sym stood) (omega arith))
 
   -- an operation that was answered is over
   module _ (stood : (task s.tasks p).place ≡ place.Leaving k) where
@@ -187,4 +189,4 @@ module _ {D N : Type 0} (disk : Ghosts D N) (s : StoreState D) (p k : ℕ) (is :
       steps_over op = steps_stepped disk s p 0 op progress.Over (store_left ts) (finished (task s.tasks p)) is well inside (over op)
           (subst (λ (a : Place). Goes disk a s p op progress.Over (store_left ts)) (sym stood) (refl, gives_up progress.Over ts tasks refl free_leaving holds_leaving has_leaving))
           (no_wait progress.Over ts tasks refl free_leaving holds_leaving has_leaving refl) (λ q other reads. tt)
-          (λ made going. subst (λ (a : Place). 0 < steps_left a s.table.inode_count) (sym stood) (omega arith))
+          (λ made going. subst (λ (a : Place). 0 < steps_left cur a s.table.inode_count) (sym stood) (omega arith))

@@ -1,9 +1,12 @@
 pub mod LookLemmas
 pub mod ReadLemmas
 pub mod Frames
+pub mod Present
 mod Agreeing
+mod Routes
+mod WriteNodes
 mod Gripping
-mod Unclaimed
+mod InHand
 mod LooksKept
 mod TruncNext
 mod TruncSlots
@@ -33,6 +36,9 @@ mod WriteLogged
 mod Writing
 mod WriteMoves
 mod WriteTakes
+mod WriteAny
+mod WriteBlocks
+mod WriteEntries
 mod WriteDoes
 mod WriteEnds
 mod FreePlaces

@@ -31,13 +31,13 @@ use Rattle.inodes.specs.Looks.{AreLooking, HasFiles, LooksAt, IsTaking, IsAtRead
 use Rattle.inodes.specs.Holding.{IsTruncating, claims_of, claim_of}
 use Rattle.inodes.specs.Places.{HasSlot, asked_by, grip_by, grip_of, grips_of, is_over, steps_left}
 use Rattle.inodes.specs.Steps.{Steps, Waits, Reads, LeavesLate, is_made}
-use Rattle.inodes.specs.Store.{StoreState, IsStore, FitsFiles, Agrees, Stands, current_of}
+use Rattle.inodes.specs.Store.{StoreState, IsStore, FitsFiles, Agrees, HaveLogged, LoggedAt, Stands, current_of}
 use Rattle.inodes.specs.Table.{copy_at}
 use Rattle.inodes.specs.Tasks.{TaskState, task, no_task}
 use Rattle.inodes.proofs.Agreeing.{agrees_now}
 use Rattle.inodes.proofs.Gripping.{grip_is, grips_set}
-use Rattle.inodes.proofs.Frames.{marks_same}
-use Rattle.inodes.proofs.LooksKept.{KeepsUsed, keeps_same, stands_still}
+use Rattle.inodes.proofs.Frames.{form_same, marks_same}
+use Rattle.inodes.proofs.LooksKept.{KeepsUsed, keeps_same, logged_still, stands_still}
 use Rattle.inodes.proofs.Shares.{shares}
 use Rattle.inodes.specs.Writing.{IsWriting}
 
@@ -48,12 +48,14 @@ pub record IsNow {D : Type 0} (image : D → Image) (s t : StoreState D) (p : �
   pub stands : Stands t.volume.buffers t.volume.log s.table.inode_count p u.op u.place
   pub table : KeepsTable s.table t.table p (grips_of s.tasks) (with_grip (grips_of s.tasks) p (grip_of u)) (current_of image t.volume)
   pub looks : LooksAt (current_of image t.volume) t.table u u.place
+  pub logged : LoggedAt (current_of image t.volume) t.volume.log p u.place
 
 -- A step of process p, which has to do with number i, left its task as u.
 pub record Stepped {D N : Type 0} (disk : Ghosts D N) (s : StoreState D) (p i : ℕ) (its : Op) (r : TaskProgress) (t : StoreState D) (u : TaskState) : Type 0 where
   pub tasks : t.tasks ≡ set s.tasks p u
   pub op : u.op ≡ (task s.tasks p).op
   pub count : t.table.inode_count ≡ s.table.inode_count
+  pub form : t.table.form ≡ s.table.form
   pub numbers : inode_count_of (current_of disk.image t.volume) ≡ inode_count_of (current_of disk.image s.volume)
   pub reads : Reads disk s r t
   pub groups : SameGroups s.volume.log t.volume.log
@@ -70,6 +72,7 @@ pub record Looked {D N : Type 0} (disk : Ghosts D N) (s : StoreState D) (p i : �
   pub tasks : t.tasks ≡ set s.tasks p u
   pub op : u.op ≡ (task s.tasks p).op
   pub count : t.table.inode_count ≡ s.table.inode_count
+  pub form : t.table.form ≡ s.table.form
   pub reads : Reads disk s r t
   pub shown : ShowsSame disk.image s t
   pub alone : (q k : ℕ) → q ≢ p → grip_of (task s.tasks q) ≡ Some (locked_grip k i) → ⊥
@@ -149,6 +152,31 @@ module _ {D N : Type 0} (disk : Ghosts D N) (s : StoreState D) (p i : ℕ) (op :
         let then = files_then (FitsFiles disk.image t) (form_of cur) op r were.files.0 (stepped.files were.files.0 (of_fits disk.image s were.files.0 were.files.1)) in
         (then.0, fits_of disk.image t then.0 then.1)
 
+    same_form : form_of new ≡ form_of cur
+    same_form = form_same cur new stepped.marks.untouched.super
+
+    -- what they logged counts still
+    logged_other : IsNow disk.image s t p u → (q : ℕ) (a : Place) → q ≢ p → (task s.tasks q).place ≡ a → LooksAt cur s.table (task s.tasks q) a
+        → LoggedAt cur s.volume.log q a → LoggedAt new t.volume.log q a
+    logged_other now q place.Nowhere apart at looks had = tt
+    logged_other now q (place.Creating m) apart at looks had = tt
+    logged_other now q (place.Taking m) apart at looks had = tt
+    logged_other now q (place.Reading k m) apart at looks had = tt
+    logged_other now q (place.Delivering k) apart at looks had = tt
+    logged_other now q (place.Truncating k m) apart at looks had = tt
+    logged_other now q (place.Writing k m) apart at looks had =
+        logged_still cur new s.table s.tasks i were is.numbers stepped.keeps q k m (λ j. stepped.alone q j apart) at looks
+        s.volume.log t.volume.log now.others.among (now.others.used q apart) had
+    logged_other now q (place.Leaving k) apart at looks had = tt
+
+    logged_then : IsNow disk.image s t p u → HaveLogged new t.volume.log (set s.tasks p u)
+    logged_then now = λ q. ⊎_elim
+        (λ (same : q ≡ p). subst (λ (r : ℕ). LoggedAt new t.volume.log r (task (set s.tasks p u) r).place) (sym same)
+        (subst (λ (v : TaskState). LoggedAt new t.volume.log p v.place) (sym mine) now.logged))
+        (λ (apart : q ≢ p). subst (λ (v : TaskState). LoggedAt new t.volume.log q v.place) (sym (theirs q apart))
+        (logged_other now q (task s.tasks q).place apart refl (were.stand q) (where_none s.volume.fault well is.logged q)))
+        (cases_eq q p)
+
     looking_then : IsNow disk.image s t p u → AreLooking new t.table (set s.tasks p u)
     looking_then now = record {
       files = subst (λ (ts : List TaskState). HasFiles new (claims_of ts)) stepped.tasks held_then;
@@ -167,8 +195,10 @@ module _ {D N : Type 0} (disk : Ghosts D N) (s : StoreState D) (p i : ℕ) (op :
       few = let size = ap length stepped.tasks ∙ length-set s.tasks p u in let few = is.few in omega (arith, size, few);
       geometry = held_then.1.geometry;
       numbers = stepped.count ∙ is.numbers ∙ sym stepped.numbers;
+      form = stepped.form ∙ is.form ∙ sym same_form;
       agrees = by_fault (fault_of_task r) refl;
       looks = looks_by (fault_of_task r) refl;
+      logged = logged_by (fault_of_task r) refl;
     }
       where
         by_fault : (o : Option DeviceFault) → fault_of_task r ≡ o → IfNone t.volume.fault (Agrees t.volume.buffers t.volume.log t.table.inode_count t.tasks)
@@ -180,9 +210,13 @@ module _ {D N : Type 0} (disk : Ghosts D N) (s : StoreState D) (p i : ℕ) (op :
         looks_by None e = if_none t.volume.fault (subst (λ (ts : List TaskState). AreLooking new t.table ts) (sym stepped.tasks) (looking_then (stepped.now e)))
         looks_by (Some f) e = if_some (AreLooking new t.table t.tasks) t.volume.fault f (stepped.reads.fault ∙ e)
 
+        logged_by : (o : Option DeviceFault) → fault_of_task r ≡ o → IfNone t.volume.fault (HaveLogged new t.volume.log t.tasks)
+        logged_by None e = if_none t.volume.fault (subst (λ (ts : List TaskState). HaveLogged new t.volume.log ts) (sym stepped.tasks) (logged_then (stepped.now e)))
+        logged_by (Some f) e = if_some (HaveLogged new t.volume.log t.tasks) t.volume.fault f (stepped.reads.fault ∙ e)
+
     -- THE STEP
     pub steps_stepped : Goes disk (task s.tasks p).place s p op r t → Waits s p r t → LeavesLate s p op r
-        → (is_made r ≡ true → is_over (task s.tasks p).place ≡ false → steps_left u.place s.table.inode_count < steps_left (task s.tasks p).place s.table.inode_count)
+        → (is_made r ≡ true → is_over (task s.tasks p).place ≡ false → steps_left new u.place s.table.inode_count < steps_left cur (task s.tasks p).place s.table.inode_count)
         → Steps disk s p op r t
     steps_stepped goes waits apart falls = record {
       files = stepped.files;
@@ -192,6 +226,7 @@ module _ {D N : Type 0} (disk : Ghosts D N) (s : StoreState D) (p i : ℕ) (op :
         others = λ q other. ap (λ (ts : List TaskState). task ts q) stepped.tasks ∙ theirs q other;
         many = ap length stepped.tasks ∙ length-set s.tasks p u;
         numbers = stepped.count;
+        form = stepped.form;
       };
       groups = stepped.groups;
       marks = stepped.marks;
@@ -199,7 +234,7 @@ module _ {D N : Type 0} (disk : Ghosts D N) (s : StoreState D) (p i : ℕ) (op :
       reads = stepped.reads;
       apart = apart;
       shares = shares disk.image s t p i u were is.numbers stepped.tasks stepped.alone stepped.claims stepped.keeps;
-      falls = λ made going. subst (λ (v : TaskState). steps_left v.place s.table.inode_count < steps_left (task s.tasks p).place s.table.inode_count)
+      falls = λ made going. subst (λ (v : TaskState). steps_left new v.place s.table.inode_count < steps_left cur (task s.tasks p).place s.table.inode_count)
           (sym (ap (λ (ts : List TaskState). task ts p) stepped.tasks ∙ mine)) (falls made going);
     }
 
@@ -228,6 +263,7 @@ module _ {D N : Type 0} (disk : Ghosts D N) (s : StoreState D) (p i : ℕ) (op :
       tasks = looked.tasks;
       op = looked.op;
       count = looked.count;
+      form = looked.form;
       numbers = ap inode_count_of same_current;
       reads = looked.reads;
       groups = subst (λ (l : LogState). SameGroups s.volume.log l) (sym same_log) (groups_same s.volume.log);

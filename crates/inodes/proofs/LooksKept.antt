@@ -1,45 +1,58 @@
 -- What is true of operations that look at a file stays, whatever the others do.
-use Rattle.std.proofs.Common.{◌≡◌, ◌≢◌, ℕ, zero, suc, ◌-◌, ◌/◌, ◌≤◌, ◌<◌, ltb, List, ◌∷◌, length, set, replicate, refl, sym, ◌∙◌, ap, subst, ⊎_elim, arith, Option, Some, None}
+use Rattle.std.proofs.Common.{◌≡◌, ◌≢◌, ℕ, zero, suc, ◌+◌, ◌-◌, ◌*◌, ◌/◌, ◌≤◌, ◌<◌, true, ltb, List, [], ◌∷◌, length, set, replicate, refl, sym, ◌∙◌, ap, subst, ⊎_elim, arith, Option, Some, None}
 use Rattle.std.specs.Prelude.{IsTrue, slice_index}
 use Rattle.std.proofs.lemmas.Bool.{cases_eq, ltb-true}
 use Rattle.std.proofs.lemmas.List.{length-set, get_or-set_same, get_or-set_other, length-set}
 use Rattle.blocks.specs.Disk.{Image, block_at}
 use Rattle.model.specs.declared.types.image.Dinode.{Dinode}
+use Rattle.model.specs.declared.types.image.Form.{Form}
 use Rattle.model.specs.declared.types.operations.Op.{Op}
 use Rattle.model.specs.declared.types.operations.Op.TheVariants.{Create, Write, Read, Trunc, Remove, Stat}
 use Rattle.model.specs.Agreement.{IsSameOutsideLog}
 use Rattle.model.specs.Codec.{IsDinode, new_inode, with_inode, with_inode_bytes, without_bit}
-use Rattle.model.specs.Fields.{words_of}
 use Rattle.model.specs.Files.{Files, bytes_in, file_in}
 use Rattle.model.specs.Journal.{is_number}
-use Rattle.model.specs.Layout.{inode_block, inode_count_of, inode_of, super_of}
+use Rattle.model.specs.Layout.{depths, form_of, inode_block, inode_count_of, inode_of, super_of}
+use Rattle.model.specs.Names.{names_along}
 use Rattle.model.specs.Operations.{is_kind, part_of}
+use Rattle.model.specs.Soundness.{count_of}
 use Rattle.model.specs.Places.{address_in}
 use Rattle.model.specs.Lemmas.Inodes.{IsPlaced, inode_of-with_inode_other}
 use Rattle.model.specs.Lemmas.Log.{both_of}
 use Rattle.loose.specs.Claims.{HasClaimed}
-use Rattle.loose.specs.Held.{Held, Claims, FitsHeld, IsClaimedNow, last_inode, unmarked, frees, Claim, grows}
+use Rattle.model.specs.Soundness.{count_of}
+use Rattle.loose.specs.Held.{Held, Claims, FitsHeld, Growth, IsClaimedNow, last_inode, unmarked, frees, Claim, grows, names_claimed}
+use Rattle.loose.specs.Lemmas.BlocksTaken.{taken_owned}
+use Rattle.loose.specs.Lemmas.KeptTrees.{SameInside}
+use Rattle.wal.specs.Machine.{LogState, is_among, used_by}
+use Rattle.blockmap.specs.Lemmas.Branches.{same_keeps}
+use Rattle.blockmap.specs.Branch.{branch_of}
 use Rattle.loose.specs.HeldLaws.{FitsThen, HasSameFile, IsHeldIn, StaysHeld}
 use Rattle.loose.specs.Loose.{Fits}
 use Rattle.loose.specs.Lemmas.AtRest.{fits_at_rest}
 use Rattle.loose.specs.Lemmas.Claims.{IsApart, apart as apart_from}
-use Rattle.loose.specs.Lemmas.GivenUp.{held_of as is_held}
-use Rattle.loose.specs.Lemmas.HeldFrames.{held_alike, stays_same}
+use Rattle.loose.specs.Lemmas.Apart.{named_held}
+use Rattle.loose.specs.Lemmas.GivenUp.{first_left, held_of as is_held}
+use Rattle.loose.specs.Lemmas.HeldFrames.{held_alike, stays_same, whole_names}
+use Rattle.loose.specs.Lemmas.LeftOnWays.{ahead_of}
+use Rattle.loose.specs.Lemmas.Ways.{ahead_root}
+use Rattle.loose.specs.Trees.{names_left}
 use Rattle.loose.specs.Lemmas.HeldLooks.{free_tells}
 use Rattle.loose.specs.Lemmas.HeldOutsideLog.{held_outside}
 use Rattle.loose.specs.Lemmas.Looks.{between}
 use Rattle.loose.specs.Lemmas.OutsideLog.{inode_outside}
 use Rattle.loose.specs.Lemmas.WriteBacks.{claim_fits, last_fields, write_back_rests}
-use Rattle.blockmap.specs.declared.target.Target.{Target}
-use Rattle.blockmap.specs.declared.target.Target.TheVariants as target
+use Rattle.blockmap.specs.Lemmas.Resting.{resting_may_be_read}
+use Rattle.blockmap.specs.Lemmas.Targets.{leads_still, needed_within}
+use Rattle.blockmap.specs.Reading.{MayRead}
 use Rattle.inodes.specs.declared.itrunc.TruncAt.{TruncAt}
 use Rattle.inodes.specs.declared.itrunc.TruncAt.TheVariants as trunc_at
 use Rattle.inodes.specs.declared.tasks.Place.{Place}
 use Rattle.inodes.specs.declared.tasks.Place.TheVariants as place
 use Rattle.inodes.specs.Grips.{Grip, KeepsUsedInodes, TableIs, grip, locked_grip}
-use Rattle.inodes.specs.Holding.{HasGivenUp, claim_by, claims_of, held_of, claim_of}
-use Rattle.inodes.specs.Itrunc.{Freeing, entries_in}
-use Rattle.inodes.specs.Looks.{AreLooking, HasFiles, LeadsToBlock, LooksAt}
+use Rattle.inodes.specs.Holding.{HasGivenUp, IsInHand, Keeps, claim_by, claims_of, hand_in, held_of, claim_of, root_of, way_of}
+use Rattle.inodes.specs.Itrunc.{Freeing}
+use Rattle.inodes.specs.Looks.{AreLooking, HasFiles, LooksAt}
 use Rattle.inodes.specs.Places.{asked_by, grip_by, grip_of, grips_of}
 use Rattle.inodes.specs.Store.{CanBegin, first_place}
 use Rattle.inodes.specs.Table.{TableState, copy_at, new_table}
@@ -47,12 +60,20 @@ use Rattle.inodes.specs.Tasks.{TaskState, task, no_task}
 use Rattle.inodes.specs.Lemmas.Grips.{is_table_at_opening, kept_by_image}
 use Rattle.inodes.specs.Lemmas.Holding.{claim_stays, own_holds}
 use Rattle.inodes.specs.Lemmas.Looks.{copy_is, trunc_names, write_locks}
+use Rattle.inodes.proofs.Frames.{form_same}
+use Rattle.inodes.proofs.InHand.{first_tree, given_kept, keeps_kept, root_there}
 use Rattle.inodes.proofs.Gripping.{grip_is, grips_same}
-use Rattle.inodes.proofs.Unclaimed.{own_claim, unclaimed, claim_locks, own_growth}
+use Rattle.inodes.specs.Lemmas.Unclaimed.{own_claim, unclaimed, claim_locks, own_growth}
 use Rattle.loose.specs.Lemmas.Remapped.{IsMapped, mapped, inode_same}
-use Rattle.inodes.specs.Growing.{growth_of, bytes_by}
-use Rattle.inodes.specs.Writing.{extent_of}
+use Rattle.inodes.specs.Growing.{growth_of, bytes_by, taken_by}
+use Rattle.inodes.specs.Writing.{HasLoggedWrite, IsWriting, at_hand, extent_of}
+use Rattle.inodes.specs.declared.writei.Extent.{Extent}
+use Rattle.inodes.specs.Writei.{WriteState}
+use Rattle.inodes.proofs.Agreeing.{counts_more}
 use Rattle.inodes.proofs.WriteComes.{come_still}
+use Rattle.inodes.proofs.WriteLogged.{beside_grow}
+use Rattle.inodes.proofs.Routes.{KeepsTo}
+use Rattle.inodes.proofs.WriteNodes.{CountsOn, same_inside}
 
 -- ---- the current image is another one
 
@@ -60,6 +81,7 @@ use Rattle.inodes.proofs.WriteComes.{come_still}
 -- a task holds where one does.
 pub record KeepsUsed (n i : ℕ) (claims : Claims) (old new : Image) : Type 0 where
   pub size : length new ≡ length old
+  pub super : block_at new 1 ≡ block_at old 1
   pub inodes : KeepsUsedInodes n i old new
   pub contents : (j : ℕ) → IsTrue (is_number n j) → j ≢ i → (inode_of old j).kind ≢ 0 → claims j ≡ None → HasSameFile old new j
   pub held : (j : ℕ) (c : Claim) → IsTrue (is_number n j) → j ≢ i → claims j ≡ Some c → StaysHeld old new c
@@ -70,10 +92,15 @@ pub record KeepsUsed (n i : ℕ) (claims : Claims) (old new : Image) : Type 0 wh
 pub keeps_same : (n i : ℕ) (claims : Claims) (x : Image) → KeepsUsed n i claims x x
 keeps_same n i claims x = record {
   size = refl;
+  super = refl;
   inodes = λ j number apart used. refl;
-  contents = λ j number apart used none. record { inode = refl; addresses = λ k. refl; bytes = refl };
+  contents = λ j number apart used none. record { inode = refl; blocks = λ b some. refl; addresses = λ k. refl; bytes = refl };
   held = λ j c number apart holds. stays_same x c;
 }
+
+-- one with another block behind the log
+pub super_set : (x : Image) (b : ℕ) (bytes : List ℕ) → 33 ≤ b → block_at (set x b bytes) 1 ≡ block_at x 1
+super_set x b bytes behind = get_or-set_other x b 1 bytes [] (λ same. omega (arith, same, behind))
 
 -- a number is not 0
 some_number : (x : Image) (j : ℕ) → IsTrue (is_number (inode_count_of x) j) → j ≢ 0
@@ -83,6 +110,7 @@ some_number x j number none = let low = (between x j number).low in omega (arith
 pub keeps_outside : (files : Files) (x y : Image) (claims : Claims) (i : ℕ) → FitsHeld files x claims → IsSameOutsideLog x y → KeepsUsed (inode_count_of x) i claims x y
 keeps_outside files x y claims i fits same = record {
   size = same.size;
+  super = same.agree 1 refl;
   inodes = λ j number apart used. inode_outside x y j same.agree;
   contents = λ j number apart used none. (held_outside files x y claims same fits).others j (some_number x j number) none (number, used);
   held = λ j c number apart holds. (held_outside files x y claims same fits).held j c (some_number x j number) number holds;
@@ -93,6 +121,7 @@ pub keeps_claimed : (files : Files) (x : Image) (claims : Claims) (i kind : ℕ)
     → KeepsUsed (inode_count_of x) 0 claims x (with_inode x i (new_inode kind))
 keeps_claimed files x claims i kind fits number free is claimed = record {
   size = length-set x (inode_block i) (with_inode_bytes (block_at x (inode_block i)) i (new_inode kind));
+  super = super_set x (inode_block i) (with_inode_bytes (block_at x (inode_block i)) i (new_inode kind)) (omega arith);
   inodes = λ j names apart used. claimed.others j (other j used);
   contents = λ j names apart used none. (claim_fits files x claims i kind fits number (free_tells files x claims i fits (number, free)).0 free is).0.others j (other j used) none (names, used);
   held = λ j c names apart holds.
@@ -112,6 +141,7 @@ keeps_claimed files x claims i kind fits number free is claimed = record {
 pub keeps_freed : (files m : Files) (x : Image) (claims new : Claims) (i b : ℕ) → FitsHeld files x claims → FitsThen m x claims i (unmarked x b) new → KeepsUsed (inode_count_of x) i claims x (unmarked x b)
 keeps_freed files m x claims new i b fits then = record {
   size = length-set x (super_of x).bmapstart (without_bit (block_at x (super_of x).bmapstart) b);
+  super = super_set x (super_of x).bmapstart (without_bit (block_at x (super_of x).bmapstart) b) (let behind = map.behind in omega (arith, behind));
   inodes = λ j number apart used. inode_same x (without_bit (block_at x (super_of x).bmapstart) b) map j (apart_from x j fits.geometry (between x j number).high).before_map;
   contents = λ j number apart used none. then.others j apart none (number, used);
   held = λ j c number apart holds. then.held j c apart number holds;
@@ -124,6 +154,7 @@ keeps_freed files m x claims new i b fits then = record {
 pub keeps_written : (files : Files) (x : Image) (claims new : Claims) (i : ℕ) (h : Held) → IsHeldIn files x claims i (frees h) → h.copy.addrs ≡ replicate 13 0 → IsClaimedNow claims i None new → KeepsUsed (inode_count_of x) i claims x (with_inode x i (last_inode h))
 keeps_written files x claims new i h held bare now = record {
   size = length-set x (inode_block i) (with_inode_bytes (block_at x (inode_block i)) i (last_inode h));
+  super = super_set x (inode_block i) (with_inode_bytes (block_at x (inode_block i)) i (last_inode h)) (omega arith);
   inodes = λ j number apart used. inode_of-with_inode_other x i j (last_inode h) placed fields apart;
   contents = λ j number apart used none. (write_back_rests files x claims new i h held bare now).others j apart none (number, used);
   held = λ j c number apart holds. (write_back_rests files x claims new i h held bare now).held j c apart number holds;
@@ -140,9 +171,10 @@ keeps_written files x claims new i h held bare now = record {
 
 -- ---- what is true of tasks stays in an image that keeps what is used
 
--- an inode leads to the same blocks and bytes
+-- an inode leads to the same blocks and bytes, by the same blocks of addresses
 record LeadsSame (old new : Image) (d : Dinode) : Type 0 where
-  used : d.kind ≢ 0
+  may : MayRead old d
+  blocks : (b : ℕ) → 1 ≤ count_of b (names_along old (depths (form_of old)) d.addrs) → block_at new b ≡ block_at old b
   addresses : (k : ℕ) → address_in new d k ≡ address_in old d k
   bytes : bytes_in new d ≡ bytes_in old d
 
@@ -153,34 +185,92 @@ module _ (old new : Image) (t : TableState) (ts : List TaskState) (i : ℕ) (are
       let has : grip (grips_of ts) p ≡ Some (locked_grip k j) = grip_is ts p ∙ locked in
       let its = copy_is old t ts are p j k d has copy in
       let number = are.table.numbers j k (are.table.places p (locked_grip k j) has).1 in
-      let same = keeps.contents j number apart (λ free. its.1 (ap (λ (c : Dinode). c.kind) (sym its.0) ∙ free)) (unclaimed old t ts are p k j locked none) in
+      let used : (inode_of old j).kind ≢ 0 = λ free. its.1 (ap (λ (c : Dinode). c.kind) (sym its.0) ∙ free) in
+      let rests = unclaimed old t ts are p k j locked none in
+      let same = keeps.contents j number apart used rests in
+      let may = resting_may_be_read are.files.0 old (claims_of ts) j are.files.1 (subst (λ (n : ℕ). IsTrue (is_number n j)) numbers number, used) rests in
       record {
-        used = its.1;
+        may = subst (MayRead old) its.0 may;
+        blocks = λ b some. same.blocks b
+            (λ none. let is = ap (count_of b) (whole_names old (inode_of old j) used) in
+            let here = ap (λ (c : Dinode). count_of b (names_along old (depths (form_of old)) c.addrs)) its.0 in omega (arith, some, none, is, here));
         addresses = λ a. subst (λ (c : Dinode). address_in new c a ≡ address_in old c a) its.0 (same.addresses a);
         bytes = subst (λ (c : Dinode). bytes_in new c ≡ bytes_in old c) its.0 same.bytes;
       }
 
-  leads_still : (d : Dinode) (k : ℕ) (to : Target) → LeadsSame old new d → LeadsToBlock old d k to → LeadsToBlock new d k to
-  leads_still d k (target.Entry e) same leads = leads
-  leads_still d k (target.Block b slot) same leads = leads ∙ sym (same.addresses k)
+  form_still : form_of new ≡ form_of old
+  form_still = form_same old new keeps.super
 
-  -- the block of addresses that a task frees lies among the data
-  entries_still : (p k : ℕ) (m : Freeing) → ((k : ℕ) → grip_of (task ts p) ≡ Some (locked_grip k i) → ⊥) → (task ts p).place ≡ place.Truncating k m
-      → slice_index m.machine.inode.addrs 12 ≢ 0 → entries_in new m.machine ≡ entries_in old m.machine
-  entries_still p k m free at some =
-      let h = frees (held_of m.machine) in
-      let locked = claim_locks old t ts are p m.machine.number h (ap (λ (a : Place). claim_by (task ts p).op a m.machine.number) at ∙ own_holds k m) in
-      let apart : m.machine.number ≢ i = λ same. free locked.0 (locked.1 ∙ ap (λ (n : ℕ). Some (locked_grip locked.0 n)) same) in
-      ap words_of ((keeps.held m.machine.number h (trunc_names old t ts are p k m at) apart (own_claim old t ts are p k m at)).indirect some)
+  -- the blocks of addresses that a task frees stay
+  module _ (p k : ℕ) (m : Freeing) (free : (k : ℕ) → grip_of (task ts p) ≡ Some (locked_grip k i) → ⊥) (at : (task ts p).place ≡ place.Truncating k m) where
+    left_still : (b : ℕ) → 1 ≤ count_of b (names_left old m.machine.inode (held_of m.machine).cursor) → block_at new b ≡ block_at old b
+    left_still b some =
+        let h = frees (held_of m.machine) in
+        let locked = claim_locks old t ts are p m.machine.number h (ap (λ (a : Place). claim_by (task ts p).op a m.machine.number) at ∙ own_holds k m) in
+        let apart : m.machine.number ≢ i = λ same. free locked.0 (locked.1 ∙ ap (λ (n : ℕ). Some (locked_grip locked.0 n)) same) in
+        (keeps.held m.machine.number h (trunc_names old t ts are p k m at) apart (own_claim old t ts are p k m at)).blocks b (λ none. omega (arith, some, none))
 
-  given_still : (p k : ℕ) (m : Freeing) (a : TruncAt) → ((k : ℕ) → grip_of (task ts p) ≡ Some (locked_grip k i) → ⊥) → (task ts p).place ≡ place.Truncating k m → HasGivenUp old m.machine a → HasGivenUp new m.machine a
-  given_still p k m (trunc_at.Direct e) free at given = given
-  given_still p k m trunc_at.Loading free at given = given
-  given_still p k m trunc_at.Entry free at given =
-      (given.0, given.1, given.2, subst (λ (entries : List ℕ). slice_index entries m.machine.given_up ≢ 0) (sym (entries_still p k m free at given.2)) given.3)
-  given_still p k m trunc_at.Unloading free at given = given
-  given_still p k m trunc_at.Indirect free at given = given
-  given_still p k m trunc_at.Updating free at given = given
+    root_still : IsInHand old m.machine → block_at new (root_of m.machine) ≡ block_at old (root_of m.machine)
+    root_still h = left_still (root_of m.machine)
+        (first_left old m.machine.inode m.machine.slot (held_of m.machine).cursor [] (root_of m.machine) (first_tree old m.machine h) (omega arith) refl (root_there old m.machine h) (ahead_root (held_of m.machine).cursor))
+
+    hand_still : IsInHand old m.machine → block_at new (hand_in old m.machine) ≡ block_at old (hand_in old m.machine)
+    hand_still h = left_still (hand_in old m.machine)
+        (first_left old m.machine.inode m.machine.slot (held_of m.machine).cursor (way_of m.machine) (hand_in old m.machine) (first_tree old m.machine h) (let level = h.level in omega (arith, level)) refl h.there
+        (ahead_of (way_of m.machine) m.machine.given_up))
+
+    still : {a : TruncAt} → m.machine.at ≡ a → IsInHand old m.machine → HasGivenUp old m.machine a → Keeps old m.kept m.machine a → HasGivenUp new m.machine a × Keeps new m.kept m.machine a
+    still {a} is h given kept =
+        subst (λ (o : TruncAt). HasGivenUp old m.machine o → Keeps old m.kept m.machine o → HasGivenUp new m.machine o × Keeps new m.kept m.machine o) is
+        (λ (g : HasGivenUp old m.machine m.machine.at) (o : Keeps old m.kept m.machine m.machine.at).
+        (given_kept old new m.machine form_still (λ e upper. root_still h) (λ entry. hand_still h) g, keeps_kept old new m.machine form_still (λ e upper. root_still h) m.kept o))
+        given kept
+
+    -- so it has come as far, and keeps the same
+    come_as_far : (a : TruncAt) → m.machine.at ≡ a → HasGivenUp old m.machine a → Keeps old m.kept m.machine a → HasGivenUp new m.machine a × Keeps new m.kept m.machine a
+    come_as_far trunc_at.Direct is given kept = (given, record { inner = kept.inner; outer = kept.outer })
+    come_as_far (trunc_at.Loading b) is given kept = still is given.0 given kept
+    come_as_far trunc_at.Entry is given kept = still is given.hand given kept
+    come_as_far trunc_at.Unloading is given kept = still is given.0 given kept
+    come_as_far trunc_at.Freeing is given kept = still is given.0 given kept
+    come_as_far trunc_at.Updating is given kept = (given, record { inner = kept.inner; outer = kept.outer })
+
+  -- a task that writes holds what it held, and its copy leads on as it did
+  module _ (p k : ℕ) (m : WriteState) (free : (k : ℕ) → grip_of (task ts p) ≡ Some (locked_grip k i) → ⊥) (at : (task ts p).place ≡ place.Writing k m) (writes : IsWriting old t.inode_count (task ts p) m) where
+    abbrev g : Growth
+    g = growth_of m (bytes_by (task ts p).op)
+
+    held : IsHeldIn are.files.0 old (claims_of ts) m.number (grows g)
+    held = record {
+      fits = are.files.1;
+      number = subst (λ (n : ℕ). IsTrue (is_number n m.number)) numbers writes.number;
+      holds = own_growth old t ts are p k m at;
+    }
+
+    its : StaysHeld old new (grows g)
+    its = keeps.held m.number (grows g) writes.number (λ same. free k (write_locks old t ts are p k m at ∙ ap (λ (n : ℕ). Some (locked_grip k n)) same)) (own_growth old t ts are p k m at)
+
+    ways_same : (j : ℕ) → SameInside old new (branch_of m.extent.form j).depth (slice_index m.inode.addrs (branch_of m.extent.form j).index)
+    ways_same = same_inside are.files.0 old (claims_of ts) m.number g held new (λ n some. its.blocks n (named_held are.files.0 old (claims_of ts) m.number g held n some))
+        m.extent.form (ap (λ (e : Extent). e.form) writes.extent)
+
+    taken_same : (c : ℕ) → taken_by m.at ≡ Some c → block_at new c ≡ block_at old c
+    taken_same c taken = its.blocks c (λ none.
+        let owns = subst (λ (o : Option Claim). 1 ≤ count_of c (names_claimed old m.number o)) held.holds (taken_owned are.files.0 old (claims_of ts) m.number c g held taken).0 in
+        omega (arith, owns, none))
+
+    -- and what it logged counts still
+    pub logged_still : (l h : LogState) → ((b : ℕ) → is_among b l.homes ≡ true → is_among b h.homes ≡ true) → used_by h p ≡ used_by l p → HasLoggedWrite old l p m → HasLoggedWrite new h p m
+    logged_still l h among same had homes used =
+        let on : CountsOn l h = λ b. counts_more l h b (among b) in
+        let leads : (j : ℕ) → KeepsTo old new m.inode m.inode (branch_of m.extent.form j) = λ j. record {
+          address = λ some. refl;
+          behind = same_keeps old new (branch_of m.extent.form j).depth (slice_index m.inode.addrs (branch_of m.extent.form j).index) (ways_same j);
+        } in
+        let few = had homes (sym same ∙ used) in
+        let more = beside_grow old new l h on m m.inode (record { first = leads (m.offset / 1024); last = leads ((m.offset + m.count - 1) / 1024) }) in
+        let hand = on (at_hand m.at) in
+        omega (arith, few, more, hand)
 
   -- of a task that has not locked number i
   pub stands_still : (p : ℕ) (a : Place) → ((k : ℕ) → grip_of (task ts p) ≡ Some (locked_grip k i) → ⊥) → (task ts p).place ≡ a → LooksAt old t (task ts p) a → LooksAt new t (task ts p) a
@@ -192,16 +282,18 @@ module _ (old new : Image) (t : TableState) (ts : List TaskState) (i : ℕ) (are
       let locked : grip_of (task ts p) ≡ Some (locked_grip k j) = ap (λ (a : Place). grip_by a j) at in
       let same = copy_keeps p j k m.inode (λ one. free k (locked ∙ ap (λ (n : ℕ). Some (locked_grip k n)) one)) locked (ap (λ (a : Place). claim_by (task ts p).op a j) at) stands.copy in
       let read = stands.read in
+      let needed : m.next / 1024 * 1024 < m.inode.size = let some = read.some in let end = read.end in omega (arith, some, end) in
       record {
         op = stands.op;
         copy = stands.copy;
         read = record {
+          form = read.form ∙ sym form_still;
           begun = read.begun;
           some = read.some;
           end = read.end;
           bytes = read.bytes ∙ ap (λ (file : List ℕ). part_of file stands.op.offset (m.next - stands.op.offset)) (sym same.bytes);
           room = read.room;
-          leads = leads_still m.inode (m.next / 1024) m.target same read.leads;
+          leads = leads_still old new m.inode (m.next / 1024) (needed_within old m.inode (m.next / 1024) same.may.fit needed) same.blocks form_still same.addresses m.target read.leads;
         };
       }
   stands_still p (place.Delivering k) free at stands =
@@ -214,28 +306,28 @@ module _ (old new : Image) (t : TableState) (ts : List TaskState) (i : ℕ) (are
         copy = stands.copy;
         bytes = stands.bytes ∙ ap (λ (file : List ℕ). part_of file stands.op.offset stands.op.count) (sym same.bytes);
       }
-  stands_still p (place.Truncating k m) free at stands = record {
-    op = stands.op;
-    number = stands.number;
-    bitmap = stands.bitmap;
-    given = given_still p k m m.machine.at free at stands.given;
-    keeps = stands.keeps;
-  }
-  stands_still p (place.Writing k m) free at stands =
-      let locked = write_locks old t ts are p k m at in
-      let apart : m.number ≢ i = λ same. free k (locked ∙ ap (λ (n : ℕ). Some (locked_grip k n)) same) in
-      let its = keeps.held m.number (grows (growth_of m (bytes_by (task ts p).op))) stands.number apart (own_growth old t ts are p k m at) in
+  stands_still p (place.Truncating k m) free at stands =
+      let far = come_as_far p k m free at m.machine.at refl stands.given stands.keeps in
       record {
-        bytes = stands.bytes;
         op = stands.op;
         number = stands.number;
-        few = stands.few;
-        all = stands.all;
-        done = stands.done;
-        fits = stands.fits;
-        extent = stands.extent ∙ ap (extent_of t.inode_count) (sym keeps.size);
-        come = come_still old new m its.indirect its.grown.0 m.at stands.come;
+        bitmap = stands.bitmap;
+        form = stands.form ∙ sym form_still;
+        slot = stands.slot;
+        given = far.0;
+        keeps = far.1;
       }
+  stands_still p (place.Writing k m) free at stands = record {
+    bytes = stands.bytes;
+    op = stands.op;
+    number = stands.number;
+    few = stands.few;
+    all = stands.all;
+    done = stands.done;
+    fits = stands.fits;
+    extent = stands.extent ∙ ap (extent_of (form_of old) t.inode_count) (sym keeps.size) ∙ ap (λ (f : Form). extent_of f t.inode_count (length new)) (sym form_still);
+    come = come_still old new m (ways_same p k m free at stands) (its p k m free at stands).grown.0 m.at (taken_same p k m free at stands) stands.come;
+  }
   stands_still p (place.Leaving k) free at stands = stands
 
 -- where all used inodes stay
@@ -318,9 +410,9 @@ none_claimed (suc k) i = none_claimed k i
 pub held_opened : (files : Files) (cur : Image) (k : ℕ) → Fits files cur → FitsHeld files cur (claims_of (replicate k no_task))
 held_opened files cur k fits = (fits_at_rest files cur (claims_of (replicate k no_task)) (λ i low high. none_claimed k i)).0 fits
 
-pub looks_opened : (files : Files) (cur : Image) (n k : ℕ) → Fits files cur → k ≤ 32 → AreLooking cur (new_table n) (replicate k no_task)
-looks_opened files cur n k fits few = record {
+pub looks_opened : (form : Form) (files : Files) (cur : Image) (n k : ℕ) → Fits files cur → k ≤ 32 → AreLooking cur (new_table form n) (replicate k no_task)
+looks_opened form files cur n k fits few = record {
   files = (files, held_opened files cur k fits);
-  table = subst (λ (gs : List (Option Grip)). TableIs (new_table n) gs cur) (sym (no_grips k)) (is_table_at_opening n k cur few);
-  stand = λ p. subst (λ (t : TaskState). LooksAt cur (new_table n) t t.place) (sym (none_at k p)) tt;
+  table = subst (λ (gs : List (Option Grip)). TableIs (new_table form n) gs cur) (sym (no_grips k)) (is_table_at_opening form n k cur few);
+  stand = λ p. subst (λ (t : TaskState). LooksAt cur (new_table form n) t t.place) (sym (none_at k p)) tt;
 }

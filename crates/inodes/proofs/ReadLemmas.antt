@@ -1,13 +1,15 @@
 -- What a step of a reading makes of it.
-use Rattle.std.proofs.Common.{◌≡◌, ◌≢◌, ℕ, ◌+◌, ◌-◌, ◌*◌, ◌/◌, ◌%◌, ◌<◌, ◌≤◌, ◌++◌, List, length, min, refl, sym, ap, subst, ◌∙◌, ⊎_elim, Option, Some, None, arith}
-use Rattle.std.proofs.lemmas.Bool.{cases_eq, cases_lt, eq-eqb, ne_eqb, le-ltb, lt-ltb}
-use Rattle.std.specs.Prelude.{slice_index, IfNone}
+use Rattle.std.proofs.Common.{◌≡◌, ◌≢◌, ℕ, ◌+◌, ◌-◌, ◌*◌, ◌/◌, ◌%◌, ◌<◌, ◌≤◌, ◌++◌, List, length, min, refl, sym, ap, subst, ◌∙◌, Option, Some, None, false, arith}
+use Rattle.std.proofs.lemmas.Bool.{eq-eqb, ne_eqb}
+use Rattle.std.proofs.lemmas.List.{append-nil}
+use Rattle.std.specs.Prelude.{IfNone}
 use Rattle.blocks.specs.Disk.{Image}
 use Rattle.blocks.specs.declared.disk.Disk.{Ghosts}
 use Rattle.model.specs.declared.types.image.Dinode.{Dinode}
+use Rattle.model.specs.declared.types.image.Form.{Form}
 use Rattle.model.specs.Files.{bytes_in}
 use Rattle.model.specs.Gathered.{GatheredBytes, gathered_with}
-use Rattle.model.specs.Layout.{form_of, greatest_size}
+use Rattle.model.specs.Layout.{form_of}
 use Rattle.model.specs.Operations.{part_of}
 use Rattle.model.specs.Places.{address_in}
 use Rattle.bcache.specs.Buffers.{buffer}
@@ -15,10 +17,11 @@ use Rattle.bcache.specs.Lemmas.Current.{length-current}
 use Rattle.wal.specs.Joint.{Joint, seen}
 use Rattle.wal.specs.Volume.{VolumeState, Holds}
 use Rattle.driver.specs.Getting.{HoldsWhereGot, Releases}
-use Rattle.blockmap.specs.Lemmas.Addresses.{address_or_zero_of}
 use Rattle.blockmap.specs.Lemmas.Reading.{length-bytes, length-part, part_in_block}
+use Rattle.blockmap.specs.Lemmas.Seeking.{SeeksOn, seeks_on}
+use Rattle.blockmap.specs.Lemmas.Targets.{few_at, leads_for, needed_within, steps_enough, steps_grow, steps_more}
 use Rattle.blockmap.specs.Reading.{MayRead}
-use Rattle.blockmap.specs.Target.{IsSought, LeadsTo, got_slot, steps_at, target_for}
+use Rattle.blockmap.specs.Target.{IsSought, LeadsTo, Seeks, got_slot, steps_at, steps_for, target_for}
 use Rattle.driver.specs.declared.progress.Progress.{Progress}
 use Rattle.driver.specs.declared.progress.Progress.TheVariants as progress
 use Rattle.blockmap.specs.declared.target.Target.{Target}
@@ -26,8 +29,7 @@ use Rattle.blockmap.specs.declared.target.Target.TheVariants as target
 use Rattle.inodes.specs.Lemmas.ReadRuns.{Begins, begins}
 use Rattle.inodes.specs.ReadRuns.{BegunMayStep}
 use Rattle.inodes.specs.Ialloc.{OnMore}
-use Rattle.inodes.specs.Readi.{ReadState, IsReading, Gathers, IsMade, ReadSteps, Works}
-use Rattle.loose.specs.Lemmas.Addresses.{address_direct, address_behind}
+use Rattle.inodes.specs.Readi.{ReadState, IsReading, first_read, Gathers, IsMade, ReadSteps, Works, is_done}
 
 -- the log knows the size of the current image
 pub size_of_log : {D : Type 0} (image : D → Image) (v : VolumeState D) → v.fault ≡ None
@@ -36,81 +38,42 @@ size_of_log image v well known =
     let joint : Joint (image v.device) v.buffers v.log = subst (λ (o : Option _). IfNone o (Joint (image v.device) v.buffers v.log)) well known in
     sym (length-current (image v.device) v.buffers ∙ joint.size)
 
-sought_at : {D : Type 0} (image : D → Image) (v : VolumeState D) (p a : ℕ) (t : Target) → LeadsTo image v p a t
-    → got_slot t ≡ None → 33 ≤ a → a < v.log.size → IsSought image v p t
-sought_at image v p a (target.Entry entry) leads none low high = leads.0
-sought_at image v p a (target.Block b slot) leads none low high = (none, omega (arith, leads.0, low), omega (arith, leads.0, high))
+sought_at : {D : Type 0} (image : D → Image) (v : VolumeState D) (p k : ℕ) (d : Dinode) (t : Target) → LeadsTo image v p d k t → got_slot t ≡ None →
+    33 ≤ address_in (seen (image v.device) v.buffers) d k → address_in (seen (image v.device) v.buffers) d k < v.log.size → IsSought image v p t
+sought_at image v p k d (target.Entry entry) leads none low high = leads.holds
+sought_at image v p k d (target.Block b slot) leads none low high = let is = leads.block in (none, omega (arith, is, low), omega (arith, is, high))
+
+-- the next byte's block is one that the inode's size needs
+next_needed : {D : Type 0} (image : D → Image) (v : VolumeState D) (p : ℕ) (m : ReadState) → IsReading image v p m → m.next / 1024 * 1024 < m.inode.size
+next_needed image v p m ready = let some = ready.some in let inside = ready.inside in omega (arith, some, inside)
 
 -- the block of a reading's next byte may be sought, where it was not got
 pub sought : {D : Type 0} (image : D → Image) (v : VolumeState D) (p : ℕ) (m : ReadState) → IsReading image v p m
     → got_slot m.target ≡ None → v.log.size ≡ length (seen (image v.device) v.buffers) → IsSought image v p m.target
 sought image v p m ready none size =
-    let some = ready.some in
-    let inside = ready.inside in
-    let lies = ready.may.blocks (m.next / 1024) (omega (arith, some, inside)) in
+    let lies = ready.may.blocks (m.next / 1024) (next_needed image v p m ready) in
     let low = lies.0 in
     let high = lies.1 in
-    sought_at image v p _ m.target ready.leads none low (omega (arith, high, size))
+    sought_at image v p (m.next / 1024) m.inode m.target ready.leads none low (omega (arith, high, size))
 
-few_blocks : (x : Image) (d : Dinode) (k : ℕ) → MayRead x d → k * 1024 < d.size → k < 268
-few_blocks x d k may low =
-    let most : d.size ≤ greatest_size (form_of x) = may.fit.size in
-    let one : greatest_size (form_of x) ≡ 274432 = ap greatest_size may.form in
-    omega (arith, most, one, low)
+-- what the inode says leads to the next one
+lead_next : {D : Type 0} (image : D → Image) (v : VolumeState D) (p : ℕ) (m : ReadState) → MayRead (seen (image v.device) v.buffers) m.inode →
+    v.log.size ≡ length (seen (image v.device) v.buffers) → m.next / 1024 * 1024 < m.inode.size → m.form ≡ form_of (seen (image v.device) v.buffers) →
+    m.target ≡ target_for m.form m.inode (m.next / 1024) → LeadsTo image v p m.inode (m.next / 1024) m.target
+lead_next image v p m may size low form is =
+    subst (λ (t : Target). LeadsTo image v p m.inode (m.next / 1024) t) (sym (is ∙ ap (λ (f : Form). target_for f m.inode (m.next / 1024)) form))
+    (leads_for image v p (m.next / 1024) m.inode may size low)
 
--- what the inode says leads to a block of its file
-pub leads_for : {D : Type 0} (image : D → Image) (v : VolumeState D) (p k : ℕ) (d : Dinode) → MayRead (seen (image v.device) v.buffers) d
-    → v.log.size ≡ length (seen (image v.device) v.buffers) → k * 1024 < d.size
-    → LeadsTo image v p (address_in (seen (image v.device) v.buffers) d k) (target_for d k)
-leads_for image v p k d may size low = ⊎_elim direct behind (cases_lt k 12)
-  where
-    cur : Image
-    cur = seen (image v.device) v.buffers
-
-    few : k < 268
-    few = few_blocks cur d k may low
-
-    all : length d.addrs ≡ 13
-    all = may.fit.fields.count
-
-    direct : k < 12 → LeadsTo image v p (address_in cur d k) (target_for d k)
-    direct lt = rw (lt-ltb k 12 lt) ((address_or_zero_of (slice_index d.addrs k) ∙ sym (address_direct cur d k may.form all lt), tt))
-
-    behind : 12 ≤ k → LeadsTo image v p (address_in cur d k) (target_for d k)
-    behind le =
-        let there = address_behind cur d k may.form all le few in
-        ⊎_elim
-        (λ (none : slice_index d.addrs 12 ≡ 0).
-        let zero : address_in cur d k ≡ 0 = there ∙ rw (eq-eqb (slice_index d.addrs 12) 0 none) refl in
-        let lies = (may.blocks k low).0 in
-        absurd (omega (arith, zero, lies)))
-        (λ (some : slice_index d.addrs 12 ≢ 0).
-        let lies = may.indirect (omega (arith, le, low)) in
-        let far = lies.1 in
-        let other = ne_eqb (slice_index d.addrs 12) 0 some in
-        rw (le-ltb k 12 le, other) ((
-          record { behind = lies.0; within = omega (arith, far, size); entry = omega (arith, le, few); holds = tt },
-          sym (there ∙ rw other refl),
-        )))
-        (cases_eq (slice_index d.addrs 12) 0)
-
-got_at : {D : Type 0} (image : D → Image) (v : VolumeState D) (p a i : ℕ) (t : Target) → LeadsTo image v p a t
-    → got_slot t ≡ Some i → (t ≡ target.Block a (Some i)) × Holds (seen (image v.device) v.buffers) v.buffers p a i
-got_at image v p a i (target.Entry entry) leads got = absurd (cc got)
-got_at image v p a i (target.Block b slot) leads got = (
-  ap (λ k. target.Block k slot) leads.0 ∙ ap (λ (o : Option ℕ). target.Block a o) got,
-  subst (λ (k : ℕ). Holds (seen (image v.device) v.buffers) v.buffers p k i) leads.0
-      (subst (λ (o : Option ℕ). HoldsWhereGot (seen (image v.device) v.buffers) v.buffers p b o) got leads.1),
-)
-
-pub few_steps : (t : Target) → steps_at t ≤ 4
-few_steps (target.Entry entry) = by_slot entry.slot
-  where
-    by_slot : (o : Option ℕ) → steps_at (target.Entry (record entry { slot = o })) ≤ 4
-    by_slot None = omega arith
-    by_slot (Some i) = omega arith
-few_steps (target.Block b None) = omega arith
-few_steps (target.Block b (Some i)) = omega arith
+got_at : {D : Type 0} (image : D → Image) (v : VolumeState D) (p k i : ℕ) (d : Dinode) (t : Target) → LeadsTo image v p d k t → got_slot t ≡ Some i →
+    (t ≡ target.Block (address_in (seen (image v.device) v.buffers) d k) (Some i))
+    × Holds (seen (image v.device) v.buffers) v.buffers p (address_in (seen (image v.device) v.buffers) d k) i
+got_at image v p k i d (target.Entry entry) leads got = absurd (cc got)
+got_at image v p k i d (target.Block b slot) leads got =
+    let x = seen (image v.device) v.buffers in
+    let a = address_in x d k in (
+      ap (λ n. target.Block n slot) leads.block ∙ ap (λ (o : Option ℕ). target.Block a o) got,
+      subst (λ (n : ℕ). Holds x v.buffers p n i) leads.block (subst (λ (o : Option ℕ). HoldsWhereGot x v.buffers p b o) got leads.holds),
+    )
 
 -- what a use of the block is made of: so many bytes of it are gathered, and it is released
 pub record Uses {D : Type 0} (image : D → Image) (v : VolumeState D) (p i count : ℕ) (bytes : List ℕ) (m : ReadState) (g : GatheredBytes)
@@ -127,7 +90,7 @@ module _ {D N : Type 0} (disk : Ghosts D N) (v : VolumeState D) (p i count : ℕ
     (w : VolumeState D) (h : GatheredBytes) (u : Uses disk.image v p i count bytes m g w h) where
   block : (m.target ≡ target.Block (address_in (seen (disk.image v.device) v.buffers) m.inode (m.next / 1024)) (Some i))
       × Holds (seen (disk.image v.device) v.buffers) v.buffers p (address_in (seen (disk.image v.device) v.buffers) m.inode (m.next / 1024)) i
-  block = got_at disk.image v p _ i m.target u.ready.leads u.got
+  block = got_at disk.image v p (m.next / 1024) i m.inode m.target u.ready.leads u.got
 
   gathered : (n : ReadState) → n.next ≡ m.next + count → Gathers (bytes_in (seen (disk.image v.device) v.buffers) m.inode) m n g h
   gathered n next =
@@ -154,16 +117,17 @@ module _ {D N : Type 0} (disk : Ghosts D N) (v : VolumeState D) (p i count : ℕ
         room = ap (λ (o : GatheredBytes). o.room) u.gathers ∙ ap (λ k. g.room - k) (ap length piece ∙ long);
       }
 
-  works : (n : ReadState) (r : Progress (Unit {0})) → n.next ≡ m.next + count → IsMade r → OnMore r (n.target ≡ target_for m.inode (n.next / 1024))
+  works : (n : ReadState) (r : Progress (Unit {0})) → n.next ≡ m.next + count → IsMade r → OnMore r (n.target ≡ target_for m.form m.inode (n.next / 1024))
       → Works disk m.target v p m r w n
   works n r next made goes =
       subst (λ (t : Target). Works disk t v p m r w n) (sym block.0) ((next ∙ ap (λ (k : ℕ). m.next + k) u.most, made, u.releases, goes))
 
   -- the last bytes
-  pub uses_last : (n : ReadState) → n.inode ≡ m.inode → n.end ≡ m.end → n.next ≡ m.next + count → n.next ≡ n.end
+  pub uses_last : (n : ReadState) → n.inode ≡ m.inode → n.form ≡ m.form → n.end ≡ m.end → n.next ≡ m.next + count → n.next ≡ n.end
       → ReadSteps disk v p m g (progress.Over tt) w n h
-  uses_last n inode end next last = record {
+  uses_last n inode form end next last = record {
     inode = inode;
+    form = form;
     end = end;
     gathers = gathered n next;
     works = works n (progress.Over tt) next tt tt;
@@ -174,56 +138,129 @@ module _ {D N : Type 0} (disk : Ghosts D N) (v : VolumeState D) (p i count : ℕ
   }
 
   -- more are behind them
-  pub uses_some : (n : ReadState) → n.inode ≡ m.inode → n.end ≡ m.end → n.next ≡ m.next + count → n.next ≢ n.end
-      → n.target ≡ target_for m.inode (n.next / 1024) → ReadSteps disk v p m g progress.Moved w n h
-  uses_some n inode end next more leads =
+  pub uses_some : (n : ReadState) → n.inode ≡ m.inode → n.form ≡ m.form → n.end ≡ m.end → n.next ≡ m.next + count → n.next ≢ n.end
+      → n.target ≡ target_for m.form m.inode (n.next / 1024) → ReadSteps disk v p m g progress.Moved w n h
+  uses_some n inode form end next more leads =
       let is = u.most in
       let inside = u.ready.inside in
       let some = u.ready.some in
       let current = u.releases.current in
+      let y = seen (disk.image w.device) w.buffers in
       let below : n.next < m.end = omega (arith, is, some, next, end, more) in
-      let low : n.next / 1024 * 1024 < m.inode.size = omega (arith, below, inside) in
-      let may : MayRead (seen (disk.image w.device) w.buffers) m.inode = subst (λ (x : Image). MayRead x m.inode) (sym current) u.ready.may in
+      let long : n.inode.size ≡ m.inode.size = ap (λ (d : Dinode). d.size) inode in
+      let may : MayRead y n.inode = subst (λ (x : Image). MayRead x n.inode) (sym current) (subst (λ (d : Dinode). MayRead (seen (disk.image v.device) v.buffers) d) (sym inode) u.ready.may) in
       let log : w.log.size ≡ v.log.size = ap (λ (o : VolumeState D). o.log.size) u.releases.volume in
-      let size : w.log.size ≡ length (seen (disk.image w.device) w.buffers) = log ∙ u.size ∙ ap length (sym current) in
-      let lead = leads_for disk.image w p (n.next / 1024) m.inode may size low in
-      let few = few_steps n.target in
+      let size : w.log.size ≡ length y = log ∙ u.size ∙ ap length (sym current) in
+      let same : n.form ≡ form_of y = form ∙ u.ready.form ∙ ap form_of (sym current) in
+      let first : n.target ≡ target_for n.form n.inode (n.next / 1024) = leads ∙ ap (λ (f : Form). target_for f m.inode (n.next / 1024)) (sym form) ∙ ap (λ (d : Dinode). target_for n.form d (n.next / 1024)) (sym inode) in
+      let lead = lead_next disk.image w p n may size (omega (arith, below, inside, long)) same first in
+      let few = few_at y n.inode (n.next / 1024) n.target lead.block in
       let one : steps_at m.target ≡ 1 = ap steps_at block.0 in
+      let ahead = (n.end - 1) / 1024 - n.next / 1024 in
+      let low = needed_within y n.inode (n.next / 1024) may.fit (omega (arith, below, inside, long)) in
+      let enough = steps_enough (form_of y) (n.next / 1024) low in
+      let here : steps_for (form_of y) 1 ≡ steps_for m.form 1 = ap (λ (f : Form). steps_for f 1) (sym same ∙ form) in
+      let behind : steps_for n.form ahead ≡ steps_for m.form ahead = ap (λ (f : Form). steps_for f ahead) form in
+      let one_more = steps_more m.form ahead in
+      let fewer = steps_grow m.form (ahead + 1) ((m.end - 1) / 1024 - m.next / 1024) (omega (arith, is, some, next, end, more, below)) in
       record {
         inode = inode;
+        form = form;
         end = end;
         gathers = gathered n next;
         works = works n progress.Moved next tt leads;
         over = sym (ne_eqb n.next n.end more);
         asleep = λ cause no. absurd (cc no);
-        more = record {
-          may = subst (λ (d : Dinode). MayRead (seen (disk.image w.device) w.buffers) d) (sym inode) may;
-          some = omega (arith, below, end);
-          inside = subst (λ (d : Dinode). n.end ≤ d.size) (sym inode) (omega (arith, inside, end));
-          leads = subst (λ (t : Target). LeadsTo disk.image w p (address_in (seen (disk.image w.device) w.buffers) n.inode (n.next / 1024)) t) (sym leads)
-              (subst (λ (d : Dinode). LeadsTo disk.image w p (address_in (seen (disk.image w.device) w.buffers) d (n.next / 1024)) (target_for m.inode (n.next / 1024))) (sym inode) lead);
-        };
-        left = λ moved. omega (arith, few, one, is, some, next, end, more, below);
+        more = record { may = may; form = same; some = omega (arith, below, end); inside = omega (arith, inside, end, long); leads = lead };
+        left = λ moved. omega (arith, few, one, enough, here, behind, one_more, fewer);
       }
 
-pub begun_may_step : {D N : Type 0} (disk : Ghosts D N) → BegunMayStep disk
-begun_may_step disk v p offset count d m may size is =
-    let image = disk.image in
+-- a reading that was begun may make a step
+pub begun_reads : {D : Type 0} (image : D → Image) (v : VolumeState D) (p offset count : ℕ) (d : Dinode) (m : ReadState) → MayRead (seen (image v.device) v.buffers) d →
+    v.log.size ≡ length (seen (image v.device) v.buffers) → first_read (form_of (seen (image v.device) v.buffers)) d offset count ≡ Some m → IsReading image v p m × (m.end - m.next ≤ count)
+begun_reads image v p offset count d m may size is =
     let cur = seen (image v.device) v.buffers in
-    let b : Begins d offset count m = begins d offset count m is in
+    let b : Begins (form_of cur) d offset count m = begins (form_of cur) d offset count m is in
     let next = b.next in
     let end = b.end in
     let before = b.before in
     let some = b.some in
     let long : m.inode.size ≡ d.size = ap (λ (o : Dinode). o.size) b.inode in
-    let lead : LeadsTo image v p (address_in cur d (offset / 1024)) (target_for d (offset / 1024)) = leads_for image v p (offset / 1024) d may size (omega (arith, before)) in (
+    let its : MayRead cur m.inode = subst (λ (o : Dinode). MayRead cur o) (sym b.inode) may in
+    let first : m.target ≡ target_for m.form m.inode (m.next / 1024) =
+    b.target ∙ ap (λ (k : ℕ). target_for (form_of cur) d (k / 1024)) (sym next) ∙ ap (λ (f : Form). target_for f d (m.next / 1024)) (sym b.form)
+    ∙ ap (λ (o : Dinode). target_for m.form o (m.next / 1024)) (sym b.inode) in (
       record {
-        may = subst (λ (o : Dinode). MayRead cur o) (sym b.inode) may;
+        may = its;
+        form = b.form;
         some = omega (arith, next, end, before, some);
         inside = omega (arith, end, long);
-        leads = subst (λ (t : Target). LeadsTo image v p (address_in cur m.inode (m.next / 1024)) t) (sym b.target)
-            (subst (λ (k : ℕ). LeadsTo image v p (address_in cur m.inode (k / 1024)) (target_for d (offset / 1024))) (sym next)
-            (subst (λ (o : Dinode). LeadsTo image v p (address_in cur o (offset / 1024)) (target_for d (offset / 1024))) (sym b.inode) lead));
+        leads = lead_next image v p m its size (omega (arith, next, before, long)) b.form first;
       },
       omega (arith, next, end),
     )
+
+pub begun_may_step : {D N : Type 0} (disk : Ghosts D N) → BegunMayStep disk
+begun_may_step disk = begun_reads disk.image
+
+-- a step to the block gathers nothing
+module _ {D N : Type 0} (disk : Ghosts D N) (v w : VolumeState D) (p : ℕ) (m : ReadState) (g : GatheredBytes) (r : Progress (Unit {0})) (t : Target)
+    (ready : IsReading disk.image v p m) (none : got_slot m.target ≡ None) (size : v.log.size ≡ length (seen (disk.image v.device) v.buffers))
+    (seeks : Seeks disk m.target v p r t w) where
+  abbrev cur : Image
+  cur = seen (disk.image v.device) v.buffers
+
+  on : SeeksOn disk v p m.inode (m.next / 1024) m.target r t w
+  on = seeks_on disk v w p (m.next / 1024) m.inode r t ready.may size (next_needed disk.image v p m ready) m.target ready.leads none seeks
+
+  nothing : 0 ≡ m.next - m.next
+  nothing = omega arith
+
+  works_then : (a : Target) → got_slot a ≡ None → Seeks disk a v p r t w → Works disk a v p m r w (record m { target = t })
+  works_then (target.Entry e) free does = (refl, does)
+  works_then (target.Block b None) free does = (refl, does)
+  works_then (target.Block b (Some i)) free does = absurd (cc free)
+
+  over_at : (q : Progress (Unit {0})) → q ≢ progress.Over tt → is_done q ≡ false
+  over_at progress.Moved unfinished = refl
+  over_at (progress.Sleeping why) unfinished = refl
+  over_at (progress.Over tt) unfinished = absurd (unfinished refl)
+  over_at (progress.Fault fault) unfinished = refl
+
+  more_at : (q : Progress (Unit {0})) → r ≡ q → OnMore q (IsReading disk.image w p (record m { target = t }))
+  more_at progress.Moved is =
+      let current = on.current is in
+      record {
+        may = subst (λ (x : Image). MayRead x m.inode) (sym current) ready.may;
+        form = ready.form ∙ ap form_of (sym current);
+        some = ready.some;
+        inside = ready.inside;
+        leads = on.leads is;
+      }
+  more_at (progress.Sleeping why) is =
+      let stays = on.asleep why is in
+      subst (λ (u : VolumeState D). IsReading disk.image u p (record m { target = t })) (sym stays.0)
+      (subst (λ (o : Target). IsReading disk.image v p (record m { target = o })) (sym stays.1) ready)
+  more_at (progress.Over tt) is = tt
+  more_at (progress.Fault fault) is = tt
+
+  pub read_sought : ReadSteps disk v p m g r w (record m { target = t }) g
+  read_sought = record {
+    inode = refl;
+    form = refl;
+    end = refl;
+    gathers = record {
+      later = omega arith;
+      bytes = sym (append-nil g.bytes) ∙ ap (λ (n : ℕ). g.bytes ++ part_of (bytes_in cur m.inode) m.next n) nothing;
+      room = omega arith;
+    };
+    works = works_then m.target none seeks;
+    over = over_at r on.unfinished ∙ sym (ne_eqb m.next m.end (let some = ready.some in λ same. omega (arith, same, some)));
+    asleep = λ cause waits. record {
+      volume = (on.asleep cause waits).0;
+      reading = ap (λ (o : Target). record m { target = o }) (on.asleep cause waits).1;
+      gathered = refl;
+    };
+    more = more_at r refl;
+    left = λ moved. let nearer = on.nearer moved in omega (arith, nearer);
+  }

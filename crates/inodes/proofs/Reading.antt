@@ -6,13 +6,13 @@ use Rattle.blocks.specs.declared.disk.Disk.{Ghosts}
 use Rattle.model.specs.Gathered.{GatheredBytes}
 use Rattle.model.specs.Journal.{is_number}
 use Rattle.model.specs.Layout.{inode_count_of}
-use Rattle.model.specs.Places.{address_in}
 use Rattle.bcache.specs.Lemmas.Current.{length-current}
 use Rattle.wal.specs.Joint.{Joint}
 use Rattle.driver.specs.Getting.{HoldsWhereGot}
 use Rattle.blockmap.specs.Lemmas.Resting.{resting_may_be_read}
+use Rattle.blockmap.specs.Lemmas.Targets.{node_there}
 use Rattle.blockmap.specs.Reading.{MayRead}
-use Rattle.blockmap.specs.Target.{LeadsTo, block_of, slot_in}
+use Rattle.blockmap.specs.Target.{HoldsTarget, LeadsToBlock, block_of, slot_in}
 use Rattle.blockmap.specs.declared.target.Target.{Target}
 use Rattle.blockmap.specs.declared.target.Target.TheVariants as target
 use Rattle.inodes.specs.declared.tasks.Place.{Place}
@@ -20,16 +20,15 @@ use Rattle.inodes.specs.declared.tasks.Place.TheVariants as place
 use Rattle.inodes.specs.Grips.{grip, locked_grip}
 use Rattle.inodes.specs.Lemmas.Faults.{where_none}
 use Rattle.inodes.specs.Lemmas.Looks.{copy_is, late_number}
-use Rattle.inodes.specs.Looks.{AreLooking, IsAtRead, LeadsToBlock, LooksAt}
+use Rattle.inodes.specs.Looks.{AreLooking, IsAtRead, LooksAt}
 use Rattle.inodes.specs.Places.{asked_by, grip_by, grips_of, owes_reply, HasSlot}
 use Rattle.inodes.specs.Readi.{ReadState, IsReading, HasRoomLeft}
 use Rattle.inodes.specs.Store.{StoreState, IsStore, HoldsAt, Stands, Agrees, current_of}
 use Rattle.inodes.specs.Table.{copy_at}
 use Rattle.inodes.specs.Tasks.{task}
 use Rattle.inodes.specs.Holding.{claim_by, claims_of}
-use Rattle.inodes.proofs.Unclaimed.{unclaimed, late_used}
+use Rattle.inodes.specs.Lemmas.Unclaimed.{unclaimed, late_used}
 use Rattle.inodes.proofs.Gripping.{grip_is}
-use Rattle.inodes.proofs.ReadLemmas.{leads_for}
 use Rattle.inodes.proofs.Searching.{where_got}
 
 -- in a store whose process p reads
@@ -88,17 +87,19 @@ module _ {D N : Type 0} (disk : Ghosts D N) (s : StoreState D) (p k : ℕ) (m : 
     inside_file : m.next / 1024 * 1024 < m.inode.size
     inside_file = let some = at_read.read.some in let end = at_read.read.end in omega (arith, some, end)
 
-    leads_by : (t : Target) → LeadsToBlock cur m.inode (m.next / 1024) t → HoldsWhereGot cur s.volume.buffers p (block_of t) (slot_in t) → LeadsTo disk.image s.volume p (address_in cur m.inode (m.next / 1024)) t
-    leads_by (target.Entry e) leads held =
-        let to = subst (λ (t : Target). LeadsTo disk.image s.volume p (address_in cur m.inode (m.next / 1024)) t) leads (leads_for disk.image s.volume p (m.next / 1024) m.inode may size inside_file) in
-        (record { behind = to.0.behind; within = to.0.within; entry = to.0.entry; holds = held }, to.1)
-    leads_by (target.Block b slot) leads held = (leads, held)
+    holds_by : (t : Target) → LeadsToBlock cur m.inode (m.next / 1024) t → HoldsWhereGot cur s.volume.buffers p (block_of t) (slot_in t) → HoldsTarget disk.image s.volume p t
+    holds_by (target.Entry e) leads held = record { node = node_there disk.image s.volume p (m.next / 1024) m.inode may size inside_file e.node leads; holds = held }
+    holds_by (target.Block b slot) leads held = held
 
     -- it may make its next step
     pub is_ready : IsReading disk.image s.volume p m
     is_ready = record {
       may = may;
+      form = at_read.read.form;
       some = at_read.read.some;
       inside = let end = at_read.read.end in omega (arith, end);
-      leads = leads_by m.target at_read.read.leads (where_got (disk.image s.volume.device) s.volume.buffers s.volume.log p (block_of m.target) (slot_in m.target) joint holds);
+      leads = record {
+        block = at_read.read.leads;
+        holds = holds_by m.target at_read.read.leads (where_got (disk.image s.volume.device) s.volume.buffers s.volume.log p (block_of m.target) (slot_in m.target) joint holds);
+      };
     }

@@ -1,5 +1,5 @@
 -- Each step of a reading keeps what is true of every store, and does what a step promises.
-use Rattle.std.proofs.Common.{◌≡◌, ℕ, ◌<◌, ◌≤◌, ◌+◌, ◌-◌, ◌*◌, ◌/◌, ◌++◌, true, min, List, length, set, refl, sym, ◌∙◌, ap, subst, arith, Option, Some, None}
+use Rattle.std.proofs.Common.{◌≡◌, ⊎_elim, ℕ, ◌<◌, ◌≤◌, ◌+◌, ◌-◌, ◌/◌, ◌++◌, true, min, List, length, set, refl, sym, ◌∙◌, ap, subst, arith, Option, Some, None}
 use Rattle.std.proofs.lemmas.Bool.{eqb-true}
 use Rattle.std.proofs.lemmas.List.{set-get_or, set-set, get_or-set_same}
 use Rattle.blocks.specs.Disk.{Image}
@@ -16,7 +16,6 @@ use Rattle.model.specs.Gathered.{GatheredBytes}
 use Rattle.model.specs.Journal.{is_making}
 use Rattle.model.specs.Layout.{form_of}
 use Rattle.model.specs.Operations.{part_of}
-use Rattle.model.specs.Places.{address_in}
 use Rattle.model.specs.Tasks.{FilesThen, reply_at_turn}
 use Rattle.wal.specs.Volume.{fault_of_task}
 use Rattle.bcache.specs.Buffers.{Buffers}
@@ -26,12 +25,12 @@ use Rattle.wal.specs.Machine.{LogState}
 use Rattle.wal.specs.Volume.{VolumeState}
 use Rattle.wal.specs.declared.types.Get.{Get}
 use Rattle.wal.specs.declared.types.Get.TheVariants as get
-use Rattle.blockmap.specs.Bmap.{EntryState, LooksUp, entry_in, some_address, with_slot}
+use Rattle.blockmap.specs.Bmap.{EntryState, Ends, GoesBelow, LooksUp, with_slot}
+use Rattle.blockmap.specs.Branch.{named_by}
+use Rattle.blockmap.specs.Lemmas.Targets.{first_slot}
 use Rattle.driver.specs.Getting.{GetsFor, Releases, progress_of}
-use Rattle.blockmap.specs.Lemmas.Addresses.{address_or_zero_of}
 use Rattle.blockmap.specs.Lemmas.Reading.{length-bytes, part_cut, part_in_two}
-use Rattle.blockmap.specs.Map.{address_or_zero}
-use Rattle.blockmap.specs.Target.{LeadsTo, LooksUpFor, block_of, progress_behind, slot_in, steps_at, target_behind, target_for}
+use Rattle.blockmap.specs.Target.{LeadsToBlock, LooksUpFor, block_of, progress_behind, slot_in, steps_at, target_behind, target_for}
 use Rattle.driver.specs.declared.progress.Progress.{Progress}
 use Rattle.driver.specs.declared.progress.Progress.TheVariants as machine
 use Rattle.blockmap.specs.declared.target.Target.{Target}
@@ -42,19 +41,18 @@ use Rattle.inodes.specs.declared.tasks.Place.TheVariants as place
 use Rattle.inodes.specs.Goes.{Goes, Shown, ShowsSame, progress_of_read, place_of_reading}
 use Rattle.inodes.specs.Grips.{Grip, KeepsTable, TableIs, grip, locked_grip, with_grip}
 use Rattle.inodes.specs.Ialloc.{OnMore}
-use Rattle.inodes.specs.Looks.{HasAllRead, IsAtRead, IsRead, LeadsToBlock, LooksAt}
+use Rattle.inodes.specs.Looks.{HasAllRead, IsAtRead, IsRead, LooksAt}
 use Rattle.inodes.specs.Places.{asked_by, HasSlot, block_at_place, grip_by, grip_of, grips_of, steps_left}
 use Rattle.inodes.specs.Readi.{ReadState, ReadSteps, IsReading, IsMade, Works, is_done, reads_left}
 use Rattle.inodes.specs.Steps.{Steps, Waits, Reads, LeavesNumber, IsHeldByAnother, is_made}
-use Rattle.inodes.specs.Store.{StoreState, IsStore, FitsFiles, HoldsAt, Stands, Agrees, current_of}
+use Rattle.inodes.specs.Store.{StoreState, IsStore, FitsFiles, HoldsAt, LoggedAt, Stands, Agrees, current_of}
 use Rattle.inodes.specs.Table.{copy_at}
 use Rattle.inodes.specs.Tasks.{TaskState, task, no_task}
 use Rattle.inodes.proofs.Getting.{HasOne, has_left, reads_none, reads_got, shows_got, sleeps_got, held_got, has_then, fault_of}
 use Rattle.inodes.proofs.Looking.{Looked, Stepped, files_same, stepped_looked, store_stepped, steps_stepped}
 use Rattle.inodes.specs.Holding.{claim_by, claim_of}
 use Rattle.inodes.proofs.Taking.{none_of_zero}
-use Rattle.inodes.proofs.Reading.{agrees, looking, at_read, has, slot_is, may, room, is_ready, size}
-use Rattle.inodes.proofs.Starting.{leads_at_once, new_target}
+use Rattle.inodes.proofs.Reading.{agrees, looking, at_read, has, slot_is, may, room}
 
 -- what the volume says to the reading of an entry, it says to the machine that seeks the block
 as_get : (r : Progress (Option ℕ)) (a : Get) → r ≡ progress_of a → progress_behind r ≡ progress_of a
@@ -194,7 +192,6 @@ module _ {D N : Type 0} (disk : Ghosts D N) (s : StoreState D) (p k : ℕ) (m : 
       pub shown : ShowsSame disk.image s then_at
       pub held : q ≡ machine.Sleeping why.BufferHeld → IsHeldByAnother s p (block_of m.target)
       pub inode : q ≡ machine.Sleeping why.InodeHeld → ⊥
-      pub leads : q ≡ machine.Moved → LeadsToBlock cur m.inode (n.next / 1024) n.target
 
     -- ---- it seeks a block
 
@@ -224,14 +221,13 @@ module _ {D N : Type 0} (disk : Ghosts D N) (s : StoreState D) (p k : ℕ) (m : 
       one_by (machine.Over out) same now fine = absurd (never_over gets.answer out gets.gives same)
       one_by (machine.Fault fault) same now fine = absurd (cc fine)
 
-      seeks : (block_of n.target ≡ b) × (slot_in n.target ≡ slot) → (q ≡ machine.Moved → LeadsToBlock cur m.inode (n.next / 1024) n.target) → Does
-      seeks now leads = record {
+      seeks : (block_of n.target ≡ b) × (slot_in n.target ≡ slot) → Does
+      seeks now = record {
         one = one_by q refl now;
         reads = reads_got disk s then_at p b q slot gets are no_slot (progress_of_read q) (fault_is q);
         shown = shows_got disk s then_at p b q slot gets are no_slot;
         held = λ waits. subst (λ (a : ℕ). IsHeldByAnother s p a) (sym at) (held_got disk s then_at p b q slot gets are no_slot waits);
         inode = λ waits. never_inode gets.answer s.volume.buffers w.buffers p b q gets.gives waits gets.locks;
-        leads = leads;
       }
 
     -- ---- it is done with a block
@@ -246,32 +242,22 @@ module _ {D N : Type 0} (disk : Ghosts D N) (s : StoreState D) (p k : ℕ) (m : 
       well_then : w.fault ≡ None
       well_then = ap (λ (v : VolumeState D). v.fault) leaves.volume ∙ well
 
-      uses : fault_of q ≡ None → ((cause : Why) → q ≡ machine.Sleeping cause → ⊥) → slot_there m n q ≡ None → (q ≡ machine.Moved → LeadsToBlock cur m.inode (n.next / 1024) n.target) → Does
-      uses fine awake free leads = record {
+      uses : fault_of q ≡ None → ((cause : Why) → q ≡ machine.Sleeping cause → ⊥) → slot_there m n q ≡ None → Does
+      uses fine awake free = record {
         one = λ well_still. subst (λ (o : Option ℕ). HasOne s.volume.buffers w.buffers s.volume.log p (block_at_place next) o) (sym free)
             (has_left s.volume.buffers s.volume.log s.table.inode_count p s.tasks (agrees disk s p k m is well stood) w.buffers (block_at_place next) i (λ j has_it. sym got ∙ slot_is disk s p k m is well stood j has_it) leaves.locks);
         reads = reads_none disk s then_at device well_then (progress_of_read q) (fault_is q ∙ fine);
         shown = ap (λ (x : Image). record { current = x; log = w.log }) leaves.current ∙ ap (λ (l : LogState). record { current = cur; log = l }) log;
         held = λ waits. absurd (awake why.BufferHeld waits);
         inode = λ waits. awake why.InodeHeld waits;
-        leads = leads;
       }
 
     -- ---- by its target
 
-    same_next : n ≡ record m { target = n.target } → n.next / 1024 ≡ m.next / 1024
-    same_next stays = ap (λ (o : ReadState). o.next / 1024) stays
-
-    led : LeadsToBlock cur m.inode (m.next / 1024) m.target
-    led = reading.read.leads
-
-    led_to : (t : Target) → n ≡ record m { target = n.target } → n.target ≡ t → LeadsToBlock cur m.inode (m.next / 1024) t → LeadsToBlock cur m.inode (n.next / 1024) n.target
-    led_to t stays now leads = subst (λ (j : ℕ). LeadsToBlock cur m.inode j n.target) (sym (same_next stays)) (subst (λ (to : Target). LeadsToBlock cur m.inode (m.next / 1024) to) (sym now) leads)
-
     -- the entry's block is got
-    seeks_entry : (e : EntryState) → m.target ≡ target.Entry e → e.slot ≡ None → n ≡ record m { target = n.target } → (f : LooksUpFor disk s.volume p e q n.target w) → LooksUp disk None s.volume p e f.answer f.entry w → Does
-    seeks_entry e at none stays f looks =
-        let gets : GetsFor disk s.volume p e.indirect q f.entry.slot w = record {
+    seeks_entry : (e : EntryState) → m.target ≡ target.Entry e → e.slot ≡ None → (f : LooksUpFor disk s.volume p e q n.target w) → LooksUp disk None s.volume p e f.answer f.entry w → Does
+    seeks_entry e at none f looks =
+        let gets : GetsFor disk s.volume p e.node.block q f.entry.slot w = record {
           answer = looks.1.answer;
           gives = f.gives ∙ as_get f.answer looks.1.answer looks.1.gives;
           slot = looks.1.slot;
@@ -280,51 +266,43 @@ module _ {D N : Type 0} (disk : Ghosts D N) (s : StoreState D) (p k : ℕ) (m : 
           locks = looks.1.locks;
         } in
         let now : n.target ≡ target.Entry f.entry = f.target ∙ entry_still f.answer f.entry looks.1.answer looks.1.gives in
-        let before : target_for m.inode (m.next / 1024) ≡ target.Entry (with_slot e None) = subst (λ (t : Target). LeadsToBlock cur m.inode (m.next / 1024) t) at led in
-        let same : with_slot e None ≡ with_slot f.entry None = sym (ap (λ (o : EntryState). with_slot o None) looks.0) in
-        seeks e.indirect f.entry.slot gets (ap slot_in at ∙ none) (ap block_of at) (ap block_of now ∙ ap (λ (o : EntryState). o.indirect) looks.0, ap slot_in now)
-        (λ moved. led_to (target.Entry f.entry) stays now (before ∙ ap target.Entry same))
+        seeks e.node.block f.entry.slot gets (ap slot_in at ∙ none) (ap block_of at) (ap block_of now ∙ ap (λ (o : EntryState). o.node.block) looks.0, ap slot_in now)
 
-    -- the entry is read in it
-    uses_entry : (e : EntryState) (i : ℕ) → m.target ≡ target.Entry e → e.slot ≡ Some i → n ≡ record m { target = n.target } → (f : LooksUpFor disk s.volume p e q n.target w) → LooksUp disk (Some i) s.volume p e f.answer f.entry w → Does
-    uses_entry e i at got stays f looks =
-        let a = entry_in cur e in
-        let moved : q ≡ machine.Moved = f.gives ∙ ap progress_behind looks.0 in
-        let now : n.target ≡ target.Block (address_or_zero (some_address a)) None = f.target ∙ ap (λ (r : Progress (Option ℕ)). target_behind r f.entry) looks.0 in
-        let to : LeadsTo disk.image s.volume p (address_in cur m.inode (m.next / 1024)) (target.Entry e) = subst (λ (t : Target). LeadsTo disk.image s.volume p (address_in cur m.inode (m.next / 1024)) t) at (is_ready disk s p k m is well stood joint).leads in
-        uses i (ap slot_in at ∙ got) looks.2 (ap fault_of moved) (λ cause waits. absurd (cc (sym moved ∙ waits)))
-        (ap (slot_there m n) moved ∙ ap slot_in now)
-        (λ moves. led_to (target.Block (address_or_zero (some_address a)) None) stays now (address_or_zero_of a ∙ to.1))
+    -- the entry is read in it, and no block is got then
+    uses_entry : (e : EntryState) (i : ℕ) → m.target ≡ target.Entry e → e.slot ≡ Some i → (f : LooksUpFor disk s.volume p e q n.target w) → LooksUp disk (Some i) s.volume p e f.answer f.entry w → Does
+    uses_entry e i at got f looks =
+        ⊎_elim
+        (λ (over : Ends (named_by cur e.node) e f.answer f.entry). frees (f.gives ∙ ap progress_behind over.over)
+        (ap slot_in (f.target ∙ ap (λ (r : Progress (Option ℕ)). target_behind r f.entry) over.over)))
+        (λ (on : GoesBelow (named_by cur e.node) e f.answer f.entry). frees (f.gives ∙ ap progress_behind on.moved)
+        (ap slot_in (f.target ∙ ap (λ (r : Progress (Option ℕ)). target_behind r f.entry) on.moved) ∙ ap (λ (o : EntryState). o.slot) on.now))
+        looks.0
+      where
+        frees : q ≡ machine.Moved → slot_in n.target ≡ None → Does
+        frees moved none =
+            uses i (ap slot_in at ∙ got) looks.1 (ap fault_of moved) (λ cause waits. absurd (cc (sym moved ∙ waits)))
+            (ap (slot_there m n) moved ∙ none)
 
     does_by : (t : Target) → m.target ≡ t → Works disk t s.volume p m q w n → Does
     does_by (target.Entry e) at works = by_slot e.slot refl works.1.looks
       where
         by_slot : (o : Option ℕ) → e.slot ≡ o → LooksUp disk o s.volume p e works.1.answer works.1.entry w → Does
-        by_slot None none looks = seeks_entry e at none works.0 works.1 looks
-        by_slot (Some i) got looks = uses_entry e i at got works.0 works.1 looks
+        by_slot None none looks = seeks_entry e at none works.1 looks
+        by_slot (Some i) got looks = uses_entry e i at got works.1 looks
     does_by (target.Block b None) at works =
         let gets = works.1 in
         let now : n.target ≡ target.Block b gets.0 = gets.1 in
-        let before : b ≡ address_in cur m.inode (m.next / 1024) = subst (λ (t : Target). LeadsToBlock cur m.inode (m.next / 1024) t) at led in
-        seeks b gets.0 gets.2 (ap slot_in at) (ap block_of at) (ap block_of now, ap slot_in now) (λ moved. led_to (target.Block b gets.0) works.0 now before)
+        seeks b gets.0 gets.2 (ap slot_in at) (ap block_of at) (ap block_of now, ap slot_in now)
     does_by (target.Block b (Some i)) at works = uses_block q refl works.1 works.3
       where
-        uses_block : (r : Progress (Unit {0})) → q ≡ r → IsMade r → OnMore r (n.target ≡ target_for m.inode (n.next / 1024)) → Does
+        uses_block : (r : Progress (Unit {0})) → q ≡ r → IsMade r → OnMore r (n.target ≡ target_for m.form m.inode (n.next / 1024)) → Does
         uses_block machine.Moved same made more =
-            let sure : IsReading disk.image w p n = subst (λ (a : Progress (Unit {0})). OnMore a (IsReading disk.image w p n)) same steps.more in
-            let some = sure.some in
-            let end = steps.end in
-            let last = reading.read.end in
-            let low : n.next / 1024 * 1024 < m.inode.size = omega (arith, some, end, last) in
             uses i (ap slot_in at) works.2 (ap fault_of same) (λ cause waits. absurd (cc (sym same ∙ waits)))
-            (ap (slot_there m n) same ∙ ap slot_in more ∙ new_target m.inode (n.next / 1024))
-            (λ moves. subst (λ (t : Target). LeadsToBlock cur m.inode (n.next / 1024) t) (sym more)
-            (leads_at_once disk.image s.volume p (n.next / 1024) m.inode (may disk s p k m is well stood) (size disk s p k m is well stood joint) low))
+            (ap (slot_there m n) same ∙ ap slot_in more ∙ first_slot m.form m.inode (n.next / 1024))
         uses_block (machine.Sleeping cause) same made more = absurd made
         uses_block (machine.Over out) same made more =
             uses i (ap slot_in at) works.2 (ap fault_of same) (λ cause waits. absurd (cc (sym same ∙ waits)))
             (ap (slot_there m n) same)
-            (λ moves. absurd (cc (sym same ∙ moves)))
         uses_block (machine.Fault fault) same made more = absurd made
 
     does : Does
@@ -367,17 +345,18 @@ module _ {D N : Type 0} (disk : Ghosts D N) (s : StoreState D) (p k : ℕ) (m : 
         omega (arith, before, left, end, later)
 
     -- it goes on
-    reads_on : n.next < n.end → LeadsToBlock cur m.inode (n.next / 1024) n.target → IsAtRead cur s.table.inode_count (copy_at s.table.places k) (task_then n q h) n
+    reads_on : n.next < n.end → LeadsToBlock cur n.inode (n.next / 1024) n.target → IsAtRead cur s.table.inode_count (copy_at s.table.places k) (task_then n q h) n
     reads_on some leads = record {
       op = still_read;
       copy = reading.copy ∙ ap Some (sym steps.inode);
       read = record {
+        form = steps.form ∙ reading.read.form;
         begun = let begun = reading.read.begun in let later = steps.gathers.later in omega (arith, begun, later);
         some = some;
         end = steps.end ∙ reading.read.end ∙ ap (λ (d : Dinode). min d.size (off + reading.op.count)) (sym steps.inode);
         bytes = bytes_now ∙ ap (λ (d : Dinode). part_of (bytes_in cur d) off (n.next - off)) (sym steps.inode);
         room = room_now;
-        leads = subst (λ (d : Dinode). LeadsToBlock cur d (n.next / 1024) n.target) (sym steps.inode) leads;
+        leads = leads;
       };
     }
 
@@ -388,7 +367,7 @@ module _ {D N : Type 0} (disk : Ghosts D N) (s : StoreState D) (p k : ℕ) (m : 
         let some = reading.read.some in
         subst (λ (o : ReadState). IsAtRead cur s.table.inode_count (copy_at s.table.places k) (task_then n q h) o) same
         (reads_on (subst (λ (o : ReadState). o.next < o.end) (sym same) some)
-        (subst (λ (o : ReadState). LeadsToBlock cur m.inode (o.next / 1024) o.target) (sym same) led))
+        (subst (λ (o : ReadState). LeadsToBlock cur o.inode (o.next / 1024) o.target) (sym same) reading.read.leads))
 
     -- it has all bytes
     has_read : n.next ≡ n.end → HasAllRead cur s.table.inode_count (copy_at s.table.places k) (task_then n q h)
@@ -406,10 +385,16 @@ module _ {D N : Type 0} (disk : Ghosts D N) (s : StoreState D) (p k : ℕ) (m : 
           bytes = bytes_now ∙ ap (part_of file off) all ∙ sym (part_cut file off reading.op.count (omega (arith, begun, some, last, long)));
         }
 
+    same_log : w.log ≡ s.volume.log
+    same_log = ap (λ (v : Shown). v.log) does.shown
+
+    same_image : current_of disk.image w ≡ cur
+    same_image = ap (λ (v : Shown). v.current) does.shown
+
     looks_by : (r : Progress (Unit {0})) → q ≡ r → fault_of r ≡ None → LooksAt cur s.table (task_then n q h) (place_of_reading k m n r)
     looks_by machine.Moved same fine =
         let sure : IsReading disk.image w p n = subst (λ (a : Progress (Unit {0})). OnMore a (IsReading disk.image w p n)) same steps.more in
-        reads_on sure.some (does.leads same)
+        reads_on sure.some (subst (λ (x : Image). LeadsToBlock x n.inode (n.next / 1024) n.target) same_image sure.leads.block)
     looks_by (machine.Sleeping cause) same fine = reads_still cause same
     looks_by (machine.Over out) same fine = has_read (eqb-true n.next n.end (sym steps.over ∙ ap is_done same))
     looks_by (machine.Fault fault) same fine = absurd (cc fine)
@@ -420,21 +405,23 @@ module _ {D N : Type 0} (disk : Ghosts D N) (s : StoreState D) (p k : ℕ) (m : 
     stands_by (machine.Over out) holds = tt
     stands_by (machine.Fault fault) holds = holds
 
-    same_log : w.log ≡ s.volume.log
-    same_log = ap (λ (v : Shown). v.log) does.shown
-
-    same_image : current_of disk.image w ≡ cur
-    same_image = ap (λ (v : Shown). v.current) does.shown
-
     module _ (tasks : ts ≡ set s.tasks p (task_then n q h)) where
       holds_still : (j : ℕ) → claim_of (task_then n q h) j ≡ claim_of (task s.tasks p) j
       holds_still j = holds_there k m n q (task s.tasks p).op j ∙ sym (ap (λ (a : Place). claim_by (task s.tasks p).op a j) stood)
+
+      -- a reading logs nothing
+      logged_by : (r : Progress (Unit {0})) → LoggedAt (current_of disk.image w) w.log p (place_of_reading k m n r)
+      logged_by machine.Moved = tt
+      logged_by (machine.Sleeping cause) = tt
+      logged_by (machine.Over out) = tt
+      logged_by (machine.Fault fault) = tt
 
       looked : Looked disk s p 0 (progress_of_read q) then_at (task_then n q h)
       looked = record {
         tasks = tasks;
         op = refl;
         count = refl;
+        form = refl;
         reads = does.reads;
         shown = does.shown;
         alone = λ other j apart locks. none_of_zero cur s.table s.tasks (looking disk s p k m is well stood) other j locks;
@@ -448,6 +435,7 @@ module _ {D N : Type 0} (disk : Ghosts D N) (s : StoreState D) (p k : ℕ) (m : 
               stands = stands_by q one.holds;
               table = subst (λ (x : Image). KeepsTable s.table s.table p (grips_of s.tasks) (with_grip (grips_of s.tasks) p (grip_of (task_then n q h))) x) (sym same_image) (same_table (task_then n q h) (grip_then k (asked_by (task s.tasks p).op) m n q));
               looks = subst (λ (x : Image). LooksAt x s.table (task_then n q h) (place_of_reading k m n q)) (sym same_image) (looks_by q refl well_then);
+              logged = logged_by q;
             };
       }
 
@@ -473,7 +461,7 @@ module _ {D N : Type 0} (disk : Ghosts D N) (s : StoreState D) (p k : ℕ) (m : 
         inode = λ waits. absurd (does.inode (asleep_as why.InodeHeld q waits));
       }
 
-      falls_by : (r : Progress (Unit {0})) → q ≡ r → is_made (progress_of_read r) ≡ true → steps_left (place_of_reading k m n r) s.table.inode_count < reads_left m + 1
+      falls_by : (r : Progress (Unit {0})) → q ≡ r → is_made (progress_of_read r) ≡ true → steps_left (current_of disk.image w) (place_of_reading k m n r) s.table.inode_count < reads_left m + 1
       falls_by machine.Moved same made = let less = steps.left same in omega (arith, less)
       falls_by (machine.Sleeping cause) same made = absurd (cc made)
       falls_by (machine.Over out) same made = let some = some_steps m.target in omega (arith, some)
@@ -518,7 +506,7 @@ module _ {D N : Type 0} (disk : Ghosts D N) (s : StoreState D) (p k : ℕ) (m : 
           ))
           waits_so
           (λ other apart reads. subst (λ (o : Option Reply). LeavesNumber op o (asked_by (task s.tasks other).op)) (sym (no_reply q)) tt)
-          (λ made going. subst (λ (a : Place). steps_left next s.table.inode_count < steps_left a s.table.inode_count) (sym stood) (falls_by q refl made))
+          (λ made going. subst (λ (a : Place). steps_left (current_of disk.image w) next s.table.inode_count < steps_left cur a s.table.inode_count) (sym stood) (falls_by q refl made))
         where
           now_is : task ts p ≡ task_then n q h
           now_is = ap (λ (l : List TaskState). task l p) tasks ∙ get_or-set_same s.tasks p (task_then n q h) no_task inside

@@ -14,6 +14,7 @@ use Rattle.wal.specs.Volume.{fault_of_task}
 use Rattle.wal.specs.Joint.{Joint}
 use Rattle.wal.specs.Machine.{LogState, SameGroups}
 use Rattle.wal.specs.Volume.{VolumeState, faults_after}
+use Rattle.driver.specs.declared.progress.Progress.TheVariants as machine
 use Rattle.driver.specs.declared.progress.Progress.{Progress}
 use Rattle.inodes.specs.declared.tasks.Place.{Place}
 use Rattle.inodes.specs.declared.tasks.Place.TheVariants as place
@@ -24,7 +25,7 @@ use Rattle.inodes.specs.Ialloc.{SearchState, SearchSteps, MayStep}
 use Rattle.inodes.specs.Looks.{AreLooking}
 use Rattle.inodes.specs.Places.{block_at_place, grip_of, grips_of, steps_left}
 use Rattle.inodes.specs.Steps.{Steps, IsHeldByAnother, LeavesLate}
-use Rattle.inodes.specs.Store.{StoreState, IsStore, IsSearching, Agrees, FitsFiles, current_of}
+use Rattle.inodes.specs.Store.{StoreState, IsStore, IsSearching, Agrees, FitsFiles, LoggedAt, current_of}
 use Rattle.inodes.specs.Table.{TableState}
 use Rattle.inodes.specs.Tasks.{TaskState, task, no_task}
 use Rattle.inodes.specs.Lemmas.Faults.{where_none}
@@ -104,6 +105,13 @@ module _ {D N : Type 0} (disk : Ghosts D N) (s now : StoreState D) (p : ℕ) (m 
       keeps : KeepsUsed s.table.inode_count 0 (claims_of s.tasks) (current_of disk.image s.volume) (current_of disk.image u)
       keeps = keeps_now disk.image s t p m new op r agrees is.numbers lt stood is_op steps.current claimed_same is.geometry filled few m.slot looks.files.0 (files_fit disk.image s looks) steps.goes
 
+      -- a search is no write
+      logged_by : (q : Progress (Option ℕ)) → LoggedAt (current_of disk.image u) u.log p (place_then q m new)
+      logged_by machine.Moved = tt
+      logged_by (machine.Sleeping cause) = tt
+      logged_by (machine.Over found) = tt
+      logged_by (machine.Fault fault) = tt
+
       here : fault_of_task (progress_of_search r) ≡ None → IsNow disk.image s t p its
       here fine =
           let now = task_then disk s.volume u s.table.inode_count p s.tasks m new r agrees lt stood steps (sym (fault_then r) ∙ fine) in
@@ -118,6 +126,7 @@ module _ {D N : Type 0} (disk : Ghosts D N) (s now : StoreState D) (p : ℕ) (m 
               others = λ q k i apart has. record { number = λ j. refl; holder = refl; copy = refl };
             };
             looks = looks_at_then (current_of disk.image u) s.table its m new r;
+            logged = logged_by r;
           }
 
       stepped : Stepped disk s p 0 op (progress_of_search r) t its
@@ -125,6 +134,7 @@ module _ {D N : Type 0} (disk : Ghosts D N) (s now : StoreState D) (p : ℕ) (m 
         tasks = set_then s.tasks p m new r stood;
         op = refl;
         count = refl;
+        form = refl;
         numbers = (geometry_then (current_of disk.image s.volume) (current_of disk.image u) s.volume.buffers m r new m.slot is.geometry filled (mine.count ∙ is.numbers) few steps.goes steps.current).1;
         reads = record {
           device = steps.device;
@@ -157,8 +167,8 @@ module _ {D N : Type 0} (disk : Ghosts D N) (s now : StoreState D) (p : ℕ) (m 
             inode = λ waits. absurd (no_inode_held m.slot s.volume.buffers u.buffers p m.block new.slot r steps.locks waits);
           })
           (subst (λ (q : Op). LeavesLate s p q (progress_of_search r)) (sym (same_op disk.image s t p m new op r agrees is.numbers lt stood is_op steps.current claimed_same)) (apart_then disk.image s p m new s.volume.buffers m.slot r looks is.numbers steps.goes))
-          (λ made unfinished. subst (λ (a : Place). steps_left (place_then r m new) s.table.inode_count < steps_left a s.table.inode_count) (sym stood)
-          (falls_then s.table.inode_count m new (current_of disk.image s.volume) s.volume.buffers r mine.count mine.last steps.goes made))
+          (λ made unfinished. subst (λ (a : Place). steps_left (current_of disk.image u) (place_then r m new) s.table.inode_count < steps_left (current_of disk.image s.volume) a s.table.inode_count) (sym stood)
+          (falls_then s.table.inode_count m new (current_of disk.image s.volume) (current_of disk.image u) s.volume.buffers r mine.count mine.last steps.goes made))
         where
           placed : (task t.tasks p).place ≡ place_then r m new
           placed = ap (λ (ts : List TaskState). (task ts p).place) (set_then s.tasks p m new r stood) ∙ ap (λ (o : TaskState). o.place) (get_or-set_same s.tasks p its no_task lt)

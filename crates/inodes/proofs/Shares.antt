@@ -16,7 +16,7 @@ use Rattle.inodes.specs.Tasks.{TaskState, task}
 use Rattle.inodes.specs.Lemmas.Holding.{claim_stays}
 use Rattle.inodes.proofs.Gripping.{grip_is}
 use Rattle.inodes.proofs.LooksKept.{KeepsUsed}
-use Rattle.inodes.proofs.Unclaimed.{LocksAlone}
+use Rattle.inodes.specs.Lemmas.Unclaimed.{LocksAlone}
 
 -- in an image that keeps what is used, so does what is held of a number
 module _ (old new : Image) (t : TableState) (ts : List TaskState) (i : ℕ) (are : AreLooking old t ts) (numbers : t.inode_count ≡ inode_count_of old) (keeps : KeepsUsed t.inode_count i (claims_of ts) old new) where

@@ -31,6 +31,7 @@ use Rattle.driver.specs.Lemmas.Others.{never_sleeps}
 use Rattle.driver.specs.Next.{block_of_next, used_now, wanted_by}
 use Rattle.driver.specs.declared.driving.Driven.{Driven}
 use Rattle.driver.specs.declared.driving.Got.{Got}
+use Rattle.driver.specs.declared.driving.Kept.{Kept}
 use Rattle.driver.specs.declared.machine.Machine.{Ghosts as Pure}
 use Rattle.driver.specs.declared.machine.Next.{Next}
 use Rattle.driver.specs.declared.machine.Next.TheVariants as next
@@ -92,7 +93,7 @@ module _ {D N : Type 0} (disk : Ghosts D N) (v w : VolumeState D) (p : ℕ) (cau
   updates u n d None r e does = gets e does.1
   updates u n d (Some i) r e does = absurd (cc e)
 
-  looks : (m n : EntryState) (o : Option ℕ) (r : Progress (Option ℕ)) → HasCause (unless_got o m.indirect) → LooksUp disk o v p m r n w → r ≡ machine.Sleeping cause
+  looks : (m n : EntryState) (o : Option ℕ) (r : Progress (Option ℕ)) → HasCause (unless_got o m.node.block) → LooksUp disk o v p m r n w → r ≡ machine.Sleeping cause
   looks m n None r e does = gets e does.1
   looks m n (Some i) r e does = absurd (cc e)
 
@@ -109,7 +110,7 @@ module _ {D N : Type 0} (disk : Ghosts D N) (v w : VolumeState D) (p : ℕ) (cau
   reads m n (target.Block b None) r e does = gets e does.1.2
   reads m n (target.Block b (Some i)) r e does = absurd (cc e)
 
-  none_wanted : (a : Next) (kept : Option Got) (used : Option ℕ) (g : Got) → used_now a kept used ≡ Some g → wanted_by a used ≡ None
+  none_wanted : (a : Next) (kept : Kept) (used : Option ℕ) (g : Got) → used_now a kept used ≡ Some g → wanted_by a used ≡ None
   none_wanted (next.Use b) kept None g some = absurd (cc some)
   none_wanted (next.Use b) kept (Some i) g some = refl
   none_wanted (next.Keep b) kept used g some = absurd (cc some)
@@ -124,15 +125,14 @@ module _ {D N : Type 0} (disk : Ghosts D N) (v w : VolumeState D) (p : ℕ) (cau
       {r : Progress (Option ℕ)} {n : MapState} {d : Dinode} → HasCause (wanted_by_alloc t) → TakesOne disk v p m t after at named r n d w → r ≡ after (machine.Sleeping cause)
   takes_one {m} {t} {after} e does = does.gives ∙ ap after (allocs t does.now t.at does.answer e does.allocs)
 
-  maps : (m n : MapState) (d f : Dinode) (a : MapAt) (r : Progress (Option ℕ)) → HasCause (wanted_on_way d a) → MapSteps disk a v p m d r n f w → r ≡ machine.Sleeping cause
-  maps m n d f (map_at.Direct t) r e does = takes_one e does
-  maps m n d f (map_at.Indirect t) r e does = takes_one e does
-  maps m n d f (map_at.Entry None) r e does = gets e does.1
-  maps m n d f (map_at.Entry (Some i)) r e does = absurd (cc e)
-  maps m n d f (map_at.Behind i t) r e does = takes_one e does
-  maps m n d f (map_at.Setting i found) r e does = absurd (cc e)
+  maps : (m n : MapState) (d f : Dinode) (a : MapAt) (r : Progress (Option ℕ)) → HasCause (wanted_on_way a) → MapSteps disk a v p m d r n f w → r ≡ machine.Sleeping cause
+  maps m n d f (map_at.Address t) r e does = takes_one e does
+  maps m n d f (map_at.Entry k None) r e does = gets e does.1
+  maps m n d f (map_at.Entry k (Some i)) r e does = absurd (cc e)
+  maps m n d f (map_at.Behind k i t) r e does = takes_one e does
+  maps m n d f (map_at.Setting k i found) r e does = absurd (cc e)
 
-  writes : (m n : WriteState) (a : WriteAt) (bytes : List ℕ) (r : Progress (Unit {0})) → HasCause (wanted_by_write m a) → WriteSteps disk a v p m bytes r n w → r ≡ machine.Sleeping cause
+  writes : (m n : WriteState) (a : WriteAt) (bytes : List ℕ) (r : Progress (Unit {0})) → HasCause (wanted_by_write a) → WriteSteps disk a v p m bytes r n w → r ≡ machine.Sleeping cause
   writes m n (write_at.Mapping way) bytes r e does = does.gives ∙ ap progress_mapped (maps way does.now m.inode does.inode way.at does.answer e does.steps)
   writes m n (write_at.Block b None) bytes r e does = gets e does.1
   writes m n (write_at.Block b (Some i)) bytes r e does = absurd (cc e)
@@ -173,7 +173,7 @@ waits_with_cause {D} {N} disk s t p op r cause waits steps = by (task s.tasks p)
         search.gives ∙ searches disk s.volume t.volume p cause m m.slot search.answer s.table.inode_count (task t.tasks p).place (shown_of disk.image s.volume) (shown_of disk.image t.volume) e from search.buffers
     by (place.Taking m) e goes =
         let take = goes.0 in
-        take.gives ∙ ap (progress_of_lock (inode_of (current_of disk.image s.volume) m.number) op) (locks disk s.volume t.volume p cause s.table t.table m take.now m.at take.answer e take.locks)
+        take.gives ∙ ap (progress_of_lock s.table.form (inode_of (current_of disk.image s.volume) m.number) op) (locks disk s.volume t.volume p cause s.table t.table m take.now m.at take.answer e take.locks)
     by (place.Reading k m) e goes = let read = goes.0 in read.gives ∙ ap progress_of_read (reads disk s.volume t.volume p cause m read.now m.target read.answer e read.reads.works)
     by (place.Delivering k) e goes = absurd (cc e)
     by (place.Truncating k m) e goes = goes.gives ∙ ap progress_of_trunc (drives disk s.volume t.volume p cause itrunc m goes.now (used_now (trunc_next m) m.kept m.used) goes.answer refl e goes.drives)

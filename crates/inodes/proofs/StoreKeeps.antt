@@ -1,5 +1,5 @@
 -- Each call of a store keeps what is true of every store.
-use Rattle.std.proofs.Common.{◌≡◌, ◌≢◌, ◌⊎◌, inl, inr, ℕ, ◌<◌, ◌≤◌, ◌==◌, Bool, true, false, List, length, set, replicate, refl, sym, ◌∙◌, ap, subst, arith, ⊎_elim, Option, Some, None}
+use Rattle.std.proofs.Common.{◌≡◌, ◌≢◌, ◌⊎◌, inl, inr, ℕ, ◌<◌, ◌≤◌, Bool, true, false, List, length, set, replicate, refl, sym, ◌∙◌, ap, subst, arith, ⊎_elim, Option, Some, None}
 use Rattle.std.specs.Prelude.{IsTrue}
 use Rattle.std.proofs.lemmas.Bool.{cases_eq, cases_lt}
 use Rattle.std.proofs.lemmas.List.{get_or_past}
@@ -9,9 +9,8 @@ use Rattle.model.specs.declared.types.operations.Op.{Op}
 use Rattle.model.specs.declared.types.operations.Op.TheVariants.{Create, Write, Read, Trunc, Remove, Stat}
 use Rattle.model.specs.declared.types.operations.Why.{Why}
 use Rattle.model.specs.Codec.{new_inode, with_inode}
-use Rattle.model.specs.declared.types.image.Form.TheVariants.{One}
 use Rattle.model.specs.Fields.{u32_at}
-use Rattle.model.specs.Layout.{super_of, super_in, inode_block, inode_count_of, is_lawful_super, magic_of}
+use Rattle.model.specs.Layout.{super_of, super_in, inode_block, inode_count_of, is_lawful_super, is_known_magic}
 use Rattle.model.specs.Journal.{is_number}
 use Rattle.model.specs.Soundness.{IsLawfulGeometry}
 use Rattle.loose.specs.Lemmas.Claims.{claims}
@@ -36,9 +35,10 @@ use Rattle.inodes.specs.Tasks.{TaskState, task, no_task}
 use Rattle.inodes.specs.Holding.{claim_by, claims_of}
 use Rattle.inodes.specs.Lemmas.Holding.{claim_stays}
 use Rattle.inodes.specs.Places.{HasSlot}
-use Rattle.inodes.specs.Store.{Agrees, Stands, CanBegin, first_place, current_of}
-use Rattle.inodes.proofs.Agreeing.{TaskIsNow, agrees_now, agrees_still, logged_still, open_still, logged_write_still}
+use Rattle.inodes.specs.Store.{Agrees, HaveLogged, LoggedAt, Stands, CanBegin, first_place, current_of}
+use Rattle.inodes.proofs.Agreeing.{TaskIsNow, agrees_now, agrees_still, logged_still, open_still, open_write_still}
 use Rattle.inodes.proofs.LooksKept.{none_at}
+use Rattle.inodes.proofs.WriteLogged.{logged_alike, logged_set}
 use Rattle.inodes.proofs.Searching.{task_got, task_next, task_over, task_waits}
 use Rattle.inodes.proofs.Frames.{within_image}
 use Rattle.inodes.proofs.StoreSteps.{place_then}
@@ -46,7 +46,7 @@ use Rattle.inodes.proofs.StoreSteps.{place_then}
 -- an image with the same superblock and size has the same geometry
 pub geometry_kept : (x y : Image) → length y ≡ length x → block_at y 1 ≡ block_at x 1 → IsLawfulGeometry x → IsLawfulGeometry y
 geometry_kept x y size same g = record {
-  magic = subst (λ (b : List ℕ). IsTrue (u32_at b 0 == magic_of One)) (sym same) g.magic;
+  magic = subst (λ (b : List ℕ). IsTrue (is_known_magic (u32_at b 0))) (sym same) g.magic;
   fields = subst (λ (b : List ℕ). IsTrue (is_lawful_super (super_in b) (length y))) (sym same) (subst (λ (n : ℕ). IsTrue (is_lawful_super (super_of x) n)) (sym size) g.fields);
 }
 
@@ -133,7 +133,7 @@ agrees_ended c l n p ts agrees stood = record {
     by_place q apart t (place.Reading k m) s = s
     by_place q apart t (place.Delivering k) s = s
     by_place q apart t (place.Truncating k m) s = record { logged = logged_still l (ended l p) q m.machine.bitmap (used_ended l p q apart) (λ one has. ended_grows l p m.machine.bitmap has) s.logged; holds = s.holds }
-    by_place q apart t (place.Writing k m) s = record { logged = logged_write_still l (ended l p) q m (used_ended l p q apart) (λ homes b had has. ended_grows l p b has) s.logged; kept = s.kept; used = s.used }
+    by_place q apart t (place.Writing k m) s = record { logged = open_write_still l (ended l p) q (used_ended l p q apart) s.logged; kept = s.kept; used = s.used }
     by_place q apart t (place.Leaving k) s = s
 
 -- a step of a commit
@@ -164,6 +164,42 @@ none_open l q k is busy used = ⊎_elim inside outside (cases_lt q 32)
 
 pub agrees_committed : (h : Bool) (c d : Buffers) (l m : LogState) (n : ℕ) (ts : List TaskState) → (m ≡ stepped_at h l.commit l) ⊎ (m ≡ l) → LeavesLocks c d → IsLogAt l.commit l → is_quiet l.commit ≡ false → Agrees c l n ts → Agrees d m n ts
 agrees_committed h c d l m n ts made leaves log busy agrees = agrees_still c d l m n ts leaves.held leaves.none (used_committed h l m made) (λ q k b used has. absurd (none_open l q k log busy used)) agrees
+
+-- what writes logged counts still
+pub logged_begun : (cur : Image) (l : LogState) (n p : ℕ) (op : Op) (ts : List TaskState) → p < length ts → HaveLogged cur l ts → HaveLogged cur (begun l p) (set ts p (record { op = Some op; place = first_place op n; gathered = None }))
+logged_begun cur l n p op ts inside had =
+    logged_set cur l (begun l p) ts p (record { op = Some op; place = first_place op n; gathered = None }) inside (begun_grows l p) (λ q apart. used_begun l p q apart) (by_op op) had
+  where
+    by_op : (o : Op) → LoggedAt cur (begun l p) p (first_place o n)
+    by_op (Create kind) = tt
+    by_op (Write i off bytes) = tt
+    by_op (Read i off m) = tt
+    by_op (Trunc i) = tt
+    by_op (Remove i) = tt
+    by_op (Stat i) = tt
+
+pub logged_ended : (cur : Image) (l : LogState) (p : ℕ) (ts : List TaskState) → (task ts p).place ≡ place.Nowhere → HaveLogged cur l ts → HaveLogged cur (ended l p) ts
+logged_ended cur l p ts stood had q =
+    ⊎_elim
+    (λ (own : q ≡ p). subst (λ (r : ℕ). LoggedAt cur (ended l p) r (task ts r).place) (sym own) (subst (LoggedAt cur (ended l p) p) (sym stood) tt))
+    (λ (apart : q ≢ p). logged_alike cur l (ended l p) q (task ts q).place (λ homes b used has. ended_grows l p b has) (used_ended l p q apart) (had q))
+    (cases_eq q p)
+
+pub logged_committed : (h : Bool) (now : Image) (l m : LogState) (ts : List TaskState) → (m ≡ stepped_at h l.commit l) ⊎ (m ≡ l) → IsLogAt l.commit l → is_quiet l.commit ≡ false → HaveLogged now m ts
+logged_committed h now l m ts made log busy q = by_place (task ts q).place
+  where
+    by_place : (a : Place) → LoggedAt now m q a
+    by_place place.Nowhere = tt
+    by_place (place.Creating w) = tt
+    by_place (place.Taking w) = tt
+    by_place (place.Reading k w) = tt
+    by_place (place.Delivering k) = tt
+    by_place (place.Truncating k w) = tt
+    by_place (place.Writing k w) = λ homes used. absurd (none_open l q homes log busy (sym (used_committed h l m made q) ∙ used))
+    by_place (place.Leaving k) = tt
+
+pub logged_opened : (cur : Image) (l : LogState) (k : ℕ) → HaveLogged cur l (replicate k no_task)
+logged_opened cur l k p = subst (λ (t : TaskState). LoggedAt cur l p t.place) (sym (none_at k p)) tt
 
 -- no task is under way at the opening
 pub agrees_opened : (l : LogState) (n k : ℕ) → Agrees fresh_buffers l n (replicate k no_task)

@@ -53,7 +53,7 @@ use Rattle.inodes.proofs.Searching.{search as searching}
 use Rattle.model.specs.Tasks.{FilesThen, Answers, reply_at_turn, Marks}
 use Rattle.wal.specs.Volume.{fault_of_task}
 use Rattle.inodes.specs.Steps.{IsHeldByAnother, LeavesNumber, LeavesLate, is_made}
-use Rattle.inodes.proofs.Unclaimed.{late_used}
+use Rattle.inodes.specs.Lemmas.Unclaimed.{late_used}
 
 -- where the task stands then
 abbrev pub place_then : Progress (Option ℕ) → SearchState → SearchState → Place
@@ -110,17 +110,17 @@ module _ {D : Type 0} (image : D → Image) (v : VolumeState D) (p n : ℕ) (m n
   goes_from (Some s) r shows inode made g = looks_at s r shows inode g
 
 -- a search that moved has fewer steps left
-fewer : (o : Option ℕ) (n : ℕ) (m new : SearchState) (cur : Image) (c : Buffers) → m.slot ≡ o → m.inode_count ≡ n → m.block ≤ inode_block (n - 1) → SearchGoes o cur c m search.Moved new → steps_left (place.Creating new) n < steps_left (place.Creating m) n
-fewer None n m new cur c is count last g =
-    let now : steps_left (place.Creating new) n ≡ 2 * (inode_block (n - 1) - m.block) + 1 = ap (λ (k : SearchState). steps_left (place.Creating k) n) g.2 in
+fewer : (o : Option ℕ) (n : ℕ) (m new : SearchState) (cur now : Image) (c : Buffers) → m.slot ≡ o → m.inode_count ≡ n → m.block ≤ inode_block (n - 1) → SearchGoes o cur c m search.Moved new → steps_left now (place.Creating new) n < steps_left cur (place.Creating m) n
+fewer None n m new cur now c is count last g =
+    let next : steps_left now (place.Creating new) n ≡ 2 * (inode_block (n - 1) - m.block) + 1 = ap (λ (k : SearchState). steps_left now (place.Creating k) n) g.2 in
     let before : looks_left m.slot ≡ 2 = ap looks_left is in
-    omega (arith, now, before)
-fewer (Some s) n m new cur c is count last g =
-    let now : steps_left (place.Creating new) n ≡ 2 * (inode_block (n - 1) - (m.block + 1)) + 2 = ap (λ (k : SearchState). steps_left (place.Creating k) n) g.0 in
+    omega (arith, next, before)
+fewer (Some s) n m new cur now c is count last g =
+    let next : steps_left now (place.Creating new) n ≡ 2 * (inode_block (n - 1) - (m.block + 1)) + 2 = ap (λ (k : SearchState). steps_left now (place.Creating k) n) g.0 in
     let before : looks_left m.slot ≡ 1 = ap looks_left is in
     let other = eqb-false m.block (inode_block (m.inode_count - 1)) g.1 in
     let same : inode_block (m.inode_count - 1) ≡ inode_block (n - 1) = ap (λ (k : ℕ). inode_block (k - 1)) count in
-    omega (arith, now, before, other, same, last)
+    omega (arith, next, before, other, same, last)
 
 -- who waits for a buffer, waits for another's
 held_by : {D : Type 0} (s : StoreState D) (p : ℕ) (m : SearchState) (o : Option ℕ) → Agrees s.volume.buffers s.volume.log s.table.inode_count s.tasks → (task s.tasks p).place ≡ place.Creating m → m.slot ≡ o
@@ -316,11 +316,11 @@ held_then s p m (search.Sleeping cause) agrees stood d slot locks is =
 held_then s p m (search.Over made) agrees stood d slot locks is = absurd (cc is)
 held_then s p m (search.Fault fault) agrees stood d slot locks is = absurd (cc is)
 
-pub falls_then : (n : ℕ) (m new : SearchState) (cur : Image) (c : Buffers) (r : Progress (Option ℕ)) → m.inode_count ≡ n → m.block ≤ inode_block (n - 1) → SearchGoes m.slot cur c m r new → is_made (progress_of_search r) ≡ true → steps_left (place_then r m new) n < steps_left (place.Creating m) n
-falls_then n m new cur c search.Moved count last g is = fewer m.slot n m new cur c refl count last g
-falls_then n m new cur c (search.Sleeping cause) count last g is = absurd (false≢true is)
-falls_then n m new cur c (search.Over made) count last g is = let some = some_step (place.Creating m) n refl in omega (arith, some)
-falls_then n m new cur c (search.Fault fault) count last g is = absurd (false≢true is)
+pub falls_then : (n : ℕ) (m new : SearchState) (cur now : Image) (c : Buffers) (r : Progress (Option ℕ)) → m.inode_count ≡ n → m.block ≤ inode_block (n - 1) → SearchGoes m.slot cur c m r new → is_made (progress_of_search r) ≡ true → steps_left now (place_then r m new) n < steps_left cur (place.Creating m) n
+falls_then n m new cur now c search.Moved count last g is = fewer m.slot n m new cur now c refl count last g
+falls_then n m new cur now c (search.Sleeping cause) count last g is = absurd (false≢true is)
+falls_then n m new cur now c (search.Over made) count last g is = let some = some_step cur (place.Creating m) n refl in omega (arith, some)
+falls_then n m new cur now c (search.Fault fault) count last g is = absurd (false≢true is)
 
 -- no search waits for an inode
 pub no_inode_held : (o : Option ℕ) (c d : Buffers) (p b : ℕ) (slot : Option ℕ) (r : Progress (Option ℕ)) → SearchLocks o r c d p b slot → progress_of_search r ≡ progress.Sleeping why.InodeHeld → ⊥

@@ -34,6 +34,7 @@ use Rattle.model.specs.Files.{Files}
 use Rattle.model.specs.Lemmas.Log.{both_of}
 use Rattle.wal.specs.Machine.{LogState}
 use Rattle.inodes.proofs.Agreeing.{agrees_now}
+use Rattle.inodes.proofs.WriteLogged.{logged_set}
 use Rattle.inodes.proofs.Gripping.{grip_is}
 use Rattle.inodes.proofs.LooksKept.{looks_set}
 use Rattle.inodes.proofs.Searching.{where_got}
@@ -166,6 +167,7 @@ store_looks image s p op room is well inside stood can has = record {
   few = let size = length-set s.tasks p (look_task op room) in let few = is.few in omega (arith, size, few);
   geometry = is.geometry;
   numbers = is.numbers;
+  form = is.form;
   agrees = if_none s.volume.fault (agrees_now s.volume.buffers s.volume.buffers s.volume.log s.volume.log s.table.inode_count p s.tasks (look_task op room) (record {
     agrees = where_none s.volume.fault well is.agrees;
     inside = inside;
@@ -176,6 +178,7 @@ store_looks image s p op room is well inside stood can has = record {
   looks = if_none s.volume.fault (looks_set (current_of image s.volume) s.table s.tasks p (look_task op room) (where_none s.volume.fault well is.looks) inside (sym (ap (λ (a : Place). grip_by a (asked_by (task s.tasks p).op)) stood))
       (record { op = op; is = refl; can = look_takes s.table.inode_count op can; number = refl; room = has })
       (nothing_claimed s.tasks p op room stood));
+  logged = if_none s.volume.fault (logged_set (current_of image s.volume) s.volume.log s.volume.log s.tasks p (look_task op room) inside (λ b has. has) (λ q apart. refl) tt (where_none s.volume.fault well is.logged));
 }
 
 -- and the files are the same

@@ -29,15 +29,15 @@ use Rattle.inodes.specs.declared.ilock.LockAt.{LockAt}
 use Rattle.inodes.specs.declared.ilock.LockAt.TheVariants as lock_at
 use Rattle.inodes.specs.declared.tasks.Place.{Place}
 use Rattle.inodes.specs.declared.tasks.Place.TheVariants as place
-use Rattle.inodes.specs.Goes.{Goes, ShowsSame, progress_of_lock, place_of_lock}
+use Rattle.inodes.specs.Goes.{Goes, Shown, ShowsSame, progress_of_lock, place_of_lock}
 use Rattle.inodes.specs.Grips.{Grip, KeepsTable, TableIs, grip, locked_grip, unlocked_grip, with_grip}
 use Rattle.inodes.specs.Ilock.{LockSteps, Locks, ReadsInode, at_lock}
 use Rattle.inodes.specs.Lemmas.Grips.{kept_by_refer, kept_by_lock, kept_by_renew, locks_exclude, holder_is_another}
 use Rattle.inodes.specs.LockState.{LockState, place_of, slot_of, locks_left}
 use Rattle.inodes.specs.Looks.{LooksAt, IsTaking}
-use Rattle.inodes.specs.Places.{asked, asked_by, owes_reply, HasSlot, block_at_place, grip_at, grip_by, grip_of, grips_of, steps_left}
+use Rattle.inodes.specs.Places.{asked, asked_by, owes_reply, HasSlot, block_at_place, grip_at, grip_by, grip_of, grips_of, most_behind, steps_left}
 use Rattle.inodes.specs.Steps.{Steps, Waits, LeavesLate, LeavesNumber, IsHeldByAnother, IsInodeHeld, is_made}
-use Rattle.inodes.specs.Store.{StoreState, IsStore, FitsFiles, HoldsAt, IsOpenFor, Stands, current_of}
+use Rattle.inodes.specs.Store.{StoreState, IsStore, FitsFiles, HoldsAt, IsOpenFor, LoggedAt, Stands, current_of}
 use Rattle.inodes.specs.declared.table.InMemory.{InMemory}
 use Rattle.inodes.specs.Table.{TableState, entry_at, is_of, holder_at, copy_at, copy_in, place_for, with_holder, with_copy, referred, locked, kept}
 use Rattle.inodes.specs.Tasks.{TaskState, task, no_task}
@@ -48,7 +48,7 @@ use Rattle.inodes.proofs.Gripping.{grip_is}
 use Rattle.inodes.proofs.Looking.{Looked, Stepped, files_same, stepped_looked, store_stepped, steps_stepped}
 use Rattle.inodes.specs.Holding.{claim_by, claim_of}
 use Rattle.inodes.proofs.Taking.{agrees, looking, taking, can_take, number, has, slot_is, is_open, may_name, none_of_zero}
-use Rattle.inodes.proofs.Turning.{readable, makes_none, grip_at_turn, claims_at_turn, left_at_turn, stands_at_turn, files_at_turn, looks_at_turn}
+use Rattle.inodes.proofs.Turning.{readable, few_at_turn, logged_at_turn, makes_none, grip_at_turn, claims_at_turn, left_at_turn, stands_at_turn, files_at_turn, looks_at_turn}
 use Rattle.inodes.specs.Writing.{extent_of}
 
 module _ {D N : Type 0} (disk : Ghosts D N) (s : StoreState D) (p : ℕ) (op : Op) (m : LockState) (is : IsStore disk.image s) (well : s.volume.fault ≡ None) (inside : p < length s.tasks)
@@ -59,9 +59,13 @@ module _ {D N : Type 0} (disk : Ghosts D N) (s : StoreState D) (p : ℕ) (op : O
   abbrev inode : Dinode
   inode = inode_of cur m.number
 
+  -- the most that it has left behind its turn
+  abbrev behind : ℕ
+  behind = most_behind (form_of cur) + 1
+
   -- its task then
   abbrev pub task_then : LockState → Progress Bool → TaskState
-  task_then n q = record (task s.tasks p) { place = place_of_lock (extent_of s.table.inode_count s.volume.log.size) inode op m n q }
+  task_then n q = record (task s.tasks p) { place = place_of_lock (extent_of s.table.form s.table.inode_count s.volume.log.size) inode op m n q }
 
   abbrev pub store_then : VolumeState D → List TaskState → TableState → StoreState D
   store_then w ts tab = record { volume = w; tasks = ts; table = tab }
@@ -69,28 +73,28 @@ module _ {D N : Type 0} (disk : Ghosts D N) (s : StoreState D) (p : ℕ) (op : O
   -- what a step makes of the store, beside where it goes
   pub record Made (q : Progress Bool) (n : LockState) (w : VolumeState D) (tab : TableState) (ts : List TaskState) : Type 0 where
     pub about : ℕ
-    pub stepped : Stepped disk s p about op (progress_of_lock inode op q) (store_then w ts tab) (task_then n q)
+    pub stepped : Stepped disk s p about op (progress_of_lock s.table.form inode op q) (store_then w ts tab) (task_then n q)
     pub shown : ShowsSame disk.image s (store_then w ts tab)
-    pub waits : Waits s p (progress_of_lock inode op q) (store_then w ts tab)
-    pub apart : LeavesLate s p op (progress_of_lock inode op q)
-    pub falls : is_made (progress_of_lock inode op q) ≡ true → steps_left (place_of_lock (extent_of s.table.inode_count s.volume.log.size) inode op m n q) s.table.inode_count < locks_left m.at + 543
+    pub waits : Waits s p (progress_of_lock s.table.form inode op q) (store_then w ts tab)
+    pub apart : LeavesLate s p op (progress_of_lock s.table.form inode op q)
+    pub falls : is_made (progress_of_lock s.table.form inode op q) ≡ true → steps_left cur (place_of_lock (extent_of s.table.form s.table.inode_count s.volume.log.size) inode op m n q) s.table.inode_count < locks_left m.at + behind
 
   abbrev pub Makes : Progress Bool → LockState → VolumeState D → TableState → Type 0
   Makes q n w tab = (ts : List TaskState) → ts ≡ set s.tasks p (task_then n q) → Made q n w tab ts
 
   -- nothing is said of others where no reply is
-  no_reply : (q : Progress Bool) → reply_at_turn (progress_of_lock inode op q) ≡ None → LeavesLate s p op (progress_of_lock inode op q)
+  no_reply : (q : Progress Bool) → reply_at_turn (progress_of_lock s.table.form inode op q) ≡ None → LeavesLate s p op (progress_of_lock s.table.form inode op q)
   no_reply q none other apart reads = subst (λ (o : Option Reply). LeavesNumber op o (asked_by (task s.tasks other).op)) (sym none) tt
 
   -- nobody waits where a step is made
-  no_wait : (q : Progress Bool) (t : StoreState D) → is_made (progress_of_lock inode op q) ≡ true → Waits s p (progress_of_lock inode op q) t
+  no_wait : (q : Progress Bool) (t : StoreState D) → is_made (progress_of_lock s.table.form inode op q) ≡ true → Waits s p (progress_of_lock s.table.form inode op q) t
   no_wait q t made = record {
     sleeping = λ cause waits. absurd (asleep cause waits);
     held = λ waits. absurd (asleep why.BufferHeld waits);
     inode = λ waits. absurd (asleep why.InodeHeld waits);
   }
     where
-      asleep : (cause : Why) → progress_of_lock inode op q ≡ progress.Sleeping cause → ⊥
+      asleep : (cause : Why) → progress_of_lock s.table.form inode op q ≡ progress.Sleeping cause → ⊥
       asleep cause waits = false≢true (sym (ap is_made waits) ∙ made)
 
   own_slot : (o : Option ℕ) → slot_of m.at ≡ o → (i : ℕ) → HasSlot (task s.tasks p).place i → o ≡ Some i
@@ -126,14 +130,14 @@ module _ {D N : Type 0} (disk : Ghosts D N) (s : StoreState D) (p : ℕ) (op : O
   has_none none = has_same s.volume.buffers s.volume.log s.table.inode_count p s.tasks (agrees disk s p op m is well stood is_op) (inode_block m.number) None (own_slot None none) tt
 
   -- a step makes no number
-  makes_never : (q : Progress Bool) (i : ℕ) → is_making i (reply_at_turn (progress_of_lock inode op q)) ≡ true → ⊥
+  makes_never : (q : Progress Bool) (i : ℕ) → is_making i (reply_at_turn (progress_of_lock s.table.form inode op q)) ≡ true → ⊥
   makes_never machine.Moved i makes = absurd (cc makes)
   makes_never (machine.Sleeping cause) i makes = absurd (cc makes)
-  makes_never (machine.Over used) i makes = makes_none inode op used i makes
+  makes_never (machine.Over used) i makes = makes_none s.table.form inode op used i makes
   makes_never (machine.Fault fault) i makes = absurd (cc makes)
 
   -- where it has no turn, the files stay, and it holds nothing still
-  files_by : (q : Progress Bool) → ((used : Bool) → q ≡ machine.Over used → ⊥) → (files : Files) (t : StoreState D) → FitsFiles disk.image t files → FilesThen (form_of cur) op (progress_of_lock inode op q) files (FitsFiles disk.image t)
+  files_by : (q : Progress Bool) → ((used : Bool) → q ≡ machine.Over used → ⊥) → (files : Files) (t : StoreState D) → FitsFiles disk.image t files → FilesThen (form_of cur) op (progress_of_lock s.table.form inode op q) files (FitsFiles disk.image t)
   files_by machine.Moved never files t fits = fits
   files_by (machine.Sleeping cause) never files t fits = fits
   files_by (machine.Over used) never files t fits = absurd (never used refl)
@@ -146,16 +150,16 @@ module _ {D N : Type 0} (disk : Ghosts D N) (s : StoreState D) (p : ℕ) (op : O
   holds_still (machine.Fault fault) n never j = holds_nothing j
 
   abbrev LookedNow : Progress Bool → LockState → VolumeState D → TableState → List TaskState → Type 0
-  LookedNow q n w tab ts = Looked disk s p 0 (progress_of_lock inode op q) (store_then w ts tab) (task_then n q)
+  LookedNow q n w tab ts = Looked disk s p 0 (progress_of_lock s.table.form inode op q) (store_then w ts tab) (task_then n q)
 
   stepped_on : (q : Progress Bool) (n : LockState) (w : VolumeState D) (tab : TableState) (ts : List TaskState) → ((used : Bool) → q ≡ machine.Over used → ⊥) → LookedNow q n w tab ts
-      → Stepped disk s p 0 op (progress_of_lock inode op q) (store_then w ts tab) (task_then n q)
-  stepped_on q n w tab ts never looked = stepped_looked disk s p 0 op (progress_of_lock inode op q) (store_then w ts tab) (task_then n q) is well inside looked
-      (λ files fits. files_by q never files (store_then w ts tab) (files_same disk s p 0 op (progress_of_lock inode op q) (store_then w ts tab) (task_then n q) is well inside looked (holds_still q n never 0) files fits))
+      → Stepped disk s p 0 op (progress_of_lock s.table.form inode op q) (store_then w ts tab) (task_then n q)
+  stepped_on q n w tab ts never looked = stepped_looked disk s p 0 op (progress_of_lock s.table.form inode op q) (store_then w ts tab) (task_then n q) is well inside looked
+      (λ files fits. files_by q never files (store_then w ts tab) (files_same disk s p 0 op (progress_of_lock s.table.form inode op q) (store_then w ts tab) (task_then n q) is well inside looked (holds_still q n never 0) files fits))
       (makes_never q)
 
   -- a step that is made, and has no turn
-  moves : (n : LockState) (w : VolumeState D) (tab : TableState) (ts : List TaskState) → LookedNow machine.Moved n w tab ts → steps_left (place.Taking n) s.table.inode_count < locks_left m.at + 543 → Made machine.Moved n w tab ts
+  moves : (n : LockState) (w : VolumeState D) (tab : TableState) (ts : List TaskState) → LookedNow machine.Moved n w tab ts → steps_left cur (place.Taking n) s.table.inode_count < locks_left m.at + behind → Made machine.Moved n w tab ts
   moves n w tab ts looked falls = record {
     about = 0;
     stepped = stepped_on machine.Moved n w tab ts (λ used over. absurd (cc over)) looked;
@@ -179,6 +183,7 @@ module _ {D N : Type 0} (disk : Ghosts D N) (s : StoreState D) (p : ℕ) (op : O
         tasks = tasks;
         op = refl;
         count = refl;
+        form = refl;
         reads = reads_none disk s (store_then s.volume ts (referred s.table m.number k)) refl well progress.Moved refl;
         shown = refl;
         alone = nobody;
@@ -189,8 +194,9 @@ module _ {D N : Type 0} (disk : Ghosts D N) (s : StoreState D) (p : ℕ) (op : O
           stands = (one.holds, still_open s.volume.log refl);
           table = kept_by_refer s.table (grips_of s.tasks) cur p m.number k table_now few (grip_now lock_at.Reference at) (may_name disk s p op m is well stood is_op) found;
           looks = still_taking (at_lock m (lock_at.Lock k)) refl;
+          logged = tt;
         };
-      }) (subst (λ (a : LockAt). 3 + 543 < locks_left a + 543) (sym at) (omega arith))
+      }) (subst (λ (a : LockAt). 3 + behind < locks_left a + behind) (sym at) (omega arith))
 
   -- the lock is taken, and the inode was not read yet
   locks_it : (k : ℕ) → m.at ≡ lock_at.Lock k → holder_at s.table.places k ≡ None → Makes machine.Moved (at_lock m (lock_at.Read k None)) s.volume (locked s.table k p)
@@ -200,6 +206,7 @@ module _ {D N : Type 0} (disk : Ghosts D N) (s : StoreState D) (p : ℕ) (op : O
         tasks = tasks;
         op = refl;
         count = refl;
+        form = refl;
         reads = reads_none disk s (store_then s.volume ts (locked s.table k p)) refl well progress.Moved refl;
         shown = refl;
         alone = nobody;
@@ -210,11 +217,12 @@ module _ {D N : Type 0} (disk : Ghosts D N) (s : StoreState D) (p : ℕ) (op : O
           stands = (one.holds, still_open s.volume.log refl);
           table = kept_by_lock s.table (grips_of s.tasks) cur p k m.number table_now (grip_now (lock_at.Lock k) at) free;
           looks = still_taking (at_lock m (lock_at.Read k None)) refl;
+          logged = tt;
         };
-      }) (subst (λ (a : LockAt). 2 + 543 < locks_left a + 543) (sym at) (omega arith))
+      }) (subst (λ (a : LockAt). 2 + behind < locks_left a + behind) (sym at) (omega arith))
 
   -- who had to wait, or failed, stands where it stood
-  stands_still : (q : Progress Bool) (n : LockState) → place_of_lock (extent_of s.table.inode_count s.volume.log.size) inode op m n q ≡ place.Taking m → task_then n q ≡ task s.tasks p
+  stands_still : (q : Progress Bool) (n : LockState) → place_of_lock (extent_of s.table.form s.table.inode_count s.volume.log.size) inode op m n q ≡ place.Taking m → task_then n q ≡ task s.tasks p
   stands_still q n same = ap (λ (a : Place). record (task s.tasks p) { place = a }) (same ∙ sym stood)
 
   same_grips : (g : Option Grip) → grip (grips_of s.tasks) p ≡ g → with_grip (grips_of s.tasks) p g ≡ grips_of s.tasks
@@ -227,7 +235,7 @@ module _ {D N : Type 0} (disk : Ghosts D N) (s : StoreState D) (p : ℕ) (op : O
   }
 
   -- nothing is changed
-  stays : (q : Progress Bool) (n : LockState) (ts : List TaskState) → place_of_lock (extent_of s.table.inode_count s.volume.log.size) inode op m n q ≡ place.Taking m → ts ≡ set s.tasks p (task_then n q) → store_then s.volume ts s.table ≡ s
+  stays : (q : Progress Bool) (n : LockState) (ts : List TaskState) → place_of_lock (extent_of s.table.form s.table.inode_count s.volume.log.size) inode op m n q ≡ place.Taking m → ts ≡ set s.tasks p (task_then n q) → store_then s.volume ts s.table ≡ s
   stays q n ts same tasks = ap (λ (l : List TaskState). record s { tasks = l }) (tasks ∙ ap (set s.tasks p) (stands_still q n same) ∙ set-get_or s.tasks p no_task)
 
   -- another has the lock
@@ -240,6 +248,7 @@ module _ {D N : Type 0} (disk : Ghosts D N) (s : StoreState D) (p : ℕ) (op : O
         tasks = tasks;
         op = refl;
         count = refl;
+        form = refl;
         reads = reads_none disk s (store_then s.volume ts s.table) refl well (progress.Sleeping why.InodeHeld) refl;
         shown = refl;
         alone = nobody;
@@ -250,6 +259,7 @@ module _ {D N : Type 0} (disk : Ghosts D N) (s : StoreState D) (p : ℕ) (op : O
           stands = (subst (λ (o : Option ℕ). HoldsAt s.volume.buffers p (inode_block m.number) o) (sym (ap slot_of at)) tt, still_open s.volume.log refl);
           table = same_table (grip_by (place.Taking m) (asked_by (task s.tasks p).op)) (grip_now m.at refl);
           looks = still_taking m refl;
+          logged = tt;
         };
       } in
       record {
@@ -280,6 +290,7 @@ module _ {D N : Type 0} (disk : Ghosts D N) (s : StoreState D) (p : ℕ) (op : O
     pub is_free : used ≡ false → inode.kind ≡ 0
     pub copy : used ≡ true → copy_at tab.places k ≡ Some inode
     pub count : tab.inode_count ≡ s.table.inode_count
+    pub form : tab.form ≡ s.table.form
     pub table : KeepsTable s.table tab p (grips_of s.tasks) (with_grip (grips_of s.tasks) p (Some (locked_grip k m.number))) cur
     pub device : w.device ≡ s.volume.device
     pub well_then : w.fault ≡ None
@@ -314,29 +325,32 @@ module _ {D N : Type 0} (disk : Ghosts D N) (s : StoreState D) (p : ℕ) (op : O
 
   turns : (n : LockState) (k : ℕ) (w : VolumeState D) (tab : TableState) (used : Bool) → IsTaken n k w tab used → Makes (machine.Over used) n w tab
   turns n k w tab used t ts tasks =
-      let r = reply_when_taken (if_used used inode) op in
+      let r = reply_when_taken s.table.form (if_used used inode) op in
       let c = s.table.inode_count in
       let u : TaskState = task_then n (machine.Over used) in
-      let there : place_of_lock (extent_of c s.volume.log.size) inode op m n (machine.Over used) ≡ place_when_taken (extent_of c s.volume.log.size) (if_used used inode) k op = ap (λ (j : ℕ). place_when_taken (extent_of c s.volume.log.size) (if_used used inode) j op) t.place in
+      let there : place_of_lock (extent_of s.table.form c s.volume.log.size) inode op m n (machine.Over used) ≡ place_when_taken (extent_of s.table.form c s.volume.log.size) (if_used used inode) k op = ap (λ (j : ℕ). place_when_taken (extent_of s.table.form c s.volume.log.size) (if_used used inode) j op) t.place in
       let gripped : grip_of u ≡ Some (locked_grip k m.number) =
-      ap (λ (a : Place). grip_by a (asked_by (task s.tasks p).op)) there ∙ ap (grip_by (place_when_taken (extent_of c s.volume.log.size) (if_used used inode) k op)) own_number ∙ grip_at_turn (extent_of c s.volume.log.size) inode k m.number op used in
+      ap (λ (a : Place). grip_by a (asked_by (task s.tasks p).op)) there ∙ ap (grip_by (place_when_taken (extent_of s.table.form c s.volume.log.size) (if_used used inode) k op)) own_number ∙ grip_at_turn (extent_of s.table.form c s.volume.log.size) inode k m.number op used in
       let looked : Looked disk s p m.number (progress.Turned r) (store_then w ts tab) u = record {
         tasks = tasks;
         op = refl;
         count = t.count;
+        form = t.form;
         reads = reads_none disk s (store_then w ts tab) t.device t.well_then (progress.Turned r) refl;
         shown = ap (λ (x : Image). record { current = x; log = w.log }) t.current ∙ ap (λ (l : LogState). record { current = cur; log = l }) t.log;
         alone = t.alone;
-        claims = λ j other. ap (λ (a : Place). claim_by u.op a j) there ∙ claims_at_turn u.op (extent_of c s.volume.log.size) inode k op used j (λ same. other (same ∙ sym asks)) ∙ holds_nothing j;
+        claims = λ j other. ap (λ (a : Place). claim_by u.op a j) there ∙ claims_at_turn u.op (extent_of s.table.form c s.volume.log.size) inode k op used j (λ same. other (same ∙ sym asks)) ∙ holds_nothing j;
         now = λ fine. record {
           others = subst (λ (l : LogState). StaysForOthers s.volume.buffers w.buffers s.volume.log l p) (sym t.log) t.one.others;
           locks = λ b i has. let no : None ≡ Some i = t.one.locks b i has in absurd (cc no);
           stands = subst (λ (a : Place). Stands w.buffers w.log c p (task s.tasks p).op a) (sym there)
-              (stands_at_turn w.buffers w.log c p (task s.tasks p).op (extent_of c s.volume.log.size) inode k op used (can_take disk s p op m is well stood is_op) (subst (λ (o : Option Op). IsOpenFor w.log p o) is_op (still_open w.log t.log)));
+              (stands_at_turn w.buffers w.log c p (task s.tasks p).op (extent_of s.table.form c s.volume.log.size) inode k op used (can_take disk s p op m is well stood is_op) (subst (λ (o : Option Op). IsOpenFor w.log p o) is_op (still_open w.log t.log)));
           table = subst (λ (x : Image). KeepsTable s.table tab p (grips_of s.tasks) (with_grip (grips_of s.tasks) p (grip_of u)) x) (sym t.current)
               (subst (λ (g : Option Grip). KeepsTable s.table tab p (grips_of s.tasks) (with_grip (grips_of s.tasks) p g) cur) (sym gripped) t.table);
-          looks = subst (λ (x : Image). LooksAt x tab u (place_of_lock (extent_of c s.volume.log.size) inode op m n (machine.Over used))) (sym t.current)
+          looks = subst (λ (x : Image). LooksAt x tab u (place_of_lock (extent_of s.table.form c s.volume.log.size) inode op m n (machine.Over used))) (sym t.current)
               (subst (λ (a : Place). LooksAt cur tab u a) (sym there) (looks_at_turn disk s p op m is well stood is_op inside joint t.alone tab k t.count used t.is_used t.copy u is_op refl));
+          logged = subst (LoggedAt (current_of disk.image w) w.log p) (sym there)
+              (logged_at_turn (current_of disk.image w) w.log s.table.inode_count p (extent_of s.table.form c s.volume.log.size) inode k op used (can_take disk s p op m is well stood is_op) (subst (λ (o : Option Op). IsOpenFor w.log p o) is_op (still_open w.log t.log)));
         };
       } in
       record {
@@ -347,9 +361,9 @@ module _ {D N : Type 0} (disk : Ghosts D N) (s : StoreState D) (p : ℕ) (op : O
             (makes_never (machine.Over used));
         shown = looked.shown;
         waits = no_wait (machine.Over used) (store_then w ts tab) refl;
-        apart = turn_apart tab k r t.table.table (makes_none inode op used);
-        falls = λ made. subst (λ (a : Place). steps_left a s.table.inode_count < locks_left m.at + 543) (sym there)
-            (let most = left_at_turn inode k s.table.inode_count s.table.inode_count (extent_of s.table.inode_count s.volume.log.size) op used (can_take disk s p op m is well stood is_op) in let some = some_left m.at in omega (arith, most, some));
+        apart = turn_apart tab k r t.table.table (makes_none s.table.form inode op used);
+        falls = λ made. subst (λ (a : Place). steps_left cur a s.table.inode_count < locks_left m.at + behind) (sym there)
+            (let most = left_at_turn cur inode k s.table.inode_count s.table.inode_count (extent_of s.table.form s.table.inode_count s.volume.log.size) op used (can_take disk s p op m is well stood is_op) (λ yes. few_at_turn disk s p op m is well stood is_op inside joint t.alone (t.is_used yes)) in let some = some_left m.at in omega (arith, most, some));
       }
 
   entry_inside : (k : ℕ) (g : Grip) → grip (grips_of s.tasks) p ≡ Some g → g.place ≡ k → (k < length s.table.places) × (is_of g.number (entry_at s.table.places k) ≡ true)
@@ -377,6 +391,7 @@ module _ {D N : Type 0} (disk : Ghosts D N) (s : StoreState D) (p : ℕ) (op : O
         is_free = λ used. absurd (cc used);
         copy = λ used. ap copy_in (get_or-set_same s.table.places k (with_holder (entry_at s.table.places k) p) None entry.0) ∙ same_copy (entry_at s.table.places k) ∙ copy ∙ ap Some (sym known.0);
         count = refl;
+        form = refl;
         table = kept_by_lock s.table (grips_of s.tasks) cur p k m.number table_now gripped free;
         device = refl;
         well_then = well;
@@ -402,6 +417,7 @@ module _ {D N : Type 0} (disk : Ghosts D N) (s : StoreState D) (p : ℕ) (op : O
       copy = λ yes. ap (λ (t : TableState). copy_at t.places k) (kept_table true (is_used ∙ yes)) ∙ ap copy_in (get_or-set_same s.table.places k (with_copy (entry_at s.table.places k) (Some inode)) None entry.0)
           ∙ new_copy (entry_at s.table.places k) entry.1;
       count = ap (λ (t : TableState). t.inode_count) (kept_table used is_used) ∙ count_of_kept used;
+      form = ap (λ (t : TableState). t.form) (kept_table used is_used) ∙ form_of_kept used;
       table = subst (λ (t : TableState). KeepsTable s.table t p (grips_of s.tasks) (with_grip (grips_of s.tasks) p (Some (locked_grip k m.number))) cur) (sym (kept_table used is_used)) (keeps used is_used);
       device = ap (λ (v : VolumeState D). v.device) reads.block.volume;
       well_then = ap (λ (v : VolumeState D). v.fault) reads.block.volume ∙ well;
@@ -428,6 +444,10 @@ module _ {D N : Type 0} (disk : Ghosts D N) (s : StoreState D) (p : ℕ) (op : O
       count_of_kept : (b : Bool) → (table_by b).inode_count ≡ s.table.inode_count
       count_of_kept true = refl
       count_of_kept false = refl
+
+      form_of_kept : (b : Bool) → (table_by b).form ≡ s.table.form
+      form_of_kept true = refl
+      form_of_kept false = refl
 
       kept_by : (b : Bool) → cond b s.table (kept s.table k inode) ≡ table_by (not b)
       kept_by true = refl
@@ -466,6 +486,7 @@ module _ {D N : Type 0} (disk : Ghosts D N) (s : StoreState D) (p : ℕ) (op : O
           tasks = tasks;
           op = refl;
           count = refl;
+          form = refl;
           reads = reads_got disk s then_at p (inode_block m.number) machine.Moved slot got are no_slot progress.Moved refl;
           shown = shows_got disk s then_at p (inode_block m.number) machine.Moved slot got are no_slot;
           alone = nobody;
@@ -476,11 +497,12 @@ module _ {D N : Type 0} (disk : Ghosts D N) (s : StoreState D) (p : ℕ) (op : O
             stands = (one.holds, still_open w.log log);
             table = subst (λ (x : Image). KeepsTable s.table s.table p (grips_of s.tasks) (with_grip (grips_of s.tasks) p (Some (locked_grip k m.number))) x) (sym got.reads.current) (same_table (Some (locked_grip k m.number)) (grip_now (lock_at.Read k None) at));
             looks = still_taking next refl;
+            logged = tt;
           };
-        }) (subst (λ (a : LockAt). locks_left (lock_at.Read k slot) + 543 < locks_left a + 543) (sym at) (got_fewer got.answer got.gives got.slot))
+        }) (subst (λ (a : LockAt). locks_left (lock_at.Read k slot) + behind < locks_left a + behind) (sym at) (got_fewer got.answer got.gives got.slot))
       where
-        got_fewer : (a : Get) → machine.Moved ≡ (let made : Progress Bool = progress_of a in made) → slot ≡ got_slot_of a → locks_left (lock_at.Read k slot) + 543 < 2 + 543
-        got_fewer (get.Got i) moved is_slot = subst (λ (o : Option ℕ). locks_left (lock_at.Read k o) + 543 < 2 + 543) (sym is_slot) (omega arith)
+        got_fewer : (a : Get) → machine.Moved ≡ (let made : Progress Bool = progress_of a in made) → slot ≡ got_slot_of a → locks_left (lock_at.Read k slot) + behind < 2 + behind
+        got_fewer (get.Got i) moved is_slot = subst (λ (o : Option ℕ). locks_left (lock_at.Read k o) + behind < 2 + behind) (sym is_slot) (omega arith)
         got_fewer (get.Sleeping cause) moved is_slot = absurd (cc moved)
         got_fewer (get.Fault fault) moved is_slot = absurd (cc moved)
     gets (machine.Sleeping cause) got tasks =
@@ -491,6 +513,7 @@ module _ {D N : Type 0} (disk : Ghosts D N) (s : StoreState D) (p : ℕ) (op : O
           tasks = tasks;
           op = refl;
           count = refl;
+          form = refl;
           reads = reads_got disk s then_at p (inode_block m.number) (machine.Sleeping cause) slot got are no_slot (progress.Sleeping cause) refl;
           shown = shows_got disk s then_at p (inode_block m.number) (machine.Sleeping cause) slot got are no_slot;
           alone = nobody;
@@ -503,6 +526,7 @@ module _ {D N : Type 0} (disk : Ghosts D N) (s : StoreState D) (p : ℕ) (op : O
             table = subst (λ (x : Image). KeepsTable s.table s.table p (grips_of s.tasks) (with_grip (grips_of s.tasks) p (grip_by (place.Taking m) (asked_by (task s.tasks p).op))) x) (sym got.reads.current)
                 (same_table (grip_by (place.Taking m) (asked_by (task s.tasks p).op)) (grip_now m.at refl));
             looks = still_taking m refl;
+            logged = tt;
           };
         } in
         record {
@@ -536,6 +560,7 @@ module _ {D N : Type 0} (disk : Ghosts D N) (s : StoreState D) (p : ℕ) (op : O
           tasks = tasks;
           op = refl;
           count = refl;
+          form = refl;
           reads = reads_got disk s then_at p (inode_block m.number) (machine.Fault fault) slot got are no_slot (progress.Fault fault) refl;
           shown = shows_got disk s then_at p (inode_block m.number) (machine.Fault fault) slot got are no_slot;
           alone = nobody;
@@ -600,6 +625,9 @@ module _ {D N : Type 0} (disk : Ghosts D N) (s : StoreState D) (p : ℕ) (op : O
     pub count_taken : tab.inode_count ≡ s.table.inode_count
     count_taken = taken.1.count
 
+    pub form_taken : tab.form ≡ s.table.form
+    form_taken = taken.1.form
+
     pub log_taken : w.log ≡ s.volume.log
     log_taken = taken.1.log
 
@@ -607,7 +635,7 @@ module _ {D N : Type 0} (disk : Ghosts D N) (s : StoreState D) (p : ℕ) (op : O
     pub few_numbers : tab.inode_count ≤ 1024
     few_numbers = let few = (facts_of cur is.geometry).few in let same = taken.1.count in let numbers = is.numbers in omega (arith, few, same, numbers)
 
-    pub readable_taken : IsReadable (if_used used inode)
+    pub readable_taken : IsReadable s.table.form (if_used used inode)
     readable_taken = readable disk s p op m is well stood is_op inside joint taken.1.alone used taken.1.is_used
 
   -- ANY STEP
@@ -656,12 +684,12 @@ module _ {D N : Type 0} (disk : Ghosts D N) (s : StoreState D) (p : ℕ) (op : O
 
     -- what is true of every store
     pub store_taken : IsStore disk.image (store_then w ts tab)
-    store_taken = store_stepped disk s p made.about op (progress_of_lock inode op q) (store_then w ts tab) (task_then n q) is well inside made.stepped
+    store_taken = store_stepped disk s p made.about op (progress_of_lock s.table.form inode op q) (store_then w ts tab) (task_then n q) is well inside made.stepped
 
     -- and what a step promises
-    pub steps_taken : Steps disk s p op (progress_of_lock inode op q) (store_then w ts tab)
-    steps_taken = steps_stepped disk s p made.about op (progress_of_lock inode op q) (store_then w ts tab) (task_then n q) is well inside made.stepped
-        (subst (λ (a : Place). Goes disk a s p op (progress_of_lock inode op q) (store_then w ts tab)) (sym stood) (
+    pub steps_taken : Steps disk s p op (progress_of_lock s.table.form inode op q) (store_then w ts tab)
+    steps_taken = steps_stepped disk s p made.about op (progress_of_lock s.table.form inode op q) (store_then w ts tab) (task_then n q) is well inside made.stepped
+        (subst (λ (a : Place). Goes disk a s p op (progress_of_lock s.table.form inode op q) (store_then w ts tab)) (sym stood) (
           record {
             answer = q;
             now = n;
@@ -673,7 +701,8 @@ module _ {D N : Type 0} (disk : Ghosts D N) (s : StoreState D) (p : ℕ) (op : O
           made.shown,
         ))
         made.waits made.apart
-        (λ is_step going. subst (λ (a : Place). steps_left (place_of_lock (extent_of s.table.inode_count s.volume.log.size) inode op m n q) s.table.inode_count < steps_left a s.table.inode_count) (sym stood) (made.falls is_step))
+        (λ is_step going. subst (λ (x : Image). steps_left x (task_then n q).place s.table.inode_count < steps_left cur (task s.tasks p).place s.table.inode_count) (sym (ap (λ (v : Shown). v.current) made.shown))
+        (subst (λ (a : Place). steps_left cur (task_then n q).place s.table.inode_count < steps_left cur a s.table.inode_count) (sym stood) (made.falls is_step)))
       where
         now_is : task ts p ≡ task_then n q
         now_is = ap (λ (l : List TaskState). task l p) tasks ∙ get_or-set_same s.tasks p (task_then n q) no_task inside

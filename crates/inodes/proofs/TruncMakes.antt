@@ -1,8 +1,8 @@
 -- What each step of a truncation makes of the current image and the table: it gets a block, clears a bit, gives the
 -- block of addresses back, or writes the inode.
-use Rattle.std.proofs.Common.{◌≡◌, ◌≢◌, inr, ℕ, ◌+◌, ◌<◌, Bool, true, false, cond, get_or, length, List, [], refl, sym, ◌∙◌, ap, subst, ⊎_elim, arith, Option, Some, None}
+use Rattle.std.proofs.Common.{◌≡◌, ◌≢◌, inr, ℕ, suc, ◌+◌, ◌*◌, ◌<◌, ◌≤◌, Bool, true, false, cond, get_or, length, List, [], ◌∷◌, ◌++◌, refl, sym, ◌∙◌, ap, subst, ⊎_elim, arith, Option, Some, None}
 use Rattle.std.specs.Prelude.{IsTrue}
-use Rattle.std.proofs.lemmas.Bool.{cases_Bool, false≢true}
+use Rattle.std.proofs.lemmas.Bool.{cases_Bool, false≢true, ne_eqb}
 use Rattle.blocks.specs.Disk.{Image, block_at}
 use Rattle.blocks.specs.declared.disk.Disk.{Ghosts}
 use Rattle.model.specs.declared.types.image.Dinode.{Dinode}
@@ -10,17 +10,24 @@ use Rattle.model.specs.Codec.{with_inode}
 use Rattle.model.specs.Fields.{words_of}
 use Rattle.model.specs.Files.{Files, file_in}
 use Rattle.model.specs.Journal.{is_number}
-use Rattle.model.specs.Layout.{inode_block, inode_count_of, inode_of}
+use Rattle.model.specs.declared.types.image.Form.{Form}
+use Rattle.model.specs.Layout.{depths, form_of, direct_count, inode_block, inode_of}
+use Rattle.model.specs.Lemmas.Frames.{form_agree}
 use Rattle.model.specs.Lemmas.Inodes.{inode_of-with_inode}
 use Rattle.model.specs.Tasks.{Marks}
-use Rattle.loose.specs.Held.{Held, Claims, FitsHeld, IsClaimedNow, last_inode, unmarked, frees, Claim}
-use Rattle.loose.specs.HeldLaws.{FitsThen, IsHeldIn, entry_at}
+use Rattle.loose.specs.Held.{Held, Claims, FitsHeld, IsClaimedNow, blocks_left, last_inode, listed, unmarked, frees, Claim, without_address}
+use Rattle.loose.specs.HeldLaws.{IsGivenUp, IsHeldIn}
+use Rattle.loose.specs.Trees.{Gives, LeavesAlike, depth_of, entry_of, led_to, left_under}
 use Rattle.loose.specs.Loose.{LiesInData}
 use Rattle.loose.specs.Lemmas.Claims.{apart}
-use Rattle.loose.specs.Lemmas.GivenUp.{direct_given_up, entry_given_up, indirect_given_up, bits}
+use Rattle.loose.specs.Lemmas.Frames.{AgreesAtData}
+use Rattle.loose.specs.Lemmas.GivenUp.{bits, block_given_up, direct_given_up, first_alone, leaves_as_many, tree_given_up}
 use Rattle.loose.specs.Lemmas.HeldMarks.{cleared_bit_keeps, write_back_keeps}
+use Rattle.loose.specs.Lemmas.LeftInTrees.{alone, begun_left}
+use Rattle.loose.specs.Lemmas.LeftOnWays.{gives_on_way}
 use Rattle.loose.specs.Lemmas.Looks.{between}
-use Rattle.loose.specs.Lemmas.Remapped.{agrees, inode_same}
+use Rattle.loose.specs.Lemmas.Remapped.{IsMapped, agrees, inode_same, test}
+use Rattle.loose.specs.Lemmas.Turns.{entry_passed}
 use Rattle.loose.specs.Lemmas.WriteBacks.{last_fields, write_back_rests}
 use Rattle.wal.specs.Joint.{Joint}
 use Rattle.wal.specs.Machine.{LogState, is_among, noted, used_by}
@@ -30,9 +37,11 @@ use Rattle.driver.specs.Deeds.{CarriesOut, image_with}
 use Rattle.driver.specs.Driver.{Drives, GetsNext, Uses, progress_of_over, taken, when_got}
 use Rattle.driver.specs.Getting.{Releases, WritesBlock}
 use Rattle.driver.specs.Lemmas.Slots.{not_got}
-use Rattle.driver.specs.Next.{beside, block_of_next, kept_then, used_now}
+use Rattle.driver.specs.Next.{beside, block_of_next, kept_and, kept_then, used_now}
+use Rattle.driver.specs.declared.deed.Deed.TheVariants as deed
 use Rattle.driver.specs.declared.deed.Patch.TheVariants as patch
 use Rattle.driver.specs.declared.driving.Got.{Got}
+use Rattle.driver.specs.declared.driving.Kept.{Kept}
 use Rattle.driver.specs.declared.machine.Next.TheVariants as next
 use Rattle.driver.specs.declared.progress.Progress.{Progress}
 use Rattle.driver.specs.declared.progress.Progress.TheVariants as machine
@@ -42,17 +51,18 @@ use Rattle.inodes.specs.declared.itrunc.TruncAt.TheVariants as trunc_at
 use Rattle.inodes.specs.declared.tasks.Place.TheVariants as place
 use Rattle.inodes.specs.Goes.{table_of_trunc}
 use Rattle.inodes.specs.Grips.{Grip, IsCopy, KeepsTable, KeepsUsedInodes}
-use Rattle.inodes.specs.Holding.{HasGivenUp, KeepsAt, claim_by, claims_of, frees_left, held_of, truncs_left, uses_left}
-use Rattle.inodes.specs.Itrunc.{Freeing, after_trunc, at_entries, deed_of_trunc, entries_in, inode_left, inode_without, itrunc, last_inode_of, next_of_trunc, over_of_trunc, trunc_next}
+use Rattle.inodes.specs.Holding.{AreGivenUp, HasGivenUp, IsAtDirect, IsAtEntry, IsInHand, IsTruncating, Keeps, above_by, above_hand, block_of_got, claims_of, hand_in, held_of, made_so_far, one_for, root_of, stage_left, truncs_left, way_of}
+use Rattle.inodes.specs.Itrunc.{Freeing, IsBelow, address_left, after_trunc, at_block, at_branches, at_entries, deed_of_trunc, inode_left, inode_without, itrunc, last_inode_of, left_by, next_of_trunc, over_of_trunc, trunc_next}
 use Rattle.inodes.specs.Places.{grips_of}
 use Rattle.inodes.specs.Store.{StoreState, IsStore, HasLogged, current_of}
 use Rattle.inodes.specs.Table.{TableState, renewed}
 use Rattle.inodes.specs.Tasks.{task}
 use Rattle.inodes.specs.Lemmas.Grips.{kept_by_image, kept_by_renew}
 use Rattle.inodes.proofs.Frames.{marks_same}
+use Rattle.inodes.proofs.InHand.{first_tree, hand_kept, in_hand_kept, root_there, two_deep}
 use Rattle.inodes.proofs.LooksKept.{KeepsUsed, keeps_freed, keeps_same, keeps_written}
-use Rattle.inodes.proofs.TruncFiles.{fits_still, passed_to, with_claim, with_claim_is}
-use Rattle.inodes.proofs.TruncNext.{AtNext, after_direct, at_next, direct_given, direct_keeps, indirect_given, next_left, some_uses}
+use Rattle.inodes.proofs.TruncFiles.{fits_still, with_claim, with_claim_is}
+use Rattle.inodes.proofs.TruncNext.{ComesTo, address_cursor, address_left_comes, block_comes, branches_come, entries_come, few_for, few_made}
 use Rattle.inodes.proofs.TruncSlots.{gains}
 use Rattle.inodes.proofs.Truncating as of
 
@@ -67,13 +77,19 @@ logged_noted l p b lt had = ⊎_elim
     (cases_Bool (is_among b l.homes))
 
 -- the step that gets a block is one less
-less_got : (given_up i : ℕ) (m : Itrunc) (a : TruncAt) (b : ℕ) → next_of_trunc m a ≡ next.Use b → frees_left given_up (Some i) a < frees_left given_up None a
-less_got given_up i m (trunc_at.Direct k) b is = omega arith
-less_got given_up i m trunc_at.Loading b is = absurd (cc is)
-less_got given_up i m trunc_at.Entry b is = omega arith
-less_got given_up i m trunc_at.Unloading b is = absurd (cc is)
-less_got given_up i m trunc_at.Indirect b is = omega arith
-less_got given_up i m trunc_at.Updating b is = omega arith
+less_got : (blocks : ℕ) (upper : Option ℕ) (i : ℕ) (m : Itrunc) (a : TruncAt) (b : ℕ) → next_of_trunc m a ≡ next.Use b → 4 * blocks + stage_left upper (Some i) a < 4 * blocks + stage_left upper None a
+less_got blocks upper i m trunc_at.Direct b is = omega arith
+less_got blocks upper i m (trunc_at.Loading c) b is = absurd (cc is)
+less_got blocks upper i m trunc_at.Entry b is = let one = few_for upper in omega (arith, one)
+less_got blocks upper i m trunc_at.Unloading b is = absurd (cc is)
+less_got blocks upper i m trunc_at.Freeing b is = let one = few_for upper in omega (arith, one)
+less_got blocks upper i m trunc_at.Updating b is = omega arith
+
+-- nothing is kept, and nothing was got
+pub record HasNone (n : Freeing) : Type 0 where
+  pub inner : block_of_got n.kept.inner ≡ None
+  pub outer : block_of_got n.kept.outer ≡ None
+  pub used : n.used ≡ None
 
 -- process p, whose task frees a file's blocks, makes a step
 module _ {D N : Type 0} (disk : Ghosts D N) (s : StoreState D) (p k : ℕ) (m : Freeing) (is : IsStore disk.image s) (well : s.volume.fault ≡ None)
@@ -91,9 +107,6 @@ module _ {D N : Type 0} (disk : Ghosts D N) (s : StoreState D) (p k : ℕ) (m : 
   abbrev mm : Itrunc
   mm = m.machine
 
-  abbrev own : ℕ
-  own = get_or mm.inode.addrs 12 0
-
   abbrev gs : List (Option Grip)
   gs = grips_of s.tasks
 
@@ -102,10 +115,11 @@ module _ {D N : Type 0} (disk : Ghosts D N) (s : StoreState D) (p k : ℕ) (m : 
 
   -- the truncation goes on
   pub record GoesOn : Type 0 where
-    pub same : n.machine ≡ record mm { inode = n.machine.inode; given_up = n.machine.given_up; at = n.machine.at }
+    pub same : n.machine ≡ record mm { inode = n.machine.inode; slot = n.machine.slot; upper = n.machine.upper; given_up = n.machine.given_up; at = n.machine.at }
+    pub slot : n.machine.slot < 13
     pub given : HasGivenUp now n.machine n.machine.at
-    pub keeps : KeepsAt n.kept (get_or n.machine.inode.addrs 12 0) n.machine.at
-    pub less : truncs_left n < truncs_left m
+    pub keeps : Keeps now n.kept n.machine n.machine.at
+    pub less : truncs_left now n < truncs_left cur m
     pub logged : HasLogged w.log p mm.bitmap
     -- with its new claim the image stands for the same files
     pub fits : (new : Claims) → IsClaimedNow claims mm.number (Some (frees (held_of n.machine))) new → (files : Files) → FitsHeld files cur claims → FitsHeld files now new
@@ -117,7 +131,7 @@ module _ {D N : Type 0} (disk : Ghosts D N) (s : StoreState D) (p k : ℕ) (m : 
     pub table : KeepsTable s.table (table_of_trunc s.table k m q) p gs gs now
     pub on : q ≡ machine.Moved → GoesOn
     -- nothing is kept at the end, and the number is at rest
-    pub over : q ≡ machine.Over tt → (n.kept ≡ None) × (n.used ≡ None)
+    pub over : q ≡ machine.Over tt → HasNone n × (1 ≤ truncs_left cur m)
     pub rests : q ≡ machine.Over tt → (new : Claims) → IsClaimedNow claims mm.number None new → (files : Files) → FitsHeld files cur claims → FitsHeld files now new
 
   abbrev files_now : Files
@@ -128,6 +142,12 @@ module _ {D N : Type 0} (disk : Ghosts D N) (s : StoreState D) (p k : ℕ) (m : 
 
   held_in : (files : Files) → FitsHeld files cur claims → IsHeldIn files cur claims mm.number (frees (held_of mm))
   held_in files fits = of.held_in disk s p k m is well stood files fits
+
+  map : IsMapped cur
+  map = of.map disk s p k m is well stood
+
+  work : IsTruncating cur count (task s.tasks p) m
+  work = of.work disk s p k m is well stood
 
   logged : HasLogged s.volume.log p mm.bitmap
   logged = (of.holds disk s p k m is well stood).logged
@@ -169,43 +189,65 @@ module _ {D N : Type 0} (disk : Ghosts D N) (s : StoreState D) (p k : ℕ) (m : 
     to_use : (i : ℕ) (a : TruncAt) (b : ℕ) → mm.at ≡ a → next_of_trunc mm a ≡ next.Use b → m.used ≡ None → n ≡ record m { used = Some i } → w.log ≡ s.volume.log → GoesOn
     to_use i a b at uses none to log =
         let same : n.machine ≡ mm = ap (λ (o : Freeing). o.machine) to in
-        let work = of.work disk s p k m is well stood in
+        let blocks : ℕ = blocks_left cur (held_of mm) in
         record {
-          same = subst (λ (o : Itrunc). o ≡ record mm { inode = o.inode; given_up = o.given_up; at = o.at }) (sym same) refl;
+          same = subst (λ (o : Itrunc). o ≡ record mm { inode = o.inode; slot = o.slot; upper = o.upper; given_up = o.given_up; at = o.at }) (sym same) refl;
+          slot = subst (λ (o : Itrunc). o.slot < 13) (sym same) work.slot;
           given = subst (λ (x : Image). HasGivenUp x n.machine n.machine.at) (sym stays) (subst (λ (o : Itrunc). HasGivenUp cur o o.at) (sym same) work.given);
-          keeps = subst (λ (o : Freeing). KeepsAt o.kept (get_or o.machine.inode.addrs 12 0) o.machine.at) (sym to) work.keeps;
-          less = subst (λ (o : Freeing). truncs_left o < truncs_left m) (sym to)
-              (subst (λ (u : Option ℕ). frees_left mm.given_up (Some i) mm.at < frees_left mm.given_up u mm.at) (sym none)
-              (subst (λ (o : TruncAt). frees_left mm.given_up (Some i) o < frees_left mm.given_up None o) (sym at) (less_got mm.given_up i mm a b uses)));
+          keeps = subst (λ (x : Image). Keeps x n.kept n.machine n.machine.at) (sym stays) (subst (λ (o : Freeing). Keeps cur o.kept o.machine o.machine.at) (sym to) work.keeps);
+          less = subst (λ (x : Image). truncs_left x n < truncs_left cur m) (sym stays) (subst (λ (o : Freeing). truncs_left cur o < truncs_left cur m) (sym to)
+              (subst (λ (u : Option ℕ). 4 * blocks + stage_left mm.upper (Some i) mm.at < 4 * blocks + stage_left mm.upper u mm.at) (sym none)
+              (subst (λ (o : TruncAt). 4 * blocks + stage_left mm.upper (Some i) o < 4 * blocks + stage_left mm.upper None o) (sym at) (less_got blocks mm.upper i mm a b uses))));
           logged = subst (λ (l : LogState). HasLogged l p mm.bitmap) (sym log) logged;
           fits = same_claim same;
         }
 
-    -- the block of addresses was got, and is kept
-    to_entries : (i : ℕ) → mm.at ≡ trunc_at.Loading → n ≡ taken itrunc (block_at cur own) (next.Keep own) i m → w.log ≡ s.volume.log → GoesOn
-    to_entries i at to log =
-        let given : HasGivenUp cur mm trunc_at.Loading = subst (HasGivenUp cur mm) at (of.work disk s p k m is well stood).given in
-        let after : Itrunc = at_entries mm (entries_in cur mm) 0 in
-        let same : n.machine ≡ after = ap (λ (o : Freeing). o.machine) to in
-        let next : AtNext mm after (entries_in cur mm) 0 = at_next mm (entries_in cur mm) 0 (omega arith) in
-        let inode : after.inode ≡ mm.inode = ap (λ (o : Itrunc). o.inode) next.same in
-        let left = next.left in
-        let none = given.0 in
-        record {
-          same = subst (λ (o : Itrunc). o ≡ record mm { inode = o.inode; given_up = o.given_up; at = o.at }) (sym same)
-              (next.same ∙ ap (λ (d : Dinode). record mm { inode = d; given_up = after.given_up; at = after.at }) (sym inode));
-          given = subst (λ (x : Image). HasGivenUp x n.machine n.machine.at) (sym stays) (subst (λ (o : Itrunc). HasGivenUp cur o o.at) (sym same) (next.given cur refl given.1 given.2));
-          keeps = subst (λ (o : Freeing). KeepsAt o.kept (get_or o.machine.inode.addrs 12 0) o.machine.at) (sym to)
-              (next.keeps (Some (record { block = own; slot = i })) (get_or after.inode.addrs 12 0) (ap (λ (d : Dinode). get_or d.addrs 12 0) (sym inode)));
-          less = subst (λ (o : Freeing). truncs_left o < truncs_left m) (sym to)
-              (subst (λ (o : TruncAt). frees_left after.given_up None after.at < frees_left mm.given_up m.used o) (sym at) (omega (arith, left)));
-          logged = subst (λ (l : LogState). HasLogged l p mm.bitmap) (sym log) logged;
-          fits = λ new claimed files fits. subst (λ (x : Image). FitsHeld files x new) (sym stays)
-              (passed_to files cur claims new mm.number after.given_up (held_of mm) (held_in files fits) (omega (arith, none)) (λ e low high. next.pass.none e (omega arith) high)
-              (subst (λ (c : Option Claim). IsClaimedNow claims mm.number c new) (ap (λ (o : Itrunc). Some (frees (held_of o))) (same ∙ next.same)) claimed));
-        }
+    -- the block of addresses in hand was got, and is kept
+    to_block : (i b : ℕ) → mm.at ≡ trunc_at.Loading b → n ≡ taken itrunc (block_at cur b) (next.Keep b) i m → w.log ≡ s.volume.log → GoesOn
+    to_block i b at to log = record {
+      same = subst (λ (o : Itrunc). o ≡ record mm { inode = o.inode; slot = o.slot; upper = o.upper; given_up = o.given_up; at = o.at }) (sym same)
+          (comes.same ∙ ap (λ (d : Dinode). record mm { inode = d; slot = after.slot; upper = after.upper; given_up = after.given_up; at = after.at }) (sym inode));
+      slot = subst (λ (o : Itrunc). o.slot < 13) (sym same) comes.slot;
+      given = subst (λ (x : Image). HasGivenUp x n.machine n.machine.at) (sym stays) (subst (λ (o : Itrunc). HasGivenUp cur o o.at) (sym same) comes.given);
+      keeps = subst (λ (x : Image). Keeps x n.kept n.machine n.machine.at) (sym stays) (subst (λ (o : Freeing). Keeps cur o.kept o.machine o.machine.at) (sym to)
+          (comes.keeps (kept_and m.kept (record { block = b; slot = i })) (ap Some (sym given.2)) (keeps.inner)));
+      less = subst (λ (x : Image). truncs_left x n < truncs_left cur m) (sym stays) (subst (λ (o : Freeing). truncs_left cur o < truncs_left cur m) (sym to)
+          (subst (λ (o : TruncAt). 4 * (blocks_left cur (held_of after)) + stage_left after.upper None after.at < 4 * (blocks_left cur (held_of mm)) + stage_left mm.upper m.used o) (sym at)
+          (omega (arith, comes.made, few_for mm.upper, as_many))));
+      logged = subst (λ (l : LogState). HasLogged l p mm.bitmap) (sym log) logged;
+      fits = λ new claimed files fits. subst (λ (x : Image). FitsHeld files x new) (sym stays)
+          (entry_passed files cur claims new mm.number (held_of after).cursor (held_of mm) (held_in files fits) alike
+          (subst (λ (c : Option Claim). IsClaimedNow claims mm.number c new) (ap (λ (h : Held). Some (frees h)) (ap held_of same ∙ claim)) claimed));
+    }
+      where
+        given : HasGivenUp cur mm (trunc_at.Loading b)
+        given = subst (HasGivenUp cur mm) at work.given
 
-  gets_makes : (a : TruncAt) → mm.at ≡ a → HasGivenUp cur mm a → KeepsAt m.kept own a → used_now (next_of_trunc mm a) m.kept m.used ≡ None → GetsNext itrunc disk s.volume p m q n w → Makes
+        keeps : Keeps cur m.kept mm (trunc_at.Loading b)
+        keeps = subst (Keeps cur m.kept mm) at work.keeps
+
+        after : Itrunc
+        after = at_block mm (words_of (block_at cur b))
+
+        same : n.machine ≡ after
+        same = ap (λ (o : Freeing). o.machine) to
+
+        comes : ComesTo cur mm after (way_of mm ++ 0 ∷ []) (Some (hand_in cur mm)) (above_hand mm) (1 + one_for mm.upper)
+        comes = subst (λ (c : ℕ). ComesTo cur mm (at_block mm (words_of (block_at cur c))) (way_of mm ++ 0 ∷ []) (Some (hand_in cur mm)) (above_hand mm) (1 + one_for mm.upper)) given.2 (block_comes cur mm given.0 work.form)
+
+        inode : after.inode ≡ mm.inode
+        inode = ap (λ (o : Itrunc). o.inode) comes.same
+
+        claim : held_of after ≡ (let h : Held = record (held_of mm) { cursor = (held_of after).cursor } in h)
+        claim = ap held_of comes.same
+
+        alike : LeavesAlike cur mm.inode (held_of after).cursor (held_of mm).cursor
+        alike = subst (λ (g : ℕ). LeavesAlike cur mm.inode (held_of after).cursor (way_of mm ++ g ∷ [])) (sym given.1) comes.alike
+
+        as_many : blocks_left cur (held_of after) ≡ blocks_left cur (held_of mm)
+        as_many = ap (blocks_left cur) claim ∙ leaves_as_many cur (held_of after).cursor (held_of mm) alike
+
+  gets_makes : (a : TruncAt) → mm.at ≡ a → HasGivenUp cur mm a → Keeps cur m.kept mm a → used_now (next_of_trunc mm a) m.kept m.used ≡ None → GetsNext itrunc disk s.volume p m q n w → Makes
   gets_makes a at given keeps none gets = still_makes gets.gets.reads.current never on
     where
       b : ℕ
@@ -230,12 +272,12 @@ module _ {D N : Type 0} (disk : Ghosts D N) (s : StoreState D) (p k : ℕ) (m : 
           i : ℕ
           i = (gains disk s then_at p b q gets.slot gets.gets moved).at
 
-          by_at : (a : TruncAt) → mm.at ≡ a → KeepsAt m.kept own a → used_now (next_of_trunc mm a) m.kept m.used ≡ None → n ≡ taken itrunc (block_at cur (block_of_next (next_of_trunc mm a))) (next_of_trunc mm a) i m → GoesOn
-          by_at (trunc_at.Direct j) at keeps none to = to_use gets.gets.reads.current never i (trunc_at.Direct j) mm.bitmap at refl (not_got mm.bitmap m.kept m.used none) to log
-          by_at trunc_at.Loading at keeps none to = to_entries gets.gets.reads.current never i at to log
+          by_at : (a : TruncAt) → mm.at ≡ a → Keeps cur m.kept mm a → used_now (next_of_trunc mm a) m.kept m.used ≡ None → n ≡ taken itrunc (block_at cur (block_of_next (next_of_trunc mm a))) (next_of_trunc mm a) i m → GoesOn
+          by_at trunc_at.Direct at keeps none to = to_use gets.gets.reads.current never i trunc_at.Direct mm.bitmap at refl (not_got mm.bitmap m.kept m.used none) to log
+          by_at (trunc_at.Loading c) at keeps none to = to_block gets.gets.reads.current never i c at to log
           by_at trunc_at.Entry at keeps none to = to_use gets.gets.reads.current never i trunc_at.Entry mm.bitmap at refl (not_got mm.bitmap m.kept m.used none) to log
-          by_at trunc_at.Unloading at keeps none to = absurd (subst (λ (o : Option Got). Rattle.inodes.specs.Holding.IsKept o own) none keeps)
-          by_at trunc_at.Indirect at keeps none to = to_use gets.gets.reads.current never i trunc_at.Indirect mm.bitmap at refl (not_got mm.bitmap m.kept m.used none) to log
+          by_at trunc_at.Unloading at keeps none to = absurd (let e : None ≡ Some (hand_in cur mm) = sym (ap block_of_got none) ∙ keeps.inner in cc e)
+          by_at trunc_at.Freeing at keeps none to = to_use gets.gets.reads.current never i trunc_at.Freeing mm.bitmap at refl (not_got mm.bitmap m.kept m.used none) to log
           by_at trunc_at.Updating at keeps none to = to_use gets.gets.reads.current never i trunc_at.Updating (inode_block mm.number) at refl (not_got (inode_block mm.number) m.kept m.used none) to log
 
   -- ---- a block is used
@@ -259,22 +301,19 @@ module _ {D N : Type 0} (disk : Ghosts D N) (s : StoreState D) (p k : ℕ) (m : 
     carries_at : (a : TruncAt) → mm.at ≡ a → CarriesOut disk s.volume p g.slot g.block (deed_of_trunc mm entries a) w
     carries_at a at = subst (λ (o : TruncAt). CarriesOut disk s.volume p g.slot g.block (deed_of_trunc mm entries o) w) at uses.carries
 
-    -- what is left, by the inode and the place behind it
-    left_at : (u : Itrunc) → n.machine ≡ u → n.kept ≡ None → frees_left u.given_up None u.at < truncs_left m → truncs_left n < truncs_left m
-    left_at u to kept less = subst (λ (o : Option ℕ). frees_left n.machine.given_up o n.machine.at < truncs_left m) (sym used_none) (subst (λ (o : Itrunc). frees_left o.given_up None o.at < truncs_left m) (sym to) less)
-
     -- ---- a bit is cleared
 
     -- what holds of a block that is given up so, and of what comes behind it
     record Frees (b : ℕ) (u : Itrunc) : Type 0 where
       moved : q ≡ machine.Moved
       to : n.machine ≡ u
-      same : u ≡ record mm { inode = u.inode; given_up = u.given_up; at = u.at }
       lies : LiesInData cur b
-      event : (files : Files) → FitsHeld files cur claims → (new : Claims) → IsClaimedNow claims mm.number (Some (frees (held_of u))) new → FitsThen files cur claims mm.number (unmarked cur b) new
+      event : (files : Files) → FitsHeld files cur claims → (new : Claims) → IsClaimedNow claims mm.number (Some (frees (held_of u))) new → IsGivenUp files cur claims mm.number b (held_of mm) (held_of u) new
+      same : u ≡ record mm { inode = u.inode; slot = u.slot; upper = u.upper; given_up = u.given_up; at = u.at }
+      slot : u.slot < 13
       given : HasGivenUp (unmarked cur b) u u.at
-      keeps : KeepsAt n.kept (get_or u.inode.addrs 12 0) u.at
-      less : frees_left u.given_up None u.at < truncs_left m
+      keeps : Keeps (unmarked cur b) n.kept u u.at
+      made : made_so_far mm.upper m.used mm.at < made_so_far u.upper None u.at + 4
 
     module _ (b : ℕ) (u : Itrunc) (f : Frees b u) (at : g.block ≡ mm.bitmap) (writes : WritesBlock disk s.volume p g.slot g.block (image_with cur g.block (patch.ClearBit b)) w) where
       shown : now ≡ unmarked cur b
@@ -284,136 +323,272 @@ module _ {D N : Type 0} (disk : Ghosts D N) (s : StoreState D) (p k : ℕ) (m : 
       mid = with_claim claims mm.number (Some (frees (held_of u)))
 
       used_still : (i : ℕ) → KeepsUsedInodes count i cur (unmarked cur b)
-      used_still i j names other used = inode_same cur (bits cur b (of.map disk s p k m is well stood)) (of.map disk s p k m is well stood) j
+      used_still i j names other used = inode_same cur (bits cur b map) map j
           (apart cur j is.geometry (between cur j (subst (λ (n : ℕ). IsTrue (is_number n j)) is.numbers names)).high).before_map
+
+      then_now : IsGivenUp files_now cur claims mm.number b (held_of mm) (held_of u) mid
+      then_now = f.event files_now fits_now mid (with_claim_is claims mm.number (Some (frees (held_of u))))
+
+      less_then : 4 * (blocks_left (unmarked cur b) (held_of u)) + stage_left u.upper None u.at < truncs_left cur m
+      less_then = omega (arith, then_now.fewer, f.made, few_made mm.upper m.used mm.at, few_made u.upper None u.at)
 
       frees_makes : Makes
       frees_makes = record {
         marks = subst (Marks None cur) (sym shown) (cleared_bit_keeps files_now cur claims b fits_now f.lies.1);
         keeps = subst (KeepsUsed count mm.number claims cur) (sym shown) (subst (λ (c : ℕ). KeepsUsed c mm.number claims cur (unmarked cur b)) (sym is.numbers)
-            (keeps_freed files_now files_now cur claims mid mm.number b fits_now (f.event files_now fits_now mid (with_claim_is claims mm.number (Some (frees (held_of u)))))));
+            (keeps_freed files_now files_now cur claims mid mm.number b fits_now then_now.then));
         table = subst (λ (r : Progress (Unit {0})). KeepsTable s.table (table_of_trunc s.table k m r) p gs gs now) (sym f.moved)
             (subst (λ (x : Image). KeepsTable s.table s.table p gs gs x) (sym shown) (record {
               table = kept_by_image s.table gs cur (unmarked cur b) (of.looking disk s p k m is well stood).table (used_still 0);
               others = λ q j i other locks. record { number = λ e. refl; holder = refl; copy = refl };
             }));
         on = λ moved. record {
-          same = subst (λ (o : Itrunc). o ≡ record mm { inode = o.inode; given_up = o.given_up; at = o.at }) (sym f.to) f.same;
+          same = subst (λ (o : Itrunc). o ≡ record mm { inode = o.inode; slot = o.slot; upper = o.upper; given_up = o.given_up; at = o.at }) (sym f.to) f.same;
+          slot = subst (λ (o : Itrunc). o.slot < 13) (sym f.to) f.slot;
           given = subst (λ (x : Image). HasGivenUp x n.machine n.machine.at) (sym shown) (subst (λ (o : Itrunc). HasGivenUp (unmarked cur b) o o.at) (sym f.to) f.given);
-          keeps = subst (λ (o : Itrunc). KeepsAt n.kept (get_or o.inode.addrs 12 0) o.at) (sym f.to) f.keeps;
-          less = subst (λ (o : Option ℕ). frees_left n.machine.given_up o n.machine.at < truncs_left m) (sym used_none) (subst (λ (o : Itrunc). frees_left o.given_up None o.at < truncs_left m) (sym f.to) f.less);
+          keeps = subst (λ (x : Image). Keeps x n.kept n.machine n.machine.at) (sym shown) (subst (λ (o : Itrunc). Keeps (unmarked cur b) n.kept o o.at) (sym f.to) f.keeps);
+          less = subst (λ (x : Image). truncs_left x n < truncs_left cur m) (sym shown)
+              (subst (λ (o : Option ℕ). 4 * (blocks_left (unmarked cur b) (held_of n.machine)) + stage_left n.machine.upper o n.machine.at < truncs_left cur m) (sym used_none)
+              (subst (λ (o : Itrunc). 4 * (blocks_left (unmarked cur b) (held_of o)) + stage_left o.upper None o.at < truncs_left cur m) (sym f.to) less_then));
           logged = subst (λ (l : LogState). HasLogged l p mm.bitmap) (sym writes.log) (subst (λ (c : ℕ). HasLogged (noted s.volume.log p c) p mm.bitmap) (sym at) (logged_noted s.volume.log p mm.bitmap logs logged));
           fits = λ new claimed files fits. subst (λ (x : Image). FitsHeld files x new) (sym shown)
-              (f.event files fits new (subst (λ (o : Itrunc). IsClaimedNow claims mm.number (Some (frees (held_of o))) new) f.to claimed)).fits;
+              (f.event files fits new (subst (λ (o : Itrunc). IsClaimedNow claims mm.number (Some (frees (held_of o))) new) f.to claimed)).then.fits;
         };
         over = λ over. absurd (cc (sym f.moved ∙ over));
         rests = λ over. absurd (cc (sym f.moved ∙ over));
       }
 
-    -- an address of the inode's own is given up
-    direct_freed : (j : ℕ) → mm.at ≡ trunc_at.Direct j → HasGivenUp cur mm (trunc_at.Direct j) → KeepsAt m.kept own (trunc_at.Direct j) → Frees (get_or mm.inode.addrs j 0) (after_direct mm j)
-    direct_freed j at given keeps = record {
-      moved = answer_at (trunc_at.Direct j) at;
-      to = machine_at (trunc_at.Direct j) at;
-      same = refl;
-      lies = ((of.blocks disk s p k m is well stood).direct j given.0 given.3).0;
-      event = λ files fits new claimed. direct_given_up files cur claims new mm.number j (held_of mm) (held_in files fits) given.0 given.3 claimed;
-      given = direct_given (unmarked cur (get_or mm.inode.addrs j 0)) mm j (of.long disk s p k m is well stood) given.0 given.1 given.2;
-      keeps = subst (λ (o : Option Got). KeepsAt o (get_or (inode_without mm.inode j).addrs 12 0) (after_direct mm j).at) (sym (kept_at (trunc_at.Direct j) at ∙ keeps))
-          (direct_keeps (inode_without mm.inode j) (get_or (inode_without mm.inode j).addrs 12 0) (j + 1));
-      less =
-          let left = next_left (inode_without mm.inode j) mm.given_up (j + 1) in
-          let some = some_uses m.used in
-          let low = given.0 in
-          subst (λ (a : TruncAt). frees_left mm.given_up None (after_direct mm j).at < frees_left mm.given_up m.used a) (sym at) (omega (arith, left, some, low));
-    }
+    -- an image without a block's bit has the same data
+    module _ (b : ℕ) where
+      agreeing : AgreesAtData (test cur (bits cur b map) map) cur (unmarked cur b)
+      agreeing = agrees cur (bits cur b map) map
 
-    -- an entry of the block of addresses is
-    module _ (at : mm.at ≡ trunc_at.Entry) (given : HasGivenUp cur mm trunc_at.Entry) (keeps : KeepsAt m.kept own trunc_at.Entry) where
+      same_data : (c : ℕ) → LiesInData cur c → block_at (unmarked cur b) c ≡ block_at cur c
+      same_data c lies = agreeing.agree c (agreeing.from_data c lies.0)
+
+      form_then : form_of (unmarked cur b) ≡ form_of cur
+      form_then = form_agree (test cur (bits cur b map) map) cur (unmarked cur b) agreeing.agree agreeing.one
+
+      root_same : (h : IsInHand cur mm) → block_at (unmarked cur b) (root_of mm) ≡ block_at cur (root_of mm)
+      root_same h = same_data (root_of mm) (of.root_marked disk s p k m is well stood h).0
+
+      hand_then : (h : IsInHand cur mm) → IsInHand (unmarked cur b) mm
+      hand_then h = in_hand_kept cur (unmarked cur b) mm form_then (λ e upper. root_same h) h
+
+      hand_same : (h : IsInHand cur mm) → hand_in (unmarked cur b) mm ≡ hand_in cur mm
+      hand_same h = hand_kept cur (unmarked cur b) mm form_then (λ e upper. root_same h)
+
+      depth_then : depth_of (unmarked cur b) mm.slot ≡ depth_of cur mm.slot
+      depth_then = ap (λ (f : Form). get_or (depths f) mm.slot 0) form_then
+
+    -- an address of the inode is given up: of a data block, or of a block of addresses
+    module _ (b : ℕ) (before : AreGivenUp mm mm.slot) where
+      abbrev behind_address : Itrunc
+      behind_address = address_left mm
+
+      address_comes : (let w : Itrunc = record mm { inode = inode_without mm.inode mm.slot } in ComesTo (unmarked cur b) w behind_address (0 ∷ []) None None 0)
+      address_comes = address_left_comes (unmarked cur b) mm (work.form ∙ sym (form_then b)) (of.long disk s p k m is well stood) work.slot before
+
+      address_claim : held_of behind_address ≡ (let h : Held = record (without_address (held_of mm) mm.slot) { cursor = (held_of behind_address).cursor } in h)
+      address_claim = ap held_of address_comes.same
+
+      begins : (held_of behind_address).cursor ≡ 0 ∷ []
+      begins = address_cursor (record mm { inode = inode_without mm.inode mm.slot }) (mm.slot + 1)
+
+      address_same : behind_address ≡ (let o : Itrunc = behind_address in record mm { inode = o.inode; slot = o.slot; upper = o.upper; given_up = o.given_up; at = o.at })
+      address_same = address_comes.same ∙ ap (λ (d : Dinode). record mm { inode = d; slot = behind_address.slot; upper = behind_address.upper; given_up = behind_address.given_up; at = behind_address.at })
+          (sym (ap (λ (o : Itrunc). o.inode) address_comes.same))
+
+    direct_freed : mm.at ≡ trunc_at.Direct → IsAtDirect mm → Keeps cur m.kept mm trunc_at.Direct → Frees (root_of mm) (address_left mm)
+    direct_freed at given keeps = record {
+      moved = answer_at trunc_at.Direct at;
+      to = machine_at trunc_at.Direct at;
+      lies = (of.direct_marked disk s p k m is well stood given).0;
+      event = λ files fits new claimed. subst (λ (t : Held). IsGivenUp files cur claims mm.number (root_of mm) (held_of mm) t new) (sym claim)
+          (direct_given_up files cur claims new mm.number mm.slot (held_of mm) (held_in files fits) (subst (λ (f : Form). mm.slot < direct_count f) work.form given.direct) given.there
+          (subst (λ (t : Held). IsClaimedNow claims mm.number (Some (frees t)) new) claim claimed));
+      same = address_same (root_of mm) given.before;
+      slot = comes.slot;
+      given = comes.given;
+      keeps = comes.keeps n.kept (subst (λ (o : Kept). block_of_got o.inner ≡ None) (sym (kept_at trunc_at.Direct at)) keeps.inner) (subst (λ (o : Kept). block_of_got o.outer ≡ None) (sym (kept_at trunc_at.Direct at)) keeps.outer);
+      made = subst (λ (a : TruncAt). made_so_far mm.upper m.used a < made_so_far (address_left mm).upper None (address_left mm).at + 4) (sym at) (omega (arith, comes.made, few_for m.used));
+    }
+      where
+        comes : (let w : Itrunc = record mm { inode = inode_without mm.inode mm.slot } in ComesTo (unmarked cur (root_of mm)) w (address_left mm) (0 ∷ []) None None 0)
+        comes = address_comes (root_of mm) given.before
+
+        cursor : (held_of mm).cursor ≡ 0 ∷ []
+        cursor = ap (λ (o : Option ℕ). listed o ++ mm.given_up ∷ []) given.upper ∙ ap (λ (g : ℕ). g ∷ []) given.given_up
+
+        claim : held_of (address_left mm) ≡ without_address (held_of mm) mm.slot
+        claim = address_claim (root_of mm) given.before ∙ ap (λ (l : List ℕ). let h : Held = record (without_address (held_of mm) mm.slot) { cursor = l } in h) (begins (root_of mm) given.before ∙ sym cursor)
+
+    -- an entry of the block in hand is
+    module _ (at : mm.at ≡ trunc_at.Entry) (given : IsAtEntry cur mm) (keeps : Keeps cur m.kept mm trunc_at.Entry) where
       abbrev freed : ℕ
-      freed = entry_at cur (held_of mm) mm.given_up
+      freed = entry_of cur (hand_in cur mm) mm.given_up
+
+      abbrev own_entries : List ℕ
+      own_entries = words_of (block_at cur (hand_in cur mm))
 
       abbrev behind : Itrunc
-      behind = at_entries mm (entries_in cur mm) (mm.given_up + 1)
+      behind = at_entries mm own_entries (mm.given_up + 1)
 
-      entries_are : entries ≡ entries_in cur mm
-      entries_are = of.own_entries disk s p k m is well stood g keeps
+      entries_are : entries ≡ own_entries
+      entries_are = of.kept_words disk s p k m is well stood g (hand_in cur mm) keeps.inner
 
-      own_lies : LiesInData cur own
-      own_lies = ((of.blocks disk s p k m is well stood).indirect given.2).0
+      within : mm.given_up + 1 ≤ 256
+      within = let low = given.within in omega (arith, low)
 
-      same_own : block_at (unmarked cur freed) own ≡ block_at cur own
-      same_own =
-          let same = agrees cur (bits cur freed (of.map disk s p k m is well stood)) (of.map disk s p k m is well stood) in
-          same.agree own (same.from_data own own_lies.0)
+      entry_comes : ComesTo cur mm behind (way_of mm ++ (mm.given_up + 1) ∷ []) (Some (hand_in cur mm)) (above_hand mm) (1 + one_for mm.upper)
+      entry_comes = entries_come cur mm given.hand own_entries (mm.given_up + 1) within given.names_data refl
 
-      following : AtNext mm behind (entries_in cur mm) (mm.given_up + 1)
-      following = at_next mm (entries_in cur mm) (mm.given_up + 1) (let low = given.0 in omega (arith, low))
+      comes_then : ComesTo (unmarked cur freed) mm behind (way_of mm ++ (mm.given_up + 1) ∷ []) (Some (hand_in (unmarked cur freed) mm)) (above_hand mm) (1 + one_for mm.upper)
+      comes_then = entries_come (unmarked cur freed) mm (hand_then freed given.hand) own_entries (mm.given_up + 1) within (depth_then freed ∙ given.names_data)
+          (ap words_of (sym (ap (block_at (unmarked cur freed)) (hand_same freed given.hand) ∙ same_data freed (hand_in cur mm) (of.hand_marked disk s p k m is well stood given.hand).0)))
 
-      -- the entry, and those that are not there up to the next one
-      entry_event : (files : Files) → FitsHeld files cur claims → (new : Claims) → IsClaimedNow claims mm.number (Some (frees (held_of behind))) new → FitsThen files cur claims mm.number (unmarked cur freed) new
-      entry_event files fits new claimed =
-          let h : Held = held_of mm in
-          let one : Held = record h { given_up = mm.given_up + 1 } in
-          let mid : Claims = with_claim claims mm.number (Some (frees one)) in
-          let first_is = with_claim_is claims mm.number (Some (frees one)) in
-          let first = entry_given_up files cur claims mid mm.number h (held_in files fits) given.2 given.3 first_is in
-          let y : Image = unmarked cur freed in
-          let same_count : inode_count_of cur ≡ inode_count_of y = sym fits.count ∙ first.fits.count in
-          let words : words_of (block_at y own) ≡ entries_in cur mm = ap words_of same_own in
-          record {
-            fits = passed_to files y mid new mm.number behind.given_up one
-                (record { fits = first.fits; number = subst (λ (n : ℕ). IsTrue (is_number n mm.number)) same_count (of.number disk s p k m is well stood); holds = first_is.own })
-                following.pass.low (λ e low high. ap (λ (l : List ℕ). get_or l e 0) words ∙ following.pass.none e low high)
-                (record {
-                  own = claimed.own ∙ ap (λ (o : Itrunc). Some (frees (held_of o))) following.same;
-                  others = λ j other. claimed.others j other ∙ sym (first_is.others j other);
-                });
-            others = first.others;
-            held = first.held;
-          }
+      entry_claim : held_of behind ≡ (let h : Held = record (held_of mm) { cursor = (held_of behind).cursor } in h)
+      entry_claim = ap held_of entry_comes.same
+
+      entry_gives : Gives cur (depth_of cur mm.slot) (held_of mm).cursor (root_of mm) freed (way_of mm ++ (mm.given_up + 1) ∷ [])
+      entry_gives =
+          let next : suc mm.given_up ≡ mm.given_up + 1 = omega arith in
+          let deep = given.names_data in
+          subst (λ (e : ℕ). Gives cur (depth_of cur mm.slot) (held_of mm).cursor (root_of mm) freed (way_of mm ++ e ∷ [])) next
+          (gives_on_way cur (way_of mm) (depth_of cur mm.slot) 0 (root_of mm) (hand_in cur mm) mm.given_up freed [] (omega (arith, deep)) refl given.hand.there (rw (ne_eqb freed 0 given.there) refl))
 
       entry_freed : Frees freed behind
-      entry_freed =
-          let inode : behind.inode ≡ mm.inode = ap (λ (o : Itrunc). o.inode) following.same in
-          record {
-            moved = answer_at trunc_at.Entry at;
-            to = machine_at trunc_at.Entry at ∙ ap (λ (l : List ℕ). at_entries mm l (mm.given_up + 1)) entries_are;
-            same = following.same ∙ ap (λ (d : Dinode). record mm { inode = d; given_up = behind.given_up; at = behind.at }) (sym inode);
-            lies = ((of.blocks disk s p k m is well stood).entries given.2 mm.given_up (omega arith) given.3).0;
-            event = entry_event;
-            given = following.given (unmarked cur freed) (ap words_of (sym same_own)) given.1 given.2;
-            keeps = following.keeps n.kept (get_or behind.inode.addrs 12 0) (subst (λ (o : Option Got). Rattle.inodes.specs.Holding.IsKept o (get_or behind.inode.addrs 12 0)) (sym (kept_at trunc_at.Entry at))
-                (subst (λ (d : Dinode). Rattle.inodes.specs.Holding.IsKept m.kept (get_or d.addrs 12 0)) (sym inode) keeps));
-            less =
-                let left = following.left in
-                let some = some_uses m.used in
-                let low = given.0 in
-                subst (λ (a : TruncAt). frees_left behind.given_up None behind.at < frees_left mm.given_up m.used a) (sym at) (omega (arith, left, some, low));
-          }
+      entry_freed = record {
+        moved = answer_at trunc_at.Entry at;
+        to = machine_at trunc_at.Entry at ∙ ap (λ (l : List ℕ). at_entries mm l (mm.given_up + 1)) entries_are;
+        lies = (of.entry_marked disk s p k m is well stood given).0;
+        event = λ files fits new claimed. subst (λ (t : Held). IsGivenUp files cur claims mm.number freed (held_of mm) t new) (sym entry_claim)
+            (block_given_up files cur claims new mm.number mm.slot freed (way_of mm ++ (mm.given_up + 1) ∷ []) (held_of behind).cursor (held_of mm) (held_in files fits) (first_tree cur mm given.hand) entry_gives entry_comes.alike
+            (subst (λ (t : Held). IsClaimedNow claims mm.number (Some (frees t)) new) entry_claim claimed));
+        same = entry_comes.same ∙ ap (λ (d : Dinode). record mm { inode = d; slot = behind.slot; upper = behind.upper; given_up = behind.given_up; at = behind.at }) (sym (ap (λ (o : Itrunc). o.inode) entry_comes.same));
+        slot = entry_comes.slot;
+        given = comes_then.given;
+        keeps = comes_then.keeps n.kept
+            (subst (λ (o : Kept). block_of_got o.inner ≡ Some (hand_in (unmarked cur freed) mm)) (sym (kept_at trunc_at.Entry at)) (keeps.inner ∙ ap Some (sym (hand_same freed given.hand))))
+            (subst (λ (o : Kept). block_of_got o.outer ≡ above_hand mm) (sym (kept_at trunc_at.Entry at)) keeps.outer);
+        made = subst (λ (a : TruncAt). made_so_far mm.upper m.used a < made_so_far behind.upper None behind.at + 4) (sym at) (omega (arith, entry_comes.made, few_for m.used));
+      }
 
-    -- the block of addresses itself is
-    indirect_freed : mm.at ≡ trunc_at.Indirect → HasGivenUp cur mm trunc_at.Indirect → KeepsAt m.kept own trunc_at.Indirect → Frees own (after_trunc mm [] trunc_at.Indirect)
-    indirect_freed at given keeps = record {
-      moved = answer_at trunc_at.Indirect at;
-      to = machine_at trunc_at.Indirect at;
-      same = refl;
-      lies = ((of.blocks disk s p k m is well stood).indirect given.2).0;
-      event = λ files fits new claimed. indirect_given_up files cur claims new mm.number (held_of mm) (held_in files fits) given.2 (let all = given.0 in omega (arith, all)) claimed;
-      given = indirect_given mm (of.long disk s p k m is well stood) given.1;
-      keeps = kept_at trunc_at.Indirect at ∙ keeps;
-      less = let some = some_uses m.used in subst (λ (a : TruncAt). 2 < frees_left mm.given_up m.used a) (sym at) (omega (arith, some));
-    }
+    -- the block in hand is, which the inode names
+    module _ (at : mm.at ≡ trunc_at.Freeing) (hand : IsInHand cur mm) (all : mm.given_up ≡ 256) (keeps : Keeps cur m.kept mm trunc_at.Freeing) where
+      abbrev block : ℕ
+      block = hand_in cur mm
+
+      tree_freed : mm.upper ≡ None → Frees block (address_left mm)
+      tree_freed upper = record {
+        moved = answer_at trunc_at.Freeing at;
+        to = machine_at trunc_at.Freeing at ∙ ap (λ (o : Option ℕ). left_by o mm entries) upper;
+        lies = (of.hand_marked disk s p k m is well stood hand).0;
+        event = λ files fits new claimed. subst (λ (c : ℕ). IsGivenUp files cur claims mm.number c (held_of mm) (held_of (address_left mm)) new) (sym own)
+            (subst (λ (t : Held). IsGivenUp files cur claims mm.number (root_of mm) (held_of mm) t new) (sym (address_claim block hand.before))
+            (tree_given_up files cur claims new mm.number mm.slot (held_of (address_left mm)).cursor (held_of mm) (held_in files fits) (first_tree cur mm hand)
+            (subst (λ (l : List ℕ). left_under cur (depth_of cur mm.slot) l (root_of mm) ≡ root_of mm ∷ []) (sym cursor)
+            (first_alone files cur claims mm.number mm.slot 256 [] (held_of mm) (held_in files fits) (first_tree cur mm hand) (omega arith)))
+            (subst (λ (l : List ℕ). LeavesAlike cur (without_address (held_of mm) mm.slot).copy l []) (sym (begins block hand.before)) (begun_left cur (without_address (held_of mm) mm.slot).copy))
+            (subst (λ (t : Held). IsClaimedNow claims mm.number (Some (frees t)) new) (address_claim block hand.before) claimed)));
+        same = address_same block hand.before;
+        slot = comes.slot;
+        given = comes.given;
+        keeps = comes.keeps n.kept
+            (subst (λ (o : Kept). block_of_got o.inner ≡ None) (sym (kept_at trunc_at.Freeing at)) (keeps.inner ∙ ap (λ (o : Option ℕ). above_by o (root_of mm)) upper))
+            (subst (λ (o : Kept). block_of_got o.outer ≡ None) (sym (kept_at trunc_at.Freeing at)) keeps.outer);
+        made = subst (λ (a : TruncAt). made_so_far mm.upper m.used a < made_so_far (address_left mm).upper None (address_left mm).at + 4) (sym at)
+            (let none = ap one_for upper in omega (arith, comes.made, few_for m.used, none));
+      }
+        where
+          comes : (let w : Itrunc = record mm { inode = inode_without mm.inode mm.slot } in ComesTo (unmarked cur block) w (address_left mm) (0 ∷ []) None None 0)
+          comes = address_comes block hand.before
+
+          own : block ≡ root_of mm
+          own = ap (λ (o : Option ℕ). led_to cur (listed o) (root_of mm)) upper
+
+          cursor : (held_of mm).cursor ≡ 256 ∷ []
+          cursor = ap (λ (o : Option ℕ). listed o ++ mm.given_up ∷ []) upper ∙ ap (λ (g : ℕ). g ∷ []) all
+
+      -- or an entry of the doubly indirect block
+      module _ (e : ℕ) (upper : mm.upper ≡ Some e) where
+        abbrev above : List ℕ
+        above = words_of (block_at cur (root_of mm))
+
+        abbrev behind_second : Itrunc
+        behind_second = at_branches mm above (e + 1)
+
+        within_above : e + 1 ≤ 256
+        within_above = let low : e < 256 = subst (λ (o : Option ℕ). IsBelow o 256) upper (of.upper_within disk s p k m is well stood hand) in omega (arith, low)
+
+        two : depth_of cur mm.slot ≡ 2
+        two = two_deep cur mm hand work.form e upper
+
+        kept_root : block_of_got m.kept.inner ≡ Some (root_of mm)
+        kept_root = keeps.inner ∙ ap (λ (o : Option ℕ). above_by o (root_of mm)) upper
+
+        second_comes : ComesTo cur mm behind_second ((e + 1) ∷ []) (Some (root_of mm)) None 1
+        second_comes = branches_come cur mm hand above (e + 1) within_above two refl
+
+        second_then : ComesTo (unmarked cur block) mm behind_second ((e + 1) ∷ []) (Some (root_of mm)) None 1
+        second_then = branches_come (unmarked cur block) mm (hand_then block hand) above (e + 1) within_above (depth_then block ∙ two) (ap words_of (sym (root_same block hand)))
+
+        second_claim : held_of behind_second ≡ (let h : Held = record (held_of mm) { cursor = (held_of behind_second).cursor } in h)
+        second_claim = ap held_of second_comes.same
+
+        second_is : block ≡ entry_of cur (root_of mm) e
+        second_is = ap (λ (o : Option ℕ). led_to cur (listed o) (root_of mm)) upper ∙ rw (ne_eqb (root_of mm) 0 (root_there cur mm hand)) refl
+
+        cursor_is : (held_of mm).cursor ≡ e ∷ 256 ∷ []
+        cursor_is = ap (λ (o : Option ℕ). listed o ++ mm.given_up ∷ []) upper ∙ ap (λ (g : ℕ). e ∷ g ∷ []) all
+
+        -- nothing is left under it but itself
+        second_alone : left_under cur 1 (256 ∷ []) (entry_of cur (root_of mm) e) ≡ block ∷ []
+        second_alone =
+            let few = of.words disk s p k m is well stood block (of.hand_marked disk s p k m is well stood hand).0 in
+            subst (λ (a : ℕ). left_under cur 1 (256 ∷ []) a ≡ block ∷ []) second_is (alone cur 0 256 block [] hand.there (omega (arith, few)))
+
+        second_gives : Gives cur (depth_of cur mm.slot) (held_of mm).cursor (root_of mm) block ((e + 1) ∷ [])
+        second_gives =
+            let next : suc e ≡ e + 1 = omega arith in
+            subst (λ (l : List ℕ). Gives cur (depth_of cur mm.slot) l (root_of mm) block ((e + 1) ∷ [])) (sym cursor_is)
+            (subst (λ (f : ℕ). Gives cur (depth_of cur mm.slot) (e ∷ 256 ∷ []) (root_of mm) block (f ∷ [])) next
+            (gives_on_way cur [] (depth_of cur mm.slot) 1 (root_of mm) (root_of mm) e block (256 ∷ []) two refl (root_there cur mm hand) second_alone))
+
+        second_freed : Frees block behind_second
+        second_freed = record {
+          moved = answer_at trunc_at.Freeing at;
+          to = machine_at trunc_at.Freeing at ∙ ap (λ (o : Option ℕ). left_by o mm entries) upper
+              ∙ ap (λ (l : List ℕ). at_branches mm l (e + 1)) (of.kept_words disk s p k m is well stood g (root_of mm) kept_root);
+          lies = (of.hand_marked disk s p k m is well stood hand).0;
+          event = λ files fits new claimed. subst (λ (t : Held). IsGivenUp files cur claims mm.number block (held_of mm) t new) (sym second_claim)
+              (block_given_up files cur claims new mm.number mm.slot block ((e + 1) ∷ []) (held_of behind_second).cursor (held_of mm) (held_in files fits) (first_tree cur mm hand) second_gives second_comes.alike
+              (subst (λ (t : Held). IsClaimedNow claims mm.number (Some (frees t)) new) second_claim claimed));
+          same = second_comes.same ∙ ap (λ (d : Dinode). record mm { inode = d; slot = behind_second.slot; upper = behind_second.upper; given_up = behind_second.given_up; at = behind_second.at })
+              (sym (ap (λ (o : Itrunc). o.inode) second_comes.same));
+          slot = second_comes.slot;
+          given = second_then.given;
+          keeps = second_then.keeps n.kept
+              (subst (λ (o : Kept). block_of_got o.inner ≡ Some (root_of mm)) (sym (kept_at trunc_at.Freeing at)) kept_root)
+              (subst (λ (o : Kept). block_of_got o.outer ≡ None) (sym (kept_at trunc_at.Freeing at)) keeps.outer);
+          made = subst (λ (a : TruncAt). made_so_far mm.upper m.used a < made_so_far behind_second.upper None behind_second.at + 4) (sym at)
+              (let one = ap one_for upper in omega (arith, second_comes.made, few_for m.used, one));
+        }
 
     -- ---- the block of addresses is given back
 
-    releases_makes : mm.at ≡ trunc_at.Unloading → HasGivenUp cur mm trunc_at.Unloading → Makes
-    releases_makes at given = still_makes does.current (λ over. cc (sym (answer_at trunc_at.Unloading at) ∙ over)) (λ moved. record {
-      same = subst (λ (o : Itrunc). o ≡ record mm { inode = o.inode; given_up = o.given_up; at = o.at }) (sym to) refl;
-      given = subst (λ (o : Itrunc). HasGivenUp now o o.at) (sym to) given;
-      keeps = subst (λ (o : Itrunc). KeepsAt n.kept (get_or o.inode.addrs 12 0) o.at) (sym to) (kept_at trunc_at.Unloading at);
-      less = subst (λ (o : Option ℕ). frees_left n.machine.given_up o n.machine.at < truncs_left m) (sym used_none) (subst (λ (o : Itrunc). frees_left o.given_up None o.at < truncs_left m) (sym to)
-          (subst (λ (a : TruncAt). 4 < frees_left mm.given_up m.used a) (sym at) (omega arith)));
+    releases_makes : mm.at ≡ trunc_at.Unloading → HasGivenUp cur mm trunc_at.Unloading → Keeps cur m.kept mm trunc_at.Unloading → Makes
+    releases_makes at given keeps = still_makes does.current (λ over. cc (sym (answer_at trunc_at.Unloading at) ∙ over)) (λ moved. record {
+      same = subst (λ (o : Itrunc). o ≡ record mm { inode = o.inode; slot = o.slot; upper = o.upper; given_up = o.given_up; at = o.at }) (sym to) refl;
+      slot = subst (λ (o : Itrunc). o.slot < 13) (sym to) work.slot;
+      given = subst (λ (x : Image). HasGivenUp x n.machine n.machine.at) (sym does.current) (subst (λ (o : Itrunc). HasGivenUp cur o o.at) (sym to)
+          (record { tree = given.0.tree; slot = given.0.slot; before = given.0.before; there = given.0.there; level = given.0.level }, given.1));
+      keeps = subst (λ (x : Image). Keeps x n.kept n.machine n.machine.at) (sym does.current) (subst (λ (o : Itrunc). Keeps cur n.kept o o.at) (sym to)
+          (subst (λ (o : Kept). Keeps cur o freed trunc_at.Freeing) (sym (kept_at trunc_at.Unloading at)) (record { inner = keeps.outer; outer = refl })));
+      less = subst (λ (x : Image). truncs_left x n < truncs_left cur m) (sym does.current)
+          (subst (λ (o : Option ℕ). 4 * (blocks_left cur (held_of n.machine)) + stage_left n.machine.upper o n.machine.at < truncs_left cur m) (sym used_none)
+          (subst (λ (o : Itrunc). 4 * (blocks_left cur (held_of o)) + stage_left o.upper None o.at < truncs_left cur m) (sym to)
+          (subst (λ (a : TruncAt). 4 * blocks + stage_left mm.upper None trunc_at.Freeing < 4 * blocks + stage_left mm.upper m.used a) (sym at) (omega (arith, few_for mm.upper)))));
       logged = subst (λ (l : LogState). HasLogged l p mm.bitmap) (sym (ap (λ (v : VolumeState D). v.log) does.volume)) logged;
       fits = λ new claimed files fits. subst (λ (x : Image). FitsHeld files x new) (sym does.current) (fits_still files cur claims new mm.number (held_of mm) (held_in files fits)
           (subst (λ (o : Itrunc). IsClaimedNow claims mm.number (Some (frees (held_of o))) new) to claimed));
@@ -422,7 +597,13 @@ module _ {D N : Type 0} (disk : Ghosts D N) (s : StoreState D) (p k : ℕ) (m : 
         does : Releases disk.image s.volume p g.slot w
         does = carries_at trunc_at.Unloading at
 
-        to : n.machine ≡ record mm { at = trunc_at.Indirect }
+        freed : Itrunc
+        freed = record mm { at = trunc_at.Freeing }
+
+        blocks : ℕ
+        blocks = blocks_left cur (held_of mm)
+
+        to : n.machine ≡ freed
         to = machine_at trunc_at.Unloading at
 
     -- ---- the inode is written back
@@ -437,7 +618,7 @@ module _ {D N : Type 0} (disk : Ghosts D N) (s : StoreState D) (p k : ℕ) (m : 
           λ free. (of.is_held disk s p k m is well stood).used (sym (ap (λ (t : Bool). cond t 0 mm.inode.kind) stays) ∙ ap (λ (e : Dinode). e.kind) same ∙ free),
         )
 
-    writes_makes : mm.at ≡ trunc_at.Updating → HasGivenUp cur mm trunc_at.Updating → KeepsAt m.kept own trunc_at.Updating → g.block ≡ inode_block mm.number → Makes
+    writes_makes : mm.at ≡ trunc_at.Updating → HasGivenUp cur mm trunc_at.Updating → Keeps cur m.kept mm trunc_at.Updating → g.block ≡ inode_block mm.number → Makes
     writes_makes at bare keeps here = record {
       marks = subst (Marks None cur) (sym shown) (write_back_keeps files_now cur claims mm.number (held_of mm) (held_in files_now fits_now));
       keeps = subst (KeepsUsed count mm.number claims cur) (sym shown) written_keeps;
@@ -446,7 +627,14 @@ module _ {D N : Type 0} (disk : Ghosts D N) (s : StoreState D) (p k : ℕ) (m : 
           (kept_by_renew s.table gs cur written p k mm.number (inode_left mm) (of.looking disk s p k m is well stood).table (of.has disk s p k m is well stood)
           written_keeps.inodes (copy_left mm.removes refl own_written)));
       on = λ moved. absurd (cc (sym over ∙ moved));
-      over = λ ends. (kept_at trunc_at.Updating at ∙ keeps, used_none);
+      over = λ ends. (
+        record {
+          inner = subst (λ (o : Kept). block_of_got o.inner ≡ None) (sym (kept_at trunc_at.Updating at)) keeps.inner;
+          outer = subst (λ (o : Kept). block_of_got o.outer ≡ None) (sym (kept_at trunc_at.Updating at)) keeps.outer;
+          used = used_none;
+        },
+        subst (λ (a : TruncAt). 1 ≤ 4 * blocks_left cur (held_of mm) + stage_left mm.upper m.used a) (sym at) (omega (arith, few_for m.used)),
+      );
       rests = λ ends new claimed files fits. subst (λ (x : Image). FitsHeld files x new) (sym shown) (write_back_rests files cur claims new mm.number (held_of mm) (held_in files fits) bare claimed).fits;
     }
       where
@@ -474,19 +662,28 @@ module _ {D N : Type 0} (disk : Ghosts D N) (s : StoreState D) (p k : ℕ) (m : 
     block_is b None none = absurd (cc none)
     block_is b (Some i) got = let e : (let o : Got = record { block = b; slot = i } in o) ≡ g = cc got in ap (λ (o : Got). o.block) (sym e)
 
-    uses_makes : (a : TruncAt) → mm.at ≡ a → HasGivenUp cur mm a → KeepsAt m.kept own a → used_now (next_of_trunc mm a) m.kept m.used ≡ Some g → Makes
-    uses_makes (trunc_at.Direct j) at given keeps got =
-        frees_makes (get_or mm.inode.addrs j 0) (after_direct mm j) (direct_freed j at given keeps) (block_is mm.bitmap m.used got) (carries_at (trunc_at.Direct j) at)
-    uses_makes trunc_at.Loading at given keeps got = absurd (cc got)
-    uses_makes trunc_at.Entry at given keeps got = frees_makes (entry_at cur (held_of mm) mm.given_up) (at_entries mm (entries_in cur mm) (mm.given_up + 1)) (entry_freed at given keeps) (block_is mm.bitmap m.used got)
+    uses_makes : (a : TruncAt) → mm.at ≡ a → HasGivenUp cur mm a → Keeps cur m.kept mm a → used_now (next_of_trunc mm a) m.kept m.used ≡ Some g → Makes
+    uses_makes trunc_at.Direct at given keeps got =
+        frees_makes (root_of mm) (address_left mm) (direct_freed at given keeps) (block_is mm.bitmap m.used got) (carries_at trunc_at.Direct at)
+    uses_makes (trunc_at.Loading b) at given keeps got = absurd (cc got)
+    uses_makes trunc_at.Entry at given keeps got =
+        frees_makes (entry_of cur (hand_in cur mm) mm.given_up) (at_entries mm (words_of (block_at cur (hand_in cur mm))) (mm.given_up + 1)) (entry_freed at given keeps) (block_is mm.bitmap m.used got)
         (subst (λ (l : List ℕ). CarriesOut disk s.volume p g.slot g.block (deed_of_trunc mm l trunc_at.Entry) w) (entries_are at given keeps) (carries_at trunc_at.Entry at))
-    uses_makes trunc_at.Unloading at given keeps got = releases_makes at given
-    uses_makes trunc_at.Indirect at given keeps got = frees_makes own (after_trunc mm [] trunc_at.Indirect) (indirect_freed at given keeps) (block_is mm.bitmap m.used got) (carries_at trunc_at.Indirect at)
+    uses_makes trunc_at.Unloading at given keeps got = releases_makes at given keeps
+    uses_makes trunc_at.Freeing at given keeps got = by_upper mm.upper refl
+      where
+        carries : CarriesOut disk s.volume p g.slot g.block (deed.Put (patch.ClearBit (hand_in cur mm))) w
+        carries = subst (λ (c : ℕ). CarriesOut disk s.volume p g.slot g.block (deed.Put (patch.ClearBit c)) w) (of.hand_is disk s p k m is well stood g given.0 keeps) (carries_at trunc_at.Freeing at)
+
+        by_upper : (o : Option ℕ) → mm.upper ≡ o → Makes
+        by_upper None upper = frees_makes (hand_in cur mm) (address_left mm) (tree_freed at given.0 given.1 keeps upper) (block_is mm.bitmap m.used got) carries
+        by_upper (Some e) upper =
+            frees_makes (hand_in cur mm) (at_branches mm (words_of (block_at cur (root_of mm))) (e + 1)) (second_freed at given.0 given.1 keeps e upper) (block_is mm.bitmap m.used got) carries
     uses_makes trunc_at.Updating at given keeps got = writes_makes at given keeps (block_is (inode_block mm.number) m.used got)
 
   makes_by : (o : Option Got) → used_now (trunc_next m) m.kept m.used ≡ o → Drives itrunc disk o s.volume p m q n w → Makes
-  makes_by None none drives = gets_makes mm.at refl (of.work disk s p k m is well stood).given (of.work disk s p k m is well stood).keeps none drives
-  makes_by (Some g) got drives = uses_makes g drives mm.at refl (of.work disk s p k m is well stood).given (of.work disk s p k m is well stood).keeps got
+  makes_by None none drives = gets_makes mm.at refl work.given work.keeps none drives
+  makes_by (Some g) got drives = uses_makes g drives mm.at refl work.given work.keeps got
 
   -- WHAT A STEP MAKES
   pub makes : Drives itrunc disk (used_now (trunc_next m) m.kept m.used) s.volume p m q n w → Makes

@@ -1,16 +1,24 @@
 -- What is freed next: what stands before it is not there.
-use Rattle.std.proofs.Common.{◌≡◌, ◌≢◌, ℕ, ◌+◌, ◌-◌, ◌*◌, ◌<◌, ◌≤◌, Bool, true, false, not, cond, eqb, List, [], length, set, get_or, replicate, refl, sym, ◌∙◌, ap, subst, ⊎_elim, arith, Option, Some, None}
-use Rattle.std.proofs.lemmas.Bool.{eqb-true, eqb-false, not-true, not-false, cases_eq, cases_lt}
+use Rattle.std.proofs.Common.{◌≡◌, ◌≢◌, ℕ, suc, ◌+◌, ◌-◌, ◌<◌, ◌≤◌, Bool, true, false, not, cond, eqb, ltb, List, [], ◌∷◌, ◌++◌, length, set, get_or, replicate, refl, sym, ◌∙◌, ap, subst, ⊎_elim, arith, Option, Some, None}
+use Rattle.std.proofs.lemmas.Bool.{eqb-true, eqb-false, ne_eqb, not-true, not-false, ltb-true, ltb-false, cases_eq, cases_lt}
 use Rattle.std.proofs.lemmas.List.{get_or-set_same, get_or-set_other, get_or-replicate, length-set, length-replicate, ext_get_or}
-use Rattle.blocks.specs.Disk.{Image}
+use Rattle.blocks.specs.Disk.{Image, block_at}
 use Rattle.model.specs.declared.types.image.Dinode.{Dinode}
-use Rattle.driver.specs.declared.driving.Got.{Got}
+use Rattle.model.specs.declared.types.image.Form.{Form}
+use Rattle.model.specs.Fields.{words_of}
+use Rattle.model.specs.Layout.{depths, direct_count, form_of}
+use Rattle.loose.specs.Held.{Held, listed}
+use Rattle.loose.specs.Trees.{LeavesAlike, depth_of, entry_of, led_to}
+use Rattle.loose.specs.Lemmas.LeftOnWays.{begun_alike, passed_alike}
+use Rattle.loose.specs.Lemmas.Wholes.{tree_depth}
+use Rattle.driver.specs.declared.driving.Kept.{Kept}
 use Rattle.inodes.specs.declared.itrunc.TruncAt.{TruncAt}
 use Rattle.inodes.specs.declared.itrunc.TruncAt.TheVariants as trunc_at
 use Rattle.inodes.specs.declared.itrunc.Itrunc.{Itrunc}
-use Rattle.inodes.specs.Holding.{AreGivenUp, HasGivenUp, IsKept, KeepsAt, frees_left, uses_left}
-use Rattle.inodes.specs.Itrunc.{after_trunc, at_entries, direct_or_on, entries_in, entry_or_on, first_trunc, next_direct, present_from}
+use Rattle.inodes.specs.Holding.{AreGivenUp, HasGivenUp, IsInHand, Keeps, above_by, above_hand, block_of_got, hand_in, held_of, made_so_far, one_for, root_of, way_of}
+use Rattle.inodes.specs.Itrunc.{address_left, address_or_on, at_address, at_block, at_branches, at_entries, branch_or_on, entry_or_on, first_trunc, inode_without, leads_to_data, present_from, unbegun}
 use Rattle.inodes.specs.Lemmas.Looks.{find-range, passed_by}
+use Rattle.inodes.proofs.InHand.{below, branches, deep, names_data, first_tree, root_there}
 
 -- ---- the next number of a list that is there
 
@@ -43,141 +51,211 @@ next_is numbers from end k found =
 pub none_is : (numbers : List ℕ) (from end : ℕ) → present_from numbers from end ≡ None → (j : ℕ) → from ≤ j → j < end → get_or numbers j 0 ≡ 0
 none_is numbers from end found j above below = not_there numbers j (passed_by (is_there numbers) from (end - from) j None found tt above (omega (arith, above, below)))
 
--- ---- an address of the inode's own
+-- ---- what comes next
 
-none_left : (addrs : List ℕ) → length addrs ≡ 13 → ((j : ℕ) → j < 12 → get_or addrs j 0 ≡ 0) → get_or addrs 12 0 ≡ 0 → addrs ≡ replicate 13 0
-none_left addrs long none last = ext_get_or 0 addrs (replicate 13 0) (long ∙ sym (length-replicate {A = ℕ} 13 0)) (λ i low.
-    ⊎_elim (λ (below : i < 12). none i below ∙ sym (get_or-replicate {A = ℕ} 13 i 0 0 (omega (arith, low, long))))
-    (λ (above : 12 ≤ i).
-    let here : i ≡ 12 = omega (arith, low, long, above) in
-    ap (λ (j : ℕ). get_or addrs j 0) here ∙ last ∙ sym (get_or-replicate {A = ℕ} 13 i 0 0 (omega (arith, low, long))))
-    (cases_lt i 12))
+-- Machine n is m where it comes next: the same is left as with that cursor, it has come so far, keeps these blocks, and
+-- so many steps were made for blocks that are left.
+pub record ComesTo (x : Image) (m n : Itrunc) (cursor : List ℕ) (inner outer : Option ℕ) (steps : ℕ) : Type 0 where
+  pub same : n ≡ record m { slot = n.slot; upper = n.upper; given_up = n.given_up; at = n.at }
+  pub slot : n.slot < 13
+  pub alike : LeavesAlike x m.inode (held_of n).cursor cursor
+  pub given : HasGivenUp x n n.at
+  pub keeps : (kept : Kept) → block_of_got kept.inner ≡ inner → block_of_got kept.outer ≡ outer → Keeps x kept n n.at
+  pub made : made_so_far n.upper None n.at ≡ steps
 
--- what is known before the next one is sought
-pub record Before (m : Itrunc) (from : ℕ) : Type 0 where
-  pub long : length m.inode.addrs ≡ 13
-  pub below : from ≤ 12
-  pub none : m.given_up ≡ 0
-  pub given : AreGivenUp m from
+-- ---- by the addresses of the inode
 
-module _ (cur : Image) (m : Itrunc) (from : ℕ) (b : Before m from) where
-  given_all : present_from m.inode.addrs from 12 ≡ None → AreGivenUp m 12
-  given_all found j low = ⊎_elim (λ (below : j < from). b.given j below) (λ (above : from ≤ j). none_is m.inode.addrs from 12 found j above low) (cases_lt j from)
+none_left : (addrs : List ℕ) → length addrs ≡ 13 → ((j : ℕ) → j < 13 → get_or addrs j 0 ≡ 0) → addrs ≡ replicate 13 0
+none_left addrs long none = ext_get_or 0 addrs (replicate 13 0) (long ∙ sym (length-replicate {A = ℕ} 13 0))
+    (λ i low. none i (omega (arith, low, long)) ∙ sym (get_or-replicate {A = ℕ} 13 i 0 0 (omega (arith, low, long))))
 
-  on_given : (t : Bool) → eqb (get_or m.inode.addrs 12 0) 0 ≡ t → present_from m.inode.addrs from 12 ≡ None → HasGivenUp cur m (cond t trunc_at.Updating trunc_at.Loading)
-  on_given true last found = none_left m.inode.addrs b.long (given_all found) (eqb-true (get_or m.inode.addrs 12 0) 0 last)
-  on_given false last found = (b.none, given_all found, eqb-false (get_or m.inode.addrs 12 0) 0 last)
+module _ (x : Image) (m : Itrunc) (from : ℕ) (form : m.form ≡ form_of x) (long : length m.inode.addrs ≡ 13) (inside : m.slot < 13) (given : AreGivenUp m from) where
+  -- none is there before the next one
+  before_next : (k : ℕ) → IsNext m.inode.addrs from 13 k → AreGivenUp m k
+  before_next k next j low = ⊎_elim (λ (earlier : j < from). given j earlier) (λ (above : from ≤ j). next.before j above low) (cases_lt j from)
 
-  by_next : (o : Option ℕ) → present_from m.inode.addrs from 12 ≡ o → HasGivenUp cur m (direct_or_on m.inode o)
-  by_next None found = on_given (eqb (get_or m.inode.addrs 12 0) 0) refl found
-  by_next (Some k) found =
-      let next = next_is m.inode.addrs from 12 k found in
-      (next.high, b.none, λ j low. ⊎_elim (λ (below : j < from). b.given j below) (λ (above : from ≤ j). next.before j above low) (cases_lt j from), next.some)
+  by_kind : (k : ℕ) → IsNext m.inode.addrs from 13 k → (t : Bool) → ltb k (direct_count m.form) ≡ t
+      → (let n : Itrunc = record m { slot = k; upper = None; given_up = 0; at = cond t trunc_at.Direct (trunc_at.Loading (get_or m.inode.addrs k 0)) } in ComesTo x m n (0 ∷ []) None None 0)
+  by_kind k next true direct = record {
+    same = refl;
+    slot = next.high;
+    alike = λ c. refl;
+    given = record { direct = ltb-true k (direct_count m.form) direct; before = before_next k next; there = next.some; upper = refl; given_up = refl };
+    keeps = λ kept inner outer. record { inner = inner; outer = outer };
+    made = refl;
+  }
+  by_kind k next false tree =
+      let from_tree : direct_count m.form ≤ k = ltb-false k (direct_count m.form) tree in
+      let deep : 1 ≤ depth_of x k = subst (λ (f : Form). 1 ≤ get_or (depths f) k 0) form (tree_depth m.form k from_tree next.high).0 in
+      record {
+        same = refl;
+        slot = next.high;
+        alike = λ c. refl;
+        given = (record { tree = from_tree; slot = next.high; before = before_next k next; there = next.some; level = omega (arith, deep) }, refl, refl);
+        keeps = λ kept inner outer. record { inner = inner; outer = outer };
+        made = refl;
+      }
 
-  pub next_given : HasGivenUp cur m (next_direct m.inode from)
-  next_given = by_next (present_from m.inode.addrs from 12) refl
+  pub address_comes : ComesTo x m (at_address m from) (0 ∷ []) None None 0
+  address_comes = by_next (present_from m.inode.addrs from 13) refl
+    where
+      by_next : (o : Option ℕ) → present_from m.inode.addrs from 13 ≡ o → ComesTo x m (address_or_on m o) (0 ∷ []) None None 0
+      by_next None found = record {
+        same = refl;
+        slot = inside;
+        alike = λ c. refl;
+        given = none_left m.inode.addrs long (λ j low. ⊎_elim (λ (earlier : j < from). given j earlier) (λ (above : from ≤ j). none_is m.inode.addrs from 13 found j above low) (cases_lt j from));
+        keeps = λ kept inner outer. record { inner = inner; outer = outer };
+        made = refl;
+      }
+      by_next (Some k) found = by_kind k (next_is m.inode.addrs from 13 k found) (ltb k (direct_count m.form)) refl
 
--- nothing is kept there
-pub direct_keeps : (d : Dinode) (own from : ℕ) → KeepsAt None own (next_direct d from)
-direct_keeps d own from = by_next (present_from d.addrs from 12)
+-- what it is but for its place
+pub address_same : (m : Itrunc) (from : ℕ) → at_address m from ≡ record m { slot = (at_address m from).slot; upper = None; given_up = 0; at = (at_address m from).at }
+address_same m from = by_next (present_from m.inode.addrs from 13)
   where
-    by_last : (t : Bool) → KeepsAt None own (cond t trunc_at.Updating trunc_at.Loading)
-    by_last true = refl
-    by_last false = refl
-
-    by_next : (o : Option ℕ) → KeepsAt None own (direct_or_on d o)
-    by_next None = by_last (eqb (get_or d.addrs 12 0) 0)
+    by_next : (o : Option ℕ) → address_or_on m o ≡ record m { slot = (address_or_on m o).slot; upper = None; given_up = 0; at = (address_or_on m o).at }
+    by_next None = refl
     by_next (Some k) = refl
 
--- fewer steps are left than where the address before was freed
-pub next_left : (d : Dinode) (given_up from : ℕ) → frees_left given_up None (next_direct d from) ≤ 2 * (12 - from) + 518
-next_left d given_up from = by_next (present_from d.addrs from 12) refl
+-- nothing is given up there of a block of addresses
+pub address_cursor : (m : Itrunc) (from : ℕ) → (held_of (at_address m from)).cursor ≡ 0 ∷ []
+address_cursor m from = by_next (present_from m.inode.addrs from 13)
   where
-    by_last : (t : Bool) → frees_left given_up None (cond t trunc_at.Updating trunc_at.Loading) ≤ 518
-    by_last true = omega arith
-    by_last false = omega arith
+    by_next : (o : Option ℕ) → (held_of (address_or_on m o)).cursor ≡ 0 ∷ []
+    by_next None = refl
+    by_next (Some k) = refl
 
-    by_next : (o : Option ℕ) → present_from d.addrs from 12 ≡ o → frees_left given_up None (direct_or_on d o) ≤ 2 * (12 - from) + 518
-    by_next None found = let left = by_last (eqb (get_or d.addrs 12 0) 0) in omega (arith, left)
-    by_next (Some k) found =
-        let next = next_is d.addrs from 12 k found in
-        let low = next.low in
-        let high = next.high in
-        omega (arith, low, high)
+-- once the inode's address is given up
+pub address_left_comes : (x : Image) (m : Itrunc) → m.form ≡ form_of x → length m.inode.addrs ≡ 13 → m.slot < 13 → AreGivenUp m m.slot
+    → ComesTo x (record m { inode = inode_without m.inode m.slot }) (address_left m) (0 ∷ []) None None 0
+address_left_comes x m form long inside given =
+    address_comes x (record m { inode = inode_without m.inode m.slot }) (m.slot + 1) form (length-set m.inode.addrs m.slot 0 ∙ long) inside
+    (λ j low. ⊎_elim
+    (λ (here : j ≡ m.slot). ap (λ (i : ℕ). get_or (set m.inode.addrs m.slot 0) i 0) here ∙ get_or-set_same m.inode.addrs m.slot 0 0 (omega (arith, inside, long)))
+    (λ (apart : j ≢ m.slot). get_or-set_other m.inode.addrs m.slot j 0 0 apart ∙ given j (omega (arith, low, apart)))
+    (cases_eq j m.slot))
 
 -- ---- the first of a truncation
 
-pub first_given : (cur : Image) (i bitmap : ℕ) (d : Dinode) (removes : Bool) → length d.addrs ≡ 13 → HasGivenUp cur (first_trunc i d removes bitmap) (first_trunc i d removes bitmap).at
-first_given cur i bitmap d removes long = next_given cur (first_trunc i d removes bitmap) 0 (record { long = long; below = omega arith; none = refl; given = λ j low. absurd (omega (arith, low)) })
+module _ (i : ℕ) (d : Dinode) (form : Form) (removes : Bool) (bitmap : ℕ) where
+  abbrev first : Itrunc
+  first = first_trunc i d form removes bitmap
 
--- ---- an address was given up
+  pub first_number : first.number ≡ i
+  first_number = ap (λ (m : Itrunc). m.number) (address_same (unbegun i d form removes bitmap) 0)
 
-abbrev pub after_direct : Itrunc → ℕ → Itrunc
-after_direct m k = after_trunc m [] (trunc_at.Direct k)
+  -- it holds the whole file
+  pub first_held : held_of first ≡ (let h : Held = record { copy = d; cursor = 0 ∷ []; last_kind = cond removes 0 d.kind } in h)
+  first_held = ap held_of (address_same (unbegun i d form removes bitmap) 0)
 
-pub direct_given : (cur : Image) (m : Itrunc) (k : ℕ) → length m.inode.addrs ≡ 13 → k < 12 → m.given_up ≡ 0 → AreGivenUp m k → HasGivenUp cur (after_direct m k) (after_direct m k).at
-direct_given cur m k long low none given = next_given cur (after_direct m k) (k + 1) (record {
-  long = length-set m.inode.addrs k 0 ∙ long;
-  below = omega (arith, low);
-  none = none;
-  given = λ j below. ⊎_elim
-      (λ (here : j ≡ k). ap (λ (i : ℕ). get_or (set m.inode.addrs k 0) i 0) here ∙ get_or-set_same m.inode.addrs k 0 0 (omega (arith, low, long)))
-      (λ (apart : j ≢ k). get_or-set_other m.inode.addrs k j 0 0 apart ∙ given j (omega (arith, below, apart)))
-      (cases_eq j k);
-})
+  pub first_comes : (x : Image) → form ≡ form_of x → length d.addrs ≡ 13 → ComesTo x (unbegun i d form removes bitmap) first (0 ∷ []) None None 0
+  first_comes x same long = address_comes x (unbegun i d form removes bitmap) 0 same long (omega arith) (λ j low. absurd (omega (arith, low)))
 
-pub indirect_given : (m : Itrunc) → length m.inode.addrs ≡ 13 → AreGivenUp m 12 → set m.inode.addrs 12 0 ≡ replicate 13 0
-indirect_given m long given = none_left (set m.inode.addrs 12 0) (length-set m.inode.addrs 12 0 ∙ long)
-    (λ j low. get_or-set_other m.inode.addrs 12 j 0 0 (λ same. omega (arith, same, low)) ∙ given j low)
-    (get_or-set_same m.inode.addrs 12 0 0 (omega (arith, long)))
+-- ---- by the entries of a block of addresses
 
--- ---- an entry of the block of addresses
+module _ (x : Image) (m : Itrunc) (h : IsInHand x m) where
+  -- entries that are not there are passed over
+  module _ (way : List ℕ) (n down from to : ℕ) (deep : depth_of x m.slot ≡ length way + suc down) (led : led_to x way (root_of m) ≡ n) (some : n ≢ 0)
+      (low : from ≤ to) (none : (k : ℕ) → from ≤ k → k < to → entry_of x n k ≡ 0) where
+    passed_to : LeavesAlike x m.inode (way ++ to ∷ []) (way ++ from ∷ [])
+    passed_to =
+        let same : from + (to - from) ≡ to = omega (arith, low) in
+        subst (λ (k : ℕ). LeavesAlike x m.inode (way ++ k ∷ []) (way ++ from ∷ [])) same
+        (passed_alike x m.inode m.slot way n down (first_tree x m h) deep led some (to - from) from (λ k above beneath. none k above (omega (arith, beneath, low))))
 
--- the entries before an index that are given up there
-pub record PassesTo (entries : List ℕ) (from to : ℕ) : Type 0 where
-  pub low : from ≤ to
-  pub none : (e : ℕ) → from ≤ e → e < to → get_or entries e 0 ≡ 0
+  module _ (entries : List ℕ) (from : ℕ) (low : from ≤ 256) where
+    -- where they name data blocks
+    module _ (leads : depth_of x m.slot ≡ suc (length (way_of m))) (same : entries ≡ words_of (block_at x (hand_in x m))) where
+      at_hand : (e : ℕ) → get_or entries e 0 ≡ entry_of x (hand_in x m) e
+      at_hand e = ap (λ (l : List ℕ). get_or l e 0) same
 
--- What comes with the next entry: the index and how many were given up change alone, and those that are passed over are not there.
-pub record AtNext (m n : Itrunc) (entries : List ℕ) (from : ℕ) : Type 0 where
-  pub same : n ≡ record m { given_up = n.given_up; at = n.at }
-  pub pass : PassesTo entries from n.given_up
-  pub keeps : (kept : Option Got) (own : ℕ) → IsKept kept own → KeepsAt kept own n.at
-  pub left : frees_left n.given_up None n.at ≤ 2 * (256 - from) + 5
-  pub given : (cur : Image) → entries ≡ entries_in cur m → AreGivenUp m 12 → get_or m.inode.addrs 12 0 ≢ 0 → HasGivenUp cur n n.at
+      pub entries_come : ComesTo x m (at_entries m entries from) (way_of m ++ from ∷ []) (Some (hand_in x m)) (above_hand m) (1 + one_for m.upper)
+      entries_come = by_next (present_from entries from 256) refl
+        where
+          by_next : (o : Option ℕ) → present_from entries from 256 ≡ o → ComesTo x m (entry_or_on m o) (way_of m ++ from ∷ []) (Some (hand_in x m)) (above_hand m) (1 + one_for m.upper)
+          by_next None found = record {
+            same = refl;
+            slot = h.slot;
+            alike = passed_to (way_of m) (hand_in x m) (below x m h) from 256 (deep x m h) refl h.there low (λ k above beneath. sym (at_hand k) ∙ none_is entries from 256 found k above beneath);
+            given = (record { tree = h.tree; slot = h.slot; before = h.before; there = h.there; level = h.level }, refl);
+            keeps = λ kept inner outer. record { inner = inner; outer = outer };
+            made = refl;
+          }
+          by_next (Some e) found =
+              let next = next_is entries from 256 e found in
+              record {
+                same = refl;
+                slot = h.slot;
+                alike = passed_to (way_of m) (hand_in x m) (below x m h) from e (deep x m h) refl h.there next.low (λ k above beneath. sym (at_hand k) ∙ next.before k above beneath);
+                given = record {
+                  hand = record { tree = h.tree; slot = h.slot; before = h.before; there = h.there; level = h.level };
+                  names_data = leads;
+                  within = next.high;
+                  there = subst (λ (b : ℕ). b ≢ 0) (at_hand e) next.some;
+                };
+                keeps = λ kept inner outer. record { inner = inner; outer = outer };
+                made = omega arith;
+              }
 
-pub at_next : (m : Itrunc) (entries : List ℕ) (from : ℕ) → from ≤ 256 → AtNext m (at_entries m entries from) entries from
-at_next m entries from below = by_next (present_from entries from 256) refl
-  where
-    by_next : (o : Option ℕ) → present_from entries from 256 ≡ o → AtNext m (entry_or_on m o) entries from
-    by_next None found = record {
-      same = refl;
-      pass = record { low = below; none = none_is entries from 256 found };
-      keeps = λ kept own is. is;
-      left = omega arith;
-      given = λ cur same given some. (refl, given, some);
-    }
-    by_next (Some e) found =
-        let next = next_is entries from 256 e found in
-        let low = next.low in
-        let high = next.high in
-        record {
-          same = refl;
-          pass = record { low = next.low; none = next.before };
-          keeps = λ kept own is. is;
-          left = omega (arith, low, high);
-          given = λ cur same given some. (next.high, given, some, subst (λ (l : List ℕ). get_or l e 0 ≢ 0) same next.some);
-        }
+    -- where they name second blocks
+    module _ (two : depth_of x m.slot ≡ 2) (same : entries ≡ words_of (block_at x (root_of m))) where
+      at_root : (e : ℕ) → get_or entries e 0 ≡ entry_of x (root_of m) e
+      at_root e = ap (λ (l : List ℕ). get_or l e 0) same
 
--- no step is left out
-pub some_uses : (o : Option ℕ) → 1 ≤ uses_left o
-some_uses None = omega arith
-some_uses (Some i) = omega arith
+      second_is : (e : ℕ) → led_to x (e ∷ []) (root_of m) ≡ get_or entries e 0
+      second_is e = rw (ne_eqb (root_of m) 0 (root_there x m h)) (sym (at_root e))
 
-pub some_left : (given_up : ℕ) (used : Option ℕ) (a : TruncAt) → 1 ≤ frees_left given_up used a
-some_left given_up used (trunc_at.Direct k) = let some = some_uses used in omega (arith, some)
-some_left given_up used trunc_at.Loading = omega arith
-some_left given_up used trunc_at.Entry = let some = some_uses used in omega (arith, some)
-some_left given_up used trunc_at.Unloading = omega arith
-some_left given_up used trunc_at.Indirect = let some = some_uses used in omega (arith, some)
-some_left given_up used trunc_at.Updating = some_uses used
+      pub branches_come : ComesTo x m (at_branches m entries from) (from ∷ []) (Some (root_of m)) None 1
+      branches_come = by_next (present_from entries from 256) refl
+        where
+          by_next : (o : Option ℕ) → present_from entries from 256 ≡ o → ComesTo x m (branch_or_on m entries o) (from ∷ []) (Some (root_of m)) None 1
+          by_next None found = record {
+            same = refl;
+            slot = h.slot;
+            alike = passed_to [] (root_of m) 1 from 256 two refl (root_there x m h) low (λ k above beneath. sym (at_root k) ∙ none_is entries from 256 found k above beneath);
+            given = (record { tree = h.tree; slot = h.slot; before = h.before; there = root_there x m h; level = omega (arith, two) }, refl);
+            keeps = λ kept inner outer. record { inner = inner; outer = outer };
+            made = refl;
+          }
+          by_next (Some e) found =
+              let next = next_is entries from 256 e found in
+              let there : led_to x (e ∷ []) (root_of m) ≢ 0 = subst (λ (b : ℕ). b ≢ 0) (sym (second_is e)) next.some in
+              let begun = begun_alike x m.inode m.slot (e ∷ []) (led_to x (e ∷ []) (root_of m)) 0 (first_tree x m h) two refl there in
+              let passed = passed_to [] (root_of m) 1 from e two refl (root_there x m h) next.low (λ k above beneath. sym (at_root k) ∙ next.before k above beneath) in
+              record {
+                same = refl;
+                slot = h.slot;
+                alike = λ c. begun c ∙ passed c;
+                given = (record { tree = h.tree; slot = h.slot; before = h.before; there = there; level = omega (arith, two) }, refl, second_is e);
+                keeps = λ kept inner outer. record { inner = inner; outer = outer };
+                made = refl;
+              }
+
+  -- a block of addresses was got
+  pub block_comes : m.form ≡ form_of x → ComesTo x m (at_block m (words_of (block_at x (hand_in x m)))) (way_of m ++ 0 ∷ []) (Some (hand_in x m)) (above_hand m) (1 + one_for m.upper)
+  block_comes form = by_kind (leads_to_data m) refl
+    where
+      by_kind : (t : Bool) → leads_to_data m ≡ t
+          → ComesTo x m (cond t (at_entries m (words_of (block_at x (hand_in x m))) 0) (at_branches m (words_of (block_at x (hand_in x m))) 0)) (way_of m ++ 0 ∷ []) (Some (hand_in x m)) (above_hand m) (1 + one_for m.upper)
+      by_kind true leads = entries_come (words_of (block_at x (hand_in x m))) 0 (omega arith) (names_data x m h form leads) refl
+      by_kind false leads =
+          let is = branches x m h form leads in
+          let entries : List ℕ = words_of (block_at x (hand_in x m)) in
+          let own : hand_in x m ≡ root_of m = ap (λ (o : Option ℕ). led_to x (listed o) (root_of m)) is.0 in
+          subst (λ (o : Option ℕ). ComesTo x m (at_branches m entries 0) (listed o ++ 0 ∷ []) (Some (led_to x (listed o) (root_of m))) (above_by o (root_of m)) (1 + one_for o)) (sym is.0)
+          (branches_come entries 0 (omega arith) is.1 (ap (λ (b : ℕ). words_of (block_at x b)) own))
+
+-- ---- how much was made of blocks that are left
+
+pub few_for : (o : Option ℕ) → one_for o ≤ 1
+few_for None = omega arith
+few_for (Some i) = omega arith
+
+pub few_made : (upper used : Option ℕ) (a : TruncAt) → made_so_far upper used a ≤ 4
+few_made upper used trunc_at.Direct = let one = few_for used in omega (arith, one)
+few_made upper used (trunc_at.Loading b) = let one = few_for upper in omega (arith, one)
+few_made upper used trunc_at.Entry = let one = few_for used in let two = few_for upper in omega (arith, one, two)
+few_made upper used trunc_at.Unloading = let one = few_for upper in omega (arith, one)
+few_made upper used trunc_at.Freeing = let one = few_for used in let two = few_for upper in omega (arith, one, two)
+few_made upper used trunc_at.Updating = let one = few_for used in omega (arith, one)

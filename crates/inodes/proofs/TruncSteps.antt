@@ -19,7 +19,7 @@ use Rattle.wal.specs.Joint.{Joint, seen}
 use Rattle.wal.specs.Volume.{VolumeState}
 use Rattle.driver.specs.Driver.{Drives, progress_of_over}
 use Rattle.driver.specs.Getting.{progress_of}
-use Rattle.driver.specs.Holds.{slot_kept, slot_used}
+use Rattle.driver.specs.Holds.{IsKept, slot_kept, slot_used}
 use Rattle.driver.specs.Lemmas.Slots.{HasGot, no_slot}
 use Rattle.driver.specs.Next.{beside, used_now}
 use Rattle.driver.specs.declared.driving.Got.{Got}
@@ -33,7 +33,7 @@ use Rattle.inodes.specs.declared.tasks.Place.{Place}
 use Rattle.inodes.specs.declared.tasks.Place.TheVariants as place
 use Rattle.inodes.specs.Goes.{place_of_trunc, progress_of_trunc, table_of_trunc}
 use Rattle.inodes.specs.Grips.{KeepsTable, locked_grip}
-use Rattle.inodes.specs.Holding.{IsTruncating, claim_by, claims_of, held_of, trunc_op}
+use Rattle.inodes.specs.Holding.{IsTruncating, block_of_got, claim_by, claims_of, held_of, trunc_op}
 use Rattle.inodes.specs.Itrunc.{Freeing, after_trunc, inode_left, itrunc, over_of_trunc, trunc_next}
 use Rattle.inodes.specs.Looks.{CanTake}
 use Rattle.inodes.specs.Places.{asked_by, grips_of}
@@ -44,9 +44,9 @@ use Rattle.inodes.specs.Tasks.{TaskState, task, no_task}
 use Rattle.inodes.specs.Lemmas.Holding.{own_holds}
 use Rattle.inodes.specs.Lemmas.Looks.{trunc_number}
 use Rattle.inodes.proofs.AtWork.{Does, Works, store_worked, steps_worked}
+use Rattle.inodes.proofs.Frames.{form_same}
 use Rattle.inodes.proofs.Driving.{Driving, IsDone, Moves, does_fail, does_move, does_wait}
-use Rattle.inodes.proofs.TruncMakes.{Makes, makes}
-use Rattle.inodes.proofs.TruncNext.{some_left}
+use Rattle.inodes.proofs.TruncMakes.{HasNone, Makes, makes}
 use Rattle.inodes.proofs.Truncating.{alone, got, gripped, keeps_apart, looking, work}
 
 -- it holds no other number
@@ -59,10 +59,17 @@ can_take n i true can = can
 can_take n i false can = can
 
 -- the end leaves nothing
-none_locked : (c : Buffers) (p : ℕ) (a : Next) (kept : Option Got) (used : Option ℕ) → HasGot c p a kept used → kept ≡ None → used ≡ None → (b i : ℕ) → HasLock c p b i → ⊥
-none_locked c p a kept used had kept_none used_none b i lock = ⊎_elim
-    (λ (old : slot_kept kept ≡ Some i). let e : None ≡ Some i = sym (ap slot_kept kept_none) ∙ old in cc e)
-    (λ (mine : slot_used a used ≡ Some i). no_slot a i (subst (λ (o : Option ℕ). slot_used a o ≡ Some i) used_none mine))
+none_slot : (o : Option Got) (i : ℕ) → block_of_got o ≡ None → slot_kept o ≡ Some i → ⊥
+none_slot None i none has = cc has
+none_slot (Some g) i none has = cc none
+
+none_locked : (c : Buffers) (p : ℕ) (a : Next) (n : Freeing) → HasGot c p a n.kept n.used → HasNone n → (b i : ℕ) → HasLock c p b i → ⊥
+none_locked c p a n had none b i lock = ⊎_elim
+    (λ (old : IsKept n.kept i). ⊎_elim
+    (λ (one : slot_kept n.kept.inner ≡ Some i). none_slot n.kept.inner i none.inner one)
+    (λ (one : slot_kept n.kept.outer ≡ Some i). none_slot n.kept.outer i none.outer one)
+    old)
+    (λ (mine : slot_used a n.used ≡ Some i). no_slot a i (subst (λ (o : Option ℕ). slot_used a o ≡ Some i) none.used mine))
     (had.locks b i lock)
 
 -- process p frees a file's blocks
@@ -131,6 +138,7 @@ module _ {D N : Type 0} (disk : Ghosts D N) (s : StoreState D) (p k : ℕ) (m : 
         wakes = λ cause waits. cc waits;
         late = refl;
         numbers = refl;
+        form = refl;
         marks = made.marks;
         keeps = made.keeps;
         table = subst (λ (r : Progress (Unit {0})). KeepsTable s.table (table_of_trunc s.table k m r) p (grips_of s.tasks) (grips_of s.tasks) (current_of disk.image w)) moved made.table;
@@ -143,30 +151,35 @@ module _ {D N : Type 0} (disk : Ghosts D N) (s : StoreState D) (p k : ℕ) (m : 
           op = working.op ∙ ap (λ (o : Itrunc). Some (trunc_op o)) (sym on.same);
           number = subst (λ (j : ℕ). IsTrue (is_number count j)) (sym number) working.number;
           bitmap = ap (λ (o : Itrunc). o.bitmap) on.same ∙ working.bitmap;
+          form = ap (λ (o : Itrunc). o.form) on.same ∙ working.form ∙ sym (form_same (current_of disk.image s.volume) (current_of disk.image w) made.marks.untouched.super);
+          slot = on.slot;
           given = on.given;
           keeps = on.keeps;
         };
+        logged = tt;
         less = omega (arith, less);
       }
 
   -- or is at its end
   ends : (its : Op) → q ≡ machine.Over tt → Moves itrunc disk s p k i here m n q w progress.Moved (place.Leaving k) (renewed s.table k (inode_left m.machine)) its
   ends its over =
-      let some = some_left m.machine.given_up m.used m.machine.at in
+      let some = (made.over over).1 in
       record {
         fine = refl;
         wakes = λ cause waits. cc waits;
         late = refl;
         numbers = refl;
+        form = refl;
         marks = made.marks;
         keeps = made.keeps;
         table = subst (λ (r : Progress (Unit {0})). KeepsTable s.table (table_of_trunc s.table k m r) p (grips_of s.tasks) (grips_of s.tasks) (current_of disk.image w)) over made.table;
         files = made.rests over;
         apart_then = λ j apart. refl;
         grip = grip_then;
-        locks = λ has b j lock. absurd (none_locked w.buffers p (trunc_next n) n.kept n.used has (made.over over).0 (made.over over).1 b j lock);
+        locks = λ has b j lock. absurd (none_locked w.buffers p (trunc_next n) n has (made.over over).0 b j lock);
         stands = λ has. tt;
         looks = record { op = trunc_op m.machine; is = working.op; can = can_take count i m.machine.removes working.number };
+        logged = tt;
         less = omega (arith, some);
       }
 
@@ -208,9 +221,9 @@ left_same disk v w p m n None drives = absurd (getting_on drives.gets.answer (sy
 left_same disk v w p m n (Some g) drives = ap (λ (o : Freeing). inode_left o.machine) drives.next ∙ by_at (words_of (block_at (seen (disk.image v.device) v.buffers) (beside m.kept g).block)) m.machine.at drives.answer
   where
     by_at : (entries : List ℕ) (a : TruncAt) → machine.Over tt ≡ progress_of_over (over_of_trunc a) → inode_left (after_trunc m.machine entries a) ≡ inode_left m.machine
-    by_at entries (trunc_at.Direct j) over = absurd (cc over)
-    by_at entries trunc_at.Loading over = refl
+    by_at entries trunc_at.Direct over = absurd (cc over)
+    by_at entries (trunc_at.Loading b) over = refl
     by_at entries trunc_at.Entry over = absurd (cc over)
     by_at entries trunc_at.Unloading over = refl
-    by_at entries trunc_at.Indirect over = absurd (cc over)
+    by_at entries trunc_at.Freeing over = absurd (cc over)
     by_at entries trunc_at.Updating over = refl

@@ -1,18 +1,27 @@
 -- What is true of a process that frees a file's blocks: what it holds, and that it may make its next step.
-use Rattle.std.proofs.Common.{◌≡◌, ◌≢◌, ℕ, ◌<◌, ◌≤◌, true, List, get_or, length, refl, sym, ◌∙◌, ap, subst, ⊎_elim, arith, Option, Some, None}
+use Rattle.std.proofs.Common.{◌≡◌, ◌≢◌, ℕ, ◌<◌, ◌≤◌, true, List, [], ◌∷◌, ◌++◌, get_or, length, length-append, refl, sym, ◌∙◌, ap, subst, ⊎_elim, arith, Option, Some, None}
 use Rattle.std.specs.Prelude.{IsTrue, IsSome}
+use Rattle.std.proofs.lemmas.Bool.{ne_eqb}
 use Rattle.blocks.specs.Disk.{Image, block_at}
 use Rattle.blocks.specs.declared.disk.Disk.{Ghosts}
 use Rattle.bcache.specs.Lemmas.Current.{length-current}
 use Rattle.model.specs.Fields.{words_of}
 use Rattle.model.specs.Files.{Files, file_in}
 use Rattle.model.specs.Journal.{is_number}
-use Rattle.model.specs.Layout.{inode_block, inode_count_of, super_of, bitmap_block}
+use Rattle.model.specs.declared.types.image.Form.{Form}
+use Rattle.model.specs.Layout.{direct_count, inode_block, inode_count_of, super_of, bitmap_block}
+use Rattle.model.specs.Soundness.{count_of}
 use Rattle.model.specs.Lemmas.Soundness.{facts_of}
-use Rattle.loose.specs.Held.{Claims, FitsHeld, IsFine, IsHeld, frees, Claim}
-use Rattle.loose.specs.HeldLaws.{HasMarkedBlocks, IsHeldIn}
+use Rattle.loose.specs.Held.{Claims, FitsHeld, IsFine, IsHeld, frees, Claim, listed}
+use Rattle.loose.specs.HeldLaws.{IsMarkedData, IsHeldIn}
 use Rattle.loose.specs.Loose.{LiesInData}
 use Rattle.loose.specs.Lemmas.Claims.{IsApart, apart}
+use Rattle.loose.specs.Trees.{names_left, entry_of, led_to}
+use Rattle.loose.specs.Lemmas.GivenUp.{direct_left, first_left, first_twice}
+use Rattle.loose.specs.Lemmas.LeftOnWays.{ahead_at, ahead_of}
+use Rattle.loose.specs.Lemmas.Ways.{led_further}
+use Rattle.loose.specs.Lemmas.Ways.{ahead_root, led_step}
+use Rattle.model.specs.Lemmas.Codecs.{length-words_of-block}
 use Rattle.loose.specs.Lemmas.HeldLooks.{held_has_blocks}
 use Rattle.loose.specs.Lemmas.Looks.{between}
 use Rattle.wal.specs.Joint.{Joint}
@@ -22,17 +31,16 @@ use Rattle.wal.specs.Volume.{Holds}
 use Rattle.driver.specs.Deeds.{DeedFits}
 use Rattle.driver.specs.Driver.{MayDo, MayDrive}
 use Rattle.driver.specs.Lemmas.Slots.{HasGot, shows_kept, shows_used}
-use Rattle.driver.specs.Next.{KeepsApart, MayGet, beside, used_now}
+use Rattle.driver.specs.Next.{IsBeside, IsThere, KeepsApart, MayGet, beside, got_or, used_now}
 use Rattle.driver.specs.declared.driving.Got.{Got}
-use Rattle.driver.specs.declared.machine.Next.TheVariants as next
 use Rattle.inodes.specs.declared.itrunc.TruncAt.{TruncAt}
 use Rattle.inodes.specs.declared.itrunc.TruncAt.TheVariants as trunc_at
 use Rattle.inodes.specs.declared.table.InMemory.{InMemory}
 use Rattle.inodes.specs.declared.tasks.Place.{Place}
 use Rattle.inodes.specs.declared.tasks.Place.TheVariants as place
 use Rattle.inodes.specs.Grips.{grip, locked_grip}
-use Rattle.inodes.specs.Holding.{HasGivenUp, IsKept, IsTruncating, KeepsAt, claims_of, held_of}
-use Rattle.inodes.specs.Itrunc.{FitsAt, Freeing, deed_of_trunc, entries_in, itrunc, next_of_trunc, trunc_next}
+use Rattle.inodes.specs.Holding.{HasGivenUp, IsAtDirect, IsAtEntry, IsInHand, IsTruncating, Keeps, above_by, block_of_got, claims_of, hand_in, held_of, root_of, way_of}
+use Rattle.inodes.specs.Itrunc.{FitsAt, Freeing, IsBelow, deed_of_trunc, hand_by, itrunc, next_of_trunc, trunc_next}
 use Rattle.inodes.specs.Looks.{AreLooking}
 use Rattle.inodes.specs.Places.{HasSlot, grip_of, grips_of}
 use Rattle.inodes.specs.Store.{StoreState, IsStore, HoldsForFreeing, Stands, Agrees, current_of}
@@ -41,8 +49,9 @@ use Rattle.inodes.specs.Tasks.{task}
 use Rattle.inodes.specs.Lemmas.Faults.{where_none}
 use Rattle.inodes.specs.Lemmas.Looks.{truncating_is, trunc_locks}
 use Rattle.inodes.proofs.Gripping.{grip_is}
+use Rattle.inodes.proofs.InHand.{first_tree, root_there, two_deep}
 use Rattle.inodes.proofs.Searching.{where_got}
-use Rattle.inodes.proofs.Unclaimed.{LocksAlone, locks_alone, own_claim}
+use Rattle.inodes.specs.Lemmas.Unclaimed.{LocksAlone, locks_alone, own_claim}
 use Rattle.loose.specs.Lemmas.Remapped.{IsMapped, mapped}
 
 -- a place of a number has an inode
@@ -58,10 +67,6 @@ module _ {D N : Type 0} (disk : Ghosts D N) (s : StoreState D) (p k : ℕ) (m : 
 
   abbrev claims : Claims
   claims = claims_of s.tasks
-
-  -- the block of addresses
-  abbrev own : ℕ
-  own = get_or m.machine.inode.addrs 12 0
 
   pub agrees : Agrees s.volume.buffers s.volume.log s.table.inode_count s.tasks
   agrees = where_none s.volume.fault well is.agrees
@@ -108,10 +113,6 @@ module _ {D N : Type 0} (disk : Ghosts D N) (s : StoreState D) (p k : ℕ) (m : 
   pub long : length m.machine.inode.addrs ≡ 13
   long = is_held.fields.count
 
-  -- what it has still to free
-  pub blocks : HasMarkedBlocks cur (held_of m.machine)
-  blocks = held_has_blocks looking.files.0 cur claims m.machine.number (held_of m.machine) held
-
   pub map : IsMapped cur
   map = mapped cur is.geometry looking.files.1.full
 
@@ -129,6 +130,68 @@ module _ {D N : Type 0} (disk : Ghosts D N) (s : StoreState D) (p k : ℕ) (m : 
       let at = bitmap in
       omega (arith, same, low, before, at)
 
+  -- what it has still to free
+  left_marked : (b : ℕ) → 1 ≤ count_of b (names_left cur m.machine.inode (held_of m.machine).cursor) → IsMarkedData cur b
+  left_marked b some =
+      (held_has_blocks looking.files.0 cur claims m.machine.number (frees (held_of m.machine)) held).marked b (λ none. omega (arith, some, none))
+
+  pub direct_marked : IsAtDirect m.machine → IsMarkedData cur (root_of m.machine)
+  direct_marked at =
+      left_marked (root_of m.machine)
+      (direct_left cur m.machine.inode (held_of m.machine).cursor m.machine.slot (subst (λ (f : Form). m.machine.slot < direct_count f) work.form at.direct) at.there)
+
+  -- a block of addresses is full
+  pub words : (b : ℕ) → LiesInData cur b → length (words_of (block_at cur b)) ≡ 256
+  words b lies =
+      let low = lies.0 in
+      let before = map.before_data in
+      let behind = map.behind in
+      length-words_of-block (block_at cur b) (looking.files.1.full b (omega (arith, low, behind, before)) lies.1)
+
+  module _ (h : IsInHand cur m.machine) where
+    pub root_marked : IsMarkedData cur (root_of m.machine)
+    root_marked = left_marked (root_of m.machine)
+        (first_left cur m.machine.inode m.machine.slot (held_of m.machine).cursor [] (root_of m.machine) (first_tree cur m.machine h) (omega arith) refl (root_there cur m.machine h) (ahead_root (held_of m.machine).cursor))
+
+    pub hand_marked : IsMarkedData cur (hand_in cur m.machine)
+    hand_marked = left_marked (hand_in cur m.machine)
+        (first_left cur m.machine.inode m.machine.slot (held_of m.machine).cursor (way_of m.machine) (hand_in cur m.machine) (first_tree cur m.machine h) (let level = h.level in omega (arith, level)) refl h.there
+        (ahead_of (way_of m.machine) m.machine.given_up))
+
+    -- a second block is another than the block that names it
+    pub hand_apart : (e : ℕ) → m.machine.upper ≡ Some e → root_of m.machine ≢ led_to cur (e ∷ []) (root_of m.machine)
+    hand_apart e upper same =
+        let root = root_of m.machine in
+        let step = led_step cur e [] root root (sym same) (root_there cur m.machine h) in
+        let twice = first_twice cur m.machine.inode m.machine.slot e 1 (m.machine.given_up ∷ []) (first_tree cur m.machine h) (two_deep cur m.machine h work.form e upper) step.1 in
+        let cursor : (held_of m.machine).cursor ≡ e ∷ m.machine.given_up ∷ [] = ap (λ (o : Option ℕ). listed o ++ m.machine.given_up ∷ []) upper in
+        let few = (held_has_blocks looking.files.0 cur claims m.machine.number (frees (held_of m.machine)) held).once root in
+        let alike = ap (λ (l : List ℕ). count_of root (names_left cur m.machine.inode l)) cursor in
+        omega (arith, twice, few, alike)
+
+    -- the entry above that names a block in hand is one of its block's
+    pub upper_within : IsBelow m.machine.upper 256
+    upper_within = by_upper m.machine.upper h.there
+      where
+        by_upper : (o : Option ℕ) → led_to cur (listed o) (root_of m.machine) ≢ 0 → IsBelow o 256
+        by_upper None there = tt
+        by_upper (Some e) there =
+            let step = led_step cur e [] (root_of m.machine) (led_to cur (e ∷ []) (root_of m.machine)) refl there in
+            let low = step.2 in
+            let full = words (root_of m.machine) root_marked.0 in
+            omega (arith, low, full)
+
+  -- the next entry of the block in hand
+  pub entry_marked : (at : IsAtEntry cur m.machine) → IsMarkedData cur (entry_of cur (hand_in cur m.machine) m.machine.given_up)
+  entry_marked at =
+      let way = way_of m.machine in
+      let g = m.machine.given_up in
+      let deep = at.names_data in
+      let long = length-append way (g ∷ []) in
+      left_marked (entry_of cur (hand_in cur m.machine) g)
+      (first_left cur m.machine.inode m.machine.slot (held_of m.machine).cursor (way ++ g ∷ []) (entry_of cur (hand_in cur m.machine) g) (first_tree cur m.machine at.hand) (omega (arith, deep, long))
+      (led_further cur way (root_of m.machine) g (hand_in cur m.machine) refl at.hand.there) at.there (ahead_at way g))
+
   -- its place in the table
   pub in_table : k < 50
   in_table = (looking.table.places p (locked_grip k m.machine.number) has).0
@@ -143,33 +206,66 @@ module _ {D N : Type 0} (disk : Ghosts D N) (s : StoreState D) (p k : ℕ) (m : 
       (λ one. subst HasRoom (sym one.0) (omega arith))
       holds.logged
 
-  -- the entries of the block that it keeps are those of the block of addresses
-  pub own_entries : (g : Got) → IsKept m.kept own → words_of (block_at cur (beside m.kept g).block) ≡ entries_in cur m.machine
-  own_entries g keeps = ap (λ (b : ℕ). words_of (block_at cur b)) (by_kept m.kept keeps)
+  -- the entries of the block that was kept last
+  pub kept_words : (g : Got) (b : ℕ) → block_of_got m.kept.inner ≡ Some b → words_of (block_at cur (beside m.kept g).block) ≡ words_of (block_at cur b)
+  kept_words g b keeps = ap (λ (c : ℕ). words_of (block_at cur c)) (by_kept m.kept.inner keeps)
     where
-      by_kept : (o : Option Got) → IsKept o own → (beside o g).block ≡ own
-      by_kept None keeps = absurd keeps
-      by_kept (Some kept) keeps = keeps
+      by_kept : (o : Option Got) → block_of_got o ≡ Some b → (got_or o g).block ≡ b
+      by_kept None keeps = absurd (cc keeps)
+      by_kept (Some kept) keeps = cc keeps
 
-  apart_at : (a : TruncAt) → HasGivenUp cur m.machine a → KeepsAt m.kept own a → KeepsApart (next_of_trunc m.machine a) m.kept
-  apart_at (trunc_at.Direct j) given keeps = subst (KeepsApart (next.Use m.machine.bitmap)) (sym keeps) tt
-  apart_at trunc_at.Loading given keeps = keeps
-  apart_at trunc_at.Entry given keeps = by_kept m.kept keeps
+  -- a kept block is another than one that is got
+  beside_by : (o : Option Got) (e : Option ℕ) (c : ℕ) → block_of_got o ≡ e → ((b : ℕ) → e ≡ Some b → b ≢ c) → IsBeside o c
+  beside_by None e c is apart = tt
+  beside_by (Some g) e c is apart = apart g.block (sym is)
+
+  none_beside : (o : Option Got) (c : ℕ) → block_of_got o ≡ None → IsBeside o c
+  none_beside o c none = beside_by o None c none (λ b some. absurd (cc some))
+
+  data_beside : (o : Option Got) (b : ℕ) → block_of_got o ≡ Some b → LiesInData cur b → IsBeside o m.machine.bitmap
+  data_beside o b is lies = beside_by o (Some b) m.machine.bitmap is (λ c same here. let e : b ≡ c = cc same in not_bitmap b lies (e ∙ here))
+
+  above_beside : (h : IsInHand cur m.machine) (o : Option Got) → block_of_got o ≡ above_by m.machine.upper (root_of m.machine) → IsBeside o m.machine.bitmap
+  above_beside h o is = by_upper m.machine.upper is
     where
-      by_kept : (o : Option Got) → IsKept o own → KeepsApart (next.Use m.machine.bitmap) o
-      by_kept None keeps = absurd keeps
-      by_kept (Some g) keeps = λ same. not_bitmap own (blocks.indirect given.2).0 (sym keeps ∙ same)
-  apart_at trunc_at.Unloading given keeps = by_kept m.kept keeps
+      by_upper : (u : Option ℕ) → block_of_got o ≡ above_by u (root_of m.machine) → IsBeside o m.machine.bitmap
+      by_upper None is = none_beside o m.machine.bitmap is
+      by_upper (Some e) is = data_beside o (root_of m.machine) is (root_marked h).0
+
+  is_none : (o : Option Got) → block_of_got o ≡ None → o ≡ None
+  is_none None is = refl
+  is_none (Some g) is = absurd (cc is)
+
+  apart_at : (a : TruncAt) → HasGivenUp cur m.machine a → Keeps cur m.kept m.machine a → KeepsApart (next_of_trunc m.machine a) m.kept
+  apart_at trunc_at.Direct given keeps = (none_beside m.kept.inner m.machine.bitmap keeps.inner, none_beside m.kept.outer m.machine.bitmap keeps.outer)
+  apart_at (trunc_at.Loading b) given keeps = (is_none m.kept.outer keeps.outer, by_upper m.machine.upper refl)
     where
-      by_kept : (o : Option Got) → IsKept o own → KeepsApart next.Kept o
-      by_kept None keeps = keeps
-      by_kept (Some g) keeps = tt
-  apart_at trunc_at.Indirect given keeps = subst (KeepsApart (next.Use m.machine.bitmap)) (sym keeps) tt
-  apart_at trunc_at.Updating given keeps = subst (KeepsApart (next.Use (inode_block m.machine.number))) (sym keeps) tt
+      by_upper : (u : Option ℕ) → m.machine.upper ≡ u → IsBeside m.kept.inner b
+      by_upper None is = none_beside m.kept.inner b (keeps.inner ∙ ap (λ (o : Option ℕ). above_by o (root_of m.machine)) is)
+      by_upper (Some e) is = beside_by m.kept.inner (Some (root_of m.machine)) b (keeps.inner ∙ ap (λ (o : Option ℕ). above_by o (root_of m.machine)) is)
+          (λ c same here. let root : root_of m.machine ≡ c = cc same in
+          hand_apart given.0 e is (root ∙ here ∙ sym given.2 ∙ ap (λ (o : Option ℕ). led_to cur (listed o) (root_of m.machine)) is))
+  apart_at trunc_at.Entry given keeps = (data_beside m.kept.inner (hand_in cur m.machine) keeps.inner (hand_marked given.hand).0, above_beside given.hand m.kept.outer keeps.outer)
+  apart_at trunc_at.Unloading given keeps = by_kept m.kept.inner keeps.inner
+    where
+      by_kept : (o : Option Got) → block_of_got o ≡ Some (hand_in cur m.machine) → IsThere o
+      by_kept None is = absurd (cc is)
+      by_kept (Some g) is = tt
+  apart_at trunc_at.Freeing given keeps = (above_beside given.0 m.kept.inner keeps.inner, none_beside m.kept.outer m.machine.bitmap keeps.outer)
+  apart_at trunc_at.Updating given keeps = (none_beside m.kept.inner (inode_block m.machine.number) keeps.inner, none_beside m.kept.outer (inode_block m.machine.number) keeps.outer)
 
   -- what it keeps it does not get
   pub keeps_apart : KeepsApart (trunc_next m) m.kept
   keeps_apart = apart_at m.machine.at work.given work.keeps
+
+  -- the block in hand, as the machine finds it
+  pub hand_is : (g : Got) (h : IsInHand cur m.machine) → Keeps cur m.kept m.machine trunc_at.Freeing
+      → hand_by m.machine.upper m.machine (words_of (block_at cur (beside m.kept g).block)) ≡ hand_in cur m.machine
+  hand_is g h keeps = by_upper m.machine.upper keeps.inner
+    where
+      by_upper : (u : Option ℕ) → block_of_got m.kept.inner ≡ above_by u (root_of m.machine) → hand_by u m.machine (words_of (block_at cur (beside m.kept g).block)) ≡ led_to cur (listed u) (root_of m.machine)
+      by_upper None is = refl
+      by_upper (Some e) is = rw (ne_eqb (root_of m.machine) 0 (root_there cur m.machine h)) (ap (λ (l : List ℕ). get_or l e 0) (kept_words g (root_of m.machine) is))
 
   -- ---- its next step
 
@@ -192,16 +288,16 @@ module _ {D N : Type 0} (disk : Ghosts D N) (s : StoreState D) (p k : ℕ) (m : 
         (omega (arith, at, behind), omega (arith, at, low, same))
 
     may_get : (a : TruncAt) → HasGivenUp cur m.machine a → MayGet (next_of_trunc m.machine a) s.volume.log.size
-    may_get (trunc_at.Direct j) given = the_bitmap
-    may_get trunc_at.Loading given =
-        let lies = (blocks.indirect given.2).0 in
+    may_get trunc_at.Direct given = the_bitmap
+    may_get (trunc_at.Loading b) given =
+        let lies = subst (LiesInData cur) given.2 (hand_marked given.0).0 in
         let low = lies.0 in
         let behind = map.behind in
         let before = map.before_data in
-        (omega (arith, low, behind, before), within own lies.1)
+        (omega (arith, low, behind, before), within b lies.1)
     may_get trunc_at.Entry given = the_bitmap
     may_get trunc_at.Unloading given = tt
-    may_get trunc_at.Indirect given = the_bitmap
+    may_get trunc_at.Freeing given = the_bitmap
     may_get trunc_at.Updating given = (inode_apart.behind, within (inode_block m.machine.number) inode_apart.within)
 
     -- a block that is freed has a bit
@@ -211,33 +307,35 @@ module _ {D N : Type 0} (disk : Ghosts D N) (s : StoreState D) (p k : ℕ) (m : 
         let room = map.room in
         omega (arith, inside, room)
 
-    may_do : (a : TruncAt) (entries : List ℕ) → HasGivenUp cur m.machine a → (IsKept m.kept own → entries ≡ entries_in cur m.machine) → KeepsAt m.kept own a → DeedFits (deed_of_trunc m.machine entries a)
-    may_do (trunc_at.Direct j) entries given same keeps = has_bit (get_or m.machine.inode.addrs j 0) (blocks.direct j given.0 given.3).0
-    may_do trunc_at.Loading entries given same keeps = tt
-    may_do trunc_at.Entry entries given same keeps =
-        subst (λ (l : List ℕ). get_or l m.machine.given_up 0 < 8192) (sym (same keeps)) (has_bit (get_or (entries_in cur m.machine) m.machine.given_up 0) (blocks.entries given.2 m.machine.given_up (omega arith) given.3).0)
-    may_do trunc_at.Unloading entries given same keeps = tt
-    may_do trunc_at.Indirect entries given same keeps = has_bit own (blocks.indirect given.2).0
-    may_do trunc_at.Updating entries given same keeps = long
+    may_do : (g : Got) (a : TruncAt) → HasGivenUp cur m.machine a → Keeps cur m.kept m.machine a → DeedFits (deed_of_trunc m.machine (words_of (block_at cur (beside m.kept g).block)) a)
+    may_do g trunc_at.Direct given keeps = has_bit (root_of m.machine) (direct_marked given).0
+    may_do g (trunc_at.Loading b) given keeps = tt
+    may_do g trunc_at.Entry given keeps =
+        subst (λ (l : List ℕ). get_or l m.machine.given_up 0 < 8192) (sym (kept_words g (hand_in cur m.machine) keeps.inner))
+        (has_bit (entry_of cur (hand_in cur m.machine) m.machine.given_up) (entry_marked given).0)
+    may_do g trunc_at.Unloading given keeps = tt
+    may_do g trunc_at.Freeing given keeps =
+        subst (λ (b : ℕ). b < 8192) (sym (hand_is g given.0 keeps)) (has_bit (hand_in cur m.machine) (hand_marked given.0).0)
+    may_do g trunc_at.Updating given keeps = long
 
     by_used : (o : Option Got) → MayDo itrunc cur m o
     by_used None = tt
-    by_used (Some g) = may_do m.machine.at (words_of (block_at cur (beside m.kept g).block)) work.given (own_entries g) work.keeps
+    by_used (Some g) = may_do g m.machine.at work.given work.keeps
 
-    fits_at : (a : TruncAt) → HasGivenUp cur m.machine a → FitsAt m.machine.given_up a
-    fits_at (trunc_at.Direct j) given = given.0
-    fits_at trunc_at.Loading given = tt
-    fits_at trunc_at.Entry given = given.0
+    fits_at : (a : TruncAt) → HasGivenUp cur m.machine a → FitsAt m.machine a
+    fits_at trunc_at.Direct given = tt
+    fits_at (trunc_at.Loading b) given = tt
+    fits_at trunc_at.Entry given = given.within
     fits_at trunc_at.Unloading given = tt
-    fits_at trunc_at.Indirect given = tt
+    fits_at trunc_at.Freeing given = upper_within given.0
     fits_at trunc_at.Updating given = tt
 
     pub may : MayDrive itrunc disk.image s.volume p m
     may = record {
-      fits = record { addrs = long; at = fits_at m.machine.at work.given };
+      fits = record { addrs = long; slot = work.slot; at = fits_at m.machine.at work.given };
       gets = may_get m.machine.at work.given;
       apart = keeps_apart;
       used = shows_used cur s.volume.buffers p shows (trunc_next m) m.kept m.used holds.holds;
-      kept = shows_kept cur s.volume.buffers p shows m.kept holds.holds.has_kept;
+      kept = shows_kept cur s.volume.buffers p shows m.kept.inner holds.holds.has_kept.inner;
       deed = by_used (used_now (trunc_next m) m.kept m.used);
     }

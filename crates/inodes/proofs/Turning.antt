@@ -1,22 +1,27 @@
 -- The turn of an operation that takes its inode.
-use Rattle.std.proofs.Common.{◌-◌, ◌+◌, ◌≡◌, ◌≢◌, ◌⊎◌, inl, inr, ℕ, ◌≤◌, ◌<◌, ◌/◌, Bool, true, false, cond, List, [], length, set, refl, sym, ◌∙◌, ap, subst, ⊎_elim, arith, Option, Some, None, ltb}
-use Rattle.std.specs.Prelude.{IsTrue, slice_index}
+use Rattle.std.proofs.Common.{◌-◌, ◌+◌, ◌≡◌, ◌≢◌, ◌⊎◌, inl, inr, ℕ, ◌≤◌, ◌<◌, ◌/◌, Bool, true, false, cond, eqb, List, [], ◌∷◌, length, set, refl, sym, ◌∙◌, ap, subst, ⊎_elim, arith, Option, Some, None, ltb}
+use Rattle.std.specs.Prelude.{IsTrue}
 use Rattle.std.proofs.lemmas.Bool.{cases_eq, eq-eqb, ne_eqb, ltb-false, ltb-true}
 use Rattle.blocks.specs.Disk.{Image}
 use Rattle.blocks.specs.declared.disk.Disk.{Ghosts}
 use Rattle.model.specs.declared.types.image.Dinode.{Dinode}
+use Rattle.model.specs.declared.types.image.Form.{Form}
 use Rattle.model.specs.declared.types.operations.Op.{Op}
 use Rattle.model.specs.declared.types.operations.Op.TheVariants.{Create, Write, Read, Trunc, Remove, Stat}
 use Rattle.model.specs.declared.types.operations.Reply.TheVariants.{StatOf, NoFile, Done, BadOffset, TooBig}
 use Rattle.model.specs.Files.{Files}
 use Rattle.model.specs.Journal.{is_making, is_number}
-use Rattle.model.specs.Layout.{form_of, greatest_size, inode_of, indirect_of, bitmap_block}
+use Rattle.model.specs.declared.types.image.Form.{Form}
+use Rattle.model.specs.Layout.{form_of, greatest_size, inode_of, bitmap_block}
 use Rattle.model.specs.Operations.{after, transfer_limit}
 use Rattle.model.specs.Tasks.{TurnsTo}
-use Rattle.loose.specs.Held.{grows, Growth, Held, FitsHeld, IsClaimedNow, file_left, Claim, frees, Growth, grows}
+use Rattle.loose.specs.Held.{Growth, Held, FitsHeld, IsClaimedNow, blocks_left, file_left, most_left, Claim, frees, grows}
+use Rattle.loose.specs.Lemmas.FewLeft.{few_left}
 use Rattle.loose.specs.Lemmas.HeldLooks.{resting_tells, free_tells}
+use Rattle.loose.specs.Lemmas.LeftInTrees.{begun_left}
 use Rattle.loose.specs.Lemmas.Turns.{turn_holds, turn_answers}
 use Rattle.blockmap.specs.Lemmas.Resting.{resting_may_be_read}
+use Rattle.blockmap.specs.Lemmas.Targets.{first_slot}
 use Rattle.blockmap.specs.Reading.{MayRead}
 use Rattle.blockmap.specs.Target.{block_of, slot_in}
 use Rattle.bcache.specs.Buffers.{Buffers}
@@ -24,50 +29,58 @@ use Rattle.bcache.specs.Lemmas.Current.{length-current}
 use Rattle.wal.specs.Joint.{Joint}
 use Rattle.wal.specs.Machine.{LogState, used_by}
 use Rattle.driver.specs.Driver.{first_driven}
+use Rattle.driver.specs.Next.{no_block_kept}
 use Rattle.driver.specs.Lemmas.Slots.{holds_none}
 use Rattle.inodes.specs.declared.tasks.Place.{Place}
 use Rattle.inodes.specs.declared.tasks.Place.TheVariants as place
 use Rattle.inodes.specs.Grips.{locked_grip}
-use Rattle.inodes.specs.Holding.{IsTruncating, claim_by, claims_of, claim_of}
-use Rattle.inodes.specs.Itrunc.{first_trunc, trunc_next}
+use Rattle.inodes.specs.Holding.{IsTruncating, claim_by, claims_of, claim_of, held_of, trunc_op}
+use Rattle.inodes.specs.declared.itrunc.Itrunc.{Itrunc}
+use Rattle.inodes.specs.Itrunc.{first_trunc, trunc_next, unbegun}
 use Rattle.inodes.specs.LockState.{LockState}
 use Rattle.inodes.specs.Lemmas.Holding.{HoldsAlone, claimed_now, none_held, own_grows}
 use Rattle.inodes.specs.Lemmas.ReadRuns.{begins}
 use Rattle.inodes.specs.Looks.{CanLook, CanTake, HasRoom, LooksAt, WasAnswered}
-use Rattle.inodes.specs.Places.{asked, grip_by, grip_of, steps_left}
+use Rattle.inodes.specs.Places.{asked, grip_by, grip_of, most_behind, steps_left}
 use Rattle.inodes.specs.Readi.{ReadState, first_read}
-use Rattle.inodes.specs.Store.{StoreState, IsStore, FitsFiles, HoldsAt, IsOpenFor, Stands, current_of}
+use Rattle.inodes.specs.Store.{StoreState, IsStore, FitsFiles, HoldsAt, IsOpenFor, LoggedAt, Stands, current_of}
 use Rattle.inodes.specs.Table.{TableState, copy_at}
 use Rattle.inodes.specs.Tasks.{TaskState, task}
 use Rattle.inodes.specs.Turning.{IsReadable, if_used, reply_of_look, reply_when_taken, place_of_look, place_when_taken, place_of_read, write_refusal, place_by_refusal}
-use Rattle.inodes.proofs.Starting.{new_target, has_begun, has_none, few_reads}
+use Rattle.inodes.proofs.Starting.{has_begun, has_none, few_reads}
 use Rattle.inodes.proofs.Taking.{taking, looking, can_take, number, same_op, may_name, may_name_now}
-use Rattle.inodes.proofs.Unclaimed.{holds_alone_of}
-use Rattle.inodes.proofs.TruncNext.{direct_keeps, first_given, next_left}
+use Rattle.inodes.specs.Lemmas.Unclaimed.{holds_alone_of}
+use Rattle.inodes.proofs.TruncFiles.{with_claim, with_claim_is}
+use Rattle.inodes.proofs.TruncNext.{address_same, first_comes, first_held, first_number}
 use Rattle.inodes.specs.Writei.{WriteState, first_write, next_place}
 use Rattle.inodes.specs.declared.writei.Extent.{Extent}
 use Rattle.model.specs.declared.types.operations.Reply.{Reply}
-use Rattle.inodes.specs.Writing.{extent_of, block_of_write}
+use Rattle.inodes.specs.Writing.{extent_of, block_of_write, node_of_write, blocks_behind}
 use Rattle.inodes.proofs.WriteComes.{fresh_next, comes_next}
-use Rattle.inodes.specs.Lemmas.Bounds.{few_writes}
+use Rattle.blockmap.specs.Lemmas.Branches.{branch_shallow}
+use Rattle.inodes.specs.Lemmas.Bounds.{few_frees, most_elsewhere, next_low, writes_most}
 use Rattle.inodes.specs.Growing.{growth_of, bytes_by, HasComeTo}
 use Rattle.loose.specs.Lemmas.GrowthEnds.{resting_refuses}
 use Rattle.loose.specs.Lemmas.BlocksTaken.{turn_grows}
 
 -- a turn makes no number
-pub makes_none : (d : Dinode) (op : Op) (used : Bool) (i : ℕ) → is_making i (reply_when_taken (if_used used d) op) ≡ true → ⊥
-makes_none d op false i makes = absurd (cc makes)
-makes_none d (Create kind) true i makes = absurd (cc makes)
-makes_none d (Write j off bytes) true i makes = by_size (ltb d.size off) (ltb 274432 (off + length bytes)) makes
+pub makes_none : (form : Form) (d : Dinode) (op : Op) (used : Bool) (i : ℕ) → is_making i (reply_when_taken form (if_used used d) op) ≡ true → ⊥
+makes_none form d op false i makes = absurd (cc makes)
+makes_none form d (Create kind) true i makes = absurd (cc makes)
+makes_none form d (Write j off bytes) true i makes = by_size (ltb d.size off) (ltb (greatest_size form) (off + length bytes)) makes
   where
     by_size : (a b : Bool) → is_making i (cond a (Some BadOffset) (cond b (Some TooBig) None)) ≡ true → ⊥
     by_size true b makes = absurd (cc makes)
     by_size false true makes = absurd (cc makes)
     by_size false false makes = absurd (cc makes)
-makes_none d (Read j off n) true i makes = absurd (cc makes)
-makes_none d (Trunc j) true i makes = absurd (cc makes)
-makes_none d (Remove j) true i makes = absurd (cc makes)
-makes_none d (Stat j) true i makes = absurd (cc makes)
+makes_none form d (Read j off n) true i makes = absurd (cc makes)
+makes_none form d (Trunc j) true i makes = absurd (cc makes)
+makes_none form d (Remove j) true i makes = absurd (cc makes)
+makes_none form d (Stat j) true i makes = absurd (cc makes)
+
+-- what a truncation holds of its own at its turn
+abbrev pub held_at_turn : Dinode → Bool → Held
+held_at_turn d removes = record { copy = d; cursor = 0 ∷ []; last_kind = cond removes 0 d.kind }
 
 -- where a reading goes, it has locked its inode, got no block, and has few steps left
 grip_of_read : (k i : ℕ) (o : Option ReadState) → grip_by (place_of_read k o) i ≡ Some (locked_grip k i)
@@ -83,37 +96,52 @@ grip_of_write k i m (Some reply) = refl
 pub grip_at_turn : (c : Extent) (d : Dinode) (k i : ℕ) (op : Op) (used : Bool) → grip_by (place_when_taken c (if_used used d) k op) i ≡ Some (locked_grip k i)
 grip_at_turn c d k i op false = refl
 grip_at_turn c d k i (Create kind) true = refl
-grip_at_turn c d k i (Write j off bytes) true = grip_of_write k i (first_write j d off (length bytes) c) (write_refusal d off (length bytes))
-grip_at_turn c d k i (Read j off n) true = grip_of_read k i (first_read d off n)
+grip_at_turn c d k i (Write j off bytes) true = grip_of_write k i (first_write j d off (length bytes) c) (write_refusal c.form d off (length bytes))
+grip_at_turn c d k i (Read j off n) true = grip_of_read k i (first_read c.form d off n)
 grip_at_turn c d k i (Trunc j) true = refl
 grip_at_turn c d k i (Remove j) true = refl
 grip_at_turn c d k i (Stat j) true = refl
 
-slot_of_read : (d : Dinode) (k off n : ℕ) (o : Option ReadState) → first_read d off n ≡ o → (m : ReadState) → o ≡ Some m → slot_in m.target ≡ None
-slot_of_read d k off n o first m is = ap slot_in (begins d off n m (first ∙ is)).target ∙ new_target d (off / 1024)
+slot_of_read : (form : Form) (d : Dinode) (k off n : ℕ) (o : Option ReadState) → first_read form d off n ≡ o → (m : ReadState) → o ≡ Some m → slot_in m.target ≡ None
+slot_of_read form d k off n o first m is = ap slot_in (begins form d off n m (first ∙ is)).target ∙ first_slot form d (off / 1024)
 
-left_of_read : (d : Dinode) (k off n c : ℕ) (o : Option ReadState) → n ≤ 3072 → first_read d off n ≡ o → steps_left (place_of_read k o) c ≤ 543
-left_of_read d k off n c None few first = omega arith
-left_of_read d k off n c (Some m) few first = let at = few_reads d off n m few first in omega (arith, at)
+-- an inode that is taken names no more blocks than a file may have
+abbrev pub HasFewAtTurn : Image → Dinode → Type 0
+HasFewAtTurn x d = blocks_left x (held_at_turn d true) ≤ most_left (form_of x)
 
-left_of_trunc : (b c : ℕ) (d : Dinode) (k j : ℕ) (removes : Bool) → steps_left (place.Truncating k (first_driven (first_trunc j d removes b))) c ≤ 543
-left_of_trunc b c d k j removes = let few = next_left d 0 0 in omega (arith, few)
+left_of_read : (x : Image) (form : Form) (d : Dinode) (k off n c : ℕ) (o : Option ReadState) → n ≤ 3072 → first_read form d off n ≡ o → steps_left x (place_of_read k o) c ≤ 55
+left_of_read x form d k off n c None few first = omega arith
+left_of_read x form d k off n c (Some m) few first = let at = few_reads form d off n m few first in omega (arith, at)
 
-left_of_write : (c k i : ℕ) (d : Dinode) (off n : ℕ) (e : Extent) (o : Option Reply) → n ≤ 3072 → steps_left (place_by_refusal k (first_write i d off n e) o) c ≤ 543
-left_of_write c k i d off n e None few =
-    let m : WriteState = first_write i d off n e in
-    let most = few_writes m m.at few in
+left_of_trunc : (x : Image) (form : Form) (b c : ℕ) (d : Dinode) (k j : ℕ) (removes : Bool) → HasFewAtTurn x d → steps_left x (place.Truncating k (first_driven (first_trunc j d form removes b))) c ≤ most_behind (form_of x) + 1
+left_of_trunc x form b c d k j removes few =
+    let left = ap (blocks_left x) (first_held j d form removes b) in
+    let most = few_frees x (first_driven (first_trunc j d form removes b)) (omega (arith, left, few)) in
     omega (arith, most)
-left_of_write c k i d off n e (Some reply) few = omega arith
 
-pub left_at_turn : (d : Dinode) (k n c : ℕ) (e : Extent) (op : Op) (used : Bool) → CanTake n op → steps_left (place_when_taken e (if_used used d) k op) c ≤ 543
-left_at_turn d k n c e op false can = omega arith
-left_at_turn d k n c e (Create kind) true can = omega arith
-left_at_turn d k n c e (Write j off bytes) true can = left_of_write c k j d off (length bytes) e (write_refusal d off (length bytes)) can.1
-left_at_turn d k n c e (Read j off count) true can = left_of_read d k off count c (first_read d off count) can.1 refl
-left_at_turn d k n c e (Trunc j) true can = left_of_trunc e.bitmap c d k j false
-left_at_turn d k n c e (Remove j) true can = left_of_trunc e.bitmap c d k j true
-left_at_turn d k n c e (Stat j) true can = omega arith
+left_of_write : (x : Image) (c k i : ℕ) (d : Dinode) (off n : ℕ) (e : Extent) (o : Option Reply) → n ≤ 3072 → steps_left x (place_by_refusal k (first_write i d off n e) o) c ≤ 100
+left_of_write x c k i d off n e None few =
+    let m : WriteState = first_write i d off n e in
+    let steps = (fresh_next m i d off n e).steps in
+    let shallow = branch_shallow e.form (off / 1024) in
+    let behind = writes_most e.form (blocks_behind m) in
+    omega (arith, steps, shallow, behind, few)
+left_of_write x c k i d off n e (Some reply) few = omega arith
+
+pub left_at_turn : (x : Image) (d : Dinode) (k n c : ℕ) (e : Extent) (op : Op) (used : Bool) → CanTake n op → (used ≡ true → HasFewAtTurn x d) → steps_left x (place_when_taken e (if_used used d) k op) c ≤ most_behind (form_of x) + 1
+left_at_turn x d k n c e op false can few = omega arith
+left_at_turn x d k n c e (Create kind) true can few = omega arith
+left_at_turn x d k n c e (Write j off bytes) true can few =
+    let behind = most_elsewhere (form_of x) in
+    let most = left_of_write x c k j d off (length bytes) e (write_refusal e.form d off (length bytes)) can.1 in
+    omega (arith, most, behind)
+left_at_turn x d k n c e (Read j off count) true can few =
+    let behind = most_elsewhere (form_of x) in
+    let most = left_of_read x e.form d k off count c (first_read e.form d off count) can.1 refl in
+    omega (arith, most, behind)
+left_at_turn x d k n c e (Trunc j) true can few = left_of_trunc x e.form e.bitmap c d k j false (few refl)
+left_at_turn x d k n c e (Remove j) true can few = left_of_trunc x e.form e.bitmap c d k j true (few refl)
+left_at_turn x d k n c e (Stat j) true can few = omega arith
 
 -- it holds no other number
 none_of_read : (k j : ℕ) (op : Option Op) (o : Option ReadState) → claim_by op (place_of_read k o) j ≡ None
@@ -124,26 +152,26 @@ none_of_write : (k i j : ℕ) (op : Option Op) (d : Dinode) (off n : ℕ) (e : E
 none_of_write k i j op d off n e None other = rw (ne_eqb i j (λ same. other (sym same))) refl
 none_of_write k i j op d off n e (Some reply) other = refl
 
+none_of_trunc : (i j : ℕ) (form : Form) (d : Dinode) (removes : Bool) (b : ℕ) → j ≢ i → (let m = first_trunc i d form removes b in let none : Option Claim = cond (eqb m.number j) (Some (frees (held_of m))) None in none) ≡ None
+none_of_trunc i j form d removes b other = rw (ne_eqb (first_trunc i d form removes b).number j (λ same. other (sym same ∙ first_number i d form removes b))) refl
+
 pub claims_at_turn : (o : Option Op) (c : Extent) (d : Dinode) (k : ℕ) (op : Op) (used : Bool) (j : ℕ) → j ≢ asked op → claim_by o (place_when_taken c (if_used used d) k op) j ≡ None
 claims_at_turn o c d k op false j other = refl
 claims_at_turn o c d k (Create kind) true j other = refl
-claims_at_turn o c d k (Write i off bytes) true j other = none_of_write k i j o d off (length bytes) c (write_refusal d off (length bytes)) other
-claims_at_turn o c d k (Read i off n) true j other = none_of_read k j o (first_read d off n)
-claims_at_turn o c d k (Trunc i) true j other = rw (ne_eqb i j (λ same. other (sym same))) refl
-claims_at_turn o c d k (Remove i) true j other = rw (ne_eqb i j (λ same. other (sym same))) refl
+claims_at_turn o c d k (Write i off bytes) true j other = none_of_write k i j o d off (length bytes) c (write_refusal c.form d off (length bytes)) other
+claims_at_turn o c d k (Read i off n) true j other = none_of_read k j o (first_read c.form d off n)
+claims_at_turn o c d k (Trunc i) true j other = none_of_trunc i j c.form d false c.bitmap other
+claims_at_turn o c d k (Remove i) true j other = none_of_trunc i j c.form d true c.bitmap other
 claims_at_turn o c d k (Stat i) true j other = refl
 
--- what it holds of its own
-abbrev held_at_turn : Dinode → Bool → Held
-held_at_turn d removes = record { copy = d; given_up = 0; last_kind = cond removes 0 d.kind }
-
-claim_at_turn : (b : ℕ) (d : Dinode) (k i : ℕ) (removes : Bool) → claim_by None (place.Truncating k (first_driven (first_trunc i d removes b))) i ≡ Some (frees (held_at_turn d removes))
-claim_at_turn b d k i removes = rw (eq-eqb i i refl) refl
+claim_at_turn : (form : Form) (b : ℕ) (d : Dinode) (k i : ℕ) (removes : Bool) → claim_by None (place.Truncating k (first_driven (first_trunc i d form removes b))) i ≡ Some (frees (held_at_turn d removes))
+claim_at_turn form b d k i removes =
+    rw (eq-eqb (first_trunc i d form removes b).number i (first_number i d form removes b)) (ap (λ (h : Held). Some (frees h)) (first_held i d form removes b))
 
 -- nothing is got there
-stands_of_read : (b : Buffers) (l : LogState) (n p : ℕ) (t : Option Op) (d : Dinode) (k off count : ℕ) (o : Option ReadState) → first_read d off count ≡ o → Stands b l n p t (place_of_read k o)
-stands_of_read b l n p t d k off count None first = tt
-stands_of_read b l n p t d k off count (Some m) first = subst (λ (s : Option ℕ). HoldsAt b p (block_of m.target) s) (sym (slot_of_read d k off count (Some m) first m refl)) tt
+stands_of_read : (b : Buffers) (l : LogState) (n p : ℕ) (t : Option Op) (form : Form) (d : Dinode) (k off count : ℕ) (o : Option ReadState) → first_read form d off count ≡ o → Stands b l n p t (place_of_read k o)
+stands_of_read b l n p t form d k off count None first = tt
+stands_of_read b l n p t form d k off count (Some m) first = subst (λ (s : Option ℕ). HoldsAt b p (block_of m.target) s) (sym (slot_of_read form d k off count (Some m) first m refl)) tt
 
 -- a write that begins has logged nothing, and got nothing
 stands_of_write : (b : Buffers) (l : LogState) (n p : ℕ) (t : Option Op) (k i : ℕ) (d : Dinode) (off count : ℕ) (e : Extent) (o : Option Reply) → count ≤ 3072 → used_by l p ≡ Some 0
@@ -151,22 +179,44 @@ stands_of_write : (b : Buffers) (l : LogState) (n p : ℕ) (t : Option Op) (k i 
 stands_of_write b l n p t k i d off count e None few used =
     let m : WriteState = first_write i d off count e in
     let fresh = fresh_next m i d off count e in
-    let blocks = fresh.blocks in
     record {
-      logged = record { homes = 0; used = used; few = omega (arith, few, blocks) };
-      kept = subst (λ (s : Option ℕ). HoldsAt b p (indirect_of d) s) (sym fresh.kept) tt;
-      used = subst (λ (s : Option ℕ). HoldsAt b p (block_of_write m m.at) s) (sym fresh.used) tt;
+      logged = record { homes = 0; used = used };
+      kept = subst (λ (s : Option ℕ). HoldsAt b p (node_of_write m.at) s) (sym fresh.kept) tt;
+      used = subst (λ (s : Option ℕ). HoldsAt b p (block_of_write m.at) s) (sym fresh.used) tt;
     }
 stands_of_write b l n p t k i d off count e (Some reply) few used = tt
 
 pub stands_at_turn : (b : Buffers) (l : LogState) (n p : ℕ) (t : Option Op) (c : Extent) (d : Dinode) (k : ℕ) (op : Op) (used : Bool) → CanTake n op → IsOpenFor l p (Some op) → Stands b l n p t (place_when_taken c (if_used used d) k op)
 stands_at_turn b l n p t c d k op false can open_for = tt
 stands_at_turn b l n p t c d k (Create kind) true can open_for = tt
-stands_at_turn b l n p t c d k (Write i off bytes) true can open_for = stands_of_write b l n p t k i d off (length bytes) c (write_refusal d off (length bytes)) can.1 open_for
-stands_at_turn b l n p t c d k (Read i off count) true can open_for = stands_of_read b l n p t d k off count (first_read d off count) refl
-stands_at_turn b l n p t c d k (Trunc i) true can open_for = record { logged = inl open_for; holds = holds_none b p (trunc_next (first_driven (first_trunc i d false c.bitmap))) }
-stands_at_turn b l n p t c d k (Remove i) true can open_for = record { logged = inl open_for; holds = holds_none b p (trunc_next (first_driven (first_trunc i d true c.bitmap))) }
+stands_at_turn b l n p t c d k (Write i off bytes) true can open_for = stands_of_write b l n p t k i d off (length bytes) c (write_refusal c.form d off (length bytes)) can.1 open_for
+stands_at_turn b l n p t c d k (Read i off count) true can open_for = stands_of_read b l n p t c.form d k off count (first_read c.form d off count) refl
+stands_at_turn b l n p t c d k (Trunc i) true can open_for = record { logged = inl open_for; holds = holds_none b p (trunc_next (first_driven (first_trunc i d c.form false c.bitmap))) }
+stands_at_turn b l n p t c d k (Remove i) true can open_for = record { logged = inl open_for; holds = holds_none b p (trunc_next (first_driven (first_trunc i d c.form true c.bitmap))) }
 stands_at_turn b l n p t c d k (Stat i) true can open_for = tt
+
+-- and so it has room in the log
+logged_of_write : (x : Image) (l : LogState) (p k i : ℕ) (d : Dinode) (off count : ℕ) (e : Extent) (o : Option Reply) → count ≤ 3072 → used_by l p ≡ Some 0
+    → LoggedAt x l p (place_by_refusal k (first_write i d off count e) o)
+logged_of_write x l p k i d off count e None few open_for = λ homes used.
+    let m : WriteState = first_write i d off count e in
+    let blocks = (fresh_next m i d off count e).blocks in
+    let zero : homes ≡ 0 = (let both : Some homes ≡ Some 0 = sym used ∙ open_for in cc both) in
+    omega (arith, few, blocks, zero)
+logged_of_write x l p k i d off count e (Some reply) few open_for = tt
+
+logged_of_read : (x : Image) (l : LogState) (p k : ℕ) (o : Option ReadState) → LoggedAt x l p (place_of_read k o)
+logged_of_read x l p k None = tt
+logged_of_read x l p k (Some m) = tt
+
+pub logged_at_turn : (x : Image) (l : LogState) (n p : ℕ) (c : Extent) (d : Dinode) (k : ℕ) (op : Op) (used : Bool) → CanTake n op → IsOpenFor l p (Some op) → LoggedAt x l p (place_when_taken c (if_used used d) k op)
+logged_at_turn x l n p c d k op false can open_for = tt
+logged_at_turn x l n p c d k (Create kind) true can open_for = tt
+logged_at_turn x l n p c d k (Write i off bytes) true can open_for = logged_of_write x l p k i d off (length bytes) c (write_refusal c.form d off (length bytes)) can.1 open_for
+logged_at_turn x l n p c d k (Read i off count) true can open_for = logged_of_read x l p k (first_read c.form d off count)
+logged_at_turn x l n p c d k (Trunc i) true can open_for = tt
+logged_at_turn x l n p c d k (Remove i) true can open_for = tt
+logged_at_turn x l n p c d k (Stat i) true can open_for = tt
 
 -- in a store whose process p takes its inode, which the image has as d
 module _ {D N : Type 0} (disk : Ghosts D N) (s : StoreState D) (p : ℕ) (op : Op) (m : LockState) (is : IsStore disk.image s) (well : s.volume.fault ≡ None)
@@ -204,17 +254,32 @@ module _ {D N : Type 0} (disk : Ghosts D N) (s : StoreState D) (p : ℕ) (op : O
   may used = let files = (looking disk s p op m is well stood is_op).files in resting_may_be_read files.0 cur (claims_of s.tasks) m.number files.1 (may_name_now disk s p op m is well stood is_op, used) none
 
   -- a used inode's file may be read
-  pub readable : (used : Bool) → (used ≡ true → inode.kind ≢ 0) → IsReadable (if_used used inode)
+  pub readable : (used : Bool) → (used ≡ true → inode.kind ≢ 0) → IsReadable s.table.form (if_used used inode)
   readable true is_used =
       let read = may (is_used refl) in
       let most = read.fit.size in
-      let one : greatest_size (form_of cur) ≡ 274432 = ap greatest_size read.form in
-      (read.fit.fields.count, omega (arith, most, one))
+      let same : greatest_size s.table.form ≡ greatest_size (form_of cur) = ap greatest_size is.form in
+      (read.fit.fields.count, omega (arith, most, same))
   readable false is_used = tt
+
+  -- and it has few blocks to give up
+  pub few_at_turn : inode.kind ≢ 0 → HasFewAtTurn cur inode
+  few_at_turn used =
+      let files = (looking disk s p op m is well stood is_op).files in
+      let names = may_name_now disk s p op m is well stood is_op in
+      let held = held_at_turn inode true in
+      let now = with_claim_is (claims_of s.tasks) m.number (Some (frees held)) in
+      let new = with_claim (claims_of s.tasks) m.number (Some (frees held)) in
+      let holds = turn_holds files.0 cur (claims_of s.tasks) new m.number 0 (0 ∷ []) files.1 (names, used) none (inl refl) (begun_left cur inode) now in
+      few_left (set files.0 m.number (file_left 0)) cur new m.number held (record { fits = holds.fits; number = names; holds = now.own })
 
   -- where blocks are taken
   abbrev extent : Extent
-  extent = extent_of s.table.inode_count s.volume.log.size
+  extent = extent_of s.table.form s.table.inode_count s.volume.log.size
+
+  -- the bytes of the largest file
+  abbrev most : ℕ
+  most = greatest_size s.table.form
 
   size : s.volume.log.size ≡ length cur
   size = let long = length-current (disk.image s.volume.device) s.volume.buffers in sym (long ∙ joint.size)
@@ -231,15 +296,15 @@ module _ {D N : Type 0} (disk : Ghosts D N) (s : StoreState D) (p : ℕ) (op : O
     fits_before files fits = fits
 
     -- the number is held now
-    begins_freeing : (removes : Bool) → u.place ≡ place.Truncating k (first_driven (first_trunc m.number inode removes extent.bitmap)) → inode.kind ≢ 0 → (files : Files) → FitsHeld files cur (claims_of s.tasks)
+    begins_freeing : (removes : Bool) → u.place ≡ place.Truncating k (first_driven (first_trunc m.number inode s.table.form removes extent.bitmap)) → inode.kind ≢ 0 → (files : Files) → FitsHeld files cur (claims_of s.tasks)
         → FitsFiles disk.image t (set files m.number (file_left (cond removes 0 inode.kind)))
     begins_freeing removes there used files fits =
-        let own : claim_of u m.number ≡ Some (frees (held_at_turn inode removes)) = ap (λ (a : Place). claim_by u.op a m.number) there ∙ claim_at_turn extent.bitmap inode k m.number removes in
-        let others : (j : ℕ) → j ≢ m.number → claim_of u j ≡ claim_of (task s.tasks p) j = λ j other. ap (λ (a : Place). claim_by u.op a j) there ∙ rw (ne_eqb m.number j (λ e. other (sym e))) refl ∙ sym (holds_nothing j) in
+        let own : claim_of u m.number ≡ Some (frees (held_at_turn inode removes)) = ap (λ (a : Place). claim_by u.op a m.number) there ∙ claim_at_turn s.table.form extent.bitmap inode k m.number removes in
+        let others : (j : ℕ) → j ≢ m.number → claim_of u j ≡ claim_of (task s.tasks p) j = λ j other. ap (λ (a : Place). claim_by u.op a j) there ∙ none_of_trunc m.number j s.table.form inode removes extent.bitmap other ∙ sym (holds_nothing j) in
         let now : IsClaimedNow (claims_of s.tasks) m.number (Some (frees (held_at_turn inode removes))) (claims_of (set s.tasks p u)) =
         subst (λ (o : Option Claim). IsClaimedNow (claims_of s.tasks) m.number o (claims_of (set s.tasks p u))) own (claimed_now s.tasks p m.number u inside holds_alone others) in
         fits_then (set files m.number (file_left (cond removes 0 inode.kind)))
-        (turn_holds files cur (claims_of s.tasks) (claims_of (set s.tasks p u)) m.number (cond removes 0 inode.kind) fits (may_name_now disk s p op m is well stood is_op, used) none (last removes) now).fits
+        (turn_holds files cur (claims_of s.tasks) (claims_of (set s.tasks p u)) m.number (cond removes 0 inode.kind) (0 ∷ []) fits (may_name_now disk s p op m is well stood is_op, used) none (last removes) (begun_left cur inode) now).fits
       where
         last : (b : Bool) → (cond b 0 inode.kind ≡ 0) ⊎ (cond b 0 inode.kind ≡ inode.kind)
         last true = inl refl
@@ -265,11 +330,11 @@ module _ {D N : Type 0} (disk : Ghosts D N) (s : StoreState D) (p : ℕ) (op : O
 
     -- a write is refused, or begins
     write_turn : (i off : ℕ) (bytes : List ℕ) → length bytes ≤ transfer_limit → i ≡ m.number → inode.kind ≢ 0 → (files : Files) → FitsFiles disk.image s files
-        → (a : Bool) → ltb inode.size off ≡ a → (b : Bool) → ltb 274432 (off + length bytes) ≡ b
-        → u.place ≡ place_by_refusal k (first_write i inode off (length bytes) extent) (write_refusal inode off (length bytes))
-        → TurnsTo (form_of cur) (Write i off bytes) (write_refusal inode off (length bytes)) files (FitsFiles disk.image t)
+        → (a : Bool) → ltb inode.size off ≡ a → (b : Bool) → ltb most (off + length bytes) ≡ b
+        → u.place ≡ place_by_refusal k (first_write i inode off (length bytes) extent) (write_refusal s.table.form inode off (length bytes))
+        → TurnsTo (form_of cur) (Write i off bytes) (write_refusal s.table.form inode off (length bytes)) files (FitsFiles disk.image t)
     write_turn i off bytes few same_number used files fits true behind b big there =
-        let says : write_refusal inode off (length bytes) ≡ Some BadOffset = rw behind refl in
+        let says : write_refusal s.table.form inode off (length bytes) ≡ Some BadOffset = rw behind refl in
         let before = fits_before files fits in
         subst (λ (o : Option Reply). TurnsTo (form_of cur) (Write i off bytes) o files (FitsFiles disk.image t)) (sym says) (
           files,
@@ -278,40 +343,40 @@ module _ {D N : Type 0} (disk : Ghosts D N) (s : StoreState D) (p : ℕ) (op : O
           same (ap (λ (a : Place). claim_by u.op a m.number) (there ∙ ap (place_by_refusal k (first_write i inode off (length bytes) extent)) says)) files fits,
         )
     write_turn i off bytes few same_number used files fits false behind true big there =
-        let says : write_refusal inode off (length bytes) ≡ Some TooBig = rw (behind, big) refl in
+        let says : write_refusal s.table.form inode off (length bytes) ≡ Some TooBig = rw (behind, big) refl in
         let before = fits_before files fits in
-        let one : greatest_size (form_of cur) ≡ 274432 = ap greatest_size (may used).form in
+        let same_size : greatest_size (form_of cur) ≡ most = ap greatest_size (sym is.form) in
         subst (λ (o : Option Reply). TurnsTo (form_of cur) (Write i off bytes) o files (FitsFiles disk.image t)) (sym says) (
           files,
           subst (λ (j : ℕ). after (form_of cur) files (Write j off bytes) TooBig ≡ Some files) (sym same_number)
               ((resting_refuses files cur (claims_of s.tasks) m.number off bytes before (may_name_now disk s p op m is well stood is_op, used) none few).1 (ltb-false inode.size off behind)
-              (subst (λ (n : ℕ). n < off + length bytes) (sym one) (ltb-true 274432 (off + length bytes) big))),
+              (subst (λ (n : ℕ). n < off + length bytes) (sym same_size) (ltb-true most (off + length bytes) big))),
           same (ap (λ (a : Place). claim_by u.op a m.number) (there ∙ ap (place_by_refusal k (first_write i inode off (length bytes) extent)) says)) files fits,
         )
     write_turn i off bytes few same_number used files fits false behind false big there =
-        let says : write_refusal inode off (length bytes) ≡ None = rw (behind, big) refl in
+        let says : write_refusal s.table.form inode off (length bytes) ≡ None = rw (behind, big) refl in
         subst (λ (o : Option Reply). TurnsTo (form_of cur) (Write i off bytes) o files (FitsFiles disk.image t)) (sym says)
         (begins_growing i off bytes same_number (there ∙ ap (place_by_refusal k (first_write i inode off (length bytes) extent)) says) used (ltb-false inode.size off behind) files fits)
 
     used_turn : (q : Op) → CanTake s.table.inode_count q → m.number ≡ asked q → u.place ≡ place_of_look extent inode k q → inode.kind ≢ 0 → (files : Files) → FitsFiles disk.image s files
-        → TurnsTo (form_of cur) q (reply_of_look inode q) files (FitsFiles disk.image t)
+        → TurnsTo (form_of cur) q (reply_of_look s.table.form inode q) files (FitsFiles disk.image t)
     used_turn (Create kind) allowed named there used files fits = absurd allowed
     used_turn (Write i off bytes) allowed named there used files fits =
-        write_turn i off bytes allowed.1 (sym named) used files fits (ltb inode.size off) refl (ltb 274432 (off + length bytes)) refl there
-    used_turn (Read i off n) allowed named there used files fits = same (ap (λ (a : Place). claim_by u.op a m.number) there ∙ none_of_read k m.number u.op (first_read inode off n)) files fits
+        write_turn i off bytes allowed.1 (sym named) used files fits (ltb inode.size off) refl (ltb most (off + length bytes)) refl there
+    used_turn (Read i off n) allowed named there used files fits = same (ap (λ (a : Place). claim_by u.op a m.number) there ∙ none_of_read k m.number u.op (first_read s.table.form inode off n)) files fits
     used_turn (Trunc i) allowed named there used files fits =
         let before = fits_before files fits in (
           set files m.number (file_left inode.kind),
           subst (λ (j : ℕ). after (form_of cur) files (Trunc j) Done ≡ Some (set files m.number (file_left inode.kind))) named
               (turn_answers files cur (claims_of s.tasks) m.number before (may_name_now disk s p op m is well stood is_op, used) none).0,
-          begins_freeing false (there ∙ ap (λ (j : ℕ). place.Truncating k (first_driven (first_trunc j inode false extent.bitmap))) (sym named)) used files before,
+          begins_freeing false (there ∙ ap (λ (j : ℕ). place.Truncating k (first_driven (first_trunc j inode s.table.form false extent.bitmap))) (sym named)) used files before,
         )
     used_turn (Remove i) allowed named there used files fits =
         let before = fits_before files fits in (
           set files m.number (file_left 0),
           subst (λ (j : ℕ). after (form_of cur) files (Remove j) Done ≡ Some (set files m.number (file_left 0))) named
               (turn_answers files cur (claims_of s.tasks) m.number before (may_name_now disk s p op m is well stood is_op, used) none).1,
-          begins_freeing true (there ∙ ap (λ (j : ℕ). place.Truncating k (first_driven (first_trunc j inode true extent.bitmap))) (sym named)) used files before,
+          begins_freeing true (there ∙ ap (λ (j : ℕ). place.Truncating k (first_driven (first_trunc j inode s.table.form true extent.bitmap))) (sym named)) used files before,
         )
     used_turn (Stat i) allowed named there used files fits = (
       files,
@@ -342,7 +407,7 @@ module _ {D N : Type 0} (disk : Ghosts D N) (s : StoreState D) (p : ℕ) (op : O
             (free_tells files cur (claims_of s.tasks) m.number (fits_before files fits) (may_name_now disk s p op m is well stood is_op, free)).1.stat
 
     pub files_at_turn : (used : Bool) → (used ≡ true → inode.kind ≢ 0) → (used ≡ false → inode.kind ≡ 0) → u.place ≡ place_when_taken extent (if_used used inode) k op → (files : Files) → FitsFiles disk.image s files
-        → TurnsTo (form_of cur) op (reply_when_taken (if_used used inode) op) files (FitsFiles disk.image t)
+        → TurnsTo (form_of cur) op (reply_when_taken s.table.form (if_used used inode) op) files (FitsFiles disk.image t)
     files_at_turn true is_used is_free there files fits = used_turn op can asks there (is_used refl) files fits
     files_at_turn false is_used is_free there files fits = free_turn op can asks there (is_free refl) files fits
 
@@ -351,7 +416,7 @@ module _ {D N : Type 0} (disk : Ghosts D N) (s : StoreState D) (p : ℕ) (op : O
     answered : (u : TaskState) → u.op ≡ Some op → WasAnswered tab.inode_count u
     answered u has = record { op = op; is = has; can = subst (λ (n : ℕ). CanTake n op) (sym count) can }
 
-    reads : (q : Op) → op ≡ q → (off n i : ℕ) → q ≡ Read i off n → (o : Option ReadState) → first_read inode off n ≡ o → inode.kind ≢ 0 → copy_at tab.places k ≡ Some inode
+    reads : (q : Op) → op ≡ q → (off n i : ℕ) → q ≡ Read i off n → (o : Option ReadState) → first_read s.table.form inode off n ≡ o → inode.kind ≢ 0 → copy_at tab.places k ≡ Some inode
         → (u : TaskState) → u.op ≡ Some op → u.gathered ≡ (task s.tasks p).gathered → LooksAt cur tab u (place_of_read k o)
     reads q same off n i reading None first used copy u has gathered =
         let here : op ≡ Read i off n = same ∙ reading in
@@ -369,7 +434,7 @@ module _ {D N : Type 0} (disk : Ghosts D N) (s : StoreState D) (p : ℕ) (op : O
           };
           dinode = inode;
           copy = copy;
-          bytes = sym (has_none cur inode off n (may used) first);
+          bytes = sym (has_none cur s.table.form inode off n (may used) first);
         }
     reads q same off n i reading (Some r) first used copy u has gathered =
         let here : op ≡ Read i off n = same ∙ reading in
@@ -385,29 +450,35 @@ module _ {D N : Type 0} (disk : Ghosts D N) (s : StoreState D) (p : ℕ) (op : O
             gathered = record { bytes = []; room = n };
             has = gathered ∙ had;
           };
-          copy = copy ∙ ap Some (sym (begins inode off n r first).inode);
-          read = has_begun disk.image s.volume p inode off n r (record { bytes = []; room = n }) (may used) size first refl;
+          copy = copy ∙ ap Some (sym (begins s.table.form inode off n r first).inode);
+          read = has_begun disk.image s.volume p inode off n r (record { bytes = []; room = n }) (may used) size (subst (λ (f : Form). first_read f inode off n ≡ Some r) is.form first) refl;
         }
 
     truncates : (removes : Bool) (i : ℕ) → op ≡ cond removes (Remove i) (Trunc i) → i ≡ asked op → inode.kind ≢ 0 → (u : TaskState) → u.op ≡ Some op
-        → IsTruncating cur tab.inode_count u (first_driven (first_trunc i inode removes extent.bitmap))
-    truncates removes i same named used u has = record {
-      op = has ∙ ap Some same;
-      number = subst (λ (j : ℕ). IsTrue (is_number tab.inode_count j)) (asks ∙ sym named) (subst (λ (n : ℕ). IsTrue (is_number n m.number)) (sym count) (may_name disk s p op m is well stood is_op));
-      bitmap = ap bitmap_block (sym count);
-      given = first_given cur i extent.bitmap inode removes (may used).fit.fields.count;
-      keeps = direct_keeps inode (slice_index inode.addrs 12) 0;
-    }
+        → IsTruncating cur tab.inode_count u (first_driven (first_trunc i inode s.table.form removes extent.bitmap))
+    truncates removes i same named used u has =
+        let comes = first_comes i inode s.table.form removes extent.bitmap cur is.form (may used).fit.fields.count in
+        let is_so = address_same (unbegun i inode s.table.form removes extent.bitmap) 0 in
+        record {
+          op = has ∙ ap Some same ∙ ap (λ (o : Itrunc). Some (trunc_op o)) (sym is_so);
+          number = subst (λ (j : ℕ). IsTrue (is_number tab.inode_count j)) (asks ∙ sym named ∙ sym (first_number i inode s.table.form removes extent.bitmap))
+              (subst (λ (n : ℕ). IsTrue (is_number n m.number)) (sym count) (may_name disk s p op m is well stood is_op));
+          bitmap = ap (λ (o : Itrunc). o.bitmap) is_so ∙ ap bitmap_block (sym count);
+          form = ap (λ (o : Itrunc). o.form) is_so ∙ is.form;
+          slot = comes.slot;
+          given = comes.given;
+          keeps = comes.keeps no_block_kept refl refl;
+        }
 
     writes : (i off : ℕ) (bytes : List ℕ) → op ≡ Write i off bytes → inode.kind ≢ 0 → (u : TaskState) → u.op ≡ Some op
-        → (a : Bool) → ltb inode.size off ≡ a → (b : Bool) → ltb 274432 (off + length bytes) ≡ b
+        → (a : Bool) → ltb inode.size off ≡ a → (b : Bool) → ltb most (off + length bytes) ≡ b
         → LooksAt cur tab u (place_by_refusal k (first_write i inode off (length bytes) extent) (cond a (Some BadOffset) (cond b (Some TooBig) None)))
     writes i off bytes same used u has true behind b big = answered u has
     writes i off bytes same used u has false behind true big = answered u has
     writes i off bytes same used u has false behind false big =
         let may_take : CanTake tab.inode_count (Write i off bytes) = subst (λ (n : ℕ). CanTake n (Write i off bytes)) (sym count) (subst (CanTake s.table.inode_count) same can) in
         let w : WriteState = first_write i inode off (length bytes) extent in
-        let fits = ltb-false 274432 (off + length bytes) big in
+        let fits = ltb-false most (off + length bytes) big in
         record {
           bytes = bytes;
           op = has ∙ ap Some same;
@@ -416,18 +487,19 @@ module _ {D N : Type 0} (disk : Ghosts D N) (s : StoreState D) (p : ℕ) (op : O
           all = refl;
           done = omega arith;
           fits = fits;
-          extent = ap (λ (n : ℕ). extent_of n s.volume.log.size) (sym count) ∙ ap (extent_of tab.inode_count) size;
+          extent = ap (λ (n : ℕ). extent_of s.table.form n s.volume.log.size) (sym count) ∙ ap (extent_of s.table.form tab.inode_count) size
+              ∙ ap (λ (f : Form). extent_of f tab.inode_count (length cur)) is.form;
           come =
               let here : off + 0 ≡ off = omega arith in
               let all : length bytes - 0 ≡ length bytes = omega arith in
               subst (λ (j : ℕ). HasComeTo cur w (next_place i inode j (length bytes) extent)) here
-              (subst (λ (n : ℕ). HasComeTo cur w (next_place i inode (off + 0) n extent)) all (comes_next cur w (may used).form (may used).fit.fields.count (omega arith)));
+              (subst (λ (n : ℕ). HasComeTo cur w (next_place i inode (off + 0) n extent)) all (comes_next cur w (sym is.form) (may used).fit.fields.count (omega arith) (λ left. next_low w left fits)));
         }
 
     looks_used : (q : Op) → op ≡ q → inode.kind ≢ 0 → copy_at tab.places k ≡ Some inode → (u : TaskState) → u.op ≡ Some op → u.gathered ≡ (task s.tasks p).gathered → LooksAt cur tab u (place_of_look extent inode k q)
     looks_used (Create kind) same used copy u has gathered = answered u has
-    looks_used (Write i off bytes) same used copy u has gathered = writes i off bytes same used u has (ltb inode.size off) refl (ltb 274432 (off + length bytes)) refl
-    looks_used (Read i off n) same used copy u has gathered = reads (Read i off n) same off n i refl (first_read inode off n) refl used copy u has gathered
+    looks_used (Write i off bytes) same used copy u has gathered = writes i off bytes same used u has (ltb inode.size off) refl (ltb most (off + length bytes)) refl
+    looks_used (Read i off n) same used copy u has gathered = reads (Read i off n) same off n i refl (first_read s.table.form inode off n) refl used copy u has gathered
     looks_used (Trunc i) same used copy u has gathered = truncates false i same (sym (ap asked same)) used u has
     looks_used (Remove i) same used copy u has gathered = truncates true i same (sym (ap asked same)) used u has
     looks_used (Stat i) same used copy u has gathered = answered u has

@@ -1,53 +1,68 @@
 -- How far the writing of a file's bytes has come: what comes next, and what stays in another image.
-use Rattle.std.proofs.Common.{◌≡◌, ℕ, ◌+◌, ◌-◌, ◌*◌, ◌/◌, ◌<◌, ◌≤◌, Bool, true, false, cond, eqb, ltb, not, List, length, refl, sym, ◌∙◌, ap, subst, inl, inr, arith, None, ⊎_elim}
-use Rattle.std.specs.Prelude.{slice_index, ◌&&◌}
-use Rattle.std.proofs.lemmas.Bool.{eqb-true, eqb-false, ltb-true, ltb-false}
-use Rattle.blocks.specs.Disk.{Image}
+use Rattle.std.proofs.Common.{◌≡◌, ◌≢◌, ℕ, ◌+◌, ◌-◌, ◌*◌, ◌/◌, ◌<◌, ◌≤◌, Bool, true, false, cond, eqb, not, List, length, get_or, refl, sym, ◌∙◌, ap, subst, inl, inr, arith, None, Some, ⊎_elim}
+use Rattle.std.specs.Prelude.{◌&&◌}
+use Rattle.std.proofs.lemmas.Bool.{eqb-true, eqb-false}
+use Rattle.blocks.specs.Disk.{Image, block_at}
 use Rattle.model.specs.declared.types.image.Dinode.{Dinode}
-use Rattle.model.specs.declared.types.image.Form.TheVariants.{One}
+use Rattle.model.specs.declared.types.image.Form.{Form}
+use Rattle.model.specs.Layout.{form_of}
+use Rattle.model.specs.Places.{address_in, address_under}
 use Rattle.model.specs.Fields.{words_of}
-use Rattle.model.specs.Layout.{form_of, indirect_of}
-use Rattle.model.specs.Places.{address_in}
-use Rattle.loose.specs.HeldLaws.{KeepsAddresses}
-use Rattle.loose.specs.Lemmas.Addresses.{address_direct}
+use Rattle.loose.specs.Lemmas.KeptTrees.{SameInside}
 use Rattle.blockmap.specs.Balloc.{AllocState, first_alloc}
-use Rattle.blockmap.specs.BmapAlloc.{first_way}
+use Rattle.blockmap.specs.Branch.{block_limit, branch_of, entry_under, node_at}
 use Rattle.blockmap.specs.Map.{mapped_for_writing}
+use Rattle.blockmap.specs.Lemmas.Branches.{address_there, is_branch, lies_first, lies_short, lies_still}
 use Rattle.blockmap.specs.declared.bmap_alloc.MapAt.{MapAt}
 use Rattle.blockmap.specs.declared.bmap_alloc.MapAt.TheVariants as map_at
+use Rattle.blockmap.specs.declared.branch.Branch.{Branch}
+use Rattle.blockmap.specs.declared.branch.Node.{Node}
 use Rattle.blockmap.specs.declared.mapping.MappedForWriting.TheVariants as for_writing
 use Rattle.inodes.specs.declared.writei.Extent.{Extent}
 use Rattle.inodes.specs.declared.writei.WriteAt.{WriteAt}
 use Rattle.inodes.specs.declared.writei.WriteAt.TheVariants as write_at
-use Rattle.inodes.specs.Growing.{HasComeTo, HasNoEntry, IsMapping, IsOnWay, next_block, taken_by}
+use Rattle.inodes.specs.Growing.{HasComeTo, HasNoEntry, IsOnWay, next_block, taken_by, taken_on_way}
 use Rattle.inodes.specs.Iupdate.{first_update}
 use Rattle.inodes.specs.Writei.{WriteState, next_byte, next_place, place_of_mapped}
-use Rattle.inodes.specs.Writing.{blocks_behind, blocks_left, kept_by_write, used_by_write, writes_left_at}
+use Rattle.inodes.specs.Writing.{blocks_behind, blocks_left, kept_by_write, used_by_write, writes_for, writes_left_at}
 
--- ---- in an image in which the copy leads to the same blocks
+-- ---- in an image in which the blocks of addresses on the way are the same
 
-module _ (old new : Image) (m : WriteState) (addresses : KeepsAddresses old new m.inode) where
-  no_entry_still : (k : ℕ) → HasNoEntry old m.inode k → HasNoEntry new m.inode k
-  no_entry_still k none = (none.0, none.1, ap (λ (bytes : List ℕ). slice_index (words_of bytes) (k - 12)) (addresses none.1) ∙ none.2)
+module _ (old new : Image) (d : Dinode) (b : Branch) (same : SameInside old new b.depth (get_or d.addrs b.index 0)) where
+  no_entry_still : (n : Node) → HasNoEntry old d b n → HasNoEntry new d b n
+  no_entry_still n none =
+      let short = lies_short old d b n none.0 in (
+        lies_still old d b n none.0 new same,
+        ap (λ (bytes : List ℕ). get_or (words_of bytes) (entry_under n) 0) (same none.0.before n.block none.0.led none.0.there (omega (arith, short))) ∙ none.1,
+      )
 
-  pub on_way_still : (k : ℕ) (a : MapAt) → IsOnWay old m.inode m.extent k a → IsOnWay new m.inode m.extent k a
-  on_way_still k (map_at.Direct t) on = on
-  on_way_still k (map_at.Indirect t) on = on
-  on_way_still k (map_at.Entry slot) on = on
-  on_way_still k (map_at.Behind i t) on = (no_entry_still k on.0, on.1)
-  on_way_still k (map_at.Setting i found) on = no_entry_still k on
+  pub on_way_still : (e : Extent) (a : MapAt) → ((c : ℕ) → taken_on_way a ≡ Some c → block_at new c ≡ block_at old c) → IsOnWay old d e b a → IsOnWay new d e b a
+  on_way_still e (map_at.Address t) taken on = on
+  on_way_still e (map_at.Entry n slot) taken on = lies_still old d b n on new same
+  on_way_still e (map_at.Behind n i t) taken on = (no_entry_still n on.0, on.1)
+  on_way_still e (map_at.Setting n i None) taken on = (no_entry_still n on.0, tt)
+  on_way_still e (map_at.Setting n i (Some c)) taken on = (no_entry_still n on.0, taken c refl ∙ on.1)
 
-  pub come_still : ((k : ℕ) → address_in new m.inode k ≡ address_in old m.inode k) → (a : WriteAt) → HasComeTo old m a → HasComeTo new m a
-  come_still same (write_at.Mapping way) come = (
+-- and the file has its blocks
+module _ (old new : Image) (m : WriteState) (same : (k : ℕ) → SameInside old new (branch_of m.extent.form k).depth (get_or m.inode.addrs (branch_of m.extent.form k).index 0)) where
+  pub come_still : ((k : ℕ) → address_in new m.inode k ≡ address_in old m.inode k) → (a : WriteAt) → ((c : ℕ) → taken_by a ≡ Some c → block_at new c ≡ block_at old c) → HasComeTo old m a → HasComeTo new m a
+  come_still leads (write_at.Mapping way) taken come = (
     come.0,
-    record { block = come.1.block; bitmap = come.1.bitmap; size = come.1.size; at = on_way_still way.k way.at come.1.at },
+    record {
+      branch = come.1.branch;
+      bitmap = come.1.bitmap;
+      size = come.1.size;
+      at = on_way_still old new m.inode way.branch
+          (subst (λ (b : Branch). SameInside old new b.depth (get_or m.inode.addrs b.index 0)) (sym come.1.branch) (same (next_block m)))
+          m.extent way.at taken come.1.at;
+    },
   )
-  come_still same (write_at.Block b slot) come = (come.0, same (next_block m) ∙ come.1, come.2)
-  come_still same (write_at.Updating u) come = (
+  come_still leads (write_at.Block b slot) taken come = (come.0, leads (next_block m) ∙ come.1, come.2)
+  come_still leads (write_at.Updating u) taken come = (
     come.0,
     ⊎_elim
         (λ (all : m.done ≡ m.count). inl all)
-        (λ (none : address_in old m.inode (next_block m) ≡ 0). inr (same (next_block m) ∙ none))
+        (λ (none : address_in old m.inode (next_block m) ≡ 0). inr (leads (next_block m) ∙ none))
         come.1,
   )
 
@@ -61,68 +76,91 @@ module _ (x : Image) (m : WriteState) (k : ℕ) where
   abbrev take : AllocState
   take = first_alloc m.extent.bitmap m.extent.size
 
-  first_on_way : (a : Bool) → ltb k 12 ≡ a → (b : Bool) → eqb (indirect_of d) 0 ≡ b → (a ≡ true → slice_index d.addrs k ≡ 0)
-      → IsOnWay x d m.extent k (cond a (map_at.Direct take) (cond b (map_at.Indirect take) (map_at.Entry None)))
-  first_on_way true low b is none = (ltb-true k 12 low, none refl, record { bitmap = refl; size = refl })
-  first_on_way false high true is none = (ltb-false k 12 high, eqb-true (indirect_of d) 0 is, record { bitmap = refl; size = refl })
-  first_on_way false high false is none = (ltb-false k 12 high, eqb-false (indirect_of d) 0 is)
+  abbrev b : Branch
+  b = branch_of m.extent.form k
 
-  pub comes_mapped : form_of x ≡ One → length d.addrs ≡ 13 → m.done < m.count → next_block m ≡ k
-      → HasComeTo x m (place_of_mapped (mapped_for_writing d k m.extent.bitmap m.extent.size))
-  comes_mapped one all left here = by_place (ltb k 12) refl (eqb (slice_index d.addrs k) 0) refl
+  abbrev address : ℕ
+  address = get_or d.addrs b.index 0
+
+  pub comes_mapped : form_of x ≡ m.extent.form → length d.addrs ≡ 13 → m.done < m.count → next_block m ≡ k → k < block_limit m.extent.form
+      → HasComeTo x m (place_of_mapped (mapped_for_writing m.extent.form d k m.extent.bitmap m.extent.size))
+  comes_mapped one all left here low = by_place (eqb address 0) refl (eqb b.depth 0) refl
     where
-      on : (a : Bool) → ltb k 12 ≡ a → (a ≡ true → slice_index d.addrs k ≡ 0) → IsMapping x m (first_way d k m.extent.bitmap m.extent.size)
-      on a is none = record {
-        block = sym here;
-        bitmap = refl;
-        size = refl;
-        at = subst (λ (t : Bool). IsOnWay x d m.extent k (cond t (map_at.Direct take) (cond (eqb (indirect_of d) 0) (map_at.Indirect take) (map_at.Entry None)))) (sym is)
-            (first_on_way a is (eqb (indirect_of d) 0) refl none);
-      }
+      starts : (a : MapAt) → IsOnWay x d m.extent b a → HasComeTo x m (write_at.Mapping (record { branch = b; bitmap = m.extent.bitmap; size = m.extent.size; at = a }))
+      starts a on = (left, record { branch = ap (branch_of m.extent.form) (sym here); bitmap = refl; size = refl; at = on })
 
-      by_place : (a : Bool) → ltb k 12 ≡ a → (b : Bool) → eqb (slice_index d.addrs k) 0 ≡ b
-          → HasComeTo x m (place_of_mapped (cond (a && not b) (for_writing.At (slice_index d.addrs k)) (for_writing.Behind (first_way d k m.extent.bitmap m.extent.size))))
-      by_place true low false there =
-          (left, subst (λ (j : ℕ). address_in x d j ≡ slice_index d.addrs k) (sym here) (address_direct x d k one all (ltb-true k 12 low)), eqb-false (slice_index d.addrs k) 0 there)
-      by_place true low true none = (left, on true low (λ is. eqb-true (slice_index d.addrs k) 0 none))
-      by_place false high b is = (left, on false high (λ no. absurd (cc no)))
+      by_place : (none : Bool) → eqb address 0 ≡ none → (ends : Bool) → eqb b.depth 0 ≡ ends
+          → HasComeTo x m (place_of_mapped (cond (not none && ends) (for_writing.At address) (for_writing.Behind (record {
+            branch = b;
+            bitmap = m.extent.bitmap;
+            size = m.extent.size;
+            at = cond none (map_at.Address take) (map_at.Entry (node_at b.depth b.rest address) None);
+          }))))
+      by_place true none ends is = starts (map_at.Address take) (eqb-true address 0 none, record { bitmap = refl; size = refl })
+      by_place false some true flat = (
+        left,
+        ap (address_in x d) here ∙ address_there x m.extent.form one k low d all ∙ ap (λ n. address_under x n b.rest address) (eqb-true b.depth 0 flat),
+        eqb-false address 0 some,
+      )
+      by_place false some false deep =
+          starts (map_at.Entry (node_at b.depth b.rest address) None)
+          (lies_first x d b (eqb-false b.depth 0 deep) (is_branch k m.extent.form low).rest (eqb-false address 0 some))
 
 -- the block of the next byte, or the end
-pub comes_next : (x : Image) (m : WriteState) → form_of x ≡ One → length m.inode.addrs ≡ 13 → m.done ≤ m.count
+pub comes_next : (x : Image) (m : WriteState) → form_of x ≡ m.extent.form → length m.inode.addrs ≡ 13 → m.done ≤ m.count
+    → (m.done < m.count → next_block m < block_limit m.extent.form)
     → HasComeTo x m (next_place m.number m.inode (next_byte m) (m.count - m.done) m.extent)
-comes_next x m one all most = by_left (eqb (m.count - m.done) 0) refl
+comes_next x m one all most low = by_left (eqb (m.count - m.done) 0) refl
   where
     by_left : (b : Bool) → eqb (m.count - m.done) 0 ≡ b
-        → HasComeTo x m (cond b (write_at.Updating (first_update m.number)) (place_of_mapped (mapped_for_writing m.inode (next_byte m / 1024) m.extent.bitmap m.extent.size)))
+        → HasComeTo x m (cond b (write_at.Updating (first_update m.number)) (place_of_mapped (mapped_for_writing m.extent.form m.inode (next_byte m / 1024) m.extent.bitmap m.extent.size)))
     by_left true none = let left = eqb-true (m.count - m.done) 0 none in (refl, inl (omega (arith, most, left)))
-    by_left false some = let left = eqb-false (m.count - m.done) 0 some in comes_mapped x m (next_block m) one all (omega (arith, most, left)) refl
+    by_left false some =
+        let left = eqb-false (m.count - m.done) 0 some in
+        let more : m.done < m.count = omega (arith, most, left) in
+        comes_mapped x m (next_block m) one all more refl (low more)
 
 -- ---- it begins with nothing
 
--- at a place that comes next nothing is got or taken, and few steps are left
-pub record IsFresh (m : WriteState) (a : WriteAt) : Type 0 where
+-- at a place that comes next, on the way to a branch, nothing is got or taken, and few steps are left
+pub record IsFresh (m : WriteState) (b : Branch) (a : WriteAt) : Type 0 where
   pub kept : kept_by_write a ≡ None
   pub used : used_by_write a ≡ None
   pub taken : taken_by a ≡ None
-  pub steps : writes_left_at m a ≤ 13 * blocks_behind m + 15
+  pub steps : writes_left_at m a ≤ writes_for m.extent.form (blocks_behind m) + 7 * b.depth + 8
   pub blocks : blocks_left m a ≤ blocks_behind m + 1
 
-module _ (m : WriteState) (d : Dinode) (k bitmap size : ℕ) where
-  fresh_way : (a b : Bool) (t : AllocState) → t ≡ first_alloc bitmap size → IsFresh m (write_at.Mapping (record { k = k; bitmap = bitmap; size = size; at = cond a (map_at.Direct t) (cond b (map_at.Indirect t) (map_at.Entry None)) }))
-  fresh_way true b t is = rw is (record { kept = refl; used = refl; taken = refl; steps = omega arith; blocks = omega arith })
-  fresh_way false true t is = rw is (record { kept = refl; used = refl; taken = refl; steps = omega arith; blocks = omega arith })
-  fresh_way false false t is = record { kept = refl; used = refl; taken = refl; steps = omega arith; blocks = omega arith }
+module _ (m : WriteState) (d : Dinode) (form : Form) (k bitmap size : ℕ) where
+  abbrev begun : Branch
+  begun = branch_of form k
 
-  fresh_mapped : (b : Bool) → IsFresh m (place_of_mapped (cond b (for_writing.At (slice_index d.addrs k)) (for_writing.Behind (first_way d k bitmap size))))
-  fresh_mapped true = record { kept = refl; used = refl; taken = refl; steps = omega arith; blocks = omega arith }
-  fresh_mapped false = fresh_way (ltb k 12) (eqb (indirect_of d) 0) (first_alloc bitmap size) refl
+  abbrev first_address : ℕ
+  first_address = get_or d.addrs begun.index 0
 
-pub fresh_next : (m : WriteState) (number : ℕ) (d : Dinode) (next left : ℕ) (e : Extent) → IsFresh m (next_place number d next left e)
+  fresh_address : IsFresh m begun (write_at.Mapping (record { branch = begun; bitmap = bitmap; size = size; at = map_at.Address (first_alloc bitmap size) }))
+  fresh_address = record { kept = refl; used = refl; taken = refl; steps = omega arith; blocks = omega arith }
+
+  fresh_entry : begun.depth ≢ 0 → IsFresh m begun (write_at.Mapping (record { branch = begun; bitmap = bitmap; size = size; at = map_at.Entry (node_at begun.depth begun.rest first_address) None }))
+  fresh_entry deep = record { kept = refl; used = refl; taken = refl; steps = omega (arith, deep); blocks = omega arith }
+
+  fresh_mapped : (none ends : Bool) → eqb begun.depth 0 ≡ ends → IsFresh m begun (place_of_mapped (cond (not none && ends) (for_writing.At first_address) (for_writing.Behind (record {
+    branch = begun;
+    bitmap = bitmap;
+    size = size;
+    at = cond none (map_at.Address (first_alloc bitmap size)) (map_at.Entry (node_at begun.depth begun.rest first_address) None);
+  }))))
+  fresh_mapped true ends flat = fresh_address
+  fresh_mapped false true flat = record { kept = refl; used = refl; taken = refl; steps = omega arith; blocks = omega arith }
+  fresh_mapped false false flat = fresh_entry (eqb-false begun.depth 0 flat)
+
+pub fresh_next : (m : WriteState) (number : ℕ) (d : Dinode) (next left : ℕ) (e : Extent) → IsFresh m (branch_of e.form (next / 1024)) (next_place number d next left e)
 fresh_next m number d next left e = by_left (eqb left 0)
   where
-    by_left : (b : Bool) → IsFresh m (cond b (write_at.Updating (first_update number)) (place_of_mapped (mapped_for_writing d (next / 1024) e.bitmap e.size)))
+    by_left : (b : Bool) → IsFresh m (branch_of e.form (next / 1024)) (cond b (write_at.Updating (first_update number)) (place_of_mapped (mapped_for_writing e.form d (next / 1024) e.bitmap e.size)))
     by_left true = record { kept = refl; used = refl; taken = refl; steps = omega arith; blocks = omega arith }
-    by_left false = fresh_mapped m d (next / 1024) e.bitmap e.size (ltb (next / 1024) 12 && not (eqb (slice_index d.addrs (next / 1024)) 0))
+    by_left false =
+        let b : Branch = branch_of e.form (next / 1024) in
+        fresh_mapped m d e.form (next / 1024) e.bitmap e.size (eqb (get_or d.addrs b.index 0) 0) (eqb b.depth 0) refl
 
 -- and where no bytes are left, with two steps
 pub ended_next : (m : WriteState) (number : ℕ) (d : Dinode) (next left : ℕ) (e : Extent) → left ≡ 0 → (blocks_left m (next_place number d next left e) ≡ 0) × (writes_left_at m (next_place number d next left e) ≡ 2)

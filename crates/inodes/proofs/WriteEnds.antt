@@ -13,7 +13,7 @@ use Rattle.model.specs.declared.types.operations.TaskProgress.TheVariants as pro
 use Rattle.model.specs.Codec.{IsDinode, with_inode, with_inode_bytes}
 use Rattle.model.specs.Files.{Files, file_in}
 use Rattle.model.specs.Journal.{is_number}
-use Rattle.model.specs.Layout.{form_of, greatest_size, inode_block, inode_count_of, indirect_of}
+use Rattle.model.specs.Layout.{form_of, greatest_size, inode_block, inode_count_of}
 use Rattle.model.specs.Lemmas.Inodes.{IsPlaced, inode_of-with_inode, inode_of-with_inode_other}
 use Rattle.model.specs.Operations.{after}
 use Rattle.model.specs.Tasks.{FilesThen, Marks}
@@ -26,7 +26,8 @@ use Rattle.loose.specs.Lemmas.HeldMarks.{growth_keeps}
 use Rattle.wal.specs.Joint.{Joint}
 use Rattle.wal.specs.Machine.{LogState, SameGroups}
 use Rattle.wal.specs.Volume.{VolumeState}
-use Rattle.blockmap.specs.BmapAlloc.{MapState, MapSteps, entry_for}
+use Rattle.blockmap.specs.BmapAlloc.{MapState, MapSteps}
+use Rattle.blockmap.specs.Branch.{named_by}
 use Rattle.blockmap.specs.Bmap.{some_address}
 use Rattle.driver.specs.Getting.{WritesBlock, progress_of}
 use Rattle.blockmap.specs.declared.bmap_alloc.MapAt.{MapAt}
@@ -48,14 +49,16 @@ use Rattle.inodes.specs.Store.{StoreState, IsStore, current_of}
 use Rattle.inodes.specs.Table.{renewed}
 use Rattle.inodes.specs.Tasks.{TaskState, task, no_task}
 use Rattle.inodes.specs.Writei.{MapsOn, WriteState, WriteSteps, progress_mapped}
-use Rattle.inodes.specs.Writing.{IsWriting, block_of_write, kept_by_write, used_by_write, writes_left, writes_left_at}
+use Rattle.inodes.specs.Writing.{IsWriting, block_of_write, kept_by_write, node_of_write, used_by_write, writes_left, writes_left_at}
 use Rattle.inodes.specs.Lemmas.Grips.{kept_by_renew}
 use Rattle.inodes.proofs.AtWork.{steps_worked, store_then, store_worked}
 use Rattle.inodes.proofs.Getting.{reads_none}
-use Rattle.inodes.proofs.LooksKept.{KeepsUsed}
+use Rattle.inodes.proofs.LooksKept.{KeepsUsed, super_set}
 use Rattle.inodes.proofs.TruncFiles.{with_claim, with_claim_is}
 use Rattle.inodes.proofs.TruncSlots.{Slots, slots_put}
-use Rattle.inodes.proofs.WriteDoes.{does_behind, does_block, does_direct, does_entry, does_indirect, does_inode, does_look, does_piece, does_setting}
+use Rattle.inodes.proofs.WriteBlocks.{does_address, does_behind}
+use Rattle.inodes.proofs.WriteDoes.{does_block, does_inode, does_piece}
+use Rattle.inodes.proofs.WriteEntries.{does_entry, does_look, does_setting}
 use Rattle.inodes.proofs.WriteFiles.{answers_written}
 use Rattle.inodes.proofs.WriteMoves.{DoesSo, bytes, grown, here, its, logs, works}
 use Rattle.inodes.proofs.Writing as of
@@ -143,6 +146,7 @@ module _ {D N : Type 0} (disk : Ghosts D N) (s : StoreState D) (p k : ℕ) (m : 
       keeps : KeepsUsed s.table.inode_count m.number claims cur written
       keeps = record {
         size = length-set cur (inode_block m.number) (with_inode_bytes (block_at cur (inode_block m.number)) m.number m.inode);
+        super = super_set cur (inode_block m.number) (with_inode_bytes (block_at cur (inode_block m.number)) m.number m.inode) (omega arith);
         inodes = λ j named other used. inode_of-with_inode_other cur m.number j m.inode placed fields other;
         contents = λ j named other used rest. then_files.others j other rest (names j named, used);
         held = λ j c named other holds. then_files.held j c other (names j named) holds;
@@ -163,7 +167,7 @@ module _ {D N : Type 0} (disk : Ghosts D N) (s : StoreState D) (p k : ℕ) (m : 
           let long = work.all in
           let done = work.done in
           let most = work.fits in
-          let one : greatest_size (form_of cur) ≡ 274432 = ap greatest_size (of.form disk s p k m is well stood) in (
+          let one : greatest_size (form_of cur) ≡ greatest_size m.extent.form = ap greatest_size (sym (of.form disk s p k m is well stood)) in (
             files_grown files m.number growing.old its_growth,
             subst (λ (content : List ℕ). after (form_of cur) files (Write m.number m.offset content) (Wrote m.done) ≡ Some (files_grown files m.number growing.old its_growth)) (of.bytes_are disk s p k m is well stood)
                 (answers_written files cur claims m.number m its_bytes growing.old growing.was held (omega (arith, done, all)) (omega (arith, few, all, long)) (omega (arith, most, all, one))
@@ -172,10 +176,10 @@ module _ {D N : Type 0} (disk : Ghosts D N) (s : StoreState D) (p k : ℕ) (m : 
           )
 
       -- it holds nothing then
-      free_now : Slots w.buffers p (indirect_of m.inode) None 0 None
-      free_now = slots_put s.volume.buffers w.buffers p (indirect_of m.inode) (inode_block u.number) i 0 None
-          (subst (λ (o : Option ℕ). Slots s.volume.buffers p (indirect_of m.inode) None (inode_block u.number) o) got
-          (subst (λ (a : WriteAt). Slots s.volume.buffers p (indirect_of m.inode) (kept_by_write a) (block_of_write m a) (used_by_write a)) at (of.slots disk s p k m is well stood)))
+      free_now : Slots w.buffers p 0 None 0 None
+      free_now = slots_put s.volume.buffers w.buffers p 0 (inode_block u.number) i 0 None
+          (subst (λ (o : Option ℕ). Slots s.volume.buffers p 0 None (inode_block u.number) o) got
+          (subst (λ (a : WriteAt). Slots s.volume.buffers p (node_of_write a) (kept_by_write a) (block_of_write a) (used_by_write a)) at (of.slots disk s p k m is well stood)))
           (λ j none. absurd (cc none)) writes.locks
 
       does_write : Answers (machine.Over tt)
@@ -183,6 +187,7 @@ module _ {D N : Type 0} (disk : Ghosts D N) (s : StoreState D) (p k : ℕ) (m : 
         reads = reads_none disk s (store_then disk s p k m.number (here disk s p k m is well stood inside joint) (progress.Decided (Wrote m.done)) (place.Leaving k) w (renewed s.table k (Some m.inode)) ts)
             writes.device (writes.fault ∙ well) (progress.Decided (Wrote m.done)) refl;
         numbers = refl;
+        form = refl;
         groups = subst (SameGroups s.volume.log) (sym writes.log) (groups_noted s.volume.log p (inode_block u.number) (logs disk s p k m is well stood inside joint));
         marks = subst (Marks None cur) (sym shown)
             (growth_keeps (of.looking disk s p k m is well stood).files.0 cur claims m.number its_growth (of.held_in disk s p k m is well stood (of.looking disk s p k m is well stood).files.0 (of.looking disk s p k m is well stood).files.1));
@@ -198,6 +203,7 @@ module _ {D N : Type 0} (disk : Ghosts D N) (s : StoreState D) (p k : ℕ) (m : 
           locks = λ b j lock. ⊎_elim (λ (none : None ≡ Some j). none) (λ (none : None ≡ Some j). none) (free_now.locks b j lock);
           stands = tt;
           looks = record { op = its disk s p k m is well stood inside joint; is = work.op; can = (work.number, work.few) };
+          logged = tt;
         };
         late = refl;
         asleep = λ cause waits. absurd (cc waits);
@@ -208,23 +214,19 @@ module _ {D N : Type 0} (disk : Ghosts D N) (s : StoreState D) (p k : ℕ) (m : 
 
     -- ---- any step
 
-    within : (way : MapState) → HasComeTo cur m (write_at.Mapping way) → way.k < 268
-    within way come = subst (λ (j : ℕ). j < 268) (sym come.1.block) (of.next_low disk s p k m is well stood come.0)
-
-    does_way : (q : Progress (Unit {0})) (way : MapState) (a : MapAt) → m.at ≡ write_at.Mapping (record way { at = a }) → way.at ≡ a → HasComeTo cur m (write_at.Mapping (record way { at = a })) → way.k < 268
+    does_way : (q : Progress (Unit {0})) (way : MapState) (a : MapAt) → m.at ≡ write_at.Mapping (record way { at = a }) → HasComeTo cur m (write_at.Mapping (record way { at = a }))
         → (maps : MapsOn disk s.volume p m way q n w) → MapSteps disk a s.volume p way m.inode maps.answer maps.now maps.inode w → Answers q
-    does_way q way (map_at.Direct t) at stands come low maps steps = does_direct disk s p k m is well stood inside joint n w ts way t q maps at come.1.at come.1.block come.0 steps
-    does_way q way (map_at.Indirect t) at stands come low maps steps = does_indirect disk s p k m is well stood inside joint n w ts way t q maps at come.1.at come.1 come.0 low steps
-    does_way q way (map_at.Entry None) at stands come low maps steps = does_entry disk s p k m is well stood inside joint n w ts way q maps at come steps.0 steps.1 steps.2 steps.3
-    does_way q way (map_at.Entry (Some i)) at stands come low maps steps =
-        does_look disk s p k m is well stood inside joint n w ts way q maps i at come low (some_address (entry_for cur way m.inode)) refl steps.0 steps.1
-    does_way q way (map_at.Behind i t) at stands come low maps steps = does_behind disk s p k m is well stood inside joint n w ts way t q maps i at come.1.at come.1 come.0 steps
-    does_way q way (map_at.Setting i found) at stands come low maps steps =
-        does_setting disk s p k m is well stood inside joint n w ts way q maps i found at come low steps.0 steps.1 steps.2 steps.3
+    does_way q way (map_at.Address t) at come maps steps = does_address disk s p k m is well stood inside joint n w ts way t q maps at come.1 come.0 steps
+    does_way q way (map_at.Entry c None) at come maps steps = does_entry disk s p k m is well stood inside joint n w ts way c q maps at come steps.0 steps.1 steps.2 steps.3
+    does_way q way (map_at.Entry c (Some i)) at come maps steps =
+        does_look disk s p k m is well stood inside joint n w ts way c q maps i at come (some_address (named_by cur c)) refl steps.0 steps.1
+    does_way q way (map_at.Behind c i t) at come maps steps = does_behind disk s p k m is well stood inside joint n w ts way t q maps c i at come.1 come.0 steps
+    does_way q way (map_at.Setting c i found) at come maps steps =
+        does_setting disk s p k m is well stood inside joint n w ts way c q maps i found at come steps.0 steps.1
 
     does_by : (q : Progress (Unit {0})) (a : WriteAt) → m.at ≡ a → WriteSteps disk a s.volume p m its_bytes q n w → Answers q
     does_by q (write_at.Mapping way) at steps =
-        does_way q way way.at at refl (subst (HasComeTo cur m) at work.come) (within way (subst (HasComeTo cur m) at work.come)) steps steps.steps
+        does_way q way way.at at (subst (HasComeTo cur m) at work.come) steps steps.steps
     does_by q (write_at.Block b None) at steps = does_block disk s p k m is well stood inside joint n w ts q b at steps
     does_by q (write_at.Block b (Some i)) at steps = does_piece disk s p k m is well stood inside joint n w ts q b i at steps
     does_by q (write_at.Updating u) at steps = by_slot u.slot refl steps.1

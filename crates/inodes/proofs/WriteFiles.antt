@@ -13,7 +13,7 @@ use Rattle.model.specs.Places.{address_in}
 use Rattle.loose.specs.Lemmas.BlocksTaken.{block_taken, taken_zeroed}
 use Rattle.loose.specs.Lemmas.BytesWritten.{bytes_written}
 use Rattle.std.proofs.lemmas.Bool.{cases_lt}
-use Rattle.loose.specs.Lemmas.Placing.{direct_placed, indirect_placed, taken_lies}
+use Rattle.loose.specs.Lemmas.Placing.{address_placed, taken_lies}
 use Rattle.std.proofs.lemmas.List.{get_or-set_same, length-drop, length-take-le}
 use Rattle.loose.specs.GrowthLaws.{WritesNext as FillsNext, files_grown}
 use Rattle.model.specs.Layout.{form_of, greatest_size, inode_count_of, is_marked, super_of}
@@ -58,24 +58,14 @@ module _ (files : Files) (x : Image) (claims new : Claims) (i b : ℕ) (g : Grow
         holds = held.holds;
       }
 
-  pub zeroes_direct : (k : ℕ) → IsHeldIn files x claims i (grows g) → g.taken ≡ Some b → k < 12 → slice_index g.copy.addrs k ≡ 0 →
-      IsClaimedNow claims i (Some (grows (placing g k b))) new → FitsThen files x claims i (zeroed x b) new
-  zeroes_direct k held is low none now =
-      let then = zeroes_taken held is in
-      record {
-        fits = direct_placed files (zeroed x b) claims new i k b g (still_held held is) is low none now;
-        others = then.others;
-        held = then.held;
-      }
-
-  pub zeroes_indirect : IsHeldIn files x claims i (grows g) → g.taken ≡ Some b → slice_index g.copy.addrs 12 ≡ 0 →
-      IsClaimedNow claims i (Some (grows (placing g 12 b))) new → FitsThen files x claims i (zeroed x b) new
-  zeroes_indirect held is none now =
+  pub zeroes_named : (slot : ℕ) → IsHeldIn files x claims i (grows g) → g.taken ≡ Some b → slot < length g.copy.addrs →
+      slice_index g.copy.addrs slot ≡ 0 → IsClaimedNow claims i (Some (grows (placing g slot b))) new → FitsThen files x claims i (zeroed x b) new
+  zeroes_named slot held is there none now =
       let then = zeroes_taken held is in
       let inside = (taken_lies files x claims i b g held is).1 in
       record {
-        fits = indirect_placed files (zeroed x b) claims new i b g (still_held held is) is none
-            (get_or-set_same x b zero_block [] inside) now;
+        fits = address_placed files (zeroed x b) claims new i slot b g (still_held held is) is there none
+            (λ deep. get_or-set_same x b zero_block [] inside) now;
         others = then.others;
         held = then.held;
       }

@@ -1,5 +1,5 @@
 -- The kinds of steps that write a file's bytes: a block is got, or put, or released, or nothing is done to the volume.
-use Rattle.std.proofs.Common.{◌≡◌, ◌≢◌, ℕ, ◌<◌, ◌≤◌, List, set, refl, sym, ◌∙◌, ap, subst, arith, Option, Some, None, length}
+use Rattle.std.proofs.Common.{◌≡◌, ◌≢◌, ℕ, ◌+◌, ◌<◌, ◌≤◌, List, set, refl, sym, ◌∙◌, ap, subst, arith, Option, Some, None, length}
 use Rattle.std.specs.Prelude.{IsTrue}
 use Rattle.std.proofs.lemmas.Bool.{false≢true, ne_eqb}
 use Rattle.std.proofs.lemmas.List.{length-set}
@@ -13,7 +13,8 @@ use Rattle.model.specs.declared.types.operations.Why.{Why}
 use Rattle.model.specs.declared.types.operations.Why.TheVariants as why
 use Rattle.model.specs.Files.{Files}
 use Rattle.model.specs.Journal.{is_number}
-use Rattle.model.specs.Layout.{inode_count_of, super_of, indirect_of}
+use Rattle.model.specs.declared.types.image.Form.{Form}
+use Rattle.model.specs.Layout.{form_of, greatest_size, inode_count_of, super_of}
 use Rattle.model.specs.Tasks.{Marks}
 use Rattle.loose.specs.Held.{Claim, Claims, FitsHeld, Growth, IsClaimedNow, grows}
 use Rattle.loose.specs.HeldLaws.{FitsThen}
@@ -39,11 +40,13 @@ use Rattle.inodes.specs.Steps.{IsHeldByAnother, Reads}
 use Rattle.inodes.specs.Store.{StoreState, IsStore, HoldsForWriting, current_of}
 use Rattle.inodes.specs.Tasks.{TaskState, task}
 use Rattle.inodes.specs.Writei.{WriteState}
-use Rattle.inodes.specs.Writing.{HasLoggedWrite, IsWriting, block_of_write, kept_by_write, used_by_write, writes_left, extent_of}
+use Rattle.inodes.specs.Writing.{HasLoggedWrite, IsWriting, block_of_write, kept_by_write, node_of_write, used_by_write, writes_left, extent_of}
+use Rattle.inodes.specs.declared.writei.Extent.{Extent}
 use Rattle.inodes.specs.Lemmas.Grips.{kept_by_image}
 use Rattle.inodes.specs.Lemmas.Holding.{own_grows}
 use Rattle.inodes.proofs.AtWork.{Does, Works, store_then}
-use Rattle.inodes.proofs.Frames.{marks_same}
+use Rattle.inodes.proofs.Frames.{form_same, marks_same}
+use Rattle.inodes.proofs.WriteLogged.{LogsOn, logged_of, open_of}
 use Rattle.inodes.proofs.Getting.{reads_none, fault_of}
 use Rattle.inodes.proofs.LooksKept.{KeepsUsed, keeps_same}
 use Rattle.inodes.proofs.TruncFiles.{same_claims, with_claim, with_claim_is}
@@ -133,8 +136,8 @@ module _ {D N : Type 0} (disk : Ghosts D N) (s : StoreState D) (p k : ℕ) (m : 
     -- the writing goes on as n, in image y
     pub record GoesOn (y : Image) : Type 0 where
       pub same : n ≡ record m { inode = n.inode; done = n.done; at = n.at }
-      pub slots_now : Slots w.buffers p (indirect_of n.inode) (kept_by_write n.at) (block_of_write n n.at) (used_by_write n.at)
-      pub logged : HasLoggedWrite w.log p n
+      pub slots_now : Slots w.buffers p (node_of_write n.at) (kept_by_write n.at) (block_of_write n.at) (used_by_write n.at)
+      pub logged : LogsOn y w.log p n
       pub done : n.done ≤ m.count
       pub come : HasComeTo y n n.at
       pub less : writes_left n < writes_left m
@@ -172,8 +175,9 @@ module _ {D N : Type 0} (disk : Ghosts D N) (s : StoreState D) (p k : ℕ) (m : 
             few = work.few;
             all = work.all ∙ sym count;
             done = omega (arith, done, count);
-            fits = omega (arith, fits, offset, count);
-            extent = extent ∙ work.extent ∙ ap (extent_of s.table.inode_count) (sym (ap length shows.shown ∙ shows.size));
+            fits = subst (λ (e : Extent). n.offset + n.count ≤ greatest_size e.form) (sym extent) (omega (arith, fits, offset, count));
+            extent = extent ∙ work.extent ∙ ap (extent_of (form_of cur) s.table.inode_count) (sym (ap length shows.shown ∙ shows.size))
+                ∙ ap (λ (f : Form). extent_of f s.table.inode_count (length now)) (sym (ap form_of shows.shown ∙ form_same cur y shows.marks.untouched.super));
             come = subst (λ (x : Image). HasComeTo x n n.at) (sym shows.shown) on.come;
           }
 
@@ -181,6 +185,7 @@ module _ {D N : Type 0} (disk : Ghosts D N) (s : StoreState D) (p k : ℕ) (m : 
       does_moved = record {
         reads = shows.reads;
         numbers = refl;
+        form = refl;
         groups = shows.groups;
         marks = subst (Marks None cur) (sym shows.shown) shows.marks;
         keeps = subst (KeepsUsed s.table.inode_count m.number claims cur) (sym shows.shown) shows.keeps;
@@ -192,8 +197,9 @@ module _ {D N : Type 0} (disk : Ghosts D N) (s : StoreState D) (p k : ℕ) (m : 
         stands = λ fine. record {
           others = shows.others;
           locks = λ b i lock. on.slots_now.locks b i lock;
-          stands = record { logged = on.logged; kept = on.slots_now.holds_kept; used = on.slots_now.holds_used };
+          stands = record { logged = open_of y w.log p n on.logged; kept = on.slots_now.holds_kept; used = on.slots_now.holds_used };
           looks = writing_now;
+          logged = subst (λ (x : Image). HasLoggedWrite x w.log p n) (sym shows.shown) (logged_of y w.log p n on.logged);
         };
         late = refl;
         asleep = λ cause waits. absurd (cc waits);
@@ -207,10 +213,11 @@ module _ {D N : Type 0} (disk : Ghosts D N) (s : StoreState D) (p k : ℕ) (m : 
     module _ (q : Progress (Unit {0})) where
       -- it has to wait, and nothing changed
       does_slept : (cause : Why) → w ≡ s.volume → Reads disk s (progress.Sleeping cause) (then_at (machine.Sleeping cause))
-          → (cause ≡ why.BufferHeld → IsHeldByAnother s p (block_of_write m m.at)) → (cause ≡ why.InodeHeld → ⊥) → DoesSo (machine.Sleeping cause)
+          → (cause ≡ why.BufferHeld → IsHeldByAnother s p (block_of_write m.at)) → (cause ≡ why.InodeHeld → ⊥) → DoesSo (machine.Sleeping cause)
       does_slept cause same reads held inode = record {
         reads = reads;
         numbers = refl;
+        form = refl;
         groups = subst (λ (v : VolumeState D). SameGroups s.volume.log v.log) (sym same) (groups_same s.volume.log);
         marks = subst (λ (v : VolumeState D). Marks None cur (current_of disk.image v)) (sym same) marks_still;
         keeps = subst (λ (v : VolumeState D). KeepsUsed s.table.inode_count m.number claims cur (current_of disk.image v)) (sym same) keeps_still;
@@ -231,9 +238,10 @@ module _ {D N : Type 0} (disk : Ghosts D N) (s : StoreState D) (p k : ℕ) (m : 
             all = work.all;
             done = work.done;
             fits = work.fits;
-            extent = subst (λ (v : VolumeState D). m.extent ≡ extent_of s.table.inode_count (length (current_of disk.image v))) (sym same) work.extent;
+            extent = subst (λ (v : VolumeState D). m.extent ≡ extent_of (form_of (current_of disk.image v)) s.table.inode_count (length (current_of disk.image v))) (sym same) work.extent;
             come = subst (λ (v : VolumeState D). HasComeTo (current_of disk.image v) m m.at) (sym same) work.come;
           };
+          logged = subst (λ (v : VolumeState D). HasLoggedWrite (current_of disk.image v) v.log p m) (sym same) (logged_of cur s.volume.log p m (of.logged disk s p k m is well stood));
         };
         late = refl;
         asleep = λ other waits. (same, refl, refl);
@@ -247,6 +255,7 @@ module _ {D N : Type 0} (disk : Ghosts D N) (s : StoreState D) (p k : ℕ) (m : 
       does_failed fault shown log reads = record {
         reads = reads;
         numbers = refl;
+        form = refl;
         groups = subst (SameGroups s.volume.log) (sym log) (groups_same s.volume.log);
         marks = subst (Marks None cur) (sym shown) marks_still;
         keeps = subst (KeepsUsed s.table.inode_count m.number claims cur) (sym shown) keeps_still;
@@ -265,11 +274,11 @@ module _ {D N : Type 0} (disk : Ghosts D N) (s : StoreState D) (p k : ℕ) (m : 
 
     -- ---- a block is got
 
-    module _ (q : Progress (Unit {0})) (b : ℕ) (slot : Option ℕ) (gets : GetsFor disk s.volume p b q slot w) (at : block_of_write m m.at ≡ b) (none : used_by_write m.at ≡ None)
+    module _ (q : Progress (Unit {0})) (b : ℕ) (slot : Option ℕ) (gets : GetsFor disk s.volume p b q slot w) (at : block_of_write m.at ≡ b) (none : used_by_write m.at ≡ None)
         (other : (j : ℕ) → kept_by_write m.at ≡ Some j → of.own disk s p k m is well stood ≢ b)
         (got : (i : ℕ) → slot ≡ Some i → q ≡ machine.Moved → GetsLock s.volume.buffers w.buffers p b i → GoesOn cur) where
-      had : Slots s.volume.buffers p (of.own disk s p k m is well stood) (kept_by_write m.at) (block_of_write m m.at) None
-      had = subst (λ (o : Option ℕ). Slots s.volume.buffers p (of.own disk s p k m is well stood) (kept_by_write m.at) (block_of_write m m.at) o) none (of.slots disk s p k m is well stood)
+      had : Slots s.volume.buffers p (of.own disk s p k m is well stood) (kept_by_write m.at) (block_of_write m.at) None
+      had = subst (λ (o : Option ℕ). Slots s.volume.buffers p (of.own disk s p k m is well stood) (kept_by_write m.at) (block_of_write m.at) o) none (of.slots disk s p k m is well stood)
 
       by_answer : (x : Progress (Unit {0})) → q ≡ x → DoesSo x
       by_answer machine.Moved moved =
@@ -288,7 +297,7 @@ module _ {D N : Type 0} (disk : Ghosts D N) (s : StoreState D) (p k : ℕ) (m : 
           does_slept q cause (sleeps disk s (then_at (machine.Sleeping cause)) p b q slot gets cause waits)
           (reads_for disk s (then_at (machine.Sleeping cause)) p b q slot gets (progress.Sleeping cause) (ap fault_of (sym waits)))
           (λ held. subst (λ (a : ℕ). IsHeldByAnother s p a) (sym at)
-          (held_for disk s (then_at (machine.Sleeping cause)) p b q slot gets (of.own disk s p k m is well stood) (block_of_write m m.at) (kept_by_write m.at) (of.agrees disk s p k m is well stood) had other
+          (held_for disk s (then_at (machine.Sleeping cause)) p b q slot gets (of.own disk s p k m is well stood) (block_of_write m.at) (kept_by_write m.at) (of.agrees disk s p k m is well stood) had other
           (waits ∙ ap machine.Sleeping held)))
           (λ inode. never_inode disk s (then_at (machine.Sleeping cause)) p b q slot gets (waits ∙ ap machine.Sleeping inode))
       by_answer (machine.Over out) over = absurd (never_over disk s (then_at (machine.Over out)) p b q slot gets out over)
@@ -326,6 +335,7 @@ module _ {D N : Type 0} (disk : Ghosts D N) (s : StoreState D) (p k : ℕ) (m : 
             marks = marks;
             keeps = record {
               size = length-set cur b content;
+              super = marks.untouched.super;
               inodes = used_still m.number;
               contents = λ j named other used rests. then.others j other rests (names j named, used);
               held = λ j c named other holds. then.held j c other (names j named) holds;

@@ -3,6 +3,7 @@ use Rattle.std.specs.Prelude.{◌≡◌, ℕ, ◌-◌, Bool, Option, Some, None}
 use Rattle.blocks.specs.Disk.{Image, block_at}
 use Rattle.blocks.specs.declared.disk.Disk.{Ghosts}
 use Rattle.model.specs.declared.types.image.Dinode.{Dinode}
+use Rattle.model.specs.declared.types.image.Form.{Form}
 use Rattle.model.specs.declared.types.operations.Op.{Op}
 use Rattle.model.specs.declared.types.operations.Reply.{Reply}
 use Rattle.model.specs.declared.types.operations.Reply.TheVariants.{Made, NoInode, Wrote, Bytes, Done, StatOf, NoFile, BadOffset, TooBig, TooLong, BadType}
@@ -127,12 +128,14 @@ pub record SearchesIn {D N : Type 0} (disk : Ghosts D N) (v : VolumeState D) (p 
   pub gives : r ≡ progress_of_search answer
   pub buffers : BuffersAfter disk.image m.slot m v p answer w.buffers
 
--- what a step of taking an inode is to the task, where the current image has this inode
-abbrev pub progress_of_lock : Dinode → Op → Progress Bool → TaskProgress
-progress_of_lock d op machine.Moved = progress.Moved
-progress_of_lock d op (machine.Sleeping why) = progress.Sleeping why
-progress_of_lock d op (machine.Over used) = progress.Turned (reply_when_taken (if_used used d) op)
-progress_of_lock d op (machine.Fault fault) = progress.Fault fault
+-- what a step of taking an inode is to the task, where the current image, of that form, has this
+-- inode
+abbrev pub progress_of_lock : Form → Dinode → Op → Progress Bool → TaskProgress
+progress_of_lock form d op machine.Moved = progress.Moved
+progress_of_lock form d op (machine.Sleeping why) = progress.Sleeping why
+progress_of_lock form d op (machine.Over used) =
+    progress.Turned (reply_when_taken form (if_used used d) op)
+progress_of_lock form d op (machine.Fault fault) = progress.Fault fault
 
 -- and where the task stands then
 abbrev pub place_of_lock : Extent → Dinode → Op → LockState → LockState → Progress Bool → Place
@@ -149,9 +152,10 @@ pub record TakesInode {D N : Type 0} (disk : Ghosts D N) (s : StoreState D) (p :
   pub answer : Progress Bool
   pub now : LockState
   pub locks : LockSteps disk m.at s.table s.volume p m answer t.table t.volume now
-  pub gives : r ≡ progress_of_lock (inode_of (current_of disk.image s.volume) m.number) op answer
+  pub gives : r
+      ≡ progress_of_lock s.table.form (inode_of (current_of disk.image s.volume) m.number) op answer
   pub next : (task t.tasks p).place
-      ≡ place_of_lock (extent_of s.table.inode_count s.volume.log.size)
+      ≡ place_of_lock (extent_of s.table.form s.table.inode_count s.volume.log.size)
       (inode_of (current_of disk.image s.volume) m.number) op m now answer
   pub bytes : (task t.tasks p).gathered ≡ (task s.tasks p).gathered
 

@@ -3,6 +3,7 @@
 use Rattle.std.specs.Prelude.{◌≡◌, ◌≢◌, ◌<◌, ◌≤◌, ℕ, Bool, true, false, IsTrue, List, [], ◌∷◌, length, replicate, slice_index_or, slice_set, Option, Some, None}
 use Rattle.blocks.specs.Disk.{Image}
 use Rattle.model.specs.declared.types.image.Dinode.{Dinode}
+use Rattle.model.specs.declared.types.image.Form.{Form}
 use Rattle.model.specs.Journal.{is_number}
 use Rattle.model.specs.Layout.{inode_of}
 use Rattle.inodes.specs.declared.table.InMemory.{InMemory}
@@ -118,7 +119,8 @@ KeptByImage = (t : TableState) (gs : List (Option Grip)) (old new : Image)
 
 -- at the opening nobody refers to an inode
 abbrev pub IsTableAtOpening : Type 0
-IsTableAtOpening = (n m : ℕ) (cur : Image) → m ≤ 32 → TableIs (new_table n) (replicate m None) cur
+IsTableAtOpening = (form : Form) (n m : ℕ) (cur : Image) → m ≤ 32 →
+    TableIs (new_table form n) (replicate m None) cur
 
 -- there is a place for each number
 abbrev pub HasPlaceForEach : Type 0

@@ -1,21 +1,21 @@
 -- What the writing of a file's bytes holds of its number, and how far it has come.
-use Rattle.std.specs.Prelude.{◌≡◌, ◌≢◌, ◌⊎◌, ◌<◌, ◌≤◌, ℕ, ◌-◌, ◌/◌, List, [], take, slice_index, Option, Some, None}
+use Rattle.std.specs.Prelude.{◌≡◌, ◌≢◌, ◌⊎◌, ◌<◌, ℕ, ◌/◌, List, [], take, slice_index, Option, Some, None}
 use Rattle.blocks.specs.Disk.{Image, block_at}
-use Rattle.blocks.specs.Block.{block_size}
-use Rattle.model.specs.Layout.{direct_count, indirect_of}
-use Rattle.model.specs.declared.types.image.Form.TheVariants.{One}
+use Rattle.blocks.specs.Block.{block_size, zero_block}
 use Rattle.model.specs.declared.types.image.Dinode.{Dinode}
 use Rattle.model.specs.declared.types.operations.Op.{Op}
 use Rattle.model.specs.declared.types.operations.Op.TheVariants.{Create, Write, Read, Trunc, Remove, Stat}
-use Rattle.model.specs.Fields.{words_of}
 use Rattle.model.specs.Places.{address_in}
 use Rattle.loose.specs.Held.{Growth}
 use Rattle.blockmap.specs.Balloc.{AllocState}
 use Rattle.blockmap.specs.BmapAlloc.{MapState}
+use Rattle.blockmap.specs.Branch.{LiesOnWay, branch_of, named_by}
 use Rattle.blockmap.specs.declared.balloc.AllocAt.{AllocAt}
 use Rattle.blockmap.specs.declared.balloc.AllocAt.TheVariants as alloc_at
 use Rattle.blockmap.specs.declared.bmap_alloc.MapAt.{MapAt}
 use Rattle.blockmap.specs.declared.bmap_alloc.MapAt.TheVariants as map_at
+use Rattle.blockmap.specs.declared.branch.Branch.{Branch}
+use Rattle.blockmap.specs.declared.branch.Node.{Node}
 use Rattle.inodes.specs.Writei.{WriteState, next_byte}
 use Rattle.inodes.specs.declared.writei.Extent.{Extent}
 use Rattle.inodes.specs.declared.writei.WriteAt.{WriteAt}
@@ -42,11 +42,10 @@ taken_at (alloc_at.Looking slot) = None
 taken_at (alloc_at.Zeroing b slot) = Some b
 
 abbrev pub taken_on_way : MapAt → Option ℕ
-taken_on_way (map_at.Direct t) = taken_at t.at
-taken_on_way (map_at.Indirect t) = taken_at t.at
-taken_on_way (map_at.Entry slot) = None
-taken_on_way (map_at.Behind i t) = taken_at t.at
-taken_on_way (map_at.Setting i found) = found
+taken_on_way (map_at.Address t) = taken_at t.at
+taken_on_way (map_at.Entry n slot) = None
+taken_on_way (map_at.Behind n i t) = taken_at t.at
+taken_on_way (map_at.Setting n i found) = found
 
 abbrev pub taken_by : WriteAt → Option ℕ
 taken_by (write_at.Mapping way) = taken_on_way way.at
@@ -73,27 +72,28 @@ pub record TakesIn (e : Extent) (t : AllocState) : Type 0 where
   pub bitmap : t.bitmap ≡ e.bitmap
   pub size : t.size ≡ e.size
 
--- the entry of block k of the file, which has a block of addresses, names no block
-abbrev pub HasNoEntry : Image → Dinode → ℕ → Type 0
-HasNoEntry cur d k =
-    (direct_count One ≤ k) × (indirect_of d ≢ 0)
-    × (slice_index (words_of (block_at cur (indirect_of d))) (k - direct_count One) ≡ 0)
+-- a block of addresses lies on the way to the block at that branch, and its entry there is missing
+abbrev pub HasNoEntry : Image → Dinode → Branch → Node → Type 0
+HasNoEntry cur d b n = LiesOnWay cur d b n × (named_by cur n ≡ 0)
 
--- what isn't there, by where the way stands
-abbrev pub IsOnWay : Image → Dinode → Extent → ℕ → MapAt → Type 0
-IsOnWay cur d e k (map_at.Direct t) =
-    (k < direct_count One) × (slice_index d.addrs k ≡ 0) × TakesIn e t
-IsOnWay cur d e k (map_at.Indirect t) = (direct_count One ≤ k) × (indirect_of d ≡ 0) × TakesIn e t
-IsOnWay cur d e k (map_at.Entry slot) = (direct_count One ≤ k) × (indirect_of d ≢ 0)
-IsOnWay cur d e k (map_at.Behind i t) = HasNoEntry cur d k × TakesIn e t
-IsOnWay cur d e k (map_at.Setting i found) = HasNoEntry cur d k
+-- the block that was taken is one of zeroes
+abbrev pub IsZeroed : Image → Option ℕ → Type 0
+IsZeroed cur None = Unit {0}
+IsZeroed cur (Some b) = block_at cur b ≡ zero_block
+
+-- how far it leads, and what isn't there, by where the way stands
+abbrev pub IsOnWay : Image → Dinode → Extent → Branch → MapAt → Type 0
+IsOnWay cur d e b (map_at.Address t) = (slice_index d.addrs b.index ≡ 0) × TakesIn e t
+IsOnWay cur d e b (map_at.Entry n slot) = LiesOnWay cur d b n
+IsOnWay cur d e b (map_at.Behind n i t) = HasNoEntry cur d b n × TakesIn e t
+IsOnWay cur d e b (map_at.Setting n i found) = HasNoEntry cur d b n × IsZeroed cur found
 
 -- the way leads to the block of the next byte
 pub record IsMapping (cur : Image) (m : WriteState) (way : MapState) : Type 0 where
-  pub block : way.k ≡ next_block m
+  pub branch : way.branch ≡ branch_of m.extent.form (next_block m)
   pub bitmap : way.bitmap ≡ m.extent.bitmap
   pub size : way.size ≡ m.extent.size
-  pub at : IsOnWay cur m.inode m.extent way.k way.at
+  pub at : IsOnWay cur m.inode m.extent way.branch way.at
 
 -- The writing has come so far: to the block of the next byte, or to its end, where all bytes are
 -- written, or no block was left for the next ones.

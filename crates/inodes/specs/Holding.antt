@@ -1,30 +1,35 @@
 -- What tasks hold of a file's number behind their turn; and of those that give up its blocks, how
 -- far each has come.
-use Rattle.std.specs.Prelude.{◌≡◌, ◌≢◌, ◌<◌, ℕ, ◌+◌, ◌-◌, ◌*◌, ◌==◌, if◌then◌else◌, IsTrue, List, [], ◌∷◌, replicate, slice_index, Option, Some, None}
+use Rattle.std.specs.Prelude.{◌≡◌, ◌≢◌, ◌<◌, ◌≤◌, ℕ, suc, ◌+◌, ◌-◌, ◌*◌, ◌==◌, if◌then◌else◌, IsTrue, List, [], ◌∷◌, ◌++◌, length, replicate, slice_index, Option, Some, None}
 use Rattle.blocks.specs.Disk.{Image}
-use Rattle.model.specs.Layout.{direct_count, indirect_of, bitmap_block}
+use Rattle.model.specs.Layout.{direct_count, form_of, bitmap_block}
 use Rattle.model.specs.Format.{addresses_per_block}
-use Rattle.model.specs.declared.types.image.Form.TheVariants.{One}
 use Rattle.model.specs.declared.types.operations.Op.{Op}
 use Rattle.model.specs.declared.types.operations.Op.TheVariants.{Trunc, Remove}
 use Rattle.model.specs.Journal.{is_number}
-use Rattle.loose.specs.Held.{Held, Claims, Claim, frees, grows}
+use Rattle.loose.specs.Held.{Held, Claims, Claim, frees, grows, listed, blocks_left}
+use Rattle.loose.specs.Trees.{depth_of, entry_of, led_to}
 use Rattle.driver.specs.declared.driving.Got.{Got}
+use Rattle.driver.specs.declared.driving.Kept.{Kept}
 use Rattle.inodes.specs.declared.itrunc.TruncAt.{TruncAt}
 use Rattle.inodes.specs.declared.itrunc.TruncAt.TheVariants as trunc_at
 use Rattle.inodes.specs.declared.tasks.Place.{Place}
 use Rattle.inodes.specs.declared.tasks.Place.TheVariants as place
 use Rattle.inodes.specs.Growing.{bytes_by, growth_of}
-use Rattle.inodes.specs.Itrunc.{Freeing, entries_in}
+use Rattle.inodes.specs.Itrunc.{Freeing}
 use Rattle.inodes.specs.declared.itrunc.Itrunc.{Itrunc}
 use Rattle.inodes.specs.Table.{or_else}
 use Rattle.inodes.specs.Tasks.{TaskState}
+
+-- the entries that lead from the inode's address to the block of addresses in hand
+abbrev pub way_of : Itrunc → List ℕ
+way_of m = listed m.upper
 
 -- what the freeing of a file's blocks holds
 abbrev pub held_of : Itrunc → Held
 held_of m = record {
   copy = m.inode;
-  given_up = m.given_up;
+  cursor = way_of m ++ m.given_up ∷ [];
   last_kind = if m.removes then 0 else m.inode.kind;
 }
 
@@ -53,46 +58,94 @@ claims_of (t ∷ ts) i = or_else (claim_of t i) (claims_of ts i)
 abbrev pub trunc_op : Itrunc → Op
 trunc_op m = if m.removes then Remove m.number else Trunc m.number
 
--- none of the inode's own addresses before index k is there
+-- the inode's address whose block is freed, or those behind it
+abbrev pub root_of : Itrunc → ℕ
+root_of m = slice_index m.inode.addrs m.slot
+
+-- the block of addresses in hand
+abbrev pub hand_in : Image → Itrunc → ℕ
+hand_in x m = led_to x (way_of m) (root_of m)
+
+-- none of the inode's addresses before index k is there
 abbrev pub AreGivenUp : Itrunc → ℕ → Type 0
 AreGivenUp m k = (j : ℕ) → j < k → slice_index m.inode.addrs j ≡ 0
 
+-- a data block that the inode names is freed
+pub record IsAtDirect (m : Itrunc) : Type 0 where
+  pub direct : m.slot < direct_count m.form
+  pub before : AreGivenUp m m.slot
+  pub there : root_of m ≢ 0
+  pub upper : m.upper ≡ None
+  pub given_up : m.given_up ≡ 0
+
+-- a block of addresses is in hand, with some of its entries given up
+pub record IsInHand (x : Image) (m : Itrunc) : Type 0 where
+  pub tree : direct_count m.form ≤ m.slot
+  pub slot : m.slot < 13
+  pub before : AreGivenUp m m.slot
+  pub there : hand_in x m ≢ 0
+  pub level : length (way_of m) < depth_of x m.slot
+
+-- the next entry of it names a data block, which is freed
+pub record IsAtEntry (x : Image) (m : Itrunc) : Type 0 where
+  pub hand : IsInHand x m
+  pub names_data : depth_of x m.slot ≡ suc (length (way_of m))
+  pub within : m.given_up < addresses_per_block
+  pub there : entry_of x (hand_in x m) m.given_up ≢ 0
+
 -- The freeing of a file's blocks has come so far: what stands before its place was given up.
 abbrev pub HasGivenUp : Image → Itrunc → TruncAt → Type 0
-HasGivenUp cur m (trunc_at.Direct k) =
-    (k < direct_count One) × (m.given_up ≡ 0) × AreGivenUp m k × (slice_index m.inode.addrs k ≢ 0)
-HasGivenUp cur m trunc_at.Loading =
-    (m.given_up ≡ 0) × AreGivenUp m (direct_count One) × (indirect_of m.inode ≢ 0)
-HasGivenUp cur m trunc_at.Entry =
-    (m.given_up < addresses_per_block) × AreGivenUp m (direct_count One) × (indirect_of m.inode ≢ 0)
-    × (slice_index (entries_in cur m) m.given_up ≢ 0)
-HasGivenUp cur m trunc_at.Unloading =
-    (m.given_up ≡ addresses_per_block) × AreGivenUp m (direct_count One) × (indirect_of m.inode ≢ 0)
-HasGivenUp cur m trunc_at.Indirect =
-    (m.given_up ≡ addresses_per_block) × AreGivenUp m (direct_count One) × (indirect_of m.inode ≢ 0)
-HasGivenUp cur m trunc_at.Updating = m.inode.addrs ≡ replicate 13 0
+HasGivenUp x m trunc_at.Direct = IsAtDirect m
+HasGivenUp x m (trunc_at.Loading b) = IsInHand x m × (m.given_up ≡ 0) × (hand_in x m ≡ b)
+HasGivenUp x m trunc_at.Entry = IsAtEntry x m
+HasGivenUp x m trunc_at.Unloading = IsInHand x m × (m.given_up ≡ addresses_per_block)
+HasGivenUp x m trunc_at.Freeing = IsInHand x m × (m.given_up ≡ addresses_per_block)
+HasGivenUp x m trunc_at.Updating = m.inode.addrs ≡ replicate 13 0
 
--- this block is kept
-abbrev pub IsKept : Option Got → ℕ → Type 0
-IsKept None b = ⊥
-IsKept (Some g) b = g.block ≡ b
+-- the block above the one in hand
+abbrev pub above_by : Option ℕ → ℕ → Option ℕ
+above_by None root = None
+above_by (Some e) root = Some root
 
--- the block of addresses is kept while its entries are freed
-abbrev pub KeepsAt : Option Got → ℕ → TruncAt → Type 0
-KeepsAt kept own (trunc_at.Direct k) = kept ≡ None
-KeepsAt kept own trunc_at.Loading = kept ≡ None
-KeepsAt kept own trunc_at.Entry = IsKept kept own
-KeepsAt kept own trunc_at.Unloading = IsKept kept own
-KeepsAt kept own trunc_at.Indirect = kept ≡ None
-KeepsAt kept own trunc_at.Updating = kept ≡ None
+abbrev pub above_hand : Itrunc → Option ℕ
+above_hand m = above_by m.upper (root_of m)
+
+-- the block that was kept last, and the one that was kept before it
+abbrev pub last_kept : Image → Itrunc → TruncAt → Option ℕ
+last_kept x m trunc_at.Direct = None
+last_kept x m (trunc_at.Loading b) = above_hand m
+last_kept x m trunc_at.Entry = Some (hand_in x m)
+last_kept x m trunc_at.Unloading = Some (hand_in x m)
+last_kept x m trunc_at.Freeing = above_hand m
+last_kept x m trunc_at.Updating = None
+
+abbrev pub first_kept : Itrunc → TruncAt → Option ℕ
+first_kept m trunc_at.Direct = None
+first_kept m (trunc_at.Loading b) = None
+first_kept m trunc_at.Entry = above_hand m
+first_kept m trunc_at.Unloading = above_hand m
+first_kept m trunc_at.Freeing = None
+first_kept m trunc_at.Updating = None
+
+-- a block that was got
+abbrev pub block_of_got : Option Got → Option ℕ
+block_of_got None = None
+block_of_got (Some g) = Some g.block
+
+-- the blocks of addresses are kept while what they name is freed
+pub record Keeps (x : Image) (kept : Kept) (m : Itrunc) (at : TruncAt) : Type 0 where
+  pub inner : block_of_got kept.inner ≡ last_kept x m at
+  pub outer : block_of_got kept.outer ≡ first_kept m at
 
 -- a task frees a file's blocks
 pub record IsTruncating (cur : Image) (n : ℕ) (t : TaskState) (m : Freeing) : Type 0 where
   pub op : t.op ≡ Some (trunc_op m.machine)
   pub number : IsTrue (is_number n m.machine.number)
   pub bitmap : m.machine.bitmap ≡ bitmap_block n
+  pub form : m.machine.form ≡ form_of cur
+  pub slot : m.machine.slot < 13
   pub given : HasGivenUp cur m.machine m.machine.at
-  pub keeps : KeepsAt m.kept (indirect_of m.machine.inode) m.machine.at
+  pub keeps : Keeps cur m.kept m.machine m.machine.at
 
 -- ---- how much is left
 
@@ -101,15 +154,27 @@ abbrev pub uses_left : Option ℕ → ℕ
 uses_left None = 2
 uses_left (Some i) = 1
 
--- the steps that are left at most: two for each of 12 blocks, one that gets the block of addresses,
--- two for each of 256 blocks, one that releases it, two for itself, and two for the inode
-abbrev pub frees_left : ℕ → Option ℕ → TruncAt → ℕ
-frees_left given_up used (trunc_at.Direct k) = 2 * (11 - k) + uses_left used + 518
-frees_left given_up used trunc_at.Loading = 518
-frees_left given_up used trunc_at.Entry = 2 * (255 - given_up) + uses_left used + 5
-frees_left given_up used trunc_at.Unloading = 5
-frees_left given_up used trunc_at.Indirect = uses_left used + 2
-frees_left given_up used trunc_at.Updating = uses_left used
+-- one for what was made of a block, where it is there
+abbrev pub one_for : Option ℕ → ℕ
+one_for None = 0
+one_for (Some i) = 1
 
-abbrev pub truncs_left : Freeing → ℕ
-truncs_left m = frees_left m.machine.given_up m.used m.machine.at
+-- The steps that were made for blocks that are left still: a block of addresses is got, released,
+-- and freed as a data block is; that of the bitmap is got, and used
+abbrev pub made_so_far : Option ℕ → Option ℕ → TruncAt → ℕ
+made_so_far upper used trunc_at.Direct = one_for used
+made_so_far upper used (trunc_at.Loading b) = one_for upper
+made_so_far upper used trunc_at.Entry = 1 + one_for upper + one_for used
+made_so_far upper used trunc_at.Unloading = 1 + one_for upper
+made_so_far upper used trunc_at.Freeing = 2 + one_for upper + one_for used
+made_so_far upper used trunc_at.Updating = one_for used
+
+-- what counts for the stage: four, less those steps
+abbrev pub stage_left : Option ℕ → Option ℕ → TruncAt → ℕ
+stage_left upper used at = 4 - made_so_far upper used at
+
+-- the steps that are left at most: four for each block that is still to be given up, and those of
+-- the stage
+abbrev pub truncs_left : Image → Freeing → ℕ
+truncs_left x m =
+    4 * blocks_left x (held_of m.machine) + stage_left m.machine.upper m.used m.machine.at

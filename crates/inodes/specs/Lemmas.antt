@@ -12,3 +12,5 @@ pub mod ReadRuns
 pub mod Table
 pub mod Grips
 pub mod Holding
+pub mod Unclaimed
+pub mod StepsLeft

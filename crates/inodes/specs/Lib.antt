@@ -13,6 +13,7 @@ pub mod Looks
 pub mod Places
 pub mod ReadRuns
 pub mod Readi
+pub mod Routes
 pub mod Runs
 pub mod Steps
 pub mod Store

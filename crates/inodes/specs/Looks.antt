@@ -9,13 +9,10 @@ use Rattle.model.specs.declared.types.operations.Op.TheVariants.{Create, Write, 
 use Rattle.model.specs.Files.{Files, bytes_in}
 use Rattle.model.specs.Gathered.{GatheredBytes}
 use Rattle.model.specs.Journal.{is_number}
+use Rattle.model.specs.Layout.{form_of}
 use Rattle.model.specs.Operations.{part_of, transfer_limit}
-use Rattle.model.specs.Places.{address_in}
 use Rattle.loose.specs.Held.{Claims, FitsHeld}
-use Rattle.blockmap.specs.Bmap.{with_slot}
-use Rattle.blockmap.specs.Target.{target_for}
-use Rattle.blockmap.specs.declared.target.Target.{Target}
-use Rattle.blockmap.specs.declared.target.Target.TheVariants as target
+use Rattle.blockmap.specs.Target.{LeadsToBlock}
 use Rattle.inodes.specs.declared.tasks.Place.{Place}
 use Rattle.inodes.specs.declared.tasks.Place.TheVariants as place
 use Rattle.inodes.specs.Grips.{HasNumber, TableIs}
@@ -64,14 +61,10 @@ pub record IsTaking (n : ℕ) (t : TaskState) (m : LockState) : Type 0 where
   pub number : m.number ≡ asked op
   pub room : HasRoom op t.gathered
 
--- the target leads to block k of an inode's file
-abbrev pub LeadsToBlock : Image → Dinode → ℕ → Target → Type 0
-LeadsToBlock cur d k (target.Entry e) = target_for d k ≡ target.Entry (with_slot e None)
-LeadsToBlock cur d k (target.Block b slot) = b ≡ address_in cur d k
-
 -- A reading of that many bytes from an offset on has come to its next place: it has the bytes
 -- before it.
 pub record HasRead (cur : Image) (off count : ℕ) (m : ReadState) (g : GatheredBytes) : Type 0 where
+  pub form : m.form ≡ form_of cur
   pub begun : off ≤ m.next
   pub some : m.next < m.end
   pub end : m.end ≡ min m.inode.size (off + count)

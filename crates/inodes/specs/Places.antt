@@ -1,8 +1,11 @@
 -- What a task's place says of its process.
 use Rattle.std.specs.Prelude.{◌≡◌, ◌⊎◌, ℕ, ◌+◌, ◌-◌, ◌*◌, Bool, true, false, List, map, Option, Some, None}
+use Rattle.blocks.specs.Disk.{Image}
+use Rattle.model.specs.declared.types.image.Form.{Form}
 use Rattle.model.specs.declared.types.operations.Op.{Op}
 use Rattle.model.specs.declared.types.operations.Op.TheVariants.{Create, Write, Read, Trunc, Remove, Stat}
-use Rattle.model.specs.Layout.{inode_block}
+use Rattle.model.specs.Layout.{form_of, inode_block}
+use Rattle.loose.specs.Held.{most_left}
 use Rattle.blockmap.specs.Target.{block_of, slot_in}
 use Rattle.driver.specs.Holds.{IsGot}
 use Rattle.driver.specs.Next.{block_of_next}
@@ -73,7 +76,7 @@ block_at_place (place.Taking m) = inode_block m.number
 block_at_place (place.Reading k m) = block_of m.target
 block_at_place (place.Delivering k) = 0
 block_at_place (place.Truncating k m) = block_of_next (trunc_next m)
-block_at_place (place.Writing k m) = block_of_write m m.at
+block_at_place (place.Writing k m) = block_of_write m.at
 block_at_place (place.Leaving k) = 0
 
 -- what a process has of an inode that it takes
@@ -115,14 +118,18 @@ abbrev pub looks_left : Option ℕ → ℕ
 looks_left None = 2
 looks_left (Some slot) = 1
 
+-- the most that a truncation has behind its turn
+abbrev pub most_behind : Form → ℕ
+most_behind form = 4 * most_left form + 4
+
 -- the steps that a task has left at most, the one included in which it gives its inode up; behind
--- the turn a truncation has the most
-abbrev pub steps_left : Place → ℕ → ℕ
-steps_left place.Nowhere n = 0
-steps_left (place.Creating m) n = 2 * (inode_block (n - 1) - m.block) + looks_left m.slot
-steps_left (place.Taking m) n = locks_left m.at + 543
-steps_left (place.Reading k m) n = reads_left m + 1
-steps_left (place.Delivering k) n = 1
-steps_left (place.Truncating k m) n = truncs_left m + 1
-steps_left (place.Writing k m) n = writes_left m + 1
-steps_left (place.Leaving k) n = 1
+-- the turn a truncation has the most, and those depend on the blocks that it has to give up
+abbrev pub steps_left : Image → Place → ℕ → ℕ
+steps_left x place.Nowhere n = 0
+steps_left x (place.Creating m) n = 2 * (inode_block (n - 1) - m.block) + looks_left m.slot
+steps_left x (place.Taking m) n = locks_left m.at + (most_behind (form_of x) + 1)
+steps_left x (place.Reading k m) n = reads_left m + 1
+steps_left x (place.Delivering k) n = 1
+steps_left x (place.Truncating k m) n = truncs_left x m + 1
+steps_left x (place.Writing k m) n = writes_left m + 1
+steps_left x (place.Leaving k) n = 1

@@ -2,8 +2,10 @@
 use Rattle.std.specs.Prelude.{◌≡◌, ◌≤◌, ℕ, ◌-◌, true, List, [], ◌∷◌, length, Some}
 use Rattle.blocks.specs.declared.disk.Disk.{Ghosts}
 use Rattle.model.specs.declared.types.image.Dinode.{Dinode}
+use Rattle.model.specs.declared.types.image.Form.{Form}
 use Rattle.model.specs.Files.{bytes_in}
 use Rattle.model.specs.Gathered.{GatheredBytes}
+use Rattle.model.specs.Layout.{form_of}
 use Rattle.model.specs.Operations.{part_of}
 use Rattle.wal.specs.Joint.{seen}
 use Rattle.wal.specs.Volume.{VolumeState}
@@ -42,13 +44,13 @@ abbrev pub BegunMayStep : {D N : Type 0} → Ghosts D N → Type 0
 BegunMayStep {D} disk = (v : VolumeState D) (p offset count : ℕ) (d : Dinode) (m : ReadState) →
     MayRead (seen (disk.image v.device) v.buffers) d →
     v.log.size ≡ length (seen (disk.image v.device) v.buffers) →
-    first_read d offset count ≡ Some m →
+    first_read (form_of (seen (disk.image v.device) v.buffers)) d offset count ≡ Some m →
     IsReading disk.image v p m × (m.end - m.next ≤ count)
 
 -- THE BYTES OF A READING: those of the file from the offset on, as many as were asked for or as
 -- there are, where the file stays the same between its steps
 abbrev pub ReadsPart : {D N : Type 0} → Ghosts D N → Type 0
-ReadsPart {D} disk = (d : Dinode) (offset count p : ℕ) (file bytes : List ℕ) (m : ReadState)
-    (g : GatheredBytes) (steps : List (ReadMade D)) →
-    first_read d offset count ≡ Some m → g.bytes ≡ [] → IsReadRun disk p file m g steps →
+ReadsPart {D} disk = (form : Form) (d : Dinode) (offset count p : ℕ) (file bytes : List ℕ)
+    (m : ReadState) (g : GatheredBytes) (steps : List (ReadMade D)) →
+    first_read form d offset count ≡ Some m → g.bytes ≡ [] → IsReadRun disk p file m g steps →
     EndsWithBytes steps bytes → bytes ≡ part_of file offset count

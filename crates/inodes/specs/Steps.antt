@@ -50,6 +50,7 @@ pub record LeavesTasks {D : Type 0} (old : StoreState D) (p : ℕ) (new : StoreS
   pub others : (q : ℕ) → q ≢ p → task new.tasks q ≡ task old.tasks q
   pub many : length new.tasks ≡ length old.tasks
   pub numbers : new.table.inode_count ≡ old.table.inode_count
+  pub form : new.table.form ≡ old.table.form
 
 -- who has to wait changed nothing, and where it waits for a buffer or an inode, another has it
 pub record Waits {D : Type 0} (old : StoreState D) (p : ℕ) (r : TaskProgress) (new : StoreState D)
@@ -122,8 +123,8 @@ pub record Steps {D N : Type 0} (disk : Ghosts D N) (old : StoreState D) (p : �
   pub apart : LeavesLate old p op r
   pub shares : LeavesShares disk.image old p new
   pub falls : is_made r ≡ true → is_over (task old.tasks p).place ≡ false
-      → steps_left (task new.tasks p).place old.table.inode_count
-      < steps_left (task old.tasks p).place old.table.inode_count
+      → steps_left (current_of disk.image new.volume) (task new.tasks p).place old.table.inode_count
+      < steps_left (current_of disk.image old.volume) (task old.tasks p).place old.table.inode_count
 
 -- THE PROMISE OF A COMMIT'S WRITE.
 pub record Commits {D N : Type 0} (disk : Ghosts D N) (old : StoreState D) (r : Committed)

@@ -7,7 +7,7 @@ use Rattle.model.specs.declared.types.operations.Op.TheVariants.{Create, Write, 
 use Rattle.model.specs.declared.types.operations.Reply.{Reply}
 use Rattle.model.specs.declared.types.operations.Reply.TheVariants.{Made, NoInode}
 use Rattle.model.specs.Files.{Files}
-use Rattle.model.specs.Layout.{inode_block, inode_count_of, indirect_of}
+use Rattle.model.specs.Layout.{form_of, inode_block, inode_count_of}
 use Rattle.model.specs.Journal.{is_number}
 use Rattle.model.specs.Operations.{is_kind, transfer_limit}
 use Rattle.model.specs.Soundness.{IsLawfulGeometry}
@@ -32,7 +32,7 @@ use Rattle.inodes.specs.Places.{asked, HasSlot}
 use Rattle.inodes.specs.Table.{TableState}
 use Rattle.inodes.specs.Tasks.{TaskState, task}
 use Rattle.inodes.specs.Writei.{WriteState}
-use Rattle.inodes.specs.Writing.{HasLoggedWrite, block_of_write, kept_by_write, used_by_write}
+use Rattle.inodes.specs.Writing.{HasOpen, HasLoggedWrite, block_of_write, kept_by_write, node_of_write, used_by_write}
 
 pub record StoreState (D : Type 0) : Type 0 where
   pub volume : VolumeState D
@@ -170,9 +170,9 @@ pub record HoldsForFreeing (c : Buffers) (l : LogState) (p : ℕ) (m : Freeing) 
 
 -- and so does one that writes a file's bytes
 pub record HoldsForWriting (c : Buffers) (l : LogState) (p : ℕ) (m : WriteState) : Type 0 where
-  pub logged : HasLoggedWrite l p m
-  pub kept : HoldsAt c p (indirect_of m.inode) (kept_by_write m.at)
-  pub used : HoldsAt c p (block_of_write m m.at) (used_by_write m.at)
+  pub logged : HasOpen l p
+  pub kept : HoldsAt c p (node_of_write m.at) (kept_by_write m.at)
+  pub used : HoldsAt c p (block_of_write m.at) (used_by_write m.at)
 
 -- what is true of a process, by where its task stands
 abbrev pub Stands : Buffers → LogState → ℕ → ℕ → Option Op → Place → Type 0
@@ -186,6 +186,20 @@ Stands c l n p o (place.Truncating k m) = HoldsForFreeing c l p m
 Stands c l n p o (place.Writing k m) = HoldsForWriting c l p m
 Stands c l n p o (place.Leaving k) = Unit {0}
 
+-- what a process's task has logged, by where it stands
+abbrev pub LoggedAt : Image → LogState → ℕ → Place → Type 0
+LoggedAt cur l p place.Nowhere = Unit {0}
+LoggedAt cur l p (place.Creating m) = Unit {0}
+LoggedAt cur l p (place.Taking m) = Unit {0}
+LoggedAt cur l p (place.Reading k m) = Unit {0}
+LoggedAt cur l p (place.Delivering k) = Unit {0}
+LoggedAt cur l p (place.Truncating k m) = Unit {0}
+LoggedAt cur l p (place.Writing k m) = HasLoggedWrite cur l p m
+LoggedAt cur l p (place.Leaving k) = Unit {0}
+
+abbrev pub HaveLogged : Image → LogState → List TaskState → Type 0
+HaveLogged cur l ts = (p : ℕ) → LoggedAt cur l p (task ts p).place
+
 -- the tasks agree with buffers and log, while the disk has not failed
 pub record Agrees (c : Buffers) (l : LogState) (n : ℕ) (ts : List TaskState) : Type 0 where
   pub stands : (p : ℕ) → Stands c l n p (task ts p).op (task ts p).place
@@ -197,6 +211,9 @@ pub record IsStore {D : Type 0} (image : D → Image) (s : StoreState D) : Type 
   pub few : length s.tasks ≤ 32
   pub geometry : IsLawfulGeometry (current_of image s.volume)
   pub numbers : s.table.inode_count ≡ inode_count_of (current_of image s.volume)
+  pub form : s.table.form ≡ form_of (current_of image s.volume)
   pub agrees : IfNone s.volume.fault
       (Agrees s.volume.buffers s.volume.log s.table.inode_count s.tasks)
   pub looks : IfNone s.volume.fault (AreLooking (current_of image s.volume) s.table s.tasks)
+  pub logged : IfNone s.volume.fault
+      (HaveLogged (current_of image s.volume) s.volume.log s.tasks)

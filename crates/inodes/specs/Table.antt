@@ -1,6 +1,7 @@
 -- The inodes in memory, as contracts see them.
 use Rattle.std.specs.Prelude.{◌≡◌, ◌≢◌, ◌<◌, ℕ, ◌+◌, ◌-◌, ◌^◌, ◌==◌, nat_lt, if◌then◌else◌, Bool, false, is_none, List, replicate, slice_index_or, slice_set, Option, Some, None, IsSome, length, position}
 use Rattle.model.specs.declared.types.image.Dinode.{Dinode}
+use Rattle.model.specs.declared.types.image.Form.{Form}
 use Rattle.model.specs.Soundness.{count_of}
 use Rattle.inodes.specs.declared.table.InMemory.{InMemory}
 
@@ -9,9 +10,11 @@ pub record TableState : Type 0 where
   pub places : List (Option InMemory)
   -- the image's inode numbers, the unused number 0 included
   pub inode_count : ℕ
+  -- and its form
+  pub form : Form
 
-abbrev pub new_table : ℕ → TableState
-new_table n = record { places = replicate 50 None; inode_count = n }
+abbrev pub new_table : Form → ℕ → TableState
+new_table form n = record { places = replicate 50 None; inode_count = n; form = form }
 
 abbrev pub entry_at : List (Option InMemory) → ℕ → Option InMemory
 entry_at ps k = slice_index_or ps k None

@@ -1,7 +1,7 @@
 -- Where an operation goes that has taken its inode.
 use Rattle.std.specs.Prelude.{◌≡◌, ◌≤◌, ℕ, ◌+◌, nat_lt, if◌then◌else◌, length, Option, Some, None, IfSome, Bool, true, false}
 use Rattle.model.specs.Layout.{greatest_size}
-use Rattle.model.specs.declared.types.image.Form.TheVariants.{One}
+use Rattle.model.specs.declared.types.image.Form.{Form}
 use Rattle.model.specs.declared.types.image.Dinode.{Dinode}
 use Rattle.model.specs.declared.types.operations.Op.{Op}
 use Rattle.model.specs.declared.types.operations.Op.TheVariants.{Create, Write, Read, Trunc, Remove, Stat}
@@ -15,31 +15,33 @@ use Rattle.inodes.specs.Itrunc.{first_trunc}
 use Rattle.inodes.specs.Readi.{ReadState, first_read}
 use Rattle.inodes.specs.Writei.{WriteState, first_write}
 
--- an inode whose file may be read, if there is one
-abbrev pub IsReadable : Option Dinode → Type 0
-IsReadable inode = IfSome inode (λ d. (length d.addrs ≡ 13) × (d.size ≤ greatest_size One))
+-- an inode whose file may be read in an image of that form, if there is one
+abbrev pub IsReadable : Form → Option Dinode → Type 0
+IsReadable form inode =
+    IfSome inode (λ d. (length d.addrs ≡ 13) × (d.size ≤ greatest_size form))
 
--- the refusal of a write of n bytes that begins behind the file's end, or that no file has room for
-abbrev pub write_refusal : Dinode → ℕ → ℕ → Option Reply
-write_refusal d off n =
+-- the refusal of a write of n bytes that begins behind the file's end, or that no file of that form
+-- has room for
+abbrev pub write_refusal : Form → Dinode → ℕ → ℕ → Option Reply
+write_refusal form d off n =
     if nat_lt d.size off then Some BadOffset
-    else if nat_lt (greatest_size One) (off + n) then Some TooBig
+    else if nat_lt (greatest_size form) (off + n) then Some TooBig
     else None
 
--- the reply of an operation that has taken a used inode; a reading's comes later, and that of a
--- write that is not refused
-abbrev pub reply_of_look : Dinode → Op → Option Reply
-reply_of_look d (Create kind) = None
-reply_of_look d (Write i off bytes) = write_refusal d off (length bytes)
-reply_of_look d (Read i off n) = None
-reply_of_look d (Trunc i) = Some Done
-reply_of_look d (Remove i) = Some Done
-reply_of_look d (Stat i) = Some (StatOf d.kind d.size)
+-- the reply of an operation that has taken a used inode of an image of that form; a reading's comes
+-- later, and that of a write that is not refused
+abbrev pub reply_of_look : Form → Dinode → Op → Option Reply
+reply_of_look form d (Create kind) = None
+reply_of_look form d (Write i off bytes) = write_refusal form d off (length bytes)
+reply_of_look form d (Read i off n) = None
+reply_of_look form d (Trunc i) = Some Done
+reply_of_look form d (Remove i) = Some Done
+reply_of_look form d (Stat i) = Some (StatOf d.kind d.size)
 
 -- and of one that has taken its inode, which is none where it is free
-abbrev pub reply_when_taken : Option Dinode → Op → Option Reply
-reply_when_taken None op = Some NoFile
-reply_when_taken (Some d) op = reply_of_look d op
+abbrev pub reply_when_taken : Form → Option Dinode → Op → Option Reply
+reply_when_taken form None op = Some NoFile
+reply_when_taken form (Some d) op = reply_of_look form d op
 
 -- a reading begins with its bytes, or has all of them
 abbrev pub place_of_read : ℕ → Option ReadState → Place
@@ -52,18 +54,19 @@ place_by_refusal k m None = place.Writing k m
 place_by_refusal k m (Some reply) = place.Leaving k
 
 abbrev pub place_of_write : ℕ → ℕ → Dinode → ℕ → ℕ → Extent → Place
-place_of_write k i d off n e = place_by_refusal k (first_write i d off n e) (write_refusal d off n)
+place_of_write k i d off n e =
+    place_by_refusal k (first_write i d off n e) (write_refusal e.form d off n)
 
 -- it is answered, or reads, or frees the blocks of its file, or writes into it, over an image that
 -- takes its blocks there
 abbrev pub place_of_look : Extent → Dinode → ℕ → Op → Place
 place_of_look e d k (Create kind) = place.Leaving k
 place_of_look e d k (Write i off bytes) = place_of_write k i d off (length bytes) e
-place_of_look e d k (Read i off count) = place_of_read k (first_read d off count)
+place_of_look e d k (Read i off count) = place_of_read k (first_read e.form d off count)
 place_of_look e d k (Trunc i) =
-    place.Truncating k (first_driven (first_trunc i d false e.bitmap))
+    place.Truncating k (first_driven (first_trunc i d e.form false e.bitmap))
 place_of_look e d k (Remove i) =
-    place.Truncating k (first_driven (first_trunc i d true e.bitmap))
+    place.Truncating k (first_driven (first_trunc i d e.form true e.bitmap))
 place_of_look e d k (Stat i) = place.Leaving k
 
 -- where it goes, with the inode at that place of the table

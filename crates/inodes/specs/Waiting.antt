@@ -1,13 +1,12 @@
 -- Why a task's next step has to wait, and that of the tasks under way one need not.
 use Rattle.std.specs.Prelude.{◌≡◌, ℕ, false, Option, Some, None}
 use Rattle.blocks.specs.declared.disk.Disk.{Ghosts}
-use Rattle.model.specs.declared.types.image.Dinode.{Dinode}
 use Rattle.model.specs.declared.types.operations.Op.{Op}
 use Rattle.model.specs.declared.types.operations.TaskProgress.{TaskProgress}
 use Rattle.model.specs.declared.types.operations.TaskProgress.TheVariants as progress
 use Rattle.model.specs.declared.types.operations.Why.{Why}
 use Rattle.model.specs.declared.types.operations.Why.TheVariants as why
-use Rattle.model.specs.Layout.{inode_block, indirect_of}
+use Rattle.model.specs.Layout.{inode_block}
 use Rattle.bcache.specs.Buffers.{Buffers}
 use Rattle.wal.specs.Volume.{cause_to_get}
 use Rattle.blockmap.specs.Balloc.{AllocState}
@@ -27,7 +26,6 @@ use Rattle.inodes.specs.Steps.{Steps}
 use Rattle.inodes.specs.Store.{StoreState}
 use Rattle.inodes.specs.Table.{TableState, holder_at}
 use Rattle.inodes.specs.Tasks.{task}
-use Rattle.inodes.specs.Writei.{WriteState}
 use Rattle.inodes.specs.Writing.{slot_of_alloc, block_of_alloc}
 
 -- ---- the block that a task gets next; none where its next step gets none
@@ -40,17 +38,16 @@ unless_got (Some i) b = None
 abbrev pub wanted_by_alloc : AllocState → Option ℕ
 wanted_by_alloc t = unless_got (slot_of_alloc t.at) (block_of_alloc t t.at)
 
-abbrev pub wanted_on_way : Dinode → MapAt → Option ℕ
-wanted_on_way d (map_at.Direct t) = wanted_by_alloc t
-wanted_on_way d (map_at.Indirect t) = wanted_by_alloc t
-wanted_on_way d (map_at.Entry slot) = unless_got slot (indirect_of d)
-wanted_on_way d (map_at.Behind i t) = wanted_by_alloc t
-wanted_on_way d (map_at.Setting i found) = None
+abbrev pub wanted_on_way : MapAt → Option ℕ
+wanted_on_way (map_at.Address t) = wanted_by_alloc t
+wanted_on_way (map_at.Entry n slot) = unless_got slot n.block
+wanted_on_way (map_at.Behind n i t) = wanted_by_alloc t
+wanted_on_way (map_at.Setting n i found) = None
 
-abbrev pub wanted_by_write : WriteState → WriteAt → Option ℕ
-wanted_by_write m (write_at.Mapping way) = wanted_on_way m.inode way.at
-wanted_by_write m (write_at.Block b slot) = unless_got slot b
-wanted_by_write m (write_at.Updating u) = unless_got u.slot (inode_block u.number)
+abbrev pub wanted_by_write : WriteAt → Option ℕ
+wanted_by_write (write_at.Mapping way) = wanted_on_way way.at
+wanted_by_write (write_at.Block b slot) = unless_got slot b
+wanted_by_write (write_at.Updating u) = unless_got u.slot (inode_block u.number)
 
 -- ---- why a step has to wait; none where it goes on
 
@@ -72,7 +69,7 @@ cause_at c t (place.Reading k m) =
     cause_to_get c (unless_got (slot_in m.target) (block_of m.target))
 cause_at c t (place.Delivering k) = None
 cause_at c t (place.Truncating k m) = cause_to_get c (wanted_by (trunc_next m) m.used)
-cause_at c t (place.Writing k m) = cause_to_get c (wanted_by_write m m.at)
+cause_at c t (place.Writing k m) = cause_to_get c (wanted_by_write m.at)
 cause_at c t (place.Leaving k) = None
 
 -- why the next step of process p's task has to wait

@@ -1,5 +1,5 @@
 -- Runs of a write: its steps from its turn on, between which the other processes go on.
-use Rattle.std.specs.Prelude.{◌≡◌, ◌<◌, ℕ, true, List, Some}
+use Rattle.std.specs.Prelude.{◌≡◌, ◌<◌, ◌≤◌, ◌+◌, ℕ, true, List, Some}
 use Rattle.std.specs.List.{Any}
 use Rattle.blocks.specs.Disk.{Image, block_at}
 use Rattle.blocks.specs.declared.disk.Disk.{Ghosts}
@@ -8,6 +8,7 @@ use Rattle.model.specs.declared.types.operations.Op.{Op}
 use Rattle.model.specs.declared.types.operations.Reply.TheVariants.{Wrote}
 use Rattle.model.specs.declared.types.operations.TaskProgress.TheVariants as progress
 use Rattle.model.specs.Fields.{has_bit}
+use Rattle.wal.specs.Machine.{LogState, used_by}
 use Rattle.blockmap.specs.Balloc.{AllocState}
 use Rattle.blockmap.specs.declared.balloc.AllocAt.TheVariants as alloc_at
 use Rattle.blockmap.specs.declared.bmap_alloc.MapAt.{MapAt}
@@ -19,8 +20,9 @@ use Rattle.inodes.specs.declared.writei.WriteAt.TheVariants as write_at
 use Rattle.inodes.specs.Growing.{TakesIn}
 use Rattle.inodes.specs.Runs.{StepMade, IsRun, EndsWith}
 use Rattle.inodes.specs.Store.{StoreState, current_of}
-use Rattle.inodes.specs.Tasks.{task}
+use Rattle.inodes.specs.Tasks.{TaskState, task}
 use Rattle.inodes.specs.Writei.{WriteState, first_write}
+use Rattle.inodes.specs.Writing.{IsWriting, HasLoggedWrite, most_beside}
 
 -- THE RUN OF A WRITE: its steps behind its turn, from where the writing stands so, to the one that
 -- answers that so many bytes were written
@@ -38,11 +40,10 @@ pub record LooksIn (e : Extent) (t : AllocState) : Type 0 where
 
 -- so does a way to a block that takes one
 abbrev pub LooksOnWay : Extent → MapAt → Type 0
-LooksOnWay e (map_at.Direct t) = LooksIn e t
-LooksOnWay e (map_at.Indirect t) = LooksIn e t
-LooksOnWay e (map_at.Entry slot) = ⊥
-LooksOnWay e (map_at.Behind i t) = LooksIn e t
-LooksOnWay e (map_at.Setting i found) = ⊥
+LooksOnWay e (map_at.Address t) = LooksIn e t
+LooksOnWay e (map_at.Entry n slot) = ⊥
+LooksOnWay e (map_at.Behind n i t) = LooksIn e t
+LooksOnWay e (map_at.Setting n i found) = ⊥
 
 -- and a writing on such a way
 abbrev pub LooksAtBitmap : Extent → WriteAt → Type 0
@@ -71,3 +72,11 @@ ShortSawFull {D} disk = (s : StoreState D) (p k i off count done : ℕ) (d : Din
     (op : Op) (steps : List (StepMade D)) →
     IsWriteRun disk p k op (first_write i d off count e) s steps done → done < count →
     Any (SeesFull disk.image p e) steps
+
+-- A WRITE LOGS FEW BLOCKS: one that has begun logged at most four blocks of its file, and beside them
+-- the bitmap's block and those blocks of addresses that its image's form lets it come to. Its inode's
+-- block comes last.
+abbrev pub LogsFew : Type 0
+LogsFew = (cur : Image) (n : ℕ) (t : TaskState) (m : WriteState) (l : LogState) (p homes : ℕ) →
+    IsWriting cur n t m → HasLoggedWrite cur l p m → used_by l p ≡ Some homes →
+    homes ≤ 4 + most_beside m.extent.form

@@ -5,7 +5,6 @@ use Rattle.blocks.specs.Disk.{Image, block_at}
 use Rattle.blocks.specs.declared.disk.Disk.{Ghosts}
 use Rattle.model.specs.Layout.{greatest_size}
 use Rattle.model.specs.Format.{inode_start}
-use Rattle.model.specs.declared.types.image.Form.TheVariants.{One}
 use Rattle.model.specs.declared.types.image.Dinode.{Dinode}
 use Rattle.model.specs.Operations.{part_of}
 use Rattle.wal.specs.Joint.{seen}
@@ -45,7 +44,8 @@ place_of_mapped (for_writing.Behind way) = write_at.Mapping way
 abbrev pub next_place : ℕ → Dinode → ℕ → ℕ → Extent → WriteAt
 next_place number d next left extent =
     if left == 0 then write_at.Updating (first_update number)
-    else place_of_mapped (mapped_for_writing d (next / block_size) extent.bitmap extent.size)
+    else place_of_mapped
+    (mapped_for_writing extent.form d (next / block_size) extent.bitmap extent.size)
 
 -- the writing that begins
 abbrev pub first_write : ℕ → Dinode → ℕ → ℕ → Extent → WriteState
@@ -85,7 +85,7 @@ pub record MayWrite {D : Type 0} (image : D → Image) (v : VolumeState D) (p : 
     : Type 0 where
   pub addrs : length m.inode.addrs ≡ 13
   pub done : m.done ≤ m.count
-  pub fits : m.offset + m.count ≤ greatest_size One
+  pub fits : m.offset + m.count ≤ greatest_size m.extent.form
   pub at : MayWriteAt image v p m m.at
 
 -- the block to which the way came, or none
@@ -115,7 +115,7 @@ pub record MapsOn {D N : Type 0} (disk : Ghosts D N) (v : VolumeState D) (p : �
   pub now : MapState
   pub inode : Dinode
   pub steps : MapSteps disk way.at v p way m.inode answer now inode w
-  pub there : LeadsThere disk.image answer way.k inode w
+  pub there : LeadsThere disk.image answer way.branch way.at inode w
   pub gives : r ≡ progress_mapped answer
   pub next : n ≡ write_mapped m now inode answer
 

@@ -1,31 +1,34 @@
 -- The tasks that write a file's bytes, behind their turn: how far each has come, what it has got
 -- and logged, and how much is left.
-use Rattle.std.specs.Prelude.{◌≡◌, ◌≤◌, ℕ, ◌+◌, ◌-◌, ◌*◌, ◌/◌, ◌==◌, if◌then◌else◌, IsTrue, List, length, Option, Some, None}
+use Rattle.std.specs.Prelude.{◌≡◌, ◌≤◌, ℕ, ◌+◌, ◌-◌, ◌*◌, ◌/◌, ◌==◌, if◌then◌else◌, IsTrue, List, [], ◌∷◌, ◌++◌, length, Option, Some, None}
 use Rattle.blocks.specs.Disk.{Image}
 use Rattle.blocks.specs.Block.{block_size}
-use Rattle.model.specs.declared.types.image.Form.TheVariants.{One}
-use Rattle.model.specs.declared.types.image.Dinode.{Dinode}
+use Rattle.model.specs.declared.types.image.Form.{Form}
+use Rattle.model.specs.declared.types.image.Form.TheVariants.{One, Two}
 use Rattle.model.specs.declared.types.operations.Op.TheVariants.{Write}
 use Rattle.model.specs.Journal.{is_number}
-use Rattle.model.specs.Layout.{inode_block, greatest_size, indirect_of, bitmap_block}
+use Rattle.model.specs.Layout.{form_of, inode_block, greatest_size, bitmap_block}
 use Rattle.model.specs.Operations.{transfer_limit}
 use Rattle.wal.specs.Machine.{LogState, is_among, used_by}
 use Rattle.blockmap.specs.Balloc.{AllocState}
+use Rattle.blockmap.specs.Branch.{branch_of}
 use Rattle.blockmap.specs.declared.balloc.AllocAt.{AllocAt}
 use Rattle.blockmap.specs.declared.balloc.AllocAt.TheVariants as alloc_at
 use Rattle.blockmap.specs.declared.bmap_alloc.MapAt.{MapAt}
 use Rattle.blockmap.specs.declared.bmap_alloc.MapAt.TheVariants as map_at
+use Rattle.blockmap.specs.declared.branch.Branch.{Branch}
 use Rattle.inodes.specs.declared.writei.Extent.{Extent}
 use Rattle.inodes.specs.declared.writei.WriteAt.{WriteAt}
 use Rattle.inodes.specs.declared.writei.WriteAt.TheVariants as write_at
 use Rattle.inodes.specs.Growing.{HasComeTo}
 use Rattle.inodes.specs.Holding.{uses_left}
+use Rattle.inodes.specs.Routes.{Route, nodes_by, routes_beyond, routes_to}
 use Rattle.inodes.specs.Tasks.{TaskState}
 use Rattle.inodes.specs.Writei.{WriteState, piece}
 
--- where blocks are taken in an image of n inode numbers and so many blocks
-abbrev pub extent_of : ℕ → ℕ → Extent
-extent_of n size = record { bitmap = bitmap_block n; size = size }
+-- where blocks are taken in an image of that form, of n inode numbers and so many blocks
+abbrev pub extent_of : Form → ℕ → ℕ → Extent
+extent_of form n size = record { form = form; bitmap = bitmap_block n; size = size }
 
 -- a task writes a file's bytes
 pub record IsWriting (cur : Image) (n : ℕ) (t : TaskState) (m : WriteState) : Type 0 where
@@ -35,8 +38,8 @@ pub record IsWriting (cur : Image) (n : ℕ) (t : TaskState) (m : WriteState) : 
   pub few : length bytes ≤ transfer_limit
   pub all : length bytes ≡ m.count
   pub done : m.done ≤ m.count
-  pub fits : m.offset + m.count ≤ greatest_size One
-  pub extent : m.extent ≡ extent_of n (length cur)
+  pub fits : m.offset + m.count ≤ greatest_size m.extent.form
+  pub extent : m.extent ≡ extent_of (form_of cur) n (length cur)
   pub come : HasComeTo cur m m.at
 
 -- ---- what it has got
@@ -50,13 +53,25 @@ abbrev pub block_of_alloc : AllocState → AllocAt → ℕ
 block_of_alloc t (alloc_at.Looking slot) = t.bitmap
 block_of_alloc t (alloc_at.Zeroing b slot) = b
 
--- the slot of the block of addresses, which is kept while a block is taken for an entry of it
+-- the block of addresses at hand, which is kept while a block is taken for an entry of it; 0 for
+-- none
+abbrev pub node_on_way : MapAt → ℕ
+node_on_way (map_at.Address t) = 0
+node_on_way (map_at.Entry n slot) = n.block
+node_on_way (map_at.Behind n i t) = n.block
+node_on_way (map_at.Setting n i found) = n.block
+
+abbrev pub node_of_write : WriteAt → ℕ
+node_of_write (write_at.Mapping way) = node_on_way way.at
+node_of_write (write_at.Block b slot) = 0
+node_of_write (write_at.Updating u) = 0
+
+-- the slot that keeps it
 abbrev pub kept_on_way : MapAt → Option ℕ
-kept_on_way (map_at.Direct t) = None
-kept_on_way (map_at.Indirect t) = None
-kept_on_way (map_at.Entry slot) = slot
-kept_on_way (map_at.Behind i t) = Some i
-kept_on_way (map_at.Setting i found) = Some i
+kept_on_way (map_at.Address t) = None
+kept_on_way (map_at.Entry n slot) = slot
+kept_on_way (map_at.Behind n i t) = Some i
+kept_on_way (map_at.Setting n i found) = Some i
 
 abbrev pub kept_by_write : WriteAt → Option ℕ
 kept_by_write (write_at.Mapping way) = kept_on_way way.at
@@ -65,11 +80,10 @@ kept_by_write (write_at.Updating u) = None
 
 -- the slot that is used next
 abbrev pub used_on_way : MapAt → Option ℕ
-used_on_way (map_at.Direct t) = slot_of_alloc t.at
-used_on_way (map_at.Indirect t) = slot_of_alloc t.at
-used_on_way (map_at.Entry slot) = None
-used_on_way (map_at.Behind i t) = slot_of_alloc t.at
-used_on_way (map_at.Setting i found) = None
+used_on_way (map_at.Address t) = slot_of_alloc t.at
+used_on_way (map_at.Entry n slot) = None
+used_on_way (map_at.Behind n i t) = slot_of_alloc t.at
+used_on_way (map_at.Setting n i found) = None
 
 abbrev pub used_by_write : WriteAt → Option ℕ
 used_by_write (write_at.Mapping way) = used_on_way way.at
@@ -77,17 +91,16 @@ used_by_write (write_at.Block b slot) = slot
 used_by_write (write_at.Updating u) = u.slot
 
 -- the block that is got or used next
-abbrev pub block_on_way : Dinode → MapAt → ℕ
-block_on_way d (map_at.Direct t) = block_of_alloc t t.at
-block_on_way d (map_at.Indirect t) = block_of_alloc t t.at
-block_on_way d (map_at.Entry slot) = indirect_of d
-block_on_way d (map_at.Behind i t) = block_of_alloc t t.at
-block_on_way d (map_at.Setting i found) = indirect_of d
+abbrev pub block_on_way : MapAt → ℕ
+block_on_way (map_at.Address t) = block_of_alloc t t.at
+block_on_way (map_at.Entry n slot) = n.block
+block_on_way (map_at.Behind n i t) = block_of_alloc t t.at
+block_on_way (map_at.Setting n i found) = n.block
 
-abbrev pub block_of_write : WriteState → WriteAt → ℕ
-block_of_write m (write_at.Mapping way) = block_on_way m.inode way.at
-block_of_write m (write_at.Block b slot) = b
-block_of_write m (write_at.Updating u) = inode_block u.number
+abbrev pub block_of_write : WriteAt → ℕ
+block_of_write (write_at.Mapping way) = block_on_way way.at
+block_of_write (write_at.Block b slot) = b
+block_of_write (write_at.Updating u) = inode_block u.number
 
 -- ---- how much is left
 
@@ -100,19 +113,25 @@ abbrev pub alloc_left : AllocAt → ℕ
 alloc_left (alloc_at.Looking slot) = uses_left slot + 2
 alloc_left (alloc_at.Zeroing b slot) = uses_left slot
 
--- the steps to a block of the file
-abbrev pub way_left : MapAt → ℕ
-way_left (map_at.Direct t) = alloc_left t.at
-way_left (map_at.Indirect t) = alloc_left t.at + 7
-way_left (map_at.Entry slot) = uses_left slot + 5
-way_left (map_at.Behind i t) = alloc_left t.at + 1
-way_left (map_at.Setting i found) = 1
+-- the steps to a block of the file: seven for each block of addresses on the way to it
+abbrev pub way_left : Branch → MapAt → ℕ
+way_left b (map_at.Address t) = alloc_left t.at + 7 * b.depth
+way_left b (map_at.Entry n slot) = uses_left slot + 7 * n.level + 5
+way_left b (map_at.Behind n i t) = alloc_left t.at + 7 * n.level + 1
+way_left b (map_at.Setting n i found) = 7 * n.level + 1
 
--- the steps that are left at most: those to the block at hand and the two at it, thirteen for each
--- one behind it, and two for the inode
+-- the steps for so many blocks of the file
+abbrev pub writes_for : Form → ℕ → ℕ
+writes_for One n = 13 * n
+writes_for Two n = 20 * n
+
+-- the steps that are left at most: those to the block at hand and the two at it, those for each one
+-- behind it, and two for the inode
 abbrev pub writes_left_at : WriteState → WriteAt → ℕ
-writes_left_at m (write_at.Mapping way) = way_left way.at + 13 * blocks_behind m + 4
-writes_left_at m (write_at.Block b slot) = uses_left slot + 13 * blocks_behind m + 2
+writes_left_at m (write_at.Mapping way) =
+    way_left way.branch way.at + writes_for m.extent.form (blocks_behind m) + 4
+writes_left_at m (write_at.Block b slot) =
+    uses_left slot + writes_for m.extent.form (blocks_behind m) + 2
 writes_left_at m (write_at.Updating u) = uses_left u.slot
 
 abbrev pub writes_left : WriteState → ℕ
@@ -124,14 +143,42 @@ writes_left m = writes_left_at m m.at
 abbrev pub counted : LogState → ℕ → ℕ
 counted l b = if b == 0 then 0 else if is_among b l.homes then 1 else 0
 
--- the data block at hand, 0 for none
+-- how many of them are
+abbrev pub counted_of : LogState → List ℕ → ℕ
+counted_of l [] = 0
+counted_of l (b ∷ bs) = counted l b + counted_of l bs
+
+-- where the first of the file's blocks stands that are to be written, and where the last one does
+abbrev pub first_branch : WriteState → Branch
+first_branch m = branch_of m.extent.form (m.offset / block_size)
+
+abbrev pub last_branch : WriteState → Branch
+last_branch m = branch_of m.extent.form ((m.offset + m.count - 1) / block_size)
+
+-- the routes to the blocks of addresses on the ways to the first block and to the last one, on which
+-- those to all others lie; what both ways share counts once
+abbrev pub routes_of : WriteState → List Route
+routes_of m =
+    if m.count == 0 then []
+    else routes_to (first_branch m) ++ routes_beyond (first_branch m) (last_branch m)
+
+-- what the writing may log beside the file's blocks: the bitmap's block and these blocks of addresses
+abbrev pub homes_beside : Image → WriteState → List ℕ
+homes_beside cur m = m.extent.bitmap ∷ nodes_by cur m.inode (routes_of m)
+
+-- so many at most
+abbrev pub most_beside : Form → ℕ
+most_beside One = 2
+most_beside Two = 4
+
+-- the block that was taken and that no block of addresses names yet, or the data block at hand; 0
+-- for none
 abbrev pub hand_on_way : MapAt → ℕ
-hand_on_way (map_at.Direct t) = 0
-hand_on_way (map_at.Indirect t) = 0
-hand_on_way (map_at.Entry slot) = 0
-hand_on_way (map_at.Behind i t) = 0
-hand_on_way (map_at.Setting i None) = 0
-hand_on_way (map_at.Setting i (Some b)) = b
+hand_on_way (map_at.Address t) = 0
+hand_on_way (map_at.Entry n slot) = 0
+hand_on_way (map_at.Behind n i t) = 0
+hand_on_way (map_at.Setting n i None) = 0
+hand_on_way (map_at.Setting n i (Some b)) = b
 
 abbrev pub at_hand : WriteAt → ℕ
 at_hand (write_at.Mapping way) = hand_on_way way.at
@@ -144,10 +191,14 @@ blocks_left m (write_at.Mapping way) = blocks_behind m + 1
 blocks_left m (write_at.Block b slot) = blocks_behind m + 1
 blocks_left m (write_at.Updating u) = 0
 
--- It added a home for each block of the file that it wrote, four at most, and for the bitmap's
--- block, the block of addresses and the block at hand, where these are homes.
-pub record HasLoggedWrite (l : LogState) (p : ℕ) (m : WriteState) : Type 0 where
+-- its operation is open in the log
+pub record HasOpen (l : LogState) (p : ℕ) : Type 0 where
   pub homes : ℕ
   pub used : used_by l p ≡ Some homes
-  pub few : homes + blocks_left m m.at
-      ≤ 4 + counted l m.extent.bitmap + counted l (indirect_of m.inode) + counted l (at_hand m.at)
+
+-- It added a home for each block of the file that it wrote, four at most, and for the block at hand
+-- and those beside, where these are homes.
+abbrev pub HasLoggedWrite : Image → LogState → ℕ → WriteState → Type 0
+HasLoggedWrite cur l p m = (homes : ℕ) → used_by l p ≡ Some homes →
+    homes + blocks_left m m.at
+    ≤ 4 + counted_of l (homes_beside cur m) + counted l (at_hand m.at)

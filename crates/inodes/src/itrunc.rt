@@ -1,45 +1,51 @@
 // The blocks of a file are freed.
-ghost use Rattle.std.specs.Prelude.{◌≡◌, ◌≤◌, length};
-ghost use Rattle.model.specs.Layout.{direct_count};
+ghost use Rattle.std.specs.Prelude.{◌≡◌, ◌<◌, ◌≤◌, length};
 ghost use Rattle.model.specs.Format.{addresses_per_block};
-ghost use Rattle.model.specs.declared.types.image.Form.TheVariants.{One};
 ghost use Rattle.model.specs.Fields.{words_of};
-ghost use Rattle.inodes.specs.Itrunc.{first_trunc, inode_left, last_inode_of, at_entries, next_direct, present_from};
+ghost use Rattle.inodes.specs.Itrunc.{address_left, at_address, at_branches, at_entries, block_in_hand, block_left, first_trunc, inode_left, last_inode_of, leads_to_data, present_from, IsBelow};
 
 use blocks::Block;
 use driver::{Deed, Machine, Next, Patch};
 use layout::entries::entry;
-use layout::{ADDRESSES_PER_BLOCK, DIRECT_COUNT, inode_block};
-use model::types::Dinode;
+use layout::{ADDRESSES_PER_BLOCK, depths, direct_count, inode_block};
+use model::types::{Dinode, Form};
 
 /// Where the freeing of a file's blocks stands.
 #[derive(Clone, Copy)]
 pub enum TruncAt {
-    /// A data block is freed, which the inode's address at that index names, from 0 to 11.
-    Direct(usize),
-    /// The block of addresses is got next, and kept.
-    Loading,
-    /// A block is freed that the next entry names which wasn't given up.
+    /// The data block that the inode's address names is freed.
+    Direct,
+    /// This block of addresses is got next, and kept.
+    Loading(u32),
+    /// The data block is freed that the first entry names which wasn't given up.
     Entry,
     /// No entry is left, and the block of addresses is given back.
     Unloading,
     /// It is freed itself.
-    Indirect,
+    Freeing,
     /// No block is left, and the inode is written back.
     Updating,
 }
 
 /// The machine that frees a file's blocks and writes its inode back (`itrunc`; the xv6 book, the
 /// chapter "File system": "Code: Inodes"): the blocks of the inode's own addresses first, then those
-/// that the block of addresses names, then that block, each in two steps. An address that isn't
-/// there takes no step. Where the file is removed, the inode that is written is a free one.
+/// that a block of addresses names, then that block, each in two steps. A block of addresses is kept
+/// while what it names is freed, and given back in a step of its own; under a doubly indirect block
+/// so is each second block. An address that isn't there takes no step. Where the file is removed,
+/// the inode that is written is a free one.
 #[derive(Clone, Copy)]
 pub struct Itrunc {
     /// The inode's number.
     pub number: u32,
     /// The inode as it was read, without the addresses that were given up.
     pub inode: Dinode,
-    /// Of the block of addresses, so many of the first entries were given up.
+    /// The image's form.
+    pub form: Form,
+    /// The index of the inode's address whose block is freed, or those behind it, from 0 to 12.
+    pub slot: usize,
+    /// Where a second block is in hand, the doubly indirect block's entry that names it.
+    pub upper: Option<u32>,
+    /// Of the block of addresses in hand, so many of the first entries were given up.
     pub given_up: u32,
     /// Whether the file is removed.
     pub removes: bool,
@@ -50,19 +56,25 @@ pub struct Itrunc {
 }
 
 impl Itrunc {
-    /// Begins to free the blocks of a number's inode, over an image with that block of the bitmap.
-    pub fn new(number: u32, inode: &Dinode, removes: bool, bitmap: u32) -> Itrunc
+    /// Begins to free the blocks of a number's inode, over an image of that form with that block of
+    /// the bitmap.
+    pub fn new(number: u32, inode: &Dinode, form: Form, removes: bool, bitmap: u32) -> Itrunc
         requires { length inode.now.addrs ≡ 13 }
-        ensures { result ≡ first_trunc number inode.now removes bitmap }
+        ensures { result ≡ first_trunc number inode.now form removes bitmap }
     {
-        Itrunc {
+        let mut first = Itrunc {
             number,
             inode: *inode,
+            form,
+            slot: 0,
+            upper: None,
             given_up: 0,
             removes,
             bitmap,
-            at: next_direct(inode, 0),
-        }
+            at: TruncAt::Updating,
+        };
+        first.go_to_address(0);
+        first
     }
 
     /// What is left of the inode, once it is written back; None where the file is removed.
@@ -87,7 +99,39 @@ impl Itrunc {
         }
     }
 
-    // Goes on with the first entry from an index on that is there.
+    // Goes on with the first of the inode's addresses from an index on that is there.
+    #[tactic(auto, using(crate::proofs::Present::present_before))]
+    fn go_to_address(&mut self, from: usize)
+        requires addrs { length self.old.inode.addrs ≡ 13 }
+        requires from { from ≤ 13 }
+        ensures { self.new ≡ at_address self.old from }
+    {
+        self.upper = None;
+        self.given_up = 0;
+        match next_address(&self.inode, from) {
+            Some(slot) if slot < direct_count(self.form) => {
+                self.slot = slot;
+                self.at = TruncAt::Direct;
+            }
+            Some(slot) => {
+                self.slot = slot;
+                self.at = TruncAt::Loading(self.inode.addrs[slot]);
+            }
+            None => self.at = TruncAt::Updating,
+        }
+    }
+
+    // Gives up the inode's address, and goes on behind it.
+    fn leave_address(&mut self)
+        requires addrs { length self.old.inode.addrs ≡ 13 }
+        requires slot { self.old.slot < 13 }
+        ensures { self.new ≡ address_left self.old }
+    {
+        self.inode.addrs[self.slot] = 0;
+        self.go_to_address(self.slot + 1);
+    }
+
+    // Goes on with the first entry from an index on that is there, where entries name data blocks.
     fn go_to_entry(&mut self, entries: &Block, from: u32)
         requires { from ≤ addresses_per_block }
         ensures { self.new ≡ at_entries self.old (words_of entries.now) from }
@@ -103,11 +147,64 @@ impl Itrunc {
             }
         }
     }
+
+    // The same where entries name second blocks.
+    #[tactic(auto, using(crate::proofs::Present::present_before))]
+    fn go_to_branch(&mut self, entries: &Block, from: u32)
+        requires { from ≤ addresses_per_block }
+        ensures { self.new ≡ at_branches self.old (words_of entries.now) from }
+    {
+        self.upper = next_entry(entries, from);
+        match self.upper {
+            Some(index) => {
+                self.given_up = 0;
+                self.at = TruncAt::Loading(entry(entries, index));
+            }
+            None => {
+                self.given_up = ADDRESSES_PER_BLOCK as u32;
+                self.at = TruncAt::Unloading;
+            }
+        }
+    }
+
+    // Whether the entries of the block of addresses in hand name data blocks.
+    fn leads_to_data(&self) -> bool
+        requires { self.now.slot < 13 }
+        ensures { result ≡ leads_to_data self.now }
+    {
+        self.upper.is_some() || depths(self.form)[self.slot] == 1
+    }
+
+    // The block of addresses in hand, which an entry of the block above it names, or the inode.
+    fn block_in_hand(&self, above: &Block) -> u32
+        requires addrs { length self.now.inode.addrs ≡ 13 }
+        requires slot { self.now.slot < 13 }
+        requires upper { IsBelow self.now.upper addresses_per_block }
+        ensures { result ≡ block_in_hand self.now (words_of above.now) }
+    {
+        match self.upper {
+            Some(index) => entry(above, index),
+            None => self.inode.addrs[self.slot],
+        }
+    }
+
+    // Gives it up, and goes on behind it.
+    fn leave_block(&mut self, above: &Block)
+        requires addrs { length self.old.inode.addrs ≡ 13 }
+        requires slot { self.old.slot < 13 }
+        requires upper { IsBelow self.old.upper addresses_per_block }
+        ensures { self.new ≡ block_left self.old (words_of above.now) }
+    {
+        match self.upper {
+            Some(index) => self.go_to_branch(above, index + 1),
+            None => self.leave_address(),
+        }
+    }
 }
 
 impl Machine for Itrunc {
     ghost use Rattle.model.specs.Fields.{words_of};
-    ghost use Rattle.inodes.specs.Itrunc.{Fits, after_trunc, at_entries, deed_of_trunc, next_of_trunc, over_of_trunc};
+    ghost use Rattle.inodes.specs.Itrunc.{Fits, after_trunc, at_block, deed_of_trunc, next_of_trunc, over_of_trunc};
 
     type Out = ();
 
@@ -115,7 +212,7 @@ impl Machine for Itrunc {
 
     ghost next_of = { λ m. next_of_trunc m m.at };
 
-    ghost after_keep = { λ m bytes. at_entries m (words_of bytes) 0 };
+    ghost after_keep = { λ m bytes. at_block m (words_of bytes) };
 
     ghost deed_of = { λ m used kept. deed_of_trunc m (words_of kept) m.at };
 
@@ -125,39 +222,41 @@ impl Machine for Itrunc {
 
     fn next(&self) -> Next {
         match self.at {
-            TruncAt::Direct(_) | TruncAt::Entry | TruncAt::Indirect => Next::Use(self.bitmap),
-            TruncAt::Loading => Next::Keep(self.inode.addrs[DIRECT_COUNT]),
+            TruncAt::Direct | TruncAt::Entry | TruncAt::Freeing => Next::Use(self.bitmap),
+            TruncAt::Loading(block) => Next::Keep(block),
             TruncAt::Unloading => Next::Kept,
             TruncAt::Updating => Next::Use(inode_block(self.number)),
         }
     }
 
     fn keep(&mut self, block: &Block) {
-        self.go_to_entry(block, 0);
+        if self.leads_to_data() {
+            self.go_to_entry(block, 0);
+        } else {
+            self.go_to_branch(block, 0);
+        }
     }
 
     fn step(&mut self, _used: &Block, kept: &Block) -> (Deed, Option<()>) {
         match self.at {
-            TruncAt::Direct(index) => {
-                let freed = self.inode.addrs[index];
-                self.inode.addrs[index] = 0;
-                self.at = next_direct(&self.inode, index + 1);
+            TruncAt::Direct => {
+                let freed = self.inode.addrs[self.slot];
+                self.leave_address();
                 (Deed::Put(Patch::ClearBit(freed)), None)
             }
-            TruncAt::Loading => unreachable!(),
+            TruncAt::Loading(_) => unreachable!(),
             TruncAt::Entry => {
                 let freed = entry(kept, self.given_up);
                 self.go_to_entry(kept, self.given_up + 1);
                 (Deed::Put(Patch::ClearBit(freed)), None)
             }
             TruncAt::Unloading => {
-                self.at = TruncAt::Indirect;
+                self.at = TruncAt::Freeing;
                 (Deed::Release, None)
             }
-            TruncAt::Indirect => {
-                let freed = self.inode.addrs[DIRECT_COUNT];
-                self.inode.addrs[DIRECT_COUNT] = 0;
-                self.at = TruncAt::Updating;
+            TruncAt::Freeing => {
+                let freed = self.block_in_hand(kept);
+                self.leave_block(kept);
                 (Deed::Put(Patch::ClearBit(freed)), None)
             }
             TruncAt::Updating => {
@@ -169,26 +268,13 @@ impl Machine for Itrunc {
     }
 }
 
-// What is freed next, where the inode's own addresses before an index were given up.
-fn next_direct(inode: &Dinode, from: usize) -> TruncAt
-    requires addrs { length inode.now.addrs ≡ 13 }
-    requires from { from ≤ direct_count One }
-    ensures { result ≡ next_direct inode.now from }
-{
-    match next_address(inode, from) {
-        Some(index) => TruncAt::Direct(index),
-        None if inode.addrs[DIRECT_COUNT] == 0 => TruncAt::Updating,
-        None => TruncAt::Loading,
-    }
-}
-
-// The first of the inode's own addresses from an index on that is there.
+// The first of an inode's addresses from an index on that is there.
 fn next_address(inode: &Dinode, from: usize) -> Option<usize>
     requires addrs { length inode.now.addrs ≡ 13 }
-    requires from { from ≤ direct_count One }
-    ensures { result ≡ present_from inode.now.addrs from (direct_count One) }
+    requires from { from ≤ 13 }
+    ensures { result ≡ present_from inode.now.addrs from 13 }
 {
-    (from..DIRECT_COUNT).find(|index| inode.addrs[*index] != 0)
+    (from..inode.addrs.len()).find(|index| inode.addrs[*index] != 0)
 }
 
 // The first entry of a block of addresses from an index on that is there.

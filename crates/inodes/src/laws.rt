@@ -3,7 +3,7 @@
 ghost use Rattle.std.specs.Prelude.{ℕ};
 ghost use Rattle.inodes.specs.Store.{StoreState};
 ghost use Rattle.inodes.specs.Runs.{NoInodeSawAll, MadeSawLower, StepsLeaveOthers, CommitsLeaveAll, BoundsLeaveOthers};
-ghost use Rattle.inodes.specs.WriteRuns.{ShortSawFull};
+ghost use Rattle.inodes.specs.WriteRuns.{LogsFew, ShortSawFull};
 ghost use Rattle.inodes.specs.Waiting.{SleepsForCause, WaitsWithCause};
 ghost use Rattle.inodes.specs.ReadRuns.{BegunMayStep, ReadsPart};
 ghost use Rattle.inodes.specs.Table.{HasPlace};
@@ -24,6 +24,13 @@ pub fn search_saw<D: Disk>()
 /// other processes did between its steps.
 pub fn write_saw<D: Disk>()
     ensures short { ShortSawFull D.Disk }
+{}
+
+/// A write logs at most seven blocks in an image of the first form, and nine in one of the second: up
+/// to four of its file, the bitmap's block, one block of addresses or three, and its inode's block,
+/// which comes last and is the one more.
+pub fn write_logs_few()
+    ensures { LogsFew }
 {}
 
 /// A reading that was begun may make its first step, and a whole one gathers the bytes of the file

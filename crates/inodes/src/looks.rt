@@ -17,9 +17,9 @@ ghost use Rattle.inodes.specs.declared.tasks.Place.TheVariants as stands_at;
 use crate::{Extent, Ilock, Inodes, Itrunc, Place, Progress, Readi, Store, Writei};
 use blocks::Disk;
 use driver::Driven;
-use layout::{GREATEST_SIZE, bitmap_block};
+use layout::{bitmap_block, greatest_size};
 use model::gathered::Gathered;
-use model::types::{Dinode, Op, Reply, TaskProgress};
+use model::types::{Dinode, Form, Op, Reply, TaskProgress};
 
 impl<D: Disk> Store<D> {
     /// Begins the task of an operation that looks at a file, and opens nothing in the log. A reading
@@ -55,10 +55,11 @@ impl<D: Disk> Store<D> {
             Progress::Over(is_used) => {
                 let place = lock.place();
                 let inode = inode_at(&self.inodes, place, is_used);
-                let extent = extent_of(self.inodes.inode_count(), self.volume.log().size());
+                let form = self.inodes.form();
+                let extent = extent_of(form, self.inodes.inode_count(), self.volume.log().size());
                 self.tasks
                     .go(pid, place_when_taken(&inode, place, op, extent));
-                TaskProgress::Turned(reply_when_taken(&inode, op))
+                TaskProgress::Turned(reply_when_taken(form, &inode, op))
             }
             Progress::Fault(fault) => TaskProgress::Fault(fault),
         }
@@ -201,9 +202,9 @@ fn asked(op: &Op) -> u32
 
 // The reply at the turn of an operation that has taken its inode, or found it free; None where it
 // comes later.
-fn reply_when_taken(inode: &Option<Dinode>, op: &Op) -> Option<Reply>
+fn reply_when_taken(form: Form, inode: &Option<Dinode>, op: &Op) -> Option<Reply>
     requires { length (bytes_of op.now) ≤ transfer_limit }
-    ensures { result ≡ reply_when_taken inode.now op.now }
+    ensures { result ≡ reply_when_taken form inode.now op.now }
 {
     let Some(inode) = inode else {
         return Some(Reply::NoFile);
@@ -211,21 +212,21 @@ fn reply_when_taken(inode: &Option<Dinode>, op: &Op) -> Option<Reply>
     match op {
         Op::Stat(_) => Some(Reply::StatOf(inode.kind, inode.size)),
         Op::Trunc(_) | Op::Remove(_) => Some(Reply::Done),
-        Op::Write(_, offset, bytes) => write_refusal(inode, *offset, bytes.len()),
+        Op::Write(_, offset, bytes) => write_refusal(form, inode, *offset, bytes.len()),
         Op::Create(_) | Op::Read(..) => None,
     }
 }
 
-// The refusal of a write of that many bytes that begins behind the file's end, or that no file has
-// room for.
-fn write_refusal(inode: &Dinode, offset: u32, count: usize) -> Option<Reply>
+// The refusal of a write of that many bytes that begins behind the file's end, or that no file of an
+// image of that form has room for.
+fn write_refusal(form: Form, inode: &Dinode, offset: u32, count: usize) -> Option<Reply>
     requires { count ≤ transfer_limit }
-    ensures { result ≡ write_refusal inode.now offset count }
+    ensures { result ≡ write_refusal form inode.now offset count }
 {
     if offset > inode.size {
         return Some(Reply::BadOffset);
     }
-    if offset as usize + count > GREATEST_SIZE as usize {
+    if offset as usize + count > greatest_size(form) as usize {
         return Some(Reply::TooBig);
     }
     None
@@ -241,12 +242,13 @@ fn bytes_of(op: &Op) -> &[u8]
     }
 }
 
-// Where blocks are taken in an image of so many inode numbers and blocks.
-fn extent_of(inode_count: u32, size: u32) -> Extent
+// Where blocks are taken in an image of that form, of so many inode numbers and blocks.
+fn extent_of(form: Form, inode_count: u32, size: u32) -> Extent
     requires { inode_count ≤ most_inodes }
-    ensures { result ≡ extent_of inode_count size }
+    ensures { result ≡ extent_of form inode_count size }
 {
     Extent {
+        form,
         bitmap: bitmap_block(inode_count),
         size,
     }
@@ -255,22 +257,25 @@ fn extent_of(inode_count: u32, size: u32) -> Extent
 // Where it goes then, with the inode at that place of the table, over an image that takes its
 // blocks there.
 fn place_when_taken(inode: &Option<Dinode>, place: usize, op: &Op, extent: Extent) -> Place
-    requires inode { IsReadable inode.now }
+    requires inode { IsReadable extent.form inode.now }
     requires few { length (bytes_of op.now) ≤ transfer_limit }
     ensures { result ≡ place_when_taken extent inode.now place op.now }
 {
     let Some(inode) = inode else {
         return Place::Leaving { place };
     };
+    let form = extent.form;
     let bitmap = extent.bitmap;
     match op {
-        Op::Read(_, offset, count) => place_of_read(place, Readi::new(inode, *offset, *count)),
+        Op::Read(_, offset, count) => {
+            place_of_read(place, Readi::new(inode, form, *offset, *count))
+        }
         Op::Trunc(number) => {
-            let trunc = Driven::new(Itrunc::new(*number, inode, false, bitmap));
+            let trunc = Driven::new(Itrunc::new(*number, inode, form, false, bitmap));
             Place::Truncating { place, trunc }
         }
         Op::Remove(number) => {
-            let trunc = Driven::new(Itrunc::new(*number, inode, true, bitmap));
+            let trunc = Driven::new(Itrunc::new(*number, inode, form, true, bitmap));
             Place::Truncating { place, trunc }
         }
         Op::Write(number, offset, bytes) => {
@@ -293,7 +298,7 @@ fn place_of_write(
     requires few { count ≤ transfer_limit }
     ensures { result ≡ place_of_write place number inode.now offset count extent }
 {
-    if write_refusal(inode, offset, count).is_some() {
+    if write_refusal(extent.form, inode, offset, count).is_some() {
         return Place::Leaving { place };
     }
     let writing = Writei::new(number, inode, offset, count as u32, extent);

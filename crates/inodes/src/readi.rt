@@ -1,6 +1,7 @@
 // The reading of a file's bytes.
 ghost use Rattle.std.specs.Prelude.{◌≡◌, ◌<◌, ◌≤◌, ℕ, Some, None, length};
 ghost use Rattle.model.specs.Gathered.{GatheredBytes};
+ghost use Rattle.model.specs.Layout.{greatest_size};
 ghost use Rattle.blockmap.specs.Target.{got_slot};
 ghost use Rattle.inodes.specs.Readi.{first_read, IsReading, HasRoomLeft, ReadSteps};
 
@@ -9,7 +10,7 @@ use blockmap::{Target, seek, target_for};
 use blocks::{BLOCK_SIZE, Disk};
 use driver::release_block;
 use model::gathered::Gathered;
-use model::types::Dinode;
+use model::types::{Dinode, Form};
 use std::marker::Model;
 use wal::Volume;
 
@@ -19,6 +20,8 @@ use wal::Volume;
 #[derive(Clone, Copy)]
 pub struct Readi {
     inode: Dinode,
+    /// The form of its image.
+    form: Form,
     /// The place of the next byte in the file.
     next: u32,
     /// The place behind the last one.
@@ -33,6 +36,7 @@ impl Model for Readi {
 
     ghost view = { λ m. record {
       inode = m.inode;
+      form = m.form;
       next = m.next;
       end = m.end;
       target = m.target;
@@ -40,6 +44,7 @@ impl Model for Readi {
 
     ghost inverse = { λ m. record {
       inode = m.inode;
+      form = m.form;
       next = m.next;
       end = m.end;
       target = m.target;
@@ -47,21 +52,22 @@ impl Model for Readi {
 }
 
 impl Readi {
-    /// Begins to read that many bytes of an inode's file from an offset on, or those that there
-    /// are; None where there are none.
-    pub fn new(inode: &Dinode, offset: u32, count: u32) -> Option<Readi>
+    /// Begins to read that many bytes of an inode's file in an image of that form, from an offset
+    /// on, or those that there are; None where there are none.
+    pub fn new(inode: &Dinode, form: Form, offset: u32, count: u32) -> Option<Readi>
         requires addrs { length inode.now.addrs ≡ 13 }
-        requires size { inode.now.size ≤ 274432 }
-        ensures { result ≡ first_read inode.now offset count }
+        requires size { inode.now.size ≤ greatest_size form }
+        ensures { result ≡ first_read form inode.now offset count }
     {
         if inode.size <= offset || count == 0 {
             return None;
         }
         Some(Readi {
             inode: *inode,
+            form,
             next: offset,
             end: offset + count.min(inode.size - offset),
-            target: target_for(inode, offset / BLOCK_SIZE as u32),
+            target: target_for(inode, form, offset / BLOCK_SIZE as u32),
         })
     }
 
@@ -124,7 +130,7 @@ impl Readi {
         if self.next == self.end {
             return Progress::Over(());
         }
-        self.target = target_for(&self.inode, self.next / BLOCK_SIZE as u32);
+        self.target = target_for(&self.inode, self.form, self.next / BLOCK_SIZE as u32);
         Progress::Moved
     }
 }

@@ -5,7 +5,7 @@ ghost use Rattle.wal.specs.Floats.{Survives};
 ghost use Rattle.wal.specs.Joint.{Joint};
 ghost use Rattle.model.specs.Files.{files_of};
 ghost use Rattle.model.specs.declared.types.operations.Op.{Op};
-ghost use Rattle.model.specs.Layout.{inode_count_of};
+ghost use Rattle.model.specs.Layout.{form_of, inode_count_of};
 ghost use Rattle.model.specs.Soundness.{IsSound};
 ghost use Rattle.wal.specs.Machine.{used_by, is_quiet, begun, ended, end_answer};
 ghost use Rattle.inodes.specs.Tasks.{task, no_task};
@@ -18,7 +18,7 @@ ghost use Rattle.inodes.specs.declared.tasks.Place.TheVariants as place;
 
 use crate::{Ialloc, Ilock, Inodes, Place, Progress, Tasks};
 use blocks::Disk;
-use layout::Super;
+use layout::{Form, Super};
 use model::types::{Op, Reply, TaskProgress};
 use std::marker::Model;
 use wal::{Began, Committed, Ended, Volume};
@@ -51,20 +51,22 @@ impl<D: Disk> Model for Store<D> {
 }
 
 impl<D: Disk> Store<D> {
-    /// A store over the fresh volume of a sound image with this superblock, with no task under way.
-    pub fn open(volume: Volume<D>, tasks: Tasks, sup: &Super) -> Store<D>
+    /// A store over the fresh volume of a sound image with this superblock and form, with no task
+    /// under way.
+    pub fn open(volume: Volume<D>, tasks: Tasks, sup: &Super, form: Form) -> Store<D>
         requires volume { volume ≡ fresh_volume D.image volume.device }
         requires sound { IsSound (D.image volume.device) }
         requires tasks { tasks ≡ replicate (length tasks) no_task }
         requires few { length tasks ≤ 32 }
         requires numbers { sup.now.ninodes ≡ inode_count_of (D.image volume.device) }
+        requires form { form ≡ form_of (D.image volume.device) }
         ensures store { result
-            ≡ record { volume = volume; tasks = tasks; table = new_table sup.now.ninodes } }
+            ≡ record { volume = volume; tasks = tasks; table = new_table form sup.now.ninodes } }
         ensures files { FitsFiles D.image result (files_of (D.image volume.device)) }
     {
         Store {
             volume,
-            inodes: Inodes::new(sup),
+            inodes: Inodes::new(sup, form),
             tasks,
         }
     }

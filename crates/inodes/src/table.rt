@@ -3,7 +3,7 @@ ghost use Rattle.std.specs.Prelude.{◌≡◌, ◌<◌, ◌+◌, ◌^◌, ℕ, I
 ghost use Rattle.inodes.specs.Table.{TableState, new_table, HasPlaceFor, place_for, entry_at, holder_at, copy_at, is_of, with_reference, without_reference, referred, locked, renewed, left};
 
 use layout::Super;
-use model::types::Dinode;
+use model::types::{Dinode, Form};
 use std::marker::Model;
 
 // How many inodes are in memory at most: xv6's NINODE.
@@ -28,6 +28,7 @@ pub struct InMemory {
 pub struct Inodes {
     places: [Option<InMemory>; 50],
     inode_count: u32,
+    form: Form,
 }
 
 impl Model for Inodes {
@@ -36,20 +37,29 @@ impl Model for Inodes {
 
     ghost Value = { TableState };
 
-    ghost view = { λ t. record { places = t.places; inode_count = t.inode_count } };
+    ghost view = { λ t.
+        record { places = t.places; inode_count = t.inode_count; form = t.form } };
 
     ghost invariant = { λ t. length t.places ≡ 50 };
 }
 
 impl Inodes {
-    /// A table for the image of this superblock, with no inode in it.
-    pub fn new(sup: &Super) -> Inodes
-        ensures { result ≡ new_table sup.now.ninodes }
+    /// A table for the image of this superblock and form, with no inode in it.
+    pub fn new(sup: &Super, form: Form) -> Inodes
+        ensures { result ≡ new_table form sup.now.ninodes }
     {
         Inodes {
             places: [None; PLACES],
             inode_count: sup.ninodes,
+            form,
         }
+    }
+
+    /// The image's form.
+    pub fn form(&self) -> Form
+        ensures { result ≡ self.now.form }
+    {
+        self.form
     }
 
     /// The image's inode numbers, the unused number 0 included.

@@ -1,5 +1,6 @@
 // The writing of a file's bytes.
 ghost use Rattle.std.specs.Prelude.{◌≡◌, ◌<◌, ◌≤◌, ◌+◌, length, Some, None};
+ghost use Rattle.model.specs.Layout.{greatest_size};
 ghost use Rattle.wal.specs.Machine.{HasRoom, used_by};
 ghost use Rattle.inodes.specs.Writei.{MayWrite, WriteSteps, MapsOn, GetsNext, WritesNext, UpdatesCopy, first_write, next_place, place_of_mapped};
 ghost use Rattle.inodes.specs.declared.writei.WriteAt.TheVariants as write_at;
@@ -8,7 +9,7 @@ use crate::Iupdate;
 use blockmap::{BmapAlloc, MappedForWriting, map_for_writing};
 use blocks::{BLOCK_SIZE, Disk};
 use driver::{Progress, get_block, put_block};
-use model::types::Dinode;
+use model::types::{Dinode, Form};
 use std::marker::Model;
 use wal::Volume;
 
@@ -31,6 +32,8 @@ pub enum WriteAt {
 /// The part of an image in which blocks are taken.
 #[derive(Clone, Copy)]
 pub struct Extent {
+    /// The image's form.
+    pub form: Form,
     /// The bitmap's block.
     pub bitmap: u32,
     /// The image's size in blocks.
@@ -87,7 +90,7 @@ impl Writei {
     /// Begins to write that many bytes into the file of a number's inode, from an offset on.
     pub fn new(number: u32, inode: &Dinode, offset: u32, count: u32, extent: Extent) -> Writei
         requires addrs { length inode.now.addrs ≡ 13 }
-        requires fits { offset + count ≤ 274432 }
+        requires fits { offset + count ≤ greatest_size extent.form }
         ensures { result ≡ first_write number inode.now offset count extent }
     {
         Writei {
@@ -245,13 +248,14 @@ impl Writei {
 // What comes next, where so many bytes are left to be written from a place in the file on.
 fn next_place(number: u32, inode: &Dinode, next: u32, left: u32, extent: Extent) -> WriteAt
     requires addrs { length inode.now.addrs ≡ 13 }
-    requires fits { next + left ≤ 274432 }
+    requires fits { next + left ≤ greatest_size extent.form }
     ensures { result ≡ next_place number inode.now next left extent }
 {
     if left == 0 {
         return WriteAt::Updating(Iupdate::new(number));
     }
-    place_of_mapped(map_for_writing(inode, next / BLOCK_SIZE as u32, extent.bitmap, extent.size))
+    let k = next / BLOCK_SIZE as u32;
+    place_of_mapped(map_for_writing(inode, extent.form, k, extent.bitmap, extent.size))
 }
 
 // Where a block is found.

@@ -23,7 +23,7 @@ use Rattle.wal.specs.Machine.{LogState, begin_cause, is_quiet, end_answer, IsLog
 use Rattle.inodes.specs.declared.tasks.Place.{Place}
 use Rattle.inodes.specs.Lemmas.Faults.{where_none}
 use Rattle.inodes.specs.Lemmas.Sought.{passes_busy}
-use Rattle.inodes.specs.Places.{is_over, is_unturned, steps_left}
+use Rattle.inodes.specs.Places.{is_over, is_unturned}
 use Rattle.inodes.specs.Steps.{Steps}
 use Rattle.inodes.specs.Store.{StoreState}
 use Rattle.inodes.specs.Tasks.{task}
@@ -45,7 +45,7 @@ use Rattle.kernel.specs.declared.types.Step.TheVariants as step
 use Rattle.kernel.specs.declared.waiting.Waiting.{Waiting}
 use Rattle.kernel.specs.declared.waiting.Waiting.TheVariants as waiting
 use Rattle.kernel.specs.Awake.{AreIdle, IsAwake, IsBusy, OneGoesOn, cause_by, cause_of}
-use Rattle.kernel.specs.Bound.{left_of}
+use Rattle.kernel.specs.Bound.{left_of, task_left}
 use Rattle.kernel.specs.Invariant.{ArePaired, HasFacts, TaskStands}
 use Rattle.kernel.specs.Next.{NextAt, NextIf, BeginsWith, TakesNone, IsNotTaken, HasNoRoom, Same, step_of, step_behind, step_of_told, step_of_last, step_of_end, step_of_write, world_after, world_behind}
 use Rattle.kernel.specs.Sleeping.{SoleWaitsForAnswers, WaitsForRoom}
@@ -110,11 +110,11 @@ module _ {D I H : Type 0} (image : D → Image) (opening : Image) (k : State D I
       ∙ ap (λ (n : ℕ). log_cause false n l.outstanding) homes
       ∙ ap (λ (n : ℕ). log_cause false 0 n) rests.none
 
-  left_at : (p : ℕ) (a : At) → ats_of k.world p ≡ a → left_of k p ≡ all_steps_left a (steps_left (place_at p) k.store.table.inode_count) k.store.volume.log
-  left_at p a stands = ap (λ (b : At). all_steps_left b (steps_left (place_at p) k.store.table.inode_count) k.store.volume.log) stands
+  left_at : (p : ℕ) (a : At) → ats_of k.world p ≡ a → left_of image k p ≡ all_steps_left a (task_left image k.store p) k.store.volume.log
+  left_at p a stands = ap (λ (b : At). all_steps_left b (task_left image k.store p) k.store.volume.log) stands
 
   -- who is under way has steps left
-  some_left : (p : ℕ) (a : At) → ats_of k.world p ≡ a → is_busy_at a ≡ true → 0 < left_of k p
+  some_left : (p : ℕ) (a : At) → ats_of k.world p ≡ a → is_busy_at a ≡ true → 0 < left_of image k p
   some_left p at.Idle stands busy = absurd (cc busy)
   some_left p (at.Before group op) stands busy = let left = left_at p (at.Before group op) stands in omega (arith, left)
   some_left p (at.Behind group j) stands busy = let left = left_at p (at.Behind group j) stands in omega (arith, left)
@@ -124,7 +124,7 @@ module _ {D I H : Type 0} (image : D → Image) (opening : Image) (k : State D I
       let some = some_write k.store.volume.log.commit (length k.store.volume.log.homes) (has.alone.busy p (ap is_committing_at stands)) in
       omega (arith, left, some)
 
-  pub awake_now : Joint (image k.store.volume.device) k.store.volume.buffers k.store.volume.log → NobodyWaitsForEver k.store → IsAwake k
+  pub awake_now : Joint (image k.store.volume.device) k.store.volume.buffers k.store.volume.log → NobodyWaitsForEver k.store → IsAwake image k
   awake_now joint awake = record { under_way = λ p busy. goes_on awake p busy (cause_of k p) refl; begins = let_in joint; left = λ p busy. some_left p (ats_of k.world p) refl busy }
 
 -- ---- a step that has to wait says why
@@ -281,7 +281,7 @@ module _ {D N I M H : Type 0} (disk : disk_trait.Ghosts D N) (intake : intake_tr
       same : Same k.store k.world m.store m.world
       same = asleep_same k m p cause (intake.side k.intake p).ahead (intake.side m.intake p) (herald.told m.herald) (ats_of k.world p) next
 
-      awake : IsAwake m
+      awake : IsAwake disk.image m
       awake = where_none m.store.volume.fault (ap (λ (s : StoreState D). s.volume.fault) same.0 ∙ well) makes.awake
 
       one_still : length m.world.processes ≡ 1

@@ -7,7 +7,7 @@ use Rattle.blocks.specs.declared.disk.Disk.{Ghosts}
 use Rattle.model.specs.declared.types.operations.Op.{Op}
 use Rattle.model.specs.declared.types.operations.Op.TheVariants.{Create, Write, Read, Trunc, Remove, Stat}
 use Rattle.model.specs.Journal.{is_changing, is_at_once, is_number}
-use Rattle.model.specs.Layout.{inode_count_of}
+use Rattle.model.specs.Layout.{form_of, inode_count_of}
 use Rattle.model.specs.Operations.{is_kind}
 use Rattle.std.specs.Option.{option_map}
 use Rattle.std.specs.Prelude.{IfSome}
@@ -212,7 +212,7 @@ right_shut disk opening s w b right = record {
   faults = right.faults;
 }
   where
-    shut_lasts : (o : Option DeviceFault) → IfSome o (λ (f : DeviceFault). Lasts s w) → IfSome o (λ (f : DeviceFault). Lasts s (record w { is_shut = b }))
+    shut_lasts : (o : Option DeviceFault) → IfSome o (λ (f : DeviceFault). Lasts disk.image (form_of (disk.image opening)) s w) → IfSome o (λ (f : DeviceFault). Lasts disk.image (form_of (disk.image opening)) s (record w { is_shut = b }))
     shut_lasts None lasts = tt
     shut_lasts (Some fault) lasts = record { locks = lasts.locks; unanswered = λ k e is none. (let u = lasts.unanswered k e is none in record { late = u.late; group = u.group; behind = u.behind }); left = lasts.left }
 

@@ -244,4 +244,4 @@ module _ {D N : Type 0} (disk : Ghosts D N) (opening : D) (s : StoreState D) (w 
         (λ (sy : (part : Part) × (s.volume.log.commit ≡ commit.Syncing part) × IsSync part r). known_keeps (disk.image opening) (view_of disk.image s) w.journal.list (ats_of w) had.facts t.volume
         (ap (λ (l : LogState). l.committed) log) (ap (λ (l : LogState). l.commit) log) x (survives x (sy.2.fewer x left)))
         kinds)
-        counts (lasts_unwritten disk opening s w store right t made.tasks made.table log)
+        counts (lasts_unwritten disk opening s w store right t well made.volume.current made.tasks made.table log)

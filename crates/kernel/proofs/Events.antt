@@ -14,7 +14,8 @@ use Rattle.model.specs.declared.types.operations.TaskProgress.{TaskProgress}
 use Rattle.model.specs.declared.types.operations.TaskProgress.TheVariants as progress
 use Rattle.model.specs.declared.types.operations.Why.{Why}
 use Rattle.model.specs.Journal.{is_at_once}
-use Rattle.model.specs.Layout.{inode_count_of}
+use Rattle.model.specs.declared.types.image.Form.{Form}
+use Rattle.model.specs.Layout.{form_of, inode_count_of}
 use Rattle.ports.specs.History.{Side, first_in}
 use Rattle.wal.specs.declared.types.DeviceFault.{DeviceFault}
 use Rattle.wal.specs.declared.types.Committed.{Committed}
@@ -32,7 +33,7 @@ use Rattle.wal.specs.Machine.{LogState, begun, ended, end_answer, is_quiet, used
 use Rattle.wal.specs.Step.{CommitMakes}
 use Rattle.inodes.specs.declared.ilock.LockAt.TheVariants as lock_at
 use Rattle.inodes.specs.declared.tasks.Place.TheVariants as place
-use Rattle.inodes.specs.Places.{asked, is_over, owes_reply, steps_left}
+use Rattle.inodes.specs.Places.{asked, is_over, most_behind, owes_reply, steps_left}
 use Rattle.inodes.specs.Steps.{Steps, Commits, is_made}
 use Rattle.inodes.specs.Store.{StoreState, current_of, first_place, with_begun, with_look}
 use Rattle.inodes.specs.Table.{TableState}
@@ -48,7 +49,7 @@ use Rattle.journal.specs.Grows.{Grows, IsTold, JournalGoes}
 use Rattle.journal.specs.Views.{HasEntry}
 use Rattle.journal.specs.Lemmas.Alone.{goes_on, none_commits, quiet_if_open}
 use Rattle.journal.specs.Lemmas.Answers.{entry_inside}
-use Rattle.journal.specs.Lemmas.Bounds.{some_write, steps_few, writes_fall}
+use Rattle.journal.specs.Lemmas.Bounds.{some_write, writes_fall}
 use Rattle.journal.specs.Lemmas.Events.{at_once_still}
 use Rattle.journal.specs.Lemmas.Groups.{open_of}
 use Rattle.journal.specs.Lemmas.Growing.{grows_goes, grows_none}
@@ -57,15 +58,18 @@ use Rattle.kernel.specs.declared.waiting.Waiting.{Waiting}
 use Rattle.kernel.specs.declared.waiting.Waiting.TheVariants as waiting
 use Rattle.kernel.specs.declared.types.Step.{Step}
 use Rattle.kernel.specs.declared.types.Step.TheVariants as step
+use Rattle.kernel.specs.Bound.{step_bound, task_left}
 use Rattle.kernel.specs.Next.{IsNotTaken, BeginsWith, Works, Finishes, Ends, Writes, NextAt, NextIf, Next, step_of, world_after, step_behind, world_behind, step_of_last, world_of_last, step_of_told, world_of_told, step_of_end, world_ended, step_of_write, world_written}
 use Rattle.kernel.specs.Progress.{commits, CountsCommitted}
 use Rattle.kernel.specs.Invariant.{IsBehind}
 use Rattle.kernel.specs.State.{waiting_of, ats_of, room_for}
 use Rattle.kernel.proofs.Beginnings.{refused_at_once}
+use Rattle.kernel.proofs.Bounds.{few_behind, few_steps, form_now}
 use Rattle.kernel.proofs.Valid.{unturned_unread}
 use Rattle.kernel.proofs.Well.{IsWell, log_of, stands_at, later_before, later_behind, before_there, unturned_before, behind_there}
 use Rattle.kernel.proofs.Working.{reply_missing}
-use Rattle.inodes.specs.Lemmas.Bounds.{few_steps}
+use Rattle.inodes.specs.Lemmas.Bounds.{most_elsewhere}
+use Rattle.inodes.specs.Lemmas.StepsLeft.{left_outside, others_left}
 use Rattle.journal.specs.Lemmas.Ends.{commits_now, ended_count}
 use Rattle.inodes.specs.Lemmas.StepEnds.{StepEnds, ends_of, logs_of}
 
@@ -100,34 +104,30 @@ not_taken what l room r is = by_case what is
     by_case (Some waiting.Change) (inr (inl out)) = sleeps out.0 out.1
     by_case (Some waiting.Change) (inr (inr none)) = lacks none.0.0
 
--- the steps that a process's task has left
-abbrev pub task_left : {D : Type 0} → StoreState D → ℕ → ℕ
-task_left s q = steps_left (task s.tasks q).place s.table.inode_count
-
--- the other processes keep their tasks, and the log where they commit; reads give no fewer groups
-pub record LeavesOthers {D : Type 0} (p : ℕ) (s : StoreState D) (w : World) (t : StoreState D) : Type 0 where
-  pub tasks : (q : ℕ) → q ≢ p → task t.tasks q ≡ task s.tasks q
-  pub numbers : t.table.inode_count ≡ s.table.inode_count
+-- the other processes keep the steps of their tasks, and the log where they commit; reads give no
+-- fewer groups
+pub record LeavesOthers {D : Type 0} (image : D → Image) (p : ℕ) (s : StoreState D) (w : World) (t : StoreState D) : Type 0 where
+  pub left : (q : ℕ) → q ≢ p → task_left image t q ≡ task_left image s q
   pub log : (q : ℕ) → q ≢ p → is_committing_at (process w q).at ≡ true → t.volume.log ≡ s.volume.log
   pub reads : in_reads s.volume.log ≤ in_reads t.volume.log
 
 -- process p, which becomes u, has a step less left, or has begun with few; and it has some
-abbrev pub HasFewer : {D : Type 0} → ℕ → StoreState D → World → StoreState D → Process → Type 0
-HasFewer p s w t u =
-    (is_busy_at (process w p).at ≡ true → all_steps_left u.at (task_left t p) t.volume.log < all_steps_left (process w p).at (task_left s p) s.volume.log)
-    × (all_steps_left u.at (task_left t p) t.volume.log < 2000)
-    × (0 < all_steps_left u.at (task_left t p) t.volume.log)
+abbrev pub HasFewer : {D : Type 0} → (D → Image) → Form → ℕ → StoreState D → World → StoreState D → Process → Type 0
+HasFewer image form p s w t u =
+    (is_busy_at (process w p).at ≡ true → all_steps_left u.at (task_left image t p) t.volume.log < all_steps_left (process w p).at (task_left image s p) s.volume.log)
+    × (all_steps_left u.at (task_left image t p) t.volume.log < step_bound form)
+    × (0 < all_steps_left u.at (task_left image t p) t.volume.log)
 
 -- what an event of process p makes of store and processes
-pub record Event {D : Type 0} (n : ℕ) (holds : Bool) (p : ℕ) (s : StoreState D) (w : World) (t : StoreState D) (z : World) (r : Step) : Type 0 where
+pub record Event {D : Type 0} (image : D → Image) (form : Form) (n : ℕ) (holds : Bool) (p : ℕ) (s : StoreState D) (w : World) (t : StoreState D) (z : World) (r : Step) : Type 0 where
   pub now : Process
   pub processes : z.processes ≡ set w.processes p now
   pub grows : Grows n s.volume w.journal.list t.volume z.journal.list
   pub committed : CountsCommitted holds r (process w p).at s.volume.log t.volume.log
   pub shut : w.is_shut ≡ true → z.is_shut ≡ true
   pub begun : z.is_shut ≡ true → now.begun ≡ (process w p).begun
-  pub others : LeavesOthers p s w t
-  pub bound : r ≡ step.Moved → HasFewer p s w t now
+  pub others : LeavesOthers image p s w t
+  pub bound : r ≡ step.Moved → HasFewer image form p s w t now
 
 module _ {D N : Type 0} (disk : Ghosts D N) (opening : Image) (p : ℕ) (s t : StoreState D) (w z : World) (before : List Op) (side : Side) (told : Bool) where
   abbrev n : ℕ
@@ -137,10 +137,10 @@ module _ {D N : Type 0} (disk : Ghosts D N) (opening : Image) (p : ℕ) (s t : S
   holds = disk.holding (disk.name s.volume.device)
 
   abbrev Made : Step → Type 0
-  Made r = Event n holds p s w t z r
+  Made r = Event disk.image (form_of opening) n holds p s w t z r
 
-  others_same : t ≡ s → LeavesOthers p s w t
-  others_same is = record { tasks = λ q apart. ap (λ (o : StoreState D). task o.tasks q) is; numbers = ap (λ (o : StoreState D). o.table.inode_count) is; log = λ q apart commits. ap (λ (o : StoreState D). o.volume.log) is; reads = let same = ap (λ (o : StoreState D). in_reads o.volume.log) is in omega (arith, same) }
+  others_same : t ≡ s → LeavesOthers disk.image p s w t
+  others_same is = record { left = λ q apart. ap (λ (o : StoreState D). task_left disk.image o q) is; log = λ q apart commits. ap (λ (o : StoreState D). o.volume.log) is; reads = let same = ap (λ (o : StoreState D). in_reads o.volume.log) is in omega (arith, same) }
 
   -- nothing happened, but that a shutdown may have been heard of
   rests : (r : Step) (b : Bool) → commits holds r (process w p).at s.volume.log ≡ false → r ≢ step.Moved → t ≡ s → z ≡ record w { is_shut = b } → (w.is_shut ≡ true → b ≡ true) → Made r
@@ -158,7 +158,7 @@ module _ {D N : Type 0} (disk : Ghosts D N) (opening : Image) (p : ℕ) (s t : S
   module _ (is : IsWell disk.image opening s w p) where
     -- process p becomes u
     goes : (r : Step) (o : World) (u : Process) → z ≡ o → o.processes ≡ set w.processes p u → o.is_shut ≡ w.is_shut → (w.is_shut ≡ false) ⊎ (u.begun ≡ (process w p).begun)
-        → JournalGoes n p (in_reads s.volume.log) w.journal.list o.journal.list → CountsCommitted holds r (process w p).at s.volume.log t.volume.log → LeavesOthers p s w t → (r ≡ step.Moved → HasFewer p s w t u) → Made r
+        → JournalGoes n p (in_reads s.volume.log) w.journal.list o.journal.list → CountsCommitted holds r (process w p).at s.volume.log t.volume.log → LeavesOthers disk.image p s w t → (r ≡ step.Moved → HasFewer disk.image (form_of opening) p s w t u) → Made r
     goes r o u to here shut begun journal counted others bound = record {
       now = u;
       processes = ap (λ (v : World). v.processes) to ∙ here;
@@ -172,7 +172,7 @@ module _ {D N : Type 0} (disk : Ghosts D N) (opening : Image) (p : ℕ) (s t : S
     }
 
     -- it stays where it is
-    stays : (r : Step) → z ≡ w → CountsCommitted holds r (process w p).at s.volume.log t.volume.log → LeavesOthers p s w t → (r ≡ step.Moved → HasFewer p s w t (process w p)) → Made r
+    stays : (r : Step) → z ≡ w → CountsCommitted holds r (process w p).at s.volume.log t.volume.log → LeavesOthers disk.image p s w t → (r ≡ step.Moved → HasFewer disk.image (form_of opening) p s w t (process w p)) → Made r
     stays r to counted others bound = goes r w (process w p) to (sym (set-get_or w.processes p idle)) refl (inr refl) (inl refl) counted others bound
 
     -- what is counted where it stands
@@ -180,60 +180,69 @@ module _ {D N : Type 0} (disk : Ghosts D N) (opening : Image) (p : ℕ) (s t : S
     counted_at a r stands counted = subst (λ (b : At). CountsCommitted holds r b s.volume.log t.volume.log) (sym stands) counted
 
     -- from place to place
-    fewer : (u : Process) (a b : At) → (process w p).at ≡ a → u.at ≡ b → all_steps_left b (task_left t p) t.volume.log < all_steps_left a (task_left s p) s.volume.log → 0 < all_steps_left b (task_left t p) t.volume.log → HasFewer p s w t u
+    fewer : (u : Process) (a b : At) → (process w p).at ≡ a → u.at ≡ b → all_steps_left b (task_left disk.image t p) t.volume.log < all_steps_left a (task_left disk.image s p) s.volume.log → 0 < all_steps_left b (task_left disk.image t p) t.volume.log → HasFewer disk.image (form_of opening) p s w t u
     fewer u a b stands to less some =
-        let lt : all_steps_left u.at (task_left t p) t.volume.log < all_steps_left (process w p).at (task_left s p) s.volume.log
-        = subst (λ (c : At). all_steps_left c (task_left t p) t.volume.log < all_steps_left (process w p).at (task_left s p) s.volume.log) (sym to)
-        (subst (λ (c : At). all_steps_left b (task_left t p) t.volume.log < all_steps_left c (task_left s p) s.volume.log) (sym stands) less) in
-        let most = steps_few (process w p).at (task_left s p) s.volume.log (log_of disk.image opening s w p is) (few_steps (current_of disk.image s.volume) s.table (task s.tasks p) (task s.tasks p).place is.numbers (is.looks.stand p)) in
-        ((λ busy. lt), omega (arith, lt, most), subst (λ (c : At). 0 < all_steps_left c (task_left t p) t.volume.log) (sym to) some)
+        let lt : all_steps_left u.at (task_left disk.image t p) t.volume.log < all_steps_left (process w p).at (task_left disk.image s p) s.volume.log
+        = subst (λ (c : At). all_steps_left c (task_left disk.image t p) t.volume.log < all_steps_left (process w p).at (task_left disk.image s p) s.volume.log) (sym to)
+        (subst (λ (c : At). all_steps_left b (task_left disk.image t p) t.volume.log < all_steps_left c (task_left disk.image s p) s.volume.log) (sym stands) less) in
+        let most = few_steps disk.image opening s w p is.has is.looks is.numbers in
+        ((λ busy. lt), omega (arith, lt, most), subst (λ (c : At). 0 < all_steps_left c (task_left disk.image t p) t.volume.log) (sym to) some)
 
     -- nobody commits while the log is quiet
     alone : is_quiet s.volume.log.commit ≡ true → (q : ℕ) → q ≢ p → is_committing_at (process w q).at ≡ true → t.volume.log ≡ s.volume.log
     alone quiet q apart commits = absurd (false≢true (sym (none_commits (ats_of w) s.volume.log is.has.alone quiet q) ∙ commits))
 
     -- who begins is alone to change its task
-    begins_others : (o : StoreState D) (u : TaskState) → t ≡ o → o.tasks ≡ set s.tasks p u → o.table ≡ s.table → ((q : ℕ) → q ≢ p → is_committing_at (process w q).at ≡ true → t.volume.log ≡ s.volume.log) → in_reads s.volume.log ≤ in_reads o.volume.log → LeavesOthers p s w t
-    begins_others o u to tasks table log reads = record {
-      tasks = λ q apart. ap (λ (v : StoreState D). task v.tasks q) to ∙ ap (λ (ts : List TaskState). task ts q) tasks ∙ get_or-set_other s.tasks p q u no_task apart;
-      numbers = ap (λ (v : StoreState D). v.table.inode_count) to ∙ ap (λ (v : TableState). v.inode_count) table;
+    begins_others : (o : StoreState D) (u : TaskState) → t ≡ o → o.tasks ≡ set s.tasks p u → o.table ≡ s.table → current_of disk.image o.volume ≡ current_of disk.image s.volume → ((q : ℕ) → q ≢ p → is_committing_at (process w q).at ≡ true → t.volume.log ≡ s.volume.log) → in_reads s.volume.log ≤ in_reads o.volume.log → LeavesOthers disk.image p s w t
+    begins_others o u to tasks table current log reads = record {
+      left = λ q apart. ap (λ (v : StoreState D). task_left disk.image v q) to
+          ∙ ap (λ (x : TaskState). steps_left (current_of disk.image o.volume) x.place o.table.inode_count) (ap (λ (ts : List TaskState). task ts q) tasks ∙ get_or-set_other s.tasks p q u no_task apart)
+          ∙ ap (λ (v : TableState). steps_left (current_of disk.image o.volume) (task s.tasks q).place v.inode_count) table
+          ∙ ap (λ (x : Image). steps_left x (task s.tasks q).place s.table.inode_count) current;
       log = log;
       reads = let same = ap (λ (v : StoreState D). in_reads v.volume.log) to in omega (arith, same, reads);
     }
 
     -- and has few steps to make
-    begins_few : (o : StoreState D) (u : TaskState) (begun_now group : ℕ) (op : Op) (room : Option GatheredBytes) → t ≡ o → o.tasks ≡ set s.tasks p u → (process w p).at ≡ at.Idle → steps_left u.place o.table.inode_count < 1933 → HasFewer p s w t (record { begun = begun_now; at = at.Before group op; room = room })
+    begins_few : (o : StoreState D) (u : TaskState) (begun_now group : ℕ) (op : Op) (room : Option GatheredBytes) → t ≡ o → o.tasks ≡ set s.tasks p u → (process w p).at ≡ at.Idle → steps_left (current_of disk.image o.volume) u.place o.table.inode_count ≤ most_behind (form_of opening) + 130 → HasFewer disk.image (form_of opening) p s w t (record { begun = begun_now; at = at.Before group op; room = room })
     begins_few o u begun_now group op room to tasks stands few =
         let inside : p < length s.tasks = (let many = is.paired.many in let lt = is.inside in omega (arith, many, lt)) in
-        let left : task_left t p ≡ steps_left u.place o.table.inode_count
-        = ap (λ (v : StoreState D). task_left v p) to ∙ ap (λ (x : TaskState). steps_left x.place o.table.inode_count) (ap (λ (ts : List TaskState). task ts p) tasks ∙ get_or-set_same s.tasks p u no_task inside) in
-        ((λ busy. absurd (false≢true (ap is_busy_at (sym stands) ∙ busy))), omega (arith, left, few), omega arith)
+        let left : task_left disk.image t p ≡ steps_left (current_of disk.image o.volume) u.place o.table.inode_count
+        = ap (λ (v : StoreState D). task_left disk.image v p) to ∙ ap (λ (x : TaskState). steps_left (current_of disk.image o.volume) x.place o.table.inode_count) (ap (λ (ts : List TaskState). task ts p) tasks ∙ get_or-set_same s.tasks p u no_task inside) in
+        ((λ busy. absurd (false≢true (ap is_busy_at (sym stands) ∙ busy))), omega (arith, left, few, few_behind (form_of opening)), omega arith)
 
-    begins_there : (op : Op) → steps_left (first_place op s.table.inode_count) s.table.inode_count < 1933
+    -- what comes behind the turn included
+    form_here : form_of (current_of disk.image s.volume) ≡ form_of opening
+    form_here = form_now disk.image opening s w p is.has
+
+    takes_few : most_behind (form_of (current_of disk.image s.volume)) ≡ most_behind (form_of opening)
+    takes_few = ap most_behind form_here
+
+    begins_there : (op : Op) → steps_left (current_of disk.image s.volume) (first_place op s.table.inode_count) s.table.inode_count ≤ most_behind (form_of opening) + 130
     begins_there op = by_op op
       where
-        by_op : (o : Op) → steps_left (first_place o s.table.inode_count) s.table.inode_count < 1933
-        by_op (Create kind) = let few = is.numbers in omega (arith, few)
-        by_op (Write i off bytes) = omega arith
-        by_op (Read i off m) = omega arith
-        by_op (Trunc i) = omega arith
-        by_op (Remove i) = omega arith
-        by_op (Stat i) = omega arith
+        by_op : (o : Op) → steps_left (current_of disk.image s.volume) (first_place o s.table.inode_count) s.table.inode_count ≤ most_behind (form_of opening) + 130
+        by_op (Create kind) = let few = is.few in let behind = most_elsewhere (form_of opening) in omega (arith, few, behind)
+        by_op (Write i off bytes) = let few = takes_few in omega (arith, few)
+        by_op (Read i off m) = let few = takes_few in omega (arith, few)
+        by_op (Trunc i) = let few = takes_few in omega (arith, few)
+        by_op (Remove i) = let few = takes_few in omega (arith, few)
+        by_op (Stat i) = let few = takes_few in omega (arith, few)
 
     begins : (what : Option Waiting) (ahead : List Op) (r : Step) → (process w p).at ≡ at.Idle → w.is_shut ≡ false → BeginsWith what s w p ahead side r t z → Made r
     begins what ahead r stands free (inl made) =
         let same = ap (λ (o : StoreState D). o.volume.log.committed) made.store in
         subst Made (sym made.answer)
         (goes step.Moved _ _ made.world refl refl (inl free) (inl refl) (counted_at at.Idle step.Moved stands (omega (arith, same)))
-        (begins_others (with_begun s p made.op) _ made.store refl refl (alone (ap is_quiet (let_in s.volume.log.commit _ s.volume.log.outstanding made.free).0)) (omega arith))
+        (begins_others (with_begun s p made.op) _ made.store refl refl refl (alone (ap is_quiet (let_in s.volume.log.commit _ s.volume.log.outstanding made.free).0)) (omega arith))
         (λ moved. begins_few (with_begun s p made.op) (record { op = Some made.op; place = first_place made.op s.table.inode_count; gathered = None }) ((process w p).begun + 1) (begun s.volume.log p).opened made.op None made.store refl stands (begins_there made.op)))
     begins what ahead r stands free (inr (inl made)) =
         let same = ap (λ (o : StoreState D). o.volume.log) made.store in
         let committed = ap (λ (l : LogState). l.committed) same in
         subst Made (sym made.answer)
         (goes step.Moved _ _ made.world refl refl (inl free) (inl refl) (counted_at at.Idle step.Moved stands (omega (arith, committed)))
-        (begins_others (with_look s p made.op (room_for made.count)) _ made.store refl refl (λ q apart commits. same) (omega arith))
-        (λ moved. begins_few (with_look s p made.op (room_for made.count)) (record { op = Some made.op; place = place.Taking (record { number = asked made.op; at = lock_at.Reference }); gathered = room_for made.count }) ((process w p).begun + 1) 0 made.op (room_for made.count) made.store refl stands (omega arith)))
+        (begins_others (with_look s p made.op (room_for made.count)) _ made.store refl refl refl (λ q apart commits. same) (omega arith))
+        (λ moved. begins_few (with_look s p made.op (room_for made.count)) (record { op = Some made.op; place = place.Taking (record { number = asked made.op; at = lock_at.Reference }); gathered = room_for made.count }) ((process w p).begun + 1) 0 made.op (room_for made.count) made.store refl stands (let few = takes_few in omega (arith, few))))
     begins what ahead r stands free (inr (inr (inl made))) =
         let same = ap (λ (o : StoreState D). o.volume.log.committed) made.store in
         subst Made (sym made.answer)
@@ -249,16 +258,16 @@ module _ {D N : Type 0} (disk : Ghosts D N) (opening : Image) (p : ℕ) (s t : S
     stops op same more q done = ends_of disk s p op q t (task s.tasks p).place same (is.agrees.stands p) (is.looks.stand p) more done.goes
 
     -- it is open in the log, where nobody commits then, or leaves the log
-    others_of : (op : Op) → is_over (task s.tasks p).place ≡ false → (q : TaskProgress) → Steps disk s p op q t → LeavesOthers p s w t
+    others_of : (op : Op) → is_over (task s.tasks p).place ≡ false → (q : TaskProgress) → Steps disk s p op q t → LeavesOthers disk.image p s w t
     others_of op more q done = record {
-      tasks = done.tasks.others;
-      numbers = done.tasks.numbers;
+      left = λ other apart. ap (λ (m : ℕ). steps_left (current_of disk.image t.volume) (task t.tasks other).place m) done.tasks.numbers
+          ∙ others_left disk s p op q t is.looks is.numbers done other apart;
       log = ⊎_elim (λ used. alone (quiet_if_open s.volume.log p (log_of disk.image opening s w p is) used)) (λ same q apart commits. same) (logs_of disk s p op q t (task s.tasks p).place more (is.agrees.stands p) done.goes);
       reads = let same = done.groups.committed in reads_up s.volume.log t.volume.log (omega (arith, same)) (inl done.groups.commit);
     }
 
-    falls_here : (op : Op) → is_over (task s.tasks p).place ≡ false → (q : TaskProgress) → is_made q ≡ true → Steps disk s p op q t → task_left t p < task_left s p
-    falls_here op more q made done = subst (λ (m : ℕ). steps_left (task t.tasks p).place m < task_left s p) (sym done.tasks.numbers) (done.falls made more)
+    falls_here : (op : Op) → is_over (task s.tasks p).place ≡ false → (q : TaskProgress) → is_made q ≡ true → Steps disk s p op q t → task_left disk.image t p < task_left disk.image s p
+    falls_here op more q made done = subst (λ (m : ℕ). steps_left (current_of disk.image t.volume) (task t.tasks p).place m < task_left disk.image s p) (sym done.tasks.numbers) (done.falls made more)
 
     works : (group : ℕ) (op : Op) (r : Step) → (process w p).at ≡ at.Before group op → Works disk s w p op r t z → Made r
     works group op r stands made = subst Made (sym made.answer) (by_progress made.progress made.steps made.world)
@@ -282,7 +291,7 @@ module _ {D N : Type 0} (disk : Ghosts D N) (opening : Image) (p : ℕ) (s t : S
             let k = length w.journal.list in
             let now : turned w p reply over ≡ turned_from (at.Before group op) w p reply over = ap (λ (a : At). turned_from a w p reply over) stands in
             let less = falls_here op there.1 (progress.Turned reply) refl done in
-            let left = behind over (task_left t p) k in
+            let left = behind over (task_left disk.image t p) k in
             goes step.Moved (turned_from (at.Before group op) w p reply over) (record (process w p) { at = place_behind over group k }) (to ∙ now) refl refl (inr refl)
             (inr (inl (record { entry = entry_of p (process w p).begun op group reply; mine = refl; later = later_before disk.image opening s w p is group op stands; list = refl })))
             (counted_at (at.Before group op) step.Moved stands (omega (arith, same))) (others_of op there.1 (progress.Turned reply) done)
@@ -386,10 +395,9 @@ module _ {D N : Type 0} (disk : Ghosts D N) (opening : Image) (p : ℕ) (s t : S
         counted : CountsCommitted holds step.Moved (at.Ending group k) s.volume.log t.volume.log
         counted = ap (λ (l : LogState). l.committed) log ∙ ended_count s.volume.log p (open_of s.volume.log p (log_of disk.image opening s w p is) used)
 
-        others : LeavesOthers p s w t
+        others : LeavesOthers disk.image p s w t
         others = record {
-          tasks = λ q apart. ap (λ (o : StoreState D). task o.tasks q) made.store;
-          numbers = ap (λ (o : StoreState D). o.table.inode_count) made.store;
+          left = λ q apart. ap (λ (o : StoreState D). task_left disk.image o q) made.store;
           log = alone (quiet_if_open s.volume.log p (log_of disk.image opening s w p is) used);
           reads = reads_up s.volume.log t.volume.log (at_least _ s.volume.log.committed t.volume.log.committed counted) (inr (open_of s.volume.log p (log_of disk.image opening s w p is) used).quiet);
         }
@@ -421,10 +429,11 @@ module _ {D N : Type 0} (disk : Ghosts D N) (opening : Image) (p : ℕ) (s t : S
         makes q well done = commit_makes disk s.volume.device s.volume.buffers log t.volume.device t.volume.buffers t.volume.log q well done.volume.write
 
         -- one commits at most
-        others : (q : Committed) → Commits disk s q t → LeavesOthers p s w t
+        others : (q : Committed) → Commits disk s q t → LeavesOthers disk.image p s w t
         others q done = record {
-          tasks = λ q apart. ap (λ ts. task ts q) done.tasks;
-          numbers = ap (λ (o : TableState). o.inode_count) done.table;
+          left = λ q apart. ap (λ (ts : List TaskState). steps_left (current_of disk.image t.volume) (task ts q).place t.table.inode_count) done.tasks
+              ∙ ap (λ (o : TableState). steps_left (current_of disk.image t.volume) (task s.tasks q).place o.inode_count) done.table
+              ∙ left_outside (current_of disk.image s.volume) s.table s.tasks is.looks is.numbers (current_of disk.image t.volume) q done.volume.current;
           log = λ q apart other. absurd (apart (is.has.alone.sole q p other (ap is_committing_at stands)));
           reads = reads_on (commit_log disk s.volume.device s.volume.buffers log t.volume.device t.volume.buffers t.volume.log q done.volume.write);
         }

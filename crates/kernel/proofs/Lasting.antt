@@ -3,12 +3,15 @@ use Rattle.std.proofs.Common.{◌≡◌, ◌≢◌, ⊎_elim, ℕ, Bool, true, f
 use Rattle.wal.specs.declared.types.DeviceFault.{DeviceFault}
 use Rattle.std.specs.Prelude.{IfSome}
 use Rattle.std.proofs.lemmas.Bool.{cases_eq, false≢true}
+use Rattle.blocks.specs.Disk.{Image}
 use Rattle.blocks.specs.declared.disk.Disk.{Ghosts}
 use Rattle.blocks.specs.declared.errors.DiskFault.{DiskFault}
 use Rattle.model.specs.declared.types.image.Dinode.{Dinode}
 use Rattle.model.specs.declared.types.operations.Op.{Op}
 use Rattle.model.specs.declared.types.operations.TaskProgress.TheVariants as progress
-use Rattle.model.specs.Layout.{inode_of}
+use Rattle.model.specs.Agreement.{IsSameOutsideLog}
+use Rattle.model.specs.declared.types.image.Form.{Form}
+use Rattle.model.specs.Layout.{form_of, inode_of}
 use Rattle.wal.specs.Machine.{LogState}
 use Rattle.driver.specs.declared.progress.Progress.{Progress}
 use Rattle.driver.specs.declared.progress.Progress.TheVariants as machine
@@ -18,7 +21,7 @@ use Rattle.inodes.specs.declared.tasks.Place.{Place}
 use Rattle.inodes.specs.declared.tasks.Place.TheVariants as place
 use Rattle.inodes.specs.Goes.{Goes, GoesFrom, shown_of, progress_of_lock, place_of_lock, progress_of_read, place_of_reading, progress_of_trunc, place_of_trunc, table_of_trunc, progress_of_write, place_of_writing, table_of_writing}
 use Rattle.inodes.specs.Ilock.{LockSteps, Locks}
-use Rattle.inodes.specs.Lemmas.Bounds.{few_in_task}
+use Rattle.inodes.specs.Lemmas.StepsLeft.{failed_left, left_outside, others_left}
 use Rattle.inodes.specs.Lemmas.Faults.{where_none}
 use Rattle.inodes.specs.Lemmas.StepEnds.{logs_of}
 use Rattle.inodes.specs.LockState.{LockState}
@@ -26,15 +29,17 @@ use Rattle.inodes.specs.Places.{is_over, steps_left}
 use Rattle.inodes.specs.Steps.{Steps}
 use Rattle.inodes.specs.Store.{StoreState, IsStore, current_of}
 use Rattle.inodes.specs.Table.{TableState, copy_at, holder_at}
-use Rattle.inodes.specs.Tasks.{TaskState, task}
+use Rattle.inodes.specs.Tasks.{task}
 use Rattle.inodes.specs.Writing.{extent_of}
 use Rattle.journal.specs.Alone.{is_committing_at}
 use Rattle.journal.specs.Lemmas.Alone.{none_commits, quiet_if_open}
-use Rattle.journal.specs.Lemmas.Bounds.{left_same, steps_few}
+use Rattle.journal.specs.Lemmas.Bounds.{left_same}
 use Rattle.journal.specs.Processes.{World, process}
+use Rattle.kernel.specs.Bound.{task_left}
 use Rattle.kernel.specs.Invariant.{HasFacts, IsRight}
 use Rattle.kernel.specs.Lasting.{HaveLocks, Lasts}
 use Rattle.kernel.specs.State.{ats_of}
+use Rattle.kernel.proofs.Bounds.{few_steps}
 use Rattle.kernel.proofs.UnderWay.{has_lock, under_way}
 
 -- where a task stands whose step failed, and the table, stay
@@ -64,8 +69,8 @@ module _ {D N : Type 0} (disk : Ghosts D N) (s : StoreState D) (p : ℕ) (op : O
       by_slot (Some i) goes = absurd goes
   stays (place.Taking m) goes = by_answer goes.0.answer goes.0.gives goes.0.next goes.0.locks
     where
-      by_answer : (x : Progress Bool) → progress.Fault fault ≡ progress_of_lock (inode_of (current_of disk.image s.volume) m.number) op x
-          → (task t.tasks p).place ≡ place_of_lock (extent_of s.table.inode_count s.volume.log.size) (inode_of (current_of disk.image s.volume) m.number) op m goes.0.now x
+      by_answer : (x : Progress Bool) → progress.Fault fault ≡ progress_of_lock s.table.form (inode_of (current_of disk.image s.volume) m.number) op x
+          → (task t.tasks p).place ≡ place_of_lock (extent_of s.table.form s.table.inode_count s.volume.log.size) (inode_of (current_of disk.image s.volume) m.number) op m goes.0.now x
           → LockSteps disk m.at s.table s.volume p m x t.table t.volume goes.0.now → Stays (place.Taking m) s p t
       by_answer machine.Moved is next locks = absurd (cc is)
       by_answer (machine.Sleeping why) is next locks = absurd (cc is)
@@ -96,23 +101,26 @@ module _ {D N : Type 0} (disk : Ghosts D N) (s : StoreState D) (p : ℕ) (op : O
   stays (place.Leaving k) goes = let no = goes.0 in absurd (cc no)
 
 module _ {D N : Type 0} (disk : Ghosts D N) (opening : D) (s : StoreState D) (w : World) (store : IsStore disk.image s) (right : IsRight disk opening s w) where
+  abbrev form : Form
+  form = form_of (disk.image opening)
+
   -- it is true whether the disk has failed or not
-  pub lasts_now : Lasts s w
+  pub lasts_now : Lasts disk.image form s w
   lasts_now = by_fault s.volume.fault refl right.lasts
     where
-      by_fault : (o : Option DeviceFault) → s.volume.fault ≡ o → IfSome o (λ (f : DeviceFault). Lasts s w) → Lasts s w
+      by_fault : (o : Option DeviceFault) → s.volume.fault ≡ o → IfSome o (λ (f : DeviceFault). Lasts disk.image form s w) → Lasts disk.image form s w
       by_fault None well lasts =
           let looks = where_none s.volume.fault well store.looks in
           let has : HasFacts disk.image (disk.image opening) s w = where_none s.volume.fault well right.facts in
           record {
             locks = has_lock disk.image s w right.paired looks;
             unanswered = under_way disk.image s w right.paired (disk.image opening) has;
-            left = λ p. steps_few (process w p).at (steps_left (task s.tasks p).place s.table.inode_count) s.volume.log has.facts.valid.log (few_in_task (current_of disk.image s.volume) s.table p s.tasks store.geometry store.numbers looks);
+            left = λ p. few_steps disk.image (disk.image opening) s w p has looks store.numbers;
           }
       by_fault (Some fault) failed lasts = lasts
 
   -- so it is after a step of a task that failed
-  pub lasts_failed : (p : ℕ) (op : Op) (fault : DiskFault) (t : StoreState D) → s.volume.fault ≡ None → Steps disk s p op (progress.Fault fault) t → Lasts t w
+  pub lasts_failed : (p : ℕ) (op : Op) (fault : DiskFault) (t : StoreState D) → s.volume.fault ≡ None → Steps disk s p op (progress.Fault fault) t → Lasts disk.image form t w
   lasts_failed p op fault t well steps = record {
     locks = subst (λ (u : TableState). HaveLocks u w) (sym here.table) lasts_now.locks;
     unanswered = lasts_now.unanswered;
@@ -126,19 +134,20 @@ module _ {D N : Type 0} (disk : Ghosts D N) (opening : D) (s : StoreState D) (w 
       here = stays disk s p op fault t (task s.tasks p).place steps.goes
 
       old : ℕ → ℕ
-      old q = steps_left (task s.tasks q).place s.table.inode_count
+      old q = task_left disk.image s q
 
       new : ℕ → ℕ
-      new q = steps_left (task t.tasks q).place t.table.inode_count
+      new q = task_left disk.image t q
 
-      place_same : (q : ℕ) → (task t.tasks q).place ≡ (task s.tasks q).place
-      place_same q = ⊎_elim
-          (λ (same : q ≡ p). subst (λ (o : ℕ). (task t.tasks o).place ≡ (task s.tasks o).place) (sym same) here.place_stays)
-          (λ (apart : q ≢ p). ap (λ (u : TaskState). u.place) (steps.tasks.others q apart))
-          (cases_eq q p)
+      now : Image
+      now = current_of disk.image t.volume
 
       left_stays : (q : ℕ) → new q ≡ old q
-      left_stays q = ap (λ (a : Place). steps_left a t.table.inode_count) (place_same q) ∙ ap (λ (n : ℕ). steps_left (task s.tasks q).place n) steps.tasks.numbers
+      left_stays q = ap (λ (n : ℕ). steps_left now (task t.tasks q).place n) steps.tasks.numbers ∙ ⊎_elim
+          (λ (same : q ≡ p). subst (λ (o : ℕ). steps_left now (task t.tasks o).place s.table.inode_count ≡ old o) (sym same)
+          (ap (λ (a : Place). steps_left now a s.table.inode_count) here.place_stays ∙ failed_left disk s p op fault t steps))
+          (λ (apart : q ≢ p). others_left disk s p op (progress.Fault fault) t (where_none s.volume.fault well store.looks) store.numbers steps q apart)
+          (cases_eq q p)
 
       log_stays : (q : ℕ) → is_committing_at (process w q).at ≡ true → t.volume.log ≡ s.volume.log
       log_stays q commits = ⊎_elim
@@ -147,9 +156,12 @@ module _ {D N : Type 0} (disk : Ghosts D N) (opening : D) (s : StoreState D) (w 
           (logs_of disk s p op (progress.Fault fault) t (task s.tasks p).place here.unfinished ((where_none s.volume.fault well store.agrees).stands p) steps.goes)
 
   -- and after a write that failed
-  pub lasts_unwritten : (t : StoreState D) → t.tasks ≡ s.tasks → t.table ≡ s.table → t.volume.log ≡ s.volume.log → Lasts t w
-  lasts_unwritten t tasks table log = record {
+  pub lasts_unwritten : (t : StoreState D) → s.volume.fault ≡ None → IsSameOutsideLog (current_of disk.image s.volume) (current_of disk.image t.volume) →
+      t.tasks ≡ s.tasks → t.table ≡ s.table → t.volume.log ≡ s.volume.log → Lasts disk.image form t w
+  lasts_unwritten t well same tasks table log = record {
     locks = subst (λ (u : TableState). HaveLocks u w) (sym table) lasts_now.locks;
     unanswered = lasts_now.unanswered;
-    left = λ q. rw (tasks, table, log) (lasts_now.left q);
+    left = λ q.
+        let stays = left_outside (current_of disk.image s.volume) s.table s.tasks (where_none s.volume.fault well store.looks) store.numbers (current_of disk.image t.volume) q same in
+        rw (tasks, table, log, stays) (lasts_now.left q);
   }

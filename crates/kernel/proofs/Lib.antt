@@ -2,6 +2,7 @@ pub mod Pairing
 pub mod Valid
 pub mod LogCalls
 pub mod TaskSteps
+mod Bounds
 pub mod Committing
 pub mod Answering
 pub mod Ports

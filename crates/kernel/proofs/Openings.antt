@@ -1,16 +1,16 @@
 -- What a kernel that is opened has.
-use Rattle.std.proofs.Common.{get_or, ◌≡◌, ℕ, ◌+◌, ◌*◌, ◌<◌, ◌≤◌, true, cond, eqb, List, [], length, replicate, sym, ◌∙◌, ap, subst, arith, ⊎_elim, None, Err, inl, inr}
+use Rattle.std.proofs.Common.{get_or, ◌≡◌, ℕ, ◌+◌, ◌*◌, ◌<◌, ◌≤◌, true, cond, List, [], length, replicate, refl, sym, ◌∙◌, ap, subst, arith, ⊎_elim, None, Err, inl, inr}
 use Rattle.std.specs.Prelude.{count_by, Result, Ok, IfOk, OnErr, ◌⊎◌}
 use Rattle.std.proofs.lemmas.Bool.{cases_lt, false≢true}
 use Rattle.std.proofs.lemmas.List.{get_or-replicate, get_or_past, length-replicate}
 use Rattle.std.proofs.lemmas.List.Folds.{sum_by-replicate}
-use Rattle.blocks.specs.Disk.{Image, Rose, counted}
-use Rattle.model.specs.Layout.{super_of, inode_count_of, is_lawful_super, magic_of}
+use Rattle.blocks.specs.Disk.{Image, Rose, block_at, counted}
+use Rattle.model.specs.Layout.{form_of, super_of, inode_count_of, is_known_magic, is_lawful_super}
 use Rattle.model.specs.Log.{is_lawful_log, logged_count, recovered}
 use Rattle.model.specs.Fields.{u32_at}
 use Rattle.model.specs.Crash.{Keeps}
 use Rattle.model.specs.declared.types.operations.Entry.{Entry}
-use Rattle.model.specs.declared.types.image.Form.TheVariants.{One}
+use Rattle.model.specs.declared.types.image.Form.{Form}
 use Rattle.model.specs.Verdict.{verdict}
 use Rattle.model.specs.declared.types.image.Super.{Super}
 use Rattle.model.specs.Lemmas.Log.{recovered_low, length-recovered}
@@ -50,7 +50,7 @@ opens_again opening x journal c k =
     let one = recovered_low x 1 k.log (omega arith) (omega arith) (omega (arith, long, size)) in
     sound_verdict x (
       record {
-        magic = ap (λ b. eqb (u32_at b 0) (magic_of One)) (sym one) ∙ k.sound.geometry.magic;
+        magic = ap (λ b. is_known_magic (u32_at b 0)) (sym one) ∙ k.sound.geometry.magic;
         fields = ap (λ s. is_lawful_super s (length x)) (sym (super_of-recovered x k.log (omega (arith, long, size))))
             ∙ ap (is_lawful_super (super_of (recovered x))) (sym size) ∙ k.sound.geometry.fields;
       },
@@ -94,6 +94,16 @@ opened_numbers x y sup none new is =
     let long = long_geometry x sound.0 in
     ap (λ (s : Super). s.ninodes) (new ∙ sym (super_of-recovered x sound.1 (omega (arith, long)))) ∙ sym (ap inode_count_of is)
 
+-- and of the form that it has
+pub opened_form : (x y : Image) (form : Form) → verdict x ≡ None → form ≡ form_of x → y ≡ recovered x → form ≡ form_of y
+opened_form x y form none told is =
+    let sound = verdict_sound x none in
+    let long = long_geometry x sound.0 in
+    told ∙ sym (form_alike (recovered x) x (recovered_low x 1 sound.1 (omega arith) (omega arith) (omega (arith, long)))) ∙ sym (ap form_of is)
+  where
+    form_alike : (y x : Image) → block_at y 1 ≡ block_at x 1 → form_of y ≡ form_of x
+    form_alike y x same = rw same refl
+
 pub counted_new : (opened n : ℕ) → opened ≡ 0 → IsCounted opened (fresh_world n)
 counted_new opened n none = record {
   room = sym (none_before n);
@@ -135,7 +145,8 @@ recover_unwritten T disk d e f recover.NoMemory reads looks same = inr (ap disk.
 recover_unwritten T disk d e f recover.Sync reads looks same = inl tt
 
 -- a store by its parts
-pub store_is : {D : Type 0} (v u : VolumeState D) (ts us : List TaskState) (m n : ℕ) → v ≡ u → ts ≡ us → m ≡ n
-    → (let made : StoreState D = record { volume = v; tasks = ts; table = new_table m } in made) ≡ record { volume = u; tasks = us; table = new_table n }
-store_is v u ts us m n volume tasks numbers = ap (λ (w : VolumeState _). record { volume = w; tasks = ts; table = new_table m }) volume ∙ ap (λ (l : List TaskState). record { volume = u; tasks = l; table = new_table m }) tasks
-    ∙ ap (λ (k : ℕ). record { volume = u; tasks = us; table = new_table k }) numbers
+pub store_is : {D : Type 0} (v u : VolumeState D) (ts us : List TaskState) (f g : Form) (m n : ℕ) → v ≡ u → ts ≡ us → f ≡ g → m ≡ n
+    → (let made : StoreState D = record { volume = v; tasks = ts; table = new_table f m } in made) ≡ record { volume = u; tasks = us; table = new_table g n }
+store_is v u ts us f g m n volume tasks form numbers =
+    ap (λ (w : VolumeState _). record { volume = w; tasks = ts; table = new_table f m }) volume ∙ ap (λ (l : List TaskState). record { volume = u; tasks = l; table = new_table f m }) tasks
+    ∙ ap (λ (h : Form). record { volume = u; tasks = us; table = new_table h m }) form ∙ ap (λ (k : ℕ). record { volume = u; tasks = us; table = new_table g k }) numbers

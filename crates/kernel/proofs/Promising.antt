@@ -4,14 +4,13 @@ use Rattle.std.specs.Prelude.{IfNone}
 use Rattle.std.proofs.lemmas.Bool.{cases_eq}
 use Rattle.blocks.specs.Disk.{Image, LeavesOnly}
 use Rattle.blocks.specs.declared.disk.Disk as disk_trait
-use Rattle.model.specs.Layout.{inode_count_of}
+use Rattle.model.specs.declared.types.image.Form.{Form}
+use Rattle.model.specs.Layout.{form_of, inode_count_of}
 use Rattle.ports.specs.declared.herald.Herald as herald_trait
 use Rattle.ports.specs.declared.intake.Intake as intake_trait
 use Rattle.wal.specs.Machine.{LogState}
 use Rattle.inodes.specs.Lemmas.Faults.{where_none}
-use Rattle.inodes.specs.Places.{steps_left}
 use Rattle.inodes.specs.Store.{IsStore}
-use Rattle.inodes.specs.Tasks.{TaskState, task}
 use Rattle.journal.specs.declared.types.Process.{Process}
 use Rattle.journal.specs.Bound.{all_steps_left}
 use Rattle.journal.specs.Keeps.{KeepsNow, KeepsBetween, most_of}
@@ -21,16 +20,16 @@ use Rattle.journal.specs.Processes.{process}
 use Rattle.kernel.specs.declared.types.Step.{Step}
 use Rattle.kernel.specs.declared.types.Step.TheVariants as step
 use Rattle.kernel.specs.Awake.{IsAwake}
-use Rattle.kernel.specs.Bound.{TakesOne, GivesNone, left_of}
+use Rattle.kernel.specs.Bound.{TakesOne, GivesNone, left_of, step_bound, task_left}
 use Rattle.kernel.specs.Invariant.{Inv}
 use Rattle.kernel.specs.Progress.{KeepsShutdown}
 use Rattle.kernel.specs.State.{State}
 use Rattle.kernel.specs.Steps.{Acts, MakesStep}
-use Rattle.kernel.proofs.Events.{Event, event_of, task_left}
+use Rattle.kernel.proofs.Events.{Event, event_of}
 use Rattle.journal.specs.Lemmas.Places.{as_many, others_stay, there_now}
 use Rattle.kernel.proofs.Well.{IsWell, few_numbers}
 
-module _ {D I H : Type 0} (n : ℕ) (holds : Bool) (p : ℕ) (r : Step) (k m : State D I H) (lt : p < length k.world.processes) (e : Event n holds p k.store k.world m.store m.world r) where
+module _ {D I H : Type 0} (image : D → Image) (form : Form) (n : ℕ) (holds : Bool) (p : ℕ) (r : Step) (k m : State D I H) (lt : p < length k.world.processes) (e : Event image form n holds p k.store k.world m.store m.world r) where
   others_are : (q : ℕ) → q ≢ p → process m.world q ≡ process k.world q
   others_are q apart = others_stay k.world m.world p e.now e.processes q apart
 
@@ -46,20 +45,19 @@ module _ {D I H : Type 0} (n : ℕ) (holds : Bool) (p : ℕ) (r : Step) (k m : S
         (cases_eq q p);
   }
 
-  takes_one : r ≡ step.Moved → TakesOne k p m
-  takes_one moved =
-      let same : left_of m p ≡ all_steps_left e.now.at (task_left m.store p) m.store.volume.log = ap (λ (v : Process). all_steps_left v.at (task_left m.store p) m.store.volume.log) here in
+  takes_one : form_of (image m.opening) ≡ form → r ≡ step.Moved → TakesOne image k p m
+  takes_one its moved =
+      let same : left_of image m p ≡ all_steps_left e.now.at (task_left image m.store p) m.store.volume.log = ap (λ (v : Process). all_steps_left v.at (task_left image m.store p) m.store.volume.log) here in
       let fewer = e.bound moved in
       let few = fewer.1 in
       let some = fewer.2 in
-      record { falls = λ busy. let less = fewer.0 busy in omega (arith, same, less); few = omega (arith, same, few); some = omega (arith, same, some) }
+      record { falls = λ busy. let less = fewer.0 busy in omega (arith, same, less); few = subst (λ (f : Form). left_of image m p < step_bound f) (sym its) (omega (arith, same, few)); some = omega (arith, same, some) }
 
-  gives_none : GivesNone k p m
+  gives_none : GivesNone image k p m
   gives_none q apart =
-      let same : task_left m.store q ≡ task_left k.store q
-      = ap (λ (u : TaskState). steps_left u.place m.store.table.inode_count) (e.others.tasks q apart) ∙ ap (λ (c : ℕ). steps_left (task k.store.tasks q).place c) e.others.numbers in
-      subst (λ (u : Process). all_steps_left u.at (task_left m.store q) m.store.volume.log ≤ left_of k q) (sym (others_are q apart))
-      (left_same (process k.world q).at (task_left k.store q) (task_left m.store q) k.store.volume.log m.store.volume.log (omega (arith, same))
+      let same = e.others.left q apart in
+      subst (λ (u : Process). all_steps_left u.at (task_left image m.store q) m.store.volume.log ≤ left_of image k q) (sym (others_are q apart))
+      (left_same (process k.world q).at (task_left image k.store q) (task_left image m.store q) k.store.volume.log m.store.volume.log (omega (arith, same))
       (λ commits. let log = e.others.log q apart commits in (ap (λ (l : LogState). l.commit) log, ap (λ (l : LogState). length l.homes) log)))
 
 module _ {D N I M H : Type 0} (disk : disk_trait.Ghosts D N) (intake : intake_trait.Ghosts I M) (herald : herald_trait.Ghosts H) (p : ℕ) (r : Step) (k m : State D I H) where
@@ -72,7 +70,8 @@ module _ {D N I M H : Type 0} (disk : disk_trait.Ghosts D N) (intake : intake_tr
     has = where_none k.store.volume.fault well inv.right.facts;
     agrees = where_none k.store.volume.fault well store.agrees;
     looks = where_none k.store.volume.fault well store.looks;
-    numbers = few_numbers disk.image k.store store;
+    few = few_numbers disk.image k.store store;
+    numbers = store.numbers;
     count = inv.right.numbers;
   }
 
@@ -80,13 +79,13 @@ module _ {D N I M H : Type 0} (disk : disk_trait.Ghosts D N) (intake : intake_tr
       → ((x : Image) → disk.leaves k.store.volume.device (disk.moment k.store.volume.device) x → KeepsNow k.store.volume (disk.image k.opening) k.world.journal.list x)
       → Acts disk intake herald p r k m
       → ((x : Image) → disk.leaves m.store.volume.device (disk.moment m.store.volume.device) x → KeepsNow m.store.volume (disk.image m.opening) m.world.journal.list x)
-      → IfNone m.store.volume.fault (IsAwake m)
+      → IfNone m.store.volume.fault (IsAwake disk.image m)
       → MakesStep disk intake herald p r k m
   makes_step inv store lt before acts after awake =
       let opening = disk.image k.opening in
       let n = inode_count_of opening in
       let holds = disk.holding (disk.name k.store.volume.device) in
-      let e : Event n holds p k.store k.world m.store m.world r = event_of disk opening p k.store m.store k.world m.world _ _ _ r (well_of inv store lt) acts.next in
+      let e : Event disk.image (form_of opening) n holds p k.store k.world m.store m.world r = event_of disk opening p k.store m.store k.world m.world _ _ _ r (well_of inv store lt) acts.next in
       let leaves : LeavesOnly disk.moment disk.leaves k.store.volume.device m.store.volume.device (KeepsBetween k.store.volume.log.committed (most_of m.store.volume) opening m.world.journal.list)
       = leaves_between opening k.store.volume m.store.volume k.world.journal.list m.world.journal.list e.grows disk.moment disk.leaves before
       (subst (λ (o : D). (x : Image) → disk.leaves m.store.volume.device (disk.moment m.store.volume.device) x → KeepsNow m.store.volume (disk.image o) m.world.journal.list x) acts.opening after)
@@ -95,9 +94,9 @@ module _ {D N I M H : Type 0} (disk : disk_trait.Ghosts D N) (intake : intake_tr
         acts = acts;
         many = as_many k.world m.world p e.now e.processes;
         committed = e.committed;
-        shut = keeps_shutdown n holds p r k m lt e;
-        bound = takes_one n holds p r k m lt e;
-        others = gives_none n holds p r k m lt e;
+        shut = keeps_shutdown disk.image (form_of opening) n holds p r k m lt e;
+        bound = takes_one disk.image (form_of opening) n holds p r k m lt e (ap (λ (o : D). form_of (disk.image o)) acts.opening);
+        others = gives_none disk.image (form_of opening) n holds p r k m lt e;
         awake = awake;
         keeps = after;
         grows = e.grows;

@@ -7,7 +7,8 @@ use Rattle.blocks.specs.Calls.{OnlyReads}
 use Rattle.blocks.specs.Lemmas.Moments.{now_stays}
 use Rattle.blocks.specs.declared.disk.Disk.{Ghosts}
 use Rattle.wal.specs.declared.types.DeviceFault.{DeviceFault}
-use Rattle.model.specs.Layout.{inode_count_of}
+use Rattle.model.specs.declared.types.image.Form.{Form}
+use Rattle.model.specs.Layout.{form_of, inode_count_of}
 use Rattle.wal.specs.Volume.{faults_after}
 use Rattle.inodes.specs.Lemmas.Faults.{if_none, if_some, where_none}
 use Rattle.inodes.specs.Store.{StoreState}
@@ -21,9 +22,9 @@ use Rattle.kernel.specs.View.{view_of}
 use Rattle.kernel.specs.Invariant.{IsRight, HasFacts, ArePaired}
 use Rattle.journal.specs.Counting.{IsCounted}
 
-unfailed : {D : Type 0} (s : StoreState D) (w : World) (o : Option DeviceFault) → o ≡ None → IfSome o (λ (f : DeviceFault). Lasts s w)
-unfailed s w None none = tt
-unfailed s w (Some fault) none = absurd (cc none)
+unfailed : {D : Type 0} (image : D → Image) (form : Form) (s : StoreState D) (w : World) (o : Option DeviceFault) → o ≡ None → IfSome o (λ (f : DeviceFault). Lasts image form s w)
+unfailed image form s w None none = tt
+unfailed image form s w (Some fault) none = absurd (cc none)
 
 module _ {D N : Type 0} (disk : Ghosts D N) (opening : D) where
   -- while the disk has not failed
@@ -36,7 +37,7 @@ module _ {D N : Type 0} (disk : Ghosts D N) (opening : D) where
         paired = paired;
         counted = counted;
         facts = if_none s.volume.fault has;
-        lasts = unfailed s w s.volume.fault well;
+        lasts = unfailed disk.image (form_of (disk.image opening)) s w s.volume.fault well;
         journal = has.facts.journal;
         replays = record { files = run.0; run = run.1 };
         keeps = subst (λ (o : Option DeviceFault). IfSome o (λ f. (x : Image) → disk.leaves s.volume.device (disk.moment s.volume.device) x → KeepsNow s.volume (disk.image opening) w.journal.list x)) (sym well) tt;
@@ -46,7 +47,7 @@ module _ {D N : Type 0} (disk : Ghosts D N) (opening : D) where
   -- and once it failed, with the same log
   pub right_failed : (s t : StoreState D) (w : World) (fault : DeviceFault) → IsRight disk opening s w → s.volume.fault ≡ None → t.volume.fault ≡ Some fault → t.table.inode_count ≡ s.table.inode_count → ArePaired t w
       → t.volume.log.opened ≡ s.volume.log.opened → ((x : Image) → disk.leaves t.volume.device (disk.moment t.volume.device) x → KeepsNow t.volume (disk.image opening) w.journal.list x)
-      → disk.fault_count t.volume.device ≡ one_more (disk.fault_count s.volume.device) → Lasts t w → IsRight disk opening t w
+      → disk.fault_count t.volume.device ≡ one_more (disk.fault_count s.volume.device) → Lasts disk.image (form_of (disk.image opening)) t w → IsRight disk opening t w
   right_failed s t w fault right well failed numbers paired same keeps faults lasts =
       let before : disk.fault_count s.volume.device ≡ disk.fault_count opening = right.faults ∙ ap (λ (o : Option DeviceFault). faults_after o (disk.fault_count opening)) well in
       record {
@@ -54,7 +55,7 @@ module _ {D N : Type 0} (disk : Ghosts D N) (opening : D) where
         paired = paired;
         counted = subst (λ (k : ℕ). IsCounted k w) (sym same) right.counted;
         facts = if_some (HasFacts disk.image (disk.image opening) t w) t.volume.fault fault failed;
-        lasts = subst (λ (o : Option DeviceFault). IfSome o (λ (f : DeviceFault). Lasts t w)) (sym failed) lasts;
+        lasts = subst (λ (o : Option DeviceFault). IfSome o (λ (f : DeviceFault). Lasts disk.image (form_of (disk.image opening)) t w)) (sym failed) lasts;
         journal = subst (λ (k : ℕ). IsJournal (inode_count_of (disk.image opening)) k w.journal.list) (sym same) right.journal;
         replays = right.replays;
         keeps = subst (λ (o : Option DeviceFault). IfSome o (λ f. (x : Image) → disk.leaves t.volume.device (disk.moment t.volume.device) x → KeepsNow t.volume (disk.image opening) w.journal.list x)) (sym failed) keeps;

@@ -6,6 +6,7 @@ use Rattle.std.specs.Prelude.{IfNone, IsSome}
 use Rattle.std.specs.List.{list_all, All, Contains}
 use Rattle.std.proofs.lemmas.Bool.{and_parts, both_ways, cases_eq, cases_lt, ltb-true}
 use Rattle.std.proofs.lemmas.List.{get_or_past}
+use Rattle.blocks.specs.Disk.{Image}
 use Rattle.blocks.specs.declared.disk.Disk as disk_trait
 use Rattle.model.specs.declared.types.operations.Op.{Op}
 use Rattle.model.specs.declared.types.operations.Reply.{Reply}
@@ -34,7 +35,7 @@ use Rattle.kernel.specs.declared.types.Step.TheVariants as step
 use Rattle.kernel.specs.declared.types.Turn.{Turn}
 use Rattle.kernel.specs.declared.types.Turn.TheVariants.{Proc, Shut}
 use Rattle.kernel.specs.Awake.{AreIdle, IsAwake, IsBusy, cause_by, cause_of}
-use Rattle.kernel.specs.Bound.{left_of, GivesNone}
+use Rattle.kernel.specs.Bound.{left_of, task_left, GivesNone}
 use Rattle.kernel.specs.Next.{NextAt, NextIf, step_of, step_behind, step_of_told, step_of_last, step_of_end, step_of_write, world_after, world_behind, world_ended, world_written, world_of_told, world_of_last}
 use Rattle.kernel.specs.Rounds.{IsRound, turns_of, sum_below, all_left, BeginsNone, RoundsEndAll}
 use Rattle.kernel.specs.Runs.{Makes, Runs, is_turn_of, with_shutdown}
@@ -42,7 +43,6 @@ use Rattle.kernel.specs.Sleeping.{SleepsForCause}
 use Rattle.kernel.specs.State.{State, ats_of}
 use Rattle.kernel.specs.Steps.{MakesStep}
 use Rattle.kernel.proofs.Awaking.{next_of, idle_not}
-use Rattle.kernel.proofs.Events.{task_left}
 use Rattle.kernel.proofs.Begun.{Grows, next_grows, took_none}
 
 -- ---- sums
@@ -93,11 +93,6 @@ record Stays {D I H : Type 0} (k m : State D I H) : Type 0 where
   ats : (q : ℕ) → ats_of m.world q ≡ ats_of k.world q
 
 module _ {D I H : Type 0} where
-  -- no step is given, and process p took one
-  record Takes (p : ℕ) (k m : State D I H) : Type 0 where
-    falls : left_of m p < left_of k p
-    others : GivesNone k p m
-
   stays_refl : (k m : State D I H) → m ≡ k → Stays k m
   stays_refl k m is = record { store = ap (λ (j : State D I H). j.store) is; ats = λ q. ap (λ (j : State D I H). ats_of j.world q) is }
 
@@ -115,11 +110,6 @@ module _ {D I H : Type 0} where
       ap (λ (a : At). cause_by a (sleep_cause m.store q)) (stays.ats q)
       ∙ ap (λ (s : StoreState D). cause_by (ats_of k.world q) (sleep_cause s q)) stays.store
 
-  left_stays : (k m : State D I H) (q : ℕ) → Stays k m → left_of m q ≡ left_of k q
-  left_stays k m q stays =
-      ap (λ (a : At). all_steps_left a (task_left m.store q) m.store.volume.log) (stays.ats q)
-      ∙ ap (λ (s : StoreState D). all_steps_left (ats_of k.world q) (task_left s q) s.volume.log) stays.store
-
   busy_inside : (k : State D I H) (p : ℕ) → IsBusy k p → p < length k.world.processes
   busy_inside k p busy = elim (cases_lt p (length k.world.processes)) [
     | inl lt ↦ lt
@@ -128,11 +118,22 @@ module _ {D I H : Type 0} where
         let unlike : false ≡ true = sym (ap (λ (t : Process). is_busy_at t.at) none) ∙ busy in absurd (cc unlike)
   ]
 
-  idle_left : (k : State D I H) (q : ℕ) → ats_of k.world q ≡ at.Idle → left_of k q ≡ 0
-  idle_left k q is = ap (λ (a : At). all_steps_left a (task_left k.store q) k.store.volume.log) is
+module _ {D I H : Type 0} (image : D → Image) where
+  -- no step is given, and process p took one
+  record Takes (p : ℕ) (k m : State D I H) : Type 0 where
+    falls : left_of image m p < left_of image k p
+    others : GivesNone image k p m
+
+  left_stays : (k m : State D I H) (q : ℕ) → Stays k m → left_of image m q ≡ left_of image k q
+  left_stays k m q stays =
+      ap (λ (a : At). all_steps_left a (task_left image m.store q) m.store.volume.log) (stays.ats q)
+      ∙ ap (λ (s : StoreState D). all_steps_left (ats_of k.world q) (task_left image s q) s.volume.log) stays.store
+
+  idle_left : (k : State D I H) (q : ℕ) → ats_of k.world q ≡ at.Idle → left_of image k q ≡ 0
+  idle_left k q is = ap (λ (a : At). all_steps_left a (task_left image k.store q) k.store.volume.log) is
 
   -- a shutdown leaves who goes on
-  shut_awake : (k : State D I H) (o : Option DeviceFault) → IfNone o (IsAwake k) → IfNone o (IsAwake (with_shutdown k))
+  shut_awake : (k : State D I H) (o : Option DeviceFault) → IfNone o (IsAwake image k) → IfNone o (IsAwake image (with_shutdown k))
   shut_awake k None was = record {
     under_way = λ p busy. let one = was.under_way p busy in record { pid = one.pid; busy = one.busy; goes = one.goes };
     begins = was.begins;
@@ -159,16 +160,16 @@ module _ {D N I M H : Type 0} (disk : disk_trait.Ghosts D N) (intake : intake_tr
   abbrev Waits : ℕ → State D I H → State D I H → Type 0
   Waits p k m = Stays k m × (IsBusy k p → cause_of k p ≢ None)
 
-  module _ (k m : State D I H) (p : ℕ) (r : Step) (well : k.store.volume.fault ≡ None) (still : m.store.volume.fault ≡ None) (awake : IsAwake k) (makes : MakesStep disk intake herald p r k m) where
+  module _ (k m : State D I H) (p : ℕ) (r : Step) (well : k.store.volume.fault ≡ None) (still : m.store.volume.fault ≡ None) (awake : IsAwake disk.image k) (makes : MakesStep disk intake herald p r k m) where
     abbrev Goes : Type 0
-    Goes = Takes p k m ⊎ Waits p k m
+    Goes = Takes disk.image p k m ⊎ Waits p k m
 
     moved : IsBusy k p → r ≡ step.Moved → Goes
     moved busy is = inl (record { falls = (makes.bound is).falls busy; others = makes.others })
 
     given : IsBusy k p → ats_of m.world p ≡ at.Idle → Goes
     given busy is =
-        let none = idle_left m p is in
+        let none = idle_left disk.image m p is in
         let some = awake.left p busy in
         inl (record { falls = omega (arith, none, some); others = makes.others })
 
@@ -246,7 +247,7 @@ module _ {D N I M H : Type 0} (disk : disk_trait.Ghosts D N) (intake : intake_tr
     many : length m.world.processes ≡ length k.world.processes
     grows : Grows k.world m.world
     well : m.store.volume.fault ≡ None → k.store.volume.fault ≡ None
-    awake : IfNone k.store.volume.fault (IsAwake k) → IfNone m.store.volume.fault (IsAwake m)
+    awake : IfNone k.store.volume.fault (IsAwake disk.image k) → IfNone m.store.volume.fault (IsAwake disk.image m)
 
   turn_keeps : (t : Turn) (k m : State D I H) → Makes disk intake herald t k m → Keeps k m
   turn_keeps (Proc p) k m made =
@@ -261,7 +262,7 @@ module _ {D N I M H : Type 0} (disk : disk_trait.Ghosts D N) (intake : intake_tr
     many = ap (λ (j : State D I H). length j.world.processes) made;
     grows = λ q. let same = ap (λ (j : State D I H). (process j.world q).begun) made in omega (arith, same);
     well = λ still. ap (λ (j : State D I H). j.store.volume.fault) (sym made) ∙ still;
-    awake = λ was. subst (λ (j : State D I H). IfNone j.store.volume.fault (IsAwake j)) (sym made) (shut_awake k k.store.volume.fault was);
+    awake = λ was. subst (λ (j : State D I H). IfNone j.store.volume.fault (IsAwake disk.image j)) (sym made) (shut_awake disk.image k k.store.volume.fault was);
   }
 
   runs_keep : (ts : List Turn) (k m : State D I H) → Runs disk intake herald ts k m → Keeps k m
@@ -269,7 +270,7 @@ module _ {D N I M H : Type 0} (disk : disk_trait.Ghosts D N) (intake : intake_tr
     many = ap (λ (j : State D I H). length j.world.processes) is;
     grows = λ q. let same = ap (λ (j : State D I H). (process j.world q).begun) is in omega (arith, same);
     well = λ still. ap (λ (j : State D I H). j.store.volume.fault) (sym is) ∙ still;
-    awake = λ was. subst (λ (j : State D I H). IfNone j.store.volume.fault (IsAwake j)) (sym is) was;
+    awake = λ was. subst (λ (j : State D I H). IfNone j.store.volume.fault (IsAwake disk.image j)) (sym is) was;
   }
   runs_keep (t ∷ ts) k m run =
       let one = turn_keeps t k run.0 run.1 in
@@ -298,10 +299,10 @@ module _ {D N I M H : Type 0} (disk : disk_trait.Ghosts D N) (intake : intake_tr
   AllWait ts k = (q : ℕ) → Contains ts (Proc q) → IsBusy k q → cause_of k q ≢ None
 
   abbrev Outcome : ℕ → List Turn → State D I H → State D I H → Type 0
-  Outcome n ts k m = (sum_below (left_of m) n < sum_below (left_of k) n) ⊎ (Stays k m × AllWait ts k)
+  Outcome n ts k m = (sum_below (left_of disk.image m) n < sum_below (left_of disk.image k) n) ⊎ (Stays k m × AllWait ts k)
 
-  sum_stays : (n : ℕ) (k m : State D I H) → Stays k m → sum_below (left_of m) n ≡ sum_below (left_of k) n
-  sum_stays n k m stays = sum_same (left_of m) (left_of k) n (λ q. left_stays k m q stays)
+  sum_stays : (n : ℕ) (k m : State D I H) → Stays k m → sum_below (left_of disk.image m) n ≡ sum_below (left_of disk.image k) n
+  sum_stays n k m stays = sum_same (left_of disk.image m) (left_of disk.image k) n (λ q. left_stays disk.image k m q stays)
 
   only_turn : (p q : ℕ) → Contains (Proc p ∷ []) (Proc q) → p ≡ q
   only_turn p q (zero, lt, is) = cc is
@@ -312,11 +313,11 @@ module _ {D N I M H : Type 0} (disk : disk_trait.Ghosts D N) (intake : intake_tr
   no_turn q (suc i, lt, is) = omega (arith, lt)
 
   one_of : (n : ℕ) (t : Turn) (k m : State D I H) → length k.world.processes ≡ n → is_turn_of n t ≡ true → k.store.volume.fault ≡ None → m.store.volume.fault ≡ None →
-      IfNone k.store.volume.fault (IsAwake k) → Makes disk intake herald t k m → Same k m → Outcome n (t ∷ []) k m
+      IfNone k.store.volume.fault (IsAwake disk.image k) → Makes disk intake herald t k m → Same k m → Outcome n (t ∷ []) k m
   one_of n (Proc p) k m many inside well still awake made same =
       let lt : p < n = ltb-true p n inside in
       ⊎_elim
-      (λ (takes : Takes p k m). inl (sum_falls (left_of m) (left_of k) n p lt takes.falls takes.others))
+      (λ (takes : Takes disk.image p k m). inl (sum_falls (left_of disk.image m) (left_of disk.image k) n p lt takes.falls takes.others))
       (λ (waits : Waits p k m). inr (
         waits.0,
         λ (q : ℕ) (has : Contains (Proc p ∷ []) (Proc q)) (busy : IsBusy k q) (none : cause_of k q ≡ None).
@@ -334,7 +335,7 @@ module _ {D N I M H : Type 0} (disk : disk_trait.Ghosts D N) (intake : intake_tr
   all_wait t ts k j stays one rest q (zero, lt, is) busy none = one q (0, omega arith, is) busy none
   all_wait t ts k j stays one rest q (suc i, lt, is) busy none = rest q (i, omega (arith, lt), is) (busy_stays k j q stays busy) (cause_stays k j q stays ∙ none)
 
-  turns_go : (n : ℕ) (ts : List Turn) (k m : State D I H) → length k.world.processes ≡ n → IsTrue (list_all (is_turn_of n) ts) → IfNone k.store.volume.fault (IsAwake k) →
+  turns_go : (n : ℕ) (ts : List Turn) (k m : State D I H) → length k.world.processes ≡ n → IsTrue (list_all (is_turn_of n) ts) → IfNone k.store.volume.fault (IsAwake disk.image k) →
       Runs disk intake herald ts k m → Same k m → m.store.volume.fault ≡ None → Outcome n ts k m
   turns_go n [] k m many inside awake is same still = inr (stays_refl k m is, λ (q : ℕ) (has : Contains [] (Proc q)) (busy : IsBusy k q) (none : cause_of k q ≡ None). omega (arith, has.1))
   turns_go n (t ∷ ts) k m many inside awake run same still =
@@ -355,12 +356,12 @@ module _ {D N I M H : Type 0} (disk : disk_trait.Ghosts D N) (intake : intake_tr
   -- ---- rounds
 
   -- a round takes a step, where an operation is under way
-  round_falls : (ts : List Turn) (k m : State D I H) → IsRound (length k.world.processes) ts → IsAwake k → IfNone k.store.volume.fault (IsAwake k) →
-      Runs disk intake herald ts k m → Same k m → m.store.volume.fault ≡ None → (p : ℕ) → IsBusy k p → sum_below (left_of m) (length k.world.processes) < all_left k
+  round_falls : (ts : List Turn) (k m : State D I H) → IsRound (length k.world.processes) ts → IsAwake disk.image k → IfNone k.store.volume.fault (IsAwake disk.image k) →
+      Runs disk intake herald ts k m → Same k m → m.store.volume.fault ≡ None → (p : ℕ) → IsBusy k p → sum_below (left_of disk.image m) (length k.world.processes) < all_left disk.image k
   round_falls ts k m round awake all run same still p busy =
       let one = awake.under_way p busy in
       ⊎_elim
-      (λ (falls : sum_below (left_of m) (length k.world.processes) < all_left k). falls)
+      (λ (falls : sum_below (left_of disk.image m) (length k.world.processes) < all_left disk.image k). falls)
       (λ (waits : Stays k m × AllWait ts k). absurd (waits.1 one.pid (round.each one.pid (busy_inside k one.pid one.busy)) one.busy one.goes))
       (turns_go (length k.world.processes) ts k m refl round.turns all run same still)
 
@@ -374,15 +375,15 @@ module _ {D N I M H : Type 0} (disk : disk_trait.Ghosts D N) (intake : intake_tr
     | inr none ↦ inr (λ p. idle_not (ats_of k.world p) (none p))
   ]
 
-  idle_sum : (k : State D I H) (n : ℕ) → AreIdle k.world → sum_below (left_of k) n ≡ 0
-  idle_sum k n all = none_left (left_of k) n (λ q. idle_left k q (all q))
+  idle_sum : (k : State D I H) (n : ℕ) → AreIdle k.world → sum_below (left_of disk.image k) n ≡ 0
+  idle_sum k n all = none_left (left_of disk.image k) n (λ q. idle_left disk.image k q (all q))
 
   split : (ts us : List Turn) (k m : State D I H) → Runs disk intake herald (ts ++ us) k m → (j : State D I H) × Runs disk intake herald ts k j × Runs disk intake herald us j m
   split [] us k m run = (k, refl, run)
   split (t ∷ ts) us k m run = let rest = split ts us run.0 m run.2 in (rest.0, (run.0, run.1, rest.1), rest.2)
 
-  rounds_end : (n : ℕ) (rounds : List (List Turn)) (k m : State D I H) → length k.world.processes ≡ n → IfNone k.store.volume.fault (IsAwake k) → All (IsRound n) rounds →
-      sum_below (left_of k) n ≤ length rounds → Runs disk intake herald (turns_of rounds) k m → Same k m → m.store.volume.fault ≡ None → AreIdle m.world
+  rounds_end : (n : ℕ) (rounds : List (List Turn)) (k m : State D I H) → length k.world.processes ≡ n → IfNone k.store.volume.fault (IsAwake disk.image k) → All (IsRound n) rounds →
+      sum_below (left_of disk.image k) n ≤ length rounds → Runs disk intake herald (turns_of rounds) k m → Same k m → m.store.volume.fault ≡ None → AreIdle m.world
   rounds_end n [] k m many awake all few run same still = by (someone m)
     where
       by : Someone m → AreIdle m.world
@@ -391,7 +392,7 @@ module _ {D N I M H : Type 0} (disk : disk_trait.Ghosts D N) (intake : intake_tr
           let well : k.store.volume.fault ≡ None = ap (λ (j : State D I H). j.store.volume.fault) (sym run) ∙ still in
           let here : IsBusy k q = subst (λ (j : State D I H). IsBusy j q) run busy in
           let some = (where_none k.store.volume.fault well awake).left q here in
-          let part = part_of_sum (left_of k) n q (omega (arith, many, busy_inside k q here)) in
+          let part = part_of_sum (left_of disk.image k) n q (omega (arith, many, busy_inside k q here)) in
           absurd (omega (arith, few, some, part))
   rounds_end n (ts ∷ rounds) k m many awake all few run same still =
       let parts = split ts (turns_of rounds) k m run in
@@ -404,15 +405,15 @@ module _ {D N I M H : Type 0} (disk : disk_trait.Ghosts D N) (intake : intake_tr
       round : IsRound n ts
       round = all 0 [] (omega arith)
 
-      fewer : (j : State D I H) → Runs disk intake herald ts k j → k.store.volume.fault ≡ None → j.store.volume.fault ≡ None → Same k j → Someone k → sum_below (left_of j) n ≤ length rounds
+      fewer : (j : State D I H) → Runs disk intake herald ts k j → k.store.volume.fault ≡ None → j.store.volume.fault ≡ None → Same k j → Someone k → sum_below (left_of disk.image j) n ≤ length rounds
       fewer j first well there unchanged (inl (p, busy)) =
           let falls = round_falls ts k j (subst (λ (c : ℕ). IsRound c ts) (sym many) round) (where_none k.store.volume.fault well awake) awake first unchanged there p busy in
-          let less : sum_below (left_of j) n < sum_below (left_of k) n = subst (λ (c : ℕ). sum_below (left_of j) c < sum_below (left_of k) c) many falls in
+          let less : sum_below (left_of disk.image j) n < sum_below (left_of disk.image k) n = subst (λ (c : ℕ). sum_below (left_of disk.image j) c < sum_below (left_of disk.image k) c) many falls in
           omega (arith, less, few)
       fewer j first well there unchanged (inr idle) =
           let none = idle_sum k n idle in
           ⊎_elim
-          (λ (falls : sum_below (left_of j) n < sum_below (left_of k) n). absurd (omega (arith, falls, none)))
+          (λ (falls : sum_below (left_of disk.image j) n < sum_below (left_of disk.image k) n). absurd (omega (arith, falls, none)))
           (λ (waits : Stays k j × AllWait ts k). let stays = sum_stays n k j waits.0 in omega (arith, stays, none))
           (turns_go n ts k j many round.turns awake first unchanged there)
 

@@ -4,6 +4,7 @@ use Rattle.wal.specs.declared.types.DeviceFault.{DeviceFault}
 use Rattle.std.proofs.lemmas.Bool.{cases_eq, cases_lt}
 use Rattle.std.proofs.lemmas.List.{length-append}
 use Rattle.blocks.specs.declared.disk.Disk as disk_trait
+use Rattle.model.specs.declared.types.image.Form.{Form}
 use Rattle.model.specs.declared.types.operations.Entry.{Entry}
 use Rattle.model.specs.declared.types.operations.Op.{Op}
 use Rattle.model.specs.declared.types.operations.Op.TheVariants.{Write}
@@ -262,7 +263,7 @@ module _ {D N I M H : Type 0} (disk : disk_trait.Ghosts D N) (intake : intake_tr
 
     -- ---- its turn
 
-    module _ (s t : StoreState D) (w z : World) (extent : extent_of s.table.inode_count s.volume.log.size ≡ e) where
+    module _ (s t : StoreState D) (w z : World) (extent : extent_of s.table.form s.table.inode_count s.volume.log.size ≡ e) where
       abbrev Adds : Type 0
       Adds = AddsEntry p (process w p).at w.journal.list z.journal.list
 
@@ -368,7 +369,7 @@ module _ {D N I M H : Type 0} (disk : disk_trait.Ghosts D N) (intake : intake_tr
       starts_by None ahead side b r next adds = starts_at (process w p).at ahead side b r refl next adds
       starts_by (Some fault) ahead side b r next adds = absurd (none_added (ap (λ (v : World). v.journal.list) next.1.1) adds)
 
-    short_in_run : (ts : List Turn) (k m : State D I H) (run : Runs disk intake herald ts k m) (at_place : ℕ) (f : Entry) → HaveEntries k.world → extent_of k.store.table.inode_count k.store.volume.log.size ≡ e
+    short_in_run : (ts : List Turn) (k m : State D I H) (run : Runs disk intake herald ts k m) (at_place : ℕ) (f : Entry) → HaveEntries k.world → extent_of k.store.table.form k.store.table.inode_count k.store.volume.log.size ≡ e
         → length k.world.journal.list ≤ at_place → IsEntry m.world.journal.list at_place f → f.pid ≡ p → f.op ≡ op → f.reply ≡ Some (Wrote done)
         → SomeTurnMakes disk intake herald (SeesFull disk.image p e) p ts k m run
     short_in_run [] k m run at_place f have extent later stands mine asked has =
@@ -379,7 +380,7 @@ module _ {D N I M H : Type 0} (disk : disk_trait.Ghosts D N) (intake : intake_tr
         let back : with_shutdown k ≡ run.0 = sym run.1 in
         inr (short_in_run ts run.0 m run.2 at_place f
         (subst (λ (o : State D I H). HaveEntries o.world) back have)
-        (subst (λ (o : State D I H). extent_of o.store.table.inode_count o.store.volume.log.size ≡ e) back extent)
+        (subst (λ (o : State D I H). extent_of o.store.table.form o.store.table.inode_count o.store.volume.log.size ≡ e) back extent)
         (subst (λ (o : State D I H). length o.world.journal.list ≤ at_place) back later) stands mine asked has)
     short_in_run (Proc q ∷ ts) k m run at_place f have extent later stands mine asked has =
         inr (by_list (λ low. short_in_run ts run.0 m run.2 at_place f now same_extent low stands mine asked has) (added q (ats_of k.world q) k.world.journal.list run.0.world.journal.list m.world.journal.list at_place f turn.journal (runs_extend disk intake herald ts run.0 m run.2) later stands))
@@ -393,8 +394,11 @@ module _ {D N I M H : Type 0} (disk : disk_trait.Ghosts D N) (intake : intake_tr
         now : HaveEntries run.0.world
         now = have_stays q k.store run.0.store k.world run.0.world turn run.1.1.grows.journal have
 
-        same_extent : extent_of run.0.store.table.inode_count run.0.store.volume.log.size ≡ e
-        same_extent = ap (λ (n : ℕ). extent_of n run.0.store.volume.log.size) turn.store.numbers ∙ ap (extent_of k.store.table.inode_count) turn.store.size ∙ extent
+        same_extent : extent_of run.0.store.table.form run.0.store.table.inode_count run.0.store.volume.log.size ≡ e
+        same_extent =
+            ap (λ (f : Form). extent_of f run.0.store.table.inode_count run.0.store.volume.log.size) turn.store.form
+            ∙ ap (λ (n : ℕ). extent_of k.store.table.form n run.0.store.volume.log.size) turn.store.numbers
+            ∙ ap (extent_of k.store.table.form k.store.table.inode_count) turn.store.size ∙ extent
 
         by_list : (length mid.world.journal.list ≤ at_place → SomeTurnMakes disk intake herald (SeesFull disk.image p e) p ts mid m run.2) → (length mid.world.journal.list ≤ at_place) ⊎ Added q (ats_of k.world q) k.world.journal.list mid.world.journal.list at_place f → SomeTurnMakes disk intake herald (SeesFull disk.image p e) p ts mid m run.2
         by_list rest (inl low) = rest low
@@ -421,5 +425,5 @@ module _ {D N I M H : Type 0} (disk : disk_trait.Ghosts D N) (intake : intake_tr
 
   pub short_has_cause : ShortHasCause disk intake herald
   short_has_cause ts k m run p i off done bytes known told short =
-      short_in_run p i off done bytes (extent_of k.store.table.inode_count k.store.volume.log.size) short ts k m run told.place told.entry
+      short_in_run p i off done bytes (extent_of k.store.table.form k.store.table.inode_count k.store.volume.log.size) short ts k m run told.place told.entry
       (have_known k known) refl told.later told.stands told.mine told.same told.told

@@ -41,6 +41,7 @@ use Rattle.kernel.specs.State.{room_for, waiting_of}
 pub record LeavesStore {D : Type 0} (q : ℕ) (s t : StoreState D) : Type 0 where
   pub tasks : (p : ℕ) → p ≢ q → task t.tasks p ≡ task s.tasks p
   pub numbers : t.table.inode_count ≡ s.table.inode_count
+  pub form : t.table.form ≡ s.table.form
   pub size : t.volume.log.size ≡ s.volume.log.size
 
 -- a new entry of process q comes into the journal, which stood there
@@ -86,6 +87,7 @@ module _ {D : Type 0} (q : ℕ) (s t : StoreState D) where
   store_same is = record {
     tasks = λ p apart. ap (λ (o : StoreState D). task o.tasks p) is;
     numbers = ap (λ (o : StoreState D). o.table.inode_count) is;
+    form = ap (λ (o : StoreState D). o.table.form) is;
     size = ap (λ (o : StoreState D). o.volume.log.size) is;
   }
 
@@ -93,11 +95,12 @@ module _ {D : Type 0} (q : ℕ) (s t : StoreState D) where
   store_begins o u to tasks table size = record {
     tasks = λ p apart. ap (λ (v : StoreState D). task v.tasks p) to ∙ ap (λ (ts : List TaskState). task ts p) tasks ∙ get_or-set_other s.tasks q p u no_task apart;
     numbers = ap (λ (v : StoreState D). v.table.inode_count) to ∙ ap (λ v. v.inode_count) table;
+    form = ap (λ (v : StoreState D). v.table.form) to ∙ ap (λ v. v.form) table;
     size = ap (λ (v : StoreState D). v.volume.log.size) to ∙ size;
   }
 
   store_steps : {N : Type 0} (disk : disk_trait.Ghosts D N) (op : Op) (r : TaskProgress) → Steps disk s q op r t → LeavesStore q s t
-  store_steps disk op r steps = record { tasks = steps.tasks.others; numbers = steps.tasks.numbers; size = steps.groups.size }
+  store_steps disk op r steps = record { tasks = steps.tasks.others; numbers = steps.tasks.numbers; form = steps.tasks.form; size = steps.groups.size }
 
   size_ended : (l : LogState) (p : ℕ) → (ended l p).size ≡ l.size
   size_ended l p = ended_keeps (λ (m : LogState). m.size) l p refl refl refl
@@ -106,6 +109,7 @@ module _ {D : Type 0} (q : ℕ) (s t : StoreState D) where
   store_ended to = record {
     tasks = λ p apart. ap (λ (v : StoreState D). task v.tasks p) to;
     numbers = ap (λ (v : StoreState D). v.table.inode_count) to;
+    form = ap (λ (v : StoreState D). v.table.form) to;
     size = ap (λ (v : StoreState D). v.volume.log.size) to ∙ size_ended s.volume.log q;
   }
 
@@ -124,6 +128,7 @@ module _ {D : Type 0} (q : ℕ) (s t : StoreState D) where
   store_commits disk r commits = record {
     tasks = λ p apart. ap (λ (ts : List TaskState). task ts p) commits.tasks;
     numbers = ap (λ v. v.inode_count) commits.table;
+    form = ap (λ v. v.form) commits.table;
     size = by_log (commit_log disk s.volume.device s.volume.buffers s.volume.log t.volume.device t.volume.buffers t.volume.log r commits.volume.write);
   }
     where

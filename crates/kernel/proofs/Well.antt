@@ -33,7 +33,8 @@ pub record IsWell {D : Type 0} (image : D → Image) (opening : Image) (s : Stor
   pub has : HasFacts image opening s w
   pub agrees : Agrees s.volume.buffers s.volume.log s.table.inode_count s.tasks
   pub looks : AreLooking (current_of image s.volume) s.table s.tasks
-  pub numbers : s.table.inode_count ≤ 1024
+  pub few : s.table.inode_count ≤ 1024
+  pub numbers : s.table.inode_count ≡ inode_count_of (current_of image s.volume)
   pub count : s.table.inode_count ≡ inode_count_of opening
 
 -- the number of a lawful image's inodes

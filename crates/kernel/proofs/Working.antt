@@ -210,6 +210,13 @@ module _ {D N : Type 0} (disk : Ghosts D N) (opening : D) (s : StoreState D) (w 
         let on = ends_now progress.Moved more steps in
         moved_with (at.Before group op) stands refl refl steps agreed (moves_of disk s t p op on steps, refl, refl) (before_goes group progress.Moved steps unturned on)
 
+    -- it decides nothing yet, and is not over
+    pub not_decided : (reply : Reply) → Steps disk s p op (progress.Decided reply) t → ⊥
+    not_decided reply steps = false≢true (sym (reading_more (task s.tasks p).place (ends_now (progress.Decided reply) more steps).0).1 ∙ unturned)
+
+    pub not_over : Steps disk s p op progress.Over t → ⊥
+    not_over steps = false≢true (sym (ends_now progress.Over more steps).0 ∙ unturned)
+
     pub right_fault : (fault : DiskFault) → StillSurvives → Steps disk s p op (progress.Fault fault) t → IsRight disk opening t w
     right_fault fault survives steps = fails_with (at.Before group op) stands refl fault survives steps (before_goes group (progress.Fault fault) steps unturned (ends_now (progress.Fault fault) more steps))
 

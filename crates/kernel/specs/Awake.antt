@@ -1,5 +1,6 @@
 -- Why the next step of a process has to wait, and that some process need not.
 use Rattle.std.specs.Prelude.{◌≡◌, ◌<◌, ℕ, true, Option, None}
+use Rattle.blocks.specs.Disk.{Image}
 use Rattle.model.specs.declared.types.operations.Why.{Why}
 use Rattle.wal.specs.Machine.{begin_cause}
 use Rattle.inodes.specs.Waiting.{sleep_cause}
@@ -38,7 +39,7 @@ pub record OneGoesOn {D I H : Type 0} (k : State D I H) : Type 0 where
 
 -- NOBODY WAITS FOR EVER: where an operation is under way, one is that goes on; and where none is,
 -- the log lets each begin. Who is under way has steps left.
-pub record IsAwake {D I H : Type 0} (k : State D I H) : Type 0 where
+pub record IsAwake {D I H : Type 0} (image : D → Image) (k : State D I H) : Type 0 where
   pub under_way : (p : ℕ) → IsBusy k p → OneGoesOn k
   pub begins : AreIdle k.world → begin_cause k.store.volume.log ≡ None
-  pub left : (p : ℕ) → IsBusy k p → 0 < left_of k p
+  pub left : (p : ℕ) → IsBusy k p → 0 < left_of image k p

@@ -73,5 +73,6 @@ ShortHasCause {D} {N} {I} {M} {H} disk intake herald =
     Known disk intake herald k → IsAnswered k m p (Write i off bytes) (Wrote done) →
     done < length bytes →
     SomeTurnMakes disk intake herald
-    (SeesFull disk.image p (extent_of k.store.table.inode_count k.store.volume.log.size))
+    (SeesFull disk.image p
+    (extent_of k.store.table.form k.store.table.inode_count k.store.volume.log.size))
     p ts k m run

@@ -78,7 +78,8 @@ pub record IsRight {D N : Type 0} (disk : disk_trait.Ghosts D N) (opening : D) (
   pub paired : ArePaired s w
   pub counted : IsCounted s.volume.log.opened w
   pub facts : IfNone s.volume.fault (HasFacts disk.image (disk.image opening) s w)
-  pub lasts : IfSome s.volume.fault (λ (fault : DeviceFault). Lasts s w)
+  pub lasts : IfSome s.volume.fault
+      (λ (fault : DeviceFault). Lasts disk.image (form_of (disk.image opening)) s w)
   pub journal : IsJournal (inode_count_of (disk.image opening)) s.volume.log.opened w.journal.list
   pub replays : CanReplay (disk.image opening) w
   -- what recovery gives of each image that the disk may leave, once it has failed; before, it

@@ -22,7 +22,7 @@ use Rattle.journal.specs.Histories.{IsHistory}
 use Rattle.journal.specs.Keeps.{HasFilesAfter, KeepsBeginnings, KeepsNow}
 use Rattle.journal.specs.Processes.{process}
 use Rattle.kernel.specs.Awake.{AreIdle, IsAwake}
-use Rattle.kernel.specs.Bound.{left_of}
+use Rattle.kernel.specs.Bound.{left_of, step_bound}
 use Rattle.kernel.specs.Invariant.{CanReplay, HasHistory}
 use Rattle.kernel.specs.Lasting.{AreUnderWay, HaveLocks}
 use Rattle.kernel.specs.State.{State}
@@ -62,11 +62,11 @@ pub record Known {D N I M H : Type 0} (disk : disk_trait.Ghosts D N)
   pub reopens : (x : Image)
       → disk.leaves k.store.volume.device (disk.moment k.store.volume.device) x → verdict x ≡ None
   pub current : IfNone k.store.volume.fault (IsCurrent disk.image k)
-  pub awake : IfNone k.store.volume.fault (IsAwake k)
+  pub awake : IfNone k.store.volume.fault (IsAwake disk.image k)
   pub cache : IsCache k.store.volume.buffers
   pub locks : HaveLocks k.store.table k.world
   pub unanswered : AreUnderWay k.world
-  pub left : (p : ℕ) → left_of k p < 2000
+  pub left : (p : ℕ) → left_of disk.image k p < step_bound (form_of (disk.image k.opening))
   pub journal : IsJournal
       (inode_count_of (disk.image k.opening)) k.store.volume.log.opened k.world.journal.list
   pub order : KeepsBeginnings

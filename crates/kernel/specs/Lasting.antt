@@ -1,5 +1,7 @@
 -- What stays true of store and processes after a fault of the disk.
 use Rattle.std.specs.Prelude.{◌≡◌, ◌<◌, ℕ, true, None}
+use Rattle.blocks.specs.Disk.{Image}
+use Rattle.model.specs.declared.types.image.Form.{Form}
 use Rattle.model.specs.declared.types.operations.Entry.{Entry}
 use Rattle.inodes.specs.Looks.{HoldsInode}
 use Rattle.inodes.specs.Places.{asked}
@@ -8,7 +10,7 @@ use Rattle.inodes.specs.Table.{TableState}
 use Rattle.journal.specs.declared.types.At.TheVariants as at
 use Rattle.journal.specs.Open.{IsEntry, is_late}
 use Rattle.journal.specs.Processes.{World}
-use Rattle.kernel.specs.Bound.{left_in}
+use Rattle.kernel.specs.Bound.{left_in, step_bound}
 use Rattle.kernel.specs.State.{ats_of}
 
 -- who goes on behind its turn has the lock of its operation's inode, and keeps it until its finish
@@ -27,8 +29,9 @@ abbrev pub AreUnderWay : World → Type 0
 AreUnderWay w = (place : ℕ) (e : Entry) → IsEntry w.journal.list place e → e.reply ≡ None
     → IsUnderWay w place e
 
-pub record Lasts {D : Type 0} (s : StoreState D) (w : World) : Type 0 where
+pub record Lasts {D : Type 0} (image : D → Image) (form : Form) (s : StoreState D) (w : World)
+    : Type 0 where
   pub locks : HaveLocks s.table w
   pub unanswered : AreUnderWay w
-  -- each operation has fewer than 2,000 steps left
-  pub left : (p : ℕ) → left_in s w p < 2000
+  -- each operation has fewer steps left than an image of that form allows
+  pub left : (p : ℕ) → left_in image s w p < step_bound form

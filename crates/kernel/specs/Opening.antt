@@ -3,7 +3,7 @@ use Rattle.std.specs.Prelude.{◌≡◌, ◌≤◌, ◌<◌, ◌⊎◌, ℕ, tru
 use Rattle.blocks.specs.Disk.{AddsOnly, HasTurned, Rose, counted}
 use Rattle.blocks.specs.Calls.{UnlessHolds}
 use Rattle.blocks.specs.declared.disk.Disk.{Ghosts}
-use Rattle.model.specs.Layout.{inode_count_of}
+use Rattle.model.specs.Layout.{form_of, inode_count_of}
 use Rattle.model.specs.Log.{recovered, logged_count}
 use Rattle.model.specs.Verdict.{verdict}
 use Rattle.layout.specs.Cause.{IsCause}
@@ -38,7 +38,7 @@ pub record IsOpened {D N I H : Type 0} (disk : Ghosts D N) (d : D) (i : I) (h : 
   pub store : k.store ≡ record {
     volume = fresh_volume disk.image k.opening;
     tasks = replicate processes no_task;
-    table = new_table (inode_count_of (disk.image d));
+    table = new_table (form_of (disk.image d)) (inode_count_of (disk.image d));
   }
   pub world : k.world ≡ fresh_world processes
   pub intake : k.intake ≡ i

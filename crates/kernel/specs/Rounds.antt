@@ -1,5 +1,6 @@
 -- Turns that go round all processes.
 use Rattle.std.specs.Prelude.{◌≡◌, ◌<◌, ◌≤◌, ℕ, zero, suc, ◌+◌, ◌++◌, IsTrue, List, [], ◌∷◌, length, None}
+use Rattle.blocks.specs.Disk.{Image}
 use Rattle.std.specs.List.{list_all, All, Contains}
 use Rattle.blocks.specs.declared.disk.Disk as disk_trait
 use Rattle.ports.specs.declared.herald.Herald as herald_trait
@@ -29,8 +30,8 @@ sum_below f zero = 0
 sum_below f (suc count) = sum_below f count + f count
 
 -- the steps that are left in all
-abbrev pub all_left : {D I H : Type 0} → State D I H → ℕ
-all_left k = sum_below (left_of k) (length k.world.processes)
+abbrev pub all_left : {D I H : Type 0} → (D → Image) → State D I H → ℕ
+all_left image k = sum_below (left_of image k) (length k.world.processes)
 
 -- no operation was begun
 abbrev pub BeginsNone : World → World → Type 0
@@ -42,6 +43,6 @@ abbrev pub RoundsEndAll : {D N I M H : Type 0} → disk_trait.Ghosts D N
     → intake_trait.Ghosts I M → herald_trait.Ghosts H → Type 0
 RoundsEndAll {D} {N} {I} {M} {H} disk intake herald =
     (rounds : List (List Turn)) (k m : State D I H) → Known disk intake herald k →
-    All (IsRound (length k.world.processes)) rounds → all_left k ≤ length rounds →
+    All (IsRound (length k.world.processes)) rounds → all_left disk.image k ≤ length rounds →
     Runs disk intake herald (turns_of rounds) k m → BeginsNone k.world m.world →
     m.store.volume.fault ≡ None → AreIdle m.world

@@ -53,11 +53,11 @@ pub record MakesStep {D N I M H : Type 0} (disk : disk_trait.Ghosts D N)
   pub committed : CountsCommitted (disk.holding (disk.name k.store.volume.device)) r
       (process k.world p).at k.store.volume.log m.store.volume.log
   pub shut : KeepsShutdown k.world m.world
-  -- an operation has fewer than 2,000 steps
-  pub bound : r ≡ step.Moved → TakesOne k p m
-  pub others : GivesNone k p m
+  -- an operation has fewer steps than the bound
+  pub bound : r ≡ step.Moved → TakesOne disk.image k p m
+  pub others : GivesNone disk.image k p m
   -- where an operation is under way then, one goes on
-  pub awake : IfNone m.store.volume.fault (IsAwake m)
+  pub awake : IfNone m.store.volume.fault (IsAwake disk.image m)
   -- what a stop leaves, now and in this step
   pub keeps : (x : Image) → disk.leaves m.store.volume.device (disk.moment m.store.volume.device) x
       → KeepsNow m.store.volume (disk.image m.opening) m.world.journal.list x

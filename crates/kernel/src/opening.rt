@@ -70,8 +70,8 @@ impl<D: Disk, I: Intake, H: Herald> Kernel<D, I, H> {
         if !(1..=32).contains(&processes) {
             return Err((OpenFault::ProcRange, disk));
         }
-        let sup = match check(alloc, &mut disk) {
-            Ok(report) => report.sup,
+        let (sup, form) = match check(alloc, &mut disk) {
+            Ok(report) => (report.sup, report.form),
             Err(fault) => return Err((OpenFault::Check(fault), disk)),
         };
         let Ok(memory) = take_memory(alloc, &sup, processes) else {
@@ -87,7 +87,7 @@ impl<D: Disk, I: Intake, H: Herald> Kernel<D, I, H> {
             processes,
         } = memory;
         let opening = Snapshot::of(&disk);
-        let store = Store::open(Volume::open(disk, cache, log), tasks, &sup);
+        let store = Store::open(Volume::open(disk, cache, log), tasks, &sup, form);
         store.known();
         Ok(Kernel {
             alloc,

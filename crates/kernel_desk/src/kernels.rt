@@ -1,4 +1,5 @@
 // Calls of a kernel, which is opened over the disk.
+use crate::pieces::{Stretch, fill, gather};
 use crate::rounds::make_rounds;
 use crate::teller::Teller;
 use blocks::Disk;
@@ -7,6 +8,9 @@ use kernel::{Kernel, Step, Turn, run};
 use model::types::Op;
 use ports::QueueIntake;
 use std::alloc::Global;
+
+// More steps than any operation makes.
+const MOST_STEPS: u32 = 40_000;
 
 /// A kernel over plain queues.
 pub type Opened = Kernel<Faulty, QueueIntake, Teller>;
@@ -41,6 +45,12 @@ fn call_open(alloc: Global, kernel: &mut Opened, words: &[&str]) -> anyhow::Resu
         ["steps", pid] => steps(alloc, kernel, pid.parse()?),
         ["eight", pid] => eight(alloc, kernel, pid.parse()?),
         ["last", pid] => last(alloc, kernel, pid.parse()?),
+        ["pieces", pid, "fill", inode, from, to, digits] => {
+            fill(alloc, kernel, stretch_of(pid, inode, from, to)?, digits)
+        }
+        ["pieces", pid, "read", inode, from, to] => {
+            gather(alloc, kernel, stretch_of(pid, inode, from, to)?)
+        }
         ["rounds", most] => make_rounds(alloc, kernel, most.parse()?),
         ["poll", pid] => poll(alloc, kernel, pid.parse()?),
         ["shut"] => {
@@ -106,6 +116,15 @@ fn submit(alloc: Global, kernel: &mut Opened, pid: u32, op: Op) -> anyhow::Resul
     }
 }
 
+fn stretch_of(pid: &str, inode: &str, from: &str, to: &str) -> anyhow::Result<Stretch> {
+    Ok(Stretch {
+        pid: pid.parse()?,
+        inode: inode.parse()?,
+        from: from.parse()?,
+        to: to.parse()?,
+    })
+}
+
 // So many steps, and what the last of them answers.
 fn step(
     alloc: Global,
@@ -114,7 +133,7 @@ fn step(
     count: u32,
 ) -> anyhow::Result<Option<String>> {
     let mut answer = None;
-    for _ in 0..count.min(2000) {
+    for _ in 0..count.min(MOST_STEPS) {
         if pid as usize >= kernel.processes() {
             return Ok(None);
         }
@@ -128,16 +147,25 @@ fn step(
 
 // Steps until one doesn't answer Moved.
 fn steps(alloc: Global, kernel: &mut Opened, pid: u32) -> anyhow::Result<Option<String>> {
-    for moved in 0..2000u32 {
+    match go_on(kernel, pid) {
+        Some((moved, answer)) => Ok(Some(format!(in alloc; "{moved} Moved, {answer:?}")?)),
+        None => Ok(None),
+    }
+}
+
+/// Makes steps of a process until one doesn't answer Moved. How many did, and what that one answers;
+/// None where there is no such process.
+pub fn go_on(kernel: &mut Opened, pid: u32) -> Option<(u32, Step)> {
+    for moved in 0..MOST_STEPS {
         if pid as usize >= kernel.processes() {
-            return Ok(None);
+            return None;
         }
         let answer = kernel.step(pid);
         if answer != Step::Moved {
-            return Ok(Some(format!(in alloc; "{moved} Moved, {answer:?}")?));
+            return Some((moved, answer));
         }
     }
-    Ok(None)
+    None
 }
 
 // A run of eight turns of a process.

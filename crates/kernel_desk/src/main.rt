@@ -4,6 +4,7 @@
 #![tactic(auto)]
 
 mod kernels;
+mod pieces;
 mod readings;
 mod rounds;
 mod teller;

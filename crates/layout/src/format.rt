@@ -1,7 +1,10 @@
 // The numbers of the format (the xv6 book, the chapter "File system"; xv6's fs.h and param.h), and
 // where the blocks of inodes and of the bitmap stand.
-ghost use Rattle.std.specs.Prelude.{◌≡◌};
-ghost use Rattle.model.specs.Layout.{inode_block, inode_offset, bitmap_block};
+ghost use Rattle.std.specs.Prelude.{◌≡◌, ◌≤◌, ◌^◌, All, length};
+ghost use Rattle.model.specs.Layout.{inode_block, inode_offset, bitmap_block, direct_count, depths, reach, greatest_size};
+ghost use Rattle.model.specs.Format.{addresses_per_block};
+
+use model::types::Form;
 
 /// The most blocks of an image.
 pub const MOST_BLOCKS: u32 = 8191;
@@ -30,15 +33,18 @@ pub const INODE_SIZE: usize = 64;
 /// The bits in a block of the bitmap.
 pub const BITS_PER_BLOCK: u32 = 8192;
 
-/// How many of an inode's addresses are data blocks'; the one behind them is that of its block of
-/// addresses.
+/// How many of an inode's addresses are data blocks' in the first form; the one behind them is that
+/// of its block of addresses.
 pub const DIRECT_COUNT: usize = 12;
 
 /// The addresses in a block of addresses.
 pub const ADDRESSES_PER_BLOCK: usize = 256;
 
-/// The bytes of the largest file: those of 12 + 256 blocks.
+/// The bytes of the largest file of the first form: those of 12 + 256 blocks.
 pub const GREATEST_SIZE: u32 = 274_432;
+
+// Those of the second form: 11 + 256 + 256 * 256 blocks.
+const GREATEST_LARGE_SIZE: u32 = 67_382_272;
 
 /// The block that holds the inode of a number.
 pub fn inode_block(number: u32) -> u32
@@ -59,4 +65,54 @@ pub fn bitmap_block(inode_count: u32) -> u32
     ensures { result ≡ bitmap_block inode_count }
 {
     INODE_START + inode_count / INODES_PER_BLOCK + 1
+}
+
+/// How many of an inode's 13 addresses are data blocks' in an image of that form.
+pub fn direct_count(form: Form) -> usize
+    ensures { result ≡ direct_count form }
+{
+    match form {
+        Form::One => DIRECT_COUNT,
+        Form::Two => DIRECT_COUNT - 1,
+    }
+}
+
+/// For each of an inode's 13 addresses, how many blocks of addresses one goes through to the data
+/// (the xv6 book, the chapter "File system": "Code: Inode content"; Bach, "The Design of the UNIX
+/// Operating System", chapter 4, has the deeper ones).
+pub fn depths(form: Form) -> [u32; 13]
+    ensures value { result ≡ depths form }
+    ensures shallow { All (λ depth. depth ≤ 2) result }
+    ensures len { length result ≡ 13 }
+{
+    match form {
+        Form::One => [0, 0, 0, 0, 0, 0, 0, 0, 0, 0, 0, 0, 1],
+        Form::Two => [0, 0, 0, 0, 0, 0, 0, 0, 0, 0, 0, 1, 2],
+    }
+}
+
+/// How many of a file's blocks an address leads to that is `depth` blocks of addresses away from
+/// the data, at most 2.
+pub fn reach(depth: u32) -> u32
+    requires { depth ≤ 2 }
+    ensures value { result ≡ reach depth }
+    ensures small { result ≤ addresses_per_block ^ 2 }
+    ensures smaller { depth ≤ 1 → result ≤ addresses_per_block }
+    ensures some { 1 ≤ result }
+{
+    match depth {
+        0 => 1,
+        1 => ADDRESSES_PER_BLOCK as u32,
+        _ => (ADDRESSES_PER_BLOCK * ADDRESSES_PER_BLOCK) as u32,
+    }
+}
+
+/// The bytes of the largest file in an image of that form.
+pub fn greatest_size(form: Form) -> u32
+    ensures { result ≡ greatest_size form }
+{
+    match form {
+        Form::One => GREATEST_SIZE,
+        Form::Two => GREATEST_LARGE_SIZE,
+    }
 }

@@ -1,23 +1,24 @@
 -- Laws over images in which tasks write files.
-use Rattle.std.specs.Prelude.{◌≡◌, ◌≢◌, ◌⊎◌, ℕ, ◌+◌, ◌*◌, ◌/◌, ◌%◌, ◌<◌, ◌≤◌, false, List, [], length, take, slice_index, slice_set, max, Some, None}
+use Rattle.std.specs.Prelude.{◌≡◌, ◌≢◌, ◌⊎◌, ℕ, suc, ◌+◌, ◌*◌, ◌/◌, ◌%◌, ◌<◌, ◌≤◌, false, List, [], ◌∷◌, ◌++◌, length, take, slice_index, slice_set, max, Some, None}
+use Rattle.std.specs.List.{AllByRecursion}
 use Rattle.blocks.specs.Block.{overwritten, zero_block, block_size}
 use Rattle.blocks.specs.Disk.{Image, block_at}
 use Rattle.model.specs.Format.{addresses_per_block}
-use Rattle.model.specs.declared.types.image.Form.TheVariants.{One}
+use Rattle.model.specs.declared.types.image.Dinode.{Dinode}
 use Rattle.model.specs.declared.types.image.File.{File}
 use Rattle.model.specs.declared.types.operations.Op.TheVariants.{Write}
 use Rattle.model.specs.declared.types.operations.Reply.TheVariants.{BadOffset, TooBig, Wrote}
 use Rattle.model.specs.Codec.{with_inode}
-use Rattle.model.specs.Fields.{words_of}
 use Rattle.model.specs.Files.{Files, file_in}
-use Rattle.model.specs.Layout.{form_of, inode_of, is_marked, greatest_size, direct_count, indirect_of}
+use Rattle.model.specs.Layout.{form_of, inode_of, is_marked, greatest_size}
 use Rattle.model.specs.Operations.{after, with_bytes, transfer_limit}
 use Rattle.model.specs.Places.{address_in}
 use Rattle.model.specs.Tasks.{Marks}
 use Rattle.loose.specs.Held.{Growth, Claims, grows, FitsHeld, IsClaimedNow, marked, zeroed, with_address, with_data, taking, placing, placed_behind, reaching}
-use Rattle.loose.specs.HeldLaws.{FitsThen, IsHeldIn, IsMarkedData}
+use Rattle.loose.specs.HeldLaws.{FitsThen, IsHeldIn, HasMarkedBlocks}
 use Rattle.loose.specs.Loose.{LiesInData}
 use Rattle.loose.specs.Looks.{IsUsed, HasDataBlocks}
+use Rattle.loose.specs.Trees.{depth_of, entry_of, led_to, place_of}
 
 -- ---- the turn
 
@@ -53,28 +54,33 @@ TakenZeroed = (m : Files) (x : Image) (claims : Claims) (i b : ℕ) (g : Growth)
 
 -- ---- and named
 
--- by one of the copy's own addresses
-abbrev pub DirectPlaced : Type 0
-DirectPlaced = (m : Files) (x : Image) (claims new : Claims) (i k b : ℕ) (g : Growth) →
-    IsHeldIn m x claims i (grows g) → g.taken ≡ Some b → k < direct_count One →
-    slice_index g.copy.addrs k ≡ 0 →
-    IsClaimedNow claims i (Some (grows (placing g k b))) new → FitsHeld m x new
+-- by one of the copy's own addresses. As a block of addresses it is one of zeroes
+abbrev pub AddressPlaced : Type 0
+AddressPlaced = (m : Files) (x : Image) (claims new : Claims) (i slot b : ℕ) (g : Growth) →
+    IsHeldIn m x claims i (grows g) → g.taken ≡ Some b → slot < length g.copy.addrs →
+    slice_index g.copy.addrs slot ≡ 0 → (depth_of x slot ≢ 0 → block_at x b ≡ zero_block) →
+    IsClaimedNow claims i (Some (grows (placing g slot b))) new → FitsHeld m x new
 
--- as its block of addresses, where it is one of zeroes
-abbrev pub IndirectPlaced : Type 0
-IndirectPlaced = (m : Files) (x : Image) (claims new : Claims) (i b : ℕ) (g : Growth) →
-    IsHeldIn m x claims i (grows g) → g.taken ≡ Some b → indirect_of g.copy ≡ 0 →
-    block_at x b ≡ zero_block →
-    IsClaimedNow claims i (Some (grows (placing g (direct_count One) b))) new → FitsHeld m x new
+-- A way leads from an inode's address to the block of addresses a, whose entry e is not there. Of
+-- that depth is what the entry would name
+pub record LeadsToNone (x : Image) (d : Dinode) (slot : ℕ) (way : List ℕ) (a e depth : ℕ) : Type 0
+  where
+    pub below : length way + suc depth ≡ depth_of x slot
+    pub entries : AllByRecursion (λ f. f < addresses_per_block) way
+    pub led : led_to x way (slice_index d.addrs slot) ≡ a
+    pub there : a ≢ 0
+    pub entry : e < addresses_per_block
+    pub none : entry_of x a e ≡ 0
 
--- by an entry of its block of addresses
+-- by an entry of a block of addresses to which the copy leads. It has then its place in the file
 abbrev pub EntryPlaced : Type 0
-EntryPlaced = (m : Files) (x : Image) (claims new : Claims) (i a e b : ℕ) (g : Growth) →
-    IsHeldIn m x claims i (grows g) → g.taken ≡ Some b → indirect_of g.copy ≡ a → a ≢ 0 →
-    e < addresses_per_block → slice_index (words_of (block_at x a)) e ≡ 0 →
+EntryPlaced = (m : Files) (x : Image) (claims new : Claims) (i slot a e b depth : ℕ)
+    (way : List ℕ) (g : Growth) → IsHeldIn m x claims i (grows g) → g.taken ≡ Some b →
+    LeadsToNone x g.copy slot way a e depth → (depth ≢ 0 → block_at x b ≡ zero_block) →
     IsClaimedNow claims i (Some (grows (placed_behind g))) new →
     FitsThen m x claims i (with_address x a e b) new
-    × (address_in (with_address x a e b) g.copy (direct_count One + e) ≡ b)
+    × (depth ≡ 0 →
+    address_in (with_address x a e b) g.copy (place_of x slot (way ++ e ∷ [])) ≡ b)
 
 -- ---- bytes are written
 
@@ -127,17 +133,10 @@ GrowthAnswers = (m : Files) (x : Image) (claims : Claims) (i : ℕ) (g : Growth)
 
 -- ---- what a task that writes holds
 
--- the copy leads to data blocks whose bits are set, and so does what was taken, which is none of
--- them
+-- the copy leads to data blocks, and has the size that was reached
 pub record HasGrowthBlocks (x : Image) (g : Growth) (old : File) : Type 0 where
   pub leads : HasDataBlocks x g.copy
-  pub reached : (k : ℕ) → k < 268 → address_in x g.copy k ≢ 0 →
-      IsMarkedData x (address_in x g.copy k)
-  pub indirect : indirect_of g.copy ≢ 0 → IsMarkedData x (indirect_of g.copy)
-  pub taken : (b : ℕ) → g.taken ≡ Some b → IsMarkedData x b
-  pub apart : (b : ℕ) → g.taken ≡ Some b → indirect_of g.copy ≢ b
-  pub reached_apart : (k : ℕ) → k < 268 → address_in x g.copy k ≢ 0 →
-      indirect_of g.copy ≢ address_in x g.copy k
+  pub blocks : HasMarkedBlocks x (grows g)
   pub size : g.copy.size ≡ max (length old.bytes) (g.offset + length g.written)
 
 abbrev pub GrowthHasBlocks : Type 0

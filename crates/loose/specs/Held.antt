@@ -1,26 +1,29 @@
 -- Images in which tasks at work hold files, and the files that such an image stands for.
-use Rattle.std.specs.Prelude.{◌≡◌, ◌≢◌, ◌⊎◌, ℕ, ◌<◌, ◌≤◌, ◌==◌, not, if◌then◌else◌, List, [], ◌∷◌, ◌++◌, length, take, drop, slice_set, Option, Some, None}
-use Rattle.std.specs.List.{filter, flat_map}
+use Rattle.std.specs.Prelude.{◌≡◌, ◌≢◌, ◌⊎◌, ℕ, ◌+◌, ◌<◌, ◌≤◌, ◌==◌, if◌then◌else◌, List, [], ◌∷◌, ◌++◌, length, slice_set, Option, Some, None}
+use Rattle.std.specs.List.{flat_map}
 use Rattle.blocks.specs.Block.{overwritten, zero_block}
 use Rattle.blocks.specs.Disk.{Image, block_at}
-use Rattle.model.specs.declared.types.image.Form.TheVariants.{One}
 use Rattle.model.specs.declared.types.image.Dinode.{Dinode}
 use Rattle.model.specs.declared.types.image.File.{File}
+use Rattle.model.specs.declared.types.image.Form.{Form}
+use Rattle.model.specs.declared.types.image.Form.TheVariants.{One, Two}
 use Rattle.model.specs.Codec.{IsDinode, with_bit, without_bit, with_entry}
 use Rattle.model.specs.Crash.{labels_of}
-use Rattle.model.specs.Fields.{words_of}
 use Rattle.model.specs.Files.{Files, file_in, bytes_in}
-use Rattle.model.specs.Layout.{super_of, inode_of, inode_count_of, direct_count, indirect_of}
+use Rattle.model.specs.Format.{most_blocks, addresses_per_block}
+use Rattle.model.specs.Layout.{super_of, inode_of, inode_count_of}
 use Rattle.model.specs.Places.{pointers_in, pointers_of, addresses_in, numbers_of}
 use Rattle.model.specs.Soundness.{IsLawfulGeometry}
 use Rattle.loose.specs.Loose.{AreFull, IsLoose, IsFit, IsAtRest}
+use Rattle.loose.specs.Trees.{names_left}
 
 -- A task that gives up a file's blocks, behind its turn. Its copy of the inode has 0 at the
--- addresses that it gave up. Of the block of addresses the image keeps all entries, and that many
--- of the first were given up. In the end the inode has the last type: 0 where the file is removed
+-- addresses that it gave up. Of the blocks of addresses the image keeps all entries, and the cursor
+-- says how many of the first were given up at each level. In the end the inode has the last type: 0
+-- where the file is removed
 pub record Held : Type 0 where
   pub copy : Dinode
-  pub given_up : ℕ
+  pub cursor : List ℕ
   pub last_kind : ℕ
 
 -- A task that writes bytes into a file, from an offset on. Its copy of the inode has the addresses
@@ -41,22 +44,6 @@ pub data Claim : Type 0 where
 abbrev pub Claims : Type 0
 Claims = ℕ → Option Claim
 
--- the addresses of a list that are there
-abbrev pub present : List ℕ → List ℕ
-present addresses = filter (λ a. not (a == 0)) addresses
-
--- a block of addresses and its entries, without the first ones
-abbrev pub entries_left : Image → ℕ → ℕ → List ℕ
-entries_left x address given_up =
-    if address == 0 then []
-    else address ∷ present (drop given_up (words_of (block_at x address)))
-
--- what is left of the blocks that an inode names, where it has twelve addresses of data blocks and
--- then one of a block of addresses
-abbrev pub names_left : Image → Dinode → ℕ → List ℕ
-names_left x d given_up =
-    present (take (direct_count One) d.addrs) ++ entries_left x (indirect_of d) given_up
-
 -- the block that was taken, if there is one
 abbrev pub listed : Option ℕ → List ℕ
 listed None = []
@@ -64,7 +51,7 @@ listed (Some b) = b ∷ []
 
 -- the blocks that a task owns: what its copy names, and what it took
 abbrev pub names_held : Image → Claim → List ℕ
-names_held x (frees h) = names_left x h.copy h.given_up
+names_held x (frees h) = names_left x h.copy h.cursor
 names_held x (grows g) = listed g.taken ++ addresses_in (pointers_in x g.copy)
 
 -- the blocks that a number owns
@@ -133,9 +120,19 @@ abbrev pub unmarked : Image → ℕ → Image
 unmarked x b =
     slice_set x (super_of x).bmapstart (without_bit (block_at x (super_of x).bmapstart) b)
 
--- an inode, and a task with that copy, without its address at place e
+-- a task whose copy is without its address at place e
 abbrev pub without_address : Held → ℕ → Held
 without_address h e = record h { copy = record h.copy { addrs = slice_set h.copy.addrs e 0 } }
+
+-- how many blocks it has still to give up
+abbrev pub blocks_left : Image → Held → ℕ
+blocks_left x h = length (names_left x h.copy h.cursor)
+
+-- The most that there can be: in the first form one for each address of the inode and one for each
+-- entry of its block of addresses. In the second form no more than an image has
+abbrev pub most_left : Form → ℕ
+most_left One = 13 + addresses_per_block
+most_left Two = most_blocks
 
 -- what the task writes back in the end
 abbrev pub last_inode : Held → Dinode
@@ -170,7 +167,7 @@ placing g e b = record g {
   taken = None;
 }
 
--- its copy's block of addresses names it
+-- a block of addresses that its copy leads to names it
 abbrev pub placed_behind : Growth → Growth
 placed_behind g = record g { taken = None }
 

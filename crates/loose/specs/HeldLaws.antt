@@ -1,26 +1,23 @@
 -- Laws over images in which tasks hold files.
-use Rattle.std.specs.Prelude.{◌≡◌, ◌≢◌, ◌↔◌, ◌⊎◌, ℕ, ◌+◌, ◌<◌, ◌≤◌, IsTrue, true, length, replicate, slice_index, slice_set, Some, None}
+use Rattle.std.specs.Prelude.{◌≡◌, ◌≢◌, ◌↔◌, ◌⊎◌, ℕ, ◌+◌, ◌<◌, ◌≤◌, IsTrue, true, List, [], ◌∷◌, length, replicate, slice_index, slice_set, Some, None}
 use Rattle.blocks.specs.Disk.{Image, block_at}
-use Rattle.model.specs.Format.{addresses_per_block}
-use Rattle.model.specs.declared.types.image.Form.TheVariants.{One}
-use Rattle.model.specs.declared.types.image.Dinode.{Dinode}
 use Rattle.model.specs.declared.types.operations.Op.TheVariants.{Create, Read, Trunc, Remove, Stat}
 use Rattle.model.specs.declared.types.operations.Reply.TheVariants.{Done, Made, Bytes, StatOf}
 use Rattle.model.specs.Agreement.{IsSameOutsideLog}
 use Rattle.model.specs.Codec.{with_inode, new_inode}
-use Rattle.model.specs.Fields.{words_of}
 use Rattle.model.specs.Files.{Files, files_of, bytes_in}
 use Rattle.model.specs.Journal.{is_number}
-use Rattle.model.specs.Layout.{form_of, inode_of, inode_count_of, is_marked, direct_count, indirect_of}
+use Rattle.model.specs.Layout.{form_of, inode_of, inode_count_of, is_marked, direct_count}
 use Rattle.model.specs.Log.{logged_count}
 use Rattle.model.specs.Operations.{after, is_kind, part_of, transfer_limit}
-use Rattle.model.specs.Places.{address_in}
-use Rattle.model.specs.Soundness.{IsSound}
+use Rattle.model.specs.Places.{address_in, addresses_in, pointers_of}
+use Rattle.model.specs.Soundness.{IsSound, count_of}
 use Rattle.model.specs.Tasks.{Marks}
 use Rattle.loose.specs.Claims.{with_new_file}
-use Rattle.loose.specs.Held.{Held, Claim, frees, grows, Claims, FitsHeld, AreAtRest, IsClaimedNow, unmarked, without_address, last_inode, file_left, names_held}
+use Rattle.loose.specs.Held.{Held, Claim, frees, grows, Claims, FitsHeld, AreAtRest, IsClaimedNow, unmarked, without_address, blocks_left, most_left, last_inode, file_left, names_held}
 use Rattle.loose.specs.Loose.{LiesInData, Fits}
 use Rattle.loose.specs.Looks.{IsUsed, IsUnused, HasItsFile, HasDataBlocks, AnswersNoFile}
+use Rattle.loose.specs.Trees.{left_under, LeavesAlike, depth_of, IsFirstTree, Gives}
 
 -- ---- with no number held
 
@@ -36,21 +33,14 @@ RestsSoundly = (m : Files) (x : Image) (claims : Claims) → AreAtRest x claims 
 
 -- ---- what a change leaves to readers
 
--- the inode of a number, its addresses and its bytes are the same
+-- the inode of a number is the same, and so are the blocks that it names, where it leads and its
+-- bytes
 pub record HasSameFile (x y : Image) (i : ℕ) : Type 0 where
   pub inode : inode_of y i ≡ inode_of x i
+  pub blocks : (b : ℕ) → count_of b (addresses_in (pointers_of x i)) ≢ 0 →
+      block_at y b ≡ block_at x b
   pub addresses : (k : ℕ) → address_in y (inode_of x i) k ≡ address_in x (inode_of x i) k
   pub bytes : bytes_in y (inode_of x i) ≡ bytes_in x (inode_of x i)
-
--- the block of addresses that a copy names, where it names one, is the same
-abbrev pub KeepsAddresses : Image → Image → Dinode → Type 0
-KeepsAddresses x y d = indirect_of d ≢ 0 →
-    block_at y (indirect_of d) ≡ block_at x (indirect_of d)
-
--- the task's copy of its inode
-abbrev pub copy_in : Claim → Dinode
-copy_in (frees h) = h.copy
-copy_in (grows g) = g.copy
 
 -- the file of a task that writes is the same
 abbrev pub KeepsGrown : Image → Image → Claim → Type 0
@@ -59,10 +49,10 @@ KeepsGrown x y (grows g) =
     ((k : ℕ) → address_in y g.copy k ≡ address_in x g.copy k)
     × (bytes_in y g.copy ≡ bytes_in x g.copy)
 
--- what a task holds is the same: its blocks, and where its copy leads
+-- what a task holds is the same: its blocks and what is in them, and where its copy leads
 pub record StaysHeld (x y : Image) (c : Claim) : Type 0 where
   pub names : names_held y c ≡ names_held x c
-  pub indirect : KeepsAddresses x y (copy_in c)
+  pub blocks : (b : ℕ) → count_of b (names_held x c) ≢ 0 → block_at y b ≡ block_at x b
   pub grown : KeepsGrown x y c
 
 -- y stands for the files m with the new claims. Each used number at rest but i has its file, and
@@ -82,47 +72,67 @@ pub record IsHeldIn (m : Files) (x : Image) (claims : Claims) (i : ℕ) (c : Cla
   pub number : IsTrue (is_number (inode_count_of x) i)
   pub holds : claims i ≡ Some c
 
--- an entry of the block of addresses of a task's copy
-abbrev pub entry_at : Image → Held → ℕ → ℕ
-entry_at x h e = slice_index (words_of (block_at x (indirect_of h.copy))) e
+-- The task that held number i as h gave block b up and holds it as t: the bit is cleared, and the
+-- task has one block less to give up
+pub record IsGivenUp (m : Files) (x : Image) (claims : Claims) (i b : ℕ) (h t : Held)
+    (new : Claims) : Type 0 where
+  pub then : FitsThen m x claims i (unmarked x b) new
+  pub fewer : blocks_left x h ≡ blocks_left (unmarked x b) t + 1
 
 -- a data block that the copy names is given up: the address in the copy becomes 0
 abbrev pub DirectGivenUp : Type 0
 DirectGivenUp = (m : Files) (x : Image) (claims new : Claims) (i k : ℕ) (h : Held) →
-    IsHeldIn m x claims i (frees h) → k < direct_count One → slice_index h.copy.addrs k ≢ 0 →
+    IsHeldIn m x claims i (frees h) → k < direct_count (form_of x) →
+    slice_index h.copy.addrs k ≢ 0 →
     IsClaimedNow claims i (Some (frees (without_address h k))) new →
-    FitsThen m x claims i (unmarked x (slice_index h.copy.addrs k)) new
+    IsGivenUp m x claims i (slice_index h.copy.addrs k) h (without_address h k) new
 
--- an entry of the block of addresses, the next in order
-abbrev pub EntryGivenUp : Type 0
-EntryGivenUp = (m : Files) (x : Image) (claims new : Claims) (i : ℕ) (h : Held) →
-    IsHeldIn m x claims i (frees h) → indirect_of h.copy ≢ 0 →
-    entry_at x h h.given_up ≢ 0 →
-    IsClaimedNow claims i (Some (frees (record h { given_up = h.given_up + 1 }))) new →
-    FitsThen m x claims i (unmarked x (entry_at x h h.given_up)) new
+-- a block under the first block of addresses that is there, at any depth, the next in order; the
+-- cursor then leaves what is left behind it
+abbrev pub BlockGivenUp : Type 0
+BlockGivenUp = (m : Files) (x : Image) (claims new : Claims) (i slot b : ℕ)
+    (behind cursor : List ℕ) (h : Held) → IsHeldIn m x claims i (frees h) →
+    IsFirstTree x h.copy slot →
+    Gives x (depth_of x slot) h.cursor (slice_index h.copy.addrs slot) b behind →
+    LeavesAlike x h.copy cursor behind →
+    IsClaimedNow claims i (Some (frees (record h { cursor = cursor }))) new →
+    IsGivenUp m x claims i b h (record h { cursor = cursor }) new
 
--- an entry that is not there is passed over, and the image stays
+-- entries under which nothing is left are passed over: the cursor is another one, the same is left,
+-- and the image stays
 abbrev pub EntryPassed : Type 0
-EntryPassed = (m : Files) (x : Image) (claims new : Claims) (i : ℕ) (h : Held) →
-    IsHeldIn m x claims i (frees h) → entry_at x h h.given_up ≡ 0 →
-    IsClaimedNow claims i (Some (frees (record h { given_up = h.given_up + 1 }))) new →
+EntryPassed = (m : Files) (x : Image) (claims new : Claims) (i : ℕ) (cursor : List ℕ) (h : Held) →
+    IsHeldIn m x claims i (frees h) → LeavesAlike x h.copy cursor h.cursor →
+    IsClaimedNow claims i (Some (frees (record h { cursor = cursor }))) new →
     FitsHeld m x new
 
--- the block of addresses itself, once all entries are given up
-abbrev pub IndirectGivenUp : Type 0
-IndirectGivenUp = (m : Files) (x : Image) (claims new : Claims) (i : ℕ) (h : Held) →
-    IsHeldIn m x claims i (frees h) → indirect_of h.copy ≢ 0 → addresses_per_block ≤ h.given_up →
-    IsClaimedNow claims i (Some (frees (without_address h (direct_count One)))) new →
-    FitsThen m x claims i (unmarked x (indirect_of h.copy)) new
+-- so many are left as before
+abbrev pub LeavesAsMany : Type 0
+LeavesAsMany = (x : Image) (cursor : List ℕ) (h : Held) → LeavesAlike x h.copy cursor h.cursor →
+    blocks_left x (record h { cursor = cursor }) ≡ blocks_left x h
+
+-- the block of addresses itself, once it is left alone: the address in the copy becomes 0, and the
+-- cursor leaves all of the others
+abbrev pub TreeGivenUp : Type 0
+TreeGivenUp = (m : Files) (x : Image) (claims new : Claims) (i slot : ℕ) (cursor : List ℕ)
+    (h : Held) → IsHeldIn m x claims i (frees h) → IsFirstTree x h.copy slot →
+    left_under x (depth_of x slot) h.cursor (slice_index h.copy.addrs slot)
+    ≡ slice_index h.copy.addrs slot ∷ [] →
+    LeavesAlike x (without_address h slot).copy cursor [] →
+    IsClaimedNow claims i (Some (frees (record (without_address h slot) { cursor = cursor }))) new →
+    IsGivenUp m x claims i (slice_index h.copy.addrs slot) h
+    (record (without_address h slot) { cursor = cursor }) new
 
 -- ---- the turn, and the end
 
--- a used number at rest is held by the task whose turn it is, with the image's inode as its copy
+-- A used number at rest is held by the task whose turn it is, with the image's inode as its copy
+-- and a cursor that leaves all
 abbrev pub TurnHolds : Type 0
-TurnHolds = (m : Files) (x : Image) (claims new : Claims) (i last_kind : ℕ) → FitsHeld m x claims →
-    IsUsed x i → claims i ≡ None → (last_kind ≡ 0) ⊎ (last_kind ≡ (inode_of x i).kind) →
+TurnHolds = (m : Files) (x : Image) (claims new : Claims) (i last_kind : ℕ) (cursor : List ℕ) →
+    FitsHeld m x claims → IsUsed x i → claims i ≡ None →
+    (last_kind ≡ 0) ⊎ (last_kind ≡ (inode_of x i).kind) → LeavesAlike x (inode_of x i) cursor [] →
     IsClaimedNow claims i
-    (Some (frees (record { copy = inode_of x i; given_up = 0; last_kind = last_kind }))) new →
+    (Some (frees (record { copy = inode_of x i; cursor = cursor; last_kind = last_kind }))) new →
     FitsThen (slice_set m i (file_left last_kind)) x claims i x new
 
 -- these are the files after that operation
@@ -172,23 +182,25 @@ abbrev pub FreeTells : Type 0
 FreeTells = (m : Files) (x : Image) (claims : Claims) (i : ℕ) → FitsHeld m x claims →
     IsUnused x i → (claims i ≡ None) × AnswersNoFile (form_of x) m i
 
--- ---- what a task has still to give up
+-- ---- what a task holds
 
 -- a data block whose bit is set
 abbrev pub IsMarkedData : Image → ℕ → Type 0
 IsMarkedData x b = LiesInData x b × (is_marked x b ≡ true)
 
--- what a held copy still names are data blocks whose bits are set
-pub record HasMarkedBlocks (x : Image) (h : Held) : Type 0 where
-  pub direct : (k : ℕ) → k < direct_count One → slice_index h.copy.addrs k ≢ 0 →
-      IsMarkedData x (slice_index h.copy.addrs k)
-  pub indirect : indirect_of h.copy ≢ 0 → IsMarkedData x (indirect_of h.copy)
-  pub entries : indirect_of h.copy ≢ 0 → (e : ℕ) → h.given_up ≤ e →
-      entry_at x h e ≢ 0 → IsMarkedData x (entry_at x h e)
+-- what a task holds are data blocks whose bits are set, no two of them one
+pub record HasMarkedBlocks (x : Image) (c : Claim) : Type 0 where
+  pub marked : (b : ℕ) → count_of b (names_held x c) ≢ 0 → IsMarkedData x b
+  pub once : (b : ℕ) → count_of b (names_held x c) ≤ 1
 
 abbrev pub HeldHasBlocks : Type 0
-HeldHasBlocks = (m : Files) (x : Image) (claims : Claims) (i : ℕ) (h : Held) →
-    IsHeldIn m x claims i (frees h) → HasMarkedBlocks x h
+HeldHasBlocks = (m : Files) (x : Image) (claims : Claims) (i : ℕ) (c : Claim) →
+    IsHeldIn m x claims i c → HasMarkedBlocks x c
+
+-- and a task that gives up its file's blocks has so few of them left
+abbrev pub FewLeft : Type 0
+FewLeft = (m : Files) (x : Image) (claims : Claims) (i : ℕ) (h : Held) →
+    IsHeldIn m x claims i (frees h) → blocks_left x h ≤ most_left (form_of x)
 
 -- ---- what no file shows
 

@@ -2,7 +2,7 @@
 use Rattle.std.specs.Prelude.{◌≡◌, ℕ, ◌≤◌, IsTrue, length, replicate, Some, None}
 use Rattle.blocks.specs.Disk.{Image, IsImage, block_at}
 use Rattle.blocks.specs.Block.{block_size}
-use Rattle.model.specs.declared.types.image.Form.TheVariants.{One}
+use Rattle.model.specs.declared.types.image.Form.{Form}
 use Rattle.model.specs.declared.types.operations.Op.TheVariants.{Create}
 use Rattle.model.specs.declared.types.operations.Reply.TheVariants.{Made}
 use Rattle.model.specs.Agreement.{IsSameOutsideLog}
@@ -49,6 +49,6 @@ ClaimMakesFile = (m : Files) (x : Image) (i kind : ℕ) → Fits m x →
 
 -- a new image stands for no file
 abbrev pub MadeFits : Type 0
-MadeFits = (size inode_count : ℕ) → IsTrue (is_inode_count inode_count) →
+MadeFits = (form : Form) (size inode_count : ℕ) → IsTrue (is_inode_count inode_count) →
     IsTrue (is_size size inode_count) →
-    Fits (replicate inode_count None) (made_image One size inode_count)
+    Fits (replicate inode_count None) (made_image form size inode_count)

@@ -1,6 +1,11 @@
 -- What follows from the definitions: the lemmas that the proofs of this crate and of those above it
 -- use.
+pub mod Lengths
+pub mod LeftInTrees
 pub mod Wholes
+pub mod Ways
+pub mod KeptTrees
+pub mod PlacedInTrees
 pub mod Frames
 pub mod Soundly
 pub mod OutsideLog
@@ -12,18 +17,20 @@ pub mod Addresses
 pub mod AtRest
 pub mod Remapped
 pub mod GivenUp
+pub mod LeftOnWays
+pub mod FirstForm
 pub mod Turns
 pub mod WriteBacks
 pub mod HeldOutsideLog
 pub mod HeldLooks
 pub mod HeldMade
 pub mod HeldMarks
+pub mod FewLeft
 pub mod Growing
 pub mod BlocksTaken
 pub mod SameBytes
-pub mod Placing
 pub mod Apart
-pub mod EntryPlacing
+pub mod Placing
 pub mod GrowthBlocks
 pub mod BytesWritten
 pub mod GrowthEnds

@@ -1,4 +1,5 @@
 pub mod Loose
+pub mod Trees
 pub mod Held
 pub mod Claims
 pub mod Laws

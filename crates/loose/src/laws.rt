@@ -1,7 +1,7 @@
 //! Laws over loose images, each the contract of a function that does nothing.
 ghost use Rattle.loose.specs.Laws.{SoundFits, FitsSoundly, FitsWhenCleared, FitsOutsideLog, ClaimsOne, ClaimMakesFile, MadeFits};
-ghost use Rattle.loose.specs.HeldLaws.{FitsAtRest, RestsSoundly, DirectGivenUp, EntryGivenUp, EntryPassed, IndirectGivenUp, TurnHolds, TurnAnswers, WriteBackRests, ClaimFits, HeldOutsideLog, RestingTells, FreeTells, HeldHasBlocks, ClearedBitKeeps, WriteBackKeeps};
-ghost use Rattle.loose.specs.GrowthLaws.{TurnGrows, RestingRefuses, BlockTaken, TakenZeroed, DirectPlaced, IndirectPlaced, EntryPlaced, BytesWritten, GrowthRests, GrowthAnswers, GrowthHasBlocks, SetBitKeeps, DataKeeps, GrowthKeeps};
+ghost use Rattle.loose.specs.HeldLaws.{FitsAtRest, RestsSoundly, DirectGivenUp, BlockGivenUp, EntryPassed, LeavesAsMany, TreeGivenUp, TurnHolds, TurnAnswers, WriteBackRests, ClaimFits, HeldOutsideLog, RestingTells, FreeTells, HeldHasBlocks, FewLeft, ClearedBitKeeps, WriteBackKeeps};
+ghost use Rattle.loose.specs.GrowthLaws.{TurnGrows, RestingRefuses, BlockTaken, TakenZeroed, AddressPlaced, EntryPlaced, BytesWritten, GrowthRests, GrowthAnswers, GrowthHasBlocks, SetBitKeeps, DataKeeps, GrowthKeeps};
 ghost use Rattle.loose.specs.Looks.{UsedIsFit, UsedHasBlocks, StatTells, ReadTells, NoFileTells};
 
 /// A sound image of whole blocks stands for its own files.
@@ -80,19 +80,24 @@ pub fn direct_given_up()
     ensures { DirectGivenUp }
 {}
 
-/// It gives up the next entry of its block of addresses.
-pub fn entry_given_up()
-    ensures { EntryGivenUp }
+/// It gives up the next block behind its first block of addresses, at any depth.
+pub fn block_given_up()
+    ensures { BlockGivenUp }
 {}
 
-/// An entry that is not there is passed over.
+/// An entry under which nothing is left is passed over.
 pub fn entry_passed()
     ensures { EntryPassed }
 {}
 
-/// Once all entries are given up, it gives up the block of addresses.
-pub fn indirect_given_up()
-    ensures { IndirectGivenUp }
+/// So many blocks are left as before.
+pub fn leaves_as_many()
+    ensures { LeavesAsMany }
+{}
+
+/// Once all behind it is given up, it gives up the block of addresses.
+pub fn tree_given_up()
+    ensures { TreeGivenUp }
 {}
 
 /// At the turn of a truncation or a removal its task holds the number.
@@ -130,9 +135,14 @@ pub fn free_tells()
     ensures { FreeTells }
 {}
 
-/// What a task has still to give up are data blocks that the bitmap has.
+/// What a task holds are data blocks that the bitmap has, no two of them one.
 pub fn held_has_blocks()
     ensures { HeldHasBlocks }
+{}
+
+/// A task that gives up its file's blocks has no more left than a file may have.
+pub fn few_left()
+    ensures { FewLeft }
 {}
 
 /// A cleared bit of a block changes nothing else that no file shows.
@@ -165,17 +175,12 @@ pub fn taken_zeroed()
     ensures { TakenZeroed }
 {}
 
-/// Its copy of the inode names the block.
-pub fn direct_placed()
-    ensures { DirectPlaced }
+/// Its copy of the inode names the block, as one of data or of addresses.
+pub fn address_placed()
+    ensures { AddressPlaced }
 {}
 
-/// Its copy names the block as that of addresses.
-pub fn indirect_placed()
-    ensures { IndirectPlaced }
-{}
-
-/// Its block of addresses names the block.
+/// One of its blocks of addresses names the block, at any depth.
 pub fn entry_placed()
     ensures { EntryPlaced }
 {}
@@ -195,7 +200,7 @@ pub fn growth_answers()
     ensures { GrowthAnswers }
 {}
 
-/// What a task that writes holds are data blocks that the bitmap has, no two of them one.
+/// A task that writes leads to data blocks, and has the size that it reached.
 pub fn growth_has_blocks()
     ensures { GrowthHasBlocks }
 {}

@@ -25,7 +25,9 @@
 //! `FitsHeld` says which files an image stands for where tasks hold numbers (`Claim`); with none
 //! held it is `Fits`. Its laws go from the turn over each block that is given up, taken, named or
 //! written to the inode that is written back, beside creations, looks and other tasks: what those
-//! hold, and the file of a number at rest, stay as they are (`FitsThen`).
+//! hold, and the file of a number at rest, stay as they are (`FitsThen`). With each block that is
+//! given up the task has one less left (`IsGivenUp`), and at no time more than a file may have
+//! (`FewLeft`): so the steps of a truncation are bounded.
 //!
 //! The laws say that a sound image stands for its own files; that an image which stands for files
 //! is sound, with them as its files, once its log is empty; that the log's blocks have no part in

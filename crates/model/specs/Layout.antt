@@ -1,5 +1,5 @@
 -- The superblock, the inodes and the bitmap of an image.
-use Rattle.std.specs.Prelude.{◌≡◌, ◌≢◌, ℕ, ◌<◌, ◌+◌, ◌-◌, ◌*◌, ◌/◌, ◌%◌, ◌^◌, ◌==◌, ◌&&◌, nat_le, nat_lt, if◌then◌else◌, Bool, List, [], ◌∷◌, ◌++◌, drop, replicate, slice_index, slice_range}
+use Rattle.std.specs.Prelude.{◌≡◌, ◌≢◌, ℕ, ◌<◌, ◌+◌, ◌-◌, ◌*◌, ◌/◌, ◌%◌, ◌^◌, ◌==◌, ◌&&◌, ◌||◌, nat_le, nat_lt, if◌then◌else◌, Bool, List, [], ◌∷◌, ◌++◌, drop, replicate, slice_index, slice_range}
 use Rattle.blocks.specs.Disk.{Image, block_at}
 use Rattle.model.specs.Format.{most_blocks, most_inodes, log_start, log_blocks, inode_start, inodes_per_block, inode_size, bits_per_block, addresses_per_block}
 use Rattle.model.specs.declared.types.image.Form.{Form}
@@ -35,9 +35,12 @@ greatest_size Two = 67382272
 abbrev pub magic_at : Image → ℕ
 magic_at x = u32_at (block_at x 1) 0
 
--- large files are not made yet, so the first form alone is known
+-- the number tells a form
+abbrev pub is_known_magic : ℕ → Bool
+is_known_magic number = (number == magic_of One) || (number == magic_of Two)
+
 abbrev pub has_known_magic : Image → Bool
-has_known_magic x = magic_at x == magic_of One
+has_known_magic x = is_known_magic (magic_at x)
 
 abbrev pub form_of : Image → Form
 form_of x = if magic_at x == magic_of Two then Two else One

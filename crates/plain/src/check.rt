@@ -10,10 +10,10 @@ use crate::log::is_lawful_log;
 use crate::places::{places_below, places_of, pointers_of};
 use crate::recovery::recovered;
 use crate::superblock::{
-    first_data_block, form_of, greatest_size, has_known_magic, inode_count, is_lawful_super,
-    is_marked, super_of,
+    first_data_block, form_of, has_known_magic, inode_count, is_lawful_super, is_marked, super_of,
 };
 use blocks::{Block, NoMemory};
+use layout::greatest_size;
 use model::types::{CheckFault, Pointer};
 use std::alloc::Global;
 

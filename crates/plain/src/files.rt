@@ -6,9 +6,9 @@ ghost use Rattle.model.specs.Places.{address_under, address_along, address_in};
 
 use crate::fields::{bytes_at, word_in};
 use crate::inode::inode_of;
-use crate::places::{depths, reach};
 use crate::superblock::{form_of, inode_count};
 use blocks::{BLOCK_SIZE, Block, NoMemory};
+use layout::{depths, reach};
 use model::content::Content;
 use model::types::{Dinode, File};
 use std::alloc::Global;

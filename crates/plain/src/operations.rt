@@ -7,8 +7,8 @@ ghost use Rattle.model.specs.Files.{file_in};
 ghost use Rattle.model.specs.Operations.{transfer_limit, is_kind, write_refusal, no_file_refusal, refusal_of, where_true, part_of, may_have_written, after_create, after_at, after_done, is_refusal, after};
 
 use crate::files::Files;
-use crate::superblock::greatest_size;
 use blocks::{BLOCK_SIZE, NoMemory};
+use layout::greatest_size;
 use model::content::Content;
 use model::types::{File, Form, Op, Reply, TRANSFER_LIMIT};
 use std::alloc::Global;

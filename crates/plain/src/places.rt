@@ -1,43 +1,16 @@
 // Where the blocks of inodes stand.
 ghost use Rattle.std.specs.Prelude.{◌≡◌, ◌≤◌, ◌<◌, ◌+◌, ◌*◌, ◌^◌, length, All, IfOk};
-ghost use Rattle.model.specs.Layout.{reach, depths, inode_block, inode_count_of};
+ghost use Rattle.model.specs.Layout.{inode_block, inode_count_of};
 ghost use Rattle.model.specs.Places.{pointer_of, pointers_under, pointers_along, pointers_in, pointers_of, addresses_in, places_of};
 ghost use Rattle.model.specs.Verdict.{places_below};
 
 use crate::inode::inode_of;
 use crate::superblock::{form_of, inode_count};
 use blocks::{BLOCK_SIZE, Block, NoMemory};
-use layout::ADDRESSES_PER_BLOCK;
 use layout::fields::read_u32;
-use model::types::{Dinode, Form, Pointer};
+use layout::{ADDRESSES_PER_BLOCK, depths, reach};
+use model::types::{Dinode, Pointer};
 use std::alloc::Global;
-
-/// How many of a file's blocks an address leads to that is `depth` blocks of addresses away from
-/// the data, at most 2.
-pub fn reach(depth: u32) -> u32
-    requires { depth ≤ 2 }
-    ensures value { result ≡ reach depth }
-    ensures small { result ≤ 65536 }
-    ensures some { 1 ≤ result }
-{
-    match depth {
-        0 => 1,
-        1 => ADDRESSES_PER_BLOCK as u32,
-        _ => 65536,
-    }
-}
-
-/// For each of the 13 addresses, how many blocks of addresses one goes through to the data.
-pub fn depths(form: Form) -> [u32; 13]
-    ensures value { result ≡ depths form }
-    ensures shallow { All (λ depth. depth ≤ 2) result }
-    ensures len { length result ≡ 13 }
-{
-    match form {
-        Form::One => [0, 0, 0, 0, 0, 0, 0, 0, 0, 0, 0, 0, 1],
-        Form::Two => [0, 0, 0, 0, 0, 0, 0, 0, 0, 0, 0, 1, 2],
-    }
-}
 
 /// An address, needed where a file of `size` bytes reaches its block `first`.
 fn pointer_of(size: u32, first: u32, address: u32) -> Pointer

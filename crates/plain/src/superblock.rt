@@ -1,23 +1,14 @@
 // The superblock and the bitmap of an image.
 ghost use Rattle.std.specs.Prelude.{◌≡◌, ◌≤◌, ◌<◌, length};
 ghost use Rattle.model.specs.Format.{bits_per_block};
-ghost use Rattle.model.specs.Layout.{magic_of, magic_at, has_known_magic, form_of, greatest_size, super_in, super_of, meta_count, is_lawful_super, inode_count_of, first_data_block, is_marked};
+ghost use Rattle.model.specs.Layout.{magic_at, has_known_magic, form_of, super_in, super_of, meta_count, is_lawful_super, inode_count_of, first_data_block, is_marked};
 
 use crate::fields::has_bit;
 use blocks::Block;
 use layout::fields::read_u32;
-use layout::{BITS_PER_BLOCK, GREATEST_SIZE, INODE_START, INODES_PER_BLOCK, superblock};
+use layout::superblock::{self, magic_of};
+use layout::{BITS_PER_BLOCK, INODE_START, INODES_PER_BLOCK};
 use model::types::{Form, Super};
-
-/// The first number of a superblock.
-pub fn magic_of(form: Form) -> u32
-    ensures { result ≡ magic_of form }
-{
-    match form {
-        Form::One => 0x1020_3040,
-        Form::Two => 0x1020_3041,
-    }
-}
 
 /// The first number of the image's superblock.
 pub fn magic_at(image: &[Block]) -> u32
@@ -27,12 +18,12 @@ pub fn magic_at(image: &[Block]) -> u32
     read_u32(image[1].as_slice(), 0)
 }
 
-/// Whether the image is of the form that is made.
+/// Whether the image has a magic number that tells its form.
 pub fn has_known_magic(image: &[Block]) -> bool
     requires { 2 ≤ length image.now }
     ensures { result ≡ has_known_magic image.now }
 {
-    magic_at(image) == magic_of(Form::One)
+    superblock::is_known(image[1].as_slice())
 }
 
 /// How inodes lead to their blocks in this image.
@@ -44,16 +35,6 @@ pub fn form_of(image: &[Block]) -> Form
         Form::Two
     } else {
         Form::One
-    }
-}
-
-/// The bytes of the largest file.
-pub fn greatest_size(form: Form) -> u32
-    ensures { result ≡ greatest_size form }
-{
-    match form {
-        Form::One => GREATEST_SIZE,
-        Form::Two => 67_382_272,
     }
 }
 

@@ -93,7 +93,7 @@ module _ {D N : Type 0} (disk : Ghosts D N) (op : Op) (look : is_look op ≡ tru
     over = step_answers disk op k.world.journal.list m.store m.world (let one = stage.one in omega (arith, one)) stage.unopened (waiting m.intake 0) (plain_queues.side n.intake 0) false n.store n.world m.store.volume.fault made.acts.next stage.stands;
   }
 
-  over_then : (k m : Plain D) → Stage op k k → MakesSteps (MakesPlainStep disk 0) step.Answered k m → Over op k m
+  over_then : (k m : Plain D) → Stage op k k → MakesSteps disk plain_queues plain_herald 0 step.Answered k m → Over op k m
   over_then k m stage makes = stage_over k makes.mid m (stages_move makes.moved k k makes.mid stage makes.moves) makes.made
 
   -- a step of a look only reads
@@ -109,7 +109,7 @@ module _ {D N : Type 0} (disk : Ghosts D N) (op : Op) (look : is_look op ≡ tru
         reads_then disk m.store.volume.device mid.store.volume.device n.store.volume.device (step_reads step.Moved k m mid stage made) (moves_read count k mid n (stage_moves k m mid stage made) moves)
 
     -- so do all steps up to one that doesn't move
-    pub steps_read : (r : Step) (k m : Plain D) → Stage op k k → MakesSteps (MakesPlainStep disk 0) r k m → OnlyReads disk k.store.volume.device m.store.volume.device
+    pub steps_read : (r : Step) (k m : Plain D) → Stage op k k → MakesSteps disk plain_queues plain_herald 0 r k m → OnlyReads disk k.store.volume.device m.store.volume.device
     steps_read r k m stage makes =
         reads_then disk k.store.volume.device makes.mid.store.volume.device m.store.volume.device (moves_read makes.moved k k makes.mid stage makes.moves)
         (step_reads r k makes.mid m (stages_move makes.moved k k makes.mid stage makes.moves) makes.made)
@@ -248,7 +248,7 @@ stage_first op k handed = record {
 }
 
 pub is_answered : {D N : Type 0} (disk : Ghosts D N) (op : Op) (k m : Plain D) → Known disk plain_queues plain_herald k → Known disk plain_queues plain_herald m → HandedIn op k
-    → polled k.intake 0 ≡ length k.world.journal.list → length k.world.journal.list < 2 ^ 64 - 1 → is_look op ≡ true → MakesSteps (MakesPlainStep disk 0) step.Answered k m → IsAnswered disk.image op k m
+    → polled k.intake 0 ≡ length k.world.journal.list → length k.world.journal.list < 2 ^ 64 - 1 → is_look op ≡ true → MakesSteps disk plain_queues plain_herald 0 step.Answered k m → IsAnswered disk.image op k m
 is_answered disk op k m known_k known_m handed fetched few look makes =
     let es = k.world.journal.list in
     let looks = handed.looks in
@@ -302,18 +302,18 @@ begun_is disk k known one idle looks =
 
 -- from the submission to the last step
 pub asked : {D N : Type 0} (disk : Ghosts D N) (op : Op) (r : Step) (n : ℕ) (k l m : Plain D) → Rests disk.fault_count k → is_look op ≡ true → l ≡ record k { intake = l.intake } → waiting l.intake 0 ≡ waiting k.intake 0 ++ op ∷ [] → n ≡ (process k.world 0).begun + length (waiting l.intake 0) → n < 2 ^ 64
-    → polled l.intake 0 ≡ polled k.intake 0 → Known disk plain_queues plain_herald l → Known disk plain_queues plain_herald m → MakesSteps (MakesPlainStep disk 0) r l m → r ≡ step.Answered → IsAnswered disk.image op l m
+    → polled l.intake 0 ≡ polled k.intake 0 → Known disk plain_queues plain_herald l → Known disk plain_queues plain_herald m → MakesSteps disk plain_queues plain_herald 0 r l m → r ≡ step.Answered → IsAnswered disk.image op l m
 asked disk op r n k l m rests look same waits number bound fetched known_l known_m makes answered_so =
     let world : l.world ≡ k.world = ap (λ s. s.world) same in
     let handed = handed_in disk.fault_count op k l rests same waits in
     let has_one : length (waiting l.intake 0) ≡ 1 = ap (λ (xs : List Op). length xs) handed.waits in
     let begun = sym (ap (λ w. (process w 0).begun) world) ∙ begun_is disk l known_l handed.one handed.idle handed.looks in
     is_answered disk op l m known_l known_m handed (fetched ∙ rests.fetched ∙ ap (λ w. length w.journal.list) (sym world)) (omega (arith, number, bound, begun, has_one)) look
-    (subst (λ x. MakesSteps (MakesPlainStep disk 0) x l m) answered_so makes)
+    (subst (λ x. MakesSteps disk plain_queues plain_herald 0 x l m) answered_so makes)
 
 -- meanwhile the disk was only read
 pub asked_reads : {D N : Type 0} (disk : Ghosts D N) (op : Op) (r : Step) (k l m : Plain D) → Rests disk.fault_count k → is_look op ≡ true → l ≡ record k { intake = l.intake }
-    → waiting l.intake 0 ≡ waiting k.intake 0 ++ op ∷ [] → MakesSteps (MakesPlainStep disk 0) r l m → OnlyReads disk k.store.volume.device m.store.volume.device
+    → waiting l.intake 0 ≡ waiting k.intake 0 ++ op ∷ [] → MakesSteps disk plain_queues plain_herald 0 r l m → OnlyReads disk k.store.volume.device m.store.volume.device
 asked_reads disk op r k l m rests look same waits makes =
     let handed = handed_in disk.fault_count op k l rests same waits in
     subst (λ d. OnlyReads disk d m.store.volume.device) (ap (λ s. s.store.volume.device) same)
@@ -324,7 +324,7 @@ no_fault : (r : Step) (fault : Option DeviceFault) (old new : ℕ) → r ≡ ste
 no_fault r None old new so halted is = is
 no_fault r (Some fault) old new so halted is = let e : step.Answered ≡ step.Halted = sym so ∙ halted.1 refl in absurd (cc e)
 
-pub none_failed : {D N : Type 0} (disk : Ghosts D N) (r : Step) (l m : Plain D) → Known disk plain_queues plain_herald m → MakesSteps (MakesPlainStep disk 0) r l m → r ≡ step.Answered → disk.fault_count m.store.volume.device ≡ disk.fault_count m.opening
+pub none_failed : {D N : Type 0} (disk : Ghosts D N) (r : Step) (l m : Plain D) → Known disk plain_queues plain_herald m → MakesSteps disk plain_queues plain_herald 0 r l m → r ≡ step.Answered → disk.fault_count m.store.volume.device ≡ disk.fault_count m.opening
 none_failed disk r l m known makes so = no_fault r m.store.volume.fault (disk.fault_count m.opening) (disk.fault_count m.store.volume.device) so makes.made.acts.device.halted known.faults
 
 -- once the answer is fetched, the kernel rests

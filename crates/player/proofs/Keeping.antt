@@ -55,7 +55,7 @@ module _ {D N : Type 0} (disk : Ghosts D N) where
   keeps_moves p zero k m n kept moves = subst (λ (o : Ringed D). KeepsOn disk k o) (sym moves) kept
   keeps_moves p (suc count) k m n kept (mid, made, moves) = keeps_moves p count k mid n (keeps_step p step.Moved k m mid kept made) moves
 
-  keeps_steps : (p : ℕ) (r : Step) (k m n : Ringed D) → KeepsOn disk k m → MakesSteps (MakesRingedStep disk p) r m n → KeepsOn disk k n
+  keeps_steps : (p : ℕ) (r : Step) (k m n : Ringed D) → KeepsOn disk k m → MakesSteps disk ring_ends board_herald p r m n → KeepsOn disk k n
   keeps_steps p r k m n kept makes = keeps_step p r k makes.mid n (keeps_moves p makes.moved k m makes.mid kept makes.moves) makes.made
 
 module _ {D N : Type 0} (disk : Ghosts (FaultyDisk D) (N × Trap)) (stop : ℕ) where

@@ -10,7 +10,7 @@ use Rattle.inodes.specs.Store.{fresh_volume}
 use Rattle.inodes.specs.Table.{new_table}
 use Rattle.inodes.specs.Tasks.{no_task}
 use Rattle.kernel.specs.Opening.{IsOpened}
-use Rattle.model.specs.Layout.{inode_count_of}
+use Rattle.model.specs.Layout.{form_of, inode_count_of}
 use Rattle.model.specs.Log.{recovered}
 use Rattle.model.specs.Verdict.{verdict}
 use Rattle.board.specs.Boards.{asked}
@@ -37,7 +37,7 @@ opened_over disk d i h x tasks processes player same opened sources unasked =
     record {
       sound = subst (λ y. verdict y ≡ None) same opened.sound;
       recovers = opened.opening ∙ ap recovered same;
-      store = subst (λ y. k.store ≡ record { volume = fresh_volume disk.image k.opening; tasks = replicate processes no_task; table = new_table (inode_count_of y) }) same opened.store;
+      store = subst (λ y. k.store ≡ record { volume = fresh_volume disk.image k.opening; tasks = replicate processes no_task; table = new_table (form_of y) (inode_count_of y) }) same opened.store;
       world = opened.world;
       sources = subst (λ q. AreNewSources (intake_names q) tasks processes player.sources.items) (sym opened.intake) sources;
       unasked = unasked;

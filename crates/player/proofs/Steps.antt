@@ -1,5 +1,5 @@
 -- Steps of a process, one after the other.
-use Rattle.std.proofs.Common.{◌≡◌, ℕ, ◌+◌, zero, suc, ◌≢◌, ◌<◌, true, List, Option, refl, sym, subst, arith, add-one}
+use Rattle.std.proofs.Common.{◌≡◌, ℕ, ◌+◌, zero, suc, ◌≢◌, ◌<◌, ◌≤◌, true, List, Option, refl, sym, subst, arith, add-one}
 use Rattle.blocks.specs.declared.disk.Disk as disk_trait
 use Rattle.blocks.specs.FaultyDisk.{has_fired}
 use Rattle.blocks.specs.declared.faulty.FaultyDisk.{FaultyDisk}
@@ -11,7 +11,10 @@ use Rattle.journal.specs.declared.types.At.{At}
 use Rattle.journal.specs.declared.types.At.TheVariants as at
 use Rattle.journal.specs.Bound.{all_steps_left, is_busy_at}
 use Rattle.journal.specs.Processes.{process}
-use Rattle.kernel.specs.Bound.{left_of}
+use Rattle.model.specs.declared.types.image.Form.{Form}
+use Rattle.model.specs.declared.types.image.Form.TheVariants.{One, Two}
+use Rattle.model.specs.Layout.{form_of}
+use Rattle.kernel.specs.Bound.{left_of, step_bound}
 use Rattle.kernel.specs.declared.types.Step.{Step}
 use Rattle.kernel.specs.declared.types.Step.TheVariants as step
 use Rattle.kernel.specs.State.{State}
@@ -44,9 +47,17 @@ busy_with (at.Behind group k) left l some = refl
 busy_with (at.Ending group k) left l some = refl
 busy_with (at.Committing group k) left l some = refl
 
+some_bound : (form : Form) → 0 < step_bound form
+some_bound One = omega arith
+some_bound Two = omega arith
+
+pub most_bound : (form : Form) → step_bound form ≤ 40000
+most_bound One = omega arith
+most_bound Two = omega arith
+
 module _ {D N I M H : Type 0} (disk : disk_trait.Ghosts D N) (intake : intake_trait.Ghosts I M) (herald : herald_trait.Ghosts H) (p : ℕ) where
   -- each of them takes one
-  moves_left : (n : ℕ) (k m : State D I H) → 0 < left_of k p → Moves (MakesStep disk intake herald p) n k m → n < left_of k p
+  moves_left : (n : ℕ) (k m : State D I H) → 0 < left_of disk.image k p → Moves (MakesStep disk intake herald p) n k m → n < left_of disk.image k p
   unfolding Moves
   moves_left zero k m some moves = some
   moves_left (suc n) k m some (mid, made, moves) =
@@ -55,18 +66,18 @@ module _ {D N I M H : Type 0} (disk : disk_trait.Ghosts D N) (intake : intake_tr
       let rest = moves_left n mid m one.some moves in
       omega (arith, less, rest)
 
-  -- so fewer than 2,000 move
-  pub moves_few : (n : ℕ) (k m : State D I H) → Moves (MakesStep disk intake herald p) n k m → n < 2000
+  -- so fewer of them move than an operation may have
+  pub moves_few : (n : ℕ) (k m : State D I H) → Moves (MakesStep disk intake herald p) n k m → n < step_bound (form_of (disk.image k.opening))
   unfolding Moves
-  moves_few zero k m moves = omega arith
+  moves_few zero k m moves = some_bound (form_of (disk.image k.opening))
   moves_few (suc n) k m (mid, made, moves) =
       let one = made.bound refl in
-      let few = one.few in
+      let few : left_of disk.image mid p < step_bound (form_of (disk.image k.opening)) = subst (λ (o : D). left_of disk.image mid p < step_bound (form_of (disk.image o))) made.acts.opening one.few in
       let rest = moves_left n mid m one.some moves in
       omega (arith, few, rest)
 
   -- steps up to one that doesn't move
-  pub stops : (n : ℕ) (r : Step) (k mid m : State D I H) → Moves (MakesStep disk intake herald p) n k mid → MakesStep disk intake herald p r mid m → r ≢ step.Moved → MakesSteps (MakesStep disk intake herald p) r k m
+  pub stops : (n : ℕ) (r : Step) (k mid m : State D I H) → Moves (MakesStep disk intake herald p) n k mid → MakesStep disk intake herald p r mid m → r ≢ step.Moved → MakesSteps disk intake herald p r k m
   stops n r k mid m moves made other = record { moved = n; mid = mid; moves = moves; few = moves_few n k mid moves; last = other; made = made }
 
 -- a turn of process p, call by call

@@ -54,7 +54,7 @@ EndsSo step.Halted = ⊥
 module _ {D N : Type 0} (disk : Ghosts D N) (sole : SoleWaitsForAnswers disk plain_queues plain_herald) (op : Op) (look : is_look op ≡ true) (k l m : Plain D) (known : Known disk plain_queues plain_herald m) (rests : Rests disk.fault_count k)
     (same : l ≡ record k { intake = l.intake }) (handed : HandedIn op l) (fetched : polled l.intake 0 ≡ polled k.intake 0) (few : length k.world.journal.list < 2 ^ 32) where
   -- its steps don't end because there is no room: its answers were fetched
-  never_waits : (cause : Why) → MakesSteps (MakesPlainStep disk 0) (step.Sleeping cause) l m → ⊥
+  never_waits : (cause : Why) → MakesSteps disk plain_queues plain_herald 0 (step.Sleeping cause) l m → ⊥
   never_waits cause makes =
       let es = l.world.journal.list in
       let there = stages_move disk op look makes.moved l l makes.mid (stage_first op l handed) makes.moves in
@@ -69,7 +69,7 @@ module _ {D N : Type 0} (disk : Ghosts D N) (sole : SoleWaitsForAnswers disk pla
       let polled_m : min (length now.before) (2 ^ 64 - 1) ≡ length k.world.journal.list = sym now.fetched ∙ ap (λ (n : ℕ × ℕ). n.1) names ∙ fetched ∙ rests.fetched in
       none_there (length (answers m.intake 0)) (grind (arith, polled_m, few, given, count)) waits.room
 
-  goes : (r : Step) → MakesSteps (MakesPlainStep disk 0) r l m → GoesOnOrEnds r
+  goes : (r : Step) → MakesSteps disk plain_queues plain_herald 0 r l m → GoesOnOrEnds r
   goes r makes =
       let mid = makes.mid in
       let there = stages_move disk op look makes.moved l l mid (stage_first op l handed) makes.moves in
@@ -80,7 +80,7 @@ module _ {D N : Type 0} (disk : Ghosts D N) (sole : SoleWaitsForAnswers disk pla
   halts_not (Some fault) well halted = cc well
 
   -- and so they do unless the disk failed
-  ends_so : (r : Step) → m.store.volume.fault ≡ None → MakesSteps (MakesPlainStep disk 0) r l m → EndsSo r
+  ends_so : (r : Step) → m.store.volume.fault ≡ None → MakesSteps disk plain_queues plain_herald 0 r l m → EndsSo r
   ends_so step.Moved well makes = makes.last refl
   ends_so step.Answered well makes = tt
   ends_so (step.Sleeping cause) well makes = never_waits cause makes
@@ -91,13 +91,13 @@ module _ {D N : Type 0} (disk : Ghosts D N) (sole : SoleWaitsForAnswers disk pla
 
 -- the steps of an operation that was handed in to a kernel that rested, by what the last one answers
 pub asked_ends : {D N : Type 0} (disk : Ghosts D N) (op : Op) (r q : Step) (k l m : Plain D) → SoleWaitsForAnswers disk plain_queues plain_herald → Rests disk.fault_count k → is_look op ≡ true → length k.world.journal.list < 2 ^ 32 → l ≡ record k { intake = l.intake }
-    → waiting l.intake 0 ≡ waiting k.intake 0 ++ op ∷ [] → polled l.intake 0 ≡ polled k.intake 0 → Known disk plain_queues plain_herald m → MakesSteps (MakesPlainStep disk 0) r l m → m.store.volume.fault ≡ None → r ≡ q → EndsSo q
+    → waiting l.intake 0 ≡ waiting k.intake 0 ++ op ∷ [] → polled l.intake 0 ≡ polled k.intake 0 → Known disk plain_queues plain_herald m → MakesSteps disk plain_queues plain_herald 0 r l m → m.store.volume.fault ≡ None → r ≡ q → EndsSo q
 asked_ends disk op r q k l m sole rests look few same waits fetched known makes well is =
-    ends_so disk sole op look k l m known rests same (handed_in disk.fault_count op k l rests same waits) fetched few q well (subst (λ (s : Step). MakesSteps (MakesPlainStep disk 0) s l m) is makes)
+    ends_so disk sole op look k l m known rests same (handed_in disk.fault_count op k l rests same waits) fetched few q well (subst (λ (s : Step). MakesSteps disk plain_queues plain_herald 0 s l m) is makes)
 
 -- memory was refused
-pub is_refused : {D N : Type 0} (disk : Ghosts D N) (r : Step) (l m : Plain D) → MakesSteps (MakesPlainStep disk 0) r l m → r ≡ step.NoMemory → IsRefusedMemory disk m.store.volume.device
-is_refused disk r l m makes so = let same = subst (λ (q : Step). MakesSteps (MakesPlainStep disk 0) q l m) so makes in record { before = same.mid; now = m; step = same.made; device = refl }
+pub is_refused : {D N : Type 0} (disk : Ghosts D N) (r : Step) (l m : Plain D) → MakesSteps disk plain_queues plain_herald 0 r l m → r ≡ step.NoMemory → IsRefusedMemory disk m.store.volume.device
+is_refused disk r l m makes so = let same = subst (λ (q : Step). MakesSteps disk plain_queues plain_herald 0 q l m) so makes in record { before = same.mid; now = m; step = same.made; device = refl }
 
 same_at_most : (a b : ℕ) → b ≡ a → a ≤ b
 same_at_most a b is = omega (arith, is)

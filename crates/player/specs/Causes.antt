@@ -6,7 +6,7 @@ use Rattle.layout.specs.declared.geometry.MkfsFault.TheVariants as mkfs
 use Rattle.model.specs.Codec.{made_image}
 use Rattle.model.specs.Layout.{is_inode_count, is_size}
 use Rattle.model.specs.Verdict.{verdict}
-use Rattle.model.specs.declared.types.image.Form.TheVariants.{One}
+use Rattle.model.specs.declared.types.image.Form.{Form}
 use Rattle.texts.specs.declared.refusal.Refusal.{Refusal}
 use Rattle.texts.specs.declared.refusal.Refusal.TheVariants.{Mkfs, Check, Output}
 
@@ -16,13 +16,14 @@ IsUnchecked image faults d e (Check fault) = IsCause (verdict (image d)) (faults
 IsUnchecked image faults d e Output = verdict (image d) ≡ None
 IsUnchecked image faults d e _ = ⊥
 
--- on the disk d, now e, no image of that size was made, or its numbers could not be printed
-abbrev pub IsUnmade : {D : Type 0} → (D → Image) → (D → ℕ) → ℕ → ℕ → D → D → Refusal → Type 0
-IsUnmade image faults size ninodes d e (Mkfs mkfs.InodeRange) =
+-- on the disk d, now e, no image of that form and size was made, or its numbers could not be
+-- printed
+abbrev pub IsUnmade : {D : Type 0} → (D → Image) → (D → ℕ) → Form → ℕ → ℕ → D → D → Refusal → Type 0
+IsUnmade image faults form size ninodes d e (Mkfs mkfs.InodeRange) =
     (is_inode_count ninodes ≡ false) × (e ≡ d)
-IsUnmade image faults size ninodes d e (Mkfs mkfs.SizeRange) =
+IsUnmade image faults form size ninodes d e (Mkfs mkfs.SizeRange) =
     ((is_size size ninodes && (size == length (image d))) ≡ false) × (e ≡ d)
-IsUnmade image faults size ninodes d e (Mkfs mkfs.Disk) = Rose (faults d) (faults e)
-IsUnmade image faults size ninodes d e (Mkfs mkfs.NoMemory) = e ≡ d
-IsUnmade image faults size ninodes d e Output = image e ≡ made_image One size ninodes
-IsUnmade image faults size ninodes d e _ = ⊥
+IsUnmade image faults form size ninodes d e (Mkfs mkfs.Disk) = Rose (faults d) (faults e)
+IsUnmade image faults form size ninodes d e (Mkfs mkfs.NoMemory) = e ≡ d
+IsUnmade image faults form size ninodes d e Output = image e ≡ made_image form size ninodes
+IsUnmade image faults form size ninodes d e _ = ⊥

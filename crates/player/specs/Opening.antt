@@ -12,7 +12,7 @@ use Rattle.inodes.specs.Table.{new_table}
 use Rattle.inodes.specs.Tasks.{no_task}
 use Rattle.journal.specs.Processes.{fresh_world}
 use Rattle.blocks.specs.Disk.{counted}
-use Rattle.model.specs.Layout.{inode_count_of}
+use Rattle.model.specs.Layout.{form_of, inode_count_of}
 use Rattle.model.specs.Log.{logged_count, recovered}
 use Rattle.model.specs.Verdict.{verdict}
 use Rattle.scripts.specs.declared.schedule.Word.{Word}
@@ -38,7 +38,7 @@ pub record IsOpenedOver {D N : Type 0} (image : FaultyDisk D → Image) (x : Ima
   pub store : player.kernel.store ≡ record {
     volume = fresh_volume image player.kernel.opening;
     tasks = replicate processes no_task;
-    table = new_table (inode_count_of x);
+    table = new_table (form_of x) (inode_count_of x);
   }
   pub world : player.kernel.world ≡ fresh_world processes
   pub sources : AreNewSources (intake_names player.kernel.intake) tasks processes

@@ -27,6 +27,8 @@ use Rattle.clients.specs.Sources.{HasHandedIn, HaveSourceRings, source_ops}
 use Rattle.clients.specs.declared.source.Source.{Source}
 use Rattle.kernel.specs.declared.types.Step.{Step}
 use Rattle.kernel.specs.declared.types.Step.TheVariants as step
+use Rattle.model.specs.Layout.{form_of}
+use Rattle.kernel.specs.Bound.{step_bound}
 use Rattle.kernel.specs.State.{State}
 use Rattle.kernel.specs.Steps.{MakesStep}
 use Rattle.texts.specs.declared.events.Event.{Event}
@@ -89,15 +91,16 @@ unfoldable pub Moves : {K : Type 0} → (Step → K → K → Type 0) → ℕ �
 Moves steps zero k m = m ≡ k
 Moves {K} steps (suc n) k m = (mid : K) × steps step.Moved k mid × Moves steps n mid m
 
--- Steps make m of k: fewer than 2,000 that move, and one that doesn't and answers r.
-pub record MakesSteps {K : Type 0} (steps : Step → K → K → Type 0) (r : Step) (k m : K)
-    : Type 0 where
+-- Steps of process p make m of k: fewer that move than an operation may have, and one that doesn't
+-- and answers r.
+pub record MakesSteps {D N I M H : Type 0} (disk : Ghosts D N) (intake : Intakes I M)
+    (herald : Heralds H) (p : ℕ) (r : Step) (k m : State D I H) : Type 0 where
   pub moved : ℕ
-  pub mid : K
-  pub moves : Moves steps moved k mid
-  pub few : moved < 2000
+  pub mid : State D I H
+  pub moves : Moves (MakesStep disk intake herald p) moved k mid
+  pub few : moved < step_bound (form_of (disk.image k.opening))
   pub last : r ≢ step.Moved
-  pub made : steps r mid m
+  pub made : MakesStep disk intake herald p r mid m
 
 -- nothing of the kernel changed but its ends of the rings
 abbrev pub HasSame : {D : Type 0} → Ringed D → Ringed D → Type 0
@@ -181,7 +184,7 @@ abbrev pub MakesTurn : {D N : Type 0} → Ghosts (FaultyDisk D) (N × Trap) → 
 MakesTurn disk stop (word.Step p) event old new =
     MakesTurnOf (MakesRingedStep disk p) stop p event old new
 MakesTurn disk stop (word.Steps p) event old new =
-    MakesTurnOf (MakesSteps (MakesRingedStep disk p)) stop p event old new
+    MakesTurnOf (MakesSteps disk ring_ends board_herald p) stop p event old new
 MakesTurn disk stop word.Shutdown event old new =
     (event ≡ Shut) × (asked new.watch ≡ true) × (new.kernel ≡ old.kernel)
     × (new.sources ≡ old.sources)

@@ -8,14 +8,14 @@ use blocks::Disk;
 use kernel::{Kernel, Step};
 use ports::{Herald, Intake};
 
-// More steps than any operation makes.
-const MOST_STEPS: u32 = 2000;
+// More steps than any operation makes, whatever the image's form.
+const MOST_STEPS: u32 = 40000;
 
 /// Makes steps of a process, until one doesn't move. What the last of them answers.
 #[tactic(auto, using(crate::proofs::Steps::none_moved, crate::proofs::Steps::one_moved))]
 pub fn make_steps<D: Disk, I: Intake, H: Herald>(kernel: &mut Kernel<D, I, H>, pid: u32) -> Step
     requires { pid < length kernel.old.world.processes }
-    ensures makes { MakesSteps (MakesStep D.Disk I.Intake H.Herald pid)
+    ensures makes { MakesSteps D.Disk I.Intake H.Herald pid
         result kernel.old kernel.new }
     ensures processes { length kernel.new.world.processes ≡ length kernel.old.world.processes }
     ensures names { SameNames (I.name kernel.old.intake) (I.name kernel.new.intake) }

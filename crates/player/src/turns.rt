@@ -19,7 +19,9 @@ ghost use Rattle.player.specs.Stepping.{
   MakesTurnOf,
   MeetsAt,
   Polls,
+  board_herald,
   kernel_fault,
+  ring_ends,
 };
 ghost use Rattle.player.specs.Opening.{IsArmed, IsOpenedOver};
 ghost use Rattle.player.specs.Turns.{event_of};
@@ -160,7 +162,7 @@ impl<'a, D: Disk + Drop> Player<'a, D> {
     fn make_steps(&mut self, pid: u32, stop: u64) -> Event
         requires pid { pid < length self.old.kernel.world.processes }
         requires seated { IsSeated self.old }
-        ensures makes { MakesTurnOf (MakesSteps (MakesRingedStep ⟦<FaultyDisk<D> as Disk>⟧ pid))
+        ensures makes { MakesTurnOf (MakesSteps ⟦<FaultyDisk<D> as Disk>⟧ ring_ends board_herald pid)
             stop pid result self.old self.new }
         ensures processes { length self.new.kernel.world.processes
             ≡ length self.old.kernel.world.processes }

@@ -1,7 +1,7 @@
 // Each call of the disk failing in turn.
-use crate::judging::{Left, no_files};
-use crate::playing::{Failure, judge_disk, new_image, run};
-use crate::script::Script;
+use crate::ground::Ground;
+use crate::judging::Left;
+use crate::playing::{Failure, judge_disk, run};
 use crate::setting::Setting;
 use crate::tally::Tally;
 use anyhow::{Context, bail, ensure};
@@ -85,30 +85,28 @@ pub fn fail_each(
     setting: Setting,
     failures: &mut Failures,
 ) -> anyhow::Result<()> {
-    let opening = fail_opening(alloc, setting).context("the opening")?;
+    let ground = Ground::new(alloc, seed, setting)?;
+    let opening = fail_opening(alloc, &ground).context("the opening")?;
     failures.opening_reads = failures.opening_reads.saturating_add(opening);
-    fail_kind(alloc, seed, setting, Kind::Read, opening, failures).context("reads")?;
-    fail_kind(alloc, seed, setting, Kind::WriteOld, 0, failures).context("writes, left old")?;
-    fail_kind(alloc, seed, setting, Kind::WriteNew, 0, failures).context("writes, left new")?;
+    fail_kind(alloc, &ground, Kind::Read, opening, failures).context("reads")?;
+    fail_kind(alloc, &ground, Kind::WriteOld, 0, failures).context("writes, left old")?;
+    fail_kind(alloc, &ground, Kind::WriteNew, 0, failures).context("writes, left new")?;
     failures.scripts = failures.scripts.saturating_add(1);
     Ok(())
 }
 
 // Makes each read of an opening fail in turn, and says how many there are. The opening is refused,
 // and the image stays as it was.
-fn fail_opening(alloc: Global, setting: Setting) -> anyhow::Result<u64> {
+fn fail_opening(alloc: Global, ground: &Ground) -> anyhow::Result<u64> {
+    let processes = ground.setting.processes;
     for reads in 0..MOST_CALLS {
-        let disk = FaultyDisk::new(new_image(alloc, setting)?, reads + 1, Kind::Read);
-        let intake = QueueIntake::new(alloc, setting.processes)?;
-        match Kernel::open(alloc, disk, intake, PlainHerald::new(), setting.processes) {
+        let disk = FaultyDisk::new(ground.disk(alloc)?, reads + 1, Kind::Read);
+        let intake = QueueIntake::new(alloc, processes)?;
+        match Kernel::open(alloc, disk, intake, PlainHerald::new(), processes) {
             Ok(_kernel) => return Ok(reads),
             Err((fault, disk)) => {
                 ensure!(is_of_disk(fault), "read {reads}: {fault}");
-                judge_disk(
-                    alloc,
-                    disk.into_inner(),
-                    &no_files(alloc, setting.inode_count)?,
-                )?;
+                judge_disk(alloc, disk.into_inner(), &ground.files(alloc)?)?;
             }
         }
     }
@@ -125,15 +123,16 @@ fn is_of_disk(fault: OpenFault) -> bool {
 // Makes each call of a kind fail in turn, behind so many first ones, until a run has no more.
 fn fail_kind(
     alloc: Global,
-    seed: u64,
-    setting: Setting,
+    ground: &Ground,
     kind: Kind,
     before: u64,
     failures: &mut Failures,
 ) -> anyhow::Result<()> {
     for nth in before.saturating_add(1)..MOST_CALLS {
-        let script = Script::new(seed, setting);
-        let left = run(alloc, script, Failure { kind, nth }, &mut Tally::new()).context(
+        if !ground.fails(nth) {
+            continue;
+        }
+        let left = run(alloc, ground, Failure { kind, nth }, &mut Tally::new()).context(
             format_args!("call {nth}"),
         )?;
         if !left.has_failed {

@@ -1,7 +1,7 @@
 // Scripts over a disk that holds writes back: stops that lose some of these, and each sync failing.
+use crate::ground::Ground;
 use crate::judging::judge_journal;
-use crate::playing::{MOST_TURNS, judge_disk, new_image, open_over, play, take_turn};
-use crate::script::Script;
+use crate::playing::{MOST_TURNS, judge_disk, open_over, play, take_turn};
 use crate::setting::Setting;
 use crate::tally::Tally;
 use anyhow::{Context, bail, ensure};
@@ -108,8 +108,8 @@ impl Losses {
 }
 
 impl Due {
-    fn of(alloc: Global, journal: &[Entry], setting: Setting, groups: u64) -> anyhow::Result<Due> {
-        let (operations, files) = judge_journal(alloc, journal, setting.inode_count, groups, true)?;
+    fn of(alloc: Global, journal: &[Entry], ground: &Ground, groups: u64) -> anyhow::Result<Due> {
+        let (operations, files) = judge_journal(alloc, journal, ground, groups, true)?;
         Ok(Due {
             groups,
             operations,
@@ -127,12 +127,16 @@ pub fn lose_some(
     losses: &mut Losses,
 ) -> anyhow::Result<()> {
     let mut chance = Chance::new(seed, 4);
-    stop_at_turns(alloc, seed, setting, &mut chance, losses).context("stops")?;
-    refuse_opening(alloc, setting).context("the opening")?;
+    let ground = Ground::new(alloc, seed, setting)?;
+    stop_at_turns(alloc, &ground, &mut chance, losses).context("stops")?;
+    refuse_opening(alloc, &ground).context("the opening")?;
     for nth in 2..MOST_SYNCS {
-        let goes_on = fail_sync(alloc, seed, setting, nth, &mut chance, losses).context(
-            format_args!("sync {nth}"),
-        )?;
+        if !ground.fails(nth) {
+            continue;
+        }
+        let goes_on = fail_sync(alloc, &ground, nth, &mut chance, losses).context(format_args!(
+            "sync {nth}"
+        ))?;
         if !goes_on {
             losses.scripts = losses.scripts.saturating_add(1);
             return Ok(());
@@ -141,9 +145,9 @@ pub fn lose_some(
     bail!("a script has too many syncs")
 }
 
-// A disk that holds writes back, with an image that has no files.
-fn held_image(alloc: Global, setting: Setting) -> anyhow::Result<SyncDisk> {
-    Ok(SyncDisk::new(alloc, new_image(alloc, setting)?)?)
+// A disk that holds writes back, with the image of a ground.
+fn held_image(alloc: Global, ground: &Ground) -> anyhow::Result<SyncDisk> {
+    Ok(SyncDisk::new(alloc, ground.disk(alloc)?)?)
 }
 
 // Each held write gets through or is lost.
@@ -157,13 +161,12 @@ fn choice(chance: &mut Chance) -> [bool; 64] {
 
 fn stop_at_turns(
     alloc: Global,
-    seed: u64,
-    setting: Setting,
+    ground: &Ground,
     chance: &mut Chance,
     losses: &mut Losses,
 ) -> anyhow::Result<()> {
-    let mut script = Script::new(seed, setting);
-    let mut kernel = open_over(alloc, held_image(alloc, setting)?, setting.processes)?;
+    let mut script = ground.script();
+    let mut kernel = open_over(alloc, held_image(alloc, ground)?, ground.setting.processes)?;
     for _turn in 0..MOST_TURNS {
         if script.is_over() {
             ensure!(
@@ -174,12 +177,12 @@ fn stop_at_turns(
         }
         take_turn(alloc, &mut kernel, &mut script, &mut Tally::new())?;
         ensure!(kernel.fault().is_none(), "the disk failed");
-        if chance.is_one_in(STOPS) || kernel.disk().held() > 0 {
+        if stops_here(kernel.disk(), ground.setting, chance) {
             let (left, is_headed) = losses.leave(alloc, kernel.disk(), &choice(chance))?;
             // Only a header whose sync is still to come is in front of what is committed.
             let is_more = is_headed && kernel.committed() < kernel.opened();
             let groups = kernel.committed().saturating_add(is_more as u64);
-            let due = Due::of(alloc, kernel.journal(), setting, groups)?;
+            let due = Due::of(alloc, kernel.journal(), ground, groups)?;
             losses.judge(alloc, left, &due, is_more)?;
             losses.stops = losses.stops.saturating_add(1);
         }
@@ -187,11 +190,20 @@ fn stop_at_turns(
     bail!("the run doesn't end")
 }
 
+// Whether a stop is tried behind a turn that left the disk so.
+fn stops_here(disk: &SyncDisk, setting: Setting, chance: &mut Chance) -> bool {
+    if chance.is_one_in(STOPS) {
+        return true;
+    }
+    disk.held() > 0 && (setting.each == 1 || chance.is_one_in(setting.each))
+}
+
 // The first sync fails: the opening is refused.
-fn refuse_opening(alloc: Global, setting: Setting) -> anyhow::Result<()> {
-    let disk = FaultyDisk::new(held_image(alloc, setting)?, 1, Kind::Sync);
-    let intake = QueueIntake::new(alloc, setting.processes)?;
-    match Kernel::open(alloc, disk, intake, PlainHerald::new(), setting.processes) {
+fn refuse_opening(alloc: Global, ground: &Ground) -> anyhow::Result<()> {
+    let processes = ground.setting.processes;
+    let disk = FaultyDisk::new(held_image(alloc, ground)?, 1, Kind::Sync);
+    let intake = QueueIntake::new(alloc, processes)?;
+    match Kernel::open(alloc, disk, intake, PlainHerald::new(), processes) {
         Ok(_kernel) => bail!("it is opened"),
         Err((fault, _disk)) => {
             let is_told = matches!(fault, OpenFault::Recover(RecoverFault::Sync));
@@ -205,24 +217,23 @@ fn refuse_opening(alloc: Global, setting: Setting) -> anyhow::Result<()> {
 // script has so many syncs.
 fn fail_sync(
     alloc: Global,
-    seed: u64,
-    setting: Setting,
+    ground: &Ground,
     nth: u64,
     chance: &mut Chance,
     losses: &mut Losses,
 ) -> anyhow::Result<bool> {
-    let mut script = Script::new(seed, setting);
-    let disk = FaultyDisk::new(held_image(alloc, setting)?, nth, Kind::Sync);
-    let mut kernel = open_over(alloc, disk, setting.processes)?;
+    let mut script = ground.script();
+    let disk = FaultyDisk::new(held_image(alloc, ground)?, nth, Kind::Sync);
+    let mut kernel = open_over(alloc, disk, ground.setting.processes)?;
     play(alloc, &mut kernel, &mut script, &mut Tally::new())?;
     if kernel.fault().is_none() {
         return Ok(false);
     }
     let committed = kernel.committed();
     let is_open = committed < kernel.opened();
-    let one = Due::of(alloc, kernel.journal(), setting, committed)?;
+    let one = Due::of(alloc, kernel.journal(), ground, committed)?;
     let groups = committed.saturating_add(is_open as u64);
-    let two = Due::of(alloc, kernel.journal(), setting, groups)?;
+    let two = Due::of(alloc, kernel.journal(), ground, groups)?;
     let disk = kernel.into_disk().into_inner();
     for keep in [[false; 64], [true; 64], choice(chance)] {
         let (left, is_headed) = losses.leave(alloc, &disk, &keep)?;

@@ -1,14 +1,13 @@
 // The run of a script, over a kernel.
 ghost use Rattle.std.specs.Prelude.{◌≤◌};
 
+use crate::ground::Ground;
 use crate::judging::{Left, judge_image, judge_journal};
 use crate::script::Script;
-use crate::setting::Setting;
 use crate::tally::Tally;
 use anyhow::{bail, ensure};
 use blocks::{Disk, DiskFault, FaultyDisk, Kind, MemDisk};
 use kernel::{Kernel, Step};
-use layout::mkfs;
 use plain::files::Files;
 use ports::{PlainHerald, QueueIntake};
 use std::alloc::Global;
@@ -41,18 +40,17 @@ impl Failure {
     }
 }
 
-/// Makes the run of a script over a new image, in which a call of the disk may fail, and judges what
-/// it leaves: the files after the committed groups, and after one group more where the write failed
-/// that commits it, but left its block as it was handed in.
+/// Makes the run of a script over the image of its ground, in which a call of the disk may fail, and
+/// judges what it leaves: the files after the committed groups, and after one group more where the
+/// write failed that commits it, but left its block as it was handed in.
 pub fn run(
     alloc: Global,
-    mut script: Script,
+    ground: &Ground,
     failure: Failure,
     tally: &mut Tally,
 ) -> anyhow::Result<Left> {
-    let setting = script.setting;
-    let disk = new_image(alloc, setting)?;
-    let mut kernel = opened(alloc, disk, failure, setting.processes)?;
+    let (setting, mut script) = (ground.setting, ground.script());
+    let mut kernel = opened(alloc, ground.disk(alloc)?, failure, setting.processes)?;
     play(alloc, &mut kernel, &mut script, tally)?;
     let has_failed = kernel.fault().is_some();
     ensure!(has_failed == kernel.disk().fired(), "a fault is not known");
@@ -63,10 +61,10 @@ pub fn run(
     let is_committed = has_failed && has_committed(&kernel, failure.kind);
     let committed = kernel.committed().saturating_add(is_committed as u64);
     let journal = kernel.journal();
-    tally.journal(journal);
-    let (kept, files) = judge_journal(alloc, journal, setting.inode_count, committed, has_failed)?;
+    tally.journal(setting, journal);
+    let (kept, files) = judge_journal(alloc, journal, ground, committed, has_failed)?;
     let disk = kernel.into_disk();
-    let writes = disk.writes().saturating_sub(setting.size as u64);
+    let writes = disk.writes().saturating_sub(u64::from(setting.size));
     judge_disk(alloc, disk.into_inner(), &files)?;
     Ok(Left {
         has_failed,
@@ -75,13 +73,6 @@ pub fn run(
         committed,
         kept,
     })
-}
-
-/// A disk with an image that has no files.
-pub fn new_image(alloc: Global, setting: Setting) -> anyhow::Result<MemDisk> {
-    let mut disk = MemDisk::new(alloc, setting.size)?;
-    mkfs(alloc, &mut disk, setting.size, setting.inode_count)?;
-    Ok(disk)
 }
 
 /// Whether a disk has these files once a kernel was opened over it, which recovers its image.

@@ -1,14 +1,18 @@
 // Which operations are handed in, and whose turn it is.
 ghost use Rattle.std.specs.Prelude.{◌<◌};
 
+use crate::lengths::Lengths;
 use crate::setting::Setting;
 use chance::Chance;
 use model::content::Content;
-use model::types::{Entry, Op, Reply};
+use model::types::{Entry, Form, Op};
 use std::alloc::{AllocError, Global};
 
-// How many bytes the blocks hold that an inode itself names.
+// How many bytes the blocks hold that an inode of the first form itself names.
 const DIRECT: u32 = 12288;
+
+// And in the second form; with those of the indirect block; and of the first second block.
+const BORDERS: [u32; 3] = [11264, 273_408, 535_552];
 
 /// A script on its way.
 #[derive(Drop)]
@@ -25,15 +29,15 @@ pub struct Script {
 }
 
 impl Script {
-    /// That of a seed.
+    /// That of a seed, behind the operations that were made before the run.
     pub fn new(seed: u64, setting: Setting) -> Script {
         Script {
             setting,
             chance: Chance::new(seed, 1),
             turns: Chance::new(seed, 2),
             pid: 0,
-            written: 0,
-            answered: 0,
+            written: setting.laid,
+            answered: setting.laid,
             held: None,
         }
     }
@@ -81,7 +85,7 @@ impl Script {
         if place < self.setting.numbers {
             return Ok(Some((pid, Op::Create(self.kind()))));
         }
-        let op = self.by_chance(alloc, &lengths_after(journal))?;
+        let op = self.by_chance(alloc, Lengths::after(self.setting, journal))?;
         Ok(Some((pid, op)))
     }
 
@@ -106,17 +110,27 @@ impl Script {
     }
 
     // An operation on files of these lengths.
-    fn by_chance(&mut self, alloc: Global, lengths: &[u32; 8]) -> Result<Op, AllocError> {
+    fn by_chance(&mut self, alloc: Global, lengths: Lengths) -> Result<Op, AllocError> {
         let number = self.number();
-        let offset = self.offset(lengths[(number % 8) as usize]);
+        let offset = self.offset(lengths.of(number));
         let count = self.count(offset);
-        match self.chance.below(100) {
+        match self.draw() {
             0..=11 => Ok(Op::Create(self.kind())),
             12..=64 => self.write(alloc, number, offset, count),
             65..=78 => Ok(Op::Read(number, offset, count)),
             79..=81 => Ok(Op::Trunc(number)),
             82..=84 => Ok(Op::Remove(number)),
             _ => Ok(Op::Stat(number)),
+        }
+    }
+
+    // What is done next. In the second form there are fewer questions, and more truncations and
+    // removals.
+    fn draw(&mut self) -> u32 {
+        let drawn = self.chance.below(100);
+        match (self.setting.form, drawn) {
+            (Form::Two, 85..=92) => 79 + drawn % 6,
+            _ => drawn,
         }
     }
 
@@ -152,14 +166,14 @@ impl Script {
         Ok(Op::Write(number, offset, Content::new(bytes)))
     }
 
-    // A place in a file: most often its end, and else a border of blocks, that behind which a block
+    // A place in a file: most often its end, and else a border of blocks, one behind which a block
     // of addresses names them, or any place; seldom one behind its end.
     fn offset(&mut self, length: u32) -> u32 {
         let offset = match self.chance.below(10) {
             0..=4 => length,
             5 => length / 1024 * 1024,
-            6 => DIRECT,
-            7 => DIRECT.saturating_sub(self.chance.below(3073)),
+            6 => self.border(),
+            7 => self.border().saturating_sub(self.chance.below(3073)),
             8 => self.chance.below(length.saturating_add(1)),
             _ => length.saturating_sub(self.chance.below(1500)),
         };
@@ -167,6 +181,14 @@ impl Script {
             return length.saturating_add(1 + self.chance.below(5000));
         }
         offset.min(length)
+    }
+
+    // A border behind which a block of addresses names the blocks.
+    fn border(&mut self) -> u32 {
+        match self.setting.form {
+            Form::One => DIRECT,
+            Form::Two => BORDERS[self.chance.below(3) as usize],
+        }
     }
 
     // How many bytes: to the next border of blocks, whole blocks, or any number; seldom too many.
@@ -181,22 +203,4 @@ impl Script {
             _ => self.chance.below(3073),
         }
     }
-}
-
-// How long the files of the first numbers are after the entries of a journal that have replies.
-fn lengths_after(journal: &[Entry]) -> [u32; 8] {
-    let mut lengths = [0u32; 8];
-    for entry in journal {
-        match (&entry.op, &entry.reply) {
-            (Op::Write(number, offset, _), Some(Reply::Wrote(count))) => {
-                let length = &mut lengths[(*number % 8) as usize];
-                *length = offset.saturating_add(*count).max(*length);
-            }
-            (Op::Trunc(number) | Op::Remove(number), Some(Reply::Done)) => {
-                lengths[(*number % 8) as usize] = 0;
-            }
-            _ => {}
-        }
-    }
-    lengths
 }

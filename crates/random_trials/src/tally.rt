@@ -1,6 +1,8 @@
 // What the runs came to, in numbers.
+use crate::lengths::Lengths;
+use crate::setting::Setting;
 use kernel::Step;
-use model::types::{Entry, Op, Reply, Why};
+use model::types::{Entry, Form, Op, Reply, Why};
 use std::io;
 
 /// What is counted: of whole runs the operations that had their turn, their answers, and the steps
@@ -41,10 +43,14 @@ pub enum Row {
     Stops,
     GroupsKept,
     OperationsKept,
+    WroteFarther,
+    WroteFarthest,
+    FewerFar,
+    Emptied,
 }
 
-// What the table says of each, in their order.
-const TEXTS: [&str; 34] = [
+// What the table says of each, in their order; the last ones are of images of the second form.
+const TEXTS: [&str; 38] = [
     "scripts",
     "processes",
     "creations",
@@ -79,18 +85,25 @@ const TEXTS: [&str; 34] = [
     "stops",
     "groups kept",
     "operations kept",
+    "wrote bytes behind 267 KiB",
+    "of these, behind 523 KiB",
+    "wrote fewer, to a file of 256 KiB or more",
+    "emptied or removed a file of more than 267 KiB",
 ];
+
+// How many rows there are of any image.
+const ROWS: usize = 34;
 
 /// A count for each row.
 #[derive(Drop)]
 pub struct Tally {
-    counts: [u64; 34],
+    counts: [u64; 38],
 }
 
 impl Tally {
     /// Nothing was counted.
     pub fn new() -> Tally {
-        Tally { counts: [0; 34] }
+        Tally { counts: [0; 38] }
     }
 
     /// Counts so many more.
@@ -110,8 +123,9 @@ impl Tally {
     }
 
     /// Counts the operations of a whole run, and whether one of its writes found no block.
-    pub fn journal(&mut self, entries: &[Entry]) {
+    pub fn journal(&mut self, setting: Setting, entries: &[Entry]) {
         let mut is_full = false;
+        let mut lengths = Lengths::new(setting);
         for entry in entries {
             self.add(kind(&entry.op), 1);
             if let Some(reply) = &entry.reply {
@@ -119,14 +133,38 @@ impl Tally {
                 is_full = is_full || matches!(row, Row::WroteFewer);
                 self.add(row, 1);
                 self.add(Row::WroteFar, is_far(&entry.op, reply) as u64);
+                self.large_file(&lengths, &entry.op, reply);
+                lengths.note(&entry.op, reply);
             }
         }
         self.add(Row::FullImages, is_full as u64);
     }
 
-    /// Prints the table.
-    pub fn print(&self, rt: &impl Print) -> io::Result<()> {
-        for (text, count) in TEXTS.iter().zip(self.counts.iter()) {
+    // Counts what was done to a large file, where the files have these lengths.
+    fn large_file(&mut self, lengths: &Lengths, op: &Op, reply: &Reply) {
+        match (op, reply) {
+            (Op::Write(number, offset, bytes), Reply::Wrote(count)) => {
+                let end = offset.saturating_add(*count);
+                let is_short = (*count as usize) < bytes.len();
+                self.add(Row::WroteFarther, (*count > 0 && end > 273_408) as u64);
+                self.add(Row::WroteFarthest, (*count > 0 && end > 535_552) as u64);
+                let is_large = lengths.of(*number) >= 262_144;
+                self.add(Row::FewerFar, (is_short && is_large) as u64);
+            }
+            (Op::Trunc(number) | Op::Remove(number), Reply::Done) => {
+                self.add(Row::Emptied, (lengths.of(*number) > 273_408) as u64);
+            }
+            _ => {}
+        }
+    }
+
+    /// Prints the table, with the rows of the second form where it is one of images of that form.
+    pub fn print(&self, rt: &impl Print, form: Form) -> io::Result<()> {
+        let rows = match form {
+            Form::One => ROWS,
+            Form::Two => TEXTS.len(),
+        };
+        for (text, count) in TEXTS.iter().zip(self.counts.iter()).take(rows) {
             println!(rt; "{text} {count}")?;
         }
         Ok(())

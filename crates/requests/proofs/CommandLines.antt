@@ -70,7 +70,7 @@ flag_read f id given none set unset = record {
 }
 
 few_by : (name : List ℕ) (rows : List Row) (request : Request) → AsksBy name rows request → HasFewWorkers request
-few_by name rows (Mkfs image size ninodes) asks = tt
+few_by name rows (Mkfs image size ninodes large) asks = tt
 few_by name rows (Check image) asks = tt
 few_by name rows (Recover image sync) asks = tt
 few_by name rows (Cat image inum) asks = tt

@@ -35,8 +35,8 @@ abbrev pub image_app : List ℕ → App
 image_app name = with_rule (new_app name) (required_rule (codes "IMAGE"))
 
 abbrev pub mkfs_app : App
-mkfs_app = with_rule (with_rule (image_app (codes "mkfs")) (number_rule (codes "SIZE")))
-    (number_rule (codes "NINODES"))
+mkfs_app = with_rule (with_rule (with_rule (image_app (codes "mkfs"))
+    (number_rule (codes "SIZE"))) (number_rule (codes "NINODES"))) (flag_rule (codes "large"))
 
 abbrev pub recover_app : App
 recover_app = with_rule (image_app (codes "recover")) (flag_rule (codes "sync"))
@@ -107,8 +107,8 @@ HasFewWorkers request = ⊤
 
 -- a command of this name, with these values, asks for the request
 abbrev pub AsksBy : List ℕ → List Row → Request → Type 0
-AsksBy name rows (Mkfs image size ninodes) = (name ≡ codes "mkfs")
-    × (first_of (codes "IMAGE") rows ≡ Some image.now)
+AsksBy name rows (Mkfs image size ninodes large) = (name ≡ codes "mkfs")
+    × (first_of (codes "IMAGE") rows ≡ Some image.now) × HasFlag (codes "large") rows large
 AsksBy name rows (Check image) = (name ≡ codes "check")
     × (first_of (codes "IMAGE") rows ≡ Some image.now)
 AsksBy name rows (Recover image sync) = (name ≡ codes "recover")

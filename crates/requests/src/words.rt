@@ -43,6 +43,8 @@ pub enum Request<'a> {
         size: u32,
         /// Its inode numbers, the unused number 0 included.
         ninodes: u32,
+        /// Whether it is of the second form, with large files.
+        large: bool,
     },
     /// A check of an image.
     Check {
@@ -153,6 +155,7 @@ fn request_over<'a>(name: &str, values: &ArgMatches<'a>) -> Option<Request<'a>>
             image,
             size: values.get_one("SIZE")?,
             ninodes: values.get_one("NINODES")?,
+            large: values.get_flag("large"),
         }),
         "check" => Some(Request::Check { image }),
         "recover" => Some(Request::Recover {
@@ -238,6 +241,11 @@ fn mkfs_words<'a>(alloc: Global) -> Result<Command<'a>, AllocError>
             alloc,
             "NINODES",
             "Inode numbers, from 2 to 1024, the unused number 0 included",
+        ))?
+        .arg(flag(
+            alloc,
+            "large",
+            "Makes an image for files of up to 65803 blocks, which xv6 itself doesn't read",
         ))
 }
 

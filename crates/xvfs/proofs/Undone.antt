@@ -22,7 +22,7 @@ module _ {F N : Type 0} (file : FileGhosts F N) (words : List (List ℕ)) (old n
 
   -- what was printed where a request was refused, by what is known where nothing was
   on_refused : (request : Request) (r : Refusal) (P Q : Type 0) → (P → Q) → OnRefused file request r old new P → OnRefused file request r old new Q
-  on_refused (Mkfs image size ninodes) r P Q f why = λ other. f (why other)
+  on_refused (Mkfs image size ninodes large) r P Q f why = λ other. f (why other)
   on_refused (Check image) r P Q f why = (λ other. f (why.0 other), refused_so file.remaining file.disk false P Q (IsUnchecked file.disk.image file.disk.fault_count) (IsUnchecked file.disk.image file.disk.fault_count) f (λ d e r why. why) r why.1)
   on_refused (Recover image sync) r P Q f why = (λ other. f (why.0 other), refused_so file.remaining file.disk sync P Q (IsUnrecovered file.disk) (IsUnrecovered file.disk) f (λ d e r why. why) r why.1)
   on_refused (Cat image inum) r P Q f why = refused_so file.remaining file.disk false P Q _ _ f (λ d e r why. not_shown file.disk d e old new P Q f inum r why) r why

@@ -1,5 +1,7 @@
 -- What a request is answered.
-use Rattle.std.specs.Prelude.{◌≡◌, ◌≢◌, ◌⊎◌, ℕ, false, List, [], ◌∷◌, ◌++◌, Option, unwrap_or}
+use Rattle.std.specs.Prelude.{◌≡◌, ◌≢◌, ◌⊎◌, ℕ, Bool, false, if◌then◌else◌, List, [], ◌∷◌, ◌++◌, Option, unwrap_or}
+use Rattle.model.specs.declared.types.image.Form.{Form}
+use Rattle.model.specs.declared.types.image.Form.TheVariants.{One, Two}
 use Rattle.opening.specs.Recoveries.{IsUnrecovered}
 use Rattle.player.specs.Causes.{IsUnchecked}
 use Rattle.player.specs.Showing.{IsNotShown}
@@ -17,11 +19,16 @@ use Rattle.xvfs.specs.Status.{IsHelp}
 use Rattle.xvfs.specs.declared.command.Failure.{Failure}
 use Rattle.xvfs.specs.declared.command.Failure.TheVariants.{Refused, Misused}
 
+-- the form of the image that is made
+abbrev pub form_asked : Bool → Form
+form_asked large = if large then Two else One
+
 -- A request was done, and its answer printed, which is that of the disk that was created in a file,
 -- or opened from one.
 abbrev pub Answers : {F N : Type 0} → FileGhosts F N → Request → Option (List ℕ)
     → Option (List ℕ) → Type 0
-Answers file (Mkfs image size ninodes) old new = IsMade file.disk size ninodes old new
+Answers file (Mkfs image size ninodes large) old new =
+    IsMade file.disk (form_asked large) size ninodes old new
 Answers file (Check image) old new =
     OpensDisk file.remaining file.disk false (IsReported file.disk old new)
 Answers file (Recover image sync) old new =
@@ -38,7 +45,7 @@ Answers file (Stops script schedule held) old new = ChecksScript held old new
 -- why a request was refused, and what was printed; `none` says that nothing was
 abbrev pub OnRefused : {F N : Type 0} → FileGhosts F N → Request → Refusal → Option (List ℕ)
     → Option (List ℕ) → Type 0 → Type 0
-OnRefused file (Mkfs image size ninodes) r old new none = r ≢ Output → none
+OnRefused file (Mkfs image size ninodes large) r old new none = r ≢ Output → none
 OnRefused file (Check image) r old new none = (r ≢ Output → none)
     × OnDiskRefusal file.remaining file.disk false none
     (IsUnchecked file.disk.image file.disk.fault_count) r

@@ -4,7 +4,7 @@ ghost use Rattle.std.specs.Io.KnownBytes.{Appends};
 ghost use Rattle.requests.specs.CommandLine.{HasFewWorkers};
 ghost use Rattle.requests.specs.Told.{explanation_text};
 ghost use Rattle.xvfs.specs.Files.{ghosts_of};
-ghost use Rattle.xvfs.specs.Requests.{Answers, IsDone, IsMisused, IsUndone, OnRefused};
+ghost use Rattle.xvfs.specs.Requests.{Answers, IsDone, IsMisused, IsUndone, OnRefused, form_asked};
 ghost use Rattle.xvfs.specs.Status.{IsHelp, IsUnprinted, Tells, status_of};
 ghost use Rattle.xvfs.specs.declared.command.Failure.TheVariants as failure;
 ghost use Rattle.texts.specs.declared.refusal.Refusal.{Refusal as SomeRefusal};
@@ -14,6 +14,7 @@ use crate::progress::Screen;
 use crate::stopping::stops_files;
 use blocks::{Disk, FaultyDisk, FileDisk};
 use images::{cat_file, check_file, make_file, recover_file, replay_files, run_files};
+use model::types::Form;
 use requests::{Explanation, Request, parse};
 use std::convert::AsStr;
 use std::io::Write;
@@ -165,7 +166,8 @@ where
             image,
             size,
             ninodes,
-        } => make_file(rt, image, size, ninodes, out),
+            large,
+        } => make_file(rt, image, form_asked(large), size, ninodes, out),
         Request::Check { image } => check_file(rt, image, out),
         Request::Recover { image, sync } => recover_file(rt, image, sync, out),
         Request::Cat { image, inum } => cat_file(rt, image, inum, out),
@@ -188,4 +190,11 @@ where
             held,
         } => stops_files(rt, script, schedule, held, out),
     }
+}
+
+// The form of the image that is made.
+fn form_asked(large: bool) -> Form
+    ensures { result ≡ form_asked large }
+{
+    if large { Form::Two } else { Form::One }
 }

@@ -1,31 +1,29 @@
--- Where an inode's addresses lead once one of them was made.
-use Rattle.std.proofs.Common.{◌≡◌, ◌≢◌, ◌∙◌, ap, arith, ⊎_elim, ℕ, ◌-◌, ◌^◌, ◌<◌, ◌≤◌, List, [], length, set}
-use Rattle.std.specs.Prelude.{slice_index}
-use Rattle.std.proofs.lemmas.Bool.{cases_lt, ne_eqb}
-use Rattle.std.proofs.lemmas.List.{length-set, get_or-set_same, get_or_past}
+-- What a writer's way comes to.
+use Rattle.std.proofs.Common.{◌≡◌, ◌∙◌, ap, refl, arith, ⊎_elim, ℕ, ◌^◌, ◌<◌, ◌≤◌, Bool, true, false, cond, eqb, [], length, Some}
+use Rattle.std.proofs.lemmas.Bool.{cases_lt, eqb-true}
+use Rattle.std.proofs.lemmas.List.{get_or-set_same, get_or_past}
 use Rattle.blocks.specs.Disk.{Image, block_at}
 use Rattle.model.specs.declared.types.image.Dinode.{Dinode}
-use Rattle.model.specs.declared.types.image.Form.TheVariants.{One}
-use Rattle.model.specs.Codec.{with_entry}
-use Rattle.model.specs.Fields.{words_of}
-use Rattle.model.specs.Layout.{form_of, indirect_of}
-use Rattle.model.specs.Places.{address_in}
 use Rattle.model.specs.Lemmas.Codecs.{entry-with_entry}
-use Rattle.loose.specs.Lemmas.Addresses.{address_direct, address_behind}
+use Rattle.loose.specs.Held.{with_address}
+use Rattle.loose.specs.Trees.{entry_of}
+use Rattle.wal.specs.Joint.{seen}
+use Rattle.wal.specs.Volume.{VolumeState}
+use Rattle.blockmap.specs.Branch.{address_on}
+use Rattle.blockmap.specs.BmapAlloc.{IsLed, LeadsThere, come_to}
+use Rattle.blockmap.specs.declared.bmap_alloc.MapAt.{MapAt}
+use Rattle.blockmap.specs.declared.branch.Branch.{Branch}
+use Rattle.driver.specs.declared.progress.Progress.TheVariants as progress
 
--- an inode that names a block itself leads to it
-pub leads_direct : (x : Image) (d : Dinode) (k b : ℕ) → length d.addrs ≡ 13 → k < 12 →
-    form_of x ≡ One → address_in x (record d { addrs = set d.addrs k b }) k ≡ b
-leads_direct x d k b all low one =
-    address_direct x (record d { addrs = set d.addrs k b }) k one (length-set d.addrs k b ∙ all) low
-    ∙ get_or-set_same d.addrs k b 0 (omega (arith, all, low))
-
--- and so does an entry of its block of addresses
-pub leads_behind : (x : Image) (d : Dinode) (k b : ℕ) → length d.addrs ≡ 13 → 12 ≤ k → k < 268 →
-    indirect_of d ≢ 0 → slice_index (words_of (block_at x (indirect_of d))) (k - 12) ≡ b →
-    form_of x ≡ One → address_in x d k ≡ b
-leads_behind x d k b all from low some is one =
-    address_behind x d k one all from low ∙ rw (ne_eqb (indirect_of d) 0 some) is
+-- a block that was come to is the file's, where it is one of data
+pub leads_on : {D : Type 0} (image : D → Image) (depth a : ℕ) (b : Branch) (at : MapAt) (d : Dinode) (w : VolumeState D) →
+    (depth ≡ 0 → IsLed (seen (image w.device) w.buffers) d b at → address_on (seen (image w.device) w.buffers) d b ≡ a) →
+    LeadsThere image (come_to depth a) b at d w
+leads_on image depth a b at d w is = by_depth (eqb depth 0) refl
+  where
+    by_depth : (ends : Bool) → eqb depth 0 ≡ ends → LeadsThere image (cond ends (progress.Over (Some a)) progress.Moved) b at d w
+    by_depth true flat = is (eqb-true depth 0 flat)
+    by_depth false deep = tt
 
 -- a block with bytes lies in the image
 lies_within : (x : Image) (a : ℕ) → length (block_at x a) ≡ 1024 → a < length x
@@ -36,10 +34,10 @@ lies_within x a full =
 
 -- an entry that was set is read
 pub entry_set : (x y : Image) (a e b : ℕ) → length (block_at x a) ≡ 1024 → e < 256 → b < 2 ^ 32 →
-    y ≡ set x a (with_entry (block_at x a) e b) → slice_index (words_of (block_at y a)) e ≡ b
+    y ≡ with_address x a e b → entry_of y a e ≡ b
 entry_set x y a e b full low small is =
-    let new = with_entry (block_at x a) e b in
-    let read : block_at y a ≡ new =
-    ap (λ (z : Image). block_at z a) is ∙ get_or-set_same x a new [] (lies_within x a full) in
-    ap (λ (l : List ℕ). slice_index (words_of l) e) read
-    ∙ entry-with_entry (block_at x a) e b full low small
+    ap (λ (z : Image). entry_of z a e) is
+    ∙ entry_now
+  where
+    entry_now : entry_of (with_address x a e b) a e ≡ b
+    entry_now = rw (get_or-set_same x a _ [] (lies_within x a full)) (entry-with_entry (block_at x a) e b full low small)

@@ -1,37 +1,34 @@
 -- Where an image stands for files, that of each used number which no task holds may be read.
-use Rattle.std.proofs.Common.{◌≡◌, ◌≢◌, ℕ, ◌*◌, ◌<◌, ◌∙◌, refl, arith}
-use Rattle.std.specs.Prelude.{slice_index}
+use Rattle.std.proofs.Common.{ℕ, ◌≤◌, Option, sym, subst, arith, List}
 use Rattle.blocks.specs.Disk.{Image}
-use Rattle.model.specs.declared.types.image.Dinode.{Dinode}
-use Rattle.model.specs.declared.types.image.Form.TheVariants.{One}
-use Rattle.model.specs.Layout.{form_of, inode_of}
+use Rattle.model.specs.Layout.{depths, form_of, inode_of}
+use Rattle.model.specs.Names.{names_along}
 use Rattle.model.specs.Places.{address_in}
-use Rattle.loose.specs.Loose.{LiesInData, IsFit}
+use Rattle.model.specs.Soundness.{count_of}
+use Rattle.loose.specs.Held.{Claim, names_claimed}
+use Rattle.loose.specs.Loose.{LiesInData}
+use Rattle.loose.specs.Lemmas.HeldFrames.{claimed_in_data, whole_names}
 use Rattle.loose.specs.Lemmas.HeldLooks.{resting_tells}
+use Rattle.loose.specs.Lemmas.Looks.{between}
+use Rattle.blockmap.specs.Lemmas.Targets.{lies_named, needed_within}
 use Rattle.blockmap.specs.Reading.{LiesBehindLog, RestingMayBeRead}
-use Rattle.loose.specs.Lemmas.Addresses.{address_behind}
-use Rattle.loose.specs.Lemmas.HeldFrames.{one_form}
 
 behind_log : (x : Image) (b : ℕ) → LiesInData x b → LiesBehindLog x b
 behind_log x b there = let from = there.0 in (omega arith, there.1)
 
--- what needs the block of addresses has one
-indirect_there : (x : Image) (d : Dinode) → form_of x ≡ One → IsFit x d → 12 * 1024 < d.size → slice_index d.addrs 12 ≢ 0
-indirect_there x d one fit needed none =
-    fit.whole 12 needed (address_behind x d 12 one fit.fields.count (omega arith) (omega arith) ∙ rw none refl)
-
 pub resting_may_be_read : RestingMayBeRead
 resting_may_be_read m x claims i f used rests =
     let d = inode_of x i in
-    let one = one_form x f.geometry in
     let tells = resting_tells m x claims i f used rests in
     let fit = tells.its.fit in
-    let has = tells.blocks in
+    let at = between x i used.0 in
+    let named : (b : ℕ) → 1 ≤ count_of b (names_along x (depths (form_of x)) d.addrs) → LiesInData x b = λ b some.
+    claimed_in_data m x claims i b f at.low at.high
+    (subst (λ (o : Option Claim). 1 ≤ count_of b (names_claimed x i o)) (sym rests)
+    (subst (λ (l : List ℕ). 1 ≤ count_of b l) (sym (whole_names x d fit.used)) some)) in
     record {
-      form = one;
       full = f.full;
       fit = fit;
-      blocks = λ k needed. behind_log x (address_in x d k) (has.needed k needed);
-      indirect = λ needed.
-          behind_log x (slice_index d.addrs 12) (has.named 12 (omega arith) (indirect_there x d one fit needed));
+      blocks = λ k needed. behind_log x (address_in x d k) (tells.blocks.needed k needed);
+      ways = λ k n needed lies. behind_log x n.block (named n.block (lies_named x d k n lies (needed_within x d k fit needed)));
     }

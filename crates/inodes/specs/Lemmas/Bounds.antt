@@ -1,34 +1,34 @@
--- How many steps a task has left at most: so few that with those of its operation's end and of a
--- commit they stay below 2000.
-use Rattle.std.proofs.Common.{◌≡◌, ℕ, ◌+◌, ◌<◌, ◌≤◌, false, cond, List, Option, Some, None, sym, arith}
-use Rattle.std.specs.Prelude.{is_none}
+-- How many steps a task has left at most, by its place.
+use Rattle.std.proofs.Common.{◌≡◌, ℕ, ◌+◌, ◌-◌, ◌*◌, ◌/◌, ◌<◌, ◌≤◌, false, refl, Option, Some, None, ap, sym, arith}
 use Rattle.std.proofs.lemmas.Bool.{false≢true}
 use Rattle.blocks.specs.Disk.{Image}
 use Rattle.model.specs.declared.types.image.Dinode.{Dinode}
-use Rattle.model.specs.Layout.{inode_count_of}
-use Rattle.model.specs.Lemmas.Soundness.{facts_of}
-use Rattle.model.specs.Soundness.{IsLawfulGeometry}
-use Rattle.blockmap.specs.Target.{steps_at}
-use Rattle.blockmap.specs.declared.target.Target.{Target}
-use Rattle.blockmap.specs.declared.target.Target.TheVariants as target
+use Rattle.model.specs.declared.types.image.Form.{Form}
+use Rattle.model.specs.declared.types.image.Form.TheVariants.{One, Two}
+use Rattle.model.specs.Layout.{form_of, greatest_size}
+use Rattle.loose.specs.Held.{blocks_left, most_left}
+use Rattle.blockmap.specs.Lemmas.Targets.{few_at, steps_most}
 use Rattle.inodes.specs.declared.ilock.LockAt.{LockAt}
 use Rattle.inodes.specs.declared.ilock.LockAt.TheVariants as lock_at
 use Rattle.inodes.specs.declared.tasks.Place.{Place}
 use Rattle.inodes.specs.declared.tasks.Place.TheVariants as place
-use Rattle.inodes.specs.declared.itrunc.TruncAt.{TruncAt}
-use Rattle.inodes.specs.declared.itrunc.TruncAt.TheVariants as trunc_at
-use Rattle.inodes.specs.Holding.{HasGivenUp, frees_left, uses_left}
-use Rattle.inodes.specs.declared.itrunc.Itrunc.{Itrunc}
+use Rattle.inodes.specs.Holding.{held_of, truncs_left, uses_left}
+use Rattle.inodes.specs.Itrunc.{Freeing}
 use Rattle.inodes.specs.LockState.{locks_left}
-use Rattle.inodes.specs.Looks.{AreLooking, LooksAt, IsAtRead}
-use Rattle.inodes.specs.Places.{is_over, looks_left, steps_left}
+use Rattle.inodes.specs.Looks.{LooksAt, IsAtRead}
+use Rattle.inodes.specs.Places.{is_over, looks_left, most_behind, steps_left}
 use Rattle.inodes.specs.Readi.{ReadState, reads_left}
 use Rattle.inodes.specs.Table.{TableState, copy_at}
-use Rattle.inodes.specs.Tasks.{TaskState, task}
+use Rattle.inodes.specs.Tasks.{TaskState}
 use Rattle.blockmap.specs.declared.balloc.AllocAt.{AllocAt}
 use Rattle.blockmap.specs.declared.bmap_alloc.MapAt.{MapAt}
-use Rattle.inodes.specs.Writei.{WriteState}
-use Rattle.inodes.specs.Writing.{alloc_left, way_left, writes_left_at}
+use Rattle.inodes.specs.Writei.{WriteState, next_byte}
+use Rattle.inodes.specs.Growing.{HasComeTo, IsOnWay, next_block}
+use Rattle.inodes.specs.declared.writei.Extent.{Extent}
+use Rattle.blockmap.specs.Branch.{block_limit, branch_of, deepest}
+use Rattle.blockmap.specs.Lemmas.Branches.{branch_shallow, is_branch, lies_short, within_limit}
+use Rattle.blockmap.specs.declared.branch.Branch.{Branch}
+use Rattle.inodes.specs.Writing.{alloc_left, blocks_behind, way_left, writes_for, writes_left_at}
 use Rattle.inodes.specs.declared.writei.WriteAt.{WriteAt}
 use Rattle.blockmap.specs.declared.balloc.AllocAt.TheVariants as alloc_at
 use Rattle.blockmap.specs.declared.bmap_alloc.MapAt.TheVariants as map_at
@@ -48,96 +48,129 @@ few_locks (lock_at.Lock k) = omega arith
 few_locks (lock_at.Read k None) = omega arith
 few_locks (lock_at.Read k (Some slot)) = omega arith
 
-few_at_target : (t : Target) → steps_at t ≤ 4
-few_at_target (target.Entry e) = by_slot e.slot
-  where
-    by_slot : (o : Option ℕ) → cond (is_none o) 4 3 ≤ 4
-    by_slot None = omega arith
-    by_slot (Some slot) = omega arith
-few_at_target (target.Block b None) = omega arith
-few_at_target (target.Block b (Some slot)) = omega arith
-
 -- a reading's bytes lie in four blocks
 few_reads : (cur : Image) (n : ℕ) (inode : Option Dinode) (t : TaskState) (m : ReadState) →
-    IsAtRead cur n inode t m → reads_left m + 1 ≤ 17
+    IsAtRead cur n inode t m → reads_left m + 1 ≤ 25
 few_reads cur n inode t m is =
     let few = is.op.may.1 in
     let begun = is.read.begun in
     let some = is.read.some in
     let end = is.read.end in
-    let steps = few_at_target m.target in
-    omega (arith, few, begun, some, end, steps)
+    let steps = few_at cur m.inode (m.next / 1024) m.target is.read.leads in
+    let shallow = branch_shallow (form_of cur) (m.next / 1024) in
+    let ahead = steps_most m.form ((m.end - 1) / 1024 - m.next / 1024) in
+    omega (arith, few, begun, some, end, steps, shallow, ahead)
 
 few_uses : (o : Option ℕ) → uses_left o ≤ 2
 few_uses None = omega arith
 few_uses (Some slot) = omega arith
 
--- who frees a file's blocks has so few steps left: two for each of 269 blocks, one that gets the
--- block of addresses, one that releases it, and two for the inode
-pub few_frees : (cur : Image) (m : Itrunc) (used : Option ℕ) (a : TruncAt) →
-    HasGivenUp cur m a → frees_left m.given_up used a ≤ 542
-few_frees cur m used (trunc_at.Direct k) given = let most = few_uses used in omega (arith, most)
-few_frees cur m used trunc_at.Loading given = omega arith
-few_frees cur m used trunc_at.Entry given = let most = few_uses used in omega (arith, most)
-few_frees cur m used trunc_at.Unloading given = omega arith
-few_frees cur m used trunc_at.Indirect given = let most = few_uses used in omega (arith, most)
-few_frees cur m used trunc_at.Updating given = let most = few_uses used in omega (arith, most)
+pub some_uses : (o : Option ℕ) → 1 ≤ uses_left o
+some_uses None = omega arith
+some_uses (Some slot) = omega arith
+
+-- who frees a file's blocks has so few steps left
+pub few_frees : (cur : Image) (m : Freeing) → blocks_left cur (held_of m.machine) ≤ most_left (form_of cur) →
+    truncs_left cur m ≤ most_behind (form_of cur)
+few_frees cur m few = omega (arith, few)
+
+-- and no other place behind the turn has more
+pub most_elsewhere : (form : Form) → 1080 ≤ most_behind form
+most_elsewhere One = omega arith
+most_elsewhere Two = omega arith
 
 few_allocs : (a : AllocAt) → alloc_left a ≤ 4
 few_allocs (alloc_at.Looking slot) = let most = few_uses slot in omega (arith, most)
 few_allocs (alloc_at.Zeroing b slot) = let most = few_uses slot in omega (arith, most)
 
-pub few_on_way : (a : MapAt) → way_left a ≤ 11
-few_on_way (map_at.Direct t) = let most = few_allocs t.at in omega (arith, most)
-few_on_way (map_at.Indirect t) = let most = few_allocs t.at in omega (arith, most)
-few_on_way (map_at.Entry slot) = let most = few_uses slot in omega (arith, most)
-few_on_way (map_at.Behind i t) = let most = few_allocs t.at in omega (arith, most)
-few_on_way (map_at.Setting i found) = omega arith
+-- the blocks of addresses that a way goes through, from where it stands
+few_on_way : (cur : Image) (d : Dinode) (e : Extent) (b : Branch) (a : MapAt) → IsOnWay cur d e b a → way_left b a ≤ 7 * b.depth + 4
+few_on_way cur d e b (map_at.Address t) on = let most = few_allocs t.at in omega (arith, most)
+few_on_way cur d e b (map_at.Entry n slot) on = let most = few_uses slot in let low = lies_short cur d b n on in omega (arith, most, low)
+few_on_way cur d e b (map_at.Behind n i t) on = let most = few_allocs t.at in let low = lies_short cur d b n on.0.0 in omega (arith, most, low)
+few_on_way cur d e b (map_at.Setting n i found) on = let low = lies_short cur d b n on.0.0 in omega (arith, low)
 
--- who writes a file's bytes has so few steps left: thirteen for each of four blocks, and two for the
--- inode
-pub few_writes : (m : WriteState) (a : WriteAt) → m.count ≤ 3072 → writes_left_at m a ≤ 54
-few_writes m (write_at.Mapping way) few = let most = few_on_way way.at in omega (arith, most, few)
-few_writes m (write_at.Block b slot) few = let most = few_uses slot in omega (arith, most, few)
-few_writes m (write_at.Updating u) few = let most = few_uses u.slot in omega (arith, most)
+-- the writing has come to a block that files can have
+pub next_low : (m : WriteState) → m.done < m.count → m.offset + m.count ≤ greatest_size m.extent.form → next_block m < block_limit m.extent.form
+next_low m left fits = within_limit m.extent.form (next_byte m) (omega (arith, left, fits))
+
+-- the steps for several blocks
+pub writes_more : (form : Form) (n : ℕ) → writes_for form (n + 1) ≡ writes_for form n + writes_for form 1
+writes_more One n = omega arith
+writes_more Two n = omega arith
+
+pub writes_grow : (form : Form) (m n : ℕ) → m ≤ n → writes_for form m ≤ writes_for form n
+writes_grow One m n le = omega (arith, le)
+writes_grow Two m n le = omega (arith, le)
+
+pub writes_most : (form : Form) (n : ℕ) → writes_for form n ≤ 20 * n
+writes_most One n = omega arith
+writes_most Two n = omega arith
+
+-- those on the way to a block and the two at it
+pub writes_enough : (form : Form) (k : ℕ) → k < block_limit form → 7 * (branch_of form k).depth + 6 ≤ writes_for form 1
+writes_enough form k low = by_form form (branch_of form k).depth (is_branch k form low).shallow
+  where
+    by_form : (f : Form) (depth : ℕ) → depth ≤ deepest f → 7 * depth + 6 ≤ writes_for f 1
+    by_form One depth few = omega (arith, few)
+    by_form Two depth few = omega (arith, few)
+
+-- who writes a file's bytes has so few steps left: those for four blocks, and two for the inode
+pub few_writes : (cur : Image) (m : WriteState) (a : WriteAt) → m.count ≤ 3072 → m.offset + m.count ≤ greatest_size m.extent.form → HasComeTo cur m a → writes_left_at m a ≤ writes_for m.extent.form 4 + 2
+few_writes cur m (write_at.Mapping way) few fits come =
+    let most = few_on_way cur m.inode m.extent way.branch way.at come.1.at in
+    let here = ap (λ (b : Branch). b.depth) come.1.branch in
+    let enough = writes_enough m.extent.form (next_block m) (next_low m come.0 fits) in
+    let one_more = writes_more m.extent.form (blocks_behind m) in
+    let four = writes_grow m.extent.form (blocks_behind m + 1) 4 (omega (arith, few)) in
+    omega (arith, most, here, enough, one_more, four)
+few_writes cur m (write_at.Block b slot) few fits come =
+    let most = few_uses slot in
+    let enough = writes_enough m.extent.form (next_block m) (next_low m come.0 fits) in
+    let one_more = writes_more m.extent.form (blocks_behind m) in
+    let four = writes_grow m.extent.form (blocks_behind m + 1) 4 (omega (arith, few)) in
+    omega (arith, most, enough, one_more, four)
+few_writes cur m (write_at.Updating u) few fits come = let most = few_uses u.slot in omega (arith, most)
+
+-- a task that frees a file's blocks has no more of them left than a file may have
+abbrev pub HasFewBlocks : Image → Place → Type 0
+HasFewBlocks cur a = (k : ℕ) (m : Freeing) → a ≡ place.Truncating k m →
+    blocks_left cur (held_of m.machine) ≤ most_left (form_of cur)
 
 -- there are 64 inode blocks at most, each of which takes two steps
 pub few_steps : (cur : Image) (table : TableState) (t : TaskState) (a : Place) →
-    table.inode_count ≤ 1024 → LooksAt cur table t a → steps_left a table.inode_count < 1933
-few_steps cur table t place.Nowhere few looks = omega arith
-few_steps cur table t (place.Creating m) few looks =
+    table.inode_count ≤ 1024 → LooksAt cur table t a → HasFewBlocks cur a →
+    steps_left cur a table.inode_count ≤ most_behind (form_of cur) + 5
+few_steps cur table t place.Nowhere few looks blocks = omega arith
+few_steps cur table t (place.Creating m) few looks blocks =
     let most = few_looks m.slot in
-    omega (arith, few, most)
-few_steps cur table t (place.Taking m) few looks = let most = few_locks m.at in omega (arith, most)
-few_steps cur table t (place.Reading k m) few looks =
+    let behind = most_elsewhere (form_of cur) in
+    omega (arith, few, most, behind)
+few_steps cur table t (place.Taking m) few looks blocks = let most = few_locks m.at in omega (arith, most)
+few_steps cur table t (place.Reading k m) few looks blocks =
     let most = few_reads cur table.inode_count (copy_at table.places k) t m looks in
+    let behind = most_elsewhere (form_of cur) in
+    omega (arith, most, behind)
+few_steps cur table t (place.Delivering k) few looks blocks = omega arith
+few_steps cur table t (place.Truncating k m) few looks blocks =
+    let most = few_frees cur m (blocks k m refl) in
     omega (arith, most)
-few_steps cur table t (place.Delivering k) few looks = omega arith
-few_steps cur table t (place.Truncating k m) few looks =
-    let most = few_frees cur m.machine m.used m.machine.at looks.given in
-    omega (arith, most)
-few_steps cur table t (place.Writing k m) few looks =
+few_steps cur table t (place.Writing k m) few looks blocks =
     let all = looks.all in
     let bytes = looks.few in
-    let most = few_writes m m.at (omega (arith, all, bytes)) in
-    omega (arith, most)
-few_steps cur table t (place.Leaving k) few looks = omega arith
+    let most = few_writes cur m m.at (omega (arith, all, bytes)) looks.fits looks.come in
+    let four = writes_most m.extent.form 4 in
+    let behind = most_elsewhere (form_of cur) in
+    omega (arith, most, four, behind)
+few_steps cur table t (place.Leaving k) few looks blocks = omega arith
 
 -- a task that is not over has a step left at least
-pub some_step : (a : Place) (n : ℕ) → is_over a ≡ false → 1 ≤ steps_left a n
-some_step place.Nowhere n unfinished = absurd (false≢true (sym unfinished))
-some_step (place.Creating m) n unfinished = let one = one_look m.slot in omega (arith, one)
-some_step (place.Taking m) n unfinished = omega arith
-some_step (place.Reading k m) n unfinished = omega arith
-some_step (place.Delivering k) n unfinished = omega arith
-some_step (place.Truncating k m) n unfinished = omega arith
-some_step (place.Writing k m) n unfinished = omega arith
-some_step (place.Leaving k) n unfinished = omega arith
-
--- any task that a store has
-pub few_in_task : (x : Image) (table : TableState) (p : ℕ) (ts : List TaskState) →
-    IsLawfulGeometry x → table.inode_count ≡ inode_count_of x → AreLooking x table ts →
-    steps_left (task ts p).place table.inode_count < 1933
-few_in_task x table p ts geometry numbers looks =
-    let few = (facts_of x geometry).few in
-    few_steps x table (task ts p) (task ts p).place (omega (arith, few, numbers)) (looks.stand p)
+pub some_step : (x : Image) (a : Place) (n : ℕ) → is_over a ≡ false → 1 ≤ steps_left x a n
+some_step x place.Nowhere n unfinished = absurd (false≢true (sym unfinished))
+some_step x (place.Creating m) n unfinished = let one = one_look m.slot in omega (arith, one)
+some_step x (place.Taking m) n unfinished = omega arith
+some_step x (place.Reading k m) n unfinished = omega arith
+some_step x (place.Delivering k) n unfinished = omega arith
+some_step x (place.Truncating k m) n unfinished = omega arith
+some_step x (place.Writing k m) n unfinished = omega arith
+some_step x (place.Leaving k) n unfinished = omega arith

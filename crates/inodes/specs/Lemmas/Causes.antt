@@ -11,7 +11,7 @@ use Rattle.model.specs.declared.types.operations.Reply.TheVariants.{Made, NoInod
 use Rattle.model.specs.declared.types.operations.TaskProgress.{TaskProgress}
 use Rattle.model.specs.declared.types.operations.TaskProgress.TheVariants as progress
 use Rattle.model.specs.Journal.{is_number}
-use Rattle.model.specs.Layout.{inode_block, inode_of}
+use Rattle.model.specs.Layout.{greatest_size, inode_block, inode_of}
 use Rattle.driver.specs.declared.progress.Progress.{Progress}
 use Rattle.driver.specs.declared.progress.Progress.TheVariants as machine
 use Rattle.inodes.specs.declared.tasks.Place.{Place}
@@ -172,7 +172,7 @@ module _ {D N : Type 0} (disk : Ghosts D N) (s : StoreState D) (p i off : ℕ) (
   op = Write i off bytes
 
   abbrev e : Extent
-  e = extent_of s.table.inode_count s.volume.log.size
+  e = extent_of s.table.form s.table.inode_count s.volume.log.size
 
   abbrev next : Place
   next = (task t.tasks p).place
@@ -207,10 +207,10 @@ module _ {D N : Type 0} (disk : Ghosts D N) (s : StoreState D) (p i off : ℕ) (
   }
 
   by_use : (used : Bool) (d : Dinode) (k : ℕ) →
-      next ≡ place_when_taken e (if_used used d) k op → To (reply_when_taken (if_used used d) op)
+      next ≡ place_when_taken e (if_used used d) k op → To (reply_when_taken e.form (if_used used d) op)
   by_use false d k to = refused NoFile (λ done is. cc is)
   by_use true d k to =
-      by_refusal d k (ltb d.size off) (ltb 274432 (off + length bytes)) to
+      by_refusal d k (ltb d.size off) (ltb (greatest_size e.form) (off + length bytes)) to
 
   by_reply : (r : Option Reply) (o : Option ℕ) (m : SearchState) →
       GoesFrom o s.table.inode_count p m s.volume.buffers (progress.Turned r) next
@@ -237,12 +237,12 @@ module _ {D N : Type 0} (disk : Ghosts D N) (s : StoreState D) (p i off : ℕ) (
       d : Dinode
       d = inode_of (current_of disk.image s.volume) m.number
 
-      by_answer : (q : Progress Bool) → progress.Turned r ≡ progress_of_lock d op q →
+      by_answer : (q : Progress Bool) → progress.Turned r ≡ progress_of_lock e.form d op q →
           next ≡ place_of_lock e d op m goes.0.now q → To r
       by_answer machine.Moved is to = absurd (cc is)
       by_answer (machine.Sleeping why) is to = absurd (cc is)
       by_answer (machine.Over used) is to =
-          let same : reply_when_taken (if_used used d) op ≡ r = (let back = sym is in cc back) in
+          let same : reply_when_taken e.form (if_used used d) op ≡ r = (let back = sym is in cc back) in
           subst To same (by_use used d (place_of goes.0.now.at) to)
       by_answer (machine.Fault fault) is to = absurd (cc is)
   by_place r (place.Reading k m) goes = absurd (none goes.0.answer goes.0.gives)

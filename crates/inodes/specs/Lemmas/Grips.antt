@@ -568,7 +568,7 @@ named_none zero = refl
 named_none (suc m) = named_none m
 
 pub is_table_at_opening : IsTableAtOpening
-is_table_at_opening n m cur few = empty_table (replicate 50 None) n (replicate m None) cur (length-replicate {A = Option InMemory} 50 None) (subst (λ l. l ≤ 32) (sym (length-replicate {A = Option Grip} m None)) few) (same_in 50 None) (same_in m None) (named_none m)
+is_table_at_opening f n m cur few = empty_table (replicate 50 None) n (replicate m None) cur (length-replicate {A = Option InMemory} 50 None) (subst (λ l. l ≤ 32) (sym (length-replicate {A = Option Grip} m None)) few) (same_in 50 None) (same_in m None) (named_none m)
 
 pub has_place_for_each : HasPlaceForEach
 has_place_for_each t gs cur i is = by (place_for t.places i) refl (has_place t.places (named gs) i is.counted (let long = length-named gs in let few = is.few in let size = is.size in omega (arith, long, few, size)))

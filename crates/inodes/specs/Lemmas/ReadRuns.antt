@@ -4,6 +4,7 @@ use Rattle.std.specs.Prelude.{nat_le, ◌==◌, ◌||◌}
 use Rattle.std.proofs.lemmas.Bool.{eqb-true, eqb-false, leb-false}
 use Rattle.blocks.specs.declared.disk.Disk.{Ghosts}
 use Rattle.model.specs.declared.types.image.Dinode.{Dinode}
+use Rattle.model.specs.declared.types.image.Form.{Form}
 use Rattle.model.specs.Gathered.{GatheredBytes}
 use Rattle.model.specs.Operations.{part_of}
 use Rattle.blockmap.specs.Lemmas.Reading.{length-bytes, part_cut, part_in_two}
@@ -41,29 +42,31 @@ rest_of_run disk p file bytes m g (step ∷ next ∷ rest) run ends =
     ∙ ap (part_of file m.next) all)
 
 -- where a reading begins, which there is where the offset lies before the end and some bytes are asked for
-pub record Begins (d : Dinode) (offset count : ℕ) (m : ReadState) : Type 0 where
+pub record Begins (its : Form) (d : Dinode) (offset count : ℕ) (m : ReadState) : Type 0 where
   pub inode : m.inode ≡ d
+  pub form : m.form ≡ its
   pub next : m.next ≡ offset
   pub end : m.end ≡ min d.size (offset + count)
-  pub target : m.target ≡ target_for d (offset / 1024)
+  pub target : m.target ≡ target_for its d (offset / 1024)
   pub before : offset < d.size
   pub some : count ≢ 0
 
-pub begins : (d : Dinode) (offset count : ℕ) (m : ReadState) → first_read d offset count ≡ Some m → Begins d offset count m
-begins d offset count m is = by_none (nat_le d.size offset || (count == 0)) refl
+pub begins : (form : Form) (d : Dinode) (offset count : ℕ) (m : ReadState) → first_read form d offset count ≡ Some m → Begins form d offset count m
+begins form d offset count m is = by_none (nat_le d.size offset || (count == 0)) refl
   where
     neither : (a b : Bool) → (a || b) ≡ false → (a ≡ false) × (b ≡ false)
     neither true b both = absurd (cc both)
     neither false b both = (refl, both)
 
-    by_none : (b : Bool) → (nat_le d.size offset || (count == 0)) ≡ b → Begins d offset count m
+    by_none : (b : Bool) → (nat_le d.size offset || (count == 0)) ≡ b → Begins form d offset count m
     by_none true none = absurd (cc (is, none))
     by_none false some =
-        let first : ReadState = record { inode = d; next = offset; end = min d.size (offset + count); target = target_for d (offset / 1024) } in
+        let first : ReadState = record { inode = d; form = form; next = offset; end = min d.size (offset + count); target = target_for form d (offset / 1024) } in
         let both : Some first ≡ Some m = rw some at is in
         let same : m ≡ first = sym (cc both) in
         record {
           inode = ap (λ (o : ReadState). o.inode) same;
+          form = ap (λ (o : ReadState). o.form) same;
           next = ap (λ (o : ReadState). o.next) same;
           end = ap (λ (o : ReadState). o.end) same;
           target = ap (λ (o : ReadState). o.target) same;
@@ -72,10 +75,10 @@ begins d offset count m is = by_none (nat_le d.size offset || (count == 0)) refl
         }
 
 pub reads_part : {D N : Type 0} (disk : Ghosts D N) → ReadsPart disk
-reads_part disk d offset count p file bytes m g steps first none run ends = by_steps steps run ends
+reads_part disk form d offset count p file bytes m g steps first none run ends = by_steps steps run ends
   where
-    b : Begins d offset count m
-    b = begins d offset count m first
+    b : Begins form d offset count m
+    b = begins form d offset count m first
 
     by_steps : (all : List (ReadMade _)) → IsReadRun disk p file m g all → EndsWithBytes all bytes → bytes ≡ part_of file offset count
     by_steps [] run ends = absurd ends

@@ -1,5 +1,5 @@
 -- How the steps of any task end.
-use Rattle.std.proofs.Common.{◌≡◌, ◌⊎◌, ⊎_elim, inl, inr, ℕ, Bool, true, false, List, refl, sym, ◌∙◌, ap, subst, Option, Some, None, length}
+use Rattle.std.proofs.Common.{◌≡◌, ◌≢◌, ◌⊎◌, ⊎_elim, inl, inr, ℕ, Bool, true, false, cond, eqb, List, refl, sym, ◌∙◌, ap, subst, Option, Some, None, length}
 use Rattle.std.specs.Prelude.{IsSome}
 use Rattle.std.proofs.lemmas.Bool.{false≢true}
 use Rattle.blocks.specs.declared.disk.Disk.{Ghosts}
@@ -11,7 +11,7 @@ use Rattle.model.specs.declared.types.operations.Reply.{Reply}
 use Rattle.model.specs.declared.types.operations.Reply.TheVariants.{Bytes, Wrote}
 use Rattle.model.specs.declared.types.operations.TaskProgress.{TaskProgress}
 use Rattle.model.specs.declared.types.operations.TaskProgress.TheVariants as progress
-use Rattle.model.specs.Layout.{inode_of, inode_block, indirect_of}
+use Rattle.model.specs.Layout.{inode_of, inode_block}
 use Rattle.wal.specs.Machine.{used_by}
 use Rattle.wal.specs.Volume.{VolumeState}
 use Rattle.blockmap.specs.Bmap.{EntryState, LooksUp, some_address}
@@ -40,11 +40,13 @@ use Rattle.inodes.specs.Table.{TableState, holder_at, copy_at}
 use Rattle.inodes.specs.Tasks.{task}
 use Rattle.inodes.specs.Turning.{write_refusal, if_used, reply_when_taken, place_when_taken, place_of_read, place_by_refusal}
 use Rattle.inodes.specs.Readi.{first_read}
-use Rattle.blockmap.specs.BmapAlloc.{after_direct, after_indirect, FindsEntry, entry_for, behind_at}
+use Rattle.blockmap.specs.BmapAlloc.{after_address, address_at, come_to, FindsEntry, behind_at}
+use Rattle.blockmap.specs.Branch.{named_by}
+use Rattle.blockmap.specs.declared.branch.Branch.{Branch}
 use Rattle.inodes.specs.declared.writei.Extent.{Extent}
 use Rattle.inodes.specs.Writing.{extent_of, block_on_way, block_of_write, block_of_alloc}
 use Rattle.blockmap.specs.declared.balloc.AllocAt.{AllocAt}
-use Rattle.blockmap.specs.BmapAlloc.{MapState, after_behind, MapSteps, TakesOne, direct_at, naming, indirect_at}
+use Rattle.blockmap.specs.BmapAlloc.{MapState, after_behind, MapSteps, TakesOne, naming}
 use Rattle.blockmap.specs.declared.bmap_alloc.MapAt.{MapAt}
 use Rattle.inodes.specs.declared.writei.WriteAt.{WriteAt}
 use Rattle.blockmap.specs.Balloc.{AllocState, Allocs, TakesLowest, lowest_in}
@@ -111,10 +113,11 @@ on_search a next one other more still apart =
 
 -- an operation has taken its inode, or found it free
 takes_turn : (n : ℕ) (e : Extent) (o : Option Dinode) (k : ℕ) (op : Op) → CanTake n op →
-    TurnEnds n op (reply_when_taken o op) (place_when_taken e o k op)
+    TurnEnds n op (reply_when_taken e.form o op) (place_when_taken e o k op)
 takes_turn n e None k op can = inr (can, record { unfinished = refl; turned = refl; unread = refl })
 takes_turn n e (Some d) k (Create kind) can = absurd can
-takes_turn n e (Some d) k (Write i off bytes) can = by_refusal (write_refusal d off (length bytes))
+takes_turn n e (Some d) k (Write i off bytes) can =
+    by_refusal (write_refusal e.form d off (length bytes))
   where
     by_refusal : (o : Option Reply) →
         TurnEnds n (Write i off bytes) o (place_by_refusal k (first_write i d off (length bytes) e) o)
@@ -122,7 +125,7 @@ takes_turn n e (Some d) k (Write i off bytes) can = by_refusal (write_refusal d 
     by_refusal (Some reply) =
         inr (can, record { unfinished = refl; turned = refl; unread = refl })
 takes_turn n e (Some d) k (Read i off count) can =
-    (can, inl (i, off, count, refl), by_bytes (first_read d off count))
+    (can, inl (i, off, count, refl), by_bytes (first_read e.form d off count))
   where
     by_bytes : (o : Option ReadState) → owes_reply (place_of_read k o) ≡ true
     by_bytes None = refl
@@ -182,12 +185,12 @@ module _ {D N : Type 0} (disk : Ghosts D N) (s : StoreState D) (p : ℕ) (op : O
       can : CanTake n op
       can = let is : looks.op ≡ op = (let both = sym looks.is ∙ same in cc both) in subst (CanTake n) is looks.can
 
-      by_answer : (x : Progress Bool) → r ≡ progress_of_lock d op x → next ≡ place_of_lock (extent_of n s.volume.log.size) d op m goes.0.now x →
+      by_answer : (x : Progress Bool) → r ≡ progress_of_lock s.table.form d op x → next ≡ place_of_lock (extent_of s.table.form n s.volume.log.size) d op m goes.0.now x →
           StepEnds n (place.Taking m) op r next
       by_answer machine.Moved is to = ends_with (place.Taking m) progress.Moved is (on_at (place.Taking m) _ next to (record { unfinished = refl; unturned = refl; reading = refl }))
       by_answer (machine.Sleeping why) is to = ends_with (place.Taking m) (progress.Sleeping why) is (on_at (place.Taking m) _ next to (record { unfinished = refl; unturned = refl; reading = refl }))
-      by_answer (machine.Over used) is to = ends_with (place.Taking m) (progress.Turned (reply_when_taken (if_used used d) op)) is
-          (refl, subst (TurnEnds n op (reply_when_taken (if_used used d) op)) (sym to) (takes_turn n (extent_of n s.volume.log.size) (if_used used d) (place_of goes.0.now.at) op can))
+      by_answer (machine.Over used) is to = ends_with (place.Taking m) (progress.Turned (reply_when_taken s.table.form (if_used used d) op)) is
+          (refl, subst (TurnEnds n op (reply_when_taken s.table.form (if_used used d) op)) (sym to) (takes_turn n (extent_of s.table.form n s.volume.log.size) (if_used used d) (place_of goes.0.now.at) op can))
       by_answer (machine.Fault fault) is to = ends_with (place.Taking m) (progress.Fault fault) is (on_at (place.Taking m) _ next to (record { unfinished = refl; unturned = refl; reading = refl }))
   ends_of (place.Reading k m) same stands looks unfinished goes = by_answer goes.0.answer goes.0.gives goes.0.next
     where
@@ -252,15 +255,15 @@ module _ {D N : Type 0} (disk : Ghosts D N) (s : StoreState D) (p : ℕ) (op : O
 
 module _ {D N : Type 0} (disk : Ghosts D N) (s : StoreState D) (p : ℕ) (op : Op) (fault : DiskFault) (t : StoreState D) where
   -- a machine that reads an entry
-  entry_fails : (e : EntryState) (x : Progress (Option ℕ)) (e2 : EntryState) → LooksUp disk e.slot s.volume p e x e2 t.volume → machine.Fault fault ≡ progress_behind x → fault.0 ≡ e.indirect
+  entry_fails : (e : EntryState) (x : Progress (Option ℕ)) (e2 : EntryState) → LooksUp disk e.slot s.volume p e x e2 t.volume → machine.Fault fault ≡ progress_behind x → fault.0 ≡ e.node.block
   entry_fails e x e2 looks is = by_slot e.slot x looks is
     where
-      by_slot : (o : Option ℕ) (x : Progress (Option ℕ)) → LooksUp disk o s.volume p e x e2 t.volume → machine.Fault fault ≡ progress_behind x → fault.0 ≡ e.indirect
+      by_slot : (o : Option ℕ) (x : Progress (Option ℕ)) → LooksUp disk o s.volume p e x e2 t.volume → machine.Fault fault ≡ progress_behind x → fault.0 ≡ e.node.block
       by_slot None machine.Moved looks is = absurd (cc is)
       by_slot None (machine.Sleeping why) looks is = absurd (cc is)
       by_slot None (machine.Over found) looks is = absurd (cc is)
-      by_slot None (machine.Fault other) looks is = let same : fault ≡ other = cc is in ap (λ (f : DiskFault). f.0) same ∙ gets_fails disk s.volume p e.indirect other e2.slot t.volume looks.1
-      by_slot (Some i) x looks is = let no = is ∙ ap progress_behind looks.0 in absurd (cc no)
+      by_slot None (machine.Fault other) looks is = let same : fault ≡ other = cc is in ap (λ (f : DiskFault). f.0) same ∙ gets_fails disk s.volume p e.node.block other e2.slot t.volume looks.1
+      by_slot (Some i) x looks is = absurd (⊎_elim (λ ends. let no = is ∙ ap progress_behind ends.over in cc no) (λ on. let no = is ∙ ap progress_behind on.moved in cc no) looks.0)
 
   reading_fails : (a : Target) (m x : ReadState) → Works disk a s.volume p m (machine.Fault fault) t.volume x → fault.0 ≡ block_of a
   reading_fails (target.Entry e) m x works = entry_fails e works.1.answer works.1.entry works.1.looks works.1.gives
@@ -298,12 +301,20 @@ module _ {D N : Type 0} (disk : Ghosts D N) (s : StoreState D) (p : ℕ) (op : O
   takes_fail m n t2 after a d e only takes =
       allocs_fail t2.at t2 takes.now (subst (λ (q : Progress (Option ℕ)). Allocs disk t2.at s.volume p t2 q takes.now t.volume) (only takes.answer (sym takes.gives)) takes.allocs)
 
-  indirect_fails : (q : Progress (Option ℕ)) → after_indirect q ≡ machine.Fault fault → q ≡ machine.Fault fault
-  indirect_fails machine.Moved is = absurd (cc is)
-  indirect_fails (machine.Sleeping why) is = absurd (cc is)
-  indirect_fails (machine.Over None) is = absurd (cc is)
-  indirect_fails (machine.Over (Some b)) is = absurd (cc is)
-  indirect_fails (machine.Fault other) is = is
+  -- a block that was come to is no fault
+  come_fails : (depth b : ℕ) → come_to depth b ≢ machine.Fault fault
+  come_fails depth b = by_depth (eqb depth 0)
+    where
+      by_depth : (ends : Bool) → cond ends (machine.Over (Some b)) machine.Moved ≢ machine.Fault fault
+      by_depth true is = cc is
+      by_depth false is = cc is
+
+  address_fails : (b : Branch) (q : Progress (Option ℕ)) → after_address b q ≡ machine.Fault fault → q ≡ machine.Fault fault
+  address_fails b machine.Moved is = absurd (cc is)
+  address_fails b (machine.Sleeping why) is = absurd (cc is)
+  address_fails b (machine.Over None) is = absurd (cc is)
+  address_fails b (machine.Over (Some a)) is = absurd (come_fails b.depth a is)
+  address_fails b (machine.Fault other) is = is
 
   behind_fails : (q : Progress (Option ℕ)) → after_behind q ≡ machine.Fault fault → q ≡ machine.Fault fault
   behind_fails machine.Moved is = absurd (cc is)
@@ -312,22 +323,22 @@ module _ {D N : Type 0} (disk : Ghosts D N) (s : StoreState D) (p : ℕ) (op : O
   behind_fails (machine.Fault other) is = is
 
   -- a machine that leads to a block
-  way_fails : (a : MapAt) (m n : MapState) (d e : Dinode) → MapSteps disk a s.volume p m d (machine.Fault fault) n e t.volume → fault.0 ≡ block_on_way d a
-  way_fails (map_at.Direct t2) m n d e maps = takes_fail m n t2 after_direct direct_at (naming d m.k) e (λ q is. is) maps
-  way_fails (map_at.Indirect t2) m n d e maps = takes_fail m n t2 after_indirect indirect_at (naming d 12) e indirect_fails maps
-  way_fails (map_at.Entry None) m n d e maps = gets_fails disk s.volume p (indirect_of d) fault maps.0 t.volume maps.1
-  way_fails (map_at.Entry (Some i)) m n d e maps = by_entry (some_address (entry_for (seen (disk.image s.volume.device) s.volume.buffers) m d)) maps.0
+  way_fails : (a : MapAt) (m n : MapState) (d e : Dinode) → MapSteps disk a s.volume p m d (machine.Fault fault) n e t.volume → fault.0 ≡ block_on_way a
+  way_fails (map_at.Address t2) m n d e maps = takes_fail m n t2 (after_address m.branch) (address_at m.branch) (naming d m.branch.index) e (address_fails m.branch) maps
+  way_fails (map_at.Entry k None) m n d e maps = gets_fails disk s.volume p k.block fault maps.0 t.volume maps.1
+  way_fails (map_at.Entry k (Some i)) m n d e maps = by_entry (some_address (named_by (seen (disk.image s.volume.device) s.volume.buffers) k)) maps.0
     where
-      by_entry : (o : Option ℕ) → FindsEntry disk o s.volume p i m (machine.Fault fault) n t.volume → fault.0 ≡ indirect_of d
+      by_entry : (o : Option ℕ) → FindsEntry disk o s.volume p k i m (machine.Fault fault) n t.volume → fault.0 ≡ k.block
       by_entry None finds = let no = finds.0 in absurd (cc no)
-      by_entry (Some b) finds = let no = finds.0 in absurd (cc no)
-  way_fails (map_at.Behind i t2) m n d e maps = takes_fail m n t2 after_behind (behind_at i) (λ answer. d) e behind_fails maps
-  way_fails (map_at.Setting i found) m n d e maps = let no = maps.0 in absurd (cc no)
+      by_entry (Some b) finds = absurd (come_fails k.level b (sym finds.0.0))
+  way_fails (map_at.Behind k i t2) m n d e maps = takes_fail m n t2 after_behind (behind_at k i) (λ answer. d) e behind_fails maps
+  way_fails (map_at.Setting k i None) m n d e maps = let no = maps.0.0 in absurd (cc no)
+  way_fails (map_at.Setting k i (Some b)) m n d e maps = absurd (come_fails k.level b (sym maps.0.0.0))
 
-  writing_fails : (a : WriteAt) (m x : WriteState) (bytes : List ℕ) → WriteSteps disk a s.volume p m bytes (machine.Fault fault) x t.volume → fault.0 ≡ block_of_write m a
+  writing_fails : (a : WriteAt) (m x : WriteState) (bytes : List ℕ) → WriteSteps disk a s.volume p m bytes (machine.Fault fault) x t.volume → fault.0 ≡ block_of_write a
   writing_fails (write_at.Mapping way) m x bytes writes = by_answer writes.answer writes.gives writes.steps
     where
-      by_answer : (q : Progress (Option ℕ)) → machine.Fault fault ≡ progress_mapped q → MapSteps disk way.at s.volume p way m.inode q writes.now writes.inode t.volume → fault.0 ≡ block_on_way m.inode way.at
+      by_answer : (q : Progress (Option ℕ)) → machine.Fault fault ≡ progress_mapped q → MapSteps disk way.at s.volume p way m.inode q writes.now writes.inode t.volume → fault.0 ≡ block_on_way way.at
       by_answer machine.Moved is maps = absurd (cc is)
       by_answer (machine.Sleeping why) is maps = absurd (cc is)
       by_answer (machine.Over found) is maps = absurd (cc is)
@@ -347,7 +358,7 @@ module _ {D N : Type 0} (disk : Ghosts D N) (s : StoreState D) (p : ℕ) (op : O
       by_slot (Some i) goes = absurd goes
   fails_at (place.Taking m) goes = by_answer goes.0.answer goes.0.gives goes.0.locks
     where
-      by_answer : (x : Progress Bool) → progress.Fault fault ≡ progress_of_lock (inode_of (current_of disk.image s.volume) m.number) op x → LockSteps disk m.at s.table s.volume p m x t.table t.volume goes.0.now → fault.0 ≡ inode_block m.number
+      by_answer : (x : Progress Bool) → progress.Fault fault ≡ progress_of_lock s.table.form (inode_of (current_of disk.image s.volume) m.number) op x → LockSteps disk m.at s.table s.volume p m x t.table t.volume goes.0.now → fault.0 ≡ inode_block m.number
       by_answer machine.Moved is locks = absurd (cc is)
       by_answer (machine.Sleeping why) is locks = absurd (cc is)
       by_answer (machine.Over used) is locks = absurd (cc is)
@@ -372,7 +383,7 @@ module _ {D N : Type 0} (disk : Ghosts D N) (s : StoreState D) (p : ℕ) (op : O
           ap (λ (f : DiskFault). f.0) same ∙ drives_fails itrunc disk s.volume t.volume p m goes.now (machine.Fault other) (used_now (trunc_next m) m.kept m.used) drives other refl
   fails_at (place.Writing k m) goes = by_answer goes.answer goes.gives goes.writes
     where
-      by_answer : (x : Progress (Unit {0})) → progress.Fault fault ≡ progress_of_write m.done x → WriteSteps disk m.at s.volume p m (bytes_of op) x goes.now t.volume → fault.0 ≡ block_of_write m m.at
+      by_answer : (x : Progress (Unit {0})) → progress.Fault fault ≡ progress_of_write m.done x → WriteSteps disk m.at s.volume p m (bytes_of op) x goes.now t.volume → fault.0 ≡ block_of_write m.at
       by_answer machine.Moved is writes = absurd (cc is)
       by_answer (machine.Sleeping why) is writes = absurd (cc is)
       by_answer (machine.Over out) is writes = absurd (cc is)

@@ -1,11 +1,10 @@
 -- What a run of a write's steps saw that ends with fewer bytes than were asked for.
-use Rattle.std.proofs.Common.{◌≡◌, ◌≢◌, ◌⊎◌, ◌<◌, ◌≤◌, ◌-◌, ◌+◌, ◌/◌, ℕ, Bool, true, false, cond, eqb, ltb, not, inl, inr, List, [], ◌∷◌, Option, Some, None, refl, sym, ◌∙◌, ap, subst, ⊎_elim, arith}
-use Rattle.std.specs.Prelude.{◌&&◌, ◌==◌, nat_lt, slice_index}
+use Rattle.std.proofs.Common.{◌≡◌, ◌≢◌, ◌⊎◌, ◌<◌, ◌≤◌, ◌-◌, ◌+◌, ◌/◌, ℕ, Bool, true, false, cond, eqb, not, inl, inr, List, [], ◌∷◌, Option, Some, None, refl, sym, ◌∙◌, ap, subst, ⊎_elim, arith}
+use Rattle.std.specs.Prelude.{◌&&◌, ◌==◌, slice_index}
 use Rattle.std.specs.List.{Any}
 use Rattle.std.proofs.lemmas.Bool.{eqb-true}
 use Rattle.blocks.specs.Disk.{Image, block_at}
 use Rattle.blocks.specs.declared.disk.Disk.{Ghosts}
-use Rattle.model.specs.Layout.{indirect_of}
 use Rattle.model.specs.declared.types.image.Dinode.{Dinode}
 use Rattle.model.specs.declared.types.operations.Op.{Op}
 use Rattle.model.specs.declared.types.operations.Reply.TheVariants.{Wrote}
@@ -17,7 +16,8 @@ use Rattle.wal.specs.declared.types.Get.{Get}
 use Rattle.wal.specs.declared.types.Get.TheVariants as get
 use Rattle.blockmap.specs.Balloc.{AllocState, Allocs, IsLowestClear, TakesLowest, first_alloc, lowest_in}
 use Rattle.blockmap.specs.Bmap.{some_address}
-use Rattle.blockmap.specs.BmapAlloc.{FindsEntry, MapState, MapSteps, TakesOne, after_behind, after_indirect, behind_at, entry_for, first_way, indirect_at}
+use Rattle.blockmap.specs.BmapAlloc.{ComesBelow, FindsEntry, MapState, MapSteps, TakesOne, address_at, after_address, after_behind, behind_at, come_to, place_in}
+use Rattle.blockmap.specs.Branch.{branch_of, named_by, node_at, rest_under}
 use Rattle.driver.specs.Getting.{progress_of}
 use Rattle.blockmap.specs.Lemmas.Bitmap.{lowest_clear_is_lowest}
 use Rattle.blockmap.specs.Map.{mapped_for_writing}
@@ -25,6 +25,8 @@ use Rattle.blockmap.specs.declared.balloc.AllocAt.{AllocAt}
 use Rattle.blockmap.specs.declared.balloc.AllocAt.TheVariants as alloc_at
 use Rattle.blockmap.specs.declared.bmap_alloc.MapAt.{MapAt}
 use Rattle.blockmap.specs.declared.bmap_alloc.MapAt.TheVariants as map_at
+use Rattle.blockmap.specs.declared.branch.Branch.{Branch}
+use Rattle.blockmap.specs.declared.branch.Node.{Node}
 use Rattle.blockmap.specs.declared.mapping.MappedForWriting.TheVariants as for_writing
 use Rattle.driver.specs.declared.progress.Progress.{Progress}
 use Rattle.driver.specs.declared.progress.Progress.TheVariants as machine
@@ -44,12 +46,11 @@ use Rattle.inodes.specs.WriteRuns.{IsFull, LooksAtBitmap, LooksIn, LooksOnWay, S
 -- ---- a writing that goes on takes blocks in its extent, and has not come to the end of them
 
 abbrev pub IsAtOnWay : Extent → MapAt → Type 0
-IsAtOnWay e (map_at.Direct t) = TakesIn e t
-IsAtOnWay e (map_at.Indirect t) = TakesIn e t
-IsAtOnWay e (map_at.Entry slot) = Unit {0}
-IsAtOnWay e (map_at.Behind i t) = TakesIn e t
-IsAtOnWay e (map_at.Setting i None) = ⊥
-IsAtOnWay e (map_at.Setting i (Some b)) = Unit {0}
+IsAtOnWay e (map_at.Address t) = TakesIn e t
+IsAtOnWay e (map_at.Entry n slot) = Unit {0}
+IsAtOnWay e (map_at.Behind n i t) = TakesIn e t
+IsAtOnWay e (map_at.Setting n i None) = ⊥
+IsAtOnWay e (map_at.Setting n i (Some b)) = Unit {0}
 
 pub record IsOnWay (e : Extent) (way : MapState) : Type 0 where
   pub bitmap : way.bitmap ≡ e.bitmap
@@ -73,24 +74,34 @@ module _ (e : Extent) (d : Dinode) (k : ℕ) where
   abbrev take : AllocState
   take = first_alloc e.bitmap e.size
 
-  first_on_way : (a b : Bool) → IsAtOnWay e
-      (cond a (map_at.Direct take) (cond b (map_at.Indirect take) (map_at.Entry None)))
-  first_on_way true b = record { bitmap = refl; size = refl }
-  first_on_way false true = record { bitmap = refl; size = refl }
-  first_on_way false false = tt
+  abbrev b : Branch
+  b = branch_of e.form k
 
-  mapped_next : (count done : ℕ) →
-      IsGoingOnAt e count done (place_of_mapped (mapped_for_writing d k e.bitmap e.size))
-  mapped_next count done = by_place (nat_lt k 12 && not (slice_index d.addrs k == 0))
+  abbrev address : ℕ
+  address = slice_index d.addrs b.index
+
+  first_on_way : (none : Bool) → IsAtOnWay e
+      (cond none (map_at.Address take) (map_at.Entry (node_at b.depth b.rest address) None))
+  first_on_way true = record { bitmap = refl; size = refl }
+  first_on_way false = tt
+
+  mapped_next : (count done : ℕ) → IsGoingOnAt e count done
+      (place_of_mapped (mapped_for_writing e.form d k e.bitmap e.size))
+  mapped_next count done = by_place (not (address == 0) && (b.depth == 0))
     where
-      by_place : (a : Bool) → IsGoingOnAt e count done (place_of_mapped
-          (cond a (for_writing.At (slice_index d.addrs k))
-          (for_writing.Behind (first_way d k e.bitmap e.size))))
+      by_place : (at_once : Bool) → IsGoingOnAt e count done (place_of_mapped
+          (cond at_once (for_writing.At address) (for_writing.Behind (record {
+            branch = b;
+            bitmap = e.bitmap;
+            size = e.size;
+            at = cond (eqb address 0) (map_at.Address take)
+                (map_at.Entry (node_at b.depth b.rest address) None);
+          }))))
       by_place true = tt
       by_place false = record {
         bitmap = refl;
         size = refl;
-        at = first_on_way (ltb k 12) (eqb (indirect_of d) 0);
+        at = first_on_way (eqb address 0);
       }
 
 pub comes_next : (e : Extent) (count done number next left : ℕ) (d : Dinode) →
@@ -99,7 +110,7 @@ comes_next e count done number next left d all = by_left (eqb left 0) refl
   where
     by_left : (b : Bool) → eqb left 0 ≡ b → IsGoingOnAt e count done
         (cond b (write_at.Updating (first_update number))
-        (place_of_mapped (mapped_for_writing d (next / 1024) e.bitmap e.size)))
+        (place_of_mapped (mapped_for_writing e.form d (next / 1024) e.bitmap e.size)))
     by_left true none = all (eqb-true left 0 none)
     by_left false some = mapped_next e d (next / 1024) count done
 
@@ -194,41 +205,67 @@ module _ {D N : Type 0} (disk : Ghosts D N) (v : VolumeState D) (p : ℕ) (e : E
       }))
       (allocs_on t step.now step.answer t.at refl takes step.allocs)
 
-  then_indirect : (q : Progress (Option ℕ)) (u : AllocState) → TakesOn q u →
-      IsAtOnWay e (indirect_at q u) × (after_indirect q ≢ machine.Over None)
-  then_indirect machine.Moved u still = (still.takes, λ over. cc over)
-  then_indirect (machine.Sleeping why) u still = (still.takes, λ over. cc over)
-  then_indirect (machine.Over None) u still = absurd (still.some refl)
-  then_indirect (machine.Over (Some b)) u still = (tt, λ over. cc over)
-  then_indirect (machine.Fault fault) u still = (still.takes, λ over. cc over)
+  -- a block that was come to is one
+  some_come : (depth a : ℕ) → come_to depth a ≢ machine.Over None
+  some_come depth a = by_depth (eqb depth 0)
+    where
+      by_depth : (ends : Bool) → cond ends (machine.Over (Some a)) machine.Moved ≢ machine.Over None
+      by_depth true over = cc over
+      by_depth false over = cc over
 
-  then_behind : (i : ℕ) (q : Progress (Option ℕ)) (u : AllocState) → TakesOn q u →
-      IsAtOnWay e (behind_at i q u) × (after_behind q ≢ machine.Over None)
-  then_behind i machine.Moved u still = (still.takes, λ over. cc over)
-  then_behind i (machine.Sleeping why) u still = (still.takes, λ over. cc over)
-  then_behind i (machine.Over None) u still = absurd (still.some refl)
-  then_behind i (machine.Over (Some b)) u still = (tt, λ over. cc over)
-  then_behind i (machine.Fault fault) u still = (still.takes, λ over. cc over)
+  on_in : (at : MapAt) (depth rest a : ℕ) → IsAtOnWay e at → IsAtOnWay e (place_in at depth rest a)
+  on_in at depth rest a on = by_depth (eqb depth 0)
+    where
+      by_depth : (ends : Bool) →
+          IsAtOnWay e (cond ends at (map_at.Entry (node_at depth rest a) None))
+      by_depth true = on
+      by_depth false = tt
+
+  then_address : (b : Branch) (q : Progress (Option ℕ)) (u : AllocState) → TakesOn q u →
+      IsAtOnWay e (address_at b q u) × (after_address b q ≢ machine.Over None)
+  then_address b machine.Moved u still = (still.takes, λ over. cc over)
+  then_address b (machine.Sleeping why) u still = (still.takes, λ over. cc over)
+  then_address b (machine.Over None) u still = absurd (still.some refl)
+  then_address b (machine.Over (Some a)) u still =
+      (on_in (map_at.Address u) b.depth b.rest a still.takes, some_come b.depth a)
+  then_address b (machine.Fault fault) u still = (still.takes, λ over. cc over)
+
+  then_behind : (k : Node) (i : ℕ) (q : Progress (Option ℕ)) (u : AllocState) → TakesOn q u →
+      IsAtOnWay e (behind_at k i q u) × (after_behind q ≢ machine.Over None)
+  then_behind k i machine.Moved u still = (still.takes, λ over. cc over)
+  then_behind k i (machine.Sleeping why) u still = (still.takes, λ over. cc over)
+  then_behind k i (machine.Over None) u still = absurd (still.some refl)
+  then_behind k i (machine.Over (Some b)) u still = (tt, λ over. cc over)
+  then_behind k i (machine.Fault fault) u still = (still.takes, λ over. cc over)
+
+  -- so is one below an entry
+  comes_below : (m n : MapState) (k : Node) (b : ℕ) (r : Progress (Option ℕ)) → IsOnWay e m →
+      ComesBelow m k b r n → MapsTo r n
+  comes_below m n k b r on comes = record {
+    way = subst (IsOnWay e) (sym comes.1) (record {
+      bitmap = on.bitmap;
+      size = on.size;
+      at = on_in m.at k.level (rest_under k) b on.at;
+    });
+    some = λ over. some_come k.level b (sym comes.0 ∙ over);
+  }
 
   -- the way goes on, but where it looks at such a bitmap
   maps_on : (m n : MapState) (d f : Dinode) (r : Progress (Option ℕ)) (a : MapAt) → m.at ≡ a →
       IsOnWay e m → MapSteps disk a v p m d r n f w → (LooksOnWay e a × IsFull cur e) ⊎ MapsTo r n
-  maps_on m n d f r (map_at.Direct t) at on step =
-      takes_one m n t _ _ _ r f on (subst (IsAtOnWay e) at on.at)
-      (λ q u still. (still.takes, still.some)) step
-  maps_on m n d f r (map_at.Indirect t) at on step =
-      takes_one m n t _ _ _ r f on (subst (IsAtOnWay e) at on.at) then_indirect step
-  maps_on m n d f r (map_at.Entry None) at on step =
+  maps_on m n d f r (map_at.Address t) at on step =
+      takes_one m n t _ _ _ r f on (subst (IsAtOnWay e) at on.at) (then_address m.branch) step
+  maps_on m n d f r (map_at.Entry k None) at on step =
       inr (record {
         way = subst (IsOnWay e) (sym step.2)
             (record { bitmap = on.bitmap; size = on.size; at = tt });
         some = λ over. never_over step.1.answer None (sym step.1.gives ∙ over);
       })
-  maps_on m n d f r (map_at.Entry (Some i)) at on step =
-      by_entry (some_address (entry_for cur m d)) step.0
+  maps_on m n d f r (map_at.Entry k (Some i)) at on step =
+      by_entry (some_address (named_by cur k)) step.0
     where
-      by_entry : (o : Option ℕ) → FindsEntry disk o v p i m r n w →
-          (LooksOnWay e (map_at.Entry (Some i)) × IsFull cur e) ⊎ MapsTo r n
+      by_entry : (o : Option ℕ) → FindsEntry disk o v p k i m r n w →
+          (LooksOnWay e (map_at.Entry k (Some i)) × IsFull cur e) ⊎ MapsTo r n
       by_entry None finds =
           inr (record {
             way = subst (IsOnWay e) (sym finds.1) (record {
@@ -238,19 +275,12 @@ module _ {D N : Type 0} (disk : Ghosts D N) (v : VolumeState D) (p : ℕ) (e : E
             });
             some = λ over. cc (sym finds.0 ∙ over);
           })
-      by_entry (Some b) finds =
-          inr (record {
-            way = subst (IsOnWay e) (sym finds.1) on;
-            some = λ over. cc (sym finds.0 ∙ over);
-          })
-  maps_on m n d f r (map_at.Behind i t) at on step =
-      takes_one m n t _ _ _ r f on (subst (IsAtOnWay e) at on.at) (then_behind i) step
-  maps_on m n d f r (map_at.Setting i None) at on step = absurd (subst (IsAtOnWay e) at on.at)
-  maps_on m n d f r (map_at.Setting i (Some b)) at on step =
-      inr (record {
-        way = subst (IsOnWay e) (sym step.1) on;
-        some = λ over. cc (sym step.0 ∙ over);
-      })
+      by_entry (Some b) finds = inr (comes_below m n k b r on finds.0)
+  maps_on m n d f r (map_at.Behind k i t) at on step =
+      takes_one m n t _ _ _ r f on (subst (IsAtOnWay e) at on.at) (then_behind k i) step
+  maps_on m n d f r (map_at.Setting k i None) at on step = absurd (subst (IsAtOnWay e) at on.at)
+  maps_on m n d f r (map_at.Setting k i (Some b)) at on step =
+      inr (comes_below m n k b r on step.0.0)
 
   module _ (count : ℕ) where
     -- the writing goes on, or is over with all bytes

@@ -78,13 +78,13 @@ some_write (commit.Homing i) n busy = omega arith
 some_write commit.Clearing n busy = omega arith
 some_write (commit.Syncing p) n busy = some_sync p n
 
--- an operation has fewer than 2,000 left, where its task has fewer than 1,933
-pub steps_few : (a : At) (left : ℕ) (l : LogState) → IsLogAt l.commit l → left < 1933 → all_steps_left a left l < 2000
-steps_few at.Idle left l is few = omega arith
-steps_few (at.Before group op) left l is few = omega (arith, few)
-steps_few (at.Behind group k) left l is few = omega (arith, few)
-steps_few (at.Ending group k) left l is few = omega arith
-steps_few (at.Committing group k) left l is few = let most = most_writes l.commit (length l.homes) (few_homes is) in omega (arith, most)
+-- an operation has no more than its task, and those of its end and of a commit
+pub steps_few : (a : At) (left most : ℕ) (l : LogState) → IsLogAt l.commit l → left ≤ most → all_steps_left a left l ≤ most + 67
+steps_few at.Idle left most l is few = omega arith
+steps_few (at.Before group op) left most l is few = omega (arith, few)
+steps_few (at.Behind group k) left most l is few = omega (arith, few)
+steps_few (at.Ending group k) left most l is few = omega arith
+steps_few (at.Committing group k) left most l is few = let writes = most_writes l.commit (length l.homes) (few_homes is) in omega (arith, writes)
 
 -- only a commit's steps are read off the log
 pub left_same : (a : At) (old left : ℕ) (l m : LogState) → left ≤ old → (is_committing_at a ≡ true → (m.commit ≡ l.commit) × (length m.homes ≡ length l.homes)) → all_steps_left a left m ≤ all_steps_left a old l

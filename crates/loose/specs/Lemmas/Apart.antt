@@ -1,59 +1,37 @@
 -- The blocks to which a task's copy leads are data blocks, and no two of them are one.
-use Rattle.std.proofs.Common.{◌≡◌, ◌≢◌, ℕ, zero, suc, ◌+◌, ◌-◌, ◌<◌, ◌≤◌, List, [], ◌∷◌, get_or, refl, sym, ap, subst, ◌∙◌, ⊎_elim, arith, Option, cond, eqb, take}
-use Rattle.loose.specs.Held.{Claim, Claims, Growth, IsGrowing, names_claimed, entries_left, present, grows, listed}
+use Rattle.std.proofs.Common.{◌≡◌, ◌≢◌, ℕ, ◌+◌, ◌<◌, ◌≤◌, List, [], length, get_or, Option, Some, refl, sym, ap, ap₂, subst, ◌∙◌, ⊎_elim, arith}
+use Rattle.std.proofs.lemmas.Bool.{cases_lt}
+use Rattle.std.proofs.lemmas.List.{get_or_past}
+use Rattle.blocks.specs.Disk.{Image}
 use Rattle.model.specs.declared.types.image.Dinode.{Dinode}
 use Rattle.model.specs.Files.{Files, file_in}
-use Rattle.blocks.specs.Disk.{Image, block_at}
-use Rattle.loose.specs.HeldLaws.{IsHeldIn, IsMarkedData}
-use Rattle.model.specs.declared.types.image.Form.TheVariants.{One}
-use Rattle.loose.specs.Lemmas.Addresses.{address_behind, address_direct}
+use Rattle.model.specs.Layout.{depths, form_of}
+use Rattle.model.specs.Names.{names_along}
 use Rattle.model.specs.Places.{address_in, addresses_in, pointers_in}
-use Rattle.std.proofs.lemmas.Bool.{cases_lt, eq-eqb, ne_eqb}
 use Rattle.model.specs.Soundness.{count_of}
 use Rattle.model.specs.Lemmas.Counts.{count_of-append}
-use Rattle.loose.specs.Lemmas.GivenUp.{entries_there, present_head}
-use Rattle.model.specs.Layout.{form_of}
-use Rattle.std.proofs.lemmas.List.{get_or-take}
-use Rattle.loose.specs.Lemmas.HeldFrames.{growing_of, one_form, owned_once}
-use Rattle.loose.specs.Lemmas.Placing.{named_parts}
-use Rattle.loose.specs.Lemmas.HeldLooks.{one_present, owned_marked, present_from}
-use Rattle.model.specs.Fields.{words_of}
+use Rattle.loose.specs.Held.{Claim, Claims, Growth, IsGrowing, names_claimed, names_held, grows, listed}
+use Rattle.loose.specs.HeldLaws.{IsHeldIn, IsMarkedData}
+use Rattle.loose.specs.Trees.{depth_of, led_to, place_along, place_under}
+use Rattle.loose.specs.Lemmas.BlocksTaken.{taken_owned}
+use Rattle.loose.specs.Lemmas.HeldFrames.{growing_of, owned_once, whole_names}
+use Rattle.loose.specs.Lemmas.HeldLooks.{owned_marked}
 use Rattle.loose.specs.Lemmas.Looks.{between}
-
--- a number that stands at two places is there twice
-twice : (xs : List ℕ) (j k v : ℕ) → j < k → get_or xs j 0 ≡ v → get_or xs k 0 ≡ v → v ≢ 0 → 2 ≤ count_of v (present xs)
-twice [] j k v lt first second some = absurd (some (sym first))
-twice (a ∷ xs) zero zero v lt first second some = absurd (omega (arith, lt))
-twice (a ∷ xs) zero (suc k) v lt first second some =
-    let head = present_head a xs v in
-    let here : count_of v (present (a ∷ [])) ≡ 1 = ap (λ b. count_of v (present (b ∷ []))) first ∙ one_present v some in
-    let there : 1 ≤ count_of (get_or xs k 0) (present xs) = present_from xs 0 k (omega arith) (λ z. some (sym second ∙ z)) in
-    let same : count_of (get_or xs k 0) (present xs) ≡ count_of v (present xs) = ap (λ b. count_of b (present xs)) second in
-    omega (arith, head, here, there, same)
-twice (a ∷ xs) (suc j) zero v lt first second some = absurd (omega (arith, lt))
-twice (a ∷ xs) (suc j) (suc k) v lt first second some =
-    let head = present_head a xs v in
-    let rest = twice xs j k v (omega (arith, lt)) first second some in
-    omega (arith, head, rest)
+use Rattle.loose.specs.Lemmas.Ways.{IsWayTo, led_none, led_along, along_apart, way_along}
+use Rattle.loose.specs.Lemmas.Wholes.{thirteen_depths}
 
 module _ (m : Files) (x : Image) (claims : Claims) (i : ℕ) (g : Growth) (h : IsHeldIn m x claims i (grows g)) where
   abbrev d : Dinode
   d = g.copy
 
-  abbrev a : ℕ
-  a = get_or d.addrs 12 0
-
-  abbrev ws : List ℕ
-  ws = words_of (block_at x a)
+  abbrev ds : List ℕ
+  ds = depths (form_of x)
 
   abbrev named : List ℕ
   named = addresses_in (pointers_in x d)
 
   growing : IsGrowing x i g (file_in m i)
   growing = growing_of m x claims i g h
-
-  one : form_of x ≡ One
-  one = one_form x h.fits.geometry
 
   -- what the copy names, the number owns
   pub named_mine : (v : ℕ) → count_of v (names_claimed x i (claims i)) ≡ count_of v (listed g.taken) + count_of v named
@@ -73,93 +51,91 @@ module _ (m : Files) (x : Image) (claims : Claims) (i : ℕ) (g : Growth) (h : I
       let mine = named_mine v in
       owned_marked m x claims i v h.fits h.number (omega (arith, mine, some))
 
-  parts : (v : ℕ) → count_of v named ≡ count_of v (present (take 12 d.addrs)) + count_of v (entries_left x a 0)
-  parts v = named_parts m x claims d v h.fits growing.fit.used
+  named_is : named ≡ names_along x ds d.addrs
+  named_is = whole_names x d growing.fit.used
 
-  entries : (v : ℕ) → a ≢ 0 → count_of v (entries_left x a 0) ≡ cond (eqb a v) 1 0 + count_of v (present ws)
-  entries v some = ap (count_of v) (entries_there x a 0 some)
-
-  pub indirect_named : a ≢ 0 → 1 ≤ count_of a named
-  indirect_named some =
-      let all = parts a in
-      let back = entries a some in
-      let own : cond {A = ℕ} (eqb a a) 1 0 ≡ 1 = rw (eq-eqb a a refl) refl in
-      omega (arith, all, back, own)
-
-  direct_is : (k v : ℕ) → k < 12 → address_in x d k ≡ v → get_or (take 12 d.addrs) k 0 ≡ v
-  direct_is k v low is = get_or-take 12 d.addrs k 0 low ∙ sym (address_direct x d k one growing.fit.fields.count low) ∙ is
-
-  behind : (k : ℕ) → 12 ≤ k → k < 268 → address_in x d k ≡ cond (eqb a 0) 0 (get_or ws (k - 12) 0)
-  behind k past few = address_behind x d k one growing.fit.fields.count past few
-
-  some_indirect : (k v : ℕ) → 12 ≤ k → k < 268 → address_in x d k ≡ v → v ≢ 0 → a ≢ 0
-  some_indirect k v past few is some z = some (sym is ∙ behind k past few ∙ rw (eq-eqb a 0 z) refl)
-
-  behind_is : (k v : ℕ) → 12 ≤ k → k < 268 → address_in x d k ≡ v → v ≢ 0 → get_or ws (k - 12) 0 ≡ v
-  behind_is k v past few is some =
-      sym (behind k past few ∙ rw (ne_eqb a 0 (some_indirect k v past few is some)) refl) ∙ is
-
-  -- it stands in one of the two parts
-  in_front : (k v : ℕ) → k < 12 → address_in x d k ≡ v → v ≢ 0 → 1 ≤ count_of v (present (take 12 d.addrs))
-  in_front k v low is some =
-      let e = direct_is k v low is in
-      subst (λ b. 1 ≤ count_of b (present (take 12 d.addrs))) e
-      (present_from (take 12 d.addrs) 0 k (omega arith) (λ z. some (sym e ∙ z)))
-
-  in_back : (k v : ℕ) → 12 ≤ k → k < 268 → address_in x d k ≡ v → v ≢ 0 → 1 ≤ count_of v (present ws)
-  in_back k v past few is some =
-      let e = behind_is k v past few is some in
-      subst (λ b. 1 ≤ count_of b (present ws)) e
-      (present_from ws 0 (k - 12) (omega arith) (λ z. some (sym e ∙ z)))
-
-  pub data_named : (k v : ℕ) → k < 268 → address_in x d k ≡ v → v ≢ 0 → 1 ≤ count_of v named
-  data_named k v few is some =
-      let all = parts v in
+  -- a way that leads to a block begins with one of the inode's addresses
+  pub way_inside : (slot : ℕ) (way : List ℕ) (v : ℕ) → led_to x way (get_or d.addrs slot 0) ≡ v → v ≢ 0 → slot < length ds
+  way_inside slot way v led some =
+      let all = thirteen_depths (form_of x) in
+      let count = growing.fit.fields.count in
       ⊎_elim
-      (λ (low : k < 12). let has = in_front k v low is some in omega (arith, all, has))
-      (λ (past : 12 ≤ k).
-      let back = entries v (some_indirect k v past few is some) in
-      let has = in_back k v past few is some in omega (arith, all, back, has))
-      (cases_lt k 12)
+      (λ (low : slot < length d.addrs). omega (arith, low, all, count))
+      (λ (past : length d.addrs ≤ slot). absurd (some (sym led ∙ ap (led_to x way) (get_or_past d.addrs slot 0 past) ∙ led_none x way)))
+      (cases_lt slot (length d.addrs))
 
-  -- no block of the file is its block of addresses
-  pub data_apart : (k : ℕ) → k < 268 → address_in x d k ≢ 0 → a ≢ 0 → a ≢ address_in x d k
-  data_apart k few some there same =
-      let all = parts a in
-      let back = entries a there in
-      let own : cond {A = ℕ} (eqb a a) 1 0 ≡ 1 = rw (eq-eqb a a refl) refl in
-      let once = copy_once a in
-      ⊎_elim
-      (λ (low : k < 12). let has = in_front k a low (sym same) there in omega (arith, all, back, own, once, has))
-      (λ (past : 12 ≤ k). let has = in_back k a past few (sym same) there in omega (arith, all, back, own, once, has))
-      (cases_lt k 12)
+  pub way_named : (slot : ℕ) (way : List ℕ) (v : ℕ) → length way ≤ depth_of x slot → led_to x way (get_or d.addrs slot 0) ≡ v → v ≢ 0 →
+      1 ≤ count_of v named
+  way_named slot way v short led some =
+      subst (λ (l : List ℕ). 1 ≤ count_of v l) (sym named_is)
+      (led_along x ds d.addrs slot way v (way_inside slot way v led some) short led some)
 
-  -- and no two of them are one
-  later_apart : (j k v : ℕ) → j < k → k < 268 → address_in x d j ≡ v → address_in x d k ≡ v → v ≢ 0 → ⊥
-  later_apart j k v lt few first second some =
-      let all = parts v in
-      let once = copy_once v in
-      ⊎_elim
-      (λ (low : k < 12).
-      let both = twice (take 12 d.addrs) j k v lt (direct_is j v (omega (arith, lt, low)) first) (direct_is k v low second) some in
-      omega (arith, all, once, both))
-      (λ (past : 12 ≤ k).
-      let back = entries v (some_indirect k v past few second some) in
-      ⊎_elim
-      (λ (front : j < 12).
-      let one_there = in_front j v front first some in
-      let two_there = in_back k v past few second some in
-      omega (arith, all, once, back, one_there, two_there))
-      (λ (late : 12 ≤ j).
-      let both = twice ws (j - 12) (k - 12) v (omega (arith, lt, late)) (behind_is j v late (omega (arith, lt, few)) first some)
-      (behind_is k v past few second some) some in
-      omega (arith, all, once, back, both))
-      (cases_lt j 12))
-      (cases_lt k 12)
+  pub slot_named : (slot : ℕ) → get_or d.addrs slot 0 ≢ 0 → 1 ≤ count_of (get_or d.addrs slot 0) named
+  slot_named slot some = way_named slot [] (get_or d.addrs slot 0) (omega arith) refl some
 
-  pub blocks_apart : (j k : ℕ) → j < 268 → k < 268 → j ≢ k → address_in x d k ≢ 0 → address_in x d j ≢ address_in x d k
-  blocks_apart j k first second ne some same =
-      ⊎_elim
-      (λ (lt : j < k). later_apart j k (address_in x d k) lt second same refl some)
-      (λ (le : k ≤ j). later_apart k j (address_in x d k) (omega (arith, le, ne)) first refl same some)
-      (cases_lt j k)
+  pub slot_marked : (slot : ℕ) → get_or d.addrs slot 0 ≢ 0 → IsMarkedData x (get_or d.addrs slot 0)
+  slot_marked slot some = copy_marked (get_or d.addrs slot 0) (slot_named slot some)
+
+  data_way : (k v : ℕ) → address_in x d k ≡ v → v ≢ 0 → (slot : ℕ) × (way : List ℕ) × IsWayTo x ds d.addrs k slot way
+  unfolding address_in
+  data_way k v is some = way_along x k ds d.addrs (λ z. some (sym is ∙ z))
+
+  led_data : (k v slot : ℕ) (way : List ℕ) → address_in x d k ≡ v → IsWayTo x ds d.addrs k slot way → led_to x way (get_or d.addrs slot 0) ≡ v
+  unfolding address_in
+  led_data k v slot way is w = w.led ∙ is
+
+  pub data_named : (k v : ℕ) → address_in x d k ≡ v → v ≢ 0 → 1 ≤ count_of v named
+  data_named k v is some =
+      let w = data_way k v is some in
+      let long = w.2.long in
+      way_named w.0 w.1 v (omega (arith, long)) (led_data k v w.0 w.1 is w.2) some
+
+  pub data_marked : (k : ℕ) → address_in x d k ≢ 0 → IsMarkedData x (address_in x d k)
+  data_marked k some = copy_marked (address_in x d k) (data_named k (address_in x d k) refl some)
+
+  pub named_held : (v : ℕ) → 1 ≤ count_of v named → count_of v (names_held x (grows g)) ≢ 0
+  named_held v some none =
+      let sum = count_of-append v (listed g.taken) named in omega (arith, some, none, sum)
+
+  -- a block that was taken is marked, and none that the copy names
+  pub taken_marked : (b : ℕ) → g.taken ≡ Some b → IsMarkedData x b
+  taken_marked b is = owned_marked m x claims i b h.fits h.number (taken_owned m x claims i b g h is).0
+
+  pub taken_apart : (b v : ℕ) → g.taken ≡ Some b → 1 ≤ count_of v named → v ≢ b
+  taken_apart b v is some same =
+      let none = (taken_owned m x claims i b g h is).1 in
+      let one = ap (λ c. count_of c named) same in
+      omega (arith, none, some, one)
+
+  -- two ways don't lead to one block
+  lead_apart : (j k : ℕ) (one two : List ℕ) (v : ℕ) → length one ≤ depth_of x j → length two ≤ depth_of x k →
+      led_to x one (get_or d.addrs j 0) ≡ v → led_to x two (get_or d.addrs k 0) ≡ v → v ≢ 0 → (j ≡ k → one ≢ two) → ⊥
+  lead_apart j k one two v short_one short_two first second some apart =
+      let once = subst (λ (l : List ℕ). count_of v l ≤ 1) named_is (copy_once v) in
+      let both = along_apart x ds d.addrs j k one two v (way_inside j one v first some) (way_inside k two v second some)
+      short_one short_two first second some apart in
+      omega (arith, once, both)
+
+  -- no data block of the file is one of its blocks of addresses
+  pub data_apart : (slot : ℕ) (way : List ℕ) (a k : ℕ) → length way < depth_of x slot → led_to x way (get_or d.addrs slot 0) ≡ a → a ≢ 0 →
+      address_in x d k ≢ a
+  data_apart slot way a k short led some is =
+      let w = data_way k a is some in
+      let long = w.2.long in
+      lead_apart slot w.0 way w.1 a (omega (arith, short)) (omega (arith, long)) led (led_data k a w.0 w.1 is w.2) some
+      (λ e same.
+      let one = ap (depth_of x) e in
+      let two = ap (λ (l : List ℕ). length l) same in
+      omega (arith, short, long, one, two))
+
+  -- and no two of its data blocks are one
+  pub blocks_apart : (j k : ℕ) → j ≢ k → address_in x d k ≢ 0 → address_in x d j ≢ address_in x d k
+  blocks_apart j k ne some same =
+      let v = address_in x d k in
+      let one = data_way j v same some in
+      let two = data_way k v refl some in
+      let one_long = one.2.long in
+      let two_long = two.2.long in
+      lead_apart one.0 two.0 one.1 two.1 v (omega (arith, one_long)) (omega (arith, two_long))
+      (led_data j v one.0 one.1 same one.2) (led_data k v two.0 two.1 refl two.2) some
+      (λ slots ways. ne (sym one.2.place ∙ ap₂ (λ (s : ℕ) (w : List ℕ). place_along ds s + place_under w) slots ways ∙ two.2.place))

@@ -1,7 +1,7 @@
 -- A task writes bytes into a block of its file.
-use Rattle.std.proofs.Common.{◌≡◌, ◌≢◌, ℕ, ◌+◌, ◌-◌, ◌*◌, ◌/◌, ◌%◌, ◌<◌, ◌≤◌, List, [], ◌++◌, length, get_or, set, take, drop, max, Option, Some, refl, sym, ap, ap₂, subst, ◌∙◌, ⊎_elim, arith, cond, eqb, length-append}
+use Rattle.std.proofs.Common.{◌≡◌, ◌≢◌, ℕ, ◌+◌, ◌-◌, ◌*◌, ◌/◌, ◌%◌, ◌<◌, ◌≤◌, List, [], ◌++◌, length, get_or, set, take, drop, max, Option, Some, sym, ap, ap₂, subst, ◌∙◌, ⊎_elim, arith, length-append}
 use Rattle.loose.specs.GrowthLaws.{BytesWritten, WritesNext}
-use Rattle.loose.specs.Held.{Claim, Claims, Growth, IsClaimedNow, IsFine, IsGrowing, names_claimed, grows, reaching, present, listed}
+use Rattle.loose.specs.Held.{Claim, Claims, Growth, IsClaimedNow, IsFine, IsGrowing, names_claimed, grows, reaching, listed}
 use Rattle.model.specs.declared.types.image.Dinode.{Dinode}
 use Rattle.model.specs.Files.{Files, bytes_in, file_in}
 use Rattle.loose.specs.HeldLaws.{FitsThen, IsHeldIn}
@@ -9,19 +9,20 @@ use Rattle.model.specs.declared.types.image.Form.{Form}
 use Rattle.blocks.specs.Disk.{Image, block_at}
 use Rattle.loose.specs.Lemmas.Looks.{IsFullAt, byte_at, length-bytes_in, between}
 use Rattle.model.specs.Soundness.{IsLawfulGeometry, count_of}
-use Rattle.model.specs.declared.types.image.Form.TheVariants.{One}
-use Rattle.loose.specs.Lemmas.Growing.{WritesOwn, own_base, own_inode, writes_own}
-use Rattle.loose.specs.Lemmas.Addresses.{address_behind, address_direct}
-use Rattle.model.specs.Places.{address_in, addresses_in, pointers_in}
+use Rattle.loose.specs.Lemmas.Growing.{WritesOwn, but_own, own_agrees, own_base, own_inode, writes_own}
+use Rattle.loose.specs.Lemmas.KeptTrees.{SameTrees, names_same_along, address_same_along}
+use Rattle.loose.specs.Lemmas.Wholes.{greatest_small}
+use Rattle.model.specs.Lemmas.Frames.{form_agree}
+use Rattle.model.specs.Names.{names_along}
+use Rattle.model.specs.Places.{address_along, address_in, addresses_in, pointers_in}
 use Rattle.std.proofs.lemmas.List.{append_assoc, drop-drop, drop_at, ext_get_or, get_or-set_other, get_or-set_same, length-take-le, take_at}
 use Rattle.loose.specs.Lemmas.Apart.{blocks_apart, copy_marked, data_apart, data_named, named_mine}
-use Rattle.std.proofs.lemmas.Bool.{cases_eq, cases_lt, eq-eqb}
-use Rattle.loose.specs.Lemmas.HeldFrames.{entries_same, growing_of, labels_same, one_form, whole_names}
+use Rattle.std.proofs.lemmas.Bool.{cases_eq, cases_lt}
+use Rattle.loose.specs.Lemmas.HeldFrames.{growing_of, labels_same, whole_names}
 use Rattle.loose.specs.Lemmas.GrowthBlocks.{copy_full, copy_size, full_block, length-written_over}
-use Rattle.model.specs.Layout.{form_of, greatest_size}
+use Rattle.model.specs.Layout.{depths, form_of, greatest_size}
 use Rattle.loose.specs.Lemmas.Frames.{geometry_same}
 use Rattle.model.specs.Lemmas.Codecs.{get_or-overwritten_before, get_or-overwritten_behind, get_or-overwritten_in, length-overwritten}
-use Rattle.model.specs.Fields.{words_of}
 use Rattle.blocks.specs.Block.{overwritten}
 
 -- two writes, the second right behind the first
@@ -49,6 +50,9 @@ module _ (m : Files) (x : Image) (claims new : Claims) (i k at b : ℕ) (bytes :
   abbrev d : Dinode
   d = g.copy
 
+  abbrev ds : List ℕ
+  ds = depths (form_of x)
+
   -- where the bytes begin
   abbrev q : ℕ
   q = k * 1024 + at
@@ -68,24 +72,14 @@ module _ (m : Files) (x : Image) (claims new : Claims) (i k at b : ℕ) (bytes :
   growing : IsGrowing x i g (file_in m i)
   growing = growing_of m x claims i g h.held
 
-  one_x : form_of x ≡ One
-  one_x = one_form x h.held.fits.geometry
-
   count : length d.addrs ≡ 13
   count = growing.fit.fields.count
 
-  most : q + length bytes ≤ 274432
+  most : q + length bytes ≤ greatest_size (form_of x)
   most =
-      let fits : g.offset + length g.written + length bytes ≤ 274432
-      = subst (λ (f : Form). g.offset + length g.written + length bytes ≤ greatest_size f) one_x h.next.fits in
+      let fits = h.next.fits in
       let place = h.next.place in
       omega (arith, fits, place)
-
-  old_most : d.size ≤ 274432
-  old_most = subst (λ (f : Form). d.size ≤ greatest_size f) one_x growing.fit.size
-
-  few : k < 268
-  few = let some = h.next.some in let all = most in omega (arith, some, all)
 
   -- the bytes begin in the file, or at its end
   begins : q ≤ d.size
@@ -98,10 +92,10 @@ module _ (m : Files) (x : Image) (claims new : Claims) (i k at b : ℕ) (bytes :
   there z = h.next.there (sym h.next.block ∙ z)
 
   full : length old_block ≡ 1024
-  full = ap (λ c. length (block_at x c)) (sym h.next.block) ∙ (full_block m x claims i g h.held k few there).1
+  full = ap (λ c. length (block_at x c)) (sym h.next.block) ∙ (full_block m x claims i g h.held k there).1
 
   named : 1 ≤ count_of b (addresses_in (pointers_in x d))
-  named = data_named m x claims i g h.held k b few h.next.block h.next.there
+  named = data_named m x claims i g h.held k b h.next.block h.next.there
 
   inside : b < length x
   inside = (copy_marked m x claims i g h.held b named).0.1
@@ -125,35 +119,23 @@ module _ (m : Files) (x : Image) (claims new : Claims) (i k at b : ℕ) (bytes :
   geometry : IsLawfulGeometry y
   geometry = geometry_same x y (own_base m x claims new i b block writes) h.held.fits.geometry
 
-  one_y : form_of y ≡ One
-  one_y = one_form y geometry
+  same_form : form_of y ≡ form_of x
+  same_form =
+      let agrees = own_agrees m x claims new i b block writes in
+      form_agree (but_own m x claims new i b block writes) x y agrees.agree agrees.one
 
   other_block : (c : ℕ) → c ≢ b → block_at y c ≡ block_at x c
   other_block c ne = get_or-set_other x b c block [] ne
 
-  -- the block of addresses is another one
-  indirect_same : get_or d.addrs 12 0 ≢ 0 → block_at y (get_or d.addrs 12 0) ≡ block_at x (get_or d.addrs 12 0)
-  indirect_same some =
-      other_block (get_or d.addrs 12 0)
-      (λ same. data_apart m x claims i g h.held k few there some (same ∙ sym h.next.block))
+  -- the blocks of addresses are others
+  same_trees : SameTrees x y ds d.addrs
+  same_trees slot way n led some short =
+      other_block n (λ same. data_apart m x claims i g h.held slot way n k short led some (h.next.block ∙ sym same))
 
   -- so all addresses lead where they did
-  leads : (j : ℕ) → j < 268 → address_in y t.copy j ≡ address_in x d j
-  leads j low =
-      ⊎_elim
-      (λ (front : j < 12). address_direct y t.copy j one_y count front ∙ sym (address_direct x d j one_x count front))
-      (λ (past : 12 ≤ j).
-      address_behind y t.copy j one_y count past low
-      ∙ ⊎_elim
-      (λ (none : get_or d.addrs 12 0 ≡ 0). rw (eq-eqb (get_or d.addrs 12 0) 0 none) refl)
-      (λ (some : get_or d.addrs 12 0 ≢ 0).
-      ap (λ (l : List ℕ). cond (eqb (get_or d.addrs 12 0) 0) 0 (get_or (words_of l) (j - 12) 0)) (indirect_same some))
-      (cases_eq (get_or d.addrs 12 0) 0)
-      ∙ sym (address_behind x d j one_x count past low))
-      (cases_lt j 12)
-
-  needs_few : (j : ℕ) → j * 1024 < t.copy.size → j < 268
-  needs_few j need = let a = most in let b = old_most in omega (arith, a, b, need)
+  leads : (j : ℕ) → address_in y t.copy j ≡ address_in x d j
+  unfolding address_in
+  leads j = ap (λ (f : Form). address_along y j (depths f) d.addrs) same_form ∙ address_same_along x y j ds d.addrs same_trees
 
   -- a block that the new size needs is there
   needs : (j : ℕ) → j * 1024 < t.copy.size → address_in x d j ≢ 0
@@ -169,9 +151,8 @@ module _ (m : Files) (x : Image) (claims new : Claims) (i k at b : ℕ) (bytes :
 
   full_now : (j : ℕ) → j * 1024 < t.copy.size → IsFullAt y (address_in y t.copy j)
   full_now j need =
-      let low = needs_few j need in
-      let old = full_block m x claims i g h.held j low (needs j need) in
-      let same = leads j low in (
+      let old = full_block m x claims i g h.held j (needs j need) in
+      let same = leads j in (
         (λ z. old.0 (sym same ∙ z)),
         ap (λ c. length (block_at y c)) same
             ∙ ⊎_elim
@@ -187,9 +168,8 @@ module _ (m : Files) (x : Image) (claims new : Claims) (i k at b : ℕ) (bytes :
 
   now_byte : (p : ℕ) → p < t.copy.size → get_or (bytes_in y t.copy) p 0 ≡ get_or (block_at y (address_in x d (p / 1024))) (p % 1024) 0
   now_byte p low =
-      let need : p / 1024 * 1024 < t.copy.size = omega (arith, low) in
       byte_at y t.copy full_now p low
-      ∙ ap (λ c. get_or (block_at y c) (p % 1024) 0) (leads (p / 1024) (needs_few (p / 1024) need))
+      ∙ ap (λ c. get_or (block_at y c) (p % 1024) 0) (leads (p / 1024))
 
   abbrev result : List ℕ
   result = overwritten (bytes_in x d) q bytes
@@ -254,7 +234,6 @@ module _ (m : Files) (x : Image) (claims new : Claims) (i k at b : ℕ) (bytes :
 
   each_byte : (p : ℕ) → p < t.copy.size → get_or (bytes_in y t.copy) p 0 ≡ get_or result p 0
   each_byte p low =
-      let need : p / 1024 * 1024 < t.copy.size = omega (arith, low) in
       now_byte p low
       ∙ ⊎_elim
       (λ (here : p / 1024 ≡ k).
@@ -263,7 +242,7 @@ module _ (m : Files) (x : Image) (claims new : Claims) (i k at b : ℕ) (bytes :
       ∙ in_own p low here)
       (λ (apart : p / 1024 ≢ k).
       let other : address_in x d (p / 1024) ≢ b = λ same.
-      blocks_apart m x claims i g h.held (p / 1024) k (needs_few (p / 1024) need) few apart there (same ∙ sym h.next.block) in
+      blocks_apart m x claims i g h.held (p / 1024) k apart there (same ∙ sym h.next.block) in
       ap (λ (l : List ℕ). get_or l (p % 1024) 0) (other_block (address_in x d (p / 1024)) other) ∙ in_other p low apart)
       (cases_eq (p / 1024) k)
 
@@ -280,7 +259,8 @@ module _ (m : Files) (x : Image) (claims new : Claims) (i k at b : ℕ) (bytes :
       let high = (between x i h.held.number).high in
       let still = own_inode m x claims new i b block writes i high in
       let all = most in
-      let old_all = old_most in
+      let old_all = growing.fit.size in
+      let room = greatest_small (form_of x) in
       record {
         fit = record {
           fields = record {
@@ -288,14 +268,14 @@ module _ (m : Files) (x : Image) (claims new : Claims) (i k at b : ℕ) (bytes :
             major = growing.fit.fields.major;
             minor = growing.fit.fields.minor;
             nlink = growing.fit.fields.nlink;
-            size = omega (arith, all, old_all);
+            size = omega (arith, all, old_all, room);
             count = count;
             addrs = growing.fit.fields.addrs;
           };
           used = growing.fit.used;
           kind = growing.fit.kind;
-          size = subst (λ (f : Form). t.copy.size ≤ greatest_size f) (sym one_y) (omega (arith, all, old_all));
-          whole = λ j need z. needs j need (sym (leads j (needs_few j need)) ∙ z);
+          size = subst (λ (f : Form). t.copy.size ≤ greatest_size f) (sym same_form) (omega (arith, all, old_all));
+          whole = λ j need z. needs j need (sym (leads j) ∙ z);
         };
         same_kind = ap (λ (o : Dinode). o.kind) still ∙ growing.same_kind;
         labels = labels_same x y i (d.major, d.minor, d.nlink) still growing.labels;
@@ -309,9 +289,10 @@ module _ (m : Files) (x : Image) (claims new : Claims) (i k at b : ℕ) (bytes :
 
   same_names : addresses_in (pointers_in y t.copy) ≡ addresses_in (pointers_in x d)
   same_names =
-      sym (whole_names y t.copy geometry growing.fit.used)
-      ∙ ap (λ (l : List ℕ). present (take 12 d.addrs) ++ l) (entries_same x y (get_or d.addrs 12 0) 0 indirect_same)
-      ∙ whole_names x d h.held.fits.geometry growing.fit.used
+      whole_names y t.copy growing.fit.used
+      ∙ ap (λ (f : Form). names_along y (depths f) d.addrs) same_form
+      ∙ names_same_along x y ds d.addrs same_trees
+      ∙ sym (whole_names x d growing.fit.used)
 
   written_then : FitsThen m x claims i y new
   written_then =

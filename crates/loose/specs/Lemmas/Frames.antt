@@ -5,12 +5,11 @@ use Rattle.std.proofs.lemmas.Bool.{eq-eqb}
 use Rattle.blocks.specs.Disk.{Image, block_at}
 use Rattle.model.specs.declared.types.image.Dinode.{Dinode}
 use Rattle.model.specs.declared.types.image.File.{File}
-use Rattle.model.specs.declared.types.image.Form.TheVariants.{One}
 use Rattle.model.specs.declared.types.image.Super.{Super}
 use Rattle.model.specs.Agreement.{Agrees, AgreesFor}
 use Rattle.model.specs.Fields.{u32_at, has_bit}
 use Rattle.model.specs.Files.{Files, file_of}
-use Rattle.model.specs.Layout.{super_in, super_of, magic_of, is_lawful_super, inode_count_of, first_data_block, meta_count, inode_of, is_marked}
+use Rattle.model.specs.Layout.{super_in, super_of, is_lawful_super, inode_count_of, first_data_block, meta_count, inode_of, is_marked, is_known_magic}
 use Rattle.model.specs.Places.{pointers_in, pointers_of, places_of, addresses_in}
 use Rattle.model.specs.Soundness.{IsLawfulGeometry, count_of}
 use Rattle.model.specs.Lemmas.Counts.{count_flat}
@@ -99,7 +98,7 @@ super_same x y h = ap super_in h.super
 
 pub geometry_same : (x y : Image) → SameSuperAndMap x y → IsLawfulGeometry x → IsLawfulGeometry y
 geometry_same x y h g = record {
-  magic = ap (λ b. eqb (u32_at b 0) (magic_of One)) h.super ∙ g.magic;
+  magic = ap (λ b. is_known_magic (u32_at b 0)) h.super ∙ g.magic;
   fields = ap (λ s. is_lawful_super s (length y)) (super_same x y h) ∙ ap (is_lawful_super (super_of x)) h.size ∙ g.fields;
 }
 

@@ -1,24 +1,28 @@
 -- What a cleared bit makes of the bitmap, and of an image in which tasks hold files.
-use Rattle.std.proofs.Common.{◌≡◌, ◌≢◌, ℕ, zero, suc, ◌+◌, ◌^◌, ◌<◌, ◌≤◌, false, ◌||◌, cond, eqb, ltb, List, [], ◌∷◌, length, get_or, set, take, drop, Option, Some, refl, sym, ap, subst, ◌∙◌, ⊎_elim, zero-add, arith}
+use Rattle.std.proofs.Common.{◌≡◌, ◌≢◌, ℕ, zero, suc, ◌+◌, ◌^◌, ◌<◌, ◌≤◌, false, ◌||◌, cond, eqb, ltb, List, [], ◌∷◌, length, get_or, set, Option, Some, refl, sym, ap, subst, ◌∙◌, ⊎_elim, zero-add, arith}
 use Rattle.std.proofs.lemmas.Bool.{ne_eqb, eq-eqb, cases_eq, cases_lt, le-ltb, or_from}
-use Rattle.std.proofs.lemmas.List.{length-set, get_or-set_same, get_or-set_other, set_past, take-set-le}
-use Rattle.std.proofs.Math.ListN.{drop_of_length-le}
+use Rattle.std.proofs.lemmas.List.{length-set, get_or-set_same, get_or-set_other, set_past}
 use Rattle.blocks.specs.Disk.{Image, block_at}
 use Rattle.model.specs.declared.types.image.Dinode.{Dinode}
 use Rattle.model.specs.declared.types.image.File.{File}
 use Rattle.model.specs.Codec.{without_bit}
 use Rattle.model.specs.Fields.{words_of}
 use Rattle.model.specs.Files.{Files, file_in}
-use Rattle.model.specs.Layout.{super_of, inode_of, inode_count_of, first_data_block, is_marked}
+use Rattle.model.specs.Layout.{super_of, inode_of, inode_count_of, first_data_block, is_marked, depths, direct_count, form_of}
 use Rattle.model.specs.Soundness.{count_of}
 use Rattle.model.specs.Lemmas.Bits.{has_bit-without_bit_same, has_bit-without_bit_other, length-without_bit}
 use Rattle.model.specs.Lemmas.Codecs.{length-words_of-block}
 use Rattle.model.specs.Lemmas.Counts.{count_of-append}
-use Rattle.loose.specs.Held.{Held, Claims, IsHeld, IsFine, IsClaimedNow, names_claimed, names_left, entries_left, owned, present, unmarked, without_address, frees, Claim}
-use Rattle.loose.specs.HeldLaws.{FitsThen, IsHeldIn, DirectGivenUp, EntryGivenUp, IndirectGivenUp, entry_at}
+use Rattle.loose.specs.Held.{Held, Claims, IsHeld, IsFine, IsClaimedNow, names_claimed, owned, unmarked, without_address, blocks_left, frees, Claim}
+use Rattle.loose.specs.HeldLaws.{FitsThen, IsHeldIn, IsGivenUp, DirectGivenUp, BlockGivenUp, LeavesAsMany, TreeGivenUp}
+use Rattle.loose.specs.Trees.{names_left, left_under, left_along, depth_of, entry_of, led_to, IsFirstTree, LeavesAlike}
+use Rattle.loose.specs.Lemmas.Lengths.{as_many}
+use Rattle.loose.specs.Lemmas.LeftInTrees.{MovesOn, left_parts, passed, given, alone, without_along, direct_along}
+use Rattle.loose.specs.Lemmas.Ways.{IsAhead, ahead_root, led_left}
+use Rattle.loose.specs.Lemmas.Wholes.{thirteen_depths, direct_depth, direct_few}
 use Rattle.loose.specs.Loose.{IsLoose}
 use Rattle.loose.specs.Lemmas.Claims.{apart}
-use Rattle.loose.specs.Lemmas.HeldFrames.{ChangesOne, loose_alike, names_same, fine_same, owned_kept, fits_then, claimed_in_data, first_entry, at_data, Passes, data_passes}
+use Rattle.loose.specs.Lemmas.HeldFrames.{ChangesOne, loose_alike, names_same, fine_same, owned_kept, fits_then, claimed_in_data, at_data, Passes, data_passes}
 use Rattle.loose.specs.Lemmas.Looks.{between}
 use Rattle.loose.specs.Lemmas.Remapped.{IsMapped, inode_same, marks, size_same, mapped, agrees, full_after, start_same, test}
 
@@ -84,7 +88,7 @@ record GivesUp (m : Files) (x : Image) (claims new : Claims) (i b : ℕ) (h t : 
   held : IsHeldIn m x claims i (frees h)
   now : IsClaimedNow claims i (Some (frees t)) new
   fine : IsHeld x i t (file_in m i)
-  gone : (c : ℕ) → count_of c (names_left x h.copy h.given_up) ≡ count_of c (b ∷ names_left x t.copy t.given_up)
+  gone : (c : ℕ) → count_of c (names_left x h.copy h.cursor) ≡ count_of c (b ∷ names_left x t.copy t.cursor)
 
 module _ (m : Files) (x : Image) (claims new : Claims) (i b : ℕ) (h t : Held) (g : GivesUp m x claims new i b h t) where
   map : IsMapped x
@@ -117,12 +121,12 @@ module _ (m : Files) (x : Image) (claims new : Claims) (i b : ℕ) (h t : Held) 
         some = λ e. omega arith;
       }
 
-  more : (c : ℕ) → count_of c (names_left x t.copy t.given_up) ≤ count_of c (names_claimed x i (claims i))
+  more : (c : ℕ) → count_of c (names_left x t.copy t.cursor) ≤ count_of c (names_claimed x i (claims i))
   more c =
-      let was : count_of c (names_claimed x i (claims i)) ≡ count_of c (names_left x h.copy h.given_up)
+      let was : count_of c (names_claimed x i (claims i)) ≡ count_of c (names_left x h.copy h.cursor)
       = ap (λ (o : Option Claim). count_of c (names_claimed x i o)) g.held.holds in
       let gone = g.gone c in
-      let sum : count_of c (b ∷ names_left x t.copy t.given_up) ≡ cond (eqb b c) 1 0 + count_of c (names_left x t.copy t.given_up) = refl in
+      let sum : count_of c (b ∷ names_left x t.copy t.cursor) ≡ cond (eqb b c) 1 0 + count_of c (names_left x t.copy t.cursor) = refl in
       omega arith
 
   still_passes : Passes (test x (bits x b map) map) (names_claimed x i (Some (frees t)))
@@ -130,29 +134,40 @@ module _ (m : Files) (x : Image) (claims new : Claims) (i b : ℕ) (h t : Held) 
       let few = more c in
       (agrees x (bits x b map) map).from_data c (claimed_in_data m x claims i c g.held.fits low high (omega arith)).0
 
-  own_names : names_claimed z i (new i) ≡ names_left x t.copy t.given_up
+  own_names : names_claimed z i (new i) ≡ names_left x t.copy t.cursor
   own_names =
       ap (names_claimed z i) g.now.own
       ∙ names_same (test x (bits x b map) map) x z i (Some (frees t)) change.agree (inode_kept i high) still_passes
 
   owned_less : (c : ℕ) → count_of c (owned x claims) ≡ count_of c (b ∷ owned z new)
   owned_less c =
-      let was : count_of c (names_claimed x i (claims i)) ≡ count_of c (names_left x h.copy h.given_up)
+      let was : count_of c (names_claimed x i (claims i)) ≡ count_of c (names_left x h.copy h.cursor)
       = ap (λ (o : Option Claim). count_of c (names_claimed x i o)) g.held.holds in
       let gone = g.gone c in
       let own = ap (count_of c) own_names in
       let kept = owned_kept (test x (bits x b map) map) m x claims i m z new change c low high in
-      let one : count_of c (b ∷ names_left x t.copy t.given_up) ≡ cond (eqb b c) 1 0 + count_of c (names_left x t.copy t.given_up) = refl in
+      let one : count_of c (b ∷ names_left x t.copy t.cursor) ≡ cond (eqb b c) 1 0 + count_of c (names_left x t.copy t.cursor) = refl in
       let two : count_of c (b ∷ owned z new) ≡ cond (eqb b c) 1 0 + count_of c (owned z new) = refl in
       omega arith
 
-  gives_up : FitsThen m x claims i z new
-  gives_up =
+  gives_fits : FitsThen m x claims i z new
+  gives_fits =
       fits_then (test x (bits x b map) map) m x claims i m z new change
       (full_after x (bits x b map) map (whole x b map) g.held.fits.full)
       (loose_freed x b map (owned z new) (loose_alike x (owned x claims) (b ∷ owned z new) owned_less g.held.fits.loose))
       (subst (λ (c : Option Claim). IsFine z i c (file_in m i)) (sym g.now.own)
       (fine_same (test x (bits x b map) map) x z i (Some (frees t)) (file_in m i) change.agree (inode_kept i high) still_passes g.fine))
+
+  -- what is left is left in the new image as in the old one
+  one_less : blocks_left x h ≡ blocks_left z t + 1
+  one_less =
+      let same : blocks_left z t ≡ blocks_left x t
+      = ap length (names_same (test x (bits x b map) map) x z i (Some (frees t)) change.agree (inode_kept i high) still_passes) in
+      let many = as_many (names_left x h.copy h.cursor) (b ∷ names_left x t.copy t.cursor) g.gone in
+      omega (arith, same, many)
+
+  gives_up : IsGivenUp m x claims i b h t new
+  gives_up = record { then = gives_fits; fewer = one_less }
 
 -- ---- what a task names, with one block less
 
@@ -191,8 +206,9 @@ held_without x i k h file held = record {
   told = held.told;
 }
 
-pub held_further : (x : Image) (i e : ℕ) (h : Held) (file : Option File) → IsHeld x i h file → IsHeld x i (record h { given_up = e }) file
-held_further x i e h file held = record {
+pub held_further : (x : Image) (i : ℕ) (cursor : List ℕ) (h : Held) (file : Option File) → IsHeld x i h file →
+    IsHeld x i (record h { cursor = cursor }) file
+held_further x i cursor h file held = record {
   fields = held.fields;
   used = held.used;
   kind = held.kind;
@@ -202,128 +218,131 @@ held_further x i e h file held = record {
   told = held.told;
 }
 
-pub present_head : (a : ℕ) (rest : List ℕ) (c : ℕ) → count_of c (present (a ∷ rest)) ≡ count_of c (present (a ∷ [])) + count_of c (present rest)
-present_head a rest c =
-    ⊎_elim
-    (λ (z : a ≡ 0). rw z (sym (zero-add (count_of c (present rest)))))
-    (λ (some : a ≢ 0).
-    let one : present (a ∷ []) ≡ a ∷ [] = rw (ne_eqb a 0 some) refl in
-    let all : present (a ∷ rest) ≡ a ∷ present rest = rw (ne_eqb a 0 some) refl in
-    let both = count_of-append c (a ∷ []) (present rest) in
-    let p = ap (count_of c) one in
-    let q = ap (count_of c) all in omega arith)
-    (cases_eq a 0)
+-- ---- the kinds of block
 
-pub present_one : (b c : ℕ) (names : List ℕ) → b ≢ 0 → count_of c (b ∷ names) ≡ count_of c (present (b ∷ [])) + count_of c names
-present_one b c names some =
-    let one : present (b ∷ []) ≡ b ∷ [] = rw (ne_eqb b 0 some) refl in
-    let both = count_of-append c (b ∷ []) names in
-    let same = ap (count_of c) one in omega arith
-
-pub present_set : (addrs : List ℕ) (n k c : ℕ) → k < n →
-    count_of c (present (take n addrs)) ≡ count_of c (present (get_or addrs k 0 ∷ [])) + count_of c (present (take n (set addrs k 0)))
-present_set addrs zero k c low = absurd (omega arith)
-present_set [] (suc n) k c low = refl
-present_set (a ∷ addrs) (suc n) zero c low = present_head a (take n addrs) c
-present_set (a ∷ addrs) (suc n) (suc k) c low =
-    let one = present_head a (take n addrs) c in
-    let two = present_head a (take n (set addrs k 0)) c in
-    let rest = present_set addrs n k c (omega arith) in omega arith
-
-present_drop : (ws : List ℕ) (e c : ℕ) →
-    count_of c (present (drop e ws)) ≡ count_of c (present (get_or ws e 0 ∷ [])) + count_of c (present (drop (suc e) ws))
-present_drop [] zero c = refl
-present_drop [] (suc e) c = refl
-present_drop (w ∷ ws) zero c = present_head w ws c
-present_drop (w ∷ ws) (suc e) c = present_drop ws e c
-
-pub names_parts : (x : Image) (d : Dinode) (e c : ℕ) →
-    count_of c (names_left x d e) ≡ count_of c (present (take 12 d.addrs)) + count_of c (entries_left x (get_or d.addrs 12 0) e)
-names_parts x d e c = count_of-append c (present (take 12 d.addrs)) (entries_left x (get_or d.addrs 12 0) e)
-
--- ---- the three kinds of block
+direct_parts : (x : Image) (d : Dinode) (cursor : List ℕ) (k c : ℕ) → k < direct_count (form_of x) → get_or d.addrs k 0 ≢ 0 →
+    count_of c (names_left x d cursor) ≡ count_of c (get_or d.addrs k 0 ∷ left_along x cursor (depths (form_of x)) (set d.addrs k 0))
+direct_parts x d cursor k c low some =
+    let all = thirteen_depths (form_of x) in
+    let few = direct_few (form_of x) in
+    direct_along x cursor (depths (form_of x)) d.addrs k c (omega (arith, low, all, few)) some
+    (λ j before. direct_depth (form_of x) j (omega (arith, before, low)))
 
 pub direct_given_up : DirectGivenUp
 direct_given_up m x claims new i k h g low some now =
-    let addrs = h.copy.addrs in
-    let b = get_or addrs k 0 in
-    let t = without_address h k in
-    gives_up m x claims new i b h t (record {
+    gives_up m x claims new i (get_or h.copy.addrs k 0) h (without_address h k) (record {
       held = g;
       now = now;
       fine = held_without x i k h (file_in m i) (held_of m x claims i h g);
-      gone = λ c.
-          let old = names_parts x h.copy h.given_up c in
-          let rest = names_parts x t.copy t.given_up c in
-          let same : count_of c (entries_left x (get_or (set addrs k 0) 12 0) h.given_up) ≡ count_of c (entries_left x (get_or addrs 12 0) h.given_up)
-          = ap (λ a. count_of c (entries_left x a h.given_up)) (get_or-set_other addrs k 12 0 0 (λ e. omega arith)) in
-          let less = present_set addrs 12 k c low in
-          let one = present_one b c (names_left x t.copy t.given_up) some in
-          omega arith;
+      gone = λ c. direct_parts x h.copy h.cursor k c low some;
     })
 
-pub entries_there : (x : Image) (a e : ℕ) → a ≢ 0 → entries_left x a e ≡ a ∷ present (drop e (words_of (block_at x a)))
-entries_there x a e some = rw (ne_eqb a 0 some) refl
+-- what is under the first block of addresses, and the rest
+pub first_parts : (x : Image) (d : Dinode) (slot c : ℕ) (cursor : List ℕ) → IsFirstTree x d slot →
+    count_of c (names_left x d cursor)
+    ≡ count_of c (left_under x (depth_of x slot) cursor (get_or d.addrs slot 0))
+    + count_of c (left_along x [] (depths (form_of x)) (set d.addrs slot 0))
+first_parts x d slot c cursor first = without_along x cursor (depths (form_of x)) d.addrs slot c first.tree first.there first.before
 
--- one entry less, be it there or not
-pub entry_less : (x : Image) (a e c : ℕ) → a ≢ 0 →
-    count_of c (entries_left x a e) ≡ count_of c (present (get_or (words_of (block_at x a)) e 0 ∷ [])) + count_of c (entries_left x a (suc e))
-entry_less x a e c some =
-    let ws = words_of (block_at x a) in
-    let old = ap (count_of c) (entries_there x a e some) in
-    let new = ap (count_of c) (entries_there x a (suc e) some) in
-    let less = present_drop ws e c in
-    let one : count_of c (a ∷ present (drop e ws)) ≡ cond (eqb a c) 1 0 + count_of c (present (drop e ws)) = refl in
-    let two : count_of c (a ∷ present (drop (suc e) ws)) ≡ cond (eqb a c) 1 0 + count_of c (present (drop (suc e) ws)) = refl in
-    omega arith
+-- where the cursor leaves a way there, what it leads to is left
+pub first_left : (x : Image) (d : Dinode) (slot : ℕ) (cursor way : List ℕ) (n : ℕ) → IsFirstTree x d slot → length way ≤ depth_of x slot →
+    led_to x way (get_or d.addrs slot 0) ≡ n → n ≢ 0 → IsAhead cursor way → 1 ≤ count_of n (names_left x d cursor)
+first_left x d slot cursor way n first short led some ahead =
+    let parts = first_parts x d slot n cursor first in
+    let one = led_left x (depth_of x slot) cursor way (get_or d.addrs slot 0) n short led some ahead in
+    omega (arith, parts, one)
 
-pub entry_given_up : EntryGivenUp
-entry_given_up m x claims new i h g indirect some now =
-    let e = h.given_up in
-    let b = entry_at x h e in
-    let t : Held = record h { given_up = e + 1 } in
-    gives_up m x claims new i b h t (record {
+-- a data block that the copy itself names is left
+pub direct_left : (x : Image) (d : Dinode) (cursor : List ℕ) (k : ℕ) → k < direct_count (form_of x) → get_or d.addrs k 0 ≢ 0 →
+    1 ≤ count_of (get_or d.addrs k 0) (names_left x d cursor)
+direct_left x d cursor k low some =
+    let b = get_or d.addrs k 0 in
+    let rest = direct_parts x d cursor k b low some in
+    let one = counted_here b (left_along x cursor (depths (form_of x)) (set d.addrs k 0)) in
+    omega (arith, rest, one)
+
+pub block_given_up : BlockGivenUp
+block_given_up m x claims new i slot b behind cursor h g first gives alike now =
+    let a = get_or h.copy.addrs slot 0 in
+    let depth = depth_of x slot in
+    gives_up m x claims new i b h (record h { cursor = cursor }) (record {
       held = g;
       now = now;
-      fine = held_further x i (e + 1) h (file_in m i) (held_of m x claims i h g);
+      fine = held_further x i cursor h (file_in m i) (held_of m x claims i h g);
       gone = λ c.
-          let old = names_parts x h.copy e c in
-          let rest = names_parts x h.copy (suc e) c in
-          let less = entry_less x (get_or h.copy.addrs 12 0) e c indirect in
-          let next : e + 1 ≡ suc e = omega arith in
-          let same = ap (λ q. count_of c (names_left x h.copy q)) next in
-          let one = present_one b c (names_left x h.copy (e + 1)) some in
-          omega arith;
+          let old = first_parts x h.copy slot c h.cursor first in
+          let rest = first_parts x h.copy slot c behind first in
+          let one = given x depth h.cursor a b behind gives c in
+          let same = alike c in
+          let p = count_of-append c (b ∷ []) (left_under x depth behind a) in
+          let q = count_of-append c (b ∷ []) (names_left x h.copy cursor) in
+          omega (arith, old, rest, one, same, p, q);
     })
 
-pub indirect_given_up : IndirectGivenUp
-indirect_given_up m x claims new i h g some all now =
-    let addrs = h.copy.addrs in
-    let a = get_or addrs 12 0 in
-    let t = without_address h 12 in
-    let held = held_of m x claims i h g in
-    let count = held.fields.count in
+-- no entry of it names the block of addresses itself: that would be left twice
+pub first_twice : (x : Image) (d : Dinode) (slot e below : ℕ) (rest : List ℕ) → IsFirstTree x d slot → depth_of x slot ≡ suc below →
+    entry_of x (get_or d.addrs slot 0) e ≡ get_or d.addrs slot 0 → 2 ≤ count_of (get_or d.addrs slot 0) (names_left x d (e ∷ rest))
+first_twice x d slot e below rest first deep same =
+    let a = get_or d.addrs slot 0 in
+    let parts = first_parts x d slot a (e ∷ rest) first in
+    let own = left_parts x below e a a rest first.there in
+    let here = counted_here a [] in
+    let one = led_left x below rest [] (entry_of x a e) a (omega arith) same first.there (ahead_root rest) in
+    let depth = ap (λ (n : ℕ). count_of a (left_under x n (e ∷ rest) a)) deep in
+    omega (arith, parts, own, here, one, depth)
+
+pub leaves_as_many : LeavesAsMany
+leaves_as_many x cursor h alike = as_many (names_left x h.copy cursor) (names_left x h.copy h.cursor) alike
+
+-- where the cursor goes on under the first block of addresses, the same is left
+pub passes_first : (x : Image) (d : Dinode) (slot : ℕ) (these others : List ℕ) → IsFirstTree x d slot →
+    MovesOn x (depth_of x slot) these (get_or d.addrs slot 0) others → LeavesAlike x d others these
+passes_first x d slot these others first passes c =
+    let old = first_parts x d slot c these first in
+    let new = first_parts x d slot c others first in
+    let same = passed x (depth_of x slot) these (get_or d.addrs slot 0) others passes c in
+    omega (arith, old, new, same)
+
+-- a block of addresses that is there has 256 entries
+pub first_words : (m : Files) (x : Image) (claims : Claims) (i slot : ℕ) (h : Held) → IsHeldIn m x claims i (frees h) → IsFirstTree x h.copy slot →
+    length (words_of (block_at x (get_or h.copy.addrs slot 0))) ≡ 256
+first_words m x claims i slot h g first =
+    let a = get_or h.copy.addrs slot 0 in
     let at = between x i g.number in
     let there = claimed_in_data m x claims i a g.fits at.low at.high
     (subst (λ (o : Option Claim). 1 ≤ count_of a (names_claimed x i o)) (sym g.holds)
-    (first_entry x (present (take 12 addrs)) a h.given_up some)) in
+    (first_left x h.copy slot h.cursor [] a first (omega arith) refl first.there (ahead_root h.cursor))) in
+    let map = mapped x g.fits.geometry g.fits.full in
     let from = there.0 in
-    let words = length-words_of-block (block_at x a) (g.fits.full a (omega arith) there.1) in
+    let behind = map.behind in
+    let before = map.before_data in
+    length-words_of-block (block_at x a) (g.fits.full a (omega (arith, from, behind, before)) there.1)
+
+-- behind the last of its entries it is left alone
+pub first_alone : (m : Files) (x : Image) (claims : Claims) (i slot e : ℕ) (rest : List ℕ) (h : Held) → IsHeldIn m x claims i (frees h) →
+    IsFirstTree x h.copy slot → 256 ≤ e →
+    left_under x (depth_of x slot) (e ∷ rest) (get_or h.copy.addrs slot 0) ≡ get_or h.copy.addrs slot 0 ∷ []
+first_alone m x claims i slot e rest h g first past =
+    let words = first_words m x claims i slot h g first in
+    by_depth (get_or h.copy.addrs slot 0) (depth_of x slot) first.tree first.there (omega (arith, words, past))
+  where
+    by_depth : (a depth : ℕ) → depth ≢ 0 → a ≢ 0 → length (words_of (block_at x a)) ≤ e → left_under x depth (e ∷ rest) a ≡ a ∷ []
+    by_depth a zero tree some few = absurd (tree refl)
+    by_depth a (suc depth) tree some few = alone x depth e a rest some few
+
+pub tree_given_up : TreeGivenUp
+tree_given_up m x claims new i slot cursor h g first itself alike now =
+    let a = get_or h.copy.addrs slot 0 in
+    let t = record (without_address h slot) { cursor = cursor } in
     gives_up m x claims new i a h t (record {
       held = g;
       now = now;
-      fine = held_without x i 12 h (file_in m i) held;
+      fine = held_further x i cursor (without_address h slot) (file_in m i)
+          (held_without x i slot h (file_in m i) (held_of m x claims i h g));
       gone = λ c.
-          let old = names_parts x h.copy h.given_up c in
-          let rest = names_parts x t.copy t.given_up c in
-          let direct : count_of c (present (take 12 (set addrs 12 0))) ≡ count_of c (present (take 12 addrs))
-          = ap (λ (l : List ℕ). count_of c (present l)) (take-set-le 12 addrs 12 0 (omega arith)) in
-          let none : count_of c (entries_left x (get_or (set addrs 12 0) 12 0) h.given_up) ≡ 0
-          = ap (λ q. count_of c (entries_left x q h.given_up)) (get_or-set_same addrs 12 0 0 (omega arith)) in
-          let itself : count_of c (entries_left x a h.given_up) ≡ count_of c (a ∷ [])
-          = ap (count_of c) (entries_there x a h.given_up some)
-          ∙ ap (λ (l : List ℕ). count_of c (a ∷ present l)) (drop_of_length-le (words_of (block_at x a)) (omega arith)) in
-          let one : count_of c (a ∷ []) ≡ cond (eqb a c) 1 0 + 0 = refl in
-          let two : count_of c (a ∷ names_left x t.copy t.given_up) ≡ cond (eqb a c) 1 0 + count_of c (names_left x t.copy t.given_up) = refl in
-          omega arith;
+          let old = first_parts x h.copy slot c h.cursor first in
+          let own = ap (count_of c) itself in
+          let rest = alike c in
+          let p = count_of-append c (a ∷ []) (names_left x t.copy t.cursor) in
+          omega (arith, old, own, rest, p);
     })

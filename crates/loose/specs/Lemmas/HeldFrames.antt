@@ -1,33 +1,33 @@
 -- What stays of the claims in an image that agrees with another at its data blocks.
-use Rattle.std.proofs.Common.{◌≡◌, ◌≢◌, ℕ, ◌+◌, ◌-◌, ◌<◌, ◌≤◌, Bool, ◌||◌, cond, eqb, ltb, List, [], ◌∷◌, ◌++◌, length, get_or, take, drop, Option, Some, None, refl, sym, ap, subst, ◌∙◌, ⊎_elim, arith, true, eqb-true, replicate, IsTrue, append-nil, zero, suc, set, get_or-set_other}
+use Rattle.std.proofs.Common.{◌≡◌, ◌≢◌, ℕ, ◌+◌, ◌-◌, ◌<◌, ◌≤◌, Bool, ◌||◌, eqb, ltb, List, [], ◌++◌, length, Option, Some, None, refl, sym, ap, subst, ◌∙◌, ⊎_elim, arith, true, eqb-true, IsTrue, set, get_or-set_other}
 use Rattle.std.specs.List.{flat_map, range_with_len}
-use Rattle.std.proofs.lemmas.Bool.{ne_eqb, eq-eqb, cases_eq}
-use Rattle.blocks.specs.Disk.{Image, block_at}
+use Rattle.std.proofs.lemmas.Bool.{cases_eq}
+use Rattle.blocks.specs.Disk.{Image}
 use Rattle.model.specs.declared.types.image.Dinode.{Dinode}
 use Rattle.model.specs.declared.types.image.File.{File}
-use Rattle.model.specs.declared.types.image.Form.TheVariants.{One}
 use Rattle.model.specs.declared.types.image.Super.{Super}
 use Rattle.model.specs.Agreement.{AgreesFor, Agrees}
-use Rattle.model.specs.Fields.{u32_at, words_of}
+use Rattle.model.specs.Fields.{u32_at}
 use Rattle.model.specs.Files.{Files, file_in}
-use Rattle.model.specs.Layout.{super_in, super_of, magic_of, is_lawful_super, inode_of, inode_count_of, first_data_block, meta_count, form_of, magic_at, depths, inode_block, inode_in, inode_bytes_in}
+use Rattle.model.specs.Layout.{super_in, super_of, magic_of, is_lawful_super, inode_of, inode_count_of, first_data_block, meta_count, form_of, magic_at, depths, inode_block, inode_in, inode_bytes_in, is_known_magic}
 use Rattle.model.specs.Places.{addresses_in, pointers_in}
 use Rattle.model.specs.Soundness.{IsLawfulGeometry, count_of}
 use Rattle.model.specs.Lemmas.Counts.{count_flat, count_flat_one, count_of-append, count_two}
-use Rattle.model.specs.Lemmas.Frames.{address_agree, bytes_agree, pointers_agree}
+use Rattle.model.specs.Lemmas.Frames.{address_agree, bytes_agree, pointers_agree, form_agree}
 use Rattle.model.specs.Lemmas.OutsideLog.{flat_map_range_same}
-use Rattle.loose.specs.Held.{Claims, FitsHeld, IsFine, names_claimed, entries_left, owned, present, Claim, names_left, frees, grows, listed, IsGrowing, Growth}
-use Rattle.loose.specs.HeldLaws.{FitsThen, HasSameFile, KeepsAddresses, StaysHeld, IsHeldIn, copy_in, KeepsGrown}
+use Rattle.loose.specs.Held.{Claims, FitsHeld, IsFine, names_claimed, owned, Claim, frees, grows, listed, IsGrowing, Growth}
+use Rattle.loose.specs.HeldLaws.{FitsThen, HasSameFile, StaysHeld, IsHeldIn, KeepsGrown}
 use Rattle.loose.specs.Loose.{AreFull, LiesInData, IsLoose}
 use Rattle.loose.specs.Looks.{IsUsed}
 use Rattle.loose.specs.Lemmas.Frames.{list_all-counted, AgreesAtData, rest_alike, fit_alike}
 use Rattle.loose.specs.Lemmas.Looks.{between}
 use Rattle.model.specs.Crash.{labels_of}
-use Rattle.model.specs.Names.{names_under, names_along}
+use Rattle.model.specs.Names.{names_along}
 use Rattle.model.specs.Lemmas.Names.{pointers_named}
 use Rattle.loose.specs.Lemmas.Wholes.{names_used}
+use Rattle.loose.specs.Lemmas.KeptTrees.{left_along_kept}
+use Rattle.loose.specs.Trees.{left_along}
 use Rattle.model.specs.Journal.{is_number}
-use Rattle.model.specs.declared.types.image.Form.{Form}
 
 -- two lists have each number equally often
 abbrev pub AreAlike : List ℕ → List ℕ → Type 0
@@ -64,26 +64,6 @@ claimed_in_data m x claims i b f low high some =
     count_flat (λ j. names_claimed x j (claims j)) b 1 (inode_count_of x - 1) i low (omega arith) in
     f.loose.in_data b (λ none. omega arith)
 
-pub entries_same : (x y : Image) (address given_up : ℕ) → (address ≢ 0 → block_at y address ≡ block_at x address) →
-    entries_left y address given_up ≡ entries_left x address given_up
-entries_same x y address given_up same =
-    ⊎_elim
-    (λ (z : address ≡ 0). rw z refl)
-    (λ (some : address ≢ 0).
-    ap (λ (bytes : List ℕ). cond (eqb address 0) [] (address ∷ present (drop given_up (words_of bytes)))) (same some))
-    (cases_eq address 0)
-
-pub first_entry : (x : Image) (front : List ℕ) (address given_up : ℕ) → address ≢ 0 →
-    1 ≤ count_of address (front ++ entries_left x address given_up)
-first_entry x front address given_up some =
-    let no = ne_eqb address 0 some in
-    let rest = present (drop given_up (words_of (block_at x address))) in
-    let all : entries_left x address given_up ≡ address ∷ rest = rw no refl in
-    let sum = count_of-append address front (entries_left x address given_up) in
-    let one : count_of address (entries_left x address given_up) ≡ 1 + count_of address rest
-    = ap (count_of address) all ∙ rw (eq-eqb address address refl) refl in
-    omega arith
-
 -- images that agree at a test's blocks, the superblock among them
 pub record AgreesAt (test : ℕ → Bool) (x y : Image) : Type 0 where
   pub agree : Agrees test x y
@@ -115,10 +95,8 @@ pub names_same : (test : ℕ → Bool) (x y : Image) (i : ℕ) (c : Option Claim
 names_same test x y i None h same there =
     ap addresses_in (ap (pointers_in y) same ∙ pointers_agree test x y (inode_of x i) (agrees_of test x y (inode_of x i) h there))
 names_same test x y i (Some (frees t)) h same there =
-    let a = get_or t.copy.addrs 12 0 in
-    let front = present (take 12 t.copy.addrs) in
-    ap (λ (l : List ℕ). front ++ l)
-    (entries_same x y a t.given_up (λ some. h.agree a (there a (first_entry x front a t.given_up some))))
+    ap (λ f. left_along y t.cursor (depths f) t.copy.addrs) (form_agree test x y h.agree h.one)
+    ∙ left_along_kept x y t.cursor (depths (form_of x)) t.copy.addrs (λ b some. h.agree b (there b some))
 names_same test x y i (Some (grows g)) h same there =
     ap (λ (l : List ℕ). listed g.taken ++ l)
     (ap addresses_in
@@ -162,44 +140,9 @@ fine_same test x y i (Some (grows g)) file h same there held =
 
 -- ---- what an inode names
 
-pub one_form : (x : Image) → IsLawfulGeometry x → form_of x ≡ One
-one_form x g =
-    let is = eqb-true (magic_at x) (magic_of One) g.magic in
-    rw (is) refl
-
-under_direct : (x : Image) (words : List ℕ) → flat_map (λ a. names_under x 0 a) words ≡ present words
-under_direct x [] = refl
-under_direct x (w ∷ words) =
-    ⊎_elim
-    (λ (z : w ≡ 0). rw z (under_direct x words))
-    (λ (some : w ≢ 0). rw (ne_eqb w 0 some) (ap (λ (l : List ℕ). w ∷ l) (under_direct x words)))
-    (cases_eq w 0)
-
-along_present : (x : Image) (n : ℕ) (addrs : List ℕ) →
-    names_along x (replicate n 0 ++ 1 ∷ []) addrs ≡ present (take n addrs) ++ names_under x 1 (get_or addrs n 0)
-along_present x zero [] = refl
-along_present x zero (a ∷ addrs) = append-nil (names_under x 1 a)
-along_present x (suc n) [] = refl
-along_present x (suc n) (a ∷ addrs) =
-    ⊎_elim
-    (λ (z : a ≡ 0). rw z (along_present x n addrs))
-    (λ (some : a ≢ 0). rw (ne_eqb a 0 some) (ap (λ (l : List ℕ). a ∷ l) (along_present x n addrs)))
-    (cases_eq a 0)
-
-entries_all : (x : Image) (a : ℕ) → names_under x 1 a ≡ entries_left x a 0
-entries_all x a =
-    ⊎_elim
-    (λ (z : a ≡ 0). rw z refl)
-    (λ (some : a ≢ 0). rw (ne_eqb a 0 some) (ap (λ (l : List ℕ). a ∷ l) (under_direct x (words_of (block_at x a)))))
-    (cases_eq a 0)
-
--- a whole inode names what a task with it as its copy has left
-pub whole_names : (x : Image) (d : Dinode) → IsLawfulGeometry x → d.kind ≢ 0 → names_left x d 0 ≡ addresses_in (pointers_in x d)
-whole_names x d g used =
-    sym (pointers_named x d ∙ names_used x d used
-    ∙ ap (λ (f : Form). names_along x (depths f) d.addrs) (one_form x g)
-    ∙ along_present x 12 d.addrs
-    ∙ ap (λ (l : List ℕ). present (take 12 d.addrs) ++ l) (entries_all x (get_or d.addrs 12 0)))
+-- a whole inode names what its addresses lead to
+pub whole_names : (x : Image) (d : Dinode) → d.kind ≢ 0 → addresses_in (pointers_in x d) ≡ names_along x (depths (form_of x)) d.addrs
+whole_names x d used = pointers_named x d ∙ names_used x d used
 
 -- ---- one number changes
 
@@ -228,7 +171,7 @@ module _ (test : ℕ → Bool) (m : Files) (x : Image) (claims : Claims) (i : �
 
   pub geometry_kept : IsLawfulGeometry y
   geometry_kept = record {
-    magic = ap (λ b. eqb (u32_at b 0) (magic_of One)) (h.agree.agree 1 h.agree.one) ∙ h.fits.geometry.magic;
+    magic = ap (λ b. is_known_magic (u32_at b 0)) (h.agree.agree 1 h.agree.one) ∙ h.fits.geometry.magic;
     fields = ap (λ s. is_lawful_super s (length y)) super_kept ∙ ap (is_lawful_super (super_of x)) h.size ∙ h.fits.geometry.fields;
   }
 
@@ -264,40 +207,32 @@ module _ (test : ℕ → Bool) (m : Files) (x : Image) (claims : Claims) (i : �
   pub same_file : (j : ℕ) → j ≢ i → claims j ≡ None → IsUsed x j → HasSameFile x y j
   same_file j ne rest used =
       let at = between x j used.0 in
-      let agrees = agrees_of test x y (inode_of x j) h.agree (claim_passes j None ne used.0 rest) in
+      let passes = claim_passes j None ne used.0 rest in
+      let agrees = agrees_of test x y (inode_of x j) h.agree passes in
       record {
         inode = h.inodes j at.high ne;
+        blocks = λ b some. h.agree.agree b (passes b (omega (arith, some)));
         addresses = λ k. (address_agree test x y (inode_of x j) agrees used.1 k).0;
         bytes = bytes_agree test x y (inode_of x j) agrees used.1;
       }
 
-  -- a block that the copy names for its addresses is among those that it claims
-  kept_addresses : (d : Dinode) (given_up : ℕ) → Passes test (names_left x d given_up) → KeepsAddresses x y d
-  kept_addresses d given_up there some =
-      let a = get_or d.addrs 12 0 in
-      h.agree.agree a (there a (first_entry x (present (take 12 d.addrs)) a given_up some))
-
-  -- where a task's copy leads, and its file
-  held_leads : (j : ℕ) (c : Claim) → j ≢ i → IsTrue (is_number (inode_count_of x) j) → claims j ≡ Some c →
-      KeepsAddresses x y (copy_in c) × KeepsGrown x y c
-  held_leads j (frees t) ne number holds =
-      (kept_addresses t.copy t.given_up (claim_passes j (Some (frees t)) ne number holds), tt)
-  held_leads j (grows g) ne number holds =
+  -- where the copy of a task that writes leads, and its file
+  held_grown : (j : ℕ) (c : Claim) → j ≢ i → IsTrue (is_number (inode_count_of x) j) → claims j ≡ Some c → KeepsGrown x y c
+  held_grown j (frees t) ne number holds = tt
+  held_grown j (grows g) ne number holds =
       let at = between x j number in
       let there = passes_behind test (listed g.taken) (addresses_in (pointers_in x g.copy)) (claim_passes j (Some (grows g)) ne number holds) in
       let fine : IsGrowing x j g (file_in m j) = subst (λ (o : Option Claim). IsFine x j o (file_in m j)) holds (h.fits.each j at.low at.high) in
-      let agrees = agrees_of test x y g.copy h.agree there in (
-        kept_addresses g.copy 0 (subst (Passes test) (sym (whole_names x g.copy h.fits.geometry fine.fit.used)) there),
-        ((λ k. (address_agree test x y g.copy agrees fine.fit.used k).0), bytes_agree test x y g.copy agrees fine.fit.used),
-      )
+      let agrees = agrees_of test x y g.copy h.agree there in
+      ((λ k. (address_agree test x y g.copy agrees fine.fit.used k).0), bytes_agree test x y g.copy agrees fine.fit.used)
 
   pub stays_held : (j : ℕ) (c : Claim) → j ≢ i → IsTrue (is_number (inode_count_of x) j) → claims j ≡ Some c → StaysHeld x y c
   stays_held j c ne number holds =
-      let leads = held_leads j c ne number holds in
+      let passes = claim_passes j (Some c) ne number holds in
       record {
-        names = names_same test x y j (Some c) h.agree (h.inodes j (between x j number).high ne) (claim_passes j (Some c) ne number holds);
-        indirect = leads.0;
-        grown = leads.1;
+        names = names_same test x y j (Some c) h.agree (h.inodes j (between x j number).high ne) passes;
+        blocks = λ b some. h.agree.agree b (passes b (omega (arith, some)));
+        grown = held_grown j c ne number holds;
       }
 
   pub fits_then : AreFull y → IsLoose y (owned y new) → IsFine y i (new i) (file_in n i) → FitsThen n x claims i y new
@@ -356,7 +291,7 @@ owned_once m x claims i b f low high =
 
 -- in the same image each task holds the same
 pub stays_same : (x : Image) (c : Claim) → StaysHeld x x c
-stays_same x c = record { names = refl; indirect = λ some. refl; grown = grown c }
+stays_same x c = record { names = refl; blocks = λ b some. refl; grown = grown c }
   where
     grown : (c : Claim) → KeepsGrown x x c
     grown (frees h) = tt

@@ -24,7 +24,7 @@ nobody i = None
 
 -- who removes number 1
 abbrev remover : Dinode → Claims
-remover d i = cond (eqb i 1) (Some (frees (record { copy = d; given_up = 0; last_kind = 0 }))) None
+remover d i = cond (eqb i 1) (Some (frees (record { copy = d; cursor = []; last_kind = 0 }))) None
 
 -- who writes into it
 abbrev writer : Dinode → Claims
@@ -65,8 +65,8 @@ module _ (m : Files) (x : Image) (f : Fits m x) (none : file_at x 1 ≡ None) (s
 
   pub removed : FitsHeld (set (with_new_file m 1 2) 1 None) y (remover (inode_of y 1))
   removed =
-      (turn_holds (with_new_file m 1 2) y nobody (remover (inode_of y 1)) 1 0 made
-      (lt-ltb 1 (inode_count_of y) numbers, λ z. omega (arith, ap (λ (d : Dinode). d.kind) own, z)) refl (inl refl)
+      (turn_holds (with_new_file m 1 2) y nobody (remover (inode_of y 1)) 1 0 [] made
+      (lt-ltb 1 (inode_count_of y) numbers, λ z. omega (arith, ap (λ (d : Dinode). d.kind) own, z)) refl (inl refl) (λ c. refl)
       (record { own = refl; others = λ j ne. rw (ne_eqb j 1 ne) refl })).fits
 
   -- and one who writes into it from its start on

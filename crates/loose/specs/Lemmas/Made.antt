@@ -9,11 +9,11 @@ use Rattle.loose.specs.Loose.{Fits}
 use Rattle.loose.specs.Lemmas.Soundly.{fits_sound}
 
 pub fits_made : MadeFits
-fits_made size inode_count counts fits =
-    let x = made_image One size inode_count in
-    subst (λ (m : Files). Fits m x) (files-made_image size inode_count counts fits)
-    (fits_sound x (is_image-made_image size inode_count) (sound-made_image size inode_count counts fits))
+fits_made form size inode_count counts fits =
+    let x = made_image form size inode_count in
+    subst (λ (m : Files). Fits m x) (files-made_image form size inode_count counts fits)
+    (fits_sound x (is_image-made_image form size inode_count) (sound-made_image form size inode_count counts fits))
 
 -- so there are images that stand for files: one of 400 blocks with 32 numbers
 pub witness : Fits (replicate 32 None) (made_image One 400 32)
-witness = fits_made 400 32 refl refl
+witness = fits_made One 400 32 refl refl

@@ -1,33 +1,35 @@
--- A task's copy of its inode names the block that the task took.
-use Rattle.std.proofs.Common.{◌≡◌, ◌≢◌, ℕ, zero, suc, ◌+◌, ◌*◌, ◌<◌, ◌≤◌, List, [], ◌∷◌, ◌++◌, length, get_or, set, take, replicate, Option, Some, None, refl, sym, ap, subst, ◌∙◌, ⊎_elim, arith, get_or-set_same, set-set, length-set, get_or-set_other, cond, eqb, ◌-◌}
-use Rattle.model.specs.Files.{Files, file_in}
-use Rattle.blocks.specs.Disk.{Image, block_at}
-use Rattle.model.specs.Soundness.{count_of, IsLawfulGeometry}
-use Rattle.loose.specs.GrowthLaws.{DirectPlaced, IndirectPlaced}
-use Rattle.model.specs.Fields.{words_of}
-use Rattle.loose.specs.Held.{present, Claims, Growth, FitsHeld, grows, IsClaimedNow, entries_left, placing, Claim, names_claimed, listed, IsFine}
+-- A task's copy of its inode, or a block of addresses, names the block that the task took.
+use Rattle.std.proofs.Common.{◌≡◌, ◌≢◌, ℕ, suc, ◌*◌, ◌<◌, ◌≤◌, List, [], ◌∷◌, ◌++◌, length, get_or, set, Option, Some, None, refl, sym, ap, subst, ◌∙◌, arith, cond, eqb, length-set, length-append, get_or-set_other}
 use Rattle.blocks.specs.Block.{zero_block}
-use Rattle.loose.specs.Lemmas.GivenUp.{present_set, present_one, names_parts, set_below, entries_there}
-use Rattle.loose.specs.Lemmas.HeldFrames.{growing_of, one_form, claimed_in_data, whole_names}
+use Rattle.blocks.specs.Disk.{Image, block_at}
 use Rattle.model.specs.declared.types.image.Dinode.{Dinode}
+use Rattle.model.specs.declared.types.image.Form.{Form}
+use Rattle.model.specs.Codec.{with_entry}
+use Rattle.model.specs.Files.{Files, data_at, file_in}
+use Rattle.model.specs.Layout.{depths, form_of, greatest_size}
+use Rattle.model.specs.Names.{names_along}
+use Rattle.model.specs.Places.{address_along, address_in, addresses_in, pointers_in}
+use Rattle.model.specs.Soundness.{count_of, IsLawfulGeometry}
+use Rattle.model.specs.Lemmas.Codecs.{length-overwritten}
+use Rattle.model.specs.Lemmas.Counts.{AllByRecursion-append}
+use Rattle.model.specs.Lemmas.Frames.{form_agree}
+use Rattle.loose.specs.GrowthLaws.{AddressPlaced, EntryPlaced, LeadsToNone}
+use Rattle.loose.specs.Held.{Claims, Growth, grows, IsClaimedNow, IsGrowing, placing, placed_behind, Claim, names_claimed, listed, IsFine}
+use Rattle.loose.specs.HeldLaws.{FitsThen, IsHeldIn, IsMarkedData}
 use Rattle.loose.specs.Loose.{AreFull, LiesInData}
-use Rattle.loose.specs.HeldLaws.{IsHeldIn}
-use Rattle.model.specs.Places.{addresses_in, pointers_in, address_in}
-use Rattle.loose.specs.Lemmas.Remapped.{mapped}
-use Rattle.loose.specs.Lemmas.Looks.{between}
-use Rattle.std.proofs.lemmas.List.{set-get_or, take-set-le}
-use Rattle.loose.specs.Lemmas.SameBytes.{needed_low, growing_at}
-use Rattle.loose.specs.Lemmas.Turns.{changes_claim}
-use Rattle.loose.specs.Lemmas.Addresses.{address_direct, address_behind}
+use Rattle.loose.specs.Trees.{place_of}
+use Rattle.loose.specs.Lemmas.Apart.{copy_marked, copy_once, data_apart, named_mine, taken_apart, way_inside, way_named}
 use Rattle.loose.specs.Lemmas.BlocksTaken.{taken_owned}
-use Rattle.std.proofs.lemmas.Bool.{cases_lt}
-
--- ---- the blocks that a number owns
-
--- what a copy names, where it is a task's
-pub named_parts : (m : Files) (x : Image) (claims : Claims) (d : Dinode) (c : ℕ) → FitsHeld m x claims → d.kind ≢ 0 →
-    count_of c (addresses_in (pointers_in x d)) ≡ count_of c (present (take 12 d.addrs)) + count_of c (entries_left x (get_or d.addrs 12 0) 0)
-named_parts m x claims d c f used = ap (count_of c) (sym (whole_names x d f.geometry used)) ∙ names_parts x d 0 c
+use Rattle.loose.specs.Lemmas.GivenUp.{set_below}
+use Rattle.loose.specs.Lemmas.Growing.{WritesOwn, but_own, own_agrees, own_inode, writes_own}
+use Rattle.loose.specs.Lemmas.HeldFrames.{growing_of, claimed_in_data, labels_same, whole_names}
+use Rattle.loose.specs.Lemmas.Looks.{IsBetween, between}
+use Rattle.loose.specs.Lemmas.PlacedInTrees.{IsPlaced, entries_kept, entry_now, over, over_is, placed_along, set_along, under_fresh}
+use Rattle.loose.specs.Lemmas.Remapped.{mapped}
+use Rattle.loose.specs.Lemmas.SameBytes.{bytes_alike, growing_at}
+use Rattle.loose.specs.Lemmas.Turns.{changes_claim}
+use Rattle.loose.specs.Lemmas.Ways.{KeepsEntries, address_kept, address_set, along_at, led_further, led_kept}
+use Rattle.loose.specs.Lemmas.Wholes.{thirteen_depths}
 
 -- a block that was taken lies among the data
 pub taken_lies : (m : Files) (x : Image) (claims : Claims) (i b : ℕ) (g : Growth) → IsHeldIn m x claims i (grows g) → g.taken ≡ Some b →
@@ -51,149 +53,198 @@ lies_small x b g full there =
     let room = map.room in
     record { behind = omega (arith, from, behind, before); small = omega (arith, inside, room) }
 
--- the addresses of a copy with the block at place e
-record Places (m : Files) (x : Image) (claims new : Claims) (i e b : ℕ) (g : Growth) : Type 0 where
-  held : IsHeldIn m x claims i (grows g)
-  is : g.taken ≡ Some b
-  low : e < 13
-  none : get_or g.copy.addrs e 0 ≡ 0
-  now : IsClaimedNow claims i (Some (grows (placing g e b))) new
-  -- the blocks that the size needs are the same
-  leads : (k : ℕ) → k * 1024 < g.copy.size → address_in x (placing g e b).copy k ≡ address_in x g.copy k
-  -- and the block is named besides
-  names : (c : ℕ) → count_of c (addresses_in (pointers_in x (placing g e b).copy)) ≡ count_of c (b ∷ addresses_in (pointers_in x g.copy))
+pub some_taken : (m : Files) (x : Image) (claims : Claims) (i b : ℕ) (g : Growth) → IsHeldIn m x claims i (grows g) → g.taken ≡ Some b → b ≢ 0
+some_taken m x claims i b g h is z =
+    let small = lies_small x b h.fits.geometry h.fits.full (taken_lies m x claims i b g h is) in
+    let behind = small.behind in omega (arith, behind, z)
 
-places : (m : Files) (x : Image) (claims new : Claims) (i e b : ℕ) (g : Growth) → Places m x claims new i e b g → FitsHeld m x new
-places m x claims new i e b g p =
-    let at = between x i p.held.number in
-    let growing = growing_of m x claims i g p.held in
-    let small = (lies_small x b p.held.fits.geometry p.held.fits.full (taken_lies m x claims i b g p.held p.is)).small in
+-- ---- by one of the copy's own addresses
+
+address_with : (x : Image) (d : Dinode) (slot b k : ℕ) → get_or d.addrs slot 0 ≡ 0 → address_in x d k ≢ 0 →
+    address_in x (record d { addrs = set d.addrs slot b }) k ≡ address_in x d k
+unfolding address_in
+address_with x d slot b k none some = address_set x k (depths (form_of x)) d.addrs slot b none some
+
+pub address_placed : AddressPlaced
+address_placed m x claims new i slot b g held is inside none zeroes now =
+    let at = between x i held.number in
+    let growing = growing_of m x claims i g held in
+    let small = (lies_small x b held.fits.geometry held.fits.full (taken_lies m x claims i b g held is)).small in
+    let addrs = g.copy.addrs in
+    let ds = depths (form_of x) in
+    let all = thirteen_depths (form_of x) in
+    let count = growing.fit.fields.count in
+    let fresh = under_fresh x (get_or ds slot 0) b (some_taken m x claims i b g held is) zeroes in
     (changes_claim m x claims i m new (record {
-      fits = p.held.fits;
+      fits = held.fits;
       low = at.low;
       high = at.high;
-      claims_same = p.now.others;
+      claims_same = now.others;
       count = refl;
       files = λ j ne. refl;
       alike = λ c.
-          ap (λ (o : Option Claim). count_of c (names_claimed x i o)) p.now.own ∙ p.names c
-          ∙ sym (ap (λ (o : Option Claim). count_of c (names_claimed x i o)) p.held.holds
-          ∙ ap (λ t. count_of c (listed t ++ addresses_in (pointers_in x g.copy))) p.is);
-      fine = subst (λ (o : Option Claim). IsFine x i o (file_in m i)) (sym p.now.own)
-          (growing_at x i g (set g.copy.addrs e b) None (file_in m i) growing (length-set g.copy.addrs e b ∙ growing.fit.fields.count)
-          (set_below g.copy.addrs e b (omega (arith, small)) growing.fit.fields.addrs) p.leads);
+          ap (λ (o : Option Claim). count_of c (names_claimed x i o)) now.own
+          ∙ ap (count_of c) (whole_names x (placing g slot b).copy growing.fit.used)
+          ∙ set_along x ds addrs slot b c (omega (arith, inside, all, count)) inside none fresh
+          ∙ ap (λ (l : List ℕ). count_of c (b ∷ l)) (sym (whole_names x g.copy growing.fit.used))
+          ∙ sym (ap (λ (o : Option Claim). count_of c (names_claimed x i o)) held.holds
+          ∙ ap (λ t. count_of c (listed t ++ addresses_in (pointers_in x g.copy))) is);
+      fine = subst (λ (o : Option Claim). IsFine x i o (file_in m i)) (sym now.own)
+          (growing_at x i g (set addrs slot b) None (file_in m i) growing (length-set addrs slot b ∙ count)
+          (set_below addrs slot b (omega (arith, small)) growing.fit.fields.addrs)
+          (λ k need. address_with x g.copy slot b k none (growing.fit.whole k need)));
     })).fits
 
--- ---- by one of its own addresses
+-- ---- by an entry of a block of addresses
 
--- one address more among the first
-pub one_more : (addrs : List ℕ) (n k b c : ℕ) → k < n → k < length addrs → b ≢ 0 → get_or addrs k 0 ≡ 0 →
-    count_of c (present (take n (set addrs k b))) ≡ count_of c (b ∷ present (take n addrs))
-one_more addrs n k b c low inside some none =
-    let more = present_set (set addrs k b) n k c low in
-    let here : get_or (set addrs k b) k 0 ≡ b = get_or-set_same addrs k b 0 inside in
-    let back : set (set addrs k b) k 0 ≡ addrs
-    = set-set addrs k b 0 ∙ ap (set addrs k) (sym none) ∙ set-get_or addrs k 0 in
-    let first = ap (λ a. count_of c (present (a ∷ []))) here in
-    let rest = ap (λ (l : List ℕ). count_of c (present (take n l))) back in
-    let one = present_one b c (present (take n addrs)) some in
-    omega (arith, more, first, rest, one)
+record PlacesBehind (m : Files) (x : Image) (claims new : Claims) (i slot a e b depth : ℕ) (way : List ℕ) (g : Growth) : Type 0 where
+  held : IsHeldIn m x claims i (grows g)
+  is : g.taken ≡ Some b
+  leads : LeadsToNone x g.copy slot way a e depth
+  zeroes : depth ≢ 0 → block_at x b ≡ zero_block
+  now : IsClaimedNow claims i (Some (grows (placed_behind g))) new
 
-pub direct_placed : DirectPlaced
-direct_placed m x claims new i k b g held is low none now =
-    let growing = growing_of m x claims i g held in
-    let fit = growing.fit in
-    let count = fit.fields.count in
-    let one = one_form x held.fits.geometry in
-    let addrs = g.copy.addrs in
-    let d : Dinode = record g.copy { addrs = set addrs k b } in
-    let long : length (set addrs k b) ≡ 13 = length-set addrs k b ∙ count in
-    let small = lies_small x b held.fits.geometry held.fits.full (taken_lies m x claims i b g held is) in
-    let some : b ≢ 0 = λ z. omega (arith, small.behind, z) in
-    places m x claims new i k b g (record {
-      held = held;
-      is = is;
-      low = omega (arith, low);
-      none = none;
-      now = now;
-      leads = λ j need.
-          let few = needed_low x g.copy held.fits.geometry fit j need in
-          ⊎_elim
-          (λ (front : j < 12).
-          let apart : j ≢ k = λ e. fit.whole j need (address_direct x g.copy j one count front ∙ ap (λ n. get_or addrs n 0) e ∙ none) in
-          address_direct x d j one long front ∙ get_or-set_other addrs k j b 0 apart ∙ sym (address_direct x g.copy j one count front))
-          (λ (past : 12 ≤ j).
-          let last : get_or (set addrs k b) 12 0 ≡ get_or addrs 12 0 = get_or-set_other addrs k 12 b 0 (λ e. omega (arith, e, low)) in
-          address_behind x d j one long past few
-          ∙ ap (λ a. cond (eqb a 0) 0 (get_or (words_of (block_at x a)) (j - 12) 0)) last
-          ∙ sym (address_behind x g.copy j one count past few))
-          (cases_lt j 12);
-      names = λ c.
-          let new_parts = named_parts m x claims d c held.fits fit.used in
-          let old_parts = named_parts m x claims g.copy c held.fits fit.used in
-          let more = one_more addrs 12 k b c low (omega (arith, low, count)) some none in
-          let last = ap (λ a. count_of c (entries_left x a 0)) (get_or-set_other addrs k 12 b 0 (λ e. omega (arith, e, low))) in
-          let here : count_of c (b ∷ present (take 12 addrs)) ≡ cond (eqb b c) 1 0 + count_of c (present (take 12 addrs)) = refl in
-          let there : count_of c (b ∷ addresses_in (pointers_in x g.copy)) ≡ cond (eqb b c) 1 0 + count_of c (addresses_in (pointers_in x g.copy)) = refl in
-          omega (arith, new_parts, old_parts, more, last, here, there);
-    })
+module _ (m : Files) (x : Image) (claims new : Claims) (i slot a e b depth : ℕ) (way : List ℕ) (g : Growth)
+    (h : PlacesBehind m x claims new i slot a e b depth way g) where
+  abbrev d : Dinode
+  d = g.copy
 
--- ---- as its block of addresses
+  abbrev ds : List ℕ
+  ds = depths (form_of x)
 
-zero_words : (n : ℕ) → words_of (replicate (4 * n) 0) ≡ replicate n 0
-zero_words zero = refl
-zero_words (suc n) =
-    let four : 4 * suc n ≡ suc (suc (suc (suc (4 * n)))) = omega arith in
-    ap (λ k. words_of (replicate {A = ℕ} k 0)) four ∙ ap (λ (l : List ℕ). 0 ∷ l) (zero_words n)
+  abbrev bytes : List ℕ
+  bytes = with_entry (block_at x a) e b
 
-no_present : (n : ℕ) → present (replicate n 0) ≡ []
-no_present zero = refl
-no_present (suc n) = no_present n
+  abbrev y : Image
+  y = set x a bytes
 
-words_of_zeroes : words_of zero_block ≡ replicate 256 0
-unfolding zero_block
-words_of_zeroes = zero_words 256
+  growing : IsGrowing x i g (file_in m i)
+  growing = growing_of m x claims i g h.held
 
-pub indirect_placed : IndirectPlaced
-indirect_placed m x claims new i b g held is none zeroes now =
-    let growing = growing_of m x claims i g held in
-    let fit = growing.fit in
-    let count = fit.fields.count in
-    let one = one_form x held.fits.geometry in
-    let addrs = g.copy.addrs in
-    let d : Dinode = record g.copy { addrs = set addrs 12 b } in
-    let long : length (set addrs 12 b) ≡ 13 = length-set addrs 12 b ∙ count in
-    let small = lies_small x b held.fits.geometry held.fits.full (taken_lies m x claims i b g held is) in
-    let some : b ≢ 0 = λ z. omega (arith, small.behind, z) in
-    let last : get_or (set addrs 12 b) 12 0 ≡ b = get_or-set_same addrs 12 b 0 (omega (arith, count)) in
-    let words : words_of (block_at x b) ≡ replicate 256 0 = ap words_of zeroes ∙ words_of_zeroes in
-    places m x claims new i 12 b g (record {
-      held = held;
-      is = is;
-      low = omega arith;
-      none = none;
-      now = now;
-      leads = λ j need.
-          let few = needed_low x g.copy held.fits.geometry fit j need in
-          ⊎_elim
-          (λ (front : j < 12).
-          address_direct x d j one long front ∙ get_or-set_other addrs 12 j b 0 (λ e. omega (arith, e, front))
-          ∙ sym (address_direct x g.copy j one count front))
-          (λ (past : 12 ≤ j).
-          absurd (fit.whole j need
-          (address_behind x g.copy j one count past few
-          ∙ ap (λ a. cond (eqb a 0) 0 (get_or (words_of (block_at x a)) (j - 12) 0)) none)))
-          (cases_lt j 12);
-      names = λ c.
-          let new_parts = named_parts m x claims d c held.fits fit.used in
-          let old_parts = named_parts m x claims g.copy c held.fits fit.used in
-          let front : count_of c (present (take 12 (set addrs 12 b))) ≡ count_of c (present (take 12 addrs))
-          = ap (λ (l : List ℕ). count_of c (present l)) (take-set-le 12 addrs 12 b (omega arith)) in
-          let entries : count_of c (entries_left x (get_or (set addrs 12 b) 12 0) 0) ≡ count_of c (b ∷ [])
-          = ap (λ a. count_of c (entries_left x a 0)) last ∙ ap (count_of c) (entries_there x b 0 some)
-          ∙ ap (λ (l : List ℕ). count_of c (b ∷ present l)) words ∙ ap (λ (l : List ℕ). count_of c (b ∷ l)) (no_present 256) in
-          let nothing : count_of c (entries_left x (get_or addrs 12 0) 0) ≡ 0 = ap (λ a. count_of c (entries_left x a 0)) none in
-          let here : count_of c (b ∷ []) ≡ cond (eqb b c) 1 0 + 0 = refl in
-          let there : count_of c (b ∷ addresses_in (pointers_in x g.copy)) ≡ cond (eqb b c) 1 0 + count_of c (addresses_in (pointers_in x g.copy)) = refl in
-          omega (arith, new_parts, old_parts, front, entries, nothing, here, there);
-    })
+  number : IsBetween x i
+  number = between x i h.held.number
+
+  named : 1 ≤ count_of a (addresses_in (pointers_in x d))
+  named =
+      let below = h.leads.below in
+      way_named m x claims i g h.held slot way a (omega (arith, below)) h.leads.led h.leads.there
+
+  marked_data : IsMarkedData x a
+  marked_data = copy_marked m x claims i g h.held a named
+
+  full : length (block_at x a) ≡ 1024
+  full =
+      let behind = (lies_small x a h.held.fits.geometry h.held.fits.full marked_data.0).behind in
+      h.held.fits.full a (omega (arith, behind)) marked_data.0.1
+
+  is_placed : IsPlaced x a e b depth
+  is_placed =
+      let small = (lies_small x b h.held.fits.geometry h.held.fits.full (taken_lies m x claims i b g h.held h.is)).small in
+      record {
+        full = full;
+        inside = marked_data.0.1;
+        there = h.leads.there;
+        low = h.leads.entry;
+        none = h.leads.none;
+        small = omega (arith, small);
+        fresh = under_fresh y depth b (some_taken m x claims i b g h.held h.is)
+            (λ deep. get_or-set_other x a b bytes [] (λ same. taken_apart m x claims i g h.held b a h.is named (sym same)) ∙ h.zeroes deep);
+      }
+
+  writes : WritesOwn m x claims new i a bytes
+  writes =
+      let mine = named_mine m x claims i g h.held a in
+      let has = named in
+      record {
+        fits = h.held.fits;
+        low = number.low;
+        high = number.high;
+        claims_same = h.now.others;
+        mine = omega (arith, mine, has);
+        whole = length-overwritten (block_at x a) (4 * e) _ (let low = h.leads.entry in let size = full in omega (arith, low, size)) ∙ full;
+      }
+
+  same_form : form_of y ≡ form_of x
+  same_form =
+      let agrees = own_agrees m x claims new i a bytes writes in
+      form_agree (but_own m x claims new i a bytes writes) x y agrees.agree agrees.one
+
+  slot_inside : slot < length ds
+  slot_inside = way_inside m x claims i g h.held slot way a h.leads.led h.leads.there
+
+  keeps : KeepsEntries x y
+  keeps n f = entries_kept x a e b depth is_placed n f
+
+  -- the blocks that the size needs are the same
+  leads_same : (k : ℕ) → k * 1024 < d.size → address_in y d k ≡ address_in x d k
+  unfolding address_in
+  leads_same k need =
+      ap (λ (f : Form). address_along y k (depths f) d.addrs) same_form
+      ∙ address_kept x y keeps k ds d.addrs (growing.fit.whole k need)
+
+  blocks_same : (k : ℕ) → k * 1024 < d.size → data_at y (address_in y d k) ≡ data_at x (address_in x d k)
+  blocks_same k need =
+      let below = h.leads.below in
+      let apart = data_apart m x claims i g h.held slot way a k (omega (arith, below)) h.leads.led h.leads.there in
+      ap (data_at y) (leads_same k need)
+      ∙ ap (λ (l : List ℕ). cond (eqb (address_in x d k) 0) [] l)
+      (get_or-set_other x a (address_in x d k) bytes [] apart)
+
+  fine : IsGrowing y i (placed_behind g) (file_in m i)
+  fine =
+      let still = own_inode m x claims new i a bytes writes i number.high in
+      record {
+        fit = record {
+          fields = growing.fit.fields;
+          used = growing.fit.used;
+          kind = growing.fit.kind;
+          size = subst (λ (f : Form). d.size ≤ greatest_size f) (sym same_form) growing.fit.size;
+          whole = λ k need z. growing.fit.whole k need (sym (leads_same k need) ∙ z);
+        };
+        same_kind = ap (λ (o : Dinode). o.kind) still ∙ growing.same_kind;
+        labels = labels_same x y i (d.major, d.minor, d.nlink) still growing.labels;
+        old = growing.old;
+        was = growing.was;
+        kind = growing.kind;
+        reaches = growing.reaches;
+        bytes = bytes_alike x y d d refl blocks_same ∙ growing.bytes;
+      }
+
+  deep : get_or ds slot 0 ≡ over way (suc depth)
+  deep = let is = over_is way (suc depth) in let below = h.leads.below in omega (arith, is, below)
+
+  once : count_of a (names_along x ds d.addrs) ≤ 1
+  once = subst (λ (l : List ℕ). count_of a l ≤ 1) (whole_names x d growing.fit.used) (copy_once m x claims i g h.held a)
+
+  alike : (c : ℕ) → count_of c (names_claimed y i (new i)) ≡ count_of c (names_claimed x i (claims i))
+  alike c =
+      ap (λ (o : Option Claim). count_of c (names_claimed y i o)) h.now.own
+      ∙ ap (count_of c) (whole_names y d growing.fit.used ∙ ap (λ (f : Form). names_along y (depths f) d.addrs) same_form)
+      ∙ placed_along x a e b depth is_placed way ds d.addrs slot c slot_inside deep h.leads.led once
+      ∙ ap (λ (l : List ℕ). count_of c (b ∷ l)) (sym (whole_names x d growing.fit.used))
+      ∙ sym (ap (λ (o : Option Claim). count_of c (names_claimed x i o)) h.held.holds
+      ∙ ap (λ t. count_of c (listed t ++ addresses_in (pointers_in x d))) h.is)
+
+  placed_entry : FitsThen m x claims i y new
+  placed_entry =
+      writes_own m x claims new i a bytes writes alike
+      (subst (λ (o : Option Claim). IsFine y i o (file_in m i)) (sym h.now.own) fine)
+
+  at_entry : depth ≡ 0 → address_in y d (place_of x slot (way ++ e ∷ [])) ≡ b
+  unfolding address_in
+  at_entry leaf =
+      let inside = slot_inside in
+      let all = thirteen_depths (form_of x) in
+      let count = growing.fit.fields.count in
+      let sum = length-append way (e ∷ []) in
+      let below = h.leads.below in
+      ap (λ (f : Form). address_along y (place_of x slot (way ++ e ∷ [])) (depths f) d.addrs) same_form
+      ∙ along_at y ds d.addrs slot (way ++ e ∷ []) inside (omega (arith, inside, all, count)) (omega (arith, sum, below, leaf))
+      (AllByRecursion-append (λ f. f < 256) way (e ∷ []) h.leads.entries (h.leads.entry, tt))
+      ∙ led_further y way (get_or d.addrs slot 0) e a (led_kept x y keeps way (get_or d.addrs slot 0) a h.leads.led h.leads.there) h.leads.there
+      ∙ entry_now x a e b depth is_placed
+
+pub entry_placed : EntryPlaced
+entry_placed m x claims new i slot a e b depth way g held is leads zeroes now =
+    let h : PlacesBehind m x claims new i slot a e b depth way g = record { held = held; is = is; leads = leads; zeroes = zeroes; now = now } in
+    (placed_entry m x claims new i slot a e b depth way g h, at_entry m x claims new i slot a e b depth way g h)

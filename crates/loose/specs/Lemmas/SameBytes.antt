@@ -1,18 +1,13 @@
 -- Inodes that have the same bytes.
-use Rattle.std.proofs.Common.{◌≡◌, ℕ, ◌*◌, ◌<◌, ◌≤◌, List, length, take, refl, sym, ap, ap₂, ◌∙◌, arith, Option, flat_map, subst, slice_index, ◌^◌}
+use Rattle.std.proofs.Common.{◌≡◌, ℕ, ◌*◌, ◌<◌, List, length, take, refl, sym, ap, ap₂, ◌∙◌, arith, Option, flat_map, slice_index, ◌^◌}
 use Rattle.model.specs.Files.{bytes_in, joined, data_at, blocks_for}
 use Rattle.blocks.specs.Disk.{Image}
 use Rattle.model.specs.declared.types.image.Dinode.{Dinode}
 use Rattle.loose.specs.Held.{Growth, IsGrowing}
-use Rattle.model.specs.Soundness.{IsLawfulGeometry}
 use Rattle.model.specs.Places.{address_in}
-use Rattle.loose.specs.Loose.{IsFit}
 use Rattle.model.specs.declared.types.image.File.{File}
 use Rattle.std.specs.List.{range_with_len}
-use Rattle.model.specs.declared.types.image.Form.{Form}
-use Rattle.model.specs.Layout.{greatest_size}
 use Rattle.model.specs.Lemmas.OutsideLog.{flat_map_range_same}
-use Rattle.loose.specs.Lemmas.HeldFrames.{one_form}
 
 -- in each block that its size needs an inode has what another of that size has, be it in another image
 pub bytes_alike : (x y : Image) (d e : Dinode) → e.size ≡ d.size →
@@ -23,12 +18,6 @@ bytes_alike x y d e size each =
     (ap (λ n. flat_map (λ k. data_at y (address_in y e k)) (range_with_len 0 (blocks_for n))) size
     ∙ flat_map_range_same (λ k. data_at x (address_in x d k)) (λ k. data_at y (address_in y e k)) 0 (blocks_for d.size)
     (λ k low high. each k (omega (arith, high))))
-
--- a size that there is needs the first 268 blocks at most
-pub needed_low : (x : Image) (d : Dinode) → IsLawfulGeometry x → IsFit x d → (k : ℕ) → k * 1024 < d.size → k < 268
-needed_low x d g fit k need =
-    let size : d.size ≤ 274432 = subst (λ (f : Form). d.size ≤ greatest_size f) (one_form x g) fit.size in
-    omega (arith, size, need)
 
 -- a task's copy with other addresses that lead to the same blocks, as far as its size needs them
 pub growing_at : (x : Image) (i : ℕ) (g : Growth) (ws : List ℕ) (t : Option ℕ) (file : Option File) → IsGrowing x i g file → length ws ≡ 13 →

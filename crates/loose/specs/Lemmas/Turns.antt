@@ -1,19 +1,19 @@
 -- What becomes of the claims where the image stays: a turn, and an entry that is passed over.
-use Rattle.std.proofs.Common.{◌≡◌, ◌≢◌, ℕ, suc, ◌+◌, ◌<◌, ◌≤◌, true, [], ◌∷◌, length, get_or, set, Option, Some, None, refl, sym, ap, subst, ◌∙◌, ⊎_elim, arith}
-use Rattle.std.proofs.lemmas.Bool.{ne_eqb, cases_eq}
+use Rattle.std.proofs.Common.{◌≡◌, ◌≢◌, ℕ, ◌<◌, ◌≤◌, true, length, set, Option, Some, None, refl, sym, ap, subst, ◌∙◌, arith}
+use Rattle.std.proofs.lemmas.Bool.{ne_eqb}
 use Rattle.std.proofs.lemmas.List.{length-set, get_or-set_same, get_or-set_other}
-use Rattle.blocks.specs.Disk.{Image, block_at}
-use Rattle.model.specs.Fields.{words_of}
+use Rattle.blocks.specs.Disk.{Image}
 use Rattle.model.specs.Files.{Files, file_in, file_at, file_of, bytes_in}
-use Rattle.model.specs.Layout.{inode_of, inode_count_of}
+use Rattle.model.specs.Layout.{inode_of, inode_count_of, depths, form_of}
 use Rattle.model.specs.Operations.{after}
 use Rattle.model.specs.Soundness.{count_of}
-use Rattle.loose.specs.Held.{Held, Claims, FitsHeld, IsFine, names_claimed, names_left, entries_left, owned, present, file_left, Claim}
-use Rattle.loose.specs.HeldLaws.{FitsThen, EntryPassed, TurnHolds, TurnAnswers, entry_at}
+use Rattle.loose.specs.Held.{Claims, FitsHeld, IsFine, names_claimed, owned, file_left, Claim}
+use Rattle.loose.specs.HeldLaws.{FitsThen, EntryPassed, TurnHolds, TurnAnswers}
 use Rattle.loose.specs.Loose.{IsAtRest}
 use Rattle.loose.specs.Looks.{IsUsed}
 use Rattle.loose.specs.Lemmas.Frames.{AgreesAtData}
-use Rattle.loose.specs.Lemmas.GivenUp.{held_of, held_further, names_parts, entry_less}
+use Rattle.loose.specs.Lemmas.GivenUp.{held_of, held_further}
+use Rattle.loose.specs.Lemmas.LeftInTrees.{whole_along}
 use Rattle.loose.specs.Lemmas.HeldFrames.{ChangesOne, loose_alike, owned_kept, fits_then, at_data, whole_names}
 use Rattle.loose.specs.Lemmas.Looks.{between}
 
@@ -58,32 +58,11 @@ module _ (m : Files) (x : Image) (claims : Claims) (i : ℕ) (n : Files) (new : 
       fits_then (λ _. true) m x claims i n x new change h.fits.full
       (loose_alike x (owned x claims) (owned x new) same_owned h.fits.loose) h.fine
 
--- ---- an entry that is not there
-
-passed_alike : (x : Image) (h : Held) (c : ℕ) → entry_at x h h.given_up ≡ 0 →
-    count_of c (names_left x h.copy (h.given_up + 1)) ≡ count_of c (names_left x h.copy h.given_up)
-passed_alike x h c none =
-    let a = get_or h.copy.addrs 12 0 in
-    let e = h.given_up in
-    let next : e + 1 ≡ suc e = omega arith in
-    let same = ap (λ q. count_of c (names_left x h.copy q)) next in
-    let old = names_parts x h.copy e c in
-    let rest = names_parts x h.copy (suc e) c in
-    ⊎_elim
-    (λ (z : a ≡ 0).
-    let empty : entries_left x a (suc e) ≡ entries_left x a e = rw z refl in
-    let both = ap (count_of c) empty in omega arith)
-    (λ (some : a ≢ 0).
-    let less = entry_less x a e c some in
-    let nothing : count_of c (present (get_or (words_of (block_at x a)) e 0 ∷ [])) ≡ 0 = ap (λ w. count_of c (present (w ∷ []))) none in
-    omega arith)
-    (cases_eq a 0)
+-- ---- entries under which nothing is left
 
 pub entry_passed : EntryPassed
-entry_passed m x claims new i h g none now =
+entry_passed m x claims new i cursor h g alike now =
     let at = between x i g.number in
-    let e = h.given_up + 1 in
-    let t : Held = record h { given_up = e } in
     (changes_claim m x claims i m new (record {
       fits = g.fits;
       low = at.low;
@@ -92,10 +71,10 @@ entry_passed m x claims new i h g none now =
       count = refl;
       files = λ j ne. refl;
       alike = λ c.
-          ap (λ (o : Option Claim). count_of c (names_claimed x i o)) now.own ∙ passed_alike x h c none
+          ap (λ (o : Option Claim). count_of c (names_claimed x i o)) now.own ∙ alike c
           ∙ sym (ap (λ (o : Option Claim). count_of c (names_claimed x i o)) g.holds);
       fine = subst (λ (o : Option Claim). IsFine x i o (file_in m i)) (sym now.own)
-          (held_further x i e h (file_in m i) (held_of m x claims i h g));
+          (held_further x i cursor h (file_in m i) (held_of m x claims i h g));
     })).fits
 
 -- ---- a turn
@@ -106,10 +85,9 @@ at_rest_of m x claims i f used none =
     subst (λ (o : Option Claim). IsFine x i o (file_in m i)) none (f.each i at.low at.high)
 
 pub turn_holds : TurnHolds
-turn_holds m x claims new i last f used none last_is now =
+turn_holds m x claims new i last cursor f used none last_is alike now =
     let at = between x i used.0 in
     let d = inode_of x i in
-    let t : Held = record { copy = d; given_up = 0; last_kind = last } in
     let high = at.high in
     let fit = (at_rest_of m x claims i f used none).fit used.1 in
     let inside : i < length m = omega (arith, high, f.count) in
@@ -121,7 +99,8 @@ turn_holds m x claims new i last f used none last_is now =
       count = length-set m i (file_left last);
       files = λ j ne. get_or-set_other m i j (file_left last) None ne;
       alike = λ c.
-          ap (λ (o : Option Claim). count_of c (names_claimed x i o)) now.own ∙ ap (count_of c) (whole_names x d f.geometry used.1)
+          ap (λ (o : Option Claim). count_of c (names_claimed x i o)) now.own
+          ∙ alike c ∙ ap (count_of c) (whole_along x (depths (form_of x)) d.addrs ∙ sym (whole_names x d used.1))
           ∙ sym (ap (λ (o : Option Claim). count_of c (names_claimed x i o)) none);
       fine = subst (λ (o : Option Claim). IsFine x i o (file_in (set m i (file_left last)) i)) (sym now.own)
           (record {

@@ -1,5 +1,5 @@
 -- An inode has each block that its size needs exactly where its pointers are filled.
-use Rattle.std.proofs.Common.{◌≡◌, ◌≢◌, ℕ, zero, suc, ◌+◌, ◌-◌, ◌*◌, ◌/◌, ◌%◌, ◌^◌, ◌<◌, ◌≤◌, true, ltb, List, [], ◌∷◌, length, get_or, refl, sym, subst, ⊎_elim, zero-add, add_assoc, arith}
+use Rattle.std.proofs.Common.{◌≡◌, ◌≢◌, ℕ, zero, suc, ◌+◌, ◌-◌, ◌*◌, ◌/◌, ◌%◌, ◌^◌, ◌<◌, ◌≤◌, true, ltb, List, [], ◌∷◌, ◌++◌, length, get_or, replicate, refl, sym, ap, subst, ⊎_elim, zero-add, add_assoc, arith}
 use Rattle.std.specs.List.{flat_map, AllByRecursion}
 use Rattle.std.proofs.lemmas.Bool.{ne_eqb, cases_eq, cases_lt, ltb-true, lt-ltb, le-ltb}
 use Rattle.std.proofs.lemmas.Nat.{div-mul-add, mod-mul-add, div_below, div-add-mod'}
@@ -10,7 +10,7 @@ use Rattle.model.specs.declared.types.image.Form.{Form}
 use Rattle.model.specs.declared.types.image.Form.TheVariants.{One, Two}
 use Rattle.model.specs.declared.types.image.Pointer.{Pointer}
 use Rattle.model.specs.Fields.{words_of}
-use Rattle.model.specs.Layout.{reach, depths, form_of, greatest_size}
+use Rattle.model.specs.Layout.{reach, depths, direct_count, form_of, greatest_size}
 use Rattle.model.specs.Names.{names_under, names_along, names_of}
 use Rattle.model.specs.Places.{pointers_under, pointers_behind, pointers_along, pointers_in, addresses_in, address_under, address_along, address_in}
 use Rattle.model.specs.Soundness.{IsFilled}
@@ -18,7 +18,7 @@ use Rattle.model.specs.Lemmas.Counts.{AllByRecursion-append, AllByRecursion-part
 use Rattle.model.specs.Lemmas.Frames.{pointers_used}
 use Rattle.loose.specs.Loose.{IsWhole}
 
-reach_pos : (depth : ℕ) → 0 < reach depth
+pub reach_pos : (depth : ℕ) → 0 < reach depth
 reach_pos zero = omega arith
 reach_pos (suc depth) = let p = reach_pos depth in let e = pow-suc 256 depth in omega arith
 
@@ -51,7 +51,7 @@ behind_filled f first step (w ∷ ws) each =
     let e : first + suc j * step ≡ first + step + j * step = grind arith in
     subst (λ n. AllByRecursion IsFilled (f n (get_or ws j 0))) e (each (suc j) (omega arith))))
 
-inside_reach : (j k r : ℕ) → j < 256 → k < r → j * r + k < r * 256
+pub inside_reach : (j k r : ℕ) → j < 256 → k < r → j * r + k < r * 256
 inside_reach j k r h l = let m = mul-le-mul_left r (next j h) in omega arith
   where
     next : (a : ℕ) → a < 256 → a + 1 ≤ 256
@@ -191,9 +191,39 @@ room_of_form : (f : Form) → room_for (depths f) * 1024 ≡ greatest_size f
 room_of_form One = refl
 room_of_form Two = refl
 
+pub greatest_small : (f : Form) → greatest_size f < 2 ^ 32
+greatest_small One = omega arith
+greatest_small Two = omega arith
+
 pub thirteen_depths : (f : Form) → length (depths f) ≡ 13
 thirteen_depths One = refl
 thirteen_depths Two = refl
+
+-- the first addresses are a data block's
+pub direct_few : (f : Form) → direct_count f ≤ 13
+direct_few One = omega arith
+direct_few Two = omega arith
+
+zeroes_front : (n k : ℕ) (later : List ℕ) → k < n → get_or (replicate n 0 ++ later) k 0 ≡ 0
+zeroes_front zero k later low = absurd (omega (arith, low))
+zeroes_front (suc n) zero later low = refl
+zeroes_front (suc n) (suc k) later low = zeroes_front n k later (omega (arith, low))
+
+pub direct_depth : (f : Form) (k : ℕ) → k < direct_count f → get_or (depths f) k 0 ≡ 0
+direct_depth One k low = zeroes_front 12 k (1 ∷ []) low
+direct_depth Two k low = zeroes_front 11 k (1 ∷ 2 ∷ []) low
+
+-- and the others those of blocks of addresses
+pub tree_depth : (f : Form) (k : ℕ) → direct_count f ≤ k → k < 13 → (1 ≤ get_or (depths f) k 0) × (get_or (depths f) k 0 ≤ 2)
+tree_depth One k from low =
+    let here : get_or (depths One) k 0 ≡ 1 = (let last : k ≡ 12 = omega (arith, from, low) in ap (λ (j : ℕ). get_or (depths One) j 0) last) in
+    (omega (arith, here), omega (arith, here))
+tree_depth Two k from low = ⊎_elim
+    (λ (first : k ≡ 11). let here : get_or (depths Two) k 0 ≡ 1 = ap (λ (j : ℕ). get_or (depths Two) j 0) first in (omega (arith, here), omega (arith, here)))
+    (λ (other : k ≢ 11).
+    let here : get_or (depths Two) k 0 ≡ 2 = (let last : k ≡ 12 = omega (arith, from, low, other) in ap (λ (j : ℕ). get_or (depths Two) j 0) last) in
+    (omega (arith, here), omega (arith, here)))
+    (cases_eq k 11)
 
 pub filled_whole : (x : Image) (d : Dinode) → d.kind ≢ 0 → length d.addrs ≡ 13 → d.size ≤ greatest_size (form_of x) →
     AllByRecursion IsFilled (pointers_in x d) →

@@ -18,12 +18,14 @@ use Rattle.model.specs.Lemmas.Log.{both_of}
 use Rattle.model.specs.Lemmas.Names.{pointers_named}
 use Rattle.model.specs.Lemmas.Runs.{after-made}
 use Rattle.loose.specs.Claims.{with_new_file}
-use Rattle.loose.specs.Held.{Held, Claims, FitsHeld, IsHeld, IsFine, IsClaimedNow, names_claimed, names_left, owned, file_left, last_inode, Claim}
+use Rattle.loose.specs.Held.{Held, Claims, FitsHeld, IsHeld, IsFine, IsClaimedNow, names_claimed, owned, file_left, last_inode, Claim}
 use Rattle.loose.specs.HeldLaws.{FitsThen, WriteBackRests, ClaimFits}
 use Rattle.loose.specs.Loose.{AreFull, IsFit, IsAtRest}
 use Rattle.loose.specs.Lemmas.Claims.{IsApart, apart, no_names, free_file}
 use Rattle.loose.specs.Lemmas.Frames.{AgreesAtData, SameSuperAndMap, loose_same, fit_alike}
 use Rattle.loose.specs.Lemmas.GivenUp.{held_of}
+use Rattle.loose.specs.Lemmas.LeftInTrees.{bare_along}
+use Rattle.loose.specs.Trees.{names_left, left_along}
 use Rattle.loose.specs.Lemmas.HeldFrames.{ChangesOne, loose_alike, owned_kept, fits_then, at_data, data_passes, agrees_of}
 use Rattle.loose.specs.Lemmas.Looks.{between}
 use Rattle.model.specs.Agreement.{AgreesFor}
@@ -178,8 +180,8 @@ bare_fit x d fields kind size used = record {
 -- ---- the write-back
 
 -- a copy without addresses names nothing
-nothing_left : (x : Image) (d : Dinode) (e : ℕ) → d.addrs ≡ replicate 13 0 → names_left x d e ≡ []
-nothing_left x d e bare = rw bare refl
+pub nothing_left : (x : Image) (d : Dinode) (cursor : List ℕ) → d.addrs ≡ replicate 13 0 → names_left x d cursor ≡ []
+nothing_left x d cursor bare = ap (left_along x cursor (depths (form_of x))) bare ∙ bare_along x cursor (depths (form_of x)) 13
 
 last_kind_small : (h : Held) (x : Image) (i : ℕ) (file : Option File) → IsHeld x i h file → h.last_kind ≤ 3
 last_kind_small h x i file held =
@@ -213,7 +215,7 @@ write_back_rests m x claims new i h g bare now =
       fields = fields;
       names = λ c.
           ap (count_of c) (bare_names x (last_inode h) bare)
-          ∙ sym (ap (count_of c) (ap (names_claimed x i) g.holds ∙ nothing_left x h.copy h.given_up bare));
+          ∙ sym (ap (count_of c) (ap (names_claimed x i) g.holds ∙ nothing_left x h.copy h.cursor bare));
       fit = bare_fit x (last_inode h) fields small refl;
       count = refl;
       own = held.told ∙ sym (bare_file x (last_inode h) refl);

@@ -1,6 +1,6 @@
 -- A new image is sound, and has no file.
 use Rattle.std.proofs.Common.{◌≡◌, ◌≢◌, ℕ, zero, suc, ◌+◌, ◌-◌, ◌*◌, ◌%◌, ◌<◌, ◌≤◌, Bool, true, false, cond, ◌||◌, eqb, ltb, leb, List, [], ◌∷◌, ◌++◌, length, map, take, replicate, Option, None, refl, sym, ap, ap₂, ◌∙◌, subst, arith}
-use Rattle.std.specs.Prelude.{All}
+use Rattle.std.specs.Prelude.{All, IsTrue}
 use Rattle.std.specs.List.{range_with_len, flat_map}
 use Rattle.std.proofs.lemmas.Bool.{leb-true, ltb-true, eq-eqb, ne_eqb}
 use Rattle.std.proofs.lemmas.List.{drop-replicate, take-replicate}
@@ -8,11 +8,12 @@ use Rattle.std.proofs.lemmas.List.FromFn.{length-range_with_len, get_or-range_wi
 use Rattle.blocks.specs.Block.{IsBlock, zero_block}
 use Rattle.blocks.specs.Disk.{IsImage, block_at}
 use Rattle.blocks.specs.Lemmas.Blocks.{is_block-zero_block}
-use Rattle.model.specs.declared.types.image.Form.TheVariants.{One}
+use Rattle.model.specs.declared.types.image.Form.{Form}
+use Rattle.model.specs.declared.types.image.Form.TheVariants.{One, Two}
 use Rattle.model.specs.declared.types.image.Super.{Super}
 use Rattle.model.specs.declared.types.image.File.{File}
 use Rattle.model.specs.Fields.{u16_at, u32_at, has_bit}
-use Rattle.model.specs.Layout.{magic_of, magic_at, form_of, super_in, super_of, meta_count, planned_super, is_inode_count, is_size, is_lawful_super, inode_count_of, first_data_block, inode_in, inode_of, inode_block, inode_bytes_in, is_marked}
+use Rattle.model.specs.Layout.{is_known_magic, magic_of, magic_at, form_of, super_in, super_of, meta_count, planned_super, is_inode_count, is_size, is_lawful_super, inode_count_of, first_data_block, inode_in, inode_of, inode_block, inode_bytes_in, is_marked}
 use Rattle.model.specs.Places.{pointers_in, pointers_of, addresses_in, places_of}
 use Rattle.model.specs.Soundness.{IsSound, IsLawfulInode, IsFilled, place_count}
 use Rattle.model.specs.Files.{file_of, file_at, files_of, file_count}
@@ -39,177 +40,183 @@ is_within size n count fits =
       small = leb-true size 8191 sizes.1;
     }
 
--- ---- its blocks
+-- each form's magic number is known
+is_known : (form : Form) → IsTrue (is_known_magic (magic_of form))
+is_known One = refl
+is_known Two = refl
 
-pub length-made_image : (size n : ℕ) → length (made_image One size n) ≡ size
-unfolding made_image
-length-made_image size n = length-map-range_with_len (made_block One size n) 0 size
+module _ (form : Form) where
+  -- ---- its blocks
 
-pub block_at-made_image : (size n b : ℕ) → b < size → block_at (made_image One size n) b ≡ made_block One size n b
-unfolding made_image
-block_at-made_image size n b h = get_or-map-range_with_len (made_block One size n) 0 size b b [] h (omega arith)
+  pub length-made_image : (size n : ℕ) → length (made_image form size n) ≡ size
+  unfolding made_image
+  length-made_image size n = length-map-range_with_len (made_block form size n) 0 size
 
--- block 1
-pub super-made_image : (size n : ℕ) → 1 < size → block_at (made_image One size n) 1 ≡ super_block One (planned_super size n)
-super-made_image size n h = block_at-made_image size n 1 h
+  pub block_at-made_image : (size n b : ℕ) → b < size → block_at (made_image form size n) b ≡ made_block form size n b
+  unfolding made_image
+  block_at-made_image size n b h = get_or-map-range_with_len (made_block form size n) 0 size b b [] h (omega arith)
 
--- the bitmap
-pub map-made_image : (size n : ℕ) → IsWithin size n →
-    block_at (made_image One size n) (planned_super size n).bmapstart ≡ first_bits (meta_count size n)
-map-made_image size n is =
-    let at = (planned_super size n).bmapstart in
-    let other : at ≢ 1 = λ e. absurd (omega arith) in
-    block_at-made_image size n at (omega (arith, is.room)) ∙ rw (ne_eqb at 1 other, eq-eqb at at refl) refl
+  -- block 1
+  pub super-made_image : (size n : ℕ) → 1 < size → block_at (made_image form size n) 1 ≡ super_block form (planned_super size n)
+  super-made_image size n h = block_at-made_image size n 1 h
 
--- the others
-pub zero-made_image : (size n b : ℕ) → b < size → b ≢ 1 → b ≢ (planned_super size n).bmapstart → block_at (made_image One size n) b ≡ zero_block
-zero-made_image size n b h other off =
-    block_at-made_image size n b h ∙ rw (ne_eqb b 1 other, ne_eqb b (planned_super size n).bmapstart off) refl
+  -- the bitmap
+  pub map-made_image : (size n : ℕ) → IsWithin size n →
+      block_at (made_image form size n) (planned_super size n).bmapstart ≡ first_bits (meta_count size n)
+  map-made_image size n is =
+      let at = (planned_super size n).bmapstart in
+      let other : at ≢ 1 = λ e. absurd (omega arith) in
+      block_at-made_image size n at (omega (arith, is.room)) ∙ rw (ne_eqb at 1 other, eq-eqb at at refl) refl
 
-made_by : (b size n : ℕ) (first map : Bool) → IsBlock (cond first (super_block One (planned_super size n)) (cond map (first_bits (meta_count size n)) zero_block))
-made_by b size n true map = is_block-super_block One (planned_super size n)
-made_by b size n false true = is_block-first_bits (meta_count size n)
-made_by b size n false false = is_block-zero_block
+  -- the others
+  pub zero-made_image : (size n b : ℕ) → b < size → b ≢ 1 → b ≢ (planned_super size n).bmapstart → block_at (made_image form size n) b ≡ zero_block
+  zero-made_image size n b h other off =
+      block_at-made_image size n b h ∙ rw (ne_eqb b 1 other, ne_eqb b (planned_super size n).bmapstart off) refl
 
-pub is_block-made_block : (size n b : ℕ) → IsBlock (made_block One size n b)
-is_block-made_block size n b = made_by b size n (eqb b 1) (eqb b (planned_super size n).bmapstart)
+  made_by : (b size n : ℕ) (first map : Bool) → IsBlock (cond first (super_block form (planned_super size n)) (cond map (first_bits (meta_count size n)) zero_block))
+  made_by b size n true map = is_block-super_block form (planned_super size n)
+  made_by b size n false true = is_block-first_bits (meta_count size n)
+  made_by b size n false false = is_block-zero_block
 
-pub is_image-made_image : (size n : ℕ) → IsImage (made_image One size n)
-is_image-made_image size n b h =
-    subst IsBlock (sym (block_at-made_image size n b (omega (arith, h, length-made_image size n)))) (is_block-made_block size n b)
+  pub is_block-made_block : (size n b : ℕ) → IsBlock (made_block form size n b)
+  is_block-made_block size n b = made_by b size n (eqb b 1) (eqb b (planned_super size n).bmapstart)
 
--- ---- its superblock
+  pub is_image-made_image : (size n : ℕ) → IsImage (made_image form size n)
+  is_image-made_image size n b h =
+      subst IsBlock (sym (block_at-made_image size n b (omega (arith, h, length-made_image size n)))) (is_block-made_block size n b)
 
-pub super_of-made_image : (size n : ℕ) → IsWithin size n → super_of (made_image One size n) ≡ planned_super size n
-super_of-made_image size n is =
-    let few = is.few in
-    let room = is.room in
-    let small = is.small in
-    ap super_in (super-made_image size n (omega arith))
-    ∙ super_in-super_block One (planned_super size n) (omega arith) (omega arith) (omega arith) (omega arith) (omega arith) (omega arith) (omega arith)
+  -- ---- its superblock
 
-pub magic-made_image : (size n : ℕ) → 1 < size → magic_at (made_image One size n) ≡ magic_of One
-magic-made_image size n h = ap (λ (b : List ℕ). u32_at b 0) (super-made_image size n h) ∙ magic-super_block One (planned_super size n)
+  pub super_of-made_image : (size n : ℕ) → IsWithin size n → super_of (made_image form size n) ≡ planned_super size n
+  super_of-made_image size n is =
+      let few = is.few in
+      let room = is.room in
+      let small = is.small in
+      ap super_in (super-made_image size n (omega arith))
+      ∙ super_in-super_block form (planned_super size n) (omega arith) (omega arith) (omega arith) (omega arith) (omega arith) (omega arith) (omega arith)
 
-lawful : (size n : ℕ) → is_inode_count n ≡ true → is_size size n ≡ true → is_lawful_super (planned_super size n) size ≡ true
-lawful size n count fits =
-    let p = planned_super size n in
-    rw (eq-eqb size size refl, count, fits, eq-eqb p.nblocks p.nblocks refl, eq-eqb n n refl, eq-eqb p.bmapstart p.bmapstart refl) refl
+  pub magic-made_image : (size n : ℕ) → 1 < size → magic_at (made_image form size n) ≡ magic_of form
+  magic-made_image size n h = ap (λ (b : List ℕ). u32_at b 0) (super-made_image size n h) ∙ magic-super_block form (planned_super size n)
 
--- ---- its inodes
+  lawful : (size n : ℕ) → is_inode_count n ≡ true → is_size size n ≡ true → is_lawful_super (planned_super size n) size ≡ true
+  lawful size n count fits =
+      let p = planned_super size n in
+      rw (eq-eqb size size refl, count, fits, eq-eqb p.nblocks p.nblocks refl, eq-eqb n n refl, eq-eqb p.bmapstart p.bmapstart refl) refl
 
-free_bytes : (i : ℕ) → inode_bytes_in zero_block i ≡ replicate 64 0
-unfolding zero_block
-free_bytes i =
-    let at = i % 16 * 64 in
-    let width : at + 64 - at ≡ 64 = omega arith in
-    ap₂ (λ (k : ℕ) (l : List ℕ). take k l) width (drop-replicate {X = ℕ} at 1024 0)
-    ∙ take-replicate {X = ℕ} 64 (1024 - at) 0 (omega arith)
+  -- ---- its inodes
 
-free_kind : (inode_in (replicate 64 0)).kind ≡ 0
-unfolding inode_in u16_at
-free_kind = refl
+  free_bytes : (i : ℕ) → inode_bytes_in zero_block i ≡ replicate 64 0
+  unfolding zero_block
+  free_bytes i =
+      let at = i % 16 * 64 in
+      let width : at + 64 - at ≡ 64 = omega arith in
+      ap₂ (λ (k : ℕ) (l : List ℕ). take k l) width (drop-replicate {X = ℕ} at 1024 0)
+      ∙ take-replicate {X = ℕ} 64 (1024 - at) 0 (omega arith)
 
-pub kind-made_image : (size n i : ℕ) → IsWithin size n → i < n → (inode_of (made_image One size n) i).kind ≡ 0
-unfolding inode_of
-kind-made_image size n i is below =
-    let room = is.room in
-    let free : block_at (made_image One size n) (inode_block i) ≡ zero_block =
-    zero-made_image size n (inode_block i) (omega arith) (λ e. absurd (omega arith)) (λ e. absurd (omega arith)) in
-    ap (λ (b : List ℕ). (inode_in (inode_bytes_in b i)).kind) free ∙ ap (λ (l : List ℕ). (inode_in l).kind) (free_bytes i) ∙ free_kind
+  free_kind : (inode_in (replicate 64 0)).kind ≡ 0
+  unfolding inode_in u16_at
+  free_kind = refl
 
-pub pointers-made_image : (size n i : ℕ) → IsWithin size n → i < n → pointers_of (made_image One size n) i ≡ []
-unfolding pointers_in
-pointers-made_image size n i is below = rw (kind-made_image size n i is below) refl
+  pub kind-made_image : (size n i : ℕ) → IsWithin size n → i < n → (inode_of (made_image form size n) i).kind ≡ 0
+  unfolding inode_of
+  kind-made_image size n i is below =
+      let room = is.room in
+      let free : block_at (made_image form size n) (inode_block i) ≡ zero_block =
+      zero-made_image size n (inode_block i) (omega arith) (λ e. absurd (omega arith)) (λ e. absurd (omega arith)) in
+      ap (λ (b : List ℕ). (inode_in (inode_bytes_in b i)).kind) free ∙ ap (λ (l : List ℕ). (inode_in l).kind) (free_bytes i) ∙ free_kind
 
-flat_map_nil : {X : Type 0} (f : ℕ → List X) (a n : ℕ) → ((i : ℕ) → a ≤ i → i < a + n → f i ≡ []) → flat_map f (range_with_len a n) ≡ []
-flat_map_nil f a zero none = refl
-flat_map_nil {X} f a (suc n) none =
-    ap₂ (λ (x y : List X). x ++ y) (none a (omega arith) (omega arith)) (flat_map_nil f (a + 1) n (λ i low high. none i (omega arith) (omega arith)))
+  pub pointers-made_image : (size n i : ℕ) → IsWithin size n → i < n → pointers_of (made_image form size n) i ≡ []
+  unfolding pointers_in
+  pointers-made_image size n i is below = rw (kind-made_image size n i is below) refl
 
--- no block is at a place
-pub places-made_image : (size n : ℕ) → IsWithin size n → places_of (made_image One size n) ≡ []
-places-made_image size n is =
-    let some = is.some in
-    let count : inode_count_of (made_image One size n) ≡ n = ap (λ (s : Super). s.ninodes) (super_of-made_image size n is) in
-    ap (λ (k : ℕ). flat_map (λ (i : ℕ). addresses_in (pointers_of (made_image One size n) i)) (range_with_len 1 (k - 1))) count
-    ∙ flat_map_nil (λ (i : ℕ). addresses_in (pointers_of (made_image One size n) i)) 1 (n - 1)
-    (λ i low high. ap addresses_in (pointers-made_image size n i is (omega arith)))
+  flat_map_nil : {X : Type 0} (f : ℕ → List X) (a n : ℕ) → ((i : ℕ) → a ≤ i → i < a + n → f i ≡ []) → flat_map f (range_with_len a n) ≡ []
+  flat_map_nil f a zero none = refl
+  flat_map_nil {X} f a (suc n) none =
+      ap₂ (λ (x y : List X). x ++ y) (none a (omega arith) (omega arith)) (flat_map_nil f (a + 1) n (λ i low high. none i (omega arith) (omega arith)))
 
--- ---- it is sound
+  -- no block is at a place
+  pub places-made_image : (size n : ℕ) → IsWithin size n → places_of (made_image form size n) ≡ []
+  places-made_image size n is =
+      let some = is.some in
+      let count : inode_count_of (made_image form size n) ≡ n = ap (λ (s : Super). s.ninodes) (super_of-made_image size n is) in
+      ap (λ (k : ℕ). flat_map (λ (i : ℕ). addresses_in (pointers_of (made_image form size n) i)) (range_with_len 1 (k - 1))) count
+      ∙ flat_map_nil (λ (i : ℕ). addresses_in (pointers_of (made_image form size n) i)) 1 (n - 1)
+      (λ i low high. ap addresses_in (pointers-made_image size n i is (omega arith)))
 
-or_false : (b : Bool) → b ≡ (b || false)
-or_false true = refl
-or_false false = refl
+  -- ---- it is sound
 
--- its bitmap has the blocks before the data
-pub marked-made_image : (size n b : ℕ) → IsWithin size n → is_marked (made_image One size n) b ≡ ltb b (meta_count size n)
-marked-made_image size n b is =
-    let room = is.room in
-    let small = is.small in
-    ap (λ (s : Super). has_bit (block_at (made_image One size n) s.bmapstart) b) (super_of-made_image size n is)
-    ∙ ap (λ (l : List ℕ). has_bit l b) (map-made_image size n is)
-    ∙ has_bit-first_bits (meta_count size n) b (omega arith)
+  or_false : (b : Bool) → b ≡ (b || false)
+  or_false true = refl
+  or_false false = refl
 
-all_numbers : (P : ℕ → Type 0) (count n : ℕ) → count ≡ n → ((i : ℕ) → i < n → P i) → All P (range_with_len 1 (count - 1))
-all_numbers P count n is each k d h =
-    let below : k < count - 1 = omega (arith, length-range_with_len 1 (count - 1)) in
-    subst P (sym (get_or-range_with_len 1 (count - 1) k d below)) (each (1 + k) (omega arith))
+  -- its bitmap has the blocks before the data
+  pub marked-made_image : (size n b : ℕ) → IsWithin size n → is_marked (made_image form size n) b ≡ ltb b (meta_count size n)
+  marked-made_image size n b is =
+      let room = is.room in
+      let small = is.small in
+      ap (λ (s : Super). has_bit (block_at (made_image form size n) s.bmapstart) b) (super_of-made_image size n is)
+      ∙ ap (λ (l : List ℕ). has_bit l b) (map-made_image size n is)
+      ∙ has_bit-first_bits (meta_count size n) b (omega arith)
 
-pub sound-made_image : (size n : ℕ) → is_inode_count n ≡ true → is_size size n ≡ true → IsSound (made_image One size n)
-sound-made_image size n count fits =
-    let x = made_image One size n in
-    let is = is_within size n count fits in
-    let room = is.room in
-    let more : 1 < size = omega arith in
-    let fields = super_of-made_image size n is in
-    let numbers : inode_count_of x ≡ n = ap (λ (s : Super). s.ninodes) fields in
-    let places = places-made_image size n is in
-    let none : (b : ℕ) → place_count x b ≡ 0 = λ b. rw places refl in
-    let first : first_data_block x ≡ meta_count size n = ap (λ (s : Super). meta_count s.size s.ninodes) fields in
-    record {
-      geometry = record {
-        magic = rw (magic-made_image size n more) refl;
-        fields = rw (fields, length-made_image size n) (lawful size n count fits);
-      };
-      empty_log = ap (λ (b : List ℕ). u32_at b 0) (zero-made_image size n 2 (omega arith) (λ e. absurd (omega arith)) (λ e. absurd (omega arith))) ∙ zero_header;
-      inodes = all_numbers (λ (i : ℕ). IsLawfulInode (form_of x) (inode_of x i)) (inode_count_of x) n numbers (λ i below. let free = kind-made_image size n i is below in record {
-        kind = omega arith;
-        size = λ some. absurd (some free);
-      });
-      filled = all_numbers (λ (i : ℕ). All IsFilled (pointers_of x i)) (inode_count_of x) n numbers (λ i below. rw (pointers-made_image size n i is below) (λ k d h. absurd (omega arith)));
-      in_data = rw places (λ k d h. absurd (omega arith));
-      once = λ b. let zero_places = none b in omega arith;
-      marked = λ b h. marked-made_image size n b is ∙ ap (λ (m : ℕ). ltb b m) (sym first) ∙ or_false (ltb b (first_data_block x))
-          ∙ ap (λ (k : ℕ). ltb b (first_data_block x) || ltb 0 k) (sym (none b));
-    }
+  all_numbers : (P : ℕ → Type 0) (count n : ℕ) → count ≡ n → ((i : ℕ) → i < n → P i) → All P (range_with_len 1 (count - 1))
+  all_numbers P count n is each k d h =
+      let below : k < count - 1 = omega (arith, length-range_with_len 1 (count - 1)) in
+      subst P (sym (get_or-range_with_len 1 (count - 1) k d below)) (each (1 + k) (omega arith))
 
--- ---- it has no file
+  pub sound-made_image : (size n : ℕ) → is_inode_count n ≡ true → is_size size n ≡ true → IsSound (made_image form size n)
+  sound-made_image size n count fits =
+      let x = made_image form size n in
+      let is = is_within size n count fits in
+      let room = is.room in
+      let more : 1 < size = omega arith in
+      let fields = super_of-made_image size n is in
+      let numbers : inode_count_of x ≡ n = ap (λ (s : Super). s.ninodes) fields in
+      let places = places-made_image size n is in
+      let none : (b : ℕ) → place_count x b ≡ 0 = λ b. rw places refl in
+      let first : first_data_block x ≡ meta_count size n = ap (λ (s : Super). meta_count s.size s.ninodes) fields in
+      record {
+        geometry = record {
+          magic = rw (magic-made_image size n more) (is_known form);
+          fields = rw (fields, length-made_image size n) (lawful size n count fits);
+        };
+        empty_log = ap (λ (b : List ℕ). u32_at b 0) (zero-made_image size n 2 (omega arith) (λ e. absurd (omega arith)) (λ e. absurd (omega arith))) ∙ zero_header;
+        inodes = all_numbers (λ (i : ℕ). IsLawfulInode (form_of x) (inode_of x i)) (inode_count_of x) n numbers (λ i below. let free = kind-made_image size n i is below in record {
+          kind = omega arith;
+          size = λ some. absurd (some free);
+        });
+        filled = all_numbers (λ (i : ℕ). All IsFilled (pointers_of x i)) (inode_count_of x) n numbers (λ i below. rw (pointers-made_image size n i is below) (λ k d h. absurd (omega arith)));
+        in_data = rw places (λ k d h. absurd (omega arith));
+        once = λ b. let zero_places = none b in omega arith;
+        marked = λ b h. marked-made_image size n b is ∙ ap (λ (m : ℕ). ltb b m) (sym first) ∙ or_false (ltb b (first_data_block x))
+            ∙ ap (λ (k : ℕ). ltb b (first_data_block x) || ltb 0 k) (sym (none b));
+      }
 
-either : {A : Type 0} (b : Bool) (a : A) → cond b a a ≡ a
-either true a = refl
-either false a = refl
+  -- ---- it has no file
 
-no_file : (size n i : ℕ) → IsWithin size n → i < n → file_at (made_image One size n) i ≡ None
-unfolding file_of
-no_file size n i is below =
-    rw (kind-made_image size n i is below) (either (eqb i 0) None)
+  either : {A : Type 0} (b : Bool) (a : A) → cond b a a ≡ a
+  either true a = refl
+  either false a = refl
 
-files_from : (f : ℕ → Option File) (a n : ℕ) → ((i : ℕ) → a ≤ i → i < a + n → f i ≡ None) → map f (range_with_len a n) ≡ replicate n None
-files_from f a zero none = refl
-files_from f a (suc n) none =
-    ap₂ (λ (x : Option File) (xs : List (Option File)). x ∷ xs) (none a (omega arith) (omega arith)) (files_from f (a + 1) n (λ i low high. none i (omega arith) (omega arith)))
+  no_file : (size n i : ℕ) → IsWithin size n → i < n → file_at (made_image form size n) i ≡ None
+  unfolding file_of
+  no_file size n i is below =
+      rw (kind-made_image size n i is below) (either (eqb i 0) None)
 
-pub files-made_image : (size n : ℕ) → is_inode_count n ≡ true → is_size size n ≡ true → files_of (made_image One size n) ≡ replicate n None
-files-made_image size n count fits =
-    let is = is_within size n count fits in
-    let numbers : inode_count_of (made_image One size n) ≡ n = ap (λ (s : Super). s.ninodes) (super_of-made_image size n is) in
-    ap (λ (k : ℕ). map (file_at (made_image One size n)) (range_with_len 0 k)) numbers
-    ∙ files_from (file_at (made_image One size n)) 0 n (λ i low high. no_file size n i is (omega arith))
+  files_from : (f : ℕ → Option File) (a n : ℕ) → ((i : ℕ) → a ≤ i → i < a + n → f i ≡ None) → map f (range_with_len a n) ≡ replicate n None
+  files_from f a zero none = refl
+  files_from f a (suc n) none =
+      ap₂ (λ (x : Option File) (xs : List (Option File)). x ∷ xs) (none a (omega arith) (omega arith)) (files_from f (a + 1) n (λ i low high. none i (omega arith) (omega arith)))
 
-none_counted : (n : ℕ) → file_count (replicate n None) ≡ 0
-none_counted zero = refl
-none_counted (suc n) = none_counted n
+  pub files-made_image : (size n : ℕ) → is_inode_count n ≡ true → is_size size n ≡ true → files_of (made_image form size n) ≡ replicate n None
+  files-made_image size n count fits =
+      let is = is_within size n count fits in
+      let numbers : inode_count_of (made_image form size n) ≡ n = ap (λ (s : Super). s.ninodes) (super_of-made_image size n is) in
+      ap (λ (k : ℕ). map (file_at (made_image form size n)) (range_with_len 0 k)) numbers
+      ∙ files_from (file_at (made_image form size n)) 0 n (λ i low high. no_file size n i is (omega arith))
 
-pub file_count-made_image : (size n : ℕ) → is_inode_count n ≡ true → is_size size n ≡ true → file_count (files_of (made_image One size n)) ≡ 0
-file_count-made_image size n count fits = ap file_count (files-made_image size n count fits) ∙ none_counted n
+  none_counted : (n : ℕ) → file_count (replicate n None) ≡ 0
+  none_counted zero = refl
+  none_counted (suc n) = none_counted n
+
+  pub file_count-made_image : (size n : ℕ) → is_inode_count n ≡ true → is_size size n ≡ true → file_count (files_of (made_image form size n)) ≡ 0
+  file_count-made_image size n count fits = ap file_count (files-made_image size n count fits) ∙ none_counted n

@@ -7,12 +7,11 @@ use Rattle.std.proofs.lemmas.List.{length-set, get_or-set_other}
 use Rattle.blocks.specs.Block.{zero_block}
 use Rattle.blocks.specs.Disk.{Image, block_at}
 use Rattle.model.specs.declared.types.image.Form.{Form}
-use Rattle.model.specs.declared.types.image.Form.TheVariants.{One}
 use Rattle.model.specs.declared.types.image.Dinode.{Dinode}
 use Rattle.model.specs.declared.types.image.Pointer.{Pointer}
 use Rattle.model.specs.declared.types.image.Super.{Super}
 use Rattle.model.specs.Fields.{u32_at, has_bit}
-use Rattle.model.specs.Layout.{super_in, super_of, form_of, magic_of, is_lawful_super, inode_count_of, first_data_block, meta_count, inode_of, inode_in, inode_bytes_in, inode_block, is_marked}
+use Rattle.model.specs.Layout.{super_in, super_of, form_of, is_lawful_super, inode_count_of, first_data_block, meta_count, inode_of, inode_in, inode_bytes_in, inode_block, is_marked, is_known_magic}
 use Rattle.model.specs.Log.{logged_count, recovered, cleared}
 use Rattle.model.specs.Places.{pointers_in, pointers_of, places_of, addresses_in}
 use Rattle.model.specs.Files.{file_of, file_at, files_of}
@@ -110,7 +109,7 @@ sound_alike x y size agree sound empty alike =
     let start : first_data_block y ≡ first_data_block x = ap (λ (s : Super). meta_count s.size s.ninodes) alike.super in
     record {
       geometry = record {
-        magic = ap (λ b. eqb (u32_at b 0) (magic_of One)) (agree 1 refl) ∙ sound.geometry.magic;
+        magic = ap (λ b. is_known_magic (u32_at b 0)) (agree 1 refl) ∙ sound.geometry.magic;
         fields = ap (λ s. is_lawful_super s (length y)) alike.super ∙ ap (is_lawful_super (super_of x)) size ∙ sound.geometry.fields;
       };
       empty_log = empty;

@@ -6,12 +6,11 @@ use Rattle.std.proofs.lemmas.Bool.{ne_eqb, eq-eqb, cases_eq, cases_lt, cases_Boo
 use Rattle.std.proofs.lemmas.List.{append_assoc, append-nil}
 use Rattle.std.proofs.lemmas.List.Elements.{All-from_recursion, recursion_from_All}
 use Rattle.blocks.specs.Disk.{Image}
-use Rattle.model.specs.declared.types.image.Form.TheVariants.{One}
 use Rattle.model.specs.declared.types.image.Pointer.{Pointer}
 use Rattle.model.specs.declared.types.fault.CheckFault.{CheckFault}
 use Rattle.model.specs.declared.types.fault.CheckFault.TheVariants.{BadMagic, BadGeometry, BadLog, BadType, BadSize, BadAddress, TwiceUsed, UsedButFree, LostBlock}
 use Rattle.model.specs.Fields.{u32_at}
-use Rattle.model.specs.Layout.{first_data_block, is_marked, inode_of, inode_count_of, greatest_size, form_of, has_known_magic, super_of, is_lawful_super, magic_of}
+use Rattle.model.specs.Layout.{first_data_block, is_marked, inode_of, inode_count_of, greatest_size, form_of, has_known_magic, super_of, is_lawful_super, is_known_magic}
 use Rattle.model.specs.Log.{recovered, is_lawful_log, logged_count}
 use Rattle.model.specs.Places.{addresses_in, pointers_of, places_of}
 use Rattle.model.specs.Soundness.{count_of, place_count, IsFilled, IsSound, IsLawfulInode, IsLawfulGeometry}
@@ -337,7 +336,7 @@ IsLawfulGeometry-recovered x lawful g =
     let long = long_geometry x g in
     let one = recovered_low x 1 lawful (omega arith) (omega arith) (omega arith) in
     record {
-      magic = ap (λ b. eqb (u32_at b 0) (magic_of One)) one ∙ g.magic;
+      magic = ap (λ b. is_known_magic (u32_at b 0)) one ∙ g.magic;
       fields = ap (λ s. is_lawful_super s (length (recovered x))) (super_of-recovered x lawful (omega arith))
           ∙ ap (is_lawful_super (super_of x)) (length-recovered x) ∙ g.fields;
     }

@@ -1,5 +1,5 @@
 -- There is always a buffer for who needs one, where nobody holds a buffer but such processes as
--- have an operation open in the log, and each of these one.
+-- have an operation open in the log, and each of these two.
 use Rattle.std.proofs.Common.{◌≡◌, ◌≢◌, ℕ, zero, suc, ◌+◌, ◌*◌, ◌<◌, ◌≤◌, Bool, true, false, List, [], ◌∷◌, ◌++◌, length, map, get_or, length-drop, length-append, refl, ◌∙◌, ap, subst, arith, Option, Some, None, inl, inr, ◌⊎◌}
 use Rattle.std.specs.List.{sum_by}
 use Rattle.std.proofs.lemmas.Bool.{cases_eq, eq-eqb, ne_eqb}
@@ -22,31 +22,34 @@ use Rattle.wal.specs.Volume.{get_answer_by, cause_to_get, cause_of_get}
 
 -- ---- the slots of the open operations
 
-slots_of : (ℕ → ℕ) → List (Option ℕ) → ℕ → List ℕ
+slots_of : (ℕ → List ℕ) → List (Option ℕ) → ℕ → List ℕ
 slots_of keeps [] k = []
 slots_of keeps (None ∷ us) k = slots_of keeps us (suc k)
-slots_of keeps (Some u ∷ us) k = keeps k ∷ slots_of keeps us (suc k)
+slots_of keeps (Some u ∷ us) k = keeps k ++ slots_of keeps us (suc k)
 
-few_slots : (keeps : ℕ → ℕ) (us : List (Option ℕ)) (k : ℕ) → 10 * length (slots_of keeps us k) ≤ sum_by ten us
+few_slots : (keeps : ℕ → List ℕ) → ((p : ℕ) → length (keeps p) ≤ 2) → (us : List (Option ℕ)) (k : ℕ) → 5 * length (slots_of keeps us k) ≤ sum_by ten us
 unfolding slots_of
-few_slots keeps [] k = omega arith
-few_slots keeps (None ∷ us) k = let rest = few_slots keeps us (suc k) in omega (arith, rest, sum_by-cons ten None us)
-few_slots keeps (Some u ∷ us) k = let rest = few_slots keeps us (suc k) in omega (arith, rest, sum_by-cons ten (Some u) us)
+few_slots keeps few [] k = omega arith
+few_slots keeps few (None ∷ us) k = let rest = few_slots keeps few us (suc k) in omega (arith, rest, sum_by-cons ten None us)
+few_slots keeps few (Some u ∷ us) k =
+    let rest = few_slots keeps few us (suc k) in
+    let all = length-append (keeps k) (slots_of keeps us (suc k)) in
+    let two = few k in
+    omega (arith, rest, all, two, sum_by-cons ten (Some u) us)
 
-slot_among : (keeps : ℕ → ℕ) (us : List (Option ℕ)) (k p j u : ℕ) → j ≡ k + p → get_or us p None ≡ Some u → count_of (keeps j) (slots_of keeps us k) ≢ 0
+slot_among : (keeps : ℕ → List ℕ) (us : List (Option ℕ)) (k p j i u : ℕ) → j ≡ k + p → get_or us p None ≡ Some u → count_of i (keeps j) ≢ 0 → count_of i (slots_of keeps us k) ≢ 0
 unfolding slots_of
-slot_among keeps [] k p j u is has = absurd (cc has)
-slot_among keeps (None ∷ us) k zero j u is has = absurd (cc has)
-slot_among keeps (None ∷ us) k (suc p) j u is has = slot_among keeps us (suc k) p j u (omega (arith, is)) has
-slot_among keeps (Some v ∷ us) k zero j u is has =
-    let same : keeps k ≡ keeps j = let e : k ≡ j = omega (arith, is) in ap keeps e in
-    λ (e : count_of (keeps j) (keeps k ∷ slots_of keeps us (suc k)) ≡ 0).
-    let one : count_of (keeps j) (keeps k ∷ slots_of keeps us (suc k)) ≡ 1 + count_of (keeps j) (slots_of keeps us (suc k)) = rw (eq-eqb (keeps k) (keeps j) same) refl in
-    omega (arith, e, one)
-slot_among keeps (Some v ∷ us) k (suc p) j u is has =
-    let rest = slot_among keeps us (suc k) p j u (omega (arith, is)) has in
-    λ (e : count_of (keeps j) (keeps k ∷ slots_of keeps us (suc k)) ≡ 0).
-    rest (omega (arith, e))
+slot_among keeps [] k p j i u is has some = absurd (cc has)
+slot_among keeps (None ∷ us) k zero j i u is has some = absurd (cc has)
+slot_among keeps (None ∷ us) k (suc p) j i u is has some = slot_among keeps us (suc k) p j i u (omega (arith, is)) has some
+slot_among keeps (Some v ∷ us) k zero j i u is has some =
+    let same : count_of i (keeps k) ≡ count_of i (keeps j) = let e : k ≡ j = omega (arith, is) in ap (λ (n : ℕ). count_of i (keeps n)) e in
+    let all = count_of-append i (keeps k) (slots_of keeps us (suc k)) in
+    λ (e : count_of i (keeps k ++ slots_of keeps us (suc k)) ≡ 0). some (omega (arith, e, all, same))
+slot_among keeps (Some v ∷ us) k (suc p) j i u is has some =
+    let rest = slot_among keeps us (suc k) p j i u (omega (arith, is)) has some in
+    let all = count_of-append i (keeps k) (slots_of keeps us (suc k)) in
+    λ (e : count_of i (keeps k ++ slots_of keeps us (suc k)) ≡ 0). rest (omega (arith, e, all))
 
 tens : (us : List (Option ℕ)) → sum_by ten us ≤ sum_by added_by us + sum_by unused us
 tens [] = omega arith
@@ -90,13 +93,14 @@ pinned_home hs (Some b) some = by (is_among b hs) refl
     by true is = (b, refl, is)
     by false is = absurd (some (rw is refl))
 
--- who has a buffer's lock has an operation open, and no other buffer
-pub record HoldsOne (c : Buffers) (l : LogState) (keeps : ℕ → ℕ) (p i : ℕ) : Type 0 where
-  pub slot : keeps p ≡ i
+-- who has a buffer's lock has an operation open, and no other buffers than those
+pub record HoldsFew (c : Buffers) (l : LogState) (keeps : ℕ → List ℕ) (p i : ℕ) : Type 0 where
+  pub slot : count_of i (keeps p) ≢ 0
   pub used : ℕ
   pub has : used_by l p ≡ Some used
 
-module _ (k : Commit) (x : Image) (c : Buffers) (l : LogState) (j : JointAt k x c l) (keeps : ℕ → ℕ) (each : (p i : ℕ) → (buffer c i).holder ≡ Some p → HoldsOne c l keeps p i) where
+module _ (k : Commit) (x : Image) (c : Buffers) (l : LogState) (j : JointAt k x c l) (keeps : ℕ → List ℕ) (most : (p : ℕ) → length (keeps p) ≤ 2)
+    (each : (p i : ℕ) → (buffer c i).holder ≡ Some p → HoldsFew c l keeps p i) where
   abbrev live : List ℕ
   live = live_at k l.homes
 
@@ -116,7 +120,7 @@ module _ (k : Commit) (x : Image) (c : Buffers) (l : LogState) (j : JointAt k x 
       inl (home_among (λ (b : ℕ). block_or_zero (found c b)) home.0 i (live_at k l.homes) home.2 (ap block_or_zero at))
   stands_somewhere i some (Some p) held =
       let one = each p i held in
-      inr (subst (λ (s : ℕ). count_of s (slots_of keeps l.used 0) ≢ 0) one.slot (slot_among keeps l.used 0 p p one.used (omega arith) one.has))
+      inr (slot_among keeps l.used 0 p p i one.used (omega arith) one.has one.slot)
 
   stands_there : (i : ℕ) → references_of (buffer c i) ≢ 0 → count_of i in_use ≢ 0
   stands_there i some none =
@@ -126,12 +130,12 @@ module _ (k : Commit) (x : Image) (c : Buffers) (l : LogState) (j : JointAt k x 
         | inr here ↦ here (omega (arith, none, all))
       ]
 
-  few_in_use : length in_use ≤ 33
+  few_in_use : length in_use ≤ 36
   few_in_use =
       let all = length-append (map place_of (live_at k l.homes)) (slots_of keeps l.used 0) in
       let homes = length-map (live_at k l.homes) place_of in
       let less = few_live k l.homes in
-      let slots = few_slots keeps l.used 0 in
+      let slots = few_slots keeps most l.used 0 in
       let sums = tens l.used in
       let room = j.log.room in
       let added = j.log.added in

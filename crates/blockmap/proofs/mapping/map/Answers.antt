@@ -1,20 +1,24 @@
-use Rattle.std.proofs.Common.{refl, sym, ◌∙◌, ap}
-use Rattle.std.proofs.lemmas.Bool.{eq-eqb, ne_eqb}
-use Rattle.blockmap.specs.Bmap.{EntryState, entry_in}
-use Rattle.blockmap.specs.Map.{address_or_zero}
+use Rattle.std.proofs.Common.{◌∙◌, ⊎_elim, inl, inr, sym, ap, subst}
+use Rattle.blockmap.specs.Bmap.{EntryState, first_entry, sought_in}
+use Rattle.blockmap.specs.Map.{IsBranchOf, address_or_zero}
 use Rattle.blockmap.specs.Lemmas.Addresses.{address_or_zero_of}
+use Rattle.blockmap.specs.Lemmas.Branches.{address_there}
+use Rattle.blockmap.specs.Lemmas.Targets.{found_at_once, found_behind}
+use Rattle.blockmap.specs.declared.branch.Node.{Node}
 use Rattle.blockmap.proofs.mapping.map.Goals as goal
-use Rattle.loose.specs.Lemmas.Addresses.{address_direct, address_behind}
 
-pub returns-then-k-clause-address : goal.returns-then-k-clause-address
-returns-then-k-clause-address c = λ x one.
+pub returns-then-address-eq0-clause-address : goal.returns-then-address-eq0-clause-address
+returns-then-address-eq0-clause-address c = λ x is.
+    let b = c.branch_of-branch.result in
     let d = c.args.inode.now in
-    address_direct x d c.args.k one c.requires.addrs c.if-k.true ∙ sym (address_or_zero_of _) ∙ sym (ap address_or_zero c.some_address.ensures)
-
-pub returns-then-inode-eq0-clause-address : goal.returns-then-inode-eq0-clause-address
-returns-then-inode-eq0-clause-address c = λ x one.
-    address_behind x c.args.inode.now c.args.k one c.requires.addrs c.if-k.false c.requires.within ∙ rw (eq-eqb _ 0 c.if-inode-eq0.true) refl
+    let stands : IsBranchOf x c.args.k b = subst (IsBranchOf x c.args.k) (sym c.branch_of-branch.ensures.branch) (address_there x c.args.form is c.args.k c.requires.within) in
+    stands d c.requires.addrs ∙ found_at_once x d b (⊎_elim inl (λ flat. inr flat.1) c.then-address-eq0.either)
+    ∙ sym (ap address_or_zero c.some_address.ensures ∙ address_or_zero_of _)
 
 pub returns-clause-address : goal.returns-clause-address
-returns-clause-address c = λ x one.
-    address_behind x c.args.inode.now c.args.k one c.requires.addrs c.if-k.false c.requires.within ∙ rw (ne_eqb _ 0 c.if-inode-eq0.false) (sym (ap (λ (m : EntryState). entry_in x m) c.new.ensures))
+returns-clause-address c = λ x is.
+    let b = c.branch_of-branch.result in
+    let d = c.args.inode.now in
+    let stands : IsBranchOf x c.args.k b = subst (IsBranchOf x c.args.k) (sym c.branch_of-branch.ensures.branch) (address_there x c.args.form is c.args.k c.requires.within) in
+    stands d c.requires.addrs ∙ found_behind x d b c.if-branch-eq0.false
+    ∙ sym (ap (λ (m : EntryState). sought_in x m) c.new.ensures ∙ ap (λ (n : Node). sought_in x (first_entry n)) c.at.ensures)

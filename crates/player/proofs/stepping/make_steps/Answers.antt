@@ -1,7 +1,8 @@
 use Rattle.std.proofs.Common.{◌≡◌, ◌∙◌, rules, subst, arith}
+use Rattle.model.specs.Layout.{form_of}
 use Rattle.kernel.specs.Steps.{MakesStep}
 use Rattle.kernel.specs.declared.types.Step.TheVariants as step
-use Rattle.player.proofs.Steps.{one_moved, stops, moves_few}
+use Rattle.player.proofs.Steps.{most_bound, moves_few, one_moved, stops}
 use Rattle.player.proofs.stepping.make_steps.Goals as goal
 
 pub loop-step-preserved : goal.loop-step-preserved
@@ -26,4 +27,5 @@ pub unreachable-requires : goal.unreachable-requires
 unreachable-requires g c =
     let few = moves_few g.D.Disk g.I.Intake g.H.Herald c.args.pid c.loop-step._step c.args.kernel.now c.loop-step.kernel c.loop-step.invariant.moves in
     let all = c.loop-step-test.false in
-    omega (arith, few, all)
+    let most = most_bound (form_of (g.D.Disk.image c.args.kernel.now.opening)) in
+    omega (arith, few, all, most)

@@ -10,7 +10,7 @@ use Rattle.inodes.proofs.readi.Readi.gather.Goals as goal
 pub returns-then-self : goal.returns-then-self
 returns-then-self g c =
     let v = c.args.volume.now in
-    let m : ReadState = record { inode = c.self.inside.inode; next = c.self.inside.next; end = c.self.inside.end; target = c.self.inside.target } in
+    let m : ReadState = record { inode = c.self.inside.inode; form = c.self.inside.form; next = c.self.inside.next; end = c.self.inside.end; target = c.self.inside.target } in
     let is : m ≡ c.args.self.now = c.self.view_is in
     let at = m.next % 1024 in
     let uses : Uses g.D.Disk.image v c.args.pid c.args.slot c.min-count.result c.data.result.now m c.args.into.now c.release_block.new.volume c.add.new.self = record {
@@ -24,12 +24,12 @@ returns-then-self g c =
     } in
     subst (λ (o : ReadState). ReadSteps g.D.Disk v c.args.pid o c.args.into.now (progress.Over tt) c.release_block.new.volume (record m { next = m.next + c.min-count.result }) c.add.new.self) is
     (uses_last g.D.Disk v c.args.pid c.args.slot c.min-count.result c.data.result.now m c.args.into.now c.release_block.new.volume c.add.new.self uses
-    (record m { next = m.next + c.min-count.result }) refl refl refl c.if-self.true)
+    (record m { next = m.next + c.min-count.result }) refl refl refl refl c.if-self.true)
 
 pub returns : goal.returns
 returns g c =
     let v = c.args.volume.now in
-    let m : ReadState = record { inode = c.self.inside.inode; next = c.self.inside.next; end = c.self.inside.end; target = c.self.inside.target } in
+    let m : ReadState = record { inode = c.self.inside.inode; form = c.self.inside.form; next = c.self.inside.next; end = c.self.inside.end; target = c.self.inside.target } in
     let is : m ≡ c.args.self.now = c.self.view_is in
     let at = m.next % 1024 in
     let n : ReadState = record m { next = m.next + c.min-count.result; target = c.target_for-self-inside.result } in
@@ -44,4 +44,4 @@ returns g c =
     } in
     subst (λ (o : ReadState). ReadSteps g.D.Disk v c.args.pid o c.args.into.now progress.Moved c.release_block.new.volume n c.add.new.self) is
     (uses_some g.D.Disk v c.args.pid c.args.slot c.min-count.result c.data.result.now m c.args.into.now c.release_block.new.volume c.add.new.self uses
-    n refl refl refl c.if-self.false c.target_for-self-inside.ensures)
+    n refl refl refl refl c.if-self.false c.target_for-self-inside.ensures)

@@ -1,6 +1,6 @@
 use Rattle.std.proofs.Common.{rules, ℕ, ◌≡◌, ◌<◌, length, length-set, sym, ◌∙◌, ap, subst, arith, List}
 use Rattle.std.specs.Prelude.{IfNone, None, Some, slice_set}
-use Rattle.model.specs.Layout.{inode_count_of}
+use Rattle.model.specs.Layout.{form_of, inode_count_of}
 use Rattle.model.specs.Soundness.{IsLawfulGeometry}
 use Rattle.loose.specs.Held.{FitsHeld}
 use Rattle.loose.specs.Lemmas.HeldFrames.{held_alike}
@@ -10,10 +10,10 @@ use Rattle.inodes.specs.declared.tasks.Place.{Place}
 use Rattle.inodes.specs.Looks.{AreLooking}
 use Rattle.inodes.specs.Tasks.{TaskState}
 use Rattle.inodes.specs.Holding.{claims_of}
-use Rattle.inodes.specs.Store.{StoreState, CanBegin, FitsFiles, Agrees, current_of, first_place}
+use Rattle.inodes.specs.Store.{StoreState, CanBegin, FitsFiles, Agrees, HaveLogged, current_of, first_place}
 use Rattle.inodes.specs.Lemmas.Faults.{where_none, if_none}
 use Rattle.inodes.proofs.LooksKept.{looks_begun}
-use Rattle.inodes.proofs.StoreKeeps.{agrees_begun, begun_claims}
+use Rattle.inodes.proofs.StoreKeeps.{agrees_begun, begun_claims, logged_begun}
 use Rattle.inodes.proofs.store.Store.begin.Goals as goal
 
 pub invariant_of-self : goal.invariant_of-self
@@ -33,12 +33,16 @@ invariant_of-self g c =
       few = let size = ap length tasks ∙ length-set c.self.inside.tasks c.args.pid _ in omega (arith, size, c.self.invariant.few);
       geometry = subst (λ (v : VolumeState _). IsLawfulGeometry (current_of image v)) (sym volume) c.self.invariant.geometry;
       numbers = subst (λ (v : VolumeState _). n ≡ inode_count_of (current_of image v)) (sym volume) c.self.invariant.numbers;
+      form = subst (λ (v : VolumeState _). c.self.inside.inodes.form ≡ form_of (current_of image v)) (sym volume) c.self.invariant.form;
       agrees = subst (λ (v : VolumeState _). IfNone v.fault (Agrees v.buffers v.log n c.begin.new.self)) (sym volume)
           (subst (λ (ts : List TaskState). IfNone old.fault (Agrees old.buffers (begun old.log c.args.pid) n ts)) (sym tasks)
           (if_none old.fault (agrees_begun old.buffers old.log n c.args.pid c.args.op.now c.self.inside.tasks (where_none old.fault well c.self.invariant.agrees) lt (omega (arith, lt, c.self.invariant.few, joint.log.pids)) (search rules) can)));
       looks = subst (λ (v : VolumeState _). IfNone v.fault (AreLooking (current_of image v) c.self.inside.inodes c.begin.new.self)) (sym volume)
           (subst (λ (ts : List TaskState). IfNone old.fault (AreLooking (current_of image old) c.self.inside.inodes ts)) (sym tasks)
           (if_none old.fault (looks_begun (current_of image old) c.self.inside.inodes c.self.inside.tasks c.args.pid c.args.op.now (where_none old.fault well c.self.invariant.looks) lt (search rules) can)));
+      logged = subst (λ (v : VolumeState _). IfNone v.fault (HaveLogged (current_of image v) v.log c.begin.new.self)) (sym volume)
+          (subst (λ (ts : List TaskState). IfNone old.fault (HaveLogged (current_of image old) (begun old.log c.args.pid) ts)) (sym tasks)
+          (if_none old.fault (logged_begun (current_of image old) old.log n c.args.pid c.args.op.now c.self.inside.tasks lt (where_none old.fault well c.self.invariant.logged))));
     }
 
 pub returns-clause-files : goal.returns-clause-files

@@ -7,7 +7,8 @@ use Rattle.inodes.specs.Holding.{claims_of}
 use Rattle.inodes.specs.Store.{StoreState, FitsFiles, current_of}
 use Rattle.inodes.specs.Steps.{Commits}
 use Rattle.inodes.specs.Lemmas.Faults.{where_none, if_none}
-use Rattle.inodes.proofs.StoreKeeps.{geometry_kept, count_kept, agrees_committed}
+use Rattle.inodes.proofs.Frames.{form_same}
+use Rattle.inodes.proofs.StoreKeeps.{geometry_kept, count_kept, agrees_committed, logged_committed}
 use Rattle.inodes.proofs.LooksKept.{looks_outside}
 use Rattle.inodes.proofs.store.Store.commit_step.Goals as goal
 
@@ -26,8 +27,10 @@ invariant_of-self g c =
       few = c.self.invariant.few;
       geometry = geometry_kept (current_of image old) (current_of image new) e.current.size super c.self.invariant.geometry;
       numbers = c.self.invariant.numbers ∙ sym (count_kept (current_of image old) (current_of image new) super);
+      form = c.self.invariant.form ∙ sym (form_same (current_of image old) (current_of image new) super);
       agrees = if_none new.fault (agrees_committed (g.D.Disk.holding (g.D.Disk.name old.device)) old.buffers new.buffers old.log new.log n c.self.inside.tasks (commit_log g.D.Disk old.device old.buffers old.log new.device new.buffers new.log c.commit_step.result e.write) e.locks joint.log busy (where_none old.fault well c.self.invariant.agrees));
       looks = if_none new.fault (looks_outside (current_of image old) (current_of image new) c.self.inside.inodes c.self.inside.tasks (where_none old.fault well c.self.invariant.looks) c.self.invariant.numbers e.current);
+      logged = if_none new.fault (logged_committed (g.D.Disk.holding (g.D.Disk.name old.device)) (current_of image new) old.log new.log c.self.inside.tasks (commit_log g.D.Disk old.device old.buffers old.log new.device new.buffers new.log c.commit_step.result e.write) joint.log busy);
     }
 
 pub returns : goal.returns

@@ -1,14 +1,14 @@
 use Rattle.std.proofs.Common.{rules, ◌≡◌, sym, subst}
 use Rattle.std.specs.Prelude.{IfNone, None}
-use Rattle.model.specs.Layout.{inode_count_of}
+use Rattle.model.specs.Layout.{form_of, inode_count_of}
 use Rattle.model.specs.Soundness.{IsLawfulGeometry}
 use Rattle.loose.specs.Held.{FitsHeld}
 use Rattle.wal.specs.Volume.{VolumeState}
 use Rattle.inodes.specs.Holding.{claims_of}
 use Rattle.inodes.specs.Looks.{AreLooking}
-use Rattle.inodes.specs.Store.{StoreState, FitsFiles, Agrees, current_of}
+use Rattle.inodes.specs.Store.{StoreState, FitsFiles, Agrees, HaveLogged, current_of}
 use Rattle.inodes.specs.Lemmas.Faults.{where_none, if_none}
-use Rattle.inodes.proofs.StoreKeeps.{agrees_ended}
+use Rattle.inodes.proofs.StoreKeeps.{agrees_ended, logged_ended}
 use Rattle.inodes.proofs.store.Store.end.Goals as goal
 
 pub invariant_of-self : goal.invariant_of-self
@@ -22,9 +22,12 @@ invariant_of-self g c =
       few = c.self.invariant.few;
       geometry = subst (λ (v : VolumeState _). IsLawfulGeometry (current_of image v)) (sym volume) c.self.invariant.geometry;
       numbers = subst (λ (v : VolumeState _). n ≡ inode_count_of (current_of image v)) (sym volume) c.self.invariant.numbers;
+      form = subst (λ (v : VolumeState _). c.self.inside.inodes.form ≡ form_of (current_of image v)) (sym volume) c.self.invariant.form;
       agrees = subst (λ (v : VolumeState _). IfNone v.fault (Agrees v.buffers v.log n c.self.inside.tasks)) (sym volume)
           (if_none old.fault (agrees_ended old.buffers old.log n c.args.pid c.self.inside.tasks (where_none old.fault well c.self.invariant.agrees) (search rules)));
       looks = subst (λ (v : VolumeState _). IfNone v.fault (AreLooking (current_of image v) c.self.inside.inodes c.self.inside.tasks)) (sym volume) c.self.invariant.looks;
+      logged = subst (λ (v : VolumeState _). IfNone v.fault (HaveLogged (current_of image v) v.log c.self.inside.tasks)) (sym volume)
+          (if_none old.fault (logged_ended (current_of image old) old.log c.args.pid c.self.inside.tasks (search rules) (where_none old.fault well c.self.invariant.logged)));
     }
 
 pub returns-clause-files : goal.returns-clause-files

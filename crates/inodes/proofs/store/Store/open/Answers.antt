@@ -2,7 +2,7 @@ use Rattle.std.proofs.Common.{◌≡◌, length, replicate, sym, ◌∙◌, ap, 
 use Rattle.std.specs.Prelude.{IfNone}
 use Rattle.blocks.specs.Disk.{Image}
 use Rattle.model.specs.Files.{files_of}
-use Rattle.model.specs.Layout.{inode_count_of}
+use Rattle.model.specs.Layout.{form_of, inode_count_of}
 use Rattle.model.specs.Soundness.{IsLawfulGeometry}
 use Rattle.loose.specs.Held.{FitsHeld}
 use Rattle.loose.specs.Lemmas.Soundly.{fits_sound}
@@ -15,9 +15,9 @@ use Rattle.inodes.specs.Looks.{AreLooking}
 use Rattle.inodes.specs.Table.{TableState, new_table}
 use Rattle.inodes.specs.Lemmas.Faults.{if_none}
 use Rattle.inodes.specs.Tasks.{TaskState, no_task}
-use Rattle.inodes.specs.Store.{FitsFiles, Agrees, current_of}
+use Rattle.inodes.specs.Store.{FitsFiles, Agrees, HaveLogged, current_of}
 use Rattle.inodes.proofs.LooksKept.{held_opened, looks_opened}
-use Rattle.inodes.proofs.StoreKeeps.{agrees_opened}
+use Rattle.inodes.proofs.StoreKeeps.{agrees_opened, logged_opened}
 use Rattle.inodes.proofs.store.Store.open.Goals as goal
 
 pub invariant_of-result : goal.invariant_of-result
@@ -31,12 +31,15 @@ invariant_of-result g c =
       few = c.requires.few;
       geometry = subst IsLawfulGeometry (sym now) c.requires.sound.geometry;
       numbers = ap (λ (t : TableState). t.inode_count) c.new.ensures ∙ c.requires.numbers ∙ sym (ap inode_count_of now);
+      form = ap (λ (t : TableState). t.form) c.new.ensures ∙ c.requires.form ∙ sym (ap form_of now);
       agrees = subst (λ (v : VolumeState _). IfNone v.fault (Agrees v.buffers v.log c.new.result.inode_count c.args.tasks)) (sym c.requires.volume)
           (subst (λ (ts : List TaskState). Agrees fresh_buffers (new_log (length (image d))) c.new.result.inode_count ts) (sym c.requires.tasks)
           (agrees_opened (new_log (length (image d))) c.new.result.inode_count (length c.args.tasks)));
       looks = subst (λ (t : TableState). IfNone c.args.volume.fault (AreLooking (current_of image c.args.volume) t c.args.tasks)) (sym c.new.ensures)
-          (if_none c.args.volume.fault (subst (λ (x : Image). AreLooking x (new_table n) c.args.tasks) (sym now)
-          (subst (λ (ts : List TaskState). AreLooking (image d) (new_table n) ts) (sym c.requires.tasks) (looks_opened (files_of (image d)) (image d) n (length c.args.tasks) fits c.requires.few))));
+          (if_none c.args.volume.fault (subst (λ (x : Image). AreLooking x (new_table c.args.form n) c.args.tasks) (sym now)
+          (subst (λ (ts : List TaskState). AreLooking (image d) (new_table c.args.form n) ts) (sym c.requires.tasks) (looks_opened c.args.form (files_of (image d)) (image d) n (length c.args.tasks) fits c.requires.few))));
+      logged = subst (λ (ts : List TaskState). IfNone c.args.volume.fault (HaveLogged (current_of image c.args.volume) c.args.volume.log ts)) (sym c.requires.tasks)
+          (if_none c.args.volume.fault (logged_opened (current_of image c.args.volume) c.args.volume.log (length c.args.tasks)));
     }
 
 pub returns-clause-files : goal.returns-clause-files

@@ -1,5 +1,6 @@
 use Rattle.std.proofs.Common.{rules, ◌≡◌, ◌<◌, ◌≤◌, ℕ, cond, length, set, sym, ap, ◌∙◌, subst, Option, Some, None}
 use Rattle.model.specs.declared.types.image.Dinode.{Dinode}
+use Rattle.model.specs.declared.types.image.Form.{Form}
 use Rattle.model.specs.Layout.{inode_of}
 use Rattle.model.specs.declared.types.operations.Reply.{Reply}
 use Rattle.model.specs.declared.types.operations.TaskProgress.TheVariants as task_progress
@@ -15,7 +16,7 @@ use Rattle.inodes.specs.Tasks.{task}
 use Rattle.inodes.specs.Turning.{IsReadable, if_used, reply_when_taken, place_when_taken}
 use Rattle.inodes.proofs.Taking.{can_take, few_bytes, may_lock}
 use Rattle.inodes.proofs.Gripping.{same_task}
-use Rattle.inodes.proofs.TakingSteps.{store_taken, steps_taken, place_taken, inode_taken, readable_taken, count_taken, few_numbers, log_taken}
+use Rattle.inodes.proofs.TakingSteps.{store_taken, steps_taken, place_taken, inode_taken, readable_taken, count_taken, form_taken, few_numbers, log_taken}
 use Rattle.inodes.proofs.store.Store.take.Goals as goal
 use Rattle.inodes.specs.Writing.{extent_of}
 use Rattle.inodes.specs.declared.writei.Extent.{Extent}
@@ -92,8 +93,10 @@ place_when_taken-requires g c =
     let taken = inode_taken g.D.Disk s c.args.pid c.args.op.now c.args.lock c.self.invariant well lt stood is_op joint c.in-Over.is_used c.step.new.self c.step.new.volume c.step.new.table c.in-Over.ensures in
     let is : c.inode_at-inode.result ≡ if_used c.in-Over.is_used (inode_of (current_of g.D.Disk.image s.volume) c.args.lock.number)
     = c.inode_at-inode.ensures ∙ ap (λ (k : ℕ). cond c.in-Over.is_used (copy_at c.step.new.table.places k) None) c.place-place.ensures ∙ taken in
+    let forms : c.form-form.result ≡ s.table.form = c.form-form.ensures ∙ form_taken g.D.Disk s c.args.pid c.args.op.now c.args.lock c.self.invariant well lt stood is_op joint c.in-Over.is_used c.step.new.self c.step.new.volume c.step.new.table c.in-Over.ensures in
+    let same : c.extent_of-extent.result.form ≡ s.table.form = ap (λ (e : Extent). e.form) c.extent_of-extent.ensures ∙ forms in
     record {
-      inode = subst IsReadable (sym is) (readable_taken g.D.Disk s c.args.pid c.args.op.now c.args.lock c.self.invariant well lt stood is_op joint c.in-Over.is_used c.step.new.self c.step.new.volume c.step.new.table c.in-Over.ensures);
+      inode = subst (λ (f : Form). IsReadable f c.inode_at-inode.result) (sym same) (subst (IsReadable s.table.form) (sym is) (readable_taken g.D.Disk s c.args.pid c.args.op.now c.args.lock c.self.invariant well lt stood is_op joint c.in-Over.is_used c.step.new.self c.step.new.volume c.step.new.table c.in-Over.ensures));
       few = few_bytes s.table.inode_count c.args.op.now (can_take g.D.Disk s c.args.pid c.args.op.now c.args.lock c.self.invariant well stood is_op);
     }
 
@@ -108,13 +111,14 @@ invariant_of-self-in-Over g c =
     let taken = inode_taken g.D.Disk s c.args.pid c.args.op.now c.args.lock c.self.invariant well lt stood is_op joint c.in-Over.is_used c.step.new.self c.step.new.volume c.step.new.table c.in-Over.ensures in
     let is : c.inode_at-inode.result ≡ if_used c.in-Over.is_used (inode_of (current_of g.D.Disk.image s.volume) c.args.lock.number)
     = c.inode_at-inode.ensures ∙ ap (λ (k : ℕ). cond c.in-Over.is_used (copy_at c.step.new.table.places k) None) c.place-place.ensures ∙ taken in
+    let forms : c.form-form.result ≡ s.table.form = c.form-form.ensures ∙ form_taken g.D.Disk s c.args.pid c.args.op.now c.args.lock c.self.invariant well lt stood is_op joint c.in-Over.is_used c.step.new.self c.step.new.volume c.step.new.table c.in-Over.ensures in
     let sizes : c.size.result ≡ s.volume.log.size = c.size.ensures ∙ ap (λ (l : LogState). l.size) (c.log.ensures ∙ log_taken g.D.Disk s c.args.pid c.args.op.now c.args.lock c.self.invariant well lt stood is_op joint c.in-Over.is_used c.step.new.self c.step.new.volume c.step.new.table c.in-Over.ensures) in
-    let taken_there : c.extent_of-extent.result ≡ extent_of s.table.inode_count s.volume.log.size
-    = c.extent_of-extent.ensures ∙ ap (λ (n : ℕ). extent_of n c.size.result) (c.inode_count.ensures ∙ count_taken g.D.Disk s c.args.pid c.args.op.now c.args.lock c.self.invariant well lt stood is_op joint c.in-Over.is_used c.step.new.self c.step.new.volume c.step.new.table c.in-Over.ensures) ∙ ap (extent_of s.table.inode_count) sizes in
-    let there : c.place_when_taken.result ≡ place_when_taken (extent_of s.table.inode_count s.volume.log.size) (if_used c.in-Over.is_used (inode_of (current_of g.D.Disk.image s.volume) c.args.lock.number)) (place_of c.step.new.self.at) c.args.op.now
+    let taken_there : c.extent_of-extent.result ≡ extent_of s.table.form s.table.inode_count s.volume.log.size
+    = c.extent_of-extent.ensures ∙ ap (λ (f : Form). extent_of f c.inode_count.result c.size.result) forms ∙ ap (λ (n : ℕ). extent_of s.table.form n c.size.result) (c.inode_count.ensures ∙ count_taken g.D.Disk s c.args.pid c.args.op.now c.args.lock c.self.invariant well lt stood is_op joint c.in-Over.is_used c.step.new.self c.step.new.volume c.step.new.table c.in-Over.ensures) ∙ ap (extent_of s.table.form s.table.inode_count) sizes in
+    let there : c.place_when_taken.result ≡ place_when_taken (extent_of s.table.form s.table.inode_count s.volume.log.size) (if_used c.in-Over.is_used (inode_of (current_of g.D.Disk.image s.volume) c.args.lock.number)) (place_of c.step.new.self.at) c.args.op.now
     = c.place_when_taken.ensures ∙ ap (λ (e : Extent). place_when_taken e c.inode_at-inode.result c.place-place.result c.args.op.now) taken_there
-    ∙ ap (λ (o : Option Dinode). place_when_taken (extent_of s.table.inode_count s.volume.log.size) o c.place-place.result c.args.op.now) is
-    ∙ ap (λ (k : ℕ). place_when_taken (extent_of s.table.inode_count s.volume.log.size) (if_used c.in-Over.is_used (inode_of (current_of g.D.Disk.image s.volume) c.args.lock.number)) k c.args.op.now) c.place-place.ensures in
+    ∙ ap (λ (o : Option Dinode). place_when_taken (extent_of s.table.form s.table.inode_count s.volume.log.size) o c.place-place.result c.args.op.now) is
+    ∙ ap (λ (k : ℕ). place_when_taken (extent_of s.table.form s.table.inode_count s.volume.log.size) (if_used c.in-Over.is_used (inode_of (current_of g.D.Disk.image s.volume) c.args.lock.number)) k c.args.op.now) c.place-place.ensures in
     store_taken g.D.Disk s c.args.pid c.args.op.now c.args.lock c.self.invariant well lt stood is_op joint (progress.Over c.in-Over.is_used) c.step.new.self c.step.new.volume c.step.new.table c.go-in-Over.new.self c.in-Over.ensures
     (c.go-in-Over.ensures ∙ ap (λ (a : Place). set s.tasks c.args.pid (record (task s.tasks c.args.pid) { place = a })) there)
 
@@ -156,18 +160,19 @@ returns-in-Over g c =
     let taken = inode_taken g.D.Disk s c.args.pid c.args.op.now c.args.lock c.self.invariant well lt stood is_op joint c.in-Over.is_used c.step.new.self c.step.new.volume c.step.new.table c.in-Over.ensures in
     let is : c.inode_at-inode.result ≡ if_used c.in-Over.is_used d
     = c.inode_at-inode.ensures ∙ ap (λ (k : ℕ). cond c.in-Over.is_used (copy_at c.step.new.table.places k) None) c.place-place.ensures ∙ taken in
+    let forms : c.form-form.result ≡ s.table.form = c.form-form.ensures ∙ form_taken g.D.Disk s c.args.pid c.args.op.now c.args.lock c.self.invariant well lt stood is_op joint c.in-Over.is_used c.step.new.self c.step.new.volume c.step.new.table c.in-Over.ensures in
     let sizes : c.size.result ≡ s.volume.log.size = c.size.ensures ∙ ap (λ (l : LogState). l.size) (c.log.ensures ∙ log_taken g.D.Disk s c.args.pid c.args.op.now c.args.lock c.self.invariant well lt stood is_op joint c.in-Over.is_used c.step.new.self c.step.new.volume c.step.new.table c.in-Over.ensures) in
-    let taken_there : c.extent_of-extent.result ≡ extent_of s.table.inode_count s.volume.log.size
-    = c.extent_of-extent.ensures ∙ ap (λ (n : ℕ). extent_of n c.size.result) (c.inode_count.ensures ∙ count_taken g.D.Disk s c.args.pid c.args.op.now c.args.lock c.self.invariant well lt stood is_op joint c.in-Over.is_used c.step.new.self c.step.new.volume c.step.new.table c.in-Over.ensures) ∙ ap (extent_of s.table.inode_count) sizes in
-    let there : c.place_when_taken.result ≡ place_when_taken (extent_of s.table.inode_count s.volume.log.size) (if_used c.in-Over.is_used d) (place_of c.step.new.self.at) c.args.op.now
+    let taken_there : c.extent_of-extent.result ≡ extent_of s.table.form s.table.inode_count s.volume.log.size
+    = c.extent_of-extent.ensures ∙ ap (λ (f : Form). extent_of f c.inode_count.result c.size.result) forms ∙ ap (λ (n : ℕ). extent_of s.table.form n c.size.result) (c.inode_count.ensures ∙ count_taken g.D.Disk s c.args.pid c.args.op.now c.args.lock c.self.invariant well lt stood is_op joint c.in-Over.is_used c.step.new.self c.step.new.volume c.step.new.table c.in-Over.ensures) ∙ ap (extent_of s.table.form s.table.inode_count) sizes in
+    let there : c.place_when_taken.result ≡ place_when_taken (extent_of s.table.form s.table.inode_count s.volume.log.size) (if_used c.in-Over.is_used d) (place_of c.step.new.self.at) c.args.op.now
     = c.place_when_taken.ensures ∙ ap (λ (e : Extent). place_when_taken e c.inode_at-inode.result c.place-place.result c.args.op.now) taken_there
-    ∙ ap (λ (o : Option Dinode). place_when_taken (extent_of s.table.inode_count s.volume.log.size) o c.place-place.result c.args.op.now) is
-    ∙ ap (λ (k : ℕ). place_when_taken (extent_of s.table.inode_count s.volume.log.size) (if_used c.in-Over.is_used d) k c.args.op.now) c.place-place.ensures in
-    let says : c.reply_when_taken.result ≡ reply_when_taken (if_used c.in-Over.is_used d) c.args.op.now
-    = c.reply_when_taken.ensures ∙ ap (λ (o : Option Dinode). reply_when_taken o c.args.op.now) is in
+    ∙ ap (λ (o : Option Dinode). place_when_taken (extent_of s.table.form s.table.inode_count s.volume.log.size) o c.place-place.result c.args.op.now) is
+    ∙ ap (λ (k : ℕ). place_when_taken (extent_of s.table.form s.table.inode_count s.volume.log.size) (if_used c.in-Over.is_used d) k c.args.op.now) c.place-place.ensures in
+    let says : c.reply_when_taken.result ≡ reply_when_taken s.table.form (if_used c.in-Over.is_used d) c.args.op.now
+    = c.reply_when_taken.ensures ∙ ap (λ (f : Form). reply_when_taken f c.inode_at-inode.result c.args.op.now) forms ∙ ap (λ (o : Option Dinode). reply_when_taken s.table.form o c.args.op.now) is in
     record {
       step = subst (λ (r : Option Reply). Steps g.D.Disk c.args.self.now c.args.pid c.args.op.now (task_progress.Turned r) (record { volume = c.step.new.volume; tasks = c.go-in-Over.new.self; table = c.step.new.table })) (sym says)
-          (subst (λ (k : StoreState _). Steps g.D.Disk k c.args.pid c.args.op.now (task_progress.Turned (reply_when_taken (if_used c.in-Over.is_used d) c.args.op.now)) (record { volume = c.step.new.volume; tasks = c.go-in-Over.new.self; table = c.step.new.table })) c.self.view_is
+          (subst (λ (k : StoreState _). Steps g.D.Disk k c.args.pid c.args.op.now (task_progress.Turned (reply_when_taken s.table.form (if_used c.in-Over.is_used d) c.args.op.now)) (record { volume = c.step.new.volume; tasks = c.go-in-Over.new.self; table = c.step.new.table })) c.self.view_is
           (steps_taken g.D.Disk s c.args.pid c.args.op.now c.args.lock c.self.invariant well lt stood is_op joint (progress.Over c.in-Over.is_used) c.step.new.self c.step.new.volume c.step.new.table c.go-in-Over.new.self c.in-Over.ensures
           (c.go-in-Over.ensures ∙ ap (λ (a : Place). set s.tasks c.args.pid (record (task s.tasks c.args.pid) { place = a })) there)));
     }

@@ -1,7 +1,7 @@
 use Rattle.std.proofs.Common.{None, rules, refl, replicate, ◌≡◌, ◌≤◌, ℕ, ◌∙◌, sym, ap, subst, length, arith}
 use Rattle.std.proofs.lemmas.List.{length-replicate}
 use Rattle.blocks.specs.Disk.{Image}
-use Rattle.model.specs.Layout.{is_lawful_super, inode_count_of}
+use Rattle.model.specs.Layout.{form_of, is_lawful_super, inode_count_of}
 use Rattle.model.specs.Log.{recovered}
 use Rattle.model.specs.Soundness.{IsSound}
 use Rattle.model.specs.Lemmas.Log.{length-recovered}
@@ -18,7 +18,7 @@ use Rattle.inodes.specs.Tasks.{no_task}
 use Rattle.journal.specs.Processes.{World, fresh_world}
 use Rattle.kernel.specs.Invariant.{IsRight, ArePorts}
 use Rattle.kernel.proofs.AtOpening.{right_new}
-use Rattle.kernel.proofs.Openings.{super_size, lawful_here, recover_cause, syncs_at_open, opened_numbers, empty_left, recover_unwritten, store_is}
+use Rattle.kernel.proofs.Openings.{super_size, lawful_here, recover_cause, syncs_at_open, opened_form, opened_numbers, empty_left, recover_unwritten, store_is}
 use Rattle.kernel.proofs.Ports.{ports_new}
 use Rattle.kernel.specs.Lemmas.Openings.{opened_leaves, lawful_super}
 use Rattle.kernel.proofs.stepping.Kernel.open.Goals as goal
@@ -55,6 +55,12 @@ open-store-requires-clause-numbers g c =
     let x = g.D.Disk.image c.args.disk in
     let left : g.D.Disk.image c.recover.new.disk ≡ recovered x = c.in_default-recover.ensures.ok.image ∙ ap recovered c.check.ensures.reads.image in
     opened_numbers x (g.D.Disk.image c.open.result.device) c.in-Ok.report.sup c.in-Ok.ensures.ok c.in-Ok.ensures.report.sup (ap (λ (v : VolumeState _). g.D.Disk.image v.device) c.open.ensures.volume ∙ left)
+
+pub open-store-requires-clause-form : goal.open-store-requires-clause-form
+open-store-requires-clause-form g c =
+    let x = g.D.Disk.image c.args.disk in
+    let left : g.D.Disk.image c.recover.new.disk ≡ recovered x = c.in_default-recover.ensures.ok.image ∙ ap recovered c.check.ensures.reads.image in
+    opened_form x (g.D.Disk.image c.open.result.device) c.in-Ok.report.form c.in-Ok.ensures.ok c.in-Ok.ensures.report.form (ap (λ (v : VolumeState _). g.D.Disk.image v.device) c.open.ensures.volume ∙ left)
 
 pub invariant_of-result : goal.invariant_of-result
 invariant_of-result g c =
@@ -113,8 +119,8 @@ returns-clause-opened g c =
       few = few;
       sound = c.in-Ok.ensures.ok;
       opening = ap g.D.Disk.image opening ∙ left;
-      store = c.open-store.ensures.store ∙ store_is c.open.result (fresh_volume g.D.Disk.image c.of-opening.result.value) c.in-Ok-take_memory.memory.tasks (replicate c.args.processes no_task) c.in-Ok.report.sup.ninodes (inode_count_of x)
-          (c.open.ensures.volume ∙ ap (fresh_volume g.D.Disk.image) (sym opening)) c.in-Ok-take_memory.ensures.tasks (ap (λ (o : Super). o.ninodes) c.in-Ok.ensures.report.sup);
+      store = c.open-store.ensures.store ∙ store_is c.open.result (fresh_volume g.D.Disk.image c.of-opening.result.value) c.in-Ok-take_memory.memory.tasks (replicate c.args.processes no_task) c.in-Ok.report.form (form_of x) c.in-Ok.report.sup.ninodes (inode_count_of x)
+          (c.open.ensures.volume ∙ ap (fresh_volume g.D.Disk.image) (sym opening)) c.in-Ok-take_memory.ensures.tasks c.in-Ok.ensures.report.form (ap (λ (o : Super). o.ninodes) c.in-Ok.ensures.report.sup);
       world = c.in-Ok-take_memory.ensures.processes;
       intake = refl;
       herald = refl;

@@ -1,6 +1,7 @@
-use Rattle.std.proofs.Common.{rules, refl, ◌≡◌, ◌<◌, length, None, Some, ◌∙◌, sym, ap, subst, ℕ}
+use Rattle.std.proofs.Common.{rules, refl, ◌≡◌, ◌<◌, ◌⊎◌, inl, inr, length, None, Some, ◌∙◌, sym, ap, subst, ℕ}
 use Rattle.blocks.specs.declared.disk.Disk.{Ghosts}
 use Rattle.model.specs.declared.types.operations.Op.{Op}
+use Rattle.model.specs.declared.types.operations.Reply.{Reply}
 use Rattle.model.specs.declared.types.operations.TaskProgress.{TaskProgress}
 use Rattle.model.specs.declared.types.operations.TaskProgress.TheVariants as progress
 use Rattle.wal.specs.Volume.{fault_of_task}
@@ -19,7 +20,7 @@ use Rattle.kernel.proofs.Acting.{acts_worked}
 use Rattle.kernel.proofs.Ports.{ports_turned}
 use Rattle.kernel.proofs.Valid.{HasAgreed, agreed_now}
 use Rattle.kernel.proofs.Right.{survives_reading}
-use Rattle.kernel.proofs.Working.{right_moved, right_turned, right_fault}
+use Rattle.kernel.proofs.Working.{not_decided, not_over, right_moved, right_turned, right_fault}
 use Rattle.kernel.proofs.stepping.Kernel.work.Given.{Over}
 use Rattle.kernel.proofs.stepping.Kernel.work.Goals.{After-known-2}
 use Rattle.kernel.proofs.stepping.Kernel.work.Goals as goal
@@ -100,6 +101,16 @@ invariant_of-self-in-Fault g c =
           (survives_reading g.D.Disk k.opening.value k.store c.step-progress.new.self g.met.D.Disk.counts_now steps.reads.device h.well c.known.ensures.survives) steps;
       ports = subst (λ (n : ℕ). ArePorts g.I.Intake g.H.Herald k.intake k.herald n k.processes) (sym steps.groups.committed) c.self.invariant.ports;
     }
+
+pub unreachable-requires-in-Decided : goal.unreachable-requires-in-Decided
+unreachable-requires-in-Decided g c = by_end c.in-Decided.is
+  where
+    h : Head g.D.Disk c.self.inside.store c.step-progress.new.self c.self.inside.processes c.args.pid c.in-Before.group c.in-Before.op c.step-progress.result
+    h = head g (goal.at.unreachable-requires-in-Decided g c).After-known-2
+
+    by_end : ((reply : Reply) × (c.step-progress.result ≡ progress.Decided reply)) ⊎ (c.step-progress.result ≡ progress.Over) → ⊥
+    by_end (inl told) = not_decided g.D.Disk c.self.inside.opening.value c.self.inside.store c.self.inside.processes c.self.invariant.right h.well c.args.pid h.within c.in-Before.op h.mine c.known.ensures.store c.step-progress.new.self c.in-Before.group h.stands told.0 (h.steps (progress.Decided told.0) told.1)
+    by_end (inr over) = not_over g.D.Disk c.self.inside.opening.value c.self.inside.store c.self.inside.processes c.self.invariant.right h.well c.args.pid h.within c.in-Before.op h.mine c.known.ensures.store c.step-progress.new.self c.in-Before.group h.stands (h.steps progress.Over over)
 
 pub returns-in-Moved : goal.returns-in-Moved
 returns-in-Moved g c = acts g (goal.at.returns-in-Moved g c).After-known-2 progress.Moved c.self.inside.processes c.in-Moved.is refl
