@@ -1,0 +1,5 @@
+pub mod Standing
+pub mod Chunks
+pub mod EntryBytes
+pub mod Changes
+pub mod Keeping

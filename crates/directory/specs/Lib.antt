@@ -1,0 +1,4 @@
+pub mod Entries
+pub mod Names
+pub mod Writes
+pub mod Laws

@@ -1,0 +1,17 @@
+// What a stop leaves of the directory of a kernel.
+ghost use Rattle.named_files.specs.Stops.{LinksLast};
+
+use blocks::Disk;
+use directory::laws::committed_names_lead;
+use kernel::Kernel;
+use ports::{Herald, Intake};
+
+/// Does nothing: it says what a stop now leaves of a kernel's directory. A name whose link is among
+/// the committed groups, and whose entry the later operations of these spare, leads to its file in
+/// the recovered image.
+pub fn links_last<D: Disk, I: Intake, H: Herald>(kernel: &Kernel<D, I, H>)
+    ensures { LinksLast D.Disk kernel.now }
+{
+    kernel.known();
+    committed_names_lead();
+}
