@@ -15,9 +15,9 @@ ghost use Rattle.layout.specs.Owners.{SameLimits, JudgesPointers, entry_pointers
 use crate::entries;
 use crate::format::{ADDRESSES_PER_BLOCK, depths, reach};
 use crate::owners::{Owners, pointer};
-use crate::recovered::read_recovered;
+use crate::recovered::Recovered;
 use blocks::{Block, Disk};
-use model::types::{CheckFault, Dinode, Form};
+use model::types::{CheckFault, Dinode};
 
 // An address of an inode or of a block of addresses.
 #[derive(Clone, Copy)]
@@ -34,14 +34,14 @@ struct Branch {
 #[cycle(levels)]
 fn claim_under<D: Disk>(
     disk: &mut D,
-    homes: &[u32],
+    image: &Recovered,
     owners: &mut Owners,
     entries: &mut Block,
     i: u32,
     size: u32,
     branch: Branch,
 ) -> Result<(), CheckFault>
-    requires judging { MayClaim (D.image disk.old) homes.now owners.old }
+    requires judging { MayClaim (D.image disk.old) image.now owners.old }
     requires shallow { branch.depth ≤ 2 }
     requires early { branch.first + branch.depth * addresses_per_block ^ 2 < 2 ^ 22 }
     ensures reads { OnlyReads D.Disk disk.old disk.new }
@@ -55,21 +55,21 @@ fn claim_under<D: Disk>(
     if branch.depth == 0 || branch.address == 0 {
         return Ok(());
     }
-    claim_entries(disk, homes, owners, entries, i, size, branch)
+    claim_entries(disk, image, owners, entries, i, size, branch)
 }
 
 // Notes where the blocks stand that are under the entries of a block of addresses.
 #[cycle(levels)]
 fn claim_entries<D: Disk>(
     disk: &mut D,
-    homes: &[u32],
+    image: &Recovered,
     owners: &mut Owners,
     entries: &mut Block,
     i: u32,
     size: u32,
     branch: Branch,
 ) -> Result<(), CheckFault>
-    requires judging { MayClaim (D.image disk.old) homes.now owners.old }
+    requires judging { MayClaim (D.image disk.old) image.now owners.old }
     requires inside { (inode_start ≤ branch.address)
         × (branch.address < length (D.image disk.old)) }
     requires deep { (1 ≤ branch.depth) × (branch.depth ≤ 2) }
@@ -82,7 +82,7 @@ fn claim_entries<D: Disk>(
         (words_of (block_at (recovered (D.image disk.old)) branch.address)))
         (D.fault_count disk.old) (D.fault_count disk.new) owners.old owners.new result }
 {
-    read_recovered(disk, homes, branch.address, entries)?;
+    image.block(disk, branch.address, entries)?;
     let addresses = entries::read_all(entries);
     let depth = branch.depth - 1;
     let step = reach(depth);
@@ -93,7 +93,7 @@ fn claim_entries<D: Disk>(
             depth,
             first,
         };
-        claim_under(disk, homes, owners, entries, i, size, entry)?;
+        claim_under(disk, image, owners, entries, i, size, entry)?;
         first += step;
     }
     Ok(())
@@ -102,24 +102,23 @@ fn claim_entries<D: Disk>(
 // Notes where the blocks of an inode stand, in the order of its addresses.
 pub(crate) fn claim_inode<D: Disk>(
     disk: &mut D,
-    homes: &[u32],
+    image: &Recovered,
     owners: &mut Owners,
     entries: &mut Block,
     i: u32,
     inode: &Dinode,
-    form: Form,
 ) -> Result<(), CheckFault>
-    requires judging { MayClaim (D.image disk.old) homes.now owners.old }
+    requires judging { MayClaim (D.image disk.old) image.now owners.old }
     requires addresses { length inode.now.addrs ≡ 13 }
     ensures reads { OnlyReads D.Disk disk.old disk.new }
     ensures faults { KeepsFaults result (D.fault_count disk.old) (D.fault_count disk.new) }
     ensures limits { SameLimits owners.old owners.new }
     ensures judged { JudgesPointers (recovered (D.image disk.old)) i
         (pointers_along (recovered (D.image disk.old)) inode.now.size 0
-        (depths form) inode.now.addrs)
+        (depths image.now.form) inode.now.addrs)
         (D.fault_count disk.old) (D.fault_count disk.new) owners.old owners.new result }
 {
-    let depths = depths(form);
+    let depths = depths(image.form);
     let mut first = 0;
     for k in 0..depths.len() {
         let depth = depths[k];
@@ -128,7 +127,7 @@ pub(crate) fn claim_inode<D: Disk>(
             depth,
             first,
         };
-        claim_under(disk, homes, owners, entries, i, inode.size, branch)?;
+        claim_under(disk, image, owners, entries, i, inode.size, branch)?;
         first += reach(depth);
     }
     Ok(())

@@ -53,8 +53,8 @@ pub claim_entries-loop-k-init : goal.claim_entries-loop-k-init
 claim_entries-loop-k-init g t c =
     let y = recovered (g.D.Disk.image c.args.disk.now) in
     record {
-      reads = c.read_recovered.ensures.reads;
-      faults = c.in_ok-read_recovered.ensures.faults;
+      reads = c.block.ensures.reads;
+      faults = c.in_ok-block.ensures.faults;
       limits = record { first = refl; size = refl };
       early = omega arith;
       judged = λ earlier stand. judged_none y c.args.i earlier (entry_pointers y c.args.size (c.args.branch.depth - 1) c.args.branch.first c.read_all-addresses.result) c.args.owners.now stand;
@@ -72,7 +72,7 @@ claim_entries-returns-in_err-claim_under-clause-judged g t c = λ earlier stand.
     let entry = get_or entries k 0 in
     let old = d.fault_count c.args.disk.now in
     let new = d.fault_count c.claim_under.new.disk in
-    let words : entries ≡ words_of (block_at y c.args.branch.address) = c.read_all-addresses.ensures.value ∙ ap words_of c.in_ok-read_recovered.ensures.ok in
+    let words : entries ≡ words_of (block_at y c.args.branch.address) = c.read_all-addresses.ensures.value ∙ ap words_of c.in_ok-block.ensures.ok in
     let fault = c.in_err-claim_under.field-0.0 in
     let under = judged_same (d.image c.loop-k.disk) (d.image c.args.disk.now) c.args.i (λ (z : Image). pointers_under z size depth first entry) (d.fault_count c.loop-k.disk) old new
     c.loop-k.owners c.claim_under.new.owners (Err fault) c.loop-k.invariant.reads.image c.loop-k.invariant.faults c.in_err-claim_under.ensures.judged in
@@ -120,7 +120,7 @@ claim_entries-returns-clause-judged g t c = λ earlier stand.
     let k = c.loop-k.k in
     let old = d.fault_count c.args.disk.now in
     let new = d.fault_count c.loop-k.disk in
-    let words : entries ≡ words_of (block_at y c.args.branch.address) = c.read_all-addresses.ensures.value ∙ ap words_of c.in_ok-read_recovered.ensures.ok in
+    let words : entries ≡ words_of (block_at y c.args.branch.address) = c.read_all-addresses.ensures.value ∙ ap words_of c.in_ok-block.ensures.ok in
     subst (λ (ws : List ℕ). JudgesOn y c.args.i earlier (entry_pointers y size depth c.args.branch.first ws) old new c.loop-k.owners (Ok tt)) words
     (judged_all y c.args.i earlier (entry_pointers y size depth c.args.branch.first entries) (entry_pointers y size depth c.loop-k.first (drop k entries))
     old new c.loop-k.owners (c.loop-k.invariant.judged earlier stand)

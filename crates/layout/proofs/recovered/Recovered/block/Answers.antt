@@ -4,13 +4,14 @@ use Rattle.std.proofs.lemmas.Result.{on_ok_weaker}
 use Rattle.blocks.specs.Disk.{block_at}
 use Rattle.layout.specs.Cause.{source_among}
 use Rattle.layout.proofs.CheckLemmas.{recovered_source}
-use Rattle.layout.proofs.recovered.read_recovered.Goals as goal
+use Rattle.layout.proofs.recovered.Recovered.block.Goals as goal
 
 pub returns-clause-ok : goal.returns-clause-ok
 returns-clause-ok g c =
     let x = g.D.Disk.image c.args.disk.now in
+    let homes = c.as_slice.ensures.value ∙ c.requires.recovered.header.homes in
     on_ok_weaker c.read.result
     (λ got. sym (get_or_from_slice_get x c.source_of-source.result c.read.new.into [] got)
-    ∙ ap (block_at x) (c.source_of-source.ensures.source ∙ ap (λ homes. source_among homes c.args.b) c.requires.log.same)
-    ∙ sym (recovered_source x c.args.b (omega (arith, c.requires.behind)) c.requires.inside))
+    ∙ ap (block_at x) (c.source_of-source.ensures.source ∙ ap (λ hs. source_among hs c.args.b) homes)
+    ∙ sym (recovered_source x c.args.b c.requires.other c.requires.inside))
     c.read.ensures.ok
