@@ -1,5 +1,5 @@
 -- The files of a sound image may be read.
-use Rattle.std.proofs.Common.{◌≡◌, ◌≢◌, ℕ, zero, suc, ◌+◌, ◌-◌, ◌*◌, ◌/◌, ◌%◌, ◌^◌, ◌<◌, ◌≤◌, true, List, [], ◌∷◌, ◌++◌, length, get_or, Option, Some, None, refl, sym, ap, subst, ◌∙◌, ⊎_elim, arith}
+use Rattle.std.proofs.Common.{◌≡◌, ◌≢◌, ℕ, zero, suc, ◌+◌, ◌-◌, ◌*◌, ◌/◌, ◌%◌, ◌^◌, ◌<◌, ◌≤◌, List, [], ◌∷◌, length, get_or, Option, Some, None, refl, sym, subst, ◌∙◌, ⊎_elim, arith}
 use Rattle.std.specs.Prelude.{All}
 use Rattle.std.specs.List.{flat_map, AllByRecursion}
 use Rattle.std.proofs.lemmas.Bool.{ne_eqb, cases_eq, cases_lt, lt-ltb, le-ltb}
@@ -17,7 +17,7 @@ use Rattle.model.specs.Fields.{words_of}
 use Rattle.model.specs.Layout.{reach, depths, form_of, greatest_size, inode_of, inode_block, inode_count_of}
 use Rattle.model.specs.Log.{recovered, homes_of, place_among}
 use Rattle.model.specs.Names.{names_under, names_along, names_of}
-use Rattle.model.specs.Places.{pointers_under, pointers_behind, pointers_along, pointers_in, pointers_of, addresses_in, address_under, address_along, address_in}
+use Rattle.model.specs.Places.{pointers_under, pointers_behind, pointers_along, pointers_of, addresses_in, address_under, address_along, address_in}
 use Rattle.model.specs.Soundness.{IsSound, IsFilled, IsLawfulInode}
 use Rattle.model.specs.Lemmas.Codecs.{length-words_of-block}
 use Rattle.model.specs.Lemmas.Counts.{AllByRecursion-parts, All-range_at}
@@ -69,10 +69,10 @@ under_leads y (suc depth) k address all = λ some.
     let parts : AllByRecursion (LiesBehindLog y) (address ∷ flat_map (λ a. names_under y depth a) words) = rw (ne_eqb address 0 some) at all in (
       parts.0,
       ⊎_elim
-      (λ (low : e < length words).
-      under_leads y depth (k % reach depth) (get_or words e 0) (flat_at (LiesBehindLog y) (λ a. names_under y depth a) words e parts.1 low))
-      (λ (past : length words ≤ e). rw (get_or_past words e 0 past) (leads_none y depth (k % reach depth)))
-      (cases_lt e (length words)),
+          (λ (low : e < length words).
+          under_leads y depth (k % reach depth) (get_or words e 0) (flat_at (LiesBehindLog y) (λ a. names_under y depth a) words e parts.1 low))
+          (λ (past : length words ≤ e). rw (get_or_past words e 0 past) (leads_none y depth (k % reach depth)))
+          (cases_lt e (length words)),
     )
 
 along_leads : (y : Image) (k : ℕ) (ds addresses : List ℕ) → AllByRecursion (LiesBehindLog y) (names_along y ds addresses) → LeadsAlong y k ds addresses

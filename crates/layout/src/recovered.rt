@@ -86,12 +86,7 @@ impl Recovered {
     /// # Errors
     ///
     /// `DiskFault` where the disk fails. What `into` holds is then not said.
-    pub fn block<D: Disk>(
-        &self,
-        disk: &mut D,
-        b: u32,
-        into: &mut Block,
-    ) -> Result<(), DiskFault>
+    pub fn block<D: Disk>(&self, disk: &mut D, b: u32, into: &mut Block) -> Result<(), DiskFault>
         requires recovered { IsRecoveredOf (D.image disk.old) self.now }
         requires other { b ≢ log_start }
         requires inside { b < length (D.image disk.old) }

@@ -1,14 +1,12 @@
-use Rattle.std.proofs.Common.{◌≡◌, ◌∙◌, ◌≤◌, ◌<◌, ◌+◌, ◌-◌, ◌/◌, ◌%◌, ℕ, ap, sym, subst, arith, get_or}
+use Rattle.std.proofs.Common.{◌≡◌, ◌<◌, ◌/◌, ◌%◌, ℕ, ap, sym, subst, arith}
 use Rattle.std.specs.Prelude.{IfOk}
 use Rattle.std.proofs.Math.Nat.{mod-lt}
-use Rattle.blocks.specs.Disk.{Image, CountsFault, block_at}
+use Rattle.blocks.specs.Disk.{Image, CountsFault}
 use Rattle.blocks.specs.Lemmas.Reads.{reads_then}
-use Rattle.model.specs.Fields.{words_of}
-use Rattle.model.specs.Layout.{reach}
 use Rattle.model.specs.Log.{recovered}
 use Rattle.model.specs.Lemmas.Log.{length-recovered}
 use Rattle.layout.specs.Recovered.{IsRecoveredOf}
-use Rattle.layout.proofs.WayLemmas.{reach_pos, under_zero, under_flat, entry_inside, leads_block, leads_next, under_next}
+use Rattle.layout.proofs.WayLemmas.{under_zero, under_flat, entry_inside, leads_block, leads_next, under_next}
 use Rattle.layout.proofs.recovered.Recovered.+address_under.Goals as goal
 
 pub returns-then-depth-eq0-clause-ok : goal.returns-then-depth-eq0-clause-ok

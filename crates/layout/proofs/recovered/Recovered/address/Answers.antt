@@ -1,7 +1,7 @@
-use Rattle.std.proofs.Common.{◌≡◌, ◌∙◌, ◌<◌, ◌≤◌, ℕ, List, length, ap, sym, subst, refl, arith, get_or}
+use Rattle.std.proofs.Common.{◌≡◌, ◌∙◌, ◌<◌, ◌≤◌, ℕ, List, length, ap, sym, subst, refl, arith}
 use Rattle.std.specs.Prelude.{IfOk}
 use Rattle.blocks.specs.Lemmas.Reads.{reads_none}
-use Rattle.model.specs.Layout.{depths, reach}
+use Rattle.model.specs.Layout.{depths}
 use Rattle.model.specs.Log.{recovered}
 use Rattle.layout.specs.Recovered.{LeadsAlong}
 use Rattle.layout.proofs.CheckLemmas.{form_recovered}
