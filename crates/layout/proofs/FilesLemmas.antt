@@ -1,5 +1,5 @@
 -- The files of a sound image may be read.
-use Rattle.std.proofs.Common.{◌≡◌, ◌≢◌, ℕ, zero, suc, ◌+◌, ◌-◌, ◌*◌, ◌/◌, ◌%◌, ◌^◌, ◌<◌, ◌≤◌, List, [], ◌∷◌, length, get_or, Option, Some, None, refl, sym, subst, ◌∙◌, ⊎_elim, arith}
+use Rattle.std.proofs.Common.{◌≡◌, ◌≢◌, ℕ, zero, suc, ◌+◌, ◌-◌, ◌*◌, ◌/◌, ◌%◌, ◌^◌, ◌<◌, ◌≤◌, List, [], ◌∷◌, length, get_or, Option, Some, None, refl, ap, sym, subst, ◌∙◌, ⊎_elim, arith}
 use Rattle.std.specs.Prelude.{All}
 use Rattle.std.specs.List.{flat_map, AllByRecursion}
 use Rattle.std.proofs.lemmas.Bool.{ne_eqb, cases_eq, cases_lt, lt-ltb, le-ltb}
@@ -13,6 +13,7 @@ use Rattle.model.specs.declared.types.image.Dinode.{Dinode}
 use Rattle.model.specs.declared.types.image.Form.{Form}
 use Rattle.model.specs.declared.types.image.Form.TheVariants.{One, Two}
 use Rattle.model.specs.declared.types.image.Pointer.{Pointer}
+use Rattle.model.specs.declared.types.image.Super.{Super}
 use Rattle.model.specs.Fields.{words_of}
 use Rattle.model.specs.Layout.{reach, depths, form_of, greatest_size, inode_of, inode_block, inode_count_of}
 use Rattle.model.specs.Log.{recovered, homes_of, place_among}
@@ -26,9 +27,10 @@ use Rattle.model.specs.Lemmas.Inodes.{is_dinode-inode_of}
 use Rattle.model.specs.Lemmas.Log.{length-recovered}
 use Rattle.model.specs.Lemmas.Names.{pointers_named}
 use Rattle.model.specs.Lemmas.Recovery.{few_homes, place_below}
-use Rattle.model.specs.Lemmas.Soundness.{IsInData, facts_of, long_geometry, inode_in_data}
+use Rattle.model.specs.Lemmas.Super.{super_of-recovered}
+use Rattle.model.specs.Lemmas.Soundness.{verdict_sound, IsInData, facts_of, long_geometry, inode_in_data}
 use Rattle.layout.specs.Cause.{source_at}
-use Rattle.layout.specs.Laws.{SoundFilesMayBeRead}
+use Rattle.layout.specs.Laws.{CheckedFilesMayBeRead}
 use Rattle.layout.specs.Recovered.{LiesBehindLog, LeadsUnder, LeadsAlong, MayReadFile}
 use Rattle.layout.proofs.CheckLemmas.{recovered_source}
 use Rattle.layout.proofs.WayLemmas.{reach_pos}
@@ -269,5 +271,9 @@ module _ (x : Image) (i : ℕ) (is : IsImage x) (sound : IsSound (recovered x)) 
     blocks = λ k need. along_names (LiesBehindLog y) y k (depths (form_of y)) d.addrs behind (needed k need);
   }
 
-pub sound_files_may_be_read : SoundFilesMayBeRead
-sound_files_may_be_read x i is sound low high used = may_read x i is sound low high used
+pub checked_files_may_be_read : CheckedFilesMayBeRead
+checked_files_may_be_read x i is none low high used =
+    let sound = verdict_sound x none in
+    let long = long_geometry x sound.0 in
+    let same : inode_count_of (recovered x) ≡ inode_count_of x = ap (λ (s : Super). s.ninodes) (super_of-recovered x sound.1 (omega (arith, long))) in
+    may_read x i is sound.2 low (omega (arith, high, same)) used
