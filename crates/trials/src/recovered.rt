@@ -7,12 +7,16 @@ use std::test::Fail;
 
 // The blocks of the file, and its bytes: the last block is behind two blocks of addresses.
 const FILE_BLOCKS: u32 = 268;
+
 const FILE_SIZE: u32 = 267 * 1024 + 100;
 
 // The file's blocks stand from here on, and behind them its blocks of addresses.
 const FIRST: u32 = 36;
+
 const NEAR: u32 = FIRST + FILE_BLOCKS;
+
 const FAR: u32 = NEAR + 1;
+
 const BELOW: u32 = NEAR + 2;
 
 fn put(disk: &mut MemDisk, b: u32, block: &Block) -> Result<(), Fail> {
