@@ -19,13 +19,10 @@ reach_pos (suc depth) = let p = reach_pos depth in let e = pow-suc 256 depth in 
 
 -- ---- down from an address
 
--- no block stands behind none, and an address of data is the block's
+-- no block stands behind none
 pub under_zero : (y : Image) (depth k address : ℕ) → address ≡ 0 → 0 ≡ address_under y depth k address
 under_zero y zero k address none = sym none
 under_zero y (suc depth) k address none = rw none refl
-
-pub under_flat : (y : Image) (depth k address : ℕ) → depth ≡ 0 → address ≡ address_under y depth k address
-under_flat y depth k address flat = rw flat refl
 
 -- the entry of the way is one of the block's
 pub entry_inside : (depth k : ℕ) → depth ≢ 0 → k < reach depth → k / reach (depth - 1) < 256

@@ -1,16 +1,12 @@
 use Rattle.std.proofs.Common.{◌≡◌, ◌<◌, ◌/◌, ◌%◌, ℕ, ap, sym, subst, arith}
 use Rattle.std.specs.Prelude.{IfOk}
 use Rattle.std.proofs.Math.Nat.{mod-lt}
-use Rattle.blocks.specs.Disk.{Image, CountsFault}
-use Rattle.blocks.specs.Lemmas.Reads.{reads_then}
+use Rattle.blocks.specs.Disk.{Image}
 use Rattle.model.specs.Log.{recovered}
 use Rattle.model.specs.Lemmas.Log.{length-recovered}
 use Rattle.layout.specs.Recovered.{IsRecoveredOf}
-use Rattle.layout.proofs.WayLemmas.{under_zero, under_flat, entry_inside, leads_block, leads_next, under_next}
+use Rattle.layout.proofs.WayLemmas.{under_zero, entry_inside, leads_block, leads_next, under_next}
 use Rattle.layout.proofs.recovered.Recovered.+address_under.Goals as goal
-
-pub returns-then-depth-eq0-clause-ok : goal.returns-then-depth-eq0-clause-ok
-returns-then-depth-eq0-clause-ok g t c = under_flat (recovered (g.D.Disk.image c.args.disk.now)) c.args.depth c.args.k c.args.address c.if-depth-eq0.true
 
 pub returns-then-address-eq0-clause-ok : goal.returns-then-address-eq0-clause-ok
 returns-then-address-eq0-clause-ok g t c = under_zero (recovered (g.D.Disk.image c.args.disk.now)) c.args.depth c.args.k c.args.address c.if-address-eq0.true
@@ -63,10 +59,3 @@ returns-clause-ok g t c =
     (under_next (recovered x) (recovered (d.image c.block.new.disk)) c.args.depth c.args.k c.args.address c.reach-blocks.result c.entry-next.result c.block.new.into
     c.if-depth-eq0.false c.if-address-eq0.false (ap recovered c.block.ensures.reads.image) c.reach-blocks.ensures.value c.in_ok-block.ensures.ok c.entry-next.ensures)
     c.address_under.ensures.ok
-
-pub returns-clause-reads : goal.returns-clause-reads
-returns-clause-reads g t c = reads_then g.D.Disk c.args.disk.now c.block.new.disk c.address_under.new.disk c.block.ensures.reads c.address_under.ensures.reads
-
-pub returns-clause-faults : goal.returns-clause-faults
-returns-clause-faults g t c =
-    subst (λ (n : ℕ). CountsFault c.address_under.result n (g.D.Disk.fault_count c.address_under.new.disk)) c.in_ok-block.ensures.faults c.address_under.ensures.faults

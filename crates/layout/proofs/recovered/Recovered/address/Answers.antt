@@ -18,9 +18,6 @@ loop-j-init g c =
           (ap depths (form_recovered x c.args.self.now c.requires.recovered) ∙ sym c.depths-depths.ensures.value) c.requires.way.leads;
     }
 
-pub address_under-requires-clause-recovered : goal.address_under-requires-clause-recovered
-address_under-requires-clause-recovered g c = rw c.loop-j.invariant.disk c.requires.recovered
-
 pub address_under-requires-clause-leads : goal.address_under-requires-clause-leads
 address_under-requires-clause-leads g c =
     let addresses = c.args.inode.now.addrs in
@@ -73,6 +70,3 @@ returns-clause-ok g c =
 
 pub returns-clause-reads : goal.returns-clause-reads
 returns-clause-reads g c = rw c.loop-j.invariant.disk (reads_none g.D.Disk c.args.disk.now)
-
-pub returns-clause-faults : goal.returns-clause-faults
-returns-clause-faults g c = ap g.D.Disk.fault_count c.loop-j.invariant.disk
