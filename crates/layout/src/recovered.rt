@@ -156,7 +156,7 @@ impl Recovered {
         Ok(0)
     }
 
-    // The number of the block at place k behind an address of that depth, and 0 where there is none.
+    // The number of the block at place k behind an address of that depth, 0 where there is none.
     fn address_under<D: Disk>(
         &self,
         disk: &mut D,
@@ -211,9 +211,9 @@ impl Recovered {
         self.block(disk, address, into)
     }
 
-    /// Reads the bytes of an inode's file from place `at` on, as many as `into` has. Each block that
-    /// has some of them is read, in order, and before it the blocks of addresses on the way to it.
-    /// `block` is room for these: what it holds afterwards is not said.
+    /// Reads the bytes of an inode's file from place `at` on, as many as `into` has. Each block
+    /// that has some of them is read, in order, and before it the blocks of addresses on the way to
+    /// it. `block` is room for these: what it holds afterwards is not said.
     ///
     /// # Errors
     ///
