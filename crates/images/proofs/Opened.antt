@@ -10,7 +10,7 @@ use Rattle.model.specs.declared.types.image.Form.{Form}
 use Rattle.model.specs.Layout.{planned_super}
 use Rattle.texts.specs.Output.{numbers_text}
 use Rattle.texts.specs.declared.refusal.Refusal.{Refusal}
-use Rattle.texts.specs.declared.refusal.Refusal.TheVariants.{File, Mkfs, Check, Recover, Open, Script, Schedule, Disk, Cat, Run, Stops, Input, Output}
+use Rattle.texts.specs.declared.refusal.Refusal.TheVariants.{File, Mkfs, Check, Recover, Open, Script, Schedule, Disk, Cat, Run, Stops, Ls, Show, Put, Copy, Input, Output}
 use Rattle.scripts.specs.declared.schedule.ScheduleFault.{ScheduleFault}
 use Rattle.scripts.specs.declared.script.ScriptFault.{ScriptFault}
 use Rattle.images.specs.Files.{IsMade, IsOfFile, IsOpened, OnDiskRefusal, OpensDisk}
@@ -45,6 +45,10 @@ module _ {F N : Type 0} (remaining : F → Option (List ℕ)) (disk : Ghosts (Fi
   refuses_disk opened now none P is f g h (Run fault) why = (opened, (now, is, why))
   refuses_disk opened now none P is f g h (Stops fault) why = (opened, (now, is, why))
   refuses_disk opened now none P is f g h (Input fault) why = (opened, (now, is, why))
+  refuses_disk opened now none P is f g h (Ls fault) why = (opened, (now, is, why))
+  refuses_disk opened now none P is f g h (Show fault) why = (opened, (now, is, why))
+  refuses_disk opened now none P is f g h (Put fault) why = (opened, (now, is, why))
+  refuses_disk opened now none P is f g h (Copy fault) why = (opened, (now, is, why))
   refuses_disk opened now none P is f g h Output why = (opened, (now, is, why))
 
   -- where none was opened, the refusal is of the file

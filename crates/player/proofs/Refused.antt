@@ -12,7 +12,7 @@ use Rattle.opening.specs.Recoveries.{IsUnrecovered}
 use Rattle.player.specs.Opening.{HasNotBegun, IsNotReplayed, IsPlayedOn, IsReadyOver, Replays}
 use Rattle.player.specs.declared.player.Player.{Player}
 use Rattle.texts.specs.declared.refusal.Refusal.{Refusal}
-use Rattle.texts.specs.declared.refusal.Refusal.TheVariants.{File, Mkfs, Check, Recover, Open, Script, Schedule, Disk, Cat, Run, Stops, Input, Output}
+use Rattle.texts.specs.declared.refusal.Refusal.TheVariants.{File, Mkfs, Check, Recover, Open, Script, Schedule, Disk, Cat, Run, Stops, Ls, Show, Put, Copy, Input, Output}
 use Rattle.player.specs.Stepping.{BreaksOff, IsBrokenOff, RunsTo, kernel_fault}
 use Rattle.opening.specs.Openings.{IsOpening}
 use Rattle.opening.specs.Lemmas.Telling.{told_of_opening}
@@ -44,6 +44,10 @@ module _ {D N : Type 0} (disk : Ghosts (FaultyDisk D) (N × Trap)) (stop base : 
   broken_off (Err (Run _)) P f breaks h is = h
   broken_off (Err (Stops _)) P f breaks h is = h
   broken_off (Err (Input _)) P f breaks h is = h
+  broken_off (Err (Ls _)) P f breaks h is = h
+  broken_off (Err (Show _)) P f breaks h is = h
+  broken_off (Err (Put _)) P f breaks h is = h
+  broken_off (Err (Copy _)) P f breaks h is = h
 
   pub broken_output : (r : Refusal) → r ≡ Output → BreaksOff disk stop words old new → IsBrokenOff disk stop base words old new text printed r
   broken_output r is breaks = subst (IsBrokenOff disk stop base words old new text printed) (sym is) breaks
@@ -66,6 +70,10 @@ module _ {D N : Type 0} (below : Ghosts D N) (disk : Ghosts (FaultyDisk D) (N ×
   unrecovered_so (Run fault) other why = absurd why
   unrecovered_so (Stops fault) other why = absurd why
   unrecovered_so (Input fault) other why = absurd why
+  unrecovered_so (Ls fault) other why = absurd why
+  unrecovered_so (Show fault) other why = absurd why
+  unrecovered_so (Put fault) other why = absurd why
+  unrecovered_so (Copy fault) other why = absurd why
   unrecovered_so (Open fault) other why = absurd why
 
   pub not_begun : (tasks : List Task) (words : List Word) (stop : ℕ) (text printed : Option (List ℕ)) (none : Type 0) (r : Refusal) → IsOpening r → HasNotBegun below disk d e processes r → none → IsNotReplayed below disk d e tasks processes words stop text printed none r
@@ -81,6 +89,10 @@ module _ {D N : Type 0} (below : Ghosts D N) (disk : Ghosts (FaultyDisk D) (N ×
   not_begun tasks words stop text printed none (Run fault) opens why nothing = absurd opens
   not_begun tasks words stop text printed none (Stops fault) opens why nothing = absurd opens
   not_begun tasks words stop text printed none (Input fault) opens why nothing = absurd opens
+  not_begun tasks words stop text printed none (Ls fault) opens why nothing = absurd opens
+  not_begun tasks words stop text printed none (Show fault) opens why nothing = absurd opens
+  not_begun tasks words stop text printed none (Put fault) opens why nothing = absurd opens
+  not_begun tasks words stop text printed none (Copy fault) opens why nothing = absurd opens
   not_begun tasks words stop text printed none Output opens why nothing = absurd opens
 
 pub opening_of_replay : (r : Refusal) → IsOpening r → IsOfReplay r
@@ -96,6 +108,10 @@ opening_of_replay (Cat fault) opens = absurd opens
 opening_of_replay (Run fault) opens = absurd opens
 opening_of_replay (Stops fault) opens = absurd opens
 opening_of_replay (Input fault) opens = absurd opens
+opening_of_replay (Ls fault) opens = absurd opens
+opening_of_replay (Show fault) opens = absurd opens
+opening_of_replay (Put fault) opens = absurd opens
+opening_of_replay (Copy fault) opens = absurd opens
 opening_of_replay Output opens = absurd opens
 
 -- what a run that was refused is to the whole replay
@@ -130,6 +146,10 @@ module _ {D N : Type 0} (below : Ghosts D N) (disk : Ghosts (FaultyDisk D) (N ×
   run_refused none (Run fault) why = absurd why
   run_refused none (Stops fault) why = absurd why
   run_refused none (Input fault) why = absurd why
+  run_refused none (Ls fault) why = absurd why
+  run_refused none (Show fault) why = absurd why
+  run_refused none (Put fault) why = absurd why
+  run_refused none (Copy fault) why = absurd why
 
   pub run_of_replay : (r : Refusal) → IsBrokenOff disk s base words player last text printed r → IsOfReplay r
   run_of_replay (Disk fault) why = tt
@@ -145,3 +165,7 @@ module _ {D N : Type 0} (below : Ghosts D N) (disk : Ghosts (FaultyDisk D) (N ×
   run_of_replay (Run fault) why = absurd why
   run_of_replay (Stops fault) why = absurd why
   run_of_replay (Input fault) why = absurd why
+  run_of_replay (Ls fault) why = absurd why
+  run_of_replay (Show fault) why = absurd why
+  run_of_replay (Put fault) why = absurd why
+  run_of_replay (Copy fault) why = absurd why

@@ -22,7 +22,7 @@ use Rattle.player.specs.Showing.{IsNotShown, IsPartly, IsReaderOf, IsUnwritten, 
 use Rattle.player.specs.Stepping.{Plain}
 use Rattle.texts.specs.declared.faults.CatFault.TheVariants as cat
 use Rattle.texts.specs.declared.refusal.Refusal.{Refusal}
-use Rattle.texts.specs.declared.refusal.Refusal.TheVariants.{File as OfFile, Mkfs, Check, Recover, Open, Script, Schedule, Disk, Cat, Run, Stops, Input, Output}
+use Rattle.texts.specs.declared.refusal.Refusal.TheVariants.{File as OfFile, Mkfs, Check, Recover, Open, Script, Schedule, Disk, Cat, Run, Stops, Ls, Show, Put, Copy, Input, Output}
 
 part_is : (o : Option File) (bytes : List ℕ) (off n : ℕ) → Some bytes ≡ option_map (λ (f : File). part_of f.bytes off n) o → bytes ≡ part_of (bytes_of o) off n
 part_is None bytes off n is = absurd (cc is)
@@ -72,6 +72,10 @@ unanswered disk d e x i old new none (Run fault) nothing why = absurd why
 unanswered disk d e x i old new none (Stops fault) nothing why = absurd why
 unanswered disk d e x i old new none (Schedule fault) nothing why = absurd why
 unanswered disk d e x i old new none (Input fault) nothing why = absurd why
+unanswered disk d e x i old new none (Ls fault) nothing why = absurd why
+unanswered disk d e x i old new none (Show fault) nothing why = absurd why
+unanswered disk d e x i old new none (Put fault) nothing why = absurd why
+unanswered disk d e x i old new none (Copy fault) nothing why = absurd why
 unanswered disk d e x i old new none Output nothing why = absurd why
 
 part_shown : (x : Image) (i size : ℕ) (old new : Option (List ℕ)) → Some size ≡ size_at x i → (count : ℕ) × Appends old new (take count (bytes_at x i)) → ShowsFirst x i old new
@@ -99,6 +103,10 @@ partly disk d e x i size old new none (Run fault) has why = absurd why
 partly disk d e x i size old new none (Stops fault) has why = absurd why
 partly disk d e x i size old new none (Schedule fault) has why = absurd why
 partly disk d e x i size old new none (Input fault) has why = absurd why
+partly disk d e x i size old new none (Ls fault) has why = absurd why
+partly disk d e x i size old new none (Show fault) has why = absurd why
+partly disk d e x i size old new none (Put fault) has why = absurd why
+partly disk d e x i size old new none (Copy fault) has why = absurd why
 partly disk d e x i size old new none Output has why = why
 
 module _ {D N : Type 0} (disk : Ghosts D N) (d : D) (k : Plain D) (reader : IsReaderOf disk d k) (e : D) (reads : OnlyReads disk k.opening e) where
@@ -140,6 +148,10 @@ module _ {D N : Type 0} (disk : Ghosts D N) (d : D) (k : Plain D) (reader : IsRe
   not_shown i old new none (Stops fault) why = absurd why
   not_shown i old new none (Schedule fault) why = absurd why
   not_shown i old new none (Input fault) why = absurd why
+  not_shown i old new none (Ls fault) why = absurd why
+  not_shown i old new none (Show fault) why = absurd why
+  not_shown i old new none (Put fault) why = absurd why
+  not_shown i old new none (Copy fault) why = absurd why
   not_shown i old new none Output why = recovered_still why
 
   -- what a stop leaves
@@ -160,6 +172,10 @@ opening_refused disk d e i old new none (Schedule fault) opens why nothing = abs
 opening_refused disk d e i old new none (Disk fault) opens why nothing = absurd opens
 opening_refused disk d e i old new none (Cat fault) opens why nothing = absurd opens
 opening_refused disk d e i old new none (Input fault) opens why nothing = absurd opens
+opening_refused disk d e i old new none (Ls fault) opens why nothing = absurd opens
+opening_refused disk d e i old new none (Show fault) opens why nothing = absurd opens
+opening_refused disk d e i old new none (Put fault) opens why nothing = absurd opens
+opening_refused disk d e i old new none (Copy fault) opens why nothing = absurd opens
 opening_refused disk d e i old new none Output opens why nothing = absurd opens
 
 pub opening_of_cat : (r : Refusal) → IsOpening r → IsOfCat r
@@ -175,6 +191,10 @@ opening_of_cat (Schedule fault) opens = absurd opens
 opening_of_cat (Disk fault) opens = absurd opens
 opening_of_cat (Cat fault) opens = absurd opens
 opening_of_cat (Input fault) opens = absurd opens
+opening_of_cat (Ls fault) opens = absurd opens
+opening_of_cat (Show fault) opens = absurd opens
+opening_of_cat (Put fault) opens = absurd opens
+opening_of_cat (Copy fault) opens = absurd opens
 opening_of_cat Output opens = absurd opens
 
 pub unwritten_of_cat : {D N : Type 0} (disk : Ghosts D N) (d e : D) (x : Image) (i : ℕ) (old new : Option (List ℕ)) (none : Type 0) (r : Refusal) → IsUnwritten disk d e x i old new none r → IsOfCat r
@@ -191,3 +211,7 @@ unwritten_of_cat disk d e x i old new none (Run fault) why = absurd why
 unwritten_of_cat disk d e x i old new none (Stops fault) why = absurd why
 unwritten_of_cat disk d e x i old new none (Schedule fault) why = absurd why
 unwritten_of_cat disk d e x i old new none (Input fault) why = absurd why
+unwritten_of_cat disk d e x i old new none (Ls fault) why = absurd why
+unwritten_of_cat disk d e x i old new none (Show fault) why = absurd why
+unwritten_of_cat disk d e x i old new none (Put fault) why = absurd why
+unwritten_of_cat disk d e x i old new none (Copy fault) why = absurd why

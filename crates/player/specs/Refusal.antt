@@ -1,7 +1,7 @@
 -- Which commands have which refusals.
 use Rattle.std.specs.Prelude.{⊤}
 use Rattle.texts.specs.declared.refusal.Refusal.{Refusal}
-use Rattle.texts.specs.declared.refusal.Refusal.TheVariants.{File, Mkfs, Check, Recover, Script, Schedule, Disk, Cat, Run, Stops, Input, Output}
+use Rattle.texts.specs.declared.refusal.Refusal.TheVariants.{File, Mkfs, Check, Recover, Script, Schedule, Disk, Cat, Run, Stops, Ls, Show, Put, Copy, Input, Output}
 
 -- the refusals that a check has: of the file, of the image, or of the output
 abbrev pub IsOfCheck : Refusal → Type 0
@@ -33,6 +33,10 @@ IsOfReplay (Cat _) = ⊥
 IsOfReplay (Run _) = ⊥
 IsOfReplay (Stops _) = ⊥
 IsOfReplay (Input _) = ⊥
+IsOfReplay (Ls _) = ⊥
+IsOfReplay (Show _) = ⊥
+IsOfReplay (Put _) = ⊥
+IsOfReplay (Copy _) = ⊥
 IsOfReplay _ = ⊤
 
 -- those of `cat`: of the file of the image, of the image, of the recovery, of the kernel's opening,
@@ -44,11 +48,19 @@ IsOfCat (Schedule _) = ⊥
 IsOfCat (Run _) = ⊥
 IsOfCat (Stops _) = ⊥
 IsOfCat (Input _) = ⊥
+IsOfCat (Ls _) = ⊥
+IsOfCat (Show _) = ⊥
+IsOfCat (Put _) = ⊥
+IsOfCat (Copy _) = ⊥
 IsOfCat _ = ⊤
 
 -- those of the words and lines that the program is given
 abbrev pub IsOfInput : Refusal → Type 0
 IsOfInput (Input _) = ⊤
+IsOfInput (Ls _) = ⊤
+IsOfInput (Show _) = ⊤
+IsOfInput (Put _) = ⊤
+IsOfInput (Copy _) = ⊤
 IsOfInput _ = ⊥
 
 -- after the disk failed all was printed; before the run nothing was

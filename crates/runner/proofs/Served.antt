@@ -26,7 +26,7 @@ use Rattle.opening.specs.Lemmas.Keeping.{leaves_wider, recovers_kept, unopened_l
 use Rattle.opening.specs.Lemmas.Telling.{unopened_so}
 use Rattle.opening.specs.Openings.{IsOpening, IsUnopened}
 use Rattle.texts.specs.declared.refusal.Refusal.{Refusal}
-use Rattle.texts.specs.declared.refusal.Refusal.TheVariants.{File, Mkfs, Check, Recover, Open, Script, Schedule, Disk, Cat, Run, Stops, Input, Output}
+use Rattle.texts.specs.declared.refusal.Refusal.TheVariants.{File, Mkfs, Check, Recover, Open, Script, Schedule, Disk, Cat, Run, Stops, Ls, Show, Put, Copy, Input, Output}
 use Rattle.runner.specs.Reports.{IsReport}
 use Rattle.runner.specs.Running.{HasNotBegun, Ends, IsEndedBy, IsNotRun, IsServed, Ringed}
 
@@ -113,6 +113,10 @@ module _ {D N : Type 0} (disk : Ghosts D N) (d e : D) (tasks : List Task) (proce
   not_run m names cs served are (Run fault) why = absurd why
   not_run m names cs served are (Stops fault) why = absurd why
   not_run m names cs served are (Input fault) why = absurd why
+  not_run m names cs served are (Ls fault) why = absurd why
+  not_run m names cs served are (Show fault) why = absurd why
+  not_run m names cs served are (Put fault) why = absurd why
+  not_run m names cs served are (Copy fault) why = absurd why
 
   -- what it came to where no kernel was opened
   begun_none : (r : Refusal) → IsOpening r → HasNotBegun disk d e processes r → none → IsNotRun disk d e tasks processes old new none r
@@ -128,6 +132,10 @@ module _ {D N : Type 0} (disk : Ghosts D N) (d e : D) (tasks : List Task) (proce
   begun_none (Run fault) opens why nothing = absurd opens
   begun_none (Stops fault) opens why nothing = absurd opens
   begun_none (Input fault) opens why nothing = absurd opens
+  begun_none (Ls fault) opens why nothing = absurd opens
+  begun_none (Show fault) opens why nothing = absurd opens
+  begun_none (Put fault) opens why nothing = absurd opens
+  begun_none (Copy fault) opens why nothing = absurd opens
   begun_none Output opens why nothing = absurd opens
 
   pub unopened_run : (r : Refusal) → IsUnopened disk processes d e r → none → IsNotRun disk d e tasks processes old new none r

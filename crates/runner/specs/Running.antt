@@ -18,7 +18,7 @@ use Rattle.scripts.specs.declared.script.Task.{Task}
 use Rattle.clients.specs.Backlogs.{ops_of}
 use Rattle.opening.specs.Openings.{IsUnopened}
 use Rattle.texts.specs.declared.refusal.Refusal.{Refusal}
-use Rattle.texts.specs.declared.refusal.Refusal.TheVariants.{Mkfs, Schedule, Disk, Cat, Run, Stops, Input, Output}
+use Rattle.texts.specs.declared.refusal.Refusal.TheVariants.{Mkfs, Schedule, Disk, Cat, Run, Stops, Ls, Show, Put, Copy, Input, Output}
 use Rattle.runner.specs.Reports.{IsReported}
 
 -- a kernel over rings and a board
@@ -93,4 +93,8 @@ IsOfRun (Schedule _) = ⊥
 IsOfRun (Cat _) = ⊥
 IsOfRun (Stops _) = ⊥
 IsOfRun (Input _) = ⊥
+IsOfRun (Ls _) = ⊥
+IsOfRun (Show _) = ⊥
+IsOfRun (Put _) = ⊥
+IsOfRun (Copy _) = ⊥
 IsOfRun _ = ⊤

@@ -16,12 +16,20 @@ use Rattle.scripts.specs.declared.schedule.ScheduleFault.{ScheduleFault}
 use Rattle.scripts.specs.declared.schedule.ScheduleFault.TheVariants as schedule
 use Rattle.texts.specs.declared.faults.CatFault.{CatFault}
 use Rattle.texts.specs.declared.faults.CatFault.TheVariants as cat
+use Rattle.texts.specs.declared.faults.CopyFault.{CopyFault}
+use Rattle.texts.specs.declared.faults.CopyFault.TheVariants as copy
 use Rattle.texts.specs.declared.faults.InputFault.{InputFault}
 use Rattle.texts.specs.declared.faults.InputFault.TheVariants as input
 use Rattle.texts.specs.declared.faults.KernelFault.{KernelFault}
 use Rattle.texts.specs.declared.faults.KernelFault.TheVariants as kernel
+use Rattle.texts.specs.declared.faults.LsFault.{LsFault}
+use Rattle.texts.specs.declared.faults.LsFault.TheVariants as ls
+use Rattle.texts.specs.declared.faults.PutFault.{PutFault}
+use Rattle.texts.specs.declared.faults.PutFault.TheVariants as put
 use Rattle.texts.specs.declared.faults.RunFault.{RunFault}
 use Rattle.texts.specs.declared.faults.RunFault.TheVariants as run
+use Rattle.texts.specs.declared.faults.ShowFault.{ShowFault}
+use Rattle.texts.specs.declared.faults.ShowFault.TheVariants as show
 use Rattle.texts.specs.declared.faults.StopsFault.{StopsFault}
 use Rattle.texts.specs.declared.faults.StopsFault.TheVariants as stops
 use Rattle.texts.specs.declared.told.Told.{Told}
@@ -103,6 +111,28 @@ run_telling run.Thread = plain 1 (codes "Thread")
 abbrev pub stops_telling : StopsFault → Telling
 stops_telling stops.Mismatch = plain 1 (codes "Mismatch")
 stops_telling stops.NoMemory = plain 2 (codes "NoMemory")
+
+abbrev pub ls_telling : LsFault → Telling
+ls_telling ls.NoMemory = plain 1 (codes "NoMemory")
+
+abbrev pub show_telling : ShowFault → Telling
+show_telling show.NoFile = plain 1 (codes "NoFile")
+show_telling show.NoMemory = plain 2 (codes "NoMemory")
+
+abbrev pub put_telling : PutFault → Telling
+put_telling put.NoFile = plain 1 (codes "NoFile")
+put_telling put.NoInode = plain 2 (codes "NoInode")
+put_telling put.TooBig = plain 3 (codes "TooBig")
+put_telling put.Full = plain 4 (codes "Full")
+put_telling put.NoMemory = plain 5 (codes "NoMemory")
+put_telling put.File = plain 6 (codes "File")
+
+abbrev pub copy_telling : CopyFault → Telling
+copy_telling copy.NotFirst = plain 2 (codes "NotFirst")
+copy_telling (copy.Full number) = naming 4 (codes "Full") number
+copy_telling copy.NoMemory = plain 5 (codes "NoMemory")
+copy_telling copy.Disk = plain 6 (codes "Disk")
+copy_telling copy.Exists = plain 7 (codes "Exists")
 
 abbrev pub input_telling : InputFault → Telling
 input_telling input.Read = plain 1 (codes "Read")

@@ -4,15 +4,19 @@ ghost use Rattle.std.specs.IoError.{error_kind};
 ghost use Rattle.texts.specs.Telling.{
   cat_telling,
   check_telling,
+  copy_telling,
   disk_telling,
   file_telling,
   input_telling,
   kernel_telling,
+  ls_telling,
   mkfs_telling,
+  put_telling,
   recover_telling,
   run_telling,
   schedule_telling,
   script_telling,
+  show_telling,
   stops_telling,
 };
 
@@ -100,6 +104,69 @@ pub enum StopsFault {
     /// Memory was refused.
     #[error("memory was refused")]
     NoMemory,
+}
+
+/// Why the files of an image aren't listed.
+#[derive(Clone, Copy, Debug, Error)]
+pub enum LsFault {
+    /// Memory was refused.
+    #[error("memory was refused")]
+    NoMemory,
+}
+
+/// Why the blocks of an image, or of a file, aren't shown.
+#[derive(Clone, Copy, Debug, Error)]
+pub enum ShowFault {
+    /// There is no file of that number.
+    #[error("there is no file of that number")]
+    NoFile,
+    /// Memory was refused.
+    #[error("memory was refused")]
+    NoMemory,
+}
+
+/// Why a file isn't put into an image.
+#[derive(Clone, Copy, Debug, Error)]
+pub enum PutFault {
+    /// There is no file of that number.
+    #[error("there is no file of that number")]
+    NoFile,
+    /// No inode number is free.
+    #[error("no inode number is free")]
+    NoInode,
+    /// It is larger than a file of the image may be.
+    #[error("the file is too large")]
+    TooBig,
+    /// The image has too few free blocks for it.
+    #[error("no block is free")]
+    Full,
+    /// Memory was refused.
+    #[error("memory was refused")]
+    NoMemory,
+    /// It can't be read.
+    #[error("the file can't be read")]
+    File,
+}
+
+/// Why an image isn't copied. What is wrong with the old image, or with the size of the new one, is
+/// told as the check's or as that of the making.
+#[derive(Clone, Copy, Debug, Error)]
+pub enum CopyFault {
+    /// The old image is not of the first form.
+    #[error("the image is not of the first form")]
+    NotFirst,
+    /// The new image has too few blocks for the file of this number.
+    #[error("no block is free for file {0}")]
+    Full(u32),
+    /// Memory was refused.
+    #[error("memory was refused")]
+    NoMemory,
+    /// A disk failed.
+    #[error("a disk failed")]
+    Disk,
+    /// There is a file at the new image's path.
+    #[error("there is a file at the path")]
+    Exists,
 }
 
 impl From<NoMemory> for StopsFault {
@@ -266,6 +333,56 @@ impl Fault for StopsFault {
         match self {
             StopsFault::Mismatch => Told::new(1, "Mismatch"),
             StopsFault::NoMemory => Told::new(2, "NoMemory"),
+        }
+    }
+}
+
+impl Fault for LsFault {
+    ghost telling = { ls_telling };
+
+    fn told(&self) -> Told {
+        match self {
+            LsFault::NoMemory => Told::new(1, "NoMemory"),
+        }
+    }
+}
+
+impl Fault for ShowFault {
+    ghost telling = { show_telling };
+
+    fn told(&self) -> Told {
+        match self {
+            ShowFault::NoFile => Told::new(1, "NoFile"),
+            ShowFault::NoMemory => Told::new(2, "NoMemory"),
+        }
+    }
+}
+
+impl Fault for PutFault {
+    ghost telling = { put_telling };
+
+    fn told(&self) -> Told {
+        match self {
+            PutFault::NoFile => Told::new(1, "NoFile"),
+            PutFault::NoInode => Told::new(2, "NoInode"),
+            PutFault::TooBig => Told::new(3, "TooBig"),
+            PutFault::Full => Told::new(4, "Full"),
+            PutFault::NoMemory => Told::new(5, "NoMemory"),
+            PutFault::File => Told::new(6, "File"),
+        }
+    }
+}
+
+impl Fault for CopyFault {
+    ghost telling = { copy_telling };
+
+    fn told(&self) -> Told {
+        match self {
+            CopyFault::NotFirst => Told::new(2, "NotFirst"),
+            CopyFault::Full(number) => Told::naming(4, "Full", *number),
+            CopyFault::NoMemory => Told::new(5, "NoMemory"),
+            CopyFault::Disk => Told::new(6, "Disk"),
+            CopyFault::Exists => Told::new(7, "Exists"),
         }
     }
 }

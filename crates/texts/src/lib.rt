@@ -14,7 +14,10 @@ mod refusal;
 mod told;
 
 pub use events::{Event, Progress};
-pub use faults::{CatFault, InputFault, KernelFault, RunFault, StopsFault, input_unread};
+pub use faults::{
+    CatFault, CopyFault, InputFault, KernelFault, LsFault, PutFault, RunFault, ShowFault,
+    StopsFault, input_unread,
+};
 pub use lines::{AccountLine, AnswerLine};
 pub use output::{
     pass_on, print, print_copied, print_counts, print_images, print_last, print_numbers,

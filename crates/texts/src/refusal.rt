@@ -3,7 +3,10 @@ ghost use Rattle.std.specs.Prelude.{◌≡◌, Some};
 ghost use Rattle.texts.specs.Refusal.{layer_of, refusal_telling, refusal_text};
 ghost use Rattle.texts.specs.Telling.{telling_of};
 
-use crate::faults::{CatFault, InputFault, KernelFault, RunFault, StopsFault};
+use crate::faults::{
+    CatFault, CopyFault, InputFault, KernelFault, LsFault, PutFault, RunFault, ShowFault,
+    StopsFault,
+};
 use crate::told::{Fault, Told};
 use blocks::FileFault;
 use itoa::Buffer;
@@ -37,6 +40,14 @@ pub enum Refusal {
     Run(RunFault),
     /// A stop of the script kept other files than it has to, or the check wasn't ended.
     Stops(StopsFault),
+    /// The files can't be listed.
+    Ls(LsFault),
+    /// The image's blocks can't be shown.
+    Show(ShowFault),
+    /// The file can't be put into the image.
+    Put(PutFault),
+    /// The image can't be copied.
+    Copy(CopyFault),
     /// The command lines can't be had.
     Input(InputFault),
     /// The output can't be written.
@@ -60,6 +71,10 @@ impl Refusal {
             Refusal::Cat(_) => "cat",
             Refusal::Run(_) => "run",
             Refusal::Stops(_) => "stops",
+            Refusal::Ls(_) => "ls",
+            Refusal::Show(_) => "show",
+            Refusal::Put(_) => "put",
+            Refusal::Copy(_) => "copy",
             Refusal::Input(_) => "input",
             Refusal::Output => "output",
         }
@@ -81,6 +96,10 @@ impl Refusal {
             Refusal::Cat(fault) => fault.told(),
             Refusal::Run(fault) => fault.told(),
             Refusal::Stops(fault) => fault.told(),
+            Refusal::Ls(fault) => fault.told(),
+            Refusal::Show(fault) => fault.told(),
+            Refusal::Put(fault) => fault.told(),
+            Refusal::Copy(fault) => fault.told(),
             Refusal::Input(fault) => fault.told(),
             Refusal::Output => Told::new(1, "Write"),
         }

@@ -9,7 +9,7 @@ use Rattle.player.specs.Opening.{IsNotReplayed}
 use Rattle.player.specs.Showing.{IsNotShown}
 use Rattle.texts.specs.declared.faults.CatFault.TheVariants as cat
 use Rattle.texts.specs.declared.refusal.Refusal.{Refusal}
-use Rattle.texts.specs.declared.refusal.Refusal.TheVariants.{File, Mkfs, Check, Recover, Open, Script, Schedule, Disk, Cat, Run, Stops, Input, Output}
+use Rattle.texts.specs.declared.refusal.Refusal.TheVariants.{File, Mkfs, Check, Recover, Open, Script, Schedule, Disk, Cat, Run, Stops, Ls, Show, Put, Copy, Input, Output}
 use Rattle.scripts.specs.declared.schedule.Word.{Word}
 use Rattle.scripts.specs.declared.script.Task.{Task}
 use Rattle.runner.specs.Running.{IsNotRun as IsNotRunOver}
@@ -31,6 +31,10 @@ module _ {D N : Type 0} (disk : Ghosts D N) (d e : D) (old new : Option (List �
   not_shown i (Run fault) why = (why.0, f why.1)
   not_shown i (Stops fault) why = (why.0, f why.1)
   not_shown i (Input fault) why = (why.0, f why.1)
+  not_shown i (Ls fault) why = (why.0, f why.1)
+  not_shown i (Show fault) why = (why.0, f why.1)
+  not_shown i (Put fault) why = (why.0, f why.1)
+  not_shown i (Copy fault) why = (why.0, f why.1)
 
   not_replayed : (over : Ghosts (FaultyDisk D) (N × Trap)) (tasks : List Task) (processes : ℕ) (words : List Word) (stop : ℕ) (r : Refusal)
       → IsNotReplayed disk over d e tasks processes words stop old new none r → IsNotReplayed disk over d e tasks processes words stop old new other r
@@ -47,6 +51,10 @@ module _ {D N : Type 0} (disk : Ghosts D N) (d e : D) (old new : Option (List �
   not_replayed over tasks processes words stop (Stops fault) why = (why.0, f why.1)
   not_replayed over tasks processes words stop (Cat fault) why = (why.0, f why.1)
   not_replayed over tasks processes words stop (Input fault) why = (why.0, f why.1)
+  not_replayed over tasks processes words stop (Ls fault) why = (why.0, f why.1)
+  not_replayed over tasks processes words stop (Show fault) why = (why.0, f why.1)
+  not_replayed over tasks processes words stop (Put fault) why = (why.0, f why.1)
+  not_replayed over tasks processes words stop (Copy fault) why = (why.0, f why.1)
 
   not_run_over : (tasks : List Task) (processes : ℕ) (r : Refusal) → IsNotRunOver disk d e tasks processes old new none r → IsNotRunOver disk d e tasks processes old new other r
   not_run_over tasks processes (Disk fault) why = why
@@ -62,6 +70,10 @@ module _ {D N : Type 0} (disk : Ghosts D N) (d e : D) (old new : Option (List �
   not_run_over tasks processes (Schedule fault) why = (why.0, f why.1)
   not_run_over tasks processes (Cat fault) why = (why.0, f why.1)
   not_run_over tasks processes (Input fault) why = (why.0, f why.1)
+  not_run_over tasks processes (Ls fault) why = (why.0, f why.1)
+  not_run_over tasks processes (Show fault) why = (why.0, f why.1)
+  not_run_over tasks processes (Put fault) why = (why.0, f why.1)
+  not_run_over tasks processes (Copy fault) why = (why.0, f why.1)
 
 pub unreplayed : {F N : Type 0} (disk : Ghosts (FileDisk F) N) (over : Ghosts (FaultyDisk (FileDisk F)) (N × Trap)) (d e : FileDisk F) (stop : ℕ) (old new : Option (List ℕ)) (none other : Type 0) → (none → other)
     → (r : Refusal) → IsUnreplayed disk over stop old new none d e r → IsUnreplayed disk over stop old new other d e r
@@ -89,4 +101,8 @@ module _ {F N : Type 0} (remaining : F → Option (List ℕ)) (disk : Ghosts (Fi
   refused_so none other P Q f g (Run fault) why = (why.0, (why.1.0, why.1.1, g _ _ (Run fault) why.1.2))
   refused_so none other P Q f g (Stops fault) why = (why.0, (why.1.0, why.1.1, g _ _ (Stops fault) why.1.2))
   refused_so none other P Q f g (Input fault) why = (why.0, (why.1.0, why.1.1, g _ _ (Input fault) why.1.2))
+  refused_so none other P Q f g (Ls fault) why = (why.0, (why.1.0, why.1.1, g _ _ (Ls fault) why.1.2))
+  refused_so none other P Q f g (Show fault) why = (why.0, (why.1.0, why.1.1, g _ _ (Show fault) why.1.2))
+  refused_so none other P Q f g (Put fault) why = (why.0, (why.1.0, why.1.1, g _ _ (Put fault) why.1.2))
+  refused_so none other P Q f g (Copy fault) why = (why.0, (why.1.0, why.1.1, g _ _ (Copy fault) why.1.2))
   refused_so none other P Q f g Output why = (why.0, (why.1.0, why.1.1, g _ _ Output why.1.2))

@@ -6,7 +6,7 @@ use Rattle.scripts.specs.declared.script.Task.{Task}
 use Rattle.stops.specs.Checks.{ChecksAll, IsUnchecked}
 use Rattle.texts.specs.declared.faults.StopsFault.TheVariants.{Mismatch, NoMemory}
 use Rattle.texts.specs.declared.refusal.Refusal.{Refusal}
-use Rattle.texts.specs.declared.refusal.Refusal.TheVariants.{File, Mkfs, Check, Recover, Open, Script, Schedule, Disk, Cat, Run, Stops, Input, Output}
+use Rattle.texts.specs.declared.refusal.Refusal.TheVariants.{File, Mkfs, Check, Recover, Open, Script, Schedule, Disk, Cat, Run, Stops, Ls, Show, Put, Copy, Input, Output}
 use Rattle.xvfs.specs.Scripts.{ChecksScript, IsScriptUnchecked, IsUncheckedFor}
 
 module _ (held : Bool) (P Q : Type 0) (f : P → Q) where
@@ -25,6 +25,10 @@ module _ (held : Bool) (P Q : Type 0) (f : P → Q) where
   unchecked tasks processes words (Cat fault) why = absurd why
   unchecked tasks processes words (Run fault) why = absurd why
   unchecked tasks processes words (Input fault) why = absurd why
+  unchecked tasks processes words (Ls fault) why = absurd why
+  unchecked tasks processes words (Show fault) why = absurd why
+  unchecked tasks processes words (Put fault) why = absurd why
+  unchecked tasks processes words (Copy fault) why = absurd why
 
   unchecked_for : (r : Refusal) → IsUncheckedFor held P r → IsUncheckedFor held Q r
   unchecked_for r why = record {
@@ -48,6 +52,10 @@ module _ (held : Bool) (P Q : Type 0) (f : P → Q) where
   script_unchecked (Run fault) why = unchecked_for (Run fault) why
   script_unchecked (Stops fault) why = unchecked_for (Stops fault) why
   script_unchecked (Input fault) why = unchecked_for (Input fault) why
+  script_unchecked (Ls fault) why = unchecked_for (Ls fault) why
+  script_unchecked (Show fault) why = unchecked_for (Show fault) why
+  script_unchecked (Put fault) why = unchecked_for (Put fault) why
+  script_unchecked (Copy fault) why = unchecked_for (Copy fault) why
   script_unchecked Output why = unchecked_for Output why
 
 -- a script that was checked, or not, and the operations and words that it was read as
@@ -69,6 +77,10 @@ module _ (held : Bool) (tasks : List Task) (processes : ℕ) (words : List Word)
   unchecked_as none (Run fault) why = record { tasks = tasks; processes = processes; words = words; refused = why }
   unchecked_as none (Stops fault) why = record { tasks = tasks; processes = processes; words = words; refused = why }
   unchecked_as none (Input fault) why = record { tasks = tasks; processes = processes; words = words; refused = why }
+  unchecked_as none (Ls fault) why = record { tasks = tasks; processes = processes; words = words; refused = why }
+  unchecked_as none (Show fault) why = record { tasks = tasks; processes = processes; words = words; refused = why }
+  unchecked_as none (Put fault) why = record { tasks = tasks; processes = processes; words = words; refused = why }
+  unchecked_as none (Copy fault) why = record { tasks = tasks; processes = processes; words = words; refused = why }
   unchecked_as none Output why = record { tasks = tasks; processes = processes; words = words; refused = why }
 
   pub unchecked_script : (r : Result (Unit {0}) Refusal) (none : Type 0) → IfErr r (IsUnchecked held tasks processes words none) → IfErr r (IsScriptUnchecked held none)
