@@ -1,11 +1,17 @@
 -- The current image and the log, while the disk has not failed.
-use Rattle.std.proofs.Common.{◌≡◌, ◌∙◌, sym, ap, subst, Option, Some, None}
+use Rattle.std.proofs.Common.{◌≡◌, ◌∙◌, ℕ, true, sym, ap, subst, Option, Some, None}
 use Rattle.wal.specs.declared.types.DeviceFault.{DeviceFault}
 use Rattle.std.specs.Prelude.{IfNone}
 use Rattle.blocks.specs.Disk.{Image}
 use Rattle.model.specs.Files.{Files, files_of}
 use Rattle.model.specs.Journal.{answered, replay}
 use Rattle.model.specs.Layout.{form_of}
+use Rattle.model.specs.Log.{logged_count}
+use Rattle.bcache.specs.Buffers.{Buffers}
+use Rattle.wal.specs.Joint.{JointAt}
+use Rattle.wal.specs.Machine.{LogState, is_quiet}
+use Rattle.wal.specs.declared.types.Commit.{Commit}
+use Rattle.wal.specs.declared.types.Commit.TheVariants as commit
 use Rattle.inodes.specs.Store.{StoreState, FitsFiles}
 use Rattle.journal.specs.Alone.{is_committing_at}
 use Rattle.journal.specs.Lemmas.Groups.{outstanding_none}
@@ -36,3 +42,12 @@ module _ {D : Type 0} (image : D → Image) (opening : Image) (s : StoreState D)
       let both : Some has.facts.follows.files ≡ Some m = sym has.facts.follows.run ∙ run in
       let same : has.facts.follows.files ≡ m = cc both in
       subst (FitsFiles image s) same has.facts.follows.fits
+
+-- between two commits nothing is logged on the disk
+pub none_logged : (k : Commit) (x : Image) (c : Buffers) (l : LogState) → JointAt k x c l → is_quiet k ≡ true → logged_count x ≡ 0
+none_logged commit.Quiet x c l joint quiet = joint.phase
+none_logged (commit.Logging n) x c l joint quiet = cc quiet
+none_logged commit.Heading x c l joint quiet = cc quiet
+none_logged (commit.Homing n) x c l joint quiet = cc quiet
+none_logged commit.Clearing x c l joint quiet = cc quiet
+none_logged (commit.Syncing p) x c l joint quiet = cc quiet

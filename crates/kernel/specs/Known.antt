@@ -48,6 +48,9 @@ pub record IsCurrent {D I H : Type 0} (image : D → Image) (k : State D I H) : 
   -- between two commits its log is empty
   pub empty : is_quiet k.store.volume.log.commit ≡ true
       → logged_count (current_of image k.store.volume) ≡ 0
+  -- and so has its disk
+  pub clear : is_quiet k.store.volume.log.commit ≡ true
+      → logged_count (image k.store.volume.device) ≡ 0
   -- whatever is under way, it stands for the files after the entries that have a reply
   pub stands : (m : Files) → replay (form_of (image k.opening)) (files_of (image k.opening))
       (answered k.world.journal.list) ≡ Some m → FitsFiles image k.store m

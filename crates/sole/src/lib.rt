@@ -1,0 +1,19 @@
+//! A kernel of one process, whose operations are calls: each is handed in, its steps are made to its
+//! answer, commit included, and the answer is fetched.
+//!
+//! So a call is a whole operation: where it is answered, the files on the disk are those before it
+//! after this operation, and the log is empty. A stop in the midst of one leaves, once it is
+//! recovered, the files before it or those behind it. The only process of a kernel waits for nobody
+//! (`kernel::laws`), so a call ends with its answer, or with a fault of the disk, or for want of
+//! memory.
+#![tactic(auto)]
+
+mod calling;
+mod fault;
+mod opening;
+mod stepping;
+
+pub use calling::{Sole, call};
+pub use fault::CallFault;
+pub use opening::open_sole;
+pub use stepping::make_steps;
