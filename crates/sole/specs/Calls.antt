@@ -6,7 +6,7 @@ use Rattle.blocks.specs.Calls.{OnlyReads}
 use Rattle.blocks.specs.Disk.{Image, Rose, block_at}
 use Rattle.blocks.specs.declared.disk.Disk.{Ghosts}
 use Rattle.model.specs.Files.{files_of, file_in}
-use Rattle.model.specs.Layout.{form_of, is_marked}
+use Rattle.model.specs.Layout.{form_of, inode_count_of, is_marked}
 use Rattle.model.specs.Log.{is_lawful_log, recovered}
 use Rattle.model.specs.Operations.{after}
 use Rattle.model.specs.Soundness.{IsSound}
@@ -14,7 +14,7 @@ use Rattle.model.specs.declared.types.operations.Entry.{Entry}
 use Rattle.model.specs.declared.types.operations.Op.{Op}
 use Rattle.model.specs.declared.types.operations.Op.TheVariants.{Create, Write, Read, Trunc, Remove, Stat}
 use Rattle.model.specs.declared.types.operations.Reply.{Reply}
-use Rattle.model.specs.declared.types.operations.Reply.TheVariants.{Made, Wrote}
+use Rattle.model.specs.declared.types.operations.Reply.TheVariants.{Made, NoInode, Wrote}
 use Rattle.ports.specs.Queues.{polled, waiting}
 use Rattle.journal.specs.declared.types.At.TheVariants as at
 use Rattle.journal.specs.Processes.{process}
@@ -65,6 +65,11 @@ abbrev pub MakesLowest : Image → Op → Reply → Type 0
 MakesLowest x op reply = (kind i j : ℕ) → op ≡ Create kind → reply ≡ Made i → 1 ≤ j → j < i →
     file_in (files_of x) j ≢ None
 
+-- and none only where each is taken
+abbrev pub MakesNoneIfFull : Image → Op → Reply → Type 0
+MakesNoneIfFull x op reply = (kind j : ℕ) → op ≡ Create kind → reply ≡ NoInode → 1 ≤ j →
+    j < inode_count_of x → file_in (files_of x) j ≢ None
+
 -- a write that wrote fewer bytes than it was given leaves no block free
 abbrev pub ShortIsFull : Image → Op → Reply → Type 0
 ShortIsFull y op reply = (i off done : ℕ) (bytes : List ℕ) → op ≡ Write i off bytes →
@@ -78,6 +83,7 @@ pub record Calls {D : Type 0} (image : D → Image) (op : Op) (k m : Plain D) (r
       ≡ Some (files_of (image_on image m))
   pub whole : IsWhole (image_on image k) (image_on image m)
   pub lowest : MakesLowest (image_on image k) op reply
+  pub none : MakesNoneIfFull (image_on image k) op reply
   pub short : ShortIsFull (image_on image m) op reply
   pub one_more : call_count m ≡ call_count k + 1
 
