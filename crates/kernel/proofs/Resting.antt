@@ -1,6 +1,5 @@
 -- The current image and the log, while the disk has not failed.
-use Rattle.std.proofs.Common.{◌≡◌, ◌∙◌, ℕ, true, List, [], ◌∷◌, length, refl, sym, ap, subst, Option, Some, None}
-use Rattle.std.proofs.lemmas.List.{ext_get_or}
+use Rattle.std.proofs.Common.{◌≡◌, ◌∙◌, ℕ, true, sym, ap, subst, Option, Some, None}
 use Rattle.wal.specs.declared.types.DeviceFault.{DeviceFault}
 use Rattle.std.specs.Prelude.{IfNone}
 use Rattle.blocks.specs.Disk.{Image}
@@ -9,9 +8,8 @@ use Rattle.model.specs.Journal.{answered, replay}
 use Rattle.model.specs.Layout.{form_of}
 use Rattle.model.specs.Log.{logged_count}
 use Rattle.bcache.specs.Buffers.{Buffers}
-use Rattle.bcache.specs.Lemmas.Current.{length-current}
-use Rattle.wal.specs.Joint.{JointAt, seen}
-use Rattle.wal.specs.Machine.{LogState, is_among, is_quiet}
+use Rattle.wal.specs.Joint.{JointAt}
+use Rattle.wal.specs.Machine.{LogState, is_quiet}
 use Rattle.wal.specs.declared.types.Commit.{Commit}
 use Rattle.wal.specs.declared.types.Commit.TheVariants as commit
 use Rattle.inodes.specs.Store.{StoreState, FitsFiles}
@@ -53,18 +51,3 @@ none_logged commit.Heading x c l joint quiet = cc quiet
 none_logged (commit.Homing n) x c l joint quiet = cc quiet
 none_logged commit.Clearing x c l joint quiet = cc quiet
 none_logged (commit.Syncing p) x c l joint quiet = cc quiet
-
-none_left : (homes : List ℕ) → length homes ≡ 0 → homes ≡ []
-none_left [] none = refl
-none_left (h ∷ homes) none = absurd (cc none)
-
--- at rest no buffer is pinned, and the disk shows the current image
-pub none_pinned : (k : Commit) (x : Image) (c : Buffers) (l : LogState) → JointAt k x c l → (l.outstanding ≡ 0) × (is_quiet k ≡ true) → seen x c ≡ x
-none_pinned commit.Quiet x c l joint rest =
-    let none : l.homes ≡ [] = none_left l.homes (joint.log.idle rest.0) in
-    ext_get_or [] (seen x c) x (length-current x c) (λ b inside. joint.clean b (ap (is_among b) none))
-none_pinned (commit.Logging n) x c l joint rest = let quiet = rest.1 in cc quiet
-none_pinned commit.Heading x c l joint rest = let quiet = rest.1 in cc quiet
-none_pinned (commit.Homing n) x c l joint rest = let quiet = rest.1 in cc quiet
-none_pinned commit.Clearing x c l joint rest = let quiet = rest.1 in cc quiet
-none_pinned (commit.Syncing p) x c l joint rest = let quiet = rest.1 in cc quiet

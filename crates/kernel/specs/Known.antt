@@ -42,8 +42,6 @@ pub record IsCurrent {D I H : Type 0} (image : D → Image) (k : State D I H) : 
       k.world.journal.list ≡ Some (files_of (cleared (current_of image k.store.volume)))
   -- no operation is open then, and no commit under way
   pub rests : AreIdle k.world → IsAtRest k.store.volume.log
-  -- and the disk itself shows the current image
-  pub shown : AreIdle k.world → current_of image k.store.volume ≡ image k.store.volume.device
   -- all groups are committed then, but for one that is being committed
   pub settled : k.store.volume.log.outstanding ≡ 0 → is_quiet k.store.volume.log.commit ≡ true
       → k.store.volume.log.committed ≡ k.store.volume.log.opened
