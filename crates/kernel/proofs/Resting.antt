@@ -1,5 +1,5 @@
 -- The current image and the log, while the disk has not failed.
-use Rattle.std.proofs.Common.{◌≡◌, ◌∙◌, ℕ, true, sym, ap, subst, Option, Some, None}
+use Rattle.std.proofs.Common.{◌≡◌, ◌∙◌, ℕ, true, List, [], ◌∷◌, length, refl, sym, ap, subst, Option, Some, None}
 use Rattle.wal.specs.declared.types.DeviceFault.{DeviceFault}
 use Rattle.std.specs.Prelude.{IfNone}
 use Rattle.blocks.specs.Disk.{Image}
@@ -7,8 +7,10 @@ use Rattle.model.specs.Files.{Files, files_of}
 use Rattle.model.specs.Journal.{answered, replay}
 use Rattle.model.specs.Layout.{form_of}
 use Rattle.model.specs.Log.{logged_count}
+use Rattle.model.specs.Lemmas.Log.{recovered_empty}
 use Rattle.bcache.specs.Buffers.{Buffers}
-use Rattle.wal.specs.Joint.{JointAt}
+use Rattle.wal.specs.Joint.{JointAt, seen}
+use Rattle.wal.specs.Lemmas.Commits.{quiet_is_current}
 use Rattle.wal.specs.Machine.{LogState, is_quiet}
 use Rattle.wal.specs.declared.types.Commit.{Commit}
 use Rattle.wal.specs.declared.types.Commit.TheVariants as commit
@@ -51,3 +53,16 @@ none_logged commit.Heading x c l joint quiet = cc quiet
 none_logged (commit.Homing n) x c l joint quiet = cc quiet
 none_logged commit.Clearing x c l joint quiet = cc quiet
 none_logged (commit.Syncing p) x c l joint quiet = cc quiet
+
+-- where no operation is open either, the buffers show what the disk has
+pub shows_disk : (k : Commit) (x : Image) (c : Buffers) (l : LogState) → JointAt k x c l → is_quiet k ≡ true → l.outstanding ≡ 0 → seen x c ≡ x
+shows_disk commit.Quiet x c l joint quiet none = sym (quiet_is_current x c l joint (by_length l.homes (joint.log.idle none))) ∙ recovered_empty x joint.phase
+  where
+    by_length : (hs : List ℕ) → length hs ≡ 0 → hs ≡ []
+    by_length [] empty = refl
+    by_length (h ∷ hs) empty = cc empty
+shows_disk (commit.Logging n) x c l joint quiet none = cc quiet
+shows_disk commit.Heading x c l joint quiet none = cc quiet
+shows_disk (commit.Homing n) x c l joint quiet none = cc quiet
+shows_disk commit.Clearing x c l joint quiet none = cc quiet
+shows_disk (commit.Syncing p) x c l joint quiet none = cc quiet

@@ -51,6 +51,9 @@ pub record IsCurrent {D I H : Type 0} (image : D → Image) (k : State D I H) : 
   -- and so has its disk
   pub clear : is_quiet k.store.volume.log.commit ≡ true
       → logged_count (image k.store.volume.device) ≡ 0
+  -- at rest no block stands in buffers alone
+  pub shown : IsAtRest k.store.volume.log
+      → current_of image k.store.volume ≡ image k.store.volume.device
   -- whatever is under way, it stands for the files after the entries that have a reply
   pub stands : (m : Files) → replay (form_of (image k.opening)) (files_of (image k.opening))
       (answered k.world.journal.list) ≡ Some m → FitsFiles image k.store m

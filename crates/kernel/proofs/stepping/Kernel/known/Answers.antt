@@ -11,7 +11,7 @@ use Rattle.kernel.specs.State.{State}
 use Rattle.kernel.proofs.Openings.{opens_again}
 use Rattle.kernel.proofs.Lasting.{lasts_now}
 use Rattle.kernel.proofs.Awaking.{awake_now}
-use Rattle.kernel.proofs.Resting.{at_rest, if_both, none_logged, stands_for}
+use Rattle.kernel.proofs.Resting.{at_rest, if_both, none_logged, shows_disk, stands_for}
 use Rattle.wal.specs.Lemmas.Volume.{none_seen}
 use Rattle.kernel.proofs.Right.{keeps_now}
 use Rattle.kernel.proofs.stepping.Kernel.known.Goals as goal
@@ -34,6 +34,7 @@ returns g c =
         settled = λ none quiet. all_committed k.store.volume.log has.facts.valid.log none quiet;
         empty = λ quiet. none_seen k.store.volume.log.commit (g.D.Disk.image k.store.volume.device) k.store.volume.buffers k.store.volume.log joint quiet;
         clear = λ quiet. none_logged k.store.volume.log.commit (g.D.Disk.image k.store.volume.device) k.store.volume.buffers k.store.volume.log joint quiet;
+        shown = λ rest. shows_disk k.store.volume.log.commit (g.D.Disk.image k.store.volume.device) k.store.volume.buffers k.store.volume.log joint rest.quiet rest.none;
         rests = λ all. at_rest g.D.Disk.image (g.D.Disk.image k.opening.value) k.store k.processes has all;
         stands = λ m run. stands_for g.D.Disk.image (g.D.Disk.image k.opening.value) k.store k.processes has m run;
         size = sym joint.size ∙ sym (length-current (g.D.Disk.image k.store.volume.device) k.store.volume.buffers) ∙ known_size _ _ _ _ has.facts;
