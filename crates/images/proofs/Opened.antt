@@ -22,6 +22,11 @@ pub made_on : {F N : Type 0} (disk : Ghosts (FileDisk F) N) (r : Result (Unit {0
 made_on disk (Ok _) form size inode_count old new created now zeroes makes printed = record { created = created; now = now; zeroes = zeroes; makes = makes; printed = printed }
 made_on disk (Err _) form size inode_count old new created now zeroes makes printed = tt
 
+-- two things that hold where a command was done
+pub both_done : (r : Result (Unit {0}) Refusal) (A B : Type 0) → OnOk r A → OnOk r B → OnOk r (A × B)
+both_done (Ok _) A B a b = (a, b)
+both_done (Err _) A B a b = tt
+
 module _ {F N : Type 0} (remaining : F → Option (List ℕ)) (disk : Ghosts (FileDisk F) N) (holds : Bool) where
   -- what was done to the disk that was opened, where two things say it
   pub opens_disk : (r : Result (Unit {0}) Refusal) (opened now : FileDisk F) (P : FileDisk F → FileDisk F → Type 0) (A B : Type 0) → IsOpened remaining disk holds opened

@@ -1,2 +1,3 @@
 pub mod Files
 pub mod Lemmas
+pub mod Tools

@@ -68,7 +68,7 @@ pub fn make_file<R: Files + AllocGlobal, O: Write>(
 }
 
 // The disk in the file at this path, which holds writes back or doesn't.
-fn open_disk<R: Files + AllocGlobal>(
+pub(crate) fn open_disk<R: Files + AllocGlobal>(
     rt: &R,
     image: &str,
     sync: bool,

@@ -11,8 +11,8 @@ use Rattle.clap.specs.declared.parser.matches.Found.{Found}
 use Rattle.clap.proofs.OnLiterals.{clap_on_literals}
 use Rattle.clap.proofs.WalkLemmas.{first_value-rows, one_text-rows}
 use Rattle.requests.specs.declared.words.Request.{Request}
-use Rattle.requests.specs.declared.words.Request.TheVariants.{Mkfs, Check, Recover, Cat, Replay, Run, Stops}
-use Rattle.requests.specs.CommandLine.{AskFor, Asks, AsksBy, HasApp, HasFewWorkers, HasFlag, IsMistakeIn, mistakes_in, xvfs_app}
+use Rattle.requests.specs.declared.words.Request.TheVariants.{Mkfs, Check, Recover, Cat, Ls, Show, Put, Copy, Replay, Run, Stops}
+use Rattle.requests.specs.CommandLine.{AskFor, Asks, AsksBy, HasApp, HasChoice, HasFewWorkers, HasFlag, IsMistakeIn, mistakes_in, xvfs_app}
 
 pub one_word : (app : App) (rule : Rule) (old : Command) (word : Arg) (new : Command) → HasApp app old → rule_of word ≡ rule → word.global ≡ false → AddsArg old word new → HasApp (with_rule app rule) new
 one_word app rule old word new has is local adds =
@@ -69,11 +69,19 @@ flag_read f id given none set unset = record {
   none = λ is. none (one_text-rows f id ∙ is);
 }
 
+-- what clap says of a number that may be left out
+pub choice_read : (f : Found) (id : List ℕ) (given : Option ℕ) → (one_text f id ≡ None → given ≡ None) → HasChoice id (rows_of f) given
+choice_read f id given none = record { none = λ is. none (one_text-rows f id ∙ is) }
+
 few_by : (name : List ℕ) (rows : List Row) (request : Request) → AsksBy name rows request → HasFewWorkers request
 few_by name rows (Mkfs image size ninodes large) asks = tt
 few_by name rows (Check image) asks = tt
 few_by name rows (Recover image sync) asks = tt
 few_by name rows (Cat image inum) asks = tt
+few_by name rows (Ls image) asks = tt
+few_by name rows (Show image inum) asks = tt
+few_by name rows (Put image file inum) asks = tt
+few_by name rows (Copy old new size) asks = tt
 few_by name rows (Replay image script schedule stop sync) asks = tt
 few_by name rows (Run image script workers sync) asks = (asks.3.0, asks.3.1)
 few_by name rows (Stops script schedule held) asks = tt

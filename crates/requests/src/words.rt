@@ -11,14 +11,20 @@ ghost use Rattle.requests.specs.CommandLine.{
   IsMistakeIn,
   bare_app,
   cat_app,
+  choice_rule,
+  copy_app,
+  files_app,
   flag_rule,
   image_app,
   mkfs_app,
   number_rule,
+  put_app,
   recover_app,
   replay_app,
   required_rule,
   run_app,
+  show_app,
+  size_rule,
   stop_rule,
   stops_app,
   workers_rule,
@@ -64,6 +70,36 @@ pub enum Request<'a> {
         image: &'a str,
         /// The file's number.
         inum: u32,
+    },
+    /// The files of an image.
+    Ls {
+        /// The path of the image's file.
+        image: &'a str,
+    },
+    /// The blocks of an image, or of one of its files.
+    Show {
+        /// The path of the image's file.
+        image: &'a str,
+        /// The file's number.
+        inum: Option<u32>,
+    },
+    /// A file of the system, put into an image.
+    Put {
+        /// The path of the image's file.
+        image: &'a str,
+        /// The path of the file whose bytes are put.
+        file: &'a str,
+        /// The number of the image's file that gets them; none for a new one.
+        inum: Option<u32>,
+    },
+    /// An image of the first form, copied into a new one of the second.
+    Copy {
+        /// The path of the image's file.
+        old: &'a str,
+        /// The path of the file that is made.
+        new: &'a str,
+        /// The blocks of the new image; none for as many as the old one has.
+        size: Option<u32>,
     },
     /// A script's operations over an image.
     Replay {
@@ -141,6 +177,18 @@ fn request_of<'a>(matches: &ArgMatches<'a>) -> Option<Request<'a>>
             schedule: values.get_str("SCHEDULE")?,
             held: values.get_flag("held"),
         }),
+        "copy" => Some(Request::Copy {
+            old: values.get_str("OLD")?,
+            new: values.get_str("NEW")?,
+            size: values.get_one("size"),
+        }),
+        "replay" => Some(Request::Replay {
+            image: values.get_str("IMAGE")?,
+            script: values.get_str("SCRIPT")?,
+            schedule: values.get_str("SCHEDULE")?,
+            stop: values.get_one("stop"),
+            sync: values.get_flag("sync"),
+        }),
         _ => request_over(name, values),
     }
 }
@@ -166,12 +214,15 @@ fn request_over<'a>(name: &str, values: &ArgMatches<'a>) -> Option<Request<'a>>
             image,
             inum: values.get_one("INUM")?,
         }),
-        "replay" => Some(Request::Replay {
+        "ls" => Some(Request::Ls { image }),
+        "show" => Some(Request::Show {
             image,
-            script: values.get_str("SCRIPT")?,
-            schedule: values.get_str("SCHEDULE")?,
-            stop: values.get_one("stop"),
-            sync: values.get_flag("sync"),
+            inum: values.get_one("INUM"),
+        }),
+        "put" => Some(Request::Put {
+            image,
+            file: values.get_str("FILE")?,
+            inum: values.get_one("INUM"),
         }),
         "run" => Some(Request::Run {
             image,
@@ -196,14 +247,25 @@ fn workers_of(values: &ArgMatches<'_>) -> u32
 fn program<'a>(alloc: Global) -> Result<Command<'a>, AllocError>
     ensures { IfOk result (HasApp xvfs_app) }
 {
-    bare_program(alloc)?
-        .subcommand(mkfs_words(alloc)?)?
-        .subcommand(check_words(alloc)?)?
+    program_of_files(alloc)?
+        .subcommand(show_words(alloc)?)?
+        .subcommand(put_words(alloc)?)?
+        .subcommand(copy_words(alloc)?)?
         .subcommand(recover_words(alloc)?)?
-        .subcommand(cat_words(alloc)?)?
         .subcommand(replay_words(alloc)?)?
         .subcommand(run_words(alloc)?)?
         .subcommand(stops_words(alloc)?)
+}
+
+// The program, with the commands that make an image and read it.
+fn program_of_files<'a>(alloc: Global) -> Result<Command<'a>, AllocError>
+    ensures { IfOk result (HasApp files_app) }
+{
+    bare_program(alloc)?
+        .subcommand(mkfs_words(alloc)?)?
+        .subcommand(check_words(alloc)?)?
+        .subcommand(ls_words(alloc)?)?
+        .subcommand(cat_words(alloc)?)
 }
 
 // The program, without its commands.
@@ -214,7 +276,7 @@ fn bare_program<'a>(alloc: Global) -> Result<Command<'a>, AllocError>
         Command::new(alloc, "xvfs")
             .version("0.1.0")
             .about(
-                "Makes, checks, recovers, reads, replays and runs images of the xv6 file system, and checks scripts at each of their stops; without words, does the command lines of standard input",
+                "Makes, checks, lists, shows, fills, copies and recovers images of the xv6 file system, and runs scripts of operations over them; without words, does the command lines of standard input",
             )
             .bin_name("xvfs")?
             .no_binary_name(true)
@@ -227,6 +289,7 @@ fn mkfs_words<'a>(alloc: Global) -> Result<Command<'a>, AllocError>
 {
     Command::new(alloc, "mkfs")
         .about("Makes an image in a new file, or in place of an old one")
+        .after_help("Example: xvfs mkfs fs.img 2000 200")
         .arg(word(
             alloc,
             "IMAGE",
@@ -254,6 +317,7 @@ fn check_words<'a>(alloc: Global) -> Result<Command<'a>, AllocError>
 {
     Command::new(alloc, "check")
         .about("Says whether an image is sound, and counts its logged blocks and its files")
+        .after_help("Example: xvfs check fs.img")
         .arg(word(
             alloc,
             "IMAGE",
@@ -266,6 +330,7 @@ fn recover_words<'a>(alloc: Global) -> Result<Command<'a>, AllocError>
 {
     Command::new(alloc, "recover")
         .about("Checks an image, and copies the blocks of its log home")
+        .after_help("Example: xvfs recover fs.img")
         .arg(word(alloc, "IMAGE", "The path of the image's file"))?
         .arg(sync_word(alloc))
 }
@@ -286,8 +351,81 @@ fn cat_words<'a>(alloc: Global) -> Result<Command<'a>, AllocError>
 {
     Command::new(alloc, "cat")
         .about("Recovers an image, and writes the bytes of one of its files")
+        .after_help("Example: xvfs cat fs.img 1")
         .arg(word(alloc, "IMAGE", "The path of the image's file"))?
         .arg(number(alloc, "INUM", "The file's inode number"))
+}
+
+fn ls_words<'a>(alloc: Global) -> Result<Command<'a>, AllocError>
+    ensures { IfOk result (HasApp (image_app (codes "ls"))) }
+{
+    Command::new(alloc, "ls")
+        .about("Lists the files of an image: number, type, bytes and blocks")
+        .after_help("Example: xvfs ls fs.img")
+        .arg(word(
+            alloc,
+            "IMAGE",
+            "The path of the image's file, which is not changed",
+        ))
+}
+
+fn show_words<'a>(alloc: Global) -> Result<Command<'a>, AllocError>
+    ensures { IfOk result (HasApp show_app) }
+{
+    Command::new(alloc, "show")
+        .about("Draws the blocks of an image, a sign each, or lists those of one file")
+        .after_help("Examples: xvfs show fs.img, xvfs show fs.img 1")
+        .arg(word(
+            alloc,
+            "IMAGE",
+            "The path of the image's file, which is not changed",
+        ))?
+        .arg(choice(
+            alloc,
+            "INUM",
+            "A file's inode number, whose blocks are listed in their order",
+        ))
+}
+
+fn put_words<'a>(alloc: Global) -> Result<Command<'a>, AllocError>
+    ensures { IfOk result (HasApp put_app) }
+{
+    Command::new(alloc, "put")
+        .about("Puts a file into an image, as a new file or in place of one, and prints its number")
+        .after_help("Examples: xvfs put fs.img notes.txt, xvfs put fs.img notes.txt 1")
+        .arg(word(alloc, "IMAGE", "The path of the image's file"))?
+        .arg(word(alloc, "FILE", "The path of the file whose bytes are put"))?
+        .arg(choice(
+            alloc,
+            "INUM",
+            "The inode number of the file that gets the bytes in place of its own",
+        ))
+}
+
+fn copy_words<'a>(alloc: Global) -> Result<Command<'a>, AllocError>
+    ensures { IfOk result (HasApp copy_app) }
+{
+    Command::new(alloc, "copy")
+        .about("Copies the files of an image into a new one that has room for large files")
+        .after_help("Example: xvfs copy old.img new.img --size 8191")
+        .arg(word(
+            alloc,
+            "OLD",
+            "The path of the image's file, which is not changed",
+        ))?
+        .arg(word(alloc, "NEW", "The path of the file that is made"))?
+        .arg(size_word(alloc))
+}
+
+fn size_word<'a>(alloc: Global) -> Arg<'a>
+    ensures rule { rule_of result ≡ size_rule }
+    ensures local { result.global ≡ false }
+{
+    Arg::new(alloc, "size")
+        .long("size")
+        .value_name("N")
+        .value_parser(value_parser!(u32))
+        .help("Blocks of the new image; as many as the old one has where it is not given")
 }
 
 fn replay_words<'a>(alloc: Global) -> Result<Command<'a>, AllocError>
@@ -295,6 +433,7 @@ fn replay_words<'a>(alloc: Global) -> Result<Command<'a>, AllocError>
 {
     Command::new(alloc, "replay")
         .about("Recovers an image, and makes a script's operations in the turns of a schedule")
+        .after_help("Example: xvfs replay fs.img script schedule --stop 3")
         .arg(word(alloc, "IMAGE", "The path of the image's file"))?
         .arg(word(
             alloc,
@@ -328,6 +467,7 @@ fn run_words<'a>(alloc: Global) -> Result<Command<'a>, AllocError>
         .about(
             "Recovers an image, and makes a script's operations, each process's in order, by threads",
         )
+        .after_help("Example: xvfs run fs.img script --workers 4")
         .arg(word(alloc, "IMAGE", "The path of the image's file"))?
         .arg(word(
             alloc,
@@ -356,6 +496,7 @@ fn stops_words<'a>(alloc: Global) -> Result<Command<'a>, AllocError>
         .about(
             "Makes a script's operations up to each of their writes, and checks what each stop leaves",
         )
+        .after_help("Example: xvfs stops script schedule")
         .arg(word(
             alloc,
             "SCRIPT",
@@ -392,7 +533,17 @@ fn word<'a>(alloc: Global, name: &'a str, help: &'a str) -> Arg<'a>
     Arg::new(alloc, name).required(true).help(help)
 }
 
-// The same, a number.
+// A number that may be left out.
+fn choice<'a>(alloc: Global, name: &'a str, help: &'a str) -> Arg<'a>
+    ensures rule { rule_of result ≡ choice_rule name.entry.now }
+    ensures local { result.global ≡ false }
+{
+    Arg::new(alloc, name)
+        .value_parser(value_parser!(u32))
+        .help(help)
+}
+
+// A word that has to be there, a number.
 fn number<'a>(alloc: Global, name: &'a str, help: &'a str) -> Arg<'a>
     ensures rule { rule_of result ≡ number_rule name.entry.now }
     ensures local { result.global ≡ false }

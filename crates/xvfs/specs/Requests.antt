@@ -11,8 +11,10 @@ use Rattle.requests.specs.CommandLine.{AskFor}
 use Rattle.requests.specs.Told.{AskForHelp, IsToldOf}
 use Rattle.requests.specs.declared.explanation.Explanation.{Explanation}
 use Rattle.requests.specs.declared.words.Request.{Request}
-use Rattle.requests.specs.declared.words.Request.TheVariants.{Mkfs, Check, Recover, Cat, Replay, Run, Stops}
+use Rattle.requests.specs.declared.words.Request.TheVariants.{Mkfs, Check, Recover, Cat, Ls, Show, Put, Copy, Replay, Run, Stops}
 use Rattle.images.specs.Files.{IsCopied, IsMade, IsNotRun, IsReplayed, IsReported, IsRun, IsShown, IsUnreplayed, OnDiskRefusal, OpensDisk}
+use Rattle.images.specs.Tools.{HasBlocksHidden, HasBlocksShown, IsListed}
+use Rattle.listing.specs.Causes.{IsUnlisted}
 use Rattle.xvfs.specs.Files.{FileGhosts}
 use Rattle.xvfs.specs.Scripts.{ChecksScript, IsScriptUnchecked}
 use Rattle.xvfs.specs.Status.{IsHelp}
@@ -35,6 +37,10 @@ Answers file (Recover image sync) old new =
     OpensDisk file.remaining file.disk sync (IsCopied file.disk old new)
 Answers file (Cat image inum) old new =
     OpensDisk file.remaining file.disk false (IsShown file.disk inum old new)
+Answers file (Ls image) old new =
+    OpensDisk file.remaining file.disk false (IsListed file.disk old new)
+Answers file (Show image inum) old new =
+    OpensDisk file.remaining file.disk false (HasBlocksShown file.disk inum old new)
 Answers file (Replay image script schedule stop sync) old new =
     OpensDisk file.remaining file.disk sync
     (IsReplayed file.disk file.over (unwrap_or stop 0) old new)
@@ -54,6 +60,11 @@ OnRefused file (Recover image sync) r old new none = (r ≢ Output → none)
 OnRefused file (Cat image inum) r old new none =
     OnDiskRefusal file.remaining file.disk false none
     (λ d e. IsNotShown file.disk d e inum old new none) r
+OnRefused file (Ls image) r old new none = (r ≢ Output → none)
+    × OnDiskRefusal file.remaining file.disk false none
+    (IsUnlisted file.disk.image file.disk.fault_count) r
+OnRefused file (Show image inum) r old new none = (r ≢ Output → none)
+    × OnDiskRefusal file.remaining file.disk false none (HasBlocksHidden file.disk inum) r
 OnRefused file (Replay image script schedule stop sync) r old new none =
     OnDiskRefusal file.remaining file.disk sync none
     (IsUnreplayed file.disk file.over (unwrap_or stop 0) old new none) r

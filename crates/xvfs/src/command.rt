@@ -13,7 +13,9 @@ ghost use Rattle.requests.specs.declared.explanation.Explanation.{Explanation as
 use crate::progress::Screen;
 use crate::stopping::stops_files;
 use blocks::{Disk, FaultyDisk, FileDisk};
-use images::{cat_file, check_file, make_file, recover_file, replay_files, run_files};
+use images::{
+    cat_file, check_file, ls_file, make_file, recover_file, replay_files, run_files, show_blocks,
+};
 use model::types::Form;
 use requests::{Explanation, Request, parse};
 use std::convert::AsStr;
@@ -171,6 +173,8 @@ where
         Request::Check { image } => check_file(rt, image, out),
         Request::Recover { image, sync } => recover_file(rt, image, sync, out),
         Request::Cat { image, inum } => cat_file(rt, image, inum, out),
+        Request::Ls { image } => ls_file(rt, image, out),
+        Request::Show { image, inum } => show_blocks(rt, image, inum, out),
         Request::Replay {
             image,
             script,

@@ -1,0 +1,18 @@
+use Rattle.std.proofs.Common.{false}
+use Rattle.std.proofs.lemmas.Result.{IfErr-weaker}
+use Rattle.listing.specs.Causes.{IsUnlisted}
+use Rattle.images.specs.Lemmas.Disks.{file_disk}
+use Rattle.images.proofs.Opened.{opens_disk, refuses_disk}
+use Rattle.images.proofs.tools.ls_file.Goals as goal
+
+pub returns-clause-opened : goal.returns-clause-opened
+returns-clause-opened g c =
+    let disk = c.in_ok-disk in
+    opens_disk g.R.File.Read.remaining file_disk false c.list_disk.result disk.disk c.list_disk.new.disk _ _ _ disk.ensures.opened (λ sound printed. (c.list_disk.ensures.reads.image, sound, printed)) c.list_disk.ensures.sound c.list_disk.ensures.printed
+
+pub returns-clause-refused : goal.returns-clause-refused
+returns-clause-refused g c =
+    let disk = c.in_ok-disk in
+    IfErr-weaker c.list_disk.result _ _
+    (refuses_disk g.R.File.Read.remaining file_disk false disk.disk c.list_disk.new.disk _ (IsUnlisted file_disk.image file_disk.fault_count) disk.ensures.opened (λ fault why. absurd why) (λ fault why. absurd why) (λ fault why. absurd why))
+    c.list_disk.ensures.refused
