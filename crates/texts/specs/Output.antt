@@ -25,3 +25,11 @@ counts_text writes committed =
 -- how many images the stops of a script left
 abbrev pub images_text : ℕ → List ℕ
 images_text images = codes "images " ++ decimal images ++ codes "\n"
+
+-- how many files were copied
+abbrev pub files_text : ℕ → List ℕ
+files_text files = codes "copied " ++ decimal files ++ codes "\n"
+
+-- the number of a file
+abbrev pub number_text : ℕ → List ℕ
+number_text number = decimal number ++ codes "\n"

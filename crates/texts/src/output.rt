@@ -1,7 +1,7 @@
 // What a command prints.
 ghost use Rattle.std.specs.Prelude.{IfSome, OnOk, IsOkUnless};
 ghost use Rattle.std.specs.Io.KnownBytes.{Appends, Keeps};
-ghost use Rattle.texts.specs.Output.{copied_text, counts_text, images_text, numbers_text, report_text};
+ghost use Rattle.texts.specs.Output.{copied_text, counts_text, files_text, images_text, number_text, numbers_text, report_text};
 
 use crate::refusal::Refusal;
 use itoa::Buffer;
@@ -109,6 +109,36 @@ pub fn print_copied<O: Write>(out: &mut O, copied: u32) -> Result<(), Refusal>
     let mut buffer = Buffer::new();
     let copied = buffer.format(copied);
     print_last(out, format_args!("recovered {copied}\n"))
+}
+
+/// Prints how many files were copied, as the last text of a command.
+///
+/// # Errors
+///
+/// `Output` where the writer fails.
+pub fn print_files<O: Write>(out: &mut O, files: u32) -> Result<(), Refusal>
+    ensures ok { OnOk result (Appends (O.contents out.old) (O.contents out.new)
+        (files_text files)) }
+    ensures err { IsOkUnless result Refusal.Output }
+{
+    let mut buffer = Buffer::new();
+    let files = buffer.format(files);
+    print_last(out, format_args!("copied {files}\n"))
+}
+
+/// Prints the number of a file, as the last text of a command.
+///
+/// # Errors
+///
+/// `Output` where the writer fails.
+pub fn print_number<O: Write>(out: &mut O, number: u32) -> Result<(), Refusal>
+    ensures ok { OnOk result (Appends (O.contents out.old) (O.contents out.new)
+        (number_text number)) }
+    ensures err { IsOkUnless result Refusal.Output }
+{
+    let mut buffer = Buffer::new();
+    let number = buffer.format(number);
+    print_last(out, format_args!("{number}\n"))
 }
 
 /// Prints how many blocks a run wrote, and how many groups are committed, as the last text of a

@@ -9,6 +9,6 @@ pub returns : goal.returns
 returns c =
     let image : rule_of c.word.result ≡ required_rule (codes "IMAGE") = search rules in
     let inum : rule_of c.number.result ≡ number_rule (codes "INUM") = search rules in
-    let start : HasApp (new_app (codes "cat")) c.about.result = search rules in
-    let one = one_word _ _ c.about.result c.word.result c.in_ok-arg.field-0 start image c.word.ensures.local c.in_ok-arg.ensures in
+    let start : HasApp (new_app (codes "cat")) c.after_help.result = search rules in
+    let one = one_word _ _ c.after_help.result c.word.result c.in_ok-arg.field-0 start image c.word.ensures.local c.in_ok-arg.ensures in
     IfOk-weaker c.arg-2.result _ _ (λ r adds. one_word _ _ c.in_ok-arg.field-0 c.number.result r one inum c.number.ensures.local adds) c.arg-2.ensures

@@ -8,6 +8,6 @@ use Rattle.requests.proofs.words.recover_words.Goals as goal
 pub returns : goal.returns
 returns c =
     let image : rule_of c.word.result ≡ required_rule (codes "IMAGE") = search rules in
-    let start : HasApp (new_app (codes "recover")) c.about.result = search rules in
-    let one = one_word _ _ c.about.result c.word.result c.in_ok-arg.field-0 start image c.word.ensures.local c.in_ok-arg.ensures in
+    let start : HasApp (new_app (codes "recover")) c.after_help.result = search rules in
+    let one = one_word _ _ c.after_help.result c.word.result c.in_ok-arg.field-0 start image c.word.ensures.local c.in_ok-arg.ensures in
     IfOk-weaker c.arg-2.result _ _ (λ r adds. one_word _ _ c.in_ok-arg.field-0 c.sync_word.result r one c.sync_word.ensures.rule c.sync_word.ensures.local adds) c.arg-2.ensures

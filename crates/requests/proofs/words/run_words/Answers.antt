@@ -9,8 +9,8 @@ pub returns : goal.returns
 returns c =
     let image : rule_of c.word.result ≡ required_rule (codes "IMAGE") = search rules in
     let script : rule_of c.word-2.result ≡ required_rule (codes "SCRIPT") = search rules in
-    let start : HasApp (new_app (codes "run")) c.about.result = search rules in
-    let one = one_word _ _ c.about.result c.word.result c.in_ok-arg.field-0 start image c.word.ensures.local c.in_ok-arg.ensures in
+    let start : HasApp (new_app (codes "run")) c.after_help.result = search rules in
+    let one = one_word _ _ c.after_help.result c.word.result c.in_ok-arg.field-0 start image c.word.ensures.local c.in_ok-arg.ensures in
     let two = one_word _ _ c.in_ok-arg.field-0 c.word-2.result c.in_ok-arg-2.field-0 one script c.word-2.ensures.local c.in_ok-arg-2.ensures in
     let three = one_word _ _ c.in_ok-arg-2.field-0 c.workers_word.result c.in_ok-arg-3.field-0 two c.workers_word.ensures.rule c.workers_word.ensures.local c.in_ok-arg-3.ensures in
     IfOk-weaker c.arg-4.result _ _ (λ r adds. one_word _ _ c.in_ok-arg-3.field-0 c.sync_word.result r three c.sync_word.ensures.rule c.sync_word.ensures.local adds) c.arg-4.ensures

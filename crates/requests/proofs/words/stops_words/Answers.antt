@@ -9,8 +9,8 @@ pub returns : goal.returns
 returns c =
     let script : rule_of c.word.result ≡ required_rule (codes "SCRIPT") = search rules in
     let schedule : rule_of c.word-2.result ≡ required_rule (codes "SCHEDULE") = search rules in
-    let start : HasApp (new_app (codes "stops")) c.about.result = search rules in
-    let one = one_word _ _ c.about.result c.word.result c.in_ok-arg.field-0 start script c.word.ensures.local c.in_ok-arg.ensures in
+    let start : HasApp (new_app (codes "stops")) c.after_help.result = search rules in
+    let one = one_word _ _ c.after_help.result c.word.result c.in_ok-arg.field-0 start script c.word.ensures.local c.in_ok-arg.ensures in
     let two = one_word _ _ c.in_ok-arg.field-0 c.word-2.result c.in_ok-arg-2.field-0 one schedule c.word-2.ensures.local c.in_ok-arg-2.ensures in
     let held : rule_of c.flag.result ≡ flag_rule (codes "held") = search rules in
     IfOk-weaker c.arg-3.result _ _ (λ r adds. one_word _ _ c.in_ok-arg-2.field-0 c.flag.result r two held c.flag.ensures.local adds) c.arg-3.ensures

@@ -1,0 +1,2 @@
+pub mod OwnedLemmas
+pub mod PlaceLemmas

@@ -1,0 +1,17 @@
+//! What an image has, as a user sees it: a list of its files, a drawing of its blocks with a sign
+//! for each, and the blocks of one file. Each is that of the image which recovery would leave, read
+//! without writing it, behind a check of the disk.
+#![tactic(auto)]
+
+mod drawing;
+mod fault;
+pub mod laws;
+mod listing;
+mod owned;
+mod showing;
+mod signs;
+
+pub use drawing::show_disk;
+pub use listing::list_disk;
+pub use owned::Owned;
+pub use showing::show_file;
