@@ -1,3 +1,4 @@
 pub mod Files
 pub mod Lemmas
 pub mod Tools
+pub mod Puts

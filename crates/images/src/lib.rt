@@ -6,8 +6,10 @@
 
 mod files;
 mod inputs;
+mod puts;
 mod tools;
 
 pub use files::{cat_file, check_file, make_file, recover_file, replay_files, run_files};
 pub use inputs::{schedule_from, script_from};
+pub use puts::put_file;
 pub use tools::{ls_file, show_blocks};

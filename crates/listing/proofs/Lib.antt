@@ -1,2 +1,5 @@
 pub mod OwnedLemmas
 pub mod PlaceLemmas
+pub mod SignLemmas
+pub mod TextLemmas
+pub mod FileLemmas

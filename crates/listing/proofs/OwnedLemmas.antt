@@ -2,12 +2,13 @@
 use Rattle.std.proofs.Common.{◌≡◌, ◌≢◌, ◌∙◌, ℕ, zero, suc, ◌-◌, ◌+◌, ◌<◌, ◌≤◌, List, [], ◌∷◌, ◌++◌, length, get_or, map, drop, refl, ap, sym, ⊎_elim, arith}
 use Rattle.std.specs.List.{flat_map, AllByRecursion, range_with_len}
 use Rattle.std.proofs.lemmas.Bool.{ne_eqb, cases_eq}
-use Rattle.std.proofs.lemmas.List.{append_assoc, append-nil, at_drop_more, at_drop_all, drop_more, drop_all, map-append}
+use Rattle.std.proofs.lemmas.List.{append_assoc, append-nil, at_drop_more, at_drop_all, drop_more, drop_all, length-map, map-append}
 use Rattle.std.proofs.Math.Numerals.{sub-one}
 use Rattle.blocks.specs.Disk.{Image, block_at}
 use Rattle.model.specs.declared.types.image.Dinode.{Dinode}
 use Rattle.model.specs.Fields.{words_of}
 use Rattle.model.specs.Layout.{depths, form_of}
+use Rattle.model.specs.Places.{addresses_in, pointers_in}
 use Rattle.model.specs.Names.{names_under, names_along, names_of}
 use Rattle.model.specs.Lemmas.Counts.{AllByRecursion-parts}
 use Rattle.model.specs.Lemmas.Names.{pointers_named}
@@ -132,6 +133,31 @@ next_done done next piece left more whole all split add =
 
 pub all_done : {X : Type 0} (done left whole : List X) → done ++ left ≡ whole → left ≡ [] → done ≡ whole
 all_done done left whole all none = sym (append-nil done) ∙ ap (λ l. done ++ l) (sym none) ∙ all
+
+-- one entry of a block of addresses more
+pub entry_more : (y : Image) (file depth : ℕ) (words : List ℕ) (k : ℕ) → k < length words →
+    flat_map (λ a. owned_under y file depth a) (drop k words)
+    ≡ owned_under y file depth (get_or words k 0) ++ flat_map (λ a. owned_under y file depth a) (drop (k + 1) words)
+entry_more y file depth words k low = at_drop_more (flat_map (λ a. owned_under y file depth a)) words k 0 low
+
+pub entry_all : (y : Image) (file depth : ℕ) (words : List ℕ) (k : ℕ) → length words ≤ k → flat_map (λ a. owned_under y file depth a) (drop k words) ≡ []
+entry_all y file depth words k high = at_drop_all (flat_map (λ a. owned_under y file depth a)) words k high
+
+-- a block of addresses, and what is under its entries, were added
+pub under_done : (y : Image) (top : Owned) (words : List ℕ) (before pushed after left : List Owned) → top.block ≢ 0 → top.depth ≢ 0 →
+    words ≡ words_of (block_at y top.block) → pushed ≡ before ++ top ∷ [] →
+    after ++ left ≡ pushed ++ flat_map (λ a. owned_under y top.file (top.depth - 1) a) words → left ≡ [] →
+    after ≡ before ++ owned_under y top.file top.depth top.block
+under_done y top words before pushed after left some deep read push all none =
+    let under = flat_map (λ a. owned_under y top.file (top.depth - 1) a) words in
+    let whole : owned_under y top.file top.depth top.block ≡ top ∷ under
+    = under_block y top.file top.depth top.block some deep ∙ ap (λ ws. top ∷ flat_map (λ a. owned_under y top.file (top.depth - 1) a) ws) (sym read) in
+    all_done after left (pushed ++ under) all none
+    ∙ ap (λ l. l ++ under) push ∙ append_assoc before (top ∷ []) under ∙ ap (λ l. before ++ l) (sym whole)
+
+-- how many blocks an inode owns
+pub owned_count : (y : Image) (file : ℕ) (d : Dinode) → length (owned_in y file d) ≡ length (addresses_in (pointers_in y d))
+owned_count y file d = sym (length-map (owned_in y file d) (λ (o : Owned). o.block)) ∙ ap length (owned_blocks y file d ∙ sym (pointers_named y d))
 
 -- one number of a range more
 pub range_step : {X : Type 0} (f : ℕ → List X) (i end : ℕ) → i < end →

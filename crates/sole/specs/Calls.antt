@@ -1,6 +1,6 @@
 -- What an operation of a kernel's only process comes to: a call, made from its submission to its
 -- answer.
-use Rattle.std.specs.Prelude.{◌≡◌, ◌≢◌, ◌⊎◌, ⊤, ℕ, ◌+◌, ◌<◌, ◌≤◌, ◌==◌, Bool, true, false, IsTrue, List, [], length, Result, Ok, Err, Option, Some, None}
+use Rattle.std.specs.Prelude.{◌≡◌, ◌≢◌, ◌⊎◌, ⊤, ℕ, ◌+◌, ◌<◌, ◌≤◌, ◌==◌, Bool, true, false, IsTrue, List, [], length, Result, Ok, Err, Some, None}
 use Rattle.std.specs.List.{list_all}
 use Rattle.blocks.specs.Calls.{OnlyReads}
 use Rattle.blocks.specs.Disk.{Image, Rose, block_at}
@@ -51,6 +51,7 @@ pub record Rests {D : Type 0} (faults : D → ℕ) (k : Plain D) : Type 0 where
   pub own : IsTrue (list_all is_own k.world.journal.list)
   pub waits : waiting k.intake 0 ≡ []
   pub fetched : polled k.intake 0 ≡ call_count k
+  pub well : k.store.volume.fault ≡ None
   pub faultless : faults k.store.volume.device ≡ faults k.opening
   pub unshut : k.world.is_shut ≡ false
 

@@ -1,5 +1,5 @@
 -- A kernel of one process, just opened.
-use Rattle.std.specs.Prelude.{◌≡◌, ℕ, ◌⊎◌, None}
+use Rattle.std.specs.Prelude.{◌≡◌, ◌⊎◌, None}
 use Rattle.blocks.specs.Disk.{counted}
 use Rattle.blocks.specs.declared.disk.Disk.{Ghosts}
 use Rattle.model.specs.Log.{logged_count, recovered}

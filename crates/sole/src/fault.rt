@@ -6,7 +6,7 @@ use wal::DeviceFault;
 #[derive(Clone, Copy, Debug, Error)]
 pub enum CallFault {
     /// The disk failed.
-    #[error("the disk failed: {0}")]
+    #[error("the disk failed: {0:?}")]
     Disk(DeviceFault),
     /// Memory for the operation was refused, and nothing was done.
     #[error("memory was refused")]

@@ -5,4 +5,3 @@ use Rattle.images.specs.Files.{OnDiskRefusal, OpensDisk}
 use Rattle.images.specs.Lemmas.Disks.{file_disk}
 use Rattle.images.proofs.Opened.{both_done, opens_disk, refuses_disk}
 use Rattle.images.proofs.tools.show_blocks.Goals as goal
-

@@ -1,8 +1,8 @@
 use Rattle.std.proofs.Common.{◌≡◌, length}
 use Rattle.kernel.specs.Steps.{MakesStep}
 use Rattle.ports.specs.History.{SameNames}
-use Rattle.player.specs.Stepping.{Moves}
-use Rattle.player.proofs.stepping.make_steps.Given as goal
+use Rattle.sole.specs.Stepping.{Moves}
+use Rattle.sole.proofs.stepping.make_steps.Given as goal
 
 -- the steps so far moved
 abbrev pub invariant-loop-step : goal.invariant-loop-step

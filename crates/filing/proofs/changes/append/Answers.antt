@@ -1,0 +1,13 @@
+use Rattle.filing.proofs.Calls.{appends, of_copy, writes}
+use Rattle.filing.proofs.changes.append.Goals as goal
+
+pub unreachable-requires : goal.unreachable-requires
+unreachable-requires g c =
+    let calls = of_copy _ _ _ c.args.i c.args.off c.in-Ok.content c.args.bytes.now _ c.in-Ok.ensures c.in_ok-count.ensures.calls in
+    let (count, is, has) = writes _ _ _ c.args.i c.args.off c.args.bytes.now _ c.requires.room calls in
+    c.in_default-2.not-Wrote count is
+
+pub returns-clause-appends : goal.returns-clause-appends
+returns-clause-appends g c =
+    let calls = of_copy _ _ _ c.args.i c.args.off c.in-Ok.content c.args.bytes.now _ c.in-Ok.ensures c.in_ok-count.ensures.calls in
+    appends _ _ _ c.args.i c.args.off c.in-Wrote.count c.args.bytes.now _ c.requires.room calls c.in-Wrote.is

@@ -1,0 +1,14 @@
+use Rattle.filing.proofs.Calls.{made_file, made_none, made_or_none}
+use Rattle.filing.proofs.changes.create.Goals as goal
+
+pub unreachable-requires : goal.unreachable-requires
+unreachable-requires g c =
+    made_or_none _ _ _ c.args.kind _ c.requires.kind c.in_ok-number.ensures.calls c.in_default.not-Made c.in_default.not-NoInode
+
+pub returns-in-Made-clause-creates : goal.returns-in-Made-clause-creates
+returns-in-Made-clause-creates g c =
+    made_file _ _ _ c.args.kind _ _ c.requires.kind c.in_ok-number.ensures.calls c.in-Made.is
+
+pub returns-in-NoInode-clause-creates : goal.returns-in-NoInode-clause-creates
+returns-in-NoInode-clause-creates g c =
+    made_none _ _ _ c.args.kind _ c.requires.kind c.in_ok-number.ensures.calls c.in-NoInode.is

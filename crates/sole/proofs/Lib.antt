@@ -1,0 +1,12 @@
+pub mod Steps
+pub mod Stages
+pub mod Unshut
+pub mod Called
+pub mod Unanswered
+pub mod Rest
+pub mod Leaving
+pub mod Opened
+pub mod Causes
+pub mod Searches
+pub mod Shorts
+pub mod Reasons

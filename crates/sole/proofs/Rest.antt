@@ -1,0 +1,122 @@
+-- What the disk of a kernel of one process has while no operation is under way, and what a call makes
+-- of it.
+use Rattle.std.proofs.Common.{◌≡◌, ◌∙◌, ℕ, zero, suc, List, [], ◌∷◌, ◌++◌, length, Option, Some, None, sym, ap, subst, arith}
+use Rattle.std.specs.Prelude.{IfNone, if◌then◌else◌, ◌==◌}
+use Rattle.std.proofs.lemmas.List.{get_or_past}
+use Rattle.blocks.specs.Disk.{Image, block_at}
+use Rattle.blocks.specs.declared.disk.Disk.{Ghosts}
+use Rattle.model.specs.declared.types.image.Form.{Form}
+use Rattle.model.specs.declared.types.operations.Entry.{Entry}
+use Rattle.model.specs.declared.types.operations.Op.{Op}
+use Rattle.model.specs.declared.types.operations.Reply.{Reply}
+use Rattle.model.specs.Crash.{Keeps}
+use Rattle.model.specs.Fields.{u32_at}
+use Rattle.model.specs.Files.{Files, files_of}
+use Rattle.model.specs.Journal.{after_answer, and_then, kept, replay}
+use Rattle.model.specs.Layout.{form_of, inode_count_of, magic_of, super_in, super_of}
+use Rattle.model.specs.declared.types.image.Form.TheVariants.{One, Two}
+use Rattle.model.specs.Log.{logged_count, recovered}
+use Rattle.model.specs.Operations.{after}
+use Rattle.model.specs.Soundness.{IsSound}
+use Rattle.model.specs.Lemmas.Log.{recovered_empty}
+use Rattle.model.specs.Lemmas.Runs.{and_then_some, replays_in_parts}
+use Rattle.model.specs.Lemmas.Super.{super_facts}
+use Rattle.journal.specs.declared.types.At.TheVariants as at
+use Rattle.journal.specs.declared.types.Process.{Process}
+use Rattle.journal.specs.Keeps.{AreUpTo, most_of}
+use Rattle.journal.specs.Processes.{World, process, idle}
+use Rattle.kernel.specs.Awake.{AreIdle}
+use Rattle.kernel.specs.Known.{IsCurrent, Known}
+use Rattle.sole.specs.Calls.{IsWhole, Rests, image_on}
+use Rattle.sole.specs.Stepping.{Plain, plain_herald, plain_queues}
+use Rattle.sole.proofs.Called.{IsAnswered}
+
+-- the only process is idle: all are
+all_idle : (w : World) → length w.processes ≡ 1 → (process w 0).at ≡ at.Idle → AreIdle w
+all_idle w one is zero = is
+all_idle w one is (suc p) = ap (λ (u : Process). u.at) (get_or_past w.processes (suc p) idle (omega (arith, one)))
+
+-- The image on the disk is sound, with the opening's files after all of the journal, and after what
+-- is kept of the committed groups. No entry is of a later group, and none is open in the log.
+pub record IsSettledDisk {D N : Type 0} (disk : Ghosts D N) (k : Plain D) : Type 0 where
+  pub sound : IsSound (image_on disk.image k)
+  pub super : block_at (image_on disk.image k) 1 ≡ block_at (disk.image k.opening) 1
+  pub run : replay (form_of (disk.image k.opening)) (files_of (disk.image k.opening)) k.world.journal.list
+      ≡ Some (files_of (image_on disk.image k))
+  pub kept_run : replay (form_of (disk.image k.opening)) (files_of (disk.image k.opening))
+      (kept (inode_count_of (disk.image k.opening)) k.world.journal.list k.store.volume.log.committed)
+      ≡ Some (files_of (image_on disk.image k))
+  pub groups : AreUpTo k.store.volume.log.committed k.world.journal.list
+  pub unopened : k.store.volume.log.outstanding ≡ 0
+
+pub settled_disk : {D N : Type 0} (disk : Ghosts D N) (has_now : (d : D) → disk.leaves d (disk.moment d) (disk.image d)) (k : Plain D) → Known disk plain_queues plain_herald k → k.store.volume.fault ≡ None → length k.world.processes ≡ 1 → (process k.world 0).at ≡ at.Idle → IsSettledDisk disk k
+settled_disk disk has_now k known well one stands =
+    let l = k.store.volume.log in
+    let es = k.world.journal.list in
+    let x = image_on disk.image k in
+    let n = inode_count_of (disk.image k.opening) in
+    let form = form_of (disk.image k.opening) in
+    let start = files_of (disk.image k.opening) in
+    let current : IsCurrent disk.image k = subst (λ f. IfNone f (IsCurrent disk.image k)) well known.current in
+    let idle_all = all_idle k.world one stands in
+    let rests = current.rests idle_all in
+    let settled : l.committed ≡ l.opened = current.settled rests.none rests.quiet in
+    let clear : logged_count x ≡ 0 = current.clear rests.quiet in
+    let same : recovered x ≡ x = recovered_empty x clear in
+    let now = known.keeps x (has_now k.store.volume.device) in
+    let groups : now.between.groups ≡ l.committed = now.told ∙ ap (λ (c : ℕ). if c == 0 then l.committed else most_of k.store.volume) clear in
+    let keeps : Keeps (disk.image k.opening) es x l.committed = subst (λ (c : ℕ). Keeps (disk.image k.opening) es x c) groups now.between.keeps in
+    let kept_files : replay form start (kept n es l.committed) ≡ Some (files_of x) = keeps.files ∙ ap (λ (y : Image). Some (files_of y)) same in
+    let current_files = (current.files rests.none).files in
+    record {
+      sound = subst IsSound same keeps.sound;
+      super = ap (λ (y : Image). block_at y 1) (sym same) ∙ keeps.untouched.super;
+      run = current.idle idle_all ∙ sym current_files ∙ ap (λ (c : ℕ). replay form start (kept n es c)) (sym settled) ∙ kept_files;
+      kept_run = kept_files;
+      groups = subst (λ (c : ℕ). AreUpTo c es) (sym settled) known.journal.groups;
+      unopened = rests.none;
+    }
+
+-- images with the same superblock have the same form
+pub same_form : (x y : Image) → block_at y 1 ≡ block_at x 1 → form_of y ≡ form_of x
+same_form x y super = ap (λ (bytes : List ℕ). if u32_at bytes 0 == magic_of Two then Two else One) super
+
+-- and sound ones the same size
+pub same_size : (x y : Image) → IsSound x → IsSound y → block_at y 1 ≡ block_at x 1 → length y ≡ length x
+same_size x y sound_x sound_y super =
+    let of_x = (super_facts (super_of x) (length x) sound_x.geometry.fields).size in
+    let of_y = (super_facts (super_of y) (length y) sound_y.geometry.fields).size in
+    sym of_y ∙ ap (λ (bytes : List ℕ). (super_in bytes).size) super ∙ of_x
+
+-- one entry more of a replay
+pub one_entry : (form : Form) (start mid last : Files) (es : List Entry) (e : Entry) (r : Reply) → replay form start es ≡ Some mid → e.reply ≡ Some r → replay form start (es ++ e ∷ []) ≡ Some last → after form mid e.op r ≡ Some last
+one_entry form start mid last es e r before replied run =
+    let both = sym (replays_in_parts form start es (e ∷ [])) ∙ run in
+    let one : and_then (after_answer form mid e.op e.reply) (λ f. Some f) ≡ Some last = subst (λ (o : Option Files). and_then o (λ f. replay form f (e ∷ [])) ≡ Some last) before both in
+    let found = and_then_some (after_answer form mid e.op (Some r)) (λ f. Some f) last (subst (λ (o : Option Reply). and_then (after_answer form mid e.op o) (λ f. Some f) ≡ Some last) replied one) in
+    found.1 ∙ found.2
+
+module _ {D N : Type 0} (disk : Ghosts D N) (has_now : (d : D) → disk.leaves d (disk.moment d) (disk.image d)) (op : Op) (k m : Plain D) (known : Known disk plain_queues plain_herald k) (known_now : Known disk plain_queues plain_herald m) (rests : Rests disk.fault_count k) (opening : m.opening ≡ k.opening) (well : m.store.volume.fault ≡ None) (is : IsAnswered op k m) where
+  was : IsSettledDisk disk k
+  was = settled_disk disk has_now k known rests.well rests.one rests.idle
+
+  now : IsSettledDisk disk m
+  now = settled_disk disk has_now m known_now well is.one is.idle
+
+  super_stays : block_at (image_on disk.image m) 1 ≡ block_at (image_on disk.image k) 1
+  super_stays = now.super ∙ ap (λ (d : D). block_at (disk.image d) 1) opening ∙ sym was.super
+
+  -- the files after a call
+  pub call_files : after (form_of (image_on disk.image k)) (files_of (image_on disk.image k)) op is.answer.reply ≡ Some (files_of (image_on disk.image m))
+  call_files =
+      let form = form_of (disk.image k.opening) in
+      let start = files_of (disk.image k.opening) in
+      let run : replay form start (k.world.journal.list ++ is.entry ∷ []) ≡ Some (files_of (image_on disk.image m))
+      = subst (λ (d : D). replay (form_of (disk.image d)) (files_of (disk.image d)) (k.world.journal.list ++ is.entry ∷ []) ≡ Some (files_of (image_on disk.image m))) opening
+      (subst (λ (l : List Entry). replay (form_of (disk.image m.opening)) (files_of (disk.image m.opening)) l ≡ Some (files_of (image_on disk.image m))) is.list now.run) in
+      let one = one_entry form start (files_of (image_on disk.image k)) (files_of (image_on disk.image m)) k.world.journal.list is.entry is.answer.reply was.run is.replied run in
+      subst (λ (f : Form). after f (files_of (image_on disk.image k)) op is.answer.reply ≡ Some (files_of (image_on disk.image m))) (sym (same_form (disk.image k.opening) (image_on disk.image k) was.super))
+      (subst (λ (o : Op). after form (files_of (image_on disk.image k)) o is.answer.reply ≡ Some (files_of (image_on disk.image m))) is.same one)
+
+  pub call_whole : IsWhole (image_on disk.image k) (image_on disk.image m)
+  call_whole = record { sound = now.sound; size = same_size (image_on disk.image k) (image_on disk.image m) was.sound now.sound super_stays; super = super_stays }
