@@ -2,3 +2,4 @@ pub mod Files
 pub mod Lemmas
 pub mod Tools
 pub mod Puts
+pub mod Copies

@@ -4,11 +4,13 @@
 //! No function here reads the words of a command line, and none checks a script at its stops.
 #![tactic(auto)]
 
+mod copies;
 mod files;
 mod inputs;
 mod puts;
 mod tools;
 
+pub use copies::copy_files;
 pub use files::{cat_file, check_file, make_file, recover_file, replay_files, run_files};
 pub use inputs::{schedule_from, script_from};
 pub use puts::put_file;

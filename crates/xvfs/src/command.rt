@@ -10,11 +10,12 @@ ghost use Rattle.xvfs.specs.declared.command.Failure.TheVariants as failure;
 ghost use Rattle.texts.specs.declared.refusal.Refusal.{Refusal as SomeRefusal};
 ghost use Rattle.requests.specs.declared.explanation.Explanation.{Explanation as SomeExplanation};
 
-use crate::progress::Screen;
+use crate::progress::{Meter, Screen};
 use crate::stopping::stops_files;
 use blocks::{Disk, FaultyDisk, FileDisk};
 use images::{
-    cat_file, check_file, ls_file, make_file, recover_file, replay_files, run_files, show_blocks,
+    cat_file, check_file, copy_files, ls_file, make_file, put_file, recover_file, replay_files,
+    run_files, show_blocks,
 };
 use model::types::Form;
 use requests::{Explanation, Request, parse};
@@ -175,6 +176,10 @@ where
         Request::Cat { image, inum } => cat_file(rt, image, inum, out),
         Request::Ls { image } => ls_file(rt, image, out),
         Request::Show { image, inum } => show_blocks(rt, image, inum, out),
+        Request::Put { image, file, inum } => put_file(rt, image, file, inum, out),
+        Request::Copy { old, new, size } => {
+            copy_files(rt, old, new, size, &mut Meter::new(rt), out)
+        }
         Request::Replay {
             image,
             script,
