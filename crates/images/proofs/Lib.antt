@@ -1,1 +1,1 @@
-pub mod Opened
+pub mod Making

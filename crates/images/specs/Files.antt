@@ -37,22 +37,6 @@ pub record IsMade {F N : Type 0} (disk : Ghosts (FileDisk F) N) (form : Form)
   pub makes : MakesAs disk form size inode_count created now
   pub printed : Appends old new (numbers_text (planned_super size inode_count))
 
--- The disk that a file holds, just opened: its blocks were read from the file, one after another,
--- where that tells of its bytes. It holds writes back, or doesn't, and now holds none.
-pub record IsOpened {F N : Type 0} (remaining : F → Option (List ℕ)) (disk : Ghosts (FileDisk F) N)
-    (holds : Bool) (d : FileDisk F) : Type 0 where
-  pub some : 1 ≤ length (disk.image d)
-  pub at_most : length (disk.image d) ≤ 8191
-  pub bytes : IsReadFrom remaining (file_of d) (disk.image d)
-  pub kind : disk.holding (disk.name d) ≡ holds
-  pub calm : IsSettled (disk.image d) (disk.leaves d (disk.moment d))
-
--- the disk of a file was opened, and is now another, as P says
-abbrev pub OpensDisk : {F N : Type 0} → (F → Option (List ℕ)) → Ghosts (FileDisk F) N → Bool
-    → (FileDisk F → FileDisk F → Type 0) → Type 0
-OpensDisk {F} remaining disk holds P = (opened : FileDisk F) × ((now : FileDisk F)
-    × IsOpened remaining disk holds opened × P opened now)
-
 -- it was checked, and the report of it printed
 abbrev pub IsReported : {F N : Type 0} → Ghosts (FileDisk F) N → Option (List ℕ) → Option (List ℕ)
     → FileDisk F → FileDisk F → Type 0
@@ -89,20 +73,6 @@ pub record IsRun {F N : Type 0} (disk : Ghosts (FileDisk F) N) (old new : Option
   pub tasks : List Task
   pub processes : ℕ
   pub runs : Runs disk d e tasks processes None old new
-
--- Where a command over the disk of a file was refused: its script, its schedule or the file could
--- not be had, and then no disk was opened; or one was, and is now another, as P says. `none` says
--- that nothing was printed.
-abbrev pub OnDiskRefusal : {F N : Type 0} → (F → Option (List ℕ)) → Ghosts (FileDisk F) N → Bool
-    → Type 0 → (FileDisk F → FileDisk F → Refusal → Type 0) → Refusal → Type 0
-OnDiskRefusal remaining disk holds none P (Script fault) = none
-OnDiskRefusal remaining disk holds none P (Schedule fault) = none
-OnDiskRefusal remaining disk holds none P (File fault) = none
-OnDiskRefusal remaining disk holds none P r = OpensDisk remaining disk holds (λ d e. P d e r)
-
--- the refusal is one of the file at a path
-abbrev pub IsOfFile : Refusal → Type 0
-IsOfFile r = (fault : FileFault) × (r ≡ File fault)
 
 -- why some operations were not replayed over it in the turns of some words, and what was printed
 pub record IsUnreplayed {F N : Type 0} (disk : Ghosts (FileDisk F) N)

@@ -10,23 +10,21 @@ ghost use Rattle.player.specs.Refusal.{IsOfCat, IsOfCheck, IsOfMkfs, IsOfRecover
 ghost use Rattle.player.specs.Showing.{IsNotShown};
 ghost use Rattle.runner.specs.Running.{IsOfRun};
 ghost use Rattle.sysring.specs.Frames.{AreWorkers};
+ghost use Rattle.filedisks.specs.Opened.{OnDiskRefusal, OpensDisk};
 ghost use Rattle.images.specs.Files.{
   IsCopied,
   IsMade,
   IsNotRun,
-  IsOfFile,
-  IsOpened,
   IsReplayed,
   IsReported,
   IsRun,
   IsShown,
   IsUnreplayed,
-  OnDiskRefusal,
-  OpensDisk,
 };
 
 use crate::inputs::{schedule_from, script_from};
 use blocks::{Disk, FaultyDisk, FileDisk};
+use filedisks::open_disk;
 use layout::plan;
 use model::types::Form;
 use player::{cat_disk, check_disk, make_disk, recover_disk, replay_disk};
@@ -65,23 +63,6 @@ pub fn make_file<R: Files + AllocGlobal, O: Write>(
     plan(size, ninodes).map_err(Refusal::Mkfs)?;
     let mut disk = FileDisk::create(rt, image, size).map_err(Refusal::File)?;
     make_disk(rt.alloc(), &mut disk, form, size, ninodes, out)
-}
-
-// The disk in the file at this path, which holds writes back or doesn't.
-pub(crate) fn open_disk<R: Files + AllocGlobal>(
-    rt: &R,
-    image: &str,
-    sync: bool,
-) -> Result<FileDisk<R::File>, Refusal>
-    ensures opened { IfOk result
-        (IsOpened R.File.remaining ⟦<FileDisk<R::File> as Disk>⟧ sync) }
-    ensures refused { IfErr result IsOfFile }
-{
-    let disk = FileDisk::open(rt, image).map_err(Refusal::File)?;
-    if sync {
-        return Ok(disk.hold_back());
-    }
-    Ok(disk)
 }
 
 /// Checks the image in the file at this path, and prints how many blocks its log holds and how many

@@ -13,7 +13,8 @@ use Rattle.texts.specs.declared.refusal.Refusal.TheVariants.{File, Mkfs, Check, 
 use Rattle.scripts.specs.declared.schedule.Word.{Word}
 use Rattle.scripts.specs.declared.script.Task.{Task}
 use Rattle.runner.specs.Running.{IsNotRun as IsNotRunOver}
-use Rattle.images.specs.Files.{IsNotRun, IsUnreplayed, OnDiskRefusal}
+use Rattle.filedisks.specs.Opened.{OnDiskRefusal}
+use Rattle.images.specs.Files.{IsNotRun, IsUnreplayed}
 
 module _ {D N : Type 0} (disk : Ghosts D N) (d e : D) (old new : Option (List ℕ)) (none other : Type 0) (f : none → other) where
   pub not_shown : (i : ℕ) (r : Refusal) → IsNotShown disk d e i old new none r → IsNotShown disk d e i old new other r

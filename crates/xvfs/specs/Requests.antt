@@ -12,10 +12,11 @@ use Rattle.requests.specs.Told.{AskForHelp, IsToldOf}
 use Rattle.requests.specs.declared.explanation.Explanation.{Explanation}
 use Rattle.requests.specs.declared.words.Request.{Request}
 use Rattle.requests.specs.declared.words.Request.TheVariants.{Mkfs, Check, Recover, Cat, Ls, Show, Put, Copy, Replay, Run, Stops}
-use Rattle.images.specs.Files.{IsCopied, IsMade, IsNotRun, IsReplayed, IsReported, IsRun, IsShown, IsUnreplayed, OnDiskRefusal, OpensDisk}
-use Rattle.images.specs.Copies.{HasCopied, OnCopyRefusal}
-use Rattle.images.specs.Puts.{HasPut, OnPutRefusal}
-use Rattle.images.specs.Tools.{HasBlocksHidden, HasBlocksShown, IsListed}
+use Rattle.images.specs.Files.{IsCopied, IsMade, IsNotRun, IsReplayed, IsReported, IsRun, IsShown, IsUnreplayed}
+use Rattle.filedisks.specs.Opened.{OnDiskRefusal, OpensDisk}
+use Rattle.tools.specs.Copies.{HasCopied, OnCopyRefusal}
+use Rattle.tools.specs.Puts.{HasPut, OnPutRefusal}
+use Rattle.tools.specs.Looks.{HasBlocksHidden, HasBlocksShown, IsListed}
 use Rattle.listing.specs.Causes.{IsUnlisted}
 use Rattle.xvfs.specs.Files.{FileGhosts}
 use Rattle.xvfs.specs.Scripts.{ChecksScript, IsScriptUnchecked}

@@ -13,10 +13,7 @@ ghost use Rattle.requests.specs.declared.explanation.Explanation.{Explanation as
 use crate::progress::{Meter, Screen};
 use crate::stopping::stops_files;
 use blocks::{Disk, FaultyDisk, FileDisk};
-use images::{
-    cat_file, check_file, copy_files, ls_file, make_file, put_file, recover_file, replay_files,
-    run_files, show_blocks,
-};
+use images::{cat_file, check_file, make_file, recover_file, replay_files, run_files};
 use model::types::Form;
 use requests::{Explanation, Request, parse};
 use std::convert::AsStr;
@@ -25,6 +22,7 @@ use std::rt::{Clock, Files};
 use std::sync::Wait;
 use std::thread::Threads;
 use texts::{Refusal, print_last};
+use tools::{copy_files, ls_file, put_file, show_blocks};
 
 /// Why a command wasn't done.
 #[derive(Drop)]

@@ -1,8 +1,8 @@
 use Rattle.std.proofs.Common.{false, ◌≡◌}
 use Rattle.std.proofs.lemmas.Result.{IfErr-weaker}
 use Rattle.player.specs.Showing.{IsNotShown}
-use Rattle.images.specs.Lemmas.Disks.{file_disk}
-use Rattle.images.proofs.Opened.{opens_disk, refuses_disk}
+use Rattle.filedisks.specs.Lemmas.Disks.{file_disk}
+use Rattle.filedisks.specs.Lemmas.Opened.{opens_disk, refuses_disk}
 use Rattle.images.proofs.files.cat_file.Goals as goal
 
 pub returns-clause-opened : goal.returns-clause-opened

@@ -1,6 +1,6 @@
 use Rattle.std.proofs.Common.{rules}
-use Rattle.images.specs.Lemmas.Disks.{file_disk}
-use Rattle.images.proofs.Opened.{made_on}
+use Rattle.filedisks.specs.Lemmas.Disks.{file_disk}
+use Rattle.images.proofs.Making.{made_on}
 use Rattle.images.proofs.files.make_file.Goals as goal
 
 pub returns-clause-made : goal.returns-clause-made

@@ -1,7 +1,7 @@
 use Rattle.std.proofs.lemmas.Result.{IfErr-weaker}
 use Rattle.opening.specs.Recoveries.{IsUnrecovered}
-use Rattle.images.specs.Lemmas.Disks.{file_disk}
-use Rattle.images.proofs.Opened.{opens_disk, refuses_disk}
+use Rattle.filedisks.specs.Lemmas.Disks.{file_disk}
+use Rattle.filedisks.specs.Lemmas.Opened.{opens_disk, refuses_disk}
 use Rattle.images.proofs.files.recover_file.Goals as goal
 
 pub returns-clause-opened : goal.returns-clause-opened

@@ -1,7 +1,7 @@
 use Rattle.std.proofs.lemmas.Result.{IfErr-weaker}
 use Rattle.images.specs.Files.{IsUnreplayed}
-use Rattle.images.specs.Lemmas.Disks.{faulty_disk, file_disk}
-use Rattle.images.proofs.Opened.{opens_disk, refuses_disk}
+use Rattle.filedisks.specs.Lemmas.Disks.{faulty_disk, file_disk}
+use Rattle.filedisks.specs.Lemmas.Opened.{opens_disk, refuses_disk}
 use Rattle.images.proofs.files.replay_files.Goals as goal
 
 pub returns-clause-opened : goal.returns-clause-opened

@@ -1,7 +1,7 @@
 use Rattle.std.proofs.lemmas.Result.{IfErr-weaker}
 use Rattle.images.specs.Files.{IsNotRun}
-use Rattle.images.specs.Lemmas.Disks.{file_disk}
-use Rattle.images.proofs.Opened.{opens_disk, refuses_disk}
+use Rattle.filedisks.specs.Lemmas.Disks.{file_disk}
+use Rattle.filedisks.specs.Lemmas.Opened.{opens_disk, refuses_disk}
 use Rattle.images.proofs.files.run_files.Goals as goal
 
 pub returns-clause-opened : goal.returns-clause-opened

@@ -2,11 +2,11 @@
 ghost use Rattle.std.specs.Prelude.{◌≡◌, ◌≢◌, false, IfErr, IfOk, OnOk};
 ghost use Rattle.texts.specs.declared.refusal.Refusal.TheVariants as refusal;
 ghost use Rattle.listing.specs.Causes.{IsUnlisted};
-ghost use Rattle.images.specs.Files.{OnDiskRefusal, OpensDisk};
-ghost use Rattle.images.specs.Tools.{HasBlocksHidden, HasBlocksShown, IsListed};
+ghost use Rattle.filedisks.specs.Opened.{OnDiskRefusal, OpensDisk};
+ghost use Rattle.tools.specs.Looks.{HasBlocksHidden, HasBlocksShown, IsListed};
 
-use crate::files::open_disk;
 use blocks::{Disk, FileDisk};
+use filedisks::open_disk;
 use listing::{list_disk, show_disk, show_file};
 use std::io::Write;
 use std::rt::Files;

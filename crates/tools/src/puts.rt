@@ -1,11 +1,11 @@
 // The command that puts a file of the system into an image.
 ghost use Rattle.std.specs.Prelude.{◌≡◌, ◌≢◌, false, IfErr, OnOk};
 ghost use Rattle.texts.specs.declared.refusal.Refusal.TheVariants as refusal;
-ghost use Rattle.images.specs.Files.{OpensDisk};
-ghost use Rattle.images.specs.Puts.{HasPut, IsUnhad, OnPutRefusal};
+ghost use Rattle.filedisks.specs.Opened.{OpensDisk};
+ghost use Rattle.tools.specs.Puts.{HasPut, IsUnhad, OnPutRefusal};
 
-use crate::files::open_disk;
 use blocks::{Disk, FileDisk};
+use filedisks::open_disk;
 use layout::greatest_size;
 use model::types::Form;
 use putting::put_disk;

@@ -18,7 +18,7 @@ use Rattle.texts.specs.Output.{files_text}
 use Rattle.texts.specs.declared.faults.CopyFault.TheVariants as told
 use Rattle.texts.specs.declared.refusal.Refusal.{Refusal}
 use Rattle.texts.specs.declared.refusal.Refusal.TheVariants.{File, Mkfs, Check, Copy, Output}
-use Rattle.images.specs.Files.{IsOpened}
+use Rattle.filedisks.specs.Opened.{IsOpened}
 
 -- how a fault of a copy is told
 abbrev pub copy_refusal : Fault → Refusal

@@ -1,9 +1,9 @@
 use Rattle.std.proofs.Common.{false}
 use Rattle.std.proofs.lemmas.Result.{IfErr-weaker}
 use Rattle.listing.specs.Causes.{IsUnlisted}
-use Rattle.images.specs.Lemmas.Disks.{file_disk}
-use Rattle.images.proofs.Opened.{opens_disk, refuses_disk}
-use Rattle.images.proofs.tools.ls_file.Goals as goal
+use Rattle.filedisks.specs.Lemmas.Disks.{file_disk}
+use Rattle.filedisks.specs.Lemmas.Opened.{opens_disk, refuses_disk}
+use Rattle.tools.proofs.looks.ls_file.Goals as goal
 
 pub returns-clause-opened : goal.returns-clause-opened
 returns-clause-opened g c =

@@ -2,11 +2,11 @@
 ghost use Rattle.std.specs.Prelude.{◌≡◌, ◌≢◌, false, IfErr, IfOk, OnOk};
 ghost use Rattle.blocks.specs.Calls.{OnlyReads};
 ghost use Rattle.texts.specs.declared.refusal.Refusal.TheVariants as refusal;
-ghost use Rattle.images.specs.Copies.{HasCopied, IsPlanned, IsUnplanned, OnCopyRefusal, copy_refusal};
+ghost use Rattle.tools.specs.Copies.{HasCopied, IsPlanned, IsUnplanned, OnCopyRefusal, copy_refusal};
 
-use crate::files::open_disk;
 use blocks::{Disk, FileDisk};
 use copying::{CopyFault as Fault, Progress, copy};
+use filedisks::open_disk;
 use layout::{check, plan};
 use model::types::Form;
 use std::alloc::Global;

@@ -1,0 +1,31 @@
+//! The disk in a file that a command opens, and what is known where it was refused: the words that the
+//! commands over files share.
+#![tactic(auto)]
+
+ghost use Rattle.std.specs.Prelude.{IfErr, IfOk};
+ghost use Rattle.filedisks.specs.Opened.{IsOfFile, IsOpened};
+
+use blocks::{Disk, FileDisk};
+use std::rt::Files;
+use texts::Refusal;
+
+/// The disk in the file at this path. With `sync` it holds writes back until it is synced.
+///
+/// # Errors
+///
+/// `File` with a fault of `FileDisk::open`.
+pub fn open_disk<R: Files + AllocGlobal>(
+    rt: &R,
+    image: &str,
+    sync: bool,
+) -> Result<FileDisk<R::File>, Refusal>
+    ensures opened { IfOk result
+        (IsOpened R.File.remaining ⟦<FileDisk<R::File> as Disk>⟧ sync) }
+    ensures refused { IfErr result IsOfFile }
+{
+    let disk = FileDisk::open(rt, image).map_err(Refusal::File)?;
+    if sync {
+        return Ok(disk.hold_back());
+    }
+    Ok(disk)
+}
