@@ -1,5 +1,6 @@
 -- What a recovery of a disk's image comes to.
-use Rattle.std.specs.Prelude.{◌≡◌, ℕ, None}
+use Rattle.std.specs.Prelude.{◌≡◌, ◌⊎◌, ⊤, ℕ, None}
+use Rattle.blocks.specs.Calls.{UnlessHolds}
 use Rattle.blocks.specs.Disk.{counted}
 use Rattle.blocks.specs.declared.disk.Disk.{Ghosts}
 use Rattle.layout.specs.Cause.{IsCause}
@@ -24,6 +25,18 @@ IsUnrecovered disk d e (Recover fault) =
 IsUnrecovered disk d e Output =
     (verdict (disk.image d) ≡ None) × (disk.image e ≡ recovered (disk.image d))
 IsUnrecovered disk d e _ = ⊥
+
+-- the refusals at which blocks may have been written: a write of the recovery failed, or a sync
+abbrev pub MayHaveWritten : Refusal → Type 0
+MayHaveWritten (Recover recover.Disk) = ⊤
+MayHaveWritten (Recover recover.Sync) = ⊤
+MayHaveWritten _ = ⊥
+
+-- of the disk d, now e, nothing was written but by a recovery that failed
+pub record IsUnwritten {D N : Type 0} (disk : Ghosts D N) (d e : D) (r : Refusal) : Type 0 where
+  pub writes : MayHaveWritten r ⊎ (disk.write_count e ≡ disk.write_count d)
+  -- a disk that holds no writes back is not synced
+  pub plain : UnlessHolds disk d (disk.sync_count e ≡ disk.sync_count d)
 
 -- the disk of an image without a fault was recovered, with so many blocks copied, and nothing is
 -- logged any more

@@ -3,7 +3,7 @@ ghost use Rattle.std.specs.Prelude.{◌≡◌, ◌≢◌, IfOk, OnOk, IfErr};
 ghost use Rattle.wal.specs.Recovery.{IsCalm};
 ghost use Rattle.kernel.specs.Opening.{LeavesRecovered};
 ghost use Rattle.texts.specs.declared.refusal.Refusal.TheVariants as refusal;
-ghost use Rattle.opening.specs.Recoveries.{IsRecovered, IsUnrecovered};
+ghost use Rattle.opening.specs.Recoveries.{IsRecovered, IsUnrecovered, IsUnwritten};
 
 use blocks::Disk;
 use layout::check;
@@ -16,7 +16,8 @@ use wal::recover;
 /// # Errors
 ///
 /// `Check` with a fault of the image or of its check, and then nothing was written; else `Recover`
-/// with a fault of the recovery, which may be made again.
+/// with a fault of the recovery, which may be made again; where that is `NoMemory` nothing was
+/// written.
 ///
 /// Whatever a crash at any moment leaves is recovered to the same image: of a disk that holds
 /// writes back from the first sync on, or from the start where nothing was held then.
@@ -24,6 +25,7 @@ pub fn recover_image<D: Disk>(alloc: Global, disk: &mut D) -> Result<u32, Refusa
     ensures ok { IfOk result (λ copied. IsRecovered D.Disk copied disk.old disk.new) }
     ensures name { D.name disk.new ≡ D.name disk.old }
     ensures refused { IfErr result (IsUnrecovered D.Disk disk.old disk.new) }
+    ensures unwritten { IfErr result (IsUnwritten D.Disk disk.old disk.new) }
     ensures output { IfErr result (λ r. r ≢ refusal.Output) }
     ensures stops { LeavesRecovered D.Disk disk.old disk.new }
     ensures settled { OnOk result (IsCalm D.Disk disk.new) }

@@ -8,11 +8,18 @@ use Rattle.blocks.specs.declared.faulty.Trap.{Trap}
 use Rattle.model.specs.Log.{logged_count, recovered}
 use Rattle.model.specs.Verdict.{verdict}
 use Rattle.wal.specs.Recovery.{writes_to_recover}
-use Rattle.kernel.specs.Opening.{RefusesToOpen}
+use Rattle.kernel.specs.Opening.{LeavesRecovered, RefusesToOpen}
 use Rattle.kernel.specs.declared.types.OpenFault.{OpenFault}
-use Rattle.opening.specs.Recoveries.{IsRecovered, IsUnrecovered}
+use Rattle.opening.specs.Recoveries.{IsRecovered, IsUnrecovered, IsUnwritten}
 use Rattle.opening.specs.Openings.{HasNoRoom, open_refusal}
 use Rattle.texts.specs.declared.refusal.Refusal.{Refusal}
+
+-- The disk d, now e, was not recovered, for that reason: nothing of it was written but by a recovery
+-- that failed.
+pub record FailsToRecover {D N : Type 0} (disk : Ghosts D N) (d e : D) (r : Refusal) : Type 0 where
+  pub cause : IsUnrecovered disk d e r
+  pub unwritten : IsUnwritten disk d e r
+  pub leaves : LeavesRecovered disk d e
 
 -- the disk d, now e, was recovered, and a call of it failed behind that
 pub record FailsRecovered {D N : Type 0} (disk : Ghosts D N) (d e : D) : Type 0 where

@@ -4,5 +4,4 @@ pub mod Afterwards
 pub mod Turns
 pub mod Stepping
 pub mod Opening
-pub mod Asking
 pub mod Showing

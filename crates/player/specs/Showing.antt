@@ -1,21 +1,23 @@
 -- What is written of a file of an image.
-use Rattle.std.specs.Prelude.{◌≡◌, ◌⊎◌, ℕ, List, [], take, Option, Some, None}
+use Rattle.std.specs.Prelude.{◌≡◌, ◌⊎◌, ℕ, List, take, Option, Some, None}
 use Rattle.std.specs.Io.KnownBytes.{Appends}
 use Rattle.blocks.specs.Disk.{Image, Rose}
 use Rattle.blocks.specs.declared.disk.Disk.{Ghosts}
-use Rattle.model.specs.Files.{files_of, file_in}
+use Rattle.blocks.specs.declared.errors.DiskFault.{DiskFault}
+use Rattle.model.specs.Files.{bytes_in, files_of, file_in}
 use Rattle.model.specs.Log.{logged_count, recovered}
 use Rattle.model.specs.Verdict.{verdict}
+use Rattle.model.specs.declared.types.image.Dinode.{Dinode}
 use Rattle.model.specs.declared.types.image.File.{File}
-use Rattle.wal.specs.Recovery.{LeavesIfCalm, RecoversAs}
-use Rattle.opening.specs.Openings.{IsUnopened}
-use Rattle.player.specs.Afterwards.{FailsRecovered}
-use Rattle.player.specs.Asking.{Rests, IsRefusedMemory, asked_count}
+use Rattle.layout.specs.Recovered.{IsRecoveredOf, MayReadFile}
+use Rattle.layout.specs.declared.recovered.Recovered.{Recovered}
+use Rattle.wal.specs.declared.types.DeviceFault.TheVariants.{Block}
+use Rattle.opening.specs.Openings.{HasNoRoom}
 use Rattle.opening.specs.Recoveries.{IsRecovered}
-use Rattle.player.specs.Stepping.{Plain}
-use Rattle.texts.specs.declared.faults.CatFault.TheVariants.{NoFile, NoMemory}
+use Rattle.player.specs.Afterwards.{FailsRecovered, FailsToRecover}
+use Rattle.texts.specs.declared.faults.CatFault.TheVariants.{NoFile}
 use Rattle.texts.specs.declared.refusal.Refusal.{Refusal}
-use Rattle.texts.specs.declared.refusal.Refusal.TheVariants.{Disk, Cat, Output}
+use Rattle.texts.specs.declared.refusal.Refusal.TheVariants.{Check, Recover, Open, Disk, Cat, Output}
 
 -- the file of number i of image x was written, all its bytes and nothing else
 pub record ShowsFile (x : Image) (i : ℕ) (old new : Option (List ℕ)) : Type 0 where
@@ -41,60 +43,58 @@ ShowsPart x i old new = (verdict x ≡ None) × ShowsFirst (recovered x) i old n
 abbrev pub HasNoFile : Image → ℕ → Type 0
 HasNoFile x i = (verdict x ≡ None) × (file_in (files_of (recovered x)) i ≡ None)
 
--- the bytes of the file of number i of image x; none where there is none
-abbrev pub bytes_of : Option File → List ℕ
-bytes_of None = []
-bytes_of (Some file) = file.bytes
+-- the reader of an image that has no fault
+pub record IsReaderOf (x : Image) (image : Recovered) : Type 0 where
+  pub recovered : IsRecoveredOf x image
+  pub sound : verdict x ≡ None
 
-abbrev pub bytes_at : Image → ℕ → List ℕ
-bytes_at x i = bytes_of (file_in (files_of x) i)
+-- the inode of the file of number i of image x, which may be read
+pub record IsInodeOf (x : Image) (i : ℕ) (d : Dinode) : Type 0 where
+  pub file : file_in (files_of x) i ≡ Some (record { kind = d.kind; bytes = bytes_in x d })
+  pub readable : MayReadFile x d
 
--- a kernel of one process was opened over the disk d: its image was sound, and was recovered
-pub record IsReaderOf {D N : Type 0} (disk : Ghosts D N) (d : D) (k : Plain D) : Type 0 where
-  pub recovers : IsRecovered disk (logged_count (disk.image d)) d k.opening
-  pub name : disk.name k.opening ≡ disk.name d
-  pub leaves : LeavesIfCalm disk d k.opening (RecoversAs (disk.image d))
-  pub device : k.store.volume.device ≡ k.opening
-  pub rests : Rests disk.fault_count k
-  pub none_asked : asked_count k ≡ 0
+-- a read of the disk d, now e, failed, and this tells of it
+pub record FailsToRead {D N : Type 0} (disk : Ghosts D N) (d e : D) (r : Refusal) : Type 0 where
+  pub fault : DiskFault
+  pub told : r ≡ Disk (Block fault)
+  pub rose : Rose (disk.fault_count d) (disk.fault_count e)
 
--- the first of these bytes were written, over a disk that was d and is e, and then no more for that
--- reason
+-- the output failed, and no call of the disk did
+pub record FailsToPrint {D N : Type 0} (disk : Ghosts D N) (d e : D) (r : Refusal) : Type 0 where
+  pub told : r ≡ Output
+  pub faultless : disk.fault_count e ≡ disk.fault_count d
+
+-- the disk has no file of number i, and none of its calls failed
+pub record HasNone {D N : Type 0} (disk : Ghosts D N) (d e : D) (i : ℕ) (r : Refusal) : Type 0 where
+  pub told : r ≡ Cat NoFile
+  pub none : file_in (files_of (recovered (disk.image d))) i ≡ None
+  pub faultless : disk.fault_count e ≡ disk.fault_count d
+
+-- why these bytes were not written whole, over a disk that was d and is e
 abbrev pub IsPartly : {D N : Type 0} → Ghosts D N → D → D → List ℕ → Option (List ℕ)
     → Option (List ℕ) → Refusal → Type 0
-IsPartly disk d e bytes old new (Disk fault) =
-    Rose (disk.fault_count d) (disk.fault_count e)
-    × ((count : ℕ) × Appends old new (take count bytes))
-IsPartly disk d e bytes old new (Cat NoMemory) =
-    (disk.fault_count e ≡ disk.fault_count d) × IsRefusedMemory disk e
-    × ((count : ℕ) × Appends old new (take count bytes))
-IsPartly disk d e bytes old new Output = disk.fault_count e ≡ disk.fault_count d
-IsPartly disk d e bytes old new r = ⊥
+IsPartly disk d e bytes old new r =
+    (FailsToRead disk d e r × ((count : ℕ) × Appends old new (take count bytes)))
+    ⊎ FailsToPrint disk d e r
 
--- why the file of number i of image x was not written whole, over a disk that was d and is e; `none`
--- says that nothing was written
-abbrev pub IsUnwritten : {D N : Type 0} → Ghosts D N → D → D → Image → ℕ → Option (List ℕ)
+-- why its file of number i was not; `none` says that nothing was written
+abbrev pub IsUnshown : {D N : Type 0} → Ghosts D N → D → D → ℕ → Option (List ℕ)
     → Option (List ℕ) → Type 0 → Refusal → Type 0
-IsUnwritten disk d e x i old new none (Cat NoFile) =
-    (disk.fault_count e ≡ disk.fault_count d) × (file_in (files_of x) i ≡ None) × none
-IsUnwritten disk d e x i old new none (Cat NoMemory) =
-    (disk.fault_count e ≡ disk.fault_count d) × IsRefusedMemory disk e
-    × (none ⊎ ShowsFirst x i old new)
-IsUnwritten disk d e x i old new none (Disk fault) =
-    Rose (disk.fault_count d) (disk.fault_count e) × (none ⊎ ShowsFirst x i old new)
-IsUnwritten disk d e x i old new none Output = disk.fault_count e ≡ disk.fault_count d
-IsUnwritten disk d e x i old new none r = ⊥
+IsUnshown disk d e i old new none r =
+    (HasNone disk d e i r × none)
+    ⊎ ((FailsToRead disk d e r × (none ⊎ ShowsFirst (recovered (disk.image d)) i old new))
+    ⊎ FailsToPrint disk d e r)
 
--- Why the file of number i of the disk d, now e, was not written whole. Behind the opening of a
--- kernel the image is recovered, and nothing else was done to it.
+-- Why the file of number i of the disk d, now e, was not written whole. Behind the recovery nothing
+-- else was done to it.
 abbrev pub IsNotShown : {D N : Type 0} → Ghosts D N → D → D → ℕ → Option (List ℕ)
     → Option (List ℕ) → Type 0 → Refusal → Type 0
+IsNotShown disk d e i old new none (Check fault) = FailsToRecover disk d e (Check fault) × none
+IsNotShown disk d e i old new none (Recover fault) = FailsToRecover disk d e (Recover fault) × none
+IsNotShown disk d e i old new none (Open fault) = HasNoRoom d e (Open fault) × none
 IsNotShown disk d e i old new none (Cat NoFile) =
     IsRecovered disk (logged_count (disk.image d)) d e × HasNoFile (disk.image d) i × none
-IsNotShown disk d e i old new none (Cat NoMemory) =
-    IsRecovered disk (logged_count (disk.image d)) d e × IsRefusedMemory disk e
-    × (none ⊎ ShowsPart (disk.image d) i old new)
-IsNotShown disk d e i old new none (Disk fault) =
+IsNotShown disk d e i old new none (Disk (Block fault)) =
     FailsRecovered disk d e × (none ⊎ ShowsPart (disk.image d) i old new)
 IsNotShown disk d e i old new none Output = IsRecovered disk (logged_count (disk.image d)) d e
-IsNotShown disk d e i old new none r = IsUnopened disk 1 d e r × none
+IsNotShown disk d e i old new none _ = ⊥

@@ -6,7 +6,6 @@
 //! No function here opens a file, and none reads the words of a command line.
 #![tactic(auto)]
 
-mod asking;
 mod checking;
 mod making;
 mod meeting;

@@ -1,36 +1,42 @@
 // The bytes of a file of a disk's image.
-ghost use Rattle.std.specs.Prelude.{◌≡◌, OnOk, IfOk, IfErr, Some};
+ghost use Rattle.std.specs.Prelude.{◌≡◌, None, OnOk, IfOk, IfErr, IfSome, IfNone};
 ghost use Rattle.std.specs.Io.KnownBytes.{Appends};
 ghost use Rattle.blocks.specs.Calls.{OnlyReads};
-ghost use Rattle.model.specs.Log.{logged_count};
+ghost use Rattle.blocks.specs.Disk.{CountsFault};
+ghost use Rattle.model.specs.Files.{bytes_in, file_in, files_of};
+ghost use Rattle.model.specs.Log.{logged_count, recovered};
+ghost use Rattle.model.specs.Verdict.{verdict};
+ghost use Rattle.layout.specs.Recovered.{IsRecoveredOf, MayReadFile};
 ghost use Rattle.wal.specs.Recovery.{LeavesIfCalm, RecoversAs};
-ghost use Rattle.opening.specs.Openings.{IsUnopened};
-ghost use Rattle.player.specs.Asking.{Rests, asked_count, size_at};
 ghost use Rattle.opening.specs.Recoveries.{IsRecovered};
 ghost use Rattle.player.specs.Refusal.{IsOfCat};
-ghost use Rattle.player.specs.Showing.{IsNotShown, IsPartly, IsReaderOf, IsUnwritten, Shows, ShowsFile, bytes_at};
+ghost use Rattle.player.specs.Showing.{IsInodeOf, IsNotShown, IsPartly, IsReaderOf, IsUnshown, Shows, ShowsFile};
 
-use crate::asking::{piece_of, size_of};
-use blocks::Disk;
-use kernel::Kernel;
-use model::types::TRANSFER_LIMIT;
-use opening::open_refusal;
-use ports::{PlainHerald, QueueIntake};
+use blocks::{BLOCK_SIZE, Block, Disk, DiskFault};
+use layout::header::Header;
+use layout::laws::checked_files_may_be_read;
+use layout::{Dinode, LOG_START, Recovered, superblock};
+use opening::recover_image;
 use std::alloc::Global;
 use std::io::Write;
 use texts::{CatFault, KernelFault, Refusal, pass_on, write_bytes};
+use wal::DeviceFault;
+
+// So many bytes are read and then written at once.
+const PIECE_SIZE: u32 = 16 * BLOCK_SIZE as u32;
 
 /// Recovers the image of a disk, and writes the bytes of its file of a number, and nothing else.
-/// The file is read through a kernel of one process, piece by piece.
+/// The file is read and written piece by piece, and no memory is taken behind the recovery.
 ///
 /// Hands the disk back, with nothing but the recovery done to it. Whatever a crash at any moment
 /// leaves is recovered to the same image.
 ///
 /// # Errors
 ///
-/// A fault of the kernel's opening, or `Cat` with `NoFile` where there is no such file, and then
-/// nothing was written. `Disk` where the disk failed in the reading, and `Cat` with `NoMemory`:
-/// then the file's first bytes were written, if any. `Output`.
+/// `Open` with `NoMemory` where memory for a block is refused, and then nothing was done with the
+/// disk. A fault of `recover_image`, or `Cat` with `NoFile` where there is no such file. With these
+/// nothing was written. `Disk` where a read behind the recovery failed: then the file's first bytes
+/// were written, if any. `Output`.
 pub fn cat_disk<D: Disk + Drop, O: Write>(
     alloc: Global,
     disk: D,
@@ -47,82 +53,117 @@ pub fn cat_disk<D: Disk + Drop, O: Write>(
     ensures name { D.name result.1 ≡ D.name disk }
     ensures any_moment { LeavesIfCalm D.Disk disk result.1 (RecoversAs (D.image disk)) }
 {
-    let mut kernel = match open_reader(alloc, disk) {
-        Ok(kernel) => kernel,
-        Err((refusal, disk)) => return (Err(refusal), disk),
+    let mut block = match Block::zeroed(alloc) {
+        Ok(block) => block,
+        Err(refused) => return (Err(KernelFault::from(refused).into()), disk),
     };
-    let shown = show(&mut kernel, number, out);
-    (shown, kernel.into_disk())
-}
-
-// A kernel of one process over the image of a disk.
-fn open_reader<D: Disk + Drop>(
-    alloc: Global,
-    disk: D,
-) -> Result<Kernel<D, QueueIntake, PlainHerald>, (Refusal, D)>
-    ensures opened { IfOk result (IsReaderOf D.Disk disk) }
-    ensures refused { IfErr result (λ e. IsUnopened D.Disk 1 disk e.1 e.0) }
-{
-    let intake = match QueueIntake::new(alloc, 1) {
-        Ok(intake) => intake,
-        Err(refused) => return Err((KernelFault::from(refused).into(), disk)),
-    };
-    match Kernel::open(alloc, disk, intake, PlainHerald::new(), 1) {
-        Ok(kernel) => Ok(kernel),
-        Err((fault, disk)) => Err((open_refusal(fault), disk)),
+    let mut disk = disk;
+    if let Err(refusal) = recover_image(alloc, &mut disk) {
+        return (Err(refusal), disk);
     }
+    let shown = show(&mut disk, number, &mut block, out);
+    (shown, disk)
 }
 
-// Writes the bytes of the file of a number, and passes them on.
+// Writes the bytes of the file of a number of a disk that has no fault, and passes them on. What
+// the block holds afterwards is not said, here and below.
 fn show<D: Disk, O: Write>(
-    kernel: &mut Kernel<D, QueueIntake, PlainHerald>,
+    disk: &mut D,
     number: u32,
+    block: &mut Block,
     out: &mut O,
 ) -> Result<(), Refusal>
-    requires rests { Rests D.fault_count kernel.old }
-    requires first { asked_count kernel.old ≡ 0 }
-    ensures shown { OnOk result (ShowsFile (D.image kernel.old.opening) number
+    requires sound { verdict (D.image disk.old) ≡ None }
+    ensures shown { OnOk result (ShowsFile (recovered (D.image disk.old)) number
         (O.contents out.old) (O.contents out.new)) }
-    ensures faultless { OnOk result (D.fault_count kernel.new.store.volume.device
-        ≡ D.fault_count kernel.old.opening) }
-    ensures refused { IfErr result (IsUnwritten D.Disk kernel.old.opening
-        kernel.new.store.volume.device (D.image kernel.old.opening) number
+    ensures faultless { OnOk result (D.fault_count disk.new ≡ D.fault_count disk.old) }
+    ensures refused { IfErr result (IsUnshown D.Disk disk.old disk.new number
         (O.contents out.old) (O.contents out.new) (out.new ≡ out.old)) }
-    ensures reads { OnlyReads D.Disk kernel.old.store.volume.device
-        kernel.new.store.volume.device }
+    ensures reads { OnlyReads D.Disk disk.old disk.new }
 {
-    let Some(size) = size_of(kernel, number)? else {
+    let image = open_reader(disk, block).map_err(refusal_of)?;
+    let found = inode_at(disk, &image, number, block).map_err(refusal_of)?;
+    let Some(inode) = found else {
         return Err(Refusal::Cat(CatFault::NoFile));
     };
-    write_file(kernel, number, size, out)?;
+    write_file(disk, &image, &inode, block, out)?;
     pass_on(out)
 }
 
-// Writes the bytes of a file of that length, piece by piece.
-fn write_file<D: Disk, O: Write>(
-    kernel: &mut Kernel<D, QueueIntake, PlainHerald>,
+// How a fault of a read is told.
+fn refusal_of(fault: DiskFault) -> Refusal
+    ensures { result ≡ Refusal.Disk (DeviceFault.Block fault) }
+{
+    Refusal::Disk(DeviceFault::Block(fault))
+}
+
+// The reader of a disk that has no fault.
+fn open_reader<D: Disk>(disk: &mut D, block: &mut Block) -> Result<Recovered, DiskFault>
+    requires sound { verdict (D.image disk.old) ≡ None }
+    ensures ok { IfOk result (IsReaderOf (D.image disk.old)) }
+    ensures reads { OnlyReads D.Disk disk.old disk.new }
+    ensures faults { CountsFault result (D.fault_count disk.old) (D.fault_count disk.new) }
+{
+    disk.read(1, block)?;
+    let sup = superblock::read(block.as_slice());
+    let form = superblock::form(block.as_slice());
+    disk.read(LOG_START, block)?;
+    let header = Header::read(block.as_slice());
+    Ok(Recovered { sup, form, header })
+}
+
+// The inode of the file of a number; None where there is no such file.
+fn inode_at<D: Disk>(
+    disk: &mut D,
+    image: &Recovered,
     number: u32,
-    size: u32,
+    block: &mut Block,
+) -> Result<Option<Dinode>, DiskFault>
+    requires reader { IsReaderOf (D.image disk.old) image.now }
+    ensures found { IfOk result (λ found.
+        IfSome found (IsInodeOf (recovered (D.image disk.old)) number)) }
+    ensures none { IfOk result (λ found.
+        IfNone found (file_in (files_of (recovered (D.image disk.old))) number ≡ None)) }
+    ensures reads { OnlyReads D.Disk disk.old disk.new }
+    ensures faults { CountsFault result (D.fault_count disk.old) (D.fault_count disk.new) }
+{
+    checked_files_may_be_read();
+    if number == 0 || number >= image.sup.ninodes {
+        return Ok(None);
+    }
+    let inode = image.inode(disk, number, block)?;
+    if inode.kind == 0 {
+        return Ok(None);
+    }
+    Ok(Some(inode))
+}
+
+// Writes the bytes of an inode's file, piece by piece.
+fn write_file<D: Disk, O: Write>(
+    disk: &mut D,
+    image: &Recovered,
+    inode: &Dinode,
+    block: &mut Block,
     out: &mut O,
 ) -> Result<(), Refusal>
-    requires rests { Rests D.fault_count kernel.old }
-    requires asked { asked_count kernel.old ≡ 1 }
-    requires size { size_at (D.image kernel.old.opening) number ≡ Some size }
+    requires recovered { IsRecoveredOf (D.image disk.old) image.now }
+    requires file { MayReadFile (recovered (D.image disk.old)) inode.now }
     ensures all { OnOk result (Appends (O.contents out.old) (O.contents out.new)
-        (bytes_at (D.image kernel.old.opening) number)) }
-    ensures rests { OnOk result (Rests D.fault_count kernel.new) }
-    ensures opening { kernel.new.opening ≡ kernel.old.opening }
-    ensures part { IfErr result (IsPartly D.Disk kernel.old.opening
-        kernel.new.store.volume.device (bytes_at (D.image kernel.old.opening) number)
+        (bytes_in (recovered (D.image disk.old)) inode.now)) }
+    ensures faultless { OnOk result (D.fault_count disk.new ≡ D.fault_count disk.old) }
+    ensures part { IfErr result (IsPartly D.Disk disk.old disk.new
+        (bytes_in (recovered (D.image disk.old)) inode.now)
         (O.contents out.old) (O.contents out.new)) }
-    ensures reads { OnlyReads D.Disk kernel.old.store.volume.device
-        kernel.new.store.volume.device }
+    ensures reads { OnlyReads D.Disk disk.old disk.new }
 {
-    for piece in 0..size.div_ceil(TRANSFER_LIMIT) {
-        let Some(bytes) = piece_of(kernel, number, piece * TRANSFER_LIMIT, TRANSFER_LIMIT)? else {
-            unreachable!()
-        };
-        write_bytes(out, bytes.as_slice())?;
+    let mut piece = [0; PIECE_SIZE as usize];
+    let mut at = 0;
+    while at < inode.size {
+        let count = (inode.size - at).min(PIECE_SIZE);
+        let bytes = &mut piece[..count as usize];
+        image.read(disk, inode, at, bytes, block).map_err(refusal_of)?;
+        write_bytes(out, bytes)?;
+        at += count;
     }
     Ok(())
 }

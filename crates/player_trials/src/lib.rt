@@ -11,3 +11,5 @@ mod faults;
 mod holding;
 #[cfg(test)]
 mod scripts_of_readers;
+#[cfg(test)]
+mod showing;

@@ -5,22 +5,15 @@ use Rattle.blocks.specs.Disk.{Image}
 use Rattle.blocks.specs.declared.disk.Disk.{Ghosts}
 use Rattle.model.specs.Files.{Files, files_of}
 use Rattle.model.specs.Log.{recovered}
-use Rattle.model.specs.Soundness.{IsSound}
 use Rattle.model.specs.Verdict.{verdict}
 use Rattle.model.specs.declared.types.fault.CheckFault.{CheckFault}
 use Rattle.model.specs.declared.types.fault.CheckFault.TheVariants as check
 use Rattle.model.specs.Lemmas.Log.{recovered_empty}
-use Rattle.model.specs.Lemmas.Soundness.{sound_verdict, verdict_sound}
-use Rattle.wal.specs.Lemmas.Commits.{empty_lawful}
+use Rattle.model.specs.Lemmas.Soundness.{verdict_sound}
+use Rattle.opening.specs.Lemmas.Recovered.{recovered_verdict}
 use Rattle.opening.specs.Recoveries.{IsRecovered}
 use Rattle.texts.specs.declared.refusal.Refusal.TheVariants.{Check}
 use Rattle.recoveries.specs.Images.{HasFiles, IsFound, is_want_of_memory}
-
--- what was recovered has no fault
-pub recovered_verdict : (x : Image) → verdict x ≡ None → verdict (recovered x) ≡ None
-recovered_verdict x none =
-    let sound = (verdict_sound x none).2 in
-    sound_verdict (recovered x) (sound.geometry, empty_lawful (recovered x) sound.empty_log, subst IsSound (sym (recovered_empty (recovered x) sound.empty_log)) sound)
 
 -- what was recovered twice is as after the first time, and nothing was copied the second time
 pub twice : {D N : Type 0} (disk : Ghosts D N) (a b c : D) (m n : ℕ) → IsRecovered disk m a b → IsRecovered disk n b c → (n ≡ 0) × (disk.image c ≡ recovered (disk.image a))

@@ -8,6 +8,7 @@ use Rattle.blocks.specs.declared.faulty.Trap.{Trap}
 use Rattle.player.specs.Opening.{IsNotReplayed}
 use Rattle.player.specs.Showing.{IsNotShown}
 use Rattle.texts.specs.declared.faults.CatFault.TheVariants as cat
+use Rattle.wal.specs.declared.types.DeviceFault.TheVariants as device
 use Rattle.texts.specs.declared.refusal.Refusal.{Refusal}
 use Rattle.texts.specs.declared.refusal.Refusal.TheVariants.{File, Mkfs, Check, Recover, Open, Script, Schedule, Disk, Cat, Run, Stops, Ls, Show, Put, Copy, Input, Output}
 use Rattle.scripts.specs.declared.schedule.Word.{Word}
@@ -18,24 +19,25 @@ use Rattle.images.specs.Files.{IsNotRun, IsUnreplayed}
 
 module _ {D N : Type 0} (disk : Ghosts D N) (d e : D) (old new : Option (List ℕ)) (none other : Type 0) (f : none → other) where
   pub not_shown : (i : ℕ) (r : Refusal) → IsNotShown disk d e i old new none r → IsNotShown disk d e i old new other r
-  not_shown i (Cat cat.NoFile) why = (why.0, why.1, f why.2)
-  not_shown i (Cat cat.NoMemory) why = (why.0, why.1, ⊎_elim (λ nothing. inl (f nothing)) (λ part. inr part) why.2)
-  not_shown i (Disk fault) why = (why.0, ⊎_elim (λ nothing. inl (f nothing)) (λ part. inr part) why.1)
-  not_shown i Output why = why
-  not_shown i (File fault) why = (why.0, f why.1)
-  not_shown i (Mkfs fault) why = (why.0, f why.1)
   not_shown i (Check fault) why = (why.0, f why.1)
   not_shown i (Recover fault) why = (why.0, f why.1)
   not_shown i (Open fault) why = (why.0, f why.1)
-  not_shown i (Script fault) why = (why.0, f why.1)
-  not_shown i (Schedule fault) why = (why.0, f why.1)
-  not_shown i (Run fault) why = (why.0, f why.1)
-  not_shown i (Stops fault) why = (why.0, f why.1)
-  not_shown i (Input fault) why = (why.0, f why.1)
-  not_shown i (Ls fault) why = (why.0, f why.1)
-  not_shown i (Show fault) why = (why.0, f why.1)
-  not_shown i (Put fault) why = (why.0, f why.1)
-  not_shown i (Copy fault) why = (why.0, f why.1)
+  not_shown i (Cat cat.NoFile) why = (why.0, why.1, f why.2)
+  not_shown i (Cat cat.NoMemory) why = absurd why
+  not_shown i (Disk (device.Block fault)) why = (why.0, ⊎_elim (λ nothing. inl (f nothing)) (λ part. inr part) why.1)
+  not_shown i (Disk (device.Sync fault)) why = absurd why
+  not_shown i Output why = why
+  not_shown i (File fault) why = absurd why
+  not_shown i (Mkfs fault) why = absurd why
+  not_shown i (Script fault) why = absurd why
+  not_shown i (Schedule fault) why = absurd why
+  not_shown i (Run fault) why = absurd why
+  not_shown i (Stops fault) why = absurd why
+  not_shown i (Input fault) why = absurd why
+  not_shown i (Ls fault) why = absurd why
+  not_shown i (Show fault) why = absurd why
+  not_shown i (Put fault) why = absurd why
+  not_shown i (Copy fault) why = absurd why
 
   not_replayed : (over : Ghosts (FaultyDisk D) (N × Trap)) (tasks : List Task) (processes : ℕ) (words : List Word) (stop : ℕ) (r : Refusal)
       → IsNotReplayed disk over d e tasks processes words stop old new none r → IsNotReplayed disk over d e tasks processes words stop old new other r

@@ -16,5 +16,5 @@ returns-clause-refused g c =
     let none = c.cat_disk-shown.new.out ≡ c.args.out.now in
     IfErr-weaker c.cat_disk-shown.result.0 _ _
     (refuses_disk g.R.File.Read.remaining file_disk false disk.disk c.cat_disk-shown.result.1 none (λ d e. IsNotShown file_disk d e c.args.inum (g.O.Write.contents c.args.out.now) (g.O.Write.contents c.cat_disk-shown.new.out) none)
-    disk.ensures.opened (λ fault why. why.1) (λ fault why. why.1) (λ fault why. why.1))
+    disk.ensures.opened (λ fault why. absurd why) (λ fault why. absurd why) (λ fault why. absurd why))
     c.cat_disk-shown.ensures.refused

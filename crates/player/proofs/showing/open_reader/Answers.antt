@@ -1,7 +1,33 @@
-use Rattle.std.proofs.Common.{rules}
-use Rattle.player.proofs.Asked.{rests_first}
+use Rattle.std.proofs.Common.{◌≡◌, ◌∙◌, Some, ap, arith, length, subst}
+use Rattle.std.specs.Prelude.{slice_get}
+use Rattle.blocks.specs.Disk.{Image}
+use Rattle.model.specs.Layout.{super_in}
+use Rattle.model.specs.Log.{homes_in, logged_in}
+use Rattle.model.specs.Lemmas.Super.{long_where_sound, verdict_none}
+use Rattle.player.proofs.Shown.{form_read, form_told, header_read, super_read}
 use Rattle.player.proofs.showing.open_reader.Goals as goal
 
-pub returns-in-Ok-open-clause-opened : goal.returns-in-Ok-open-clause-opened
-returns-in-Ok-open-clause-opened g c =
-    rests_first g.D.Disk c.args.disk c.in-Ok.intake c.new-2.result c.in-Ok-open.kernel c.in-Ok-open.ensures.opened (search rules) (search rules)
+pub read-requires : goal.read-requires
+read-requires g c = omega (arith, long_where_sound (g.D.Disk.image c.args.disk.now) c.requires.sound)
+
+pub read-requires-2 : goal.read-requires-2
+read-requires-2 g c =
+    let x = g.D.Disk.image c.args.disk.now in
+    let same : g.D.Disk.image c.read.new.self ≡ x = c.in_ok-read.ensures.image in
+    omega (arith, long_where_sound x c.requires.sound, ap (λ (y : Image). length y) same)
+
+pub returns-clause-ok : goal.returns-clause-ok
+returns-clause-ok g c =
+    let x = g.D.Disk.image c.args.disk.now in
+    let first = c.in_ok-read.ensures.ok in
+    let second = subst (λ (y : Image). slice_get y 2 ≡ Some c.read-2.new.into) c.in_ok-read.ensures.image c.in_ok-read-2.ensures.ok in
+    let same = c.as_slice-3.ensures.value in
+    record {
+      sound = c.requires.sound;
+      recovered = record {
+        geometry = (verdict_none x c.requires.sound).0;
+        sup = super_read x c.read.new.into c.read-sup.result first (c.read-sup.ensures ∙ ap super_in c.as_slice.ensures.value);
+        form = form_read x c.read.new.into c.form-form.result first (c.form-form.ensures ∙ ap form_told c.as_slice-2.ensures.value);
+        header = header_read x c.read-2.new.into c.read-header.result c.requires.sound second (c.read-header.ensures.count ∙ ap logged_in same) (c.read-header.ensures.homes ∙ ap homes_in same) c.read-header.ensures.few;
+      };
+    }

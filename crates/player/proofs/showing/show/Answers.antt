@@ -1,21 +1,25 @@
-use Rattle.std.proofs.Common.{◌≡◌, rules, subst, sym, Some}
-use Rattle.std.proofs.lemmas.Result.{IfErr-weaker}
-use Rattle.std.specs.Prelude.{IfErr}
-use Rattle.player.specs.Asking.{size_at}
-use Rattle.player.specs.Showing.{IsPartly, IsUnwritten, bytes_at}
-use Rattle.player.proofs.Shown.{partly}
+use Rattle.std.proofs.Common.{◌≡◌, ◌∙◌, Option, ap, subst}
+use Rattle.std.proofs.lemmas.Result.{IfOk-at_ok, on_ok_weaker}
+use Rattle.std.specs.Io.KnownBytes.{Appends}
+use Rattle.std.specs.Prelude.{IfSome}
+use Rattle.blocks.specs.Disk.{Image}
+use Rattle.model.specs.Files.{bytes_in}
+use Rattle.model.specs.Log.{recovered}
+use Rattle.model.specs.declared.types.image.Dinode.{Dinode}
+use Rattle.player.specs.Showing.{IsInodeOf}
+use Rattle.player.proofs.Shown.{mapped, shown_whole}
 use Rattle.player.proofs.showing.show.Goals as goal
 
-pub returns-in_err-write_file-clause-refused : goal.returns-in_err-write_file-clause-refused
-returns-in_err-write_file-clause-refused g c =
-    let start = c.args.kernel.now.opening in
-    let now = c.write_file.new.kernel.store.volume.device in
-    let old = g.O.Write.contents c.args.out.now in
-    let new = g.O.Write.contents c.write_file.new.out in
-    let has : Some c.in-Some.size ≡ size_at (g.D.Disk.image start) c.args.number = search rules in
-    let same : c.from_residual-in_err-write_file.result ≡ c.write_file.result = search rules in
-    subst (λ r. IfErr r (IsUnwritten g.D.Disk start now (g.D.Disk.image start) c.args.number old new (c.write_file.new.out ≡ c.args.out.now))) (sym same)
-    (IfErr-weaker c.write_file.result _ _
-    (λ e why. partly g.D.Disk start now (g.D.Disk.image start) c.args.number c.in-Some.size old new (c.write_file.new.out ≡ c.args.out.now) e has
-    (subst (λ d. IsPartly g.D.Disk d now (bytes_at (g.D.Disk.image d) c.args.number) old new e) c.size_of.ensures.opening why))
-    c.write_file.ensures.part)
+pub returns-clause-shown : goal.returns-clause-shown
+returns-clause-shown g c =
+    let x = g.D.Disk.image c.args.disk.now in
+    let i = c.args.number in
+    let first = c.open_reader.ensures.reads.image in
+    let given = IfOk-at_ok _ (mapped c.inode_at.result c.map_err-2.result c.in_ok-found.found _ c.map_err-2.ensures.cases c.map_err-2.ensures.variant c.in_ok-found.was) c.inode_at.ensures.found in
+    let inode : IsInodeOf (recovered x) i c.in-Some.inode =
+        subst (λ (y : Image). IsInodeOf (recovered y) i c.in-Some.inode) first
+        (subst (λ (found : Option Dinode). IfSome found (IsInodeOf (recovered (g.D.Disk.image c.open_reader.new.disk)) i)) c.in-Some.is given) in
+    let all =
+        subst (λ (y : Image). Appends (g.O.Write.contents c.args.out.now) (g.O.Write.contents c.write_file.new.out) (bytes_in (recovered y) c.in-Some.inode))
+        (c.inode_at.ensures.reads.image ∙ first) c.in_ok-write_file.ensures.all in
+    on_ok_weaker c.pass_on.result (shown_whole (recovered x) i c.in-Some.inode _ _ _ inode all) c.pass_on.ensures.ok

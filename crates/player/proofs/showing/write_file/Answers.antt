@@ -1,23 +1,38 @@
-use Rattle.std.proofs.Common.{◌≡◌, ◌∙◌, ◌*◌, Some, rules, ap, arith}
+use Rattle.std.proofs.Common.{◌≡◌, ◌∙◌, ℕ, true, length, take, sym, ap, arith}
+use Rattle.std.proofs.lemmas.List.{length-take}
 use Rattle.std.specs.Io.KnownBytes.{Appends}
-use Rattle.player.specs.Asking.{RestsThen, part_at}
 use Rattle.blocks.specs.Lemmas.Reads.{reads_then}
-use Rattle.player.proofs.Shown.{one_more}
+use Rattle.std.specs.Prelude.{Result, is_ok}
+use Rattle.blocks.specs.Disk.{Image}
+use Rattle.texts.specs.declared.refusal.Refusal.{Refusal}
+use Rattle.model.specs.Files.{bytes_in}
+use Rattle.model.specs.Log.{recovered}
+use Rattle.model.specs.Operations.{part_of}
+use Rattle.player.proofs.Shown.{all_written, ok_of, piece_more}
 use Rattle.player.proofs.showing.write_file.Goals as goal
 
-pub loop-piece-preserved : goal.loop-piece-preserved
-loop-piece-preserved g c =
-    let image = g.D.Disk.image in
-    let opening = c.loop-piece.invariant.opening in
-    let given : Some c.in-Some.bytes ≡ part_at (image c.loop-piece.kernel.opening) c.args.number (c.loop-piece.piece * 3072) 3072 = search rules in
-    let wrote : Appends (g.O.Write.contents c.loop-piece.out) (g.O.Write.contents c.write_bytes.new.out) c.in-Some.bytes = search rules in
-    let then : RestsThen g.D.Disk.fault_count c.loop-piece.kernel c.piece_of.new.kernel = search rules in
-    let more = then.one_more in
-    let before = c.loop-piece.invariant.asked in
+pub loop-at-preserved : goal.loop-at-preserved
+loop-at-preserved g c =
+    let d = g.D.Disk in
+    let x = d.image c.args.disk.now in
+    let before = c.loop-at.invariant in
+    let count = c.min-count.result in
+    let all = bytes_in (recovered x) c.args.inode.now in
+    let fine : is_ok c.read.result ≡ true = sym c.map_err.ensures.variant ∙ ap (λ (r : Result (Unit {0}) Refusal). is_ok r) c.in_ok-map_err.was in
+    let read = ok_of _ c.read.result fine c.read.ensures.ok in
+    let long : length (take count c.loop-at.piece) ≡ count = omega (arith, c.min-count.array_long, length-take count c.loop-at.piece) in
+    let piece : c.read.new.into ≡ part_of all c.loop-at.at count =
+        read ∙ ap (λ (n : ℕ). part_of (bytes_in (recovered (d.image c.loop-at.disk)) c.args.inode.now) c.loop-at.at n) long
+        ∙ ap (λ (y : Image). part_of (bytes_in (recovered y) c.args.inode.now) c.loop-at.at count) before.reads.image in
     record {
-      rests = then.rests;
-      asked = omega (arith, more, before);
-      opening = c.piece_of.ensures.opening ∙ opening;
-      reads = reads_then g.D.Disk c.args.kernel.now.store.volume.device c.loop-piece.kernel.store.volume.device c.piece_of.new.kernel.store.volume.device c.loop-piece.invariant.reads c.piece_of.ensures.reads;
-      written = one_more (image c.args.kernel.now.opening) c.args.number c.loop-piece.piece c.in-Some.bytes _ _ _ (given ∙ ap (λ d. part_at (image d) c.args.number (c.loop-piece.piece * 3072) 3072) opening) c.loop-piece.invariant.written wrote;
+      reads = reads_then d c.args.disk.now c.loop-at.disk c.read.new.disk before.reads c.read.ensures.reads;
+      faults = ok_of _ c.read.result fine c.read.ensures.faults ∙ before.faults;
+      inside = omega arith;
+      written = piece_more all c.loop-at.at count c.read.new.into _ _ _ piece before.written c.in_ok-write_bytes.ensures.ok;
     }
+
+pub returns-clause-all : goal.returns-clause-all
+returns-clause-all g c =
+    let d = g.D.Disk in
+    let x = d.image c.args.disk.now in
+    all_written (recovered x) c.args.inode.now c.loop-at.at _ _ (omega arith) c.loop-at.invariant.written

@@ -1,0 +1,20 @@
+use Rattle.player.proofs.Shown.{inode_used, none_at_zero, none_free, none_past}
+use Rattle.model.specs.Log.{recovered}
+use Rattle.player.proofs.showing.inode_at.Goals as goal
+use Rattle.player.proofs.showing.inode_at.Goals.{then-number-eq0-via-then-number-eq0, then-number-eq0-via-else-number-eq0+then-number-image}
+
+pub returns-then-number-eq0-clause-none : goal.returns-then-number-eq0-clause-none
+returns-then-number-eq0-clause-none g c =
+    let x = g.D.Disk.image c.args.disk.now in
+    elim c.then-number-eq0.branch [
+      then-number-eq0-via-then-number-eq0 w ↦ none_at_zero (recovered x) c.args.number w.if-number-eq0.true |
+      then-number-eq0-via-else-number-eq0+then-number-image w ↦ none_past x c.args.image.now c.args.number c.requires.reader w.if-number-image.true
+    ]
+
+pub returns-then-inode-eq0-clause-none : goal.returns-then-inode-eq0-clause-none
+returns-then-inode-eq0-clause-none g c =
+    none_free (g.D.Disk.image c.args.disk.now) c.args.image.now c.args.number c.in_ok-inode.inode c.requires.reader c.if-number-eq0.false c.if-number-image.false c.in_ok-inode.ensures.ok c.if-inode-eq0.true
+
+pub returns-clause-found : goal.returns-clause-found
+returns-clause-found g c =
+    inode_used (g.D.Disk.image c.args.disk.now) c.args.image.now c.args.number c.in_ok-inode.inode (g.met.D.Disk.is_image c.args.disk.now) c.checked_files_may_be_read.ensures c.requires.reader c.if-number-eq0.false c.if-number-image.false c.in_ok-inode.ensures.ok c.if-inode-eq0.false
