@@ -1,10 +1,9 @@
 -- Which numbers have files, and the rows of these.
-use Rattle.std.proofs.Common.{◌≡◌, ◌≢◌, ◌∙◌, ℕ, ◌<◌, ◌≤◌, List, [], ◌∷◌, length, None, refl, ap, sym, subst, inl, inr, ⊎_elim}
+use Rattle.std.proofs.Common.{◌≡◌, ◌≢◌, ◌∙◌, ℕ, ◌<◌, ◌≤◌, [], ◌∷◌, length, None, refl, ap, sym, subst, inl, inr, ⊎_elim}
 use Rattle.std.specs.Prelude.{◌⊎◌, IsSome}
 use Rattle.std.proofs.lemmas.Bool.{ne_eqb, cases_eq}
 use Rattle.blocks.specs.Disk.{Image}
 use Rattle.model.specs.declared.types.image.Dinode.{Dinode}
-use Rattle.model.specs.declared.types.image.File.{File}
 use Rattle.model.specs.Files.{file_in, file_of, files_of}
 use Rattle.model.specs.Layout.{inode_of, inode_count_of}
 use Rattle.model.specs.Places.{addresses_in, pointers_in}

@@ -1,11 +1,11 @@
 -- What a check without a fault says of the blocks that files own.
-use Rattle.std.proofs.Common.{◌≡◌, ◌≢◌, ◌∙◌, ℕ, ◌<◌, ◌≤◌, ◌+◌, List, [], ◌∷◌, length, get_or, map, Option, Some, None, refl, ap, sym, subst, inl, inr, arith, cond, eqb}
-use Rattle.std.specs.List.{AllByRecursion, flat_map}
+use Rattle.std.proofs.Common.{◌≡◌, ◌≢◌, ◌∙◌, ℕ, ◌<◌, ◌≤◌, List, [], ◌∷◌, length, get_or, map, Option, None, ap, sym, subst, inl, inr, arith, cond, eqb}
+use Rattle.std.specs.List.{AllByRecursion}
 use Rattle.std.proofs.lemmas.List.{get_or-map, length-map}
 use Rattle.std.proofs.lemmas.List.FromFn.{fill_by_all}
-use Rattle.blocks.specs.Disk.{Image, Rose, block_at}
+use Rattle.blocks.specs.Disk.{Image, Rose}
 use Rattle.model.specs.Fields.{u32_at}
-use Rattle.model.specs.Layout.{inode_of, inode_count_of, form_of, super_of, magic_of}
+use Rattle.model.specs.Layout.{inode_of, inode_count_of, form_of, magic_of}
 use Rattle.model.specs.Log.{homes_of, recovered}
 use Rattle.model.specs.Names.{names_of}
 use Rattle.model.specs.Places.{addresses_in, numbers_of, places_of, pointers_of}

@@ -1,5 +1,5 @@
 -- How the signs of an image are drawn.
-use Rattle.std.specs.Prelude.{ℕ, ◌+◌, ◌*◌, List, ◌++◌, drop, take, length, codes, decimal}
+use Rattle.std.specs.Prelude.{ℕ, ◌*◌, List, ◌++◌, drop, take, length, codes, decimal}
 use Rattle.std.specs.Int.{div_ceil}
 use Rattle.std.specs.List.{flat_map, range_with_len}
 use Rattle.blocks.specs.Disk.{Image}
@@ -22,7 +22,8 @@ key_text =
     ++ codes "0-9 data by the file's last digit . free * logged\n"
 
 abbrev pub drawing_text : List ℕ → List ℕ
-drawing_text signs = flat_map (row_at signs) (range_with_len 0 (div_ceil (length signs) 64)) ++ key_text
+drawing_text signs =
+    flat_map (row_at signs) (range_with_len 0 (div_ceil (length signs) 64)) ++ key_text
 
 -- the rows of all signs of an image, and the key
 abbrev pub drawing_of : Image → List ℕ

@@ -31,11 +31,7 @@ const ROW: usize = 64;
 /// `Check` with a fault of the image or of its check, or with `Disk` where a read behind the check
 /// failed. `Show` with `NoMemory` where memory behind the check was refused. With these nothing was
 /// printed. Else `Output`.
-pub fn show_disk<D: Disk, O: Write>(
-    alloc: Global,
-    disk: &mut D,
-    out: &mut O,
-) -> Result<(), Refusal>
+pub fn show_disk<D: Disk, O: Write>(alloc: Global, disk: &mut D, out: &mut O) -> Result<(), Refusal>
     ensures sound { OnOk result (verdict (D.image disk.old) ≡ None) }
     ensures printed { OnOk result (Appends (O.contents out.old) (O.contents out.new)
         (drawing_of (D.image disk.old))) }

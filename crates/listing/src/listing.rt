@@ -40,11 +40,7 @@ pub struct Row {
 /// `Check` with a fault of the image or of its check, or with `Disk` where a read behind the check
 /// failed. `Ls` with `NoMemory` where memory behind the check was refused. With these nothing was
 /// printed. Else `Output`.
-pub fn list_disk<D: Disk, O: Write>(
-    alloc: Global,
-    disk: &mut D,
-    out: &mut O,
-) -> Result<(), Refusal>
+pub fn list_disk<D: Disk, O: Write>(alloc: Global, disk: &mut D, out: &mut O) -> Result<(), Refusal>
     ensures sound { OnOk result (verdict (D.image disk.old) ≡ None) }
     ensures printed { OnOk result (Appends (O.contents out.old) (O.contents out.new)
         (listing_of (recovered (D.image disk.old)))) }

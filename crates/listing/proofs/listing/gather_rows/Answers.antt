@@ -1,4 +1,4 @@
-use Rattle.std.proofs.Common.{◌≡◌, ◌∙◌, ◌+◌, ◌-◌, ◌++◌, ◌<◌, ℕ, List, Vec, Global, length, ap, sym, subst, arith}
+use Rattle.std.proofs.Common.{◌∙◌, ◌+◌, ◌-◌, ◌++◌, Vec, Global, length, ap, sym, subst, arith}
 use Rattle.std.specs.List.{flat_map, range_with_len}
 use Rattle.std.proofs.lemmas.List.{append-nil}
 use Rattle.blocks.specs.Calls.{OnlyReads}
@@ -44,14 +44,14 @@ loop-i-preserved g c =
     let more = flat_map (rows_at y) (range_with_len (i + 1) (n - (i + 1))) in
     elim c.if-inode-ne0.branch [
       | then-inode-ne0+in_ok-blocks+in_ok-push w ↦
-      let counted = w.in_ok-blocks.ensures.count ∙ ap (λ (z : Image). length (addresses_in (pointers_in (recovered z) inode))) again in
-      record {
-        reads = subst (λ z. OnlyReads d c.args.disk.now z) (sym w.disk-is) (reads_then d c.args.disk.now c.inode.new.disk w.count_blocks.new.disk read w.count_blocks.ensures.reads);
-        faults = ap d.fault_count w.disk-is ∙ w.in_ok-blocks.ensures.faults ∙ c.in_ok-inode.ensures.faults ∙ before.faults;
-        added = next_done rows c.if-inode-ne0.rows.items (rows_at y i) left more (rows_of y) before.added split
-            (ap (λ (v : Vec Row Global). v.items) w.rows-is ∙ w.in_ok-push.ensures.items
-            ∙ ap (λ l. rows ++ l) (sym (rows_used y i w.in_ok-blocks.blocks inode is w.if-inode-ne0.true counted)));
-      }
+          let counted = w.in_ok-blocks.ensures.count ∙ ap (λ (z : Image). length (addresses_in (pointers_in (recovered z) inode))) again in
+          record {
+            reads = subst (λ z. OnlyReads d c.args.disk.now z) (sym w.disk-is) (reads_then d c.args.disk.now c.inode.new.disk w.count_blocks.new.disk read w.count_blocks.ensures.reads);
+            faults = ap d.fault_count w.disk-is ∙ w.in_ok-blocks.ensures.faults ∙ c.in_ok-inode.ensures.faults ∙ before.faults;
+            added = next_done rows c.if-inode-ne0.rows.items (rows_at y i) left more (rows_of y) before.added split
+                (ap (λ (v : Vec Row Global). v.items) w.rows-is ∙ w.in_ok-push.ensures.items
+                ∙ ap (λ l. rows ++ l) (sym (rows_used y i w.in_ok-blocks.blocks inode is w.if-inode-ne0.true counted)));
+          }
       | else-inode-ne0 w ↦ record {
         reads = subst (λ z. OnlyReads d c.args.disk.now z) (sym w.disk-is) read;
         faults = ap d.fault_count w.disk-is ∙ c.in_ok-inode.ensures.faults ∙ before.faults;

@@ -1,6 +1,6 @@
-use Rattle.std.proofs.Common.{◌≡◌, ◌∙◌, ◌++◌, ◌<◌, ap, subst, arith}
+use Rattle.std.proofs.Common.{◌≡◌, ◌∙◌, ◌++◌, ap, subst, arith}
 use Rattle.blocks.specs.Disk.{Image}
-use Rattle.model.specs.Layout.{inode_count_of, inode_of}
+use Rattle.model.specs.Layout.{inode_of}
 use Rattle.model.specs.Log.{recovered}
 use Rattle.model.specs.declared.types.image.Dinode.{Dinode}
 use Rattle.listing.specs.Owned.{owned_in}

@@ -1,8 +1,8 @@
-use Rattle.std.proofs.Common.{◌≡◌, ◌∙◌, ◌++◌, ◌<◌, ℕ, List, length, get_or, drop, take, ap, sym, subst, arith}
+use Rattle.std.proofs.Common.{◌≡◌, ◌∙◌, ◌++◌, ℕ, List, length, get_or, drop, take, ap, subst, arith}
 use Rattle.blocks.specs.Disk.{Image}
 use Rattle.model.specs.Log.{recovered}
 use Rattle.listing.specs.Owned.{owned_by_all}
-use Rattle.listing.specs.Signs.{owner_among, owner_sign, sign_among}
+use Rattle.listing.specs.Signs.{sign_among}
 use Rattle.listing.proofs.PlaceLemmas.{all_inside, all_once, signs_whole, size_is}
 use Rattle.listing.proofs.TextLemmas.{written_whole}
 use Rattle.listing.proofs.signs.gather_signs.Goals as goal

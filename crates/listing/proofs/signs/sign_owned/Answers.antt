@@ -1,4 +1,4 @@
-use Rattle.std.proofs.Common.{◌≡◌, ◌<◌, ℕ, List, length, get_or, refl, subst, sym, arith}
+use Rattle.std.proofs.Common.{get_or, refl, arith}
 use Rattle.listing.specs.declared.owned.Owned.{Owned}
 use Rattle.listing.proofs.SignLemmas.{signed_more}
 use Rattle.listing.proofs.signs.sign_owned.Goals as goal
