@@ -13,24 +13,23 @@ use Rattle.blocks.specs.declared.disk.Disk.{Ghosts}
 use Rattle.model.specs.Fields.{u32_at}
 use Rattle.model.specs.Files.{bytes_in, file_at, file_in, file_of, files_of}
 use Rattle.model.specs.Layout.{form_of, inode_count_of, inode_of, magic_of, super_in, super_of}
-use Rattle.model.specs.Log.{homes_in, homes_of, logged_count, logged_in, recovered}
+use Rattle.model.specs.Log.{homes_in, logged_count, logged_in, recovered}
 use Rattle.model.specs.Verdict.{verdict}
 use Rattle.model.specs.declared.types.image.Dinode.{Dinode}
-use Rattle.model.specs.declared.types.image.File.{File}
 use Rattle.model.specs.declared.types.image.Form.{Form}
 use Rattle.model.specs.declared.types.image.Form.TheVariants.{One, Two}
 use Rattle.model.specs.declared.types.image.Super.{Super}
 use Rattle.model.specs.Lemmas.FileNumbers.{file_in-files_of, file_in-files_of_past, file_in-files_of_zero}
 use Rattle.model.specs.Lemmas.Super.{long_where_sound, super_of-recovered, verdict_none}
 use Rattle.layout.specs.Laws.{CheckedFilesMayBeRead}
-use Rattle.layout.specs.Recovered.{IsHeaderOf, IsRecoveredOf, MayReadFile}
+use Rattle.layout.specs.Recovered.{IsHeaderOf}
 use Rattle.layout.specs.declared.header.Header.{Header}
 use Rattle.layout.specs.declared.recovered.Recovered.{Recovered}
 use Rattle.opening.specs.Lemmas.Recovered.{recovered_again}
 use Rattle.opening.specs.Recoveries.{IsRecovered}
 use Rattle.texts.specs.declared.refusal.Refusal.{Refusal}
 use Rattle.player.specs.Afterwards.{FailsRecovered}
-use Rattle.player.specs.Showing.{IsInodeOf, IsNotShown, IsReaderOf, IsUnshown, ShowsFile, ShowsFirst, ShowsPart}
+use Rattle.player.specs.Showing.{IsInodeOf, IsNotShown, IsReaderOf, IsUnshown, ShowsFile, ShowsFirst}
 
 -- ---- the reader of a disk that has no fault
 

@@ -1,6 +1,5 @@
 use Rattle.std.proofs.Common.{◌≡◌, ◌∙◌, ℕ, true, length, take, sym, ap, arith}
 use Rattle.std.proofs.lemmas.List.{length-take}
-use Rattle.std.specs.Io.KnownBytes.{Appends}
 use Rattle.blocks.specs.Lemmas.Reads.{reads_then}
 use Rattle.std.specs.Prelude.{Result, is_ok}
 use Rattle.blocks.specs.Disk.{Image}
