@@ -1,7 +1,6 @@
 -- What a stop in the midst of a call leaves.
 use Rattle.std.proofs.Common.{◌≡◌, ◌∙◌, ◌≤◌, ℕ, zero, suc, Bool, true, false, cond, ◌&&◌, leb, List, [], ◌∷◌, ◌++◌, Option, Some, None, refl, sym, ap, subst, inl, inr, ⊎_elim}
 use Rattle.std.specs.Prelude.{◌⊎◌, Result, Ok, Err}
-use Rattle.std.proofs.lemmas.List.{append_cancel_left}
 use Rattle.blocks.specs.Disk.{Image, LeavesOnly}
 use Rattle.blocks.specs.declared.disk.Disk.{Ghosts}
 use Rattle.model.specs.declared.types.image.Form.{Form}
@@ -23,6 +22,7 @@ use Rattle.kernel.specs.declared.types.Step.TheVariants as step
 use Rattle.sole.specs.declared.fault.CallFault.{CallFault}
 use Rattle.sole.specs.Calls.{KeepsCall, MayReply, image_on}
 use Rattle.sole.specs.Stepping.{Plain, MakesPlainStep, Moves, plain_herald, plain_queues}
+use Rattle.sole.proofs.Causes.{last_same}
 use Rattle.sole.proofs.Called.{IsAnswered, IsCall, call_lists, with_intake}
 use Rattle.sole.proofs.Rest.{IsSettledDisk, same_form}
 use Rattle.sole.proofs.Stages.{ListIs}
@@ -137,7 +137,6 @@ may_any cause es list e r is replied = tt
 -- and only that which was given
 pub may_given : {D : Type 0} (op : Op) (k m : Plain D) (is : IsAnswered op k m) (e : Entry) (r : Reply) → m.world.journal.list ≡ k.world.journal.list ++ e ∷ [] → e.reply ≡ Some r → MayReply (Ok is.answer.reply) r
 may_given op k m is e r list replied =
-    let same : e ∷ [] ≡ is.entry ∷ [] = append_cancel_left k.world.journal.list (e ∷ []) (is.entry ∷ []) (sym list ∙ is.list) in
-    let entry : e ≡ is.entry = cc same in
+    let entry : e ≡ is.entry = last_same k.world.journal.list e is.entry (sym list ∙ is.list) in
     let both : Some r ≡ Some is.answer.reply = sym replied ∙ ap (λ (f : Entry). f.reply) entry ∙ is.replied in
     cc both

@@ -1,4 +1,7 @@
 pub mod Steps
+pub mod Causes
+pub mod Searches
+pub mod Shorts
 pub mod Stages
 pub mod Unshut
 pub mod Called
@@ -6,7 +9,3 @@ pub mod Unanswered
 pub mod Rest
 pub mod Leaving
 pub mod Opened
-pub mod Causes
-pub mod Searches
-pub mod Shorts
-pub mod Reasons

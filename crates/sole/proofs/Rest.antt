@@ -1,8 +1,7 @@
 -- What the disk of a kernel of one process has while no operation is under way, and what a call makes
 -- of it.
-use Rattle.std.proofs.Common.{◌≡◌, ◌∙◌, ℕ, zero, suc, List, [], ◌∷◌, ◌++◌, length, Option, Some, None, sym, ap, subst, arith}
-use Rattle.std.specs.Prelude.{IfNone, if◌then◌else◌, ◌==◌}
-use Rattle.std.proofs.lemmas.List.{get_or_past}
+use Rattle.std.proofs.Common.{◌≡◌, ◌∙◌, ℕ, List, [], ◌∷◌, ◌++◌, length, Option, Some, None, sym, ap, subst}
+use Rattle.std.specs.Prelude.{if◌then◌else◌, ◌==◌}
 use Rattle.blocks.specs.Disk.{Image, block_at}
 use Rattle.blocks.specs.declared.disk.Disk.{Ghosts}
 use Rattle.model.specs.declared.types.image.Form.{Form}
@@ -13,34 +12,34 @@ use Rattle.model.specs.Crash.{Keeps}
 use Rattle.model.specs.Fields.{u32_at}
 use Rattle.model.specs.Files.{Files, files_of}
 use Rattle.model.specs.Journal.{after_answer, and_then, kept, replay}
-use Rattle.model.specs.Layout.{form_of, inode_count_of, magic_of, super_in, super_of}
+use Rattle.model.specs.Layout.{form_of, inode_count_of, magic_of}
 use Rattle.model.specs.declared.types.image.Form.TheVariants.{One, Two}
 use Rattle.model.specs.Log.{logged_count, recovered}
 use Rattle.model.specs.Operations.{after}
 use Rattle.model.specs.Soundness.{IsSound}
 use Rattle.model.specs.Lemmas.Log.{recovered_empty}
 use Rattle.model.specs.Lemmas.Runs.{and_then_some, replays_in_parts}
-use Rattle.model.specs.Lemmas.Super.{super_facts}
+use Rattle.ports.specs.Queues.{waiting}
+use Rattle.ports.specs.declared.queues.QueueIntake.{QueueIntake}
 use Rattle.journal.specs.declared.types.At.TheVariants as at
-use Rattle.journal.specs.declared.types.Process.{Process}
 use Rattle.journal.specs.Keeps.{AreUpTo, most_of}
-use Rattle.journal.specs.Processes.{World, process, idle}
-use Rattle.kernel.specs.Awake.{AreIdle}
-use Rattle.kernel.specs.Known.{IsCurrent, Known}
-use Rattle.sole.specs.Calls.{IsWhole, Rests, image_on}
-use Rattle.sole.specs.Stepping.{Plain, plain_herald, plain_queues}
-use Rattle.sole.proofs.Called.{IsAnswered}
-
--- the only process is idle: all are
-all_idle : (w : World) → length w.processes ≡ 1 → (process w 0).at ≡ at.Idle → AreIdle w
-all_idle w one is zero = is
-all_idle w one is (suc p) = ap (λ (u : Process). u.at) (get_or_past w.processes (suc p) idle (omega (arith, one)))
+use Rattle.journal.specs.Processes.{process}
+use Rattle.kernel.specs.Known.{Known}
+use Rattle.kernel.specs.declared.types.Step.{Step}
+use Rattle.kernel.specs.declared.types.Step.TheVariants as step
+use Rattle.sole.specs.Calls.{Calls, IsWhole, image_on}
+use Rattle.sole.specs.Stepping.{MakesSteps, Plain, plain_herald, plain_queues}
+use Rattle.sole.proofs.Causes.{all_idle, current, long, super}
+use Rattle.sole.proofs.Called.{IsAnswered, IsCall, with_intake}
+use Rattle.sole.proofs.Searches.{lowest, none_free}
+use Rattle.sole.proofs.Shorts.{short_full}
 
 -- The image on the disk is sound, with the opening's files after all of the journal, and after what
 -- is kept of the committed groups. No entry is of a later group, and none is open in the log.
 pub record IsSettledDisk {D N : Type 0} (disk : Ghosts D N) (k : Plain D) : Type 0 where
   pub sound : IsSound (image_on disk.image k)
   pub super : block_at (image_on disk.image k) 1 ≡ block_at (disk.image k.opening) 1
+  pub size : length (image_on disk.image k) ≡ length (disk.image k.opening)
   pub run : replay (form_of (disk.image k.opening)) (files_of (disk.image k.opening)) k.world.journal.list
       ≡ Some (files_of (image_on disk.image k))
   pub kept_run : replay (form_of (disk.image k.opening)) (files_of (disk.image k.opening))
@@ -57,21 +56,22 @@ settled_disk disk has_now k known well one stands =
     let n = inode_count_of (disk.image k.opening) in
     let form = form_of (disk.image k.opening) in
     let start = files_of (disk.image k.opening) in
-    let current : IsCurrent disk.image k = subst (λ f. IfNone f (IsCurrent disk.image k)) well known.current in
-    let idle_all = all_idle k.world one stands in
-    let rests = current.rests idle_all in
-    let settled : l.committed ≡ l.opened = current.settled rests.none rests.quiet in
-    let clear : logged_count x ≡ 0 = current.clear rests.quiet in
+    let at_rest = current disk k known one stands well in
+    let idle_all = all_idle disk k known one stands well in
+    let rests = at_rest.rests idle_all in
+    let settled : l.committed ≡ l.opened = at_rest.settled rests.none rests.quiet in
+    let clear : logged_count x ≡ 0 = at_rest.clear rests.quiet in
     let same : recovered x ≡ x = recovered_empty x clear in
     let now = known.keeps x (has_now k.store.volume.device) in
     let groups : now.between.groups ≡ l.committed = now.told ∙ ap (λ (c : ℕ). if c == 0 then l.committed else most_of k.store.volume) clear in
     let keeps : Keeps (disk.image k.opening) es x l.committed = subst (λ (c : ℕ). Keeps (disk.image k.opening) es x c) groups now.between.keeps in
     let kept_files : replay form start (kept n es l.committed) ≡ Some (files_of x) = keeps.files ∙ ap (λ (y : Image). Some (files_of y)) same in
-    let current_files = (current.files rests.none).files in
+    let current_files = (at_rest.files rests.none).files in
     record {
       sound = subst IsSound same keeps.sound;
-      super = ap (λ (y : Image). block_at y 1) (sym same) ∙ keeps.untouched.super;
-      run = current.idle idle_all ∙ sym current_files ∙ ap (λ (c : ℕ). replay form start (kept n es c)) (sym settled) ∙ kept_files;
+      super = super disk k known one stands well;
+      size = long disk k known one stands well;
+      run = at_rest.idle idle_all ∙ sym current_files ∙ ap (λ (c : ℕ). replay form start (kept n es c)) (sym settled) ∙ kept_files;
       kept_run = kept_files;
       groups = subst (λ (c : ℕ). AreUpTo c es) (sym settled) known.journal.groups;
       unopened = rests.none;
@@ -81,13 +81,6 @@ settled_disk disk has_now k known well one stands =
 pub same_form : (x y : Image) → block_at y 1 ≡ block_at x 1 → form_of y ≡ form_of x
 same_form x y super = ap (λ (bytes : List ℕ). if u32_at bytes 0 == magic_of Two then Two else One) super
 
--- and sound ones the same size
-pub same_size : (x y : Image) → IsSound x → IsSound y → block_at y 1 ≡ block_at x 1 → length y ≡ length x
-same_size x y sound_x sound_y super =
-    let of_x = (super_facts (super_of x) (length x) sound_x.geometry.fields).size in
-    let of_y = (super_facts (super_of y) (length y) sound_y.geometry.fields).size in
-    sym of_y ∙ ap (λ (bytes : List ℕ). (super_in bytes).size) super ∙ of_x
-
 -- one entry more of a replay
 pub one_entry : (form : Form) (start mid last : Files) (es : List Entry) (e : Entry) (r : Reply) → replay form start es ≡ Some mid → e.reply ≡ Some r → replay form start (es ++ e ∷ []) ≡ Some last → after form mid e.op r ≡ Some last
 one_entry form start mid last es e r before replied run =
@@ -96,18 +89,15 @@ one_entry form start mid last es e r before replied run =
     let found = and_then_some (after_answer form mid e.op (Some r)) (λ f. Some f) last (subst (λ (o : Option Reply). and_then (after_answer form mid e.op o) (λ f. Some f) ≡ Some last) replied one) in
     found.1 ∙ found.2
 
-module _ {D N : Type 0} (disk : Ghosts D N) (has_now : (d : D) → disk.leaves d (disk.moment d) (disk.image d)) (op : Op) (k m : Plain D) (known : Known disk plain_queues plain_herald k) (known_now : Known disk plain_queues plain_herald m) (rests : Rests disk.fault_count k) (opening : m.opening ≡ k.opening) (well : m.store.volume.fault ≡ None) (is : IsAnswered op k m) where
+module _ {D N : Type 0} (disk : Ghosts D N) (has_now : (d : D) → disk.leaves d (disk.moment d) (disk.image d)) (op : Op) (r : Step) (k m : Plain D) (call : IsCall disk op r k m) (so : r ≡ step.Answered) (opening : m.opening ≡ k.opening) (well : m.store.volume.fault ≡ None) (is : IsAnswered op k m) where
   was : IsSettledDisk disk k
-  was = settled_disk disk has_now k known rests.well rests.one rests.idle
+  was = settled_disk disk has_now k call.known call.rests.well call.rests.one call.rests.idle
 
   now : IsSettledDisk disk m
-  now = settled_disk disk has_now m known_now well is.one is.idle
-
-  super_stays : block_at (image_on disk.image m) 1 ≡ block_at (image_on disk.image k) 1
-  super_stays = now.super ∙ ap (λ (d : D). block_at (disk.image d) 1) opening ∙ sym was.super
+  now = settled_disk disk has_now m call.known_now well is.one is.idle
 
   -- the files after a call
-  pub call_files : after (form_of (image_on disk.image k)) (files_of (image_on disk.image k)) op is.answer.reply ≡ Some (files_of (image_on disk.image m))
+  call_files : after (form_of (image_on disk.image k)) (files_of (image_on disk.image k)) op is.answer.reply ≡ Some (files_of (image_on disk.image m))
   call_files =
       let form = form_of (disk.image k.opening) in
       let start = files_of (disk.image k.opening) in
@@ -118,5 +108,24 @@ module _ {D N : Type 0} (disk : Ghosts D N) (has_now : (d : D) → disk.leaves d
       subst (λ (f : Form). after f (files_of (image_on disk.image k)) op is.answer.reply ≡ Some (files_of (image_on disk.image m))) (sym (same_form (disk.image k.opening) (image_on disk.image k) was.super))
       (subst (λ (o : Op). after form (files_of (image_on disk.image k)) o is.answer.reply ≡ Some (files_of (image_on disk.image m))) is.same one)
 
-  pub call_whole : IsWhole (image_on disk.image k) (image_on disk.image m)
-  call_whole = record { sound = now.sound; size = same_size (image_on disk.image k) (image_on disk.image m) was.sound now.sound super_stays; super = super_stays }
+  call_whole : IsWhole (image_on disk.image k) (image_on disk.image m)
+  call_whole = record {
+    sound = now.sound;
+    size = now.size ∙ ap (λ (d : D). length (disk.image d)) opening ∙ sym was.size;
+    super = now.super ∙ ap (λ (d : D). block_at (disk.image d) 1) opening ∙ sym was.super;
+  }
+
+  -- what an answered call has made, whatever its queues are then
+  pub call_made : (i : QueueIntake) → Calls disk.image op k (with_intake m i) is.answer.reply
+  call_made i =
+      let l = with_intake k call.i in
+      let waits : waiting call.i 0 ≡ op ∷ [] = call.waits ∙ ap (λ (xs : List Op). xs ++ op ∷ []) call.rests.waits in
+      let makes = subst (λ (q : Step). MakesSteps disk plain_queues plain_herald 0 q l m) so call.makes in
+      record {
+        files = call_files;
+        whole = call_whole;
+        lowest = lowest disk l m call.known_then call.rests.one call.rests.idle call.rests.well op is.answer.reply waits makes is.entry is.list is.replied;
+        none = none_free disk l m call.known_then call.rests.one call.rests.idle call.rests.well op is.answer.reply waits makes is.entry is.list is.replied;
+        short = short_full disk l m call.known_then call.known_now call.rests.one is.one call.rests.idle is.idle call.rests.well well op is.answer.reply waits makes is.entry is.list is.replied;
+        one_more = is.one_more;
+      }

@@ -33,10 +33,10 @@ use Rattle.journal.specs.Processes.{World, process, idle, turned_from, told_at, 
 use Rattle.journal.specs.Lemmas.Places.{there_now}
 use Rattle.kernel.specs.declared.types.Step.{Step}
 use Rattle.kernel.specs.declared.types.Step.TheVariants as step
-use Rattle.kernel.specs.declared.waiting.Waiting.{Waiting}
 use Rattle.kernel.specs.declared.waiting.Waiting.TheVariants as waiting_as
-use Rattle.kernel.specs.Next.{NextIf, NextAt, BeginsNext, TakesChange, TakesLook, TakesRefused, TakesNone, IsNotTaken, world_after, world_behind, world_ended, world_written, step_of, step_behind, step_of_end, step_of_write}
+use Rattle.kernel.specs.Next.{NextIf, NextAt, BeginsNext, TakesChange, TakesLook, TakesRefused, TakesNone, world_after, world_behind, world_ended, world_written, step_of, step_behind, step_of_end, step_of_write}
 use Rattle.sole.specs.Calls.{is_look}
+use Rattle.sole.proofs.Causes.{first_is, none_answered, none_moved, none_worked}
 
 -- the journal has one entry more, of the first process's operation, at that place
 pub record HasMore (op : Op) (es : List Entry) (k : ℕ) (list : List Entry) : Type 0 where
@@ -80,22 +80,6 @@ busy_stands C op es list (at.Before group o) waits busy = busy
 busy_stands C op es list (at.Behind group k) waits busy = busy
 busy_stands C op es list (at.Ending group k) waits busy = busy
 busy_stands C op es list (at.Committing group k) waits busy = busy
-
-not_taken_moved : (what : Option Waiting) (l : LogState) (room : Bool) → IsNotTaken what l room step.Moved → ⊥
-not_taken_moved None l room is = cc is
-not_taken_moved (Some waiting_as.Refused) l room is = ⊎_elim (λ h. let e = h.0 in cc e) (λ h. let e = h.0 in cc e) is
-not_taken_moved (Some (waiting_as.Look count)) l room is = ⊎_elim (λ h. let e = h.0 in cc e) (λ h. let e = h.0 in cc e) is
-not_taken_moved (Some waiting_as.Change) l room is = ⊎_elim (λ h. let e = h.0 in cc e) (λ o. ⊎_elim (λ h. let e = h.1 in cc e) (λ h. let e = h.0.0 in cc e) o) is
-
-not_taken_answered : (what : Option Waiting) (l : LogState) (room : Bool) → IsNotTaken what l room step.Answered → ⊥
-not_taken_answered None l room is = cc is
-not_taken_answered (Some waiting_as.Refused) l room is = ⊎_elim (λ h. let e = h.0 in cc e) (λ h. let e = h.0 in cc e) is
-not_taken_answered (Some (waiting_as.Look count)) l room is = ⊎_elim (λ h. let e = h.0 in cc e) (λ h. let e = h.0 in cc e) is
-not_taken_answered (Some waiting_as.Change) l room is = ⊎_elim (λ h. let e = h.0 in cc e) (λ o. ⊎_elim (λ h. let e = h.1 in cc e) (λ h. let e = h.0.0 in cc e) o) is
-
--- the first of those that wait is that which waited
-first_is : (op o : Op) (before ahead rest : List Op) → before ≡ op ∷ [] → IsPrefix before ahead → ahead ≡ o ∷ rest → o ≡ op
-first_is op o before ahead rest was prefix is = cc (was, prefix.1, is)
 
 -- the last entry is told its reply
 last_told : (es : List Entry) (e : Entry) → entry_in (es ++ e ∷ []) (length es) ≡ e
@@ -142,7 +126,7 @@ module _ {D N : Type 0} (disk : Ghosts D N) (C : Type 0) (op : Op) (es : List En
       refused_at_once takes = let e = takes.answer in absurd (cc e)
 
       none_taken : TakesNone (option_map (waiting_of s.table.inode_count) (first_in none.ahead)) s w none.ahead side step.Moved t z → BusyAt C op es (process z 0).at z.journal.list
-      none_taken takes = absurd (not_taken_moved (option_map (waiting_of s.table.inode_count) (first_in none.ahead)) s.volume.log side.has_room takes.answer)
+      none_taken takes = absurd (none_moved (option_map (waiting_of s.table.inode_count) (first_in none.ahead)) s.volume.log side.has_room takes.answer)
 
   -- a task's step that is neither a turn's nor the last
   worked_moved : (group : ℕ) (o : Op) (r : TaskProgress) (over : Bool) → (process w 0).at ≡ at.Before group o → step.Moved ≡ step_of r → z ≡ world_after r over w 0 → BusyAt C op es (at.Before group o) w.journal.list → BusyAt C op es (process z 0).at z.journal.list
@@ -160,14 +144,6 @@ module _ {D N : Type 0} (disk : Ghosts D N) (C : Type 0) (op : Op) (es : List En
   worked_moved group o progress.Over over stands answer is busy = stays (at.Before group o) is stands busy
   worked_moved group o (progress.Sleeping cause) over stands answer is busy = absurd (cc answer)
   worked_moved group o (progress.Fault fault) over stands answer is busy = absurd (cc answer)
-
-  worked_answered : (r : TaskProgress) → step.Answered ≡ step_of r → ⊥
-  worked_answered progress.Moved answer = cc answer
-  worked_answered (progress.Turned reply) answer = cc answer
-  worked_answered (progress.Decided reply) answer = cc answer
-  worked_answered progress.Over answer = cc answer
-  worked_answered (progress.Sleeping cause) answer = cc answer
-  worked_answered (progress.Fault fault) answer = cc answer
 
   finished_moved : (group k : ℕ) (r : TaskProgress) → (process w 0).at ≡ at.Behind group k → step.Moved ≡ step_behind group r → z ≡ world_behind group r w 0 → HasMore op es k w.journal.list → BusyAt C op es (process z 0).at z.journal.list
   finished_moved group k progress.Moved stands answer is more = stays (at.Behind group k) is stands more
@@ -251,7 +227,7 @@ module _ {D N : Type 0} (disk : Ghosts D N) (C : Type 0) (op : Op) (es : List En
       }
 
       none_taken : TakesNone (option_map (waiting_of s.table.inode_count) (first_in none.ahead)) s w none.ahead side step.Answered t z → OverAt op es z
-      none_taken takes = absurd (not_taken_answered (option_map (waiting_of s.table.inode_count) (first_in none.ahead)) s.volume.log side.has_room takes.answer)
+      none_taken takes = absurd (none_answered (option_map (waiting_of s.table.inode_count) (first_in none.ahead)) s.volume.log side.has_room takes.answer)
 
   moved_at : (a : At) → (process w 0).at ≡ a → NextAt disk a s w 0 before side heard step.Moved t z → StageAt C op es a before w.journal.list → BusyAt C op es (process z 0).at z.journal.list
   moved_at at.Idle stands next stage = begun_moved next stage.0 stage.1
@@ -262,7 +238,7 @@ module _ {D N : Type 0} (disk : Ghosts D N) (C : Type 0) (op : Op) (es : List En
 
   answered_at : (a : At) → (process w 0).at ≡ a → NextAt disk a s w 0 before side heard step.Answered t z → StageAt C op es a before w.journal.list → OverAt op es z
   answered_at at.Idle stands next stage = begun_answered next stands stage.0 stage.1
-  answered_at (at.Before group o) stands next stage = absurd (worked_answered next.progress next.answer)
+  answered_at (at.Before group o) stands next stage = absurd (none_worked next.progress next.answer)
   answered_at (at.Behind group k) stands next stage = finished_answered group k next.progress stands next.answer next.world stage
   answered_at (at.Ending group k) stands next stage = ended_answered k (end_answer s.volume.log) next.answer next.world stage
   answered_at (at.Committing group k) stands next stage = written_answered k next.result next.answer next.world stage.1

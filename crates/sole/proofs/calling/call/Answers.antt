@@ -12,8 +12,7 @@ use Rattle.sole.specs.declared.fault.CallFault.TheVariants as fault
 use Rattle.sole.specs.Calls.{Calls, KeepsCall, image_on}
 use Rattle.sole.proofs.Called.{call_looks, is_answered, is_call, refused_reads, rests_again}
 use Rattle.sole.proofs.Leaving.{call_leaves, call_names, call_runs, may_any, may_given}
-use Rattle.sole.proofs.Reasons.{call_lowest, call_none, call_short}
-use Rattle.sole.proofs.Rest.{call_files, call_whole, settled_disk}
+use Rattle.sole.proofs.Rest.{call_made, settled_disk}
 use Rattle.sole.proofs.Unanswered.{EndsSo, call_ends, has_failed, is_faultless, is_handed_in}
 use Rattle.sole.proofs.calling.call.Goals as goal
 
@@ -132,14 +131,7 @@ returns-in-Some-poll-clause-calls g c =
     let same = sym c.in-Some-poll.is ∙ c.poll.ensures.oldest ∙ ap first_in done.only in
     let answer : c.in-Some-poll.answer ≡ done.answer = cc same in
     subst (λ n. Calls g.D.Disk.image c.args.op k n c.in-Some-poll.answer.reply) (sym c.poll.ensures.same)
-    (subst (λ a. Calls g.D.Disk.image c.args.op k (record m { intake = c.poll.new.self.intake }) a.reply) (sym answer) (record {
-      files = call_files g.D.Disk g.met.D.Disk.has_now c.args.op k m c.known.ensures c.known-3.ensures c.requires.rests opening (search rules) done;
-      whole = call_whole g.D.Disk g.met.D.Disk.has_now c.args.op k m c.known.ensures c.known-3.ensures c.requires.rests opening (search rules) done;
-      lowest = call_lowest g.D.Disk c.args.op r k m call (search rules) done;
-      none = call_none g.D.Disk c.args.op r k m call (search rules) done;
-      short = call_short g.D.Disk c.args.op r k m call (search rules) done (search rules);
-      one_more = done.one_more;
-    }))
+    (subst (λ a. Calls g.D.Disk.image c.args.op k (record m { intake = c.poll.new.self.intake }) a.reply) (sym answer) (call_made g.D.Disk g.met.D.Disk.has_now c.args.op r k m call (search rules) opening (search rules) done c.poll.new.self.intake))
 
 pub returns-in-Some-poll-clause-leaves : goal.returns-in-Some-poll-clause-leaves
 returns-in-Some-poll-clause-leaves g c =
