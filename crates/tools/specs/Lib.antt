@@ -1,3 +1,1 @@
 pub mod Looks
-pub mod Puts
-pub mod Copies
