@@ -48,3 +48,19 @@ returns-in-Stops-clause-ok g c =
 pub returns-in-Stops-clause-err : goal.returns-in-Stops-clause-err
 returns-in-Stops-clause-err g c =
     subst (λ request. IfErr c.stops_files.result (λ r. OnRefused (seen_by g.R.File.Read.remaining) request r (g.O.Write.contents c.args.out.now) (g.O.Write.contents c.stops_files.new.out) (c.stops_files.new.out ≡ c.args.out.now))) (sym c.in-Stops.is) c.stops_files.ensures.refused
+
+pub returns-in-Ls-clause-ok : goal.returns-in-Ls-clause-ok
+returns-in-Ls-clause-ok g c =
+    subst (λ request. OnOk c.ls_file.result (Answers (seen_by g.R.File.Read.remaining) request (g.O.Write.contents c.args.out.now) (g.O.Write.contents c.ls_file.new.out))) (sym c.in-Ls.is) c.ls_file.ensures.opened
+
+pub returns-in-Ls-clause-err : goal.returns-in-Ls-clause-err
+returns-in-Ls-clause-err g c =
+    subst (λ request. IfErr c.ls_file.result (λ r. OnRefused (seen_by g.R.File.Read.remaining) request r (g.O.Write.contents c.args.out.now) (g.O.Write.contents c.ls_file.new.out) (c.ls_file.new.out ≡ c.args.out.now))) (sym c.in-Ls.is) (on_both c.ls_file.result _ _ c.ls_file.ensures.silent c.ls_file.ensures.refused)
+
+pub returns-in-Show-clause-ok : goal.returns-in-Show-clause-ok
+returns-in-Show-clause-ok g c =
+    subst (λ request. OnOk c.show_blocks.result (Answers (seen_by g.R.File.Read.remaining) request (g.O.Write.contents c.args.out.now) (g.O.Write.contents c.show_blocks.new.out))) (sym c.in-Show.is) c.show_blocks.ensures.opened
+
+pub returns-in-Show-clause-err : goal.returns-in-Show-clause-err
+returns-in-Show-clause-err g c =
+    subst (λ request. IfErr c.show_blocks.result (λ r. OnRefused (seen_by g.R.File.Read.remaining) request r (g.O.Write.contents c.args.out.now) (g.O.Write.contents c.show_blocks.new.out) (c.show_blocks.new.out ≡ c.args.out.now))) (sym c.in-Show.is) (on_both c.show_blocks.result _ _ c.show_blocks.ensures.silent c.show_blocks.ensures.refused)
