@@ -23,8 +23,8 @@ returns-in-None-clause-refused g c =
     (refuses_disk g.R.File.Read.remaining file_disk false disk.disk c.show_disk.new.disk _ (IsUndrawn file_disk.image file_disk.fault_count) disk.ensures.opened (λ fault why. absurd why) (λ fault why. absurd why) (λ fault why. absurd why))
     c.show_disk.ensures.refused)
 
-pub returns-in-Some-clause-opened : goal.returns-in-Some-clause-opened
-returns-in-Some-clause-opened g c =
+pub returns-clause-opened : goal.returns-clause-opened
+returns-clause-opened g c =
     let disk = c.in_ok-disk in
     let shown = c.show_file.ensures in
     let inum = c.in-Some.inum in
@@ -32,8 +32,8 @@ returns-in-Some-clause-opened g c =
     (opens_disk g.R.File.Read.remaining file_disk false c.show_file.result disk.disk c.show_file.new.disk (HasBlocksShown file_disk (Some inum) (g.O.Write.contents c.args.out.now) (g.O.Write.contents c.show_file.new.out)) _ _ disk.ensures.opened
       (λ sound more. record { image = shown.reads.image; sound = sound; there = more.0; text = more.1 }) shown.sound (both_done c.show_file.result _ _ shown.there shown.printed))
 
-pub returns-in-Some-clause-refused : goal.returns-in-Some-clause-refused
-returns-in-Some-clause-refused g c =
+pub returns-clause-refused : goal.returns-clause-refused
+returns-clause-refused g c =
     let disk = c.in_ok-disk in
     subst (λ i. IfErr c.show_file.result (OnDiskRefusal g.R.File.Read.remaining file_disk false (c.show_file.new.out ≡ c.args.out.now) (HasBlocksHidden file_disk i))) (sym c.in-Some.is)
     (IfErr-weaker c.show_file.result _ _
