@@ -1,7 +1,9 @@
 // Files with names, by the calls of one process.
-ghost use Rattle.std.specs.Prelude.{◌≤◌, length, IfOk};
-ghost use Rattle.directory.specs.Entries.{directory_size};
-ghost use Rattle.named_files.specs.Names.{MayCall};
+ghost use Rattle.std.specs.Prelude.{◌≡◌, ◌<◌, ◌≤◌, length, IsTrue, IfOk, OnErr, OnOk};
+ghost use Rattle.directory.specs.Entries.{directory_size, most_entries};
+ghost use Rattle.named_files.specs.Names.{Finds, HasDirectory, KeepsOrFails, LinksName, MayCall, WritesEntry};
+ghost use Rattle.sole.specs.Calls.{Calls, image_on, is_look};
+ghost use Rattle.sole.specs.Opening.{IsOpenedSole};
 
 use anyhow::{bail, ensure};
 use blocks::Disk;
@@ -31,7 +33,9 @@ pub struct NamedFiles<D: Disk> {
 
 impl<D: Disk + Drop> NamedFiles<D> {
     /// Opens a kernel over the disk.
-    pub fn open(alloc: Global, disk: D) -> anyhow::Result<NamedFiles<D>> {
+    pub fn open(alloc: Global, disk: D) -> anyhow::Result<NamedFiles<D>>
+        ensures { IfOk result (λ files. IsOpenedSole D.Disk disk files.kernel) }
+    {
         match open_sole(alloc, disk) {
             Ok(kernel) => Ok(NamedFiles {
                 kernel,
@@ -49,7 +53,10 @@ impl<D: Disk + Drop> NamedFiles<D> {
     }
 
     /// The number that a name leads to.
-    pub fn lookup(&mut self, name: &Name) -> anyhow::Result<Option<u16>> {
+    pub fn lookup(&mut self, name: &Name) -> anyhow::Result<Option<u16>>
+        ensures found { IfOk result (Finds name.now (image_on D.image self.old.kernel)) }
+        ensures image { image_on D.image self.new.kernel ≡ image_on D.image self.old.kernel }
+    {
         let bytes = self.directory()?;
         Ok(lookup(bytes.as_slice(), name))
     }
@@ -65,12 +72,18 @@ impl<D: Disk + Drop> NamedFiles<D> {
         Ok(number)
     }
 
-    /// Links the file of a number under a name.
-    pub fn link(&mut self, alloc: Global, name: &Name, number: u16) -> anyhow::Result<()> {
+    /// Links the file of a number under a name. Where that is refused, the files are as before, or the
+    /// disk failed.
+    pub fn link(&mut self, alloc: Global, name: &Name, number: u16) -> anyhow::Result<()>
+        ensures links { OnOk result (LinksName name.now number
+            (image_on D.image self.old.kernel) (image_on D.image self.new.kernel)) }
+        ensures refused { OnErr result (KeepsOrFails D.Disk
+            self.old.kernel.store.volume.device self.new.kernel.store.volume.device) }
+    {
         ensure!(number > 0, "no file has number 0");
         let bytes = self.directory()?;
         let write = link(bytes.as_slice(), name, number)?;
-        self.make_write(write.operation(alloc)?)
+        self.make_write(alloc, write)
     }
 
     /// Frees the entry of a name, and tells whether there was one.
@@ -79,7 +92,7 @@ impl<D: Disk + Drop> NamedFiles<D> {
         let Some(write) = unlink(bytes.as_slice(), name) else {
             return Ok(false);
         };
-        self.make_write(write.operation(alloc)?)?;
+        self.make_write(alloc, write)?;
         Ok(true)
     }
 
@@ -92,6 +105,10 @@ impl<D: Disk + Drop> NamedFiles<D> {
     // The directory's bytes.
     fn directory(&mut self) -> anyhow::Result<Content>
         ensures size { IfOk result (λ bytes. length bytes ≤ directory_size) }
+        ensures bytes { IfOk result (HasDirectory (image_on D.image self.old.kernel)) }
+        ensures image { image_on D.image self.new.kernel ≡ image_on D.image self.old.kernel }
+        ensures faults { OnOk result (D.fault_count self.new.kernel.store.volume.device
+            ≡ D.fault_count self.old.kernel.store.volume.device) }
     {
         match self.called(Op::Stat(DIRECTORY))? {
             Reply::StatOf(_kind, size) => {
@@ -117,15 +134,32 @@ impl<D: Disk + Drop> NamedFiles<D> {
     }
 
     // Makes the write of an entry, which is written whole unless no block is free.
-    fn make_write(&mut self, write: Op) -> anyhow::Result<()> {
-        match self.called(write)? {
-            Reply::Wrote(count) if count as usize == ENTRY_SIZE => Ok(()),
+    fn make_write(&mut self, alloc: Global, write: EntryWrite) -> anyhow::Result<()>
+        requires { write.place < most_entries }
+        ensures writes { OnOk result (WritesEntry write
+            (image_on D.image self.old.kernel) (image_on D.image self.new.kernel)) }
+        ensures refused { OnErr result (KeepsOrFails D.Disk
+            self.old.kernel.store.volume.device self.new.kernel.store.volume.device) }
+    {
+        match self.called(write.operation(alloc)?)? {
+            Reply::Wrote(count) => {
+                ensure!(count as usize == ENTRY_SIZE, "no block is free for the entry");
+                Ok(())
+            }
             reply => bail!("the entry was not written: {reply:?}"),
         }
     }
 
     // Makes an operation. Its reply.
-    fn called(&mut self, op: Op) -> anyhow::Result<Reply> {
+    fn called(&mut self, op: Op) -> anyhow::Result<Reply>
+        ensures calls { IfOk result (Calls D.image op self.old.kernel self.new.kernel) }
+        ensures faults { OnOk result (D.fault_count self.new.kernel.store.volume.device
+            ≡ D.fault_count self.old.kernel.store.volume.device) }
+        ensures refused { OnErr result (KeepsOrFails D.Disk
+            self.old.kernel.store.volume.device self.new.kernel.store.volume.device) }
+        ensures looks { IsTrue (is_look op)
+            → image_on D.image self.new.kernel ≡ image_on D.image self.old.kernel }
+    {
         ensure!(self.calls_left > 0, "no other call may be made");
         match call(&mut self.kernel, op) {
             Ok(reply) => {
