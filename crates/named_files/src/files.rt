@@ -143,7 +143,10 @@ impl<D: Disk + Drop> NamedFiles<D> {
     {
         match self.called(write.operation(alloc)?)? {
             Reply::Wrote(count) => {
-                ensure!(count as usize == ENTRY_SIZE, "no block is free for the entry");
+                ensure!(
+                    count as usize == ENTRY_SIZE,
+                    "no block is free for the entry"
+                );
                 Ok(())
             }
             reply => bail!("the entry was not written: {reply:?}"),
