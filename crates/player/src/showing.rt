@@ -161,7 +161,9 @@ fn write_file<D: Disk, O: Write>(
     while at < inode.size {
         let count = (inode.size - at).min(PIECE_SIZE);
         let bytes = &mut piece[..count as usize];
-        image.read(disk, inode, at, bytes, block).map_err(refusal_of)?;
+        image
+            .read(disk, inode, at, bytes, block)
+            .map_err(refusal_of)?;
         write_bytes(out, bytes)?;
         at += count;
     }

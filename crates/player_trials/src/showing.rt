@@ -11,6 +11,7 @@ use wal::{DeviceFault, RecoverFault};
 
 // The file's bytes come in so many writes of so many bytes.
 const WRITES: usize = 9;
+
 const WRITTEN: usize = 2500;
 
 // A new image of 200 blocks and 32 inode numbers, and in it a file of number 1: some letters, as
@@ -97,10 +98,12 @@ fn tells_of_the_read_that_failed(rt: HostRuntime) -> Result<(), Fail> {
                 told.push(block)?;
             }
             Err(fault) => {
-                assert!(rt; matches!(
-                    fault,
-                    Refusal::Check(CheckFault::Disk) | Refusal::Recover(RecoverFault::Disk)
-                ));
+                assert!(rt;
+                    matches!(
+                        fault,
+                        Refusal::Check(CheckFault::Disk) | Refusal::Recover(RecoverFault::Disk)
+                    )
+                );
                 assert!(rt; told.is_empty());
                 assert!(rt; out.is_empty());
             }

@@ -14,8 +14,11 @@ use Rattle.opening.specs.Recoveries.{IsRecovered}
 pub recovered_verdict : (x : Image) → verdict x ≡ None → verdict (recovered x) ≡ None
 recovered_verdict x none =
     let sound = (verdict_sound x none).2 in
-    sound_verdict (recovered x) (sound.geometry, empty_lawful (recovered x) sound.empty_log,
-    subst IsSound (sym (recovered_empty (recovered x) sound.empty_log)) sound)
+    sound_verdict (recovered x) (
+      sound.geometry,
+      empty_lawful (recovered x) sound.empty_log,
+      subst IsSound (sym (recovered_empty (recovered x) sound.empty_log)) sound,
+    )
 
 module _ {D N : Type 0} (disk : Ghosts D N) (d e : D)
     (is : IsRecovered disk (logged_count (disk.image d)) d e) where

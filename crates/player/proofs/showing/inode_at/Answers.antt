@@ -7,8 +7,8 @@ pub returns-then-number-eq0-clause-none : goal.returns-then-number-eq0-clause-no
 returns-then-number-eq0-clause-none g c =
     let x = g.D.Disk.image c.args.disk.now in
     elim c.then-number-eq0.branch [
-      then-number-eq0-via-then-number-eq0 w ↦ none_at_zero (recovered x) c.args.number w.if-number-eq0.true |
-      then-number-eq0-via-else-number-eq0+then-number-image w ↦ none_past x c.args.image.now c.args.number c.requires.reader w.if-number-image.true
+      | then-number-eq0-via-then-number-eq0 w ↦ none_at_zero (recovered x) c.args.number w.if-number-eq0.true
+      | then-number-eq0-via-else-number-eq0+then-number-image w ↦ none_past x c.args.image.now c.args.number c.requires.reader w.if-number-image.true
     ]
 
 pub returns-then-inode-eq0-clause-none : goal.returns-then-inode-eq0-clause-none

@@ -21,8 +21,8 @@ loop-at-preserved g c =
     let read = ok_of _ c.read.result fine c.read.ensures.ok in
     let long : length (take count c.loop-at.piece) ≡ count = omega (arith, c.min-count.array_long, length-take count c.loop-at.piece) in
     let piece : c.read.new.into ≡ part_of all c.loop-at.at count =
-        read ∙ ap (λ (n : ℕ). part_of (bytes_in (recovered (d.image c.loop-at.disk)) c.args.inode.now) c.loop-at.at n) long
-        ∙ ap (λ (y : Image). part_of (bytes_in (recovered y) c.args.inode.now) c.loop-at.at count) before.reads.image in
+    read ∙ ap (λ (n : ℕ). part_of (bytes_in (recovered (d.image c.loop-at.disk)) c.args.inode.now) c.loop-at.at n) long
+    ∙ ap (λ (y : Image). part_of (bytes_in (recovered y) c.args.inode.now) c.loop-at.at count) before.reads.image in
     record {
       reads = reads_then d c.args.disk.now c.loop-at.disk c.read.new.disk before.reads c.read.ensures.reads;
       faults = ok_of _ c.read.result fine c.read.ensures.faults ∙ before.faults;

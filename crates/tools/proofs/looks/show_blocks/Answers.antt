@@ -30,7 +30,7 @@ returns-clause-opened g c =
     let inum = c.in-Some.inum in
     subst (λ i. OnOk c.show_file.result (OpensDisk g.R.File.Read.remaining file_disk false (HasBlocksShown file_disk i (g.O.Write.contents c.args.out.now) (g.O.Write.contents c.show_file.new.out)))) (sym c.in-Some.is)
     (opens_disk g.R.File.Read.remaining file_disk false c.show_file.result disk.disk c.show_file.new.disk (HasBlocksShown file_disk (Some inum) (g.O.Write.contents c.args.out.now) (g.O.Write.contents c.show_file.new.out)) _ _ disk.ensures.opened
-      (λ sound more. record { image = shown.reads.image; sound = sound; there = more.0; text = more.1 }) shown.sound (both_done c.show_file.result _ _ shown.there shown.printed))
+    (λ sound more. record { image = shown.reads.image; sound = sound; there = more.0; text = more.1 }) shown.sound (both_done c.show_file.result _ _ shown.there shown.printed))
 
 pub returns-clause-refused : goal.returns-clause-refused
 returns-clause-refused g c =
