@@ -11,5 +11,3 @@ mod faults;
 mod holding;
 #[cfg(test)]
 mod scripts_of_readers;
-#[cfg(test)]
-mod showing;
