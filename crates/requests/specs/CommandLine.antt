@@ -4,7 +4,7 @@ use Rattle.clap.specs.Words.{App, HasKind, Kinds, Row, Rule, new_app, new_rule, 
 use Rattle.clap.specs.declared.error.Error.{Error}
 use Rattle.clap.specs.declared.error.kind.ErrorKind.TheVariants as kind
 use Rattle.requests.specs.declared.words.Request.{Request}
-use Rattle.requests.specs.declared.words.Request.TheVariants.{Mkfs, Check, Recover, Cat, Ls, Show, Replay, Run, Stops}
+use Rattle.requests.specs.declared.words.Request.TheVariants.{Mkfs, Check, Recover, Cat, Ls, Show, Put, Copy, Replay, Run, Stops}
 use Rattle.clap.specs.declared.builder.command.Command.{Command}
 use Rattle.clap.specs.declared.builder.command.Command.TheViews.{out-Command}
 use Rattle.clap.specs.declared.builder.action.ArgAction.TheVariants.{SetTrue}
@@ -51,6 +51,21 @@ choice_rule id = record (new_rule id) { parser = Some (Signed (pos 0) (pos 42949
 abbrev pub show_app : App
 show_app = with_rule (image_app (codes "show")) (choice_rule (codes "INUM"))
 
+abbrev pub put_app : App
+put_app = with_rule (with_rule (image_app (codes "put")) (required_rule (codes "FILE")))
+    (choice_rule (codes "INUM"))
+
+-- `--size N`
+abbrev pub size_rule : Rule
+size_rule = record (choice_rule (codes "size")) {
+  long = Some (codes "size");
+  value_names = 1;
+}
+
+abbrev pub copy_app : App
+copy_app = with_rule (with_rule (with_rule (new_app (codes "copy"))
+    (required_rule (codes "OLD"))) (required_rule (codes "NEW"))) size_rule
+
 abbrev pub replay_app : App
 replay_app = with_rule (with_rule (with_rule (with_rule (image_app (codes "replay"))
     (required_rule (codes "SCRIPT"))) (required_rule (codes "SCHEDULE"))) stop_rule)
@@ -91,7 +106,8 @@ files_app =
 abbrev pub xvfs_app : App
 xvfs_app =
     with_subcommand (with_subcommand (with_subcommand (with_subcommand (with_subcommand
-    files_app show_app.top) recover_app.top) replay_app.top) run_app.top) stops_app.top
+    (with_subcommand (with_subcommand files_app show_app.top) put_app.top) copy_app.top)
+    recover_app.top) replay_app.top) run_app.top) stops_app.top
 
 -- a command of this shape, whose arguments are its own
 abbrev pub HasApp : App → Command → Type 0
@@ -135,6 +151,12 @@ AsksBy name rows (Ls image) = (name ≡ codes "ls")
     × (first_of (codes "IMAGE") rows ≡ Some image.now)
 AsksBy name rows (Show image inum) = (name ≡ codes "show")
     × (first_of (codes "IMAGE") rows ≡ Some image.now) × HasChoice (codes "INUM") rows inum
+AsksBy name rows (Put image file inum) = (name ≡ codes "put")
+    × (first_of (codes "IMAGE") rows ≡ Some image.now)
+    × (first_of (codes "FILE") rows ≡ Some file.now) × HasChoice (codes "INUM") rows inum
+AsksBy name rows (Copy old new size) = (name ≡ codes "copy")
+    × (first_of (codes "OLD") rows ≡ Some old.now)
+    × (first_of (codes "NEW") rows ≡ Some new.now) × HasChoice (codes "size") rows size
 AsksBy name rows (Replay image script schedule stop sync) =
     (name ≡ codes "replay") × (first_of (codes "IMAGE") rows ≡ Some image.now)
     × (first_of (codes "SCRIPT") rows ≡ Some script.now)

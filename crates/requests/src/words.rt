@@ -12,16 +12,19 @@ ghost use Rattle.requests.specs.CommandLine.{
   bare_app,
   cat_app,
   choice_rule,
+  copy_app,
   files_app,
   flag_rule,
   image_app,
   mkfs_app,
   number_rule,
+  put_app,
   recover_app,
   replay_app,
   required_rule,
   run_app,
   show_app,
+  size_rule,
   stop_rule,
   stops_app,
   workers_rule,
@@ -79,6 +82,24 @@ pub enum Request<'a> {
         image: &'a str,
         /// The file's number.
         inum: Option<u32>,
+    },
+    /// A file of the system, put into an image.
+    Put {
+        /// The path of the image's file.
+        image: &'a str,
+        /// The path of the file whose bytes are put.
+        file: &'a str,
+        /// The number of the image's file that gets them; none for a new one.
+        inum: Option<u32>,
+    },
+    /// An image of the first form, copied into a new one of the second.
+    Copy {
+        /// The path of the image's file.
+        old: &'a str,
+        /// The path of the file that is made.
+        new: &'a str,
+        /// The blocks of the new image; none for as many as the old one has.
+        size: Option<u32>,
     },
     /// A script's operations over an image.
     Replay {
@@ -156,6 +177,11 @@ fn request_of<'a>(matches: &ArgMatches<'a>) -> Option<Request<'a>>
             schedule: values.get_str("SCHEDULE")?,
             held: values.get_flag("held"),
         }),
+        "copy" => Some(Request::Copy {
+            old: values.get_str("OLD")?,
+            new: values.get_str("NEW")?,
+            size: values.get_one("size"),
+        }),
         "replay" => Some(Request::Replay {
             image: values.get_str("IMAGE")?,
             script: values.get_str("SCRIPT")?,
@@ -193,6 +219,11 @@ fn request_over<'a>(name: &str, values: &ArgMatches<'a>) -> Option<Request<'a>>
             image,
             inum: values.get_one("INUM"),
         }),
+        "put" => Some(Request::Put {
+            image,
+            file: values.get_str("FILE")?,
+            inum: values.get_one("INUM"),
+        }),
         "run" => Some(Request::Run {
             image,
             script: values.get_str("SCRIPT")?,
@@ -218,6 +249,8 @@ fn program<'a>(alloc: Global) -> Result<Command<'a>, AllocError>
 {
     program_of_files(alloc)?
         .subcommand(show_words(alloc)?)?
+        .subcommand(put_words(alloc)?)?
+        .subcommand(copy_words(alloc)?)?
         .subcommand(recover_words(alloc)?)?
         .subcommand(replay_words(alloc)?)?
         .subcommand(run_words(alloc)?)?
@@ -243,7 +276,7 @@ fn bare_program<'a>(alloc: Global) -> Result<Command<'a>, AllocError>
         Command::new(alloc, "xvfs")
             .version("0.1.0")
             .about(
-                "Makes, checks, lists, shows and recovers images of the xv6 file system, and runs scripts of operations over them; without words, does the command lines of standard input",
+                "Makes, checks, lists, shows, fills, copies and recovers images of the xv6 file system, and runs scripts of operations over them; without words, does the command lines of standard input",
             )
             .bin_name("xvfs")?
             .no_binary_name(true)
@@ -352,6 +385,47 @@ fn show_words<'a>(alloc: Global) -> Result<Command<'a>, AllocError>
             "INUM",
             "A file's inode number, whose blocks are listed in their order",
         ))
+}
+
+fn put_words<'a>(alloc: Global) -> Result<Command<'a>, AllocError>
+    ensures { IfOk result (HasApp put_app) }
+{
+    Command::new(alloc, "put")
+        .about("Puts a file into an image, as a new file or in place of one, and prints its number")
+        .after_help("Examples: xvfs put fs.img notes.txt, xvfs put fs.img notes.txt 1")
+        .arg(word(alloc, "IMAGE", "The path of the image's file"))?
+        .arg(word(alloc, "FILE", "The path of the file whose bytes are put"))?
+        .arg(choice(
+            alloc,
+            "INUM",
+            "The inode number of the file that gets the bytes in place of its own",
+        ))
+}
+
+fn copy_words<'a>(alloc: Global) -> Result<Command<'a>, AllocError>
+    ensures { IfOk result (HasApp copy_app) }
+{
+    Command::new(alloc, "copy")
+        .about("Copies the files of an image into a new one that has room for large files")
+        .after_help("Example: xvfs copy old.img new.img --size 8191")
+        .arg(word(
+            alloc,
+            "OLD",
+            "The path of the image's file, which is not changed",
+        ))?
+        .arg(word(alloc, "NEW", "The path of the file that is made"))?
+        .arg(size_word(alloc))
+}
+
+fn size_word<'a>(alloc: Global) -> Arg<'a>
+    ensures rule { rule_of result ≡ size_rule }
+    ensures local { result.global ≡ false }
+{
+    Arg::new(alloc, "size")
+        .long("size")
+        .value_name("N")
+        .value_parser(value_parser!(u32))
+        .help("Blocks of the new image; as many as the old one has where it is not given")
 }
 
 fn replay_words<'a>(alloc: Global) -> Result<Command<'a>, AllocError>

@@ -11,9 +11,11 @@ use Rattle.requests.specs.CommandLine.{AskFor}
 use Rattle.requests.specs.Told.{AskForHelp, IsToldOf}
 use Rattle.requests.specs.declared.explanation.Explanation.{Explanation}
 use Rattle.requests.specs.declared.words.Request.{Request}
-use Rattle.requests.specs.declared.words.Request.TheVariants.{Mkfs, Check, Recover, Cat, Ls, Show, Replay, Run, Stops}
+use Rattle.requests.specs.declared.words.Request.TheVariants.{Mkfs, Check, Recover, Cat, Ls, Show, Put, Copy, Replay, Run, Stops}
 use Rattle.images.specs.Files.{IsCopied, IsMade, IsNotRun, IsReplayed, IsReported, IsRun, IsShown, IsUnreplayed}
 use Rattle.filedisks.specs.Opened.{OnDiskRefusal, OpensDisk}
+use Rattle.tools.specs.Copies.{HasCopied, OnCopyRefusal}
+use Rattle.tools.specs.Puts.{HasPut, OnPutRefusal}
 use Rattle.tools.specs.Looks.{HasBlocksHidden, HasBlocksShown, IsListed}
 use Rattle.listing.specs.Causes.{IsUnlisted}
 use Rattle.xvfs.specs.Files.{FileGhosts}
@@ -42,6 +44,9 @@ Answers file (Ls image) old new =
     OpensDisk file.remaining file.disk false (IsListed file.disk old new)
 Answers file (Show image inum) old new =
     OpensDisk file.remaining file.disk false (HasBlocksShown file.disk inum old new)
+Answers file (Put image path inum) old new =
+    OpensDisk file.remaining file.disk false (HasPut file.disk inum old new)
+Answers file (Copy from to size) old new = HasCopied file.remaining file.disk size old new
 Answers file (Replay image script schedule stop sync) old new =
     OpensDisk file.remaining file.disk sync
     (IsReplayed file.disk file.over (unwrap_or stop 0) old new)
@@ -66,6 +71,10 @@ OnRefused file (Ls image) r old new none = (r ≢ Output → none)
     (IsUnlisted file.disk.image file.disk.fault_count) r
 OnRefused file (Show image inum) r old new none = (r ≢ Output → none)
     × OnDiskRefusal file.remaining file.disk false none (HasBlocksHidden file.disk inum) r
+OnRefused file (Put image path inum) r old new none = (r ≢ Output → none)
+    × OnPutRefusal file.remaining file.disk inum none r
+OnRefused file (Copy from to size) r old new none = (r ≢ Output → none)
+    × OnCopyRefusal file.remaining file.disk size none r
 OnRefused file (Replay image script schedule stop sync) r old new none =
     OnDiskRefusal file.remaining file.disk sync none
     (IsUnreplayed file.disk file.over (unwrap_or stop 0) old new none) r

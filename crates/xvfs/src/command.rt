@@ -22,7 +22,7 @@ use std::rt::{Clock, Files};
 use std::sync::Wait;
 use std::thread::Threads;
 use texts::{Refusal, print_last};
-use tools::{ls_file, show_blocks};
+use tools::{copy_files, ls_file, put_file, show_blocks};
 
 /// Why a command wasn't done.
 #[derive(Drop)]
@@ -174,6 +174,10 @@ where
         Request::Cat { image, inum } => cat_file(rt, image, inum, out),
         Request::Ls { image } => ls_file(rt, image, out),
         Request::Show { image, inum } => show_blocks(rt, image, inum, out),
+        Request::Put { image, file, inum } => put_file(rt, image, file, inum, out),
+        Request::Copy { old, new, size } => {
+            copy_files(rt, old, new, size, &mut Meter::new(rt), out)
+        }
         Request::Replay {
             image,
             script,

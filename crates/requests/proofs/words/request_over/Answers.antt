@@ -21,5 +21,8 @@ returns-in-ls c = (search rules, value_read (found_of c.args.values.now) (codes 
 pub returns-in-show : goal.returns-in-show
 returns-in-show c = (search rules, value_read (found_of c.args.values.now) (codes "IMAGE") _ c.in_ok-image.ensures, choice_read (found_of c.args.values.now) (codes "INUM") c.get_one-in-show.result c.get_one-in-show.ensures.none)
 
+pub returns-in_ok-get_str-in-put : goal.returns-in_ok-get_str-in-put
+returns-in_ok-get_str-in-put c = (search rules, value_read (found_of c.args.values.now) (codes "IMAGE") _ c.in_ok-image.ensures, value_read (found_of c.args.values.now) (codes "FILE") _ c.in_ok-get_str-in-put.ensures, choice_read (found_of c.args.values.now) (codes "INUM") c.get_one-in-put.result c.get_one-in-put.ensures.none)
+
 pub returns-in_ok-get_str-in-run : goal.returns-in_ok-get_str-in-run
 returns-in_ok-get_str-in-run c = (search rules, value_read (found_of c.args.values.now) (codes "IMAGE") _ c.in_ok-image.ensures, value_read (found_of c.args.values.now) (codes "SCRIPT") _ c.in_ok-get_str-in-run.ensures, c.workers_of.ensures, flag_read (found_of c.args.values.now) (codes "sync") c.get_flag-in-run.result c.get_flag-in-run.ensures.none c.get_flag-in-run.ensures.value c.get_flag-in-run.ensures.other)

@@ -1,0 +1,5 @@
+pub mod Faults
+pub mod Source
+pub mod Stages
+pub mod Holding
+pub mod Copies

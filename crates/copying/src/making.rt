@@ -1,0 +1,48 @@
+// A kernel over a new image.
+ghost use Rattle.std.specs.Prelude.{◌≡◌, IsTrue, IfOk, IfErr};
+ghost use Rattle.model.specs.Layout.{is_inode_count};
+ghost use Rattle.copying.specs.Copies.{IsNewKernel, IsUnmade};
+ghost use Rattle.copying.specs.Faults.{fault_of_opening};
+
+use crate::fault::CopyFault;
+use blocks::Disk;
+use kernel::OpenFault;
+use layout::laws::new_image_is_sound;
+use layout::{CheckFault, Form, mkfs_as};
+use sole::{Sole, open_sole};
+use std::alloc::Global;
+use wal::RecoverFault;
+
+/// Makes an image of the second form, and opens a kernel of one process over it.
+pub(crate) fn make_new<E: Disk + Drop>(
+    alloc: Global,
+    mut new: E,
+    size: u32,
+    ninodes: u32,
+) -> Result<Sole<E>, (CopyFault, E)>
+    requires { IsTrue (is_inode_count ninodes) }
+    ensures made { IfOk result (IsNewKernel E.Disk size ninodes new) }
+    ensures refused { IfErr result (λ e. IsUnmade E.Disk size ninodes new e.1 e.0) }
+    ensures name { IfErr result (λ e. E.name e.1 ≡ E.name new) }
+{
+    new_image_is_sound();
+    if let Err(fault) = mkfs_as(alloc, &mut new, size, ninodes, Form::Two) {
+        return Err((CopyFault::Mkfs(fault), new));
+    }
+    match open_sole(alloc, new) {
+        Ok(kernel) => Ok(kernel),
+        Err((fault, new)) => Err((fault_of_opening(fault), new)),
+    }
+}
+
+// A new image has no fault to find: a kernel isn't opened for want of memory, or the disk failed.
+fn fault_of_opening(fault: OpenFault) -> CopyFault
+    ensures { result ≡ fault_of_opening fault }
+{
+    match fault {
+        OpenFault::NoMemory
+        | OpenFault::Check(CheckFault::NoMemory)
+        | OpenFault::Recover(RecoverFault::NoMemory) => CopyFault::NoMemory,
+        _ => CopyFault::Disk,
+    }
+}

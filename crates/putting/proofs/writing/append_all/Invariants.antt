@@ -1,0 +1,15 @@
+use Rattle.std.proofs.Common.{◌≡◌, ◌+◌, ◌*◌, take}
+use Rattle.filing.specs.Files.{files_on}
+use Rattle.sole.specs.Calls.{call_count}
+use Rattle.putting.specs.Places.{put_at}
+use Rattle.putting.specs.Writing.{AreAnswered}
+use Rattle.putting.proofs.writing.append_all.Given as goal
+
+-- the pieces so far were written
+abbrev pub invariant-loop-piece : goal.invariant-loop-piece
+invariant-loop-piece g l = record {
+  answered : AreAnswered g.D.Disk l.initial.kernel l.kernel;
+  calls : call_count l.kernel ≡ call_count l.initial.kernel + l.piece;
+  files : files_on g.D.Disk.image l.kernel ≡ put_at (files_on g.D.Disk.image l.initial.kernel) l.number (take (l.piece * 3072) l.bytes);
+  name : g.D.Disk.name l.kernel.store.volume.device ≡ g.D.Disk.name l.initial.kernel.store.volume.device;
+}

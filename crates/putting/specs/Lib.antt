@@ -1,0 +1,5 @@
+pub mod Needs
+pub mod Places
+pub mod Writing
+pub mod Judging
+pub mod Putting

@@ -1,0 +1,105 @@
+-- What became of the image in a file that was copied into a new one.
+use Rattle.std.specs.Prelude.{◌≡◌, ◌⊎◌, ⊥, ℕ, false, List, replicate, Option, Some, None}
+use Rattle.std.specs.Io.KnownBytes.{Appends}
+use Rattle.blocks.specs.Block.{zero_block}
+use Rattle.blocks.specs.Calls.{OnlyReads}
+use Rattle.blocks.specs.Disk.{Image}
+use Rattle.blocks.specs.declared.disk.Disk.{Ghosts}
+use Rattle.blocks.specs.declared.file.FileDisk.{FileDisk}
+use Rattle.copying.specs.Copies.{IsCopied, IsUncopied}
+use Rattle.copying.specs.declared.fault.CopyFault.{CopyFault as Fault}
+use Rattle.copying.specs.declared.fault.CopyFault.TheVariants as fault
+use Rattle.layout.specs.Cause.{IsCause}
+use Rattle.layout.specs.declared.geometry.MkfsFault.TheVariants as mkfs
+use Rattle.model.specs.Layout.{form_of, inode_count_of, is_size, super_of}
+use Rattle.model.specs.Verdict.{verdict}
+use Rattle.model.specs.declared.types.image.Form.TheVariants.{One, Two}
+use Rattle.texts.specs.Output.{files_text}
+use Rattle.texts.specs.declared.faults.CopyFault.TheVariants as told
+use Rattle.texts.specs.declared.refusal.Refusal.{Refusal}
+use Rattle.texts.specs.declared.refusal.Refusal.TheVariants.{File, Mkfs, Check, Copy, Output}
+use Rattle.filedisks.specs.Opened.{IsOpened}
+
+-- how a fault of a copy is told
+abbrev pub copy_refusal : Fault → Refusal
+copy_refusal (fault.Old cause) = Check cause
+copy_refusal fault.NotFirst = Copy told.NotFirst
+copy_refusal (fault.Mkfs cause) = Mkfs cause
+copy_refusal (fault.Full number) = Copy (told.Full number)
+copy_refusal fault.NoMemory = Copy told.NoMemory
+copy_refusal fault.Disk = Copy told.Disk
+
+-- the blocks of a copy of image x: those that were asked for, or as many as it has
+abbrev pub size_asked : Option ℕ → Image → ℕ
+size_asked (Some size) x = size
+size_asked None x = (super_of x).size
+
+-- a copy of the image of disk d can be made, of that size
+pub record IsPlanned {D N : Type 0} (disk : Ghosts D N) (size : Option ℕ) (d : D) (planned : ℕ)
+    : Type 0 where
+  pub sound : verdict (disk.image d) ≡ None
+  pub first : form_of (disk.image d) ≡ One
+  pub size : planned ≡ size_asked size (disk.image d)
+
+-- or it can't, as is told before a file is made
+abbrev pub IsUnplanned : {D N : Type 0} → Ghosts D N → Option ℕ → D → D → Refusal → Type 0
+IsUnplanned disk size d e (Check cause) =
+    IsCause (verdict (disk.image d)) (disk.fault_count d) (disk.fault_count e) cause
+IsUnplanned disk size d e (Copy told.NotFirst) =
+    (verdict (disk.image d) ≡ None) × (form_of (disk.image d) ≡ Two)
+IsUnplanned disk size d e (Mkfs mkfs.SizeRange) = (verdict (disk.image d) ≡ None)
+    × (is_size (size_asked size (disk.image d)) (inode_count_of (disk.image d)) ≡ false)
+IsUnplanned disk size d e r = ⊥
+
+-- The disk of a file was opened, and only read: d at first, and e before the copy. A disk of zeroes
+-- was created in a new file.
+pub record MayCopy {F N : Type 0} (remaining : F → Option (List ℕ)) (disk : Ghosts (FileDisk F) N)
+    (size : Option ℕ) (d e created : FileDisk F) : Type 0 where
+  pub opened : IsOpened remaining disk false d
+  pub reads : OnlyReads disk d e
+  pub zeroes : disk.image created ≡ replicate (size_asked size (disk.image d)) zero_block
+
+-- its files were copied to that disk, and how many these are was printed
+pub record HasCopied {F N : Type 0} (remaining : F → Option (List ℕ))
+    (disk : Ghosts (FileDisk F) N) (size : Option ℕ) (old new : Option (List ℕ)) : Type 0 where
+  pub opened : FileDisk F
+  pub read : FileDisk F
+  pub created : FileDisk F
+  pub made : FileDisk F
+  pub may : MayCopy remaining disk size opened read created
+  pub count : ℕ
+  pub copied : IsCopied disk disk (size_asked size (disk.image opened)) read created made count
+  pub printed : Appends old new (files_text count)
+
+-- the disk of a file was opened, and no copy planned, for this reason
+pub record HasNotPlanned {F N : Type 0} (remaining : F → Option (List ℕ))
+    (disk : Ghosts (FileDisk F) N) (size : Option ℕ) (r : Refusal) : Type 0 where
+  pub opened : FileDisk F
+  pub read : FileDisk F
+  pub is : IsOpened remaining disk false opened
+  pub reads : OnlyReads disk opened read
+  pub cause : IsUnplanned disk size opened read r
+
+-- a copy ended with this refusal
+pub record HasNotCopied {F N : Type 0} (remaining : F → Option (List ℕ))
+    (disk : Ghosts (FileDisk F) N) (size : Option ℕ) (r : Refusal) : Type 0 where
+  pub opened : FileDisk F
+  pub read : FileDisk F
+  pub created : FileDisk F
+  pub may : MayCopy remaining disk size opened read created
+  pub left : FileDisk F
+  pub made : FileDisk F
+  pub cause : Fault
+  pub is : r ≡ copy_refusal cause
+  pub why : IsUncopied disk disk (size_asked size (disk.image opened)) read left created made cause
+
+-- Where the command was refused: there is a file at the new path, or the old file or the new one
+-- could not be opened or made; or no copy was planned, or none made; or how many files there are
+-- could not be printed. `none` says that nothing was printed.
+abbrev pub OnCopyRefusal : {F N : Type 0} → (F → Option (List ℕ)) → Ghosts (FileDisk F) N
+    → Option ℕ → Type 0 → Refusal → Type 0
+OnCopyRefusal remaining disk size none (File cause) = none
+OnCopyRefusal remaining disk size none (Copy told.Exists) = none
+OnCopyRefusal remaining disk size none Output = Unit {0}
+OnCopyRefusal remaining disk size none r =
+    HasNotPlanned remaining disk size r ⊎ HasNotCopied remaining disk size r

@@ -1,0 +1,84 @@
+// The command that copies an image into a new one.
+ghost use Rattle.std.specs.Prelude.{◌≡◌, ◌≢◌, false, IfErr, IfOk, OnOk};
+ghost use Rattle.blocks.specs.Calls.{OnlyReads};
+ghost use Rattle.texts.specs.declared.refusal.Refusal.TheVariants as refusal;
+ghost use Rattle.tools.specs.Copies.{HasCopied, IsPlanned, IsUnplanned, OnCopyRefusal, copy_refusal};
+
+use blocks::{Disk, FileDisk};
+use copying::{CopyFault as Fault, Progress, copy};
+use filedisks::open_disk;
+use layout::{check, plan};
+use model::types::Form;
+use std::alloc::Global;
+use std::fs::exists;
+use std::io::Write;
+use std::rt::Files;
+use texts::{CopyFault, Refusal, print_files};
+
+/// Copies the image in the file at the path `old` into a new one, in a new file at the path `new`, as
+/// `copying::copy`, and prints how many files it has. The new image has `size` blocks, as many as the
+/// old one where none is given.
+///
+/// # Errors
+///
+/// The first of these. `Copy` with `Exists` where there is a file at the path `new`; a fault of
+/// `FileDisk::open` over the old one; `Check` with a fault of the old image, `Copy` with `NotFirst`,
+/// or `Mkfs` with `SizeRange`: with these no file was made. A fault of `FileDisk::create`, and then
+/// one of the copy: what the new file holds then is not said, but for `Full`.
+pub fn copy_files<R: Files + AllocGlobal, O: Write, P: Progress>(
+    rt: &R,
+    old: &str,
+    new: &str,
+    size: Option<u32>,
+    progress: &mut P,
+    out: &mut O,
+) -> Result<(), Refusal>
+    ensures copied { OnOk result (HasCopied R.File.remaining ⟦<FileDisk<R::File> as Disk>⟧ size
+        (O.contents out.old) (O.contents out.new)) }
+    ensures refused { IfErr result (OnCopyRefusal R.File.remaining
+        ⟦<FileDisk<R::File> as Disk>⟧ size (out.new ≡ out.old)) }
+    ensures silent { IfErr result (λ r. r ≢ refusal.Output → out.new ≡ out.old) }
+{
+    if matches!(exists(rt, new), Ok(true)) {
+        return Err(Refusal::Copy(CopyFault::Exists));
+    }
+    let mut disk = open_disk(rt, old, false)?;
+    let size = plan_copy(rt.alloc(), &mut disk, size)?;
+    let made = FileDisk::create(rt, new, size).map_err(Refusal::File)?;
+    match copy(rt.alloc(), &mut disk, made, size, progress) {
+        Ok((files, _made)) => print_files(out, files),
+        Err((fault, _made)) => Err(copy_refusal(fault)),
+    }
+}
+
+// How many blocks a copy of a disk's image has, where one can be made.
+fn plan_copy<D: Disk>(alloc: Global, disk: &mut D, size: Option<u32>) -> Result<u32, Refusal>
+    ensures planned { IfOk result (IsPlanned D.Disk size disk.old) }
+    ensures refused { IfErr result (IsUnplanned D.Disk size disk.old disk.new) }
+    ensures reads { OnlyReads D.Disk disk.old disk.new }
+{
+    let report = check(alloc, disk)?;
+    let Form::One = report.form else {
+        return Err(Refusal::Copy(CopyFault::NotFirst));
+    };
+    let size = match size {
+        Some(size) => size,
+        None => report.sup.size,
+    };
+    plan(size, report.sup.ninodes).map_err(Refusal::Mkfs)?;
+    Ok(size)
+}
+
+// How a fault of a copy is told: that of the old image, and that of the making, as their own layers'.
+fn copy_refusal(fault: Fault) -> Refusal
+    ensures { result ≡ copy_refusal fault }
+{
+    match fault {
+        Fault::Old(fault) => Refusal::Check(fault),
+        Fault::NotFirst => Refusal::Copy(CopyFault::NotFirst),
+        Fault::Mkfs(fault) => Refusal::Mkfs(fault),
+        Fault::Full(number) => Refusal::Copy(CopyFault::Full(number)),
+        Fault::NoMemory => Refusal::Copy(CopyFault::NoMemory),
+        Fault::Disk => Refusal::Copy(CopyFault::Disk),
+    }
+}
