@@ -103,7 +103,6 @@ disk_telling (Sync fault) = plain 2 (codes "SyncFault")
 
 abbrev pub cat_telling : CatFault → Telling
 cat_telling cat.NoFile = plain 1 (codes "NoFile")
-cat_telling cat.NoMemory = plain 2 (codes "NoMemory")
 
 abbrev pub run_telling : RunFault → Telling
 run_telling run.Thread = plain 1 (codes "Thread")

@@ -82,9 +82,6 @@ pub enum CatFault {
     /// There is no file of that number.
     #[error("there is no file of that number")]
     NoFile,
-    /// Memory was refused.
-    #[error("memory was refused")]
-    NoMemory,
 }
 
 /// Why a script isn't run by threads.
@@ -311,7 +308,6 @@ impl Fault for CatFault {
     fn told(&self) -> Told {
         match self {
             CatFault::NoFile => Told::new(1, "NoFile"),
-            CatFault::NoMemory => Told::new(2, "NoMemory"),
         }
     }
 }

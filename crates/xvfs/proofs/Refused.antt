@@ -23,7 +23,6 @@ module _ {D N : Type 0} (disk : Ghosts D N) (d e : D) (old new : Option (List �
   not_shown i (Recover fault) why = (why.0, f why.1)
   not_shown i (Open fault) why = (why.0, f why.1)
   not_shown i (Cat cat.NoFile) why = (why.0, why.1, f why.2)
-  not_shown i (Cat cat.NoMemory) why = absurd why
   not_shown i (Disk (device.Block fault)) why = (why.0, ⊎_elim (λ nothing. inl (f nothing)) (λ part. inr part) why.1)
   not_shown i (Disk (device.Sync fault)) why = absurd why
   not_shown i Output why = why
