@@ -36,7 +36,7 @@ pub fn copy_files<R: Files + AllocGlobal, O: Write, P: Progress>(
     ensures copied { OnOk result (HasCopied R.File.remaining ⟦<FileDisk<R::File> as Disk>⟧ size
         (O.contents out.old) (O.contents out.new)) }
     ensures refused { IfErr result (OnCopyRefusal R.File.remaining
-        ⟦<FileDisk<R::File> as Disk>⟧ size (out.new ≡ out.old)) }
+        ⟦<FileDisk<R::File> as Disk>⟧ size) }
     ensures silent { IfErr result (λ r. r ≢ refusal.Output → out.new ≡ out.old) }
 {
     if matches!(exists(rt, new), Ok(true)) {
