@@ -8,8 +8,8 @@ use blocks::Disk;
 /// Does nothing: it says what a stop leaves between two calls. Recovery gives a sound image with the
 /// files that are on the disk.
 pub fn rested<D: Disk>(kernel: &Sole<D>)
-    requires rests { Rests D.fault_count kernel.now }
-    ensures leaves { LeavesOnly D.moment D.leaves
+    requires { Rests D.fault_count kernel.now }
+    ensures { LeavesOnly D.moment D.leaves
         kernel.now.store.volume.device kernel.now.store.volume.device
         (KeepsFiles (image_on D.image kernel.now)) }
 {
