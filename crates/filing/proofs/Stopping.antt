@@ -2,15 +2,15 @@
 use Rattle.std.proofs.Common.{◌≡◌, ◌≢◌, ℕ, true, List, length, Some, None, inl, inr, ⊎_elim, subst}
 use Rattle.std.specs.Prelude.{◌⊎◌, Result}
 use Rattle.blocks.specs.Disk.{Image, LeavesOnly}
-use Rattle.blocks.specs.Lemmas.Moments.{started}
 use Rattle.blocks.specs.declared.disk.Disk.{Ghosts}
 use Rattle.model.specs.declared.types.operations.Op.{Op}
 use Rattle.model.specs.declared.types.operations.Op.TheVariants.{Create, Write, Trunc, Remove}
 use Rattle.model.specs.declared.types.operations.Reply.{Reply}
 use Rattle.model.specs.Files.{Files, file_in, files_of}
 use Rattle.model.specs.Layout.{form_of}
+use Rattle.model.specs.Log.{recovered}
 use Rattle.model.specs.Operations.{after, is_kind}
-use Rattle.sole.specs.Calls.{KeepsCall, KeepsFiles}
+use Rattle.sole.specs.Calls.{KeepsCall}
 use Rattle.sole.specs.declared.fault.CallFault.{CallFault}
 use Rattle.filing.specs.Files.{MayAppend}
 use Rattle.filing.specs.Stopped.{AppendsFirst, Empties, KeepsChange, MakesAny, Removes}
@@ -25,10 +25,11 @@ module _ {D N : Type 0} (disk : Ghosts D N) (x : Image) where
   leaves_called : (op : Op) (change : Files → Files → Type 0) → Leads x op change → (result : Result Reply CallFault) (d e : D) → LeavesOnly disk.moment disk.leaves d e (KeepsCall x op result)
       → LeavesOnly disk.moment disk.leaves d e (KeepsChange change x)
   leaves_called op change leads result d e only =
-      let keeps = λ (z : Image) (kept : KeepsCall x op result z). record {
+      let keeps : (z : Image) → KeepsCall x op result z → KeepsChange change x z
+      = λ z kept. record {
         log = kept.log;
         sound = kept.sound;
-        files = ⊎_elim (λ same. inl same) (λ (r, may, made). leads r _ made) kept.files;
+        files = ⊎_elim (λ same. inl same) (λ (r, may, made). leads r (files_of (recovered z)) made) kept.files;
       } in
       record {
         later = only.later;
@@ -36,12 +37,6 @@ module _ {D N : Type 0} (disk : Ghosts D N) (x : Image) where
         before = λ t z le left. ⊎_elim (λ old. inl old) (λ kept. inr (keeps z kept)) (only.before t z le left);
         keeps = only.keeps;
       }
-
-  -- where none was made
-  pub leaves_uncalled : (change : Files → Files → Type 0) (d : D) → LeavesOnly disk.moment disk.leaves d d (KeepsFiles x) → LeavesOnly disk.moment disk.leaves d d (KeepsChange change x)
-  leaves_uncalled change d rests =
-      started disk.moment disk.leaves d (KeepsChange change x)
-      (λ z left. let kept = rests.each z left in record { log = kept.log; sound = kept.sound; files = inl kept.files })
 
   pub leaves_made : (kind : ℕ) → is_kind kind ≡ true → (result : Result Reply CallFault) (d e : D) → LeavesOnly disk.moment disk.leaves d e (KeepsCall x (Create kind) result)
       → LeavesOnly disk.moment disk.leaves d e (KeepsChange (MakesAny kind) x)
