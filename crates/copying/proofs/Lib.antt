@@ -1,0 +1,3 @@
+pub mod SourceLemmas
+pub mod MakingLemmas
+pub mod CopyLemmas
