@@ -42,7 +42,7 @@ pub record IsNewKernel {E N : Type 0} (new : Ghosts E N) (size inode_count : ℕ
     (k : Plain E) : Type 0 where
   pub holds : Holds new 0 (replicate inode_count None) k
   pub device : k.store.volume.device ≡ k.opening
-  pub size : length (new.image k.opening) ≡ size
+  pub long : length (new.image k.opening) ≡ size
   pub name : new.name k.opening ≡ new.name n
   pub faults : new.fault_count k.opening ≡ new.fault_count n
 
@@ -65,9 +65,9 @@ pub record IsCopied {D E M N : Type 0} (old : Ghosts D M) (new : Ghosts E N) (si
   pub first : form_of (old.image d) ≡ One
   pub sound : IsSound (new.image e)
   pub form : form_of (new.image e) ≡ Two
-  pub size : length (new.image e) ≡ size
+  pub long : length (new.image e) ≡ size
   pub files : files_of (new.image e) ≡ files_of (recovered (old.image d))
-  pub count : count ≡ file_count (files_of (recovered (old.image d)))
+  pub told : count ≡ file_count (files_of (recovered (old.image d)))
   pub faults : new.fault_count e ≡ new.fault_count n
 
 -- why the files of the disk d, which is d' then, were not copied to n, which is e then

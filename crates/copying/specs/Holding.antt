@@ -24,7 +24,7 @@ pub record Holds {D N : Type 0} (disk : Ghosts D N) (most : ℕ) (files : Files)
   pub sound : IsSound (image_on disk.image k)
   pub form : form_of (image_on disk.image k) ≡ Two
   pub size : length (image_on disk.image k) ≡ length (disk.image k.opening)
-  pub files : files_on disk.image k ≡ files
+  pub held : files_on disk.image k ≡ files
 
 -- why calls that begin over the disk o end over the disk e without their answer
 abbrev pub IsUnanswered : {D N : Type 0} → Ghosts D N → D → D → CallFault → Type 0

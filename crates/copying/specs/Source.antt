@@ -11,7 +11,7 @@ use Rattle.copying.specs.declared.source.Source.{Source}
 
 -- the types of so many numbers from 1 on, 0 for a free one
 pub record AreFirstKinds (x : Image) (kinds : List ℕ) (count : ℕ) : Type 0 where
-  pub count : length kinds ≡ count
+  pub long : length kinds ≡ count
   pub each : (k : ℕ) → k < count → slice_index kinds k ≡ (inode_of x (k + 1)).kind
 
 -- the types of the numbers from 1 to the last used one
