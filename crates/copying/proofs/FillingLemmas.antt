@@ -1,10 +1,11 @@
 -- Calls that fill a kernel, one after the other.
-use Rattle.std.proofs.Common.{◌≡◌, ◌≢◌, ◌∙◌, ℕ, ◌+◌, ◌-◌, ◌<◌, ◌≤◌, min, Bool, true, false, cond, eqb, All, List, length, get_or, set, take, drop, Option, Some, None, sym, ap, subst, inl, inr, arith}
+use Rattle.std.proofs.Common.{◌≡◌, ◌≢◌, ◌∙◌, ℕ, ◌+◌, ◌-◌, ◌<◌, ◌≤◌, min, Bool, true, false, cond, eqb, All, List, length, get_or, set, take, drop, Option, Some, None, refl, sym, ap, subst, inl, inr, arith}
 use Rattle.std.specs.Prelude.{◌⊎◌}
 use Rattle.std.proofs.lemmas.List.Elements.{All-from_get_or}
 use Rattle.blocks.specs.Disk.{Image, IsImage, Rose, one_more}
 use Rattle.blocks.specs.declared.disk.Disk.{Ghosts}
 use Rattle.model.specs.declared.types.image.Dinode.{Dinode}
+use Rattle.model.specs.declared.types.image.File.{File}
 use Rattle.model.specs.declared.types.image.Form.{Form}
 use Rattle.model.specs.declared.types.image.Form.TheVariants.{One, Two}
 use Rattle.model.specs.declared.types.image.Super.{Super}
@@ -15,6 +16,7 @@ use Rattle.model.specs.Log.{recovered}
 use Rattle.model.specs.Operations.{part_of}
 use Rattle.model.specs.Soundness.{IsLawfulInode}
 use Rattle.model.specs.Lemmas.Counts.{All-range_at}
+use Rattle.model.specs.Lemmas.FileNumbers.{length-files_of}
 use Rattle.model.specs.Lemmas.Log.{recovered_low}
 use Rattle.model.specs.Lemmas.Soundness.{verdict_sound}
 use Rattle.model.specs.Lemmas.Super.{lawful_geometry, long_where_sound, super_of-recovered, verdict_none}
@@ -29,11 +31,11 @@ use Rattle.filing.specs.Files.{Appends, AppendsPart, Creates, IsFull, MakesFile,
 use Rattle.copying.specs.Faults.{fault_of_call}
 use Rattle.copying.specs.Holding.{Holds, IsUnanswered, IsUnwritten}
 use Rattle.copying.specs.Source.{IsSourceOf}
-use Rattle.copying.specs.Stages.{kept_at, kind_or_plain, listed, made_at}
+use Rattle.copying.specs.Stages.{kept_at, kind_or_plain, listed, made_at, written_at}
 use Rattle.copying.specs.declared.fault.CopyFault.{CopyFault}
 use Rattle.copying.specs.declared.fault.CopyFault.TheVariants.{Old, NotFirst, Mkfs, Full, NoMemory, Disk}
 use Rattle.copying.specs.declared.source.Source.{Source}
-use Rattle.copying.proofs.StageLemmas.{file_used, kept_removed, kept_same, kept_there, made_always, made_next, piece_appended, piece_fits}
+use Rattle.copying.proofs.StageLemmas.{file_free, file_used, kept_removed, kept_same, kept_there, made_always, made_next, piece_appended, piece_fits, written_empty, written_end, written_next, written_none}
 
 module _ {D N : Type 0} (disk : Ghosts D N) where
   -- after a call more
@@ -113,6 +115,36 @@ module _ {D N : Type 0} (disk : Ghosts D N) where
         = subst (λ (b : Bool). Appends b i bytes (image_on disk.image l) (image_on disk.image m)) true_is appends in
         holds_next most _ _ l m before answered opening
         (made ∙ ap (λ (now : Files). appended now i bytes) before.held ∙ piece_appended all size at count few inside is files i bytes empty read)
+
+  -- ---- the files, one after the other
+
+  holds_own : (most : ℕ) (files : Files) (l : Plain D) → Holds disk most files l → Holds disk (call_count l) (files_on disk.image l) l
+  holds_own most files l before = record {
+    rests = before.rests;
+    few = omega arith;
+    sound = before.sound;
+    form = before.form;
+    size = before.size;
+    held = refl;
+  }
+
+  module _ (files : Files) (k : ℕ) (room : k + 1 < length files) (most : ℕ) (l : Plain D) (before : Holds disk most (listed (length files) (written_at files k)) l) where
+    module _ (file : File) (is : file_in files (k + 1) ≡ Some file) where
+      -- a file that isn't written yet is empty
+      pub still_empty : Holds disk (call_count l) (files_on disk.image l) l × (size_of (file_in (files_on disk.image l) (k + 1)) ≡ Some 0)
+      still_empty = (
+        holds_own most _ l before,
+        ap (λ (now : Files). size_of (file_in now (k + 1))) before.held ∙ written_empty files k room file is,
+      )
+
+      pub one_written : (m : Plain D) → Holds disk (call_count l + 90) (appended (files_on disk.image l) (k + 1) file.bytes) m → Holds disk (most + 90) (listed (length files) (written_at files (k + 1))) m
+      one_written m written =
+          let few = before.few in
+          holds_as (call_count l + 90) (most + 90) _ _ m written (omega arith)
+          (ap (λ (now : Files). appended now (k + 1) file.bytes) before.held ∙ written_next files k room file is)
+
+    pub none_written : file_in files (k + 1) ≡ None → Holds disk (most + 90) (listed (length files) (written_at files (k + 1))) l
+    none_written none = holds_as most (most + 90) _ _ l before (omega arith) (written_none files k none)
 
 -- where not all of the bytes are written, no block is free
 pub full_after : (i : ℕ) (bytes : List ℕ) (x y : Image) (whole : Bool) → whole ≡ false → Appends whole i bytes x y → IsFull y
@@ -203,3 +235,35 @@ module _ (x : Image) (source : Source) (is : IsSourceOf x source) where
   there_used i some low used none =
       let same = numbers_recovered in
       absurd (cc (sym (file_used (recovered x) i some (omega (arith, same, low)) used), none))
+
+  -- ---- its numbers, from 1 on
+
+  module _ (k : ℕ) (low : k < length source.kinds.items) where
+    pub number_within : k + 1 < inode_count_of x
+    number_within =
+        let few = is.kinds.few in
+        let same = numbers_recovered in
+        omega arith
+
+    pub number_listed : k + 1 < length (files_of (recovered x))
+    number_listed =
+        let few = is.kinds.few in
+        omega (arith, length-files_of (recovered x))
+
+    pub file_listed : get_or source.kinds.items k 0 ≢ 0 → file_in (files_of (recovered x)) (k + 1) ≡ Some (record { kind = (inode_of (recovered x) (k + 1)).kind; bytes = bytes_in (recovered x) (inode_of (recovered x) (k + 1)) })
+    file_listed used =
+        let few = is.kinds.few in
+        file_used (recovered x) (k + 1) (omega arith) (omega arith) (λ free. used (is.kinds.each k low ∙ free))
+
+    pub none_listed : get_or source.kinds.items k 0 ≡ 0 → file_in (files_of (recovered x)) (k + 1) ≡ None
+    none_listed free =
+        let few = is.kinds.few in
+        file_free (recovered x) (k + 1) (omega arith) (omega arith) (sym (is.kinds.each k low) ∙ free)
+
+  -- the last of them has the last file
+  pub all_written : listed (length (files_of (recovered x))) (written_at (files_of (recovered x)) (length source.kinds.items)) ≡ files_of (recovered x)
+  all_written =
+      written_end (files_of (recovered x)) (length source.kinds.items)
+      (λ i past low.
+      let within : i < inode_count_of (recovered x) = omega (arith, length-files_of (recovered x)) in
+      file_free (recovered x) i (omega arith) within (is.kinds.rest i past within))
