@@ -35,7 +35,7 @@ use Rattle.copying.specs.Stages.{kept_at, kind_or_plain, listed, made_at, writte
 use Rattle.copying.specs.declared.fault.CopyFault.{CopyFault}
 use Rattle.copying.specs.declared.fault.CopyFault.TheVariants.{Old, NotFirst, Mkfs, Full, NoMemory, Disk}
 use Rattle.copying.specs.declared.source.Source.{Source}
-use Rattle.copying.proofs.StageLemmas.{file_free, file_used, kept_removed, kept_same, kept_there, made_always, made_next, piece_appended, piece_fits, written_empty, written_end, written_next, written_none}
+use Rattle.copying.proofs.StageLemmas.{file_free, file_used, kept_removed, kept_same, kept_there, length-listed, made_always, made_next, piece_appended, piece_fits, written_empty, written_end, written_next, written_none}
 
 module _ {D N : Type 0} (disk : Ghosts D N) where
   -- after a call more
@@ -59,6 +59,10 @@ module _ {D N : Type 0} (disk : Ghosts D N) where
     size = before.size;
     held = before.held ∙ same;
   }
+
+  -- how many numbers there are
+  pub count_listed : (most count : ℕ) (at : ℕ → Option File) (k : Plain D) → Holds disk most (listed count at) k → length (files_on disk.image k) ≡ count
+  count_listed most count at k holds = ap length holds.held ∙ length-listed count at
 
   -- a call that is not answered
   pub unanswered : (k : Plain D) (o e : D) (cause : CallFault) → Rests disk.fault_count k → k.opening ≡ o → IsUncalled disk k.store.volume.device e cause → IsUnanswered disk o e cause
