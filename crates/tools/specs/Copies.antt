@@ -1,5 +1,5 @@
 -- What became of the image in a file that was copied into a new one.
-use Rattle.std.specs.Prelude.{◌≡◌, ◌⊎◌, ⊥, ℕ, false, List, replicate, Option, Some, None}
+use Rattle.std.specs.Prelude.{◌≡◌, ◌⊎◌, ℕ, false, List, replicate, Option, Some, None}
 use Rattle.std.specs.Io.KnownBytes.{Appends}
 use Rattle.blocks.specs.Block.{zero_block}
 use Rattle.blocks.specs.Calls.{OnlyReads}
@@ -39,7 +39,7 @@ pub record IsPlanned {D N : Type 0} (disk : Ghosts D N) (size : Option ℕ) (d :
     : Type 0 where
   pub sound : verdict (disk.image d) ≡ None
   pub first : form_of (disk.image d) ≡ One
-  pub size : planned ≡ size_asked size (disk.image d)
+  pub asked : planned ≡ size_asked size (disk.image d)
 
 -- or it can't, as is told before a file is made
 abbrev pub IsUnplanned : {D N : Type 0} → Ghosts D N → Option ℕ → D → D → Refusal → Type 0
