@@ -65,8 +65,10 @@ fn plan_copy<D: Disk>(alloc: Global, disk: &mut D, size: Option<u32>) -> Result<
         Some(size) => size,
         None => report.sup.size,
     };
-    plan(size, report.sup.ninodes).map_err(Refusal::Mkfs)?;
-    Ok(size)
+    match plan(size, report.sup.ninodes) {
+        Ok(_planned) => Ok(size),
+        Err(fault) => Err(Refusal::Mkfs(fault)),
+    }
 }
 
 // How a fault of a copy is told: that of the old image, and that of the making, as their own layers'.
