@@ -1,2 +1,3 @@
 pub mod PlaceLemmas
 pub mod CallLemmas
+pub mod NeedLemmas
