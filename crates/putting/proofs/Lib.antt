@@ -1,3 +1,5 @@
 pub mod PlaceLemmas
 pub mod CallLemmas
 pub mod NeedLemmas
+pub mod PieceLemmas
+pub mod ImageLemmas

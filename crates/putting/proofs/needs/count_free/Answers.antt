@@ -10,13 +10,13 @@ loop-b-preserved c =
     let one : Bool → ℕ = λ v. cond (not v) 1 0 in
     elim c.if-not-bit.branch [
       | then-not-bit w ↦
-          let here : cond (free c.loop-b.b) 1 0 ≡ 1 = ap one (sym c.bit.ensures ∙ w.if-not-bit.true) in
+          let here : one (has_bit c.args.bitmap.now c.loop-b.b) ≡ 1 = ap one (sym c.bit.ensures ∙ w.if-not-bit.true) in
           record {
             few = omega arith;
             counted = counted_next free c.loop-b.b c.args.size c.loop-b.free c.if-not-bit.free _ c.loop-b-test.true c.loop-b.invariant.counted (omega (arith, here));
           }
       | else-not-bit w ↦
-          let here : cond (free c.loop-b.b) 1 0 ≡ 0 = ap one (sym c.bit.ensures ∙ w.if-not-bit.false) in
+          let here : one (has_bit c.args.bitmap.now c.loop-b.b) ≡ 0 = ap one (sym c.bit.ensures ∙ w.if-not-bit.false) in
           record {
             few = omega arith;
             counted = counted_next free c.loop-b.b c.args.size c.loop-b.free c.if-not-bit.free _ c.loop-b-test.true c.loop-b.invariant.counted (omega (arith, here));
