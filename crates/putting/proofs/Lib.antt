@@ -2,4 +2,5 @@ pub mod PlaceLemmas
 pub mod CallLemmas
 pub mod NeedLemmas
 pub mod PieceLemmas
+pub mod AppendLemmas
 pub mod ImageLemmas
