@@ -67,8 +67,7 @@ module _ {D N : Type 0} (disk : Ghosts D N) where
       MayPut (files_on disk.image k) inum bytes (files_on disk.image l) → IsUncalled disk l.store.volume.device e fault.NoMemory →
       IsCutOff disk inum bytes k.store.volume.device e fault.NoMemory
   cut_memory inum bytes k l e rests before files why =
-      let same : disk.image e ≡ image_on disk.image l = why.0.image in
-      (
+      let same : disk.image e ≡ image_on disk.image l = why.0.image in (
         why.1 ∙ faults_same k l rests before,
         record {
           whole = whole_then (image_on disk.image k) (image_on disk.image l) (disk.image e) before.whole (whole_same (image_on disk.image l) (disk.image e) before.whole.sound same);
@@ -125,11 +124,10 @@ module _ {D N : Type 0} (disk : Ghosts D N) where
         IsCutOff disk inum bytes k.store.volume.device e cause
     cut_behind e (fault.Disk cause) rests before why =
         subst (λ (n : ℕ). Rose n (disk.fault_count e)) (faults_same k l rests before) why
-    cut_behind e fault.NoMemory rests before why =
-        (
-          why.0 ∙ faults_same k l rests before,
-          record {
-            whole = whole_then (image_on disk.image k) (image_on disk.image l) (disk.image e) before.whole why.1.whole;
-            files = first_behind (files_of (disk.image e)) why.1.files;
-          },
-        )
+    cut_behind e fault.NoMemory rests before why = (
+      why.0 ∙ faults_same k l rests before,
+      record {
+        whole = whole_then (image_on disk.image k) (image_on disk.image l) (disk.image e) before.whole why.1.whole;
+        files = first_behind (files_of (disk.image e)) why.1.files;
+      },
+    )

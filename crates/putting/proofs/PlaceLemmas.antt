@@ -2,7 +2,6 @@
 use Rattle.std.proofs.Common.{◌≡◌, ◌≢◌, ◌∙◌, ℕ, ◌<◌, ◌≤◌, List, [], ◌∷◌, ◌++◌, length, set, Option, Some, None, refl, sym, ap, ⊎_elim, arith}
 use Rattle.std.proofs.lemmas.Bool.{cases_lt}
 use Rattle.std.proofs.lemmas.List.{get_or-set_same, set-get_or, get_or_past, set-set}
-
 use Rattle.filing.specs.Files.{MakesFile, appended, emptied, empty_file, size_of, with_more, without_bytes}
 use Rattle.model.specs.Files.{Files, file_in}
 use Rattle.model.specs.declared.types.image.File.{File}

@@ -33,9 +33,9 @@ use texts::{PutFault, Refusal, print_number};
 ///
 /// A fault of the kernel's opening. Then `Put` with `NoInode` where each number is taken: the files
 /// are as before. `Put` with `Full` where no block is free for all bytes after all: a new file was
-/// removed again, an old one keeps the first of the bytes. `Put` with `NoMemory`, and `Disk` where
-/// the disk failed: the files are as before, or the first of the bytes are put. `Output`: the bytes
-/// are put.
+/// removed again, an old one keeps the first of the bytes. `Put` with `NoMemory`: the files are as
+/// before, or the first of the bytes are put. `Disk` where the disk failed. `Output`: the bytes are
+/// put.
 pub fn put_disk<D: Disk + Drop, O: Write>(
     alloc: Global,
     disk: D,

@@ -54,11 +54,7 @@ pub fn put_bytes<D: Disk>(
 }
 
 // Puts bytes as those of a new file, which is removed again where no block is free for all.
-fn add<D: Disk>(
-    alloc: Global,
-    kernel: &mut Sole<D>,
-    bytes: &[u8],
-) -> Result<Outcome, CallFault>
+fn add<D: Disk>(alloc: Global, kernel: &mut Sole<D>, bytes: &[u8]) -> Result<Outcome, CallFault>
     requires ready { MayCall D.Disk (2 ^ 31) kernel.old }
     requires short { length bytes.now ≤ greatest_size (form_of (image_on D.image kernel.old)) }
     ensures comes { IfOk result (Comes (image_on D.image kernel.old) None bytes.now
