@@ -4,3 +4,4 @@ pub mod NeedLemmas
 pub mod PieceLemmas
 pub mod AppendLemmas
 pub mod ImageLemmas
+pub mod OpenedLemmas
