@@ -1,10 +1,8 @@
 -- What calls one after the other come to.
-use Rattle.std.proofs.Common.{◌≡◌, ◌≢◌, ◌∙◌, ℕ, ◌+◌, ◌<◌, ◌≤◌, List, [], length, take, Option, Some, None, refl, sym, ap, subst, inl, inr, ⊎_elim, arith}
-use Rattle.std.specs.Prelude.{◌⊎◌}
+use Rattle.std.proofs.Common.{◌≡◌, ◌∙◌, ℕ, ◌<◌, ◌≤◌, List, [], length, take, Option, Some, refl, sym, ap, subst, inl, inr}
 use Rattle.blocks.specs.Disk.{Image, Rose}
 use Rattle.blocks.specs.declared.disk.Disk.{Ghosts}
-use Rattle.model.specs.Files.{Files, file_in, files_of}
-use Rattle.model.specs.Layout.{form_of}
+use Rattle.model.specs.Files.{Files, files_of}
 use Rattle.model.specs.Soundness.{IsSound}
 use Rattle.filing.specs.Answered.{IsAnswered}
 use Rattle.filing.specs.Files.{files_on}
@@ -12,8 +10,8 @@ use Rattle.sole.specs.Calls.{IsUncalled, IsWhole, Rests, call_count, image_on}
 use Rattle.sole.specs.Stepping.{Plain}
 use Rattle.sole.specs.declared.fault.CallFault.{CallFault}
 use Rattle.sole.specs.declared.fault.CallFault.TheVariants as fault
-use Rattle.putting.specs.Places.{HasNoFree, IsPlace, MayPut, PutsAll, PutsFirst, put_at}
-use Rattle.putting.specs.Writing.{AreAnswered, FillsUp, FindsNone, IsCutOff, KeepsPart, MayCall, PutsPart}
+use Rattle.putting.specs.Places.{IsPlace, MayPut, PutsAll, put_at}
+use Rattle.putting.specs.Writing.{AreAnswered, IsCutOff, MayCall, PutsPart}
 use Rattle.putting.proofs.PlaceLemmas.{put_at_again}
 
 pub whole_then : (x y z : Image) → IsWhole x y → IsWhole y z → IsWhole x z

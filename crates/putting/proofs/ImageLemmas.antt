@@ -6,7 +6,7 @@ use Rattle.blocks.specs.Disk.{Image, Rose, block_at}
 use Rattle.layout.specs.Cause.{IsCause}
 use Rattle.layout.specs.declared.recovered.Recovered.{Recovered}
 use Rattle.model.specs.Fields.{u32_at, has_bit}
-use Rattle.model.specs.Files.{bytes_in, file_at, file_in, file_of, files_of}
+use Rattle.model.specs.Files.{bytes_in, file_in, file_of, files_of}
 use Rattle.model.specs.Layout.{form_of, inode_count_of, inode_of, magic_of, super_of}
 use Rattle.model.specs.Log.{recovered}
 use Rattle.model.specs.Verdict.{geometry_fault, log_fault, or_else, verdict}

@@ -1,6 +1,5 @@
 -- What calls come to over a disk that was judged, and recovered as its kernel was opened.
-use Rattle.std.proofs.Common.{◌≡◌, ◌∙◌, ℕ, List, Option, length, refl, sym, ap, subst, inl, inr, ⊎_elim}
-use Rattle.std.specs.Io.KnownBytes.{Appends}
+use Rattle.std.proofs.Common.{◌≡◌, ◌∙◌, ℕ, List, Option, length, refl, ap, subst, inl, inr, ⊎_elim}
 use Rattle.blocks.specs.Disk.{Image, Rose}
 use Rattle.blocks.specs.declared.disk.Disk.{Ghosts}
 use Rattle.model.specs.Log.{recovered}

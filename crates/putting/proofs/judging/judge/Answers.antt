@@ -1,7 +1,6 @@
-use Rattle.std.proofs.Common.{◌≡◌, ◌∙◌, ℕ, ◌<◌, ◌≤◌, ◌+◌, Option, Some, None, ap, sym, subst, inl, inr, arith}
+use Rattle.std.proofs.Common.{◌≡◌, ◌∙◌, ℕ, Option, ap, subst, inl, inr, arith}
 use Rattle.std.specs.Prelude.{MatchOption}
 use Rattle.std.proofs.lemmas.Result.{err_from_is_err_and}
-use Rattle.blocks.specs.Calls.{OnlyReads}
 use Rattle.blocks.specs.Disk.{Image, Rose}
 use Rattle.blocks.specs.Lemmas.Reads.{reads_then}
 use Rattle.layout.specs.Recovered.{IsRecoveredOf}
@@ -11,7 +10,7 @@ use Rattle.model.specs.Log.{recovered}
 use Rattle.model.specs.Verdict.{verdict}
 use Rattle.model.specs.declared.types.image.Form.{Form}
 use Rattle.putting.specs.Judging.{FindsOld, IsCheckedOf}
-use Rattle.putting.specs.Needs.{free_count, needed_blocks, room_for}
+use Rattle.putting.specs.Needs.{free_count, needed_blocks}
 use Rattle.putting.specs.Places.{LacksOld}
 use Rattle.putting.proofs.ImageLemmas.{form_recovered, open_fault}
 use Rattle.putting.proofs.judging.judge.Goals as goal

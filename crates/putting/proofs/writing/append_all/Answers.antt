@@ -1,12 +1,11 @@
-use Rattle.std.proofs.Common.{◌≡◌, ◌∙◌, ◌+◌, ◌-◌, ◌*◌, ◌<◌, ◌≤◌, ℕ, Bool, List, length, take, drop, sym, ap, subst, refl, inr, arith}
-use Rattle.std.proofs.lemmas.List.{take_all}
+use Rattle.std.proofs.Common.{◌≡◌, ◌∙◌, ◌+◌, ◌-◌, ◌*◌, ◌<◌, ℕ, Bool, length, take, drop, sym, ap, subst, refl, arith}
 use Rattle.model.specs.Layout.{form_of}
 use Rattle.filing.specs.Files.{Appends, files_on}
 use Rattle.sole.specs.Calls.{image_on}
 use Rattle.putting.specs.Places.{put_at}
 use Rattle.putting.proofs.AppendLemmas.{part_put, piece_put, piece_room}
-use Rattle.putting.proofs.CallLemmas.{answered_none, answered_then, cut_after}
-use Rattle.putting.proofs.PieceLemmas.{piece_inside, pieces_all}
+use Rattle.putting.proofs.CallLemmas.{answered_none, answered_then}
+use Rattle.putting.proofs.PieceLemmas.{piece_inside}
 use Rattle.putting.proofs.PlaceLemmas.{below_there, empty_put, there_of_size}
 use Rattle.putting.proofs.writing.append_all.Goals as goal
 
