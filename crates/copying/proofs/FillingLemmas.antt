@@ -35,6 +35,7 @@ use Rattle.copying.specs.Stages.{kept_at, kind_or_plain, listed, made_at, writte
 use Rattle.copying.specs.declared.fault.CopyFault.{CopyFault}
 use Rattle.copying.specs.declared.fault.CopyFault.TheVariants.{Old, NotFirst, Mkfs, Full, NoMemory, Disk}
 use Rattle.copying.specs.declared.source.Source.{Source}
+use Rattle.copying.proofs.SourceLemmas.{count_recovered}
 use Rattle.copying.proofs.StageLemmas.{file_free, file_used, kept_removed, kept_same, kept_there, length-listed, made_always, made_next, piece_appended, piece_fits, written_empty, written_end, written_next, written_none}
 
 module _ {D N : Type 0} (disk : Ghosts D N) where
@@ -63,12 +64,6 @@ module _ {D N : Type 0} (disk : Ghosts D N) where
   -- how many numbers there are
   pub count_listed : (most count : ℕ) (at : ℕ → Option File) (k : Plain D) → Holds disk most (listed count at) k → length (files_on disk.image k) ≡ count
   count_listed most count at k holds = ap length holds.held ∙ length-listed count at
-
-  -- a call that is not answered
-  pub unanswered : (k : Plain D) (o e : D) (cause : CallFault) → Rests disk.fault_count k → k.opening ≡ o → IsUncalled disk k.store.volume.device e cause → IsUnanswered disk o e cause
-  unanswered k o e (call.Disk cause) rests same why =
-      subst (λ (n : ℕ). Rose n (disk.fault_count e)) (rests.faultless ∙ ap disk.fault_count same) why
-  unanswered k o e call.NoMemory rests same why = tt
 
   -- ---- the numbers, one after the other
 
@@ -156,42 +151,12 @@ full_after i bytes x y whole false_is appends =
     let part : AppendsPart i bytes x y = subst (λ (b : Bool). Appends b i bytes x y) false_is appends in
     part.full
 
-module _ {D E M N : Type 0} (old : Ghosts D M) (new : Ghosts E N) where
-  -- nor are the files written then
-  pub unwritten_call : (d d' : D) (o e : E) (cause : CallFault) → IsUnanswered new o e cause → IsUnwritten old new d d' o e (fault_of_call cause)
-  unwritten_call d d' o e (call.Disk cause) why = inr why
-  unwritten_call d d' o e call.NoMemory why = tt
-
-  -- nor where the old disk fails
-  pub unwritten_read : (d mid d' : D) (o e : E) → old.fault_count mid ≡ old.fault_count d → old.fault_count d' ≡ one_more (old.fault_count mid) → IsUnwritten old new d d' o e Disk
-  unwritten_read d mid d' o e same rose =
-      let risen : old.fault_count d' ≡ one_more (old.fault_count d) = rose ∙ ap one_more same in
-      inl (omega (arith, risen))
-
-  -- the old disk was only read before
-  pub unwritten_from : (d mid d' : D) (o e : E) (fault : CopyFault) → old.image mid ≡ old.image d → old.fault_count mid ≡ old.fault_count d →
-      IsUnwritten old new mid d' o e fault → IsUnwritten old new d d' o e fault
-  unwritten_from d mid d' o e (Old fault) image faults why = why
-  unwritten_from d mid d' o e NotFirst image faults why = why
-  unwritten_from d mid d' o e (Mkfs fault) image faults why = why
-  unwritten_from d mid d' o e (Full i) image faults why =
-      (why.0, subst (λ (x : Image). file_in (files_of (recovered x)) i ≢ None) image why.1)
-  unwritten_from d mid d' o e NoMemory image faults why = tt
-  unwritten_from d mid d' o e Disk image faults (inl rose) =
-      inl (subst (λ (n : ℕ). Rose n (old.fault_count d')) faults rose)
-  unwritten_from d mid d' o e Disk image faults (inr rose) = inr rose
-
 -- ---- the old image
 
 form_in : List ℕ → Form
 form_in b = cond (eqb (u32_at b 0) (magic_of Two)) Two One
 
 module _ (x : Image) (source : Source) (is : IsSourceOf x source) where
-  pub numbers_recovered : inode_count_of (recovered x) ≡ inode_count_of x
-  numbers_recovered =
-      let long = long_where_sound x is.sound in
-      ap (λ (s : Super). s.ninodes) (super_of-recovered x (verdict_none x is.sound).1 (omega (arith, long)))
-
   form_recovered : form_of (recovered x) ≡ One
   unfolding form_in
   form_recovered =
@@ -204,7 +169,7 @@ module _ (x : Image) (source : Source) (is : IsSourceOf x source) where
   lawful_inode : (i : ℕ) → 1 ≤ i → i < inode_count_of x → IsLawfulInode One (inode_of (recovered x) i)
   lawful_inode i some low =
       let y = recovered x in
-      let same = numbers_recovered in
+      let same = count_recovered x is.sound in
       let sound = (verdict_sound x is.sound).2 in
       subst (λ (form : Form). IsLawfulInode form (inode_of y i)) form_recovered
       (All-range_at (λ j. IsLawfulInode (form_of y) (inode_of y j)) 1 (inode_count_of y - 1) i sound.inodes some (omega (arith, same, some, low)))
@@ -218,7 +183,7 @@ module _ (x : Image) (source : Source) (is : IsSourceOf x source) where
       All-from_get_or (λ kind. kind ≤ 3) source.kinds.items 0
       (λ k low.
       let few = is.kinds.few in
-      let same = numbers_recovered in
+      let same = count_recovered x is.sound in
       let kind = (lawful_inode (k + 1) (omega arith) (omega (arith, few, same, low))).kind in
       subst (λ (n : ℕ). n ≤ 3) (sym (is.kinds.each k low)) kind)
 
@@ -237,7 +202,7 @@ module _ (x : Image) (source : Source) (is : IsSourceOf x source) where
 
   pub there_used : (i : ℕ) → 1 ≤ i → i < inode_count_of x → (inode_of (recovered x) i).kind ≢ 0 → file_in (files_of (recovered x)) i ≢ None
   there_used i some low used none =
-      let same = numbers_recovered in
+      let same = count_recovered x is.sound in
       absurd (cc (sym (file_used (recovered x) i some (omega (arith, same, low)) used), none))
 
   -- ---- its numbers, from 1 on
@@ -246,7 +211,7 @@ module _ (x : Image) (source : Source) (is : IsSourceOf x source) where
     pub number_within : k + 1 < inode_count_of x
     number_within =
         let few = is.kinds.few in
-        let same = numbers_recovered in
+        let same = count_recovered x is.sound in
         omega arith
 
     pub number_listed : k + 1 < length (files_of (recovered x))

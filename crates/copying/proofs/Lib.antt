@@ -1,2 +1,5 @@
+pub mod SourceLemmas
+pub mod MakingLemmas
+pub mod CopyLemmas
 pub mod StageLemmas
 pub mod FillingLemmas

@@ -11,7 +11,8 @@ use Rattle.sole.specs.Calls.{call_count}
 use Rattle.sole.specs.Stepping.{Plain}
 use Rattle.copying.specs.Holding.{Holds}
 use Rattle.copying.specs.Stages.{listed, written_at}
-use Rattle.copying.proofs.FillingLemmas.{all_written, file_listed, few_numbers, holds_as, none_listed, none_written, number_listed, number_within, numbers_recovered, one_written, still_empty}
+use Rattle.copying.proofs.FillingLemmas.{all_written, file_listed, few_numbers, holds_as, none_listed, none_written, number_listed, number_within, one_written, still_empty}
+use Rattle.copying.proofs.SourceLemmas.{count_recovered}
 use Rattle.copying.proofs.StageLemmas.{written_start}
 use Rattle.copying.proofs.filling.write_files.Goals as goal
 use Rattle.copying.proofs.filling.write_files.Goals.{then-kind-ne0+in_ok-write_file, else-kind-ne0}
@@ -55,7 +56,7 @@ write_file-requires-clause-few g c =
     let few = few_numbers x c.args.source.now c.requires.source in
     let within = number_within x c.args.source.now c.requires.source c.loop-k.k (omega (arith, ap length c.deref-kind-items.ensures.value)) in
     let calls = c.loop-k.invariant.holds.few in
-    let count = numbers_recovered x c.args.source.now c.requires.source in
+    let count = count_recovered x c.requires.source.sound in
     let kinds = c.requires.source.kinds.few in
     omega arith
 
