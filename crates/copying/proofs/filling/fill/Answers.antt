@@ -1,10 +1,9 @@
-use Rattle.std.proofs.Common.{◌≡◌, ◌∙◌, ℕ, ◌+◌, ◌*◌, ◌<◌, ◌≤◌, All, List, length, Option, None, refl, sym, ap, subst, arith}
+use Rattle.std.proofs.Common.{◌≡◌, ◌∙◌, ℕ, ◌*◌, ◌≤◌, All, List, length, Option, None, sym, ap, subst, arith}
 use Rattle.std.proofs.lemmas.List.{length-replicate}
 use Rattle.model.specs.declared.types.image.File.{File}
 use Rattle.model.specs.Layout.{inode_count_of}
 use Rattle.model.specs.Log.{recovered}
 use Rattle.filing.specs.Files.{files_on}
-use Rattle.sole.specs.Stepping.{Plain}
 use Rattle.copying.specs.Holding.{Holds}
 use Rattle.copying.specs.Stages.{kept_at, listed, made_at}
 use Rattle.copying.proofs.FillingLemmas.{count_listed, few_numbers, holds_as, low_kinds}
@@ -68,5 +67,5 @@ write_files-requires-clause-empty g c =
     let count : length (files_on g.E.Disk.image m) ≡ inode_count_of y
     = count_listed g.E.Disk _ _ _ m c.in_ok-create_numbers.ensures.made ∙ ap length c.requires.none.held ∙ length-replicate {A = Option File} (inode_count_of x) None ∙ sym (count_recovered x c.requires.source.sound) in
     let holds = subst (kept (length (files_on g.E.Disk.image m))) c.deref-2.ensures.value c.in_ok-remove_free.ensures.kept in
-    holds_as g.E.Disk (2 * length source.kinds.items) (2 * length source.kinds.items) _ _ l holds (omega arith)
+    holds_as g.E.Disk (2 * length source.kinds.items) (2 * length source.kinds.items) l holds (omega arith)
     (ap (λ (n : ℕ). listed n (kept_at source.kinds.items (length source.kinds.items))) count ∙ kept_end y source.kinds.items c.requires.source.kinds)
