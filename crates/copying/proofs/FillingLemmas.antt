@@ -1,14 +1,12 @@
 -- Calls that fill a kernel, one after the other.
-use Rattle.std.proofs.Common.{◌≡◌, ◌≢◌, ◌∙◌, ℕ, ◌+◌, ◌-◌, ◌<◌, ◌≤◌, min, Bool, true, false, cond, eqb, All, List, length, get_or, set, take, drop, Option, Some, None, refl, sym, ap, subst, inl, inr, arith}
-use Rattle.std.specs.Prelude.{◌⊎◌}
+use Rattle.std.proofs.Common.{◌≡◌, ◌≢◌, ◌∙◌, ℕ, ◌+◌, ◌-◌, ◌<◌, ◌≤◌, min, Bool, true, false, cond, eqb, All, List, length, get_or, set, take, drop, Option, Some, None, refl, sym, ap, subst, arith}
 use Rattle.std.proofs.lemmas.List.Elements.{All-from_get_or}
-use Rattle.blocks.specs.Disk.{Image, IsImage, Rose, one_more}
+use Rattle.blocks.specs.Disk.{Image, IsImage}
 use Rattle.blocks.specs.declared.disk.Disk.{Ghosts}
 use Rattle.model.specs.declared.types.image.Dinode.{Dinode}
 use Rattle.model.specs.declared.types.image.File.{File}
 use Rattle.model.specs.declared.types.image.Form.{Form}
 use Rattle.model.specs.declared.types.image.Form.TheVariants.{One, Two}
-use Rattle.model.specs.declared.types.image.Super.{Super}
 use Rattle.model.specs.Fields.{u32_at}
 use Rattle.model.specs.Files.{Files, bytes_in, file_in, files_of}
 use Rattle.model.specs.Layout.{form_of, inode_count_of, inode_of, magic_of}
@@ -19,28 +17,24 @@ use Rattle.model.specs.Lemmas.Counts.{All-range_at}
 use Rattle.model.specs.Lemmas.FileNumbers.{length-files_of}
 use Rattle.model.specs.Lemmas.Log.{recovered_low}
 use Rattle.model.specs.Lemmas.Soundness.{verdict_sound}
-use Rattle.model.specs.Lemmas.Super.{lawful_geometry, long_where_sound, super_of-recovered, verdict_none}
+use Rattle.model.specs.Lemmas.Super.{lawful_geometry, long_where_sound, verdict_none}
 use Rattle.layout.specs.Laws.{CheckedFilesMayBeRead}
 use Rattle.layout.specs.Recovered.{MayReadFile}
-use Rattle.sole.specs.Calls.{IsUncalled, Rests, call_count, image_on}
+use Rattle.sole.specs.Calls.{call_count, image_on}
 use Rattle.sole.specs.Stepping.{Plain}
-use Rattle.sole.specs.declared.fault.CallFault.{CallFault}
-use Rattle.sole.specs.declared.fault.CallFault.TheVariants as call
 use Rattle.filing.specs.Answered.{IsAnswered}
 use Rattle.filing.specs.Files.{Appends, AppendsPart, Creates, IsFull, MakesFile, MakesNone, MayAppend, appended, files_on, size_of}
-use Rattle.copying.specs.Faults.{fault_of_call}
-use Rattle.copying.specs.Holding.{Holds, IsUnanswered, IsUnwritten}
+use Rattle.copying.specs.Holding.{Holds}
 use Rattle.copying.specs.Source.{IsSourceOf}
 use Rattle.copying.specs.Stages.{kept_at, kind_or_plain, listed, made_at, written_at}
-use Rattle.copying.specs.declared.fault.CopyFault.{CopyFault}
-use Rattle.copying.specs.declared.fault.CopyFault.TheVariants.{Old, NotFirst, Mkfs, Full, NoMemory, Disk}
 use Rattle.copying.specs.declared.source.Source.{Source}
+use Rattle.copying.proofs.SourceLemmas.{count_recovered}
 use Rattle.copying.proofs.StageLemmas.{file_free, file_used, kept_removed, kept_same, kept_there, length-listed, made_always, made_next, piece_appended, piece_fits, written_empty, written_end, written_next, written_none}
 
 module _ {D N : Type 0} (disk : Ghosts D N) where
   -- after a call more
-  pub holds_next : (most : ℕ) (files new : Files) (k m : Plain D) → Holds disk most files k → IsAnswered disk k m → m.opening ≡ k.opening → files_on disk.image m ≡ new → Holds disk (most + 1) new m
-  holds_next most files new k m before answered opening is = record {
+  pub holds_next : (most : ℕ) {files new : Files} (k m : Plain D) → Holds disk most files k → IsAnswered disk k m → m.opening ≡ k.opening → files_on disk.image m ≡ new → Holds disk (most + 1) new m
+  holds_next most k m before answered opening is = record {
     rests = answered.rests;
     few = let few = before.few in let more = answered.one_more in omega arith;
     sound = answered.whole.sound;
@@ -50,8 +44,8 @@ module _ {D N : Type 0} (disk : Ghosts D N) where
   }
 
   -- the same, said otherwise
-  pub holds_as : (most more : ℕ) (files new : Files) (k : Plain D) → Holds disk most files k → most ≤ more → files ≡ new → Holds disk more new k
-  holds_as most more files new k before le same = record {
+  pub holds_as : (most more : ℕ) {files new : Files} (k : Plain D) → Holds disk most files k → most ≤ more → files ≡ new → Holds disk more new k
+  holds_as most more k before le same = record {
     rests = before.rests;
     few = let few = before.few in omega arith;
     sound = before.sound;
@@ -64,12 +58,6 @@ module _ {D N : Type 0} (disk : Ghosts D N) where
   pub count_listed : (most count : ℕ) (at : ℕ → Option File) (k : Plain D) → Holds disk most (listed count at) k → length (files_on disk.image k) ≡ count
   count_listed most count at k holds = ap length holds.held ∙ length-listed count at
 
-  -- a call that is not answered
-  pub unanswered : (k : Plain D) (o e : D) (cause : CallFault) → Rests disk.fault_count k → k.opening ≡ o → IsUncalled disk k.store.volume.device e cause → IsUnanswered disk o e cause
-  unanswered k o e (call.Disk cause) rests same why =
-      subst (λ (n : ℕ). Rose n (disk.fault_count e)) (rests.faultless ∙ ap disk.fault_count same) why
-  unanswered k o e call.NoMemory rests same why = tt
-
   -- ---- the numbers, one after the other
 
   module _ (kinds : List ℕ) (count k : ℕ) (room : k + 1 < count) (l m : Plain D) (before : Holds disk k (listed count (made_at kinds k)) l) where
@@ -79,7 +67,7 @@ module _ {D N : Type 0} (disk : Ghosts D N) where
         let some : MakesFile kind i (files_on disk.image l) (files_on disk.image m)
         = subst (λ (o : Option ℕ). Creates kind o (files_on disk.image l) (files_on disk.image m)) number creates in
         let makes = subst (λ (files : Files). MakesFile kind i files (files_on disk.image m)) before.held some in
-        holds_next k _ _ l m before answered opening (made_next kinds count k room kind i (files_on disk.image m) is makes)
+        holds_next k l m before answered opening (made_next kinds count k room kind i (files_on disk.image m) is makes)
 
     -- a number is always made
     pub never_full : (kind : ℕ) (made : Option ℕ) → made ≡ None → Creates kind made (files_on disk.image l) (files_on disk.image m) → ⊥
@@ -97,11 +85,11 @@ module _ {D N : Type 0} (disk : Ghosts D N) where
     pub one_removed : (m : Plain D) → get_or kinds k 0 ≡ 0 → files_on disk.image m ≡ set (files_on disk.image l) (k + 1) None → IsAnswered disk l m → m.opening ≡ l.opening →
         Holds disk (most + 1) (listed count (kept_at kinds (k + 1))) m
     one_removed m free removes answered opening =
-        holds_next most _ _ l m before answered opening
+        holds_next most l m before answered opening
         (removes ∙ ap (λ (files : Files). set files (k + 1) None) before.held ∙ kept_removed kinds count k room free)
 
     pub one_kept : get_or kinds k 0 ≢ 0 → Holds disk (most + 1) (listed count (kept_at kinds (k + 1))) l
-    one_kept used = holds_as most (most + 1) _ _ l before (omega arith) (kept_same kinds count k used)
+    one_kept used = holds_as most (most + 1) l before (omega arith) (kept_same kinds count k used)
 
   -- ---- the pieces of a file, one after the other
 
@@ -117,7 +105,7 @@ module _ {D N : Type 0} (disk : Ghosts D N) where
     one_appended m whole true_is appends answered opening =
         let made : files_on disk.image m ≡ appended (files_on disk.image l) i bytes
         = subst (λ (b : Bool). Appends b i bytes (image_on disk.image l) (image_on disk.image m)) true_is appends in
-        holds_next most _ _ l m before answered opening
+        holds_next most l m before answered opening
         (made ∙ ap (λ (now : Files). appended now i bytes) before.held ∙ piece_appended all size at count few inside is files i bytes empty read)
 
   -- ---- the files, one after the other
@@ -144,11 +132,11 @@ module _ {D N : Type 0} (disk : Ghosts D N) where
       pub one_written : (m : Plain D) → Holds disk (call_count l + 90) (appended (files_on disk.image l) (k + 1) file.bytes) m → Holds disk (most + 90) (listed (length files) (written_at files (k + 1))) m
       one_written m written =
           let few = before.few in
-          holds_as (call_count l + 90) (most + 90) _ _ m written (omega arith)
+          holds_as (call_count l + 90) (most + 90) m written (omega arith)
           (ap (λ (now : Files). appended now (k + 1) file.bytes) before.held ∙ written_next files k room file is)
 
     pub none_written : file_in files (k + 1) ≡ None → Holds disk (most + 90) (listed (length files) (written_at files (k + 1))) l
-    none_written none = holds_as most (most + 90) _ _ l before (omega arith) (written_none files k none)
+    none_written none = holds_as most (most + 90) l before (omega arith) (written_none files k none)
 
 -- where not all of the bytes are written, no block is free
 pub full_after : (i : ℕ) (bytes : List ℕ) (x y : Image) (whole : Bool) → whole ≡ false → Appends whole i bytes x y → IsFull y
@@ -156,42 +144,12 @@ full_after i bytes x y whole false_is appends =
     let part : AppendsPart i bytes x y = subst (λ (b : Bool). Appends b i bytes x y) false_is appends in
     part.full
 
-module _ {D E M N : Type 0} (old : Ghosts D M) (new : Ghosts E N) where
-  -- nor are the files written then
-  pub unwritten_call : (d d' : D) (o e : E) (cause : CallFault) → IsUnanswered new o e cause → IsUnwritten old new d d' o e (fault_of_call cause)
-  unwritten_call d d' o e (call.Disk cause) why = inr why
-  unwritten_call d d' o e call.NoMemory why = tt
-
-  -- nor where the old disk fails
-  pub unwritten_read : (d mid d' : D) (o e : E) → old.fault_count mid ≡ old.fault_count d → old.fault_count d' ≡ one_more (old.fault_count mid) → IsUnwritten old new d d' o e Disk
-  unwritten_read d mid d' o e same rose =
-      let risen : old.fault_count d' ≡ one_more (old.fault_count d) = rose ∙ ap one_more same in
-      inl (omega (arith, risen))
-
-  -- the old disk was only read before
-  pub unwritten_from : (d mid d' : D) (o e : E) (fault : CopyFault) → old.image mid ≡ old.image d → old.fault_count mid ≡ old.fault_count d →
-      IsUnwritten old new mid d' o e fault → IsUnwritten old new d d' o e fault
-  unwritten_from d mid d' o e (Old fault) image faults why = why
-  unwritten_from d mid d' o e NotFirst image faults why = why
-  unwritten_from d mid d' o e (Mkfs fault) image faults why = why
-  unwritten_from d mid d' o e (Full i) image faults why =
-      (why.0, subst (λ (x : Image). file_in (files_of (recovered x)) i ≢ None) image why.1)
-  unwritten_from d mid d' o e NoMemory image faults why = tt
-  unwritten_from d mid d' o e Disk image faults (inl rose) =
-      inl (subst (λ (n : ℕ). Rose n (old.fault_count d')) faults rose)
-  unwritten_from d mid d' o e Disk image faults (inr rose) = inr rose
-
 -- ---- the old image
 
 form_in : List ℕ → Form
 form_in b = cond (eqb (u32_at b 0) (magic_of Two)) Two One
 
 module _ (x : Image) (source : Source) (is : IsSourceOf x source) where
-  pub numbers_recovered : inode_count_of (recovered x) ≡ inode_count_of x
-  numbers_recovered =
-      let long = long_where_sound x is.sound in
-      ap (λ (s : Super). s.ninodes) (super_of-recovered x (verdict_none x is.sound).1 (omega (arith, long)))
-
   form_recovered : form_of (recovered x) ≡ One
   unfolding form_in
   form_recovered =
@@ -204,7 +162,7 @@ module _ (x : Image) (source : Source) (is : IsSourceOf x source) where
   lawful_inode : (i : ℕ) → 1 ≤ i → i < inode_count_of x → IsLawfulInode One (inode_of (recovered x) i)
   lawful_inode i some low =
       let y = recovered x in
-      let same = numbers_recovered in
+      let same = count_recovered x is.sound in
       let sound = (verdict_sound x is.sound).2 in
       subst (λ (form : Form). IsLawfulInode form (inode_of y i)) form_recovered
       (All-range_at (λ j. IsLawfulInode (form_of y) (inode_of y j)) 1 (inode_count_of y - 1) i sound.inodes some (omega (arith, same, some, low)))
@@ -218,7 +176,7 @@ module _ (x : Image) (source : Source) (is : IsSourceOf x source) where
       All-from_get_or (λ kind. kind ≤ 3) source.kinds.items 0
       (λ k low.
       let few = is.kinds.few in
-      let same = numbers_recovered in
+      let same = count_recovered x is.sound in
       let kind = (lawful_inode (k + 1) (omega arith) (omega (arith, few, same, low))).kind in
       subst (λ (n : ℕ). n ≤ 3) (sym (is.kinds.each k low)) kind)
 
@@ -237,7 +195,7 @@ module _ (x : Image) (source : Source) (is : IsSourceOf x source) where
 
   pub there_used : (i : ℕ) → 1 ≤ i → i < inode_count_of x → (inode_of (recovered x) i).kind ≢ 0 → file_in (files_of (recovered x)) i ≢ None
   there_used i some low used none =
-      let same = numbers_recovered in
+      let same = count_recovered x is.sound in
       absurd (cc (sym (file_used (recovered x) i some (omega (arith, same, low)) used), none))
 
   -- ---- its numbers, from 1 on
@@ -246,7 +204,7 @@ module _ (x : Image) (source : Source) (is : IsSourceOf x source) where
     pub number_within : k + 1 < inode_count_of x
     number_within =
         let few = is.kinds.few in
-        let same = numbers_recovered in
+        let same = count_recovered x is.sound in
         omega arith
 
     pub number_listed : k + 1 < length (files_of (recovered x))

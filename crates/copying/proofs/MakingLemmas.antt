@@ -1,5 +1,5 @@
 -- A kernel over a new image, and why there is none.
-use Rattle.std.proofs.Common.{◌≡◌, ◌≢◌, ◌∙◌, ◌⊎◌, ℕ, ◌+◌, ◌<◌, ◌≤◌, true, length, None, refl, sym, ap, subst, inl, inr, arith}
+use Rattle.std.proofs.Common.{◌≡◌, ◌≢◌, ◌∙◌, ◌⊎◌, ℕ, ◌+◌, ◌<◌, ◌≤◌, Bool, true, false, ◌&&◌, length, None, refl, sym, ap, subst, inl, inr, arith}
 use Rattle.std.specs.Prelude.{IsTrue}
 use Rattle.blocks.specs.Disk.{Image, Rose}
 use Rattle.blocks.specs.declared.disk.Disk.{Ghosts}
@@ -39,6 +39,11 @@ pub form-made_image : (size n : ℕ) → is_inode_count n ≡ true → is_size s
 form-made_image size n count fits =
     let room = (is_within size n count fits).room in
     rw (magic-made_image Two size n (omega arith)) refl
+
+-- the size was not refused
+pub size_fits : (a b : Bool) → ((a && b) ≡ false → ⊥) → a ≡ true
+size_fits true b not = refl
+size_fits false b not = absurd (not refl)
 
 -- a kernel may have one process
 one_process : (1 < 1) ⊎ (32 < 1) → ⊥
@@ -93,7 +98,3 @@ module _ {E N : Type 0} (new : Ghosts E N) (size n : ℕ) where
     pub unopened : (fault : OpenFault) → IsNotOpenedSole new m e fault → IsUnmade new size n d e (fault_of_opening fault)
     unopened fault (inl queues) = rw queues.0 tt
     unopened fault (inr refuses) = refused fault refuses
-
-    pub name_unopened : (fault : OpenFault) → IsNotOpenedSole new m e fault → new.name e ≡ new.name m
-    name_unopened fault (inl queues) = ap new.name queues.1
-    name_unopened fault (inr refuses) = refuses.name

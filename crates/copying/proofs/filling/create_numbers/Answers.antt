@@ -9,7 +9,7 @@ pub loop-kind-init : goal.loop-kind-init
 loop-kind-init g c =
     let count = length (files_on g.E.Disk.image c.args.kernel.now) in
     record {
-      holds = holds_as g.E.Disk 0 0 _ _ c.args.kernel.now c.requires.none (omega arith) (made_start c.args.kinds.now count);
+      holds = holds_as g.E.Disk 0 0 c.args.kernel.now c.requires.none (omega arith) (made_start c.args.kinds.now count);
       opening = refl;
       name = refl;
     }
@@ -34,5 +34,5 @@ pub returns-clause-made : goal.returns-clause-made
 returns-clause-made g c =
     let count = length (files_on g.E.Disk.image c.args.kernel.now) in
     let end : c.loop-kind.kind-index ≡ length c.args.kinds.now = omega arith in
-    holds_as g.E.Disk c.loop-kind.kind-index (length c.args.kinds.now) _ _ c.loop-kind.kernel c.loop-kind.invariant.holds (omega arith)
+    holds_as g.E.Disk c.loop-kind.kind-index (length c.args.kinds.now) c.loop-kind.kernel c.loop-kind.invariant.holds (omega arith)
     (ap (λ (n : ℕ). listed count (made_at c.args.kinds.now n)) end)

@@ -12,7 +12,7 @@ pub loop-k-init : goal.loop-k-init
 loop-k-init g c =
     let count = length (files_on g.E.Disk.image c.args.kernel.now) in
     record {
-      holds = holds_as g.E.Disk (length c.args.kinds.now) (length c.args.kinds.now + 0) _ _ c.args.kernel.now c.requires.made (omega arith) (kept_start c.args.kinds.now count);
+      holds = holds_as g.E.Disk (length c.args.kinds.now) (length c.args.kinds.now + 0) c.args.kernel.now c.requires.made (omega arith) (kept_start c.args.kinds.now count);
       opening = refl;
       name = refl;
     }
@@ -33,12 +33,12 @@ loop-k-preserved g c =
     let kept : Plain g.row.E.Denot → Type 0 = λ m. Holds disk (length kinds + (k + 1)) (listed count (kept_at kinds (k + 1))) m in
     let holds : kept c.if-kind-eq0.kernel
     = elim c.if-kind-eq0.branch [
-      | then-kind-eq0+in_ok-remove w ↦ subst kept (sym w.kernel-is) (holds_as disk (most + 1) (length kinds + (k + 1)) _ _ w.remove.new.kernel
-      (one_removed disk kinds count k most (omega arith) c.loop-k.kernel before.holds w.remove.new.kernel w.if-kind-eq0.true w.in_ok-remove.ensures.removes w.in_ok-remove.ensures.answered w.remove.ensures.opening)
-      (omega arith) refl)
-      | else-kind-eq0 w ↦ subst kept (sym w.kernel-is) (holds_as disk (most + 1) (length kinds + (k + 1)) _ _ c.loop-k.kernel
-      (one_kept disk kinds count k most (omega arith) c.loop-k.kernel before.holds w.if-kind-eq0.false)
-      (omega arith) refl)
+      | then-kind-eq0+in_ok-remove w ↦ subst kept (sym w.kernel-is) (holds_as disk (most + 1) (length kinds + (k + 1)) w.remove.new.kernel
+          (one_removed disk kinds count k most (omega arith) c.loop-k.kernel before.holds w.remove.new.kernel w.if-kind-eq0.true w.in_ok-remove.ensures.removes w.in_ok-remove.ensures.answered w.remove.ensures.opening)
+          (omega arith) refl)
+      | else-kind-eq0 w ↦ subst kept (sym w.kernel-is) (holds_as disk (most + 1) (length kinds + (k + 1)) c.loop-k.kernel
+          (one_kept disk kinds count k most (omega arith) c.loop-k.kernel before.holds w.if-kind-eq0.false)
+          (omega arith) refl)
     ] in
     record {
       holds = holds;
@@ -50,5 +50,5 @@ pub returns-clause-kept : goal.returns-clause-kept
 returns-clause-kept g c =
     let count = length (files_on g.E.Disk.image c.args.kernel.now) in
     let end : c.loop-k.k ≡ length c.args.kinds.now = omega arith in
-    holds_as g.E.Disk (length c.args.kinds.now + c.loop-k.k) (2 * length c.args.kinds.now) _ _ c.loop-k.kernel c.loop-k.invariant.holds (omega arith)
+    holds_as g.E.Disk (length c.args.kinds.now + c.loop-k.k) (2 * length c.args.kinds.now) c.loop-k.kernel c.loop-k.invariant.holds (omega arith)
     (ap (λ (n : ℕ). listed count (kept_at c.args.kinds.now n)) end)

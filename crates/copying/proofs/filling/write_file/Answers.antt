@@ -1,4 +1,4 @@
-use Rattle.std.proofs.Common.{◌≡◌, ◌∙◌, ℕ, ◌+◌, ◌*◌, ◌≤◌, length, take, refl, sym, ap, subst, arith}
+use Rattle.std.proofs.Common.{◌≡◌, ◌∙◌, ℕ, ◌+◌, ◌*◌, length, take, refl, sym, ap, arith}
 use Rattle.std.proofs.lemmas.List.{length-take, take_all}
 use Rattle.blocks.specs.Lemmas.Reads.{reads_then}
 use Rattle.model.specs.Files.{bytes_in}
@@ -15,7 +15,7 @@ loop-piece-init g c =
     record {
       reads = c.inode.ensures.reads;
       faults = c.in_ok-inode.ensures.faults;
-      holds = holds_as g.E.Disk (call_count l) (call_count l + 0) _ _ l c.requires.empty.0 (omega arith) (sym (appended_none (files_on g.E.Disk.image l) c.args.i));
+      holds = holds_as g.E.Disk (call_count l) (call_count l + 0) l c.requires.empty.0 (omega arith) (sym (appended_none (files_on g.E.Disk.image l) c.args.i));
       opening = refl;
       name = refl;
     }
@@ -49,8 +49,7 @@ returns-in_err-append-clause-reads g c =
 
 pub returns-then-not-branch-clause-refused : goal.returns-then-not-branch-clause-refused
 returns-then-not-branch-clause-refused g c =
-    let number = c.requires.number in
-    (
+    let number = c.requires.number in (
       full_after c.args.i c.read.new.into _ (image_on g.E.Disk.image c.append.new.kernel) c.in_ok-append.field-0 c.if-not-branch.true c.in_ok-append.ensures.appends,
       there_used (g.D.Disk.image c.args.old.now) c.args.source.now c.requires.source c.args.i number.0 number.1 c.requires.used,
     )
@@ -75,7 +74,7 @@ loop-piece-preserved g c =
     record {
       reads = reads_then g.D.Disk c.args.old.now c.loop-piece.old c.read.new.disk before.reads c.read.ensures.reads;
       faults = c.in_ok-read.ensures.faults ∙ before.faults;
-      holds = holds_as g.E.Disk (call_count l + piece + 1) (call_count l + (piece + 1)) _ _ m
+      holds = holds_as g.E.Disk (call_count l + piece + 1) (call_count l + (piece + 1)) m
           (one_appended g.E.Disk (files_on g.E.Disk.image l) c.args.i c.requires.empty.1 (bytes_in (recovered x) d) d.size at count (few_bytes (recovered x) d) (omega arith) (omega arith)
           c.read.new.into read (call_count l + piece) c.loop-piece.kernel before.holds m c.in_ok-append.field-0 c.if-not-branch.false c.in_ok-append.ensures.appends c.in_ok-append.ensures.answered c.append.ensures.opening)
           (omega arith) (ap (λ (n : ℕ). appended (files_on g.E.Disk.image l) c.args.i (take n (bytes_in (recovered x) d))) next);
@@ -93,5 +92,5 @@ returns-clause-written g c =
     let few = few_bytes (recovered x) d in
     let small = small_file x c.args.source.now c.requires.source c.args.i d number.0 number.1 c.requires.used c.in_ok-inode.ensures.ok in
     let all : take (piece * 3072) (bytes_in (recovered x) d) ≡ bytes_in (recovered x) d = take_all (piece * 3072) (bytes_in (recovered x) d) (omega arith) in
-    holds_as g.E.Disk (call_count l + piece) (call_count l + 90) _ _ c.loop-piece.kernel c.loop-piece.invariant.holds (omega arith)
+    holds_as g.E.Disk (call_count l + piece) (call_count l + 90) c.loop-piece.kernel c.loop-piece.invariant.holds (omega arith)
     (ap (appended (files_on g.E.Disk.image l) c.args.i) (all ∙ ap (bytes_in (recovered x)) c.in_ok-inode.ensures.ok))

@@ -11,7 +11,8 @@ use Rattle.sole.specs.Calls.{call_count}
 use Rattle.sole.specs.Stepping.{Plain}
 use Rattle.copying.specs.Holding.{Holds}
 use Rattle.copying.specs.Stages.{listed, written_at}
-use Rattle.copying.proofs.FillingLemmas.{all_written, file_listed, few_numbers, holds_as, none_listed, none_written, number_listed, number_within, numbers_recovered, one_written, still_empty}
+use Rattle.copying.proofs.FillingLemmas.{all_written, file_listed, few_numbers, holds_as, none_listed, none_written, number_listed, number_within, one_written, still_empty}
+use Rattle.copying.proofs.SourceLemmas.{count_recovered}
 use Rattle.copying.proofs.StageLemmas.{written_start}
 use Rattle.copying.proofs.filling.write_files.Goals as goal
 use Rattle.copying.proofs.filling.write_files.Goals.{then-kind-ne0+in_ok-write_file, else-kind-ne0}
@@ -24,7 +25,7 @@ loop-k-init g c =
       reads = reads_none g.D.Disk c.args.old.now;
       faults = refl;
       few = omega arith;
-      holds = holds_as g.E.Disk most (most + 0) _ _ c.args.kernel.now c.requires.empty (omega arith) (written_start (files_of y) (file_in-files_of_zero y));
+      holds = holds_as g.E.Disk most (most + 0) c.args.kernel.now c.requires.empty (omega arith) (written_start (files_of y) (file_in-files_of_zero y));
       opening = refl;
       name = refl;
     }
@@ -55,7 +56,7 @@ write_file-requires-clause-few g c =
     let few = few_numbers x c.args.source.now c.requires.source in
     let within = number_within x c.args.source.now c.requires.source c.loop-k.k (omega (arith, ap length c.deref-kind-items.ensures.value)) in
     let calls = c.loop-k.invariant.holds.few in
-    let count = numbers_recovered x c.args.source.now c.requires.source in
+    let count = count_recovered x c.requires.source.sound in
     let kinds = c.requires.source.kinds.few in
     omega arith
 
@@ -106,10 +107,10 @@ loop-k-preserved g c =
           let written = subst (λ (z : Image). Holds to (call_count l + 90) (appended (files_on to.image l) (k + 1) (bytes_in (recovered z) (inode_of (recovered z) (k + 1)))) w.write_file.new.kernel)
           before.reads.image w.in_ok-write_file.ensures.written in
           subst wrote (sym w.kernel-is)
-          (holds_as to (most + 90) more _ _ w.write_file.new.kernel (one_written to files k room most l before.holds _ (file_listed x source is k low used) w.write_file.new.kernel written) le refl)
+          (holds_as to (most + 90) more w.write_file.new.kernel (one_written to files k room most l before.holds _ (file_listed x source is k low used) w.write_file.new.kernel written) le refl)
       | else-kind-ne0 w ↦
           let free : get_or source.kinds.items k 0 ≡ 0 = subst (λ (kinds : List ℕ). get_or kinds k 0 ≡ 0) c.deref-kind-items.ensures.value w.if-kind-ne0.false in
-          subst wrote (sym w.kernel-is) (holds_as to (most + 90) more _ _ l (none_written to files k room most l before.holds (none_listed x source is k low free)) le refl)
+          subst wrote (sym w.kernel-is) (holds_as to (most + 90) more l (none_written to files k room most l before.holds (none_listed x source is k low free)) le refl)
     ] in
     record {
       reads = reads;
@@ -127,5 +128,5 @@ returns-clause-written g c =
     let files = files_of (recovered x) in
     let n = length source.kinds.items in
     let end : c.loop-k.k ≡ n = omega (arith, ap length c.deref-kind-items.ensures.value) in
-    holds_as g.E.Disk (2 * n + 90 * c.loop-k.k) (92 * n) _ _ c.loop-k.kernel c.loop-k.invariant.holds (omega arith)
+    holds_as g.E.Disk (2 * n + 90 * c.loop-k.k) (92 * n) c.loop-k.kernel c.loop-k.invariant.holds (omega arith)
     (ap (λ (k : ℕ). listed (length files) (written_at files k)) end ∙ all_written x source c.requires.source)
