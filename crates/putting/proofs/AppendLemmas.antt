@@ -22,6 +22,12 @@ module _ (x y : Image) (i : ℕ) (bytes : List ℕ) (from to : ℕ) (there : i <
   piece_long : length piece ≡ to - from
   piece_long = omega (arith, length-take (to - from) (drop from bytes), length-drop from bytes, end, inside)
 
+  -- the first of a piece go on with those before it
+  pub piece_first : (count : ℕ) → count ≤ length piece → take from bytes ++ take count piece ≡ take (from + count) bytes
+  piece_first count few =
+      let first : take count piece ≡ take count (drop from bytes) = take-take count (to - from) (drop from bytes) (omega (arith, few, piece_long)) in
+      ap (λ (more : List ℕ). take from bytes ++ more) first ∙ sym (take-add from count bytes)
+
   put_behind : (more : List ℕ) → appended (files_of y) i more ≡ put_at (files_of x) i (take from bytes ++ more)
   put_behind more =
       ap (λ (files : Files). appended files i more) before ∙ appended_put (files_of x) i (take from bytes) more there
@@ -41,12 +47,10 @@ module _ (x y : Image) (i : ℕ) (bytes : List ℕ) (from to : ℕ) (there : i <
   pub part_put : (z : Image) → AppendsPart i piece y z → PutsPart i bytes x z
   part_put z part =
       let fewer : part.count < to - from = omega (arith, part.fewer, piece_long) in
-      let first : take part.count piece ≡ take part.count (drop from bytes) = take-take part.count (to - from) (drop from bytes) (omega (arith, fewer)) in
       record {
         count = from + part.count;
         fewer = omega (arith, fewer, end, inside);
         files = part.files ∙ put_behind (take part.count piece)
-            ∙ ap (λ (more : List ℕ). put_at (files_of x) i (take from bytes ++ more)) first
-            ∙ ap (put_at (files_of x) i) (sym (take-add from part.count bytes));
+            ∙ ap (put_at (files_of x) i) (piece_first part.count (omega (arith, part.fewer)));
         full = part.full;
       }

@@ -5,3 +5,4 @@ pub mod PieceLemmas
 pub mod AppendLemmas
 pub mod ImageLemmas
 pub mod OpenedLemmas
+pub mod StopLemmas

@@ -1,18 +1,27 @@
 -- What calls come to over a disk that was judged, and recovered as its kernel was opened.
-use Rattle.std.proofs.Common.{◌≡◌, ◌∙◌, ℕ, List, Option, length, refl, ap, subst, inl, inr, ⊎_elim}
-use Rattle.blocks.specs.Disk.{Image, Rose}
+use Rattle.std.proofs.Common.{◌≡◌, ◌∙◌, ◌≤◌, ℕ, List, Option, None, length, refl, sym, ap, subst, inl, inr, ⊎_elim}
+use Rattle.blocks.specs.Calls.{OnlyReads}
+use Rattle.blocks.specs.Disk.{Image, LeavesOnly, Rose}
+use Rattle.blocks.specs.Lemmas.Moments.{joined, now_stays, started, stays}
 use Rattle.blocks.specs.declared.disk.Disk.{Ghosts}
+use Rattle.model.specs.Files.{files_of}
+use Rattle.model.specs.Lemmas.Soundness.{verdict_sound}
 use Rattle.model.specs.Log.{recovered}
+use Rattle.model.specs.Soundness.{IsSound}
+use Rattle.model.specs.Verdict.{verdict}
 use Rattle.kernel.specs.declared.types.OpenFault.{OpenFault}
 use Rattle.kernel.specs.declared.types.OpenFault.TheVariants as open_fault
+use Rattle.opening.specs.Lemmas.Keeping.{leaves_wider}
 use Rattle.opening.specs.Openings.{open_refusal}
 use Rattle.sole.specs.Calls.{IsWhole, image_on}
 use Rattle.sole.specs.Opening.{IsNotOpenedSole, IsOpenedSole}
 use Rattle.sole.specs.Stepping.{Plain}
+use Rattle.wal.specs.Recovery.{IsCalm, LeavesIfCalm, RecoversAs}
 use Rattle.texts.specs.declared.faults.PutFault.TheVariants.{NoInode, Full, NoMemory}
 use Rattle.texts.specs.declared.refusal.Refusal.{Refusal}
 use Rattle.texts.specs.declared.refusal.Refusal.TheVariants.{Disk, Put, Output}
 use Rattle.putting.specs.Judging.{IsFit}
+use Rattle.putting.specs.Stopped.{KeepsPut, StaysPut}
 use Rattle.putting.specs.Putting.{ComesTo, IsPut, IsUnopenedThen, IsUnput}
 use Rattle.putting.specs.Writing.{CallsTo, Comes, IsUnwritten, IsWritten, KeepsPart}
 use Rattle.putting.specs.declared.writing.Outcome.{Outcome}
@@ -21,7 +30,7 @@ use Rattle.putting.proofs.CallLemmas.{whole_then}
 module _ {D N : Type 0} (disk : Ghosts D N) (inum : Option ℕ) (bytes : List ℕ) (d mid : D) (fit : IsFit disk inum (length bytes) d mid) where
   -- ---- no kernel is opened
 
-  unopened_then : (e : D) (fault : OpenFault) → IsNotOpenedSole disk mid e fault → IsUnopenedThen disk d e (open_refusal fault)
+  pub unopened_then : (e : D) (fault : OpenFault) → IsNotOpenedSole disk mid e fault → IsUnopenedThen disk d e (open_refusal fault)
   unopened_then e fault why = record {
     mid = mid;
     sound = fit.sound;
@@ -72,3 +81,38 @@ module _ {D N : Type 0} (disk : Ghosts D N) (inum : Option ℕ) (bytes : List �
     unwritten_so e (Disk cause) why = (fit.sound, subst (λ (n : ℕ). Rose n (disk.fault_count e)) faults why)
     unwritten_so e Output why = (why.0, comes_to e _ why.1)
     unwritten_so e r why = absurd why
+
+-- ---- what a stop leaves of the whole
+
+module _ {D N : Type 0} (disk : Ghosts D N) (counts_now : (e : D) (t : ℕ) (x : Image) → t ≤ disk.moment e → disk.leaves e (disk.moment e) x → disk.leaves e t x)
+    (inum : Option ℕ) (bytes : List ℕ) (d mid : D) (sound : verdict (disk.image d) ≡ None) (reads : OnlyReads disk d mid) (calm : IsCalm disk d) where
+  abbrev Keeps : Image → Type 0
+  Keeps = KeepsPut (recovered (disk.image d)) inum bytes
+
+  keeps : (z : Image) → RecoversAs (disk.image d) z → Keeps z
+  keeps z same =
+      let is = verdict_sound (disk.image d) sound in
+      record { log = same.lawful ∙ is.1; sound = subst IsSound (sym same.image) is.2; files = inl (ap files_of same.image) }
+
+  -- the disk was only read
+  pub read_leaves : LeavesOnly disk.moment disk.leaves d mid (KeepsPut (recovered (disk.image d)) inum bytes)
+  read_leaves =
+      stays disk.moment disk.leaves d d mid Keeps
+      (started disk.moment disk.leaves d Keeps (λ z left. keeps z (subst (RecoversAs (disk.image d)) (sym (calm z left)) (record { image = refl; lawful = refl }))))
+      reads.time
+
+  -- then it was recovered, or not
+  pub recovered_leaves : (e : D) → LeavesIfCalm disk mid e (RecoversAs (disk.image mid)) → LeavesOnly disk.moment disk.leaves d e (KeepsPut (recovered (disk.image d)) inum bytes)
+  recovered_leaves e leaves =
+      let still : IsCalm disk mid = λ z left. calm z (now_stays disk.moment disk.leaves d mid (counts_now mid) reads.time z left) ∙ sym reads.image in
+      joined disk.moment disk.leaves d mid e Keeps read_leaves
+      (leaves_wider disk.moment disk.leaves mid e (RecoversAs (disk.image mid)) Keeps (λ z same. keeps z (subst (λ (x : Image). RecoversAs x z) reads.image same)) (leaves still))
+
+  -- and then calls were made
+  pub put_leaves : (k m : Plain D) → IsOpenedSole disk mid k → StaysPut disk (image_on disk.image k) inum bytes k m
+      → LeavesOnly disk.moment disk.leaves d m.store.volume.device (KeepsPut (recovered (disk.image d)) inum bytes)
+  put_leaves k m opened put =
+      let begun : image_on disk.image k ≡ recovered (disk.image d) = opened.image ∙ ap recovered reads.image in
+      joined disk.moment disk.leaves d k.opening m.store.volume.device Keeps (recovered_leaves k.opening opened.leaves)
+      (subst (λ (o : D). LeavesOnly disk.moment disk.leaves o m.store.volume.device Keeps) opened.device
+      (subst (λ (x : Image). LeavesOnly disk.moment disk.leaves k.store.volume.device m.store.volume.device (KeepsPut x inum bytes)) begun put.leaves))

@@ -2,16 +2,17 @@
 use Rattle.std.proofs.Common.{◌≡◌, ◌≢◌, ◌∙◌, ℕ, ◌+◌, ◌<◌, ◌≤◌, List, [], ◌++◌, length, take, set, Option, Some, None, refl, sym, ap, subst, inl, inr, ⊎_elim, arith}
 use Rattle.std.specs.Prelude.{◌⊎◌}
 use Rattle.blocks.specs.Disk.{Image, LeavesOnly}
+use Rattle.blocks.specs.Lemmas.Moments.{joined}
 use Rattle.blocks.specs.declared.disk.Disk.{Ghosts}
 use Rattle.model.specs.Files.{Files, file_in, files_of}
 use Rattle.model.specs.Log.{recovered}
 use Rattle.filing.specs.Files.{appended, emptied, empty_file, files_on}
-use Rattle.filing.specs.Stopped.{AppendsFirst, Empties, KeepsChange, LeavesChange, MakesAny, Removes}
+use Rattle.filing.specs.Stopped.{AppendsFirst, Empties, KeepsChange, LeavesChange, MakesAny, Removes, StaysOver}
 use Rattle.opening.specs.Lemmas.Keeping.{leaves_wider}
 use Rattle.sole.specs.Calls.{KeepsFiles, image_on}
 use Rattle.sole.specs.Stepping.{Plain}
 use Rattle.putting.specs.Places.{IsPlace, put_at}
-use Rattle.putting.specs.Stopped.{IsSpot, KeepsPut, LeavesFirst, LeavesPut}
+use Rattle.putting.specs.Stopped.{IsSpot, KeepsPut, LeavesFirst, StaysPut}
 use Rattle.putting.proofs.PlaceLemmas.{appended_put, emptied_put, made_put, put_at_again, removed_put}
 
 -- the place of the bytes is a spot for them
@@ -20,20 +21,43 @@ spot_of_place files None i place = (place.some, place.below, place.free)
 spot_of_place files (Some inum) i place = place
 
 module _ {D N : Type 0} (disk : Ghosts D N) (x : Image) (inum : Option ℕ) (bytes : List ℕ) where
-  -- a change of the files that stand on the disk leaves them, or those behind it
-  pub leaves_put : (change : Files → Files → Type 0) (k m : Plain D) → LeavesChange disk change k m
-      → ((new : Files) → (new ≡ files_on disk.image k) ⊎ change (files_on disk.image k) new → (new ≡ files_of x) ⊎ LeavesFirst (files_of x) inum bytes new)
-      → LeavesPut disk x inum bytes k m
-  leaves_put change k m only leads =
-      leaves_wider disk.moment disk.leaves k.store.volume.device m.store.volume.device (KeepsChange change (image_on disk.image k)) (KeepsPut x inum bytes)
-      (λ z kept. record { log = kept.log; sound = kept.sound; files = leads (files_of (recovered z)) kept.files }) only
+  -- the files on a disk as a put may leave them
+  abbrev Led : Files → Type 0
+  Led new = (new ≡ files_of x) ⊎ LeavesFirst (files_of x) inum bytes new
 
-  -- so do no calls
-  pub leaves_none : (k : Plain D) → LeavesOnly disk.moment disk.leaves k.store.volume.device k.store.volume.device (KeepsFiles (image_on disk.image k))
-      → (files_on disk.image k ≡ files_of x) ⊎ LeavesFirst (files_of x) inum bytes (files_on disk.image k) → LeavesPut disk x inum bytes k k
-  leaves_none k only has =
-      leaves_wider disk.moment disk.leaves k.store.volume.device k.store.volume.device (KeepsFiles (image_on disk.image k)) (KeepsPut x inum bytes)
-      (λ z kept. record { log = kept.log; sound = kept.sound; files = subst (λ (new : Files). (new ≡ files_of x) ⊎ LeavesFirst (files_of x) inum bytes new) (sym kept.files) has }) only
+  -- a change leaves the files that stand on the disk, or those behind it
+  pub stays_first : (change : Files → Files → Type 0) (k m : Plain D) → LeavesChange disk change k m → StaysOver disk k m
+      → ((new : Files) → (new ≡ files_on disk.image k) ⊎ change (files_on disk.image k) new → Led new) → StaysPut disk x inum bytes k m
+  stays_first change k m only over leads = record {
+    leaves = leaves_wider disk.moment disk.leaves k.store.volume.device m.store.volume.device (KeepsChange change (image_on disk.image k)) (KeepsPut x inum bytes)
+        (λ z kept. record { log = kept.log; sound = kept.sound; files = leads (files_of (recovered z)) kept.files }) only;
+    name = over.name;
+  }
+
+  -- so does no call
+  pub stays_none : (k : Plain D) → LeavesOnly disk.moment disk.leaves k.store.volume.device k.store.volume.device (KeepsFiles (image_on disk.image k))
+      → Led (files_on disk.image k) → StaysPut disk x inum bytes k k
+  stays_none k only led = record {
+    leaves = leaves_wider disk.moment disk.leaves k.store.volume.device k.store.volume.device (KeepsFiles (image_on disk.image k)) (KeepsPut x inum bytes)
+        (λ z kept. record { log = kept.log; sound = kept.sound; files = subst Led (sym kept.files) led }) only;
+    name = refl;
+  }
+
+  -- calls behind calls
+  pub stays_then : (k l m : Plain D) → StaysPut disk x inum bytes k l → StaysPut disk x inum bytes l m → StaysPut disk x inum bytes k m
+  stays_then k l m first second = record {
+    leaves = joined disk.moment disk.leaves k.store.volume.device l.store.volume.device m.store.volume.device (KeepsPut x inum bytes) first.leaves second.leaves;
+    name = second.name ∙ first.name;
+  }
+
+  -- pieces that are put behind the call that made the file, or emptied it
+  pub stays_behind : (l m : Plain D) (i : ℕ) → ((new : Files) → (new ≡ files_on disk.image l) ⊎ LeavesFirst (files_on disk.image l) (Some i) bytes new → Led new)
+      → StaysPut disk (image_on disk.image l) (Some i) bytes l m → StaysPut disk x inum bytes l m
+  stays_behind l m i leads stays = record {
+    leaves = leaves_wider disk.moment disk.leaves l.store.volume.device m.store.volume.device (KeepsPut (image_on disk.image l) (Some i) bytes) (KeepsPut x inum bytes)
+        (λ z kept. record { log = kept.log; sound = kept.sound; files = leads (files_of (recovered z)) kept.files }) stays.leaves;
+    name = stays.name;
+  }
 
 -- ---- which files a call leads to
 

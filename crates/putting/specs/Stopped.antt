@@ -5,7 +5,6 @@ use Rattle.blocks.specs.declared.disk.Disk.{Ghosts}
 use Rattle.model.specs.Files.{Files, file_in, files_of}
 use Rattle.model.specs.Log.{is_lawful_log, recovered}
 use Rattle.model.specs.Soundness.{IsSound}
-use Rattle.sole.specs.Calls.{image_on}
 use Rattle.sole.specs.Stepping.{Plain}
 use Rattle.putting.specs.Places.{put_at}
 
@@ -30,9 +29,10 @@ pub record KeepsPut (x : Image) (inum : Option ℕ) (bytes : List ℕ) (z : Imag
   pub files : (files_of (recovered z) ≡ files_of x)
       ⊎ LeavesFirst (files_of x) inum bytes (files_of (recovered z))
 
--- and this is all that a stop from k to m leaves, whatever the image on k was to begin with
-abbrev pub LeavesPut : {D N : Type 0} → Ghosts D N → Image → Option ℕ → List ℕ → Plain D → Plain D
-    → Type 0
-LeavesPut disk x inum bytes k m =
-    LeavesOnly disk.moment disk.leaves k.store.volume.device m.store.volume.device
-    (KeepsPut x inum bytes)
+-- However a put that begins over k ends, with m: a stop at any moment of it leaves nothing else, and
+-- the disk is the same one. `x` is the image into which the bytes are put.
+pub record StaysPut {D N : Type 0} (disk : Ghosts D N) (x : Image) (inum : Option ℕ)
+    (bytes : List ℕ) (k m : Plain D) : Type 0 where
+  pub leaves : LeavesOnly disk.moment disk.leaves k.store.volume.device m.store.volume.device
+      (KeepsPut x inum bytes)
+  pub name : disk.name m.store.volume.device ≡ disk.name k.store.volume.device

@@ -1,11 +1,15 @@
 // A file's bytes put into an image.
 ghost use Rattle.std.specs.Prelude.{◌≡◌, ◌≢◌, ◌≤◌, ◌^◌, IfErr, OnOk, length};
 ghost use Rattle.model.specs.Layout.{form_of, greatest_size};
+ghost use Rattle.model.specs.Log.{recovered};
+ghost use Rattle.model.specs.Verdict.{verdict};
+ghost use Rattle.wal.specs.Recovery.{LeavesIfCalm};
 ghost use Rattle.sole.specs.Calls.{image_on};
 ghost use Rattle.filing.specs.Files.{files_on};
 ghost use Rattle.texts.specs.declared.refusal.Refusal.TheVariants as refusal;
 ghost use Rattle.putting.specs.Places.{HasOld};
 ghost use Rattle.putting.specs.Putting.{IsPut, IsUnput};
+ghost use Rattle.putting.specs.Stopped.{KeepsPut, StaysPut};
 ghost use Rattle.putting.specs.Writing.{IsUnwritten, IsWritten, MayCall};
 
 use crate::judging::judge;
@@ -47,6 +51,8 @@ pub fn put_disk<D: Disk + Drop, O: Write>(
         (O.contents out.old) (O.contents out.new)) }
     ensures refused { IfErr result.0 (IsUnput D.Disk inum bytes.now disk result.1) }
     ensures silent { IfErr result.0 (λ r. r ≢ refusal.Output → out.new ≡ out.old) }
+    ensures leaves { verdict (D.image disk) ≡ None → LeavesIfCalm D.Disk disk result.1
+        (KeepsPut (recovered (D.image disk)) inum bytes.now) }
     ensures name { D.name result.1 ≡ D.name disk }
 {
     let mut disk = disk;
@@ -77,7 +83,8 @@ fn put<D: Disk, O: Write>(
     ensures refused { IfErr result (IsUnwritten D.Disk inum bytes.now
         kernel.old.store.volume.device kernel.new.store.volume.device) }
     ensures silent { IfErr result (λ r. r ≢ refusal.Output → out.new ≡ out.old) }
-    ensures name { D.name kernel.new.store.volume.device ≡ D.name kernel.old.store.volume.device }
+    ensures stays { StaysPut D.Disk (image_on D.image kernel.old) inum bytes.now
+        kernel.old kernel.new }
 {
     match put_bytes(alloc, kernel, bytes, inum) {
         Ok(Outcome::Put(number)) => print_number(out, number),

@@ -5,12 +5,13 @@ ghost use Rattle.model.specs.Layout.{form_of, greatest_size};
 ghost use Rattle.sole.specs.Calls.{call_count, image_on};
 ghost use Rattle.filing.specs.Files.{files_on, size_of};
 ghost use Rattle.putting.specs.Places.{HasOld};
+ghost use Rattle.putting.specs.Stopped.{StaysPut};
 ghost use Rattle.putting.specs.Writing.{AreAnswered, Comes, IsCutOff, MayCall, Puts};
 
 use blocks::Disk;
 use filing::{append, create, empty, remove};
 use model::types::TRANSFER_LIMIT;
-use sole::{CallFault, Sole};
+use sole::{CallFault, Sole, rested};
 use std::alloc::Global;
 
 // The type of a new file.
@@ -45,7 +46,8 @@ pub fn put_bytes<D: Disk>(
     ensures answered { OnOk result (AreAnswered D.Disk kernel.old kernel.new) }
     ensures refused { IfErr result (IsCutOff D.Disk inum bytes.now
         kernel.old.store.volume.device kernel.new.store.volume.device) }
-    ensures name { D.name kernel.new.store.volume.device ≡ D.name kernel.old.store.volume.device }
+    ensures stays { StaysPut D.Disk (image_on D.image kernel.old) inum bytes.now
+        kernel.old kernel.new }
 {
     match inum {
         Some(number) => replace(alloc, kernel, bytes, number),
@@ -62,7 +64,8 @@ fn add<D: Disk>(alloc: Global, kernel: &mut Sole<D>, bytes: &[u8]) -> Result<Out
     ensures answered { OnOk result (AreAnswered D.Disk kernel.old kernel.new) }
     ensures refused { IfErr result (IsCutOff D.Disk None bytes.now
         kernel.old.store.volume.device kernel.new.store.volume.device) }
-    ensures name { D.name kernel.new.store.volume.device ≡ D.name kernel.old.store.volume.device }
+    ensures stays { StaysPut D.Disk (image_on D.image kernel.old) None bytes.now
+        kernel.old kernel.new }
 {
     let Some(number) = create(kernel, NEW_KIND)? else {
         return Ok(Outcome::NoInode);
@@ -89,7 +92,8 @@ fn replace<D: Disk>(
     ensures answered { OnOk result (AreAnswered D.Disk kernel.old kernel.new) }
     ensures refused { IfErr result (IsCutOff D.Disk (Some number) bytes.now
         kernel.old.store.volume.device kernel.new.store.volume.device) }
-    ensures name { D.name kernel.new.store.volume.device ≡ D.name kernel.old.store.volume.device }
+    ensures stays { StaysPut D.Disk (image_on D.image kernel.old) (Some number) bytes.now
+        kernel.old kernel.new }
 {
     empty(kernel, number)?;
     if append_all(alloc, kernel, bytes, number)? {
@@ -115,8 +119,10 @@ fn append_all<D: Disk>(
     ensures few { OnOk result (call_count kernel.new < 2 ^ 32) }
     ensures refused { IfErr result (IsCutOff D.Disk (Some number) bytes.now
         kernel.old.store.volume.device kernel.new.store.volume.device) }
-    ensures name { D.name kernel.new.store.volume.device ≡ D.name kernel.old.store.volume.device }
+    ensures stays { StaysPut D.Disk (image_on D.image kernel.old) (Some number) bytes.now
+        kernel.old kernel.new }
 {
+    rested(kernel);
     for piece in 0..bytes.len().div_ceil(PIECE) {
         let from = piece * PIECE;
         let to = (from + PIECE).min(bytes.len());

@@ -1,7 +1,8 @@
-use Rattle.std.proofs.Common.{◌≡◌, ◌+◌, ◌*◌, take}
+use Rattle.std.proofs.Common.{◌≡◌, ◌+◌, ◌*◌, take, Some}
 use Rattle.filing.specs.Files.{files_on}
-use Rattle.sole.specs.Calls.{call_count}
+use Rattle.sole.specs.Calls.{call_count, image_on}
 use Rattle.putting.specs.Places.{put_at}
+use Rattle.putting.specs.Stopped.{StaysPut}
 use Rattle.putting.specs.Writing.{AreAnswered}
 use Rattle.putting.proofs.writing.append_all.Given as goal
 
@@ -11,5 +12,5 @@ invariant-loop-piece g l = record {
   answered : AreAnswered g.D.Disk l.initial.kernel l.kernel;
   calls : call_count l.kernel ≡ call_count l.initial.kernel + l.piece;
   files : files_on g.D.Disk.image l.kernel ≡ put_at (files_on g.D.Disk.image l.initial.kernel) l.number (take (l.piece * 3072) l.bytes);
-  name : g.D.Disk.name l.kernel.store.volume.device ≡ g.D.Disk.name l.initial.kernel.store.volume.device;
+  stays : StaysPut g.D.Disk (image_on g.D.Disk.image l.initial.kernel) (Some l.number) l.bytes l.initial.kernel l.kernel;
 }
