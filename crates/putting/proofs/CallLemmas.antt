@@ -1,12 +1,12 @@
 -- What calls one after the other come to.
-use Rattle.std.proofs.Common.{◌≡◌, ◌∙◌, ℕ, ◌<◌, ◌≤◌, List, [], length, take, Option, Some, refl, sym, ap, subst, inl, inr}
+use Rattle.std.proofs.Common.{◌≡◌, ◌∙◌, ℕ, ◌<◌, List, [], length, take, Option, Some, refl, sym, ap, subst, inl, inr}
 use Rattle.blocks.specs.Disk.{Image, Rose}
 use Rattle.blocks.specs.declared.disk.Disk.{Ghosts}
 use Rattle.model.specs.Files.{Files, files_of}
 use Rattle.model.specs.Soundness.{IsSound}
 use Rattle.filing.specs.Answered.{IsAnswered}
 use Rattle.filing.specs.Files.{files_on}
-use Rattle.sole.specs.Calls.{IsUncalled, IsWhole, Rests, call_count, image_on}
+use Rattle.sole.specs.Calls.{IsUncalled, IsWhole, Rests, image_on}
 use Rattle.sole.specs.Stepping.{Plain}
 use Rattle.sole.specs.declared.fault.CallFault.{CallFault}
 use Rattle.sole.specs.declared.fault.CallFault.TheVariants as fault
@@ -50,10 +50,6 @@ module _ {D N : Type 0} (disk : Ghosts D N) where
     opening = calls.opening ∙ before.opening;
   }
 
-  -- another call may be made
-  pub may_call : {most : ℕ} (k l : Plain D) → AreAnswered disk k l → call_count l ≤ most → MayCall disk most l
-  may_call k l before few = record { rests = before.rests; few = few; sound = before.whole.sound }
-
   -- no call failed
   pub faults_same : (k l : Plain D) → Rests disk.fault_count k → AreAnswered disk k l → disk.fault_count l.store.volume.device ≡ disk.fault_count k.store.volume.device
   faults_same k l rests before =
@@ -79,11 +75,6 @@ module _ {D N : Type 0} (disk : Ghosts D N) where
   cut_after inum bytes k l e (fault.Disk cause) rests before files why =
       subst (λ (n : ℕ). Rose n (disk.fault_count e)) (faults_same k l rests before) why
   cut_after inum bytes k l e fault.NoMemory rests before files why = cut_memory inum bytes k l e rests before files why
-
-  -- the first call is not answered
-  pub cut_first : {most : ℕ} (inum : Option ℕ) (bytes : List ℕ) (k : Plain D) (e : D) (cause : CallFault) → MayCall disk most k → IsUncalled disk k.store.volume.device e cause →
-      IsCutOff disk inum bytes k.store.volume.device e cause
-  cut_first inum bytes k e cause ready why = cut_after inum bytes k k e cause ready.rests (answered_none k ready) (inl refl) why
 
   -- ---- behind the call that made the file, or emptied it
 

@@ -43,20 +43,6 @@ module _ (x : Image) (image : Recovered) (is : IsCheckedOf x image) where
   facts : SuperFacts image.sup (length x)
   facts = subst (λ (s : Super). SuperFacts s (length x)) (sym is.recovered.sup) (lawful_geometry x is.recovered.geometry)
 
-  -- the bitmap's block lies behind the log, and has a bit for each block
-  pub bitmap_behind : 33 ≤ image.sup.bmapstart
-  bitmap_behind = let map = facts.map in omega (arith, map)
-
-  pub bitmap_inside : image.sup.bmapstart < length x
-  bitmap_inside =
-      let map = facts.map in
-      let room = facts.room in
-      let size = facts.size in
-      omega (arith, map, room, size)
-
-  pub size_few : image.sup.size ≤ 8191
-  size_few = facts.small
-
   pub free_counted : (bitmap : List ℕ) (count : ℕ) → bitmap ≡ block_at (recovered x) image.sup.bmapstart →
       count ≡ count_by (λ (b : ℕ). not (has_bit bitmap b)) (range_with_len 0 image.sup.size) → count ≡ free_count (recovered x)
   free_counted bitmap count read counted =

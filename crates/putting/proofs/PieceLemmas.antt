@@ -8,18 +8,12 @@ use Rattle.std.proofs.lemmas.Bool.{cases_lt}
 use Rattle.std.proofs.lemmas.Grind.{div_ceil_times}
 use Rattle.std.proofs.lemmas.List.{take_all}
 
--- each piece begins inside, and behind them nothing is left
+-- each piece begins inside
 pub piece_inside : (len n k : ℕ) → 0 < n → k < div_ceil len n → k * n < len
 piece_inside len n k some low =
     let all = div_ceil_times len n some in
     let next : (k + 1) * n ≤ div_ceil len n * n = mul-le-mul_right n (omega (arith, low)) in
     omega (arith, all.1, next, add-mul k 1 n)
-
-pub pieces_all : (len n k : ℕ) → 0 < n → div_ceil len n ≤ k → len ≤ k * n
-pieces_all len n k some high =
-    let all = div_ceil_times len n some in
-    let most : div_ceil len n * n ≤ k * n = mul-le-mul_right n high in
-    omega (arith, all.0, most)
 
 -- n elements more, or those that are left
 pub piece_joined : (xs : List ℕ) (from to n : ℕ) → from ≤ length xs → to ≡ min (from + n) (length xs) →
