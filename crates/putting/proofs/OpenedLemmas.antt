@@ -12,7 +12,7 @@ use Rattle.model.specs.Verdict.{verdict}
 use Rattle.kernel.specs.declared.types.OpenFault.{OpenFault}
 use Rattle.kernel.specs.declared.types.OpenFault.TheVariants as open_fault
 use Rattle.opening.specs.Lemmas.Keeping.{leaves_wider}
-use Rattle.opening.specs.Openings.{open_refusal}
+use Rattle.opening.specs.Openings.{IsUnopened, open_refusal}
 use Rattle.sole.specs.Calls.{IsWhole, image_on}
 use Rattle.sole.specs.Opening.{IsNotOpenedSole, IsOpenedSole}
 use Rattle.sole.specs.Stepping.{Plain}
@@ -30,13 +30,16 @@ use Rattle.putting.proofs.CallLemmas.{whole_then}
 module _ {D N : Type 0} (disk : Ghosts D N) (inum : Option ℕ) (bytes : List ℕ) (d mid : D) (fit : IsFit disk inum (length bytes) d mid) where
   -- ---- no kernel is opened
 
-  pub unopened_then : (e : D) (fault : OpenFault) → IsNotOpenedSole disk mid e fault → IsUnopenedThen disk d e (open_refusal fault)
+  pub unopened_sole : (e : D) (fault : OpenFault) → IsNotOpenedSole disk mid e fault → IsUnopened disk 1 mid e (open_refusal fault)
+  unopened_sole e fault why = ⊎_elim (λ none. inl (ap open_refusal none.0, none.1)) (λ refuses. inr (fault, refl, refuses)) why
+
+  unopened_then : (e : D) (fault : OpenFault) → IsNotOpenedSole disk mid e fault → IsUnopenedThen disk d e (open_refusal fault)
   unopened_then e fault why = record {
     mid = mid;
     sound = fit.sound;
     reads = fit.reads;
     faults = fit.faults;
-    unopened = ⊎_elim (λ none. inl (ap open_refusal none.0, none.1)) (λ refuses. inr (fault, refl, refuses)) why;
+    unopened = unopened_sole e fault why;
   }
 
   pub unopened : (e : D) (fault : OpenFault) → IsNotOpenedSole disk mid e fault → IsUnput disk inum bytes d e (open_refusal fault)

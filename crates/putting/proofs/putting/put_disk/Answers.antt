@@ -4,10 +4,11 @@ use Rattle.std.proofs.lemmas.Result.{IfErr-weaker, on_ok_weaker}
 use Rattle.blocks.specs.Disk.{LeavesOnly}
 use Rattle.model.specs.Log.{recovered}
 use Rattle.opening.specs.Lemmas.Keeping.{unopened_leaves}
+use Rattle.opening.specs.Openings.{open_refusal}
 use Rattle.texts.specs.declared.refusal.Refusal.{Refusal}
 use Rattle.putting.specs.Putting.{IsPut, IsUnput}
 use Rattle.putting.specs.Stopped.{KeepsPut}
-use Rattle.putting.proofs.OpenedLemmas.{put_leaves, read_leaves, recovered_leaves, unopened, unopened_then, unwritten_so, written_so}
+use Rattle.putting.proofs.OpenedLemmas.{put_leaves, read_leaves, recovered_leaves, unopened, unopened_sole, unwritten_so, written_so}
 use Rattle.putting.proofs.putting.put_disk.Goals as goal
 
 pub returns-in-Err-open_sole-clause-refused : goal.returns-in-Err-open_sole-clause-refused
@@ -43,9 +44,9 @@ pub returns-in-Err-open_sole-clause-leaves : goal.returns-in-Err-open_sole-claus
 returns-in-Err-open_sole-clause-leaves g c =
     let d = g.D.Disk in
     let fit = c.in_default.ensures.fit in
-    let why = unopened_then d c.args.inum c.args.bytes.now c.args.disk c.judge.new.disk fit c.in-Err-open_sole.disk c.in-Err-open_sole.fault c.in-Err-open_sole.ensures.refused in
+    let why = unopened_sole d c.args.inum c.args.bytes.now c.args.disk c.judge.new.disk fit c.in-Err-open_sole.disk c.in-Err-open_sole.fault c.in-Err-open_sole.ensures.refused in
     λ sound calm. recovered_leaves d g.met.D.Disk.counts_now c.args.inum c.args.bytes.now c.args.disk c.judge.new.disk sound fit.reads calm c.in-Err-open_sole.disk
-    (unopened_leaves d 1 c.judge.new.disk c.in-Err-open_sole.disk _ why.unopened)
+    (unopened_leaves d 1 c.judge.new.disk c.in-Err-open_sole.disk (open_refusal c.in-Err-open_sole.fault) why)
 
 pub returns-clause-leaves : goal.returns-clause-leaves
 returns-clause-leaves g c =
