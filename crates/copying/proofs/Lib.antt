@@ -1,3 +1,2 @@
 pub mod SourceLemmas
 pub mod MakingLemmas
-pub mod CopyLemmas
