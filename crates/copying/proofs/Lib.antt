@@ -1,2 +1,4 @@
 pub mod SourceLemmas
 pub mod MakingLemmas
+pub mod StageLemmas
+pub mod FillingLemmas
