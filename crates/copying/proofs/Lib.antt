@@ -1,5 +1,4 @@
 pub mod SourceLemmas
 pub mod MakingLemmas
-pub mod CopyLemmas
 pub mod StageLemmas
 pub mod FillingLemmas

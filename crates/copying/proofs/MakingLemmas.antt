@@ -1,6 +1,5 @@
 -- A kernel over a new image, and why there is none.
-use Rattle.std.proofs.Common.{◌≡◌, ◌≢◌, ◌∙◌, ◌⊎◌, ℕ, ◌+◌, ◌<◌, ◌≤◌, Bool, true, false, ◌&&◌, length, None, refl, sym, ap, subst, inl, inr, arith}
-use Rattle.std.specs.Prelude.{IsTrue}
+use Rattle.std.proofs.Common.{◌≡◌, ◌≢◌, ◌∙◌, ◌⊎◌, ℕ, ◌<◌, Bool, true, false, ◌&&◌, length, None, refl, sym, ap, subst, inl, inr, arith}
 use Rattle.blocks.specs.Disk.{Image, Rose}
 use Rattle.blocks.specs.declared.disk.Disk.{Ghosts}
 use Rattle.model.specs.declared.types.fault.CheckFault.{CheckFault}
@@ -8,7 +7,7 @@ use Rattle.model.specs.declared.types.fault.CheckFault.TheVariants as check
 use Rattle.model.specs.declared.types.image.Form.TheVariants.{Two}
 use Rattle.model.specs.Codec.{made_image}
 use Rattle.model.specs.Files.{files_of}
-use Rattle.model.specs.Layout.{form_of, is_inode_count, is_size, magic_of}
+use Rattle.model.specs.Layout.{form_of, is_inode_count, is_size}
 use Rattle.model.specs.Log.{recovered}
 use Rattle.model.specs.Soundness.{IsSound}
 use Rattle.model.specs.Verdict.{verdict}

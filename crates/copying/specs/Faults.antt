@@ -1,8 +1,5 @@
 -- Which fault of a copy another layer's is.
-use Rattle.layout.specs.declared.geometry.MkfsFault.{MkfsFault}
-use Rattle.model.specs.declared.types.fault.CheckFault.{CheckFault}
 use Rattle.model.specs.declared.types.fault.CheckFault.TheVariants as check
-use Rattle.wal.specs.declared.faults.RecoverFault.{RecoverFault}
 use Rattle.wal.specs.declared.faults.RecoverFault.TheVariants as recover
 use Rattle.kernel.specs.declared.types.OpenFault.{OpenFault}
 use Rattle.kernel.specs.declared.types.OpenFault.TheVariants as opening

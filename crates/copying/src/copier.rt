@@ -1,5 +1,5 @@
 // The files of an image of the first form, copied into a new one of the second.
-ghost use Rattle.std.specs.Prelude.{◌≡◌, IfOk, IfErr};
+ghost use Rattle.std.specs.Prelude.{◌≡◌, IfOk, IfErr, OnOk};
 ghost use Rattle.blocks.specs.Calls.{OnlyReads};
 ghost use Rattle.copying.specs.Copies.{IsCopied, IsUncopied, disk_of};
 

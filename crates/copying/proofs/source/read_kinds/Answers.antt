@@ -3,8 +3,10 @@ use Rattle.std.proofs.lemmas.List.{length_push}
 use Rattle.blocks.specs.Disk.{Image}
 use Rattle.blocks.specs.Lemmas.Reads.{reads_then}
 use Rattle.model.specs.declared.types.image.Dinode.{Dinode}
+use Rattle.model.specs.declared.types.image.Super.{Super}
 use Rattle.model.specs.Layout.{inode_of}
 use Rattle.model.specs.Log.{recovered}
+use Rattle.model.specs.Lemmas.Super.{lawful_geometry}
 use Rattle.copying.proofs.SourceLemmas.{each_more}
 use Rattle.copying.proofs.source.read_kinds.Goals as goal
 
@@ -23,4 +25,14 @@ loop-i-preserved g c =
       count = omega (arith, before.count, ap length pushed, length_push kinds inode.kind);
       each = rw pushed (each_more (λ k. (inode_of y (k + 1)).kind) kinds inode.kind before.each
           (ap (λ (e : Dinode). e.kind) is ∙ ap (λ i. (inode_of y i).kind) (sym before.count)));
+    }
+
+pub returns-clause-kinds : goal.returns-clause-kinds
+returns-clause-kinds g c =
+    let is = c.requires.recovered in
+    let some = (lawful_geometry (g.D.Disk.image c.args.old.now) is.geometry).some in
+    let same = ap (λ (s : Super). s.ninodes) is.sup in
+    record {
+      long = omega (arith, some, same);
+      each = λ k low. c.loop-i.invariant.each k (omega (arith, some, same));
     }
