@@ -34,7 +34,7 @@ loop-k-preserved g c =
     let holds : kept c.if-kind-eq0.kernel
     = elim c.if-kind-eq0.branch [
       | then-kind-eq0+in_ok-remove w ↦ subst kept (sym w.kernel-is) (holds_as disk (most + 1) (length kinds + (k + 1)) w.remove.new.kernel
-          (one_removed disk kinds count k most (omega arith) c.loop-k.kernel before.holds w.remove.new.kernel w.if-kind-eq0.true w.in_ok-remove.ensures.removes w.in_ok-remove.ensures.answered w.remove.ensures.opening)
+          (one_removed disk kinds count k most (omega arith) c.loop-k.kernel before.holds w.remove.new.kernel w.if-kind-eq0.true w.in_ok-remove.ensures.removes w.in_ok-remove.ensures.answered w.remove.ensures.stays.opening)
           (omega arith) refl)
       | else-kind-eq0 w ↦ subst kept (sym w.kernel-is) (holds_as disk (most + 1) (length kinds + (k + 1)) c.loop-k.kernel
           (one_kept disk kinds count k most (omega arith) c.loop-k.kernel before.holds w.if-kind-eq0.false)

@@ -76,7 +76,7 @@ loop-piece-preserved g c =
       faults = c.in_ok-read.ensures.faults ∙ before.faults;
       holds = holds_as g.E.Disk (call_count l + piece + 1) (call_count l + (piece + 1)) m
           (one_appended g.E.Disk (files_on g.E.Disk.image l) c.args.i c.requires.empty.1 (bytes_in (recovered x) d) d.size at count (few_bytes (recovered x) d) (omega arith) (omega arith)
-          c.read.new.into read (call_count l + piece) c.loop-piece.kernel before.holds m c.in_ok-append.field-0 c.if-not-branch.false c.in_ok-append.ensures.appends c.in_ok-append.ensures.answered c.append.ensures.opening)
+          c.read.new.into read (call_count l + piece) c.loop-piece.kernel before.holds m c.in_ok-append.field-0 c.if-not-branch.false c.in_ok-append.ensures.appends c.in_ok-append.ensures.answered c.append.ensures.stays.opening)
           (omega arith) (ap (λ (n : ℕ). appended (files_on g.E.Disk.image l) c.args.i (take n (bytes_in (recovered x) d))) next);
       opening = cc;
       name = cc;
