@@ -1,7 +1,7 @@
 use Rattle.std.proofs.Common.{◌≡◌, ℕ, ◌+◌, ◌*◌, length, refl, sym, ap, subst, arith}
 use Rattle.filing.specs.Files.{files_on}
 use Rattle.copying.specs.Holding.{Holds}
-use Rattle.copying.specs.Stages.{kept_at, listed}
+use Rattle.copying.specs.Stages.{kept_at, listed, made_at}
 use Rattle.copying.proofs.FillingLemmas.{holds_as, one_kept, one_removed, still_there}
 use Rattle.copying.proofs.StageLemmas.{kept_start}
 use Rattle.sole.specs.Stepping.{Plain}
@@ -10,9 +10,11 @@ use Rattle.copying.proofs.filling.remove_free.Goals.{then-kind-eq0+in_ok-remove,
 
 pub loop-k-init : goal.loop-k-init
 loop-k-init g c =
+    let kinds = c.args.kinds.now in
+    let n = length kinds in
     let count = length (files_on g.E.Disk.image c.args.kernel.now) in
     record {
-      holds = holds_as g.E.Disk (length c.args.kinds.now) (length c.args.kinds.now + 0) c.args.kernel.now c.requires.made (omega arith) (kept_start c.args.kinds.now count);
+      holds = holds_as g.E.Disk n (n + 0) {files = listed count (made_at kinds n)} {new = listed count (kept_at kinds 0)} c.args.kernel.now c.requires.made (omega arith) (kept_start kinds count);
       opening = refl;
       name = refl;
     }
