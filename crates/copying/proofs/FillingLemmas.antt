@@ -1,5 +1,6 @@
 -- Calls that fill a kernel, one after the other.
 use Rattle.std.proofs.Common.{◌≡◌, ◌≢◌, ◌∙◌, ℕ, ◌+◌, ◌-◌, ◌<◌, ◌≤◌, min, Bool, true, false, cond, eqb, All, List, length, get_or, set, take, drop, Option, Some, None, refl, sym, ap, subst, arith}
+use Rattle.std.proofs.lemmas.List.{take_all}
 use Rattle.std.proofs.lemmas.List.Elements.{All-from_get_or}
 use Rattle.blocks.specs.Disk.{Image, IsImage}
 use Rattle.blocks.specs.declared.disk.Disk.{Ghosts}
@@ -29,7 +30,7 @@ use Rattle.copying.specs.Source.{IsSourceOf}
 use Rattle.copying.specs.Stages.{kept_at, kind_or_plain, listed, made_at, written_at}
 use Rattle.copying.specs.declared.source.Source.{Source}
 use Rattle.copying.proofs.SourceLemmas.{count_recovered}
-use Rattle.copying.proofs.StageLemmas.{file_free, file_used, kept_removed, kept_same, kept_there, length-listed, made_always, made_next, piece_appended, piece_fits, written_empty, written_end, written_next, written_none}
+use Rattle.copying.proofs.StageLemmas.{few_bytes, file_free, file_used, kept_removed, kept_same, kept_there, length-listed, made_always, made_next, piece_appended, piece_fits, written_empty, written_end, written_next, written_none}
 
 module _ {D N : Type 0} (disk : Ghosts D N) where
   -- after a call more
@@ -107,6 +108,13 @@ module _ {D N : Type 0} (disk : Ghosts D N) where
         = subst (λ (b : Bool). Appends b i bytes (image_on disk.image l) (image_on disk.image m)) true_is appends in
         holds_next most l m before answered opening
         (made ∙ ap (λ (now : Files). appended now i bytes) before.held ∙ piece_appended all size at count few inside is files i bytes empty read)
+
+  -- at last all of its bytes are there
+  pub all_appended : (files : Files) (i : ℕ) (x : Image) (d e : Dinode) (n most more : ℕ) (l : Plain D) → Holds disk most (appended files i (take n (bytes_in x d))) l → most ≤ more → d.size ≤ n → d ≡ e →
+      Holds disk more (appended files i (bytes_in x e)) l
+  all_appended files i x d e n most more l before le long same =
+      let few = few_bytes x d in
+      holds_as most more l before le (ap (appended files i) (take_all n (bytes_in x d) (omega arith) ∙ ap (bytes_in x) same))
 
   -- ---- the files, one after the other
 

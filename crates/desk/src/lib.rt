@@ -7,6 +7,6 @@ mod bench;
 mod images;
 mod operations;
 
-pub use bench::{Bench, Faulty, block_of, disk_of, done, text_of};
+pub use bench::{Bench, Faulty, block_of, blocks_of, disk_of, done, text_of};
 pub use images::call;
 pub use operations::{filled, operation, told_answer};

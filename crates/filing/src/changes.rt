@@ -1,16 +1,18 @@
-// Changes of files by calls of a kernel's only process.
-ghost use Rattle.std.specs.Prelude.{◌≡◌, ◌≢◌, ◌<◌, ◌^◌, length, None, IsTrue, IfOk, IfErr, OnOk, slice_set};
+// Changes of files by calls of a kernel's only process. Each is made whole or not at all, whenever a
+// stop comes.
+ghost use Rattle.std.specs.Prelude.{◌≢◌, ◌<◌, ◌^◌, length, None, IsTrue, IfOk, IfErr, OnOk};
 ghost use Rattle.model.specs.Files.{file_in};
 ghost use Rattle.model.specs.Layout.{form_of};
 ghost use Rattle.model.specs.Operations.{is_kind};
 ghost use Rattle.sole.specs.Calls.{IsUncalled, Rests, call_count, image_on};
-ghost use Rattle.filing.specs.Files.{Appends, Creates, MayAppend, emptied, files_on};
+ghost use Rattle.filing.specs.Files.{Appends, Creates, MayAppend, files_on};
 ghost use Rattle.filing.specs.Answered.{IsAnswered};
+ghost use Rattle.filing.specs.Stopped.{AppendsFirst, Empties, LeavesChange, MakesAny, Removes, StaysOver};
 
 use blocks::Disk;
 use model::content::Content;
 use model::types::{Op, Reply};
-use sole::{CallFault, Sole, call};
+use sole::{CallFault, Sole, call, rested};
 use std::alloc::Global;
 
 /// Makes an empty file of this type at the lowest free number, which it answers; none where each
@@ -28,8 +30,8 @@ pub fn create<D: Disk>(kernel: &mut Sole<D>, kind: u16) -> Result<Option<u32>, C
     ensures answered { OnOk result (IsAnswered D.Disk kernel.old kernel.new) }
     ensures refused { IfErr result (IsUncalled D.Disk
         kernel.old.store.volume.device kernel.new.store.volume.device) }
-    ensures opening { kernel.new.opening ≡ kernel.old.opening }
-    ensures name { D.name kernel.new.store.volume.device ≡ D.name kernel.old.store.volume.device }
+    ensures leaves { LeavesChange D.Disk (MakesAny kind) kernel.old kernel.new }
+    ensures stays { StaysOver D.Disk kernel.old kernel.new }
 {
     match call(kernel, Op::Create(kind))? {
         Reply::Made(number) => Ok(Some(number)),
@@ -48,12 +50,12 @@ pub fn remove<D: Disk>(kernel: &mut Sole<D>, i: u32) -> Result<(), CallFault>
     requires few { call_count kernel.old < 2 ^ 32 }
     requires there { file_in (files_on D.image kernel.old) i ≢ None }
     ensures removes { OnOk result
-        (files_on D.image kernel.new ≡ slice_set (files_on D.image kernel.old) i None) }
+        (Removes i (files_on D.image kernel.old) (files_on D.image kernel.new)) }
     ensures answered { OnOk result (IsAnswered D.Disk kernel.old kernel.new) }
     ensures refused { IfErr result (IsUncalled D.Disk
         kernel.old.store.volume.device kernel.new.store.volume.device) }
-    ensures opening { kernel.new.opening ≡ kernel.old.opening }
-    ensures name { D.name kernel.new.store.volume.device ≡ D.name kernel.old.store.volume.device }
+    ensures leaves { LeavesChange D.Disk (Removes i) kernel.old kernel.new }
+    ensures stays { StaysOver D.Disk kernel.old kernel.new }
 {
     let Reply::Done = call(kernel, Op::Remove(i))? else {
         unreachable!()
@@ -71,12 +73,12 @@ pub fn empty<D: Disk>(kernel: &mut Sole<D>, i: u32) -> Result<(), CallFault>
     requires few { call_count kernel.old < 2 ^ 32 }
     requires there { file_in (files_on D.image kernel.old) i ≢ None }
     ensures empties { OnOk result
-        (files_on D.image kernel.new ≡ emptied (files_on D.image kernel.old) i) }
+        (Empties i (files_on D.image kernel.old) (files_on D.image kernel.new)) }
     ensures answered { OnOk result (IsAnswered D.Disk kernel.old kernel.new) }
     ensures refused { IfErr result (IsUncalled D.Disk
         kernel.old.store.volume.device kernel.new.store.volume.device) }
-    ensures opening { kernel.new.opening ≡ kernel.old.opening }
-    ensures name { D.name kernel.new.store.volume.device ≡ D.name kernel.old.store.volume.device }
+    ensures leaves { LeavesChange D.Disk (Empties i) kernel.old kernel.new }
+    ensures stays { StaysOver D.Disk kernel.old kernel.new }
 {
     let Reply::Done = call(kernel, Op::Trunc(i))? else {
         unreachable!()
@@ -106,9 +108,10 @@ pub fn append<D: Disk>(
     ensures answered { OnOk result (IsAnswered D.Disk kernel.old kernel.new) }
     ensures refused { IfErr result (IsUncalled D.Disk
         kernel.old.store.volume.device kernel.new.store.volume.device) }
-    ensures opening { kernel.new.opening ≡ kernel.old.opening }
-    ensures name { D.name kernel.new.store.volume.device ≡ D.name kernel.old.store.volume.device }
+    ensures leaves { LeavesChange D.Disk (AppendsFirst i bytes.now) kernel.old kernel.new }
+    ensures stays { StaysOver D.Disk kernel.old kernel.new }
 {
+    rested(kernel);
     let Ok(content) = Content::copy_of(alloc, bytes) else {
         return Err(CallFault::NoMemory);
     };

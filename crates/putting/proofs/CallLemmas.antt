@@ -1,10 +1,8 @@
 -- What calls one after the other come to.
-use Rattle.std.proofs.Common.{◌≡◌, ◌≢◌, ◌∙◌, ℕ, ◌+◌, ◌<◌, ◌≤◌, List, [], length, take, Option, Some, None, refl, sym, ap, subst, inl, inr, ⊎_elim, arith}
-use Rattle.std.specs.Prelude.{◌⊎◌}
+use Rattle.std.proofs.Common.{◌≡◌, ◌∙◌, ℕ, ◌<◌, ◌≤◌, List, [], length, take, Option, Some, refl, sym, ap, subst, inl, inr}
 use Rattle.blocks.specs.Disk.{Image, Rose}
 use Rattle.blocks.specs.declared.disk.Disk.{Ghosts}
-use Rattle.model.specs.Files.{Files, file_in, files_of}
-use Rattle.model.specs.Layout.{form_of}
+use Rattle.model.specs.Files.{Files, files_of}
 use Rattle.model.specs.Soundness.{IsSound}
 use Rattle.filing.specs.Answered.{IsAnswered}
 use Rattle.filing.specs.Files.{files_on}
@@ -12,8 +10,8 @@ use Rattle.sole.specs.Calls.{IsUncalled, IsWhole, Rests, call_count, image_on}
 use Rattle.sole.specs.Stepping.{Plain}
 use Rattle.sole.specs.declared.fault.CallFault.{CallFault}
 use Rattle.sole.specs.declared.fault.CallFault.TheVariants as fault
-use Rattle.putting.specs.Places.{HasNoFree, IsPlace, MayPut, PutsAll, PutsFirst, put_at}
-use Rattle.putting.specs.Writing.{AreAnswered, FillsUp, FindsNone, IsCutOff, KeepsPart, MayCall, PutsPart}
+use Rattle.putting.specs.Places.{IsPlace, MayPut, PutsAll, put_at}
+use Rattle.putting.specs.Writing.{AreAnswered, IsCutOff, MayCall, PutsPart}
 use Rattle.putting.proofs.PlaceLemmas.{put_at_again}
 
 pub whole_then : (x y z : Image) → IsWhole x y → IsWhole y z → IsWhole x z
@@ -27,20 +25,18 @@ whole_same : (x y : Image) → IsSound x → y ≡ x → IsWhole x y
 whole_same x y sound same = subst (λ (z : Image). IsWhole x z) (sym same) (record { sound = sound; size = refl; super = refl })
 
 module _ {D N : Type 0} (disk : Ghosts D N) where
-  pub answered_none : (k : Plain D) → MayCall disk k → AreAnswered disk k k
+  pub answered_none : {most : ℕ} (k : Plain D) → MayCall disk most k → AreAnswered disk k k
   answered_none k ready = record {
     rests = ready.rests;
-    few = let few = ready.few in omega (arith, few);
     whole = record { sound = ready.sound; size = refl; super = refl };
     form = refl;
     opening = refl;
   }
 
   -- a call more
-  pub answered_then : (k l m : Plain D) → AreAnswered disk k l → IsAnswered disk l m → m.opening ≡ l.opening → call_count m < 2 ^ 32 → AreAnswered disk k m
-  answered_then k l m before call opening few = record {
+  pub answered_then : (k l m : Plain D) → AreAnswered disk k l → IsAnswered disk l m → m.opening ≡ l.opening → AreAnswered disk k m
+  answered_then k l m before call opening = record {
     rests = call.rests;
-    few = few;
     whole = whole_then (image_on disk.image k) (image_on disk.image l) (image_on disk.image m) before.whole call.whole;
     form = call.form ∙ before.form;
     opening = opening ∙ before.opening;
@@ -49,47 +45,45 @@ module _ {D N : Type 0} (disk : Ghosts D N) where
   pub answered_both : (k l m : Plain D) → AreAnswered disk k l → AreAnswered disk l m → AreAnswered disk k m
   answered_both k l m before calls = record {
     rests = calls.rests;
-    few = calls.few;
     whole = whole_then (image_on disk.image k) (image_on disk.image l) (image_on disk.image m) before.whole calls.whole;
     form = calls.form ∙ before.form;
     opening = calls.opening ∙ before.opening;
   }
 
   -- another call may be made
-  pub may_call : (k l : Plain D) → AreAnswered disk k l → call_count l < 2 ^ 31 → MayCall disk l
+  pub may_call : {most : ℕ} (k l : Plain D) → AreAnswered disk k l → call_count l ≤ most → MayCall disk most l
   may_call k l before few = record { rests = before.rests; few = few; sound = before.whole.sound }
 
   -- no call failed
-  pub faults_same : (k l : Plain D) → MayCall disk k → AreAnswered disk k l → disk.fault_count l.store.volume.device ≡ disk.fault_count k.store.volume.device
-  faults_same k l ready before =
-      before.rests.faultless ∙ ap disk.fault_count before.opening ∙ sym ready.rests.faultless
+  pub faults_same : (k l : Plain D) → Rests disk.fault_count k → AreAnswered disk k l → disk.fault_count l.store.volume.device ≡ disk.fault_count k.store.volume.device
+  faults_same k l rests before =
+      before.rests.faultless ∙ ap disk.fault_count before.opening ∙ sym rests.faultless
 
   -- ---- a call that is not answered
 
-  cut_memory : (inum : Option ℕ) (bytes : List ℕ) (k l : Plain D) (e : D) → MayCall disk k → AreAnswered disk k l →
+  cut_memory : (inum : Option ℕ) (bytes : List ℕ) (k l : Plain D) (e : D) → Rests disk.fault_count k → AreAnswered disk k l →
       MayPut (files_on disk.image k) inum bytes (files_on disk.image l) → IsUncalled disk l.store.volume.device e fault.NoMemory →
       IsCutOff disk inum bytes k.store.volume.device e fault.NoMemory
-  cut_memory inum bytes k l e ready before files why =
-      let same : disk.image e ≡ image_on disk.image l = why.0.image in
-      (
-        why.1 ∙ faults_same k l ready before,
+  cut_memory inum bytes k l e rests before files why =
+      let same : disk.image e ≡ image_on disk.image l = why.0.image in (
+        why.1 ∙ faults_same k l rests before,
         record {
           whole = whole_then (image_on disk.image k) (image_on disk.image l) (disk.image e) before.whole (whole_same (image_on disk.image l) (disk.image e) before.whole.sound same);
           files = subst (λ (y : Image). MayPut (files_on disk.image k) inum bytes (files_of y)) (sym same) files;
         },
       )
 
-  pub cut_after : (inum : Option ℕ) (bytes : List ℕ) (k l : Plain D) (e : D) (cause : CallFault) → MayCall disk k → AreAnswered disk k l →
+  pub cut_after : (inum : Option ℕ) (bytes : List ℕ) (k l : Plain D) (e : D) (cause : CallFault) → Rests disk.fault_count k → AreAnswered disk k l →
       MayPut (files_on disk.image k) inum bytes (files_on disk.image l) → IsUncalled disk l.store.volume.device e cause →
       IsCutOff disk inum bytes k.store.volume.device e cause
-  cut_after inum bytes k l e (fault.Disk cause) ready before files why =
-      subst (λ (n : ℕ). Rose n (disk.fault_count e)) (faults_same k l ready before) why
-  cut_after inum bytes k l e fault.NoMemory ready before files why = cut_memory inum bytes k l e ready before files why
+  cut_after inum bytes k l e (fault.Disk cause) rests before files why =
+      subst (λ (n : ℕ). Rose n (disk.fault_count e)) (faults_same k l rests before) why
+  cut_after inum bytes k l e fault.NoMemory rests before files why = cut_memory inum bytes k l e rests before files why
 
   -- the first call is not answered
-  pub cut_first : (inum : Option ℕ) (bytes : List ℕ) (k : Plain D) (e : D) (cause : CallFault) → MayCall disk k → IsUncalled disk k.store.volume.device e cause →
+  pub cut_first : {most : ℕ} (inum : Option ℕ) (bytes : List ℕ) (k : Plain D) (e : D) (cause : CallFault) → MayCall disk most k → IsUncalled disk k.store.volume.device e cause →
       IsCutOff disk inum bytes k.store.volume.device e cause
-  cut_first inum bytes k e cause ready why = cut_after inum bytes k k e cause ready (answered_none k ready) (inl refl) why
+  cut_first inum bytes k e cause ready why = cut_after inum bytes k k e cause ready.rests (answered_none k ready) (inl refl) why
 
   -- ---- behind the call that made the file, or emptied it
 
@@ -124,15 +118,14 @@ module _ {D N : Type 0} (disk : Ghosts D N) where
     pub part_first : (y : Image) → PutsPart i bytes (image_on disk.image k) y → MayPut (files_on disk.image k) inum bytes (files_of y)
     part_first y part = inr (record { number = i; place = place; count = part.count; files = part.files })
 
-    pub cut_behind : (e : D) (cause : CallFault) → MayCall disk k → AreAnswered disk k l → IsCutOff disk (Some i) bytes l.store.volume.device e cause →
+    pub cut_behind : (e : D) (cause : CallFault) → Rests disk.fault_count k → AreAnswered disk k l → IsCutOff disk (Some i) bytes l.store.volume.device e cause →
         IsCutOff disk inum bytes k.store.volume.device e cause
-    cut_behind e (fault.Disk cause) ready before why =
-        subst (λ (n : ℕ). Rose n (disk.fault_count e)) (faults_same k l ready before) why
-    cut_behind e fault.NoMemory ready before why =
-        (
-          why.0 ∙ faults_same k l ready before,
-          record {
-            whole = whole_then (image_on disk.image k) (image_on disk.image l) (disk.image e) before.whole why.1.whole;
-            files = first_behind (files_of (disk.image e)) why.1.files;
-          },
-        )
+    cut_behind e (fault.Disk cause) rests before why =
+        subst (λ (n : ℕ). Rose n (disk.fault_count e)) (faults_same k l rests before) why
+    cut_behind e fault.NoMemory rests before why = (
+      why.0 ∙ faults_same k l rests before,
+      record {
+        whole = whole_then (image_on disk.image k) (image_on disk.image l) (disk.image e) before.whole why.1.whole;
+        files = first_behind (files_of (disk.image e)) why.1.files;
+      },
+    )

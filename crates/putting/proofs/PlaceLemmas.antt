@@ -1,12 +1,11 @@
 -- What becomes of files where bytes are put, call by call.
-use Rattle.std.proofs.Common.{◌≡◌, ◌≢◌, ◌∙◌, ℕ, ◌<◌, ◌≤◌, List, [], ◌++◌, length, set, Option, Some, None, refl, sym, ap, ⊎_elim, arith}
+use Rattle.std.proofs.Common.{◌≡◌, ◌≢◌, ◌∙◌, ℕ, ◌<◌, ◌≤◌, List, [], ◌∷◌, ◌++◌, length, set, Option, Some, None, refl, sym, ap, ⊎_elim, arith}
 use Rattle.std.proofs.lemmas.Bool.{cases_lt}
 use Rattle.std.proofs.lemmas.List.{get_or-set_same, set-get_or, get_or_past, set-set}
-
-use Rattle.filing.specs.Files.{appended, emptied, empty_file, size_of, with_more, without_bytes}
+use Rattle.filing.specs.Files.{MakesFile, appended, emptied, empty_file, size_of, with_more, without_bytes}
 use Rattle.model.specs.Files.{Files, file_in}
 use Rattle.model.specs.declared.types.image.File.{File}
-use Rattle.putting.specs.Places.{put_at, put_file}
+use Rattle.putting.specs.Places.{IsLowestFree, put_at, put_file}
 
 -- ---- one file
 
@@ -76,6 +75,9 @@ emptied_put files i there = ap (set files i) (put_none (file_in files i) there)
 
 pub made_put : (files : Files) (i : ℕ) → file_in files i ≡ None → set files i (empty_file 2) ≡ put_at files i []
 made_put files i free = ap (set files i) (put_free (file_in files i) free)
+
+pub lowest_made : (old new : Files) (kind i : ℕ) → MakesFile kind i old new → IsLowestFree old i
+lowest_made old new kind i made = record { some = made.some; below = made.below; free = made.free; lowest = made.lowest }
 
 -- an empty file holds none of the bytes
 pub empty_put : (files : Files) (i : ℕ) → size_of (file_in files i) ≡ Some 0 → put_at files i [] ≡ files

@@ -1,5 +1,5 @@
 -- What calls that put bytes come to.
-use Rattle.std.specs.Prelude.{◌≡◌, ◌<◌, ◌^◌, ℕ, Bool, true, false, List, length, take, Option, Some, None}
+use Rattle.std.specs.Prelude.{◌≡◌, ◌<◌, ◌≤◌, ℕ, Bool, true, false, List, length, take, Option, Some, None}
 use Rattle.std.specs.Io.KnownBytes.{Appends}
 use Rattle.blocks.specs.Disk.{Image, Rose}
 use Rattle.blocks.specs.declared.disk.Disk.{Ghosts}
@@ -19,16 +19,15 @@ use Rattle.putting.specs.Places.{HasNoFree, IsPlace, MayPut, PutsAll, put_at}
 use Rattle.putting.specs.declared.writing.Outcome.{Outcome}
 use Rattle.putting.specs.declared.writing.Outcome.TheVariants as outcome
 
--- nothing is under way, few calls were made, and the image is sound
-pub record MayCall {D N : Type 0} (disk : Ghosts D N) (k : Plain D) : Type 0 where
+-- nothing is under way, at most so many calls were made, and the image is sound
+pub record MayCall {D N : Type 0} (disk : Ghosts D N) (most : ℕ) (k : Plain D) : Type 0 where
   pub rests : Rests disk.fault_count k
-  pub few : call_count k < 2 ^ 31
+  pub few : call_count k ≤ most
   pub sound : IsSound (image_on disk.image k)
 
--- calls were answered, and another may be made
+-- calls were answered, and nothing is under way
 pub record AreAnswered {D N : Type 0} (disk : Ghosts D N) (k m : Plain D) : Type 0 where
   pub rests : Rests disk.fault_count m
-  pub few : call_count m < 2 ^ 32
   pub whole : IsWhole (image_on disk.image k) (image_on disk.image m)
   pub form : form_of (image_on disk.image m) ≡ form_of (image_on disk.image k)
   pub opening : m.opening ≡ k.opening

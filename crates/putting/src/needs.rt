@@ -36,7 +36,6 @@ fn address_blocks(form: Form, count: u32) -> u32
 }
 
 // How many of that many blocks the bitmap says are free.
-#[tactic(auto, using(model::specs::Lemmas::Verdict::range_more))]
 pub fn count_free(bitmap: &Block, size: u32) -> u32
     requires { size ≤ bits_per_block }
     ensures count { result

@@ -1,5 +1,5 @@
 // A file's bytes put into an image.
-ghost use Rattle.std.specs.Prelude.{◌≡◌, ◌≢◌, ◌≤◌, IfErr, OnOk, length};
+ghost use Rattle.std.specs.Prelude.{◌≡◌, ◌≢◌, ◌≤◌, ◌^◌, IfErr, OnOk, length};
 ghost use Rattle.model.specs.Layout.{form_of, greatest_size};
 ghost use Rattle.sole.specs.Calls.{image_on};
 ghost use Rattle.filing.specs.Files.{files_on};
@@ -33,9 +33,9 @@ use texts::{PutFault, Refusal, print_number};
 ///
 /// A fault of the kernel's opening. Then `Put` with `NoInode` where each number is taken: the files
 /// are as before. `Put` with `Full` where no block is free for all bytes after all: a new file was
-/// removed again, an old one keeps the first of the bytes. `Put` with `NoMemory`, and `Disk` where
-/// the disk failed: the files are as before, or the first of the bytes are put. `Output`: the bytes
-/// are put.
+/// removed again, an old one keeps the first of the bytes. `Put` with `NoMemory`: the files are as
+/// before, or the first of the bytes are put. `Disk` where the disk failed. `Output`: the bytes are
+/// put.
 pub fn put_disk<D: Disk + Drop, O: Write>(
     alloc: Global,
     disk: D,
@@ -69,7 +69,7 @@ fn put<D: Disk, O: Write>(
     inum: Option<u32>,
     out: &mut O,
 ) -> Result<(), Refusal>
-    requires ready { MayCall D.Disk kernel.old }
+    requires ready { MayCall D.Disk (2 ^ 31) kernel.old }
     requires there { HasOld (files_on D.image kernel.old) inum }
     requires short { length bytes.now ≤ greatest_size (form_of (image_on D.image kernel.old)) }
     ensures put { OnOk result (IsWritten D.Disk inum bytes.now kernel.old.store.volume.device

@@ -1,8 +1,8 @@
 // Calls that put bytes.
-ghost use Rattle.std.specs.Prelude.{◌≡◌, ◌≢◌, ◌≤◌, length, None, Some, IfErr, IfOk, OnOk};
+ghost use Rattle.std.specs.Prelude.{◌≡◌, ◌≢◌, ◌+◌, ◌<◌, ◌≤◌, ◌^◌, length, None, Some, IfErr, IfOk, OnOk};
 ghost use Rattle.model.specs.Files.{file_in};
 ghost use Rattle.model.specs.Layout.{form_of, greatest_size};
-ghost use Rattle.sole.specs.Calls.{image_on};
+ghost use Rattle.sole.specs.Calls.{call_count, image_on};
 ghost use Rattle.filing.specs.Files.{files_on, size_of};
 ghost use Rattle.putting.specs.Places.{HasOld};
 ghost use Rattle.putting.specs.Writing.{AreAnswered, Comes, IsCutOff, MayCall, Puts};
@@ -37,7 +37,7 @@ pub fn put_bytes<D: Disk>(
     bytes: &[u8],
     inum: Option<u32>,
 ) -> Result<Outcome, CallFault>
-    requires ready { MayCall D.Disk kernel.old }
+    requires ready { MayCall D.Disk (2 ^ 31) kernel.old }
     requires there { HasOld (files_on D.image kernel.old) inum }
     requires short { length bytes.now ≤ greatest_size (form_of (image_on D.image kernel.old)) }
     ensures comes { IfOk result (Comes (image_on D.image kernel.old) inum bytes.now
@@ -54,12 +54,8 @@ pub fn put_bytes<D: Disk>(
 }
 
 // Puts bytes as those of a new file, which is removed again where no block is free for all.
-fn add<D: Disk>(
-    alloc: Global,
-    kernel: &mut Sole<D>,
-    bytes: &[u8],
-) -> Result<Outcome, CallFault>
-    requires ready { MayCall D.Disk kernel.old }
+fn add<D: Disk>(alloc: Global, kernel: &mut Sole<D>, bytes: &[u8]) -> Result<Outcome, CallFault>
+    requires ready { MayCall D.Disk (2 ^ 31) kernel.old }
     requires short { length bytes.now ≤ greatest_size (form_of (image_on D.image kernel.old)) }
     ensures comes { IfOk result (Comes (image_on D.image kernel.old) None bytes.now
         (image_on D.image kernel.new)) }
@@ -85,7 +81,7 @@ fn replace<D: Disk>(
     bytes: &[u8],
     number: u32,
 ) -> Result<Outcome, CallFault>
-    requires ready { MayCall D.Disk kernel.old }
+    requires ready { MayCall D.Disk (2 ^ 31) kernel.old }
     requires there { file_in (files_on D.image kernel.old) number ≢ None }
     requires short { length bytes.now ≤ greatest_size (form_of (image_on D.image kernel.old)) }
     ensures comes { IfOk result (Comes (image_on D.image kernel.old) (Some number) bytes.now
@@ -110,12 +106,13 @@ fn append_all<D: Disk>(
     bytes: &[u8],
     number: u32,
 ) -> Result<bool, CallFault>
-    requires ready { MayCall D.Disk kernel.old }
+    requires ready { MayCall D.Disk (2 ^ 31 + 1) kernel.old }
     requires empty { size_of (file_in (files_on D.image kernel.old) number) ≡ Some 0 }
     requires short { length bytes.now ≤ greatest_size (form_of (image_on D.image kernel.old)) }
     ensures puts { IfOk result (λ all. Puts all number bytes.now (image_on D.image kernel.old)
         (image_on D.image kernel.new)) }
     ensures answered { OnOk result (AreAnswered D.Disk kernel.old kernel.new) }
+    ensures few { OnOk result (call_count kernel.new < 2 ^ 32) }
     ensures refused { IfErr result (IsCutOff D.Disk (Some number) bytes.now
         kernel.old.store.volume.device kernel.new.store.volume.device) }
     ensures name { D.name kernel.new.store.volume.device ≡ D.name kernel.old.store.volume.device }

@@ -14,7 +14,7 @@ use Rattle.model.specs.Log.{recovered}
 use Rattle.model.specs.Operations.{after}
 use Rattle.model.specs.Lemmas.Runs.{and_then_some, replays_in_parts}
 use Rattle.journal.specs.Keeps.{KeepsBetween, most_of}
-use Rattle.journal.specs.Lemmas.Kept.{kept-append, kept_up_to}
+use Rattle.journal.specs.Lemmas.Kept.{kept-append}
 use Rattle.kernel.specs.Lemmas.Turns.{runs_on_none, runs_on_step, runs_on_then}
 use Rattle.kernel.specs.Runs.{RunsOn}
 use Rattle.kernel.specs.declared.types.Step.{Step}
@@ -24,7 +24,7 @@ use Rattle.sole.specs.Calls.{KeepsCall, MayReply, image_on}
 use Rattle.sole.specs.Stepping.{Plain, MakesPlainStep, Moves, plain_herald, plain_queues}
 use Rattle.sole.proofs.Causes.{last_same}
 use Rattle.sole.proofs.Called.{IsAnswered, IsCall, call_lists, with_intake}
-use Rattle.sole.proofs.Rest.{IsSettledDisk, same_form}
+use Rattle.sole.proofs.Rest.{IsSettledDisk, kept_before, same_form}
 use Rattle.sole.proofs.Stages.{ListIs}
 
 module _ {D N : Type 0} (disk : Ghosts D N) where
@@ -81,22 +81,17 @@ module _ {D N : Type 0} (disk : Ghosts D N) (op : Op) (k m : Plain D) (was : IsS
   Leaves : Image → Type 0
   Leaves z = (files_of (recovered z) ≡ files_of x) ⊎ ((r : Reply) × MayReply result r × (after (form_of x) (files_of x) op r ≡ Some (files_of (recovered z))))
 
-  -- what is kept of the journal before stays
-  kept_before : (c : ℕ) → k.store.volume.log.committed ≤ c → replay form start (kept n k.world.journal.list c) ≡ Some (files_of x)
-  unfolding x form start n
-  kept_before c low = ap (λ (es : List Entry). replay form start es) (kept_up_to n k.store.volume.log.committed c k.world.journal.list was.groups low) ∙ was.kept_run
-
   kept_after : (c : ℕ) (z : Image) → k.store.volume.log.committed ≤ c → ListIs op k.world.journal.list m.world.journal.list → replay form start (kept n m.world.journal.list c) ≡ Some (files_of (recovered z)) → Leaves z
   unfolding x form start n Leaves
   kept_after c z low (inl same) run =
-      let before : Some (files_of x) ≡ Some (files_of (recovered z)) = sym (kept_before c low) ∙ ap (λ (es : List Entry). replay form start (kept n es c)) (sym same) ∙ run in
+      let before : Some (files_of x) ≡ Some (files_of (recovered z)) = sym (kept_before disk k was c low) ∙ ap (λ (es : List Entry). replay form start (kept n es c)) (sym same) ∙ run in
       inl (cc before)
   kept_after c z low (inr more) run =
       let e = more.entry in
       let es = k.world.journal.list in
       let split : kept n m.world.journal.list c ≡ kept n es c ++ kept n (e ∷ []) c = ap (λ (l : List Entry). kept n l c) more.is ∙ kept-append n c es (e ∷ []) in
       let both = sym (replays_in_parts form start (kept n es c) (kept n (e ∷ []) c)) ∙ ap (λ (l : List Entry). replay form start l) (sym split) ∙ run in
-      let last : replay form (files_of x) (kept n (e ∷ []) c) ≡ Some (files_of (recovered z)) = subst (λ (o : Option Files). and_then o (λ f. replay form f (kept n (e ∷ []) c)) ≡ Some (files_of (recovered z))) (kept_before c low) both in
+      let last : replay form (files_of x) (kept n (e ∷ []) c) ≡ Some (files_of (recovered z)) = subst (λ (o : Option Files). and_then o (λ f. replay form f (kept n (e ∷ []) c)) ≡ Some (files_of (recovered z))) (kept_before disk k was c low) both in
       elim (one_kept form (files_of x) (files_of (recovered z)) e (is_changing n e.op && leb e.group c) last) [
         | inl same ↦ inl same
         | inr made ↦ inr (

@@ -1,6 +1,6 @@
 -- What the disk of a kernel of one process has while no operation is under way, and what a call makes
 -- of it.
-use Rattle.std.proofs.Common.{◌≡◌, ◌∙◌, ℕ, List, [], ◌∷◌, ◌++◌, length, Option, Some, None, sym, ap, subst}
+use Rattle.std.proofs.Common.{◌≡◌, ◌∙◌, ◌≤◌, ℕ, List, [], ◌∷◌, ◌++◌, length, Option, Some, None, sym, ap, subst}
 use Rattle.std.specs.Prelude.{if◌then◌else◌, ◌==◌}
 use Rattle.blocks.specs.Disk.{Image, block_at}
 use Rattle.blocks.specs.declared.disk.Disk.{Ghosts}
@@ -22,12 +22,13 @@ use Rattle.model.specs.Lemmas.Runs.{and_then_some, replays_in_parts}
 use Rattle.ports.specs.Queues.{waiting}
 use Rattle.ports.specs.declared.queues.QueueIntake.{QueueIntake}
 use Rattle.journal.specs.declared.types.At.TheVariants as at
-use Rattle.journal.specs.Keeps.{AreUpTo, most_of}
+use Rattle.journal.specs.Keeps.{AreUpTo, KeepsNow, most_of}
+use Rattle.journal.specs.Lemmas.Kept.{kept_up_to}
 use Rattle.journal.specs.Processes.{process}
 use Rattle.kernel.specs.Known.{Known}
 use Rattle.kernel.specs.declared.types.Step.{Step}
 use Rattle.kernel.specs.declared.types.Step.TheVariants as step
-use Rattle.sole.specs.Calls.{Calls, IsWhole, image_on}
+use Rattle.sole.specs.Calls.{Calls, IsWhole, KeepsFiles, image_on}
 use Rattle.sole.specs.Stepping.{MakesSteps, Plain, plain_herald, plain_queues}
 use Rattle.sole.proofs.Causes.{all_idle, current, long, super}
 use Rattle.sole.proofs.Called.{IsAnswered, IsCall, with_intake}
@@ -76,6 +77,21 @@ settled_disk disk has_now k known well one stands =
       groups = subst (λ (c : ℕ). AreUpTo c es) (sym settled) known.journal.groups;
       unopened = rests.none;
     }
+
+module _ {D N : Type 0} (disk : Ghosts D N) (k : Plain D) (was : IsSettledDisk disk k) where
+  -- what is kept of any groups that a stop may keep gives the files on the disk
+  pub kept_before : (c : ℕ) → k.store.volume.log.committed ≤ c
+      → replay (form_of (disk.image k.opening)) (files_of (disk.image k.opening)) (kept (inode_count_of (disk.image k.opening)) k.world.journal.list c) ≡ Some (files_of (image_on disk.image k))
+  kept_before c low =
+      ap (λ (es : List Entry). replay (form_of (disk.image k.opening)) (files_of (disk.image k.opening)) es) (kept_up_to (inode_count_of (disk.image k.opening)) k.store.volume.log.committed c k.world.journal.list was.groups low)
+      ∙ was.kept_run
+
+  -- so each image that a stop leaves then is recovered to these files
+  pub keeps_files : (z : Image) → KeepsNow k.store.volume (disk.image k.opening) k.world.journal.list z → KeepsFiles (image_on disk.image k) z
+  keeps_files z now =
+      let keeps = now.between.keeps in
+      let same : Some (files_of (recovered z)) ≡ Some (files_of (image_on disk.image k)) = sym keeps.files ∙ kept_before now.between.groups now.between.low in
+      record { log = keeps.log; sound = keeps.sound; files = cc same }
 
 -- images with the same superblock have the same form
 pub same_form : (x y : Image) → block_at y 1 ≡ block_at x 1 → form_of y ≡ form_of x

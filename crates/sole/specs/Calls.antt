@@ -94,6 +94,12 @@ IsUncalled disk d e (fault.Disk cause) = Rose (disk.fault_count d) (disk.fault_c
 IsUncalled disk d e fault.NoMemory =
     OnlyReads disk d e × (disk.fault_count e ≡ disk.fault_count d)
 
+-- What a stop between two calls leaves of image x: recovery gives a sound image with its files.
+pub record KeepsFiles (x z : Image) : Type 0 where
+  pub log : IsTrue (is_lawful_log z)
+  pub sound : IsSound (recovered z)
+  pub files : files_of (recovered z) ≡ files_of x
+
 -- a reply that a call may have had
 abbrev pub MayReply : Result Reply CallFault → Reply → Type 0
 MayReply (Ok reply) r = r ≡ reply

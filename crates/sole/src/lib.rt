@@ -11,9 +11,11 @@
 mod calling;
 mod fault;
 mod opening;
+mod resting;
 mod stepping;
 
 pub use calling::{Sole, call};
 pub use fault::CallFault;
 pub use opening::open_sole;
+pub use resting::rested;
 pub use stepping::make_steps;

@@ -1,5 +1,5 @@
 -- What became of the image in a file that was copied into a new one.
-use Rattle.std.specs.Prelude.{◌≡◌, ◌⊎◌, ⊥, ℕ, false, List, replicate, Option, Some, None}
+use Rattle.std.specs.Prelude.{◌≡◌, ◌⊎◌, ℕ, false, List, replicate, Option, Some, None}
 use Rattle.std.specs.Io.KnownBytes.{Appends}
 use Rattle.blocks.specs.Block.{zero_block}
 use Rattle.blocks.specs.Calls.{OnlyReads}
@@ -17,8 +17,8 @@ use Rattle.model.specs.declared.types.image.Form.TheVariants.{One, Two}
 use Rattle.texts.specs.Output.{files_text}
 use Rattle.texts.specs.declared.faults.CopyFault.TheVariants as told
 use Rattle.texts.specs.declared.refusal.Refusal.{Refusal}
-use Rattle.texts.specs.declared.refusal.Refusal.TheVariants.{File, Mkfs, Check, Copy, Output}
-use Rattle.filedisks.specs.Opened.{IsOpened}
+use Rattle.texts.specs.declared.refusal.Refusal.TheVariants.{Mkfs, Check, Copy, Output}
+use Rattle.filedisks.specs.Opened.{IsOfFile, IsOpened}
 
 -- how a fault of a copy is told
 abbrev pub copy_refusal : Fault → Refusal
@@ -39,7 +39,7 @@ pub record IsPlanned {D N : Type 0} (disk : Ghosts D N) (size : Option ℕ) (d :
     : Type 0 where
   pub sound : verdict (disk.image d) ≡ None
   pub first : form_of (disk.image d) ≡ One
-  pub size : planned ≡ size_asked size (disk.image d)
+  pub asked : planned ≡ size_asked size (disk.image d)
 
 -- or it can't, as is told before a file is made
 abbrev pub IsUnplanned : {D N : Type 0} → Ghosts D N → Option ℕ → D → D → Refusal → Type 0
@@ -59,16 +59,21 @@ pub record MayCopy {F N : Type 0} (remaining : F → Option (List ℕ)) (disk : 
   pub reads : OnlyReads disk d e
   pub zeroes : disk.image created ≡ replicate (size_asked size (disk.image d)) zero_block
 
--- its files were copied to that disk, and how many these are was printed
-pub record HasCopied {F N : Type 0} (remaining : F → Option (List ℕ))
-    (disk : Ghosts (FileDisk F) N) (size : Option ℕ) (old new : Option (List ℕ)) : Type 0 where
+-- its files were copied to that disk, and so many there are
+pub record HasMade {F N : Type 0} (remaining : F → Option (List ℕ)) (disk : Ghosts (FileDisk F) N)
+    (size : Option ℕ) (count : ℕ) : Type 0 where
   pub opened : FileDisk F
   pub read : FileDisk F
   pub created : FileDisk F
   pub made : FileDisk F
   pub may : MayCopy remaining disk size opened read created
-  pub count : ℕ
   pub copied : IsCopied disk disk (size_asked size (disk.image opened)) read created made count
+
+-- and how many was printed
+pub record HasCopied {F N : Type 0} (remaining : F → Option (List ℕ))
+    (disk : Ghosts (FileDisk F) N) (size : Option ℕ) (old new : Option (List ℕ)) : Type 0 where
+  pub count : ℕ
+  pub made : HasMade remaining disk size count
   pub printed : Appends old new (files_text count)
 
 -- the disk of a file was opened, and no copy planned, for this reason
@@ -93,13 +98,14 @@ pub record HasNotCopied {F N : Type 0} (remaining : F → Option (List ℕ))
   pub is : r ≡ copy_refusal cause
   pub why : IsUncopied disk disk (size_asked size (disk.image opened)) read left created made cause
 
--- Where the command was refused: there is a file at the new path, or the old file or the new one
--- could not be opened or made; or no copy was planned, or none made; or how many files there are
--- could not be printed. `none` says that nothing was printed.
+-- there is a file at the new path, or a file could not be opened or made
+abbrev pub IsOfPath : Refusal → Type 0
+IsOfPath r = IsOfFile r ⊎ (r ≡ Copy told.Exists)
+
+-- Where the command was refused: a path is to blame; or no copy was planned, or none made; or how
+-- many files there are could not be printed.
 abbrev pub OnCopyRefusal : {F N : Type 0} → (F → Option (List ℕ)) → Ghosts (FileDisk F) N
-    → Option ℕ → Type 0 → Refusal → Type 0
-OnCopyRefusal remaining disk size none (File cause) = none
-OnCopyRefusal remaining disk size none (Copy told.Exists) = none
-OnCopyRefusal remaining disk size none Output = Unit {0}
-OnCopyRefusal remaining disk size none r =
-    HasNotPlanned remaining disk size r ⊎ HasNotCopied remaining disk size r
+    → Option ℕ → Refusal → Type 0
+OnCopyRefusal remaining disk size r =
+    IsOfPath r ⊎ HasNotPlanned remaining disk size r ⊎ HasNotCopied remaining disk size r
+    ⊎ ((r ≡ Output) × ((count : ℕ) × HasMade remaining disk size count))

@@ -1,5 +1,5 @@
 -- What became of the disk in a file into which a file of the system was put.
-use Rattle.std.specs.Prelude.{◌⊎◌, ⊤, ⊥, ℕ, false, List, Option}
+use Rattle.std.specs.Prelude.{◌≡◌, ◌⊎◌, ⊤, ℕ, false, List, Option}
 use Rattle.blocks.specs.declared.disk.Disk.{Ghosts}
 use Rattle.blocks.specs.declared.file.FileDisk.{FileDisk}
 use Rattle.putting.specs.Putting.{IsPut, IsUnput}
@@ -27,12 +27,12 @@ IsUnhad put.File = ⊤
 IsUnhad put.NoMemory = ⊤
 IsUnhad _ = ⊥
 
+abbrev pub IsOfBytes : Refusal → Type 0
+IsOfBytes r = (fault : PutFault) × (r ≡ Put fault) × IsUnhad fault
+
 -- Where the command was refused: the file's bytes could not be had, and then no disk was opened; or
--- one was. `none` says that nothing was printed.
+-- the disk could not be opened, or was, and the bytes were not put.
 abbrev pub OnPutRefusal : {F N : Type 0} → (F → Option (List ℕ)) → Ghosts (FileDisk F) N
-    → Option ℕ → Type 0 → Refusal → Type 0
-OnPutRefusal remaining disk inum none (Put put.File) = none
-OnPutRefusal remaining disk inum none (Put put.NoMemory) =
-    none ⊎ OpensDisk remaining disk false (λ d e. HasNotPut disk inum d e (Put put.NoMemory))
-OnPutRefusal remaining disk inum none r =
-    OnDiskRefusal remaining disk false none (HasNotPut disk inum) r
+    → Option ℕ → Refusal → Type 0
+OnPutRefusal remaining disk inum r =
+    IsOfBytes r ⊎ OnDiskRefusal remaining disk false ⊤ (HasNotPut disk inum) r

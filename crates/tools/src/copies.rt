@@ -36,7 +36,7 @@ pub fn copy_files<R: Files + AllocGlobal, O: Write, P: Progress>(
     ensures copied { OnOk result (HasCopied R.File.remaining ⟦<FileDisk<R::File> as Disk>⟧ size
         (O.contents out.old) (O.contents out.new)) }
     ensures refused { IfErr result (OnCopyRefusal R.File.remaining
-        ⟦<FileDisk<R::File> as Disk>⟧ size (out.new ≡ out.old)) }
+        ⟦<FileDisk<R::File> as Disk>⟧ size) }
     ensures silent { IfErr result (λ r. r ≢ refusal.Output → out.new ≡ out.old) }
 {
     if matches!(exists(rt, new), Ok(true)) {
@@ -65,8 +65,10 @@ fn plan_copy<D: Disk>(alloc: Global, disk: &mut D, size: Option<u32>) -> Result<
         Some(size) => size,
         None => report.sup.size,
     };
-    plan(size, report.sup.ninodes).map_err(Refusal::Mkfs)?;
-    Ok(size)
+    match plan(size, report.sup.ninodes) {
+        Ok(_planned) => Ok(size),
+        Err(fault) => Err(Refusal::Mkfs(fault)),
+    }
 }
 
 // How a fault of a copy is told: that of the old image, and that of the making, as their own layers'.

@@ -34,7 +34,7 @@ pub fn put_file<R: Files + AllocGlobal, O: Write>(
     ensures opened { OnOk result (OpensDisk R.File.remaining ⟦<FileDisk<R::File> as Disk>⟧ false
         (HasPut ⟦<FileDisk<R::File> as Disk>⟧ inum (O.contents out.old) (O.contents out.new))) }
     ensures refused { IfErr result (OnPutRefusal R.File.remaining
-        ⟦<FileDisk<R::File> as Disk>⟧ inum (out.new ≡ out.old)) }
+        ⟦<FileDisk<R::File> as Disk>⟧ inum) }
     ensures silent { IfErr result (λ r. r ≢ refusal.Output → out.new ≡ out.old) }
 {
     let bytes = bytes_from(rt, file).map_err(Refusal::Put)?;

@@ -10,7 +10,7 @@ use Rattle.listing.specs.Causes.{IsUnlisted}
 use Rattle.tools.specs.Looks.{HasBlocksHidden}
 use Rattle.texts.specs.declared.refusal.Refusal.{Refusal}
 use Rattle.requests.specs.declared.words.Request.{Request}
-use Rattle.requests.specs.declared.words.Request.TheVariants.{Mkfs, Check, Recover, Cat, Ls, Show, Replay, Run, Stops}
+use Rattle.requests.specs.declared.words.Request.TheVariants.{Mkfs, Check, Recover, Cat, Ls, Show, Put, Copy, Replay, Run, Stops}
 use Rattle.xvfs.specs.Files.{FileGhosts}
 use Rattle.xvfs.specs.Requests.{IsMisused, IsNotDone, IsUndone, OnRefused}
 use Rattle.xvfs.specs.Status.{status_of}
@@ -30,6 +30,8 @@ module _ {F N : Type 0} (file : FileGhosts F N) (words : List (List ℕ)) (old n
   on_refused (Cat image inum) r P Q f why = refused_so file.remaining file.disk false P Q _ _ f (λ d e r why. not_shown file.disk d e old new P Q f inum r why) r why
   on_refused (Ls image) r P Q f why = (λ other. f (why.0 other), refused_so file.remaining file.disk false P Q (IsUnlisted file.disk.image file.disk.fault_count) (IsUnlisted file.disk.image file.disk.fault_count) f (λ d e r why. why) r why.1)
   on_refused (Show image inum) r P Q f why = (λ other. f (why.0 other), refused_so file.remaining file.disk false P Q (HasBlocksHidden file.disk inum) (HasBlocksHidden file.disk inum) f (λ d e r why. why) r why.1)
+  on_refused (Put image path inum) r P Q f why = (λ other. f (why.0 other), why.1)
+  on_refused (Copy from to size) r P Q f why = (λ other. f (why.0 other), why.1)
   on_refused (Replay image script schedule stop sync) r P Q f why = refused_so file.remaining file.disk sync P Q _ _ f (λ d e r why. unreplayed file.disk file.over d e (unwrap_or stop 0) old new P Q f r why) r why
   on_refused (Run image script workers sync) r P Q f why = refused_so file.remaining file.disk sync P Q _ _ f (λ d e r why. not_run file.disk d e old new P Q f r why) r why
   on_refused (Stops script schedule held) r P Q f why = script_unchecked held P Q f r why

@@ -72,9 +72,9 @@ OnRefused file (Ls image) r old new none = (r ≢ Output → none)
 OnRefused file (Show image inum) r old new none = (r ≢ Output → none)
     × OnDiskRefusal file.remaining file.disk false none (HasBlocksHidden file.disk inum) r
 OnRefused file (Put image path inum) r old new none = (r ≢ Output → none)
-    × OnPutRefusal file.remaining file.disk inum none r
+    × OnPutRefusal file.remaining file.disk inum r
 OnRefused file (Copy from to size) r old new none = (r ≢ Output → none)
-    × OnCopyRefusal file.remaining file.disk size none r
+    × OnCopyRefusal file.remaining file.disk size r
 OnRefused file (Replay image script schedule stop sync) r old new none =
     OnDiskRefusal file.remaining file.disk sync none
     (IsUnreplayed file.disk file.over (unwrap_or stop 0) old new none) r

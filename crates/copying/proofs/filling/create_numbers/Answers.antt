@@ -25,7 +25,7 @@ loop-kind-preserved g c =
     let count = length (files_on g.E.Disk.image c.args.kernel.now) in
     record {
       holds = one_made g.E.Disk c.args.kinds.now count c.loop-kind.kind-index (omega arith) c.loop-kind.kernel c.create.new.kernel c.loop-kind.invariant.holds
-          _ c.in-Some._number c.in_ok-_number.field-0 c.kind_or_plain.ensures c.in-Some.is c.in_ok-_number.ensures.creates c.in_ok-_number.ensures.answered c.create.ensures.opening;
+          _ c.in-Some._number c.in_ok-_number.field-0 c.kind_or_plain.ensures c.in-Some.is c.in_ok-_number.ensures.creates c.in_ok-_number.ensures.answered c.create.ensures.stays.opening;
       opening = cc;
       name = cc;
     }

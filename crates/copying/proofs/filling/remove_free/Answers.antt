@@ -1,7 +1,7 @@
 use Rattle.std.proofs.Common.{◌≡◌, ℕ, ◌+◌, ◌*◌, length, refl, sym, ap, subst, arith}
 use Rattle.filing.specs.Files.{files_on}
 use Rattle.copying.specs.Holding.{Holds}
-use Rattle.copying.specs.Stages.{kept_at, listed}
+use Rattle.copying.specs.Stages.{kept_at, listed, made_at}
 use Rattle.copying.proofs.FillingLemmas.{holds_as, one_kept, one_removed, still_there}
 use Rattle.copying.proofs.StageLemmas.{kept_start}
 use Rattle.sole.specs.Stepping.{Plain}
@@ -10,9 +10,11 @@ use Rattle.copying.proofs.filling.remove_free.Goals.{then-kind-eq0+in_ok-remove,
 
 pub loop-k-init : goal.loop-k-init
 loop-k-init g c =
+    let kinds = c.args.kinds.now in
+    let n = length kinds in
     let count = length (files_on g.E.Disk.image c.args.kernel.now) in
     record {
-      holds = holds_as g.E.Disk (length c.args.kinds.now) (length c.args.kinds.now + 0) c.args.kernel.now c.requires.made (omega arith) (kept_start c.args.kinds.now count);
+      holds = holds_as g.E.Disk n (n + 0) {files = listed count (made_at kinds n)} {new = listed count (kept_at kinds 0)} c.args.kernel.now c.requires.made (omega arith) (kept_start kinds count);
       opening = refl;
       name = refl;
     }
@@ -34,7 +36,7 @@ loop-k-preserved g c =
     let holds : kept c.if-kind-eq0.kernel
     = elim c.if-kind-eq0.branch [
       | then-kind-eq0+in_ok-remove w ↦ subst kept (sym w.kernel-is) (holds_as disk (most + 1) (length kinds + (k + 1)) w.remove.new.kernel
-          (one_removed disk kinds count k most (omega arith) c.loop-k.kernel before.holds w.remove.new.kernel w.if-kind-eq0.true w.in_ok-remove.ensures.removes w.in_ok-remove.ensures.answered w.remove.ensures.opening)
+          (one_removed disk kinds count k most (omega arith) c.loop-k.kernel before.holds w.remove.new.kernel w.if-kind-eq0.true w.in_ok-remove.ensures.removes w.in_ok-remove.ensures.answered w.remove.ensures.stays.opening)
           (omega arith) refl)
       | else-kind-eq0 w ↦ subst kept (sym w.kernel-is) (holds_as disk (most + 1) (length kinds + (k + 1)) c.loop-k.kernel
           (one_kept disk kinds count k most (omega arith) c.loop-k.kernel before.holds w.if-kind-eq0.false)

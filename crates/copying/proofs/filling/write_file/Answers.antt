@@ -1,11 +1,12 @@
 use Rattle.std.proofs.Common.{◌≡◌, ◌∙◌, ℕ, ◌+◌, ◌*◌, length, take, refl, sym, ap, arith}
-use Rattle.std.proofs.lemmas.List.{length-take, take_all}
+use Rattle.std.proofs.lemmas.List.{length-take}
 use Rattle.blocks.specs.Lemmas.Reads.{reads_then}
 use Rattle.model.specs.Files.{bytes_in}
+use Rattle.model.specs.Layout.{inode_of}
 use Rattle.model.specs.Log.{recovered}
 use Rattle.sole.specs.Calls.{call_count, image_on}
 use Rattle.filing.specs.Files.{appended, files_on}
-use Rattle.copying.proofs.FillingLemmas.{full_after, holds_as, one_appended, piece_allowed, piece_read, readable, small_file, there_used}
+use Rattle.copying.proofs.FillingLemmas.{all_appended, full_after, holds_as, one_appended, piece_allowed, piece_read, readable, small_file, there_used}
 use Rattle.copying.proofs.StageLemmas.{appended_none, few_bytes}
 use Rattle.copying.proofs.filling.write_file.Goals as goal
 
@@ -76,7 +77,7 @@ loop-piece-preserved g c =
       faults = c.in_ok-read.ensures.faults ∙ before.faults;
       holds = holds_as g.E.Disk (call_count l + piece + 1) (call_count l + (piece + 1)) m
           (one_appended g.E.Disk (files_on g.E.Disk.image l) c.args.i c.requires.empty.1 (bytes_in (recovered x) d) d.size at count (few_bytes (recovered x) d) (omega arith) (omega arith)
-          c.read.new.into read (call_count l + piece) c.loop-piece.kernel before.holds m c.in_ok-append.field-0 c.if-not-branch.false c.in_ok-append.ensures.appends c.in_ok-append.ensures.answered c.append.ensures.opening)
+          c.read.new.into read (call_count l + piece) c.loop-piece.kernel before.holds m c.in_ok-append.field-0 c.if-not-branch.false c.in_ok-append.ensures.appends c.in_ok-append.ensures.answered c.append.ensures.stays.opening)
           (omega arith) (ap (λ (n : ℕ). appended (files_on g.E.Disk.image l) c.args.i (take n (bytes_in (recovered x) d))) next);
       opening = cc;
       name = cc;
@@ -85,12 +86,11 @@ loop-piece-preserved g c =
 pub returns-clause-written : goal.returns-clause-written
 returns-clause-written g c =
     let x = g.D.Disk.image c.args.old.now in
+    let i = c.args.i in
     let d = c.in_ok-inode.inode in
-    let number = c.requires.number in
     let l = c.args.kernel.now in
+    let number = c.requires.number in
     let piece = c.loop-piece.piece in
-    let few = few_bytes (recovered x) d in
-    let small = small_file x c.args.source.now c.requires.source c.args.i d number.0 number.1 c.requires.used c.in_ok-inode.ensures.ok in
-    let all : take (piece * 3072) (bytes_in (recovered x) d) ≡ bytes_in (recovered x) d = take_all (piece * 3072) (bytes_in (recovered x) d) (omega arith) in
-    holds_as g.E.Disk (call_count l + piece) (call_count l + 90) c.loop-piece.kernel c.loop-piece.invariant.holds (omega arith)
-    (ap (appended (files_on g.E.Disk.image l) c.args.i) (all ∙ ap (bytes_in (recovered x)) c.in_ok-inode.ensures.ok))
+    let small = small_file x c.args.source.now c.requires.source i d number.0 number.1 c.requires.used c.in_ok-inode.ensures.ok in
+    all_appended g.E.Disk (files_on g.E.Disk.image l) i (recovered x) d (inode_of (recovered x) i) (piece * 3072) (call_count l + piece) (call_count l + 90) c.loop-piece.kernel
+    c.loop-piece.invariant.holds (omega arith) (omega arith) c.in_ok-inode.ensures.ok

@@ -128,5 +128,5 @@ returns-clause-written g c =
     let files = files_of (recovered x) in
     let n = length source.kinds.items in
     let end : c.loop-k.k ≡ n = omega (arith, ap length c.deref-kind-items.ensures.value) in
-    holds_as g.E.Disk (2 * n + 90 * c.loop-k.k) (92 * n) c.loop-k.kernel c.loop-k.invariant.holds (omega arith)
+    holds_as g.E.Disk (2 * n + 90 * c.loop-k.k) (92 * n) {files = listed (length files) (written_at files c.loop-k.k)} {new = files} c.loop-k.kernel c.loop-k.invariant.holds (omega arith)
     (ap (λ (k : ℕ). listed (length files) (written_at files k)) end ∙ all_written x source c.requires.source)

@@ -1,4 +1,5 @@
 use Rattle.filing.proofs.Calls.{appends, of_copy, writes}
+use Rattle.filing.proofs.Stopping.{leaves_appended}
 use Rattle.filing.proofs.changes.append.Goals as goal
 
 pub unreachable-requires : goal.unreachable-requires
@@ -11,3 +12,11 @@ pub returns-clause-appends : goal.returns-clause-appends
 returns-clause-appends g c =
     let calls = of_copy _ _ _ c.args.i c.args.off c.in-Ok.content c.args.bytes.now _ c.in-Ok.ensures c.in_ok-count.ensures.calls in
     appends _ _ _ c.args.i c.args.off c.in-Wrote.count c.args.bytes.now _ c.requires.room calls c.in-Wrote.is
+
+pub returns-in_err-count-clause-leaves : goal.returns-in_err-count-clause-leaves
+returns-in_err-count-clause-leaves g c =
+    leaves_appended g.D.Disk (g.D.Disk.image c.args.kernel.now.store.volume.device) c.args.i c.args.off c.in-Ok.content c.args.bytes.now c.in-Ok.ensures c.requires.room c.call.result _ _ c.call.ensures.leaves
+
+pub returns-clause-leaves : goal.returns-clause-leaves
+returns-clause-leaves g c =
+    leaves_appended g.D.Disk (g.D.Disk.image c.args.kernel.now.store.volume.device) c.args.i c.args.off c.in-Ok.content c.args.bytes.now c.in-Ok.ensures c.requires.room c.call.result _ _ c.call.ensures.leaves

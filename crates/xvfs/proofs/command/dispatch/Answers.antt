@@ -64,3 +64,19 @@ returns-in-Show-clause-ok g c =
 pub returns-in-Show-clause-err : goal.returns-in-Show-clause-err
 returns-in-Show-clause-err g c =
     subst (λ request. IfErr c.show_blocks.result (λ r. OnRefused (seen_by g.R.File.Read.remaining) request r (g.O.Write.contents c.args.out.now) (g.O.Write.contents c.show_blocks.new.out) (c.show_blocks.new.out ≡ c.args.out.now))) (sym c.in-Show.is) (on_both c.show_blocks.result _ _ c.show_blocks.ensures.silent c.show_blocks.ensures.refused)
+
+pub returns-in-Put-clause-ok : goal.returns-in-Put-clause-ok
+returns-in-Put-clause-ok g c =
+    subst (λ request. OnOk c.put_file.result (Answers (seen_by g.R.File.Read.remaining) request (g.O.Write.contents c.args.out.now) (g.O.Write.contents c.put_file.new.out))) (sym c.in-Put.is) c.put_file.ensures.opened
+
+pub returns-in-Put-clause-err : goal.returns-in-Put-clause-err
+returns-in-Put-clause-err g c =
+    subst (λ request. IfErr c.put_file.result (λ r. OnRefused (seen_by g.R.File.Read.remaining) request r (g.O.Write.contents c.args.out.now) (g.O.Write.contents c.put_file.new.out) (c.put_file.new.out ≡ c.args.out.now))) (sym c.in-Put.is) (on_both c.put_file.result _ _ c.put_file.ensures.silent c.put_file.ensures.refused)
+
+pub returns-in-Copy-clause-ok : goal.returns-in-Copy-clause-ok
+returns-in-Copy-clause-ok g c =
+    subst (λ request. OnOk c.copy_files.result (Answers (seen_by g.R.File.Read.remaining) request (g.O.Write.contents c.args.out.now) (g.O.Write.contents c.copy_files.new.out))) (sym c.in-Copy.is) c.copy_files.ensures.copied
+
+pub returns-in-Copy-clause-err : goal.returns-in-Copy-clause-err
+returns-in-Copy-clause-err g c =
+    subst (λ request. IfErr c.copy_files.result (λ r. OnRefused (seen_by g.R.File.Read.remaining) request r (g.O.Write.contents c.args.out.now) (g.O.Write.contents c.copy_files.new.out) (c.copy_files.new.out ≡ c.args.out.now))) (sym c.in-Copy.is) (on_both c.copy_files.result _ _ c.copy_files.ensures.silent c.copy_files.ensures.refused)

@@ -1,0 +1,105 @@
+// Copies of the image whose calls fail in turn.
+use crate::ground::{KINDS, MOST_CALLS, ground, is_ground};
+use anyhow::{bail, ensure};
+use blocks::{FaultyDisk, Kind, MemDisk};
+use copying::{CopyFault, Progress, copy};
+use layout::{CheckFault, MkfsFault};
+use std::alloc::Global;
+use std::io;
+
+// Which of the two disks fails.
+#[derive(Clone, Copy)]
+enum Failing {
+    Old,
+    New,
+}
+
+// How many calls failed, by what was told of it.
+#[derive(Clone, Copy)]
+struct Failures {
+    checks: u64,
+    makings: u64,
+    later: u64,
+}
+
+impl Failures {
+    fn count(&mut self, fault: CopyFault) -> anyhow::Result<()> {
+        match fault {
+            CopyFault::Old(CheckFault::Disk) => self.checks = self.checks.saturating_add(1),
+            CopyFault::Mkfs(MkfsFault::Disk) => self.makings = self.makings.saturating_add(1),
+            CopyFault::Disk => self.later = self.later.saturating_add(1),
+            other => bail!("another fault: {other}"),
+        }
+        Ok(())
+    }
+
+    fn print(self, rt: &impl Print, disk: &str, calls: &str) -> io::Result<()> {
+        println!(rt;
+            "copy, {disk}, {calls}: Old(Disk) {}, Mkfs(Disk) {}, Disk {}",
+            self.checks,
+            self.makings,
+            self.later
+        )
+    }
+}
+
+// Nobody is told how far a copy is.
+#[derive(Drop)]
+struct Nobody;
+
+impl Progress for Nobody {
+    fn copied(&mut self, _files: u32, _of: u32) {}
+
+    fn ended(&mut self) {}
+}
+
+/// Makes each call of a copy fail in turn: the reads of the old disk, and the reads and the writes of
+/// the new one. Prints how many there were.
+pub fn fail_copies(rt: &impl Print, alloc: Global) -> anyhow::Result<()> {
+    fail_each(alloc, Failing::Old, Kind::Read)?.print(rt, "old disk", "reads")?;
+    for (kind, calls) in KINDS {
+        fail_each(alloc, Failing::New, kind)?.print(rt, "new disk", calls)?;
+    }
+    Ok(())
+}
+
+// Makes each call of a kind fail in turn, until a copy makes no more of them.
+fn fail_each(alloc: Global, failing: Failing, kind: Kind) -> anyhow::Result<Failures> {
+    let mut failures = Failures {
+        checks: 0,
+        makings: 0,
+        later: 0,
+    };
+    for nth in 1..MOST_CALLS {
+        let (of_old, of_new) = match failing {
+            Failing::Old => (nth, 0),
+            Failing::New => (0, nth),
+        };
+        let old = FaultyDisk::new(ground(alloc)?, of_old, kind);
+        let new = FaultyDisk::new(MemDisk::new(alloc, 200)?, of_new, kind);
+        match copy_all(alloc, old, new)? {
+            Some(fault) => failures.count(fault)?,
+            None => return Ok(failures),
+        }
+    }
+    bail!("a copy makes too many calls")
+}
+
+// Makes a copy, and looks whether the old image stays as it was. Why there is no copy, if there is
+// none.
+fn copy_all(
+    alloc: Global,
+    mut old: FaultyDisk<MemDisk>,
+    new: FaultyDisk<MemDisk>,
+) -> anyhow::Result<Option<CopyFault>> {
+    let copied = copy(alloc, &mut old, new, 200, &mut Nobody);
+    let is_kept = is_ground(alloc, old.into_inner())?;
+    ensure!(is_kept, "the old image is not as it was");
+    match copied {
+        Ok((files, _new)) => {
+            ensure!(files == 1, "{files} files were copied");
+            Ok(None)
+        }
+        Err((fault, _new)) => Ok(Some(fault)),
+    }
+}

@@ -1,0 +1,19 @@
+//! Copies of an image and puts into one, over disks in memory of which each read and each write fails
+//! in turn, a write in both kinds: its block stays as it was, or is written all the same.
+//!
+//! Behind each failed copy the old image is as it was. Behind each failed put the image is recovered
+//! to a sound one, whose files are those before it, or those with the first of the bytes. The program
+//! prints how many calls failed; the first that leaves something else ends it, with status 1.
+#![tactic(auto)]
+
+mod copies;
+mod ground;
+mod puts;
+
+use crate::copies::fail_copies;
+use crate::puts::fail_puts;
+
+fn main(rt: HostRuntime) -> anyhow::Result<()> {
+    fail_copies(&rt, rt.alloc())?;
+    fail_puts(&rt, rt.alloc())
+}
