@@ -36,9 +36,7 @@ impl Failures {
     fn print(self, rt: &impl Print, disk: &str, calls: &str) -> io::Result<()> {
         println!(rt;
             "copy, {disk}, {calls}: Old(Disk) {}, Mkfs(Disk) {}, Disk {}",
-            self.checks,
-            self.makings,
-            self.later
+            self.checks, self.makings, self.later
         )
     }
 }
