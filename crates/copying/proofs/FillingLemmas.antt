@@ -25,12 +25,12 @@ use Rattle.sole.specs.Calls.{call_count, image_on}
 use Rattle.sole.specs.Stepping.{Plain}
 use Rattle.filing.specs.Answered.{IsAnswered}
 use Rattle.filing.specs.Files.{Appends, AppendsPart, Creates, IsFull, MakesFile, MakesNone, MayAppend, appended, files_on, size_of}
-use Rattle.copying.specs.Holding.{Holds}
+use Rattle.copying.specs.Holding.{HasFewer, Holds}
 use Rattle.copying.specs.Source.{IsSourceOf}
 use Rattle.copying.specs.Stages.{kept_at, kind_or_plain, listed, made_at, written_at}
 use Rattle.copying.specs.declared.source.Source.{Source}
 use Rattle.copying.proofs.SourceLemmas.{count_recovered}
-use Rattle.copying.proofs.StageLemmas.{few_bytes, file_free, file_used, kept_removed, kept_same, kept_there, length-listed, made_always, made_next, piece_appended, piece_fits, written_empty, written_end, written_next, written_none}
+use Rattle.copying.proofs.StageLemmas.{few_bytes, file_free, file_used, kept_removed, kept_same, kept_there, length-listed, made_always, made_next, piece_appended, piece_begun, piece_fits, written_empty, written_end, written_next, written_none}
 
 module _ {D N : Type 0} (disk : Ghosts D N) where
   -- after a call more
@@ -109,6 +109,23 @@ module _ {D N : Type 0} (disk : Ghosts D N) where
         holds_next most l m before answered opening
         (made ∙ ap (λ (now : Files). appended now i bytes) before.held ∙ piece_appended all size at count few inside is files i bytes empty read)
 
+    -- or no block is free, and not all of its bytes are there
+    pub part_appended : (m : Plain D) (whole : Bool) → whole ≡ false → Appends whole i bytes (image_on disk.image l) (image_on disk.image m) → length bytes ≡ count →
+        (old : Files) → size_of (file_in old i) ≡ Some (length all) → IsFull (image_on disk.image m) × HasFewer i old (files_on disk.image m)
+    part_appended m whole false_is appends long old old_size =
+        let part : AppendsPart i bytes (image_on disk.image l) (image_on disk.image m)
+        = subst (λ (b : Bool). Appends b i bytes (image_on disk.image l) (image_on disk.image m)) false_is appends in
+        let begun = piece_begun all size at count few inside is files i bytes part.count empty read long part.fewer in (
+          part.full,
+          record {
+            whole = length all;
+            part = at + part.count;
+            old_size = old_size;
+            new_size = ap (λ (now : Files). size_of (file_in now i)) (part.files ∙ ap (λ (now : Files). appended now i (take part.count bytes)) before.held) ∙ begun.0;
+            fewer = begun.1;
+          },
+        )
+
   -- at last all of its bytes are there
   pub all_appended : (files : Files) (i : ℕ) (x : Image) (d e : Dinode) (n most more : ℕ) (l : Plain D) → Holds disk most (appended files i (take n (bytes_in x d))) l → most ≤ more → d.size ≤ n → d ≡ e →
       Holds disk more (appended files i (bytes_in x e)) l
@@ -145,12 +162,6 @@ module _ {D N : Type 0} (disk : Ghosts D N) where
 
     pub none_written : file_in files (k + 1) ≡ None → Holds disk (most + 90) (listed (length files) (written_at files (k + 1))) l
     none_written none = holds_as most (most + 90) l before (omega arith) (written_none files k none)
-
--- where not all of the bytes are written, no block is free
-pub full_after : (i : ℕ) (bytes : List ℕ) (x y : Image) (whole : Bool) → whole ≡ false → Appends whole i bytes x y → IsFull y
-full_after i bytes x y whole false_is appends =
-    let part : AppendsPart i bytes x y = subst (λ (b : Bool). Appends b i bytes x y) false_is appends in
-    part.full
 
 -- ---- the old image
 
@@ -201,10 +212,12 @@ module _ (x : Image) (source : Source) (is : IsSourceOf x source) where
       read ∙ ap (λ (k : ℕ). take k (drop at (bytes_in (recovered y) d))) long
       ∙ ap (λ (z : Image). take count (drop at (bytes_in (recovered z) d))) same
 
-  pub there_used : (i : ℕ) → 1 ≤ i → i < inode_count_of x → (inode_of (recovered x) i).kind ≢ 0 → file_in (files_of (recovered x)) i ≢ None
-  there_used i some low used none =
+  -- how many bytes it has
+  pub size_used : (i : ℕ) (d : Dinode) → 1 ≤ i → i < inode_count_of x → (inode_of (recovered x) i).kind ≢ 0 → d ≡ inode_of (recovered x) i →
+      size_of (file_in (files_of (recovered x)) i) ≡ Some (length (bytes_in (recovered x) d))
+  size_used i d some low used here =
       let same = count_recovered x is.sound in
-      absurd (cc (sym (file_used (recovered x) i some (omega (arith, same, low)) used), none))
+      ap size_of (file_used (recovered x) i some (omega (arith, same, low)) used) ∙ ap (λ (e : Dinode). Some (length (bytes_in (recovered x) e))) (sym here)
 
   -- ---- its numbers, from 1 on
 

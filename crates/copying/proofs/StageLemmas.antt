@@ -279,6 +279,18 @@ module _ (all : List ℕ) (size at count : ℕ) (few : length all ≤ size) (ins
       appended_more files i empty (take at all) bytes
       ∙ ap (appended files i) (ap (λ (b : List ℕ). take at all ++ b) read ∙ piece_more)
 
+  -- only its first bytes are there
+  pub piece_begun : (files : Files) (i : ℕ) (bytes : List ℕ) (n : ℕ) → size_of (file_in files i) ≡ Some 0 → bytes ≡ take count (drop at all) → length bytes ≡ count → n < length bytes →
+      (size_of (file_in (appended (appended files i (take at all)) i (take n bytes)) i) ≡ Some (at + n)) × (at + n < length all)
+  piece_begun files i bytes n empty read long fewer =
+      let there = piece_there bytes read long in
+      let begun : length (take at all) ≡ at = length-take-le at all there in
+      let more : length (take n bytes) ≡ n = length-take-le n bytes (omega arith) in
+      let sum : length (take at all ++ take n bytes) ≡ at + n = length-append (take at all) (take n bytes) ∙ omega arith in (
+        ap (λ (now : Files). size_of (file_in now i)) (appended_more files i empty (take at all) (take n bytes)) ∙ appended_size files i empty (take at all ++ take n bytes) ∙ ap Some sum,
+        omega (arith, ap length read, length-take count (drop at all), length-drop at all),
+      )
+
 -- ---- the files of an image, by its inodes
 
 module _ (x : Image) (i : ℕ) (some : 1 ≤ i) (low : i < inode_count_of x) where

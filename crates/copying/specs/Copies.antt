@@ -1,9 +1,9 @@
 -- A copy, and why there is none.
-use Rattle.std.specs.Prelude.{◌≡◌, ◌≢◌, ◌⊎◌, ℕ, ◌==◌, ◌&&◌, ⊤, false, length, replicate, None, Result, Ok, Err}
+use Rattle.std.specs.Prelude.{◌≡◌, ◌⊎◌, ℕ, ◌==◌, ◌&&◌, ⊤, false, length, replicate, None, Result, Ok, Err}
 use Rattle.blocks.specs.Disk.{Rose}
 use Rattle.blocks.specs.declared.disk.Disk.{Ghosts}
 use Rattle.model.specs.declared.types.image.Form.TheVariants.{One, Two}
-use Rattle.model.specs.Files.{file_in, files_of, file_count}
+use Rattle.model.specs.Files.{files_of, file_count}
 use Rattle.model.specs.Layout.{form_of, inode_count_of, is_size}
 use Rattle.model.specs.Log.{recovered}
 use Rattle.model.specs.Soundness.{IsSound}
@@ -13,7 +13,7 @@ use Rattle.layout.specs.declared.geometry.MkfsFault.{MkfsFault}
 use Rattle.layout.specs.declared.geometry.MkfsFault.TheVariants as mkfs
 use Rattle.sole.specs.Stepping.{Plain}
 use Rattle.filing.specs.Files.{IsFull}
-use Rattle.copying.specs.Holding.{Holds}
+use Rattle.copying.specs.Holding.{HasFewer, Holds}
 use Rattle.copying.specs.declared.fault.CopyFault.{CopyFault}
 use Rattle.copying.specs.declared.fault.CopyFault.TheVariants.{Old, NotFirst, Mkfs, Full, NoMemory, Disk}
 
@@ -80,10 +80,11 @@ IsUncopied old new size d d' n e NotFirst =
 IsUncopied old new size d d' n e (Mkfs fault) =
     (verdict (old.image d) ≡ None) × (form_of (old.image d) ≡ One)
     × IsMkfsCause new size (inode_count_of (old.image d)) n e fault
--- a file of that number is there, and the new image has no free block
+-- the file of that number has not all of its bytes, and the new image has no free block
 IsUncopied old new size d d' n e (Full i) =
     (verdict (old.image d) ≡ None) × (form_of (old.image d) ≡ One)
-    × (file_in (files_of (recovered (old.image d))) i ≢ None) × IsFull (new.image e)
+    × HasFewer i (files_of (recovered (old.image d))) (files_of (new.image e))
+    × IsFull (new.image e)
 IsUncopied old new size d d' n e NoMemory = ⊤
 IsUncopied old new size d d' n e Disk =
     Rose (old.fault_count d) (old.fault_count d') ⊎ Rose (new.fault_count n) (new.fault_count e)
