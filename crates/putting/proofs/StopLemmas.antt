@@ -1,12 +1,12 @@
 -- What a stop leaves of calls one after the other.
-use Rattle.std.proofs.Common.{◌≡◌, ◌≢◌, ◌∙◌, ℕ, ◌+◌, ◌<◌, ◌≤◌, List, [], ◌++◌, length, take, set, Option, Some, None, refl, sym, ap, subst, inl, inr, ⊎_elim, arith}
+use Rattle.std.proofs.Common.{◌≡◌, ◌≢◌, ◌∙◌, ℕ, ◌+◌, ◌<◌, ◌≤◌, List, [], ◌++◌, length, take, set, Option, Some, None, refl, sym, ap, subst, inl, inr}
 use Rattle.std.specs.Prelude.{◌⊎◌}
 use Rattle.blocks.specs.Disk.{Image, LeavesOnly}
 use Rattle.blocks.specs.Lemmas.Moments.{joined}
 use Rattle.blocks.specs.declared.disk.Disk.{Ghosts}
 use Rattle.model.specs.Files.{Files, file_in, files_of}
 use Rattle.model.specs.Log.{recovered}
-use Rattle.filing.specs.Files.{appended, emptied, empty_file, files_on}
+use Rattle.filing.specs.Files.{appended, files_on}
 use Rattle.filing.specs.Stopped.{AppendsFirst, Empties, KeepsChange, LeavesChange, MakesAny, Removes, StaysOver}
 use Rattle.opening.specs.Lemmas.Keeping.{leaves_wider}
 use Rattle.sole.specs.Calls.{KeepsFiles, image_on}

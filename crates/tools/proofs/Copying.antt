@@ -1,6 +1,6 @@
 -- Why a copy is not planned, and what is told of one that was made.
-use Rattle.std.proofs.Common.{◌≡◌, ◌∙◌, ℕ, Bool, true, false, ◌&&◌, leb, Option, None, List, ap, sym, subst, refl, inl, inr, arith}
-use Rattle.std.specs.Prelude.{◌⊎◌, ◌↔◌, Result, Ok, Err, IsOk, IsTrue, IfErr, IsOkUnless, OnOk}
+use Rattle.std.proofs.Common.{◌≡◌, ◌∙◌, ℕ, Bool, true, false, ◌&&◌, leb, Option, None, List, ap, sym, subst, refl, inr}
+use Rattle.std.specs.Prelude.{◌↔◌, Result, Ok, Err, IsOk, IsTrue, IfErr, IsOkUnless, OnOk}
 use Rattle.std.specs.Result.{IsErrOf}
 use Rattle.std.specs.Io.KnownBytes.{Appends}
 use Rattle.blocks.specs.declared.disk.Disk.{Ghosts}

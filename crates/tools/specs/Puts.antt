@@ -7,7 +7,7 @@ use Rattle.texts.specs.declared.faults.PutFault.{PutFault}
 use Rattle.texts.specs.declared.faults.PutFault.TheVariants as put
 use Rattle.texts.specs.declared.refusal.Refusal.{Refusal}
 use Rattle.texts.specs.declared.refusal.Refusal.TheVariants.{Put}
-use Rattle.filedisks.specs.Opened.{OnDiskRefusal, OpensDisk}
+use Rattle.filedisks.specs.Opened.{OnDiskRefusal}
 
 -- the bytes of some file were put
 pub record HasPut {F N : Type 0} (disk : Ghosts (FileDisk F) N) (inum : Option ℕ)

@@ -1,4 +1,4 @@
-use Rattle.std.proofs.Common.{◌≡◌, ℕ, rules, subst, inl, inr}
+use Rattle.std.proofs.Common.{ℕ, rules, subst, inl, inr}
 use Rattle.std.proofs.lemmas.Result.{err_from_is_err_and}
 use Rattle.copying.specs.Copies.{IsUncopied}
 use Rattle.filedisks.specs.Lemmas.Disks.{file_disk}
