@@ -24,7 +24,9 @@ use texts::{PutFault, Refusal, print_number};
 /// Puts bytes into the image of a disk, and prints the number of their file: they take the place of
 /// those of the file of this number, which keeps its type, or are those of a new file of type 2 at
 /// the lowest free number. The image is checked and recovered first; then each call is a whole
-/// operation.
+/// operation (the xv6 book, the chapter "File system": "Logging layer"). So a stop at any moment
+/// leaves, once recovered, the files as they were, or with the old file, or a new one, in which the
+/// first of the bytes stand.
 ///
 /// Hands the disk back.
 ///
