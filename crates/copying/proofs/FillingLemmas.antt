@@ -1,8 +1,8 @@
 -- Calls that fill a kernel, one after the other.
-use Rattle.std.proofs.Common.{◌≡◌, ◌≢◌, ◌∙◌, ℕ, ◌+◌, ◌-◌, ◌<◌, ◌≤◌, min, Bool, true, false, cond, eqb, All, List, length, get_or, set, take, drop, Option, Some, None, refl, sym, ap, subst, arith}
+use Rattle.std.proofs.Common.{◌≡◌, ◌≢◌, ◌⊎◌, ◌∙◌, ℕ, ◌+◌, ◌-◌, ◌<◌, ◌≤◌, min, Bool, true, false, cond, eqb, All, List, length, get_or, set, take, drop, Option, Some, None, refl, sym, ap, subst, arith}
 use Rattle.std.proofs.lemmas.List.{take_all}
 use Rattle.std.proofs.lemmas.List.Elements.{All-from_get_or}
-use Rattle.blocks.specs.Disk.{Image, IsImage}
+use Rattle.blocks.specs.Disk.{Image, IsImage, Rose}
 use Rattle.blocks.specs.declared.disk.Disk.{Ghosts}
 use Rattle.model.specs.declared.types.image.Dinode.{Dinode}
 use Rattle.model.specs.declared.types.image.File.{File}
@@ -25,12 +25,14 @@ use Rattle.sole.specs.Calls.{call_count, image_on}
 use Rattle.sole.specs.Stepping.{Plain}
 use Rattle.filing.specs.Answered.{IsAnswered}
 use Rattle.filing.specs.Files.{Appends, AppendsPart, Creates, IsFull, MakesFile, MakesNone, MayAppend, appended, files_on, size_of}
-use Rattle.copying.specs.Holding.{HasFewer, Holds}
+use Rattle.copying.specs.Holding.{HasFirst, Holds, IsUnwritten}
 use Rattle.copying.specs.Source.{IsSourceOf}
 use Rattle.copying.specs.Stages.{kept_at, kind_or_plain, listed, made_at, written_at}
+use Rattle.copying.specs.declared.fault.CopyFault.{CopyFault}
+use Rattle.copying.specs.declared.fault.CopyFault.TheVariants.{Old, NotFirst, Mkfs, Full, NoMemory, Disk}
 use Rattle.copying.specs.declared.source.Source.{Source}
 use Rattle.copying.proofs.SourceLemmas.{count_recovered}
-use Rattle.copying.proofs.StageLemmas.{few_bytes, file_free, file_used, kept_removed, kept_same, kept_there, length-listed, made_always, made_next, piece_appended, piece_begun, piece_fits, written_empty, written_end, written_next, written_none}
+use Rattle.copying.proofs.StageLemmas.{few_bytes, file_free, file_used, first_written, kept_removed, kept_same, kept_there, length-listed, made_always, made_next, piece_appended, piece_begun, piece_fits, written_empty, written_end, written_next, written_none}
 
 module _ {D N : Type 0} (disk : Ghosts D N) where
   -- after a call more
@@ -109,21 +111,17 @@ module _ {D N : Type 0} (disk : Ghosts D N) where
         holds_next most l m before answered opening
         (made ∙ ap (λ (now : Files). appended now i bytes) before.held ∙ piece_appended all size at count few inside is files i bytes empty read)
 
-    -- or no block is free, and not all of its bytes are there
-    pub part_appended : (m : Plain D) (whole : Bool) → whole ≡ false → Appends whole i bytes (image_on disk.image l) (image_on disk.image m) → length bytes ≡ count →
-        (old : Files) → size_of (file_in old i) ≡ Some (length all) → IsFull (image_on disk.image m) × HasFewer i old (files_on disk.image m)
-    part_appended m whole false_is appends long old old_size =
+    -- or no block is free, and only the first of its bytes are there
+    pub part_appended : (m : Plain D) (whole : Bool) → whole ≡ false → Appends whole i bytes (image_on disk.image l) (image_on disk.image m) → length bytes ≡ count → IsAnswered disk l m →
+        (o : D) → l.opening ≡ o → (these : List ℕ) → all ≡ these → HasFirst i (appended files i these) (files_on disk.image m) × IsFull (image_on disk.image m) × (length (image_on disk.image m) ≡ length (disk.image o))
+    part_appended m whole false_is appends long answered o opening these same =
         let part : AppendsPart i bytes (image_on disk.image l) (image_on disk.image m)
-        = subst (λ (b : Bool). Appends b i bytes (image_on disk.image l) (image_on disk.image m)) false_is appends in
-        let begun = piece_begun all size at count few inside is files i bytes part.count empty read long part.fewer in (
+        = subst (λ (b : Bool). Appends b i bytes (image_on disk.image l) (image_on disk.image m)) false_is appends in (
+          subst (λ (b : List ℕ). HasFirst i (appended files i b) (files_on disk.image m)) same
+              (piece_begun all size at count few inside is files i bytes part.count empty read long part.fewer (files_on disk.image m)
+              (part.files ∙ ap (λ (now : Files). appended now i (take part.count bytes)) before.held)),
           part.full,
-          record {
-            whole = length all;
-            part = at + part.count;
-            old_size = old_size;
-            new_size = ap (λ (now : Files). size_of (file_in now i)) (part.files ∙ ap (λ (now : Files). appended now i (take part.count bytes)) before.held) ∙ begun.0;
-            fewer = begun.1;
-          },
+          answered.whole.size ∙ before.size ∙ ap (λ (d : D). length (disk.image d)) opening,
         )
 
   -- at last all of its bytes are there
@@ -153,6 +151,23 @@ module _ {D N : Type 0} (disk : Ghosts D N) where
         holds_own most _ l before,
         ap (λ (now : Files). size_of (file_in now (k + 1))) before.held ∙ written_empty files k room file is,
       )
+
+      -- why its file is not all written is why not all files are
+      pub one_unwritten : {C M : Type 0} (from : Ghosts C M) (c d c' : C) (p o e : D) (fault : CopyFault) → IsUnwritten from disk (appended (files_on disk.image l) (k + 1) file.bytes) c c' p e fault →
+          from.fault_count c ≡ from.fault_count d → p ≡ o → IsUnwritten from disk files d c' o e fault
+      one_unwritten from c d c' p o e (Old fault) refused same opening = refused
+      one_unwritten from c d c' p o e NotFirst refused same opening = refused
+      one_unwritten from c d c' p o e (Mkfs fault) refused same opening = refused
+      one_unwritten from c d c' p o e (Full i) refused same opening =
+          let now = ap (λ (now : Files). appended now (k + 1) file.bytes) before.held ∙ written_next files k room file is in (
+            first_written files (k + 1) i (files_of (disk.image e)) (subst (λ (old : Files). HasFirst i old (files_of (disk.image e))) now refused.0),
+            refused.1,
+            refused.2 ∙ ap (λ (d : D). length (disk.image d)) opening,
+          )
+      one_unwritten from c d c' p o e NoMemory refused same opening = refused
+      one_unwritten from c d c' p o e Disk refused same opening =
+          subst (λ (n : ℕ). Rose n (from.fault_count c') ⊎ Rose (disk.fault_count o) (disk.fault_count e)) same
+          (subst (λ (q : D). Rose (from.fault_count c) (from.fault_count c') ⊎ Rose (disk.fault_count q) (disk.fault_count e)) opening refused)
 
       pub one_written : (m : Plain D) → Holds disk (call_count l + 90) (appended (files_on disk.image l) (k + 1) file.bytes) m → Holds disk (most + 90) (listed (length files) (written_at files (k + 1))) m
       one_written m written =
@@ -211,13 +226,6 @@ module _ (x : Image) (source : Source) (is : IsSourceOf x source) where
   piece_read y d at count n bytes same long read =
       read ∙ ap (λ (k : ℕ). take k (drop at (bytes_in (recovered y) d))) long
       ∙ ap (λ (z : Image). take count (drop at (bytes_in (recovered z) d))) same
-
-  -- how many bytes it has
-  pub size_used : (i : ℕ) (d : Dinode) → 1 ≤ i → i < inode_count_of x → (inode_of (recovered x) i).kind ≢ 0 → d ≡ inode_of (recovered x) i →
-      size_of (file_in (files_of (recovered x)) i) ≡ Some (length (bytes_in (recovered x) d))
-  size_used i d some low used here =
-      let same = count_recovered x is.sound in
-      ap size_of (file_used (recovered x) i some (omega (arith, same, low)) used) ∙ ap (λ (e : Dinode). Some (length (bytes_in (recovered x) e))) (sym here)
 
   -- ---- its numbers, from 1 on
 

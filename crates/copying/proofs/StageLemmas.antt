@@ -1,9 +1,9 @@
 -- The files of the new image, stage by stage.
-use Rattle.std.proofs.Common.{◌≡◌, ◌≢◌, ◌∙◌, ℕ, ◌+◌, ◌-◌, ◌<◌, ◌≤◌, min, List, [], ◌++◌, length, get_or, map, set, replicate, take, drop, Option, Some, None, refl, sym, ap, subst, ⊎_elim, arith}
+use Rattle.std.proofs.Common.{◌≡◌, ◌≢◌, ◌∙◌, ℕ, ◌+◌, ◌-◌, ◌<◌, ◌≤◌, min, List, [], ◌++◌, length, get_or, map, set, replicate, take, take-take, drop, Option, Some, None, refl, sym, ap, subst, ⊎_elim, arith}
 use Rattle.std.proofs.Math.Seq.{take-add}
 use Rattle.std.proofs.lemmas.Bool.{cases_lt, cases_eq, ne_eqb}
 use Rattle.std.proofs.lemmas.Bool.Decides.{nat_tests}
-use Rattle.std.proofs.lemmas.List.{append-nil, append_assoc, ext_get_or, get_or-map, get_or-replicate, get_or-set_same, get_or-set_other, get_or_past, length-append, length-drop, length-map, length-replicate, length-set, length-take, length-take-le, set-get_or, set-set, take_all}
+use Rattle.std.proofs.lemmas.List.{append-nil, append_assoc, ext_get_or, get_or-map, get_or-replicate, get_or-set_same, get_or-set_other, get_or_past, length-append, length-drop, length-map, length-replicate, length-set, length-take, length-take-le, nil_from_length, set-get_or, set-set, take_all}
 use Rattle.std.proofs.lemmas.List.FromFn.{length-map-range_with_len, get_or-map-range_with_len}
 use Rattle.blocks.specs.Disk.{Image}
 use Rattle.model.specs.declared.types.image.Dinode.{Dinode}
@@ -12,8 +12,10 @@ use Rattle.model.specs.declared.types.image.Form.{Form}
 use Rattle.model.specs.declared.types.image.Form.TheVariants.{Two}
 use Rattle.model.specs.Files.{Files, blocks_for, bytes_in, file_in, file_of, files_of, joined}
 use Rattle.model.specs.Layout.{inode_count_of, inode_of}
+use Rattle.model.specs.Operations.{with_bytes}
 use Rattle.model.specs.Lemmas.FileNumbers.{file_in-files_of, file_in-files_of_zero, length-files_of}
 use Rattle.filing.specs.Files.{MakesFile, MakesNone, MayAppend, appended, empty_file, size_of, with_more, without_bytes}
+use Rattle.copying.specs.Holding.{HasFirst}
 use Rattle.copying.specs.Source.{AreKindsOf}
 use Rattle.copying.specs.Stages.{kept_at, kind_at, kind_or_plain, listed, made_at, written_at}
 
@@ -148,6 +150,16 @@ module _ (kinds : List ℕ) where
 
 -- ---- the files are written
 
+-- a number that has a file is one of them
+pub below_there : (files : Files) (i : ℕ) → file_in files i ≢ None → i < length files
+below_there files i there =
+    ⊎_elim (λ (h : i < length files). h) (λ (h : length files ≤ i). absurd (there (get_or_past files i None h))) (cases_lt i (length files))
+
+-- a file without its bytes has none
+empty_bytes : (o : Option File) (file : File) → without_bytes o ≡ Some file → length file.bytes ≡ 0
+empty_bytes None file is = absurd (cc is)
+empty_bytes (Some other) file is = let same : record other { bytes = [] } ≡ file = cc is in ap (λ (f : File). length f.bytes) (sym same)
+
 module _ (files : Files) where
   written_here : (k i : ℕ) → i ≤ k → written_at files k i ≡ file_in files i
   written_here k i low = grind (arith, nat_tests)
@@ -167,6 +179,17 @@ module _ (files : Files) where
       (λ (zero : j ≡ 0). subst (λ (n : ℕ). without_bytes (file_in files n) ≡ written_at files 0 n) (sym zero) (ap without_bytes none ∙ sym none))
       (λ (some : j ≢ 0). sym (written_later 0 j (omega arith)))
       (cases_eq j 0))
+
+  -- only those that were written have bytes: a file that has only the first of them is one of these
+  pub first_written : (k i : ℕ) (new : Files) → HasFirst i (listed (length files) (written_at files k)) new → HasFirst i files new
+  first_written k i new first =
+      let there : i < length (listed (length files) (written_at files k)) = below_there (listed (length files) (written_at files k)) i (λ none. absurd (cc (sym first.was, none))) in
+      let low : i < length files = omega (arith, length-listed (length files) (written_at files k)) in
+      let is = sym (in_listed (length files) (written_at files k) i low) ∙ first.was in
+      ⊎_elim
+      (λ (later : k < i). let fewer = first.fewer in let none = empty_bytes (file_in files i) first.file (sym (written_later k i later) ∙ is) in absurd (omega arith))
+      (λ (here : i ≤ k). record { file = first.file; count = first.count; was = sym (written_here k i here) ∙ is; fewer = first.fewer; now = first.now })
+      (cases_lt k i)
 
   -- and at last each has them
   pub written_end : (k : ℕ) → ((i : ℕ) → k < i → i < length files → file_in files i ≡ None) → listed (length files) (written_at files k) ≡ files
@@ -222,11 +245,6 @@ pub there_of_size : (o : Option File) (n : ℕ) → size_of o ≡ Some n → o �
 there_of_size None n h is = cc h
 there_of_size (Some file) n h is = cc is
 
--- a number that has a file is one of them
-pub below_there : (files : Files) (i : ℕ) → file_in files i ≢ None → i < length files
-below_there files i there =
-    ⊎_elim (λ (h : i < length files). h) (λ (h : length files ≤ i). absurd (there (get_or_past files i None h))) (cases_lt i (length files))
-
 module _ (files : Files) (i : ℕ) (empty : size_of (file_in files i) ≡ Some 0) where
   low : i < length files
   low = below_there files i (there_of_size (file_in files i) 0 empty)
@@ -236,6 +254,24 @@ module _ (files : Files) (i : ℕ) (empty : size_of (file_in files i) ≡ Some 0
 
   pub appended_size : (a : List ℕ) → size_of (file_in (appended files i a) i) ≡ Some (length a)
   appended_size a = ap size_of (file_appended a) ∙ more_size (file_in files i) a empty
+
+  first_more : (o : Option File) (all : List ℕ) (n : ℕ) → size_of o ≡ Some 0 → n < length all → (old new : Files) → file_in old i ≡ with_more o all → file_in new i ≡ with_more o (take n all) → HasFirst i old new
+  first_more None all n none fewer old new was now = absurd (cc none)
+  first_more (Some file) all n none fewer old new was now =
+      let nil : file.bytes ≡ [] = nil_from_length file.bytes (cc none) in
+      let long : length (file.bytes ++ all) ≡ length all = ap (λ (b : List ℕ). length (b ++ all)) nil in
+      record {
+        file = record file { bytes = file.bytes ++ all };
+        count = n;
+        was = was;
+        fewer = omega arith;
+        now = now ∙ ap (with_bytes file) (ap (λ (b : List ℕ). b ++ take n all) nil ∙ sym (ap (λ (b : List ℕ). take n (b ++ all)) nil));
+      }
+
+  -- only the first of all bytes are there
+  first_appended : (all : List ℕ) (n : ℕ) → n < length all → (new : Files) → new ≡ appended files i (take n all) → HasFirst i (appended files i all) new
+  first_appended all n fewer new is =
+      first_more (file_in files i) all n empty fewer (appended files i all) new (file_appended all) (ap (λ (now : Files). file_in now i) is ∙ file_appended (take n all))
 
   pub appended_more : (a b : List ℕ) → appended (appended files i a) i b ≡ appended files i (a ++ b)
   appended_more a b =
@@ -280,16 +316,16 @@ module _ (all : List ℕ) (size at count : ℕ) (few : length all ≤ size) (ins
       ∙ ap (appended files i) (ap (λ (b : List ℕ). take at all ++ b) read ∙ piece_more)
 
   -- only its first bytes are there
-  pub piece_begun : (files : Files) (i : ℕ) (bytes : List ℕ) (n : ℕ) → size_of (file_in files i) ≡ Some 0 → bytes ≡ take count (drop at all) → length bytes ≡ count → n < length bytes →
-      (size_of (file_in (appended (appended files i (take at all)) i (take n bytes)) i) ≡ Some (at + n)) × (at + n < length all)
-  piece_begun files i bytes n empty read long fewer =
+  pub piece_begun : (files : Files) (i : ℕ) (bytes : List ℕ) (n : ℕ) → size_of (file_in files i) ≡ Some 0 → bytes ≡ take count (drop at all) → length bytes ≡ count → n < length bytes → (new : Files) →
+      new ≡ appended (appended files i (take at all)) i (take n bytes) → HasFirst i (appended files i all) new
+  piece_begun files i bytes n empty read long fewer new is =
       let there = piece_there bytes read long in
-      let begun : length (take at all) ≡ at = length-take-le at all there in
-      let more : length (take n bytes) ≡ n = length-take-le n bytes (omega arith) in
-      let sum : length (take at all ++ take n bytes) ≡ at + n = length-append (take at all) (take n bytes) ∙ omega arith in (
-        ap (λ (now : Files). size_of (file_in now i)) (appended_more files i empty (take at all) (take n bytes)) ∙ appended_size files i empty (take at all ++ take n bytes) ∙ ap Some sum,
-        omega (arith, ap length read, length-take count (drop at all), length-drop at all),
-      )
+      let first : take at all ++ take n bytes ≡ take (at + n) all
+      = ap (λ (b : List ℕ). take at all ++ take n b) read
+      ∙ ap (λ (b : List ℕ). take at all ++ b) (take-take n count (drop at all) (omega arith))
+      ∙ sym (take-add at n all) in
+      first_appended files i empty all (at + n) (omega (arith, ap length read, length-take count (drop at all), length-drop at all)) new
+      (is ∙ appended_more files i empty (take at all) (take n bytes) ∙ ap (appended files i) first)
 
 -- ---- the files of an image, by its inodes
 

@@ -13,7 +13,7 @@ use Rattle.layout.specs.declared.geometry.MkfsFault.{MkfsFault}
 use Rattle.layout.specs.declared.geometry.MkfsFault.TheVariants as mkfs
 use Rattle.sole.specs.Stepping.{Plain}
 use Rattle.filing.specs.Files.{IsFull}
-use Rattle.copying.specs.Holding.{HasFewer, Holds}
+use Rattle.copying.specs.Holding.{HasFirst, Holds}
 use Rattle.copying.specs.declared.fault.CopyFault.{CopyFault}
 use Rattle.copying.specs.declared.fault.CopyFault.TheVariants.{Old, NotFirst, Mkfs, Full, NoMemory, Disk}
 
@@ -80,11 +80,11 @@ IsUncopied old new size d d' n e NotFirst =
 IsUncopied old new size d d' n e (Mkfs fault) =
     (verdict (old.image d) ≡ None) × (form_of (old.image d) ≡ One)
     × IsMkfsCause new size (inode_count_of (old.image d)) n e fault
--- the file of that number has not all of its bytes, and the new image has no free block
+-- the file of that number has only the first of its bytes, and the new image has no free block
 IsUncopied old new size d d' n e (Full i) =
     (verdict (old.image d) ≡ None) × (form_of (old.image d) ≡ One)
-    × HasFewer i (files_of (recovered (old.image d))) (files_of (new.image e))
-    × IsFull (new.image e)
+    × HasFirst i (files_of (recovered (old.image d))) (files_of (new.image e))
+    × IsFull (new.image e) × (length (new.image e) ≡ size)
 IsUncopied old new size d d' n e NoMemory = ⊤
 IsUncopied old new size d d' n e Disk =
     Rose (old.fault_count d) (old.fault_count d') ⊎ Rose (new.fault_count n) (new.fault_count e)

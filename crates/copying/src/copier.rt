@@ -34,8 +34,8 @@ pub trait Progress {
 /// - `Old`: the old image has this fault, or could not be checked. The new disk is as it was.
 /// - `NotFirst`: the old image is of the second form. The new disk is as it was.
 /// - `Mkfs`: no new image was made, with the fault of `layout::mkfs_as`.
-/// - `Full`: no block was free for all bytes of the file of this number: the new image has fewer of
-///   them. Of what else it has then nothing is said.
+/// - `Full`: no block was free for all bytes of the file of this number: the new image has only the
+///   first of them, and each of its blocks is used. Of its other files nothing is said.
 ///
 /// `Disk` where one of the disks failed, and `NoMemory` where memory was refused. What the new disk
 /// holds then is not said.

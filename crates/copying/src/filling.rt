@@ -35,7 +35,8 @@ pub(crate) fn fill<D: Disk, E: Disk, P: Progress>(
     requires none { Holds E.Disk 0 (replicate (inode_count_of (D.image old.old)) None) kernel.old }
     ensures filled { OnOk result (Holds E.Disk (92 * length source.now.kinds.items)
         (files_of (recovered (D.image old.old))) kernel.new) }
-    ensures refused { IfErr result (IsUnwritten D.Disk E.Disk old.old old.new
+    ensures refused { IfErr result (IsUnwritten D.Disk E.Disk
+        (files_of (recovered (D.image old.old))) old.old old.new
         kernel.old.opening kernel.new.store.volume.device) }
     ensures reads { OnlyReads D.Disk old.old old.new }
     ensures faults { OnOk result (D.fault_count old.new ≡ D.fault_count old.old) }
@@ -114,7 +115,8 @@ fn write_files<D: Disk, E: Disk, P: Progress>(
         (map without_bytes (files_of (recovered (D.image old.old)))) kernel.old }
     ensures written { OnOk result (Holds E.Disk (92 * length source.now.kinds.items)
         (files_of (recovered (D.image old.old))) kernel.new) }
-    ensures refused { IfErr result (IsUnwritten D.Disk E.Disk old.old old.new
+    ensures refused { IfErr result (IsUnwritten D.Disk E.Disk
+        (files_of (recovered (D.image old.old))) old.old old.new
         kernel.old.opening kernel.new.store.volume.device) }
     ensures reads { OnlyReads D.Disk old.old old.new }
     ensures faults { OnOk result (D.fault_count old.new ≡ D.fault_count old.old) }
@@ -153,8 +155,10 @@ fn write_file<D: Disk, E: Disk>(
         (appended (files_on E.image kernel.old) i
         (bytes_in (recovered (D.image old.old)) (inode_of (recovered (D.image old.old)) i)))
         kernel.new) }
-    ensures refused { IfErr result (IsUnwritten D.Disk E.Disk old.old old.new
-        kernel.old.opening kernel.new.store.volume.device) }
+    ensures refused { IfErr result (IsUnwritten D.Disk E.Disk
+        (appended (files_on E.image kernel.old) i
+        (bytes_in (recovered (D.image old.old)) (inode_of (recovered (D.image old.old)) i)))
+        old.old old.new kernel.old.opening kernel.new.store.volume.device) }
     ensures reads { OnlyReads D.Disk old.old old.new }
     ensures faults { OnOk result (D.fault_count old.new ≡ D.fault_count old.old) }
     ensures opening { kernel.new.opening ≡ kernel.old.opening }

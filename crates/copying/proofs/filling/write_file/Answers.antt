@@ -1,12 +1,12 @@
 use Rattle.std.proofs.Common.{◌≡◌, ◌∙◌, ℕ, ◌+◌, ◌*◌, length, take, refl, sym, ap, arith}
 use Rattle.std.proofs.lemmas.List.{length-take}
 use Rattle.blocks.specs.Lemmas.Reads.{reads_then}
-use Rattle.model.specs.Files.{bytes_in, files_of}
+use Rattle.model.specs.Files.{bytes_in}
 use Rattle.model.specs.Layout.{inode_of}
 use Rattle.model.specs.Log.{recovered}
 use Rattle.sole.specs.Calls.{call_count}
 use Rattle.filing.specs.Files.{appended, files_on}
-use Rattle.copying.proofs.FillingLemmas.{all_appended, holds_as, one_appended, part_appended, piece_allowed, piece_read, readable, size_used, small_file}
+use Rattle.copying.proofs.FillingLemmas.{all_appended, holds_as, one_appended, part_appended, piece_allowed, piece_read, readable, small_file}
 use Rattle.copying.proofs.StageLemmas.{appended_none, few_bytes}
 use Rattle.copying.proofs.filling.write_file.Goals as goal
 
@@ -59,8 +59,8 @@ returns-then-not-branch-clause-refused g c =
     let read = piece_read x c.args.source.now c.requires.source (g.D.Disk.image c.loop-piece.old) d at count _ c.read.new.into c.loop-piece.invariant.reads.image long c.in_ok-read.ensures.ok in
     part_appended g.E.Disk (files_on g.E.Disk.image c.args.kernel.now) c.args.i c.requires.empty.1 (bytes_in (recovered x) d) d.size at count (few_bytes (recovered x) d) (omega arith) (omega arith)
     c.read.new.into read (call_count c.args.kernel.now + c.loop-piece.piece) c.loop-piece.kernel c.loop-piece.invariant.holds
-    c.append.new.kernel c.in_ok-append.field-0 c.if-not-branch.true c.in_ok-append.ensures.appends (c.read.auto.into ∙ long)
-    (files_of (recovered x)) (size_used x c.args.source.now c.requires.source c.args.i d number.0 number.1 c.requires.used c.in_ok-inode.ensures.ok)
+    c.append.new.kernel c.in_ok-append.field-0 c.if-not-branch.true c.in_ok-append.ensures.appends (c.read.auto.into ∙ long) c.in_ok-append.ensures.answered
+    c.args.kernel.now.opening c.loop-piece.invariant.opening (bytes_in (recovered x) (inode_of (recovered x) c.args.i)) (ap (bytes_in (recovered x)) {y = inode_of (recovered x) c.args.i} c.in_ok-inode.ensures.ok)
 
 pub returns-then-not-branch-clause-reads : goal.returns-then-not-branch-clause-reads
 returns-then-not-branch-clause-reads g c =

@@ -1,4 +1,5 @@
 use Rattle.std.proofs.Common.{◌≡◌, ◌≢◌, ◌∙◌, ℕ, ◌+◌, ◌*◌, ◌<◌, ◌≤◌, List, length, get_or, refl, sym, ap, subst, arith}
+use Rattle.std.proofs.lemmas.Result.{err_from_is_err_and}
 use Rattle.blocks.specs.Calls.{OnlyReads}
 use Rattle.blocks.specs.Disk.{Image}
 use Rattle.blocks.specs.Lemmas.Reads.{reads_none, reads_then}
@@ -9,9 +10,9 @@ use Rattle.model.specs.Lemmas.FileNumbers.{file_in-files_of_zero}
 use Rattle.filing.specs.Files.{appended, files_on}
 use Rattle.sole.specs.Calls.{call_count}
 use Rattle.sole.specs.Stepping.{Plain}
-use Rattle.copying.specs.Holding.{Holds}
+use Rattle.copying.specs.Holding.{Holds, IsUnwritten}
 use Rattle.copying.specs.Stages.{listed, written_at}
-use Rattle.copying.proofs.FillingLemmas.{all_written, file_listed, few_numbers, holds_as, none_listed, none_written, number_listed, number_within, one_written, still_empty}
+use Rattle.copying.proofs.FillingLemmas.{all_written, file_listed, few_numbers, holds_as, none_listed, none_written, number_listed, number_within, one_unwritten, one_written, still_empty}
 use Rattle.copying.proofs.SourceLemmas.{count_recovered}
 use Rattle.copying.proofs.StageLemmas.{written_start}
 use Rattle.copying.proofs.filling.write_files.Goals as goal
@@ -69,6 +70,27 @@ write_file-requires-clause-empty g c =
     let used : get_or source.kinds.items k 0 ≢ 0 = subst (λ (kinds : List ℕ). get_or kinds k 0 ≢ 0) c.deref-kind-items.ensures.value c.if-kind-ne0.true in
     still_empty g.E.Disk (files_of (recovered x)) k (number_listed x source c.requires.source k low) (2 * length source.kinds.items + 90 * k) c.loop-k.kernel c.loop-k.invariant.holds
     _ (file_listed x source c.requires.source k low used)
+
+pub returns-in_err-write_file-clause-refused : goal.returns-in_err-write_file-clause-refused
+returns-in_err-write_file-clause-refused g c =
+    let from = g.D.Disk in
+    let to = g.E.Disk in
+    let x = from.image c.args.old.now in
+    let source = c.args.source.now in
+    let is = c.requires.source in
+    let files = files_of (recovered x) in
+    let k = c.loop-k.k in
+    let l = c.loop-k.kernel in
+    let e = c.write_file.new.kernel.store.volume.device in
+    let fault = c.in_err-write_file.field-0.0 in
+    let low : k < length source.kinds.items = omega (arith, ap length c.deref-kind-items.ensures.value) in
+    let used : get_or source.kinds.items k 0 ≢ 0 = subst (λ (kinds : List ℕ). get_or kinds k 0 ≢ 0) c.deref-kind-items.ensures.value c.if-kind-ne0.true in
+    let refused = subst (λ (z : Image). IsUnwritten from to (appended (files_on to.image l) (k + 1) (bytes_in (recovered z) (inode_of (recovered z) (k + 1)))) c.loop-k.old c.write_file.new.old l.opening e fault)
+    c.loop-k.invariant.reads.image c.in_err-write_file.ensures.refused in
+    let p = err_from_is_err_and c.from_residual-in_err-write_file.result c.from_residual-in_err-write_file.ensures.1 in
+    rw (p.1, p.2)
+    (one_unwritten to files k (number_listed x source is k low) (2 * length source.kinds.items + 90 * k) l c.loop-k.invariant.holds _ (file_listed x source is k low used)
+    from c.loop-k.old c.args.old.now c.write_file.new.old l.opening c.args.kernel.now.opening e fault refused c.loop-k.invariant.faults c.loop-k.invariant.opening)
 
 pub overflow_add-copied : goal.overflow_add-copied
 overflow_add-copied g c =
