@@ -1,5 +1,5 @@
 -- What a copy has to know of the old image.
-use Rattle.std.specs.Prelude.{◌≡◌, ℕ, ◌+◌, ◌<◌, List, length, None, slice_index}
+use Rattle.std.specs.Prelude.{◌≡◌, ◌≢◌, ℕ, ◌+◌, ◌<◌, ◌≤◌, List, length, None, slice_index}
 use Rattle.blocks.specs.Disk.{Image}
 use Rattle.model.specs.declared.types.image.Form.TheVariants.{One}
 use Rattle.model.specs.Files.{files_of, file_count}
@@ -28,3 +28,10 @@ pub record IsSourceOf (x : Image) (source : Source) : Type 0 where
   pub image : IsRecoveredOf x source.image
   pub kinds : AreKindsOf (recovered x) source.kinds.items
   pub files : source.files ≡ file_count (files_of (recovered x))
+
+-- such an image, and the number of a file in it
+pub record IsFileOf (x : Image) (source : Source) (i : ℕ) : Type 0 where
+  pub is : IsSourceOf x source
+  pub some : 1 ≤ i
+  pub below : i < inode_count_of x
+  pub used : (inode_of (recovered x) i).kind ≢ 0

@@ -6,8 +6,9 @@ ghost use Rattle.model.specs.Layout.{inode_of, inode_count_of};
 ghost use Rattle.model.specs.Log.{recovered};
 ghost use Rattle.sole.specs.Calls.{call_count};
 ghost use Rattle.filing.specs.Files.{appended, files_on, size_of, without_bytes};
+ghost use Rattle.filing.specs.Stopped.{StaysOver};
 ghost use Rattle.copying.specs.Holding.{Holds, IsUnanswered, IsUnwritten};
-ghost use Rattle.copying.specs.Source.{IsSourceOf};
+ghost use Rattle.copying.specs.Source.{IsFileOf, IsSourceOf};
 ghost use Rattle.copying.specs.Stages.{kept_at, kind_or_plain, listed, made_at};
 
 use crate::copier::Progress;
@@ -145,9 +146,7 @@ fn write_file<D: Disk, E: Disk>(
     kernel: &mut Sole<E>,
     block: &mut Block,
 ) -> Result<(), CopyFault>
-    requires source { IsSourceOf (D.image old.old) source.now }
-    requires number { (1 ≤ i) × (i < inode_count_of (D.image old.old)) }
-    requires used { (inode_of (recovered (D.image old.old)) i).kind ≢ 0 }
+    requires file { IsFileOf (D.image old.old) source.now i }
     requires few { call_count kernel.old < 2 ^ 31 }
     requires empty { Holds E.Disk (call_count kernel.old) (files_on E.image kernel.old) kernel.old
         × (size_of (file_in (files_on E.image kernel.old) i) ≡ Some 0) }
@@ -161,8 +160,7 @@ fn write_file<D: Disk, E: Disk>(
         old.old old.new kernel.old.opening kernel.new.store.volume.device) }
     ensures reads { OnlyReads D.Disk old.old old.new }
     ensures faults { OnOk result (D.fault_count old.new ≡ D.fault_count old.old) }
-    ensures opening { kernel.new.opening ≡ kernel.old.opening }
-    ensures name { E.name kernel.new.store.volume.device ≡ E.name kernel.old.store.volume.device }
+    ensures stays { StaysOver E.Disk kernel.old kernel.new }
 {
     checked_files_may_be_read();
     let mut room = [0; TRANSFER_LIMIT as usize];

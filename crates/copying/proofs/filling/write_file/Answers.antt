@@ -24,8 +24,8 @@ loop-piece-init g c =
 pub read-requires-clause-file : goal.read-requires-clause-file
 read-requires-clause-file g c =
     let x = g.D.Disk.image c.args.old.now in
-    readable x c.args.source.now c.requires.source c.checked_files_may_be_read.ensures (g.met.D.Disk.is_image c.args.old.now) (g.D.Disk.image c.loop-piece.old) c.args.i c.in_ok-inode.inode
-    c.loop-piece.invariant.reads.image c.requires.number.0 c.requires.number.1 c.requires.used c.in_ok-inode.ensures.ok
+    readable x c.args.source.now c.requires.file.is c.checked_files_may_be_read.ensures (g.met.D.Disk.is_image c.args.old.now) (g.D.Disk.image c.loop-piece.old) c.args.i c.in_ok-inode.inode
+    c.loop-piece.invariant.reads.image c.requires.file.some c.requires.file.below c.requires.file.used c.in_ok-inode.ensures.ok
 
 pub returns-in_err-read-clause-reads : goal.returns-in_err-read-clause-reads
 returns-in_err-read-clause-reads g c =
@@ -37,10 +37,9 @@ append-requires-clause-room g c =
     let d = c.in_ok-inode.inode in
     let at = c.loop-piece.piece * 3072 in
     let count = c.min.result in
-    let number = c.requires.number in
     let long : length (take count c.loop-piece.room) ≡ count = omega (arith, c.min.array_long, length-take count c.loop-piece.room) in
-    let read = piece_read x c.args.source.now c.requires.source (g.D.Disk.image c.loop-piece.old) d at count _ c.read.new.into c.loop-piece.invariant.reads.image long c.in_ok-read.ensures.ok in
-    let small = small_file x c.args.source.now c.requires.source c.args.i d number.0 number.1 c.requires.used c.in_ok-inode.ensures.ok in
+    let read = piece_read x c.args.source.now c.requires.file.is (g.D.Disk.image c.loop-piece.old) d at count _ c.read.new.into c.loop-piece.invariant.reads.image long c.in_ok-read.ensures.ok in
+    let small = small_file x c.args.source.now c.requires.file.is c.args.i d c.requires.file.some c.requires.file.below c.requires.file.used c.in_ok-inode.ensures.ok in
     piece_allowed g.E.Disk (files_on g.E.Disk.image c.args.kernel.now) c.args.i c.requires.empty.1 (bytes_in (recovered x) d) d.size at count (few_bytes (recovered x) d) (omega arith) (omega arith)
     c.read.new.into read (call_count c.args.kernel.now + c.loop-piece.piece) c.loop-piece.kernel c.loop-piece.invariant.holds small (c.read.auto.into ∙ long)
 
@@ -54,9 +53,8 @@ returns-then-not-branch-clause-refused g c =
     let d = c.in_ok-inode.inode in
     let at = c.loop-piece.piece * 3072 in
     let count = c.min.result in
-    let number = c.requires.number in
     let long : length (take count c.loop-piece.room) ≡ count = omega (arith, c.min.array_long, length-take count c.loop-piece.room) in
-    let read = piece_read x c.args.source.now c.requires.source (g.D.Disk.image c.loop-piece.old) d at count _ c.read.new.into c.loop-piece.invariant.reads.image long c.in_ok-read.ensures.ok in
+    let read = piece_read x c.args.source.now c.requires.file.is (g.D.Disk.image c.loop-piece.old) d at count _ c.read.new.into c.loop-piece.invariant.reads.image long c.in_ok-read.ensures.ok in
     part_appended g.E.Disk (files_on g.E.Disk.image c.args.kernel.now) c.args.i c.requires.empty.1 (bytes_in (recovered x) d) d.size at count (few_bytes (recovered x) d) (omega arith) (omega arith)
     c.read.new.into read (call_count c.args.kernel.now + c.loop-piece.piece) c.loop-piece.kernel c.loop-piece.invariant.holds
     c.append.new.kernel c.in_ok-append.field-0 c.if-not-branch.true c.in_ok-append.ensures.appends (c.read.auto.into ∙ long) c.in_ok-append.ensures.answered
@@ -77,7 +75,7 @@ loop-piece-preserved g c =
     let at = piece * 3072 in
     let count = c.min.result in
     let long : length (take count c.loop-piece.room) ≡ count = omega (arith, c.min.array_long, length-take count c.loop-piece.room) in
-    let read = piece_read x c.args.source.now c.requires.source (g.D.Disk.image c.loop-piece.old) d at count _ c.read.new.into before.reads.image long c.in_ok-read.ensures.ok in
+    let read = piece_read x c.args.source.now c.requires.file.is (g.D.Disk.image c.loop-piece.old) d at count _ c.read.new.into before.reads.image long c.in_ok-read.ensures.ok in
     let next : at + 3072 ≡ (piece + 1) * 3072 = omega arith in
     record {
       reads = reads_then g.D.Disk c.args.old.now c.loop-piece.old c.read.new.disk before.reads c.read.ensures.reads;
@@ -96,8 +94,7 @@ returns-clause-written g c =
     let i = c.args.i in
     let d = c.in_ok-inode.inode in
     let l = c.args.kernel.now in
-    let number = c.requires.number in
     let piece = c.loop-piece.piece in
-    let small = small_file x c.args.source.now c.requires.source i d number.0 number.1 c.requires.used c.in_ok-inode.ensures.ok in
+    let small = small_file x c.args.source.now c.requires.file.is i d c.requires.file.some c.requires.file.below c.requires.file.used c.in_ok-inode.ensures.ok in
     all_appended g.E.Disk (files_on g.E.Disk.image l) i (recovered x) d (inode_of (recovered x) i) (piece * 3072) (call_count l + piece) (call_count l + 90) c.loop-piece.kernel
     c.loop-piece.invariant.holds (omega arith) (omega arith) c.in_ok-inode.ensures.ok

@@ -11,6 +11,7 @@ use Rattle.filing.specs.Files.{appended, files_on}
 use Rattle.sole.specs.Calls.{call_count}
 use Rattle.sole.specs.Stepping.{Plain}
 use Rattle.copying.specs.Holding.{Holds, IsUnwritten}
+use Rattle.copying.specs.Source.{IsFileOf}
 use Rattle.copying.specs.Stages.{listed, written_at}
 use Rattle.copying.proofs.FillingLemmas.{all_written, file_listed, few_numbers, holds_as, none_listed, none_written, number_listed, number_within, one_unwritten, one_written, still_empty}
 use Rattle.copying.proofs.SourceLemmas.{count_recovered}
@@ -45,11 +46,21 @@ overflow_add-k g c =
     let within = number_within x c.args.source.now c.requires.source c.loop-k.k (omega (arith, ap length c.deref-kind-items.ensures.value)) in
     omega arith
 
-pub write_file-requires-clause-number : goal.write_file-requires-clause-number
-write_file-requires-clause-number g c =
+pub write_file-requires-clause-file : goal.write_file-requires-clause-file
+write_file-requires-clause-file g c =
     let x = g.D.Disk.image c.args.old.now in
-    let within = number_within x c.args.source.now c.requires.source c.loop-k.k (omega (arith, ap length c.deref-kind-items.ensures.value)) in
-    (omega arith, subst (λ (z : Image). c.loop-k.k + 1 < inode_count_of z) (sym c.loop-k.invariant.reads.image) within)
+    let source = c.args.source.now in
+    let is = c.requires.source in
+    let k = c.loop-k.k in
+    let low : k < length source.kinds.items = omega (arith, ap length c.deref-kind-items.ensures.value) in
+    let used : get_or source.kinds.items k 0 ≢ 0 = subst (λ (kinds : List ℕ). get_or kinds k 0 ≢ 0) c.deref-kind-items.ensures.value c.if-kind-ne0.true in
+    let file : IsFileOf x source (k + 1) = record {
+      is = is;
+      some = omega arith;
+      below = number_within x source is k low;
+      used = λ free. used (is.kinds.each k low ∙ free);
+    } in
+    subst (λ (z : Image). IsFileOf z source (k + 1)) (sym c.loop-k.invariant.reads.image) file
 
 pub write_file-requires-clause-few : goal.write_file-requires-clause-few
 write_file-requires-clause-few g c =
