@@ -2,8 +2,9 @@
 use Rattle.std.proofs.Common.{◌≡◌, ◌≢◌, ◌∙◌, ℕ, ◌+◌, ◌-◌, ◌<◌, ◌≤◌, List, [], ◌∷◌, ◌++◌, length, get_or, take, None, refl, sym, ap, inl, inr, ⊎_elim, arith}
 use Rattle.std.proofs.lemmas.Bool.{cases_lt}
 use Rattle.std.proofs.lemmas.List.{get_or-take, get_or_append_left, get_or_push, length-take-le, length_push}
-use Rattle.blocks.specs.Disk.{Image}
+use Rattle.blocks.specs.Disk.{Image, Rose}
 use Rattle.model.specs.declared.types.fault.CheckFault.{CheckFault}
+use Rattle.model.specs.declared.types.fault.CheckFault.TheVariants as check
 use Rattle.model.specs.declared.types.image.Form.{Form}
 use Rattle.model.specs.declared.types.image.Form.TheVariants.{One, Two}
 use Rattle.model.specs.declared.types.image.Super.{Super}
@@ -20,14 +21,14 @@ not_two One other = refl
 not_two Two other = absurd (other refl)
 
 -- an image without a fault that isn't opened: a read failed
-pub open_cause : (x : Image) (old mid new : ℕ) (fault : CheckFault) → verdict x ≡ None → mid ≡ old →
-    IsCause (or_else (geometry_fault x) (log_fault x)) mid new fault → IsCause (verdict x) old new fault
-open_cause x old mid new fault sound same (inl here) =
+pub open_rose : (x : Image) (old mid new : ℕ) (fault : CheckFault) → verdict x ≡ None → mid ≡ old →
+    IsCause (or_else (geometry_fault x) (log_fault x)) mid new fault → fault ≢ check.NoMemory → Rose old new
+open_rose x old mid new fault sound same (inl here) other =
     let parts = verdict_none x sound in
     let log : log_fault x ≡ None = rw parts.1 refl in
     absurd (cc (here, log, ap (λ o. or_else o (log_fault x)) parts.0))
-open_cause x old mid new fault sound same (inr (inl failed)) = inr (inl (failed.0, rw (sym same) failed.1))
-open_cause x old mid new fault sound same (inr (inr refused)) = inr (inr refused)
+open_rose x old mid new fault sound same (inr (inl failed)) other = rw (sym same) failed.1
+open_rose x old mid new fault sound same (inr (inr refused)) other = absurd (other refused)
 
 -- recovery leaves how many numbers there are
 pub count_recovered : (x : Image) → verdict x ≡ None → inode_count_of (recovered x) ≡ inode_count_of x

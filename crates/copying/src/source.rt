@@ -39,7 +39,8 @@ pub(crate) fn read_source<D: Disk>(alloc: Global, old: &mut D) -> Result<Source,
     let mut block = Block::zeroed(alloc)?;
     let image = match Recovered::open(old, &mut block) {
         Ok(image) => image,
-        Err(fault) => return Err(CopyFault::Old(fault)),
+        // The check found no fault, so a read failed.
+        Err(_fault) => return Err(CopyFault::Disk),
     };
     let mut kinds = read_kinds(alloc, old, &image, &mut block)?;
     kinds.truncate(used_count(&kinds));

@@ -4,7 +4,7 @@ use Rattle.blocks.specs.Calls.{OnlyReads}
 use Rattle.blocks.specs.Disk.{Image}
 use Rattle.blocks.specs.Lemmas.Reads.{reads_none, reads_then}
 use Rattle.model.specs.Files.{bytes_in, files_of}
-use Rattle.model.specs.Layout.{inode_count_of, inode_of}
+use Rattle.model.specs.Layout.{inode_of}
 use Rattle.model.specs.Log.{recovered}
 use Rattle.model.specs.Lemmas.FileNumbers.{file_in-files_of_zero}
 use Rattle.filing.specs.Files.{appended, files_on}

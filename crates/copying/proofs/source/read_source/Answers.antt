@@ -6,17 +6,17 @@ use Rattle.model.specs.Verdict.{geometry_fault, log_fault, or_else}
 use Rattle.layout.specs.Cause.{IsCause}
 use Rattle.layout.specs.Recovered.{IsRecoveredOf}
 use Rattle.copying.specs.Source.{AreFirstKinds}
-use Rattle.copying.proofs.SourceLemmas.{kinds_cut, not_two, open_cause}
+use Rattle.copying.proofs.SourceLemmas.{kinds_cut, not_two, open_rose}
 use Rattle.copying.proofs.source.read_source.Goals as goal
 
 pub returns-in-Err-open-clause-refused : goal.returns-in-Err-open-clause-refused
 returns-in-Err-open-clause-refused g c =
     let d = g.D.Disk in
-    let fault = c.in-Err-open.fault in
+    let fault = c.in-Err-open._fault in
     let mid = d.fault_count c.check.new.disk in
     let new = d.fault_count c.open.new.disk in
-    open_cause (d.image c.args.old.now) (d.fault_count c.args.old.now) mid new fault c.in-Ok.ensures.ok c.in-Ok.ensures.faults
-    (subst (λ (z : Image). IsCause (or_else (geometry_fault z) (log_fault z)) mid new fault) c.check.ensures.reads.image c.in-Err-open.ensures.fault)
+    open_rose (d.image c.args.old.now) (d.fault_count c.args.old.now) mid new fault c.in-Ok.ensures.ok c.in-Ok.ensures.faults
+    (subst (λ (z : Image). IsCause (or_else (geometry_fault z) (log_fault z)) mid new fault) c.check.ensures.reads.image c.in-Err-open.ensures.fault) c.in-Err-open.ensures.memory
 
 pub returns-clause-source : goal.returns-clause-source
 returns-clause-source g c =
