@@ -1,21 +1,25 @@
 -- Whether a run over a disk that holds writes back kept its files.
-use Rattle.std.proofs.Common.{◌≡◌, ◌∙◌, ◌-◌, ℕ, Bool, List, Option, Ok, Err, ap, arith, inl, subst, sym, length}
-use Rattle.std.specs.Prelude.{IfErr, Result, option_map}
-use Rattle.std.specs.Result.{IsErrAnd}
+use Rattle.std.proofs.Common.{◌≡◌, ◌∙◌, ℕ, Bool, List, Option, Ok, Err, ap, inl, subst, sym, length}
+use Rattle.std.specs.Prelude.{IfErr, IfOk, Result, option_map}
+use Rattle.std.specs.Result.{IsErrAnd, IsOkAnd}
+use Rattle.blocks.specs.FaultyDisk.{inner_of}
 use Rattle.blocks.specs.contracts.sync.SyncDiskDisk.TheImpl.{ghosts}
 use Rattle.scripts.specs.declared.schedule.Word.{Word}
 use Rattle.scripts.specs.declared.script.Task.{Task}
 use Rattle.texts.specs.declared.faults.StopsFault.{StopsFault}
 use Rattle.texts.specs.declared.faults.StopsFault.TheVariants.{Mismatch, NoMemory}
 use Rattle.blocks.specs.SyncDisk.{held_of}
+use Rattle.blocks.specs.declared.errors.NoMemory.{NoMemory as MemoryRefused}
 use Rattle.blocks.specs.declared.sync.SyncDisk.{SyncDisk}
 use Rattle.model.specs.Files.{Files}
 use Rattle.recoveries.specs.Choices.{HasAllDue, HasDue, IsChoice, LacksDue, choice_count, due_files, left_by}
-use Rattle.stops.specs.Holding.{FailsHeld, HeldPlayer, IsKeptBy, IsTriedHeld, KeepsAll, LosesSome, MakesHeldRun, disk_of, over, sync_behind, write_behind}
-use Rattle.recoveries.specs.Images.{HasFiles, kept_files}
+use Rattle.stops.specs.Holding.{FailsHeld, FailsSync, HasPlayedHeld, HeldPlayer, IsJudged, IsKeptBy, IsTriedHeld, KeepsAll, LosesHeld, LosesSome, RunsHeld, disk_of, over, sync_behind, write_behind}
+use Rattle.player.specs.Opening.{IsArmed, IsOpenedOver}
+use Rattle.recoveries.specs.Images.{HasFiles, kept_files, new_image}
 use Rattle.recoveries.specs.declared.choices.Due.{Due}
 use Rattle.stops.specs.declared.held_trial.Calls.{Calls}
 use Rattle.stops.specs.declared.held_trial.HeldRun.{HeldRun}
+use Rattle.stops.specs.declared.held_trial.Played.{Played}
 
 module _ (last : HeldPlayer) (d : SyncDisk) (due : Due) (is_disk : d ≡ disk_of last)
     (committed : option_map (λ f. f.items) due.committed ≡ kept_files last.kernel.world.journal.list last.kernel.store.volume.log.committed)
@@ -49,24 +53,45 @@ module _ (last : HeldPlayer) (d : SyncDisk) (due : Due) (is_disk : d ≡ disk_of
   pub loses_some : LacksDue d due → LosesSome last
   loses_some lost = (lost.0, subst (λ e. IsChoice (length (held_of e)) lost.0) is_disk lost.1, λ kept. lost.2 (of_kept lost.0 kept))
 
-  module _ (tasks : List Task) (processes : ℕ) (words : List Word) (write sync : ℕ) (player : HeldPlayer) (run : MakesHeldRun tasks processes words write sync player last) where
-    pub tried_held : (count : HeldRun) (base : ℕ) → base ≡ over.write_count player.kernel.store.volume.device - 0 → count.writes ≡ over.write_count last.kernel.store.volume.device - base
-        → count.syncs ≡ ghosts.sync_count d → count.images ≡ choice_count (length (held_of d)) → HasAllDue d due → IsTriedHeld tasks processes words write sync count
-    tried_held count base before writes syncs images all = record {
-      player = player;
-      last = last;
-      run = run;
-      writes = writes ∙ ap (λ (n : ℕ). over.write_count last.kernel.store.volume.device - n) (before ∙ none (over.write_count player.kernel.store.volume.device));
-      syncs = syncs ∙ ap ghosts.sync_count is_disk;
-      images = images ∙ ap (λ e. choice_count (length (held_of e))) is_disk;
-      kept = keeps_all all;
-    }
-      where
-        none : (n : ℕ) → n - 0 ≡ n
-        none n = omega arith
+module _ (words : List Word) (write : ℕ) (player last : HeldPlayer) (d : SyncDisk) (is_disk : d ≡ disk_of last) where
+  -- the turns were made, and each image that the disk may leave has its files
+  pub run_held : (played : Result Played MemoryRefused) (count : HeldRun) → IfOk played (HasPlayedHeld words write player last) → IsOkAnd played (IsJudged d count) → RunsHeld words write player count
+  run_held (Ok made) count plays judged = record {
+    last = last;
+    events = plays.turns.events;
+    makes = plays.turns.makes;
+    writes = judged.writes ∙ plays.turns.writes;
+    syncs = judged.syncs ∙ ap ghosts.sync_count is_disk;
+    images = judged.images ∙ ap (λ e. choice_count (length (held_of e))) is_disk;
+    kept = keeps_all last d made.due is_disk plays.due.committed plays.due.opened judged.all;
+  }
+  run_held (Err _) count plays judged = absurd judged
 
-    pub lost_held : LacksDue d due → FailsHeld tasks processes words write sync
-    lost_held lost = inl (record { player = player; last = last; run = run; lost = loses_some lost })
+  -- they were, and one has not
+  pub run_lost : (played : Result Played MemoryRefused) → IfOk played (HasPlayedHeld words write player last) → IsOkAnd played (λ made. LacksDue d made.due) → LosesHeld words write player
+  run_lost (Ok made) plays lacks = record {
+    last = last;
+    events = plays.turns.events;
+    makes = plays.turns.makes;
+    lost = loses_some last d made.due is_disk plays.due.committed plays.due.opened lacks;
+  }
+  run_lost (Err _) plays lacks = absurd lacks
+
+module _ (tasks : List Task) (processes : ℕ) (words : List Word) (write sync : ℕ) (player : HeldPlayer) (opened : IsOpenedOver over.image new_image tasks processes player)
+    (armed : IsArmed over write player.kernel.store.volume.device) (trap : FailsSync sync (inner_of player.kernel.store.volume.device)) where
+  pub tried_held : (count : HeldRun) → RunsHeld words write player count → IsTriedHeld tasks processes words write sync count
+  tried_held count runs = record {
+    player = player;
+    last = runs.last;
+    run = record { run = record { opened = opened; armed = armed; events = runs.events; makes = runs.makes }; trap = trap };
+    writes = runs.writes;
+    syncs = runs.syncs;
+    images = runs.images;
+    kept = runs.kept;
+  }
+
+  pub lost_held : LosesHeld words write player → FailsHeld tasks processes words write sync
+  lost_held loses = inl (record { player = player; last = loses.last; run = record { run = record { opened = opened; armed = armed; events = loses.events; makes = loses.makes }; trap = trap }; lost = loses.lost })
 
 -- a refusal is passed on as it was
 pub passed_on : {T : Type 0} (r : Result T StopsFault) (f : StopsFault) (X : Type 0) → IsErrAnd r (λ e. e ≡ f) → (f ≡ Mismatch → X) → IfErr r (λ e. e ≡ Mismatch → X)

@@ -1,35 +1,71 @@
 -- Whether a run kept its files.
-use Rattle.std.proofs.Common.{◌≡◌, ℕ, ◌-◌, ◌∙◌, Bool, true, false, Option, arith, ap, ap₂, subst, sym, inl}
-use Rattle.std.specs.Prelude.{◌↔◌, IsTrue, List}
+use Rattle.std.proofs.Common.{◌≡◌, ℕ, ◌∙◌, false, List, Option, Ok, Err, subst, sym, inl}
+use Rattle.std.specs.Prelude.{IfErr, IfOk, Result, option_map}
+use Rattle.std.specs.Result.{IsErrAnd, IsOkAnd}
 use Rattle.blocks.specs.contracts.memory.MemDiskDisk.TheImpl.{ghosts}
+use Rattle.blocks.specs.declared.errors.NoMemory.{NoMemory as MemoryRefused}
 use Rattle.blocks.specs.declared.memory.MemDisk.{MemDisk}
 use Rattle.model.specs.Files.{Files}
-use Rattle.model.specs.declared.types.operations.Entry.{Entry}
+use Rattle.player.specs.Opening.{IsArmed, IsOpenedOver}
 use Rattle.scripts.specs.declared.schedule.Word.{Word}
 use Rattle.scripts.specs.declared.script.Task.{Task}
-use Rattle.recoveries.specs.Images.{HasFiles, kept_files}
-use Rattle.stops.specs.Trials.{Fails, IsKept, IsTried, MakesRun, MemoryPlayer, memory}
+use Rattle.texts.specs.declared.faults.StopsFault.{StopsFault}
+use Rattle.texts.specs.declared.faults.StopsFault.TheVariants.{Mismatch}
+use Rattle.texts.specs.declared.refusal.Refusal.{Refusal}
+use Rattle.recoveries.specs.Images.{HasFiles, is_want_of_memory, kept_files, new_image}
+use Rattle.stops.specs.Trials.{Fails, HasPlayedOn, IsKeptOf, IsTried, Loses, MemoryPlayer, RunsTo, memory}
+use Rattle.stops.specs.declared.trial.Played.{Played}
 
-module _ (last : MemoryPlayer) (disk : MemDisk) (entries : List Entry) (committed : ℕ) (due : Option Files) (same : Bool) where
-  -- the disk that was handed back has the files that are due, or not
-  pub kept_so : disk ≡ last.kernel.store.volume.device.inner → due ≡ kept_files entries committed → entries ≡ last.kernel.world.journal.list → committed ≡ last.kernel.store.volume.log.committed
-      → IsTrue same ↔ HasFiles (ghosts.image disk) due → IsTrue same ↔ IsKept last
-  kept_so is_disk is_due is_journal is_committed both =
-      subst (λ d. IsTrue same ↔ HasFiles (ghosts.image d) (kept_files last.kernel.world.journal.list last.kernel.store.volume.log.committed)) is_disk
-      (subst (λ f. IsTrue same ↔ HasFiles (ghosts.image disk) f) (is_due ∙ ap₂ kept_files is_journal is_committed) both)
+module _ (words : List Word) (stop : ℕ) (player last : MemoryPlayer) (disk : MemDisk) (is_disk : disk ≡ last.kernel.store.volume.device.inner) where
+  abbrev due_of : Played → Option Files
+  due_of made = option_map (λ f. f.items) made.files
 
-module _ (tasks : List Task) (processes : ℕ) (words : List Word) (stop : ℕ) (player last : MemoryPlayer) (run : MakesRun memory tasks processes words stop player last) (same : Bool) (kept : IsTrue same ↔ IsKept last) where
-  pub tried_so : (opened count : ℕ) → same ≡ true → opened ≡ memory.write_count player.kernel.store.volume.device - 0 → count ≡ memory.write_count last.kernel.store.volume.device - opened → IsTried tasks processes words stop count
-  tried_so opened count whole before behind = record {
-    player = player;
+  abbrev due : Option Files
+  due = kept_files last.kernel.world.journal.list last.kernel.store.volume.log.committed
+
+  -- the turns were made, and the disk that was handed back has the files that are due
+  pub run_kept : (played : Result Played MemoryRefused) (count : ℕ) → IfOk played (HasPlayedOn words stop player last) → IsOkAnd played (IsKeptOf disk count) → RunsTo words stop player count
+  run_kept (Ok made) count plays kept = record {
     last = last;
-    run = run;
-    writes = behind ∙ ap (λ (n : ℕ). memory.write_count last.kernel.store.volume.device - n) (before ∙ none (memory.write_count player.kernel.store.volume.device));
-    kept = kept.0 whole;
+    events = plays.turns.events;
+    makes = plays.turns.makes;
+    writes = kept.0 ∙ plays.turns.writes;
+    kept = subst (λ d. HasFiles (ghosts.image d) due) is_disk (subst (λ f. HasFiles (ghosts.image disk) f) plays.files kept.1);
   }
-    where
-      none : (n : ℕ) → n - 0 ≡ n
-      none n = omega arith
+  run_kept (Err _) count plays kept = absurd kept
 
-  pub lost_so : same ≡ false → Fails tasks processes words stop
-  lost_so not = inl (record { player = player; last = last; run = run; lost = λ keeps. absurd (cc (sym not ∙ kept.1 keeps)) })
+  -- they were, and it has not
+  pub run_lost : (played : Result Played MemoryRefused) → IfOk played (HasPlayedOn words stop player last) → IsOkAnd played (λ made. ¬ (HasFiles (ghosts.image disk) (due_of made))) → Loses words stop player
+  run_lost (Ok made) plays lacks = record {
+    last = last;
+    events = plays.turns.events;
+    makes = plays.turns.makes;
+    lost = λ keeps. lacks (subst (λ f. HasFiles (ghosts.image disk) f) (sym plays.files) (subst (λ d. HasFiles (ghosts.image d) due) (sym is_disk) keeps));
+  }
+  run_lost (Err _) plays lacks = absurd lacks
+
+module _ (tasks : List Task) (processes : ℕ) (words : List Word) (stop : ℕ) (player : MemoryPlayer) (opened : IsOpenedOver memory.image new_image tasks processes player)
+    (armed : IsArmed memory stop player.kernel.store.volume.device) where
+  pub tried_so : (count : ℕ) → RunsTo words stop player count → IsTried tasks processes words stop count
+  tried_so count runs = record {
+    player = player;
+    last = runs.last;
+    run = record { opened = opened; armed = armed; events = runs.events; makes = runs.makes };
+    writes = runs.writes;
+    kept = runs.kept;
+  }
+
+  pub lost_so : Loses words stop player → Fails tasks processes words stop
+  lost_so loses = inl (record { player = player; last = loses.last; run = record { opened = opened; armed = armed; events = loses.events; makes = loses.makes }; lost = loses.lost })
+
+-- what is known of a player that was opened is known of the one that is handed on
+pub handed_on : {A E F : Type 0} (made : Result A E) (r : Result A F) (P : A → Type 0) → IfOk r (λ x. made ≡ Ok x) → IfOk made P → IfOk r P
+handed_on made (Ok x) P is has = subst (λ m. IfOk m P) is has
+handed_on made (Err _) P is has = tt
+
+-- a mismatch is a refusal for another cause than want of memory
+pub refused_so : {A D : Type 0} (made : Result A (Refusal × D)) (r : Result A StopsFault) (U : Refusal × D → Type 0) (X : Type 0) → IfErr r (λ f. f ≡ Mismatch → IsErrAnd made (λ e. is_want_of_memory e.0 ≡ false))
+    → IfErr made U → ((e : Refusal × D) → is_want_of_memory e.0 ≡ false → U e → X) → IfErr r (λ f. f ≡ Mismatch → X)
+refused_so made (Ok _) U X other refused so = tt
+refused_so (Ok _) (Err f) U X other refused so = λ mismatch. absurd (other mismatch)
+refused_so (Err e) (Err f) U X other refused so = λ mismatch. so e (other mismatch) refused

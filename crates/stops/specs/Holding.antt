@@ -1,5 +1,5 @@
 -- The runs of a script over a disk that holds writes back, and the images that their stops may leave.
-use Rattle.std.specs.Prelude.{◌≡◌, ◌⊎◌, ◌+◌, ◌-◌, ℕ, zero, suc, Bool, true, List, length, min, ◌^◌}
+use Rattle.std.specs.Prelude.{◌≡◌, ◌⊎◌, ◌+◌, ◌-◌, ℕ, zero, suc, Bool, true, List, length, min, option_map, ◌^◌}
 use Rattle.blocks.specs.FaultyDisk.{inner_of, kind_of, trap_of}
 use Rattle.blocks.specs.SyncDisk.{held_of}
 use Rattle.blocks.specs.contracts.sync.SyncDiskDisk.TheImpl.{ghosts}
@@ -10,13 +10,17 @@ use Rattle.blocks.specs.declared.faulty.Trap.{Trap}
 use Rattle.blocks.specs.declared.sync.SyncDisk.{SyncDisk}
 use Rattle.scripts.specs.declared.schedule.Word.{Word}
 use Rattle.scripts.specs.declared.script.Task.{Task}
+use Rattle.player.specs.Stepping.{MakesTurns}
 use Rattle.player.specs.declared.player.Player.{Player}
-use Rattle.recoveries.specs.Choices.{IsChoice, choice_count, due_files, left_by}
+use Rattle.recoveries.specs.Choices.{HasAllDue, IsChoice, choice_count, due_files, left_by}
 use Rattle.recoveries.specs.Images.{HasFiles, kept_files}
-use Rattle.stops.specs.Trials.{IsUnopenedNew, MakesRun}
+use Rattle.recoveries.specs.declared.choices.Due.{Due}
+use Rattle.texts.specs.declared.events.Event.{Event}
+use Rattle.stops.specs.Trials.{HasPlayed, IsUnopenedNew, MakesRun}
 use Rattle.stops.specs.declared.held_trial.Calls.{Calls}
 use Rattle.stops.specs.declared.held_trial.Calls.TheVariants.{Writes, Syncs}
 use Rattle.stops.specs.declared.held_trial.HeldRun.{HeldRun}
+use Rattle.stops.specs.declared.held_trial.Played.{Played}
 
 -- a disk in memory that holds writes back, of which one sync fails
 abbrev pub HeldDisk : Type 0
@@ -86,6 +90,47 @@ KeepsAll last = (keep : List Bool) → IsChoice (length (held_of (disk_of last))
 abbrev pub LosesSome : HeldPlayer → Type 0
 LosesSome last = (keep : List Bool) × IsChoice (length (held_of (disk_of last))) keep
     × ¬ (IsKeptBy last keep)
+
+-- these are the files of the groups that a player committed, and of those that it opened
+pub record AreDue (last : HeldPlayer) (due : Due) : Type 0 where
+  pub committed : option_map (λ f. f.items) due.committed
+      ≡ kept_files last.kernel.world.journal.list last.kernel.store.volume.log.committed
+  pub opened : option_map (λ f. f.items) due.opened
+      ≡ kept_files last.kernel.world.journal.list last.kernel.store.volume.log.opened
+
+-- The turns of these words, of which that write is stopped, made `last` of a player, and these files
+-- are due behind them.
+pub record HasPlayedHeld (words : List Word) (write : ℕ) (player last : HeldPlayer)
+    (played : Played) : Type 0 where
+  pub turns : HasPlayed over words write played.ended player last
+  pub due : AreDue last played.due
+
+-- a run whose turns were played came to this on the disk d, whose images all have their files
+pub record IsJudged (d : SyncDisk) (run : HeldRun) (played : Played) : Type 0 where
+  pub writes : run.writes ≡ played.ended.writes
+  pub syncs : run.syncs ≡ ghosts.sync_count d
+  pub images : run.images ≡ choice_count (length (held_of d))
+  pub all : HasAllDue d played.due
+
+-- The turns of these words over a player came to this, and each image that it may have left at its
+-- end keeps its files.
+pub record RunsHeld (words : List Word) (write : ℕ) (player : HeldPlayer) (count : HeldRun)
+    : Type 0 where
+  pub last : HeldPlayer
+  pub events : List Event
+  pub makes : MakesTurns over write words events player last
+  pub writes : count.writes ≡ over.write_count last.kernel.store.volume.device
+      - over.write_count player.kernel.store.volume.device
+  pub syncs : count.syncs ≡ over.sync_count last.kernel.store.volume.device
+  pub images : count.images ≡ choice_count (length (held_of (disk_of last)))
+  pub kept : KeepsAll last
+
+-- one of them doesn't
+pub record LosesHeld (words : List Word) (write : ℕ) (player : HeldPlayer) : Type 0 where
+  pub last : HeldPlayer
+  pub events : List Event
+  pub makes : MakesTurns over write words events player last
+  pub lost : LosesSome last
 
 -- A run was made and came to this, and each image that it may have left at its end keeps its files.
 pub record IsTriedHeld (tasks : List Task) (processes : ℕ) (words : List Word) (write sync : ℕ)

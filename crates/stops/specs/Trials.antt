@@ -1,5 +1,5 @@
 -- The runs of a script over a new image, and whether what they leave has the files that it has to.
-use Rattle.std.specs.Prelude.{◌≡◌, ◌≢◌, ◌<◌, ◌⊎◌, ◌+◌, ◌-◌, ℕ, false, List}
+use Rattle.std.specs.Prelude.{◌≡◌, ◌≢◌, ◌<◌, ◌⊎◌, ◌+◌, ◌-◌, ℕ, false, List, option_map}
 use Rattle.blocks.specs.Disk.{counted}
 use Rattle.blocks.specs.contracts.memory.MemDiskDisk.TheImpl.{ghosts}
 use Rattle.blocks.specs.declared.disk.Disk.{Ghosts}
@@ -14,7 +14,9 @@ use Rattle.player.specs.Afterwards.{IsUnopenedOver}
 use Rattle.player.specs.Opening.{IsArmed, IsOpenedOver}
 use Rattle.player.specs.Stepping.{MakesTurns}
 use Rattle.player.specs.declared.player.Player.{Player}
+use Rattle.player.specs.declared.turns.Outcome.{Outcome}
 use Rattle.recoveries.specs.Images.{HasFiles, is_want_of_memory, kept_files, new_image}
+use Rattle.stops.specs.declared.trial.Played.{Played}
 
 -- what contracts see of a disk in memory of which one call fails
 abbrev pub memory : Ghosts (FaultyDisk MemDisk) (Unit {0} × Trap)
@@ -51,6 +53,44 @@ writes_of player last = memory.write_count last.kernel.store.volume.device
 abbrev pub IsKept : MemoryPlayer → Type 0
 IsKept last = HasFiles (memory.image last.kernel.store.volume.device)
     (kept_files last.kernel.world.journal.list last.kernel.store.volume.log.committed)
+
+-- The turns of these words, of which that write is stopped, made `last` of a player, and came to
+-- so many writes and groups.
+pub record HasPlayed {D N : Type 0} (disk : Ghosts (FaultyDisk D) (N × Trap)) (words : List Word)
+    (stop : ℕ) (ended : Outcome) (player last : Player D N) : Type 0 where
+  pub events : List Event
+  pub makes : MakesTurns disk stop words events player last
+  pub writes : ended.writes ≡ disk.write_count last.kernel.store.volume.device
+      - disk.write_count player.kernel.store.volume.device
+  pub committed : ended.committed ≡ last.kernel.store.volume.log.committed
+
+-- so did those of a run, and these files are due behind them
+pub record HasPlayedOn (words : List Word) (stop : ℕ) (player last : MemoryPlayer) (played : Played)
+    : Type 0 where
+  pub turns : HasPlayed memory words stop played.ended player last
+  pub files : option_map (λ f. f.items) played.files
+      ≡ kept_files last.kernel.world.journal.list last.kernel.store.volume.log.committed
+
+-- so many writes were made, and what is left on the disk has the files that are due
+abbrev pub IsKeptOf : MemDisk → ℕ → Played → Type 0
+IsKeptOf d writes played = (writes ≡ played.ended.writes)
+    × HasFiles (ghosts.image d) (option_map (λ f. f.items) played.files)
+
+-- the turns of these words over a player made so many writes, and kept its files
+pub record RunsTo (words : List Word) (stop : ℕ) (player : MemoryPlayer) (count : ℕ)
+    : Type 0 where
+  pub last : MemoryPlayer
+  pub events : List Event
+  pub makes : MakesTurns memory stop words events player last
+  pub writes : count ≡ writes_of player last
+  pub kept : IsKept last
+
+-- they didn't
+pub record Loses (words : List Word) (stop : ℕ) (player : MemoryPlayer) : Type 0 where
+  pub last : MemoryPlayer
+  pub events : List Event
+  pub makes : MakesTurns memory stop words events player last
+  pub lost : ¬ (IsKept last)
 
 -- a run of so many writes was made, and kept its files
 pub record IsTried (tasks : List Task) (processes : ℕ) (words : List Word) (stop count : ℕ)

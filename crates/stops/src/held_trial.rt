@@ -1,6 +1,7 @@
 // One run over a disk that holds writes back, and whether each image that a stop at its end may
 // leave has the files that it has to have.
-ghost use Rattle.std.specs.Prelude.{◌≡◌, ◌<◌, ◌↔◌, false, All, IfOk, IfErr, IsTrue, OnOk, length, option_map, ◌+◌, ◌^◌};
+ghost use Rattle.std.specs.Prelude.{◌≡◌, ◌<◌, ◌+◌, ◌^◌, false, All, IfOk, IfErr, IsTrue, length, option_map};
+ghost use Rattle.std.specs.Result.{IsOkAnd};
 ghost use Rattle.std.specs.List.{list_all};
 ghost use Rattle.board.specs.Boards.{KeeperOf, WatchOf, asked, published};
 ghost use Rattle.player.specs.Opening.{IsArmed, IsOpenedOver};
@@ -8,15 +9,31 @@ ghost use Rattle.player.specs.Stepping.{IsSeated};
 ghost use Rattle.scripts.specs.Schedule.{is_word_of};
 ghost use Rattle.texts.specs.declared.faults.StopsFault.TheVariants as fault;
 ghost use Rattle.blocks.specs.FaultyDisk.{inner_of};
-ghost use Rattle.stops.specs.Holding.{FailsHeld, FailsSync, IsTriedHeld, below, calls_of, over, sync_behind, write_behind};
+ghost use Rattle.stops.specs.Holding.{
+  FailsHeld,
+  FailsSync,
+  HasPlayedHeld,
+  IsJudged,
+  IsTriedHeld,
+  LosesHeld,
+  RunsHeld,
+  below,
+  calls_of,
+  over,
+  sync_behind,
+  write_behind,
+};
 ghost use Rattle.stops.specs.Trials.{IsUnopenedNew};
-ghost use Rattle.recoveries.specs.Images.{new_image};
+ghost use Rattle.recoveries.specs.Choices.{LacksDue};
+ghost use Rattle.recoveries.specs.Images.{kept_files, new_image};
 
 use crate::copying::copies_of;
-use blocks::{Disk, FaultyDisk, Kind, SyncDisk};
+use crate::running::{opened, play};
+use blocks::{Disk, FaultyDisk, Kind, NoMemory, SyncDisk};
 use board::Board;
-use player::{Hands, Player, make_turns, open_player, take_board};
-use recoveries::{Due, is_want_of_memory, kept_files, new_image, try_choices};
+use model::types::Entry;
+use player::{Hands, Outcome, Player, open_player, take_board};
+use recoveries::{Due, kept_files, new_image, try_choices};
 use scripts::{Task, Word};
 use std::alloc::Global;
 use texts::StopsFault;
@@ -99,18 +116,80 @@ pub fn try_held_run(
         → FailsHeld tasks.now processes words.now write sync) }
 {
     let (board, hands) = take_board(alloc).map_err(|_| StopsFault::NoMemory)?;
-    let mut player = open(alloc, &board, hands, tasks, processes, write, sync)?;
-    let opened = player.outcome(0);
-    make_turns(&mut player, words, write)?;
-    let ended = player.outcome(opened.writes);
-    let due = Due {
-        committed: kept_files(alloc, player.journal(), ended.committed)?,
-        opened: kept_files(alloc, player.journal(), player.opened())?,
-    };
-    let disk = player.into_disk().into_inner();
-    let images = try_choices(alloc, &disk, &due)?;
+    let player = open(alloc, &board, hands, tasks, processes, write, sync)?;
+    finish(alloc, player, words, write)
+}
+
+// What the turns of a run came to.
+#[derive(Drop)]
+struct Played {
+    ended: Outcome,
+    due: Due,
+}
+
+// Makes the turns over a player that was opened, and compares each image that it may then leave.
+// The player isn't kept over a `?`, nor is it below: each would cost the proof its whole type again.
+fn finish(
+    alloc: Global,
+    mut player: Player<'_, FaultyDisk<SyncDisk>>,
+    words: &[Word],
+    write: u64,
+) -> Result<HeldRun, StopsFault>
+    requires words { IsTrue
+        (list_all (is_word_of (length player.kernel.world.processes)) words.now) }
+    requires seated { IsSeated player }
+    ensures tried { IfOk result (RunsHeld words.now write player.entry) }
+    ensures fails { IfErr result (λ f. f ≡ fault.Mismatch
+        → LosesHeld words.now write player.entry) }
+{
+    let played = play_held(alloc, &mut player, words, write);
+    judge(alloc, player.into_disk().into_inner(), played)
+}
+
+// Makes the turns of the words. What they came to, and the files that are due then.
+fn play_held(
+    alloc: Global,
+    player: &mut Player<'_, FaultyDisk<SyncDisk>>,
+    words: &[Word],
+    write: u64,
+) -> Result<Played, NoMemory>
+    requires words { IsTrue
+        (list_all (is_word_of (length player.old.kernel.world.processes)) words.now) }
+    requires seated { IsSeated player.old }
+    ensures { IfOk result (HasPlayedHeld words.now write player.old player.new) }
+{
+    let ended = play(player, words, write)?;
+    let due = files_due(alloc, player.journal(), ended.committed, player.opened())?;
+    Ok(Played { ended, due })
+}
+
+// The files after the operations of so many groups, committed and opened.
+fn files_due(alloc: Global, journal: &[Entry], committed: u64, opened: u64) -> Result<Due, NoMemory>
+    ensures committed { IfOk result (λ due. option_map (λ f. f.items) due.committed
+        ≡ kept_files journal.now committed) }
+    ensures opened { IfOk result (λ due. option_map (λ f. f.items) due.opened
+        ≡ kept_files journal.now opened) }
+{
+    Ok(Due {
+        committed: kept_files(alloc, journal, committed)?,
+        opened: kept_files(alloc, journal, opened)?,
+    })
+}
+
+// Compares each image that a run may leave with the files that are due, where it was made.
+fn judge(
+    alloc: Global,
+    disk: SyncDisk,
+    played: Result<Played, NoMemory>,
+) -> Result<HeldRun, StopsFault>
+    ensures judged { IfOk result (λ run. IsOkAnd played (IsJudged disk run)) }
+    ensures lacks { IfErr result (λ f. f ≡ fault.Mismatch
+        → IsOkAnd played (λ made. LacksDue disk made.due)) }
+{
+    let played = played?;
+    let images = try_choices(alloc, &disk, &played.due)?;
     Ok(HeldRun {
-        writes: ended.writes,
+        writes: played.ended.writes,
         syncs: disk.syncs(),
         images,
     })
@@ -142,9 +221,5 @@ fn open<'a>(
     let held = SyncDisk::new(alloc, image)?;
     let disk = FaultyDisk::new(held, sync, Kind::Sync);
     let tasks = copies_of(alloc, tasks)?;
-    match open_player(alloc, board, hands, disk, tasks, processes, write) {
-        Ok(player) => Ok(player),
-        Err((refusal, _disk)) if is_want_of_memory(&refusal) => Err(StopsFault::NoMemory),
-        Err(_) => Err(StopsFault::Mismatch),
-    }
+    opened(open_player(alloc, board, hands, disk, tasks, processes, write))
 }

@@ -16,6 +16,7 @@
 mod copying;
 mod held_trial;
 mod holding;
+mod running;
 mod stopping;
 mod trial;
 

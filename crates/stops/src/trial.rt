@@ -1,19 +1,31 @@
 // One run, and whether the image that it leaves has the files that it has to have.
-ghost use Rattle.std.specs.Prelude.{◌≡◌, ◌<◌, false, All, IfOk, IfErr, IsTrue, length};
+ghost use Rattle.std.specs.Prelude.{◌≡◌, ◌<◌, false, All, IfOk, IfErr, IsTrue, length, option_map};
+ghost use Rattle.std.specs.Result.{IsOkAnd};
 ghost use Rattle.board.specs.Boards.{KeeperOf, WatchOf, asked, published};
 ghost use Rattle.player.specs.Opening.{IsArmed, IsOpenedOver};
 ghost use Rattle.player.specs.Stepping.{IsSeated};
 ghost use Rattle.std.specs.List.{list_all};
 ghost use Rattle.scripts.specs.Schedule.{is_word_of};
 ghost use Rattle.texts.specs.declared.faults.StopsFault.TheVariants as fault;
-ghost use Rattle.recoveries.specs.Images.{new_image};
-ghost use Rattle.stops.specs.Trials.{Fails, IsTried, IsUnopenedNew, memory};
+ghost use Rattle.recoveries.specs.Images.{HasFiles, new_image};
+ghost use Rattle.stops.specs.Trials.{
+  Fails,
+  HasPlayedOn,
+  IsKeptOf,
+  IsTried,
+  IsUnopenedNew,
+  Loses,
+  RunsTo,
+  memory,
+};
 
 use crate::copying::copies_of;
-use blocks::{Disk, MemDisk};
+use crate::running::{opened, play};
+use blocks::{Disk, MemDisk, NoMemory};
 use board::Board;
-use player::{Hands, Player, make_turns, open_player, take_board};
-use recoveries::{has_files, is_want_of_memory, kept_files, new_image};
+use plain::files::Files;
+use player::{Hands, Outcome, Player, open_player, take_board};
+use recoveries::{has_files, kept_files, new_image};
 use scripts::{Task, Word};
 use std::alloc::Global;
 use texts::StopsFault;
@@ -40,12 +52,65 @@ pub fn try_run(
         → Fails tasks.now processes words.now stop) }
 {
     let (board, hands) = take_board(alloc).map_err(|_| StopsFault::NoMemory)?;
-    let mut player = open(alloc, &board, hands, tasks, processes, stop)?;
-    let opened = player.outcome(0);
-    make_turns(&mut player, words, stop)?;
-    let ended = player.outcome(opened.writes);
+    let player = open(alloc, &board, hands, tasks, processes, stop)?;
+    finish(alloc, player, words, stop)
+}
+
+// What the turns of a run came to, and the files that are due then, None where no files can be
+// those.
+#[derive(Drop)]
+struct Played {
+    ended: Outcome,
+    files: Option<Files>,
+}
+
+// Makes the turns over a player that was opened, and compares what they leave. The player isn't kept
+// over a `?`, nor is it below: each would cost the proof its whole type again.
+fn finish(
+    alloc: Global,
+    mut player: Player<'_, MemDisk>,
+    words: &[Word],
+    stop: u64,
+) -> Result<u64, StopsFault>
+    requires words { IsTrue
+        (list_all (is_word_of (length player.kernel.world.processes)) words.now) }
+    requires seated { IsSeated player }
+    ensures tried { IfOk result (RunsTo words.now stop player.entry) }
+    ensures fails { IfErr result (λ f. f ≡ fault.Mismatch → Loses words.now stop player.entry) }
+{
+    let played = play_kept(alloc, &mut player, words, stop);
+    judge(alloc, player.into_disk(), played)
+}
+
+// Makes the turns of the words. What they came to, and the files of the committed groups.
+fn play_kept(
+    alloc: Global,
+    player: &mut Player<'_, MemDisk>,
+    words: &[Word],
+    stop: u64,
+) -> Result<Played, NoMemory>
+    requires words { IsTrue
+        (list_all (is_word_of (length player.old.kernel.world.processes)) words.now) }
+    requires seated { IsSeated player.old }
+    ensures { IfOk result (HasPlayedOn words.now stop player.old player.new) }
+{
+    let ended = play(player, words, stop)?;
     let files = kept_files(alloc, player.journal(), ended.committed)?;
-    let mut disk = player.into_disk();
+    Ok(Played { ended, files })
+}
+
+// Compares what a run leaves on a disk with the files that are due, where it was made. How many
+// writes it made.
+fn judge(
+    alloc: Global,
+    mut disk: MemDisk,
+    played: Result<Played, NoMemory>,
+) -> Result<u64, StopsFault>
+    ensures kept { IfOk result (λ writes. IsOkAnd played (IsKeptOf disk writes)) }
+    ensures lost { IfErr result (λ f. f ≡ fault.Mismatch → IsOkAnd played (λ made.
+        ¬ (HasFiles (⟦<MemDisk as Disk>⟧.image disk) (option_map (λ f. f.items) made.files)))) }
+{
+    let Played { ended, files } = played?;
     if has_files(alloc, &mut disk, files)? {
         Ok(ended.writes)
     } else {
@@ -75,9 +140,5 @@ fn open<'a>(
 {
     let disk = new_image(alloc)?;
     let tasks = copies_of(alloc, tasks)?;
-    match open_player(alloc, board, hands, disk, tasks, processes, stop) {
-        Ok(player) => Ok(player),
-        Err((refusal, _disk)) if is_want_of_memory(&refusal) => Err(StopsFault::NoMemory),
-        Err(_) => Err(StopsFault::Mismatch),
-    }
+    opened(open_player(alloc, board, hands, disk, tasks, processes, stop))
 }

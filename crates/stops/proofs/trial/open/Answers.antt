@@ -1,17 +1,35 @@
-use Rattle.std.proofs.Common.{◌∙◌, ap, sym}
+use Rattle.std.proofs.Common.{◌∙◌, ap, subst}
+use Rattle.std.specs.Prelude.{IfOk}
+use Rattle.std.proofs.lemmas.Result.{IfOk-weaker}
 use Rattle.model.specs.Log.{logged_count}
+use Rattle.player.specs.Opening.{IsOpenedOver}
+use Rattle.recoveries.specs.Images.{new_image}
 use Rattle.recoveries.specs.Lemmas.NewImages.{new_empty}
+use Rattle.stops.specs.Trials.{memory}
+use Rattle.stops.proofs.Runs.{handed_on, refused_so}
 use Rattle.stops.proofs.trial.open.Goals as goal
 
-pub returns-in-Ok-clause-armed : goal.returns-in-Ok-clause-armed
-returns-in-Ok-clause-armed c = c.in-Ok.ensures.armed (ap logged_count c.in_ok-disk.ensures ∙ new_empty)
+pub returns-clause-opened : goal.returns-clause-opened
+returns-clause-opened c =
+    handed_on c.open_player.result c.opened.result _ c.opened.ensures.player
+    (subst (λ tasks. IfOk c.open_player.result (IsOpenedOver memory.image new_image tasks c.args.processes)) c.in_ok-tasks.ensures
+    (subst (λ x. IfOk c.open_player.result (IsOpenedOver memory.image x c.in_ok-tasks.tasks.items c.args.processes)) c.in_ok-disk.ensures c.open_player.ensures.opened))
+
+pub returns-clause-armed : goal.returns-clause-armed
+returns-clause-armed c = IfOk-weaker c.opened.result _ _ (λ player armed. armed (ap logged_count c.in_ok-disk.ensures ∙ new_empty)) (handed_on c.open_player.result c.opened.result _ c.opened.ensures.player c.open_player.ensures.armed)
+
+pub returns-clause-processes : goal.returns-clause-processes
+returns-clause-processes c = handed_on c.open_player.result c.opened.result _ c.opened.ensures.player c.open_player.ensures.processes
+
+pub returns-clause-seated : goal.returns-clause-seated
+returns-clause-seated c = handed_on c.open_player.result c.opened.result _ c.opened.ensures.player c.open_player.ensures.seated
 
 pub returns-clause-fails : goal.returns-clause-fails
-returns-clause-fails c mismatch = record {
+returns-clause-fails c = refused_so c.open_player.result c.opened.result _ _ c.opened.ensures.fault c.open_player.ensures.refused (λ e other refused. record {
   before = c.in_ok-disk.disk;
-  now = c.in-Err._disk;
-  refusal = c.in-Err.refusal;
+  now = e.1;
+  refusal = e.0;
   new = c.in_ok-disk.ensures;
-  unopened = c.in-Err.ensures.refused;
-  other = sym c.is_want_of_memory.ensures ∙ c.if-is_want_of_memory.false;
-}
+  unopened = refused;
+  other = other;
+})
