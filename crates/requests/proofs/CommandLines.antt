@@ -1,6 +1,7 @@
 -- The command line, word by word, and what a parse of it says.
 use Rattle.std.proofs.Common.{◌≡◌, ◌∙◌, ℕ, List, [], Bool, true, false, ◌||◌, Option, Some, None, Ok, Err, refl, sym, ap, ap₂, subst, inl}
-use Rattle.std.specs.Prelude.{⊤, codes, MatchOption, option_map, unwrap_or}
+use Rattle.std.specs.Prelude.{⊤, codes, IfOk, MatchOption, Result, option_map, unwrap_or}
+use Rattle.std.proofs.lemmas.Result.{IfOk-weaker}
 use Rattle.clap.specs.Built.{AddsArg, AddsSubcommand}
 use Rattle.clap.specs.Words.{one_text, App, FailsBy, HasKind, HasMatchesOf, Row, Rule, fault_of, first_of, first_value, is_simple, is_simple_and_free, rows_of, rule_of, subcommand_of, subcommand_rows_of, with_rule, with_subcommand}
 use Rattle.clap.specs.declared.builder.arg.Arg.{Arg}
@@ -12,11 +13,15 @@ use Rattle.clap.proofs.OnLiterals.{clap_on_literals}
 use Rattle.clap.proofs.WalkLemmas.{first_value-rows, one_text-rows}
 use Rattle.requests.specs.declared.words.Request.{Request}
 use Rattle.requests.specs.declared.words.Request.TheVariants.{Mkfs, Check, Recover, Cat, Ls, Show, Put, Copy, Replay, Run, Stops}
-use Rattle.requests.specs.CommandLine.{AskFor, Asks, AsksBy, HasApp, HasChoice, HasFewWorkers, HasFlag, IsMistakeIn, mistakes_in, xvfs_app}
+use Rattle.requests.specs.CommandLine.{AskFor, Asks, AsksBy, HasApp, HasChoice, HasFewWorkers, HasFlag, HasWord, IsMistakeIn, mistakes_in, xvfs_app}
 
 pub one_word : (app : App) (rule : Rule) (old : Command) (word : Arg) (new : Command) → HasApp app old → rule_of word ≡ rule → word.global ≡ false → AddsArg old word new → HasApp (with_rule app rule) new
 one_word app rule old word new has is local adds =
     (adds.shape local ∙ ap₂ with_rule has.0 is, adds.globals ∙ ap₂ (λ (a b : Bool). a || b) has.1 local)
+
+-- a command that was handed on got one more word
+pub next_word : {E F : Type 0} (app : App) (rule : Rule) (old : Result Command E) (word : Arg) (new : Result Command F) → IfOk old (HasApp app) → rule_of word ≡ rule → word.global ≡ false → IfOk new (HasWord old word) → IfOk new (HasApp (with_rule app rule))
+next_word app rule old word new has is local more = IfOk-weaker new _ _ (λ r adds. adds app rule has is local) more
 
 pub one_command : (app sub : App) (old added new : Command) → HasApp app old → HasApp sub added → AddsSubcommand old added new → HasApp (with_subcommand app sub.top) new
 one_command app sub old added new has own adds =
@@ -56,6 +61,11 @@ pub asked : {B : Type 0} (f : B → List ℕ × List Row) (sub : Option B) (name
 asked f None name rows request named has asks = absurd (some_is_not_none name named)
 asked f (Some b) name rows request named has asks =
     subst (λ n. AsksBy n (f b).1 request) (some_is name (f b).0 named) (subst (λ rs. AsksBy name rs request) (some_is rows (f b).1 has) asks)
+
+-- so is one of the command of that name
+pub asked_by : {B : Type 0} (f : B → List ℕ × List Row) (sub : Option B) (name of : List ℕ) (rows : List Row) (request : Request) → name ≡ of → Some name ≡ option_map (λ b. (f b).0) sub → Some rows ≡ option_map (λ p. p.1) (option_map f sub)
+    → AsksBy of rows request → Asks (option_map f sub) request
+asked_by f sub name of rows request is named has asks = asked f sub name rows request named has (subst (λ n. AsksBy n rows request) (sym is) asks)
 
 -- the first value of a word
 pub value_read : (f : Found) (id text : List ℕ) → Some text ≡ first_value f id → first_of id (rows_of f) ≡ Some text

@@ -7,6 +7,8 @@ ghost use Rattle.requests.specs.CommandLine.{
   AsksBy,
   HasApp,
   HasFewWorkers,
+  HasMore,
+  HasWord,
   HasWorkers,
   IsMistakeIn,
   bare_app,
@@ -14,8 +16,10 @@ ghost use Rattle.requests.specs.CommandLine.{
   choice_rule,
   copy_app,
   files_app,
+  first_app,
   flag_rule,
   image_app,
+  images_app,
   mkfs_app,
   number_rule,
   put_app,
@@ -159,6 +163,15 @@ fn read<'a, S: AsStr>(alloc: Global, words: &'a [S]) -> Result<Request<'a>, Erro
     ensures err { IfErr result (IsMistakeIn (map S.text words.entry.now)) }
 {
     let mut program = program(alloc)?;
+    read_by(&mut program, words)
+}
+
+// What the words ask this program for, or clap's error.
+fn read_by<'a, S: AsStr>(program: &mut Command<'a>, words: &'a [S]) -> Result<Request<'a>, Error>
+    requires { HasApp xvfs_app program.old }
+    ensures ok { IfOk result (AskFor (map S.text words.entry.now)) }
+    ensures err { IfErr result (IsMistakeIn (map S.text words.entry.now)) }
+{
     let matches = program.try_get_matches_from_mut(words)?;
     match request_of(&matches) {
         Some(request) => Ok(request),
@@ -172,39 +185,87 @@ fn request_of<'a>(matches: &ArgMatches<'a>) -> Option<Request<'a>>
 {
     let (name, values) = matches.subcommand()?;
     match name {
-        "stops" => Some(Request::Stops {
-            script: values.get_str("SCRIPT")?,
-            schedule: values.get_str("SCHEDULE")?,
-            held: values.get_flag("held"),
-        }),
-        "copy" => Some(Request::Copy {
-            old: values.get_str("OLD")?,
-            new: values.get_str("NEW")?,
-            size: values.get_one("size"),
-        }),
-        "replay" => Some(Request::Replay {
-            image: values.get_str("IMAGE")?,
-            script: values.get_str("SCRIPT")?,
-            schedule: values.get_str("SCHEDULE")?,
-            stop: values.get_one("stop"),
-            sync: values.get_flag("sync"),
-        }),
+        "stops" => stops_request(values),
+        "copy" => copy_request(values),
+        "replay" => replay_request(values),
+        "mkfs" => mkfs_request(values),
+        "put" => put_request(values),
+        "run" => run_request(values),
         _ => request_over(name, values),
     }
 }
 
-// What the words of a command over an image ask for.
+fn stops_request<'a>(values: &ArgMatches<'a>) -> Option<Request<'a>>
+    ensures { IfSome result (AsksBy (codes "stops") (rows_of (found_of values.now))) }
+{
+    Some(Request::Stops {
+        script: values.get_str("SCRIPT")?,
+        schedule: values.get_str("SCHEDULE")?,
+        held: values.get_flag("held"),
+    })
+}
+
+fn copy_request<'a>(values: &ArgMatches<'a>) -> Option<Request<'a>>
+    ensures { IfSome result (AsksBy (codes "copy") (rows_of (found_of values.now))) }
+{
+    Some(Request::Copy {
+        old: values.get_str("OLD")?,
+        new: values.get_str("NEW")?,
+        size: values.get_one("size"),
+    })
+}
+
+fn replay_request<'a>(values: &ArgMatches<'a>) -> Option<Request<'a>>
+    ensures { IfSome result (AsksBy (codes "replay") (rows_of (found_of values.now))) }
+{
+    Some(Request::Replay {
+        image: values.get_str("IMAGE")?,
+        script: values.get_str("SCRIPT")?,
+        schedule: values.get_str("SCHEDULE")?,
+        stop: values.get_one("stop"),
+        sync: values.get_flag("sync"),
+    })
+}
+
+fn mkfs_request<'a>(values: &ArgMatches<'a>) -> Option<Request<'a>>
+    ensures { IfSome result (AsksBy (codes "mkfs") (rows_of (found_of values.now))) }
+{
+    Some(Request::Mkfs {
+        image: values.get_str("IMAGE")?,
+        size: values.get_one("SIZE")?,
+        ninodes: values.get_one("NINODES")?,
+        large: values.get_flag("large"),
+    })
+}
+
+fn put_request<'a>(values: &ArgMatches<'a>) -> Option<Request<'a>>
+    ensures { IfSome result (AsksBy (codes "put") (rows_of (found_of values.now))) }
+{
+    let image = values.get_str("IMAGE")?;
+    Some(Request::Put {
+        image,
+        file: values.get_str("FILE")?,
+        inum: values.get_one("INUM"),
+    })
+}
+
+fn run_request<'a>(values: &ArgMatches<'a>) -> Option<Request<'a>>
+    ensures { IfSome result (AsksBy (codes "run") (rows_of (found_of values.now))) }
+{
+    Some(Request::Run {
+        image: values.get_str("IMAGE")?,
+        script: values.get_str("SCRIPT")?,
+        workers: workers_of(values),
+        sync: values.get_flag("sync"),
+    })
+}
+
+// What the words of another command over an image ask for.
 fn request_over<'a>(name: &str, values: &ArgMatches<'a>) -> Option<Request<'a>>
     ensures { IfSome result (AsksBy name.now (rows_of (found_of values.now))) }
 {
     let image = values.get_str("IMAGE")?;
     match name {
-        "mkfs" => Some(Request::Mkfs {
-            image,
-            size: values.get_one("SIZE")?,
-            ninodes: values.get_one("NINODES")?,
-            large: values.get_flag("large"),
-        }),
         "check" => Some(Request::Check { image }),
         "recover" => Some(Request::Recover {
             image,
@@ -218,17 +279,6 @@ fn request_over<'a>(name: &str, values: &ArgMatches<'a>) -> Option<Request<'a>>
         "show" => Some(Request::Show {
             image,
             inum: values.get_one("INUM"),
-        }),
-        "put" => Some(Request::Put {
-            image,
-            file: values.get_str("FILE")?,
-            inum: values.get_one("INUM"),
-        }),
-        "run" => Some(Request::Run {
-            image,
-            script: values.get_str("SCRIPT")?,
-            workers: workers_of(values),
-            sync: values.get_flag("sync"),
         }),
         _ => None,
     }
@@ -247,25 +297,67 @@ fn workers_of(values: &ArgMatches<'_>) -> u32
 fn program<'a>(alloc: Global) -> Result<Command<'a>, AllocError>
     ensures { IfOk result (HasApp xvfs_app) }
 {
-    program_of_files(alloc)?
-        .subcommand(show_words(alloc)?)?
-        .subcommand(put_words(alloc)?)?
-        .subcommand(copy_words(alloc)?)?
-        .subcommand(recover_words(alloc)?)?
-        .subcommand(replay_words(alloc)?)?
-        .subcommand(run_words(alloc)?)?
-        .subcommand(stops_words(alloc)?)
+    let recovered = program_of_images(alloc)?;
+    let replayed = with_command(recovered, replay_words(alloc))?;
+    let run = with_command(replayed, run_words(alloc))?;
+    with_command(run, stops_words(alloc))
+}
+
+// The program, with the commands over an image that need no script.
+fn program_of_images<'a>(alloc: Global) -> Result<Command<'a>, AllocError>
+    ensures { IfOk result (HasApp images_app) }
+{
+    let shown = with_command(program_of_files(alloc)?, show_words(alloc))?;
+    let put = with_command(shown, put_words(alloc))?;
+    let copied = with_command(put, copy_words(alloc))?;
+    with_command(copied, recover_words(alloc))
 }
 
 // The program, with the commands that make an image and read it.
 fn program_of_files<'a>(alloc: Global) -> Result<Command<'a>, AllocError>
     ensures { IfOk result (HasApp files_app) }
 {
-    bare_program(alloc)?
-        .subcommand(mkfs_words(alloc)?)?
-        .subcommand(check_words(alloc)?)?
-        .subcommand(ls_words(alloc)?)?
-        .subcommand(cat_words(alloc)?)
+    let made = with_command(bare_program(alloc)?, mkfs_words(alloc))?;
+    let checked = with_command(made, check_words(alloc))?;
+    let listed = with_command(checked, ls_words(alloc))?;
+    with_command(listed, cat_words(alloc))
+}
+
+// The program, with one more command if there is memory for it.
+fn with_command<'a>(
+    program: Command<'a>,
+    more: Result<Command<'a>, AllocError>,
+) -> Result<Command<'a>, AllocError>
+    ensures { IfOk result (HasMore program.entry more.entry) }
+{
+    program.subcommand(more?)
+}
+
+// A command, with its first word, which has to be there.
+fn new_command<'a>(
+    alloc: Global,
+    name: &'a str,
+    about: &'a str,
+    example: &'a str,
+    first: &'a str,
+    help: &'a str,
+) -> Result<Command<'a>, AllocError>
+    ensures { IfOk result (HasApp (first_app name.entry.now first.entry.now)) }
+{
+    Command::new(alloc, name)
+        .about(about)
+        .after_help(example)
+        .arg(word(alloc, first, help))
+}
+
+// A command, if it was made, with one more word.
+fn with_word<'a>(
+    made: Result<Command<'a>, AllocError>,
+    word: Arg<'a>,
+) -> Result<Command<'a>, AllocError>
+    ensures { IfOk result (HasWord made.entry word.entry) }
+{
+    made?.arg(word)
 }
 
 // The program, without its commands.
@@ -287,52 +379,65 @@ fn bare_program<'a>(alloc: Global) -> Result<Command<'a>, AllocError>
 fn mkfs_words<'a>(alloc: Global) -> Result<Command<'a>, AllocError>
     ensures { IfOk result (HasApp mkfs_app) }
 {
-    Command::new(alloc, "mkfs")
-        .about("Makes an image in a new file, or in place of an old one")
-        .after_help("Example: xvfs mkfs fs.img 2000 200")
-        .arg(word(
-            alloc,
-            "IMAGE",
-            "The path of the image's file, which is made or replaced",
-        ))?
-        .arg(number(
+    let image = new_command(
+        alloc,
+        "mkfs",
+        "Makes an image in a new file, or in place of an old one",
+        "Example: xvfs mkfs fs.img 2000 200",
+        "IMAGE",
+        "The path of the image's file, which is made or replaced",
+    );
+    let size = with_word(
+        image,
+        number(
             alloc,
             "SIZE",
             "Blocks of 1024 bytes, from one more than the blocks before the data up to 8191",
-        ))?
-        .arg(number(
+        ),
+    );
+    let ninodes = with_word(
+        size,
+        number(
             alloc,
             "NINODES",
             "Inode numbers, from 2 to 1024, the unused number 0 included",
-        ))?
-        .arg(flag(
+        ),
+    );
+    with_word(
+        ninodes,
+        flag(
             alloc,
             "large",
             "Makes an image for files of up to 65803 blocks, which xv6 itself doesn't read",
-        ))
+        ),
+    )
 }
 
 fn check_words<'a>(alloc: Global) -> Result<Command<'a>, AllocError>
     ensures { IfOk result (HasApp (image_app (codes "check"))) }
 {
-    Command::new(alloc, "check")
-        .about("Says whether an image is sound, and counts its logged blocks and its files")
-        .after_help("Example: xvfs check fs.img")
-        .arg(word(
-            alloc,
-            "IMAGE",
-            "The path of the image's file, which is not changed",
-        ))
+    new_command(
+        alloc,
+        "check",
+        "Says whether an image is sound, and counts its logged blocks and its files",
+        "Example: xvfs check fs.img",
+        "IMAGE",
+        "The path of the image's file, which is not changed",
+    )
 }
 
 fn recover_words<'a>(alloc: Global) -> Result<Command<'a>, AllocError>
     ensures { IfOk result (HasApp recover_app) }
 {
-    Command::new(alloc, "recover")
-        .about("Checks an image, and copies the blocks of its log home")
-        .after_help("Example: xvfs recover fs.img")
-        .arg(word(alloc, "IMAGE", "The path of the image's file"))?
-        .arg(sync_word(alloc))
+    let image = new_command(
+        alloc,
+        "recover",
+        "Checks an image, and copies the blocks of its log home",
+        "Example: xvfs recover fs.img",
+        "IMAGE",
+        "The path of the image's file",
+    );
+    with_word(image, sync_word(alloc))
 }
 
 fn sync_word<'a>(alloc: Global) -> Arg<'a>
@@ -349,72 +454,89 @@ fn sync_word<'a>(alloc: Global) -> Arg<'a>
 fn cat_words<'a>(alloc: Global) -> Result<Command<'a>, AllocError>
     ensures { IfOk result (HasApp cat_app) }
 {
-    Command::new(alloc, "cat")
-        .about("Recovers an image, and writes the bytes of one of its files")
-        .after_help("Example: xvfs cat fs.img 1")
-        .arg(word(alloc, "IMAGE", "The path of the image's file"))?
-        .arg(number(alloc, "INUM", "The file's inode number"))
+    let image = new_command(
+        alloc,
+        "cat",
+        "Recovers an image, and writes the bytes of one of its files",
+        "Example: xvfs cat fs.img 1",
+        "IMAGE",
+        "The path of the image's file",
+    );
+    with_word(image, number(alloc, "INUM", "The file's inode number"))
 }
 
 fn ls_words<'a>(alloc: Global) -> Result<Command<'a>, AllocError>
     ensures { IfOk result (HasApp (image_app (codes "ls"))) }
 {
-    Command::new(alloc, "ls")
-        .about("Lists the files of an image: number, type, bytes and blocks")
-        .after_help("Example: xvfs ls fs.img")
-        .arg(word(
-            alloc,
-            "IMAGE",
-            "The path of the image's file, which is not changed",
-        ))
+    new_command(
+        alloc,
+        "ls",
+        "Lists the files of an image: number, type, bytes and blocks",
+        "Example: xvfs ls fs.img",
+        "IMAGE",
+        "The path of the image's file, which is not changed",
+    )
 }
 
 fn show_words<'a>(alloc: Global) -> Result<Command<'a>, AllocError>
     ensures { IfOk result (HasApp show_app) }
 {
-    Command::new(alloc, "show")
-        .about("Draws the blocks of an image, a sign each, or lists those of one file")
-        .after_help("Examples: xvfs show fs.img, xvfs show fs.img 1")
-        .arg(word(
-            alloc,
-            "IMAGE",
-            "The path of the image's file, which is not changed",
-        ))?
-        .arg(choice(
+    let image = new_command(
+        alloc,
+        "show",
+        "Draws the blocks of an image, a sign each, or lists those of one file",
+        "Examples: xvfs show fs.img, xvfs show fs.img 1",
+        "IMAGE",
+        "The path of the image's file, which is not changed",
+    );
+    with_word(
+        image,
+        choice(
             alloc,
             "INUM",
             "A file's inode number, whose blocks are listed in their order",
-        ))
+        ),
+    )
 }
 
 fn put_words<'a>(alloc: Global) -> Result<Command<'a>, AllocError>
     ensures { IfOk result (HasApp put_app) }
 {
-    Command::new(alloc, "put")
-        .about("Puts a file into an image, as a new file or in place of one, and prints its number")
-        .after_help("Examples: xvfs put fs.img notes.txt, xvfs put fs.img notes.txt 1")
-        .arg(word(alloc, "IMAGE", "The path of the image's file"))?
-        .arg(word(alloc, "FILE", "The path of the file whose bytes are put"))?
-        .arg(choice(
+    let image = new_command(
+        alloc,
+        "put",
+        "Puts a file into an image, as a new file or in place of one, and prints its number",
+        "Examples: xvfs put fs.img notes.txt, xvfs put fs.img notes.txt 1",
+        "IMAGE",
+        "The path of the image's file",
+    );
+    let file = with_word(
+        image,
+        word(alloc, "FILE", "The path of the file whose bytes are put"),
+    );
+    with_word(
+        file,
+        choice(
             alloc,
             "INUM",
             "The inode number of the file that gets the bytes in place of its own",
-        ))
+        ),
+    )
 }
 
 fn copy_words<'a>(alloc: Global) -> Result<Command<'a>, AllocError>
     ensures { IfOk result (HasApp copy_app) }
 {
-    Command::new(alloc, "copy")
-        .about("Copies the files of an image into a new one that has room for large files")
-        .after_help("Example: xvfs copy old.img new.img --size 8191")
-        .arg(word(
-            alloc,
-            "OLD",
-            "The path of the image's file, which is not changed",
-        ))?
-        .arg(word(alloc, "NEW", "The path of the file that is made"))?
-        .arg(size_word(alloc))
+    let old = new_command(
+        alloc,
+        "copy",
+        "Copies the files of an image into a new one that has room for large files",
+        "Example: xvfs copy old.img new.img --size 8191",
+        "OLD",
+        "The path of the image's file, which is not changed",
+    );
+    let new = with_word(old, word(alloc, "NEW", "The path of the file that is made"));
+    with_word(new, size_word(alloc))
 }
 
 fn size_word<'a>(alloc: Global) -> Arg<'a>
@@ -431,22 +553,32 @@ fn size_word<'a>(alloc: Global) -> Arg<'a>
 fn replay_words<'a>(alloc: Global) -> Result<Command<'a>, AllocError>
     ensures { IfOk result (HasApp replay_app) }
 {
-    Command::new(alloc, "replay")
-        .about("Recovers an image, and makes a script's operations in the turns of a schedule")
-        .after_help("Example: xvfs replay fs.img script schedule --stop 3")
-        .arg(word(alloc, "IMAGE", "The path of the image's file"))?
-        .arg(word(
+    let image = new_command(
+        alloc,
+        "replay",
+        "Recovers an image, and makes a script's operations in the turns of a schedule",
+        "Example: xvfs replay fs.img script schedule --stop 3",
+        "IMAGE",
+        "The path of the image's file",
+    );
+    let script = with_word(
+        image,
+        word(
             alloc,
             "SCRIPT",
             "The path of the script, whose lines are the operations of processes",
-        ))?
-        .arg(word(
+        ),
+    );
+    let schedule = with_word(
+        script,
+        word(
             alloc,
             "SCHEDULE",
             "The path of the schedule, whose words are turns of the processes",
-        ))?
-        .arg(stop_word(alloc))?
-        .arg(sync_word(alloc))
+        ),
+    );
+    let stop = with_word(schedule, stop_word(alloc));
+    with_word(stop, sync_word(alloc))
 }
 
 fn stop_word<'a>(alloc: Global) -> Arg<'a>
@@ -463,19 +595,24 @@ fn stop_word<'a>(alloc: Global) -> Arg<'a>
 fn run_words<'a>(alloc: Global) -> Result<Command<'a>, AllocError>
     ensures { IfOk result (HasApp run_app) }
 {
-    Command::new(alloc, "run")
-        .about(
-            "Recovers an image, and makes a script's operations, each process's in order, by threads",
-        )
-        .after_help("Example: xvfs run fs.img script --workers 4")
-        .arg(word(alloc, "IMAGE", "The path of the image's file"))?
-        .arg(word(
+    let image = new_command(
+        alloc,
+        "run",
+        "Recovers an image, and makes a script's operations, each process's in order, by threads",
+        "Example: xvfs run fs.img script --workers 4",
+        "IMAGE",
+        "The path of the image's file",
+    );
+    let script = with_word(
+        image,
+        word(
             alloc,
             "SCRIPT",
             "The path of the script, whose lines are the operations of processes",
-        ))?
-        .arg(workers_word(alloc))?
-        .arg(sync_word(alloc))
+        ),
+    );
+    let workers = with_word(script, workers_word(alloc));
+    with_word(workers, sync_word(alloc))
 }
 
 fn workers_word<'a>(alloc: Global) -> Arg<'a>
@@ -492,26 +629,30 @@ fn workers_word<'a>(alloc: Global) -> Arg<'a>
 fn stops_words<'a>(alloc: Global) -> Result<Command<'a>, AllocError>
     ensures { IfOk result (HasApp stops_app) }
 {
-    Command::new(alloc, "stops")
-        .about(
-            "Makes a script's operations up to each of their writes, and checks what each stop leaves",
-        )
-        .after_help("Example: xvfs stops script schedule")
-        .arg(word(
-            alloc,
-            "SCRIPT",
-            "The path of the script, whose lines are the operations of processes",
-        ))?
-        .arg(word(
+    let script = new_command(
+        alloc,
+        "stops",
+        "Makes a script's operations up to each of their writes, and checks what each stop leaves",
+        "Example: xvfs stops script schedule",
+        "SCRIPT",
+        "The path of the script, whose lines are the operations of processes",
+    );
+    let schedule = with_word(
+        script,
+        word(
             alloc,
             "SCHEDULE",
             "The path of the schedule, whose words are turns of the processes",
-        ))?
-        .arg(flag(
+        ),
+    );
+    with_word(
+        schedule,
+        flag(
             alloc,
             "held",
             "Makes them over a disk that holds writes back, and loses any of these at each stop",
-        ))
+        ),
+    )
 }
 
 // A word that may be given.

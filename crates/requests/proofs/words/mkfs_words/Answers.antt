@@ -1,18 +1,16 @@
 use Rattle.std.proofs.Common.{◌≡◌, codes, rules}
-use Rattle.std.proofs.lemmas.Result.{IfOk-weaker}
-use Rattle.clap.specs.Words.{new_app, rule_of}
-use Rattle.requests.specs.CommandLine.{HasApp, flag_rule, number_rule, required_rule}
-use Rattle.requests.proofs.CommandLines.{one_word}
+use Rattle.std.specs.Prelude.{IfOk}
+use Rattle.clap.specs.Words.{rule_of}
+use Rattle.requests.specs.CommandLine.{HasApp, flag_rule, image_app, number_rule}
+use Rattle.requests.proofs.CommandLines.{next_word}
 use Rattle.requests.proofs.words.mkfs_words.Goals as goal
 
 pub returns : goal.returns
 returns c =
-    let image : rule_of c.word.result ≡ required_rule (codes "IMAGE") = search rules in
-    let size : rule_of c.number.result ≡ number_rule (codes "SIZE") = search rules in
-    let ninodes : rule_of c.number-2.result ≡ number_rule (codes "NINODES") = search rules in
-    let start : HasApp (new_app (codes "mkfs")) c.after_help.result = search rules in
-    let one = one_word _ _ c.after_help.result c.word.result c.in_ok-arg.field-0 start image c.word.ensures.local c.in_ok-arg.ensures in
-    let two = one_word _ _ c.in_ok-arg.field-0 c.number.result c.in_ok-arg-2.field-0 one size c.number.ensures.local c.in_ok-arg-2.ensures in
-    let three = one_word _ _ c.in_ok-arg-2.field-0 c.number-2.result c.in_ok-arg-3.field-0 two ninodes c.number-2.ensures.local c.in_ok-arg-3.ensures in
-    let large : rule_of c.flag.result ≡ flag_rule (codes "large") = search rules in
-    IfOk-weaker c.arg-4.result _ _ (λ r adds. one_word _ _ c.in_ok-arg-3.field-0 c.flag.result r three large c.flag.ensures.local adds) c.arg-4.ensures
+    let image : IfOk c.new_command-image.result (HasApp (image_app (codes "mkfs"))) = search rules in
+    let size_rule : rule_of c.number.result ≡ number_rule (codes "SIZE") = search rules in
+    let ninodes_rule : rule_of c.number-2.result ≡ number_rule (codes "NINODES") = search rules in
+    let large_rule : rule_of c.flag.result ≡ flag_rule (codes "large") = search rules in
+    let one = next_word _ _ c.new_command-image.result c.number.result c.with_word-size.result image size_rule c.number.ensures.local c.with_word-size.ensures in
+    let two = next_word _ _ c.with_word-size.result c.number-2.result c.with_word-ninodes.result one ninodes_rule c.number-2.ensures.local c.with_word-ninodes.ensures in
+    next_word _ _ c.with_word-ninodes.result c.flag.result c.with_word.result two large_rule c.flag.ensures.local c.with_word.ensures

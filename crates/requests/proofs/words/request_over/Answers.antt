@@ -3,14 +3,11 @@ use Rattle.clap.specs.Words.{found_of}
 use Rattle.requests.proofs.CommandLines.{choice_read, flag_read, value_read}
 use Rattle.requests.proofs.words.request_over.Goals as goal
 
-pub returns-in_ok-get_one-in-mkfs-2 : goal.returns-in_ok-get_one-in-mkfs-2
-returns-in_ok-get_one-in-mkfs-2 c = (search rules, value_read (found_of c.args.values.now) (codes "IMAGE") _ c.in_ok-image.ensures, flag_read (found_of c.args.values.now) (codes "large") c.get_flag.result c.get_flag.ensures.none c.get_flag.ensures.value c.get_flag.ensures.other)
-
 pub returns-in-check : goal.returns-in-check
 returns-in-check c = (search rules, value_read (found_of c.args.values.now) (codes "IMAGE") _ c.in_ok-image.ensures)
 
 pub returns-in-recover : goal.returns-in-recover
-returns-in-recover c = (search rules, value_read (found_of c.args.values.now) (codes "IMAGE") _ c.in_ok-image.ensures, flag_read (found_of c.args.values.now) (codes "sync") c.get_flag-in-recover.result c.get_flag-in-recover.ensures.none c.get_flag-in-recover.ensures.value c.get_flag-in-recover.ensures.other)
+returns-in-recover c = (search rules, value_read (found_of c.args.values.now) (codes "IMAGE") _ c.in_ok-image.ensures, flag_read (found_of c.args.values.now) (codes "sync") c.get_flag.result c.get_flag.ensures.none c.get_flag.ensures.value c.get_flag.ensures.other)
 
 pub returns-in_ok-get_one-in-cat : goal.returns-in_ok-get_one-in-cat
 returns-in_ok-get_one-in-cat c = (search rules, value_read (found_of c.args.values.now) (codes "IMAGE") _ c.in_ok-image.ensures)
@@ -20,9 +17,3 @@ returns-in-ls c = (search rules, value_read (found_of c.args.values.now) (codes 
 
 pub returns-in-show : goal.returns-in-show
 returns-in-show c = (search rules, value_read (found_of c.args.values.now) (codes "IMAGE") _ c.in_ok-image.ensures, choice_read (found_of c.args.values.now) (codes "INUM") c.get_one-in-show.result c.get_one-in-show.ensures.none)
-
-pub returns-in_ok-get_str-in-put : goal.returns-in_ok-get_str-in-put
-returns-in_ok-get_str-in-put c = (search rules, value_read (found_of c.args.values.now) (codes "IMAGE") _ c.in_ok-image.ensures, value_read (found_of c.args.values.now) (codes "FILE") _ c.in_ok-get_str-in-put.ensures, choice_read (found_of c.args.values.now) (codes "INUM") c.get_one-in-put.result c.get_one-in-put.ensures.none)
-
-pub returns-in_ok-get_str-in-run : goal.returns-in_ok-get_str-in-run
-returns-in_ok-get_str-in-run c = (search rules, value_read (found_of c.args.values.now) (codes "IMAGE") _ c.in_ok-image.ensures, value_read (found_of c.args.values.now) (codes "SCRIPT") _ c.in_ok-get_str-in-run.ensures, c.workers_of.ensures, flag_read (found_of c.args.values.now) (codes "sync") c.get_flag-in-run.result c.get_flag-in-run.ensures.none c.get_flag-in-run.ensures.value c.get_flag-in-run.ensures.other)

@@ -1,16 +1,14 @@
 use Rattle.std.proofs.Common.{◌≡◌, codes, rules}
-use Rattle.std.proofs.lemmas.Result.{IfOk-weaker}
-use Rattle.clap.specs.Words.{new_app, rule_of}
-use Rattle.requests.specs.CommandLine.{HasApp, required_rule}
-use Rattle.requests.proofs.CommandLines.{one_word}
+use Rattle.std.specs.Prelude.{IfOk}
+use Rattle.clap.specs.Words.{rule_of}
+use Rattle.requests.specs.CommandLine.{HasApp, image_app, required_rule}
+use Rattle.requests.proofs.CommandLines.{next_word}
 use Rattle.requests.proofs.words.run_words.Goals as goal
 
 pub returns : goal.returns
 returns c =
-    let image : rule_of c.word.result ≡ required_rule (codes "IMAGE") = search rules in
-    let script : rule_of c.word-2.result ≡ required_rule (codes "SCRIPT") = search rules in
-    let start : HasApp (new_app (codes "run")) c.after_help.result = search rules in
-    let one = one_word _ _ c.after_help.result c.word.result c.in_ok-arg.field-0 start image c.word.ensures.local c.in_ok-arg.ensures in
-    let two = one_word _ _ c.in_ok-arg.field-0 c.word-2.result c.in_ok-arg-2.field-0 one script c.word-2.ensures.local c.in_ok-arg-2.ensures in
-    let three = one_word _ _ c.in_ok-arg-2.field-0 c.workers_word.result c.in_ok-arg-3.field-0 two c.workers_word.ensures.rule c.workers_word.ensures.local c.in_ok-arg-3.ensures in
-    IfOk-weaker c.arg-4.result _ _ (λ r adds. one_word _ _ c.in_ok-arg-3.field-0 c.sync_word.result r three c.sync_word.ensures.rule c.sync_word.ensures.local adds) c.arg-4.ensures
+    let image : IfOk c.new_command-image.result (HasApp (image_app (codes "run"))) = search rules in
+    let script_rule : rule_of c.word.result ≡ required_rule (codes "SCRIPT") = search rules in
+    let one = next_word _ _ c.new_command-image.result c.word.result c.with_word-script.result image script_rule c.word.ensures.local c.with_word-script.ensures in
+    let two = next_word _ _ c.with_word-script.result c.workers_word.result c.with_word-workers.result one c.workers_word.ensures.rule c.workers_word.ensures.local c.with_word-workers.ensures in
+    next_word _ _ c.with_word-workers.result c.sync_word.result c.with_word.result two c.sync_word.ensures.rule c.sync_word.ensures.local c.with_word.ensures

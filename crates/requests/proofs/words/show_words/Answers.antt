@@ -1,14 +1,12 @@
 use Rattle.std.proofs.Common.{◌≡◌, codes, rules}
-use Rattle.std.proofs.lemmas.Result.{IfOk-weaker}
-use Rattle.clap.specs.Words.{new_app, rule_of}
-use Rattle.requests.specs.CommandLine.{HasApp, choice_rule, required_rule}
-use Rattle.requests.proofs.CommandLines.{one_word}
+use Rattle.std.specs.Prelude.{IfOk}
+use Rattle.clap.specs.Words.{rule_of}
+use Rattle.requests.specs.CommandLine.{HasApp, choice_rule, image_app}
+use Rattle.requests.proofs.CommandLines.{next_word}
 use Rattle.requests.proofs.words.show_words.Goals as goal
 
 pub returns : goal.returns
 returns c =
-    let image : rule_of c.word.result ≡ required_rule (codes "IMAGE") = search rules in
-    let inum : rule_of c.choice.result ≡ choice_rule (codes "INUM") = search rules in
-    let start : HasApp (new_app (codes "show")) c.after_help.result = search rules in
-    let one = one_word _ _ c.after_help.result c.word.result c.in_ok-arg.field-0 start image c.word.ensures.local c.in_ok-arg.ensures in
-    IfOk-weaker c.arg-2.result _ _ (λ r adds. one_word _ _ c.in_ok-arg.field-0 c.choice.result r one inum c.choice.ensures.local adds) c.arg-2.ensures
+    let image : IfOk c.new_command-image.result (HasApp (image_app (codes "show"))) = search rules in
+    let inum_rule : rule_of c.choice.result ≡ choice_rule (codes "INUM") = search rules in
+    next_word _ _ c.new_command-image.result c.choice.result c.with_word.result image inum_rule c.choice.ensures.local c.with_word.ensures

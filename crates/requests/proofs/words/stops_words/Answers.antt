@@ -1,16 +1,14 @@
 use Rattle.std.proofs.Common.{◌≡◌, codes, rules}
-use Rattle.std.proofs.lemmas.Result.{IfOk-weaker}
-use Rattle.clap.specs.Words.{new_app, rule_of}
-use Rattle.requests.specs.CommandLine.{HasApp, flag_rule, required_rule}
-use Rattle.requests.proofs.CommandLines.{one_word}
+use Rattle.std.specs.Prelude.{IfOk}
+use Rattle.clap.specs.Words.{rule_of}
+use Rattle.requests.specs.CommandLine.{HasApp, first_app, flag_rule, required_rule}
+use Rattle.requests.proofs.CommandLines.{next_word}
 use Rattle.requests.proofs.words.stops_words.Goals as goal
 
 pub returns : goal.returns
 returns c =
-    let script : rule_of c.word.result ≡ required_rule (codes "SCRIPT") = search rules in
-    let schedule : rule_of c.word-2.result ≡ required_rule (codes "SCHEDULE") = search rules in
-    let start : HasApp (new_app (codes "stops")) c.after_help.result = search rules in
-    let one = one_word _ _ c.after_help.result c.word.result c.in_ok-arg.field-0 start script c.word.ensures.local c.in_ok-arg.ensures in
-    let two = one_word _ _ c.in_ok-arg.field-0 c.word-2.result c.in_ok-arg-2.field-0 one schedule c.word-2.ensures.local c.in_ok-arg-2.ensures in
-    let held : rule_of c.flag.result ≡ flag_rule (codes "held") = search rules in
-    IfOk-weaker c.arg-3.result _ _ (λ r adds. one_word _ _ c.in_ok-arg-2.field-0 c.flag.result r two held c.flag.ensures.local adds) c.arg-3.ensures
+    let script : IfOk c.new_command-script.result (HasApp (first_app (codes "stops") (codes "SCRIPT"))) = search rules in
+    let schedule_rule : rule_of c.word.result ≡ required_rule (codes "SCHEDULE") = search rules in
+    let held_rule : rule_of c.flag.result ≡ flag_rule (codes "held") = search rules in
+    let one = next_word _ _ c.new_command-script.result c.word.result c.with_word-schedule.result script schedule_rule c.word.ensures.local c.with_word-schedule.ensures in
+    next_word _ _ c.with_word-schedule.result c.flag.result c.with_word.result one held_rule c.flag.ensures.local c.with_word.ensures
