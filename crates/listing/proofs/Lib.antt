@@ -1,3 +1,4 @@
+pub mod CauseLemmas
 pub mod OwnedLemmas
 pub mod PlaceLemmas
 pub mod SignLemmas

@@ -1,5 +1,5 @@
 // A list of the files of an image.
-ghost use Rattle.std.specs.Prelude.{◌≡◌, ◌≢◌, IfErr, IfOk, None, OnOk, length};
+ghost use Rattle.std.specs.Prelude.{◌≡◌, ◌≢◌, ◌++◌, ◌<◌, ◌≤◌, IfErr, IfOk, None, OnOk, length};
 ghost use Rattle.std.specs.Io.KnownBytes.{Appends};
 ghost use Rattle.blocks.specs.Calls.{OnlyReads};
 ghost use Rattle.model.specs.Log.{recovered};
@@ -9,7 +9,7 @@ ghost use Rattle.model.specs.Verdict.{verdict};
 ghost use Rattle.texts.specs.declared.refusal.Refusal.TheVariants as refusal;
 ghost use Rattle.listing.specs.Causes.{IsUnlisted};
 ghost use Rattle.listing.specs.Gathering.{IsCheckedOf, KeepsCount, LieBehindLog};
-ghost use Rattle.listing.specs.Listing.{listing_of, row_text, rows_of, rows_text};
+ghost use Rattle.listing.specs.Listing.{listing_of, row_text, rows_at, rows_of, rows_text};
 
 use crate::fault::GatherFault;
 use crate::owned::{add_owned, open};
@@ -67,18 +67,42 @@ fn gather_rows<D: Disk>(alloc: Global, disk: &mut D) -> Result<Vec<Row>, GatherF
     let image = open(disk, &mut block)?;
     let mut rows = Vec::new(alloc);
     for i in 1..image.sup.ninodes {
-        let inode = image.inode(disk, i, &mut block)?;
-        if inode.kind != 0 {
-            let blocks = count_blocks(alloc, disk, &image, &mut entries, i, &inode)?;
-            rows.push(Row {
-                number: i,
-                kind: inode.kind,
-                size: inode.size,
-                blocks,
-            })?;
-        }
+        add_row(alloc, disk, &image, &mut block, &mut entries, &mut rows, i)?;
     }
     Ok(rows)
+}
+
+// Adds the row of the file of a number, if there is one. The blocks are room for its inode, and for
+// blocks of addresses.
+fn add_row<D: Disk>(
+    alloc: Global,
+    disk: &mut D,
+    image: &Recovered,
+    block: &mut Block,
+    entries: &mut Block,
+    rows: &mut Vec<Row>,
+    i: u32,
+) -> Result<(), GatherFault>
+    requires checked { IsCheckedOf (D.image disk.old) image.now }
+    requires some { 1 ≤ i }
+    requires below { i < image.now.sup.ninodes }
+    ensures added { OnOk result (rows.new.items ≡ rows.old.items
+        ++ rows_at (recovered (D.image disk.old)) i) }
+    ensures reads { OnlyReads D.Disk disk.old disk.new }
+    ensures faults { KeepsCount result (D.fault_count disk.old) (D.fault_count disk.new) }
+{
+    let inode = image.inode(disk, i, block)?;
+    if inode.kind == 0 {
+        return Ok(());
+    }
+    let blocks = count_blocks(alloc, disk, image, entries, i, &inode)?;
+    rows.push(Row {
+        number: i,
+        kind: inode.kind,
+        size: inode.size,
+        blocks,
+    })?;
+    Ok(())
 }
 
 // How many blocks the inode of a number owns. `entries` is room for blocks of addresses.

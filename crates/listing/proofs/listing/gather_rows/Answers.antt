@@ -1,29 +1,34 @@
-use Rattle.std.proofs.Common.{◌∙◌, ◌+◌, ◌-◌, ◌++◌, Vec, Global, length, ap, sym, subst, arith}
+use Rattle.std.proofs.Common.{◌∙◌, ◌+◌, ◌-◌, ◌++◌, ap, subst, sym, arith}
 use Rattle.std.specs.List.{flat_map, range_with_len}
-use Rattle.std.proofs.lemmas.List.{append-nil}
-use Rattle.blocks.specs.Calls.{OnlyReads}
 use Rattle.blocks.specs.Disk.{Image}
-use Rattle.blocks.specs.Lemmas.Reads.{reads_then}
-use Rattle.model.specs.Layout.{inode_count_of, inode_of}
+use Rattle.blocks.specs.Lemmas.Reads.{reads_none, reads_then}
+use Rattle.model.specs.Layout.{inode_count_of}
 use Rattle.model.specs.Log.{recovered}
-use Rattle.model.specs.Places.{addresses_in, pointers_in}
+use Rattle.listing.specs.Gathering.{IsCheckedOf}
 use Rattle.listing.specs.Listing.{rows_at, rows_of}
-use Rattle.listing.specs.declared.listing.Row.{Row}
-use Rattle.listing.proofs.FileLemmas.{rows_free, rows_used}
+use Rattle.listing.proofs.CauseLemmas.{passed_on}
 use Rattle.listing.proofs.OwnedLemmas.{all_done, next_done, range_end, range_step}
-use Rattle.listing.proofs.PlaceLemmas.{count_recovered, names_at}
+use Rattle.listing.proofs.PlaceLemmas.{count_recovered}
 use Rattle.listing.proofs.listing.gather_rows.Goals as goal
-use Rattle.listing.proofs.listing.gather_rows.Goals.{then-inode-ne0+in_ok-blocks+in_ok-push, else-inode-ne0}
 
-pub count_blocks-requires-clause-behind : goal.count_blocks-requires-clause-behind
-count_blocks-requires-clause-behind g c =
-    let d = g.D.Disk in
-    let x = d.image c.args.disk.now in
-    let i = c.loop-i.i in
-    let same = c.loop-i.invariant.reads.image in
-    names_at x (d.image c.inode.new.disk) i c.in_ok-inode.inode c.requires (c.inode.ensures.reads.image ∙ same)
-    (c.in_ok-inode.ensures.ok ∙ ap (λ (z : Image). inode_of (recovered z) i) same) c.loop-i.auto.i
-    (omega (arith, c.loop-i-test.true, c.loop-i.auto.i-end, count_recovered x c.in_ok-image.image c.in_ok-image.ensures.opened))
+pub returns-in_err-block-clause-reads : goal.returns-in_err-block-clause-reads
+returns-in_err-block-clause-reads g c = reads_none g.D.Disk c.args.disk.now
+
+pub returns-in_err-entries-clause-reads : goal.returns-in_err-entries-clause-reads
+returns-in_err-entries-clause-reads g c = reads_none g.D.Disk c.args.disk.now
+
+pub add_row-requires-clause-checked : goal.add_row-requires-clause-checked
+add_row-requires-clause-checked g c =
+    subst (λ (z : Image). IsCheckedOf z c.in_ok-image.image) (sym c.loop-i.invariant.reads.image) c.in_ok-image.ensures.opened
+
+pub returns-in_err-add_row-clause-reads : goal.returns-in_err-add_row-clause-reads
+returns-in_err-add_row-clause-reads g c =
+    reads_then g.D.Disk c.args.disk.now c.loop-i.disk c.add_row.new.disk c.loop-i.invariant.reads c.add_row.ensures.reads
+
+pub returns-in_err-add_row-clause-faults : goal.returns-in_err-add_row-clause-faults
+returns-in_err-add_row-clause-faults g c =
+    let count = g.D.Disk.fault_count in
+    passed_on c.from_residual-in_err-add_row.result c.in_err-add_row.field-0.0 (count c.args.disk.now) (count c.loop-i.disk) (count c.add_row.new.disk) c.from_residual-in_err-add_row.ensures.1 c.loop-i.invariant.faults c.in_err-add_row.ensures.faults
 
 pub loop-i-preserved : goal.loop-i-preserved
 loop-i-preserved g c =
@@ -32,33 +37,15 @@ loop-i-preserved g c =
     let y = recovered x in
     let i = c.loop-i.i in
     let n = inode_count_of y in
-    let inode = c.in_ok-inode.inode in
     let rows = c.loop-i.rows.items in
     let before = c.loop-i.invariant in
-    let same = before.reads.image in
-    let again = c.inode.ensures.reads.image ∙ same in
-    let is = c.in_ok-inode.ensures.ok ∙ ap (λ (z : Image). inode_of (recovered z) i) same in
-    let read = reads_then d c.args.disk.now c.loop-i.disk c.inode.new.disk before.reads c.inode.ensures.reads in
-    let split = range_step (rows_at y) i n (omega (arith, c.loop-i-test.true, c.loop-i.auto.i-end, count_recovered x c.in_ok-image.image c.in_ok-image.ensures.opened)) in
-    let left = flat_map (rows_at y) (range_with_len i (n - i)) in
-    let more = flat_map (rows_at y) (range_with_len (i + 1) (n - (i + 1))) in
-    elim c.if-inode-ne0.branch [
-      | then-inode-ne0+in_ok-blocks+in_ok-push w ↦
-          let counted = w.in_ok-blocks.ensures.count ∙ ap (λ (z : Image). length (addresses_in (pointers_in (recovered z) inode))) again in
-          record {
-            reads = subst (λ z. OnlyReads d c.args.disk.now z) (sym w.disk-is) (reads_then d c.args.disk.now c.inode.new.disk w.count_blocks.new.disk read w.count_blocks.ensures.reads);
-            faults = ap d.fault_count w.disk-is ∙ w.in_ok-blocks.ensures.faults ∙ c.in_ok-inode.ensures.faults ∙ before.faults;
-            added = next_done rows c.if-inode-ne0.rows.items (rows_at y i) left more (rows_of y) before.added split
-                (ap (λ (v : Vec Row Global). v.items) w.rows-is ∙ w.in_ok-push.ensures.items
-                ∙ ap (λ l. rows ++ l) (sym (rows_used y i w.in_ok-blocks.blocks inode is w.if-inode-ne0.true counted)));
-          }
-      | else-inode-ne0 w ↦ record {
-        reads = subst (λ z. OnlyReads d c.args.disk.now z) (sym w.disk-is) read;
-        faults = ap d.fault_count w.disk-is ∙ c.in_ok-inode.ensures.faults ∙ before.faults;
-        added = next_done rows c.if-inode-ne0.rows.items (rows_at y i) left more (rows_of y) before.added split
-            (ap (λ (v : Vec Row Global). v.items) w.rows-is ∙ sym (append-nil rows) ∙ ap (λ l. rows ++ l) (sym (rows_free y i inode is w.if-inode-ne0.false)));
-      }
-    ]
+    record {
+      reads = reads_then d c.args.disk.now c.loop-i.disk c.add_row.new.disk before.reads c.add_row.ensures.reads;
+      faults = c.in_ok-add_row.ensures.faults ∙ before.faults;
+      added = next_done rows c.add_row.new.rows.items (rows_at y i) (flat_map (rows_at y) (range_with_len i (n - i))) (flat_map (rows_at y) (range_with_len (i + 1) (n - (i + 1)))) (rows_of y) before.added
+          (range_step (rows_at y) i n (omega (arith, c.loop-i-test.true, c.loop-i.auto.i-end, count_recovered x c.in_ok-image.image c.in_ok-image.ensures.opened)))
+          (c.in_ok-add_row.ensures.added ∙ ap (λ (z : Image). rows ++ rows_at (recovered z) i) before.reads.image);
+    }
 
 pub returns-clause-rows : goal.returns-clause-rows
 returns-clause-rows g c =

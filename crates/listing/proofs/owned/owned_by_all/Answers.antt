@@ -1,11 +1,12 @@
 use Rattle.std.proofs.Common.{◌≡◌, ◌∙◌, ◌+◌, ◌-◌, ◌++◌, ap, subst, arith}
 use Rattle.std.specs.List.{flat_map, range_with_len}
 use Rattle.blocks.specs.Disk.{Image}
-use Rattle.blocks.specs.Lemmas.Reads.{reads_then}
+use Rattle.blocks.specs.Lemmas.Reads.{reads_none, reads_then}
 use Rattle.model.specs.Layout.{inode_count_of, inode_of}
 use Rattle.model.specs.Log.{recovered}
 use Rattle.model.specs.declared.types.image.Dinode.{Dinode}
 use Rattle.listing.specs.Owned.{owned_by_all, owned_in, owned_of}
+use Rattle.listing.proofs.CauseLemmas.{failed_on, passed_on}
 use Rattle.listing.proofs.OwnedLemmas.{all_done, next_done, range_end, range_step}
 use Rattle.listing.proofs.PlaceLemmas.{count_recovered, names_at}
 use Rattle.listing.proofs.owned.owned_by_all.Goals as goal
@@ -50,3 +51,29 @@ returns-clause-all g c =
     let n = inode_count_of y in
     all_done c.loop-i.owned.items (flat_map (owned_of y) (range_with_len i (n - i))) (owned_by_all y) c.loop-i.invariant.added
     (range_end (owned_of y) i n (omega (arith, c.loop-i-test.false, count_recovered x c.args.image.now c.requires.checked)))
+
+pub returns-in_err-block-clause-reads : goal.returns-in_err-block-clause-reads
+returns-in_err-block-clause-reads g c = reads_none g.D.Disk c.args.disk.now
+
+pub returns-in_err-entries-clause-reads : goal.returns-in_err-entries-clause-reads
+returns-in_err-entries-clause-reads g c = reads_none g.D.Disk c.args.disk.now
+
+pub returns-in_err-inode-clause-reads : goal.returns-in_err-inode-clause-reads
+returns-in_err-inode-clause-reads g c =
+    reads_then g.D.Disk c.args.disk.now c.loop-i.disk c.inode.new.disk c.loop-i.invariant.reads c.inode.ensures.reads
+
+pub returns-in_err-inode-clause-faults : goal.returns-in_err-inode-clause-faults
+returns-in_err-inode-clause-faults g c =
+    let count = g.D.Disk.fault_count in
+    failed_on c.from_residual-in_err-inode.result (count c.args.disk.now) (count c.loop-i.disk) (count c.inode.new.disk) c.from_residual-in_err-inode.ensures.1 c.loop-i.invariant.faults c.in_err-inode.ensures.faults
+
+pub returns-in_err-add_owned-clause-reads : goal.returns-in_err-add_owned-clause-reads
+returns-in_err-add_owned-clause-reads g c =
+    let d = g.D.Disk in
+    reads_then d c.args.disk.now c.inode.new.disk c.add_owned.new.disk (reads_then d c.args.disk.now c.loop-i.disk c.inode.new.disk c.loop-i.invariant.reads c.inode.ensures.reads) c.add_owned.ensures.reads
+
+pub returns-in_err-add_owned-clause-faults : goal.returns-in_err-add_owned-clause-faults
+returns-in_err-add_owned-clause-faults g c =
+    let count = g.D.Disk.fault_count in
+    passed_on c.from_residual-in_err-add_owned.result c.in_err-add_owned.field-0.0 (count c.args.disk.now) (count c.inode.new.disk) (count c.add_owned.new.disk) c.from_residual-in_err-add_owned.ensures.1
+    (c.in_ok-inode.ensures.faults ∙ c.loop-i.invariant.faults) c.in_err-add_owned.ensures.faults
