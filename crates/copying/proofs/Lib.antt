@@ -1,4 +1,5 @@
 pub mod SourceLemmas
 pub mod MakingLemmas
 pub mod StageLemmas
+pub mod CopierLemmas
 pub mod FillingLemmas
