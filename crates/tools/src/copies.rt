@@ -2,6 +2,7 @@
 ghost use Rattle.std.specs.Prelude.{◌≡◌, ◌≢◌, false, IfErr, IfOk, OnOk};
 ghost use Rattle.blocks.specs.Calls.{OnlyReads};
 ghost use Rattle.texts.specs.declared.refusal.Refusal.TheVariants as refusal;
+ghost use Rattle.filedisks.specs.Opened.{IsOpened};
 ghost use Rattle.tools.specs.Copies.{HasCopied, IsPlanned, IsUnplanned, OnCopyRefusal, copy_refusal};
 
 use blocks::{Disk, FileDisk};
@@ -43,9 +44,29 @@ pub fn copy_files<R: Files + AllocGlobal, O: Write, P: Progress>(
         return Err(Refusal::Copy(CopyFault::Exists));
     }
     let mut disk = open_disk(rt, old, false)?;
-    let size = plan_copy(rt.alloc(), &mut disk, size)?;
+    copy_from(rt, &mut disk, new, size, progress, out)
+}
+
+// Copies the image on a disk that was opened into a new file at the path. The disk is lent, so that
+// the proof doesn't repeat its type at each exit.
+fn copy_from<R: Files + AllocGlobal, O: Write, P: Progress>(
+    rt: &R,
+    disk: &mut FileDisk<R::File>,
+    new: &str,
+    size: Option<u32>,
+    progress: &mut P,
+    out: &mut O,
+) -> Result<(), Refusal>
+    requires { IsOpened R.File.remaining ⟦<FileDisk<R::File> as Disk>⟧ false disk.old }
+    ensures copied { OnOk result (HasCopied R.File.remaining ⟦<FileDisk<R::File> as Disk>⟧ size
+        (O.contents out.old) (O.contents out.new)) }
+    ensures refused { IfErr result (OnCopyRefusal R.File.remaining
+        ⟦<FileDisk<R::File> as Disk>⟧ size) }
+    ensures silent { IfErr result (λ r. r ≢ refusal.Output → out.new ≡ out.old) }
+{
+    let size = plan_copy(rt.alloc(), disk, size)?;
     let made = FileDisk::create(rt, new, size).map_err(Refusal::File)?;
-    match copy(rt.alloc(), &mut disk, made, size, progress) {
+    match copy(rt.alloc(), disk, made, size, progress) {
         Ok((files, _made)) => print_files(out, files),
         Err((fault, _made)) => Err(copy_refusal(fault)),
     }

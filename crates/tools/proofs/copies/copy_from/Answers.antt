@@ -4,30 +4,30 @@ use Rattle.copying.specs.Copies.{IsUncopied}
 use Rattle.filedisks.specs.Lemmas.Disks.{file_disk}
 use Rattle.tools.specs.Copies.{HasMade, HasNotCopied, HasNotPlanned, MayCopy, OnCopyRefusal}
 use Rattle.tools.proofs.Copying.{copied_told, copied_untold}
-use Rattle.tools.proofs.copies.copy_files.Goals as goal
+use Rattle.tools.proofs.copies.copy_from.Goals as goal
 
 pub returns-in_err-size-clause-refused : goal.returns-in_err-size-clause-refused
 returns-in_err-size-clause-refused g c =
     let why : HasNotPlanned g.R.File.Read.remaining file_disk c.args.size c.in_err-size.field-0.0 = record {
-      opened = c.in_ok-disk.disk;
+      opened = c.args.disk.now;
       read = c.plan_copy.new.disk;
-      is = c.in_ok-disk.ensures.opened;
+      is = c.requires;
       reads = c.plan_copy.ensures.reads;
       cause = c.in_err-size.ensures.refused;
     } in
     let told : OnCopyRefusal g.R.File.Read.remaining file_disk c.args.size c.in_err-size.field-0.0 = inr (inl why) in
-    let p = err_from_is_err_and c.from_residual-in_err-size.result c.from_residual-in_err-size.ensures.1 in
+    let p = err_from_is_err_and c.from_residual.result c.from_residual.ensures.1 in
     rw (p.1, p.2) told
 
 pub returns-in-Ok-clause-copied : goal.returns-in-Ok-clause-copied
 returns-in-Ok-clause-copied g c =
-    let may : MayCopy g.R.File.Read.remaining file_disk c.args.size c.in_ok-disk.disk c.plan_copy.new.disk c.in_ok-made.made = record {
-      opened = c.in_ok-disk.ensures.opened;
+    let may : MayCopy g.R.File.Read.remaining file_disk c.args.size c.args.disk.now c.plan_copy.new.disk c.in_ok-made.made = record {
+      opened = c.requires;
       reads = c.plan_copy.ensures.reads;
       zeroes = search rules;
     } in
     let made : HasMade g.R.File.Read.remaining file_disk c.args.size c.in-Ok.files = record {
-      opened = c.in_ok-disk.disk;
+      opened = c.args.disk.now;
       read = c.plan_copy.new.disk;
       created = c.in_ok-made.made;
       made = c.in-Ok._made;
@@ -38,13 +38,13 @@ returns-in-Ok-clause-copied g c =
 
 pub returns-in-Ok-clause-refused : goal.returns-in-Ok-clause-refused
 returns-in-Ok-clause-refused g c =
-    let may : MayCopy g.R.File.Read.remaining file_disk c.args.size c.in_ok-disk.disk c.plan_copy.new.disk c.in_ok-made.made = record {
-      opened = c.in_ok-disk.ensures.opened;
+    let may : MayCopy g.R.File.Read.remaining file_disk c.args.size c.args.disk.now c.plan_copy.new.disk c.in_ok-made.made = record {
+      opened = c.requires;
       reads = c.plan_copy.ensures.reads;
       zeroes = search rules;
     } in
     let made : HasMade g.R.File.Read.remaining file_disk c.args.size c.in-Ok.files = record {
-      opened = c.in_ok-disk.disk;
+      opened = c.args.disk.now;
       read = c.plan_copy.new.disk;
       created = c.in_ok-made.made;
       made = c.in-Ok._made;
@@ -53,15 +53,15 @@ returns-in-Ok-clause-refused g c =
     } in
     copied_untold g.R.File.Read.remaining file_disk c.args.size c.in-Ok.files made c.print_files.result c.print_files.ensures.err
 
-pub returns-clause-refused : goal.returns-clause-refused
-returns-clause-refused g c =
-    let may : MayCopy g.R.File.Read.remaining file_disk c.args.size c.in_ok-disk.disk c.plan_copy.new.disk c.in_ok-made.made = record {
-      opened = c.in_ok-disk.ensures.opened;
+pub returns-in-Err-clause-refused : goal.returns-in-Err-clause-refused
+returns-in-Err-clause-refused g c =
+    let may : MayCopy g.R.File.Read.remaining file_disk c.args.size c.args.disk.now c.plan_copy.new.disk c.in_ok-made.made = record {
+      opened = c.requires;
       reads = c.plan_copy.ensures.reads;
       zeroes = search rules;
     } in
     let why : HasNotCopied g.R.File.Read.remaining file_disk c.args.size c.copy_refusal.result = record {
-      opened = c.in_ok-disk.disk;
+      opened = c.args.disk.now;
       read = c.plan_copy.new.disk;
       created = c.in_ok-made.made;
       may = may;
