@@ -1,8 +1,8 @@
 -- A run of the entries that pass a test, one more entry at a time.
-use Rattle.std.proofs.Common.{◌≡◌, ℕ, ◌+◌, ◌<◌, Bool, true, false, cond, List, [], ◌∷◌, ◌++◌, length, get_or, take, drop, Some, Result, Ok, Err, sym, ap, ◌∙◌, add-one, drop-cons}
+use Rattle.std.proofs.Common.{◌≡◌, ℕ, ◌+◌, ◌<◌, ◌≤◌, Bool, true, false, cond, List, [], ◌∷◌, ◌++◌, length, get_or, take, drop, None, Some, Result, Ok, Err, sym, ap, ◌∙◌, add-one, drop-cons}
 use Rattle.std.specs.Prelude.{OnErr}
 use Rattle.std.specs.List.{filter}
-use Rattle.std.proofs.lemmas.List.{append-nil, take-append-drop}
+use Rattle.std.proofs.lemmas.List.{append-nil, drop_all, take-append-drop}
 use Rattle.std.proofs.lemmas.List.Elements.{filter-append, filter_more}
 use Rattle.model.specs.declared.types.operations.Entry.{Entry}
 use Rattle.model.specs.declared.types.image.Form.{Form}
@@ -57,3 +57,17 @@ run_on_the_way p form old files new entries i (Err e) run same = record {
   parts = ap (filter p) (sym (take-append-drop i entries)) ∙ filter-append p (take i entries) (drop i entries);
   done = rw same run.before;
 }
+
+-- all of them are done
+pub run_ended : (p : Entry → Bool) (form : Form) (old files : Files) (entries : List Entry) (i : ℕ) → Run p form old files entries i → length entries ≤ i →
+    (replay form old (filter p entries) ≡ Some files) × (files ≡ reached form old (filter p entries))
+run_ended p form old files entries i run all =
+    let none = drop_all i entries all in
+    (sym (rw none at run.rest), rw none at run.reached)
+
+-- the next one can't be
+pub run_stopped : (p : Entry → Bool) (form : Form) (old files : Files) (entries : List Entry) (i : ℕ) (e : Entry) →
+    Run p form old files entries i → i < length entries → e ≡ get_or entries i e → p e ≡ true → after_answer form files e.op e.reply ≡ None →
+    (replay form old (filter p entries) ≡ None) × (files ≡ reached form old (filter p entries))
+run_stopped p form old files entries i e run lt is here none =
+    (sym (rw (filter_left p entries i e lt is, here, none) at run.rest), rw (filter_left p entries i e lt is, here, none) at run.reached)

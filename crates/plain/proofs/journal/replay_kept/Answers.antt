@@ -2,7 +2,7 @@ use Rattle.std.proofs.Common.{sym, ◌∙◌, ap}
 use Rattle.std.specs.Prelude.{◌&&◌, nat_le}
 use Rattle.model.specs.Journal.{is_changing}
 use Rattle.model.specs.Operations.{where_true}
-use Rattle.plain.proofs.ReplayLemmas.{run_taken, run_passed, run_on_the_way}
+use Rattle.plain.proofs.ReplayLemmas.{run_ended, run_on_the_way, run_passed, run_stopped, run_taken}
 use Rattle.plain.proofs.journal.replay_kept.Goals.{else-is_kept-via-then-is_kept+in_ok-replay_one+else-not-branch, else-is_kept-via-else-is_kept}
 use Rattle.plain.proofs.journal.replay_kept.Goals as goal
 
@@ -19,3 +19,14 @@ loop-entry-preserved c =
       | else-is_kept-via-else-is_kept w ↦
           rw w.files-is (run_passed (λ e. is_changing c.args.inode_count e.op && nat_le e.group c.args.c) c.args.form c.args.files.now.items c.loop-entry.files.items c.args.entries.now c.loop-entry.entry-index c.entry-item.result c.loop-entry.invariant c.loop-entry-test.true c.entry-item.is (sym c.is_kept.ensures ∙ w.if-is_kept.false))
     ]
+
+pub returns-then-not-branch-clause-after : goal.returns-then-not-branch-clause-after
+returns-then-not-branch-clause-after c =
+    (run_stopped (λ e. is_changing c.args.inode_count e.op && nat_le e.group c.args.c) c.args.form c.args.files.now.items c.loop-entry.files.items c.args.entries.now c.loop-entry.entry-index c.entry-item.result c.loop-entry.invariant c.loop-entry-test.true c.entry-item.is (sym c.is_kept.ensures ∙ c.if-is_kept.true)
+    (c.in_ok-replay_one.ensures.after ∙ ap (λ yes. where_true yes c.replay_one.new.files.items) c.if-not-branch.true)).0
+
+pub returns-clause-after : goal.returns-clause-after
+returns-clause-after c = (run_ended (λ e. is_changing c.args.inode_count e.op && nat_le e.group c.args.c) c.args.form c.args.files.now.items c.loop-entry.files.items c.args.entries.now c.loop-entry.entry-index c.loop-entry.invariant c.loop-entry-test.false).0
+
+pub returns-clause-stop : goal.returns-clause-stop
+returns-clause-stop c = (run_ended (λ e. is_changing c.args.inode_count e.op && nat_le e.group c.args.c) c.args.form c.args.files.now.items c.loop-entry.files.items c.args.entries.now c.loop-entry.entry-index c.loop-entry.invariant c.loop-entry-test.false).1
