@@ -7,6 +7,7 @@ pub mod Sought
 pub mod StepEnds
 pub mod Runs
 pub mod WriteRuns
+pub mod FullWrites
 pub mod Causes
 pub mod ReadRuns
 pub mod Table

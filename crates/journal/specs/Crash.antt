@@ -11,7 +11,8 @@ use Rattle.model.specs.Soundness.{IsSound}
 use Rattle.wal.specs.declared.types.Commit.TheVariants as commit
 use Rattle.wal.specs.declared.types.Part.TheVariants as part
 use Rattle.wal.specs.Machine.{LogState, used_by}
-use Rattle.journal.specs.Keeps.{HasFilesAfter, most_kept}
+use Rattle.journal.specs.Keeps.{HasFilesAfter}
+use Rattle.journal.specs.Most.{most_kept}
 use Rattle.journal.specs.Open.{Held, AreExclusive}
 
 -- what no operation touches is the opening's, and the labels are those that are due

@@ -52,7 +52,7 @@ use Rattle.kernel.specs.Begins.{Begins}
 use Rattle.kernel.specs.Heralds.{IsUnasked}
 use Rattle.kernel.specs.Ports.{KeepsOthers, Asks}
 use Rattle.kernel.specs.State.{State, waiting_of}
-use Rattle.kernel.specs.Steps.{Acts, may_begin}
+use Rattle.kernel.specs.Acts.{Acts, may_begin}
 use Rattle.kernel.proofs.Events.{not_taken}
 use Rattle.journal.specs.Lemmas.Leaving.{elapses_none, elapses_same}
 
@@ -268,11 +268,13 @@ module _ {D N I M H : Type 0} (disk : disk_trait.Ghosts D N) (intake : intake_tr
         (subst (λ (b : At). NextAt disk b k.store k.world p (intake.side k.intake p).ahead (intake.side m.intake p) (herald.told m.herald) r m.store m.world) (sym stands) next);
     device = subst (λ (b : At). UsesDisk disk b p r k.store m.store) (sym stands) device;
     opening = opening;
-    asked = asked;
-    unasked = unasked;
-    sides = sides;
-    waits = waits;
-    ahead = λ busy. ahead (ap is_busy_at (sym stands) ∙ busy);
+    ports = record {
+      asked = asked;
+      unasked = unasked;
+      sides = sides;
+      waits = waits;
+      ahead = λ busy. ahead (ap is_busy_at (sym stands) ∙ busy);
+    };
   }
 
   -- who is under way, and leaves what waits

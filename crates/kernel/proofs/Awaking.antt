@@ -282,10 +282,10 @@ module _ {D N I M H : Type 0} (disk : disk_trait.Ghosts D N) (intake : intake_tr
       same = asleep_same k m p cause (intake.side k.intake p).ahead (intake.side m.intake p) (herald.told m.herald) (ats_of k.world p) next
 
       awake : IsAwake disk.image m
-      awake = where_none m.store.volume.fault (ap (λ (s : StoreState D). s.volume.fault) same.0 ∙ well) makes.awake
+      awake = where_none m.store.volume.fault (ap (λ (s : StoreState D). s.volume.fault) same.0 ∙ well) makes.progress.awake
 
       one_still : length m.world.processes ≡ 1
-      one_still = makes.many ∙ one
+      one_still = makes.progress.many ∙ one
 
       by : (b : Bool) → is_busy_at (ats_of k.world p) ≡ b → WaitsForRoom intake k p cause m
       by true busy =

@@ -4,23 +4,24 @@ use Rattle.wal.specs.declared.types.DeviceFault.{DeviceFault}
 use Rattle.std.specs.Prelude.{IsTrue}
 use Rattle.std.proofs.lemmas.Bool.{cases_eq, cases_lt}
 use Rattle.std.proofs.Math.Seq.{get_or-append_seam}
-use Rattle.std.proofs.lemmas.List.{length-append, get_or-set_same, get_or_past}
+use Rattle.std.proofs.lemmas.List.{length-append, get_or_past}
 use Rattle.blocks.specs.declared.disk.Disk as disk_trait
 use Rattle.model.specs.declared.types.operations.Entry.{Entry}
 use Rattle.model.specs.declared.types.operations.Op.{Op}
 use Rattle.model.specs.declared.types.operations.Op.TheVariants.{Create, Write, Read, Trunc, Remove, Stat}
 use Rattle.model.specs.declared.types.operations.Reply.{Reply}
-use Rattle.model.specs.declared.types.operations.Reply.TheVariants.{Made, NoInode}
+use Rattle.model.specs.declared.types.operations.Reply.TheVariants.{BadType, Made}
 use Rattle.model.specs.declared.types.operations.TaskProgress.{TaskProgress}
 use Rattle.model.specs.declared.types.operations.TaskProgress.TheVariants as progress
 use Rattle.model.specs.Journal.{is_at_once, is_number}
 use Rattle.inodes.specs.Goes.{Goes}
-use Rattle.inodes.specs.Lemmas.Causes.{IsAhead, SearchesOn, search_sees}
+use Rattle.inodes.specs.Lemmas.Causes.{IsAhead, SearchesOn, search_begins, search_sees}
+use Rattle.inodes.specs.Lemmas.Looks.{IsPassedBy}
 use Rattle.inodes.specs.Places.{is_over}
 use Rattle.inodes.specs.Runs.{SeesTaken}
 use Rattle.inodes.specs.Steps.{Steps}
-use Rattle.inodes.specs.Store.{StoreState, first_place, with_begun}
-use Rattle.inodes.specs.Tasks.{TaskState, task, no_task}
+use Rattle.inodes.specs.Store.{StoreState, reply_of, with_begun}
+use Rattle.inodes.specs.Tasks.{TaskState, task}
 use Rattle.inodes.specs.declared.tasks.Place.{Place}
 use Rattle.inodes.specs.declared.tasks.Place.TheVariants as place
 use Rattle.ports.specs.History.{Side, first_in}
@@ -38,9 +39,9 @@ use Rattle.journal.specs.Processes.{World, process, idle, place_behind, turned_f
 use Rattle.journal.specs.declared.types.At.{At}
 use Rattle.journal.specs.declared.types.At.TheVariants as at
 use Rattle.journal.specs.declared.types.Process.{Process}
-use Rattle.kernel.specs.Causes.{NoInodeHasCause, SomeTurnMakes, TurnMakes}
+use Rattle.kernel.specs.Causes.{IsAnswered, MadeHasCause, NoInodeHasCause, SomeTurnMakes, TurnMakes}
 use Rattle.kernel.specs.Next.{BeginsWith, NextAt, NextIf, Works, world_after}
-use Rattle.kernel.specs.Runs.{Runs, with_shutdown}
+use Rattle.kernel.specs.Runs.{Session, with_ports, with_shutdown}
 use Rattle.kernel.specs.State.{State, ats_of, waiting_of}
 use Rattle.kernel.specs.Steps.{MakesStep}
 use Rattle.kernel.specs.declared.types.Step.{Step}
@@ -118,10 +119,10 @@ becomes_now w z p t is = ⊎_elim
 
 module _ {D N I M H : Type 0} (disk : disk_trait.Ghosts D N) (intake : intake_trait.Ghosts I M) (herald : herald_trait.Ghosts H) where
   -- no entry of a run is lost
-  pub runs_extend : (ts : List Turn) (k m : State D I H) → Runs disk intake herald ts k m → Extends k.world.journal.list m.world.journal.list
-  runs_extend [] k m run = subst (λ (o : State D I H). Extends k.world.journal.list o.world.journal.list) (sym run) (extends_same k.world.journal.list)
-  runs_extend (Shut ∷ ts) k m run = subst (λ (o : State D I H). Extends o.world.journal.list m.world.journal.list) run.1 (runs_extend ts run.0 m run.2)
-  runs_extend (Proc p ∷ ts) k m run = extends_then k.world.journal.list run.0.world.journal.list m.world.journal.list run.1.1.grows.journal (runs_extend ts run.0 m run.2)
+  pub runs_extend : (ts : List Turn) (k m : State D I H) → Session disk intake herald ts k m → Extends k.world.journal.list m.world.journal.list
+  runs_extend [] k m run = subst (λ (o : State D I H). Extends k.world.journal.list o.world.journal.list) (sym run.2) (extends_same k.world.journal.list)
+  runs_extend (Shut ∷ ts) k m run = subst (λ (o : State D I H). Extends o.world.journal.list m.world.journal.list) run.1.2 (runs_extend ts run.0 m run.2)
+  runs_extend (Proc p ∷ ts) k m run = extends_then k.world.journal.list run.0.world.journal.list m.world.journal.list run.1.2.1.progress.grows.journal (runs_extend ts run.0 m run.2)
 
   -- a turn of process q
   pub turned : (q : ℕ) (r : Step) (k m : State D I H) → MakesStep disk intake herald q r k m → Turned q (ats_of k.world q) k.store k.world m.store m.world
@@ -129,14 +130,14 @@ module _ {D N I M H : Type 0} (disk : disk_trait.Ghosts D N) (intake : intake_tr
 
   -- ---- a creation
 
-  module _ (p n j : ℕ) (number : IsTrue (is_number n j)) where
+  module _ (p n j : ℕ) (number : IsTrue (is_number n j)) (o : Option ℕ) (passed : IsPassedBy o j) where
     -- a creation of process p that waits for its turn may still come to number j's block, or has no task
     abbrev Tracks : StoreState D → World → Type 0
     Tracks s w = (group kind : ℕ) → (process w p).at ≡ at.Before group (Create kind) → IsAhead p j s ⊎ ((task s.tasks p).place ≡ place.Nowhere)
 
-    -- no creation is answered with this turn so that all numbers are taken, now or later
+    -- no creation is answered with this turn so that it passes the number by, now or later
     abbrev Spares : Entry → Type 0
-    Spares e = (kind : ℕ) → e.op ≡ Create kind → (e.reply ≡ Some NoInode) ⊎ (e.reply ≡ None) → ⊥
+    Spares e = (kind : ℕ) → e.op ≡ Create kind → (e.reply ≡ Some (reply_of o)) ⊎ (e.reply ≡ None) → ⊥
 
     abbrev Saw : StoreState D → StoreState D → Type 0
     Saw s u = TurnMakes disk (SeesTaken disk.image p j) p (Proc p) s u
@@ -178,24 +179,22 @@ module _ {D N I M H : Type 0} (disk : disk_trait.Ghosts D N) (intake : intake_tr
 
       -- the task that begins stands at the first block, where there is one
       begun_ahead : (op : Op) (group kind : ℕ) → at.Before (Rattle.wal.specs.Machine.begun s.volume.log p).opened op ≡ at.Before group (Create kind) → IsAhead p j (with_begun s p op) ⊎ ((task (with_begun s p op).tasks p).place ≡ place.Nowhere)
-      begun_ahead op group kind is = ⊎_elim
-          (λ (lt : p < length s.tasks).
+      begun_ahead op group kind is =
           let same : op ≡ Create kind = cc is in
-          let here = ap (λ (u : TaskState). u.place) (get_or-set_same s.tasks p (record { op = Some op; place = first_place op s.table.inode_count; gathered = None }) no_task lt) in
-          inl (record {
-            search = record { kind = kind; inode_count = s.table.inode_count; block = 33; slot = None };
-            stands = here ∙ ap (λ (o : Op). first_place o s.table.inode_count) same;
-            ahead = omega arith;
-          }))
-          (λ (past : length s.tasks ≤ p).
-          inr (ap (λ (u : TaskState). u.place) (get_or_past (set s.tasks p (record { op = Some op; place = first_place op s.table.inode_count; gathered = None })) p no_task
-          (let many = length-set s.tasks p (record { op = Some op; place = first_place op s.table.inode_count; gathered = None }) in omega (arith, many, past)))))
-          (cases_lt p (length s.tasks))
+          subst (λ (o : Op). IsAhead p j (with_begun s p o) ⊎ ((task (with_begun s p o).tasks p).place ≡ place.Nowhere)) (sym same) (search_begins p j kind s)
+
+      never_refused : (q : Option ℕ) → Some BadType ≡ Some (reply_of q) → ⊥
+      never_refused None is = cc is
+      never_refused (Some i) is = cc is
 
       at_once_apart : (op : Op) → Spares (Rattle.journal.specs.Processes.refusal w p op (at_once_reply op))
-      at_once_apart op kind is (inl has) =
-          let told : at_once_reply (Create kind) ≡ NoInode = (let both = sym (ap (λ (o : Op). Some (at_once_reply o)) is) ∙ has in cc both) in cc told
+      at_once_apart op kind is (inl has) = never_refused o (sym (ap (λ (q : Op). Some (at_once_reply q)) is) ∙ has)
       at_once_apart op kind is (inr has) = cc has
+
+      -- a number that is not higher passes none by
+      never_passed : (q : Option ℕ) → IsPassedBy q j → (i : ℕ) → i ≤ j → Some (Made i) ≡ Some (reply_of q) → ⊥
+      never_passed None by i low is = cc is
+      never_passed (Some k) by i low is = let same : i ≡ k = cc is in omega (arith, same, low, by)
 
       own_begins : (what : Option Waiting) (ahead : List Op) (side : Side) (r : Step) → (process w p).at ≡ at.Idle → BeginsWith what s w p ahead side r t z → Own s t w z
       own_begins what ahead side r stands (inl made) = inr (record {
@@ -249,7 +248,7 @@ module _ {D N I M H : Type 0} (disk : disk_trait.Ghosts D N) (intake : intake_tr
               never false k g o e = cc e
 
               apart : Spares (entry_of p (process w p).begun (Create kind) group reply)
-              apart c same_kind (inl has) = let no = sym told ∙ has in cc no
+              apart c same_kind (inl has) = never_passed o passed is.0 is.2 (sym told ∙ has)
               apart c same_kind (inr has) = let no = sym told ∙ has in cc no
 
               turns : (over : Bool) → z ≡ turned_from (at.Before group (Create kind)) w p reply over → Passes s t w z
@@ -332,27 +331,27 @@ module _ {D N I M H : Type 0} (disk : disk_trait.Ghosts D N) (intake : intake_tr
       })
 
     -- a run saw the number taken where it ends with such an entry
-    none_in_run : (ts : List Turn) (k m : State D I H) (run : Runs disk intake herald ts k m) (kind at_place : ℕ) (e : Entry) → k.store.table.inode_count ≡ n → Tracks k.store k.world
-        → length k.world.journal.list ≤ at_place → IsEntry m.world.journal.list at_place e → e.pid ≡ p → e.op ≡ Create kind → e.reply ≡ Some NoInode
+    passed_in_run : (ts : List Turn) (k m : State D I H) (run : Session disk intake herald ts k m) (kind at_place : ℕ) (e : Entry) → k.store.table.inode_count ≡ n → Tracks k.store k.world
+        → length k.world.journal.list ≤ at_place → IsEntry m.world.journal.list at_place e → e.pid ≡ p → e.op ≡ Create kind → e.reply ≡ Some (reply_of o)
         → SomeTurnMakes disk intake herald (SeesTaken disk.image p j) p ts k m run
-    none_in_run [] k m run kind at_place e count tracks later stands mine asked told =
+    passed_in_run [] k m run kind at_place e count tracks later stands mine asked told =
         let lt = stands.inside in
-        let same : length m.world.journal.list ≡ length k.world.journal.list = ap (λ (o : State D I H). length o.world.journal.list) run in
+        let same : length m.world.journal.list ≡ length k.world.journal.list = ap (λ (o : State D I H). length o.world.journal.list) run.2 in
         omega (arith, lt, same, later)
-    none_in_run (Shut ∷ ts) k m run kind at_place e count tracks later stands mine asked told =
-        let back : with_shutdown k ≡ run.0 = sym run.1 in
-        inr (none_in_run ts run.0 m run.2 kind at_place e
+    passed_in_run (Shut ∷ ts) k m run kind at_place e count tracks later stands mine asked told =
+        let back : with_shutdown (with_ports k run.1.0 run.1.1) ≡ run.0 = sym run.1.2 in
+        inr (passed_in_run ts run.0 m run.2 kind at_place e
         (subst (λ (o : State D I H). o.store.table.inode_count ≡ n) back count)
         (subst (λ (o : State D I H). Tracks o.store o.world) back tracks)
         (subst (λ (o : State D I H). length o.world.journal.list ≤ at_place) back later) stands mine asked told)
-    none_in_run (Proc q ∷ ts) k m run kind at_place e count tracks later stands mine asked told =
-        by_process (λ now many low. none_in_run ts run.0 m run.2 kind at_place e many now low stands mine asked told) (cases_eq q p)
+    passed_in_run (Proc q ∷ ts) k m run kind at_place e count tracks later stands mine asked told =
+        by_process (λ now many low. passed_in_run ts run.0 m run.2 kind at_place e many now low stands mine asked told) (cases_eq q p)
       where
         mid : State D I H
         mid = run.0
 
         turn : Turned q (ats_of k.world q) k.store k.world mid.store mid.world
-        turn = turned q run.1.0 k mid run.1.1
+        turn = turned q run.1.2.0 (with_ports k run.1.0 run.1.1) mid run.1.2.1
 
         Rest : Type 0
         Rest = Tracks mid.store mid.world → mid.store.table.inode_count ≡ n → length mid.world.journal.list ≤ at_place → SomeTurnMakes disk intake herald (SeesTaken disk.image p j) p ts mid m run.2
@@ -373,13 +372,13 @@ module _ {D N I M H : Type 0} (disk : disk_trait.Ghosts D N) (intake : intake_tr
             moved (inl is) same = inl (record { search = is.search; stands = same ∙ is.stands; ahead = is.ahead })
             moved (inr is) same = inr (same ∙ is)
 
-        passed : Rest → Passes k.store mid.store k.world mid.world → q ≡ p → (length mid.world.journal.list ≤ at_place) ⊎ Added q (ats_of k.world q) k.world.journal.list mid.world.journal.list at_place e → SomeTurnMakes disk intake herald (SeesTaken disk.image p j) p ts mid m run.2
-        passed rest own same (inl low) = rest own.tracks many low
-        passed rest own same (inr new) =
+        goes_by : Rest → Passes k.store mid.store k.world mid.world → q ≡ p → (length mid.world.journal.list ≤ at_place) ⊎ Added q (ats_of k.world q) k.world.journal.list mid.world.journal.list at_place e → SomeTurnMakes disk intake herald (SeesTaken disk.image p j) p ts mid m run.2
+        goes_by rest own same (inl low) = rest own.tracks many low
+        goes_by rest own same (inr new) =
             let adds : AddsEntry p (process k.world p).at k.world.journal.list mid.world.journal.list = subst (λ (o : ℕ). AddsEntry o (process k.world o).at k.world.journal.list mid.world.journal.list) same new.adds in
             absurd (own.spares adds kind
             (ap (λ (x : Entry). x.op) (entry_of_adds same new) ∙ sym (same_op new.adds.entry e new.becomes) ∙ asked)
-            (subst (λ (x : Entry). (x.reply ≡ Some NoInode) ⊎ (x.reply ≡ None)) (sym (entry_of_adds same new)) (reply_before new.adds.entry e NoInode new.becomes told)))
+            (subst (λ (x : Entry). (x.reply ≡ Some (reply_of o)) ⊎ (x.reply ≡ None)) (sym (entry_of_adds same new)) (reply_before new.adds.entry e (reply_of o) new.becomes told)))
           where
             entry_of_adds : (is : q ≡ p) (x : Added q (ats_of k.world q) k.world.journal.list mid.world.journal.list at_place e) → (subst (λ (o : ℕ). AddsEntry o (process k.world o).at k.world.journal.list mid.world.journal.list) is x.adds).entry ≡ x.adds.entry
             entry_of_adds is x = last_same k.world.journal.list _ x.adds.entry (sym (subst (λ (o : ℕ). AddsEntry o (process k.world o).at k.world.journal.list mid.world.journal.list) is x.adds).list ∙ x.adds.list)
@@ -388,19 +387,25 @@ module _ {D N I M H : Type 0} (disk : disk_trait.Ghosts D N) (intake : intake_tr
         by_process rest (inl same) = by_own (own_turn k.store mid.store k.world mid.world count tracks k.store.volume.fault _ _ _ made.0
             (subst (λ (o : ℕ). Turned o (ats_of k.world o) k.store k.world mid.store mid.world) same turn) made.1.acts.next)
           where
-            made : (r : Step) × MakesStep disk intake herald p r k mid
-            made = subst (λ (o : ℕ). (r : Step) × MakesStep disk intake herald o r k mid) same run.1
+            made : (r : Step) × MakesStep disk intake herald p r (with_ports k run.1.0 run.1.1) mid
+            made = subst (λ (o : ℕ). (r : Step) × MakesStep disk intake herald o r (with_ports k run.1.0 run.1.1) mid) same run.1.2
 
             by_own : Own k.store mid.store k.world mid.world → SomeTurnMakes disk intake herald (SeesTaken disk.image p j) p (Proc q ∷ ts) k m run
             by_own (inl saw) = inl (subst (λ (o : ℕ). TurnMakes disk (SeesTaken disk.image p j) p (Proc o) k.store mid.store) (sym same) saw)
-            by_own (inr own) = inr (passed rest own same comes)
+            by_own (inr own) = inr (goes_by rest own same comes)
         by_process rest (inr apart) = by_new comes
           where
             by_new : (length mid.world.journal.list ≤ at_place) ⊎ Added q (ats_of k.world q) k.world.journal.list mid.world.journal.list at_place e → SomeTurnMakes disk intake herald (SeesTaken disk.image p j) p (Proc q ∷ ts) k m run
             by_new (inl low) = inr (rest (theirs apart) many low)
             by_new (inr new) = absurd (apart (sym new.adds.mine ∙ sym (same_pid new.adds.entry e new.becomes) ∙ mine))
 
-  pub no_inode_has_cause : NoInodeHasCause disk intake herald
-  no_inode_has_cause ts k m run p kind i told number =
-      none_in_run p k.store.table.inode_count i number ts k m run kind told.place told.entry refl
+  passed_has_cause : (o : Option ℕ) (ts : List Turn) (k m : State D I H) (run : Session disk intake herald ts k m) (p kind j : ℕ) → IsAnswered k m p (Create kind) (reply_of o) → IsTrue (is_number k.store.table.inode_count j) → IsPassedBy o j → SomeTurnMakes disk intake herald (SeesTaken disk.image p j) p ts k m run
+  passed_has_cause o ts k m run p kind j told number passed =
+      passed_in_run p k.store.table.inode_count j number o passed ts k m run kind told.place told.entry refl
       (λ group c is. absurd (let no = sym told.idle ∙ is in cc no)) told.later told.stands told.mine told.same told.told
+
+  pub no_inode_has_cause : NoInodeHasCause disk intake herald
+  no_inode_has_cause ts k m run p kind i told number = passed_has_cause None ts k m run p kind i told number tt
+
+  pub made_has_cause : MadeHasCause disk intake herald
+  made_has_cause ts k m run p kind i j told number lower = passed_has_cause (Some i) ts k m run p kind j told number lower

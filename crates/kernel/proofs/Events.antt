@@ -59,7 +59,7 @@ use Rattle.kernel.specs.declared.waiting.Waiting.TheVariants as waiting
 use Rattle.kernel.specs.declared.types.Step.{Step}
 use Rattle.kernel.specs.declared.types.Step.TheVariants as step
 use Rattle.kernel.specs.Bound.{step_bound, task_left}
-use Rattle.kernel.specs.Next.{IsNotTaken, BeginsWith, Works, Finishes, Ends, Writes, NextAt, NextIf, Next, step_of, world_after, step_behind, world_behind, step_of_last, world_of_last, step_of_told, world_of_told, step_of_end, world_ended, step_of_write, world_written}
+use Rattle.kernel.specs.Next.{IsNotTaken, BeginsWith, Works, Finishes, Ends, Writes, NextAt, NextIf, step_of, world_after, step_behind, world_behind, step_of_last, world_of_last, step_of_told, world_of_told, step_of_end, world_ended, step_of_write, world_written}
 use Rattle.kernel.specs.Progress.{commits, CountsCommitted}
 use Rattle.kernel.specs.Invariant.{IsBehind}
 use Rattle.kernel.specs.State.{waiting_of, ats_of, room_for}
@@ -467,7 +467,7 @@ module _ {D N : Type 0} (disk : Ghosts D N) (opening : Image) (p : ℕ) (s t : S
     event_at r (at.Committing group k) stands made = writes group k r stands made
 
   -- what each step of a process is, also after a fault
-  pub event_of : (r : Step) → (s.volume.fault ≡ None → IsWell disk.image opening s w p) → Next disk s w p before side told r t z → Made r
+  pub event_of : (r : Step) → (s.volume.fault ≡ None → IsWell disk.image opening s w p) → NextIf disk s.volume.fault s w p before side told r t z → Made r
   event_of r well made = by_fault s.volume.fault refl made
     where
       by_fault : (o : Option DeviceFault) → s.volume.fault ≡ o → NextIf disk o s w p before side told r t z → Made r

@@ -14,6 +14,7 @@ pub mod Closing
 pub mod Acting
 pub mod Events
 pub mod Promising
+pub mod Since
 pub mod Turns
 pub mod Turned
 pub mod Causes
@@ -27,3 +28,4 @@ mod Resting
 mod Awaking
 mod Begun
 mod Rounds
+mod Recovered

@@ -13,19 +13,22 @@ use Rattle.inodes.specs.Lemmas.Faults.{where_none}
 use Rattle.inodes.specs.Store.{IsStore}
 use Rattle.journal.specs.declared.types.Process.{Process}
 use Rattle.journal.specs.Bound.{all_steps_left}
-use Rattle.journal.specs.Keeps.{KeepsNow, KeepsBetween, most_of}
+use Rattle.journal.specs.Keeps.{KeepsNow, KeepsBetween}
+use Rattle.journal.specs.Most.{most_of}
 use Rattle.journal.specs.Lemmas.Bounds.{left_same}
-use Rattle.journal.specs.Lemmas.Leaving.{leaves_between}
+use Rattle.journal.specs.Lemmas.Leaving.{leaves_between, leaves_on}
 use Rattle.journal.specs.Processes.{process}
 use Rattle.kernel.specs.declared.types.Step.{Step}
 use Rattle.kernel.specs.declared.types.Step.TheVariants as step
 use Rattle.kernel.specs.Awake.{IsAwake}
 use Rattle.kernel.specs.Bound.{TakesOne, GivesNone, left_of, step_bound, task_left}
-use Rattle.kernel.specs.Invariant.{Inv}
+use Rattle.kernel.specs.Invariant.{Inv, IsRight, LeavesSince}
 use Rattle.kernel.specs.Progress.{KeepsShutdown}
 use Rattle.kernel.specs.State.{State}
-use Rattle.kernel.specs.Steps.{Acts, MakesStep}
+use Rattle.kernel.specs.Acts.{Acts}
+use Rattle.kernel.specs.Steps.{MakesStep}
 use Rattle.kernel.proofs.Events.{Event, event_of}
+use Rattle.kernel.proofs.Right.{Survive, keeps_now}
 use Rattle.journal.specs.Lemmas.Places.{as_many, others_stay, there_now}
 use Rattle.kernel.proofs.Well.{IsWell, few_numbers}
 
@@ -75,30 +78,53 @@ module _ {D N I M H : Type 0} (disk : disk_trait.Ghosts D N) (intake : intake_tr
     count = inv.right.numbers;
   }
 
-  pub makes_step : Inv disk intake herald k → IsStore disk.image k.store → p < length k.world.processes
-      → ((x : Image) → disk.leaves k.store.volume.device (disk.moment k.store.volume.device) x → KeepsNow k.store.volume (disk.image k.opening) k.world.journal.list x)
+  event_here : Inv disk intake herald k → IsStore disk.image k.store → p < length k.world.processes → Acts disk intake herald p r k m
+      → Event disk.image (form_of (disk.image k.opening)) (inode_count_of (disk.image k.opening)) (disk.holding (disk.name k.store.volume.device)) p k.store k.world m.store m.world r
+  event_here inv store lt acts = event_of disk (disk.image k.opening) p k.store m.store k.world m.world _ _ _ r (well_of inv store lt) acts.next
+
+  -- what a stop leaves in the time of the step
+  leaves_here : Inv disk intake herald k → IsStore disk.image k.store → p < length k.world.processes
+      → ((x : Image) → disk.leaves k.store.volume.device (disk.moment k.store.volume.device) x → KeepsNow k.store.volume.log.committed (most_of k.store.volume) (disk.image k.opening) k.world.journal.list x)
       → Acts disk intake herald p r k m
-      → ((x : Image) → disk.leaves m.store.volume.device (disk.moment m.store.volume.device) x → KeepsNow m.store.volume (disk.image m.opening) m.world.journal.list x)
+      → ((x : Image) → disk.leaves m.store.volume.device (disk.moment m.store.volume.device) x → KeepsNow m.store.volume.log.committed (most_of m.store.volume) (disk.image k.opening) m.world.journal.list x)
+      → LeavesOnly disk.moment disk.leaves k.store.volume.device m.store.volume.device (KeepsBetween k.store.volume.log.committed (most_of m.store.volume) (disk.image k.opening) m.world.journal.list)
+  leaves_here inv store lt before acts after =
+      leaves_between (disk.image k.opening) k.store.volume m.store.volume k.world.journal.list m.world.journal.list (event_here inv store lt acts).grows disk.moment disk.leaves before after acts.device.time
+
+  -- and what it has left since the opening
+  pub since_step : Inv disk intake herald k → IsStore disk.image k.store → Survive disk k.store → p < length k.world.processes
+      → Acts disk intake herald p r k m → IsRight disk k.opening m.store m.world → Survive disk m.store → LeavesSince disk k.opening m.store m.world
+  since_step inv store survives lt acts right survive =
+      leaves_on (disk.image k.opening) disk.moment disk.leaves k.opening 0 k.store.volume m.store.volume k.world.journal.list m.world.journal.list (omega arith) (event_here inv store lt acts).grows inv.since
+      (leaves_here inv store lt (keeps_now disk k.opening k.store k.world k.store.volume.fault inv.right.facts inv.right.keeps survives) acts
+      (keeps_now disk k.opening m.store m.world m.store.volume.fault right.facts right.keeps survive))
+
+  pub makes_step : Inv disk intake herald k → IsStore disk.image k.store → p < length k.world.processes
+      → ((x : Image) → disk.leaves k.store.volume.device (disk.moment k.store.volume.device) x → KeepsNow k.store.volume.log.committed (most_of k.store.volume) (disk.image k.opening) k.world.journal.list x)
+      → Acts disk intake herald p r k m
+      → ((x : Image) → disk.leaves m.store.volume.device (disk.moment m.store.volume.device) x → KeepsNow m.store.volume.log.committed (most_of m.store.volume) (disk.image m.opening) m.world.journal.list x)
       → IfNone m.store.volume.fault (IsAwake disk.image m)
       → MakesStep disk intake herald p r k m
   makes_step inv store lt before acts after awake =
       let opening = disk.image k.opening in
       let n = inode_count_of opening in
       let holds = disk.holding (disk.name k.store.volume.device) in
-      let e : Event disk.image (form_of opening) n holds p k.store k.world m.store m.world r = event_of disk opening p k.store m.store k.world m.world _ _ _ r (well_of inv store lt) acts.next in
-      let leaves : LeavesOnly disk.moment disk.leaves k.store.volume.device m.store.volume.device (KeepsBetween k.store.volume.log.committed (most_of m.store.volume) opening m.world.journal.list)
-      = leaves_between opening k.store.volume m.store.volume k.world.journal.list m.world.journal.list e.grows disk.moment disk.leaves before
-      (subst (λ (o : D). (x : Image) → disk.leaves m.store.volume.device (disk.moment m.store.volume.device) x → KeepsNow m.store.volume (disk.image o) m.world.journal.list x) acts.opening after)
-      acts.device.time in
+      let e = event_here inv store lt acts in
+      let leaves = leaves_here inv store lt before acts
+      (subst (λ (o : D). (x : Image) → disk.leaves m.store.volume.device (disk.moment m.store.volume.device) x → KeepsNow m.store.volume.log.committed (most_of m.store.volume) (disk.image o) m.world.journal.list x) acts.opening after) in
       record {
         acts = acts;
-        many = as_many k.world m.world p e.now e.processes;
-        committed = e.committed;
-        shut = keeps_shutdown disk.image (form_of opening) n holds p r k m lt e;
-        bound = takes_one disk.image (form_of opening) n holds p r k m lt e (ap (λ (o : D). form_of (disk.image o)) acts.opening);
-        others = gives_none disk.image (form_of opening) n holds p r k m lt e;
-        awake = awake;
-        keeps = after;
-        grows = e.grows;
-        leaves = subst (λ (o : D). LeavesOnly disk.moment disk.leaves k.store.volume.device m.store.volume.device (KeepsBetween k.store.volume.log.committed (most_of m.store.volume) (disk.image o) m.world.journal.list)) (sym acts.opening) leaves;
+        progress = record {
+          many = as_many k.world m.world p e.now e.processes;
+          committed = e.committed;
+          shut = keeps_shutdown disk.image (form_of opening) n holds p r k m lt e;
+          bound = takes_one disk.image (form_of opening) n holds p r k m lt e (ap (λ (o : D). form_of (disk.image o)) acts.opening);
+          others = gives_none disk.image (form_of opening) n holds p r k m lt e;
+          awake = awake;
+          grows = e.grows;
+        };
+        stop = record {
+          keeps = after;
+          leaves = subst (λ (o : D). LeavesOnly disk.moment disk.leaves k.store.volume.device m.store.volume.device (KeepsBetween k.store.volume.log.committed (most_of m.store.volume) (disk.image o) m.world.journal.list)) (sym acts.opening) leaves;
+        };
       }

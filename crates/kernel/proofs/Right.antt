@@ -14,6 +14,7 @@ use Rattle.inodes.specs.Lemmas.Faults.{if_none, if_some, where_none}
 use Rattle.inodes.specs.Store.{StoreState}
 use Rattle.journal.specs.Follows.{IsJournal}
 use Rattle.journal.specs.Keeps.{KeepsNow}
+use Rattle.journal.specs.Most.{most_of}
 use Rattle.journal.specs.Lemmas.Known.{known_keeps, known_run}
 use Rattle.journal.specs.Processes.{World}
 use Rattle.wal.specs.Floats.{Survives as SurvivesAt}
@@ -25,6 +26,10 @@ use Rattle.journal.specs.Counting.{IsCounted}
 unfailed : {D : Type 0} (image : D → Image) (form : Form) (s : StoreState D) (w : World) (o : Option DeviceFault) → o ≡ None → IfSome o (λ (f : DeviceFault). Lasts image form s w)
 unfailed image form s w None none = tt
 unfailed image form s w (Some fault) none = absurd (cc none)
+
+-- what a stop now leaves of a disk that has not failed survives in the log
+abbrev pub Survive : {D N : Type 0} → Ghosts D N → StoreState D → Type 0
+Survive disk s = IfNone s.volume.fault ((x : Image) → disk.leaves s.volume.device (disk.moment s.volume.device) x → SurvivesAt s.volume.log.commit (disk.image s.volume.device) x)
 
 module _ {D N : Type 0} (disk : Ghosts D N) (opening : D) where
   -- while the disk has not failed
@@ -40,13 +45,13 @@ module _ {D N : Type 0} (disk : Ghosts D N) (opening : D) where
         lasts = unfailed disk.image (form_of (disk.image opening)) s w s.volume.fault well;
         journal = has.facts.journal;
         replays = record { files = run.0; run = run.1 };
-        keeps = subst (λ (o : Option DeviceFault). IfSome o (λ f. (x : Image) → disk.leaves s.volume.device (disk.moment s.volume.device) x → KeepsNow s.volume (disk.image opening) w.journal.list x)) (sym well) tt;
+        keeps = subst (λ (o : Option DeviceFault). IfSome o (λ f. (x : Image) → disk.leaves s.volume.device (disk.moment s.volume.device) x → KeepsNow s.volume.log.committed (most_of s.volume) (disk.image opening) w.journal.list x)) (sym well) tt;
         faults = faults ∙ sym (ap (λ (o : Option DeviceFault). faults_after o (disk.fault_count opening)) well);
       }
 
   -- and once it failed, with the same log
   pub right_failed : (s t : StoreState D) (w : World) (fault : DeviceFault) → IsRight disk opening s w → s.volume.fault ≡ None → t.volume.fault ≡ Some fault → t.table.inode_count ≡ s.table.inode_count → ArePaired t w
-      → t.volume.log.opened ≡ s.volume.log.opened → ((x : Image) → disk.leaves t.volume.device (disk.moment t.volume.device) x → KeepsNow t.volume (disk.image opening) w.journal.list x)
+      → t.volume.log.opened ≡ s.volume.log.opened → ((x : Image) → disk.leaves t.volume.device (disk.moment t.volume.device) x → KeepsNow t.volume.log.committed (most_of t.volume) (disk.image opening) w.journal.list x)
       → disk.fault_count t.volume.device ≡ one_more (disk.fault_count s.volume.device) → Lasts disk.image (form_of (disk.image opening)) t w → IsRight disk opening t w
   right_failed s t w fault right well failed numbers paired same keeps faults lasts =
       let before : disk.fault_count s.volume.device ≡ disk.fault_count opening = right.faults ∙ ap (λ (o : Option DeviceFault). faults_after o (disk.fault_count opening)) well in
@@ -58,15 +63,15 @@ module _ {D N : Type 0} (disk : Ghosts D N) (opening : D) where
         lasts = subst (λ (o : Option DeviceFault). IfSome o (λ (f : DeviceFault). Lasts disk.image (form_of (disk.image opening)) t w)) (sym failed) lasts;
         journal = subst (λ (k : ℕ). IsJournal (inode_count_of (disk.image opening)) k w.journal.list) (sym same) right.journal;
         replays = right.replays;
-        keeps = subst (λ (o : Option DeviceFault). IfSome o (λ f. (x : Image) → disk.leaves t.volume.device (disk.moment t.volume.device) x → KeepsNow t.volume (disk.image opening) w.journal.list x)) (sym failed) keeps;
+        keeps = subst (λ (o : Option DeviceFault). IfSome o (λ f. (x : Image) → disk.leaves t.volume.device (disk.moment t.volume.device) x → KeepsNow t.volume.log.committed (most_of t.volume) (disk.image opening) w.journal.list x)) (sym failed) keeps;
         faults = faults ∙ ap one_more before ∙ sym (ap (λ (o : Option DeviceFault). faults_after o (disk.fault_count opening)) failed);
       }
 
   -- what a stop leaves is kept: while the disk is well by the facts, and then as at its fault
   pub keeps_now : (s : StoreState D) (w : World) (o : Option DeviceFault) → IfNone o (HasFacts disk.image (disk.image opening) s w)
-      → IfSome o (λ f. (x : Image) → disk.leaves s.volume.device (disk.moment s.volume.device) x → KeepsNow s.volume (disk.image opening) w.journal.list x)
+      → IfSome o (λ f. (x : Image) → disk.leaves s.volume.device (disk.moment s.volume.device) x → KeepsNow s.volume.log.committed (most_of s.volume) (disk.image opening) w.journal.list x)
       → IfNone o ((x : Image) → disk.leaves s.volume.device (disk.moment s.volume.device) x → SurvivesAt s.volume.log.commit (disk.image s.volume.device) x)
-      → (x : Image) → disk.leaves s.volume.device (disk.moment s.volume.device) x → KeepsNow s.volume (disk.image opening) w.journal.list x
+      → (x : Image) → disk.leaves s.volume.device (disk.moment s.volume.device) x → KeepsNow s.volume.log.committed (most_of s.volume) (disk.image opening) w.journal.list x
   keeps_now s w None has keeps survives x left = known_keeps (disk.image opening) (view_of disk.image s) w.journal.list (ats_of w) has.facts s.volume refl refl x (survives x left)
   keeps_now s w (Some fault) has keeps survives x left = keeps x left
 

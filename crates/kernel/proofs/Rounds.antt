@@ -38,7 +38,7 @@ use Rattle.kernel.specs.Awake.{AreIdle, IsAwake, IsBusy, cause_by, cause_of}
 use Rattle.kernel.specs.Bound.{left_of, task_left, GivesNone}
 use Rattle.kernel.specs.Next.{NextAt, NextIf, step_of, step_behind, step_of_told, step_of_last, step_of_end, step_of_write, world_after, world_behind, world_ended, world_written, world_of_told, world_of_last}
 use Rattle.kernel.specs.Rounds.{IsRound, turns_of, sum_below, all_left, BeginsNone, RoundsEndAll}
-use Rattle.kernel.specs.Runs.{Makes, Runs, is_turn_of, with_shutdown}
+use Rattle.kernel.specs.Runs.{Makes, MakesLater, Session, is_turn_of, with_ports, with_shutdown}
 use Rattle.kernel.specs.Sleeping.{SleepsForCause}
 use Rattle.kernel.specs.State.{State, ats_of}
 use Rattle.kernel.specs.Steps.{MakesStep}
@@ -96,6 +96,10 @@ module _ {D I H : Type 0} where
   stays_refl : (k m : State D I H) → m ≡ k → Stays k m
   stays_refl k m is = record { store = ap (λ (j : State D I H). j.store) is; ats = λ q. ap (λ (j : State D I H). ats_of j.world q) is }
 
+  -- whatever happened at the ports before it
+  stays_ports : (k m : State D I H) (i : I) (h : H) → Stays (with_ports k i h) m → Stays k m
+  stays_ports k m i h stays = record { store = stays.store; ats = stays.ats }
+
   stays_then : (k j m : State D I H) → Stays k j → Stays j m → Stays k m
   stays_then k j m one two = record { store = two.store ∙ one.store; ats = λ q. two.ats q ∙ one.ats q }
 
@@ -141,6 +145,15 @@ module _ {D I H : Type 0} (image : D → Image) where
   }
   shut_awake k (Some fault) was = tt
 
+  -- so does what happens at the ports
+  ports_awake : (k : State D I H) (i : I) (h : H) (o : Option DeviceFault) → IfNone o (IsAwake image k) → IfNone o (IsAwake image (with_ports k i h))
+  ports_awake k i h None was = record {
+    under_way = λ p busy. let one = was.under_way p busy in record { pid = one.pid; busy = one.busy; goes = one.goes };
+    begins = was.begins;
+    left = was.left;
+  }
+  ports_awake k i h (Some fault) was = tt
+
 -- ---- one turn
 
 answered_list : (ps : List Process) (p : ℕ) (t : Process) → t.at ≡ at.Idle → (get_or (set ps p t) p idle).at ≡ at.Idle
@@ -165,13 +178,13 @@ module _ {D N I M H : Type 0} (disk : disk_trait.Ghosts D N) (intake : intake_tr
     Goes = Takes disk.image p k m ⊎ Waits p k m
 
     moved : IsBusy k p → r ≡ step.Moved → Goes
-    moved busy is = inl (record { falls = (makes.bound is).falls busy; others = makes.others })
+    moved busy is = inl (record { falls = (makes.progress.bound is).falls busy; others = makes.progress.others })
 
     given : IsBusy k p → ats_of m.world p ≡ at.Idle → Goes
     given busy is =
         let none = idle_left disk.image m p is in
         let some = awake.left p busy in
-        inl (record { falls = omega (arith, none, some); others = makes.others })
+        inl (record { falls = omega (arith, none, some); others = makes.progress.others })
 
     slept : (cause : Why) → IsBusy k p → r ≡ step.Sleeping cause → m.store ≡ k.store → m.world ≡ k.world → Goes
     slept cause busy is store world = inr (
@@ -253,10 +266,10 @@ module _ {D N I M H : Type 0} (disk : disk_trait.Ghosts D N) (intake : intake_tr
   turn_keeps (Proc p) k m made =
       let makes = made.1 in
       record {
-        many = makes.many;
+        many = makes.progress.many;
         grows = next_grows disk k.store m.store k.world m.world p (intake.side k.intake p).ahead (intake.side m.intake p) (herald.told m.herald) made.0 k.store.volume.fault makes.acts.next;
         well = λ still. well_before p made.0 k m makes still k.store.volume.fault refl;
-        awake = λ was. makes.awake;
+        awake = λ was. makes.progress.awake;
       }
   turn_keeps Shut k m made = record {
     many = ap (λ (j : State D I H). length j.world.processes) made;
@@ -265,15 +278,21 @@ module _ {D N I M H : Type 0} (disk : disk_trait.Ghosts D N) (intake : intake_tr
     awake = λ was. subst (λ (j : State D I H). IfNone j.store.volume.fault (IsAwake disk.image j)) (sym made) (shut_awake disk.image k k.store.volume.fault was);
   }
 
-  runs_keep : (ts : List Turn) (k m : State D I H) → Runs disk intake herald ts k m → Keeps k m
-  runs_keep [] k m is = record {
+  -- also with anything at the ports before it
+  later_keeps : (t : Turn) (k m : State D I H) → MakesLater disk intake herald t k m → Keeps k m
+  later_keeps t k m (i, h, made) =
+      let one = turn_keeps t (with_ports k i h) m made in
+      record { many = one.many; grows = one.grows; well = one.well; awake = λ was. one.awake (ports_awake disk.image k i h k.store.volume.fault was) }
+
+  runs_keep : (ts : List Turn) (k m : State D I H) → Session disk intake herald ts k m → Keeps k m
+  runs_keep [] k m (i, h, is) = record {
     many = ap (λ (j : State D I H). length j.world.processes) is;
     grows = λ q. let same = ap (λ (j : State D I H). (process j.world q).begun) is in omega (arith, same);
     well = λ still. ap (λ (j : State D I H). j.store.volume.fault) (sym is) ∙ still;
-    awake = λ was. subst (λ (j : State D I H). IfNone j.store.volume.fault (IsAwake disk.image j)) (sym is) was;
+    awake = λ was. subst (λ (j : State D I H). IfNone j.store.volume.fault (IsAwake disk.image j)) (sym is) (ports_awake disk.image k i h k.store.volume.fault was);
   }
   runs_keep (t ∷ ts) k m run =
-      let one = turn_keeps t k run.0 run.1 in
+      let one = later_keeps t k run.0 run.1 in
       let rest = runs_keep ts run.0 m run.2 in
       record {
         many = rest.many ∙ one.many;
@@ -336,17 +355,22 @@ module _ {D N I M H : Type 0} (disk : disk_trait.Ghosts D N) (intake : intake_tr
   all_wait t ts k j stays one rest q (suc i, lt, is) busy none = rest q (i, omega (arith, lt), is) (busy_stays k j q stays busy) (cause_stays k j q stays ∙ none)
 
   turns_go : (n : ℕ) (ts : List Turn) (k m : State D I H) → length k.world.processes ≡ n → IsTrue (list_all (is_turn_of n) ts) → IfNone k.store.volume.fault (IsAwake disk.image k) →
-      Runs disk intake herald ts k m → Same k m → m.store.volume.fault ≡ None → Outcome n ts k m
-  turns_go n [] k m many inside awake is same still = inr (stays_refl k m is, λ (q : ℕ) (has : Contains [] (Proc q)) (busy : IsBusy k q) (none : cause_of k q ≡ None). omega (arith, has.1))
+      Session disk intake herald ts k m → Same k m → m.store.volume.fault ≡ None → Outcome n ts k m
+  turns_go n [] k m many inside awake (i, h, is) same still = inr (stays_ports k m i h (stays_refl (with_ports k i h) m is), λ (q : ℕ) (has : Contains [] (Proc q)) (busy : IsBusy k q) (none : cause_of k q ≡ None). omega (arith, has.1))
   turns_go n (t ∷ ts) k m many inside awake run same still =
       let j = run.0 in
-      let one = turn_keeps t k run.0 run.1 in
+      let one = later_keeps t k run.0 run.1 in
       let rest = runs_keep ts run.0 m run.2 in
       let parts = and_parts (is_turn_of n t) (list_all (is_turn_of n) ts) inside in
-      let first = one_of n t k run.0 many parts.0 (one.well (rest.well still)) (rest.well still) awake run.1 (same_first k run.0 m one.grows rest.grows same) in
+      let first = ports_first n t k run.0 run.1.0 run.1.1 (one_of n t (with_ports k run.1.0 run.1.1) run.0 many parts.0 (one.well (rest.well still)) (rest.well still)
+      (ports_awake disk.image k run.1.0 run.1.1 k.store.volume.fault awake) run.1.2 (same_first k run.0 m one.grows rest.grows same)) in
       let later = turns_go n ts run.0 m (one.many ∙ many) parts.1 (one.awake awake) run.2 (same_rest k run.0 m one.grows rest.grows same) still in
       join n t ts k run.0 m first later
     where
+      ports_first : (n : ℕ) (t : Turn) (k j : State D I H) (i : I) (h : H) → Outcome n (t ∷ []) (with_ports k i h) j → Outcome n (t ∷ []) k j
+      ports_first n t k j i h (inl falls) = inl falls
+      ports_first n t k j i h (inr (stays, waits)) = inr (stays_ports k j i h stays, waits)
+
       join : (n : ℕ) (t : Turn) (ts : List Turn) (k j m : State D I H) → Outcome n (t ∷ []) k j → Outcome n ts j m → Outcome n (t ∷ ts) k m
       join n t ts k j m (inl falls) (inl more) = inl (omega (arith, falls, more))
       join n t ts k j m (inl falls) (inr (stays, waits)) = let same = sum_stays n j m stays in inl (omega (arith, falls, same))
@@ -357,7 +381,7 @@ module _ {D N I M H : Type 0} (disk : disk_trait.Ghosts D N) (intake : intake_tr
 
   -- a round takes a step, where an operation is under way
   round_falls : (ts : List Turn) (k m : State D I H) → IsRound (length k.world.processes) ts → IsAwake disk.image k → IfNone k.store.volume.fault (IsAwake disk.image k) →
-      Runs disk intake herald ts k m → Same k m → m.store.volume.fault ≡ None → (p : ℕ) → IsBusy k p → sum_below (left_of disk.image m) (length k.world.processes) < all_left disk.image k
+      Session disk intake herald ts k m → Same k m → m.store.volume.fault ≡ None → (p : ℕ) → IsBusy k p → sum_below (left_of disk.image m) (length k.world.processes) < all_left disk.image k
   round_falls ts k m round awake all run same still p busy =
       let one = awake.under_way p busy in
       ⊎_elim
@@ -378,19 +402,19 @@ module _ {D N I M H : Type 0} (disk : disk_trait.Ghosts D N) (intake : intake_tr
   idle_sum : (k : State D I H) (n : ℕ) → AreIdle k.world → sum_below (left_of disk.image k) n ≡ 0
   idle_sum k n all = none_left (left_of disk.image k) n (λ q. idle_left disk.image k q (all q))
 
-  split : (ts us : List Turn) (k m : State D I H) → Runs disk intake herald (ts ++ us) k m → (j : State D I H) × Runs disk intake herald ts k j × Runs disk intake herald us j m
-  split [] us k m run = (k, refl, run)
+  split : (ts us : List Turn) (k m : State D I H) → Session disk intake herald (ts ++ us) k m → (j : State D I H) × Session disk intake herald ts k j × Session disk intake herald us j m
+  split [] us k m run = (k, (k.intake, k.herald, refl), run)
   split (t ∷ ts) us k m run = let rest = split ts us run.0 m run.2 in (rest.0, (run.0, run.1, rest.1), rest.2)
 
   rounds_end : (n : ℕ) (rounds : List (List Turn)) (k m : State D I H) → length k.world.processes ≡ n → IfNone k.store.volume.fault (IsAwake disk.image k) → All (IsRound n) rounds →
-      sum_below (left_of disk.image k) n ≤ length rounds → Runs disk intake herald (turns_of rounds) k m → Same k m → m.store.volume.fault ≡ None → AreIdle m.world
+      sum_below (left_of disk.image k) n ≤ length rounds → Session disk intake herald (turns_of rounds) k m → Same k m → m.store.volume.fault ≡ None → AreIdle m.world
   rounds_end n [] k m many awake all few run same still = by (someone m)
     where
       by : Someone m → AreIdle m.world
       by (inr idle) = idle
       by (inl (q, busy)) =
-          let well : k.store.volume.fault ≡ None = ap (λ (j : State D I H). j.store.volume.fault) (sym run) ∙ still in
-          let here : IsBusy k q = subst (λ (j : State D I H). IsBusy j q) run busy in
+          let well : k.store.volume.fault ≡ None = ap (λ (j : State D I H). j.store.volume.fault) (sym run.2) ∙ still in
+          let here : IsBusy k q = subst (λ (j : State D I H). IsBusy j q) run.2 busy in
           let some = (where_none k.store.volume.fault well awake).left q here in
           let part = part_of_sum (left_of disk.image k) n q (omega (arith, many, busy_inside k q here)) in
           absurd (omega (arith, few, some, part))
@@ -405,7 +429,7 @@ module _ {D N I M H : Type 0} (disk : disk_trait.Ghosts D N) (intake : intake_tr
       round : IsRound n ts
       round = all 0 [] (omega arith)
 
-      fewer : (j : State D I H) → Runs disk intake herald ts k j → k.store.volume.fault ≡ None → j.store.volume.fault ≡ None → Same k j → Someone k → sum_below (left_of disk.image j) n ≤ length rounds
+      fewer : (j : State D I H) → Session disk intake herald ts k j → k.store.volume.fault ≡ None → j.store.volume.fault ≡ None → Same k j → Someone k → sum_below (left_of disk.image j) n ≤ length rounds
       fewer j first well there unchanged (inl (p, busy)) =
           let falls = round_falls ts k j (subst (λ (c : ℕ). IsRound c ts) (sym many) round) (where_none k.store.volume.fault well awake) awake first unchanged there p busy in
           let less : sum_below (left_of disk.image j) n < sum_below (left_of disk.image k) n = subst (λ (c : ℕ). sum_below (left_of disk.image j) c < sum_below (left_of disk.image k) c) many falls in

@@ -42,7 +42,7 @@ use Rattle.journal.specs.declared.types.Process.{Process}
 use Rattle.kernel.specs.Causes.{ShortHasCause, SomeTurnMakes, TurnMakes}
 use Rattle.kernel.specs.Known.{Known}
 use Rattle.kernel.specs.Next.{BeginsWith, Finishes, NextAt, NextIf, Works, world_after, world_behind}
-use Rattle.kernel.specs.Runs.{Runs, with_shutdown}
+use Rattle.kernel.specs.Runs.{Session, with_ports, with_shutdown}
 use Rattle.kernel.specs.State.{State, ats_of, waiting_of}
 use Rattle.std.specs.Option.{option_map}
 use Rattle.kernel.specs.Steps.{MakesStep}
@@ -218,26 +218,26 @@ module _ {D N I M H : Type 0} (disk : disk_trait.Ghosts D N) (intake : intake_tr
           (subst (λ (o : World). IsEntry o.journal.list at_place was.entry) (sym next.1.1) was.there) (ap (λ (o : StoreState D). (task o.tasks p).place) next.1.0)))
 
     -- a run saw that no block was left, where such a write is answered with too few bytes
-    behind_in_run : (ts : List Turn) (k m : State D I H) (run : Runs disk intake herald ts k m) (at_place : ℕ) (f : Entry) → HaveEntries k.world → StillWrites k.store k.world at_place → IsEntry m.world.journal.list at_place f → f.reply ≡ Some (Wrote done)
+    behind_in_run : (ts : List Turn) (k m : State D I H) (run : Session disk intake herald ts k m) (at_place : ℕ) (f : Entry) → HaveEntries k.world → StillWrites k.store k.world at_place → IsEntry m.world.journal.list at_place f → f.reply ≡ Some (Wrote done)
         → SomeTurnMakes disk intake herald (SeesFull disk.image p e) p ts k m run
     behind_in_run [] k m run at_place f have was stands has =
-        let same : was.entry ≡ f = entry_same k.world.journal.list at_place was.entry f was.there (subst (λ (o : State D I H). IsEntry o.world.journal.list at_place f) run stands) in
+        let same : was.entry ≡ f = entry_same k.world.journal.list at_place was.entry f was.there (subst (λ (o : State D I H). IsEntry o.world.journal.list at_place f) run.2 stands) in
         let no = sym was.untold ∙ ap (λ (x : Entry). x.reply) same ∙ has in
         cc no
     behind_in_run (Shut ∷ ts) k m run at_place f have was stands has =
-        let back : with_shutdown k ≡ run.0 = sym run.1 in
+        let back : with_shutdown (with_ports k run.1.0 run.1.1) ≡ run.0 = sym run.1.2 in
         let here : StillWrites (with_shutdown k).store (with_shutdown k).world at_place = still k.store k.store k.world (with_shutdown k).world at_place was refl was.there refl in
         inr (behind_in_run ts run.0 m run.2 at_place f
         (subst (λ (o : State D I H). HaveEntries o.world) back have)
         (subst (λ (o : State D I H). StillWrites o.store o.world at_place) back here) stands has)
     behind_in_run (Proc q ∷ ts) k m run at_place f have was stands has =
-        by_process (λ now. behind_in_run ts run.0 m run.2 at_place f (have_stays q k.store run.0.store k.world run.0.world turn run.1.1.grows.journal have) now stands has) (cases_eq q p)
+        by_process (λ now. behind_in_run ts run.0 m run.2 at_place f (have_stays q k.store run.0.store k.world run.0.world turn run.1.2.1.progress.grows.journal have) now stands has) (cases_eq q p)
       where
         mid : State D I H
         mid = run.0
 
         turn : Turned q (ats_of k.world q) k.store k.world run.0.store run.0.world
-        turn = turned disk intake herald q run.1.0 k run.0 run.1.1
+        turn = turned disk intake herald q run.1.2.0 (with_ports k run.1.0 run.1.1) run.0 run.1.2.1
 
         told_other : IsToldOther mid.world at_place → ⊥
         told_other other = by_entry (extends_entry mid.world.journal.list m.world.journal.list at_place (told other.entry other.reply) (runs_extend disk intake herald ts mid m run.2) other.there)
@@ -253,8 +253,8 @@ module _ {D N I M H : Type 0} (disk : disk_trait.Ghosts D N) (intake : intake_tr
         by_process rest (inr apart) = inr (rest (theirs k.store mid.store k.world mid.world at_place q apart have turn was))
         by_process rest (inl same) = by_own (own_turn k.store mid.store k.world mid.world at_place k.store.volume.fault _ _ _ made.0 was made.1.acts.next)
           where
-            made : (r : Step) × MakesStep disk intake herald p r k mid
-            made = subst (λ (o : ℕ). (r : Step) × MakesStep disk intake herald o r k mid) same run.1
+            made : (r : Step) × MakesStep disk intake herald p r (with_ports k run.1.0 run.1.1) mid
+            made = subst (λ (o : ℕ). (r : Step) × MakesStep disk intake herald o r (with_ports k run.1.0 run.1.1) mid) same run.1.2
 
             by_own : Then k.store mid.store k.world mid.world at_place → SomeTurnMakes disk intake herald (SeesFull disk.image p e) p (Proc q ∷ ts) k m run
             by_own (inl saw) = inl (subst (λ (o : ℕ). TurnMakes disk (SeesFull disk.image p e) p (Proc o) k.store mid.store) (sym same) saw)
@@ -286,7 +286,7 @@ module _ {D N I M H : Type 0} (disk : disk_trait.Ghosts D N) (intake : intake_tr
           by_reply : (reply ≡ Some (Wrote done)) ⊎ (reply ≡ None) → StillWrites t z (length w.journal.list)
           by_reply (inl wrote) = absurd ((write_turns disk s p i off bytes t reply steps).other done wrote)
           by_reply (inr none) =
-              let b : BeginsWriting p (length bytes) e t = subst (λ (x : Extent). BeginsWriting p (length bytes) x t) extent ((write_turns disk s p i off bytes t reply steps).begins none) in
+              let b : BeginsWriting p i (length bytes) e t = subst (λ (x : Extent). BeginsWriting p i (length bytes) x t) extent ((write_turns disk s p i off bytes t reply steps).begins none) in
               let more : is_over (task t.tasks p).place ≡ false = ap is_over b.stands in
               let here : process z p ≡ record (process w p) { at = place_behind (is_over (task t.tasks p).place) group (length w.journal.list) } =
               there_now w z p _ (ap (λ (o : World). o.processes) to) lt in
@@ -369,15 +369,15 @@ module _ {D N I M H : Type 0} (disk : disk_trait.Ghosts D N) (intake : intake_tr
       starts_by None ahead side b r next adds = starts_at (process w p).at ahead side b r refl next adds
       starts_by (Some fault) ahead side b r next adds = absurd (none_added (ap (λ (v : World). v.journal.list) next.1.1) adds)
 
-    short_in_run : (ts : List Turn) (k m : State D I H) (run : Runs disk intake herald ts k m) (at_place : ℕ) (f : Entry) → HaveEntries k.world → extent_of k.store.table.form k.store.table.inode_count k.store.volume.log.size ≡ e
+    short_in_run : (ts : List Turn) (k m : State D I H) (run : Session disk intake herald ts k m) (at_place : ℕ) (f : Entry) → HaveEntries k.world → extent_of k.store.table.form k.store.table.inode_count k.store.volume.log.size ≡ e
         → length k.world.journal.list ≤ at_place → IsEntry m.world.journal.list at_place f → f.pid ≡ p → f.op ≡ op → f.reply ≡ Some (Wrote done)
         → SomeTurnMakes disk intake herald (SeesFull disk.image p e) p ts k m run
     short_in_run [] k m run at_place f have extent later stands mine asked has =
         let lt = stands.inside in
-        let same : length m.world.journal.list ≡ length k.world.journal.list = ap (λ (o : State D I H). length o.world.journal.list) run in
+        let same : length m.world.journal.list ≡ length k.world.journal.list = ap (λ (o : State D I H). length o.world.journal.list) run.2 in
         omega (arith, lt, same, later)
     short_in_run (Shut ∷ ts) k m run at_place f have extent later stands mine asked has =
-        let back : with_shutdown k ≡ run.0 = sym run.1 in
+        let back : with_shutdown (with_ports k run.1.0 run.1.1) ≡ run.0 = sym run.1.2 in
         inr (short_in_run ts run.0 m run.2 at_place f
         (subst (λ (o : State D I H). HaveEntries o.world) back have)
         (subst (λ (o : State D I H). extent_of o.store.table.form o.store.table.inode_count o.store.volume.log.size ≡ e) back extent)
@@ -389,10 +389,10 @@ module _ {D N I M H : Type 0} (disk : disk_trait.Ghosts D N) (intake : intake_tr
         mid = run.0
 
         turn : Turned q (ats_of k.world q) k.store k.world run.0.store run.0.world
-        turn = turned disk intake herald q run.1.0 k run.0 run.1.1
+        turn = turned disk intake herald q run.1.2.0 (with_ports k run.1.0 run.1.1) run.0 run.1.2.1
 
         now : HaveEntries run.0.world
-        now = have_stays q k.store run.0.store k.world run.0.world turn run.1.1.grows.journal have
+        now = have_stays q k.store run.0.store k.world run.0.world turn run.1.2.1.progress.grows.journal have
 
         same_extent : extent_of run.0.store.table.form run.0.store.table.inode_count run.0.store.volume.log.size ≡ e
         same_extent =
@@ -414,8 +414,8 @@ module _ {D N I M H : Type 0} (disk : disk_trait.Ghosts D N) (intake : intake_tr
             same : q ≡ p
             same = sym new.adds.mine ∙ sym (same_pid new.adds.entry f new.becomes) ∙ mine
 
-            made : (r : Step) × MakesStep disk intake herald p r k mid
-            made = subst (λ (o : ℕ). (r : Step) × MakesStep disk intake herald o r k mid) same run.1
+            made : (r : Step) × MakesStep disk intake herald p r (with_ports k run.1.0 run.1.1) mid
+            made = subst (λ (o : ℕ). (r : Step) × MakesStep disk intake herald o r (with_ports k run.1.0 run.1.1) mid) same run.1.2
 
             adds : AddsEntry p (process k.world p).at k.world.journal.list mid.world.journal.list
             adds = subst (λ (o : ℕ). AddsEntry o (process k.world o).at k.world.journal.list mid.world.journal.list) same new.adds

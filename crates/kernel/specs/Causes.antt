@@ -1,11 +1,11 @@
--- The causes of answers that give less than was asked for, over runs of turns.
+-- The causes of answers that give less than was asked for, over sessions.
 use Rattle.std.specs.Prelude.{◌≡◌, ◌⊎◌, ◌<◌, ◌≤◌, ℕ, IsTrue, List, [], ◌∷◌, length, Some}
 use Rattle.blocks.specs.declared.disk.Disk as disk_trait
 use Rattle.model.specs.declared.types.operations.Entry.{Entry}
 use Rattle.model.specs.declared.types.operations.Op.{Op}
 use Rattle.model.specs.declared.types.operations.Op.TheVariants.{Create, Write}
 use Rattle.model.specs.declared.types.operations.Reply.{Reply}
-use Rattle.model.specs.declared.types.operations.Reply.TheVariants.{NoInode, Wrote}
+use Rattle.model.specs.declared.types.operations.Reply.TheVariants.{Made, NoInode, Wrote}
 use Rattle.model.specs.declared.types.operations.TaskProgress.{TaskProgress}
 use Rattle.model.specs.Journal.{is_number}
 use Rattle.inodes.specs.Runs.{StepMade, SeesTaken}
@@ -20,7 +20,7 @@ use Rattle.journal.specs.Open.{IsEntry}
 use Rattle.kernel.specs.declared.types.Turn.{Turn}
 use Rattle.kernel.specs.declared.types.Turn.TheVariants.{Proc}
 use Rattle.kernel.specs.Known.{Known}
-use Rattle.kernel.specs.Runs.{Runs}
+use Rattle.kernel.specs.Runs.{Session}
 use Rattle.kernel.specs.State.{State, ats_of}
 
 -- a turn of process p makes a step of its task, of which P holds
@@ -35,7 +35,7 @@ pub record TurnMakes {D N : Type 0} (disk : disk_trait.Ghosts D N) (P : StepMade
 -- one of the turns of a run does
 abbrev pub SomeTurnMakes : {D N I M H : Type 0} (disk : disk_trait.Ghosts D N)
     (intake : intake_trait.Ghosts I M) (herald : herald_trait.Ghosts H) (P : StepMade D → Type 0)
-    (p : ℕ) (ts : List Turn) (k m : State D I H) → Runs disk intake herald ts k m → Type 0
+    (p : ℕ) (ts : List Turn) (k m : State D I H) → Session disk intake herald ts k m → Type 0
 SomeTurnMakes disk intake herald P p [] k m run = ⊥
 SomeTurnMakes disk intake herald P p (t ∷ ts) k m run =
     TurnMakes disk P p t k.store run.0.store
@@ -59,16 +59,26 @@ pub record IsAnswered {D I H : Type 0} (k m : State D I H) (p : ℕ) (op : Op) (
 abbrev pub NoInodeHasCause : {D N I M H : Type 0} → disk_trait.Ghosts D N
     → intake_trait.Ghosts I M → herald_trait.Ghosts H → Type 0
 NoInodeHasCause {D} {N} {I} {M} {H} disk intake herald =
-    (ts : List Turn) (k m : State D I H) (run : Runs disk intake herald ts k m) (p kind i : ℕ) →
+    (ts : List Turn) (k m : State D I H) (run : Session disk intake herald ts k m) (p kind i : ℕ) →
     IsAnswered k m p (Create kind) NoInode → IsTrue (is_number k.store.table.inode_count i) →
     SomeTurnMakes disk intake herald (SeesTaken disk.image p i) p ts k m run
+
+-- THE CAUSE OF THE NUMBER THAT WAS MADE: for each lower one a turn of the run looked at its block, and
+-- the current image had it taken
+abbrev pub MadeHasCause : {D N I M H : Type 0} → disk_trait.Ghosts D N
+    → intake_trait.Ghosts I M → herald_trait.Ghosts H → Type 0
+MadeHasCause {D} {N} {I} {M} {H} disk intake herald =
+    (ts : List Turn) (k m : State D I H) (run : Session disk intake herald ts k m)
+    (p kind i j : ℕ) →
+    IsAnswered k m p (Create kind) (Made i) → IsTrue (is_number k.store.table.inode_count j) →
+    j < i → SomeTurnMakes disk intake herald (SeesTaken disk.image p j) p ts k m run
 
 -- THE CAUSE OF A SHORT WRITE: where fewer bytes were written than were asked for, a turn of the run
 -- looked at the bitmap's block, and the current image had no block left
 abbrev pub ShortHasCause : {D N I M H : Type 0} → disk_trait.Ghosts D N
     → intake_trait.Ghosts I M → herald_trait.Ghosts H → Type 0
 ShortHasCause {D} {N} {I} {M} {H} disk intake herald =
-    (ts : List Turn) (k m : State D I H) (run : Runs disk intake herald ts k m)
+    (ts : List Turn) (k m : State D I H) (run : Session disk intake herald ts k m)
     (p i off done : ℕ) (bytes : List ℕ) →
     Known disk intake herald k → IsAnswered k m p (Write i off bytes) (Wrote done) →
     done < length bytes →

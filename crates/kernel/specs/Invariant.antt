@@ -22,7 +22,8 @@ use Rattle.journal.specs.Views.{KernelFacts}
 use Rattle.journal.specs.Follows.{IsJournal}
 use Rattle.journal.specs.Histories.{IsHistory}
 use Rattle.journal.specs.Journal.{IsItsRoom}
-use Rattle.journal.specs.Keeps.{KeepsNow}
+use Rattle.journal.specs.Stop.{KeptNow, KeptSince}
+use Rattle.journal.specs.Most.{most_of}
 use Rattle.journal.specs.Counting.{IsCounted}
 use Rattle.journal.specs.Open.{IsEntry}
 use Rattle.journal.specs.Processes.{World, process}
@@ -84,9 +85,8 @@ pub record IsRight {D N : Type 0} (disk : disk_trait.Ghosts D N) (opening : D) (
   pub replays : CanReplay (disk.image opening) w
   -- what recovery gives of each image that the disk may leave, once it has failed; before, it
   -- follows from the facts and from what the store says of those images
-  pub keeps : IfSome s.volume.fault (λ fault. (x : Image)
-      → disk.leaves s.volume.device (disk.moment s.volume.device) x
-      → KeepsNow s.volume (disk.image opening) w.journal.list x)
+  pub keeps : IfSome s.volume.fault (λ fault. KeptNow disk opening
+      s.volume.device s.volume.log.committed (most_of s.volume) w.journal.list)
   -- the disk counted no fault since the opening, or this one
   pub faults : disk.fault_count s.volume.device
       ≡ faults_after s.volume.fault (disk.fault_count opening)
@@ -107,8 +107,15 @@ pub record ArePorts {I M H : Type 0} (intake : intake_trait.Ghosts I M)
   pub told : herald.count h ≡ committed
   pub histories : (p : ℕ) → p < length w.processes → HasHistory (intake.fits i) w p
 
+-- Each image that a crash at any moment since the opening may leave keeps some groups, at most those
+-- of now.
+abbrev pub LeavesSince : {D N : Type 0} → disk_trait.Ghosts D N → D → StoreState D → World → Type 0
+LeavesSince disk opening s w =
+    KeptSince disk opening s.volume.device (most_of s.volume) w.journal.list
+
 pub record Inv {D N I M H : Type 0} (disk : disk_trait.Ghosts D N)
     (intake : intake_trait.Ghosts I M) (herald : herald_trait.Ghosts H)
     (k : State D I H) : Type 0 where
   pub right : IsRight disk k.opening k.store k.world
+  pub since : LeavesSince disk k.opening k.store k.world
   pub ports : ArePorts intake herald k.intake k.herald k.store.volume.log.committed k.world

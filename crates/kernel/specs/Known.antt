@@ -1,5 +1,5 @@
 -- What is known of a kernel between two steps.
-use Rattle.std.specs.Prelude.{◌≡◌, ◌<◌, ◌≤◌, ℕ, true, map, length, IfNone, Some, None}
+use Rattle.std.specs.Prelude.{◌≡◌, ◌<◌, ◌≤◌, ℕ, true, map, length, IfNone, Some}
 use mathlib.Core.List.{IsPrefix}
 use Rattle.std.specs.List.{filter}
 use Rattle.blocks.specs.Disk.{Image}
@@ -9,7 +9,6 @@ use Rattle.model.specs.Files.{Files, files_of}
 use Rattle.model.specs.Journal.{answered, kept, own, replay, is_changing}
 use Rattle.model.specs.Layout.{form_of, inode_count_of}
 use Rattle.model.specs.Log.{cleared, logged_count}
-use Rattle.model.specs.Verdict.{verdict}
 use Rattle.bcache.specs.Buffers.{IsCache}
 use Rattle.wal.specs.Machine.{LogState, is_quiet}
 use Rattle.wal.specs.Volume.{faults_after}
@@ -19,8 +18,10 @@ use Rattle.ports.specs.declared.herald.Herald as herald_trait
 use Rattle.ports.specs.declared.intake.Intake as intake_trait
 use Rattle.journal.specs.Follows.{IsJournal}
 use Rattle.journal.specs.Histories.{IsHistory}
-use Rattle.journal.specs.Keeps.{HasFilesAfter, KeepsBeginnings, KeepsNow}
+use Rattle.journal.specs.Keeps.{HasFilesAfter, KeepsBeginnings}
+use Rattle.journal.specs.Most.{most_of}
 use Rattle.journal.specs.Processes.{process}
+use Rattle.journal.specs.Stop.{StopLeaves}
 use Rattle.kernel.specs.Awake.{AreIdle, IsAwake}
 use Rattle.kernel.specs.Bound.{left_of, step_bound}
 use Rattle.kernel.specs.Invariant.{CanReplay, HasHistory}
@@ -63,10 +64,8 @@ pub record IsCurrent {D I H : Type 0} (image : D → Image) (k : State D I H) : 
 pub record Known {D N I M H : Type 0} (disk : disk_trait.Ghosts D N)
     (intake : intake_trait.Ghosts I M) (herald : herald_trait.Ghosts H)
     (k : State D I H) : Type 0 where
-  pub keeps : (x : Image) → disk.leaves k.store.volume.device (disk.moment k.store.volume.device) x
-      → KeepsNow k.store.volume (disk.image k.opening) k.world.journal.list x
-  pub reopens : (x : Image)
-      → disk.leaves k.store.volume.device (disk.moment k.store.volume.device) x → verdict x ≡ None
+  pub stop : StopLeaves disk k.opening k.store.volume.device k.store.volume.log.committed
+      (most_of k.store.volume) k.world.journal.list
   pub current : IfNone k.store.volume.fault (IsCurrent disk.image k)
   pub awake : IfNone k.store.volume.fault (IsAwake disk.image k)
   pub cache : IsCache k.store.volume.buffers

@@ -11,11 +11,13 @@ pub mod Lasting
 pub mod Invariant
 pub mod Awake
 pub mod Known
+pub mod Acts
 pub mod Steps
 pub mod Sleeping
 pub mod Runs
 pub mod Rounds
 pub mod Causes
 pub mod Opening
+pub mod Theorem
 pub mod Lemmas
 pub mod Counts

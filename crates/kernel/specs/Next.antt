@@ -268,6 +268,24 @@ NextIf disk None s w p before side told r t z =
     NextAt disk (process w p).at s w p before side told r t z
 NextIf disk (Some fault) s w p before side told r t z = (r ≡ step.Halted) × Same s w t z
 
-abbrev pub Next : {D N : Type 0} → Ghosts D N → StoreState D → World → ℕ → List Op → Side → Bool
-    → Step → StoreState D → World → Type 0
-Next disk s w p before side told r t z = NextIf disk s.volume.fault s w p before side told r t z
+-- A kernel before a step of a process: its store, its processes, and the operations that were known
+-- to wait for this one.
+pub record StepFrom (D : Type 0) : Type 0 where
+  pub store : StoreState D
+  pub world : World
+  pub ahead : List Op
+
+-- and behind it: what the step answered, the process's side of the intake, whether the herald told of
+-- a shutdown
+pub record StepTo (D : Type 0) : Type 0 where
+  pub answer : Step
+  pub side : Side
+  pub told : Bool
+  pub store : StoreState D
+  pub world : World
+
+-- WHAT A STEP OF PROCESS p MAKES of store and processes
+abbrev pub Next : {D N : Type 0} → Ghosts D N → ℕ → StepFrom D → StepTo D → Type 0
+Next disk p from to =
+    NextIf disk from.store.volume.fault from.store from.world p from.ahead to.side to.told to.answer
+    to.store to.world

@@ -1,12 +1,19 @@
--- What each step of a process keeps of the kernel's counts.
-use Rattle.std.specs.Prelude.{◌≡◌, ℕ, ◌+◌, ◌==◌, ◌&&◌, if◌then◌else◌, Bool, true, false, length}
+-- How a kernel goes on with each step of a process: its counts, the steps that are left, and that
+-- nobody waits for ever.
+use Rattle.std.specs.Prelude.{◌≡◌, ℕ, ◌+◌, ◌==◌, ◌&&◌, if◌then◌else◌, Bool, true, false, length, IfNone}
+use Rattle.blocks.specs.declared.disk.Disk.{Ghosts}
+use Rattle.model.specs.Layout.{inode_count_of}
 use Rattle.wal.specs.Machine.{LogState}
 use Rattle.journal.specs.declared.types.At.{At}
 use Rattle.journal.specs.declared.types.At.TheVariants as at
 use Rattle.journal.specs.Bound.{is_durable}
+use Rattle.journal.specs.Grows.{Grows}
 use Rattle.journal.specs.Processes.{World, process}
 use Rattle.kernel.specs.declared.types.Step.{Step}
 use Rattle.kernel.specs.declared.types.Step.TheVariants as step
+use Rattle.kernel.specs.Awake.{IsAwake}
+use Rattle.kernel.specs.Bound.{TakesOne, GivesNone}
+use Rattle.kernel.specs.State.{State}
 
 -- The step of a process that stands so commits its group: it writes the header, or syncs it over a
 -- disk that holds writes back, or it is the last end of a group without homes.
@@ -40,3 +47,19 @@ pub record KeepsShutdown (w z : World) : Type 0 where
 pub record StaysShut (w z : World) : Type 0 where
   pub shut : z.is_shut ≡ true
   pub none : (p : ℕ) → (process z p).begun ≡ (process w p).begun
+
+-- how a kernel goes on with a step of process p that answers r
+pub record MakesProgress {D N I H : Type 0} (disk : Ghosts D N) (p : ℕ) (r : Step)
+    (k m : State D I H) : Type 0 where
+  pub many : length m.world.processes ≡ length k.world.processes
+  pub committed : CountsCommitted (disk.holding (disk.name k.store.volume.device)) r
+      (process k.world p).at k.store.volume.log m.store.volume.log
+  pub shut : KeepsShutdown k.world m.world
+  -- an operation has fewer steps than the bound
+  pub bound : r ≡ step.Moved → TakesOne disk.image k p m
+  pub others : GivesNone disk.image k p m
+  -- where an operation is under way then, one goes on
+  pub awake : IfNone m.store.volume.fault (IsAwake disk.image m)
+  pub grows : Grows
+      (inode_count_of (disk.image k.opening)) k.store.volume k.world.journal.list m.store.volume
+      m.world.journal.list

@@ -11,7 +11,7 @@ use Rattle.kernel.specs.declared.types.Turn.TheVariants.{Proc}
 use Rattle.kernel.specs.Awake.{AreIdle}
 use Rattle.kernel.specs.Bound.{left_of}
 use Rattle.kernel.specs.Known.{Known}
-use Rattle.kernel.specs.Runs.{Runs, is_turn_of}
+use Rattle.kernel.specs.Runs.{Session, is_turn_of}
 use Rattle.kernel.specs.State.{State}
 
 -- each of so many processes has a turn among these
@@ -44,5 +44,5 @@ abbrev pub RoundsEndAll : {D N I M H : Type 0} → disk_trait.Ghosts D N
 RoundsEndAll {D} {N} {I} {M} {H} disk intake herald =
     (rounds : List (List Turn)) (k m : State D I H) → Known disk intake herald k →
     All (IsRound (length k.world.processes)) rounds → all_left disk.image k ≤ length rounds →
-    Runs disk intake herald (turns_of rounds) k m → BeginsNone k.world m.world →
+    Session disk intake herald (turns_of rounds) k m → BeginsNone k.world m.world →
     m.store.volume.fault ≡ None → AreIdle m.world

@@ -1,6 +1,5 @@
 -- Runs of turns.
 use Rattle.std.specs.Prelude.{◌≡◌, ℕ, nat_lt, Bool, true, length, List, [], ◌∷◌}
-use Rattle.blocks.specs.Disk.{Image, LeavesOnly}
 use Rattle.blocks.specs.declared.disk.Disk as disk_trait
 use Rattle.ports.specs.declared.herald.Herald as herald_trait
 use Rattle.ports.specs.declared.intake.Intake as intake_trait
@@ -9,9 +8,8 @@ use Rattle.kernel.specs.declared.types.Turn.{Turn}
 use Rattle.kernel.specs.declared.types.Turn.TheVariants.{Proc, Shut}
 use Rattle.model.specs.Layout.{inode_count_of}
 use Rattle.journal.specs.Grows.{Grows}
-use Rattle.journal.specs.Keeps.{KeepsNow, KeepsBetween, most_of}
 use Rattle.kernel.specs.Progress.{StaysShut}
-use Rattle.kernel.specs.State.{State}
+use Rattle.kernel.specs.State.{State, StopsIn}
 use Rattle.kernel.specs.Steps.{MakesStep}
 
 -- a turn of one of so many processes, or the shutdown
@@ -36,6 +34,24 @@ Runs disk intake herald [] k m = m ≡ k
 Runs {D} {N} {I} {M} {H} disk intake herald (t ∷ ts) k m =
     (mid : State D I H) × Makes disk intake herald t k mid × Runs disk intake herald ts mid m
 
+-- other operations may wait, and other answers: anything but a step happened at the ports
+abbrev pub with_ports : {D I H : Type 0} → State D I H → I → H → State D I H
+with_ports k i h = record k { intake = i; herald = h }
+
+-- one turn makes m of k, with anything at the ports before it
+abbrev pub MakesLater : {D N I M H : Type 0} → disk_trait.Ghosts D N → intake_trait.Ghosts I M
+    → herald_trait.Ghosts H → Turn → State D I H → State D I H → Type 0
+MakesLater {D} {N} {I} {M} {H} disk intake herald t k m =
+    (i : I) × (h : H) × Makes disk intake herald t (with_ports k i h) m
+
+-- A SESSION: these turns, one after the other, and anything at the ports before each and at the end
+abbrev pub Session : {D N I M H : Type 0} → disk_trait.Ghosts D N → intake_trait.Ghosts I M
+    → herald_trait.Ghosts H → List Turn → State D I H → State D I H → Type 0
+Session {D} {N} {I} {M} {H} disk intake herald [] k m = (i : I) × (h : H) × (m ≡ with_ports k i h)
+Session {D} {N} {I} {M} {H} disk intake herald (t ∷ ts) k m =
+    (mid : State D I H) × MakesLater disk intake herald t k mid
+    × Session disk intake herald ts mid m
+
 -- What any turns keep of a kernel: no group that was committed is lost, also by a stop at any
 -- moment.
 pub record RunsOn {D N I H : Type 0} (disk : disk_trait.Ghosts D N)
@@ -43,11 +59,7 @@ pub record RunsOn {D N I H : Type 0} (disk : disk_trait.Ghosts D N)
   pub opening : m.opening ≡ k.opening
   pub many : length m.world.processes ≡ length k.world.processes
   pub shut : k.world.is_shut ≡ true → StaysShut k.world m.world
-  pub keeps : (x : Image) → disk.leaves m.store.volume.device (disk.moment m.store.volume.device) x
-      → KeepsNow m.store.volume (disk.image m.opening) m.world.journal.list x
   pub grows : Grows
       (inode_count_of (disk.image k.opening)) k.store.volume k.world.journal.list m.store.volume
       m.world.journal.list
-  pub leaves : LeavesOnly disk.moment disk.leaves k.store.volume.device m.store.volume.device
-      (KeepsBetween k.store.volume.log.committed (most_of m.store.volume)
-      (disk.image m.opening) m.world.journal.list)
+  pub stop : StopsIn disk k m

@@ -1,12 +1,16 @@
--- What a contract sees of a kernel.
+-- What a contract sees of a kernel, and what a stop leaves of its steps.
 use Rattle.std.specs.Prelude.{ℕ, [], if◌then◌else◌, Option, Some, None}
+use Rattle.blocks.specs.declared.disk.Disk.{Ghosts}
 use Rattle.model.specs.declared.types.operations.Op.{Op}
 use Rattle.model.specs.declared.types.operations.Op.TheVariants.{Create, Write, Read, Trunc, Remove, Stat}
 use Rattle.model.specs.Gathered.{GatheredBytes}
 use Rattle.model.specs.Journal.{is_at_once}
 use Rattle.inodes.specs.Store.{StoreState}
 use Rattle.journal.specs.declared.types.At.{At}
-use Rattle.journal.specs.Processes.{World, process}
+use Rattle.journal.specs.Most.{most_of}
+use Rattle.journal.specs.Processes.{process}
+use Rattle.journal.specs.Stop.{StepsLeave}
+use Rattle.journal.specs.World.{World}
 use Rattle.kernel.specs.declared.waiting.Waiting.{Waiting}
 use Rattle.kernel.specs.declared.waiting.Waiting.TheVariants as waiting
 
@@ -17,6 +21,13 @@ pub record State (D I H : Type 0) : Type 0 where
   pub intake : I
   pub herald : H
   pub world : World
+
+-- WHAT A STOP LEAVES in the time in which a kernel k became m, and right behind it.
+abbrev pub StopsIn : {D N I H : Type 0} → Ghosts D N → State D I H → State D I H → Type 0
+StopsIn disk k m =
+    StepsLeave disk m.opening k.store.volume.device m.store.volume.device
+    k.store.volume.log.committed m.store.volume.log.committed (most_of m.store.volume)
+    m.world.journal.list
 
 -- what an operation is to the kernel that is not answered at once
 abbrev pub kind_of : Op → Waiting

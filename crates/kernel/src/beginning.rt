@@ -5,7 +5,7 @@ ghost use Rattle.journal.specs.declared.types.At.TheVariants as at;
 ghost use Rattle.journal.specs.Processes.{process};
 ghost use Rattle.kernel.specs.Begins.{Begins, TakesFirst, LeavesFirst, kept_out, count_of, rooms_for};
 ghost use Rattle.kernel.specs.Ports.{Asks, first_waiting};
-ghost use Rattle.kernel.specs.Steps.{Acts};
+ghost use Rattle.kernel.specs.Acts.{Acts};
 
 use crate::Step;
 use crate::stepping::Kernel;

@@ -1,18 +1,43 @@
-//! Laws of steps and of runs of turns, the contract of a function that does nothing.
-ghost use Rattle.kernel.specs.Causes.{NoInodeHasCause, ShortHasCause};
+//! Laws of kernels, steps and sessions, the contract of a function that does nothing.
+ghost use Rattle.kernel.specs.Causes.{MadeHasCause, NoInodeHasCause, ShortHasCause};
 ghost use Rattle.kernel.specs.Rounds.{RoundsEndAll};
 ghost use Rattle.kernel.specs.Sleeping.{SleepsForCause, SoleWaitsForAnswers, WaitsWithCause};
+ghost use Rattle.kernel.specs.Theorem.{ExactlyTheCommitted, NoneIsLost, RecoversGoing, RecoversHeld, RecoversSince, RecoversWhole, SessionKeeps};
 
 use blocks::Disk;
 use ports::{Herald, Intake};
 
-/// The causes of answers that give less than was asked for, over any list of turns in which the
-/// operation of a process is begun and answered. Where a creation is answered with `NoInode`, a
-/// turn looked at each number that operations may name and found it taken. Where a write is
-/// answered with fewer bytes than it was asked for, a turn looked at the bitmap's block while each
-/// bit below the image's size was set.
+/// The recovery theorem, of any kernel, whatever was done with it since it was opened. Whatever a
+/// stop at any moment since the opening began leaves, recovery makes of it a sound image whose files
+/// are those of the recovered image after exactly the changing operations of the first groups, each
+/// once in the order of their turns; each process's are a beginning of those that were taken of it;
+/// and a second recovery changes nothing. Of a disk that held writes back at first this is so from
+/// the sync on with which its recovery began. A stop since some moment of a session loses no group
+/// that was committed then; one now keeps exactly the committed groups, and one more exactly where a
+/// header got through whose write failed or whose sync is still to come. A session keeps what was
+/// committed, and behind a shutdown takes no operation.
+///
+/// All that it rests on is what `Kernel::known`, `step` and `open` ensure. So there is no body of the
+/// kernel that this law alone refuses: each that breaks it is refused by one of those.
+pub fn recovery_theorem<D: Disk, I: Intake, H: Herald>()
+    ensures since { RecoversSince D.Disk I.Intake H.Herald }
+    ensures whole { RecoversWhole D.Disk I.Intake H.Herald }
+    ensures going { RecoversGoing D.Disk I.Intake H.Herald }
+    ensures held { RecoversHeld D.Disk I.Intake H.Herald }
+    ensures lost { NoneIsLost D.Disk I.Intake H.Herald }
+    ensures now { ExactlyTheCommitted D.Disk I.Intake H.Herald }
+    ensures keeps { SessionKeeps D.Disk I.Intake H.Herald }
+{}
+
+/// The causes of answers that give less than was asked for, over any session in which the operation
+/// of a process is begun and answered: any list of turns, with anything handed in and fetched
+/// between them. Where a creation is answered with `NoInode`, a turn looked at each number that
+/// operations may name and found it taken; where it made one, a turn found so each lower one. Where
+/// a write is answered with fewer bytes than it was asked for, a turn looked at the bitmap's block
+/// while each bit below the image's size was set.
 pub fn short_answers<D: Disk, I: Intake, H: Herald>()
     ensures none { NoInodeHasCause D.Disk I.Intake H.Herald }
+    ensures made { MadeHasCause D.Disk I.Intake H.Herald }
     ensures short { ShortHasCause D.Disk I.Intake H.Herald }
 {}
 
@@ -29,8 +54,8 @@ pub fn sleeps_for_cause<D: Disk, I: Intake, H: Herald>()
 }
 
 /// Turns that go round all processes, as many times as steps are left in all, end every operation
-/// that is under way, where none begins meanwhile and the disk doesn't fail. That each process has
-/// a turn in each round is the caller's.
+/// that is under way, where none begins meanwhile and the disk doesn't fail. Between them anything
+/// may be handed in and fetched. That each process has a turn in each round is the caller's.
 pub fn rounds_end_all<D: Disk, I: Intake, H: Herald>()
     ensures { RoundsEndAll D.Disk I.Intake H.Herald }
 {

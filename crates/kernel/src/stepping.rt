@@ -50,7 +50,9 @@ impl<D: Disk, I: Intake, H: Herald> Kernel<D, I, H> {
     ghost use Rattle.journal.specs.Processes.{process, is_before, is_behind, is_ending};
     ghost use Rattle.kernel.specs.Known.{Known};
     ghost use Rattle.journal.specs.Alone.{is_committing_at};
-    ghost use Rattle.kernel.specs.Steps.{MakesStep, Acts};
+    ghost use Rattle.kernel.specs.Acts.{Acts};
+    ghost use Rattle.kernel.specs.Progress.{MakesProgress};
+    ghost use Rattle.kernel.specs.State.{StopsIn};
 
     /// Does nothing: it says what is known of a kernel between two steps, above all what a stop now
     /// leaves: an image that is recovered to a sound one with the opening's files after the
@@ -74,7 +76,9 @@ impl<D: Disk, I: Intake, H: Herald> Kernel<D, I, H> {
     /// test.
     pub fn step(&mut self, pid: u32) -> Step
         requires pid { pid < length self.old.world.processes }
-        ensures { MakesStep D.Disk I.Intake H.Herald pid result self.old self.new }
+        ensures acts { Acts D.Disk I.Intake H.Herald pid result self.old self.new }
+        ensures progress { MakesProgress D.Disk pid result self.old self.new }
+        ensures stop { StopsIn D.Disk self.old self.new }
     {
         self.known();
         self.store.known();

@@ -11,7 +11,7 @@ use Rattle.model.specs.Soundness.{IsSound}
 use Rattle.model.specs.Verdict.{verdict}
 use Rattle.kernel.specs.declared.types.OpenFault.{OpenFault}
 use Rattle.kernel.specs.declared.types.OpenFault.TheVariants as open_fault
-use Rattle.opening.specs.Lemmas.Keeping.{leaves_wider}
+use Rattle.journal.specs.Lemmas.Leaving.{leaves_wider}
 use Rattle.opening.specs.Openings.{IsUnopened, open_refusal}
 use Rattle.sole.specs.Calls.{IsWhole, image_on}
 use Rattle.sole.specs.Opening.{IsNotOpenedSole, IsOpenedSole}

@@ -8,7 +8,7 @@ use Rattle.model.specs.Files.{Files, file_in, files_of}
 use Rattle.model.specs.Log.{recovered}
 use Rattle.filing.specs.Files.{appended, files_on}
 use Rattle.filing.specs.Stopped.{AppendsFirst, Empties, KeepsChange, LeavesChange, MakesAny, Removes, StaysOver}
-use Rattle.opening.specs.Lemmas.Keeping.{leaves_wider}
+use Rattle.journal.specs.Lemmas.Leaving.{leaves_wider}
 use Rattle.sole.specs.Calls.{KeepsFiles, image_on}
 use Rattle.sole.specs.Stepping.{Plain}
 use Rattle.putting.specs.Places.{IsPlace, put_at}

@@ -1,31 +1,33 @@
 -- What one step of a creation or of a write saw, or leaves to be seen.
-use Rattle.std.proofs.Common.{◌≡◌, ◌≢◌, ◌⊎◌, ◌<◌, ◌≤◌, ◌+◌, ℕ, Bool, true, false, ltb, inl, inr, List, length, Option, Some, None, refl, sym, ◌∙◌, subst, ⊎_elim, arith}
+use Rattle.std.proofs.Common.{◌≡◌, ◌≢◌, ◌⊎◌, ◌<◌, ◌≤◌, ◌+◌, ℕ, Bool, true, false, ltb, inl, inr, List, length, set, Option, Some, None, refl, sym, ap, ◌∙◌, subst, ⊎_elim, arith, length-set}
 use Rattle.std.specs.Prelude.{IsTrue, if◌then◌else◌}
-use Rattle.std.proofs.lemmas.Bool.{cases_eq}
+use Rattle.std.proofs.lemmas.Bool.{cases_eq, cases_lt}
+use Rattle.std.proofs.lemmas.List.{get_or-set_same, get_or_past}
 use Rattle.blocks.specs.declared.disk.Disk.{Ghosts}
 use Rattle.model.specs.declared.types.image.Dinode.{Dinode}
 use Rattle.model.specs.declared.types.operations.Op.{Op}
-use Rattle.model.specs.declared.types.operations.Op.TheVariants.{Write}
+use Rattle.model.specs.declared.types.operations.Op.TheVariants.{Create, Write}
 use Rattle.model.specs.declared.types.operations.Reply.{Reply}
 use Rattle.model.specs.declared.types.operations.Reply.TheVariants.{Made, NoInode, Wrote, Bytes, Done, StatOf, NoFile, BadOffset, TooBig, TooLong, BadType}
 use Rattle.model.specs.declared.types.operations.TaskProgress.{TaskProgress}
 use Rattle.model.specs.declared.types.operations.TaskProgress.TheVariants as progress
 use Rattle.model.specs.Journal.{is_number}
 use Rattle.model.specs.Layout.{greatest_size, inode_block, inode_of}
+use Rattle.bcache.specs.Buffers.{Buffers}
 use Rattle.driver.specs.declared.progress.Progress.{Progress}
 use Rattle.driver.specs.declared.progress.Progress.TheVariants as machine
 use Rattle.inodes.specs.declared.tasks.Place.{Place}
 use Rattle.inodes.specs.declared.tasks.Place.TheVariants as place
 use Rattle.inodes.specs.declared.writei.Extent.{Extent}
-use Rattle.inodes.specs.Goes.{Goes, GoesFrom, place_of_lock, place_of_writing, progress_of_lock, progress_of_read, progress_of_trunc, progress_of_write, shown_of}
+use Rattle.inodes.specs.Goes.{Goes, GoesFrom, Shown, place_of_lock, place_of_writing, progress_of_lock, progress_of_read, progress_of_trunc, progress_of_write, shown_of}
 use Rattle.inodes.specs.Ialloc.{SearchState, at_next_block}
 use Rattle.inodes.specs.Lemmas.Runs.{IsAt, goes_from, sees, seen_at_turn}
 use Rattle.inodes.specs.Lemmas.WriteRuns.{IsGoingOn, comes_next, not_over, sees_or_on}
 use Rattle.inodes.specs.LockState.{place_of}
 use Rattle.inodes.specs.Runs.{StepMade, SeesTaken}
 use Rattle.inodes.specs.Steps.{Steps}
-use Rattle.inodes.specs.Store.{StoreState, current_of}
-use Rattle.inodes.specs.Tasks.{task}
+use Rattle.inodes.specs.Store.{StoreState, current_of, first_place, with_begun}
+use Rattle.inodes.specs.Tasks.{TaskState, no_task, task}
 use Rattle.inodes.specs.Turning.{if_used, place_by_refusal, place_when_taken, reply_when_taken}
 use Rattle.inodes.specs.Writei.{WriteState, first_write}
 use Rattle.inodes.specs.WriteRuns.{SeesFull}
@@ -39,10 +41,11 @@ pub record IsAhead {D : Type 0} (p j : ℕ) (s : StoreState D) : Type 0 where
   pub stands : IsAt p s (place.Creating search)
   pub ahead : search.block ≤ inode_block j
 
--- a step claims another number, or has not had its turn and leaves the number's block ahead
+-- a step claims a number that is not higher, or has not had its turn and leaves the number's block
+-- ahead
 abbrev pub SearchesOn : {D : Type 0} → ℕ → ℕ → TaskProgress → StoreState D → Type 0
 SearchesOn p j r t =
-    ((i : ℕ) × (r ≡ progress.Turned (Some (Made i))))
+    ((i : ℕ) × (r ≡ progress.Turned (Some (Made i))) × (i ≤ j))
     ⊎ (((reply : Option Reply) → r ≢ progress.Turned reply) × IsAhead p j t)
 
 module _ {D N : Type 0} (disk : Ghosts D N) (p n j : ℕ) (op : Op)
@@ -79,7 +82,11 @@ module _ {D N : Type 0} (disk : Ghosts D N) (p n j : ℕ) (op : Op)
   by_slot (Some i) (progress.Turned (Some NoInode)) got goes =
       inl (seen_at_turn disk p n j op None number tt step m (Some i) got stands ahead goes)
   by_slot (Some i) (progress.Turned (Some (Made k))) got goes =
-      inr (inl (k, refl))
+      ⊎_elim
+      (λ lower.
+      inl (seen_at_turn disk p n j op (Some k) number lower step m (Some i) got stands ahead goes))
+      (λ low. inr (inl (k, refl, low)))
+      (cases_lt j k)
   by_slot (Some i) (progress.Turned (Some (Wrote k))) got goes = absurd goes.1
   by_slot (Some i) (progress.Turned (Some (Bytes bytes))) got goes = absurd goes.1
   by_slot (Some i) (progress.Turned (Some Done)) got goes = absurd goes.1
@@ -105,6 +112,45 @@ module _ {D N : Type 0} (disk : Ghosts D N) (p n j : ℕ) (op : Op)
       (task step.after.tasks p).place (shown_of disk.image step.before.volume)
       (shown_of disk.image step.after.volume)) count on.goes.0 in
       by_slot m.slot step.answer refl goes
+
+-- a creation that begins stands at the first block, where there is a place for its task
+pub search_begins : {D : Type 0} (p j kind : ℕ) (s : StoreState D) →
+    IsAhead p j (with_begun s p (Create kind)) ⊎ IsAt p (with_begun s p (Create kind)) place.Nowhere
+search_begins p j kind s =
+    let t : TaskState = record {
+      op = Some (Create kind);
+      place = first_place (Create kind) s.table.inode_count;
+      gathered = None;
+    } in
+    ⊎_elim
+    (λ (lt : p < length s.tasks).
+    inl (record {
+      search = record {
+        kind = kind;
+        inode_count = s.table.inode_count;
+        block = 33;
+        slot = None;
+      };
+      stands = ap (λ (u : TaskState). u.place) (get_or-set_same s.tasks p t no_task lt);
+      ahead = omega arith;
+    }))
+    (λ (past : length s.tasks ≤ p).
+    inr (ap (λ (u : TaskState). u.place) (get_or_past (set s.tasks p t) p no_task
+    (let many = length-set s.tasks p t in omega (arith, many, past)))))
+    (cases_lt p (length s.tasks))
+
+-- before its turn a search changes neither image nor log
+pub search_shows : (slot : Option ℕ) (n p : ℕ) (m : SearchState) (c : Buffers) (r : TaskProgress)
+    (next : Place) (before now : Shown) → ((reply : Option Reply) → r ≢ progress.Turned reply) →
+    GoesFrom slot n p m c r next before now → now ≡ before
+search_shows None n p m c r next before now unturned goes = goes.1
+search_shows (Some i) n p m c progress.Moved next before now unturned goes = goes.1.shown
+search_shows (Some i) n p m c (progress.Turned told) next before now unturned goes =
+    absurd (unturned told refl)
+search_shows (Some i) n p m c (progress.Decided told) next before now unturned goes = absurd goes
+search_shows (Some i) n p m c progress.Over next before now unturned goes = absurd goes
+search_shows (Some i) n p m c (progress.Sleeping why) next before now unturned goes = absurd goes
+search_shows (Some i) n p m c (progress.Fault fault) next before now unturned goes = absurd goes
 
 -- ---- a write
 
@@ -153,18 +199,20 @@ write_sees disk p k count done e op short step m stands on steps =
 
 -- ---- its turn
 
--- a write begins at place k of the table with all its bytes to be written
-pub record BeginsWriting {D : Type 0} (p count : ℕ) (e : Extent) (t : StoreState D) : Type 0 where
+-- a write to inode i begins at a place of the table with all its bytes to be written
+pub record BeginsWriting {D : Type 0} (p i count : ℕ) (e : Extent) (t : StoreState D)
+    : Type 0 where
   pub entry : ℕ
   pub writing : WriteState
   pub stands : IsAt p t (place.Writing entry writing)
   pub on : IsGoingOn e count writing
+  pub number : writing.number ≡ i
 
 -- a turn tells no number of bytes, and where it tells nothing the writing begins
-pub record TurnsToWrite {D : Type 0} (p count : ℕ) (e : Extent) (reply : Option Reply)
+pub record TurnsToWrite {D : Type 0} (p i count : ℕ) (e : Extent) (reply : Option Reply)
     (t : StoreState D) : Type 0 where
   pub other : (done : ℕ) → reply ≢ Some (Wrote done)
-  pub begins : reply ≡ None → BeginsWriting p count e t
+  pub begins : reply ≡ None → BeginsWriting p i count e t
 
 module _ {D N : Type 0} (disk : Ghosts D N) (s : StoreState D) (p i off : ℕ) (bytes : List ℕ)
     (t : StoreState D) where
@@ -178,7 +226,7 @@ module _ {D N : Type 0} (disk : Ghosts D N) (s : StoreState D) (p i off : ℕ) (
   next = (task t.tasks p).place
 
   abbrev To : Option Reply → Type 0
-  To reply = TurnsToWrite p (length bytes) e reply t
+  To reply = TurnsToWrite p i (length bytes) e reply t
 
   refused : (r : Reply) → ((done : ℕ) → r ≢ Wrote done) → To (Some r)
   refused r apart = record {
@@ -203,6 +251,7 @@ module _ {D N : Type 0} (disk : Ghosts D N) (s : StoreState D) (p i off : ℕ) (
         count = refl;
         at = comes_next e (length bytes) 0 i off (length bytes) d (λ none. omega (arith, none));
       };
+      number = refl;
     };
   }
 

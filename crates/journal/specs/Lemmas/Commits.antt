@@ -8,7 +8,7 @@ use Rattle.wal.specs.Joint.{stepped_at, synced_at}
 use Rattle.wal.specs.Machine.{LogState, Counts, CountsSynced}
 use Rattle.journal.specs.Bound.{is_durable, is_header}
 use Rattle.journal.specs.Crash.{in_reads}
-use Rattle.journal.specs.Keeps.{most_kept, most_synced}
+use Rattle.journal.specs.Most.{most_kept, most_synced}
 use Rattle.journal.specs.Lemmas.Groups.{reads_quiet}
 use Rattle.journal.specs.Lemmas.Stops.{least_most}
 

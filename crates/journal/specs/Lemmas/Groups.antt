@@ -13,7 +13,7 @@ use Rattle.wal.specs.Joint.{stepped_at}
 use Rattle.wal.specs.Machine.{LogState, used_by, ended, end_answer, left_by, is_quiet, ten, IsLogAt, Idle, Counts}
 use Rattle.wal.specs.Lemmas.Log.{some_open, is_open, quiet_of}
 use Rattle.journal.specs.Crash.{in_reads, AwaitsHeader}
-use Rattle.journal.specs.Keeps.{most_kept}
+use Rattle.journal.specs.Most.{most_kept}
 use Rattle.journal.specs.Views.{InGroup, IsIn}
 
 -- only the 32 processes have an operation open

@@ -33,6 +33,7 @@ use Rattle.journal.specs.Crash.{Survives}
 use Rattle.journal.specs.Follows.{IsJournal}
 use Rattle.journal.specs.Histories.{IsHistory, pending_at}
 use Rattle.journal.specs.Keeps.{HasItsGroup, HasFilesAfter, KeepsNow, AreUpTo}
+use Rattle.journal.specs.Most.{most_of}
 use Rattle.journal.specs.Open.{Held, held_by, is_late, AreOpen, IsEntry}
 use Rattle.journal.specs.Views.{View, StandsAt, IsValidView, KernelFacts, LastingFacts}
 use Rattle.journal.specs.Lemmas.Following.{follows_moved}
@@ -140,12 +141,12 @@ module _ (opening : Image) (s : View) (es : List Entry) (ats : ℕ → At) (i : 
 
   -- What a stop leaves keeps the committed groups, also after a fault of a read or of a sync; while
   -- a header waits for its sync, one more where it got through.
-  pub known_keeps : {D : Type 0} (u : VolumeState D) → u.log.committed ≡ s.log.committed → u.log.commit ≡ s.log.commit → (z : Image) → SurvivesAt s.log.commit s.disk z → KeepsNow u opening es z
+  pub known_keeps : {D : Type 0} (u : VolumeState D) → u.log.committed ≡ s.log.committed → u.log.commit ≡ s.log.commit → (z : Image) → SurvivesAt s.log.commit s.disk z → KeepsNow u.log.committed (most_of u) opening es z
   known_keeps u committed commits z survives = left_keeps opening s.disk s.current s.log es i.recovers u committed commits z survives
 
   -- and after a write of a commit that failed at its place
   pub known_failed : {D : Type 0} (u : VolumeState D) (fault : DeviceFault) (y : Image) → u.fault ≡ Some fault → FailsAt (place_at s.log.commit s.log.homes) fault → u.log ≡ s.log → is_writing s.log.commit ≡ true → s.log.outstanding ≡ 0
-      → CrashKeeps s.log.commit s.disk s.current y → is_lawful_log y ≡ true → KeepsNow u opening es y
+      → CrashKeeps s.log.commit s.disk s.current y → is_lawful_log y ≡ true → KeepsNow u.log.committed (most_of u) opening es y
   known_failed u fault y fails place same writing none keeps lawful = write_fails opening s.disk s.current s.log es i.recovers (known_current none) u (ap (λ (l : LogState). l.committed) same) (ap (λ (l : LogState). l.commit) same) y fault fails place writing i.valid.log.counts keeps lawful
 
 -- what is kept of all groups are the operations of the process that may change a file

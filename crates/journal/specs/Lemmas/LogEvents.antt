@@ -21,7 +21,8 @@ use Rattle.journal.specs.declared.types.At.{At}
 use Rattle.journal.specs.declared.types.At.TheVariants as at
 use Rattle.journal.specs.Crash.{HasMarks, Survives}
 use Rattle.journal.specs.Follows.{Follows}
-use Rattle.journal.specs.Keeps.{HasFilesAfter, most_kept}
+use Rattle.journal.specs.Keeps.{HasFilesAfter}
+use Rattle.journal.specs.Most.{most_kept}
 use Rattle.journal.specs.Views.{View, InGroup, IsIn, StandsAt, IsValidView, KernelFacts, CallsLog, Writes}
 use Rattle.journal.specs.Lemmas.Following.{follows_moved}
 use Rattle.journal.specs.Lemmas.Groups.{end_leaves, end_commits, open_now, open_of, ended_opened, SameOpen, stepped_same}

@@ -33,7 +33,8 @@ use Rattle.wal.specs.Machine.{LogState, IsLogAt, Counts, is_writing}
 use Rattle.wal.specs.Volume.{VolumeState}
 use Rattle.journal.specs.Crash.{HasMarks, Survives, StoreLaws, in_reads, AwaitsHeader}
 use Rattle.journal.specs.Follows.{Follows}
-use Rattle.journal.specs.Keeps.{AreUpTo, HasFilesAfter, most_kept, most_headed, most_synced, most_of, KeepsNow}
+use Rattle.journal.specs.Keeps.{AreUpTo, HasFilesAfter, KeepsNow}
+use Rattle.journal.specs.Most.{most_kept, most_headed, most_synced, most_of}
 use Rattle.journal.specs.Open.{Held, IsEntry, told}
 use Rattle.journal.specs.Lemmas.Elsewhere.{map_alike, map_behind, marks_elsewhere, marks_of, after_elsewhere, unclear, after_none, long_enough}
 use Rattle.journal.specs.Lemmas.Groups.{open_now, none_waits, reads_quiet}
@@ -262,7 +263,7 @@ module _ (opening x current : Image) (l : LogState) (es : List Entry) (r : Survi
 
   -- what is kept of an image, as its header tells
   module _ {D : Type 0} (u : VolumeState D) (committed : u.log.committed ≡ l.committed) (commits : u.log.commit ≡ l.commit) (z : Image) where
-    keeps_exactly : (g : ℕ) → Keeps opening es z g → l.committed ≤ g → g ≡ cond (eqb (logged_count z) 0) l.committed (most_kept u.fault l.commit l.committed) → KeepsNow u opening es z
+    keeps_exactly : (g : ℕ) → Keeps opening es z g → l.committed ≤ g → g ≡ cond (eqb (logged_count z) 0) l.committed (most_kept u.fault l.commit l.committed) → KeepsNow u.log.committed (most_of u) opening es z
     keeps_exactly g keeps low told =
         let most : most_of u ≡ most_kept u.fault l.commit l.committed = ap (λ (k : Commit). most_kept u.fault k u.log.committed) commits ∙ ap (λ (c : ℕ). most_kept u.fault l.commit c) committed in
         let high : g ≤ most_kept u.fault l.commit l.committed = by_header (eqb (logged_count z) 0) told in
@@ -276,7 +277,7 @@ module _ (opening x current : Image) (l : LogState) (es : List Entry) (r : Survi
         by_header false same = omega (arith, same)
 
     -- what may be left between any two steps, also after a fault of a read or of a sync
-    pub left_keeps : SurvivesAt l.commit x z → KeepsNow u opening es z
+    pub left_keeps : SurvivesAt l.commit x z → KeepsNow u.log.committed (most_of u) opening es z
     left_keeps (inl alike_now) = keeps_exactly (in_reads l) (keeps_count opening es z (in_reads l) alike_now.0.lawful (alike z (in_reads l) alike_now.0.same r.committed)) (least_reads l.commit l.committed) (told_reads u.fault l.commit l.committed z alike_now.1)
     left_keeps (inr without) = keeps_exactly l.committed (keeps_count opening es z l.committed (empty_lawful z without.1.none) (unheaded_files z without.0 without.1)) (omega arith)
         (sym (ap (λ (b : Bool). cond b l.committed (most_kept u.fault l.commit l.committed)) (eq-eqb (logged_count z) 0 without.1.none)))
@@ -397,14 +398,14 @@ module _ (opening x current : Image) (l : LogState) (es : List Entry) (r : Survi
 
   module _ {D : Type 0} (u : VolumeState D) (committed : u.log.committed ≡ l.committed) (commits : u.log.commit ≡ l.commit) (z : Image) where
     -- and after a write that failed, at the place where the commit writes next
-    pub write_fails : (fault : DeviceFault) → u.fault ≡ Some fault → FailsAt (place_at l.commit l.homes) fault → is_writing l.commit ≡ true → Counts l.commit l → CrashKeeps l.commit x current z → is_lawful_log z ≡ true → KeepsNow u opening es z
+    pub write_fails : (fault : DeviceFault) → u.fault ≡ Some fault → FailsAt (place_at l.commit l.homes) fault → is_writing l.commit ≡ true → Counts l.commit l → CrashKeeps l.commit x current z → is_lawful_log z ≡ true → KeepsNow u.log.committed (most_of u) opening es z
     write_fails fault fails place writing counts keeps lawful = ⊎_elim
         (λ (same : (recovered z ≡ recovered x) × TellsHeader l.commit z). keeps_exactly opening x current l es r u committed commits z (in_reads l) (keeps_count opening es z (in_reads l) lawful (subst (λ (y : Image). HasFilesAfter opening (entries (in_reads l)) y) (sym same.0) r.committed))
         (least_reads l.commit l.committed) (told_reads u.fault l.commit l.committed z same.1))
         (λ (made : KeepsCommitted l.commit x current z × TellsWritten l.commit z). by_phase l.commit refl place writing counts made.0 made.1)
         keeps
       where
-        stays : (k : Commit) → k ≡ l.commit → most_kept None k l.committed ≡ l.committed → ((o : Option DeviceFault) → most_kept o k l.committed ≡ l.committed) → SameButLog (recovered x) (recovered z) → KeepsNow u opening es z
+        stays : (k : Commit) → k ≡ l.commit → most_kept None k l.committed ≡ l.committed → ((o : Option DeviceFault) → most_kept o k l.committed ≡ l.committed) → SameButLog (recovered x) (recovered z) → KeepsNow u.log.committed (most_of u) opening es z
         stays k is_k reads most same = keeps_exactly opening x current l es r u committed commits z l.committed
             (keeps_count opening es z l.committed lawful (subst (λ (c : ℕ). HasFilesAfter opening (entries c) (recovered z)) (ap (λ (j : Commit). most_kept None j l.committed) (sym is_k) ∙ reads) (alike opening x current l es r z (in_reads l) same r.committed))) (omega arith)
             (sym (ap (λ (c : ℕ). cond (eqb (logged_count z) 0) l.committed c) (ap (λ (j : Commit). most_kept u.fault j l.committed) (sym is_k) ∙ most u.fault) ∙ sym (either (eqb (logged_count z) 0) l.committed)))
@@ -413,7 +414,7 @@ module _ (opening x current : Image) (l : LogState) (es : List Entry) (r : Survi
         headed (Block f) at_two = sym (ap (λ (b : Bool). cond b (l.committed + 1) l.committed) (eq-eqb f.0 2 at_two))
         headed (Sync f) at_two = absurd at_two
 
-        by_phase : (k : Commit) → k ≡ l.commit → FailsAt (place_at k l.homes) fault → is_writing k ≡ true → Counts k l → KeepsCommitted k x current z → TellsWritten k z → KeepsNow u opening es z
+        by_phase : (k : Commit) → k ≡ l.commit → FailsAt (place_at k l.homes) fault → is_writing k ≡ true → Counts k l → KeepsCommitted k x current z → TellsWritten k z → KeepsNow u.log.committed (most_of u) opening es z
         by_phase commit.Quiet is_k place writing counts keeps written = absurd (cc writing)
         by_phase (commit.Logging j) is_k place writing counts keeps written = stays (commit.Logging j) is_k refl (λ o. refl) keeps
         by_phase commit.Heading is_k place writing counts keeps written = keeps_exactly opening x current l es r u committed commits z (l.committed + 1)

@@ -1,19 +1,22 @@
 -- What turns keep of a kernel.
-use Rattle.std.proofs.Common.{◌≡◌, ◌∙◌, true, List, refl, sym, subst, ℕ}
+use Rattle.std.proofs.Common.{◌≡◌, ◌∙◌, true, List, [], ◌∷◌, refl, sym, subst, ℕ}
 use Rattle.blocks.specs.Disk.{Image, LeavesOnly}
 use Rattle.blocks.specs.declared.disk.Disk as disk_trait
 use Rattle.ports.specs.declared.herald.Herald as herald_trait
 use Rattle.ports.specs.declared.intake.Intake as intake_trait
 use Rattle.model.specs.Layout.{inode_count_of}
 use Rattle.journal.specs.Grows.{Grows}
-use Rattle.journal.specs.Keeps.{KeepsBetween, KeepsNow, most_of}
+use Rattle.journal.specs.Keeps.{KeepsBetween, KeepsNow}
+use Rattle.journal.specs.Most.{most_of}
 use Rattle.journal.specs.Lemmas.Growing.{grows_then, grows_none}
 use Rattle.journal.specs.Lemmas.Leaving.{leaves_then}
 use Rattle.journal.specs.Processes.{World}
 use Rattle.kernel.specs.declared.types.Step.{Step}
 use Rattle.kernel.specs.Progress.{KeepsShutdown, StaysShut}
-use Rattle.kernel.specs.Runs.{RunsOn, with_shutdown}
-use Rattle.kernel.specs.State.{State}
+use Rattle.kernel.specs.declared.types.Turn.{Turn}
+use Rattle.kernel.specs.declared.types.Turn.TheVariants.{Proc, Shut}
+use Rattle.kernel.specs.Runs.{Makes, Runs, RunsOn, Session, with_ports, with_shutdown}
+use Rattle.kernel.specs.State.{State, StopsIn}
 use Rattle.kernel.specs.Steps.{MakesStep}
 use Rattle.blocks.specs.Lemmas.Moments.{started}
 use Rattle.wal.specs.Volume.{VolumeState}
@@ -25,13 +28,16 @@ shut_more w z y kept had shut = let here = had shut in record { shut = kept.stay
 
 -- what a stop leaves where nothing happened
 leaves_none : {D : Type 0} (opening : Image) (moment : D → ℕ) (leaves : D → ℕ → Image → Type 0) (v : VolumeState D) (es : List Entry)
-    → ((x : Image) → leaves v.device (moment v.device) x → KeepsNow v opening es x) → LeavesOnly moment leaves v.device v.device (KeepsBetween v.log.committed (most_of v) opening es)
+    → ((x : Image) → leaves v.device (moment v.device) x → KeepsNow v.log.committed (most_of v) opening es x) → LeavesOnly moment leaves v.device v.device (KeepsBetween v.log.committed (most_of v) opening es)
 leaves_none opening moment leaves v es keeps = started moment leaves v.device (KeepsBetween v.log.committed (most_of v) opening es) (λ x left. (keeps x left).between)
 
 module _ {D N I M H : Type 0} (disk : disk_trait.Ghosts D N) (intake : intake_trait.Ghosts I M) (herald : herald_trait.Ghosts H) where
   -- what a stop leaves now
   abbrev pub Keeps : State D I H → Type 0
-  Keeps k = (x : Image) → disk.leaves k.store.volume.device (disk.moment k.store.volume.device) x → KeepsNow k.store.volume (disk.image k.opening) k.world.journal.list x
+  Keeps k = (x : Image) → disk.leaves k.store.volume.device (disk.moment k.store.volume.device) x → KeepsNow k.store.volume.log.committed (most_of k.store.volume) (disk.image k.opening) k.world.journal.list x
+
+  stops_none : (k : State D I H) → Keeps k → StopsIn disk k k
+  stops_none k keeps = record { keeps = keeps; leaves = leaves_none (disk.image k.opening) disk.moment disk.leaves k.store.volume k.world.journal.list keeps }
 
   -- before the first turn
   pub runs_on_none : (k : State D I H) → Keeps k → RunsOn disk k k
@@ -39,9 +45,8 @@ module _ {D N I M H : Type 0} (disk : disk_trait.Ghosts D N) (intake : intake_tr
     opening = refl;
     many = refl;
     shut = λ shut. record { shut = shut; none = λ p. refl };
-    keeps = keeps;
     grows = grows_none (inode_count_of (disk.image k.opening)) k.store.volume k.store.volume k.world.journal.list k.world.journal.list refl refl;
-    leaves = leaves_none (disk.image k.opening) disk.moment disk.leaves k.store.volume k.world.journal.list keeps;
+    stop = stops_none k keeps;
   }
 
   -- a shutdown
@@ -50,20 +55,18 @@ module _ {D N I M H : Type 0} (disk : disk_trait.Ghosts D N) (intake : intake_tr
     opening = refl;
     many = refl;
     shut = λ shut. record { shut = refl; none = λ p. refl };
-    keeps = keeps;
     grows = grows_none (inode_count_of (disk.image k.opening)) k.store.volume k.store.volume k.world.journal.list k.world.journal.list refl refl;
-    leaves = leaves_none (disk.image k.opening) disk.moment disk.leaves k.store.volume k.world.journal.list keeps;
+    stop = stops_none k keeps;
   }
 
   -- a step
   pub runs_on_step : (p : ℕ) (r : Step) (k m : State D I H) → MakesStep disk intake herald p r k m → RunsOn disk k m
   runs_on_step p r k m made = record {
     opening = made.acts.opening;
-    many = made.many;
-    shut = shut_more k.world k.world m.world made.shut (λ shut. record { shut = shut; none = λ q. refl });
-    keeps = made.keeps;
-    grows = made.grows;
-    leaves = made.leaves;
+    many = made.progress.many;
+    shut = shut_more k.world k.world m.world made.progress.shut (λ shut. record { shut = shut; none = λ q. refl });
+    grows = made.progress.grows;
+    stop = made.stop;
   }
 
   -- turns after turns
@@ -76,15 +79,40 @@ module _ {D N I M H : Type 0} (disk : disk_trait.Ghosts D N) (intake : intake_tr
       let grows : Grows (inode_count_of (disk.image a.opening)) b.store.volume fs c.store.volume gs
       = subst (λ (o : D). Grows (inode_count_of (disk.image o)) b.store.volume fs c.store.volume gs) run.opening next.grows in
       let before : LeavesOnly disk.moment disk.leaves a.store.volume.device b.store.volume.device (KeepsBetween a.store.volume.log.committed (most_of b.store.volume) (disk.image a.opening) fs)
-      = subst (λ (o : D). LeavesOnly disk.moment disk.leaves a.store.volume.device b.store.volume.device (KeepsBetween a.store.volume.log.committed (most_of b.store.volume) (disk.image o) fs)) run.opening run.leaves in
+      = subst (λ (o : D). LeavesOnly disk.moment disk.leaves a.store.volume.device b.store.volume.device (KeepsBetween a.store.volume.log.committed (most_of b.store.volume) (disk.image o) fs)) run.opening run.stop.leaves in
       let behind : LeavesOnly disk.moment disk.leaves b.store.volume.device c.store.volume.device (KeepsBetween b.store.volume.log.committed (most_of c.store.volume) (disk.image a.opening) gs)
-      = subst (λ (o : D). LeavesOnly disk.moment disk.leaves b.store.volume.device c.store.volume.device (KeepsBetween b.store.volume.log.committed (most_of c.store.volume) (disk.image o) gs)) opening next.leaves in
+      = subst (λ (o : D). LeavesOnly disk.moment disk.leaves b.store.volume.device c.store.volume.device (KeepsBetween b.store.volume.log.committed (most_of c.store.volume) (disk.image o) gs)) opening next.stop.leaves in
       record {
         opening = opening;
         many = next.many ∙ run.many;
         shut = λ shut. let here = run.shut shut in let on = next.shut here.shut in record { shut = on.shut; none = λ p. on.none p ∙ here.none p };
-        keeps = next.keeps;
         grows = grows_then (inode_count_of (disk.image a.opening)) a.store.volume b.store.volume c.store.volume es fs gs run.grows grows;
-        leaves = subst (λ (o : D). LeavesOnly disk.moment disk.leaves a.store.volume.device c.store.volume.device (KeepsBetween a.store.volume.log.committed (most_of c.store.volume) (disk.image o) gs)) (sym opening)
-            (leaves_then (disk.image a.opening) disk.moment disk.leaves a.store.volume b.store.volume c.store.volume es fs gs run.grows grows before behind);
+        stop = record {
+          keeps = next.stop.keeps;
+          leaves = subst (λ (o : D). LeavesOnly disk.moment disk.leaves a.store.volume.device c.store.volume.device (KeepsBetween a.store.volume.log.committed (most_of c.store.volume) (disk.image o) gs)) (sym opening)
+              (leaves_then (disk.image a.opening) disk.moment disk.leaves a.store.volume b.store.volume c.store.volume es fs gs run.grows grows before behind);
+        };
       }
+
+  -- anything at the ports
+  pub runs_on_ports : (k m : State D I H) (i : I) (h : H) → Keeps k → m ≡ with_ports k i h → RunsOn disk k m
+  runs_on_ports k m i h keeps is = subst (λ (o : State D I H). RunsOn disk k o) (sym is)
+      (let none = runs_on_none k keeps in record { opening = none.opening; many = none.many; shut = none.shut; grows = none.grows; stop = none.stop })
+
+  -- a turn
+  pub runs_on_turn : (t : Turn) (k m : State D I H) → Keeps k → Makes disk intake herald t k m → RunsOn disk k m
+  runs_on_turn (Proc p) k m keeps made = runs_on_step p made.0 k m made.1
+  runs_on_turn Shut k m keeps is = subst (λ (o : State D I H). RunsOn disk k o) (sym is) (runs_on_shut k keeps)
+
+  -- a session
+  pub runs_on_session : (ts : List Turn) (k m : State D I H) → Keeps k → Session disk intake herald ts k m → RunsOn disk k m
+  runs_on_session [] k m keeps (i, h, is) = runs_on_ports k m i h keeps is
+  runs_on_session (t ∷ ts) k m keeps (mid, (i, h, made), rest) =
+      let at = with_ports k i h in
+      let here = runs_on_then k at mid (runs_on_ports k at i h keeps refl) (runs_on_turn t at mid keeps made) in
+      runs_on_then k mid m here (runs_on_session ts mid m here.stop.keeps rest)
+
+  -- a run is one in which nothing happens at the ports
+  pub session_of : (ts : List Turn) (k m : State D I H) → Runs disk intake herald ts k m → Session disk intake herald ts k m
+  session_of [] k m is = (k.intake, k.herald, is)
+  session_of (t ∷ ts) k m (mid, made, rest) = (mid, (k.intake, k.herald, made), session_of ts mid m rest)

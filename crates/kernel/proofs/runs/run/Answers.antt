@@ -7,7 +7,7 @@ use Rattle.kernel.specs.Lemmas.Turns.{runs_on_none, runs_on_then}
 use Rattle.kernel.proofs.runs.run.Goals as goal
 
 pub loop-turn-init : goal.loop-turn-init
-loop-turn-init g c = record { runs = refl; keeps = runs_on_none g.D.Disk g.I.Intake g.H.Herald c.args.kernel.now c.known.ensures.keeps }
+loop-turn-init g c = record { runs = refl; keeps = runs_on_none g.D.Disk g.I.Intake g.H.Herald c.args.kernel.now c.known.ensures.stop.keeps }
 
 pub loop-turn-preserved : goal.loop-turn-preserved
 loop-turn-preserved g c =

@@ -3,7 +3,7 @@ use Rattle.named_files.proofs.laws.links_last.Goals as goal
 -- what is known of the kernel says which groups are kept, and the law what that means for names
 pub returns : goal.returns
 returns g c = λ x left.
-    let now = c.known.ensures.keeps x left in
+    let now = c.known.ensures.stop.keeps x left in
     record {
       groups = now.between.groups;
       low = now.between.low;

@@ -9,6 +9,7 @@ invariant_of-self g c =
     let ports = c.self.invariant.ports in
     record {
       right = c.self.invariant.right;
+      since = c.self.invariant.since;
       ports = ports_stay ghosts g.H.Herald k.intake c.poll.new.self k.herald k.herald k.store.volume.log.committed k.store.volume.log.committed k.processes k.processes ports c.poll.ensures.rest.processes refl refl
           (λ p busy. c.poll.ensures.rest.room p (ports.room p busy)) c.poll.ensures.rest.fits ports.told;
     }

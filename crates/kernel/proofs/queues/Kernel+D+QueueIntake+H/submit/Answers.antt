@@ -13,6 +13,7 @@ invariant_of-self g c =
     let ports = c.self.invariant.ports in
     record {
       right = c.self.invariant.right;
+      since = c.self.invariant.since;
       ports = ports_stay ghosts g.H.Herald k.intake c.submit.new.self k.herald k.herald k.store.volume.log.committed k.store.volume.log.committed k.processes k.processes ports c.submit.ensures.rest.processes refl refl
           (λ p busy. c.submit.ensures.rest.room p (ports.room p busy)) c.submit.ensures.rest.fits ports.told;
     }

@@ -3,7 +3,7 @@ use Rattle.kernel.specs.declared.types.Step.{Step}
 use Rattle.kernel.specs.declared.types.Step.TheVariants as step
 use Rattle.kernel.specs.Begins.{Begins}
 use Rattle.kernel.specs.State.{State}
-use Rattle.kernel.specs.Steps.{Acts}
+use Rattle.kernel.specs.Acts.{Acts}
 use Rattle.kernel.proofs.Acting.{acts_begun, sides_same}
 use Rattle.kernel.proofs.stepping.Kernel.begin.Given.{Over}
 use Rattle.kernel.proofs.stepping.Kernel.begin.Goals.{After-waiting}

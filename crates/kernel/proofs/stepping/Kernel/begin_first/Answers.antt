@@ -15,12 +15,13 @@ use Rattle.kernel.specs.declared.types.Step.TheVariants as step
 use Rattle.kernel.specs.declared.waiting.Waiting.{Waiting}
 use Rattle.kernel.specs.declared.waiting.Waiting.TheVariants as waiting
 use Rattle.kernel.specs.Begins.{Begins, TakesFirst, kept_out, count_of, rooms_for}
-use Rattle.kernel.specs.Invariant.{IsRight, ArePorts}
+use Rattle.kernel.specs.Invariant.{IsRight, ArePorts, LeavesSince}
 use Rattle.kernel.specs.Next.{BeginsWith}
 use Rattle.kernel.specs.Ports.{KeepsOthers, first_waiting}
 use Rattle.kernel.specs.State.{State, room_for, waiting_of}
 use Rattle.kernel.proofs.Beginnings.{right_taken, right_looked, right_refused, first_waits}
 use Rattle.kernel.proofs.Ports.{ports_left, ports_taken, ports_refused}
+use Rattle.kernel.proofs.Since.{since_refused}
 use Rattle.kernel.proofs.Valid.{HasAgreed, agreed_now}
 use Rattle.kernel.proofs.stepping.Kernel.begin_first.Given.{Over}
 use Rattle.kernel.proofs.stepping.Kernel.begin_first.Goals.{After-known, After-known-2, After-take, After-take-in-Look, After-refuse-answer}
@@ -40,6 +41,7 @@ invariant_of-self g c =
     let left = c.in-Err.ensures.left in
     record {
       right = subst (λ (w : World). IsRight g.D.Disk k.opening.value k.store w) (sym left.world) c.self.invariant.right;
+      since = subst (λ (w : World). LeavesSince g.D.Disk k.opening.value k.store w) (sym left.world) c.self.invariant.since;
       ports = ports_left g.I.Intake g.H.Herald k.intake c.take_first.new.intake k.herald k.store.volume.log.committed k.processes c.take_first.new.processes c.args.pid c.args.what k.store.volume.log c.in-Err.step c.self.invariant.ports left;
     }
 
@@ -91,6 +93,8 @@ invariant_of-self-in-Change g c =
       right = subst (λ (o : StoreState _). IsRight g.D.Disk k.opening.value o c.take.new.self) (sym is)
           (subst (λ (w : World). IsRight g.D.Disk k.opening.value (with_begun k.store c.args.pid op) w) (sym (changed g past))
           (right_taken g.D.Disk k.opening.value k.store k.processes c.self.invariant.right h.well c.args.pid h.lt h.stands op (h.kind ∙ c.in-Change.is) (free g (goal.at.invariant_of-self-in-Change g c).After-known-2 c.in-Change.is) agreed keeps));
+      since = subst (λ (o : StoreState _). LeavesSince g.D.Disk k.opening.value o c.take.new.self) (sym is)
+          (subst (λ (w : World). LeavesSince g.D.Disk k.opening.value (with_begun k.store c.args.pid op) w) (sym (changed g past)) c.self.invariant.since);
       ports = subst (λ (o : StoreState _). ArePorts g.I.Intake g.H.Herald c.take_first.new.intake k.herald o.volume.log.committed c.take.new.self) (sym is)
           (ports_taken g.I.Intake g.H.Herald k.intake c.take_first.new.intake k.herald k.store.volume.log.committed k.processes c.take_first.new.processes c.take.new.self c.args.pid c.args.what k.store.volume.log op c.in-Ok.taken.1
           c.self.invariant.ports h.lt h.stands h.takes (begun k.store.volume.log c.args.pid).opened None (changed g past));
@@ -141,6 +145,8 @@ invariant_of-self-in-Look g c =
       right = subst (λ (o : StoreState _). IsRight g.D.Disk k.opening.value o c.take-in-Look.new.self) (sym is)
           (subst (λ (w : World). IsRight g.D.Disk k.opening.value (with_look k.store c.args.pid op (room_for count)) w) (sym made.1)
           (right_looked g.D.Disk k.opening.value k.store k.processes c.self.invariant.right h.well c.args.pid h.lt h.stands op count (h.kind ∙ c.in-Look.is) agreed keeps));
+      since = subst (λ (o : StoreState _). LeavesSince g.D.Disk k.opening.value o c.take-in-Look.new.self) (sym is)
+          (subst (λ (w : World). LeavesSince g.D.Disk k.opening.value (with_look k.store c.args.pid op (room_for count)) w) (sym made.1) c.self.invariant.since);
       ports = subst (λ (o : StoreState _). ArePorts g.I.Intake g.H.Herald c.take_first.new.intake k.herald o.volume.log.committed c.take-in-Look.new.self) (sym is)
           (ports_taken g.I.Intake g.H.Herald k.intake c.take_first.new.intake k.herald k.store.volume.log.committed k.processes c.take_first.new.processes c.take-in-Look.new.self c.args.pid c.args.what k.store.volume.log op c.in-Ok.taken.1
           c.self.invariant.ports h.lt h.stands h.takes 0 (room_for count) made.1);
@@ -178,6 +184,7 @@ invariant_of-self-in-Refused g c =
     c.refuse-answer.ensures.answer ∙ ap (λ (r : Reply). refusal_answer c.take_first.new.processes c.args.pid r) c.at_once_reply-reply.ensures.reply ∙ ap (λ (w : World). refusal_answer w c.args.pid (at_once_reply op)) h.takes.world in
     record {
       right = subst (λ (w : World). IsRight g.D.Disk k.opening.value k.store w) (sym made) (right_refused g.D.Disk k.opening.value k.store k.processes c.self.invariant.right h.well c.args.pid h.lt h.stands op (h.kind ∙ c.in-Refused.is));
+      since = since_refused g.D.Disk k.opening.value k.store k.processes c.refuse-answer.new.self c.args.pid op c.self.invariant.right h.well (h.kind ∙ c.in-Refused.is) made c.self.invariant.since;
       ports = ports_refused g.I.Intake g.H.Herald k.intake c.take_first.new.intake k.herald k.store.volume.log.committed k.processes c.take_first.new.processes c.refuse-answer.new.self c.args.pid c.args.what k.store.volume.log op c.in-Ok.taken.1
           c.self.invariant.ports h.lt h.stands h.takes c.answer.new.self (at_once_reply op) made
           c.answer.ensures.processes c.answer.ensures.others (subst (λ (a : Answer). FitWith (fits c.take_first.new.intake) (fits c.answer.new.self) c.args.pid (gives a)) answer c.answer.ensures.fits);

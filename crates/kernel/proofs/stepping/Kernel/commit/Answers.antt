@@ -14,9 +14,10 @@ use Rattle.journal.specs.Lemmas.Alone.{goes_on, over_now, same_committed, durabl
 use Rattle.journal.specs.Lemmas.Answers.{CanAnswer}
 use Rattle.journal.specs.Processes.{World, process, last_answer}
 use Rattle.kernel.specs.declared.types.Step.TheVariants as step
-use Rattle.kernel.specs.Invariant.{IsRight, HasFacts, TaskStands}
+use Rattle.kernel.specs.Invariant.{IsRight, HasFacts, LeavesSince, TaskStands}
+use Rattle.kernel.specs.Next.{world_written}
 use Rattle.kernel.specs.State.{State}
-use Rattle.kernel.specs.Steps.{Acts}
+use Rattle.kernel.specs.Acts.{Acts}
 use Rattle.kernel.proofs.Acting.{acts_written, same_unasked, sides_same}
 use Rattle.kernel.proofs.Answering.{answer_commits}
 use Rattle.blocks.specs.declared.disk.Disk.{Ghosts}
@@ -26,9 +27,10 @@ use Rattle.kernel.proofs.Committing.{makes_of}
 use Rattle.kernel.proofs.Closing.{right_written, right_done, right_unwritten}
 use Rattle.journal.specs.Lemmas.Places.{committing_there}
 use Rattle.kernel.proofs.Ports.{ports_given, ports_counted, ports_stay}
+use Rattle.kernel.proofs.Promising.{since_step}
 use Rattle.kernel.proofs.Valid.{agreed_now}
 use Rattle.kernel.proofs.stepping.Kernel.commit.Given.{Over}
-use Rattle.kernel.proofs.stepping.Kernel.commit.Goals.{After-known}
+use Rattle.kernel.proofs.stepping.Kernel.commit.Goals.{After-known, After-known-2}
 use Rattle.kernel.proofs.stepping.Kernel.commit.Goals as goal
 
 -- who makes a step of a commit: it stands so, a commit is under way, and it can be answered
@@ -72,6 +74,17 @@ give-requires-clause-over g c = (head g (goal.at.give-requires-clause-over g c).
 pub give-requires-clause-fits : goal.give-requires-clause-fits
 give-requires-clause-fits g c = (head g (goal.at.give-requires-clause-fits g c).After-known).answer.1
 
+-- what a stop has left since the opening, where the step came to this
+since : (g : Over) (c : After-known-2 g) (r : Committed) (z : World) → c.commit_step-committed.result ≡ r → z ≡ world_written r c.self.inside.processes c.args.pid
+    → IsRight g.D.Disk c.self.inside.opening.value c.commit_step-committed.new.self z → LeavesSince g.D.Disk c.self.inside.opening.value c.commit_step-committed.new.self z
+since g c r z is made right =
+    let k = c.self.inside in
+    let h = head g (goal.at.After-known-2 g c).After-known in
+    let done : Commits g.D.Disk k.store r c.commit_step-committed.new.self = subst (λ (q : Committed). Commits g.D.Disk k.store q c.commit_step-committed.new.self) is c.commit_step-committed.ensures.commits in
+    since_step g.D.Disk g.I.Intake g.H.Herald c.args.pid _ _ _ c.self.invariant c.known.ensures.store c.known.ensures.survives h.within
+    (acts_written g.D.Disk g.I.Intake g.H.Herald c.args.pid k.store c.commit_step-committed.new.self k.opening.value k.intake k.herald k.processes z h.well h.group h.place k.intake k.herald r h.stands done made
+    (sides_same g.I.Intake c.args.pid k.intake) refl (same_unasked g.H.Herald k.herald)) right c.known-2.ensures.survives
+
 pub invariant_of-self : goal.invariant_of-self
 invariant_of-self g c =
     let k = c.self.inside in let h = head g (goal.at.invariant_of-self g c).After-known in
@@ -80,10 +93,12 @@ invariant_of-self g c =
     let now : t.volume.fault ≡ fault_of_step committed.More = made.volume.fault in
     let holds = g.D.Disk.holding (g.D.Disk.name k.store.volume.device) in
     let makes = makes_of g.D.Disk k.store t committed.More refl made in
+    let right = right_written g.D.Disk k.opening.value k.store k.processes c.self.invariant.right h.well c.args.pid h.within h.group h.place h.stands t committed.More made g.met.D.Disk.has_now h.joint
+    (agreed_now g.D.Disk.image t now c.known-2.ensures.volume c.known-2.ensures.store) now
+    (ap (λ (m : LogState). is_quiet m.commit) makes.log ∙ goes_on holds l.commit l l.opened h.busy (λ done. let both = sym makes.answer ∙ done in absurd (cc both))) makes.faults in
     record {
-      right = right_written g.D.Disk k.opening.value k.store k.processes c.self.invariant.right h.well c.args.pid h.within h.group h.place h.stands t committed.More made g.met.D.Disk.has_now h.joint
-          (agreed_now g.D.Disk.image t now c.known-2.ensures.volume c.known-2.ensures.store) now
-          (ap (λ (m : LogState). is_quiet m.commit) makes.log ∙ goes_on holds l.commit l l.opened h.busy (λ done. let both = sym makes.answer ∙ done in absurd (cc both))) makes.faults;
+      right = right;
+      since = since g (goal.at.invariant_of-self g c).After-known-2 committed.More k.processes c.in-More.is refl right;
       ports = ports_counted g.I.Intake g.H.Herald k.intake k.herald l.committed t.volume.log.committed k.processes c.self.invariant.ports (ap (λ (m : LogState). m.committed) makes.log ∙ same_committed holds l.commit l l.opened (λ n durable. let both = sym makes.answer ∙ durable in absurd (cc both)));
     }
 
@@ -95,10 +110,12 @@ invariant_of-self-in-Durable g c =
     let now : t.volume.fault ≡ fault_of_step (committed.Durable c.in-Durable.group) = made.volume.fault in
     let holds = g.D.Disk.holding (g.D.Disk.name k.store.volume.device) in
     let makes = makes_of g.D.Disk k.store t (committed.Durable c.in-Durable.group) refl made in
+    let right = right_written g.D.Disk k.opening.value k.store k.processes c.self.invariant.right h.well c.args.pid h.within h.group h.place h.stands t (committed.Durable c.in-Durable.group) made g.met.D.Disk.has_now h.joint
+    (agreed_now g.D.Disk.image t now c.known-2.ensures.volume c.known-2.ensures.store) now
+    (ap (λ (m : LogState). is_quiet m.commit) makes.log ∙ goes_on holds l.commit l l.opened h.busy (λ done. let both = sym makes.answer ∙ done in absurd (cc both))) makes.faults in
     record {
-      right = right_written g.D.Disk k.opening.value k.store k.processes c.self.invariant.right h.well c.args.pid h.within h.group h.place h.stands t (committed.Durable c.in-Durable.group) made g.met.D.Disk.has_now h.joint
-          (agreed_now g.D.Disk.image t now c.known-2.ensures.volume c.known-2.ensures.store) now
-          (ap (λ (m : LogState). is_quiet m.commit) makes.log ∙ goes_on holds l.commit l l.opened h.busy (λ done. let both = sym makes.answer ∙ done in absurd (cc both))) makes.faults;
+      right = right;
+      since = since g (goal.at.invariant_of-self-in-Durable g c).After-known-2 (committed.Durable c.in-Durable.group) k.processes c.in-Durable.is refl right;
       ports = ports_stay g.I.Intake g.H.Herald k.intake k.intake k.herald c.durable.new.self l.committed t.volume.log.committed k.processes k.processes c.self.invariant.ports refl refl refl c.self.invariant.ports.room (λ p h fits. fits) (c.durable.ensures.count ∙ durable_count holds l t.volume.log c.in-Durable.group makes.answer makes.log);
     }
 
@@ -111,11 +128,13 @@ invariant_of-self-in-Done g c =
     let holds = g.D.Disk.holding (g.D.Disk.name k.store.volume.device) in
     let makes = makes_of g.D.Disk k.store t committed.Done refl made in
     let same : t.volume.log.committed ≡ l.committed = (ap (λ (m : LogState). m.committed) makes.log ∙ same_committed holds l.commit l l.opened (λ n durable. let both = sym makes.answer ∙ durable in absurd (cc both))) in
+    let right = subst (λ (w : World). IsRight g.D.Disk k.opening.value t w) (sym c.give.ensures.processes)
+    (right_done g.D.Disk k.opening.value k.store k.processes c.self.invariant.right h.well c.args.pid h.within h.group h.place h.stands t committed.Done made g.met.D.Disk.has_now h.joint
+    (agreed_now g.D.Disk.image t now c.known-2.ensures.volume c.known-2.ensures.store) now
+    (ap (λ (m : LogState). is_quiet m.commit) makes.log ∙ over_now holds l.commit l l.opened makes.answer) makes.faults) in
     record {
-      right = subst (λ (w : World). IsRight g.D.Disk k.opening.value t w) (sym c.give.ensures.processes)
-          (right_done g.D.Disk k.opening.value k.store k.processes c.self.invariant.right h.well c.args.pid h.within h.group h.place h.stands t committed.Done made g.met.D.Disk.has_now h.joint
-          (agreed_now g.D.Disk.image t now c.known-2.ensures.volume c.known-2.ensures.store) now
-          (ap (λ (m : LogState). is_quiet m.commit) makes.log ∙ over_now holds l.commit l l.opened makes.answer) makes.faults);
+      right = right;
+      since = since g (goal.at.invariant_of-self-in-Done g c).After-known-2 committed.Done c.give.new.processes c.in-Done.is c.give.ensures.processes right;
       ports = ports_given g.I.Intake g.H.Herald k.intake c.give.new.intake k.herald k.herald l.committed t.volume.log.committed k.processes c.give.new.processes c.args.pid
           c.self.invariant.ports h.within h.answer.0 c.give.ensures.processes c.give.ensures.gives (c.self.invariant.ports.told ∙ sym same);
     }
@@ -126,9 +145,11 @@ invariant_of-self-in-Fault g c =
     let t = c.commit_step-committed.new.self in let l = k.store.volume.log in
     let made : Commits g.D.Disk k.store (committed.Fault c.in-Fault.field-0) t = subst (λ (r : Committed). Commits g.D.Disk k.store r t) c.in-Fault.is c.commit_step-committed.ensures.commits in
     let failed = commit_fails g.D.Disk k.store.volume.device k.store.volume.buffers l t.volume.device t.volume.buffers t.volume.log c.in-Fault.field-0 (committed.Fault c.in-Fault.field-0) refl made.volume.write in
+    let right = right_unwritten g.D.Disk k.opening.value k.store k.processes c.self.invariant.right h.well c.args.pid h.within h.group h.place h.stands t (committed.Fault c.in-Fault.field-0) made g.met.D.Disk.has_now h.joint c.known.ensures.store
+    c.in-Fault.field-0 refl (where_none k.store.volume.fault h.well c.known.ensures.survives) failed.1 failed.2 in
     record {
-      right = right_unwritten g.D.Disk k.opening.value k.store k.processes c.self.invariant.right h.well c.args.pid h.within h.group h.place h.stands t (committed.Fault c.in-Fault.field-0) made g.met.D.Disk.has_now h.joint c.known.ensures.store
-          c.in-Fault.field-0 refl (where_none k.store.volume.fault h.well c.known.ensures.survives) failed.1 failed.2;
+      right = right;
+      since = since g (goal.at.invariant_of-self-in-Fault g c).After-known-2 (committed.Fault c.in-Fault.field-0) k.processes c.in-Fault.is refl right;
       ports = ports_counted g.I.Intake g.H.Herald k.intake k.herald l.committed t.volume.log.committed k.processes c.self.invariant.ports (ap (λ (m : LogState). m.committed) failed.1);
     }
 

@@ -8,16 +8,17 @@ use Rattle.journal.specs.declared.types.At.TheVariants as at
 use Rattle.journal.specs.Lemmas.Answers.{CanAnswer}
 use Rattle.journal.specs.Processes.{World, process, last_answer, is_ending}
 use Rattle.kernel.specs.declared.types.Step.TheVariants as step
-use Rattle.kernel.specs.Invariant.{IsRight}
+use Rattle.kernel.specs.Invariant.{IsRight, LeavesSince}
 use Rattle.kernel.specs.Next.{step_of_end, world_ended}
 use Rattle.kernel.specs.State.{State}
-use Rattle.kernel.specs.Steps.{Acts}
+use Rattle.kernel.specs.Acts.{Acts}
 use Rattle.kernel.proofs.Acting.{acts_ended, same_unasked, sides_same}
 use Rattle.kernel.proofs.Answering.{answer_ends}
 use Rattle.journal.specs.Lemmas.Groups.{closed_uncommitted}
 use Rattle.kernel.proofs.Closing.{right_closed, right_left}
 use Rattle.journal.specs.Lemmas.Places.{ending_there}
 use Rattle.kernel.proofs.Ports.{ports_committing, ports_given, ports_counted}
+use Rattle.kernel.proofs.Promising.{since_step}
 use Rattle.kernel.proofs.Valid.{HasAgreed, agreed_now}
 use Rattle.kernel.proofs.stepping.Kernel.end.Given.{Over}
 use Rattle.kernel.proofs.stepping.Kernel.end.Goals.{After-known-2}
@@ -57,6 +58,16 @@ head g c =
       keeps = subst (λ (o : StoreState _). KeepsFiles disk.image k.store o) is c.end-ended.ensures.files;
     }
 
+-- what a stop has left since the opening
+since : (g : Over) (c : After-known-2 g) (z : World) → z ≡ world_ended (end_answer c.self.inside.store.volume.log) c.self.inside.processes c.args.pid
+    → IsRight g.D.Disk c.self.inside.opening.value c.end-ended.new.self z → LeavesSince g.D.Disk c.self.inside.opening.value c.end-ended.new.self z
+since g c z made right =
+    let k = c.self.inside in
+    let h = head g c in
+    since_step g.D.Disk g.I.Intake g.H.Herald c.args.pid _ _ _ c.self.invariant c.known.ensures.store c.known.ensures.survives h.within
+    (acts_ended g.D.Disk g.I.Intake g.H.Herald c.args.pid k.store c.end-ended.new.self k.opening.value k.intake k.herald k.processes z h.well h.group h.place k.intake k.herald (step_of_end (end_answer k.store.volume.log)) h.stands
+    (record { answer = refl; store = c.end-ended.ensures.store; world = made }) (sides_same g.I.Intake c.args.pid k.intake) refl (same_unasked g.H.Herald k.herald)) right c.known-2.ensures.survives
+
 pub give-requires-clause-over : goal.give-requires-clause-over
 give-requires-clause-over g c = (head g (goal.at.give-requires-clause-over g c).After-known-2).answer.0
 
@@ -71,10 +82,12 @@ invariant_of-self g c =
     let s : StoreState _ = with_log k.store (ended k.store.volume.log c.args.pid) in
     let is : t ≡ s = c.end-ended.ensures.store in
     let answer : end_answer k.store.volume.log ≡ ended_as.Commit = sym c.end-ended.ensures.answer ∙ c.in-Commit.is in
+    let right = subst (λ (o : StoreState _). IsRight g.D.Disk k.opening.value o c.commit.new.self) (sym is)
+    (subst (λ (w : World). IsRight g.D.Disk k.opening.value s w) (sym c.commit.ensures)
+    (right_closed g.D.Disk k.opening.value k.store k.processes c.self.invariant.right h.well c.args.pid h.within h.group h.place h.stands h.agreed h.before h.keeps answer)) in
     record {
-      right = subst (λ (o : StoreState _). IsRight g.D.Disk k.opening.value o c.commit.new.self) (sym is)
-          (subst (λ (w : World). IsRight g.D.Disk k.opening.value s w) (sym c.commit.ensures)
-          (right_closed g.D.Disk k.opening.value k.store k.processes c.self.invariant.right h.well c.args.pid h.within h.group h.place h.stands h.agreed h.before h.keeps answer));
+      right = right;
+      since = since g (goal.at.invariant_of-self g c).After-known-2 c.commit.new.self (c.commit.ensures ∙ ap (λ e. world_ended e k.processes c.args.pid) (sym answer)) right;
       ports = ports_committing g.I.Intake g.H.Herald k.intake k.herald t.volume.log.committed k.processes c.commit.new.self c.args.pid h.group h.place
           (ports_counted g.I.Intake g.H.Herald k.intake k.herald k.store.volume.log.committed t.volume.log.committed k.processes c.self.invariant.ports
           (ap (λ (o : StoreState _). o.volume.log.committed) is ∙ closed_uncommitted k.store.volume.log c.args.pid answer)) h.within h.stands c.commit.ensures;
@@ -89,10 +102,12 @@ invariant_of-self-in-Left g c =
     let is : t ≡ s = c.end-ended.ensures.store in
     let answer : end_answer k.store.volume.log ≡ ended_as.Left = sym c.end-ended.ensures.answer ∙ c.in-Left.is in
     let now : c.committed.result ≡ t.volume.log.committed = search rules in
+    let right = subst (λ (o : StoreState _). IsRight g.D.Disk k.opening.value o c.give.new.processes) (sym is)
+    (subst (λ (w : World). IsRight g.D.Disk k.opening.value s w) (sym c.give.ensures.processes)
+    (right_left g.D.Disk k.opening.value k.store k.processes c.self.invariant.right h.well c.args.pid h.within h.group h.place h.stands h.agreed h.before h.keeps answer)) in
     record {
-      right = subst (λ (o : StoreState _). IsRight g.D.Disk k.opening.value o c.give.new.processes) (sym is)
-          (subst (λ (w : World). IsRight g.D.Disk k.opening.value s w) (sym c.give.ensures.processes)
-          (right_left g.D.Disk k.opening.value k.store k.processes c.self.invariant.right h.well c.args.pid h.within h.group h.place h.stands h.agreed h.before h.keeps answer));
+      right = right;
+      since = since g (goal.at.invariant_of-self-in-Left g c).After-known-2 c.give.new.processes (c.give.ensures.processes ∙ ap (λ e. world_ended e k.processes c.args.pid) (sym answer)) right;
       ports = ports_given g.I.Intake g.H.Herald k.intake c.give.new.intake k.herald c.tell.new.herald k.store.volume.log.committed t.volume.log.committed k.processes c.give.new.processes c.args.pid
           c.self.invariant.ports h.within h.answer.0 c.give.ensures.processes c.give.ensures.gives (c.tell.ensures.count ∙ now);
     }

@@ -13,15 +13,16 @@ use Rattle.journal.specs.declared.types.At.TheVariants as at
 use Rattle.journal.specs.Journal.{entry_in}
 use Rattle.journal.specs.Lemmas.Answers.{CanAnswer}
 use Rattle.journal.specs.Processes.{World, process, is_behind, last_answer, decided, answered}
-use Rattle.kernel.specs.Invariant.{IsRight, ArePorts}
+use Rattle.kernel.specs.Invariant.{IsRight, ArePorts, LeavesSince}
 use Rattle.kernel.specs.Next.{step_behind, step_of_last, step_of_told, world_behind, world_of_last, world_of_told}
 use Rattle.kernel.specs.Ports.{KeepsOthers}
 use Rattle.kernel.specs.State.{State}
-use Rattle.kernel.specs.Steps.{Acts}
+use Rattle.kernel.specs.Acts.{Acts}
 use Rattle.kernel.proofs.Acting.{acts_finished, sides_same}
 use Rattle.kernel.proofs.Answering.{IsThere, is_there, op_is, mine_is, answer_over, answer_told, some_reply}
 use Rattle.kernel.proofs.Ports.{ports_decided, ports_ending, ports_given}
 use Rattle.kernel.proofs.Valid.{HasAgreed, agreed_now}
+use Rattle.kernel.proofs.Promising.{since_step}
 use Rattle.kernel.proofs.Right.{survives_reading}
 use Rattle.kernel.proofs.Working.{ends_now, right_moved_behind, right_fault_behind, right_decided, right_ends, right_over, right_told}
 use Rattle.kernel.proofs.stepping.Kernel.finish.Given.{Over}
@@ -66,6 +67,16 @@ acts g c r j z is made sides ahead =
     subst (λ (o : State _ _ _). Acts g.D.Disk g.I.Intake g.H.Herald c.args.pid (step_behind (head g c).there.group r) o (record { store = c.step-progress.new.self; opening = k.opening.value; intake = j; herald = k.herald; world = z })) c.self.view_is
     (acts_finished g.D.Disk g.I.Intake g.H.Herald c.args.pid k.store c.step-progress.new.self k.opening.value k.intake k.herald k.processes z h.well h.there.group h.there.k j r h.there.stands
     (subst (λ (o : Op). Steps g.D.Disk k.store c.args.pid o r c.step-progress.new.self) h.same (h.steps r is)) made sides ahead)
+
+-- and of what a stop has left since the opening
+since : (g : Over) (c : After-known-2 g) (r : TaskProgress) (z : World) → c.step-progress.result ≡ r → z ≡ world_behind (head g c).there.group r c.self.inside.processes c.args.pid
+    → IsRight g.D.Disk c.self.inside.opening.value c.step-progress.new.self z → LeavesSince g.D.Disk c.self.inside.opening.value c.step-progress.new.self z
+since g c r z is made right =
+    let k = c.self.inside in
+    let h = head g c in
+    since_step g.D.Disk g.I.Intake g.H.Herald c.args.pid _ _ _ c.self.invariant c.known.ensures.store c.known.ensures.survives h.within
+    (acts_finished g.D.Disk g.I.Intake g.H.Herald c.args.pid k.store c.step-progress.new.self k.opening.value k.intake k.herald k.processes z h.well h.there.group h.there.k k.intake r h.there.stands
+    (subst (λ (o : Op). Steps g.D.Disk k.store c.args.pid o r c.step-progress.new.self) h.same (h.steps r is)) made (sides_same g.I.Intake c.args.pid k.intake) refl) right c.known-2.ensures.survives
 
 -- the group that was looked up is its own
 own_group : (g : Over) (c : After-known-2 g) (group k : ℕ) {a : At} → a ≡ (process c.self.inside.processes c.args.pid).at → a ≡ at.Behind group k → (head g c).there.group ≡ group
@@ -131,8 +142,10 @@ invariant_of-self g c =
     let k = c.self.inside in
     let h = head g (goal.at.invariant_of-self g c).After-known-2 in
     let steps = h.steps progress.Moved c.in-Moved.is in
+    let right = right_moved_behind g.D.Disk k.opening.value k.store k.processes c.self.invariant.right h.well c.args.pid h.within c.operation-op.result.now h.mine c.known.ensures.store c.step-progress.new.self h.there.group h.there.k h.there.stands steps (h.agreed progress.Moved c.in-Moved.is refl) in
     record {
-      right = right_moved_behind g.D.Disk k.opening.value k.store k.processes c.self.invariant.right h.well c.args.pid h.within c.operation-op.result.now h.mine c.known.ensures.store c.step-progress.new.self h.there.group h.there.k h.there.stands steps (h.agreed progress.Moved c.in-Moved.is refl);
+      right = right;
+      since = since g (goal.at.invariant_of-self g c).After-known-2 progress.Moved k.processes c.in-Moved.is refl right;
       ports = subst (λ (n : ℕ). ArePorts g.I.Intake g.H.Herald k.intake k.herald n k.processes) (sym steps.groups.committed) c.self.invariant.ports;
     }
 
@@ -145,8 +158,11 @@ invariant_of-self-in-Decided g c =
     let steps = h.steps (progress.Decided reply) c.in-Decided.is in
     let none = own_group g past c.in-Behind.group c.in-Behind.entry c.at.ensures c.in-Behind.is ∙ no_group c.in-Behind.group c.if-group-gt0.false in
     let inside : c.args.pid < length c.decide.new.self.processes = search rules in
+    let right = subst (λ (z : World). IsRight g.D.Disk k.opening.value c.step-progress.new.self z) (sym (c.give.ensures.processes ∙ ap (λ (w : World). answered w c.args.pid) c.decide.ensures)) (told g past reply none c.in-Decided.is) in
     record {
-      right = subst (λ (z : World). IsRight g.D.Disk k.opening.value c.step-progress.new.self z) (sym (c.give.ensures.processes ∙ ap (λ (w : World). answered w c.args.pid) c.decide.ensures)) (told g past reply none c.in-Decided.is);
+      right = right;
+      since = since g past (progress.Decided reply) c.give.new.processes c.in-Decided.is
+          (c.give.ensures.processes ∙ ap (λ (w : World). answered w c.args.pid) c.decide.ensures ∙ ap (λ (n : ℕ). world_of_told n k.processes c.args.pid reply) (sym none)) right;
       ports = ports_given g.I.Intake g.H.Herald k.intake c.give.new.intake k.herald k.herald k.store.volume.log.committed c.step-progress.new.self.volume.log.committed c.decide.new.self c.give.new.processes c.args.pid
           (subst (λ (w : World). ArePorts g.I.Intake g.H.Herald k.intake k.herald k.store.volume.log.committed w) (sym c.decide.ensures)
           (ports_decided g.I.Intake g.H.Herald k.intake k.herald k.store.volume.log.committed k.processes c.args.pid h.there.group h.there.k h.there.entry reply c.self.invariant.ports h.within h.there.stands h.there.has.at h.there.has.mine))
@@ -162,10 +178,13 @@ invariant_of-self-then-group-gt0 g c =
     let steps = h.steps (progress.Decided reply) c.in-Decided.is in
     let same = own_group g past c.in-Behind.group c.in-Behind.entry c.at.ensures c.in-Behind.is in
     let some = c.if-group-gt0.true in
+    let right = subst (λ (z : World). IsRight g.D.Disk k.opening.value c.step-progress.new.self z) (sym c.decide.ensures)
+    (right_told g.D.Disk k.opening.value k.store k.processes c.self.invariant.right h.well c.args.pid h.within c.operation-op.result.now h.mine c.known.ensures.store c.step-progress.new.self h.there.group h.there.k h.there.stands
+    (omega (arith, same, some)) reply steps (h.agreed (progress.Decided reply) c.in-Decided.is refl)) in
     record {
-      right = subst (λ (z : World). IsRight g.D.Disk k.opening.value c.step-progress.new.self z) (sym c.decide.ensures)
-          (right_told g.D.Disk k.opening.value k.store k.processes c.self.invariant.right h.well c.args.pid h.within c.operation-op.result.now h.mine c.known.ensures.store c.step-progress.new.self h.there.group h.there.k h.there.stands
-          (omega (arith, same, some)) reply steps (h.agreed (progress.Decided reply) c.in-Decided.is refl));
+      right = right;
+      since = let next : suc (c.in-Behind.group - 1) ≡ c.in-Behind.group = omega (arith, some) in
+          since g past (progress.Decided reply) c.decide.new.self c.in-Decided.is (c.decide.ensures ∙ ap (λ (n : ℕ). world_of_told n k.processes c.args.pid reply) (next ∙ sym same)) right;
       ports = subst (λ (n : ℕ). ArePorts g.I.Intake g.H.Herald k.intake k.herald n c.decide.new.self) (sym steps.groups.committed)
           (subst (λ (w : World). ArePorts g.I.Intake g.H.Herald k.intake k.herald k.store.volume.log.committed w) (sym c.decide.ensures)
           (ports_decided g.I.Intake g.H.Herald k.intake k.herald k.store.volume.log.committed k.processes c.args.pid h.there.group h.there.k h.there.entry reply c.self.invariant.ports h.within h.there.stands h.there.has.at h.there.has.mine));
@@ -178,9 +197,11 @@ invariant_of-self-then-group-eq0 g c =
     let h = head g past in
     let steps = h.steps progress.Over c.in-Over.is in
     let none : h.there.group ≡ 0 = own_group g past c.in-Behind.group c.in-Behind.entry c.at.ensures c.in-Behind.is ∙ c.if-group-eq0.true in
+    let right = subst (λ (z : World). IsRight g.D.Disk k.opening.value c.step-progress.new.self z) (sym c.give-in-Over.ensures.processes)
+    (right_over g.D.Disk k.opening.value k.store k.processes c.self.invariant.right h.well c.args.pid h.within c.operation-op.result.now h.mine c.known.ensures.store c.step-progress.new.self h.there.group h.there.k h.there.stands none steps (h.agreed progress.Over c.in-Over.is refl)) in
     record {
-      right = subst (λ (z : World). IsRight g.D.Disk k.opening.value c.step-progress.new.self z) (sym c.give-in-Over.ensures.processes)
-          (right_over g.D.Disk k.opening.value k.store k.processes c.self.invariant.right h.well c.args.pid h.within c.operation-op.result.now h.mine c.known.ensures.store c.step-progress.new.self h.there.group h.there.k h.there.stands none steps (h.agreed progress.Over c.in-Over.is refl));
+      right = right;
+      since = since g past progress.Over c.give-in-Over.new.processes c.in-Over.is (c.give-in-Over.ensures.processes ∙ ap (λ (n : ℕ). world_of_last n k.processes c.args.pid) (sym none)) right;
       ports = ports_given g.I.Intake g.H.Herald k.intake c.give-in-Over.new.intake k.herald k.herald k.store.volume.log.committed c.step-progress.new.self.volume.log.committed k.processes c.give-in-Over.new.processes c.args.pid
           c.self.invariant.ports h.within (can_leave g past c.in-Over.is).0 c.give-in-Over.ensures.processes c.give-in-Over.ensures.gives (c.self.invariant.ports.told ∙ sym steps.groups.committed);
     }
@@ -192,10 +213,14 @@ invariant_of-self-in-Over-2 g c =
     let h = head g past in
     let steps = h.steps progress.Over c.in-Over.is in
     let same = own_group g past c.in-Behind.group c.in-Behind.entry c.at.ensures c.in-Behind.is in
+    let right = subst (λ (z : World). IsRight g.D.Disk k.opening.value c.step-progress.new.self z) (sym c.go_to_end.ensures)
+    (right_ends g.D.Disk k.opening.value k.store k.processes c.self.invariant.right h.well c.args.pid h.within c.operation-op.result.now h.mine c.known.ensures.store c.step-progress.new.self h.there.group h.there.k h.there.stands
+    (some_group h.there.group (λ none. c.if-group-eq0.false (sym same ∙ none))) steps (h.agreed progress.Over c.in-Over.is refl)) in
     record {
-      right = subst (λ (z : World). IsRight g.D.Disk k.opening.value c.step-progress.new.self z) (sym c.go_to_end.ensures)
-          (right_ends g.D.Disk k.opening.value k.store k.processes c.self.invariant.right h.well c.args.pid h.within c.operation-op.result.now h.mine c.known.ensures.store c.step-progress.new.self h.there.group h.there.k h.there.stands
-          (some_group h.there.group (λ none. c.if-group-eq0.false (sym same ∙ none))) steps (h.agreed progress.Over c.in-Over.is refl));
+      right = right;
+      since = let some = some_group c.in-Behind.group c.if-group-eq0.false in
+          let next : suc (c.in-Behind.group - 1) ≡ c.in-Behind.group = omega (arith, some) in
+          since g past progress.Over c.go_to_end.new.self c.in-Over.is (c.go_to_end.ensures ∙ ap (λ (n : ℕ). world_of_last n k.processes c.args.pid) (next ∙ sym same)) right;
       ports = subst (λ (n : ℕ). ArePorts g.I.Intake g.H.Herald k.intake k.herald n c.go_to_end.new.self) (sym steps.groups.committed)
           (ports_ending g.I.Intake g.H.Herald k.intake k.herald k.store.volume.log.committed k.processes c.go_to_end.new.self c.args.pid h.there.group h.there.k c.self.invariant.ports h.within h.there.stands c.go_to_end.ensures);
     }
@@ -206,8 +231,10 @@ invariant_of-self-in-Sleeping g c =
     let h = head g (goal.at.invariant_of-self-in-Sleeping g c).After-known-2 in
     let steps = h.steps (progress.Sleeping c.in-Sleeping.why) c.in-Sleeping.is in
     let same : c.step-progress.new.self ≡ k.store = steps.waits.sleeping c.in-Sleeping.why refl in
+    let right = subst (λ (s : StoreState _). IsRight g.D.Disk k.opening.value s k.processes) (sym same) c.self.invariant.right in
     record {
-      right = subst (λ (s : StoreState _). IsRight g.D.Disk k.opening.value s k.processes) (sym same) c.self.invariant.right;
+      right = right;
+      since = subst (λ (s : StoreState _). LeavesSince g.D.Disk k.opening.value s k.processes) (sym same) c.self.invariant.since;
       ports = subst (λ (s : StoreState _). ArePorts g.I.Intake g.H.Herald k.intake k.herald s.volume.log.committed k.processes) (sym same) c.self.invariant.ports;
     }
 
@@ -216,9 +243,11 @@ invariant_of-self-in-Fault g c =
     let k = c.self.inside in
     let h = head g (goal.at.invariant_of-self-in-Fault g c).After-known-2 in
     let steps = h.steps (progress.Fault c.in-Fault.field-0) c.in-Fault.is in
+    let right = right_fault_behind g.D.Disk k.opening.value k.store k.processes c.self.invariant.right h.well c.args.pid h.within c.operation-op.result.now h.mine c.known.ensures.store c.step-progress.new.self h.there.group h.there.k h.there.stands c.in-Fault.field-0
+    (survives_reading g.D.Disk k.opening.value k.store c.step-progress.new.self g.met.D.Disk.counts_now steps.reads.device h.well c.known.ensures.survives) steps in
     record {
-      right = right_fault_behind g.D.Disk k.opening.value k.store k.processes c.self.invariant.right h.well c.args.pid h.within c.operation-op.result.now h.mine c.known.ensures.store c.step-progress.new.self h.there.group h.there.k h.there.stands c.in-Fault.field-0
-          (survives_reading g.D.Disk k.opening.value k.store c.step-progress.new.self g.met.D.Disk.counts_now steps.reads.device h.well c.known.ensures.survives) steps;
+      right = right;
+      since = since g (goal.at.invariant_of-self-in-Fault g c).After-known-2 (progress.Fault c.in-Fault.field-0) k.processes c.in-Fault.is refl right;
       ports = subst (λ (n : ℕ). ArePorts g.I.Intake g.H.Herald k.intake k.herald n k.processes) (sym steps.groups.committed) c.self.invariant.ports;
     }
 

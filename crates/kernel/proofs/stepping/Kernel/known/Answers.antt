@@ -3,6 +3,7 @@ use Rattle.bcache.specs.Buffers.{IsCache}
 use Rattle.bcache.specs.Lemmas.Current.{length-current}
 use Rattle.blocks.specs.Disk.{Image}
 use Rattle.journal.specs.Keeps.{KeepsNow}
+use Rattle.journal.specs.Most.{most_of}
 use Rattle.journal.specs.Lemmas.Groups.{all_committed}
 use Rattle.journal.specs.Lemmas.Known.{known_current, known_files, known_size, kept_of_taken}
 use Rattle.journal.specs.Lemmas.Shapes.{rising_beginnings}
@@ -21,13 +22,12 @@ returns g c =
     let k = c.self.inside in
     let right = c.self.invariant.right in
     let ports = c.self.invariant.ports in
-    let keeps : (x : Image) → g.D.Disk.leaves k.store.volume.device (g.D.Disk.moment k.store.volume.device) x → KeepsNow k.store.volume (g.D.Disk.image k.opening.value) k.processes.journal.list x =
+    let keeps : (x : Image) → g.D.Disk.leaves k.store.volume.device (g.D.Disk.moment k.store.volume.device) x → KeepsNow k.store.volume.log.committed (most_of k.store.volume) (g.D.Disk.image k.opening.value) k.processes.journal.list x =
     keeps_now g.D.Disk k.opening.value k.store k.processes k.store.volume.fault right.facts right.keeps c.known.ensures.survives in
     let buffers : c.cache.result.now ≡ k.store.volume.buffers = search rules in
     let lasts = lasts_now g.D.Disk k.opening.value k.store k.processes c.known.ensures.store right in
     subst (λ (o : State _ _ _). Known g.D.Disk g.I.Intake g.H.Herald o) c.self.view_is (record {
-      keeps = keeps;
-      reopens = λ x left. opens_again _ x _ _ (keeps x left).between.keeps;
+      stop = record { keeps = keeps; reopens = λ x left. opens_again _ x _ _ (keeps x left).between.keeps; since = c.self.invariant.since };
       current = if_both k.store.volume.fault (λ has joint. record {
         files = λ none. known_current _ _ _ _ has.facts none;
         idle = λ all. known_files _ _ _ _ has.facts all;

@@ -20,6 +20,7 @@ use Rattle.kernel.specs.Invariant.{IsRight, ArePorts}
 use Rattle.kernel.proofs.AtOpening.{right_new}
 use Rattle.kernel.proofs.Openings.{super_size, lawful_here, recover_cause, syncs_at_open, opened_form, opened_numbers, empty_left, recover_unwritten, store_is}
 use Rattle.kernel.proofs.Ports.{ports_new}
+use Rattle.kernel.proofs.Since.{since_new}
 use Rattle.kernel.specs.Lemmas.Openings.{opened_leaves, lawful_super}
 use Rattle.kernel.proofs.stepping.Kernel.open.Goals as goal
 
@@ -78,11 +79,13 @@ invariant_of-result g c =
     let well : s.volume.fault ≡ None = ap (λ (v : VolumeState _). v.fault) volume in
     let fits = subst (λ (v : VolumeState _). FitsFiles g.D.Disk.image s (files_of (g.D.Disk.image v.device))) (sym (ap (λ (o : StoreState _). o.volume) c.open-store.ensures.store)) c.open-store.ensures.files in
     let world : c.in-Ok-take_memory.memory.processes ≡ fresh_world c.args.processes = c.in-Ok-take_memory.ensures.processes in
+    let right = subst (λ (w : World). IsRight g.D.Disk c.of-opening.result.value s w) (sym world)
+    (right_new g.D.Disk c.of-opening.result.value s c.args.processes (volume ∙ ap (fresh_volume g.D.Disk.image) (sym device)) (opening ∙ sym device) tasks
+    (ap (λ (o : StoreState _). o.table.inode_count) c.open-store.ensures.store ∙ opened_numbers x (g.D.Disk.image s.volume.device) c.in-Ok.report.sup c.in-Ok.ensures.ok c.in-Ok.ensures.report.sup now)
+    some few (subst IsSound (sym now) (verdict_sound x c.in-Ok.ensures.ok).2) (empty_left x (g.D.Disk.image s.volume.device) now) (agreed_now g.D.Disk.image s well c.known.ensures.volume c.known.ensures.store) fits) in
     record {
-      right = subst (λ (w : World). IsRight g.D.Disk c.of-opening.result.value s w) (sym world)
-          (right_new g.D.Disk c.of-opening.result.value s c.args.processes (volume ∙ ap (fresh_volume g.D.Disk.image) (sym device)) (opening ∙ sym device) tasks
-          (ap (λ (o : StoreState _). o.table.inode_count) c.open-store.ensures.store ∙ opened_numbers x (g.D.Disk.image s.volume.device) c.in-Ok.report.sup c.in-Ok.ensures.ok c.in-Ok.ensures.report.sup now)
-          some few (subst IsSound (sym now) (verdict_sound x c.in-Ok.ensures.ok).2) (empty_left x (g.D.Disk.image s.volume.device) now) (agreed_now g.D.Disk.image s well c.known.ensures.volume c.known.ensures.store) fits);
+      right = right;
+      since = since_new g.D.Disk c.of-opening.result.value s c.in-Ok-take_memory.memory.processes (opening ∙ sym device) right c.known.ensures.survives;
       ports = subst (λ (w : World). ArePorts g.I.Intake g.H.Herald c.args.intake c.args.herald s.volume.log.committed w) (sym world)
           (ports_new g.I.Intake g.H.Herald c.args.intake c.args.herald s.volume.log.committed c.args.processes c.requires.served (c.requires.told ∙ sym (ap (λ (v : VolumeState _). v.log.committed) volume)) c.requires.fits);
     }

@@ -6,7 +6,8 @@ use Rattle.kernel.proofs.stepping.Kernel.step.Goals as goal
 
 pub returns : goal.returns
 returns g c =
-    makes_step g.D.Disk g.I.Intake g.H.Herald c.args.pid c.go_on-answer.result c.args.self.now c.go_on-answer.new.self
+    let made = makes_step g.D.Disk g.I.Intake g.H.Herald c.args.pid c.go_on-answer.result c.args.self.now c.go_on-answer.new.self
     (subst (λ k. Inv g.D.Disk g.I.Intake g.H.Herald k) c.self.view_is c.self.invariant)
     (subst (λ k. IsStore g.D.Disk.image k.store) c.self.view_is c.known-2.ensures.store)
-    c.requires.pid c.known.ensures.keeps c.go_on-answer.ensures c.known-3.ensures.keeps c.known-3.ensures.awake
+    c.requires.pid c.known.ensures.stop.keeps c.go_on-answer.ensures c.known-3.ensures.stop.keeps c.known-3.ensures.awake in
+    record { acts = made.acts; progress = made.progress; stop = made.stop }

@@ -7,6 +7,7 @@ invariant_of-self g c =
     let k = c.self.inside in
     record {
       right = c.self.invariant.right;
+      since = c.self.invariant.since;
       ports = ports_asked g.I.Intake g.H.Herald k.intake _ k.herald k.store.volume.log.committed k.processes k.processes c.args.pid c.self.invariant.ports
           (search rules) refl refl (search rules) (search rules) (search rules);
     }
@@ -16,6 +17,7 @@ invariant_of-self-2 g c =
     let k = c.self.inside in
     record {
       right = c.self.invariant.right;
+      since = c.self.invariant.since;
       ports = ports_asked g.I.Intake g.H.Herald k.intake _ k.herald k.store.volume.log.committed k.processes k.processes c.args.pid c.self.invariant.ports
           (search rules) refl refl (search rules) (search rules) (search rules);
     }

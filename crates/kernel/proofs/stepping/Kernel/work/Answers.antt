@@ -12,13 +12,14 @@ use Rattle.inodes.specs.Tasks.{task}
 use Rattle.journal.specs.declared.types.At.{At}
 use Rattle.journal.specs.declared.types.At.TheVariants as at
 use Rattle.journal.specs.Processes.{World, process, turned}
-use Rattle.kernel.specs.Invariant.{Inv, IsRight, ArePorts, TaskStands}
+use Rattle.kernel.specs.Invariant.{Inv, IsRight, ArePorts, LeavesSince, TaskStands}
 use Rattle.kernel.specs.Next.{step_of, world_after}
 use Rattle.kernel.specs.State.{State}
-use Rattle.kernel.specs.Steps.{Acts}
+use Rattle.kernel.specs.Acts.{Acts}
 use Rattle.kernel.proofs.Acting.{acts_worked}
 use Rattle.kernel.proofs.Ports.{ports_turned}
 use Rattle.kernel.proofs.Valid.{HasAgreed, agreed_now}
+use Rattle.kernel.proofs.Promising.{since_step}
 use Rattle.kernel.proofs.Right.{survives_reading}
 use Rattle.kernel.proofs.Working.{not_decided, not_over, right_moved, right_turned, right_fault}
 use Rattle.kernel.proofs.stepping.Kernel.work.Given.{Over}
@@ -60,13 +61,24 @@ acts g c r z is made =
     subst (λ (o : State _ _ _). Acts g.D.Disk g.I.Intake g.H.Herald c.args.pid (step_of r) o (record { store = c.step-progress.new.self; opening = k.opening.value; intake = k.intake; herald = k.herald; world = z })) c.self.view_is
     (acts_worked g.D.Disk g.I.Intake g.H.Herald c.args.pid k.store c.step-progress.new.self k.opening.value k.intake k.herald k.processes z h.well c.in-Before.group c.in-Before.op r h.stands (h.steps r is) made)
 
+-- and of what a stop has left since the opening
+since : (g : Over) (c : After-known-2 g) (r : TaskProgress) (z : World) → c.step-progress.result ≡ r → z ≡ world_after r (is_over (task c.step-progress.new.self.tasks c.args.pid).place) c.self.inside.processes c.args.pid
+    → IsRight g.D.Disk c.self.inside.opening.value c.step-progress.new.self z → LeavesSince g.D.Disk c.self.inside.opening.value c.step-progress.new.self z
+since g c r z is made right =
+    let k = c.self.inside in
+    let h = head g c in
+    since_step g.D.Disk g.I.Intake g.H.Herald c.args.pid _ _ _ c.self.invariant c.known.ensures.store c.known.ensures.survives h.within
+    (acts_worked g.D.Disk g.I.Intake g.H.Herald c.args.pid k.store c.step-progress.new.self k.opening.value k.intake k.herald k.processes z h.well c.in-Before.group c.in-Before.op r h.stands (h.steps r is) made) right c.known-2.ensures.survives
+
 pub invariant_of-self : goal.invariant_of-self
 invariant_of-self g c =
     let k = c.self.inside in
     let h = head g (goal.at.invariant_of-self g c).After-known-2 in
     let steps = h.steps progress.Moved c.in-Moved.is in
+    let right = right_moved g.D.Disk k.opening.value k.store k.processes c.self.invariant.right h.well c.args.pid h.within c.in-Before.op h.mine c.known.ensures.store c.step-progress.new.self c.in-Before.group h.stands steps (h.agreed progress.Moved c.in-Moved.is refl) in
     record {
-      right = right_moved g.D.Disk k.opening.value k.store k.processes c.self.invariant.right h.well c.args.pid h.within c.in-Before.op h.mine c.known.ensures.store c.step-progress.new.self c.in-Before.group h.stands steps (h.agreed progress.Moved c.in-Moved.is refl);
+      right = right;
+      since = since g (goal.at.invariant_of-self g c).After-known-2 progress.Moved k.processes c.in-Moved.is refl right;
       ports = subst (λ (n : ℕ). ArePorts g.I.Intake g.H.Herald k.intake k.herald n k.processes) (sym steps.groups.committed) c.self.invariant.ports;
     }
 
@@ -78,9 +90,11 @@ invariant_of-self-in-Turned g c =
     let reply = c.in-Turned.reply in
     let steps = h.steps (progress.Turned reply) c.in-Turned.is in
     let made : c.turn.new.self ≡ turned k.processes c.args.pid reply (is_over (task t.tasks c.args.pid).place) = c.turn.ensures ∙ ap (λ b. turned k.processes c.args.pid reply b) c.is_over-is_over.ensures in
+    let right = subst (λ (z : World). IsRight g.D.Disk k.opening.value t z) (sym made)
+    (right_turned g.D.Disk k.opening.value k.store k.processes c.self.invariant.right h.well c.args.pid h.within c.in-Before.op h.mine c.known.ensures.store t c.in-Before.group h.stands reply steps (h.agreed (progress.Turned reply) c.in-Turned.is refl)) in
     record {
-      right = subst (λ (z : World). IsRight g.D.Disk k.opening.value t z) (sym made)
-          (right_turned g.D.Disk k.opening.value k.store k.processes c.self.invariant.right h.well c.args.pid h.within c.in-Before.op h.mine c.known.ensures.store t c.in-Before.group h.stands reply steps (h.agreed (progress.Turned reply) c.in-Turned.is refl));
+      right = right;
+      since = since g (goal.at.invariant_of-self-in-Turned g c).After-known-2 (progress.Turned reply) c.turn.new.self c.in-Turned.is made right;
       ports = subst (λ (n : ℕ). ArePorts g.I.Intake g.H.Herald k.intake k.herald n c.turn.new.self) (sym steps.groups.committed)
           (ports_turned g.I.Intake g.H.Herald k.intake k.herald k.store.volume.log.committed k.processes c.turn.new.self c.args.pid c.in-Before.group c.in-Before.op reply (is_over (task t.tasks c.args.pid).place) c.self.invariant.ports h.within h.stands made);
     }
@@ -96,9 +110,11 @@ invariant_of-self-in-Fault g c =
     let k = c.self.inside in
     let h = head g (goal.at.invariant_of-self-in-Fault g c).After-known-2 in
     let steps = h.steps (progress.Fault c.in-Fault.field-0) c.in-Fault.is in
+    let right = right_fault g.D.Disk k.opening.value k.store k.processes c.self.invariant.right h.well c.args.pid h.within c.in-Before.op h.mine c.known.ensures.store c.step-progress.new.self c.in-Before.group h.stands c.in-Fault.field-0
+    (survives_reading g.D.Disk k.opening.value k.store c.step-progress.new.self g.met.D.Disk.counts_now steps.reads.device h.well c.known.ensures.survives) steps in
     record {
-      right = right_fault g.D.Disk k.opening.value k.store k.processes c.self.invariant.right h.well c.args.pid h.within c.in-Before.op h.mine c.known.ensures.store c.step-progress.new.self c.in-Before.group h.stands c.in-Fault.field-0
-          (survives_reading g.D.Disk k.opening.value k.store c.step-progress.new.self g.met.D.Disk.counts_now steps.reads.device h.well c.known.ensures.survives) steps;
+      right = right;
+      since = since g (goal.at.invariant_of-self-in-Fault g c).After-known-2 (progress.Fault c.in-Fault.field-0) k.processes c.in-Fault.is refl right;
       ports = subst (λ (n : ℕ). ArePorts g.I.Intake g.H.Herald k.intake k.herald n k.processes) (sym steps.groups.committed) c.self.invariant.ports;
     }
 
