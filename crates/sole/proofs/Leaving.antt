@@ -1,6 +1,6 @@
 -- What a stop in the midst of a call leaves.
-use Rattle.std.proofs.Common.{◌≡◌, ◌∙◌, ◌≤◌, ℕ, zero, suc, Bool, true, false, cond, ◌&&◌, leb, List, [], ◌∷◌, ◌++◌, Option, Some, None, refl, sym, ap, subst, inl, inr, ⊎_elim}
-use Rattle.std.specs.Prelude.{◌⊎◌, Result, Ok, Err}
+use Rattle.std.proofs.Common.{◌≡◌, ◌∙◌, ◌≤◌, ℕ, Bool, true, false, cond, ◌&&◌, leb, List, [], ◌∷◌, ◌++◌, Option, Some, None, refl, sym, ap, subst, inl, inr, ⊎_elim}
+use Rattle.std.specs.Prelude.{◌⊎◌, Result, Ok}
 use Rattle.blocks.specs.Disk.{Image, LeavesOnly}
 use Rattle.blocks.specs.declared.disk.Disk.{Ghosts}
 use Rattle.model.specs.declared.types.image.Form.{Form}
@@ -13,43 +13,16 @@ use Rattle.model.specs.Layout.{form_of, inode_count_of}
 use Rattle.model.specs.Log.{recovered}
 use Rattle.model.specs.Operations.{after}
 use Rattle.model.specs.Lemmas.Runs.{and_then_some, replays_in_parts}
-use Rattle.journal.specs.Keeps.{KeepsBetween, most_of}
+use Rattle.journal.specs.Keeps.{KeepsBetween}
+use Rattle.journal.specs.Most.{most_of}
 use Rattle.journal.specs.Lemmas.Kept.{kept-append}
-use Rattle.kernel.specs.Lemmas.Turns.{runs_on_none, runs_on_step, runs_on_then}
-use Rattle.kernel.specs.Runs.{RunsOn}
 use Rattle.kernel.specs.declared.types.Step.{Step}
-use Rattle.kernel.specs.declared.types.Step.TheVariants as step
 use Rattle.sole.specs.declared.fault.CallFault.{CallFault}
 use Rattle.sole.specs.Calls.{KeepsCall, MayReply, image_on}
-use Rattle.sole.specs.Stepping.{Plain, MakesPlainStep, Moves, plain_herald, plain_queues}
-use Rattle.sole.proofs.Causes.{last_same}
-use Rattle.sole.proofs.Called.{IsAnswered, IsCall, call_lists, with_intake}
-use Rattle.sole.proofs.Rest.{IsSettledDisk, kept_before, same_form}
+use Rattle.sole.specs.Stepping.{Plain}
+use Rattle.sole.proofs.Called.{IsAnswered, IsCall, call_lists, call_opening, call_runs, last_same}
+use Rattle.sole.proofs.Rest.{IsSettledDisk, kept_before, same_form, settled_disk}
 use Rattle.sole.proofs.Stages.{ListIs}
-
-module _ {D N : Type 0} (disk : Ghosts D N) where
-  runs_moves : (count : ℕ) (k m n : Plain D) → RunsOn disk k m → Moves (MakesPlainStep disk 0) count m n → RunsOn disk k n
-  unfolding Moves
-  runs_moves zero k m n runs moves = subst (λ (o : Plain D). RunsOn disk k o) (sym moves) runs
-  runs_moves (suc count) k m n runs (mid, made, moves) =
-      runs_moves count k mid n (runs_on_then disk plain_queues plain_herald k m mid runs (runs_on_step disk plain_queues plain_herald 0 step.Moved m mid made)) moves
-
-  name_moves : (count : ℕ) (k m : Plain D) → Moves (MakesPlainStep disk 0) count k m → disk.name m.store.volume.device ≡ disk.name k.store.volume.device
-  unfolding Moves
-  name_moves zero k m moves = ap (λ (o : Plain D). disk.name o.store.volume.device) moves
-  name_moves (suc count) k m (mid, made, moves) = name_moves count mid m moves ∙ made.acts.device.name
-
-  -- a call's steps lose no committed group
-  pub call_runs : (op : Op) (r : Step) (k m : Plain D) (call : IsCall disk op r k m) → RunsOn disk (with_intake k call.i) m
-  call_runs op r k m call =
-      let l = with_intake k call.i in
-      runs_on_then disk plain_queues plain_herald l call.makes.mid m
-      (runs_moves call.makes.moved l l call.makes.mid (runs_on_none disk plain_queues plain_herald l call.known_then.keeps) call.makes.moves)
-      (runs_on_step disk plain_queues plain_herald 0 r call.makes.mid m call.makes.made)
-
-  -- and the disk is the same one
-  pub call_names : (op : Op) (r : Step) (k m : Plain D) → IsCall disk op r k m → disk.name m.store.volume.device ≡ disk.name k.store.volume.device
-  call_names op r k m call = call.makes.made.acts.device.name ∙ name_moves call.makes.moved (with_intake k call.i) call.makes.mid call.makes.moves
 
 -- what is kept with one entry more: nothing more, or this entry
 one_kept : (form : Form) (files last : Files) (e : Entry) (b : Bool) → replay form files (cond b (e ∷ []) []) ≡ Some last
@@ -64,25 +37,27 @@ one_kept form files last e true run = by_reply e.reply refl
     by_reply None is = let f = found None is in absurd (cc f.1)
     by_reply (Some r) is = let f = found (Some r) is in inr (r, is, f.1 ∙ f.2)
 
-module _ {D N : Type 0} (disk : Ghosts D N) (op : Op) (k m : Plain D) (was : IsSettledDisk disk k) (result : Result Reply CallFault)
-    (may : (e : Entry) (r : Reply) → m.world.journal.list ≡ k.world.journal.list ++ e ∷ [] → e.reply ≡ Some r → MayReply result r) (opening : m.opening ≡ k.opening) where
-  x : Image
+module _ {D N : Type 0} (disk : Ghosts D N) (has_now : (d : D) → disk.leaves d (disk.moment d) (disk.image d)) (op : Op) (r : Step) (k m : Plain D) (call : IsCall disk op r k m) (result : Result Reply CallFault)
+    (may : (e : Entry) (r : Reply) → m.world.journal.list ≡ k.world.journal.list ++ e ∷ [] → e.reply ≡ Some r → MayReply result r) where
+  abbrev x : Image
   x = image_on disk.image k
 
-  form : Form
+  abbrev form : Form
   form = form_of (disk.image k.opening)
 
-  start : Files
+  abbrev start : Files
   start = files_of (disk.image k.opening)
 
-  n : ℕ
+  abbrev n : ℕ
   n = inode_count_of (disk.image k.opening)
 
-  Leaves : Image → Type 0
+  abbrev Leaves : Image → Type 0
   Leaves z = (files_of (recovered z) ≡ files_of x) ⊎ ((r : Reply) × MayReply result r × (after (form_of x) (files_of x) op r ≡ Some (files_of (recovered z))))
 
+  was : IsSettledDisk disk k
+  was = settled_disk disk has_now k call.known call.rests.well call.rests.one call.rests.idle
+
   kept_after : (c : ℕ) (z : Image) → k.store.volume.log.committed ≤ c → ListIs op k.world.journal.list m.world.journal.list → replay form start (kept n m.world.journal.list c) ≡ Some (files_of (recovered z)) → Leaves z
-  unfolding x form start n Leaves
   kept_after c z low (inl same) run =
       let before : Some (files_of x) ≡ Some (files_of (recovered z)) = sym (kept_before disk k was c low) ∙ ap (λ (es : List Entry). replay form start (kept n es c)) (sym same) ∙ run in
       inl (cc before)
@@ -103,20 +78,18 @@ module _ {D N : Type 0} (disk : Ghosts D N) (op : Op) (k m : Plain D) (was : IsS
       ]
 
   keeps_call : (most : ℕ) (z : Image) → ListIs op k.world.journal.list m.world.journal.list → KeepsBetween k.store.volume.log.committed most (disk.image m.opening) m.world.journal.list z → KeepsCall x op result z
-  unfolding x form start n Leaves
   keeps_call most z lists kept_so =
       record {
         log = kept_so.keeps.log;
         sound = kept_so.keeps.sound;
         files = kept_after kept_so.groups z kept_so.low lists
-            (subst (λ (d : D). replay (form_of (disk.image d)) (files_of (disk.image d)) (kept (inode_count_of (disk.image d)) m.world.journal.list kept_so.groups) ≡ Some (files_of (recovered z))) opening kept_so.keeps.files);
+            (subst (λ (d : D). replay (form_of (disk.image d)) (files_of (disk.image d)) (kept (inode_count_of (disk.image d)) m.world.journal.list kept_so.groups) ≡ Some (files_of (recovered z))) (call_opening disk op r k m call) kept_so.keeps.files);
       }
 
   -- a stop in the midst of a call
-  pub call_leaves : (r : Step) → IsCall disk op r k m → LeavesOnly disk.moment disk.leaves k.store.volume.device m.store.volume.device (KeepsCall (image_on disk.image k) op result)
-  unfolding x
-  call_leaves r call =
-      let leaves = (call_runs disk op r k m call).leaves in
+  pub call_leaves : LeavesOnly disk.moment disk.leaves k.store.volume.device m.store.volume.device (KeepsCall (image_on disk.image k) op result)
+  call_leaves =
+      let leaves = (call_runs disk op r k m call).stop.leaves in
       let lists = call_lists disk op r k m call in
       record {
         later = leaves.later;
@@ -125,13 +98,9 @@ module _ {D N : Type 0} (disk : Ghosts D N) (op : Op) (k m : Plain D) (was : IsS
         keeps = leaves.keeps;
       }
 
--- any reply may come where none was given
-pub may_any : (cause : CallFault) (es list : List Entry) (e : Entry) (r : Reply) → list ≡ es ++ e ∷ [] → e.reply ≡ Some r → MayReply (Err cause) r
-may_any cause es list e r is replied = tt
-
--- and only that which was given
+-- only the reply that was given may have come
 pub may_given : {D : Type 0} (op : Op) (k m : Plain D) (is : IsAnswered op k m) (e : Entry) (r : Reply) → m.world.journal.list ≡ k.world.journal.list ++ e ∷ [] → e.reply ≡ Some r → MayReply (Ok is.answer.reply) r
 may_given op k m is e r list replied =
-    let entry : e ≡ is.entry = last_same k.world.journal.list e is.entry (sym list ∙ is.list) in
+    let entry : e ≡ is.entry = last_same k.world.journal.list k.world.journal.list e is.entry (sym list ∙ is.list) in
     let both : Some r ≡ Some is.answer.reply = sym replied ∙ ap (λ (f : Entry). f.reply) entry ∙ is.replied in
     cc both

@@ -1,10 +1,9 @@
 pub mod Steps
-pub mod Causes
+pub mod Stages
+pub mod Called
+pub mod Idle
 pub mod Searches
 pub mod Shorts
-pub mod Stages
-pub mod Unshut
-pub mod Called
 pub mod Unanswered
 pub mod Rest
 pub mod Leaving

@@ -19,19 +19,19 @@ use Rattle.model.specs.Operations.{after}
 use Rattle.model.specs.Soundness.{IsSound}
 use Rattle.model.specs.Lemmas.Log.{recovered_empty}
 use Rattle.model.specs.Lemmas.Runs.{and_then_some, replays_in_parts}
-use Rattle.ports.specs.Queues.{waiting}
 use Rattle.ports.specs.declared.queues.QueueIntake.{QueueIntake}
 use Rattle.journal.specs.declared.types.At.TheVariants as at
-use Rattle.journal.specs.Keeps.{AreUpTo, KeepsNow, most_of}
+use Rattle.journal.specs.Keeps.{AreUpTo, KeepsNow}
+use Rattle.journal.specs.Most.{most_of}
 use Rattle.journal.specs.Lemmas.Kept.{kept_up_to}
 use Rattle.journal.specs.Processes.{process}
 use Rattle.kernel.specs.Known.{Known}
 use Rattle.kernel.specs.declared.types.Step.{Step}
 use Rattle.kernel.specs.declared.types.Step.TheVariants as step
 use Rattle.sole.specs.Calls.{Calls, IsWhole, KeepsFiles, image_on}
-use Rattle.sole.specs.Stepping.{MakesSteps, Plain, plain_herald, plain_queues}
-use Rattle.sole.proofs.Causes.{all_idle, current, long, super}
-use Rattle.sole.proofs.Called.{IsAnswered, IsCall, with_intake}
+use Rattle.sole.specs.Stepping.{Plain, plain_herald, plain_queues}
+use Rattle.sole.proofs.Idle.{all_idle, current, long, super}
+use Rattle.sole.proofs.Called.{IsAnswered, IsCall, call_opening, with_intake}
 use Rattle.sole.proofs.Searches.{lowest, none_free}
 use Rattle.sole.proofs.Shorts.{short_full}
 
@@ -47,7 +47,6 @@ pub record IsSettledDisk {D N : Type 0} (disk : Ghosts D N) (k : Plain D) : Type
       (kept (inode_count_of (disk.image k.opening)) k.world.journal.list k.store.volume.log.committed)
       ≡ Some (files_of (image_on disk.image k))
   pub groups : AreUpTo k.store.volume.log.committed k.world.journal.list
-  pub unopened : k.store.volume.log.outstanding ≡ 0
 
 pub settled_disk : {D N : Type 0} (disk : Ghosts D N) (has_now : (d : D) → disk.leaves d (disk.moment d) (disk.image d)) (k : Plain D) → Known disk plain_queues plain_herald k → k.store.volume.fault ≡ None → length k.world.processes ≡ 1 → (process k.world 0).at ≡ at.Idle → IsSettledDisk disk k
 settled_disk disk has_now k known well one stands =
@@ -63,7 +62,7 @@ settled_disk disk has_now k known well one stands =
     let settled : l.committed ≡ l.opened = at_rest.settled rests.none rests.quiet in
     let clear : logged_count x ≡ 0 = at_rest.clear rests.quiet in
     let same : recovered x ≡ x = recovered_empty x clear in
-    let now = known.keeps x (has_now k.store.volume.device) in
+    let now = known.stop.keeps x (has_now k.store.volume.device) in
     let groups : now.between.groups ≡ l.committed = now.told ∙ ap (λ (c : ℕ). if c == 0 then l.committed else most_of k.store.volume) clear in
     let keeps : Keeps (disk.image k.opening) es x l.committed = subst (λ (c : ℕ). Keeps (disk.image k.opening) es x c) groups now.between.keeps in
     let kept_files : replay form start (kept n es l.committed) ≡ Some (files_of x) = keeps.files ∙ ap (λ (y : Image). Some (files_of y)) same in
@@ -75,7 +74,6 @@ settled_disk disk has_now k known well one stands =
       run = at_rest.idle idle_all ∙ sym current_files ∙ ap (λ (c : ℕ). replay form start (kept n es c)) (sym settled) ∙ kept_files;
       kept_run = kept_files;
       groups = subst (λ (c : ℕ). AreUpTo c es) (sym settled) known.journal.groups;
-      unopened = rests.none;
     }
 
 module _ {D N : Type 0} (disk : Ghosts D N) (k : Plain D) (was : IsSettledDisk disk k) where
@@ -87,7 +85,7 @@ module _ {D N : Type 0} (disk : Ghosts D N) (k : Plain D) (was : IsSettledDisk d
       ∙ was.kept_run
 
   -- so each image that a stop leaves then is recovered to these files
-  pub keeps_files : (z : Image) → KeepsNow k.store.volume (disk.image k.opening) k.world.journal.list z → KeepsFiles (image_on disk.image k) z
+  pub keeps_files : (z : Image) → KeepsNow k.store.volume.log.committed (most_of k.store.volume) (disk.image k.opening) k.world.journal.list z → KeepsFiles (image_on disk.image k) z
   keeps_files z now =
       let keeps = now.between.keeps in
       let same : Some (files_of (recovered z)) ≡ Some (files_of (image_on disk.image k)) = sym keeps.files ∙ kept_before now.between.groups now.between.low in
@@ -105,7 +103,10 @@ one_entry form start mid last es e r before replied run =
     let found = and_then_some (after_answer form mid e.op (Some r)) (λ f. Some f) last (subst (λ (o : Option Reply). and_then (after_answer form mid e.op o) (λ f. Some f) ≡ Some last) replied one) in
     found.1 ∙ found.2
 
-module _ {D N : Type 0} (disk : Ghosts D N) (has_now : (d : D) → disk.leaves d (disk.moment d) (disk.image d)) (op : Op) (r : Step) (k m : Plain D) (call : IsCall disk op r k m) (so : r ≡ step.Answered) (opening : m.opening ≡ k.opening) (well : m.store.volume.fault ≡ None) (is : IsAnswered op k m) where
+module _ {D N : Type 0} (disk : Ghosts D N) (has_now : (d : D) → disk.leaves d (disk.moment d) (disk.image d)) (op : Op) (r : Step) (k m : Plain D) (call : IsCall disk op r k m) (so : r ≡ step.Answered) (well : m.store.volume.fault ≡ None) (is : IsAnswered op k m) where
+  opening : m.opening ≡ k.opening
+  opening = call_opening disk op r k m call
+
   was : IsSettledDisk disk k
   was = settled_disk disk has_now k call.known call.rests.well call.rests.one call.rests.idle
 
@@ -134,14 +135,11 @@ module _ {D N : Type 0} (disk : Ghosts D N) (has_now : (d : D) → disk.leaves d
   -- what an answered call has made, whatever its queues are then
   pub call_made : (i : QueueIntake) → Calls disk.image op k (with_intake m i) is.answer.reply
   call_made i =
-      let l = with_intake k call.i in
-      let waits : waiting call.i 0 ≡ op ∷ [] = call.waits ∙ ap (λ (xs : List Op). xs ++ op ∷ []) call.rests.waits in
-      let makes = subst (λ (q : Step). MakesSteps disk plain_queues plain_herald 0 q l m) so call.makes in
       record {
         files = call_files;
         whole = call_whole;
-        lowest = lowest disk l m call.known_then call.rests.one call.rests.idle call.rests.well op is.answer.reply waits makes is.entry is.list is.replied;
-        none = none_free disk l m call.known_then call.rests.one call.rests.idle call.rests.well op is.answer.reply waits makes is.entry is.list is.replied;
-        short = short_full disk l m call.known_then call.known_now call.rests.one is.one call.rests.idle is.idle call.rests.well well op is.answer.reply waits makes is.entry is.list is.replied;
+        lowest = lowest disk op r k m call so is (files_of (image_on disk.image m)) call_files;
+        none = none_free disk op r k m call so is;
+        short = short_full disk op r k m call so is well;
         one_more = is.one_more;
       }

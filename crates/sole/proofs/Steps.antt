@@ -32,6 +32,12 @@ moves_then steps (suc n) k m next moves made = (moves.0, moves.1, moves_then ste
 pub one_moved : {K : Type 0} (steps : Step → K → K → Type 0) (n : ℕ) (k m next : K) → Moves steps n k m → steps step.Moved m next → Moves steps (n + 1) k next
 one_moved steps n k m next moves made = subst (λ count. Moves steps count k next) (sym (add-one n)) (moves_then steps n k m next moves made)
 
+-- what each step keeps that moves, any number of them keep
+pub moves_keep : {K : Type 0} (steps : Step → K → K → Type 0) (P : K → Type 0) → ((k m : K) → steps step.Moved k m → P k → P m) → (n : ℕ) (k m : K) → Moves steps n k m → P k → P m
+unfolding Moves
+moves_keep steps P keeps zero k m is holds = subst P (sym is) holds
+moves_keep steps P keeps (suc n) k m (mid, made, moves) holds = moves_keep steps P keeps n mid m moves (keeps k mid made holds)
+
 -- who has steps left has an operation under way
 busy_with : (a : At) (left : ℕ) (l : LogState) → 0 < all_steps_left a left l → is_busy_at a ≡ true
 busy_with at.Idle left l some = let none : ⊥ = omega (arith, some) in absurd none
@@ -54,7 +60,7 @@ module _ {D N I M H : Type 0} (disk : disk_trait.Ghosts D N) (intake : intake_tr
   unfolding Moves
   moves_left zero k m some moves = some
   moves_left (suc n) k m some (mid, made, moves) =
-      let one = made.bound refl in
+      let one = made.progress.bound refl in
       let less = one.falls (busy_with (process k.world p).at _ k.store.volume.log some) in
       let rest = moves_left n mid m one.some moves in
       omega (arith, less, rest)
@@ -64,10 +70,14 @@ module _ {D N I M H : Type 0} (disk : disk_trait.Ghosts D N) (intake : intake_tr
   unfolding Moves
   moves_few zero k m moves = some_bound (form_of (disk.image k.opening))
   moves_few (suc n) k m (mid, made, moves) =
-      let one = made.bound refl in
+      let one = made.progress.bound refl in
       let few : left_of disk.image mid p < step_bound (form_of (disk.image k.opening)) = subst (λ (o : D). left_of disk.image mid p < step_bound (form_of (disk.image o))) made.acts.opening one.few in
       let rest = moves_left n mid m one.some moves in
       omega (arith, few, rest)
+
+  -- what any step keeps, all of them keep
+  pub steps_keep : (P : State D I H → Type 0) → ((r : Step) (k m : State D I H) → MakesStep disk intake herald p r k m → P k → P m) → (r : Step) (k m : State D I H) → MakesSteps disk intake herald p r k m → P k → P m
+  steps_keep P keeps r k m steps holds = keeps r steps.mid m steps.made (moves_keep (MakesStep disk intake herald p) P (keeps step.Moved) steps.moved k steps.mid steps.moves holds)
 
   -- steps up to one that doesn't move
   pub stops : (n : ℕ) (r : Step) (k mid m : State D I H) → Moves (MakesStep disk intake herald p) n k mid → MakesStep disk intake herald p r mid m → r ≢ step.Moved → MakesSteps disk intake herald p r k m

@@ -7,4 +7,4 @@ pub returns : goal.returns
 returns g c =
     let k = c.args.kernel.now in
     let was = settled_disk g.D.Disk g.met.D.Disk.has_now k c.known.ensures c.requires.well c.requires.one c.requires.idle in
-    started g.D.Disk.moment g.D.Disk.leaves k.store.volume.device (KeepsFiles (image_on g.D.Disk.image k)) (λ z left. keeps_files g.D.Disk k was z (c.known.ensures.keeps z left))
+    started g.D.Disk.moment g.D.Disk.leaves k.store.volume.device (KeepsFiles (image_on g.D.Disk.image k)) (λ z left. keeps_files g.D.Disk k was z (c.known.ensures.stop.keeps z left))
