@@ -1,22 +1,25 @@
 -- What a run of turns keeps.
-use Rattle.std.proofs.Common.{◌≡◌, ◌∙◌, ℕ, zero, suc, Bool, true, false, List, [], ◌∷◌, refl, sym, ap, subst, arith, inl, inr, ⊎_elim, None}
+use Rattle.std.proofs.Common.{◌≡◌, ◌∙◌, ℕ, zero, suc, Bool, true, false, List, [], ◌∷◌, length, refl, sym, ap, subst, arith, inl, inr, ⊎_elim, None}
 use Rattle.blocks.specs.Disk.{Image}
-use Rattle.blocks.specs.Lemmas.Moments.{joined}
 use Rattle.blocks.specs.declared.disk.Disk.{Ghosts}
 use Rattle.blocks.specs.declared.faulty.FaultyDisk.{FaultyDisk}
 use Rattle.blocks.specs.declared.faulty.Trap.{Trap}
+use Rattle.model.specs.Layout.{inode_count_of}
 use Rattle.model.specs.Log.{is_lawful_log, recovered}
 use Rattle.model.specs.Lemmas.Recovery.{logged_count-left, recovers_once}
 use Rattle.model.specs.Lemmas.Soundness.{verdict_sound}
 use Rattle.model.specs.Verdict.{verdict}
 use Rattle.wal.specs.Lemmas.Commits.{empty_lawful}
 use Rattle.wal.specs.Recovery.{LeavesIfCalm, RecoversAs}
-use Rattle.journal.specs.Keeps.{KeepsBetween, most_of}
+use Rattle.journal.specs.Keeps.{KeepsBetween}
+use Rattle.journal.specs.Most.{most_of}
+use Rattle.journal.specs.Own.{KeepsOwn}
+use Rattle.clients.specs.Backlogs.{ops_of}
 use Rattle.kernel.specs.declared.types.Step.{Step}
 use Rattle.kernel.specs.declared.types.Step.TheVariants as step
 use Rattle.kernel.specs.Lemmas.Turns.{Keeps, runs_on_none, runs_on_step, runs_on_then}
 use Rattle.kernel.specs.Runs.{RunsOn}
-use Rattle.opening.specs.Lemmas.Keeping.{leaves_wider, recovers_kept}
+use Rattle.journal.specs.Lemmas.Leaving.{kept_whole}
 use Rattle.scripts.specs.declared.schedule.Word.{Word}
 use Rattle.scripts.specs.declared.schedule.Word.TheVariants as word
 use Rattle.scripts.specs.declared.script.Task.{Task}
@@ -24,7 +27,7 @@ use Rattle.texts.specs.declared.events.Event.{Event}
 use Rattle.player.specs.declared.player.Player.{Player}
 use Rattle.texts.specs.Events.{is_last}
 use Rattle.player.specs.Opening.{IsPlayedOn, IsReadyOver, KeepsSome}
-use Rattle.player.specs.Stepping.{Ringed, MakesRingedStep, MakesSteps, MakesTurn, MakesTurns, Moves, board_herald, ring_ends}
+use Rattle.player.specs.Stepping.{KeepOps, KeepsOfSources, Ringed, MakesRingedStep, MakesSteps, MakesTurn, MakesTurns, Moves, board_herald, ring_ends}
 use Rattle.player.specs.Turns.{IfLast}
 use Rattle.player.proofs.Disks.{faulty}
 
@@ -40,7 +43,7 @@ module _ {D N : Type 0} (disk : Ghosts D N) where
   -- where only the queues changed
   keeps_queues : (k m n : Ringed D) → KeepsOn disk k m → n ≡ record m { intake = n.intake } → KeepsOn disk k n
   keeps_queues k m n kept same = subst (λ (o : Ringed D). KeepsOn disk k o) (sym same) (record {
-    runs = record { opening = kept.runs.opening; many = kept.runs.many; shut = kept.runs.shut; keeps = kept.runs.keeps; grows = kept.runs.grows; leaves = kept.runs.leaves };
+    runs = record { opening = kept.runs.opening; many = kept.runs.many; shut = kept.runs.shut; grows = kept.runs.grows; stop = kept.runs.stop };
     name = kept.name;
   })
 
@@ -91,32 +94,27 @@ module _ {D N : Type 0} (below : Ghosts D N) (has_now : (d : D) → below.leaves
   abbrev first : D
   first = player.kernel.store.volume.device.inner
 
-  -- the image that the recovery left, and so all that are recovered to it, keep some of the groups
-  first_kept : KeepsSome (faulty below) last.kernel (below.image first)
-  first_kept =
-      let k = runs.leaves.each (below.image first) (runs.leaves.keeps ((faulty below).moment player.kernel.store.volume.device) (below.image first) (omega arith) (has_now first)) in
-      record { groups = k.groups; low = omega arith; high = k.high; keeps = k.keeps }
-
   recovers_first : below.image first ≡ recovered (below.image d)
   recovers_first = ap (λ s. below.image s.volume.device.inner) ready.opened.store ∙ ready.opened.recovers ∙ recovers_once (below.image d)
 
-  alike_kept : (x : Image) → RecoversAs (below.image d) x → KeepsSome (faulty below) last.kernel x
-  alike_kept x alike = recovers_kept 0 _ _ (below.image d) (below.image first) x _ ready.sound recovers_first alike first_kept
-
   -- what a run makes of a disk that a player was opened over
-  pub played_on : (e : D) → e ≡ last.kernel.store.volume.device.inner → (faulty below).name last.kernel.store.volume.device ≡ (faulty below).name player.kernel.store.volume.device → IsPlayedOn below (faulty below) d e player last
-  played_on e is name = record {
+  pub played_on : (e : D) → e ≡ last.kernel.store.volume.device.inner → (faulty below).name last.kernel.store.volume.device ≡ (faulty below).name player.kernel.store.volume.device
+      → length player.kernel.world.processes ≡ processes → KeepOps player.sources.items last.sources.items → KeepsOfSources (faulty below) last.kernel (length last.kernel.world.processes) last.sources.items
+      → IsPlayedOn below (faulty below) d e tasks processes player last
+  played_on e is name many ops own = record {
     now = is;
     keeps = runs;
+    own = subst (λ n. KeepsOwn (inode_count_of ((faulty below).image last.kernel.opening)) last.kernel.world.journal.list n (λ p. ops_of p tasks)) (runs.many ∙ many)
+        (own (λ p. ops_of p tasks) (ops (λ p. ops_of p tasks) (λ p s at. (ready.opened.sources.each p s at).all)));
     name = ap below.name is ∙ ap (λ n. n.0) name ∙ ready.name;
     leaves = subst (λ o. LeavesIfCalm below d o P) (sym is)
-        (λ calm. joined below.moment below.leaves d first last.kernel.store.volume.device.inner P (leaves_wider below.moment below.leaves d first (RecoversAs (below.image d)) P alike_kept (ready.leaves calm))
+        (kept_whole below has_now d first last.kernel.store.volume.device.inner (most_of last.kernel.store.volume) ((faulty below).image last.kernel.opening) last.kernel.world.journal.list ready.sound recovers_first
         (record {
-          later = runs.leaves.later;
-          each = λ x left. lower x (runs.leaves.each x left);
-          before = λ t x le left. ⊎_elim (λ was. inl was) (λ k. inr (lower x k)) (runs.leaves.before t x le left);
-          keeps = runs.leaves.keeps;
-        }));
+          later = runs.stop.leaves.later;
+          each = λ x left. lower x (runs.stop.leaves.each x left);
+          before = λ t x le left. ⊎_elim (λ was. inl was) (λ k. inr (lower x k)) (runs.stop.leaves.before t x le left);
+          keeps = runs.stop.leaves.keeps;
+        }) ready.leaves);
   }
     where
       P : Image → Type 0

@@ -6,3 +6,4 @@ mod Disks
 pub mod Keeping
 pub mod Seats
 pub mod Shown
+pub mod Owning

@@ -26,7 +26,7 @@ use Rattle.player.specs.Stepping.{Ringed}
 use Rattle.texts.specs.declared.refusal.Refusal.{Refusal}
 use Rattle.player.specs.declared.player.Player.{Player}
 use Rattle.player.proofs.Disks.{faulty}
-use Rattle.opening.specs.Lemmas.Keeping.{leaves_wider}
+use Rattle.journal.specs.Lemmas.Leaving.{leaves_wider}
 use Rattle.player.proofs.Keeping.{recovers_before}
 
 -- a player whose kernel was opened over new rings

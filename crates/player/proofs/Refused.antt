@@ -116,7 +116,7 @@ opening_of_replay Output opens = absurd opens
 
 -- what a run that was refused is to the whole replay
 module _ {D N : Type 0} (below : Ghosts D N) (disk : Ghosts (FaultyDisk D) (N × Trap)) (d e : D) (tasks : List Task) (processes : ℕ) (words : List Word) (stop s base : ℕ) (same : s ≡ stop) (text printed : Option (List ℕ)) (player last : Player D N)
-    (ready : IsReadyOver below disk d tasks processes s player) (counts : base ≡ disk.write_count player.kernel.store.volume.device) (played : IsPlayedOn below disk d e player last) where
+    (ready : IsReadyOver below disk d tasks processes s player) (counts : base ≡ disk.write_count player.kernel.store.volume.device) (played : IsPlayedOn below disk d e tasks processes player last) where
   pub replayed : (fault : Option DeviceFault) → RunsTo disk s base words player last fault text printed → Replays below disk d e tasks processes words stop fault text printed
   replayed fault runs = record {
     player = player;

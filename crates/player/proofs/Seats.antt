@@ -59,6 +59,14 @@ low_in {D} {N} p old new low same seated =
 pub same_many : {D : Type 0} (k m : Ringed D) → HasSame k m → length m.world.processes ≡ length k.world.processes
 same_many {D} k m same = ap (λ (n : Ringed D). length n.world.processes) same
 
+-- nothing but its ends of the rings changed, and then again
+pub same_still : {D : Type 0} (k l m : Ringed D) → HasSame k l → HasSame l m → HasSame k m
+same_still {D} k l m before here = here ∙ ap (λ (s : Ringed D). record s { intake = m.intake }) before
+
+-- and its disk did not
+pub same_inner : {D : Type 0} (k m : Ringed (FaultyDisk D)) → HasSame k m → m.store.volume.device.inner ≡ k.store.volume.device.inner
+same_inner {D} k m same = ap (λ (s : Ringed (FaultyDisk D)). s.store.volume.device.inner) same
+
 none_known : (known : List Answer) → (0 < length known → ⊥) → known ≡ []
 none_known [] never = refl
 none_known (a ∷ known) never = absurd (never (omega arith))

@@ -61,7 +61,7 @@ module _ {D N I M H : Type 0} (disk : disk_trait.Ghosts D N) (intake : intake_tr
   unfolding Moves
   moves_left zero k m some moves = some
   moves_left (suc n) k m some (mid, made, moves) =
-      let one = made.bound refl in
+      let one = made.progress.bound refl in
       let less = one.falls (busy_with (process k.world p).at _ k.store.volume.log some) in
       let rest = moves_left n mid m one.some moves in
       omega (arith, less, rest)
@@ -71,7 +71,7 @@ module _ {D N I M H : Type 0} (disk : disk_trait.Ghosts D N) (intake : intake_tr
   unfolding Moves
   moves_few zero k m moves = some_bound (form_of (disk.image k.opening))
   moves_few (suc n) k m (mid, made, moves) =
-      let one = made.bound refl in
+      let one = made.progress.bound refl in
       let few : left_of disk.image mid p < step_bound (form_of (disk.image k.opening)) = subst (λ (o : D). left_of disk.image mid p < step_bound (form_of (disk.image o))) made.acts.opening one.few in
       let rest = moves_left n mid m one.some moves in
       omega (arith, few, rest)

@@ -17,11 +17,14 @@ use Rattle.model.specs.Log.{logged_count, recovered}
 use Rattle.model.specs.Verdict.{verdict}
 use Rattle.scripts.specs.declared.schedule.Word.{Word}
 use Rattle.scripts.specs.declared.script.Task.{Task}
-use Rattle.journal.specs.Keeps.{KeepsBetween, most_of}
+use Rattle.journal.specs.Keeps.{KeepsBetween}
+use Rattle.journal.specs.Own.{KeepsOwn}
+use Rattle.journal.specs.Most.{most_of}
 use Rattle.kernel.specs.Runs.{RunsOn}
 use Rattle.wal.specs.Recovery.{LeavesIfCalm, RecoversAs, writes_to_recover}
 use Rattle.player.specs.Afterwards.{IsUnready}
 use Rattle.board.specs.Boards.{asked}
+use Rattle.clients.specs.Backlogs.{ops_of}
 use Rattle.clients.specs.Sources.{AreNewSources}
 use Rattle.rings.specs.Callers.{intake_names}
 use Rattle.player.specs.Stepping.{BreaksOff, Ringed, RunsTo}
@@ -74,12 +77,15 @@ abbrev pub KeepsSome : {D N : Type 0} → Ghosts (FaultyDisk D) (N × Trap) → 
 KeepsSome disk k x = KeepsBetween 0 (most_of k.store.volume) (disk.image k.opening)
     k.world.journal.list x
 
--- What turns make of a player over the disk d, now e. No group that is committed is lost, and
--- whatever a stop leaves, from the recovery on, keeps some beginning of the run's groups.
+-- What turns make of a player of these operations over the disk d, now e. No group that is committed
+-- is lost, and whatever a stop leaves, from the recovery on, keeps some beginning of the run's
+-- groups; up to any group, what is kept of each process is a beginning of its changing operations.
 pub record IsPlayedOn {D N : Type 0} (below : Ghosts D N) (disk : Ghosts (FaultyDisk D) (N × Trap))
-    (d e : D) (player last : Player D N) : Type 0 where
+    (d e : D) (tasks : List Task) (processes : ℕ) (player last : Player D N) : Type 0 where
   pub now : e ≡ inner_of last.kernel.store.volume.device
   pub keeps : RunsOn disk player.kernel last.kernel
+  pub own : KeepsOwn (inode_count_of (disk.image last.kernel.opening))
+      last.kernel.world.journal.list processes (λ p. ops_of p tasks)
   pub name : below.name e ≡ below.name d
   pub leaves : LeavesIfCalm below d e (KeepsSome disk last.kernel)
 
@@ -94,7 +100,7 @@ pub record Replays {D N : Type 0} (below : Ghosts D N) (disk : Ghosts (FaultyDis
   pub ready : IsReadyOver below disk d tasks processes stop player
   pub runs : RunsTo disk stop (disk.write_count player.kernel.store.volume.device) words
       player last fault text printed
-  pub played : IsPlayedOn below disk d e player last
+  pub played : IsPlayedOn below disk d e tasks processes player last
 
 -- the same up to a turn behind which the output failed
 pub record ReplaysPart {D N : Type 0} (below : Ghosts D N)
@@ -104,7 +110,7 @@ pub record ReplaysPart {D N : Type 0} (below : Ghosts D N)
   pub last : Player D N
   pub ready : IsReadyOver below disk d tasks processes stop player
   pub breaks : BreaksOff disk stop words player last
-  pub played : IsPlayedOn below disk d e player last
+  pub played : IsPlayedOn below disk d e tasks processes player last
 
 -- the disk d, now e, wasn't recovered, or no kernel was opened over it; whatever a stop left is
 -- recovered as d is

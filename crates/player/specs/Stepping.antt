@@ -27,7 +27,9 @@ use Rattle.clients.specs.Sources.{HasHandedIn, HaveSourceRings, source_ops}
 use Rattle.clients.specs.declared.source.Source.{Source}
 use Rattle.kernel.specs.declared.types.Step.{Step}
 use Rattle.kernel.specs.declared.types.Step.TheVariants as step
-use Rattle.model.specs.Layout.{form_of}
+use Rattle.model.specs.Layout.{form_of, inode_count_of}
+use Rattle.model.specs.declared.types.operations.Op.{Op}
+use Rattle.journal.specs.Own.{KeepsFirst, KeepsOwn}
 use Rattle.kernel.specs.Bound.{step_bound}
 use Rattle.kernel.specs.State.{State}
 use Rattle.kernel.specs.Steps.{MakesStep}
@@ -156,6 +158,24 @@ pub record IsSeated {D N : Type 0} (player : Player D N) : Type 0 where
   pub watched : WatchOf player.board.now player.watch
   pub ringed : HaveSourceRings (intake_names player.kernel.intake) player.sources.items
   pub many : length player.sources.items ≡ length player.kernel.world.processes
+
+-- each source has these operations in all
+abbrev pub HaveOps : (ℕ → List Op) → List Source → Type 0
+HaveOps ops ss = (p : ℕ) (s : Source) → slice_get ss p ≡ Some s → source_ops s ≡ ops p
+
+-- each source has the operations that it had
+abbrev pub KeepOps : List Source → List Source → Type 0
+KeepOps old new = (ops : ℕ → List Op) → HaveOps ops old → HaveOps ops new
+
+-- what is kept of process p is a beginning of the changing operations of its source
+abbrev pub KeepsOfSource : {D N : Type 0} → Ghosts D N → ℕ → Ringed D → List Source → Type 0
+KeepsOfSource disk p k ss = (ops : ℕ → List Op) → HaveOps ops ss
+    → KeepsFirst (inode_count_of (disk.image k.opening)) k.world.journal.list p (ops p)
+
+-- the same of the first processes
+abbrev pub KeepsOfSources : {D N : Type 0} → Ghosts D N → Ringed D → ℕ → List Source → Type 0
+KeepsOfSources disk k processes ss = (ops : ℕ → List Op) → HaveOps ops ss
+    → KeepsOwn (inode_count_of (disk.image k.opening)) k.world.journal.list processes ops
 
 -- it still has its board and its watch
 abbrev pub HasItsWatch : {D N : Type 0} → Player D N → Player D N → Type 0

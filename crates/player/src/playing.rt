@@ -5,7 +5,7 @@ ghost use Rattle.std.specs.List.{list_all};
 ghost use Rattle.scripts.specs.Schedule.{is_word_of};
 ghost use Rattle.texts.specs.declared.events.Event.{Event as SomeEvent};
 ghost use Rattle.texts.specs.declared.refusal.Refusal.TheVariants as refusal;
-ghost use Rattle.player.specs.Stepping.{BreaksOff, IsBrokenOff, IsSeated, MakesTurns, PlaysTo, RunsTo, kernel_counts, kernel_fault};
+ghost use Rattle.player.specs.Stepping.{BreaksOff, IsBrokenOff, IsSeated, KeepOps, MakesTurns, PlaysTo, RunsTo, kernel_counts, kernel_fault};
 ghost use Rattle.kernel.specs.Runs.{RunsOn};
 ghost use Rattle.player.specs.Refusal.{OnRefusal};
 
@@ -38,6 +38,8 @@ pub fn run<D: Disk + Drop, O: Write>(
     ensures refused { IfErr result (IsBrokenOff ⟦<FaultyDisk<D> as Disk>⟧ stop base words.now
         player.old player.new (O.contents out.old) (O.contents out.new)) }
     ensures keeps { RunsOn ⟦<FaultyDisk<D> as Disk>⟧ player.old.kernel player.new.kernel }
+    ensures ops { KeepOps player.old.sources.items player.new.sources.items }
+    ensures seated { IsSeated player.new }
     ensures name { ⟦<FaultyDisk<D> as Disk>⟧.name player.new.kernel.store.volume.device
         ≡ ⟦<FaultyDisk<D> as Disk>⟧.name player.old.kernel.store.volume.device }
 {
@@ -89,6 +91,7 @@ fn play<D: Disk + Drop, O: Write>(
         stop words.now player.old player.new (O.contents out.old) (O.contents out.new)) }
     ensures err { IsOkUnless result refusal.Output }
     ensures breaks { BreaksOff ⟦<FaultyDisk<D> as Disk>⟧ stop words.now player.old player.new }
+    ensures seated { IsSeated player.new }
 {
     for word in words {
         let event = player.turn(*word, stop);

@@ -26,7 +26,8 @@ use texts::{KernelFault, Refusal};
 /// the run.
 ///
 /// Hands the disk back as the last turn left it. Whatever a stop at any moment leaves keeps each
-/// group that was committed then.
+/// group that was committed then; what is kept of each process, up to any group, is a beginning of
+/// its changing operations.
 ///
 /// # Errors
 ///
@@ -65,6 +66,7 @@ pub fn replay_disk<D: Disk + Drop, O: Write>(
         Err((refusal, disk)) => return (Err(refusal), disk),
     };
     let ran = run(&mut player, words, stop, base, out);
+    player.meet_all();
     (ran, player.into_disk())
 }
 

@@ -13,6 +13,8 @@ ghost use Rattle.player.specs.Stepping.{
   HasItsWatch,
   HasSame,
   IsSeated,
+  KeepsOfSource,
+  KeepsOfSources,
   MakesRingedStep,
   MakesSteps,
   MakesTurn,
@@ -211,12 +213,29 @@ impl<'a, D: Disk + Drop> Player<'a, D> {
         kernel.into_disk().into_inner()
     }
 
+    /// Lets both ends of the rings of each process see what the other did. So it is known that what
+    /// was taken of it is a beginning of its operations, and what is kept of them is one of the
+    /// changing ones.
+    pub(crate) fn meet_all(&mut self)
+        requires seated { IsSeated self.old }
+        ensures same { HasSame self.old.kernel self.new.kernel }
+        ensures own { KeepsOfSources ⟦<FaultyDisk<D> as Disk>⟧ self.old.kernel
+            (length self.old.kernel.world.processes) self.old.sources.items }
+    {
+        self.kernel.known();
+        for pid in 0..self.kernel.processes() as u32 {
+            self.meet(pid);
+        }
+    }
+
     // Lets both ends of a process's rings see what the other did.
     fn meet(&mut self, pid: u32)
         requires pid { pid < length self.old.kernel.world.processes }
         requires seated { IsSeated self.old }
         ensures meets { MeetsAt pid self.old.kernel.intake self.old.sources.items
             self.new.kernel.intake self.new.sources.items }
+        ensures own { KeepsOfSource ⟦<FaultyDisk<D> as Disk>⟧ pid self.old.kernel
+            self.old.sources.items }
         ensures same { HasSame self.old.kernel self.new.kernel }
         ensures watch { HasItsWatch self.old self.new }
         ensures seated { IsSeated self.new }

@@ -1,10 +1,25 @@
 -- Reports of processes, one after the other.
-use Rattle.std.proofs.Common.{◌≡◌, ℕ, zero, suc, List, [], ◌∷◌, ◌++◌, length, Some, refl, subst, ap, ◌∙◌}
-use Rattle.std.specs.Prelude.{slice_get}
+use Rattle.std.proofs.Common.{◌≡◌, ◌+◌, ℕ, zero, suc, List, [], ◌∷◌, ◌++◌, length, Option, Some, Result, Ok, Err, refl, subst, ap, sym, ◌∙◌}
+use Rattle.std.proofs.lemmas.List.{append_assoc, length-append}
+use Rattle.std.specs.Prelude.{IsOk, OnOk, slice_get}
+use Rattle.blocks.specs.Disk.{Image}
+use Rattle.blocks.specs.declared.disk.Disk as disk_trait
+use Rattle.ports.specs.declared.herald.Herald as herald_trait
+use Rattle.ports.specs.declared.intake.Intake as intake_trait
+use Rattle.rings.specs.declared.intake.RingIntake.{RingIntake}
 use Rattle.clients.specs.declared.client.Client.{Client}
+use Rattle.journal.specs.Own.{KeepsFirst}
+use Rattle.journal.specs.Lemmas.Own.{keeps_first}
+use Rattle.kernel.specs.Known.{Known}
 use Rattle.kernel.specs.State.{State}
+use Rattle.model.specs.Layout.{inode_count_of}
+use Rattle.model.specs.declared.types.operations.Answer.{Answer}
 use Rattle.model.specs.declared.types.operations.Op.{Op}
-use Rattle.runner.specs.Reports.{IsReport}
+use Rattle.sysring.specs.Accounts.{AccountsForAll}
+use Rattle.sysring.specs.declared.settling.Account.{Account}
+use Rattle.texts.specs.declared.refusal.Refusal.{Refusal}
+use Rattle.runner.specs.Reports.{IsReport, IsReported, PrintsReport}
+use Rattle.runner.proofs.Lines.{one_more_line}
 
 only : (x y : List ℕ) → Some x ≡ Some y → x ≡ y
 only x y is = cc is
@@ -52,3 +67,42 @@ report_still n k i p ops text r = record {
 -- nothing but the intake changed, and then again
 pub same_still : {D I H : Type 0} (k l m : State D I H) → l ≡ record k { intake = l.intake } → m ≡ record l { intake = m.intake } → m ≡ record k { intake = m.intake }
 same_still {D} {I} {H} k l m before here = here ∙ ap (λ (s : State D I H). record s { intake = m.intake }) before
+
+-- one report more, of a kernel whose intake has changed
+pub one_more_report : {D I H : Type 0} (image : D → Image) (k l : State D I H) → l ≡ record k { intake = l.intake } → (ops : ℕ → List Op) (p : ℕ) (mine : List Op) → mine ≡ ops p → (old mid new : Option (List ℕ))
+    → IsReported (inode_count_of (image k.opening)) k ops p old mid → PrintsReport (inode_count_of (image l.opening)) l p mine mid new → IsReported (inode_count_of (image k.opening)) k ops (p + 1) old new
+one_more_report {D} {I} {H} image k l same ops p mine are old mid new first (text, is, printed) =
+    let n = inode_count_of (image k.opening) in
+    let here : IsReport n k p mine text = report_still n k l.intake p mine text (subst (λ (m : State D I H). IsReport (inode_count_of (image m.opening)) m p mine text) same is) in
+    let its : IsReport n k p (ops p) text = subst (λ o. IsReport n k p o text) are here in
+    record {
+      reports = first.reports ++ text ∷ [];
+      count = length-append first.reports (text ∷ []) ∙ ap (λ m. m + 1) first.count;
+      each = each_more first.reports text (λ q t. IsReport n k q (ops q) t) first.each (subst (λ q. IsReport n k q (ops q) text) (sym first.count) its);
+      printed = one_more_line (λ t. t) first.reports text old mid new first.printed printed;
+    }
+
+-- what is kept of a process, of a kernel whose intake has changed
+pub own_still : {D I H : Type 0} (image : D → Image) (k l : State D I H) → l ≡ record k { intake = l.intake } → (p : ℕ) (mine ops : List Op) → mine ≡ ops
+    → KeepsFirst (inode_count_of (image l.opening)) l.world.journal.list p mine → KeepsFirst (inode_count_of (image k.opening)) k.world.journal.list p ops
+own_still {D} {I} {H} image k l same p mine ops are own =
+    subst (λ o. KeepsFirst (inode_count_of (image k.opening)) k.world.journal.list p o) are (subst (λ (m : State D I H). KeepsFirst (inode_count_of (image m.opening)) m.world.journal.list p mine) same own)
+
+-- where the reports before could not be printed, none is
+pub reports_then : (r before : Result (Unit {0}) Refusal) (A B C : Type 0) → (A → B → C) → OnOk before A → OnOk r (IsOk before × B) → OnOk r C
+reports_then (Ok _) (Ok _) A B C f a b = f a b.1
+reports_then (Ok _) (Err e) A B C f a b = absurd (cc b.0)
+reports_then (Err e) before A B C f a b = b
+
+-- the operations of a client, of which the first were handed in and the first of these taken
+taken_first : (ops submitted behind taken rest : List Op) → ops ≡ submitted ++ behind → submitted ≡ taken ++ rest → ops ≡ taken ++ (rest ++ behind)
+taken_first ops submitted behind taken rest one two = one ∙ ap (λ xs. xs ++ behind) two ∙ append_assoc taken rest behind
+
+-- what is kept of a process that is accounted for is a beginning of its client's operations
+pub account_own : {D N M H : Type 0} (disk : disk_trait.Ghosts D N) (intake : intake_trait.Ghosts RingIntake M) (herald : herald_trait.Ghosts H) (k : State D RingIntake H) → Known disk intake herald k
+    → (p : ℕ) (submitted : List Op) (answers : List Answer) (a : Account) → AccountsForAll (inode_count_of (disk.image k.opening)) k p submitted answers a → (ops behind : List Op) → ops ≡ submitted ++ behind
+    → KeepsFirst (inode_count_of (disk.image k.opening)) k.world.journal.list p ops
+account_own disk intake herald k known p submitted answers a accounts ops behind first =
+    let its = accounts.accounts in
+    keeps_first (inode_count_of (disk.image k.opening)) k.world.journal.list p its.history.taken (its.rest ++ behind) ops (λ c. known.beginnings p c its.history its.is)
+    (taken_first ops submitted behind its.history.taken its.rest first its.order)

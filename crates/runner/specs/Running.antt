@@ -10,10 +10,11 @@ use Rattle.model.specs.declared.types.operations.Op.{Op}
 use Rattle.wal.specs.Recovery.{LeavesIfCalm, RecoversAs}
 use Rattle.board.specs.declared.herald.BoardHerald.{BoardHerald}
 use Rattle.rings.specs.declared.intake.RingIntake.{RingIntake}
-use Rattle.journal.specs.Keeps.{KeepsNow}
+use Rattle.journal.specs.Keeps.{KeepsBetween, KeepsNow}
+use Rattle.journal.specs.Most.{most_of}
+use Rattle.journal.specs.Own.{KeepsOwn}
 use Rattle.kernel.specs.Known.{IsCurrent}
 use Rattle.kernel.specs.State.{State}
-use Rattle.sysring.specs.Frames.{KeepsSince}
 use Rattle.scripts.specs.declared.script.Task.{Task}
 use Rattle.clients.specs.Backlogs.{ops_of}
 use Rattle.opening.specs.Openings.{IsUnopened}
@@ -35,9 +36,10 @@ pub record IsServed {D N H : Type 0} (disk : Ghosts D N) (d e : D) (processes : 
   pub many : length m.world.processes ≡ processes
   pub now : e ≡ m.store.volume.device
   pub keeps : (x : Image) → disk.leaves e (disk.moment e) x
-      → KeepsNow m.store.volume (disk.image m.opening) m.world.journal.list x
+      → KeepsNow m.store.volume.log.committed (most_of m.store.volume) (disk.image m.opening) m.world.journal.list x
   pub current : IfNone m.store.volume.fault (IsCurrent disk.image m)
-  pub leaves : LeavesIfCalm disk d e (KeepsSince disk 0 m)
+  pub leaves : LeavesIfCalm disk d e (KeepsBetween 0 (most_of m.store.volume) (disk.image m.opening)
+      m.world.journal.list)
 
 -- what a kernel's processes came to was printed, and this fault is told of its disk
 pub record Ends {D I H : Type 0} (inode_count : ℕ) (k : State D I H) (ops : ℕ → List Op)
@@ -53,17 +55,31 @@ IsEndedBy inode_count k ops processes old new (Disk fault) =
 IsEndedBy inode_count k ops processes old new Output = ⊤
 IsEndedBy inode_count k ops processes old new r = ⊥
 
+-- up to any group, what is kept of each process is a beginning of its changing operations
+abbrev pub KeepsTasks : {D N H : Type 0} → Ghosts D N → List Task → ℕ → State D RingIntake H
+    → Type 0
+KeepsTasks disk tasks processes m = KeepsOwn (inode_count_of (disk.image m.opening))
+    m.world.journal.list processes (λ p. ops_of p tasks)
+
 -- The operations of a script were handed in over the disk d, now e, and what its processes came to
 -- was printed; this fault is told of the disk.
 pub record Runs {D N : Type 0} (disk : Ghosts D N) (d e : D) (tasks : List Task) (processes : ℕ)
     (fault : Option DeviceFault) (old new : Option (List ℕ)) : Type 0 where
   pub last : Ringed D
   pub served : IsServed disk d e processes last
+  pub own : KeepsTasks disk tasks processes last
   pub ends : Ends (inode_count_of (disk.image last.opening)) last (λ p. ops_of p tasks) processes
       fault old new
 
 -- the same where not all was printed
-pub record RunsPart {D N : Type 0} (disk : Ghosts D N) (d e : D) (processes : ℕ) : Type 0 where
+pub record RunsPart {D N : Type 0} (disk : Ghosts D N) (d e : D) (tasks : List Task)
+    (processes : ℕ) : Type 0 where
+  pub last : Ringed D
+  pub served : IsServed disk d e processes last
+  pub own : KeepsTasks disk tasks processes last
+
+-- a kernel was opened over the disk d, now e, and no thread could be started for it
+pub record IsUndriven {D N : Type 0} (disk : Ghosts D N) (d e : D) (processes : ℕ) : Type 0 where
   pub last : Ringed D
   pub served : IsServed disk d e processes last
 
@@ -81,8 +97,8 @@ abbrev pub IsNotRun : {D N : Type 0} → Ghosts D N → D → D → List Task �
     → Option (List ℕ) → Type 0 → Refusal → Type 0
 IsNotRun disk d e tasks processes old new none (Disk fault) =
     Runs disk d e tasks processes (Some fault) old new
-IsNotRun disk d e tasks processes old new none Output = RunsPart disk d e processes
-IsNotRun disk d e tasks processes old new none (Run fault) = RunsPart disk d e processes × none
+IsNotRun disk d e tasks processes old new none Output = RunsPart disk d e tasks processes
+IsNotRun disk d e tasks processes old new none (Run fault) = IsUndriven disk d e processes × none
 IsNotRun disk d e tasks processes old new none r = HasNotBegun disk d e processes r × none
 
 -- the refusals of a run: of its files, of the image, of the recovery, of the kernel's opening, of

@@ -1,6 +1,7 @@
 // What a run's processes were answered, and what became of their operations.
-ghost use Rattle.std.specs.Prelude.{◌≡◌, ◌<◌, ◌≤◌, Some, length, flat_map, OnOk, IsOkUnless};
+ghost use Rattle.std.specs.Prelude.{◌≡◌, ◌<◌, ◌≤◌, Some, length, flat_map, IsOk, OnOk, IsOkUnless};
 ghost use Rattle.std.specs.Io.KnownBytes.{Appends};
+ghost use Rattle.journal.specs.Own.{KeepsFirst, KeepsOwn};
 ghost use Rattle.model.specs.Layout.{inode_count_of};
 ghost use Rattle.ports.specs.History.{SameNames};
 ghost use Rattle.rings.specs.Callers.{caller_names, intake_names, unpolled};
@@ -18,7 +19,9 @@ use sysring::{Caller, RingIntake, account};
 use texts::{AccountLine, AnswerLine, Refusal, pass_on, print};
 
 /// Prints, process by process, a line for each answer and one for what became of its operations.
-/// There is a client for each process, with its rings.
+/// There is a client for each process, with its rings. Where the writer fails the processes behind
+/// are accounted for all the same: up to any group, what is kept of each is a beginning of the
+/// changing ones of its client's operations.
 ///
 /// # Errors
 ///
@@ -33,35 +36,46 @@ pub fn report<D: Disk, H: Herald, O: Write>(
     ensures reported { OnOk result (IsReported (inode_count_of (D.image kernel.old.opening))
         kernel.old (ops_at clients.items) (length clients.items)
         (O.contents out.old) (O.contents out.new)) }
+    ensures own { KeepsOwn (inode_count_of (D.image kernel.old.opening))
+        kernel.old.world.journal.list (length clients.items) (ops_at clients.items) }
     ensures same { kernel.new ≡ record kernel.old { intake = kernel.new.intake } }
     ensures err { IsOkUnless result Refusal.Output }
 {
     kernel.known();
+    let mut reported = Ok(());
     let mut pid = 0u32;
     for client in clients {
-        report_one(kernel, pid, client, out)?;
+        reported = report_one(kernel, pid, client, reported, out);
         pid += 1;
     }
+    reported?;
     pass_on(out)
 }
 
-// The same for one process.
+// The same for one process. Where the reports before it could not be printed, nothing is printed.
 fn report_one<D: Disk, H: Herald, O: Write>(
     kernel: &mut Kernel<D, RingIntake, H>,
     pid: u32,
     client: Client,
+    before: Result<(), Refusal>,
     out: &mut O,
 ) -> Result<(), Refusal>
     requires pid { pid < length kernel.old.world.processes }
     requires rings { intake_names kernel.old.intake pid ≡ Some (client_names client) }
-    ensures reported { OnOk result (PrintsReport (inode_count_of (D.image kernel.old.opening))
+    requires before { IsOkUnless before Refusal.Output }
+    ensures reported { OnOk result (IsOk before
+        × PrintsReport (inode_count_of (D.image kernel.old.opening))
         kernel.old pid (client_ops client) (O.contents out.old) (O.contents out.new)) }
+    ensures own { KeepsFirst (inode_count_of (D.image kernel.old.opening))
+        kernel.old.world.journal.list pid (client_ops client) }
     ensures same { kernel.new ≡ record kernel.old { intake = kernel.new.intake } }
     ensures names { SameNames (intake_names kernel.old.intake) (intake_names kernel.new.intake) }
     ensures err { IsOkUnless result Refusal.Output }
 {
+    kernel.known();
     let (caller, answers) = client.into_parts();
     let (account, caller) = account(kernel, pid, caller);
+    before?;
     print_answers(pid, answers.as_slice(), out)?;
     print_known(pid, caller, out)?;
     print(

@@ -2,6 +2,7 @@
 ghost use Rattle.std.specs.Prelude.{◌≡◌, ◌<◌, ℕ, false, length, All, IfOk, OnOk, IfErr, IfSome, None};
 ghost use Rattle.board.specs.Boards.{KeeperOf, WatchOf, published};
 ghost use Rattle.clients.specs.Clients.{AreSameClients, HaveRings, ops_at};
+ghost use Rattle.journal.specs.Own.{KeepsOwn};
 ghost use Rattle.kernel.specs.Known.{Known};
 ghost use Rattle.kernel.specs.Opening.{IsOpened};
 ghost use Rattle.model.specs.Layout.{inode_count_of};
@@ -42,7 +43,8 @@ impl Gate for NoGate {
 /// by process, a line for each answer and one for what became of the operations.
 ///
 /// Hands the disk back as the last step left it. Whatever a stop at any moment leaves keeps some of
-/// the groups that were committed, in order, and what one now leaves keeps all of them.
+/// the groups that were committed, in order, and what one now leaves keeps all of them; what is kept
+/// of each process, up to any group, is a beginning of its changing operations.
 ///
 /// # Errors
 ///
@@ -144,6 +146,8 @@ fn close<D: Disk + Drop, H: Herald, O: Write>(
     requires many { length clients.items ≡ length kernel.world.processes }
     requires rings { HaveRings (intake_names kernel.intake) clients.items }
     ensures disk { result.1 ≡ kernel.store.volume.device }
+    ensures own { KeepsOwn (inode_count_of (D.image kernel.opening)) kernel.world.journal.list
+        (length clients.items) (ops_at clients.items) }
     ensures ended { OnOk result.0 (Ends (inode_count_of (D.image kernel.opening)) kernel
         (ops_at clients.items) (length clients.items) None
         (O.contents out.old) (O.contents out.new)) }

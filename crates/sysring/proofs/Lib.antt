@@ -1,3 +1,2 @@
 mod Frames
 mod Sends
-mod Settled

@@ -40,7 +40,7 @@ module _ (D I H N M : RattleType) (g : disk.Ghosts D.Denot N.Denot) (i : intake.
   Kernel-send : IsSend D → IsSend I → IsSend H → IsSend (Kernel.the_row D I H N M g i h)
   Kernel-send d n e = let a = Store-send D N g d in search (sendable, parts) depth 20
 
-module _ (D H K N : RattleType) (g : disk.Ghosts D.Denot N.Denot) (h : herald.Ghosts H.Denot) (k : frame.Ghosts K.Denot) where
+module _ (D H K N : RattleType) (g : disk.Ghosts D.Denot N.Denot) (h : herald.Ghosts H.Denot) (k : frame.Ghosts K.Denot D.Denot H.Denot) where
   Framed-send : IsSend D → IsSend H → IsSend K → IsSend (Framed.the_row D H K N g h k)
   Framed-send d n e = search (sendable, crosses, rings.the_send, Kernel-send) depth 20
 

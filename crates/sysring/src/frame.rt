@@ -1,4 +1,4 @@
-// A kernel of which threads know over which image it was opened, and which rings it takes from.
+// A kernel of which threads know from which one it goes on.
 ghost use Rattle.std.specs.Prelude.{◌≡◌, ◌<◌, length};
 
 use blocks::Disk;
@@ -7,34 +7,29 @@ use ports::{Herald, Intake};
 use rings::RingIntake;
 use std::marker::{Brand, Model, PhantomData};
 
-/// What a kernel was when threads began to share it. A call that shares one picks it.
-pub trait Frame {
-    ghost use Rattle.sysring.specs.Frames.{Outset};
+/// The kernel that threads began to share, as it was then. A call that shares one picks it.
+pub trait Frame<D, H> {
+    ghost use Rattle.std.specs.Prelude.{Option};
+    ghost use Rattle.kernel.specs.State.{State};
+    ghost use Rattle.rings.specs.declared.intake.RingIntake.{RingIntake};
 
-    ghost outset: { Outset };
+    ghost outset: { Option (State D RingIntake H) };
 }
 
-impl Frame for Brand {
-    ghost use Rattle.std.specs.Prelude.{[], None};
+impl<D, H> Frame<D, H> for Brand {
+    ghost use Rattle.std.specs.Prelude.{None};
 
-    ghost outset = { record {
-      opening = [];
-      moment = 0;
-      committed = 0;
-      leaves = λ t x. ⊥;
-      processes = 0;
-      names = λ p. None;
-    } };
+    ghost outset = { None };
 }
 
 /// A kernel of that frame.
 #[derive(Drop)]
-pub struct Framed<D: Disk, H: Herald, K: Frame> {
+pub struct Framed<D: Disk, H: Herald, K: Frame<D, H>> {
     kernel: Kernel<D, RingIntake, H>,
     of: PhantomData<K>,
 }
 
-impl<D: Disk, H: Herald, K: Frame> Model for Framed<D, H, K> {
+impl<D: Disk, H: Herald, K: Frame<D, H>> Model for Framed<D, H, K> {
     ghost use Rattle.kernel.specs.State.{State};
     ghost use Rattle.rings.specs.declared.intake.RingIntake.{RingIntake};
     ghost use Rattle.sysring.specs.Frames.{IsFramed};
@@ -46,10 +41,10 @@ impl<D: Disk, H: Herald, K: Frame> Model for Framed<D, H, K> {
     ghost invariant = { λ f. IsFramed D.Disk K.outset f.kernel };
 }
 
-impl<D: Disk, H: Herald, K: Frame> Framed<D, H, K> {
+impl<D: Disk, H: Herald, K: Frame<D, H>> Framed<D, H, K> {
     ghost use Rattle.kernel.specs.Steps.{MakesStep};
     ghost use Rattle.rings.specs.declared.intake.RingIntake.{RingIntake};
-    ghost use Rattle.sysring.specs.Frames.{IsFramed};
+    ghost use Rattle.sysring.specs.Frames.{IsFramed, processes_in};
 
     // Puts a kernel into its frame.
     pub(crate) fn new(kernel: Kernel<D, RingIntake, H>) -> Framed<D, H, K>
@@ -72,7 +67,7 @@ impl<D: Disk, H: Herald, K: Frame> Framed<D, H, K> {
 
     /// A step of a process, as `Kernel::step` makes it.
     pub fn step(&mut self, pid: u32) -> Step
-        requires { pid < K.outset.processes }
+        requires { pid < processes_in K.outset }
         ensures { MakesStep D.Disk ⟦<RingIntake as Intake>⟧ H.Herald pid result self.old self.new }
     {
         self.kernel.step(pid)

@@ -45,9 +45,9 @@ impl Serving {
 /// Serves a kernel with so many workers, from 1 to 32, on threads of their own, while the calling
 /// thread does what `callers` does: it hands operations in, polls answers, and at last asks for a
 /// shutdown, without which the workers go on. It may ask whether they have ended, as they do after
-/// a fault of the disk. Hands the kernel back when both have ended: it is still the one that was
-/// opened over that image, with the same rings, and whatever a stop at any moment of it leaves
-/// keeps some of the groups that it has committed.
+/// a fault of the disk. Hands the kernel back when both have ended: it goes on from the one that was
+/// handed in, with the same rings, and no group that was committed then is lost, also by a stop at
+/// any moment since.
 ///
 /// None where no thread can be started: then nothing was done.
 pub fn serve_while<
@@ -78,7 +78,7 @@ pub fn serve_while<
 fn serve_under<
     D: Disk + Send,
     H: Herald + Send,
-    K: Frame + Send,
+    K: Frame<D, H> + Send,
     R: Threads + Wait + Clock + Sync,
     G: Gate + Sync,
     T,
@@ -107,7 +107,7 @@ fn serve_under<
 fn serve_beside<
     D: Disk + Send,
     H: Herald + Send,
-    K: Frame + Send,
+    K: Frame<D, H> + Send,
     R: Threads + Wait + Clock + Sync,
     G: Gate + Sync,
     T,

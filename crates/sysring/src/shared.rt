@@ -2,7 +2,7 @@
 ghost use Rattle.std.specs.Prelude.{◌<◌};
 ghost use Rattle.std.specs.Sync.Mutex.{mutex_guard_value};
 ghost use Rattle.kernel.specs.Known.{Known};
-ghost use Rattle.sysring.specs.Frames.{IsFramed};
+ghost use Rattle.sysring.specs.Frames.{IsFramed, processes_in};
 
 use crate::frame::{Frame, Framed};
 use blocks::Disk;
@@ -18,7 +18,7 @@ const LOOKS: u32 = 250;
 
 /// A kernel that threads share.
 #[derive(Drop)]
-pub struct Shared<D: Disk, H: Herald, K: Frame> {
+pub struct Shared<D: Disk, H: Herald, K: Frame<D, H>> {
     kernel: Mutex<Framed<D, H, K>>,
     // The steps that changed something, wrapping. It is written under the lock.
     changes: AtomicU64,
@@ -27,7 +27,7 @@ pub struct Shared<D: Disk, H: Herald, K: Frame> {
     changed: Condvar,
 }
 
-impl<D: Disk, H: Herald, K: Frame> Shared<D, H, K> {
+impl<D: Disk, H: Herald, K: Frame<D, H>> Shared<D, H, K> {
     /// Puts a lock round a kernel.
     pub fn new(kernel: Kernel<D, RingIntake, H>) -> Shared<D, H, K>
         requires { IsFramed D.Disk K.outset kernel }
@@ -41,7 +41,7 @@ impl<D: Disk, H: Herald, K: Frame> Shared<D, H, K> {
     }
 
     /// Gets the lock. Whoever had the kernel before: what is known of any kernel is true of it,
-    /// above all what a stop now leaves, and it is still the one that was opened over that image.
+    /// above all what a stop now leaves, and it goes on from the one that threads began to share.
     pub fn lock<R: Wait>(&self, rt: &R) -> MutexGuard<'_, Framed<D, H, K>>
         ensures known { Known D.Disk ⟦<RingIntake as Intake>⟧ H.Herald (mutex_guard_value result) }
         ensures framed { IsFramed D.Disk K.outset (mutex_guard_value result) }
@@ -76,7 +76,7 @@ impl<D: Disk, H: Herald, K: Frame> Shared<D, H, K> {
 
     // Makes a step of a process under the lock, and wakes all who wait where it changed something.
     pub(crate) fn step<R: Wait>(&self, rt: &R, pid: u32) -> Step
-        requires { pid < K.outset.processes }
+        requires { pid < processes_in K.outset }
     {
         let mut kernel = self.lock(rt);
         let step = kernel.step(pid);

@@ -1,6 +1,6 @@
 // The workers that make a shared kernel's steps.
 ghost use Rattle.std.specs.Prelude.{◌≡◌, ◌≤◌, ◌<◌, ◌^◌, true};
-ghost use Rattle.sysring.specs.Frames.{AreWorkers};
+ghost use Rattle.sysring.specs.Frames.{AreWorkers, processes_in};
 
 use crate::frame::Frame;
 use crate::shared::Shared;
@@ -52,7 +52,7 @@ enum Round {
 pub fn serve<
     D: Disk + Send,
     H: Herald + Send,
-    K: Frame + Send,
+    K: Frame<D, H> + Send,
     R: Threads + Wait + Clock + Sync,
     G: Gate + Sync,
 >(rt: &R, shared: &Shared<D, H, K>, workers: u32, gate: &G)
@@ -63,14 +63,14 @@ pub fn serve<
         thread::scope_env(),
         rt,
         |scope|
-            requires { AreWorkers workers × (processes ≡ K.outset.processes) }
+            requires { AreWorkers workers × (processes ≡ processes_in K.outset) }
         {
             let mut mine = 1u32;
             for worker in 1..workers {
                 let theirs = 1u32 << worker;
                 let started = scope.spawn(
                     move ||
-                        requires { AreWorkers workers × (processes ≡ K.outset.processes) }
+                        requires { AreWorkers workers × (processes ≡ processes_in K.outset) }
                     {
                         work(rt, shared, processes, theirs, workers, gate);
                     },
@@ -85,14 +85,17 @@ pub fn serve<
 }
 
 // How many processes there are.
-fn processes_of<D: Disk, H: Herald, K: Frame, R: Wait>(rt: &R, shared: &Shared<D, H, K>) -> u32
-    ensures { result ≡ K.outset.processes }
+fn processes_of<D: Disk, H: Herald, K: Frame<D, H>, R: Wait>(
+    rt: &R,
+    shared: &Shared<D, H, K>,
+) -> u32
+    ensures { result ≡ processes_in K.outset }
 {
     shared.lock(rt).kernel().processes() as u32
 }
 
 // Makes rounds of steps of the processes of some workers, until none of them goes on.
-fn work<D: Disk, H: Herald, K: Frame, R: Wait + Clock, G: Gate>(
+fn work<D: Disk, H: Herald, K: Frame<D, H>, R: Wait + Clock, G: Gate>(
     rt: &R,
     shared: &Shared<D, H, K>,
     processes: u32,
@@ -100,7 +103,7 @@ fn work<D: Disk, H: Herald, K: Frame, R: Wait + Clock, G: Gate>(
     workers: u32,
     gate: &G,
 )
-    requires { AreWorkers workers × (processes ≡ K.outset.processes) }
+    requires { AreWorkers workers × (processes ≡ processes_in K.outset) }
 {
     let mut rest = SHORTEST_REST;
     for _ in rt.forever() {
@@ -118,7 +121,7 @@ fn work<D: Disk, H: Herald, K: Frame, R: Wait + Clock, G: Gate>(
 }
 
 // Makes a step of each process of some workers.
-fn make_round<D: Disk, H: Herald, K: Frame, R: Wait, G: Gate>(
+fn make_round<D: Disk, H: Herald, K: Frame<D, H>, R: Wait, G: Gate>(
     rt: &R,
     shared: &Shared<D, H, K>,
     processes: u32,
@@ -126,7 +129,7 @@ fn make_round<D: Disk, H: Herald, K: Frame, R: Wait, G: Gate>(
     workers: u32,
     gate: &G,
 ) -> Round
-    requires { AreWorkers workers × (processes ≡ K.outset.processes) }
+    requires { AreWorkers workers × (processes ≡ processes_in K.outset) }
 {
     let mut over = true;
     let mut asleep = true;

@@ -2,6 +2,7 @@ use Rattle.std.proofs.Common.{◌≡◌, Err, rules, subst, sym, take}
 use Rattle.std.specs.Prelude.{IfErr}
 use Rattle.player.specs.Stepping.{IsBrokenOff}
 use Rattle.player.proofs.Keeping.{turns_keep}
+use Rattle.player.proofs.Owning.{turns_ops}
 use Rattle.player.proofs.Plays.{counts_printed}
 use Rattle.player.proofs.Refused.{broken_off, broken_output, on_ok_both}
 use Rattle.player.proofs.Disks.{faulty}
@@ -16,12 +17,17 @@ returns-in_err-play-clause-refused g c =
 pub returns-in_err-play-clause-keeps : goal.returns-in_err-play-clause-keeps
 returns-in_err-play-clause-keeps g c =
     let breaks = c.play.ensures.breaks in
-    (turns_keep (faulty g.D.Disk) c.args.stop (take breaks.count c.args.words.now) breaks.events c.args.player.now c.play.new.player c.known.ensures.keeps breaks.makes).runs
+    (turns_keep (faulty g.D.Disk) c.args.stop (take breaks.count c.args.words.now) breaks.events c.args.player.now c.play.new.player c.known.ensures.stop.keeps breaks.makes).runs
+
+pub returns-in_err-play-clause-ops : goal.returns-in_err-play-clause-ops
+returns-in_err-play-clause-ops g c =
+    let breaks = c.play.ensures.breaks in
+    turns_ops (faulty g.D.Disk) c.args.stop (take breaks.count c.args.words.now) breaks.events c.args.player.now c.play.new.player breaks.makes
 
 pub returns-in_err-play-clause-name : goal.returns-in_err-play-clause-name
 returns-in_err-play-clause-name g c =
     let breaks = c.play.ensures.breaks in
-    (turns_keep (faulty g.D.Disk) c.args.stop (take breaks.count c.args.words.now) breaks.events c.args.player.now c.play.new.player c.known.ensures.keeps breaks.makes).name
+    (turns_keep (faulty g.D.Disk) c.args.stop (take breaks.count c.args.words.now) breaks.events c.args.player.now c.play.new.player c.known.ensures.stop.keeps breaks.makes).name
 
 pub returns-clause-printed : goal.returns-clause-printed
 returns-clause-printed g c =
@@ -38,9 +44,14 @@ returns-clause-refused g c =
 pub returns-clause-keeps : goal.returns-clause-keeps
 returns-clause-keeps g c =
     let breaks = c.play.ensures.breaks in
-    (turns_keep (faulty g.D.Disk) c.args.stop (take breaks.count c.args.words.now) breaks.events c.args.player.now c.play.new.player c.known.ensures.keeps breaks.makes).runs
+    (turns_keep (faulty g.D.Disk) c.args.stop (take breaks.count c.args.words.now) breaks.events c.args.player.now c.play.new.player c.known.ensures.stop.keeps breaks.makes).runs
+
+pub returns-clause-ops : goal.returns-clause-ops
+returns-clause-ops g c =
+    let breaks = c.play.ensures.breaks in
+    turns_ops (faulty g.D.Disk) c.args.stop (take breaks.count c.args.words.now) breaks.events c.args.player.now c.play.new.player breaks.makes
 
 pub returns-clause-name : goal.returns-clause-name
 returns-clause-name g c =
     let breaks = c.play.ensures.breaks in
-    (turns_keep (faulty g.D.Disk) c.args.stop (take breaks.count c.args.words.now) breaks.events c.args.player.now c.play.new.player c.known.ensures.keeps breaks.makes).name
+    (turns_keep (faulty g.D.Disk) c.args.stop (take breaks.count c.args.words.now) breaks.events c.args.player.now c.play.new.player c.known.ensures.stop.keeps breaks.makes).name

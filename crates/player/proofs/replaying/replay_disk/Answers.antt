@@ -1,10 +1,11 @@
-use Rattle.std.proofs.Common.{refl, subst, sym}
+use Rattle.std.proofs.Common.{◌∙◌, refl, subst, sym}
 use Rattle.std.specs.List.{list_all}
 use Rattle.std.specs.Prelude.{IsTrue}
 use Rattle.scripts.specs.Schedule.{is_word_of}
 use Rattle.std.proofs.lemmas.Result.{IfErr-weaker, on_ok_weaker}
 use Rattle.player.proofs.Disks.{faulty}
 use Rattle.player.proofs.Keeping.{played_on}
+use Rattle.player.proofs.Seats.{same_inner}
 use Rattle.player.proofs.Refused.{not_begun, opening_of_replay, replayed, run_of_replay, run_refused}
 use Rattle.player.proofs.replaying.replay_disk.Goals as goal
 
@@ -21,7 +22,7 @@ returns-in-Err-opened-clause-layers g c = opening_of_replay c.in-Err-opened.refu
 pub returns-clause-printed : goal.returns-clause-printed
 returns-clause-printed g c =
     let made = c.in-Ok-opened.ensures in
-    let played = played_on g.D.Disk g.met.D.Disk.has_now c.args.disk c.args.tasks.items c.args.processes c.unwrap_or-stop.result c.in-Ok-opened.opened.0 c.run-ran.new.player made.ready c.run-ran.ensures.keeps c.into_disk.result c.into_disk.ensures c.run-ran.ensures.name in
+    let played = played_on g.D.Disk g.met.D.Disk.has_now c.args.disk c.args.tasks.items c.args.processes c.unwrap_or-stop.result c.in-Ok-opened.opened.0 c.run-ran.new.player made.ready c.run-ran.ensures.keeps c.into_disk.result (c.into_disk.ensures ∙ same_inner c.run-ran.new.player.kernel c.meet_all.new.self.kernel c.meet_all.ensures.same) c.run-ran.ensures.name c.in-Ok-opened.ensures.processes c.run-ran.ensures.ops c.meet_all.ensures.own in
     on_ok_weaker c.run-ran.result
     (replayed g.D.Disk (faulty g.D.Disk) c.args.disk c.into_disk.result c.args.tasks.items c.args.processes c.args.words.now _ c.unwrap_or-stop.result c.in-Ok-opened.opened.1 c.unwrap_or-stop.ensures (g.O.Write.contents c.args.out.now) (g.O.Write.contents c.run-ran.new.out) c.in-Ok-opened.opened.0 c.run-ran.new.player
     made.ready made.base played _)
@@ -30,7 +31,7 @@ returns-clause-printed g c =
 pub returns-clause-refused : goal.returns-clause-refused
 returns-clause-refused g c =
     let made = c.in-Ok-opened.ensures in
-    let played = played_on g.D.Disk g.met.D.Disk.has_now c.args.disk c.args.tasks.items c.args.processes c.unwrap_or-stop.result c.in-Ok-opened.opened.0 c.run-ran.new.player made.ready c.run-ran.ensures.keeps c.into_disk.result c.into_disk.ensures c.run-ran.ensures.name in
+    let played = played_on g.D.Disk g.met.D.Disk.has_now c.args.disk c.args.tasks.items c.args.processes c.unwrap_or-stop.result c.in-Ok-opened.opened.0 c.run-ran.new.player made.ready c.run-ran.ensures.keeps c.into_disk.result (c.into_disk.ensures ∙ same_inner c.run-ran.new.player.kernel c.meet_all.new.self.kernel c.meet_all.ensures.same) c.run-ran.ensures.name c.in-Ok-opened.ensures.processes c.run-ran.ensures.ops c.meet_all.ensures.own in
     IfErr-weaker c.run-ran.result _ _
     (run_refused g.D.Disk (faulty g.D.Disk) c.args.disk c.into_disk.result c.args.tasks.items c.args.processes c.args.words.now _ c.unwrap_or-stop.result c.in-Ok-opened.opened.1 c.unwrap_or-stop.ensures (g.O.Write.contents c.args.out.now) (g.O.Write.contents c.run-ran.new.out) c.in-Ok-opened.opened.0 c.run-ran.new.player
     made.ready made.base played _)
@@ -39,7 +40,7 @@ returns-clause-refused g c =
 pub returns-clause-layers : goal.returns-clause-layers
 returns-clause-layers g c =
     let made = c.in-Ok-opened.ensures in
-    let played = played_on g.D.Disk g.met.D.Disk.has_now c.args.disk c.args.tasks.items c.args.processes c.unwrap_or-stop.result c.in-Ok-opened.opened.0 c.run-ran.new.player made.ready c.run-ran.ensures.keeps c.into_disk.result c.into_disk.ensures c.run-ran.ensures.name in
+    let played = played_on g.D.Disk g.met.D.Disk.has_now c.args.disk c.args.tasks.items c.args.processes c.unwrap_or-stop.result c.in-Ok-opened.opened.0 c.run-ran.new.player made.ready c.run-ran.ensures.keeps c.into_disk.result (c.into_disk.ensures ∙ same_inner c.run-ran.new.player.kernel c.meet_all.new.self.kernel c.meet_all.ensures.same) c.run-ran.ensures.name c.in-Ok-opened.ensures.processes c.run-ran.ensures.ops c.meet_all.ensures.own in
     IfErr-weaker c.run-ran.result _ _
     (run_of_replay g.D.Disk (faulty g.D.Disk) c.args.disk c.into_disk.result c.args.tasks.items c.args.processes c.args.words.now _ c.unwrap_or-stop.result c.in-Ok-opened.opened.1 c.unwrap_or-stop.ensures (g.O.Write.contents c.args.out.now) (g.O.Write.contents c.run-ran.new.out) c.in-Ok-opened.opened.0 c.run-ran.new.player
     made.ready made.base played)
@@ -47,4 +48,4 @@ returns-clause-layers g c =
 
 pub returns-clause-name : goal.returns-clause-name
 returns-clause-name g c =
-    (played_on g.D.Disk g.met.D.Disk.has_now c.args.disk c.args.tasks.items c.args.processes c.unwrap_or-stop.result c.in-Ok-opened.opened.0 c.run-ran.new.player c.in-Ok-opened.ensures.ready c.run-ran.ensures.keeps c.into_disk.result c.into_disk.ensures c.run-ran.ensures.name).name
+    (played_on g.D.Disk g.met.D.Disk.has_now c.args.disk c.args.tasks.items c.args.processes c.unwrap_or-stop.result c.in-Ok-opened.opened.0 c.run-ran.new.player c.in-Ok-opened.ensures.ready c.run-ran.ensures.keeps c.into_disk.result (c.into_disk.ensures ∙ same_inner c.run-ran.new.player.kernel c.meet_all.new.self.kernel c.meet_all.ensures.same) c.run-ran.ensures.name c.in-Ok-opened.ensures.processes c.run-ran.ensures.ops c.meet_all.ensures.own).name

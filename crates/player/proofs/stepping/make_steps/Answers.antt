@@ -11,16 +11,18 @@ loop-step-preserved g c =
     let was = c.loop-step.kernel in
     let now = c.step-step.new.self in
     let moved : c.step-step.result ≡ step.Moved = search rules in
-    let made = subst (λ r. MakesStep g.D.Disk g.I.Intake g.H.Herald c.args.pid r was now) moved c.step-step.ensures in
+    let made = subst (λ r. MakesStep g.D.Disk g.I.Intake g.H.Herald c.args.pid r was now) moved
+    (record { acts = c.step-step.ensures.acts; progress = c.step-step.ensures.progress; stop = c.step-step.ensures.stop }) in
     record {
       moves = one_moved steps c.loop-step._step c.args.kernel.now was now c.loop-step.invariant.moves made;
-      processes = c.step-step.ensures.many ∙ c.loop-step.invariant.processes;
-      names = λ p. c.step-step.ensures.acts.sides.names p ∙ c.loop-step.invariant.names p;
+      processes = c.step-step.ensures.progress.many ∙ c.loop-step.invariant.processes;
+      names = λ p. c.step-step.ensures.acts.ports.sides.names p ∙ c.loop-step.invariant.names p;
     }
 
 pub returns-then-ne-clause-makes : goal.returns-then-ne-clause-makes
 returns-then-ne-clause-makes g c =
-    stops g.D.Disk g.I.Intake g.H.Herald c.args.pid c.loop-step._step c.step-step.result c.args.kernel.now c.loop-step.kernel c.step-step.new.self c.loop-step.invariant.moves c.step-step.ensures
+    stops g.D.Disk g.I.Intake g.H.Herald c.args.pid c.loop-step._step c.step-step.result c.args.kernel.now c.loop-step.kernel c.step-step.new.self c.loop-step.invariant.moves
+    (record { acts = c.step-step.ensures.acts; progress = c.step-step.ensures.progress; stop = c.step-step.ensures.stop })
     (search rules)
 
 pub unreachable-requires : goal.unreachable-requires

@@ -1,12 +1,10 @@
-use Rattle.std.proofs.Common.{◌≡◌, ◌∙◌, ◌+◌, ◌∷◌, ◌++◌, [], Some, ap, arith, refl, subst, sym}
+use Rattle.std.proofs.Common.{◌≡◌, ◌∙◌, ◌+◌, ◌∷◌, ◌++◌, [], Some, ap, arith, below_more, length, refl, sym}
 use Rattle.std.proofs.KnownBytes.{Appends-nil}
 use Rattle.std.proofs.lemmas.List.{append_assoc, length-append}
 use Rattle.std.specs.Prelude.{slice_get}
-use Rattle.clients.specs.Clients.{client_ops, ops_at, ops_in}
+use Rattle.clients.specs.Clients.{ops_at, ops_in}
 use Rattle.model.specs.Layout.{inode_count_of}
-use Rattle.runner.specs.Reports.{IsReport}
-use Rattle.runner.proofs.Lines.{one_more_line}
-use Rattle.runner.proofs.Reports.{client_at, each_more, report_still, same_still}
+use Rattle.runner.proofs.Reports.{client_at, one_more_report, own_still, reports_then, same_still}
 use Rattle.runner.proofs.reporting.report.Goals as goal
 
 pub loop-client-init : goal.loop-client-init
@@ -14,19 +12,23 @@ loop-client-init g c =
     let few = c.known.ensures.few in
     let many = c.requires.many in
     record {
-      reports = [];
-      count = refl;
       pid = refl;
       all = sym c.into_iter-client-iterator.ensures.into_iter_gives.0;
       few = omega (arith, few, many);
-      each = λ p text at. absurd (cc at);
-      printed = Appends-nil (g.O.Write.contents c.args.out.now);
+      reported = record {
+        reports = [];
+        count = refl;
+        each = λ p text at. absurd (cc at);
+        printed = Appends-nil (g.O.Write.contents c.args.out.now);
+      };
+      only = tt;
+      own = λ p low. absurd (omega (arith, low));
       same = refl;
       names = λ p. refl;
     }
 
-pub report_one-requires-clause-rings : goal.report_one-requires-clause-rings
-report_one-requires-clause-rings g c =
+pub report_one-reported-requires-clause-rings : goal.report_one-reported-requires-clause-rings
+report_one-reported-requires-clause-rings g c =
     let inv = c.loop-client.invariant in
     inv.names c.loop-client.pid ∙ c.requires.rings c.loop-client.pid c.in-Some.client
     (ap (λ cs. slice_get cs c.loop-client.pid) (inv.all ∙ ap (λ cs. c.loop-client.yielded ++ cs) c.in-Some.ensures.steps.0)
@@ -37,23 +39,41 @@ pub loop-client-preserved : goal.loop-client-preserved
 loop-client-preserved g c =
     let inv = c.loop-client.invariant in
     let k = c.args.kernel.now in
+    let n = inode_count_of (g.D.Disk.image k.opening) in
+    let ops = ops_at c.args.clients.items in
     let here = inv.all ∙ ap (λ cs. c.loop-client.yielded ++ cs) c.in-Some.ensures.steps.0 in
     let at : slice_get c.args.clients.items c.loop-client.pid ≡ Some c.in-Some.client =
     ap (λ cs. slice_get cs c.loop-client.pid) here ∙ ap (slice_get (c.loop-client.yielded ++ c.in-Some.client ∷ c.next.new.self.rest.items)) inv.pid
     ∙ client_at c.loop-client.yielded c.next.new.self.rest.items c.in-Some.client in
-    let made = c.in_ok-report_one.ensures.reported in
-    let mine = report_still (inode_count_of (g.D.Disk.image k.opening)) k c.loop-client.kernel.intake c.loop-client.pid (client_ops c.in-Some.client) made.0
-    (subst (λ m. IsReport (inode_count_of (g.D.Disk.image m.opening)) m c.loop-client.pid (client_ops c.in-Some.client) made.0) inv.same made.1) in
+    let made = c.report_one-reported.ensures in
     record {
-      reports = inv.reports ++ made.0 ∷ [];
-      count = length-append inv.reports (made.0 ∷ []) ∙ ap (λ n. n + 1) inv.count;
       pid = ap (λ n. n + 1) inv.pid ∙ sym (length-append c.loop-client.yielded (c.in-Some.client ∷ []));
       all = here ∙ sym (append_assoc c.loop-client.yielded (c.in-Some.client ∷ []) c.next.new.self.rest.items);
       few = inv.few;
-      each = each_more inv.reports made.0 (λ p text. IsReport (inode_count_of (g.D.Disk.image k.opening)) k p (ops_at c.args.clients.items p) text) inv.each
-          (subst (λ p. IsReport (inode_count_of (g.D.Disk.image k.opening)) k p (ops_at c.args.clients.items p) made.0) (sym inv.count)
-          (subst (λ ops. IsReport (inode_count_of (g.D.Disk.image k.opening)) k c.loop-client.pid ops made.0) (sym (ap ops_in at)) mine));
-      printed = one_more_line (λ text. text) inv.reports made.0 _ _ _ inv.printed made.2;
-      same = same_still k c.loop-client.kernel c.report_one.new.kernel inv.same c.report_one.ensures.same;
-      names = λ p. c.report_one.ensures.names p ∙ inv.names p;
+      reported = reports_then c.report_one-reported.result c.loop-client.reported _ _ _
+          (λ first one. one_more_report g.D.Disk.image k c.loop-client.kernel inv.same ops c.loop-client.pid _ (sym (ap ops_in at)) _ _ _ first one) inv.reported made.reported;
+      only = made.err;
+      own = below_more _ _ inv.own (own_still g.D.Disk.image k c.loop-client.kernel inv.same c.loop-client.pid _ (ops c.loop-client.pid) (sym (ap ops_in at)) made.own);
+      same = same_still k c.loop-client.kernel c.report_one-reported.new.kernel inv.same made.same;
+      names = λ p. made.names p ∙ inv.names p;
     }
+
+pub returns-in_err-reported-clause-own : goal.returns-in_err-reported-clause-own
+returns-in_err-reported-clause-own g c =
+    let inv = c.loop-client.invariant in
+    let left = c.loop-client.client-iterator.rest in
+    let none = c.in-None.ensures.steps.0 in
+    let is = left.ok.0 in
+    let pid = inv.pid in
+    let all = ap length inv.all ∙ length-append c.loop-client.yielded left.items in
+    λ p low. inv.own p (omega (arith, low, none, is, pid, all))
+
+pub returns-clause-own : goal.returns-clause-own
+returns-clause-own g c =
+    let inv = c.loop-client.invariant in
+    let left = c.loop-client.client-iterator.rest in
+    let none = c.in-None.ensures.steps.0 in
+    let is = left.ok.0 in
+    let pid = inv.pid in
+    let all = ap length inv.all ∙ length-append c.loop-client.yielded left.items in
+    λ p low. inv.own p (omega (arith, low, none, is, pid, all))

@@ -4,7 +4,7 @@ use Rattle.std.proofs.lemmas.Result.{IfErr-weaker, on_ok_weaker}
 use Rattle.model.specs.Layout.{inode_count_of}
 use Rattle.rings.specs.Callers.{intake_names}
 use Rattle.clients.specs.Clients.{AreSameClients}
-use Rattle.runner.proofs.Served.{ends_so, have_rings, is_served, many_are, not_run, unopened_run}
+use Rattle.runner.proofs.Served.{ends_so, have_rings, is_served, keeps_tasks, many_are, not_run, unopened_run}
 use Rattle.runner.proofs.running.run_disk.Goals as goal
 
 pub call-called-requires-clause-watches : goal.call-called-requires-clause-watches
@@ -38,6 +38,7 @@ returns-in-Some-clause-ran g c =
     (λ ends. record {
       last = called.result.1;
       served = is_served g.D.Disk law.has_now c.args.disk c.in-Ok.made.0 c.in-Ok-open.kernel.herald c.args.processes c.in-Ok-open.kernel called.result.1 c.in-Ok-open.ensures.opened called.ensures.framed _ _ called.ensures.known c.close.result.1 c.close.ensures.disk;
+      own = keeps_tasks g.D.Disk called.result.1 (intake_names c.in-Ok.made.0) c.args.tasks.items c.args.processes c.in-Some.clients.items are c.close.ensures.own;
       ends = ends_so (inode_count_of (g.D.Disk.image called.result.1.opening)) called.result.1 (intake_names c.in-Ok.made.0) c.args.tasks.items c.args.processes c.in-Some.clients.items None (g.O.Write.contents c.args.out.now) (g.O.Write.contents c.close.new.out) are ends;
     })
     c.close.ensures.ended
@@ -50,7 +51,7 @@ returns-in-Some-clause-refused g c =
     let law = g.met.D.Disk g.world.𝓛 g.world.𝓜 g.world.𝓡 ((λ s x. x), (λ x. x), (λ x. x), λ x. x) in
     let served = is_served g.D.Disk law.has_now c.args.disk c.in-Ok.made.0 c.in-Ok-open.kernel.herald c.args.processes c.in-Ok-open.kernel called.result.1 c.in-Ok-open.ensures.opened called.ensures.framed _ _ called.ensures.known c.close.result.1 c.close.ensures.disk in
     IfErr-weaker c.close.result.0 _ _
-    (not_run g.D.Disk c.args.disk c.close.result.1 c.args.tasks.items c.args.processes (g.O.Write.contents c.args.out.now) (g.O.Write.contents c.close.new.out) (c.close.new.out ≡ c.args.out.now) called.result.1 (intake_names c.in-Ok.made.0) c.in-Some.clients.items served are)
+    (not_run g.D.Disk c.args.disk c.close.result.1 c.args.tasks.items c.args.processes (g.O.Write.contents c.args.out.now) (g.O.Write.contents c.close.new.out) (c.close.new.out ≡ c.args.out.now) called.result.1 (intake_names c.in-Ok.made.0) c.in-Some.clients.items served are (keeps_tasks g.D.Disk called.result.1 (intake_names c.in-Ok.made.0) c.args.tasks.items c.args.processes c.in-Some.clients.items are c.close.ensures.own))
     c.close.ensures.refused
 
 pub returns-clause-refused : goal.returns-clause-refused

@@ -1,7 +1,8 @@
 use Rattle.std.proofs.Common.{rules, ◌≡◌, ◌-◌, [], length, refl, sym, ◌∙◌, ap, arith}
 use Rattle.std.proofs.lemmas.List.{length-append}
 use Rattle.rings.specs.Callers.{intake_side, submitted}
-use Rattle.sysring.proofs.Settled.{longer}
+use Rattle.model.specs.Layout.{inode_count_of}
+use Rattle.journal.specs.Lemmas.Own.{keeps_first}
 use Rattle.sysring.proofs.accounting.account.Goals as goal
 
 pub overflow_sub-account : goal.overflow_sub-account
@@ -33,7 +34,7 @@ returns-clause-account g c =
         order = search rules;
         unpolled = [];
         given = search rules;
-        beginning = longer _ _ mine.history.taken ahead (submitted c.args.caller) (known.beginnings c.args.pid k.store.volume.log.committed mine.history mine.is) (search rules);
+        beginning = keeps_first (inode_count_of (g.D.Disk.image k.opening)) k.world.journal.list c.args.pid mine.history.taken ahead (submitted c.args.caller) (λ n. known.beginnings c.args.pid n mine.history mine.is) (search rules) k.store.volume.log.committed;
         submitted = search rules;
         begun = begun;
         left = left;

@@ -2,6 +2,8 @@ use Rattle.std.proofs.Common.{ap, arith, length, refl, subst, sym}
 use Rattle.clients.specs.Sources.{HaveSourceRings}
 use Rattle.rings.specs.Callers.{intake_names}
 use Rattle.player.specs.Stepping.{MeetsAt}
+use Rattle.player.proofs.Disks.{faulty}
+use Rattle.player.proofs.Owning.{met_own}
 use Rattle.player.proofs.Seats.{same_many, set_seated}
 use Rattle.player.proofs.player.Player.meet.Goals as goal
 
@@ -16,6 +18,12 @@ visit-requires g c =
 
 pub returns-clause-meets : goal.returns-clause-meets
 returns-clause-meets g c = subst (λ v. MeetsAt c.args.pid c.args.self.now.kernel.intake v.items c.visit.new.self.intake c.visit.result.items) c.replace-sources.ensures.value c.visit.ensures.tells
+
+pub returns-clause-own : goal.returns-clause-own
+returns-clause-own g c =
+    let old = c.args.self.now in
+    met_own (faulty g.D.Disk) c.args.pid old.kernel c.visit.new.self.intake old.sources.items c.visit.result.items c.known.ensures c.requires.pid
+    (subst (λ v. MeetsAt c.args.pid old.kernel.intake v.items c.visit.new.self.intake c.visit.result.items) c.replace-sources.ensures.value c.visit.ensures.tells)
 
 pub returns-clause-seated : goal.returns-clause-seated
 returns-clause-seated g c =
