@@ -19,8 +19,8 @@ use Rattle.model.specs.Lemmas.FileNumbers.{length-files_of}
 use Rattle.model.specs.Lemmas.Log.{recovered_low}
 use Rattle.model.specs.Lemmas.Soundness.{verdict_sound}
 use Rattle.model.specs.Lemmas.Super.{lawful_geometry, long_where_sound, verdict_none}
-use Rattle.layout.specs.Laws.{CheckedFilesMayBeRead}
-use Rattle.layout.specs.Recovered.{MayReadFile}
+use Rattle.offline.specs.Laws.{CheckedFilesMayBeRead}
+use Rattle.offline.specs.Recovered.{MayReadFile}
 use Rattle.sole.specs.Calls.{call_count, image_on}
 use Rattle.sole.specs.Stepping.{Plain}
 use Rattle.filing.specs.Answered.{IsAnswered}

@@ -14,9 +14,9 @@ use Rattle.model.specs.Verdict.{verdict}
 use Rattle.model.specs.Lemmas.Log.{recovered_empty}
 use Rattle.model.specs.Lemmas.MadeImages.{is_within, length-made_image, magic-made_image}
 use Rattle.model.specs.Lemmas.Soundness.{sound_verdict}
-use Rattle.layout.specs.Cause.{IsCause}
-use Rattle.layout.specs.Laws.{IsWithoutFiles}
-use Rattle.layout.specs.Making.{MakesAs}
+use Rattle.offline.specs.Cause.{IsCause}
+use Rattle.offline.specs.Laws.{IsWithoutFiles}
+use Rattle.offline.specs.Making.{MakesAs}
 use Rattle.wal.specs.Lemmas.Commits.{empty_lawful}
 use Rattle.wal.specs.declared.faults.RecoverFault.TheVariants as recover
 use Rattle.kernel.specs.Opening.{RefusesToOpen}

@@ -12,7 +12,7 @@ use Rattle.model.specs.Layout.{inode_of, inode_count_of}
 use Rattle.model.specs.Log.{recovered}
 use Rattle.model.specs.Verdict.{geometry_fault, log_fault, or_else, verdict}
 use Rattle.model.specs.Lemmas.Super.{lawful_geometry, long_where_sound, super_of-recovered, verdict_none}
-use Rattle.layout.specs.Cause.{IsCause}
+use Rattle.offline.specs.Cause.{IsCause}
 use Rattle.copying.specs.Source.{AreFirstKinds, AreKindsOf}
 
 -- there are two forms

@@ -8,7 +8,7 @@ use Rattle.model.specs.Layout.{form_of, inode_count_of, is_size}
 use Rattle.model.specs.Log.{recovered}
 use Rattle.model.specs.Soundness.{IsSound}
 use Rattle.model.specs.Verdict.{verdict}
-use Rattle.layout.specs.Cause.{IsCause}
+use Rattle.offline.specs.Cause.{IsCause}
 use Rattle.layout.specs.declared.geometry.MkfsFault.{MkfsFault}
 use Rattle.layout.specs.declared.geometry.MkfsFault.TheVariants as mkfs
 use Rattle.sole.specs.Stepping.{Plain}

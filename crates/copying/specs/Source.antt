@@ -6,7 +6,7 @@ use Rattle.model.specs.Files.{files_of, file_count}
 use Rattle.model.specs.Layout.{form_of, inode_of, inode_count_of}
 use Rattle.model.specs.Log.{recovered}
 use Rattle.model.specs.Verdict.{verdict}
-use Rattle.layout.specs.Recovered.{IsRecoveredOf}
+use Rattle.offline.specs.Recovered.{IsRecoveredOf}
 use Rattle.copying.specs.declared.source.Source.{Source}
 
 -- the types of so many numbers from 1 on, 0 for a free one

@@ -33,7 +33,7 @@ pub trait Progress {
 ///
 /// - `Old`: the old image has this fault, or could not be checked. The new disk is as it was.
 /// - `NotFirst`: the old image is of the second form. The new disk is as it was.
-/// - `Mkfs`: no new image was made, with the fault of `layout::mkfs_as`.
+/// - `Mkfs`: no new image was made, with the fault of `offline::mkfs_as`.
 /// - `Full`: no block was free for all bytes of the file of this number: the new image has only the
 ///   first of them, and each of its blocks is used. Of its other files nothing is said.
 ///

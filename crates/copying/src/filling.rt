@@ -16,8 +16,8 @@ use crate::fault::CopyFault;
 use crate::source::Source;
 use blocks::{Block, Disk};
 use filing::{append, create, remove};
-use layout::laws::checked_files_may_be_read;
 use model::types::TRANSFER_LIMIT;
+use offline::laws::checked_files_may_be_read;
 use sole::{CallFault, Sole};
 use std::alloc::Global;
 

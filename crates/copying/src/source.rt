@@ -3,13 +3,14 @@ ghost use Rattle.std.specs.Prelude.{◌≡◌, ◌≢◌, ◌≤◌, ◌<◌, �
 ghost use Rattle.blocks.specs.Calls.{OnlyReads};
 ghost use Rattle.model.specs.Layout.{inode_count_of};
 ghost use Rattle.model.specs.Log.{recovered};
-ghost use Rattle.layout.specs.Recovered.{IsRecoveredOf};
+ghost use Rattle.offline.specs.Recovered.{IsRecoveredOf};
 ghost use Rattle.copying.specs.Copies.{IsUnread};
 ghost use Rattle.copying.specs.Source.{AreFirstKinds, IsSourceOf};
 
 use crate::fault::CopyFault;
 use blocks::{Block, Disk};
-use layout::{Form, Recovered, check};
+use layout::Form;
+use offline::{Recovered, check};
 use std::alloc::Global;
 
 /// An image without a fault, as recovery would leave it.

@@ -1,8 +1,9 @@
 // Calls of disks, of images on them, and of their recovery.
 use crate::bench::{Bench, Faulty, block_of, blocks_of, disk_of, disk_with, done, put_block};
 use blocks::{Block, Disk, FaultyDisk, Kind};
-use layout::{check, mkfs, mkfs_as, plan, superblock};
+use layout::{plan, superblock};
 use model::types::Form;
+use offline::{check, mkfs, mkfs_as};
 use plain::check::verdict;
 use plain::report::files_after_recovery;
 use std::alloc::Global;

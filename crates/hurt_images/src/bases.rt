@@ -6,9 +6,10 @@ use crate::judging::agreed_fault;
 use anyhow::{bail, ensure};
 use blocks::{Disk, FaultyDisk, Kind, MemDisk};
 use kernel::{Kernel, Step};
-use layout::{inode, mkfs};
+use layout::inode;
 use model::content::Content;
 use model::types::Op;
+use offline::mkfs;
 use ports::{PlainHerald, QueueIntake};
 use std::alloc::{AllocError, Global};
 

@@ -1,4 +1,4 @@
-//! Hurt images, judged by `layout::check` and by the plain program, which have to agree on the first
+//! Hurt images, judged by `offline::check` and by the plain program, which have to agree on the first
 //! fault of each.
 //!
 //! With no words the program does two things, and prints what they came to. It takes an image whose

@@ -4,7 +4,7 @@ use Rattle.std.specs.Io.KnownBytes.{Appends}
 use Rattle.blocks.specs.Block.{zero_block}
 use Rattle.blocks.specs.declared.disk.Disk.{Ghosts}
 use Rattle.blocks.specs.declared.file.FileDisk.{FileDisk}
-use Rattle.layout.specs.Making.{MakesAs}
+use Rattle.offline.specs.Making.{MakesAs}
 use Rattle.model.specs.declared.types.image.Form.{Form}
 use Rattle.model.specs.Layout.{planned_super}
 use Rattle.texts.specs.Output.{numbers_text}

@@ -11,7 +11,7 @@ use Rattle.blocks.specs.declared.faulty.FaultyDisk.{FaultyDisk}
 use Rattle.blocks.specs.declared.faulty.Trap.{Trap}
 use Rattle.blocks.specs.declared.file.FileDisk.{FileDisk}
 use Rattle.model.specs.declared.types.image.Form.{Form}
-use Rattle.layout.specs.Making.{MakesAs}
+use Rattle.offline.specs.Making.{MakesAs}
 use Rattle.model.specs.Files.{file_count, files_of}
 use Rattle.model.specs.Layout.{planned_super}
 use Rattle.model.specs.Log.{logged_count, recovered}

@@ -6,7 +6,7 @@ use Rattle.blocks.specs.declared.disk.Disk.{Ghosts}
 use Rattle.model.specs.Layout.{form_of, inode_count_of}
 use Rattle.model.specs.Log.{recovered, logged_count}
 use Rattle.model.specs.Verdict.{verdict}
-use Rattle.layout.specs.Cause.{IsCause}
+use Rattle.offline.specs.Cause.{IsCause}
 use Rattle.wal.specs.Recovery.{IsCalm, LeavesIfCalm, RecoversAs, syncs_to_recover, writes_to_recover}
 use Rattle.wal.specs.declared.faults.RecoverFault.{RecoverFault}
 use Rattle.wal.specs.declared.faults.RecoverFault.TheVariants as recover

@@ -1,7 +1,7 @@
 // The numbers of the format (the xv6 book, the chapter "File system"; xv6's fs.h and param.h), and
 // where the blocks of inodes and of the bitmap stand.
 ghost use Rattle.std.specs.Prelude.{◌≡◌, ◌≤◌, ◌^◌, All, length};
-ghost use Rattle.model.specs.Layout.{inode_block, inode_offset, bitmap_block, direct_count, depths, reach, greatest_size};
+ghost use Rattle.model.specs.Layout.{inode_block, inode_offset, bitmap_block, meta_count, direct_count, depths, reach, greatest_size};
 ghost use Rattle.model.specs.Format.{addresses_per_block};
 
 use model::types::Form;
@@ -65,6 +65,16 @@ pub fn bitmap_block(inode_count: u32) -> u32
     ensures { result ≡ bitmap_block inode_count }
 {
     INODE_START + inode_count / INODES_PER_BLOCK + 1
+}
+
+/// How many blocks an image of that size has before its first data block: 2, the log, the inode
+/// blocks and the bitmap. `ninodes` is at most 1024.
+pub fn meta_count(size: u32, ninodes: u32) -> u32
+    ensures { result ≡ meta_count size ninodes }
+{
+    let inode_blocks = ninodes / INODES_PER_BLOCK + 1;
+    let bitmap_blocks = size / BITS_PER_BLOCK + 1;
+    INODE_START + inode_blocks + bitmap_blocks
 }
 
 /// How many of an inode's 13 addresses are data blocks' in an image of that form.

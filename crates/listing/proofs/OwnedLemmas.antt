@@ -13,7 +13,7 @@ use Rattle.model.specs.Names.{names_under, names_along, names_of}
 use Rattle.model.specs.Lemmas.Counts.{AllByRecursion-parts}
 use Rattle.model.specs.Lemmas.Names.{pointers_named}
 use Rattle.model.specs.Lemmas.Verdict.{range_more, range_all}
-use Rattle.layout.specs.Recovered.{LiesBehindLog}
+use Rattle.offline.specs.Recovered.{LiesBehindLog}
 use Rattle.listing.specs.declared.owned.Owned.{Owned}
 use Rattle.listing.specs.Gathering.{LieBehindLog}
 use Rattle.listing.specs.Laws.{OwnsWhatIsPointedAt}

@@ -21,9 +21,9 @@ use Rattle.model.specs.Lemmas.Log.{recovered_low, length-recovered}
 use Rattle.model.specs.Lemmas.Names.{pointers_named}
 use Rattle.model.specs.Lemmas.Soundness.{verdict_sound, IsInData, inode_in_data}
 use Rattle.model.specs.Lemmas.Super.{lawful_geometry, or_else_none, verdict_none, super_of-recovered, long_where_sound}
-use Rattle.layout.specs.Cause.{IsCause}
-use Rattle.layout.specs.Recovered.{LiesBehindLog, IsRecoveredOf}
-use Rattle.layout.specs.declared.recovered.Recovered.{Recovered}
+use Rattle.offline.specs.Cause.{IsCause}
+use Rattle.offline.specs.Recovered.{LiesBehindLog, IsRecoveredOf}
+use Rattle.offline.specs.declared.recovered.Recovered.{Recovered}
 use Rattle.listing.specs.Gathering.{IsCheckedOf, IsGatherCause, LieBehindLog}
 use Rattle.listing.specs.Owned.{owned_by_all, owned_of}
 use Rattle.listing.specs.Signs.{owner_among, owner_sign, sign_among, sign_of, signs_of}

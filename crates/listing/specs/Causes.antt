@@ -1,7 +1,7 @@
 -- Why what an image has was not printed.
 use Rattle.std.specs.Prelude.{◌≡◌, ℕ, None}
 use Rattle.blocks.specs.Disk.{Image}
-use Rattle.layout.specs.Cause.{IsCause}
+use Rattle.offline.specs.Cause.{IsCause}
 use Rattle.model.specs.Files.{file_in, files_of}
 use Rattle.model.specs.Log.{recovered}
 use Rattle.model.specs.Verdict.{verdict}

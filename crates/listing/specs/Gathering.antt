@@ -4,8 +4,8 @@ use Rattle.std.specs.List.{AllByRecursion}
 use Rattle.blocks.specs.Disk.{Image, Rose}
 use Rattle.model.specs.Verdict.{verdict}
 use Rattle.model.specs.declared.types.fault.CheckFault.TheVariants as check
-use Rattle.layout.specs.Recovered.{IsRecoveredOf, LiesBehindLog}
-use Rattle.layout.specs.declared.recovered.Recovered.{Recovered}
+use Rattle.offline.specs.Recovered.{IsRecoveredOf, LiesBehindLog}
+use Rattle.offline.specs.declared.recovered.Recovered.{Recovered}
 use Rattle.texts.specs.declared.faults.LsFault.TheVariants as ls
 use Rattle.texts.specs.declared.faults.ShowFault.TheVariants as show
 use Rattle.texts.specs.declared.refusal.Refusal.{Refusal}

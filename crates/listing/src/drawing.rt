@@ -10,7 +10,7 @@ ghost use Rattle.listing.specs.Drawing.{drawing_of, drawing_text, label_text, ro
 use crate::signs::gather_signs;
 use blocks::Disk;
 use itoa::Buffer;
-use layout::check;
+use offline::check;
 use std::alloc::Global;
 use std::io::Write;
 use texts::{Refusal, print, print_last, write_bytes};

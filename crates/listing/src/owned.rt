@@ -4,14 +4,15 @@ ghost use Rattle.blocks.specs.Calls.{OnlyReads};
 ghost use Rattle.model.specs.Log.{recovered};
 ghost use Rattle.model.specs.Names.{names_of, names_under};
 ghost use Rattle.model.specs.Verdict.{verdict};
-ghost use Rattle.layout.specs.Recovered.{IsRecoveredOf};
+ghost use Rattle.offline.specs.Recovered.{IsRecoveredOf};
 ghost use Rattle.listing.specs.Gathering.{IsCheckedOf, KeepsCount, LieBehindLog};
 ghost use Rattle.listing.specs.Owned.{owned_by_all, owned_in, owned_under};
 
 use crate::fault::GatherFault;
 use blocks::{Block, Disk};
 use layout::entries::read_all;
-use layout::{ADDRESSES_PER_BLOCK, Dinode, Recovered, depths};
+use layout::{ADDRESSES_PER_BLOCK, Dinode, depths};
+use offline::Recovered;
 use std::alloc::Global;
 
 /// A block that a file owns.

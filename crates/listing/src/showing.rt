@@ -15,7 +15,7 @@ use crate::fault::GatherFault;
 use crate::owned::{Owned, add_owned, open};
 use blocks::{Block, Disk};
 use itoa::Buffer;
-use layout::check;
+use offline::check;
 use std::alloc::Global;
 use std::io::Write;
 use texts::{Refusal, ShowFault, pass_on, print};

@@ -10,7 +10,8 @@ ghost use Rattle.listing.specs.Signs.{free_sign, owned_sign, owner_among, owner_
 use crate::fault::GatherFault;
 use crate::owned::{Owned, open, owned_by_all};
 use blocks::{Block, Disk};
-use layout::{BITS_PER_BLOCK, INODE_START, Recovered, Super, bitmap_block};
+use layout::{BITS_PER_BLOCK, INODE_START, Super, bitmap_block};
+use offline::Recovered;
 use std::alloc::Global;
 
 // The signs of the blocks of a disk that was checked.

@@ -2,7 +2,7 @@
 use crate::files::NamedFiles;
 use blocks::{FaultyDisk, Kind, MemDisk};
 use directory::Name;
-use layout::mkfs;
+use offline::mkfs;
 use std::alloc::Global;
 
 // The blocks and the inode numbers of an image.

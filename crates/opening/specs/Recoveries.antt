@@ -3,7 +3,7 @@ use Rattle.std.specs.Prelude.{◌≡◌, ◌⊎◌, ⊤, ℕ, None}
 use Rattle.blocks.specs.Calls.{UnlessHolds}
 use Rattle.blocks.specs.Disk.{counted}
 use Rattle.blocks.specs.declared.disk.Disk.{Ghosts}
-use Rattle.layout.specs.Cause.{IsCause}
+use Rattle.offline.specs.Cause.{IsCause}
 use Rattle.model.specs.Log.{logged_count, recovered}
 use Rattle.model.specs.Verdict.{verdict}
 use Rattle.wal.specs.Recovery.{syncs_to_recover, writes_to_recover}

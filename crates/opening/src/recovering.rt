@@ -6,7 +6,7 @@ ghost use Rattle.texts.specs.declared.refusal.Refusal.TheVariants as refusal;
 ghost use Rattle.opening.specs.Recoveries.{IsRecovered, IsUnrecovered, IsUnwritten};
 
 use blocks::Disk;
-use layout::check;
+use offline::check;
 use std::alloc::Global;
 use texts::Refusal;
 use wal::recover;

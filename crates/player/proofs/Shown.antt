@@ -21,10 +21,10 @@ use Rattle.model.specs.declared.types.image.Form.TheVariants.{One, Two}
 use Rattle.model.specs.declared.types.image.Super.{Super}
 use Rattle.model.specs.Lemmas.FileNumbers.{file_in-files_of, file_in-files_of_past, file_in-files_of_zero}
 use Rattle.model.specs.Lemmas.Super.{long_where_sound, super_of-recovered, verdict_none}
-use Rattle.layout.specs.Laws.{CheckedFilesMayBeRead}
-use Rattle.layout.specs.Recovered.{IsHeaderOf}
+use Rattle.offline.specs.Laws.{CheckedFilesMayBeRead}
+use Rattle.offline.specs.Recovered.{IsHeaderOf}
 use Rattle.layout.specs.declared.header.Header.{Header}
-use Rattle.layout.specs.declared.recovered.Recovered.{Recovered}
+use Rattle.offline.specs.declared.recovered.Recovered.{Recovered}
 use Rattle.opening.specs.Lemmas.Recovered.{recovered_again}
 use Rattle.opening.specs.Recoveries.{IsRecovered}
 use Rattle.texts.specs.declared.refusal.Refusal.{Refusal}

@@ -1,7 +1,7 @@
 -- Why a command over a disk wasn't done, and how the disk is then.
 use Rattle.std.specs.Prelude.{◌≡◌, ◌&&◌, ◌==◌, ℕ, false, length, None}
 use Rattle.blocks.specs.Disk.{Image, Rose}
-use Rattle.layout.specs.Cause.{IsCause}
+use Rattle.offline.specs.Cause.{IsCause}
 use Rattle.layout.specs.declared.geometry.MkfsFault.TheVariants as mkfs
 use Rattle.model.specs.Codec.{made_image}
 use Rattle.model.specs.Layout.{is_inode_count, is_size}

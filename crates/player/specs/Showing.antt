@@ -9,8 +9,8 @@ use Rattle.model.specs.Log.{logged_count, recovered}
 use Rattle.model.specs.Verdict.{verdict}
 use Rattle.model.specs.declared.types.image.Dinode.{Dinode}
 use Rattle.model.specs.declared.types.image.File.{File}
-use Rattle.layout.specs.Recovered.{IsRecoveredOf, MayReadFile}
-use Rattle.layout.specs.declared.recovered.Recovered.{Recovered}
+use Rattle.offline.specs.Recovered.{IsRecoveredOf, MayReadFile}
+use Rattle.offline.specs.declared.recovered.Recovered.{Recovered}
 use Rattle.wal.specs.declared.types.DeviceFault.TheVariants.{Block}
 use Rattle.opening.specs.Openings.{HasNoRoom}
 use Rattle.opening.specs.Recoveries.{IsRecovered}

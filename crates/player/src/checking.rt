@@ -10,7 +10,7 @@ ghost use Rattle.texts.specs.Output.{report_text};
 ghost use Rattle.player.specs.Causes.{IsUnchecked};
 
 use blocks::Disk;
-use layout::check;
+use offline::check;
 use std::alloc::Global;
 use std::io::Write;
 use texts::{Refusal, print_report};

@@ -3,15 +3,16 @@ ghost use Rattle.std.specs.Prelude.{◌≡◌, ◌≢◌, OnOk, IfErr};
 ghost use Rattle.std.specs.Io.KnownBytes.{Appends};
 ghost use Rattle.blocks.specs.Calls.{UnlessHolds};
 ghost use Rattle.blocks.specs.Disk.{LeavesOnly};
-ghost use Rattle.layout.specs.Making.{IsMadeInPartAs, MakesAs};
+ghost use Rattle.offline.specs.Making.{IsMadeInPartAs, MakesAs};
 ghost use Rattle.model.specs.Layout.{planned_super};
 ghost use Rattle.texts.specs.declared.refusal.Refusal.TheVariants as refusal;
 ghost use Rattle.texts.specs.Output.{numbers_text};
 ghost use Rattle.player.specs.Causes.{IsUnmade};
 
 use blocks::Disk;
-use layout::{mkfs_as, plan};
+use layout::plan;
 use model::types::Form;
+use offline::mkfs_as;
 use std::alloc::Global;
 use std::io::Write;
 use texts::{Refusal, print_numbers};

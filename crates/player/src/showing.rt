@@ -6,7 +6,7 @@ ghost use Rattle.blocks.specs.Disk.{CountsFault};
 ghost use Rattle.model.specs.Files.{bytes_in, file_in, files_of};
 ghost use Rattle.model.specs.Log.{logged_count, recovered};
 ghost use Rattle.model.specs.Verdict.{verdict};
-ghost use Rattle.layout.specs.Recovered.{IsRecoveredOf, MayReadFile};
+ghost use Rattle.offline.specs.Recovered.{IsRecoveredOf, MayReadFile};
 ghost use Rattle.wal.specs.Recovery.{LeavesIfCalm, RecoversAs};
 ghost use Rattle.opening.specs.Recoveries.{IsRecovered};
 ghost use Rattle.player.specs.Refusal.{IsOfCat};
@@ -14,8 +14,9 @@ ghost use Rattle.player.specs.Showing.{IsInodeOf, IsNotShown, IsPartly, IsReader
 
 use blocks::{BLOCK_SIZE, Block, Disk, DiskFault};
 use layout::header::Header;
-use layout::laws::checked_files_may_be_read;
-use layout::{Dinode, LOG_START, Recovered, superblock};
+use layout::{Dinode, LOG_START, superblock};
+use offline::Recovered;
+use offline::laws::checked_files_may_be_read;
 use opening::recover_image;
 use std::alloc::Global;
 use std::io::Write;

@@ -1,6 +1,6 @@
 // Disks and outputs that fail.
 use blocks::{DiskFault, FaultyDisk, Kind, MemDisk};
-use layout::mkfs;
+use offline::mkfs;
 use player::{check_disk, recover_disk, replay_disk};
 use runner::run_disk;
 use scripts::{processes, read_schedule, read_script};

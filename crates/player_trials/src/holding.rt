@@ -1,6 +1,6 @@
 // A disk that holds writes back, of which a sync fails.
 use blocks::{FaultyDisk, Kind, MemDisk, SyncDisk};
-use layout::{check, mkfs};
+use offline::{check, mkfs};
 use player::replay_disk;
 use scripts::{processes, read_schedule, read_script};
 use std::alloc::Global;

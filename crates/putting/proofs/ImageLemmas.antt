@@ -3,8 +3,8 @@ use Rattle.std.proofs.Common.{◌≡◌, ◌≢◌, ◌∙◌, ℕ, ◌<◌, ◌
 use Rattle.std.specs.List.{range_with_len}
 use Rattle.std.proofs.lemmas.Bool.{ne_eqb}
 use Rattle.blocks.specs.Disk.{Image, Rose, block_at}
-use Rattle.layout.specs.Cause.{IsCause}
-use Rattle.layout.specs.declared.recovered.Recovered.{Recovered}
+use Rattle.offline.specs.Cause.{IsCause}
+use Rattle.offline.specs.declared.recovered.Recovered.{Recovered}
 use Rattle.model.specs.Fields.{u32_at, has_bit}
 use Rattle.model.specs.Files.{bytes_in, file_in, file_of, files_of}
 use Rattle.model.specs.Layout.{form_of, inode_count_of, inode_of, magic_of, super_of}

@@ -3,9 +3,9 @@ use Rattle.std.specs.Prelude.{◌≡◌, ◌≤◌, ◌<◌, ◌^◌, ℕ, Optio
 use Rattle.blocks.specs.Calls.{OnlyReads}
 use Rattle.blocks.specs.Disk.{Image, Rose}
 use Rattle.blocks.specs.declared.disk.Disk.{Ghosts}
-use Rattle.layout.specs.Cause.{IsCause}
-use Rattle.layout.specs.Recovered.{IsRecoveredOf}
-use Rattle.layout.specs.declared.recovered.Recovered.{Recovered}
+use Rattle.offline.specs.Cause.{IsCause}
+use Rattle.offline.specs.Recovered.{IsRecoveredOf}
+use Rattle.offline.specs.declared.recovered.Recovered.{Recovered}
 use Rattle.model.specs.Files.{files_of}
 use Rattle.model.specs.Layout.{form_of, greatest_size}
 use Rattle.model.specs.Log.{recovered}

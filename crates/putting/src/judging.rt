@@ -9,7 +9,8 @@ ghost use Rattle.putting.specs.Places.{LacksOld};
 
 use crate::needs::{count_free, needed_blocks};
 use blocks::{Block, Disk};
-use layout::{CheckFault, Recovered, check, greatest_size};
+use layout::{CheckFault, greatest_size};
+use offline::{Recovered, check};
 use std::alloc::Global;
 use texts::{PutFault, Refusal};
 

@@ -8,9 +8,9 @@ use crate::setting::Setting;
 use crate::tally::Tally;
 use anyhow::ensure;
 use blocks::{Block, Disk, MemDisk};
-use layout::mkfs_as;
 use model::content::Content;
 use model::types::File;
+use offline::mkfs_as;
 use plain::files::Files;
 use std::alloc::Global;
 

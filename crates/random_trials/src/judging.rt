@@ -2,8 +2,8 @@
 use crate::ground::{Ground, blocks_of};
 use anyhow::ensure;
 use blocks::MemDisk;
-use layout::check;
 use model::types::{Entry, File};
+use offline::check;
 use plain::files::Files;
 use plain::journal::{is_kept, replay_answered, replay_kept};
 use plain::report::files_after_recovery;

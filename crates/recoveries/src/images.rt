@@ -6,7 +6,8 @@ ghost use Rattle.opening.specs.Recoveries.{IsRecovered};
 ghost use Rattle.recoveries.specs.Images.{IsFound, IsRecoveredTo, is_want_of_memory, new_image};
 
 use blocks::{Block, Disk, MemDisk, NoMemory};
-use layout::{CheckFault, mkfs};
+use layout::CheckFault;
+use offline::mkfs;
 use opening::recover_image;
 use plain::files::Files;
 use plain::report::files_after_recovery;

@@ -6,8 +6,8 @@ ghost use Rattle.ring_desk.specs.Sessions.{AreCallersOf};
 use blocks::MemDisk;
 use desk::{done, operation, text_of, told_answer};
 use kernel::{Kernel, Step};
-use layout::mkfs;
 use model::types::Op;
+use offline::mkfs;
 use std::alloc::{AllocError, Global};
 use sysring::{Board, BoardHerald, Caller, Keeper, RingIntake, Watch, rings, settle};
 

@@ -5,8 +5,8 @@ ghost use Rattle.sysring.specs.Frames.{AreWorkers};
 
 use blocks::MemDisk;
 use kernel::Kernel;
-use layout::{check, mkfs};
 use model::types::Op;
+use offline::{check, mkfs};
 use std::alloc::{AllocGlobal, Global};
 use std::process::Abort;
 use std::rt::Clock;

@@ -5,7 +5,8 @@ ghost use Rattle.texts.specs.Output.{copied_text, counts_text, files_text, image
 
 use crate::refusal::Refusal;
 use itoa::Buffer;
-use layout::{Report, Super};
+use layout::Super;
+use offline::Report;
 use std::fmt::Display;
 use std::io::Write;
 

@@ -2,7 +2,8 @@
 use crate::ground::MOST_CALLS;
 use anyhow::{bail, ensure};
 use blocks::{FaultyDisk, Kind, MemDisk};
-use layout::{CheckFault, mkfs};
+use layout::CheckFault;
+use offline::mkfs;
 use player::cat_disk;
 use putting::put_disk;
 use std::alloc::Global;

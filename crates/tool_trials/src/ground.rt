@@ -2,7 +2,7 @@
 use anyhow::bail;
 use blocks::{Kind, MemDisk};
 use desk::blocks_of;
-use layout::mkfs;
+use offline::mkfs;
 use putting::put_disk;
 use std::alloc::Global;
 

@@ -9,7 +9,7 @@ use Rattle.blocks.specs.declared.file.FileDisk.{FileDisk}
 use Rattle.copying.specs.Copies.{IsCopied, IsUncopied}
 use Rattle.copying.specs.declared.fault.CopyFault.{CopyFault as Fault}
 use Rattle.copying.specs.declared.fault.CopyFault.TheVariants as fault
-use Rattle.layout.specs.Cause.{IsCause}
+use Rattle.offline.specs.Cause.{IsCause}
 use Rattle.layout.specs.declared.geometry.MkfsFault.TheVariants as mkfs
 use Rattle.model.specs.Layout.{form_of, inode_count_of, is_size, super_of}
 use Rattle.model.specs.Verdict.{verdict}

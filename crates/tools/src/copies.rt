@@ -8,8 +8,9 @@ ghost use Rattle.tools.specs.Copies.{HasCopied, IsPlanned, IsUnplanned, OnCopyRe
 use blocks::{Disk, FileDisk};
 use copying::{CopyFault as Fault, Progress, copy};
 use filedisks::open_disk;
-use layout::{check, plan};
+use layout::plan;
 use model::types::Form;
+use offline::check;
 use std::alloc::Global;
 use std::fs::exists;
 use std::io::Write;

@@ -1,7 +1,8 @@
 // Reading an image as recovery would leave it.
 use blocks::{Block, Disk, MemDisk, NoMemory};
-use layout::laws::checked_files_may_be_read;
-use layout::{Dinode, Form, Recovered, bitmap, check, entries, inode, mkfs_as};
+use layout::{Dinode, Form, bitmap, entries, inode};
+use offline::laws::checked_files_may_be_read;
+use offline::{Recovered, check, mkfs_as};
 use std::alloc::Global;
 use std::test::Fail;
 

@@ -3,8 +3,8 @@ use Rattle.blocks.specs.Disk.{Image}
 use Rattle.model.specs.Layout.{inode_count_of}
 use Rattle.model.specs.Log.{recovered}
 use Rattle.model.specs.Verdict.{geometry_fault, log_fault, or_else}
-use Rattle.layout.specs.Cause.{IsCause}
-use Rattle.layout.specs.Recovered.{IsRecoveredOf}
+use Rattle.offline.specs.Cause.{IsCause}
+use Rattle.offline.specs.Recovered.{IsRecoveredOf}
 use Rattle.copying.specs.Source.{AreFirstKinds}
 use Rattle.copying.proofs.SourceLemmas.{kinds_cut, not_two, open_rose}
 use Rattle.copying.proofs.source.read_source.Goals as goal

@@ -6,7 +6,7 @@ use Rattle.blocks.specs.Lemmas.Reads.{reads_then}
 use Rattle.model.specs.Fields.{words_of}
 use Rattle.model.specs.Log.{recovered}
 use Rattle.model.specs.Lemmas.Log.{length-recovered}
-use Rattle.layout.specs.Recovered.{IsRecoveredOf}
+use Rattle.offline.specs.Recovered.{IsRecoveredOf}
 use Rattle.listing.specs.Owned.{owned_under}
 use Rattle.listing.proofs.OwnedLemmas.{under_none, names_here, names_entry, next_done, entry_more, entry_all, under_done}
 use Rattle.listing.proofs.owned.+add_under.Goals as goal

@@ -3,7 +3,7 @@ use Rattle.std.specs.Prelude.{MatchOption}
 use Rattle.std.proofs.lemmas.Result.{err_from_is_err_and}
 use Rattle.blocks.specs.Disk.{Image, Rose}
 use Rattle.blocks.specs.Lemmas.Reads.{reads_then}
-use Rattle.layout.specs.Recovered.{IsRecoveredOf}
+use Rattle.offline.specs.Recovered.{IsRecoveredOf}
 use Rattle.model.specs.Files.{files_of}
 use Rattle.model.specs.Layout.{form_of, greatest_size}
 use Rattle.model.specs.Log.{recovered}

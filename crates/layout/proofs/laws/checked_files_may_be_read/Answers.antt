@@ -1,5 +1,0 @@
-use Rattle.layout.proofs.FilesLemmas.{checked_files_may_be_read}
-use Rattle.layout.proofs.laws.checked_files_may_be_read.Goals as goal
-
-pub returns : goal.returns
-returns c = checked_files_may_be_read

@@ -1,6 +1,0 @@
-use Rattle.std.proofs.Common.{inl, arith}
-use Rattle.layout.proofs.CheckLemmas.{opening_short}
-use Rattle.layout.proofs.recovered.Recovered.open.Goals as goal
-
-pub returns-then-size-lt2-clause-fault : goal.returns-then-size-lt2-clause-fault
-returns-then-size-lt2-clause-fault g c = inl (opening_short (g.D.Disk.image c.args.disk.now) (omega (arith, c.size.ensures)))

@@ -1,0 +1,59 @@
+-- The pointers under addresses, step by step.
+use Rattle.std.proofs.Common.{◌≡◌, ◌≢◌, ℕ, zero, suc, ◌+◌, ◌-◌, ◌<◌, ◌≤◌, List, [], ◌∷◌, ◌++◌, length, get_or, drop, refl}
+use Rattle.std.proofs.lemmas.Bool.{ne_eqb}
+use Rattle.std.proofs.Math.Numerals.{sub-one}
+use Rattle.std.proofs.lemmas.List.{at_drop_more, at_drop_all, drop_more, drop_all}
+use Rattle.blocks.specs.Disk.{Image, block_at}
+use Rattle.model.specs.declared.types.image.Pointer.{Pointer}
+use Rattle.model.specs.Fields.{words_of}
+use Rattle.model.specs.Layout.{reach}
+use Rattle.model.specs.Places.{pointer_of, pointers_under, pointers_behind, pointers_along}
+use Rattle.offline.specs.Owners.{entry_pointers}
+
+-- an address with nothing under it but its block
+pub under_data : (y : Image) (size depth first address : ℕ) → depth ≡ 0 → pointers_under y size depth first address ≡ pointer_of size first address ∷ []
+under_data y size depth first address leaf = rw leaf refl
+
+pub under_none : (y : Image) (size depth first address : ℕ) → address ≡ 0 → pointers_under y size depth first address ≡ pointer_of size first address ∷ []
+under_none y size zero first address none = refl
+under_none y size (suc depth) first address none = rw none refl
+
+-- the address itself comes first
+pub under_first : (y : Image) (size depth first address : ℕ) →
+    (rest : List Pointer) × (pointers_under y size depth first address ≡ (pointer_of size first address ∷ []) ++ rest)
+under_first y size zero first address = ([], refl)
+under_first y size (suc depth) first address = (_, refl)
+
+-- a block of addresses
+pub under_block : (y : Image) (size depth first address : ℕ) → depth ≢ 0 → address ≢ 0 →
+    pointers_under y size depth first address
+    ≡ (pointer_of size first address ∷ []) ++ entry_pointers y size (depth - 1) first (words_of (block_at y address))
+under_block y size zero first address deep some = absurd (deep refl)
+under_block y size (suc depth) first address deep some = rw (ne_eqb address 0 some, sub-one) refl
+
+-- one entry more
+pub entry_more : (y : Image) (size depth first : ℕ) (entries : List ℕ) (k : ℕ) → k < length entries →
+    entry_pointers y size depth first (drop k entries)
+    ≡ pointers_under y size depth first (get_or entries k 0) ++ entry_pointers y size depth (first + reach depth) (drop (k + 1) entries)
+entry_more y size depth first entries k below =
+    at_drop_more (pointers_behind (λ f a. pointers_under y size depth f a) first (reach depth)) entries k 0 below
+
+-- behind the last entry there is none
+pub entry_all : (y : Image) (size depth first : ℕ) (entries : List ℕ) (k : ℕ) → length entries ≤ k →
+    entry_pointers y size depth first (drop k entries) ≡ []
+entry_all y size depth first entries k high =
+    at_drop_all (pointers_behind (λ f a. pointers_under y size depth f a) first (reach depth)) entries k high
+
+-- one address of an inode more
+pub along_more : (y : Image) (size first : ℕ) (depths addresses : List ℕ) (k : ℕ) → k < length depths → k < length addresses →
+    pointers_along y size first (drop k depths) (drop k addresses)
+    ≡ pointers_under y size (get_or depths k 0) first (get_or addresses k 0)
+    ++ pointers_along y size (first + reach (get_or depths k 0)) (drop (k + 1) depths) (drop (k + 1) addresses)
+along_more y size first depths addresses k in_depths in_addresses =
+    let d = drop_more depths k 0 in_depths in
+    let a = drop_more addresses k 0 in_addresses in
+    rw (d, a) refl
+
+pub along_all : (y : Image) (size first : ℕ) (depths addresses : List ℕ) (k : ℕ) → length depths ≤ k →
+    pointers_along y size first (drop k depths) (drop k addresses) ≡ []
+along_all y size first depths addresses k high = rw (drop_all k depths high) refl

@@ -1,0 +1,143 @@
+-- Judging pointers one after the other.
+use Rattle.std.proofs.Common.{◌≡◌, ◌≢◌, ℕ, List, [], ◌∷◌, ◌++◌, Option, Some, None, Result, Ok, Err, inl, inr, refl, sym, ap, subst, ◌∙◌}
+use Rattle.std.proofs.lemmas.Bool.{ne_eqb}
+use Rattle.std.proofs.lemmas.List.{append_assoc, append-nil}
+use Rattle.blocks.specs.Disk.{Image}
+use Rattle.model.specs.declared.types.fault.CheckFault.{CheckFault}
+use Rattle.model.specs.declared.types.image.Pointer.{Pointer}
+use Rattle.model.specs.Log.{recovered}
+use Rattle.model.specs.Places.{addresses_in}
+use Rattle.model.specs.Lemmas.Names.{addresses_in-append}
+use Rattle.model.specs.Verdict.{or_else, address_fault, pointer_fault, first_pointer_fault}
+use Rattle.offline.specs.declared.owners.Owners.{Owners}
+use Rattle.offline.specs.Cause.{IsCause}
+use Rattle.offline.specs.Owners.{Stand, JudgesOn, JudgesPointers, Judges, JudgesAddress}
+
+or_none : {A : Type 0} (a : Option A) → or_else a None ≡ a
+or_none None = refl
+or_none (Some a) = refl
+
+-- a pointer to a block is judged by its address
+pub judged : (y : Image) (i : ℕ) (earlier : List ℕ) (p : Pointer) (new : Owners) (result : Result (Unit {0}) CheckFault) →
+    p.address ≢ 0 → JudgesAddress y i earlier p.address new result → Judges y i earlier (p ∷ []) new result
+judged y i earlier p new (Ok u) some h =
+    let no = ne_eqb p.address 0 some in
+    (rw no (or_none (address_fault y i earlier p.address) ∙ h.0), rw no h.1)
+judged y i earlier p new (Err fault) some h =
+    let no = ne_eqb p.address 0 some in
+    rw no (or_none (address_fault y i earlier p.address) ∙ h)
+
+pub or_else-assoc : {A : Type 0} (a b c : Option A) → or_else a (or_else b c) ≡ or_else (or_else a b) c
+or_else-assoc None b c = refl
+or_else-assoc (Some x) b c = refl
+
+-- the pointers of two lists are judged one list after the other
+pub first_pointer_fault-append : (y : Image) (i : ℕ) (earlier : List ℕ) (front back : List Pointer) →
+    first_pointer_fault y i earlier (front ++ back)
+    ≡ or_else (first_pointer_fault y i earlier front) (first_pointer_fault y i (earlier ++ addresses_in front) back)
+first_pointer_fault-append y i earlier [] back = rw (append-nil earlier) refl
+first_pointer_fault-append y i earlier (p ∷ front) back =
+    let here = earlier ++ addresses_in (p ∷ []) in
+    let joined : here ++ addresses_in front ≡ earlier ++ addresses_in (p ∷ front)
+    = append_assoc earlier (addresses_in (p ∷ [])) (addresses_in front) ∙ ap (λ r. earlier ++ r) (sym (addresses_in-append (p ∷ []) front)) in
+    ap (λ r. or_else (pointer_fault y i earlier p) r)
+    (first_pointer_fault-append y i here front back
+    ∙ ap (λ e. or_else (first_pointer_fault y i here front) (first_pointer_fault y i e back)) joined)
+    ∙ or_else-assoc (pointer_fault y i earlier p) (first_pointer_fault y i here front)
+    (first_pointer_fault y i (earlier ++ addresses_in (p ∷ front)) back)
+
+-- without a fault among the first, the judgement of the others is that of both
+pub judged_more : (y : Image) (i : ℕ) (earlier : List ℕ) (front back : List Pointer) (new : Owners) (result : Result (Unit {0}) CheckFault) →
+    first_pointer_fault y i earlier front ≡ None → Judges y i (earlier ++ addresses_in front) back new result →
+    Judges y i earlier (front ++ back) new result
+judged_more y i earlier front back new (Ok u) none h =
+    let joined : (earlier ++ addresses_in front) ++ addresses_in back ≡ earlier ++ addresses_in (front ++ back)
+    = append_assoc earlier (addresses_in front) (addresses_in back) ∙ ap (λ r. earlier ++ r) (sym (addresses_in-append front back)) in
+    (first_pointer_fault-append y i earlier front back ∙ rw none h.0, subst (Stand new y) joined h.1)
+judged_more y i earlier front back new (Err fault) none h = first_pointer_fault-append y i earlier front back ∙ rw none h
+
+-- a fault among the first is the first fault
+pub fault_early : (y : Image) (i : ℕ) (earlier : List ℕ) (front back : List Pointer) (fault : CheckFault) →
+    first_pointer_fault y i earlier front ≡ Some fault → first_pointer_fault y i earlier (front ++ back) ≡ Some fault
+fault_early y i earlier front back fault h = first_pointer_fault-append y i earlier front back ∙ rw h refl
+
+-- a cause that comes first
+pub cause_first : (a b : Option CheckFault) (old new : ℕ) (fault : CheckFault) → IsCause a old new fault → IsCause (or_else a b) old new fault
+cause_first a b old new fault (inl here) = inl (rw here refl)
+cause_first a b old new fault (inr other) = inr other
+
+-- what causes a fault of the others causes it of both, where the first have none
+pub cause_more : (y : Image) (i : ℕ) (earlier : List ℕ) (front back : List Pointer) (old new : ℕ) (fault : CheckFault) →
+    first_pointer_fault y i earlier front ≡ None →
+    IsCause (first_pointer_fault y i (earlier ++ addresses_in front) back) old new fault →
+    IsCause (first_pointer_fault y i earlier (front ++ back)) old new fault
+cause_more y i earlier front back old new fault none h =
+    rw (first_pointer_fault-append y i earlier front back, none) h
+
+-- the same for the whole judgement
+pub judged_on_more : (y : Image) (i : ℕ) (earlier : List ℕ) (front back : List Pointer) (old new : ℕ) (owners : Owners) (result : Result (Unit {0}) CheckFault) →
+    first_pointer_fault y i earlier front ≡ None → JudgesOn y i (earlier ++ addresses_in front) back old new owners result →
+    JudgesOn y i earlier (front ++ back) old new owners result
+judged_on_more y i earlier front back old new owners (Ok u) none h = judged_more y i earlier front back owners (Ok u) none h
+judged_on_more y i earlier front back old new owners (Err fault) none h = cause_more y i earlier front back old new fault none h
+
+-- a judgement without reads is one with reads
+judged_on : (y : Image) (i : ℕ) (earlier : List ℕ) (pointers : List Pointer) (old new : ℕ) (owners : Owners) (result : Result (Unit {0}) CheckFault) →
+    Judges y i earlier pointers owners result → JudgesOn y i earlier pointers old new owners result
+judged_on y i earlier pointers old new owners (Ok u) h = h
+judged_on y i earlier pointers old new owners (Err fault) h = inl h
+
+-- of the pointers `whole` of inode i, `rest` are still to be judged: those in front of them have no
+-- fault, and their places joined the table
+pub record HasJudged (y : Image) (i : ℕ) (earlier : List ℕ) (whole rest : List Pointer) (owners : Owners) : Type 0 where
+  pub front : List Pointer
+  pub split : whole ≡ front ++ rest
+  pub none : first_pointer_fault y i earlier front ≡ None
+  pub stand : Stand owners y (earlier ++ addresses_in front)
+
+-- all are, at first
+pub judged_none : (y : Image) (i : ℕ) (earlier : List ℕ) (whole : List Pointer) (owners : Owners) →
+    Stand owners y earlier → HasJudged y i earlier whole whole owners
+judged_none y i earlier whole owners stand = record {
+  front = [];
+  split = refl;
+  none = refl;
+  stand = subst (Stand owners y) (sym (append-nil earlier)) stand;
+}
+
+-- the next of them are judged without a fault
+pub judged_next : (y : Image) (i : ℕ) (earlier : List ℕ) (whole rest here next : List Pointer) (old new : ℕ) (owners after : Owners) →
+    HasJudged y i earlier whole rest owners → rest ≡ here ++ next → JudgesPointers y i here old new owners after (Ok tt) →
+    HasJudged y i earlier whole next after
+judged_next y i earlier whole rest here next old new owners after had cut judges =
+    let both = judged_on_more y i earlier had.front here old new after (Ok tt) had.none (judges (earlier ++ addresses_in had.front) had.stand) in
+    record {
+      front = had.front ++ here;
+      split = had.split ∙ ap (λ r. had.front ++ r) cut ∙ sym (append_assoc had.front here next);
+      none = both.0;
+      stand = both.1;
+    }
+
+-- the next of them have a fault, which is the first of all
+pub judged_fault : (y : Image) (i : ℕ) (earlier : List ℕ) (whole rest here next : List Pointer) (old new : ℕ) (owners after : Owners) (fault : CheckFault) →
+    HasJudged y i earlier whole rest owners → rest ≡ here ++ next → JudgesPointers y i here old new owners after (Err fault) →
+    IsCause (first_pointer_fault y i earlier whole) old new fault
+judged_fault y i earlier whole rest here next old new owners after fault had cut judges =
+    let both = judged_on_more y i earlier had.front here old new after (Err fault) had.none (judges (earlier ++ addresses_in had.front) had.stand) in
+    let split : whole ≡ (had.front ++ here) ++ next = had.split ∙ ap (λ r. had.front ++ r) cut ∙ sym (append_assoc had.front here next) in
+    rw (split, first_pointer_fault-append y i earlier (had.front ++ here) next) (cause_first (first_pointer_fault y i earlier (had.front ++ here)) _ old new fault both)
+
+-- none are, at last
+pub judged_all : (y : Image) (i : ℕ) (earlier : List ℕ) (whole rest : List Pointer) (old new : ℕ) (owners : Owners) →
+    HasJudged y i earlier whole rest owners → rest ≡ [] → JudgesOn y i earlier whole old new owners (Ok tt)
+judged_all y i earlier whole rest old new owners had none =
+    let split : whole ≡ had.front = had.split ∙ ap (λ r. had.front ++ r) none ∙ append-nil had.front in
+    rw split (had.none, had.stand)
+
+-- a judgement over an image that is the same, from a count of faults that is the same
+pub judged_same : (x z : Image) (i : ℕ) (pointers : Image → List Pointer) (n old new : ℕ) (owners after : Owners) (result : Result (Unit {0}) CheckFault) →
+    x ≡ z → n ≡ old → JudgesPointers (recovered x) i (pointers (recovered x)) n new owners after result →
+    JudgesPointers (recovered z) i (pointers (recovered z)) old new owners after result
+judged_same x z i pointers n old new owners after result same count judges =
+    subst (λ (f : ℕ). JudgesPointers (recovered z) i (pointers (recovered z)) f new owners after result) count
+    (subst (λ (y : Image). JudgesPointers (recovered y) i (pointers (recovered y)) n new owners after result) same judges)

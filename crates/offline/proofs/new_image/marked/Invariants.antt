@@ -1,0 +1,6 @@
+use Rattle.std.proofs.Common.{◌≡◌}
+use Rattle.model.specs.Codec.{first_bits}
+use Rattle.offline.proofs.new_image.marked.Given as goal
+
+abbrev pub invariant-loop-k : goal.invariant-loop-k
+invariant-loop-k l = l.block ≡ first_bits l.k

@@ -1,0 +1,6 @@
+pub mod Making
+pub mod Laws
+pub mod Cause
+pub mod Owners
+pub mod Recovered
+pub mod Check
