@@ -1,5 +1,4 @@
 pub mod Reading
-pub mod Refused
 pub mod Undone
 pub mod Sequences
 mod Disks

@@ -11,11 +11,12 @@ module _ {F N : Type 0} (file : FileGhosts F N) where
   one_more_done (line ∷ lines) words a b c is done = (is.0, is.1, one_more_done lines words is.0 b c is.2 done)
 
   -- the command of line i was not done, and those before it were
-  pub stops_here : {X : Type 0} (f : X → List (List ℕ)) (xs : List X) (i : ℕ) (d : X) (old mid new : Option (List ℕ)) → i < length xs → AreDone file (map f (take i xs)) old mid → IsNotDone file (f (get_or xs i d)) mid new → StopsAmong file (map f xs) old new
-  stops_here f xs i d old mid new within done fails = record {
+  pub stops_here : {X O : Type 0} (contents : O → Option (List ℕ)) (f : X → List (List ℕ)) (xs : List X) (i : ℕ) (d : X) (old mid new : O) → i < length xs → AreDone file (map f (take i xs)) (contents old) (contents mid)
+      → IsNotDone file contents (f (get_or xs i d)) mid new → StopsAmong file contents (map f xs) old new
+  stops_here contents f xs i d old mid new within done fails = record {
     before = map f (take i xs);
     words = f (get_or xs i d);
-    behind = map f (drop (suc i) xs);
+    after = map f (drop (suc i) xs);
     mid = mid;
     split = ap (map f) (sym (take-append-drop i xs)) ∙ ap (λ rest. map f (take i xs ++ rest)) (drop-cons xs i d within) ∙ map-append f (take i xs) (get_or xs i d ∷ drop (suc i) xs);
     done = done;

@@ -107,19 +107,20 @@ AreDone file [] old new = new ≡ old
 AreDone file (words ∷ rest) old new = (mid : Option (List ℕ)) × IsDone file words old mid
     × AreDone file rest mid new
 
--- the command of these words ended without being done, and this was printed
-abbrev pub IsNotDone : {F N : Type 0} → FileGhosts F N → List (List ℕ) → Option (List ℕ)
-    → Option (List ℕ) → Type 0
-IsNotDone file words old new = (f : Failure) × IsUndone file words old new (new ≡ old) f
+-- the command of these words ended without being done, and left this of the output
+abbrev pub IsNotDone : {F N O : Type 0} → FileGhosts F N → (O → Option (List ℕ))
+    → List (List ℕ) → O → O → Type 0
+IsNotDone file contents words old new =
+    (f : Failure) × IsUndone file words (contents old) (contents new) (new ≡ old) f
 
 -- the commands of these lines were done, one after the other, up to one that was not, and none
--- behind it was begun
-pub record StopsAmong {F N : Type 0} (file : FileGhosts F N) (lines : List (List (List ℕ)))
-    (old new : Option (List ℕ)) : Type 0 where
+-- after it was begun
+pub record StopsAmong {F N O : Type 0} (file : FileGhosts F N) (contents : O → Option (List ℕ))
+    (lines : List (List (List ℕ))) (old new : O) : Type 0 where
   pub before : List (List (List ℕ))
   pub words : List (List ℕ)
-  pub behind : List (List (List ℕ))
-  pub mid : Option (List ℕ)
-  pub split : lines ≡ before ++ words ∷ behind
-  pub done : AreDone file before old mid
-  pub fails : IsNotDone file words mid new
+  pub after : List (List (List ℕ))
+  pub mid : O
+  pub split : lines ≡ before ++ words ∷ after
+  pub done : AreDone file before (contents old) (contents mid)
+  pub fails : IsNotDone file contents words mid new

@@ -39,8 +39,7 @@ where
         (script_in (lines_in bytes)) (O.contents out.old) (O.contents out.new)) }
     ensures stopped { IfSome (I.remaining input) (λ bytes. result ≢ 0 → StopsAmong (ghosts_of
         R.File.remaining ⟦<FileDisk<R::File> as Disk>⟧ ⟦<FaultyDisk<FileDisk<R::File>> as Disk>⟧)
-        (script_in (lines_in bytes)) (O.contents out.old) (O.contents out.new)
-        ⊎ (out.new ≡ out.old)) }
+        O.contents (script_in (lines_in bytes)) out.old out.new ⊎ (out.new ≡ out.old)) }
     ensures silent { result ≡ 0 → err.new ≡ err.old }
 {
     match read_text(rt.alloc(), input) {
@@ -87,8 +86,7 @@ where
         (script_in (lines_in text.now)) (O.contents out.old) (O.contents out.new) }
     ensures stopped { result ≢ 0 → StopsAmong (ghosts_of R.File.remaining
         ⟦<FileDisk<R::File> as Disk>⟧ ⟦<FaultyDisk<FileDisk<R::File>> as Disk>⟧)
-        (script_in (lines_in text.now)) (O.contents out.old) (O.contents out.new)
-        ⊎ (out.new ≡ out.old) }
+        O.contents (script_in (lines_in text.now)) out.old out.new ⊎ (out.new ≡ out.old) }
     ensures silent { result ≡ 0 → err.new ≡ err.old }
 {
     match script_of(rt.alloc(), text) {
@@ -112,8 +110,8 @@ where
         (O.contents out.old) (O.contents out.new) }
     ensures stopped { result ≢ 0 → StopsAmong (ghosts_of R.File.remaining
         ⟦<FileDisk<R::File> as Disk>⟧ ⟦<FaultyDisk<FileDisk<R::File>> as Disk>⟧)
-        (map (λ words. map (λ word. word.now) words.items) lines.now)
-        (O.contents out.old) (O.contents out.new) }
+        O.contents (map (λ words. map (λ word. word.now) words.items) lines.now)
+        out.old out.new }
     ensures silent { result ≡ 0 → err.new ≡ err.old }
 {
     for words in lines {

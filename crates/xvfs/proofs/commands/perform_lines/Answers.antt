@@ -27,8 +27,8 @@ returns-then-status-ne0-clause-stopped g c =
     let file = seen_by g.R.File.Read.remaining in
     let contents = g.O.Write.contents in
     let lt : c.loop-words.words-index < length c.args.lines.now = search rules in
-    λ other. stops_here file (λ words. map (λ word. word.now) words.items) c.args.lines.now c.loop-words.words-index _ (contents c.args.out.now) (contents c.loop-words.out) (contents c.command-status.new.out) lt
+    λ other. stops_here file contents (λ words. map (λ word. word.now) words.items) c.args.lines.now c.loop-words.words-index _ c.args.out.now c.loop-words.out c.command-status.new.out lt
     c.loop-words.invariant.done
-    (subst (λ ws. IsNotDone file (map (λ word. word.now) ws) (contents c.loop-words.out) (contents c.command-status.new.out)) (c.as_slice.ensures.value ∙ ap (λ v. v.items) c.words-item.is)
-    (not_done file _ (contents c.loop-words.out) (contents c.command-status.new.out) (c.command-status.new.out ≡ c.loop-words.out) c.command-status.result (λ same. ap contents same) c.command-status.ensures.status other
+    (subst (λ ws. IsNotDone file contents (map (λ word. word.now) ws) c.loop-words.out c.command-status.new.out) (c.as_slice.ensures.value ∙ ap (λ v. v.items) c.words-item.is)
+    (not_done file contents _ c.loop-words.out c.command-status.new.out c.command-status.result c.command-status.ensures.status other
     c.command-status.ensures.refused c.command-status.ensures.wrong))
