@@ -8,6 +8,7 @@ ghost use Rattle.blocks.specs.contracts.block.Block.{the_row as block_row};
 ghost use Rattle.bcache.specs.Current.{is_of};
 ghost use Rattle.bcache.specs.Links.{changed_entries, links_of, walk};
 ghost use Rattle.bcache.specs.Buffers.{IsCache, buffer, found, victim, acquire_answer, after_acquire, taken, filled, changed, released, pinned, unpinned, lock_answer, after_lock, take_answer, after_take, block_or_zero, EndsUnfilled, fresh_buffers, empty_buffer};
+ghost use Rattle.bcache.specs.Numbers.{HasNot};
 ghost use Rattle.bcache.specs.contracts.cache.Cache.{the_row};
 
 use crate::order::Order;
@@ -25,17 +26,22 @@ const SLOTS: usize = 40;
 #[derive(Drop)]
 pub struct Cache {
     buffers: Vec<Buffer>,
+    // The number of each slot's block once more, side by side, where a search meets no buffer. That
+    // of a slot that was never taken means nothing.
+    numbers: [u32; SLOTS],
     order: Order,
 }
 
 impl Model for Cache {
-    ghost use Rattle.bcache.specs.Buffers.{Buffers, IsCache};
+    ghost use Rattle.bcache.specs.Buffers.{Buffers};
+    ghost use Rattle.bcache.specs.Numbers.{IsNumbered};
 
     ghost Value = { Buffers };
 
     ghost view = { λ c. record { slots = c.buffers.items; order = c.order } };
 
-    ghost invariant = { λ c. IsCache (record { slots = c.buffers.items; order = c.order }) };
+    ghost invariant = { λ c.
+        IsNumbered c.numbers (record { slots = c.buffers.items; order = c.order }) };
 }
 
 impl Cache {
@@ -54,6 +60,7 @@ impl Cache {
         }
         Ok(Cache {
             buffers,
+            numbers: [u32::MAX; SLOTS],
             order: Order::new(),
         })
     }
@@ -70,6 +77,15 @@ impl Cache {
         ensures slot { result ≡ found self.now block }
         ensures within { IfSome result (λ slot. slot < 40) }
     {
+        let places = places_of(&self.numbers, block);
+        if places == 0 {
+            return None;
+        }
+        let slot = places - 1;
+        if slot < 40 && is_of(&self.buffers[slot as usize], block) {
+            return Some(slot);
+        }
+        // The number stands also at a slot that was never taken: rare, so the buffers are asked.
         match place_of(&self.buffers, block) {
             Some(place) => Some(place as u32),
             None => None,
@@ -236,6 +252,7 @@ impl Cache {
         requires other { found self.old block ≡ None }
         ensures { self.new ≡ taken self.old pid block slot }
     {
+        self.numbers[slot as usize] = block;
         let buffer = &mut self.buffers[slot as usize];
         buffer.block = Some(block);
         buffer.valid = false;
@@ -305,4 +322,18 @@ fn place_of(buffers: &[Buffer], block: u32) -> Option<usize>
     ensures within { IfSome result (λ place. place < length buffers.now) }
 {
     buffers.iter().position(|buffer| is_of(buffer, block))
+}
+
+// The places of a number, counted from 1, added up: 0 where it has none, and its place where it has
+// one. No number ends the sum early, so that several are compared at once.
+fn places_of(numbers: &[u32; SLOTS], number: u32) -> u32
+    ensures { result ≡ 0 → HasNot numbers.now number 40 }
+{
+    let mut places = 0;
+    for slot in 0..SLOTS {
+        if numbers[slot] == number {
+            places += slot as u32 + 1;
+        }
+    }
+    places
 }

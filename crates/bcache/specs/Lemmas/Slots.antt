@@ -115,7 +115,8 @@ cache_released c i is lt =
       once = record { same = kept.once.same };
     }
 
-empty_at : (n j : ℕ) → get_or (replicate n empty_buffer) j empty_buffer ≡ empty_buffer
+-- slots that were never taken have no block
+pub empty_at : (n j : ℕ) → get_or (replicate n empty_buffer) j empty_buffer ≡ empty_buffer
 empty_at zero j = refl
 empty_at (suc n) zero = refl
 empty_at (suc n) (suc j) = empty_at n j
