@@ -24,6 +24,9 @@ impl Source {
         ensures polled { polled self.new.caller ≡ polled self.old.caller }
         ensures all { HasHandedIn self.new }
     {
+        if !self.caller.has_room() {
+            return false;
+        }
         let mut moved = false;
         for _op in 0..self.backlog.count() {
             let Some(op) = self.backlog.next() else {

@@ -2,23 +2,24 @@
 ghost use Rattle.std.specs.Prelude.{◌≡◌, ◌≤◌, IfSome};
 ghost use Rattle.scripts.specs.Number.{number_of, number_up_to};
 
-use std::str;
-
 // The value of a number: decimal digits, with no sign and no zero in front.
 #[tactic(auto, unfolding(crate::specs::Number::number_of))]
 pub(crate) fn number(text: &[u8]) -> Option<u32>
     ensures { result ≡ number_of text.now }
 {
-    if !text.iter().all(|digit| digit.is_ascii_digit()) {
+    if text.is_empty() || (text.len() > 1 && text[0] == b'0') {
         return None;
     }
-    if text.len() > 1 && text[0] == b'0' {
-        return None;
+    let mut value = 0u32;
+    for digit in text {
+        if !digit.is_ascii_digit() {
+            return None;
+        }
+        value = value
+            .checked_mul(10)?
+            .checked_add(u32::from(*digit - b'0'))?;
     }
-    let Ok(digits) = str::from_utf8(text) else {
-        return None;
-    };
-    digits.parse().ok()
+    Some(value)
 }
 
 // The value of a number that is at most `most`.

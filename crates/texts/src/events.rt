@@ -1,14 +1,15 @@
 // What a turn of a schedule came to, and its line.
-ghost use Rattle.std.specs.Prelude.{◌≡◌, ◌*◌, ◌≤◌, Some, length};
+ghost use Rattle.std.specs.Prelude.{◌≡◌, ◌*◌, ◌≤◌, ◌++◌, Some, codes, length};
 ghost use Rattle.hex.specs.Hex.{encode_lower};
-ghost use Rattle.texts.specs.Events.{number_of, name_of, progress_text, bytes_text, reply_text, answer_text, event_text, is_last};
+ghost use Rattle.texts.specs.Events.{progress_text, bytes_text, reply_text, answer_text, event_text, is_last};
+ghost use Rattle.texts.specs.declared.events.Progress.TheVariants.{Sleeping};
 
 use itoa::Buffer;
-use model::types::{Answer, Reply, TRANSFER_LIMIT, Why};
+use model::types::{Answer, Reply, Why};
 use std::fmt;
 
-// The most bytes whose digits are made at once: those of the longest Read.
-const PIECE: usize = TRANSFER_LIMIT as usize;
+// The most bytes whose digits are made at once.
+const PIECE: usize = 256;
 
 /// What a step of a process came to.
 #[derive(Clone, Copy)]
@@ -63,9 +64,8 @@ impl fmt::Display for Event {
         let mut digits = Buffer::new();
         match self {
             Event::Stepped(pid, progress) => {
-                let pid = digits.format(*pid);
-                let progress = ProgressText(*progress);
-                write!(f, "{pid} {progress}")
+                f.write_str(digits.format(*pid))?;
+                f.write_str(rest_of_line(*progress))
             }
             Event::Answered(pid, answer) => {
                 let pid = digits.format(*pid);
@@ -81,27 +81,32 @@ impl fmt::Display for Event {
     }
 }
 
-// What a step came to, as a line tells it.
-#[derive(Drop)]
-struct ProgressText(Progress);
+// The rest of a line behind the process: what its step came to.
+fn rest_of_line(progress: Progress) -> &'static str
+    ensures { result.now ≡ codes " " ++ progress_text progress }
+{
+    match progress {
+        Progress::Moved => " moved",
+        Progress::Answered => " answered",
+        Progress::Sleeping(why) => sleeping_rest(why),
+        Progress::Idle => " idle",
+        Progress::NoMemory => " nomemory",
+        Progress::ShutDown => " shutdown",
+        Progress::Halted => " halted",
+    }
+}
 
-impl fmt::Display for ProgressText {
-    ghost output = { λ progress. Some (progress_text progress.0) };
-
-    fn fmt<W: fmt::Write>(&self, f: &mut fmt::Formatter<W>) -> fmt::Result {
-        match self.0 {
-            Progress::Moved => write!(f, "moved"),
-            Progress::Answered => write!(f, "answered"),
-            Progress::Sleeping(why) => {
-                let mut digits = Buffer::new();
-                let number = digits.format(number_of(why));
-                write!(f, "sleeping {number} {}", name_of(why))
-            }
-            Progress::Idle => write!(f, "idle"),
-            Progress::NoMemory => write!(f, "nomemory"),
-            Progress::ShutDown => write!(f, "shutdown"),
-            Progress::Halted => write!(f, "halted"),
-        }
+// The same of a step that waits for this.
+fn sleeping_rest(why: Why) -> &'static str
+    ensures { result.now ≡ codes " " ++ progress_text (Sleeping why) }
+{
+    match why {
+        Why::Committing => " sleeping 1 Committing",
+        Why::LogFull => " sleeping 2 LogFull",
+        Why::InodeHeld => " sleeping 3 InodeHeld",
+        Why::BufferHeld => " sleeping 4 BufferHeld",
+        Why::NoBuffer => " sleeping 5 NoBuffer",
+        Why::AnswersFull => " sleeping 6 AnswersFull",
     }
 }
 
@@ -191,32 +196,4 @@ fn digits_of<'a>(bytes: &[u8], place: &'a mut [u8]) -> &'a str
         unreachable!();
     };
     text
-}
-
-// The number of what a step waits for.
-fn number_of(why: Why) -> u32
-    ensures { result ≡ number_of why }
-{
-    match why {
-        Why::Committing => 1,
-        Why::LogFull => 2,
-        Why::InodeHeld => 3,
-        Why::BufferHeld => 4,
-        Why::NoBuffer => 5,
-        Why::AnswersFull => 6,
-    }
-}
-
-// The name of what a step waits for.
-fn name_of(why: Why) -> &'static str
-    ensures { result.now ≡ name_of why }
-{
-    match why {
-        Why::Committing => "Committing",
-        Why::LogFull => "LogFull",
-        Why::InodeHeld => "InodeHeld",
-        Why::BufferHeld => "BufferHeld",
-        Why::NoBuffer => "NoBuffer",
-        Why::AnswersFull => "AnswersFull",
-    }
 }

@@ -10,6 +10,6 @@ abbrev pub invariant-loop-piece : goal.invariant-loop-piece
 invariant-loop-piece g l =
     (goal.iterator-loop-piece g).can_next l.piece-iterator
     × (goal.iterator-loop-piece g).is_finite l.piece-iterator
-    × (chunks_size l.piece-iterator ≡ 3072)
+    × (chunks_size l.piece-iterator ≡ 256)
     × (IsPlainFormatter l.initial.f → (done : List ℕ) × HasWritten g.W.Write.write_str_gives l.initial.f done l.f
     × (done ++ encode_lower (chunks_rest l.piece-iterator) ≡ bytes_text l.fn.self.0.now))
