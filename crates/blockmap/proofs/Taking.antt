@@ -16,7 +16,7 @@ use Rattle.model.specs.Fields.{has_bit}
 use Rattle.model.specs.Lemmas.Codecs.{overwritten_zeroes, with_bit_written}
 use Rattle.wal.specs.Joint.{seen}
 use Rattle.wal.specs.Volume.{VolumeState, Holds}
-use Rattle.blockmap.specs.Balloc.{AllocState, MayAlloc, MayAllocAt, TakesLowest, Zeroes, byte_with, lowest_clear, lowest_in, with_taken}
+use Rattle.blockmap.specs.Balloc.{AllocState, AreFull, MayAlloc, MayAllocAt, TakesLowest, Zeroes, byte_with, lowest_clear, lowest_in, with_taken}
 use Rattle.driver.specs.Getting.{Puts, WritesBlock}
 use Rattle.blockmap.specs.Lemmas.Bitmap.{lowest_clear_found, not_false, not_true}
 use Rattle.driver.specs.Lemmas.Putting.{writes_put}
@@ -52,6 +52,32 @@ full_byte byte e = eqb-true byte 255 (not_false (eqb byte 255) e)
 
 some_clear : (byte : ℕ) → not (eqb byte 255) ≡ true → byte ≢ 255
 some_clear byte e full = let e' = not_true (eqb byte 255) e in let yes = eq-eqb byte 255 full in absurd (cc (e', yes))
+
+-- the first that isn't full, behind those that are
+pub first_clear : (bytes : List ℕ) (at : ℕ) → at < length bytes → get_or bytes at 0 ≢ 255 → AreFull bytes 0 at → Some at ≡ position (λ byte. not (eqb byte 255)) bytes
+first_clear bytes at inside clear full = by (position (λ byte. not (eqb byte 255)) bytes) refl
+  where
+    by : (found : Option ℕ) → position (λ byte. not (eqb byte 255)) bytes ≡ found → Some at ≡ position (λ byte. not (eqb byte 255)) bytes
+    by None e = absurd (clear (full_byte (get_or bytes at 0) (none_passes (λ byte. not (eqb byte 255)) bytes at 0 e inside)))
+    by (Some k) e =
+        let f = position-Some (λ byte. not (eqb byte 255)) bytes k 0 e in
+        ⊎_elim
+        (λ (low : k < at). absurd (some_clear (get_or bytes k 0) f.1 (full k (omega arith) low)))
+        (λ (from : at ≤ k). ⊎_elim
+        (λ (past : at < k). absurd (clear (full_byte (get_or bytes at 0) (f.2 at past))))
+        (λ (same : k ≤ at). let here : at ≡ k = omega (arith, from, same) in ap (λ (i : ℕ). Some i) here ∙ sym e)
+        (cases_lt at k))
+        (cases_lt k at)
+
+-- there is none
+pub all_full : (bytes : List ℕ) → AreFull bytes 0 (length bytes) → None ≡ position (λ byte. not (eqb byte 255)) bytes
+all_full bytes full = by (position (λ byte. not (eqb byte 255)) bytes) refl
+  where
+    by : (found : Option ℕ) → position (λ byte. not (eqb byte 255)) bytes ≡ found → None ≡ position (λ byte. not (eqb byte 255)) bytes
+    by None e = sym e
+    by (Some k) e =
+        let f = position-Some (λ byte. not (eqb byte 255)) bytes k 0 e in
+        absurd (some_clear (get_or bytes k 0) f.1 (full k (omega arith) f.0))
 
 -- where each byte is full no bit is clear
 pub none_clear : (bits : List ℕ) (size : ℕ) → size ≤ 8 * length bits → None ≡ position (λ byte. not (eqb byte 255)) bits → None ≡ lowest_clear bits size

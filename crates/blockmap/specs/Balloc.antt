@@ -39,6 +39,10 @@ IsLowestClear bits size (Some b) =
 abbrev pub LowestClear : Type 0
 LowestClear = (bits : List ℕ) (size : ℕ) → IsLowestClear bits size (lowest_clear bits size)
 
+-- the bytes from one place on, and before another, have no clear bit
+abbrev pub AreFull : List ℕ → ℕ → ℕ → Type 0
+AreFull bytes from end = (i : ℕ) → from ≤ i → i < end → slice_index bytes i ≡ 255
+
 -- the byte in which a block's bit stands, with that bit set
 abbrev pub byte_with : List ℕ → ℕ → ℕ
 byte_with bits b = bit_or (slice_index bits (b / 8)) (1 * 2 ^ (b % 8) % 2 ^ 8)

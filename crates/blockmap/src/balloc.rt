@@ -1,16 +1,19 @@
 // A block is taken.
-ghost use Rattle.std.specs.Prelude.{◌≡◌, ◌<◌, ◌==◌, not, position, None, Some};
+ghost use Rattle.std.specs.Prelude.{◌≡◌, ◌<◌, ◌≤◌, ◌+◌, ◌==◌, true, not, length, position, None, Some};
 ghost use Rattle.model.specs.Format.{bits_per_block};
 ghost use Rattle.wal.specs.Joint.{seen};
 ghost use Rattle.wal.specs.Machine.{HasRoom, used_by};
 ghost use Rattle.wal.specs.Volume.{Holds};
-ghost use Rattle.blockmap.specs.Balloc.{MayAlloc, Allocs, Zeroes, byte_with, lowest_clear};
+ghost use Rattle.blockmap.specs.Balloc.{MayAlloc, Allocs, AreFull, Zeroes, byte_with, lowest_clear};
 ghost use Rattle.blockmap.specs.declared.balloc.AllocAt.TheVariants as alloc_at;
 
 use blocks::{BLOCK_SIZE, Block, Disk};
 use driver::{Progress, get_block, put_block, release_block};
 use std::marker::Model;
 use wal::Volume;
+
+// So many bytes of a bitmap are looked at at once.
+const GROUP: usize = 32;
 
 /// Where the taking of a block stands.
 #[derive(Clone, Copy)]
@@ -152,7 +155,39 @@ fn lowest_clear(bits: &Block, size: u32) -> Option<u32>
 fn first_not_full(bytes: &[u8]) -> Option<usize>
     ensures { result ≡ position (λ byte. not (byte == 255)) bytes.now }
 {
-    bytes.iter().position(|byte| *byte != u8::MAX)
+    for place in full_groups(bytes)..bytes.len() {
+        if bytes[place] != u8::MAX {
+            return Some(place);
+        }
+    }
+    None
+}
+
+// The place behind the whole groups of bytes without a clear bit with which these begin.
+fn full_groups(bytes: &[u8]) -> usize
+    ensures within { result ≤ length bytes.now }
+    ensures full { AreFull bytes.now 0 result }
+{
+    let groups = bytes.len() / GROUP;
+    for group in 0..groups {
+        if !is_full(bytes, group * GROUP) {
+            return group * GROUP;
+        }
+    }
+    groups * GROUP
+}
+
+// Whether the group of bytes at a place has no clear bit. No byte ends the search early, so that
+// several are compared at once.
+fn is_full(bytes: &[u8], at: usize) -> bool
+    requires { at + 32 ≤ length bytes.now }
+    ensures { result ≡ true → AreFull bytes.now at (at + 32) }
+{
+    let mut full = true;
+    for place in at..at + GROUP {
+        full &= bytes[place] == u8::MAX;
+    }
+    full
 }
 
 // The byte in which a block's bit stands, with that bit set.

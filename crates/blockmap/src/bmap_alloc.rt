@@ -16,6 +16,7 @@ use driver::{Progress, get_block, put_block, release_block};
 use layout::entries::{bytes, entry};
 use model::types::Dinode;
 use std::marker::Model;
+use std::snapshot::Snapshot;
 use wal::Volume;
 
 /// Where a writer's way to a block of a file stands.
@@ -109,15 +110,26 @@ impl BmapAlloc {
         ensures there { LeadsThere D.image result self.old.branch self.old.at inode.new
             volume.new }
     {
-        let at = self.at;
-        match at {
-            MapAt::Address(take) => self.take_address(volume, pid, inode, take),
-            MapAt::Entry { node, slot } => match slot {
-                None => self.get(volume, pid, node),
-                Some(slot) => self.find_entry(volume, pid, node, slot),
-            },
-            MapAt::Behind { node, slot, take } => self.take_behind(volume, pid, node, slot, take),
-            MapAt::Setting { node, slot, found } => self.set_entry(volume, pid, node, slot, found),
+        match &self.at {
+            MapAt::Address(take) => {
+                let was = Snapshot::of(take);
+                self.take_address(volume, pid, inode, was)
+            }
+            MapAt::Entry { node, slot } => {
+                let (node, slot) = (*node, *slot);
+                match slot {
+                    None => self.get(volume, pid, node),
+                    Some(slot) => self.find_entry(volume, pid, node, slot),
+                }
+            }
+            MapAt::Behind { node, slot, take } => {
+                let (node, slot, was) = (*node, *slot, Snapshot::of(take));
+                self.take_behind(volume, pid, node, slot, was)
+            }
+            MapAt::Setting { node, slot, found } => {
+                let (node, slot, found) = (*node, *slot, *found);
+                self.set_entry(volume, pid, node, slot, found)
+            }
         }
     }
 
@@ -127,20 +139,22 @@ impl BmapAlloc {
         volume: &mut Volume<D>,
         pid: u32,
         inode: &mut Dinode,
-        mut take: Balloc,
+        _was: Snapshot<Balloc>,
     ) -> Progress<Option<u32>>
         requires fault { volume.old.fault ≡ None }
         requires pid { pid < 32 }
         requires room { HasRoom (used_by volume.old.log pid) }
         requires ready { MayMap D.image volume.old pid self.old inode.old }
-        requires at { self.old.at ≡ map_at.Address take }
-        ensures steps { MapSteps D.Disk (map_at.Address take) volume.old pid self.old inode.old
+        requires at { self.old.at ≡ map_at.Address _was.value }
+        ensures steps { MapSteps D.Disk (map_at.Address _was.value) volume.old pid self.old inode.old
             result self.new inode.new volume.new }
-        ensures there { LeadsThere D.image result self.old.branch (map_at.Address take) inode.new
-            volume.new }
+        ensures there { LeadsThere D.image result self.old.branch (map_at.Address _was.value)
+            inode.new volume.new }
     {
+        let MapAt::Address(take) = &mut self.at else {
+            unreachable!();
+        };
         let progress = take.step(volume, pid);
-        self.at = MapAt::Address(take);
         if let Progress::Over(Some(block)) = progress {
             inode.addrs[self.branch.index] = block;
             return self.go_on(block, self.branch.depth, self.branch.rest);
@@ -216,26 +230,27 @@ impl BmapAlloc {
         pid: u32,
         node: Node,
         slot: u32,
-        mut take: Balloc,
+        _was: Snapshot<Balloc>,
     ) -> Progress<Option<u32>>
         requires fault { volume.old.fault ≡ None }
         requires pid { pid < 32 }
         requires room { HasRoom (used_by volume.old.log pid) }
-        requires take { MayAlloc D.image volume.old pid take }
-        ensures steps { (d : Dinode) → MapSteps D.Disk (map_at.Behind node slot take) volume.old
-            pid self.old d result self.new d volume.new }
+        requires at { self.old.at ≡ map_at.Behind node slot _was.value }
+        requires take { MayAlloc D.image volume.old pid _was.value }
+        ensures steps { (d : Dinode) → MapSteps D.Disk (map_at.Behind node slot _was.value)
+            volume.old pid self.old d result self.new d volume.new }
         ensures there { (d : Dinode) → LeadsThere D.image result self.old.branch
-            (map_at.Behind node slot take) d volume.new }
+            (map_at.Behind node slot _was.value) d volume.new }
     {
+        let MapAt::Behind { take, .. } = &mut self.at else {
+            unreachable!();
+        };
         match take.step(volume, pid) {
             Progress::Over(found) => {
                 self.at = MapAt::Setting { node, slot, found };
                 Progress::Moved
             }
-            progress => {
-                self.at = MapAt::Behind { node, slot, take };
-                progress
-            }
+            progress => progress,
         }
     }
 

@@ -41,6 +41,7 @@ mod WriteBlocks
 mod WriteEntries
 mod WriteDoes
 mod WriteEnds
+mod Staying
 mod FreePlaces
 mod KeptBlocks
 mod GoesOn

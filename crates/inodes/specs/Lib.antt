@@ -5,6 +5,7 @@ pub mod Grips
 pub mod Holding
 pub mod Ialloc
 pub mod Ilock
+pub mod InPlace
 pub mod Itrunc
 pub mod Iupdate
 pub mod Lemmas

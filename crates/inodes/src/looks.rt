@@ -20,6 +20,7 @@ use driver::Driven;
 use layout::{bitmap_block, greatest_size};
 use model::gathered::Gathered;
 use model::types::{Dinode, Form, Op, Reply, TaskProgress};
+use std::snapshot::Snapshot;
 
 impl<D: Disk> Store<D> {
     /// Begins the task of an operation that looks at a file, and opens nothing in the log. A reading
@@ -48,7 +49,7 @@ impl<D: Disk> Store<D> {
         self.volume.known();
         match lock.step(&mut self.inodes, &mut self.volume, pid) {
             Progress::Moved => {
-                self.tasks.go(pid, Place::Taking(lock));
+                self.tasks.go_taking(pid, lock);
                 TaskProgress::Moved
             }
             Progress::Sleeping(why) => TaskProgress::Sleeping(why),
@@ -140,25 +141,26 @@ impl<D: Disk> Store<D> {
         pid: u32,
         op: &Op,
         place: usize,
-        mut writing: Writei,
+        writing: Snapshot<Writei>,
     ) -> TaskProgress
         requires fault { self.old.volume.fault ≡ None }
         requires pid { pid < length self.old.tasks }
         requires op { (task self.old.tasks pid).op ≡ Some op.now }
-        requires at { (task self.old.tasks pid).place ≡ stands_at.Writing place writing }
+        requires at { (task self.old.tasks pid).place ≡ stands_at.Writing place writing.value }
         ensures step { Steps D.Disk self.old pid op.now result self.new }
     {
         self.volume.known();
-        match writing.step(&mut self.volume, pid, bytes_of(op)) {
-            Progress::Moved => {
-                self.tasks.go(pid, Place::Writing { place, writing });
-                TaskProgress::Moved
-            }
+        match self
+            .tasks
+            .write_on(&mut self.volume, pid, bytes_of(op), place, writing)
+        {
+            Progress::Moved => TaskProgress::Moved,
             Progress::Sleeping(why) => TaskProgress::Sleeping(why),
             Progress::Over(()) => {
-                self.inodes.renew(place, Some(writing.inode()));
+                let (inode, done) = self.tasks.written(pid);
+                self.inodes.renew(place, Some(inode));
                 self.tasks.go(pid, Place::Leaving { place });
-                TaskProgress::Decided(Reply::Wrote(writing.done()))
+                TaskProgress::Decided(Reply::Wrote(done))
             }
             Progress::Fault(fault) => TaskProgress::Fault(fault),
         }

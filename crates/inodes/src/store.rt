@@ -21,6 +21,7 @@ use blocks::Disk;
 use layout::{Form, Super};
 use model::types::{Op, Reply, TaskProgress};
 use std::marker::Model;
+use std::snapshot::Snapshot;
 use wal::{Began, Committed, Ended, Volume};
 
 /// A volume with the tasks of up to 32 processes, whose steps go on in any order. Contracts say
@@ -165,31 +166,49 @@ impl<D: Disk> Store<D> {
     {
         match self.tasks.place(pid) {
             Place::Nowhere => TaskProgress::Over,
-            Place::Creating(search) => self.search(pid, search),
-            Place::Taking(lock) => self.take(pid, op, lock),
-            Place::Reading { place, reading } => self.read(pid, place, reading),
-            Place::Delivering { place } => self.deliver(pid, place),
-            Place::Truncating { place, trunc } => self.truncate(pid, place, trunc),
-            Place::Writing { place, writing } => self.write(pid, op, place, writing),
-            Place::Leaving { place } => self.leave(pid, place),
+            Place::Creating(search) => {
+                let was = Snapshot::of(search);
+                self.search(pid, was)
+            }
+            Place::Taking(lock) => {
+                let lock = *lock;
+                self.take(pid, op, lock)
+            }
+            Place::Reading { place, reading } => {
+                let (place, reading) = (*place, *reading);
+                self.read(pid, place, reading)
+            }
+            Place::Delivering { place } => {
+                let place = *place;
+                self.deliver(pid, place)
+            }
+            Place::Truncating { place, trunc } => {
+                let (place, trunc) = (*place, *trunc);
+                self.truncate(pid, place, trunc)
+            }
+            Place::Writing { place, writing } => {
+                let (place, was) = (*place, Snapshot::of(writing));
+                self.write(pid, op, place, was)
+            }
+            Place::Leaving { place } => {
+                let place = *place;
+                self.leave(pid, place)
+            }
         }
     }
 
     // The next step of a creation's search.
-    fn search(&mut self, pid: u32, mut search: Ialloc) -> TaskProgress
+    fn search(&mut self, pid: u32, search: Snapshot<Ialloc>) -> TaskProgress
         requires fault { self.old.volume.fault ≡ None }
         requires pid { pid < length self.old.tasks }
-        requires at { (task self.old.tasks pid).place ≡ place.Creating search }
+        requires at { (task self.old.tasks pid).place ≡ place.Creating search.value }
         ensures step { (op : Op) → (task self.old.tasks pid).op ≡ Some op
             → Steps D.Disk self.old pid op result self.new }
     {
         self.volume.known();
         self.volume.image_known();
-        match search.step(&mut self.volume, pid) {
-            Progress::Moved => {
-                self.tasks.go(pid, Place::Creating(search));
-                TaskProgress::Moved
-            }
+        match self.tasks.search_on(&mut self.volume, pid, search) {
+            Progress::Moved => TaskProgress::Moved,
             Progress::Sleeping(why) => TaskProgress::Sleeping(why),
             Progress::Over(made) => {
                 self.tasks.go(pid, Place::Nowhere);

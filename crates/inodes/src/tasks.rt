@@ -1,16 +1,21 @@
 // What the processes' operations do next.
-ghost use Rattle.std.specs.Prelude.{◌≡◌, ◌<◌, length, replicate, slice_set, Some, None, IsSome, IfOk};
+ghost use Rattle.std.specs.Prelude.{◌≡◌, ◌<◌, length, replicate, slice_set, Some, None, IsSome, IfSome, IfOk};
+ghost use Rattle.wal.specs.Machine.{HasRoom, used_by};
 ghost use Rattle.inodes.specs.declared.tasks.Place.TheVariants as place;
+ghost use Rattle.inodes.specs.Ialloc.{MayStep};
+ghost use Rattle.inodes.specs.InPlace.{SearchesInPlace, WritesInPlace, writing_at};
 ghost use Rattle.inodes.specs.Tasks.{no_task, task};
+ghost use Rattle.inodes.specs.Writei.{MayWrite};
 
-use crate::{Ialloc, Ilock, Itrunc, Readi, Writei};
-use blocks::NoMemory;
+use crate::{Ialloc, Ilock, Itrunc, Progress, Readi, Writei};
+use blocks::{Disk, NoMemory};
 use driver::Driven;
 use model::gathered::Gathered;
-use model::types::Op;
+use model::types::{Dinode, Op};
 use std::alloc::Global;
 use std::marker::Model;
 use std::snapshot::Snapshot;
+use wal::Volume;
 
 /// Where a process's task stands.
 #[derive(Clone, Copy)]
@@ -99,11 +104,72 @@ impl Tasks {
     }
 
     /// Where a process's task stands.
-    pub fn place(&self, pid: u32) -> Place
+    pub fn place(&self, pid: u32) -> &Place
         requires { pid < length self.now }
-        ensures { result ≡ (task self.now pid).place }
+        ensures { result.now ≡ (task self.now pid).place }
     {
-        self.tasks[pid as usize].place
+        &self.tasks[pid as usize].place
+    }
+
+    // Makes the next step of a creation's search in the task, without a copy of it. What it was is
+    // told for the contract alone, here and below: no byte of it is read.
+    pub(crate) fn search_on<D: Disk>(
+        &mut self,
+        volume: &mut Volume<D>,
+        pid: u32,
+        _was: Snapshot<Ialloc>,
+    ) -> Progress<Option<u32>>
+        requires inside { pid < length self.old }
+        requires at { (task self.old pid).place ≡ place.Creating _was.value }
+        requires fault { volume.old.fault ≡ None }
+        requires pid { pid < 32 }
+        requires room { HasRoom (used_by volume.old.log pid) }
+        requires ready { MayStep D.image volume.old pid _was.value }
+        ensures { SearchesInPlace D.Disk volume.old self.old pid _was.value result
+            self.new volume.new }
+    {
+        let Place::Creating(search) = &mut self.tasks[pid as usize].place else {
+            unreachable!();
+        };
+        search.step(volume, pid)
+    }
+
+    // Makes the next step of a writing in the task.
+    pub(crate) fn write_on<D: Disk>(
+        &mut self,
+        volume: &mut Volume<D>,
+        pid: u32,
+        bytes: &[u8],
+        _place: usize,
+        _was: Snapshot<Writei>,
+    ) -> Progress<()>
+        requires inside { pid < length self.old }
+        requires at { (task self.old pid).place ≡ place.Writing _place _was.value }
+        requires fault { volume.old.fault ≡ None }
+        requires pid { pid < 32 }
+        requires room { HasRoom (used_by volume.old.log pid) }
+        requires all { length bytes.now ≡ _was.value.count }
+        requires ready { MayWrite D.image volume.old pid _was.value }
+        ensures { WritesInPlace D.Disk volume.old self.old pid _place _was.value bytes.now result
+            self.new volume.new }
+    {
+        let Place::Writing { writing, .. } = &mut self.tasks[pid as usize].place else {
+            unreachable!();
+        };
+        writing.step(volume, pid, bytes)
+    }
+
+    // The inode that a process wrote, and how many bytes.
+    pub(crate) fn written(&self, pid: u32) -> (Dinode, u32)
+        requires inside { pid < length self.now }
+        requires at { IsSome (writing_at (task self.now pid).place) }
+        ensures { IfSome (writing_at (task self.now pid).place)
+            (λ writing. (result.0 ≡ writing.inode) × (result.1 ≡ writing.done)) }
+    {
+        let Place::Writing { writing, .. } = &self.tasks[pid as usize].place else {
+            unreachable!();
+        };
+        (writing.inode(), writing.done())
     }
 
     /// A process begins the task of this operation, at that place, with room for the bytes that it
@@ -126,6 +192,18 @@ impl Tasks {
         ensures { self.new ≡ slice_set self.old pid (record (task self.old pid) { place = place }) }
     {
         self.tasks[pid as usize].place = place;
+    }
+
+    // Its task goes on with taking its inode. Where it did so before, only that is written.
+    pub(crate) fn go_taking(&mut self, pid: u32, lock: Ilock)
+        requires { pid < length self.old }
+        ensures { self.new ≡ slice_set self.old pid
+            (record (task self.old pid) { place = place.Taking lock }) }
+    {
+        match &mut self.tasks[pid as usize].place {
+            Place::Taking(at) => *at = lock,
+            at => *at = Place::Taking(lock),
+        }
     }
 
     /// Its task is over, and without bytes.

@@ -11,6 +11,7 @@ use blocks::{BLOCK_SIZE, Disk};
 use driver::{Progress, get_block, put_block};
 use model::types::{Dinode, Form};
 use std::marker::Model;
+use std::snapshot::Snapshot;
 use wal::Volume;
 
 /// Where the writing of a file's bytes stands.
@@ -130,14 +131,22 @@ impl Writei {
         ensures { WriteSteps D.Disk self.old.at volume.old pid self.old bytes.now result
             self.new volume.new }
     {
-        let at = self.at;
-        match at {
-            WriteAt::Mapping(way) => self.go_on(volume, pid, way),
-            WriteAt::Block { block, slot } => match slot {
-                None => self.get(volume, pid, block),
-                Some(slot) => self.write(volume, pid, block, slot, bytes),
-            },
-            WriteAt::Updating(update) => self.update(volume, pid, update),
+        match &self.at {
+            WriteAt::Mapping(way) => {
+                let was = Snapshot::of(way);
+                self.go_on(volume, pid, was)
+            }
+            WriteAt::Block { block, slot } => {
+                let (block, slot) = (*block, *slot);
+                match slot {
+                    None => self.get(volume, pid, block),
+                    Some(slot) => self.write(volume, pid, block, slot, bytes),
+                }
+            }
+            WriteAt::Updating(update) => {
+                let update = *update;
+                self.update(volume, pid, update)
+            }
         }
     }
 
@@ -146,20 +155,20 @@ impl Writei {
         &mut self,
         volume: &mut Volume<D>,
         pid: u32,
-        mut way: BmapAlloc,
+        _was: Snapshot<BmapAlloc>,
     ) -> Progress<()>
         requires fault { volume.old.fault ≡ None }
         requires pid { pid < 32 }
         requires room { HasRoom (used_by volume.old.log pid) }
         requires ready { MayWrite D.image volume.old pid self.old }
-        requires at { self.old.at ≡ write_at.Mapping way }
-        ensures { MapsOn D.Disk volume.old pid self.old way result self.new volume.new }
+        requires at { self.old.at ≡ write_at.Mapping _was.value }
+        ensures { MapsOn D.Disk volume.old pid self.old _was.value result self.new volume.new }
     {
+        let WriteAt::Mapping(way) = &mut self.at else {
+            unreachable!();
+        };
         match way.step(volume, pid, &mut self.inode) {
-            Progress::Moved => {
-                self.at = WriteAt::Mapping(way);
-                Progress::Moved
-            }
+            Progress::Moved => Progress::Moved,
             Progress::Sleeping(why) => Progress::Sleeping(why),
             Progress::Over(found) => {
                 self.at = match found {

@@ -40,7 +40,7 @@ invariant_of-self g c =
     let stood : (task s.tasks c.args.pid).place ≡ place.Taking c.args.lock = search rules in
     let is_op : (task s.tasks c.args.pid).op ≡ Some c.args.op.now = search rules in
     let joint = where_none s.volume.fault well c.known.ensures.joint in
-    store_taken g.D.Disk s c.args.pid c.args.op.now c.args.lock c.self.invariant well lt stood is_op joint progress.Moved c.step.new.self c.step.new.volume c.step.new.table c.go.new.self c.in-Moved.ensures c.go.ensures
+    store_taken g.D.Disk s c.args.pid c.args.op.now c.args.lock c.self.invariant well lt stood is_op joint progress.Moved c.step.new.self c.step.new.volume c.step.new.table c.go_taking.new.self c.in-Moved.ensures c.go_taking.ensures
 
 pub invariant_of-self-in-Sleeping : goal.invariant_of-self-in-Sleeping
 invariant_of-self-in-Sleeping g c =
@@ -119,8 +119,8 @@ invariant_of-self-in-Over g c =
     = c.place_when_taken.ensures ∙ ap (λ (e : Extent). place_when_taken e c.inode_at-inode.result c.place-place.result c.args.op.now) taken_there
     ∙ ap (λ (o : Option Dinode). place_when_taken (extent_of s.table.form s.table.inode_count s.volume.log.size) o c.place-place.result c.args.op.now) is
     ∙ ap (λ (k : ℕ). place_when_taken (extent_of s.table.form s.table.inode_count s.volume.log.size) (if_used c.in-Over.is_used (inode_of (current_of g.D.Disk.image s.volume) c.args.lock.number)) k c.args.op.now) c.place-place.ensures in
-    store_taken g.D.Disk s c.args.pid c.args.op.now c.args.lock c.self.invariant well lt stood is_op joint (progress.Over c.in-Over.is_used) c.step.new.self c.step.new.volume c.step.new.table c.go-in-Over.new.self c.in-Over.ensures
-    (c.go-in-Over.ensures ∙ ap (λ (a : Place). set s.tasks c.args.pid (record (task s.tasks c.args.pid) { place = a })) there)
+    store_taken g.D.Disk s c.args.pid c.args.op.now c.args.lock c.self.invariant well lt stood is_op joint (progress.Over c.in-Over.is_used) c.step.new.self c.step.new.volume c.step.new.table c.go.new.self c.in-Over.ensures
+    (c.go.ensures ∙ ap (λ (a : Place). set s.tasks c.args.pid (record (task s.tasks c.args.pid) { place = a })) there)
 
 pub returns-in-Moved : goal.returns-in-Moved
 returns-in-Moved g c =
@@ -131,8 +131,8 @@ returns-in-Moved g c =
     let is_op : (task s.tasks c.args.pid).op ≡ Some c.args.op.now = search rules in
     let joint = where_none s.volume.fault well c.known.ensures.joint in
     record {
-      step = subst (λ (k : StoreState _). Steps g.D.Disk k c.args.pid c.args.op.now task_progress.Moved (record { volume = c.step.new.volume; tasks = c.go.new.self; table = c.step.new.table })) c.self.view_is
-          (steps_taken g.D.Disk s c.args.pid c.args.op.now c.args.lock c.self.invariant well lt stood is_op joint progress.Moved c.step.new.self c.step.new.volume c.step.new.table c.go.new.self c.in-Moved.ensures c.go.ensures);
+      step = subst (λ (k : StoreState _). Steps g.D.Disk k c.args.pid c.args.op.now task_progress.Moved (record { volume = c.step.new.volume; tasks = c.go_taking.new.self; table = c.step.new.table })) c.self.view_is
+          (steps_taken g.D.Disk s c.args.pid c.args.op.now c.args.lock c.self.invariant well lt stood is_op joint progress.Moved c.step.new.self c.step.new.volume c.step.new.table c.go_taking.new.self c.in-Moved.ensures c.go_taking.ensures);
     }
 
 pub returns-in-Sleeping : goal.returns-in-Sleeping
@@ -171,10 +171,10 @@ returns-in-Over g c =
     let says : c.reply_when_taken.result ≡ reply_when_taken s.table.form (if_used c.in-Over.is_used d) c.args.op.now
     = c.reply_when_taken.ensures ∙ ap (λ (f : Form). reply_when_taken f c.inode_at-inode.result c.args.op.now) forms ∙ ap (λ (o : Option Dinode). reply_when_taken s.table.form o c.args.op.now) is in
     record {
-      step = subst (λ (r : Option Reply). Steps g.D.Disk c.args.self.now c.args.pid c.args.op.now (task_progress.Turned r) (record { volume = c.step.new.volume; tasks = c.go-in-Over.new.self; table = c.step.new.table })) (sym says)
-          (subst (λ (k : StoreState _). Steps g.D.Disk k c.args.pid c.args.op.now (task_progress.Turned (reply_when_taken s.table.form (if_used c.in-Over.is_used d) c.args.op.now)) (record { volume = c.step.new.volume; tasks = c.go-in-Over.new.self; table = c.step.new.table })) c.self.view_is
-          (steps_taken g.D.Disk s c.args.pid c.args.op.now c.args.lock c.self.invariant well lt stood is_op joint (progress.Over c.in-Over.is_used) c.step.new.self c.step.new.volume c.step.new.table c.go-in-Over.new.self c.in-Over.ensures
-          (c.go-in-Over.ensures ∙ ap (λ (a : Place). set s.tasks c.args.pid (record (task s.tasks c.args.pid) { place = a })) there)));
+      step = subst (λ (r : Option Reply). Steps g.D.Disk c.args.self.now c.args.pid c.args.op.now (task_progress.Turned r) (record { volume = c.step.new.volume; tasks = c.go.new.self; table = c.step.new.table })) (sym says)
+          (subst (λ (k : StoreState _). Steps g.D.Disk k c.args.pid c.args.op.now (task_progress.Turned (reply_when_taken s.table.form (if_used c.in-Over.is_used d) c.args.op.now)) (record { volume = c.step.new.volume; tasks = c.go.new.self; table = c.step.new.table })) c.self.view_is
+          (steps_taken g.D.Disk s c.args.pid c.args.op.now c.args.lock c.self.invariant well lt stood is_op joint (progress.Over c.in-Over.is_used) c.step.new.self c.step.new.volume c.step.new.table c.go.new.self c.in-Over.ensures
+          (c.go.ensures ∙ ap (λ (a : Place). set s.tasks c.args.pid (record (task s.tasks c.args.pid) { place = a })) there)));
     }
 
 pub returns-in-Fault : goal.returns-in-Fault

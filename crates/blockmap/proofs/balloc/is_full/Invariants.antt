@@ -1,0 +1,6 @@
+use Rattle.std.proofs.Common.{◌≡◌, true}
+use Rattle.blockmap.specs.Balloc.{AreFull}
+use Rattle.blockmap.proofs.balloc.is_full.Given as goal
+
+abbrev pub invariant-loop-place : goal.invariant-loop-place
+invariant-loop-place l = l.full ≡ true → AreFull l.bytes l.at l.place

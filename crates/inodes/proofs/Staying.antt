@@ -1,0 +1,181 @@
+-- A machine that has to wait, or whose disk fails, stays where it stands: so it may make its steps in
+-- the task that it is part of.
+use Rattle.std.proofs.Common.{get_or-set_same, set-set, set, length, ◌<◌, ◌≡◌, ℕ, List, refl, sym, ◌∙◌, ap, subst, Option, Some, None}
+use Rattle.std.specs.Prelude.{false, true, Bool, ◌==◌, if◌then◌else◌}
+use Rattle.blocks.specs.Disk.{Image}
+use Rattle.blocks.specs.declared.disk.Disk.{Ghosts}
+use Rattle.model.specs.declared.types.image.Dinode.{Dinode}
+use Rattle.bcache.specs.Buffers.{Buffers}
+use Rattle.wal.specs.Joint.{seen}
+use Rattle.wal.specs.Volume.{VolumeState}
+use Rattle.wal.specs.declared.types.Get.TheVariants as get
+use Rattle.wal.specs.declared.types.Get.{Get}
+use Rattle.driver.specs.Getting.{GetsFor, progress_of, slot_of}
+use Rattle.driver.specs.declared.progress.Progress.TheVariants as machine
+use Rattle.driver.specs.declared.progress.Progress.{Progress}
+use Rattle.blockmap.specs.Balloc.{AllocState, Allocs, TakesLowest, lowest_in}
+use Rattle.blockmap.specs.Bmap.{some_address}
+use Rattle.blockmap.specs.BmapAlloc.{FindsEntry, MapState, MapSteps, SetsEntry, after_address, address_at, after_behind, behind_at, naming}
+use Rattle.blockmap.specs.Branch.{named_by}
+use Rattle.blockmap.specs.declared.balloc.AllocAt.TheVariants as alloc_at
+use Rattle.blockmap.specs.declared.balloc.AllocAt.{AllocAt}
+use Rattle.blockmap.specs.declared.bmap_alloc.MapAt.TheVariants as map_at
+use Rattle.blockmap.specs.declared.bmap_alloc.MapAt.{MapAt}
+use Rattle.blockmap.specs.declared.branch.Branch.{Branch}
+use Rattle.blockmap.specs.declared.branch.Node.{Node}
+use Rattle.inodes.specs.declared.tasks.Place.TheVariants as place
+use Rattle.inodes.specs.declared.tasks.Place.{Place}
+use Rattle.inodes.specs.declared.writei.WriteAt.TheVariants as write_at
+use Rattle.inodes.specs.declared.writei.WriteAt.{WriteAt}
+use Rattle.inodes.specs.Ialloc.{SearchGoes, SearchState}
+use Rattle.inodes.specs.InPlace.{SearchesInPlace}
+use Rattle.inodes.specs.Iupdate.{UpdateState, Updates}
+use Rattle.inodes.specs.Tasks.{TaskState, no_task, task}
+use Rattle.inodes.specs.Writei.{WriteState, WriteSteps, progress_mapped, write_mapped}
+use Rattle.inodes.proofs.Gripping.{same_task}
+
+-- nothing was done
+abbrev pub Rests : {T : Type 0} → Progress T → Type 0
+Rests machine.Moved = ⊥
+Rests (machine.Sleeping why) = Unit {0}
+Rests (machine.Over out) = ⊥
+Rests (machine.Fault fault) = Unit {0}
+
+-- then no slot was got
+none_got : (T : Type 0) (a : Get) (s : Option ℕ) → Rests (progress_of {T = T} a) → s ≡ slot_of a → s ≡ None
+none_got T (get.Got i) s rests is = absurd rests
+none_got T (get.Sleeping why) s rests is = is
+none_got T (get.Fault fault) s rests is = is
+
+-- who comes to a block doesn't rest
+never_come : (b : Bool) (a : ℕ) → Rests (if b then machine.Over (Some a) else machine.Moved) → ⊥
+never_come true a rests = rests
+never_come false a rests = rests
+
+module _ {D N : Type 0} (disk : Ghosts D N) (v w : VolumeState D) (p : ℕ) where
+  gets : {T : Type 0} {b : ℕ} {r : Progress T} {s : Option ℕ} → GetsFor disk v p b r s w → Rests r → s ≡ None
+  gets {T} {b} {r} {s} g rests = none_got T g.answer s (subst (λ (q : Progress T). Rests q) g.gives rests) g.slot
+
+  -- ---- a block is taken
+
+  -- the bitmap's block is looked at with one step
+  takes : (o : Option ℕ) (m n : AllocState) (i : ℕ) (r : Progress (Option ℕ)) → TakesLowest disk o v p i m r n w → Rests r → ⊥
+  takes None m n i r does rests = subst (λ (q : Progress (Option ℕ)). Rests q) does.0 rests
+  takes (Some b) m n i r does rests = subst (λ (q : Progress (Option ℕ)). Rests q) does.0 rests
+
+  allocs : (m n : AllocState) (a : AllocAt) (r : Progress (Option ℕ)) → m.at ≡ a → Allocs disk a v p m r n w → Rests r → n ≡ m
+  allocs m n (alloc_at.Looking None) r at does rests = does.1 ∙ ap (λ (x : AllocAt). record m { at = x }) (ap alloc_at.Looking (gets does.2 rests) ∙ sym at)
+  allocs m n (alloc_at.Looking (Some i)) r at does rests = absurd (takes (lowest_in (seen (disk.image v.device) v.buffers) m) m n i r does rests)
+  allocs m n (alloc_at.Zeroing b None) r at does rests = does.1 ∙ ap (λ (x : AllocAt). record m { at = x }) (ap (alloc_at.Zeroing b) (gets does.2 rests) ∙ sym at)
+  allocs m n (alloc_at.Zeroing b (Some i)) r at does rests = absurd (subst (λ (q : Progress (Option ℕ)). Rests q) does.0 rests)
+
+  -- ---- the way to a block of a file
+
+  -- a way rests where what takes a block for it does
+  after_one : (b : Branch) (q : Progress (Option ℕ)) → Rests (after_address b q) → Rests q
+  after_one b machine.Moved rests = rests
+  after_one b (machine.Sleeping why) rests = tt
+  after_one b (machine.Over None) rests = rests
+  after_one b (machine.Over (Some a)) rests = absurd (never_come (b.depth == 0) a rests)
+  after_one b (machine.Fault fault) rests = tt
+
+  -- and stands where it stood, with the inode that it had
+  at_one : (b : Branch) (q : Progress (Option ℕ)) (t : AllocState) → Rests q → address_at b q t ≡ map_at.Address t
+  at_one b machine.Moved t rests = absurd rests
+  at_one b (machine.Sleeping why) t rests = refl
+  at_one b (machine.Over found) t rests = absurd rests
+  at_one b (machine.Fault fault) t rests = refl
+
+  named_none : (d : Dinode) (i : ℕ) (q : Progress (Option ℕ)) → Rests q → naming d i q ≡ d
+  named_none d i machine.Moved rests = absurd rests
+  named_none d i (machine.Sleeping why) rests = refl
+  named_none d i (machine.Over found) rests = absurd rests
+  named_none d i (machine.Fault fault) rests = refl
+
+  -- the same where the block is taken for an entry
+  behind_one : (q : Progress (Option ℕ)) → Rests (after_behind q) → Rests q
+  behind_one machine.Moved rests = rests
+  behind_one (machine.Sleeping why) rests = tt
+  behind_one (machine.Over found) rests = rests
+  behind_one (machine.Fault fault) rests = tt
+
+  at_behind : (c : Node) (i : ℕ) (q : Progress (Option ℕ)) (t : AllocState) → Rests q → behind_at c i q t ≡ map_at.Behind c i t
+  at_behind c i machine.Moved t rests = absurd rests
+  at_behind c i (machine.Sleeping why) t rests = refl
+  at_behind c i (machine.Over found) t rests = absurd rests
+  at_behind c i (machine.Fault fault) t rests = refl
+
+  -- an entry is read with one step, and set with one
+  finds : (o : Option ℕ) (c : Node) (i : ℕ) (m k : MapState) (r : Progress (Option ℕ)) → FindsEntry disk o v p c i m r k w → Rests r → ⊥
+  finds None c i m k r does rests = subst (λ (q : Progress (Option ℕ)). Rests q) does.0 rests
+  finds (Some b) c i m k r does rests = never_come (c.level == 0) b (subst (λ (q : Progress (Option ℕ)). Rests q) does.0.0 rests)
+
+  sets : (o : Option ℕ) (c : Node) (i : ℕ) (m k : MapState) (r : Progress (Option ℕ)) → SetsEntry disk o v p c i m r k w → Rests r → ⊥
+  sets None c i m k r does rests = subst (λ (q : Progress (Option ℕ)). Rests q) does.0 rests
+  sets (Some b) c i m k r does rests = never_come (c.level == 0) b (subst (λ (q : Progress (Option ℕ)). Rests q) does.0.0 rests)
+
+  pub maps : (m k : MapState) (d e : Dinode) (a : MapAt) (r : Progress (Option ℕ)) → m.at ≡ a → MapSteps disk a v p m d r k e w → Rests r → (k ≡ m) × (e ≡ d)
+  maps m k d e (map_at.Address t) r at does rests =
+      let still = after_one m.branch does.answer (subst (λ (q : Progress (Option ℕ)). Rests q) does.gives rests) in
+      let same = allocs t does.now t.at does.answer refl does.allocs still in
+      (does.next ∙ ap (λ (x : MapAt). record m { at = x }) (at_one m.branch does.answer does.now still ∙ ap map_at.Address same ∙ sym at), does.named ∙ named_none d m.branch.index does.answer still)
+  maps m k d e (map_at.Entry c None) r at does rests = (does.2 ∙ ap (λ (x : MapAt). record m { at = x }) (ap (map_at.Entry c) (gets does.1 rests) ∙ sym at), does.3)
+  maps m k d e (map_at.Entry c (Some i)) r at does rests = absurd (finds (some_address (named_by (seen (disk.image v.device) v.buffers) c)) c i m k r does.0 rests)
+  maps m k d e (map_at.Behind c i t) r at does rests =
+      let still = behind_one does.answer (subst (λ (q : Progress (Option ℕ)). Rests q) does.gives rests) in
+      let same = allocs t does.now t.at does.answer refl does.allocs still in
+      (does.next ∙ ap (λ (x : MapAt). record m { at = x }) (at_behind c i does.answer does.now still ∙ ap (map_at.Behind c i) same ∙ sym at), does.named)
+  maps m k d e (map_at.Setting c i found) r at does rests = absurd (sets found c i m k r does.0 rests)
+
+  -- ---- a writing
+
+  -- the inode's block is got
+  updates : (u n : UpdateState) (d : Dinode) (o : Option ℕ) (r : Progress (Unit {0})) → u.slot ≡ o → Updates disk o v p u d r n w → Rests r → n ≡ u
+  updates u n d None r at does rests = does.0 ∙ ap (λ (x : Option ℕ). record u { slot = x }) (gets does.1 rests ∙ sym at)
+  updates u n d (Some i) r at does rests = absurd (subst (λ (q : Progress (Unit {0})). Rests q) does.0 rests)
+
+  -- a writing rests where its way does, and stands on that way
+  mapped : (q : Progress (Option ℕ)) → Rests (progress_mapped q) → Rests q
+  mapped machine.Moved rests = rests
+  mapped (machine.Sleeping why) rests = tt
+  mapped (machine.Over found) rests = absurd rests
+  mapped (machine.Fault fault) rests = tt
+
+  at_mapped : (m : WriteState) (way : MapState) (d : Dinode) (q : Progress (Option ℕ)) → Rests q → write_mapped m way d q ≡ record m { inode = d }
+  at_mapped m way d machine.Moved rests = absurd rests
+  at_mapped m way d (machine.Sleeping why) rests = refl
+  at_mapped m way d (machine.Over found) rests = absurd rests
+  at_mapped m way d (machine.Fault fault) rests = refl
+
+  pub writes : (m n : WriteState) (a : WriteAt) (bytes : List ℕ) (r : Progress (Unit {0})) → m.at ≡ a → WriteSteps disk a v p m bytes r n w → Rests r → n ≡ m
+  writes m n (write_at.Mapping way) bytes r at does rests =
+      let still = mapped does.answer (subst (λ (q : Progress (Unit {0})). Rests q) does.gives rests) in
+      does.next ∙ at_mapped m does.now does.inode does.answer still ∙ ap (λ (d : Dinode). record m { inode = d }) (maps way does.now m.inode does.inode way.at does.answer refl does.steps still).1
+  writes m n (write_at.Block b None) bytes r at does rests = does.2 ∙ ap (λ (x : WriteAt). record m { at = x }) (ap (write_at.Block b) (gets does.1 rests) ∙ sym at)
+  writes m n (write_at.Block b (Some i)) bytes r at does rests = absurd (subst (λ (q : Progress (Unit {0})). Rests q) does.0 rests)
+  writes m n (write_at.Updating u) bytes r at does rests = does.2 ∙ ap (λ (x : WriteAt). record m { at = x }) (ap write_at.Updating (updates u does.0 m.inode u.slot r refl does.1 rests) ∙ sym at)
+
+-- ---- the tasks
+
+-- one that goes on from where it came to
+pub left_after : (ts us vs : List TaskState) (p : ℕ) (a b : Place) → p < length ts → us ≡ set ts p (record (task ts p) { place = a }) → vs ≡ set us p (record (task us p) { place = b })
+    → vs ≡ set ts p (record (task ts p) { place = b })
+left_after ts us vs p a b inside came goes = goes ∙ ap (λ (l : List TaskState). set l p (record (task l p) { place = b })) came
+    ∙ ap (λ (t : TaskState). set (set ts p (record (task ts p) { place = a })) p (record t { place = b })) (get_or-set_same ts p (record (task ts p) { place = a }) no_task inside)
+    ∙ set-set ts p (record (task ts p) { place = a }) (record (task ts p) { place = b })
+
+-- a search that rests
+search_stays : (o : Option ℕ) (x : Image) (b : Buffers) (m n : SearchState) (r : Progress (Option ℕ)) → SearchGoes o x b m r n → Rests r → n ≡ m
+search_stays o x b m n machine.Moved goes rests = absurd rests
+search_stays None x b m n (machine.Sleeping why) goes rests = goes.1
+search_stays (Some i) x b m n (machine.Sleeping why) goes rests = absurd goes
+search_stays o x b m n (machine.Over found) goes rests = absurd rests
+search_stays None x b m n (machine.Fault fault) goes rests = goes
+search_stays (Some i) x b m n (machine.Fault fault) goes rests = absurd goes
+
+-- and the tasks with it
+pub search_rests : {D N : Type 0} (disk : Ghosts D N) (v w : VolumeState D) (p : ℕ) (m : SearchState) (ts us : List TaskState) (r : Progress (Option ℕ)) → SearchesInPlace disk v ts p m r us w
+    → (task ts p).place ≡ place.Creating m → Rests r → us ≡ ts
+search_rests disk v w p m ts us r steps stood rests =
+    let stays = search_stays m.slot (seen (disk.image v.device) v.buffers) v.buffers m steps.now r steps.steps.goes rests in
+    steps.tasks ∙ ap (λ (n : SearchState). set ts p (record (task ts p) { place = place.Creating n })) stays ∙ sym (same_task ts p (place.Creating m) stood)

@@ -1,0 +1,37 @@
+-- What a step makes of the tasks, where it changes one of them in its place.
+use Rattle.std.specs.Prelude.{◌≡◌, ℕ, List, Option, Some, None, slice_set}
+use Rattle.blocks.specs.declared.disk.Disk.{Ghosts}
+use Rattle.driver.specs.declared.progress.Progress.{Progress}
+use Rattle.wal.specs.Volume.{VolumeState}
+use Rattle.inodes.specs.declared.tasks.Place.{Place}
+use Rattle.inodes.specs.declared.tasks.Place.TheVariants as place
+use Rattle.inodes.specs.Ialloc.{SearchState, SearchSteps}
+use Rattle.inodes.specs.Tasks.{TaskState, task}
+use Rattle.inodes.specs.Writei.{WriteState, WriteSteps}
+
+-- a search for a free number goes on where its task stands
+pub record SearchesInPlace {D N : Type 0} (disk : Ghosts D N) (v : VolumeState D)
+    (ts : List TaskState) (p : ℕ) (m : SearchState) (r : Progress (Option ℕ))
+    (us : List TaskState) (w : VolumeState D) : Type 0 where
+  pub now : SearchState
+  pub steps : SearchSteps disk m.slot v w p m now r
+  pub tasks : us ≡ slice_set ts p (record (task ts p) { place = place.Creating now })
+
+-- a writing of a file's bytes, whose inode stands at place k of the table
+pub record WritesInPlace {D N : Type 0} (disk : Ghosts D N) (v : VolumeState D)
+    (ts : List TaskState) (p k : ℕ) (m : WriteState) (bytes : List ℕ) (r : Progress (Unit {0}))
+    (us : List TaskState) (w : VolumeState D) : Type 0 where
+  pub now : WriteState
+  pub writes : WriteSteps disk m.at v p m bytes r now w
+  pub tasks : us ≡ slice_set ts p (record (task ts p) { place = place.Writing k now })
+
+-- the writing that a task is at, if it is at one
+abbrev pub writing_at : Place → Option WriteState
+writing_at place.Nowhere = None
+writing_at (place.Creating m) = None
+writing_at (place.Taking m) = None
+writing_at (place.Reading k m) = None
+writing_at (place.Delivering k) = None
+writing_at (place.Truncating k m) = None
+writing_at (place.Writing k m) = Some m
+writing_at (place.Leaving k) = None
