@@ -1,12 +1,9 @@
 // The images over which the scripts of a setting are run.
-ghost use Rattle.std.specs.Prelude.{◌≤◌};
-
-use crate::judging::judge_journal;
-use crate::playing::{open_over, play};
+use crate::playing::{Failure, Outcome, run};
 use crate::script::Script;
 use crate::setting::Setting;
 use crate::tally::Tally;
-use anyhow::ensure;
+use crate::wrong::{What, if_done};
 use blocks::{Block, Disk, MemDisk};
 use model::content::Content;
 use model::types::File;
@@ -20,31 +17,18 @@ pub struct Ground {
     pub seed: u64,
     pub setting: Setting,
     blocks: Vec<Block>,
-    files: Files,
+    pub files: Files,
 }
 
 impl Ground {
     /// That of a seed and a setting: a new image, or one in which the script's first operations were
     /// made.
-    pub fn new(alloc: Global, seed: u64, setting: Setting) -> anyhow::Result<Ground> {
-        let mut disk = MemDisk::new(alloc, setting.size)?;
-        mkfs_as(
-            alloc,
-            &mut disk,
-            setting.size,
-            setting.inode_count,
-            setting.form,
-        )?;
-        let fresh = Ground {
-            seed,
-            setting,
-            blocks: blocks_of(alloc, disk)?,
-            files: no_files(alloc, setting.inode_count)?,
-        };
+    pub fn new(alloc: Global, seed: u64, setting: Setting) -> Result<Ground, What> {
         if setting.laid == 0 {
-            return Ok(fresh);
+            return fresh(alloc, seed, setting);
         }
-        lay(alloc, &fresh)
+        let beginning = fresh(alloc, seed, setting.beginning())?;
+        lay(alloc, &beginning, setting)
     }
 
     /// The script, at its beginning.
@@ -58,44 +42,65 @@ impl Ground {
     }
 
     /// A disk with the image.
-    pub fn disk(&self, alloc: Global) -> anyhow::Result<MemDisk> {
+    pub fn disk(&self, alloc: Global) -> Result<MemDisk, What> {
         let mut disk = MemDisk::new(alloc, self.blocks.len().min(8191) as u32)?;
-        for (b, block) in (0..disk.size()).zip(self.blocks.iter()) {
-            if b < disk.size() {
-                disk.write(b, block)?;
-            }
-        }
-        Ok(disk)
+        if_done(write_all(&mut disk, &self.blocks), disk)
     }
 
-    /// Its files.
-    pub fn files(&self, alloc: Global) -> anyhow::Result<Files> {
+    /// A copy of its files.
+    pub fn copied_files(&self, alloc: Global) -> Result<Files, What> {
         let mut files = Vec::new(alloc);
-        for place in self.files.iter() {
-            files.push(copied(alloc, place)?)?;
-        }
-        Ok(files)
+        if_done(copy_all(alloc, &self.files, &mut files), files)
     }
+}
+
+// A new image.
+fn fresh(alloc: Global, seed: u64, setting: Setting) -> Result<Ground, What> {
+    let mut disk = MemDisk::new(alloc, setting.size)?;
+    let blocks = made_blocks(alloc, &mut disk, setting);
+    make_ground(seed, setting, blocks, no_files(alloc, setting.inode_count))
+}
+
+fn made_blocks(alloc: Global, disk: &mut MemDisk, setting: Setting) -> Result<Vec<Block>, What> {
+    mkfs_as(alloc, disk, setting.size, setting.inode_count, setting.form)?;
+    blocks_of(alloc, disk)
 }
 
 // Makes the operations with which a script begins over such an image, in the turns of one process.
-fn lay(alloc: Global, fresh: &Ground) -> anyhow::Result<Ground> {
-    let mut script = Script::new(fresh.seed, fresh.setting.beginning());
-    let mut kernel = open_over(alloc, fresh.disk(alloc)?, 1)?;
-    play(alloc, &mut kernel, &mut script, &mut Tally::new())?;
-    ensure!(kernel.fault().is_none(), "the disk failed");
-    let journal = kernel.journal();
-    let (_kept, files) = judge_journal(alloc, journal, fresh, kernel.committed(), false)?;
-    Ok(Ground {
-        seed: fresh.seed,
-        setting: fresh.setting,
-        blocks: blocks_of(alloc, kernel.into_disk())?,
-        files,
-    })
+fn lay(alloc: Global, beginning: &Ground, setting: Setting) -> Result<Ground, What> {
+    let disk = beginning.disk(alloc)?;
+    let mut outcome = Outcome::new(alloc);
+    let mut disk = run(
+        alloc,
+        disk,
+        beginning,
+        Failure::none(),
+        &mut Tally::new(),
+        &mut outcome,
+    );
+    let blocks = blocks_of(alloc, &mut disk);
+    make_ground(beginning.seed, setting, blocks, outcome.into_files())
+}
+
+fn make_ground(
+    seed: u64,
+    setting: Setting,
+    blocks: Result<Vec<Block>, What>,
+    files: Result<Files, What>,
+) -> Result<Ground, What> {
+    match (blocks, files) {
+        (Ok(blocks), Ok(files)) => Ok(Ground {
+            seed,
+            setting,
+            blocks,
+            files,
+        }),
+        (Err(what), _) | (_, Err(what)) => Err(what),
+    }
 }
 
 // No file for any number.
-fn no_files(alloc: Global, inode_count: u32) -> anyhow::Result<Files> {
+fn no_files(alloc: Global, inode_count: u32) -> Result<Files, What> {
     let mut files = Vec::new(alloc);
     for _number in 0..inode_count {
         files.push(None)?;
@@ -103,7 +108,14 @@ fn no_files(alloc: Global, inode_count: u32) -> anyhow::Result<Files> {
     Ok(files)
 }
 
-fn copied(alloc: Global, place: &Option<File>) -> anyhow::Result<Option<File>> {
+fn copy_all(alloc: Global, files: &[Option<File>], copies: &mut Files) -> Result<(), What> {
+    for place in files {
+        copies.push(copied(alloc, place)?)?;
+    }
+    Ok(())
+}
+
+fn copied(alloc: Global, place: &Option<File>) -> Result<Option<File>, What> {
     let Some(file) = place else {
         return Ok(None);
     };
@@ -113,15 +125,36 @@ fn copied(alloc: Global, place: &Option<File>) -> anyhow::Result<Option<File>> {
     }))
 }
 
-/// The blocks of a disk.
-pub fn blocks_of(alloc: Global, mut disk: MemDisk) -> anyhow::Result<Vec<Block>> {
-    let mut blocks = Vec::new(alloc);
-    for b in 0..disk.size() {
-        let mut block = Block::zeroed(alloc)?;
+fn write_all(disk: &mut MemDisk, blocks: &[Block]) -> Result<(), What> {
+    for (b, block) in (0..disk.size()).zip(blocks) {
         if b < disk.size() {
-            disk.read(b, &mut block)?;
+            disk.write(b, block)?;
         }
-        blocks.push(block)?;
     }
-    Ok(blocks)
+    Ok(())
+}
+
+/// The blocks of a disk.
+pub fn blocks_of(alloc: Global, disk: &mut MemDisk) -> Result<Vec<Block>, What> {
+    let mut blocks = Vec::new(alloc);
+    if_done(read_all(alloc, disk, &mut blocks), blocks)
+}
+
+fn read_all(alloc: Global, disk: &mut MemDisk, blocks: &mut Vec<Block>) -> Result<(), What> {
+    for b in 0..disk.size() {
+        blocks.push(block_of(alloc, disk, b)?)?;
+    }
+    Ok(())
+}
+
+fn block_of(alloc: Global, disk: &mut MemDisk, b: u32) -> Result<Block, What> {
+    let mut block = Block::zeroed(alloc)?;
+    if_done(read_into(disk, b, &mut block), block)
+}
+
+fn read_into(disk: &mut MemDisk, b: u32, block: &mut Block) -> Result<(), What> {
+    if b < disk.size() {
+        disk.read(b, block)?;
+    }
+    Ok(())
 }

@@ -1,19 +1,17 @@
 // Scripts over a disk that holds writes back: stops that lose some of these, and each sync failing.
 use crate::ground::Ground;
-use crate::judging::judge_journal;
-use crate::playing::{MOST_TURNS, judge_disk, open_over, play, take_turn};
+use crate::judging::{Due, judge_disk};
+use crate::playing::{Failure, MOST_TURNS, Outcome, Over, open, opened, run, take_turn};
+use crate::script::Script;
 use crate::setting::Setting;
-use crate::tally::Tally;
-use anyhow::{Context, bail, ensure};
-use blocks::{FaultyDisk, Kind, MemDisk, SyncDisk};
+use crate::tally::{Row, Tally};
+use crate::wrong::{Part, What, Wrong};
+use blocks::{Kind, MemDisk, SyncDisk};
 use chance::Chance;
-use kernel::{Kernel, OpenFault};
+use kernel::OpenFault;
 use model::types::Entry;
 use offline::check;
-use plain::files::Files;
-use ports::{PlainHerald, QueueIntake};
 use std::alloc::Global;
-use std::io;
 use wal::RecoverFault;
 
 // A stop is tried at one in so many turns.
@@ -22,132 +20,34 @@ const STOPS: u32 = 40;
 // More syncs than any of the scripts makes.
 const MOST_SYNCS: u64 = 100_000;
 
-/// What was lost at stops, and what was kept.
-#[derive(Drop)]
-pub struct Losses {
-    scripts: u64,
-    stops: u64,
-    syncs: u64,
-    lost: u64,
-    through: u64,
-    groups: u64,
-    operations: u64,
-    groups_more: u64,
-}
-
-// What the groups of a run that are kept have to leave.
-#[derive(Drop)]
-struct Due {
-    groups: u64,
-    operations: u64,
-    files: Files,
-}
-
-impl Losses {
-    /// Nothing was lost.
-    pub fn new() -> Losses {
-        Losses {
-            scripts: 0,
-            stops: 0,
-            syncs: 0,
-            lost: 0,
-            through: 0,
-            groups: 0,
-            operations: 0,
-            groups_more: 0,
-        }
-    }
-
-    /// Prints the table.
-    pub fn print(&self, rt: &impl Print) -> io::Result<()> {
-        println!(rt; "scripts {}", self.scripts)?;
-        println!(rt; "stops {}", self.stops)?;
-        println!(rt; "syncs that failed {}", self.syncs)?;
-        println!(rt; "held writes that got through {}", self.through)?;
-        println!(rt; "held writes that were lost {}", self.lost)?;
-        println!(rt; "groups kept {}", self.groups)?;
-        println!(rt; "operations kept {}", self.operations)?;
-        println!(rt; "one group more was kept {}", self.groups_more)
-    }
-
-    // The image that a stop leaves of a disk with some of the held writes, and whether its log has
-    // a header.
-    fn leave(
-        &mut self,
-        alloc: Global,
-        disk: &SyncDisk,
-        keep: &[bool; 64],
-    ) -> anyhow::Result<(MemDisk, bool)> {
-        let keep = &keep[..disk.held()];
-        for is_kept in keep {
-            if *is_kept {
-                self.through = self.through.saturating_add(1);
-            } else {
-                self.lost = self.lost.saturating_add(1);
-            }
-        }
-        let mut left = disk.left(keep)?;
-        let is_headed = check(alloc, &mut left)?.logged > 0;
-        Ok((left, is_headed))
-    }
-
-    // Judges such an image.
-    fn judge(
-        &mut self,
-        alloc: Global,
-        left: MemDisk,
-        due: &Due,
-        is_more: bool,
-    ) -> anyhow::Result<()> {
-        judge_disk(alloc, left, &due.files)?;
-        self.groups = self.groups.saturating_add(due.groups);
-        self.operations = self.operations.saturating_add(due.operations);
-        self.groups_more = self.groups_more.saturating_add(is_more as u64);
-        Ok(())
-    }
-}
-
-impl Due {
-    fn of(alloc: Global, journal: &[Entry], ground: &Ground, groups: u64) -> anyhow::Result<Due> {
-        let (operations, files) = judge_journal(alloc, journal, ground, groups, true)?;
-        Ok(Due {
-            groups,
-            operations,
-            files,
-        })
-    }
-}
-
 /// Stops a script at random turns, and loses random ones of the writes that are held then; and makes
 /// each sync of it fail in turn, those of the opening too.
-pub fn lose_some(
-    alloc: Global,
-    seed: u64,
-    setting: Setting,
-    losses: &mut Losses,
-) -> anyhow::Result<()> {
-    let mut chance = Chance::new(seed, 4);
-    let ground = Ground::new(alloc, seed, setting)?;
-    stop_at_turns(alloc, &ground, &mut chance, losses).context("stops")?;
-    refuse_opening(alloc, &ground).context("the opening")?;
+pub fn lose_some(alloc: Global, ground: &Ground, tally: &mut Tally) -> Result<(), Wrong> {
+    let mut chance = Chance::new(ground.seed, 4);
+    stop_at_turns(alloc, ground, &mut chance, tally)?;
+    if let Err(what) = refuse_opening(alloc, ground) {
+        return Err(what.at(Part::Sync, 1));
+    }
     for nth in 2..MOST_SYNCS {
         if !ground.fails(nth) {
             continue;
         }
-        let goes_on = fail_sync(alloc, &ground, nth, &mut chance, losses).context(format_args!(
-            "sync {nth}"
-        ))?;
-        if !goes_on {
-            losses.scripts = losses.scripts.saturating_add(1);
-            return Ok(());
+        match fail_sync(alloc, ground, nth, &mut chance, tally) {
+            Ok(true) => {}
+            Ok(false) => {
+                tally.add(Row::Scripts, 1);
+                return Ok(());
+            }
+            Err(what) => return Err(what.at(Part::Sync, nth)),
         }
     }
-    bail!("a script has too many syncs")
+    Err(What::NoEnd.at(Part::Sync, MOST_SYNCS))
 }
 
 // A disk that holds writes back, with the image of a ground.
-fn held_image(alloc: Global, ground: &Ground) -> anyhow::Result<SyncDisk> {
-    Ok(SyncDisk::new(alloc, ground.disk(alloc)?)?)
+fn held_image(alloc: Global, ground: &Ground) -> Result<SyncDisk, What> {
+    let disk = ground.disk(alloc)?;
+    Ok(SyncDisk::new(alloc, disk)?)
 }
 
 // Each held write gets through or is lost.
@@ -163,31 +63,65 @@ fn stop_at_turns(
     alloc: Global,
     ground: &Ground,
     chance: &mut Chance,
-    losses: &mut Losses,
-) -> anyhow::Result<()> {
-    let mut script = ground.script();
-    let mut kernel = open_over(alloc, held_image(alloc, ground)?, ground.setting.processes)?;
-    for _turn in 0..MOST_TURNS {
-        if script.is_over() {
-            ensure!(
-                kernel.committed() == kernel.opened(),
-                "a group is not committed"
-            );
-            return Ok(());
+    tally: &mut Tally,
+) -> Result<(), Wrong> {
+    let disk = match held_image(alloc, ground) {
+        Ok(disk) => disk,
+        Err(what) => return Err(what.at(Part::Turn, 0)),
+    };
+    match open(alloc, disk, ground.setting.processes) {
+        Ok(mut kernel) => {
+            let script = &mut ground.script();
+            take_turns(alloc, &mut kernel, script, ground, chance, tally)
         }
-        take_turn(alloc, &mut kernel, &mut script, &mut Tally::new())?;
-        ensure!(kernel.fault().is_none(), "the disk failed");
-        if stops_here(kernel.disk(), ground.setting, chance) {
-            let (left, is_headed) = losses.leave(alloc, kernel.disk(), &choice(chance))?;
-            // Only a header whose sync is still to come is in front of what is committed.
-            let is_more = is_headed && kernel.committed() < kernel.opened();
-            let groups = kernel.committed().saturating_add(is_more as u64);
-            let due = Due::of(alloc, kernel.journal(), ground, groups)?;
-            losses.judge(alloc, left, &due, is_more)?;
-            losses.stops = losses.stops.saturating_add(1);
+        Err((fault, _disk)) => Err(What::Opening(fault).at(Part::Turn, 0)),
+    }
+}
+
+fn take_turns(
+    alloc: Global,
+    kernel: &mut Over<SyncDisk>,
+    script: &mut Script,
+    ground: &Ground,
+    chance: &mut Chance,
+    tally: &mut Tally,
+) -> Result<(), Wrong> {
+    for turn in 0..MOST_TURNS {
+        match take_and_stop(alloc, kernel, script, ground, chance, tally) {
+            Ok(true) => {}
+            Ok(false) => return Ok(()),
+            Err(what) => return Err(what.at(Part::Turn, turn as u64)),
         }
     }
-    bail!("the run doesn't end")
+    Err(What::NoEnd.at(Part::Turn, MOST_TURNS as u64))
+}
+
+// Makes a turn, if the script has one more, and judges a stop behind it, if one is tried there.
+// Whether it has one more.
+fn take_and_stop(
+    alloc: Global,
+    kernel: &mut Over<SyncDisk>,
+    script: &mut Script,
+    ground: &Ground,
+    chance: &mut Chance,
+    tally: &mut Tally,
+) -> Result<bool, What> {
+    if script.is_over() {
+        let is_whole = kernel.committed() == kernel.opened();
+        return if is_whole {
+            Ok(false)
+        } else {
+            Err(What::GroupOpen)
+        };
+    }
+    take_turn(alloc, kernel, script, &mut Tally::new())?;
+    if kernel.fault().is_some() {
+        return Err(What::DiskFailed);
+    }
+    if stops_here(kernel.disk(), ground.setting, chance) {
+        judge_stop(alloc, kernel, ground, &choice(chance), tally)?;
+    }
+    Ok(true)
 }
 
 // Whether a stop is tried behind a turn that left the disk so.
@@ -198,18 +132,81 @@ fn stops_here(disk: &SyncDisk, setting: Setting, chance: &mut Chance) -> bool {
     disk.held() > 0 && (setting.each == 1 || chance.is_one_in(setting.each))
 }
 
-// The first sync fails: the opening is refused.
-fn refuse_opening(alloc: Global, ground: &Ground) -> anyhow::Result<()> {
-    let processes = ground.setting.processes;
-    let disk = FaultyDisk::new(held_image(alloc, ground)?, 1, Kind::Sync);
-    let intake = QueueIntake::new(alloc, processes)?;
-    match Kernel::open(alloc, disk, intake, PlainHerald::new(), processes) {
-        Ok(_kernel) => bail!("it is opened"),
-        Err((fault, _disk)) => {
-            let is_told = matches!(fault, OpenFault::Recover(RecoverFault::Sync));
-            ensure!(is_told, "{fault}");
-            Ok(())
+// Judges what a stop leaves with these of the held writes.
+fn judge_stop(
+    alloc: Global,
+    kernel: &Over<SyncDisk>,
+    ground: &Ground,
+    keep: &[bool; 64],
+    tally: &mut Tally,
+) -> Result<(), What> {
+    let mut left = lose(kernel.disk(), keep, tally)?;
+    // Only a header whose sync is still to come is in front of what is committed.
+    let is_open = kernel.committed() < kernel.opened();
+    let is_more = is_one_more(alloc, &mut left, is_open);
+    let mut due = Due::new(alloc);
+    due.groups = kernel.committed();
+    let is_more = judge_more(alloc, kernel.journal(), ground, is_more, &mut due);
+    judge_left(alloc, left, is_more, &due, tally)?;
+    tally.add(Row::Stops, 1);
+    Ok(())
+}
+
+// Judges a journal, for the files after the groups that are due, or after one more.
+fn judge_more(
+    alloc: Global,
+    journal: &[Entry],
+    ground: &Ground,
+    is_more: Result<bool, What>,
+    due: &mut Due,
+) -> Result<bool, What> {
+    let is_more = is_more?;
+    due.groups = due.groups.saturating_add(is_more as u64);
+    due.judge(alloc, journal, ground, true)?;
+    Ok(is_more)
+}
+
+// The image that a stop leaves of a disk with some of the held writes.
+fn lose(disk: &SyncDisk, keep: &[bool; 64], tally: &mut Tally) -> Result<MemDisk, What> {
+    let keep = &keep[..disk.held()];
+    for is_kept in keep {
+        tally.add(if *is_kept { Row::Through } else { Row::Lost }, 1);
+    }
+    Ok(disk.left(keep)?)
+}
+
+// Whether the image's log has the header of a group that is open.
+fn is_one_more(alloc: Global, left: &mut MemDisk, is_open: bool) -> Result<bool, What> {
+    Ok(check(alloc, left)?.logged > 0 && is_open)
+}
+
+// Judges such an image, which has one group more or hasn't.
+fn judge_left(
+    alloc: Global,
+    left: MemDisk,
+    is_more: Result<bool, What>,
+    due: &Due,
+    tally: &mut Tally,
+) -> Result<(), What> {
+    match is_more {
+        Ok(is_more) => {
+            tally.keep(due.groups, due.operations);
+            tally.add(Row::GroupsMore, is_more as u64);
+            judge_disk(alloc, left, &due.files)
         }
+        Err(what) => Err(what),
+    }
+}
+
+// The first sync fails: the opening is refused.
+fn refuse_opening(alloc: Global, ground: &Ground) -> Result<(), What> {
+    let (kind, nth) = (Kind::Sync, 1);
+    let disk = held_image(alloc, ground)?;
+    let (fault, _disk) = opened(alloc, disk, Failure { kind, nth }, ground.setting.processes);
+    match fault {
+        None => Err(What::IsOpened),
+        Some(OpenFault::Recover(RecoverFault::Sync)) => Ok(()),
+        Some(fault) => Err(What::Opening(fault)),
     }
 }
 
@@ -220,26 +217,54 @@ fn fail_sync(
     ground: &Ground,
     nth: u64,
     chance: &mut Chance,
-    losses: &mut Losses,
-) -> anyhow::Result<bool> {
-    let mut script = ground.script();
-    let disk = FaultyDisk::new(held_image(alloc, ground)?, nth, Kind::Sync);
-    let mut kernel = open_over(alloc, disk, ground.setting.processes)?;
-    play(alloc, &mut kernel, &mut script, &mut Tally::new())?;
-    if kernel.fault().is_none() {
+    tally: &mut Tally,
+) -> Result<bool, What> {
+    let kind = Kind::Sync;
+    let disk = held_image(alloc, ground)?;
+    let mut outcome = Outcome::new(alloc);
+    let unseen = &mut Tally::new();
+    let disk = run(
+        alloc,
+        disk,
+        ground,
+        Failure { kind, nth },
+        unseen,
+        &mut outcome,
+    );
+    judge_losses(alloc, &disk, &outcome, chance, tally)
+}
+
+fn judge_losses(
+    alloc: Global,
+    disk: &SyncDisk,
+    outcome: &Outcome,
+    chance: &mut Chance,
+    tally: &mut Tally,
+) -> Result<bool, What> {
+    outcome.done?;
+    if !outcome.has_failed {
         return Ok(false);
     }
-    let committed = kernel.committed();
-    let is_open = committed < kernel.opened();
-    let one = Due::of(alloc, kernel.journal(), ground, committed)?;
-    let groups = committed.saturating_add(is_open as u64);
-    let two = Due::of(alloc, kernel.journal(), ground, groups)?;
-    let disk = kernel.into_disk().into_inner();
-    for keep in [[false; 64], [true; 64], choice(chance)] {
-        let (left, is_headed) = losses.leave(alloc, &disk, &keep)?;
-        let is_more = is_headed && is_open;
-        losses.judge(alloc, left, if is_more { &two } else { &one }, is_more)?;
-    }
-    losses.syncs = losses.syncs.saturating_add(1);
+    judge_loss(alloc, disk, outcome, &[false; 64], tally)?;
+    judge_loss(alloc, disk, outcome, &[true; 64], tally)?;
+    judge_loss(alloc, disk, outcome, &choice(chance), tally)?;
+    tally.add(Row::FailedSyncs, 1);
     Ok(true)
+}
+
+// Judges what is left with these of the held writes, behind a sync that failed.
+fn judge_loss(
+    alloc: Global,
+    disk: &SyncDisk,
+    outcome: &Outcome,
+    keep: &[bool; 64],
+    tally: &mut Tally,
+) -> Result<(), What> {
+    let mut left = lose(disk, keep, tally)?;
+    let is_more = is_one_more(alloc, &mut left, outcome.is_open);
+    let due = match is_more {
+        Ok(true) => &outcome.more,
+        _ => &outcome.due,
+    };
+    judge_left(alloc, left, is_more, due, tally)
 }

@@ -32,16 +32,18 @@ mod lengths;
 mod playing;
 mod script;
 mod setting;
+mod stopping;
 mod tally;
+mod wrong;
 
-use crate::failing::{Failures, fail_each};
+use crate::failing::fail_each;
 use crate::ground::Ground;
-use crate::holding::{Losses, lose_some};
-use crate::playing::{Failure, run};
+use crate::holding::lose_some;
 use crate::setting::Setting;
-use crate::tally::{Row, Tally};
-use anyhow::{Context, bail, ensure};
-use chance::Chance;
+use crate::stopping::stop_some;
+use crate::tally::{FAILED, LOST, Row, STOPPED, Tally};
+use crate::wrong::{Part, Wrong};
+use anyhow::bail;
 use model::types::Form;
 use std::alloc::Global;
 use std::env;
@@ -61,17 +63,45 @@ fn main(rt: HostRuntime) -> anyhow::Result<()> {
 // The run with words, over images of that form.
 fn try_named(rt: &impl Print, alloc: Global, words: &[String], form: Form) -> anyhow::Result<()> {
     match words {
-        [first, count] => {
-            let seeds = Seeds::parse(first, count, form)?;
-            try_scripts(rt, alloc, seeds)
-        }
+        [first, count] => try_seeds(rt, alloc, Trial::Stops, Seeds::parse(first, count, form)?),
         [calls, first, count] if calls.as_str() == "calls" => {
-            fail_calls(rt, alloc, Seeds::parse(first, count, form)?)
+            try_seeds(rt, alloc, Trial::Calls, Seeds::parse(first, count, form)?)
         }
         [held, first, count] if held.as_str() == "held" => {
-            lose_writes(rt, alloc, Seeds::parse(first, count, form)?)
+            try_seeds(rt, alloc, Trial::Held, Seeds::parse(first, count, form)?)
         }
         _ => bail!("the words are the first seed and how many there are, or none"),
+    }
+}
+
+// What is done to scripts.
+#[derive(Clone, Copy)]
+enum Trial {
+    /// They are stopped before some of their writes.
+    Stops,
+    /// Each of their calls fails in turn.
+    Calls,
+    /// They are run over a disk that holds writes back.
+    Held,
+}
+
+impl Trial {
+    // What the script of a seed is made for.
+    fn setting(self, seed: u64, form: Form) -> Setting {
+        match self {
+            Trial::Stops => Setting::drawn(seed, form),
+            Trial::Calls | Trial::Held => Setting::short(seed, form),
+        }
+    }
+
+    // The parts of its table.
+    fn parts(self, form: Form) -> &'static [(Row, Row)] {
+        match (self, form) {
+            (Trial::Stops, Form::One) => &STOPPED[..2],
+            (Trial::Stops, Form::Two) => &STOPPED,
+            (Trial::Calls, _) => &FAILED,
+            (Trial::Held, _) => &LOST,
+        }
     }
 }
 
@@ -103,85 +133,59 @@ impl Seeds {
 
 // The run with no words.
 fn try_all(rt: &impl Print, alloc: Global) -> anyhow::Result<()> {
-    try_scripts(rt, alloc, Seeds::of(200, Form::One))?;
-    let mut tally = Tally::new();
-    try_script(alloc, 0, Setting::in_rows(), &mut tally).context("in rows")?;
+    try_seeds(rt, alloc, Trial::Stops, Seeds::of(200, Form::One))?;
     println!(rt; "\nin rows")?;
-    tally.print(rt, Form::One)?;
+    try_rows(rt, alloc)?;
     println!(rt; "\neach call failing")?;
-    fail_calls(rt, alloc, Seeds::of(100, Form::One))?;
+    try_seeds(rt, alloc, Trial::Calls, Seeds::of(100, Form::One))?;
     println!(rt; "\nover a disk that holds writes back")?;
-    lose_writes(rt, alloc, Seeds::of(100, Form::One))?;
+    try_seeds(rt, alloc, Trial::Held, Seeds::of(100, Form::One))?;
     println!(rt; "\nimages of the second form")?;
-    try_scripts(rt, alloc, Seeds::of(60, Form::Two))?;
+    try_seeds(rt, alloc, Trial::Stops, Seeds::of(60, Form::Two))?;
     println!(rt; "\neach call failing, over images of the second form")?;
-    fail_calls(rt, alloc, Seeds::of(20, Form::Two))?;
+    try_seeds(rt, alloc, Trial::Calls, Seeds::of(20, Form::Two))?;
     println!(rt; "\nimages of the second form, over a disk that holds writes back")?;
-    lose_writes(rt, alloc, Seeds::of(20, Form::Two))
+    try_seeds(rt, alloc, Trial::Held, Seeds::of(20, Form::Two))
 }
 
-// Runs the short scripts of seeds over a disk that holds writes back.
-fn lose_writes(rt: &impl Print, alloc: Global, seeds: Seeds) -> anyhow::Result<()> {
-    let mut losses = Losses::new();
-    for k in 0..seeds.count {
-        let seed = seeds.first.wrapping_add(k);
-        lose_some(alloc, seed, Setting::short(seed, seeds.form), &mut losses).context(format_args!(
-            "seed {seed}"
-        ))?;
+// The script in rows.
+fn try_rows(rt: &impl Print, alloc: Global) -> anyhow::Result<()> {
+    let mut tally = Tally::new();
+    if let Err(wrong) = try_script(alloc, Trial::Stops, 0, Setting::in_rows(), &mut tally) {
+        bail!("in rows: {wrong}");
     }
-    losses.print(rt)?;
+    tally.print(rt, Trial::Stops.parts(Form::One))?;
     Ok(())
 }
 
-// Runs the scripts of seeds, each whole and up to some of its writes.
-fn try_scripts(rt: &impl Print, alloc: Global, seeds: Seeds) -> anyhow::Result<()> {
+// Tries the scripts of seeds, and prints what these came to.
+fn try_seeds(rt: &impl Print, alloc: Global, trial: Trial, seeds: Seeds) -> anyhow::Result<()> {
     let mut tally = Tally::new();
     for k in 0..seeds.count {
         let seed = seeds.first.wrapping_add(k);
-        try_script(alloc, seed, Setting::drawn(seed, seeds.form), &mut tally).context(format_args!(
-            "seed {seed}"
-        ))?;
+        let setting = trial.setting(seed, seeds.form);
+        if let Err(wrong) = try_script(alloc, trial, seed, setting, &mut tally) {
+            bail!("seed {seed}: {wrong}");
+        }
     }
-    tally.print(rt, seeds.form)?;
+    tally.print(rt, trial.parts(seeds.form))?;
     Ok(())
 }
 
-// Runs the short scripts of seeds, in which each call of the disk fails in turn.
-fn fail_calls(rt: &impl Print, alloc: Global, seeds: Seeds) -> anyhow::Result<()> {
-    let mut failures = Failures::new();
-    for k in 0..seeds.count {
-        let seed = seeds.first.wrapping_add(k);
-        fail_each(alloc, seed, Setting::short(seed, seeds.form), &mut failures).context(
-            format_args!("seed {seed}"),
-        )?;
+fn try_script(
+    alloc: Global,
+    trial: Trial,
+    seed: u64,
+    setting: Setting,
+    tally: &mut Tally,
+) -> Result<(), Wrong> {
+    let ground = match Ground::new(alloc, seed, setting) {
+        Ok(ground) => ground,
+        Err(what) => return Err(what.at(Part::Image, 0)),
+    };
+    match trial {
+        Trial::Stops => stop_some(alloc, &ground, tally),
+        Trial::Calls => fail_each(alloc, &ground, tally),
+        Trial::Held => lose_some(alloc, &ground, tally),
     }
-    failures.print(rt)?;
-    Ok(())
-}
-
-// Runs a script to its end, and up to some of its writes.
-fn try_script(alloc: Global, seed: u64, setting: Setting, tally: &mut Tally) -> anyhow::Result<()> {
-    let ground = Ground::new(alloc, seed, setting)?;
-    let whole = run(alloc, &ground, Failure::stop(0), tally)?;
-    ensure!(!whole.has_failed, "the disk failed");
-    tally.add(Row::Scripts, 1);
-    tally.add(Row::Processes, setting.processes as u64);
-    tally.add(Row::Groups, whole.committed);
-    tally.add(Row::BlocksWritten, whole.writes);
-    let mut chance = Chance::new(seed, 3);
-    for k in 0..whole.writes.min(setting.stops) {
-        let stop = if whole.writes <= setting.stops {
-            k.saturating_add(1)
-        } else {
-            1 + chance.below(whole.writes.clamp(1, 0xffff_ffff) as u32) as u64
-        };
-        let left = run(alloc, &ground, Failure::stop(stop), &mut Tally::new()).context(format_args!(
-            "stop {stop}"
-        ))?;
-        ensure!(left.has_failed, "stop {stop}: the disk did not fail");
-        tally.add(Row::Stops, 1);
-        tally.add(Row::GroupsKept, left.committed);
-        tally.add(Row::OperationsKept, left.kept);
-    }
-    Ok(())
 }

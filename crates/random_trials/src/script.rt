@@ -24,8 +24,8 @@ pub struct Script {
     written: u32,
     /// How many operations were answered.
     pub answered: u32,
-    /// An operation for which there was no place.
-    pub held: Option<(u32, Op)>,
+    /// The operation that is next handed in, and its process.
+    pub drawn: Option<(u32, Op)>,
 }
 
 impl Script {
@@ -38,7 +38,7 @@ impl Script {
             pid: 0,
             written: setting.laid,
             answered: setting.laid,
-            held: None,
+            drawn: None,
         }
     }
 
@@ -60,33 +60,48 @@ impl Script {
         self.turns.is_one_in(self.setting.fetch)
     }
 
-    /// The next operation and its process, if it is time for one, where the kernel's journal is this.
-    pub fn next(
-        &mut self,
-        alloc: Global,
-        journal: &[Entry],
-    ) -> Result<Option<(u32, Op)>, AllocError> {
-        if self.held.is_some() {
-            return Ok(self.held.take());
-        }
+    /// Draws the next operation, if none waits to be handed in and it is time for one, where the
+    /// kernel's journal is this.
+    pub fn draw(&mut self, alloc: Global, journal: &[Entry]) -> Result<(), AllocError> {
         let place = self.written;
-        if place >= self.setting.operations || !self.turns.is_one_in(self.setting.pace) {
-            return Ok(None);
+        let is_early = self.drawn.is_some() || place >= self.setting.operations;
+        if is_early || !self.turns.is_one_in(self.setting.pace) {
+            return Ok(());
         }
         self.written = place.saturating_add(1);
+        let pid = self.process(place);
+        self.drawn = Some((pid, self.operation(alloc, place, journal)?));
+        Ok(())
+    }
+
+    // The process that makes the operation at a place.
+    fn process(&mut self, place: u32) -> u32 {
         if place < self.setting.long {
-            return Ok(Some((0, self.long(alloc, place)?)));
+            return 0;
         }
         if self.setting.is_in_rows {
-            let place = place.saturating_sub(self.setting.long);
-            return Ok(Some((place % 32, self.in_rows(alloc, place)?)));
+            return place.saturating_sub(self.setting.long) % 32;
         }
-        let pid = self.chance.below(self.setting.processes);
+        self.chance.below(self.setting.processes)
+    }
+
+    // The operation at a place.
+    fn operation(
+        &mut self,
+        alloc: Global,
+        place: u32,
+        journal: &[Entry],
+    ) -> Result<Op, AllocError> {
+        if place < self.setting.long {
+            return self.long(alloc, place);
+        }
+        if self.setting.is_in_rows {
+            return self.in_rows(alloc, place.saturating_sub(self.setting.long));
+        }
         if place < self.setting.numbers {
-            return Ok(Some((pid, Op::Create(self.kind()))));
+            return Ok(Op::Create(self.kind()));
         }
-        let op = self.by_chance(alloc, Lengths::after(self.setting, journal))?;
-        Ok(Some((pid, op)))
+        self.by_chance(alloc, Lengths::after(self.setting, journal))
     }
 
     // Makes the first file, and then writes to it piece by piece.
@@ -114,7 +129,7 @@ impl Script {
         let number = self.number();
         let offset = self.offset(lengths.of(number));
         let count = self.count(offset);
-        match self.draw() {
+        match self.choice() {
             0..=11 => Ok(Op::Create(self.kind())),
             12..=64 => self.write(alloc, number, offset, count),
             65..=78 => Ok(Op::Read(number, offset, count)),
@@ -126,7 +141,7 @@ impl Script {
 
     // What is done next. In the second form there are fewer questions, and more truncations and
     // removals.
-    fn draw(&mut self) -> u32 {
+    fn choice(&mut self) -> u32 {
         let drawn = self.chance.below(100);
         match (self.setting.form, drawn) {
             (Form::Two, 85..=92) => 79 + drawn % 6,
@@ -159,9 +174,9 @@ impl Script {
         count: u32,
     ) -> Result<Op, AllocError> {
         let first = self.chance.below(256) as u8;
-        let mut bytes = Vec::new(alloc);
-        for k in 0..count {
-            bytes.push(first.wrapping_add((k % 251) as u8))?;
+        let mut bytes = vec![in alloc; first; count as usize]?;
+        for (k, byte) in bytes.iter_mut().enumerate() {
+            *byte = first.wrapping_add((k % 251) as u8);
         }
         Ok(Op::Write(number, offset, Content::new(bytes)))
     }

@@ -2,11 +2,11 @@
 use crate::lengths::Lengths;
 use crate::setting::Setting;
 use kernel::Step;
-use model::types::{Entry, Form, Op, Reply, Why};
+use model::types::{Entry, Op, Reply, Why};
 use std::io;
 
 /// What is counted: of whole runs the operations that had their turn, their answers, and the steps
-/// in which a process had to wait; and what stops kept.
+/// in which a process had to wait; what failed, and what was lost; and what stops kept.
 #[derive(Clone, Copy)]
 pub enum Row {
     Scripts,
@@ -41,16 +41,24 @@ pub enum Row {
     Groups,
     FullImages,
     Stops,
+    OpeningReads,
+    FailedReads,
+    FailedOld,
+    FailedNew,
+    FailedSyncs,
+    Through,
+    Lost,
     GroupsKept,
     OperationsKept,
+    GroupsMore,
     WroteFarther,
     WroteFarthest,
     FewerFar,
     Emptied,
 }
 
-// What the table says of each, in their order; the last ones are of images of the second form.
-const TEXTS: [&str; 38] = [
+// What a table says of each, in their order.
+const TEXTS: [&str; 46] = [
     "scripts",
     "processes",
     "creations",
@@ -83,27 +91,54 @@ const TEXTS: [&str; 38] = [
     "groups committed",
     "images that were full",
     "stops",
+    "reads of an opening that failed",
+    "reads that failed",
+    "writes that failed, the block as before",
+    "writes that failed, the block as handed in",
+    "syncs that failed",
+    "held writes that got through",
+    "held writes that were lost",
     "groups kept",
     "operations kept",
+    "one group more was kept",
     "wrote bytes behind 267 KiB",
     "of these, behind 523 KiB",
     "wrote fewer, to a file of 256 KiB or more",
     "emptied or removed a file of more than 267 KiB",
 ];
 
-// How many rows there are of any image.
-const ROWS: usize = 34;
+/// The parts of a table of scripts that were stopped, each by its first and its last row. The last
+/// part is of images of the second form.
+pub const STOPPED: [(Row, Row); 3] = [
+    (Row::Scripts, Row::Stops),
+    (Row::GroupsKept, Row::OperationsKept),
+    (Row::WroteFarther, Row::Emptied),
+];
+
+/// Those of a table of scripts of which calls failed.
+pub const FAILED: [(Row, Row); 3] = [
+    (Row::Scripts, Row::Scripts),
+    (Row::OpeningReads, Row::FailedNew),
+    (Row::GroupsKept, Row::GroupsMore),
+];
+
+/// Those of a table of scripts of which held writes were lost.
+pub const LOST: [(Row, Row); 3] = [
+    (Row::Scripts, Row::Scripts),
+    (Row::Stops, Row::Stops),
+    (Row::FailedSyncs, Row::GroupsMore),
+];
 
 /// A count for each row.
 #[derive(Drop)]
 pub struct Tally {
-    counts: [u64; 38],
+    counts: [u64; 46],
 }
 
 impl Tally {
     /// Nothing was counted.
     pub fn new() -> Tally {
-        Tally { counts: [0; 38] }
+        Tally { counts: [0; 46] }
     }
 
     /// Counts so many more.
@@ -111,6 +146,12 @@ impl Tally {
         if let Some(count) = self.counts.get_mut(row as usize) {
             *count = count.saturating_add(more);
         }
+    }
+
+    /// Counts the groups that a stop kept, and the operations that these keep.
+    pub fn keep(&mut self, groups: u64, operations: u64) {
+        self.add(Row::GroupsKept, groups);
+        self.add(Row::OperationsKept, operations);
     }
 
     /// Counts a step.
@@ -158,14 +199,19 @@ impl Tally {
         }
     }
 
-    /// Prints the table, with the rows of the second form where it is one of images of that form.
-    pub fn print(&self, rt: &impl Print, form: Form) -> io::Result<()> {
-        let rows = match form {
-            Form::One => ROWS,
-            Form::Two => TEXTS.len(),
-        };
-        for (text, count) in TEXTS.iter().zip(self.counts.iter()).take(rows) {
-            println!(rt; "{text} {count}")?;
+    /// Prints the parts of a table.
+    pub fn print(&self, rt: &impl Print, parts: &[(Row, Row)]) -> io::Result<()> {
+        for (first, last) in parts {
+            self.print_part(rt, *first as usize, *last as usize)?;
+        }
+        Ok(())
+    }
+
+    fn print_part(&self, rt: &impl Print, first: usize, last: usize) -> io::Result<()> {
+        for row in first..last.saturating_add(1) {
+            if let (Some(text), Some(count)) = (TEXTS.get(row), self.counts.get(row)) {
+                println!(rt; "{text} {count}")?;
+            }
         }
         Ok(())
     }
