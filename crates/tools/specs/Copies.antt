@@ -59,29 +59,15 @@ pub record MayCopy {F N : Type 0} (remaining : F → Option (List ℕ)) (disk : 
   pub reads : OnlyReads disk d e
   pub zeroes : disk.image created ≡ replicate (size_asked size (disk.image d)) zero_block
 
--- the files of the image on a disk d were copied to another, of so many blocks, and so many there are
-pub record IsFilled {D N E M : Type 0} (old : Ghosts D N) (new : Ghosts E M) (size : ℕ) (d : D)
-    (created : E) (count : ℕ) : Type 0 where
-  pub made : E
-  pub copied : IsCopied old new size d created made count
-
--- or the copy ended with this refusal
-pub record IsUnfilled {D N E M : Type 0} (old : Ghosts D N) (new : Ghosts E M) (size : ℕ) (d : D)
-    (created : E) (r : Refusal) : Type 0 where
-  pub left : D
-  pub made : E
-  pub cause : Fault
-  pub is : r ≡ copy_refusal cause
-  pub why : IsUncopied old new size d left created made cause
-
 -- its files were copied to that disk, and so many there are
 pub record HasMade {F N : Type 0} (remaining : F → Option (List ℕ)) (disk : Ghosts (FileDisk F) N)
     (size : Option ℕ) (count : ℕ) : Type 0 where
   pub opened : FileDisk F
   pub read : FileDisk F
   pub created : FileDisk F
+  pub made : FileDisk F
   pub may : MayCopy remaining disk size opened read created
-  pub filled : IsFilled disk disk (size_asked size (disk.image opened)) read created count
+  pub copied : IsCopied disk disk (size_asked size (disk.image opened)) read created made count
 
 -- and how many was printed
 pub record HasCopied {F N : Type 0} (remaining : F → Option (List ℕ))
@@ -106,7 +92,11 @@ pub record HasNotCopied {F N : Type 0} (remaining : F → Option (List ℕ))
   pub read : FileDisk F
   pub created : FileDisk F
   pub may : MayCopy remaining disk size opened read created
-  pub unfilled : IsUnfilled disk disk (size_asked size (disk.image opened)) read created r
+  pub left : FileDisk F
+  pub made : FileDisk F
+  pub cause : Fault
+  pub is : r ≡ copy_refusal cause
+  pub why : IsUncopied disk disk (size_asked size (disk.image opened)) read left created made cause
 
 -- there is a file at the new path, or a file could not be opened or made
 abbrev pub IsOfPath : Refusal → Type 0

@@ -3,7 +3,7 @@ ghost use Rattle.std.specs.Prelude.{◌≡◌, ◌≢◌, false, IfErr, IfOk, On
 ghost use Rattle.blocks.specs.Calls.{OnlyReads};
 ghost use Rattle.texts.specs.declared.refusal.Refusal.TheVariants as refusal;
 ghost use Rattle.filedisks.specs.Opened.{IsOpened};
-ghost use Rattle.tools.specs.Copies.{HasCopied, IsFilled, IsPlanned, IsUnfilled, IsUnplanned, OnCopyRefusal, copy_refusal};
+ghost use Rattle.tools.specs.Copies.{HasCopied, IsPlanned, IsUnplanned, OnCopyRefusal, copy_refusal};
 
 use blocks::{Disk, FileDisk};
 use copying::{CopyFault as Fault, Progress, copy};
@@ -66,26 +66,9 @@ fn copy_from<R: Files + AllocGlobal, O: Write, P: Progress>(
     ensures silent { IfErr result (λ r. r ≢ refusal.Output → out.new ≡ out.old) }
 {
     let size = plan_copy(rt.alloc(), disk, size)?;
-    let files = match FileDisk::create(rt, new, size) {
-        Ok(created) => fill(rt.alloc(), disk, created, size, progress),
-        Err(fault) => Err(Refusal::File(fault)),
-    };
-    print_files(out, files?)
-}
-
-// Copies the image on a disk to the one in the new file, and closes that; and how many files it has.
-fn fill<D: Disk, E: Disk + Drop, P: Progress>(
-    alloc: Global,
-    disk: &mut D,
-    created: E,
-    size: u32,
-    progress: &mut P,
-) -> Result<u32, Refusal>
-    ensures filled { IfOk result (IsFilled D.Disk E.Disk size disk.old created) }
-    ensures refused { IfErr result (IsUnfilled D.Disk E.Disk size disk.old created) }
-{
-    match copy(alloc, disk, created, size, progress) {
-        Ok((files, _made)) => Ok(files),
+    let made = FileDisk::create(rt, new, size).map_err(Refusal::File)?;
+    match copy(rt.alloc(), disk, made, size, progress) {
+        Ok((files, _made)) => print_files(out, files),
         Err((fault, _made)) => Err(copy_refusal(fault)),
     }
 }
