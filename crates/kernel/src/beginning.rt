@@ -128,6 +128,7 @@ struct Rooms {
 
 // Takes the first operation that waits for a process, which is of this kind, with all the room that
 // it needs, or says why it is left.
+// No method of the kernel: between the kept place and the taking its invariant doesn't hold.
 fn take_first<D: Disk, I: Intake>(
     alloc: Global,
     store: &Store<D>,

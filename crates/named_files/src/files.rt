@@ -61,8 +61,8 @@ impl<D: Disk + Drop> NamedFiles<D> {
         Ok(lookup(bytes.as_slice(), name))
     }
 
-    /// Makes an empty file, and links it under a name. Its number. A name that is refused leaves no
-    /// file behind; a stop between the two leaves one that has no name.
+    /// Makes an empty file, and links it under a name. Its number. A stop between the two leaves a
+    /// file that has no name. That a refused name leaves none is by the code: no clause says it.
     pub fn make(&mut self, alloc: Global, name: &Name) -> anyhow::Result<u16> {
         // A link that is refused later would leave the file without a name.
         let bytes = self.directory()?;

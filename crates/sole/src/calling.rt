@@ -22,10 +22,10 @@ pub type Sole<D> = Kernel<D, QueueIntake, PlainHerald>;
 /// # Errors
 ///
 /// - `Disk`: the disk failed.
-/// - `NoMemory`: memory for the operation was refused, and for nothing else: the only process of a
-///   kernel waits for nobody. Nothing was done.
+/// - `NoMemory`: memory for the operation was refused, and the disk was only read. That it was
+///   refused no clause can say; the only process of a kernel waits for nobody.
 ///
-/// Behind either no other call may be made.
+/// After either no other call may be made.
 pub fn call<D: Disk>(kernel: &mut Sole<D>, op: Op) -> Result<Reply, CallFault>
     requires rests { Rests D.fault_count kernel.old }
     requires few { call_count kernel.old < 2 ^ 32 }

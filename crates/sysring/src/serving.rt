@@ -32,7 +32,7 @@ impl Serving {
         }
     }
 
-    /// Whether they have ended: no process goes on any more.
+    /// Whether they have ended. That no process goes on then is by the code: no clause says it.
     pub fn has_ended(&self) -> bool {
         self.ended.load(Ordering::SeqCst) == 1
     }
@@ -49,7 +49,7 @@ impl Serving {
 /// handed in, with the same rings, and no group that was committed then is lost, also by a stop at
 /// any moment since.
 ///
-/// None where no thread can be started: then nothing was done.
+/// None where no thread can be started. That nothing was done then is by the code.
 pub fn serve_while<
     D: Disk + Send,
     H: Herald + Send,
