@@ -1,35 +1,43 @@
 -- A machine that has to wait, or whose disk fails, stays where it stands: so it may make its steps in
 -- the task that it is part of.
-use Rattle.std.proofs.Common.{get_or-set_same, set-set, set, length, ◌<◌, ◌≡◌, ℕ, List, refl, sym, ◌∙◌, ap, subst, Option, Some, None}
+use Rattle.std.proofs.Common.{⊎_elim, get_or-set_same, set-set, set, length, ◌<◌, ◌≡◌, ℕ, List, refl, sym, ◌∙◌, ap, subst, Option, Some, None}
 use Rattle.std.specs.Prelude.{false, true, Bool, ◌==◌, if◌then◌else◌}
 use Rattle.blocks.specs.Disk.{Image}
 use Rattle.blocks.specs.declared.disk.Disk.{Ghosts}
+use Rattle.model.specs.Gathered.{GatheredBytes}
 use Rattle.model.specs.declared.types.image.Dinode.{Dinode}
 use Rattle.bcache.specs.Buffers.{Buffers}
 use Rattle.wal.specs.Joint.{seen}
 use Rattle.wal.specs.Volume.{VolumeState}
 use Rattle.wal.specs.declared.types.Get.TheVariants as get
 use Rattle.wal.specs.declared.types.Get.{Get}
+use Rattle.driver.specs.Driver.{Drives, over_with, progress_of_over, when_got}
 use Rattle.driver.specs.Getting.{GetsFor, progress_of, slot_of}
+use Rattle.driver.specs.declared.driving.Got.{Got}
 use Rattle.driver.specs.declared.progress.Progress.TheVariants as machine
 use Rattle.driver.specs.declared.progress.Progress.{Progress}
 use Rattle.blockmap.specs.Balloc.{AllocState, Allocs, TakesLowest, lowest_in}
-use Rattle.blockmap.specs.Bmap.{some_address}
+use Rattle.blockmap.specs.Bmap.{Ends, EntryState, GoesBelow, LooksUp, some_address, with_slot}
 use Rattle.blockmap.specs.BmapAlloc.{FindsEntry, MapState, MapSteps, SetsEntry, after_address, address_at, after_behind, behind_at, naming}
 use Rattle.blockmap.specs.Branch.{named_by}
+use Rattle.blockmap.specs.Target.{progress_behind, target_behind}
 use Rattle.blockmap.specs.declared.balloc.AllocAt.TheVariants as alloc_at
 use Rattle.blockmap.specs.declared.balloc.AllocAt.{AllocAt}
 use Rattle.blockmap.specs.declared.bmap_alloc.MapAt.TheVariants as map_at
 use Rattle.blockmap.specs.declared.bmap_alloc.MapAt.{MapAt}
 use Rattle.blockmap.specs.declared.branch.Branch.{Branch}
 use Rattle.blockmap.specs.declared.branch.Node.{Node}
+use Rattle.blockmap.specs.declared.target.Target.TheVariants as target
+use Rattle.blockmap.specs.declared.target.Target.{Target}
 use Rattle.inodes.specs.declared.tasks.Place.TheVariants as place
 use Rattle.inodes.specs.declared.tasks.Place.{Place}
 use Rattle.inodes.specs.declared.writei.WriteAt.TheVariants as write_at
 use Rattle.inodes.specs.declared.writei.WriteAt.{WriteAt}
 use Rattle.inodes.specs.Ialloc.{SearchGoes, SearchState}
 use Rattle.inodes.specs.InPlace.{SearchesInPlace}
+use Rattle.inodes.specs.Itrunc.{Freeing, itrunc, trunc_next}
 use Rattle.inodes.specs.Iupdate.{UpdateState, Updates}
+use Rattle.inodes.specs.Readi.{IsMade, ReadState, ReadSteps, Works}
 use Rattle.inodes.specs.Tasks.{TaskState, no_task, task}
 use Rattle.inodes.specs.Writei.{WriteState, WriteSteps, progress_mapped, write_mapped}
 use Rattle.inodes.proofs.Gripping.{same_task}
@@ -155,14 +163,80 @@ module _ {D N : Type 0} (disk : Ghosts D N) (v w : VolumeState D) (p : ℕ) wher
   writes m n (write_at.Block b (Some i)) bytes r at does rests = absurd (subst (λ (q : Progress (Unit {0})). Rests q) does.0 rests)
   writes m n (write_at.Updating u) bytes r at does rests = does.2 ∙ ap (λ (x : WriteAt). record m { at = x }) (ap write_at.Updating (updates u does.0 m.inode u.slot r refl does.1 rests) ∙ sym at)
 
+-- ---- a reading
+
+-- an entry's reading rests before its block is got
+entry_stays : {D N : Type 0} (disk : Ghosts D N) (v w : VolumeState D) (p : ℕ) (e n : EntryState) (o : Option ℕ) (r : Progress (Option ℕ)) → e.slot ≡ o → LooksUp disk o v p e r n w → Rests r → n ≡ e
+entry_stays disk v w p e n None r at does rests = does.0 ∙ ap (with_slot e) (gets disk v w p does.1 rests ∙ sym at)
+entry_stays disk v w p e n (Some i) r at does rests = absurd (⊎_elim
+    (λ (ends : Ends (named_by (seen (disk.image v.device) v.buffers) e.node) e r n). subst (λ (q : Progress (Option ℕ)). Rests q) ends.over rests)
+    (λ (goes : GoesBelow (named_by (seen (disk.image v.device) v.buffers) e.node) e r n). subst (λ (q : Progress (Option ℕ)). Rests q) goes.moved rests)
+    does.0)
+
+-- and so does what it is for
+behind_rests : (q : Progress (Option ℕ)) → Rests (progress_behind q) → Rests q
+behind_rests machine.Moved rests = rests
+behind_rests (machine.Sleeping why) rests = tt
+behind_rests (machine.Over found) rests = rests
+behind_rests (machine.Fault fault) rests = tt
+
+entry_there : (q : Progress (Option ℕ)) (e : EntryState) → Rests q → target_behind q e ≡ target.Entry e
+entry_there machine.Moved e rests = refl
+entry_there (machine.Sleeping why) e rests = refl
+entry_there (machine.Over found) e rests = absurd rests
+entry_there (machine.Fault fault) e rests = refl
+
+never_made : (r : Progress (Unit {0})) → IsMade r → Rests r → ⊥
+never_made machine.Moved made rests = rests
+never_made (machine.Sleeping why) made rests = made
+never_made (machine.Over out) made rests = rests
+never_made (machine.Fault fault) made rests = made
+
+works_stay : {D N : Type 0} (disk : Ghosts D N) (v w : VolumeState D) (p : ℕ) (m n : ReadState) (t : Target) (r : Progress (Unit {0})) → m.target ≡ t → Works disk t v p m r w n → Rests r → n ≡ m
+works_stay disk v w p m n (target.Entry e) r at does rests =
+    let seeks = does.1 in
+    let still = behind_rests seeks.answer (subst (λ (q : Progress (Unit {0})). Rests q) seeks.gives rests) in
+    let same = entry_stays disk v w p e seeks.entry e.slot seeks.answer refl seeks.looks still in
+    does.0 ∙ ap (λ (x : Target). record m { target = x }) (seeks.target ∙ entry_there seeks.answer seeks.entry still ∙ ap target.Entry same ∙ sym at)
+works_stay disk v w p m n (target.Block b None) r at does rests =
+    let seeks = does.1 in
+    does.0 ∙ ap (λ (x : Target). record m { target = x }) (seeks.1 ∙ ap (target.Block b) (gets disk v w p seeks.2 rests) ∙ sym at)
+works_stay disk v w p m n (target.Block b (Some i)) r at does rests = absurd (never_made r does.1 rests)
+
+pub reads_stay : {D N : Type 0} (disk : Ghosts D N) (v w : VolumeState D) (p : ℕ) (m n : ReadState) (g h : GatheredBytes) (r : Progress (Unit {0})) → ReadSteps disk v p m g r w n h → Rests r → n ≡ m
+reads_stay disk v w p m n g h r steps rests = works_stay disk v w p m n m.target r refl steps.works rests
+
+-- ---- the freeing of a file's blocks
+
+never_over : (o : Option (Unit {0})) → Rests (progress_of_over o) → ⊥
+never_over None rests = rests
+never_over (Some out) rests = rests
+
+pub truncs_stay : {D N : Type 0} (disk : Ghosts D N) (v w : VolumeState D) (p : ℕ) (m n : Freeing) (o : Option Got) (r : Progress (Unit {0})) → Drives itrunc disk o v p m r n w → Rests r → n ≡ m
+truncs_stay disk v w p m n None r drives rests =
+    drives.next ∙ ap (λ (s : Option ℕ). when_got itrunc (seen (disk.image v.device) v.buffers) (trunc_next m) s m) (gets disk v w p drives.gets rests)
+truncs_stay disk v w p m n (Some g) r drives rests =
+    absurd (never_over (over_with itrunc (seen (disk.image v.device) v.buffers) m g) (subst (λ (q : Progress (Unit {0})). Rests q) drives.answer rests))
+
 -- ---- the tasks
+
+-- a task that was changed is changed once more
+pub changed_after : (ts us vs : List TaskState) (p : ℕ) (a : TaskState) (f : TaskState → TaskState) → p < length ts → us ≡ set ts p a → vs ≡ set us p (f (task us p)) → vs ≡ set ts p (f a)
+changed_after ts us vs p a f inside came goes = goes ∙ ap (λ (l : List TaskState). set l p (f (task l p))) came
+    ∙ ap (λ (t : TaskState). set (set ts p a) p (f t)) (get_or-set_same ts p a no_task inside)
+    ∙ set-set ts p a (f a)
+
+-- a reading goes on, whose bytes were out of its task
+pub reads_with : (ts us vs ws : List TaskState) (p : ℕ) (a : Place) (g : GatheredBytes) → p < length ts → us ≡ set ts p (record (task ts p) { gathered = None }) → vs ≡ set us p (record (task us p) { place = a })
+    → ws ≡ set vs p (record (task vs p) { gathered = Some g }) → ws ≡ set ts p (record (task ts p) { place = a; gathered = Some g })
+reads_with ts us vs ws p a g inside out on in_again =
+    changed_after ts vs ws p (record (task ts p) { place = a; gathered = None }) (λ t. record t { gathered = Some g }) inside
+    (changed_after ts us vs p (record (task ts p) { gathered = None }) (λ t. record t { place = a }) inside out on) in_again
 
 -- one that goes on from where it came to
 pub left_after : (ts us vs : List TaskState) (p : ℕ) (a b : Place) → p < length ts → us ≡ set ts p (record (task ts p) { place = a }) → vs ≡ set us p (record (task us p) { place = b })
     → vs ≡ set ts p (record (task ts p) { place = b })
-left_after ts us vs p a b inside came goes = goes ∙ ap (λ (l : List TaskState). set l p (record (task l p) { place = b })) came
-    ∙ ap (λ (t : TaskState). set (set ts p (record (task ts p) { place = a })) p (record t { place = b })) (get_or-set_same ts p (record (task ts p) { place = a }) no_task inside)
-    ∙ set-set ts p (record (task ts p) { place = a }) (record (task ts p) { place = b })
+left_after ts us vs p a b inside came goes = changed_after ts us vs p (record (task ts p) { place = a }) (λ t. record t { place = b }) inside came goes
 
 -- a search that rests
 search_stays : (o : Option ℕ) (x : Image) (b : Buffers) (m n : SearchState) (r : Progress (Option ℕ)) → SearchGoes o x b m r n → Rests r → n ≡ m

@@ -1,11 +1,16 @@
 -- What a step makes of the tasks, where it changes one of them in its place.
 use Rattle.std.specs.Prelude.{◌≡◌, ℕ, List, Option, Some, None, slice_set}
 use Rattle.blocks.specs.declared.disk.Disk.{Ghosts}
+use Rattle.model.specs.Gathered.{GatheredBytes}
+use Rattle.driver.specs.Driver.{Drives}
+use Rattle.driver.specs.Next.{used_now}
 use Rattle.driver.specs.declared.progress.Progress.{Progress}
 use Rattle.wal.specs.Volume.{VolumeState}
 use Rattle.inodes.specs.declared.tasks.Place.{Place}
 use Rattle.inodes.specs.declared.tasks.Place.TheVariants as place
 use Rattle.inodes.specs.Ialloc.{SearchState, SearchSteps}
+use Rattle.inodes.specs.Itrunc.{Freeing, itrunc, trunc_next}
+use Rattle.inodes.specs.Readi.{ReadState, ReadSteps}
 use Rattle.inodes.specs.Tasks.{TaskState, task}
 use Rattle.inodes.specs.Writei.{WriteState, WriteSteps}
 
@@ -17,6 +22,23 @@ pub record SearchesInPlace {D N : Type 0} (disk : Ghosts D N) (v : VolumeState D
   pub steps : SearchSteps disk m.slot v w p m now r
   pub tasks : us ≡ slice_set ts p (record (task ts p) { place = place.Creating now })
 
+-- a reading of a file's bytes, whose inode stands at place k of the table; they are gathered beside
+-- the task
+pub record ReadsInPlace {D N : Type 0} (disk : Ghosts D N) (v : VolumeState D)
+    (ts : List TaskState) (p k : ℕ) (m : ReadState) (g : GatheredBytes) (r : Progress (Unit {0}))
+    (us : List TaskState) (w : VolumeState D) (h : GatheredBytes) : Type 0 where
+  pub now : ReadState
+  pub reads : ReadSteps disk v p m g r w now h
+  pub tasks : us ≡ slice_set ts p (record (task ts p) { place = place.Reading k now })
+
+-- the freeing of a file's blocks
+pub record TruncatesInPlace {D N : Type 0} (disk : Ghosts D N) (v : VolumeState D)
+    (ts : List TaskState) (p k : ℕ) (m : Freeing) (r : Progress (Unit {0}))
+    (us : List TaskState) (w : VolumeState D) : Type 0 where
+  pub now : Freeing
+  pub drives : Drives itrunc disk (used_now (trunc_next m) m.kept m.used) v p m r now w
+  pub tasks : us ≡ slice_set ts p (record (task ts p) { place = place.Truncating k now })
+
 -- a writing of a file's bytes, whose inode stands at place k of the table
 pub record WritesInPlace {D N : Type 0} (disk : Ghosts D N) (v : VolumeState D)
     (ts : List TaskState) (p k : ℕ) (m : WriteState) (bytes : List ℕ) (r : Progress (Unit {0}))
@@ -24,6 +46,17 @@ pub record WritesInPlace {D N : Type 0} (disk : Ghosts D N) (v : VolumeState D)
   pub now : WriteState
   pub writes : WriteSteps disk m.at v p m bytes r now w
   pub tasks : us ≡ slice_set ts p (record (task ts p) { place = place.Writing k now })
+
+-- the freeing that a task is at, if it is at one
+abbrev pub freeing_at : Place → Option Freeing
+freeing_at place.Nowhere = None
+freeing_at (place.Creating m) = None
+freeing_at (place.Taking m) = None
+freeing_at (place.Reading k m) = None
+freeing_at (place.Delivering k) = None
+freeing_at (place.Truncating k m) = Some m
+freeing_at (place.Writing k m) = None
+freeing_at (place.Leaving k) = None
 
 -- the writing that a task is at, if it is at one
 abbrev pub writing_at : Place → Option WriteState

@@ -67,22 +67,21 @@ impl<D: Disk> Store<D> {
     }
 
     // The next step of a reading.
-    pub(crate) fn read(&mut self, pid: u32, place: usize, mut reading: Readi) -> TaskProgress
+    pub(crate) fn read(&mut self, pid: u32, place: usize, reading: Snapshot<Readi>) -> TaskProgress
         requires fault { self.old.volume.fault ≡ None }
         requires pid { pid < length self.old.tasks }
-        requires at { (task self.old.tasks pid).place ≡ stands_at.Reading place reading }
+        requires at { (task self.old.tasks pid).place ≡ stands_at.Reading place reading.value }
         ensures step { (op : Op) → (task self.old.tasks pid).op ≡ Some op
             → Steps D.Disk self.old pid op result self.new }
     {
         self.volume.known();
         let mut bytes = self.tasks.take_bytes(pid);
-        let progress = reading.step(&mut self.volume, pid, &mut bytes);
+        let progress = self
+            .tasks
+            .read_on(&mut self.volume, pid, &mut bytes, place, reading);
         self.tasks.keep_bytes(pid, bytes);
         match progress {
-            Progress::Moved => {
-                self.tasks.go(pid, Place::Reading { place, reading });
-                TaskProgress::Moved
-            }
+            Progress::Moved => TaskProgress::Moved,
             Progress::Sleeping(why) => TaskProgress::Sleeping(why),
             Progress::Over(()) => {
                 self.tasks.go(pid, Place::Delivering { place });
@@ -111,23 +110,20 @@ impl<D: Disk> Store<D> {
         &mut self,
         pid: u32,
         place: usize,
-        mut trunc: Driven<Itrunc>,
+        trunc: Snapshot<Driven<Itrunc>>,
     ) -> TaskProgress
         requires fault { self.old.volume.fault ≡ None }
         requires pid { pid < length self.old.tasks }
-        requires at { (task self.old.tasks pid).place ≡ stands_at.Truncating place trunc }
+        requires at { (task self.old.tasks pid).place ≡ stands_at.Truncating place trunc.value }
         ensures step { (op : Op) → (task self.old.tasks pid).op ≡ Some op
             → Steps D.Disk self.old pid op result self.new }
     {
         self.volume.known();
-        match trunc.step(&mut self.volume, pid) {
-            Progress::Moved => {
-                self.tasks.go(pid, Place::Truncating { place, trunc });
-                TaskProgress::Moved
-            }
+        match self.tasks.trunc_on(&mut self.volume, pid, place, trunc) {
+            Progress::Moved => TaskProgress::Moved,
             Progress::Sleeping(why) => TaskProgress::Sleeping(why),
             Progress::Over(()) => {
-                self.inodes.renew(place, trunc.machine.left());
+                self.inodes.renew(place, self.tasks.left(pid));
                 self.tasks.go(pid, Place::Leaving { place });
                 TaskProgress::Moved
             }

@@ -175,16 +175,16 @@ impl<D: Disk> Store<D> {
                 self.take(pid, op, lock)
             }
             Place::Reading { place, reading } => {
-                let (place, reading) = (*place, *reading);
-                self.read(pid, place, reading)
+                let (place, was) = (*place, Snapshot::of(reading));
+                self.read(pid, place, was)
             }
             Place::Delivering { place } => {
                 let place = *place;
                 self.deliver(pid, place)
             }
             Place::Truncating { place, trunc } => {
-                let (place, trunc) = (*place, *trunc);
-                self.truncate(pid, place, trunc)
+                let (place, was) = (*place, Snapshot::of(trunc));
+                self.truncate(pid, place, was)
             }
             Place::Writing { place, writing } => {
                 let (place, was) = (*place, Snapshot::of(writing));

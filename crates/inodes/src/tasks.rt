@@ -1,9 +1,12 @@
 // What the processes' operations do next.
 ghost use Rattle.std.specs.Prelude.{◌≡◌, ◌<◌, length, replicate, slice_set, Some, None, IsSome, IfSome, IfOk};
 ghost use Rattle.wal.specs.Machine.{HasRoom, used_by};
+ghost use Rattle.driver.specs.Driver.{MayDrive};
 ghost use Rattle.inodes.specs.declared.tasks.Place.TheVariants as place;
 ghost use Rattle.inodes.specs.Ialloc.{MayStep};
-ghost use Rattle.inodes.specs.InPlace.{SearchesInPlace, WritesInPlace, writing_at};
+ghost use Rattle.inodes.specs.InPlace.{ReadsInPlace, SearchesInPlace, TruncatesInPlace, WritesInPlace, freeing_at, writing_at};
+ghost use Rattle.inodes.specs.Itrunc.{inode_left, itrunc};
+ghost use Rattle.inodes.specs.Readi.{HasRoomLeft, IsReading};
 ghost use Rattle.inodes.specs.Tasks.{no_task, task};
 ghost use Rattle.inodes.specs.Writei.{MayWrite};
 
@@ -132,6 +135,65 @@ impl Tasks {
             unreachable!();
         };
         search.step(volume, pid)
+    }
+
+    // Makes the next step of a reading in the task, into bytes that aren't in it.
+    pub(crate) fn read_on<D: Disk>(
+        &mut self,
+        volume: &mut Volume<D>,
+        pid: u32,
+        into: &mut Gathered,
+        _place: usize,
+        _was: Snapshot<Readi>,
+    ) -> Progress<()>
+        requires inside { pid < length self.old }
+        requires at { (task self.old pid).place ≡ place.Reading _place _was.value }
+        requires fault { volume.old.fault ≡ None }
+        requires ready { IsReading D.image volume.old pid _was.value }
+        requires room { HasRoomLeft _was.value into.old }
+        ensures { ReadsInPlace D.Disk volume.old self.old pid _place _was.value into.old result
+            self.new volume.new into.new }
+    {
+        let Place::Reading { reading, .. } = &mut self.tasks[pid as usize].place else {
+            unreachable!();
+        };
+        reading.step(volume, pid, into)
+    }
+
+    // Makes the next step of freeing a file's blocks in the task.
+    pub(crate) fn trunc_on<D: Disk>(
+        &mut self,
+        volume: &mut Volume<D>,
+        pid: u32,
+        _place: usize,
+        _was: Snapshot<Driven<Itrunc>>,
+    ) -> Progress<()>
+        requires inside { pid < length self.old }
+        requires at { (task self.old pid).place ≡ place.Truncating _place _was.value }
+        requires fault { volume.old.fault ≡ None }
+        requires pid { pid < 32 }
+        requires room { HasRoom (used_by volume.old.log pid) }
+        requires ready { MayDrive itrunc D.image volume.old pid _was.value }
+        ensures { TruncatesInPlace D.Disk volume.old self.old pid _place _was.value result
+            self.new volume.new }
+    {
+        let Place::Truncating { trunc, .. } = &mut self.tasks[pid as usize].place else {
+            unreachable!();
+        };
+        trunc.step(volume, pid)
+    }
+
+    // What is left of the inode whose file's blocks a process freed.
+    pub(crate) fn left(&self, pid: u32) -> Option<Dinode>
+        requires inside { pid < length self.now }
+        requires at { IsSome (freeing_at (task self.now pid).place) }
+        ensures { IfSome (freeing_at (task self.now pid).place)
+            (λ trunc. result ≡ inode_left trunc.machine) }
+    {
+        let Place::Truncating { trunc, .. } = &self.tasks[pid as usize].place else {
+            unreachable!();
+        };
+        trunc.machine.left()
     }
 
     // Makes the next step of a writing in the task.
