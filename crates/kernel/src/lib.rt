@@ -51,4 +51,4 @@ mod waiting;
 pub use runs::run;
 pub use stepping::Kernel;
 pub use types::{OpenFault, Step, Turn};
-pub use visiting::Visit;
+pub use visiting::{Visit, VisitWith};

@@ -30,6 +30,29 @@ pub trait Visit<I: Intake> {
         ensures fits { AllFit (I.fits intake.old) (I.fits intake.new) };
 }
 
+/// The same where another value changes, too, which stays where it is.
+pub trait VisitWith<I: Intake> {
+    ghost use Rattle.std.specs.Prelude.{◌≡◌};
+
+    /// The other value.
+    type Other;
+
+    /// What it asks of the intake and of the other value.
+    ghost asks: { Self → I → Self.Other → Type 0 };
+
+    /// What it tells of the intake as it was and as it is, and of the other value.
+    ghost tells: { Self → I → I → Self.Other → Self.Other → Type 0 };
+
+    /// Visits the intake.
+    fn visit_with(self, intake: &mut I, other: &mut Self::Other)
+        requires { asks self intake.old other.old }
+        ensures tells { tells self intake.old intake.new other.old other.new }
+        ensures processes { I.process_count intake.new ≡ I.process_count intake.old }
+        ensures names { SameNames (I.name intake.old) (I.name intake.new) }
+        ensures room { RoomStays (I.side intake.old) (I.side intake.new) }
+        ensures fits { AllFit (I.fits intake.old) (I.fits intake.new) };
+}
+
 impl<D: Disk, I: Intake, H: Herald> Kernel<D, I, H> {
     /// Lets a visitor to the intake. It takes no step, and nothing but the intake changes.
     pub fn visit<V: Visit<I>>(&mut self, visitor: V) -> V::Gift
@@ -39,5 +62,15 @@ impl<D: Disk, I: Intake, H: Herald> Kernel<D, I, H> {
         ensures same { self.new ≡ record self.old { intake = self.new.intake } }
     {
         visitor.visit(&mut self.intake)
+    }
+
+    /// Lets a visitor to the intake, as `visit`, together with another value.
+    pub fn visit_with<V: VisitWith<I>>(&mut self, visitor: V, other: &mut V::Other)
+        requires { V.asks visitor self.old.intake other.old }
+        ensures tells { V.tells visitor self.old.intake self.new.intake other.old other.new }
+        ensures names { SameNames (I.name self.old.intake) (I.name self.new.intake) }
+        ensures same { self.new ≡ record self.old { intake = self.new.intake } }
+    {
+        visitor.visit_with(&mut self.intake, other);
     }
 }

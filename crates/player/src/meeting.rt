@@ -1,32 +1,25 @@
 // Both ends of a process's rings, in one thread.
-ghost use Rattle.std.specs.Prelude.{◌≡◌, ◌<◌, length};
-ghost use Rattle.clients.specs.Sources.{HaveSourceRings};
-ghost use Rattle.rings.specs.Callers.{intake_count, intake_names};
-ghost use Rattle.player.specs.Stepping.{MeetsAt};
+ghost use Rattle.std.specs.Prelude.{◌≡◌, ◌<◌, Some};
+ghost use Rattle.rings.specs.Callers.{Meets, caller_names, intake_count, intake_names};
 
-use clients::Source;
-use kernel::Visit;
-use rings::RingIntake;
+use kernel::VisitWith;
+use rings::{Caller, RingIntake};
 
 /// Lets both ends of the rings of a process see what the other did.
 #[derive(Drop)]
 pub struct Meeting {
     pub pid: u32,
-    // Those of all processes.
-    pub sources: Vec<Source>,
 }
 
-impl Visit<RingIntake> for Meeting {
-    type Gift = Vec<Source>;
+impl VisitWith<RingIntake> for Meeting {
+    type Other = Caller;
 
-    ghost asks = { λ s i. (s.pid < intake_count i) × (s.pid < length s.sources.items)
-        × HaveSourceRings (intake_names i) s.sources.items };
+    ghost asks = { λ s i c. (s.pid < intake_count i)
+        × (intake_names i s.pid ≡ Some (caller_names c)) };
 
-    ghost tells = { λ s i j sources. MeetsAt s.pid i s.sources.items j sources.items };
+    ghost tells = { λ s i j c d. Meets i s.pid c j d };
 
-    fn visit(self, intake: &mut RingIntake) -> Vec<Source> {
-        let Meeting { pid, mut sources } = self;
-        intake.meet(pid, &mut sources[pid as usize].caller);
-        sources
+    fn visit_with(self, intake: &mut RingIntake, caller: &mut Caller) {
+        intake.meet(self.pid, caller);
     }
 }

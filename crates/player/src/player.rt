@@ -4,13 +4,11 @@ use board::{Board, BoardHerald, Watch};
 use clients::Source;
 use kernel::Kernel;
 use rings::RingIntake;
-use std::alloc::Global;
 
 /// A kernel over rings, a board, and a disk of which one write may be stopped, and each process's
 /// caller with the operations of a script.
 #[derive(Drop)]
 pub struct Player<'a, D: Disk> {
-    pub(crate) alloc: Global,
     pub(crate) kernel: Kernel<FaultyDisk<D>, RingIntake, BoardHerald<'a>>,
     pub(crate) board: &'a Board,
     pub(crate) watch: Watch,

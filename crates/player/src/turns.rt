@@ -40,7 +40,6 @@ use model::types::{Answer, Entry};
 use opening::open_refusal;
 use scripts::{Task, Word};
 use std::alloc::Global;
-use std::mem;
 use texts::{Event, KernelFault, Refusal};
 use wal::DeviceFault;
 
@@ -112,7 +111,6 @@ pub fn open_player<'a, D: Disk + Drop>(
         processes,
     ) {
         Ok(kernel) => Ok(Player {
-            alloc,
             kernel,
             board,
             watch,
@@ -240,9 +238,9 @@ impl<'a, D: Disk + Drop> Player<'a, D> {
         ensures watch { HasItsWatch self.old self.new }
         ensures seated { IsSeated self.new }
     {
-        let sources = mem::replace(&mut self.sources, Vec::new(self.alloc));
         self.kernel.known();
-        self.sources = self.kernel.visit(Meeting { pid, sources });
+        let caller = &mut self.sources[pid as usize].caller;
+        self.kernel.visit_with(Meeting { pid }, caller);
     }
 
     // Hands in the next operations of a process, as many as its ring takes.

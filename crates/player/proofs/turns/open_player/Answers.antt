@@ -11,7 +11,7 @@ pub returns-in-Ok-open-clause-opened : goal.returns-in-Ok-open-clause-opened
 returns-in-Ok-open-clause-opened g c =
     let made = c.in-Ok.made in
     opened_over (faulty g.D.Disk) c.new-disk.result made.0 c.new.result (g.D.Disk.image c.args.disk) c.args.tasks.items c.args.processes
-    (record { alloc = c.args.alloc; kernel = c.in-Ok-open.kernel; board = c.args.board; watch = c.args.hands.watch; sources = made.1 }) (ap g.D.Disk.image c.new-disk.ensures.inner) c.in-Ok-open.ensures.opened c.in-Ok.ensures.sources c.requires.watch.1
+    (record { kernel = c.in-Ok-open.kernel; board = c.args.board; watch = c.args.hands.watch; sources = made.1 }) (ap g.D.Disk.image c.new-disk.ensures.inner) c.in-Ok-open.ensures.opened c.in-Ok.ensures.sources c.requires.watch.1
 
 pub returns-in-Ok-open-clause-name : goal.returns-in-Ok-open-clause-name
 returns-in-Ok-open-clause-name g c = opened_name g.D.Disk c.args.disk c.new-disk.result c.in-Ok.made.0 c.new.result c.args.processes c.in-Ok-open.kernel c.new-disk.ensures.inner c.in-Ok-open.ensures.opened

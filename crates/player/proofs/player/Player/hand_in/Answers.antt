@@ -15,5 +15,5 @@ pub returns-clause-seated : goal.returns-clause-seated
 returns-clause-seated g c =
     let met = c.meet.new.self in
     let low = low_in c.args.pid c.args.self.now met c.requires.pid c.meet.ensures.same c.meet.ensures.seated in
-    set_seated met (record { alloc = met.alloc; kernel = met.kernel; board = met.board; watch = met.watch; sources = with_item met.sources c.args.pid c.hand_in-moved.new.self }) c.meet.ensures.seated (refl, refl) (λ q. refl) refl
+    set_seated met (record { kernel = met.kernel; board = met.board; watch = met.watch; sources = with_item met.sources c.args.pid c.hand_in-moved.new.self }) c.meet.ensures.seated (refl, refl) (λ q. refl) refl
     c.args.pid c.index_mut.result.now c.hand_in-moved.new.self (slice_get_read met.sources.items (length met.sources.items) c.args.pid c.index_mut.result.now refl low c.index_mut.ensures.value) c.hand_in-moved.ensures.same.0 refl

@@ -6,7 +6,7 @@ use Rattle.player.proofs.player.Player.make_steps.Goals as goal
 pub event-requires-clause-seated : goal.event-requires-clause-seated
 event-requires-clause-seated g c =
     let old = c.hand_in.new.self in
-    still_seated old (record { alloc = old.alloc; kernel = c.make_steps-step.new.kernel; board = old.board; watch = old.watch; sources = old.sources }) c.hand_in.ensures.seated (refl, refl) c.make_steps-step.ensures.names c.make_steps-step.ensures.processes refl
+    still_seated old (record { kernel = c.make_steps-step.new.kernel; board = old.board; watch = old.watch; sources = old.sources }) c.hand_in.ensures.seated (refl, refl) c.make_steps-step.ensures.names c.make_steps-step.ensures.processes refl
 
 pub returns-clause-makes : goal.returns-clause-makes
 returns-clause-makes g c =

@@ -1,33 +1,32 @@
-use Rattle.std.proofs.Common.{ap, arith, length, refl, subst, sym}
-use Rattle.clients.specs.Sources.{HaveSourceRings}
-use Rattle.rings.specs.Callers.{intake_names}
-use Rattle.player.specs.Stepping.{MeetsAt}
+use Rattle.std.proofs.Common.{length, refl}
+use Rattle.std.proofs.lemmas.Option.{slice_get_read}
+use Rattle.std.specs.Vec.{with_item}
 use Rattle.player.proofs.Disks.{faulty}
 use Rattle.player.proofs.Owning.{met_own}
 use Rattle.player.proofs.Seats.{same_many, set_seated}
 use Rattle.player.proofs.player.Player.meet.Goals as goal
 
-pub visit-requires : goal.visit-requires
-visit-requires g c =
-    let k = c.args.self.now.kernel in
-    let pid = c.requires.pid in
-    let served = c.known.ensures.served in
-    let many = c.requires.seated.many in
-    let same = ap (λ v. length v.items) c.replace-sources.ensures.value in
-    (omega (arith, pid, served), omega (arith, pid, many, same), subst (λ v. HaveSourceRings (intake_names k.intake) v.items) (sym c.replace-sources.ensures.value) c.requires.seated.ringed)
-
 pub returns-clause-meets : goal.returns-clause-meets
-returns-clause-meets g c = subst (λ v. MeetsAt c.args.pid c.args.self.now.kernel.intake v.items c.visit.new.self.intake c.visit.result.items) c.replace-sources.ensures.value c.visit.ensures.tells
+returns-clause-meets g c =
+    let sources = c.args.self.now.sources.items in
+    record {
+      source = c.index_mut.result.now;
+      met = c.visit_with.new.other;
+      is = slice_get_read sources (length sources) c.args.pid c.index_mut.result.now refl (rw c.requires.seated.many c.requires.pid) c.index_mut.ensures.value;
+      set = refl;
+      meets = c.visit_with.ensures.tells;
+    }
 
 pub returns-clause-own : goal.returns-clause-own
 returns-clause-own g c =
     let old = c.args.self.now in
-    met_own (faulty g.D.Disk) c.args.pid old.kernel c.visit.new.self.intake old.sources.items c.visit.result.items c.known.ensures c.requires.pid
-    (subst (λ v. MeetsAt c.args.pid old.kernel.intake v.items c.visit.new.self.intake c.visit.result.items) c.replace-sources.ensures.value c.visit.ensures.tells)
+    met_own (faulty g.D.Disk) c.args.pid old.kernel c.visit_with.new.self.intake old.sources.items _ c.known.ensures c.requires.pid (returns-clause-meets g c)
 
 pub returns-clause-seated : goal.returns-clause-seated
+unfolding returns-clause-meets
 returns-clause-seated g c =
     let old = c.args.self.now in
-    let at = subst (λ v. MeetsAt c.args.pid old.kernel.intake v.items c.visit.new.self.intake c.visit.result.items) c.replace-sources.ensures.value c.visit.ensures.tells in
-    set_seated old (record { alloc = old.alloc; kernel = c.visit.new.self; board = old.board; watch = old.watch; sources = c.visit.result }) c.requires.seated (refl, refl) c.visit.ensures.names
-    (same_many old.kernel c.visit.new.self c.visit.ensures.same) c.args.pid at.source (record at.source { caller = at.met }) at.is at.meets.rings at.set
+    let met = record c.index_mut.result.now { caller = c.visit_with.new.other } in
+    let at = returns-clause-meets g c in
+    set_seated old (record { kernel = c.visit_with.new.self; board = old.board; watch = old.watch; sources = with_item old.sources c.args.pid met }) c.requires.seated (refl, refl) c.visit_with.ensures.names
+    (same_many old.kernel c.visit_with.new.self c.visit_with.ensures.same) c.args.pid c.index_mut.result.now met at.is at.meets.rings refl
