@@ -112,7 +112,9 @@ class Names:
         for end in range(len(path), 2, -1):
             spec = self.repository.spec('crates/%s.antt' % '/'.join(path[1:end]))
             if spec:
-                return spec.scope.own.get(name, [])
+                own = spec.scope.own.get(name, [])
+                return own or [node for there, called in spec.scope.names.get(name, [])
+                               if there != path for node in self.of_spec(there, called)]
         return []
 
     def of_declared(self, crate, path, name):
