@@ -203,8 +203,9 @@ class Spec:
         if re.match(r'(pub\s+)?(use|mod)\s', bare):
             self.end()
             self.above = []
-            if bare.startswith('use'):
-                self.imports.append(self.scope.take(bare.split(None, 1)[1]))
+            taken = re.match(r'(?:pub\s+)?use\s+(.*)', bare)
+            if taken:
+                self.imports.append(self.scope.take(taken.group(1)))
         elif shape or bare.startswith('module ') or (plain and plain.group(1) not in NOT_NAMES):
             self.end()
             kind, name = shape.groups() if shape else ('definition', plain.group(1) if plain else '')
