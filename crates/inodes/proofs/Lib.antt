@@ -42,6 +42,7 @@ mod WriteEntries
 mod WriteDoes
 mod WriteEnds
 mod Staying
+mod TableNumbers
 mod FreePlaces
 mod KeptBlocks
 mod GoesOn

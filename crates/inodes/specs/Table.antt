@@ -1,5 +1,5 @@
 -- The inodes in memory, as contracts see them.
-use Rattle.std.specs.Prelude.{◌≡◌, ◌≢◌, ◌<◌, ℕ, ◌+◌, ◌-◌, ◌^◌, ◌==◌, nat_lt, if◌then◌else◌, Bool, false, is_none, List, replicate, slice_index_or, slice_set, Option, Some, None, IsSome, length, position}
+use Rattle.std.specs.Prelude.{◌≡◌, ◌≢◌, ◌<◌, ℕ, ◌+◌, ◌-◌, ◌^◌, ◌==◌, nat_lt, if◌then◌else◌, Bool, true, false, is_none, List, replicate, slice_index, slice_index_or, slice_set, Option, Some, None, IsSome, length, position}
 use Rattle.model.specs.declared.types.image.Dinode.{Dinode}
 use Rattle.model.specs.declared.types.image.Form.{Form}
 use Rattle.model.specs.Soundness.{count_of}
@@ -31,6 +31,11 @@ or_else (Some x) other = Some x
 -- where an inode is, or else the first free place
 abbrev pub place_for : List (Option InMemory) → ℕ → Option ℕ
 place_for ps i = or_else (position (is_of i) ps) (position (λ e. is_none e) ps)
+
+-- the number of a place's inode; 0 where the place is free
+abbrev pub number_in : Option InMemory → ℕ
+number_in None = 0
+number_in (Some e) = e.number
 
 abbrev pub holder_in : Option InMemory → Option ℕ
 holder_in None = None
@@ -98,6 +103,12 @@ without_reference (Some e) =
 
 abbrev pub left : TableState → ℕ → TableState
 left t k = with_entry t k (without_reference (entry_at t.places k))
+
+-- the numbers of the inodes, side by side, in which one is searched
+pub record IsNumbered (numbers : List ℕ) (ps : List (Option InMemory)) : Type 0 where
+  pub size : length ps ≡ 50
+  pub many : length numbers ≡ 50
+  pub each : (k i : ℕ) → is_of i (entry_at ps k) ≡ true → slice_index numbers k ≡ i
 
 -- the references of each place are as many as it has in a list, where each reference names its
 -- place; and a place without references is free

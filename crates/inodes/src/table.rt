@@ -1,6 +1,7 @@
 // The inodes in memory.
-ghost use Rattle.std.specs.Prelude.{◌≡◌, ◌<◌, ◌+◌, ◌^◌, ℕ, IsSome, IfSome, Some, is_none, length, position, if◌then◌else◌};
-ghost use Rattle.inodes.specs.Table.{TableState, new_table, HasPlaceFor, place_for, entry_at, holder_at, copy_at, is_of, with_reference, without_reference, referred, locked, renewed, left};
+ghost use Rattle.std.specs.Prelude.{◌≡◌, ◌<◌, ◌+◌, ◌^◌, ℕ, IsSome, IfSome, Some, false, is_none, length, position, if◌then◌else◌};
+ghost use Rattle.bcache.specs.Numbers.{HasNot};
+ghost use Rattle.inodes.specs.Table.{IsNumbered, TableState, new_table, HasPlaceFor, place_for, entry_at, holder_at, copy_at, is_of, number_in, with_reference, without_reference, referred, locked, renewed, left};
 
 use layout::Super;
 use model::types::{Dinode, Form};
@@ -27,20 +28,22 @@ pub struct InMemory {
 #[derive(Drop)]
 pub struct Inodes {
     places: [Option<InMemory>; 50],
+    // The number of each place's inode once more, side by side, where a search meets no inode. That
+    // of a free place is 0, which no operation names, so that few searches go over the inodes.
+    numbers: [u32; PLACES],
     inode_count: u32,
     form: Form,
 }
 
 impl Model for Inodes {
-    ghost use Rattle.std.specs.Prelude.{◌≡◌, length};
-    ghost use Rattle.inodes.specs.Table.{TableState};
+    ghost use Rattle.inodes.specs.Table.{IsNumbered, TableState};
 
     ghost Value = { TableState };
 
     ghost view = { λ t.
         record { places = t.places; inode_count = t.inode_count; form = t.form } };
 
-    ghost invariant = { λ t. length t.places ≡ 50 };
+    ghost invariant = { λ t. IsNumbered t.numbers t.places };
 }
 
 impl Inodes {
@@ -50,6 +53,7 @@ impl Inodes {
     {
         Inodes {
             places: [None; PLACES],
+            numbers: [0; PLACES],
             inode_count: sup.ninodes,
             form,
         }
@@ -88,10 +92,12 @@ impl Inodes {
         ensures within { result < 50 }
         ensures table { self.new ≡ referred self.old number result }
     {
-        let Some(place) = place_for(&self.places, number) else {
+        let Some(place) = place_for(&self.places, &self.numbers, number) else {
             unreachable!();
         };
-        self.places[place] = Some(with_reference(self.places[place], number));
+        let inode = with_reference(self.places[place], number);
+        self.numbers[place] = inode.number;
+        self.places[place] = Some(inode);
         place
     }
 
@@ -130,19 +136,37 @@ impl Inodes {
         requires { place < 50 }
         ensures { self.new ≡ left self.old place }
     {
-        self.places[place] = without_reference(self.places[place]);
+        let left = without_reference(self.places[place]);
+        self.numbers[place] = number_in(&left);
+        self.places[place] = left;
     }
 }
 
 // Where an inode is in memory, or else the first free place.
-fn place_for(places: &[Option<InMemory>], number: u32) -> Option<usize>
+fn place_for(places: &[Option<InMemory>], numbers: &[u32; PLACES], number: u32) -> Option<usize>
+    requires { IsNumbered numbers.now places.now }
     ensures place { result ≡ place_for places.now number }
     ensures within { IfSome result (λ place. place < length places.now) }
 {
+    if !has_number(numbers, number) {
+        return free_place(places);
+    }
     match place_of(places, number) {
         Some(place) => Some(place),
         None => free_place(places),
     }
+}
+
+// Whether a number is among these. No number ends the search early, so that several are compared at
+// once.
+fn has_number(numbers: &[u32; PLACES], number: u32) -> bool
+    ensures { result ≡ false → HasNot numbers.now number 50 }
+{
+    let mut found = false;
+    for place in 0..PLACES {
+        found |= numbers[place] == number;
+    }
+    found
 }
 
 // Where an inode is in memory.
@@ -159,6 +183,16 @@ fn free_place(places: &[Option<InMemory>]) -> Option<usize>
     ensures within { IfSome result (λ place. place < length places.now) }
 {
     places.iter().position(|inode| inode.is_none())
+}
+
+// The number of a place's inode; 0 where the place is free.
+fn number_in(inode: &Option<InMemory>) -> u32
+    ensures { result ≡ number_in inode.now }
+{
+    match inode {
+        Some(inode) => inode.number,
+        None => 0,
+    }
 }
 
 // Whether a place is that number's.
