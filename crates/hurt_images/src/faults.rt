@@ -1,5 +1,5 @@
 // How many images had which fault.
-use anyhow::bail;
+use crate::wrong::What;
 use model::types::CheckFault;
 use std::io;
 
@@ -30,7 +30,7 @@ impl Faults {
     }
 
     /// Counts an image with this first fault, or a sound one.
-    pub fn add(&mut self, fault: Option<CheckFault>) -> anyhow::Result<()> {
+    pub fn add(&mut self, fault: Option<CheckFault>) -> Result<(), What> {
         let place: usize = match fault {
             None => 0,
             Some(CheckFault::BadMagic) => 1,
@@ -42,7 +42,7 @@ impl Faults {
             Some(CheckFault::TwiceUsed(_)) => 7,
             Some(CheckFault::UsedButFree(_)) => 8,
             Some(CheckFault::LostBlock(_)) => 9,
-            Some(fault) => bail!("no fault of an image: {fault}"),
+            Some(fault) => return Err(What::Image(fault)),
         };
         if let Some(count) = self.counts.get_mut(place) {
             *count = count.saturating_add(1);

@@ -17,12 +17,14 @@ mod bases;
 mod faults;
 mod image;
 mod judging;
+mod kernels;
 mod random;
 mod sweep;
+mod wrong;
 
 use crate::faults::Faults;
 use crate::random::hurt_by_chance;
-use crate::sweep::hurt_each;
+use crate::sweep::{Seen, hurt_each};
 use anyhow::bail;
 use std::alloc::Global;
 use std::env;
@@ -44,7 +46,10 @@ fn main(rt: HostRuntime) -> anyhow::Result<()> {
 }
 
 fn print_each(rt: &impl Print, alloc: Global) -> anyhow::Result<()> {
-    let seen = hurt_each(alloc)?;
+    let mut seen = Seen::new();
+    if let Err(wrong) = hurt_each(alloc, &mut seen) {
+        bail!("{wrong}");
+    }
     println!(rt; "each byte of five blocks, and each cut")?;
     seen.faults.print(rt)?;
     println!(rt; "openings refused {}", seen.refused)?;
@@ -56,7 +61,9 @@ fn print_each(rt: &impl Print, alloc: Global) -> anyhow::Result<()> {
 
 fn print_by_chance(rt: &impl Print, alloc: Global, first: u64, count: u64) -> anyhow::Result<()> {
     let mut faults = Faults::new();
-    hurt_by_chance(alloc, first, count, &mut faults)?;
+    if let Err(wrong) = hurt_by_chance(alloc, first, count, &mut faults) {
+        bail!("{wrong}");
+    }
     println!(rt; "bytes changed by chance")?;
     faults.print(rt)?;
     Ok(())

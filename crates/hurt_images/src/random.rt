@@ -1,11 +1,11 @@
 // Images of which some bytes are changed by chance.
 ghost use Rattle.std.specs.Prelude.{◌<◌};
 
-use crate::bases::{Base, SIZES, bases};
+use crate::bases::{Base, SIZES, put_bases};
 use crate::faults::Faults;
 use crate::image::Image;
 use crate::judging::agreed_fault;
-use anyhow::{Context, bail};
+use crate::wrong::{Other, Place, What, Wrong};
 use chance::Chance;
 use model::types::CheckFault;
 use std::alloc::Global;
@@ -24,35 +24,62 @@ pub fn hurt_by_chance(
     first: u64,
     count: u64,
     faults: &mut Faults,
-) -> anyhow::Result<()> {
-    let mut bases = bases(alloc)?;
+) -> Result<(), Wrong> {
+    let mut bases = Vec::new(alloc);
+    match put_bases(alloc, &mut bases) {
+        Ok(()) => hurt_seeds(alloc, &mut bases, first, count, faults),
+        Err(what) => Err(what.at(Place::Whole)),
+    }
+}
+
+fn hurt_seeds(
+    alloc: Global,
+    bases: &mut [Base],
+    first: u64,
+    count: u64,
+    faults: &mut Faults,
+) -> Result<(), Wrong> {
     for k in 0..count {
         let seed = first.wrapping_add(k);
-        let mut chance = Chance::new(seed, 0);
-        let place = chance.below(SIZES.len() as u32) as usize;
-        let Some(base) = bases.get_mut(place) else {
-            bail!("no image {place}");
-        };
-        let fault = hurt(alloc, base, &mut chance).context(format_args!("seed {seed}"))?;
-        faults.add(fault)?;
+        if let Err(what) = hurt_seed(alloc, bases, seed, faults) {
+            return Err(what.at(Place::Seed(seed)));
+        }
     }
     Ok(())
 }
 
-// Changes one to eight bytes, most often few, has the image judged, and puts the bytes back.
-fn hurt(alloc: Global, base: &mut Base, chance: &mut Chance) -> anyhow::Result<Option<CheckFault>> {
-    let mut flips = Vec::new(alloc);
-    let most = 1 + chance.below(8);
-    for _byte in 0..1 + chance.below(most) {
-        flips.push(drawn(base, chance)?)?;
+fn hurt_seed(
+    alloc: Global,
+    bases: &mut [Base],
+    seed: u64,
+    faults: &mut Faults,
+) -> Result<(), What> {
+    let mut chance = Chance::new(seed, 0);
+    let place = chance.below(SIZES.len() as u32) as usize;
+    match bases.get_mut(place) {
+        Some(base) => faults.add(hurt(alloc, base, &mut chance)?),
+        None => Err(What::Other(Other::NoImage)),
     }
-    flip_all(&mut base.image, flips.as_slice())?;
+}
+
+// Changes one to eight bytes, most often few, has the image judged, and puts the bytes back.
+fn hurt(alloc: Global, base: &mut Base, chance: &mut Chance) -> Result<Option<CheckFault>, What> {
+    let mut flips = [Flip {
+        b: 0,
+        at: 0,
+        bits: 0,
+    }; 8];
+    let most = 1 + chance.below(8);
+    let count = 1 + chance.below(most);
+    let flips = &mut flips[..count as usize];
+    draw(base, chance, flips)?;
+    flip_all(&mut base.image, flips)?;
     let fault = agreed_fault(alloc, &mut base.image)?;
-    flip_all(&mut base.image, flips.as_slice())?;
+    flip_all(&mut base.image, flips)?;
     Ok(fault)
 }
 
-fn flip_all(image: &mut Image, flips: &[Flip]) -> anyhow::Result<()> {
+fn flip_all(image: &mut Image, flips: &[Flip]) -> Result<(), What> {
     for flip in flips {
         let byte = image.byte(flip.b, flip.at)?;
         image.set(flip.b, flip.at, byte ^ flip.bits)?;
@@ -60,8 +87,14 @@ fn flip_all(image: &mut Image, flips: &[Flip]) -> anyhow::Result<()> {
     Ok(())
 }
 
+fn draw(base: &Base, chance: &mut Chance, flips: &mut [Flip]) -> Result<(), What> {
+    for flip in flips {
+        *flip = drawn(base, chance)?;
+    }
+    Ok(())
+}
 // Bits to be flipped: one, some of the low ones, those that leave a block's number, or any.
-fn drawn(base: &Base, chance: &mut Chance) -> anyhow::Result<Flip> {
+fn drawn(base: &Base, chance: &mut Chance) -> Result<Flip, What> {
     let (b, at) = place(base, chance);
     let bits = match chance.below(4) {
         0 => 1 << chance.below(8),

@@ -3,7 +3,7 @@ use crate::bases::stopped_creation;
 use crate::faults::Faults;
 use crate::image::Image;
 use crate::judging::{agreed_fault, judge_opening, judge_recovery};
-use anyhow::Context;
+use crate::wrong::{Place, What, Wrong};
 use std::alloc::Global;
 
 // Of the image the superblock, the log's header, the block in the log, its home, which has the
@@ -28,45 +28,71 @@ pub struct Seen {
     pub recovered: u64,
 }
 
-/// Hurts each byte of five blocks, and cuts the image to each smaller size.
-pub fn hurt_each(alloc: Global) -> anyhow::Result<Seen> {
-    let mut image = Image::of(alloc, stopped_creation(alloc)?)?;
-    let mut seen = Seen {
-        faults: Faults::new(),
-        refused: 0,
-        opened: 0,
-        unrecovered: 0,
-        recovered: 0,
-    };
-    for b in BLOCKS {
-        hurt_block(alloc, &mut image, b, &mut seen).context(format_args!("block {b}"))?;
+impl Seen {
+    /// No image was judged.
+    pub fn new() -> Seen {
+        Seen {
+            faults: Faults::new(),
+            refused: 0,
+            opened: 0,
+            unrecovered: 0,
+            recovered: 0,
+        }
     }
-    cut_each(alloc, &image, &mut seen)?;
-    Ok(seen)
+}
+
+/// Hurts each byte of five blocks, and cuts the image to each smaller size.
+pub fn hurt_each(alloc: Global, seen: &mut Seen) -> Result<(), Wrong> {
+    match stopped_creation(alloc) {
+        Ok(mut image) => hurt_all(alloc, &mut image, seen),
+        Err(what) => Err(what.at(Place::Whole)),
+    }
+}
+
+fn hurt_all(alloc: Global, image: &mut Image, seen: &mut Seen) -> Result<(), Wrong> {
+    for b in BLOCKS {
+        hurt_block(alloc, image, b, seen)?;
+    }
+    for size in 0..SIZE {
+        if let Err(what) = cut(alloc, image, size, seen) {
+            return Err(what.at(Place::Cut(size)));
+        }
+    }
+    Ok(())
 }
 
 // Sets each byte of a block to each of four values.
-fn hurt_block(alloc: Global, image: &mut Image, b: u32, seen: &mut Seen) -> anyhow::Result<()> {
+fn hurt_block(alloc: Global, image: &mut Image, b: u32, seen: &mut Seen) -> Result<(), Wrong> {
     for k in 0..4096usize {
         let (at, byte) = (k / 4, BYTES[k % 4]);
-        let old = image.byte(b, at)?;
-        image.set(b, at, byte)?;
-        judge(alloc, image, seen).context(format_args!("byte {at} is {byte}"))?;
-        image.set(b, at, old)?;
+        if let Err(what) = hurt_byte(alloc, image, b, at, byte, seen) {
+            return Err(what.at(Place::Byte(b, at, byte)));
+        }
     }
     Ok(())
 }
 
-fn cut_each(alloc: Global, image: &Image, seen: &mut Seen) -> anyhow::Result<()> {
-    for size in 0..SIZE {
-        let mut cut = image.cut(alloc, size)?;
-        judge(alloc, &mut cut, seen).context(format_args!("cut to {size} blocks"))?;
-    }
-    Ok(())
+fn hurt_byte(
+    alloc: Global,
+    image: &mut Image,
+    b: u32,
+    at: usize,
+    byte: u8,
+    seen: &mut Seen,
+) -> Result<(), What> {
+    let old = image.byte(b, at)?;
+    image.set(b, at, byte)?;
+    judge(alloc, image, seen)?;
+    image.set(b, at, old)
+}
+
+fn cut(alloc: Global, image: &Image, size: u32, seen: &mut Seen) -> Result<(), What> {
+    let mut cut = image.cut(alloc, size)?;
+    judge(alloc, &mut cut, seen)
 }
 
 // Judges check, opening and recovery of an image, and leaves it as it is.
-fn judge(alloc: Global, image: &mut Image, seen: &mut Seen) -> anyhow::Result<()> {
+fn judge(alloc: Global, image: &mut Image, seen: &mut Seen) -> Result<(), What> {
     let fault = agreed_fault(alloc, image)?;
     seen.faults.add(fault)?;
     judge_opening(alloc, image, fault)?;

@@ -1,16 +1,19 @@
 // Calls of a kernel, which is opened over the disk.
-use crate::pieces::{Stretch, fill, gather};
+use crate::pieces::{fill, gather};
 use crate::rounds::make_rounds;
 use crate::teller::Teller;
 use blocks::Disk;
 use desk::{Faulty, disk_of, done, operation, told_answer};
-use kernel::{Kernel, Step, Turn, run};
+use kernel::{Kernel, OpenFault, Step, Turn, run};
 use model::types::Op;
 use ports::QueueIntake;
 use std::alloc::Global;
 
 // More steps than any operation makes.
 const MOST_STEPS: u32 = 40_000;
+
+// A question that a herald is never asked.
+const NEVER: &str = "18446744073709551615";
 
 /// A kernel over plain queues.
 pub type Opened = Kernel<Faulty, QueueIntake, Teller>;
@@ -23,11 +26,9 @@ pub fn call(
     words: &[&str],
 ) -> anyhow::Result<Option<String>> {
     match *words {
-        ["kernel", processes] => open(alloc, disk, kernel, processes.parse()?, u64::MAX),
-        ["kernel", processes, question] => {
-            open(alloc, disk, kernel, processes.parse()?, question.parse()?)
-        }
-        ["leave"] => leave(alloc, disk, kernel),
+        ["kernel", processes] => open(alloc, disk, kernel, processes, NEVER),
+        ["kernel", processes, question] => open(alloc, disk, kernel, processes, question),
+        ["leave"] => done(alloc, take_back(disk, kernel)),
         _ => match kernel {
             Some(kernel) => call_open(alloc, kernel, words),
             None => Ok(None),
@@ -40,19 +41,17 @@ fn call_open(alloc: Global, kernel: &mut Opened, words: &[&str]) -> anyhow::Resu
         return submit(alloc, kernel, pid, op);
     }
     match *words {
-        ["step", pid] => step(alloc, kernel, pid.parse()?, 1),
-        ["step", pid, count] => step(alloc, kernel, pid.parse()?, count.parse()?),
-        ["steps", pid] => steps(alloc, kernel, pid.parse()?),
-        ["eight", pid] => eight(alloc, kernel, pid.parse()?),
-        ["last", pid] => last(alloc, kernel, pid.parse()?),
+        ["step", pid] => step(alloc, kernel, pid, "1"),
+        ["step", pid, count] => step(alloc, kernel, pid, count),
+        ["steps", pid] => steps(alloc, kernel, pid),
+        ["eight", pid] => eight(alloc, kernel, pid),
+        ["last", pid] => last(alloc, kernel, pid),
         ["pieces", pid, "fill", inode, from, to, digits] => {
-            fill(alloc, kernel, stretch_of(pid, inode, from, to)?, digits)
+            fill(alloc, kernel, [pid, inode, from, to], digits)
         }
-        ["pieces", pid, "read", inode, from, to] => {
-            gather(alloc, kernel, stretch_of(pid, inode, from, to)?)
-        }
-        ["rounds", most] => make_rounds(alloc, kernel, most.parse()?),
-        ["poll", pid] => poll(alloc, kernel, pid.parse()?),
+        ["pieces", pid, "read", inode, from, to] => gather(alloc, kernel, [pid, inode, from, to]),
+        ["rounds", most] => make_rounds(alloc, kernel, most),
+        ["poll", pid] => poll(alloc, kernel, pid),
         ["shut"] => {
             kernel.shut();
             done(alloc, true)
@@ -68,41 +67,52 @@ fn open(
     alloc: Global,
     desk: &mut Faulty,
     kernel: &mut Option<Opened>,
-    processes: u32,
-    question: u64,
+    processes: &str,
+    question: &str,
 ) -> anyhow::Result<Option<String>> {
-    let disk = std::mem::replace(desk, disk_of(alloc, 0)?);
-    let intake = QueueIntake::new(alloc, processes.min(64))?;
-    match Kernel::open(
-        alloc,
-        disk,
-        intake,
-        Teller::new(question),
-        processes.min(64),
-    ) {
+    let processes: u32 = processes.parse()?;
+    let question: u64 = question.parse()?;
+    let processes = processes.min(64);
+    let empty = disk_of(alloc, 0)?;
+    let intake = QueueIntake::new(alloc, processes)?;
+    let disk = std::mem::replace(desk, empty);
+    let opened = Kernel::open(alloc, disk, intake, Teller::new(question), processes);
+    told_opening(alloc, put(desk, kernel, opened))
+}
+
+// Puts the kernel in its place, or the disk, and answers why it was refused.
+fn put(
+    desk: &mut Faulty,
+    kernel: &mut Option<Opened>,
+    opened: Result<Opened, (OpenFault, Faulty)>,
+) -> Option<OpenFault> {
+    match opened {
         Ok(opened) => {
             *kernel = Some(opened);
-            done(alloc, true)
+            None
         }
         Err((fault, disk)) => {
             *desk = disk;
-            Ok(Some(format!(in alloc; "{fault:?}")?))
+            Some(fault)
         }
     }
 }
 
-// Takes the disk back from the kernel.
-fn leave(
-    alloc: Global,
-    disk: &mut Faulty,
-    kernel: &mut Option<Opened>,
-) -> anyhow::Result<Option<String>> {
+fn told_opening(alloc: Global, refused: Option<OpenFault>) -> anyhow::Result<Option<String>> {
+    match refused {
+        None => done(alloc, true),
+        Some(fault) => Ok(Some(format!(in alloc; "{fault:?}")?)),
+    }
+}
+
+// Takes the disk back from the kernel, if there is one.
+fn take_back(disk: &mut Faulty, kernel: &mut Option<Opened>) -> bool {
     match kernel.take() {
         Some(kernel) => {
             *disk = kernel.into_disk();
-            done(alloc, true)
+            true
         }
-        None => Ok(None),
+        None => false,
     }
 }
 
@@ -116,22 +126,15 @@ fn submit(alloc: Global, kernel: &mut Opened, pid: u32, op: Op) -> anyhow::Resul
     }
 }
 
-fn stretch_of(pid: &str, inode: &str, from: &str, to: &str) -> anyhow::Result<Stretch> {
-    Ok(Stretch {
-        pid: pid.parse()?,
-        inode: inode.parse()?,
-        from: from.parse()?,
-        to: to.parse()?,
-    })
-}
-
 // So many steps, and what the last of them answers.
 fn step(
     alloc: Global,
     kernel: &mut Opened,
-    pid: u32,
-    count: u32,
+    pid: &str,
+    count: &str,
 ) -> anyhow::Result<Option<String>> {
+    let pid: u32 = pid.parse()?;
+    let count: u32 = count.parse()?;
     let mut answer = None;
     for _ in 0..count.min(MOST_STEPS) {
         if pid as usize >= kernel.processes() {
@@ -146,7 +149,8 @@ fn step(
 }
 
 // Steps until one doesn't answer Moved.
-fn steps(alloc: Global, kernel: &mut Opened, pid: u32) -> anyhow::Result<Option<String>> {
+fn steps(alloc: Global, kernel: &mut Opened, pid: &str) -> anyhow::Result<Option<String>> {
+    let pid: u32 = pid.parse()?;
     match go_on(kernel, pid) {
         Some((moved, answer)) => Ok(Some(format!(in alloc; "{moved} Moved, {answer:?}")?)),
         None => Ok(None),
@@ -169,7 +173,8 @@ pub fn go_on(kernel: &mut Opened, pid: u32) -> Option<(u32, Step)> {
 }
 
 // A run of eight turns of a process.
-fn eight(alloc: Global, kernel: &mut Opened, pid: u32) -> anyhow::Result<Option<String>> {
+fn eight(alloc: Global, kernel: &mut Opened, pid: &str) -> anyhow::Result<Option<String>> {
+    let pid: u32 = pid.parse()?;
     if pid as usize >= kernel.processes() {
         return Ok(None);
     }
@@ -178,7 +183,8 @@ fn eight(alloc: Global, kernel: &mut Opened, pid: u32) -> anyhow::Result<Option<
 }
 
 // A run of the shutdown and a turn.
-fn last(alloc: Global, kernel: &mut Opened, pid: u32) -> anyhow::Result<Option<String>> {
+fn last(alloc: Global, kernel: &mut Opened, pid: &str) -> anyhow::Result<Option<String>> {
+    let pid: u32 = pid.parse()?;
     if pid as usize >= kernel.processes() {
         return Ok(None);
     }
@@ -186,7 +192,8 @@ fn last(alloc: Global, kernel: &mut Opened, pid: u32) -> anyhow::Result<Option<S
     Ok(Some(format!(in alloc; "{made} turns")?))
 }
 
-fn poll(alloc: Global, kernel: &mut Opened, pid: u32) -> anyhow::Result<Option<String>> {
+fn poll(alloc: Global, kernel: &mut Opened, pid: &str) -> anyhow::Result<Option<String>> {
+    let pid: u32 = pid.parse()?;
     if pid as usize >= kernel.processes() {
         return Ok(None);
     }

@@ -16,18 +16,49 @@ use std::fs;
 
 fn main(rt: HostRuntime) -> anyhow::Result<()> {
     let alloc = rt.alloc();
-    let mut table = Table {
-        bench: Bench::new(alloc)?,
-        kernel: None,
-    };
     let text = fs::read_to_string(&rt, "calls")?;
-    for line in text.as_str().lines() {
-        if line.is_empty() || line.starts_with('#') {
-            println!(rt; "{line}")?;
-        } else {
-            let answer = text_of(alloc, call(alloc, &mut table, line))?;
-            println!(rt; "{line}: {answer}")?;
-        }
+    print_all(&rt, alloc, text.as_str(), Bench::new(alloc))
+}
+
+// Prints the lines over a new table. The disk may have been refused.
+fn print_all(
+    rt: &impl Print,
+    alloc: Global,
+    text: &str,
+    bench: anyhow::Result<Bench>,
+) -> anyhow::Result<()> {
+    match bench {
+        Ok(bench) => print_lines(
+            rt,
+            alloc,
+            text,
+            &mut Table {
+                bench,
+                kernel: None,
+            },
+        ),
+        Err(error) => Err(error),
+    }
+}
+
+fn print_lines(
+    rt: &impl Print,
+    alloc: Global,
+    text: &str,
+    table: &mut Table,
+) -> anyhow::Result<()> {
+    for line in text.lines() {
+        print_line(rt, alloc, line, table)?;
+    }
+    Ok(())
+}
+
+fn print_line(rt: &impl Print, alloc: Global, line: &str, table: &mut Table) -> anyhow::Result<()> {
+    if line.is_empty() || line.starts_with('#') {
+        println!(rt; "{line}")?;
+    } else {
+        let answer = text_of(alloc, call(alloc, table, line))?;
+        println!(rt; "{line}: {answer}")?;
     }
     Ok(())
 }
@@ -45,9 +76,13 @@ fn call(alloc: Global, table: &mut Table, line: &str) -> anyhow::Result<Option<S
         return Ok(answer);
     }
     let words: Vec<&str> = line.split_whitespace().collect(alloc)?;
-    let answer = desk::call(alloc, &mut table.bench, &words)?;
+    call_words(alloc, table, &words)
+}
+
+fn call_words(alloc: Global, table: &mut Table, words: &[&str]) -> anyhow::Result<Option<String>> {
+    let answer = desk::call(alloc, &mut table.bench, words)?;
     if answer.is_some() {
         return Ok(answer);
     }
-    kernels::call(alloc, &mut table.bench.disk, &mut table.kernel, &words)
+    kernels::call(alloc, &mut table.bench.disk, &mut table.kernel, words)
 }

@@ -5,16 +5,25 @@ use kernel::Step;
 use model::types::{Answer, Op, Reply, TRANSFER_LIMIT};
 use std::alloc::Global;
 
-/// The bytes of a file from one place up to another, which a process goes through.
+// The bytes of a file from one place up to another, which a process goes through.
 #[derive(Clone, Copy)]
-pub struct Stretch {
-    pub pid: u32,
-    pub inode: u32,
-    pub from: u32,
-    pub to: u32,
+struct Stretch {
+    pid: u32,
+    inode: u32,
+    from: u32,
+    to: u32,
 }
 
 impl Stretch {
+    fn parse([pid, inode, from, to]: [&str; 4]) -> anyhow::Result<Stretch> {
+        Ok(Stretch {
+            pid: pid.parse()?,
+            inode: inode.parse()?,
+            from: from.parse()?,
+            to: to.parse()?,
+        })
+    }
+
     // How many pieces there are, all but the last with as many bytes as a write or a read may have.
     fn count(&self) -> u32 {
         self.to.saturating_sub(self.from).div_ceil(TRANSFER_LIMIT)
@@ -40,27 +49,57 @@ impl Stretch {
     }
 }
 
-/// Writes the bytes of a stretch, each of which has these two digits. How many pieces that were,
-/// how many of their steps moved, and the last answer.
+/// Writes the bytes of a stretch, which the words are (a process, an inode, and two places). Each of
+/// them has these two digits. How many pieces that were, how many of their steps moved, and the last
+/// answer.
 pub fn fill(
+    alloc: Global,
+    kernel: &mut Opened,
+    words: [&str; 4],
+    digits: &str,
+) -> anyhow::Result<Option<String>> {
+    let stretch = Stretch::parse(words)?;
+    let mut last = None;
+    match fill_all(alloc, kernel, stretch, digits, &mut last) {
+        Ok(Done::All(steps)) => {
+            let (pieces, last) = (stretch.count(), told_answer(alloc, last)?);
+            Ok(Some(format!(in alloc; "{pieces} pieces, {steps} Moved, {last}")?))
+        }
+        Ok(Done::UpTo(number)) => told_end(alloc, number),
+        Err(error) => Err(error),
+    }
+}
+
+// How far a process came with a stretch: through all pieces, with so many steps that moved, or up to
+// a piece that was not answered.
+#[derive(Clone, Copy)]
+enum Done {
+    All(u32),
+    UpTo(u32),
+}
+
+fn told_end(alloc: Global, number: u32) -> anyhow::Result<Option<String>> {
+    Ok(Some(format!(in alloc; "no answer to piece {number}")?))
+}
+
+fn fill_all(
     alloc: Global,
     kernel: &mut Opened,
     stretch: Stretch,
     digits: &str,
-) -> anyhow::Result<Option<String>> {
+    last: &mut Option<Answer>,
+) -> anyhow::Result<Done> {
     let mut steps: u32 = 0;
-    let mut last = None;
     for number in 0..stretch.count() {
         let (at, count) = stretch.piece(number);
         let op = Op::Write(stretch.inode, at, filled(alloc, count, digits)?);
         let Some(moved) = stretch.perform(kernel, op) else {
-            return Ok(Some(format!(in alloc; "no answer to piece {number}")?));
+            return Ok(Done::UpTo(number));
         };
         steps = steps.saturating_add(moved);
-        last = answer_of(kernel, stretch.pid);
+        *last = answer_of(kernel, stretch.pid);
     }
-    let (pieces, last) = (stretch.count(), told_answer(alloc, last)?);
-    Ok(Some(format!(in alloc; "{pieces} pieces, {steps} Moved, {last}")?))
+    Ok(Done::All(steps))
 }
 
 fn answer_of(kernel: &mut Opened, pid: u32) -> Option<Answer> {
@@ -71,31 +110,42 @@ fn answer_of(kernel: &mut Opened, pid: u32) -> Option<Answer> {
     }
 }
 
-/// Reads the bytes of a stretch. How many pieces that were, how many of their steps moved, and the
-/// bytes: how many have which digits.
+/// Reads the bytes of a stretch, which the words are. How many pieces that were, how many of their
+/// steps moved, and the bytes: how many have which digits.
 pub fn gather(
     alloc: Global,
     kernel: &mut Opened,
-    stretch: Stretch,
+    words: [&str; 4],
 ) -> anyhow::Result<Option<String>> {
-    let mut steps: u32 = 0;
+    let stretch = Stretch::parse(words)?;
     let mut runs = Runs::new(alloc);
+    match gather_all(alloc, kernel, stretch, &mut runs) {
+        Ok(Done::All(steps)) => {
+            let (pieces, text) = (stretch.count(), runs.text.as_str());
+            Ok(Some(format!(in alloc; "{pieces} pieces, {steps} Moved{text}")?))
+        }
+        Ok(Done::UpTo(number)) => told_end(alloc, number),
+        Err(error) => Err(error),
+    }
+}
+
+fn gather_all(
+    alloc: Global,
+    kernel: &mut Opened,
+    stretch: Stretch,
+    runs: &mut Runs,
+) -> anyhow::Result<Done> {
+    let mut steps: u32 = 0;
     for number in 0..stretch.count() {
         let (at, count) = stretch.piece(number);
-        let op = Op::Read(stretch.inode, at, count);
-        let Some(moved) = stretch.perform(kernel, op) else {
-            return Ok(Some(format!(in alloc; "no answer to piece {number}")?));
+        let Some(moved) = stretch.perform(kernel, Op::Read(stretch.inode, at, count)) else {
+            return Ok(Done::UpTo(number));
         };
         steps = steps.saturating_add(moved);
-        if let Some(answer) = answer_of(kernel, stretch.pid)
-            && let Reply::Bytes(bytes) = answer.reply
-        {
-            runs.add(alloc, bytes.as_slice())?;
-        }
+        runs.add_reply(alloc, answer_of(kernel, stretch.pid))?;
     }
     runs.tell(alloc)?;
-    let (pieces, text) = (stretch.count(), runs.text.as_str());
-    Ok(Some(format!(in alloc; "{pieces} pieces, {steps} Moved{text}")?))
+    Ok(Done::All(steps))
 }
 
 // Bytes, by how often one stands behind itself.
@@ -112,6 +162,17 @@ impl Runs {
             text: String::new(alloc),
             last: 0,
             count: 0,
+        }
+    }
+
+    // Adds the bytes that a process was answered, if these are the answer.
+    fn add_reply(&mut self, alloc: Global, answer: Option<Answer>) -> anyhow::Result<()> {
+        match answer {
+            Some(answer) => match answer.reply {
+                Reply::Bytes(bytes) => self.add(alloc, bytes.as_slice()),
+                _ => Ok(()),
+            },
+            None => Ok(()),
         }
     }
 

@@ -40,8 +40,9 @@ impl Counts {
 pub fn make_rounds(
     alloc: Global,
     kernel: &mut Opened,
-    most: u32,
+    most: &str,
 ) -> anyhow::Result<Option<String>> {
+    let most: u32 = most.parse()?;
     let mut counts = Counts::default();
     let mut made = 0;
     for round in 1..=most.min(2000) {

@@ -1,13 +1,11 @@
-// Disks over files: over a file in memory that refuses a call, and over a real one.
-use blocks::{BLOCK_SIZE, Block, Disk, DiskFault, FileDisk, FileFault, NoMemory};
+// Disks over files in memory that refuse a call.
+use blocks::{BLOCK_SIZE, Disk, FileDisk, FileFault};
 use std::alloc::{Allocator, Global};
 use std::fs::{Metadata, OpenFile, OpenOptions};
 use std::io::{self, Cursor, ErrorKind, Read, Seek, SeekFrom, Write};
 use std::rt::Files;
-use std::test::Fail;
-use std::{env, fs, process};
 
-#[derive(Clone, Copy, PartialEq)]
+#[derive(Clone, Copy, Debug, PartialEq)]
 enum Call {
     Open,
     Metadata,
@@ -154,101 +152,77 @@ impl Files for Shelf {
     }
 }
 
-#[test]
-fn opens_what_is_a_disk(rt: HostRuntime) -> Result<(), Fail> {
-    let (denied, memory) = (ErrorKind::PermissionDenied, ErrorKind::OutOfMemory);
-    for (length, refuses, error, want) in [
-        (2048, None, denied, Ok(2)),
-        (0, None, denied, Err(FileFault::Length)),
-        (1, None, denied, Err(FileFault::Length)),
-        (2047, None, denied, Err(FileFault::Length)),
-        (8192 * 1024, None, denied, Err(FileFault::Length)),
-        // As long as a disk may be, but the bytes end before.
-        (8191 * 1024, None, denied, Err(FileFault::Open)),
-        (2048, Some(Call::Open), denied, Err(FileFault::Open)),
-        (2048, Some(Call::Open), memory, Err(FileFault::NoMemory)),
-        (1, Some(Call::Metadata), denied, Err(FileFault::Open)),
-        (1, Some(Call::Read), denied, Err(FileFault::Length)),
-        (2048, Some(Call::Read), denied, Err(FileFault::Open)),
-        (2048, Some(Call::Read), memory, Err(FileFault::NoMemory)),
-    ] {
-        let shelf = Shelf {
-            alloc: rt.alloc(),
-            length,
-            refuses,
-            error,
-        };
-        let got = FileDisk::open(&shelf, "disk").map(|disk| disk.size());
-        assert_eq!(rt; got, want, "at {length}");
+// What a file says of its length, the call that it refuses, and with which error.
+type Row = (u64, Option<Call>, ErrorKind);
+
+const DENIED: ErrorKind = ErrorKind::PermissionDenied;
+
+const MEMORY: ErrorKind = ErrorKind::OutOfMemory;
+
+const OPENINGS: [Row; 12] = [
+    (2048, None, DENIED),
+    (0, None, DENIED),
+    (1, None, DENIED),
+    (2047, None, DENIED),
+    (8192 * 1024, None, DENIED),
+    // As long as a disk may be, but the bytes end before.
+    (8191 * 1024, None, DENIED),
+    (2048, Some(Call::Open), DENIED),
+    (2048, Some(Call::Open), MEMORY),
+    (1, Some(Call::Metadata), DENIED),
+    (1, Some(Call::Read), DENIED),
+    (2048, Some(Call::Read), DENIED),
+    (2048, Some(Call::Read), MEMORY),
+];
+
+const MAKINGS: [Row; 3] = [
+    (0, None, DENIED),
+    (0, Some(Call::Open), DENIED),
+    (0, Some(Call::SetLen), DENIED),
+];
+
+fn make_shelf(alloc: Global, (length, refuses, error): Row) -> Shelf {
+    Shelf {
+        alloc,
+        length,
+        refuses,
+        error,
+    }
+}
+
+/// The size of the disk that a file is.
+pub fn size_of<D: Disk + Drop>(disk: Result<D, FileFault>) -> Result<u32, FileFault> {
+    match disk {
+        Ok(disk) => Ok(disk.size()),
+        Err(fault) => Err(fault),
+    }
+}
+
+/// Opens what is a disk, and what isn't.
+pub fn print_openings(rt: &impl Print, alloc: Global) -> anyhow::Result<()> {
+    println!(rt; "opens what is a disk")?;
+    for row in OPENINGS {
+        let answer = size_of(FileDisk::open(&make_shelf(alloc, row), "disk"));
+        print_row(rt, row, answer)?;
     }
     Ok(())
 }
 
-#[test]
-fn makes_what_the_system_allows(rt: HostRuntime) -> Result<(), Fail> {
-    for (refuses, want) in [
-        (None, Ok(3)),
-        (Some(Call::Open), Err(FileFault::Open)),
-        (Some(Call::SetLen), Err(FileFault::Open)),
-    ] {
-        let shelf = Shelf {
-            alloc: rt.alloc(),
-            length: 0,
-            refuses,
-            error: ErrorKind::PermissionDenied,
-        };
-        let got = FileDisk::create(&shelf, "disk", 3).map(|disk| disk.size());
-        assert_eq!(rt; got, want);
+/// Makes what the system allows.
+pub fn print_makings(rt: &impl Print, alloc: Global) -> anyhow::Result<()> {
+    println!(rt; "\nmakes what the system allows")?;
+    for row in MAKINGS {
+        let answer = size_of(FileDisk::create(&make_shelf(alloc, row), "disk", 3));
+        print_row(rt, row, answer)?;
     }
     Ok(())
 }
 
-#[test]
-fn a_real_file_keeps_what_was_written(rt: HostRuntime) -> Result<(), Fail> {
-    let folder = env::temp_dir(&rt)?;
-    let id = process::id(rt.process());
-    let folder = folder.as_str();
-    let path = format!(in rt.alloc(); "{folder}/xvfs-file-{id}.img")?;
-    let path = path.as_str();
-    fs::write(&rt, path, "an old file of another length")?;
-    assert_eq!(rt; FileDisk::open(&rt, path).err(), Some(FileFault::Length));
-    let mut disk = FileDisk::create(&rt, path, 3)?;
-    let mut block = Block::zeroed(rt.alloc())?;
-    block.put(7, &[1, 2]);
-    let size = disk.size();
-    assert!(rt; size == 3);
-    disk.write(2, &block)?;
-    let bytes = fs::read(&rt, path)?;
-    assert_eq!(rt; bytes.len(), 3072);
-    for (at, byte) in bytes.iter().enumerate() {
-        let expected = match at {
-            2055 => 1,
-            2056 => 2,
-            _ => 0,
-        };
-        assert_eq!(rt; *byte, expected, "byte {at}");
-    }
-    assert_eq!(rt; FileDisk::open(&rt, path)?.size(), 3);
-    fs::write(&rt, path, [1; 2560].as_slice())?;
-    assert_eq!(rt; FileDisk::open(&rt, path).err(), Some(FileFault::Length));
-    fs::remove_file(&rt, path)?;
-    Ok(())
-}
-
-#[test]
-fn faults_have_texts(rt: HostRuntime) -> Result<(), Fail> {
-    let texts = format!(in rt.alloc();
-        "{}, {}, {}, {}, {}",
-        DiskFault(7),
-        NoMemory,
-        FileFault::Open,
-        FileFault::Length,
-        FileFault::NoMemory
-    )?;
-    assert_eq!(rt;
-        texts.as_str(),
-        "block 7: the disk failed, memory was refused, the file can't be opened, \
-         the file's length is not that of a disk, memory was refused"
-    );
+fn print_row(
+    rt: &impl Print,
+    (length, refuses, error): Row,
+    answer: Result<u32, FileFault>,
+) -> anyhow::Result<()> {
+    println!(rt; "{length} bytes, {refuses:?} refused, {error:?}: {answer:?}")?;
     Ok(())
 }

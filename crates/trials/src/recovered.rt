@@ -1,10 +1,12 @@
 // Reading an image as recovery would leave it.
+ghost use Rattle.std.specs.Prelude.{◌≡◌, length, IfOk};
+
 use blocks::{Block, Disk, MemDisk, NoMemory};
-use layout::{Dinode, Form, bitmap, entries, inode};
+use layout::{Dinode, Form, MkfsFault, bitmap, entries, inode};
+use model::types::CheckFault;
 use offline::laws::checked_files_may_be_read;
 use offline::{Recovered, check, mkfs_as};
 use std::alloc::Global;
-use std::test::Fail;
 
 // The blocks of the file, and its bytes: the last block is behind two blocks of addresses.
 const FILE_BLOCKS: u32 = 268;
@@ -20,7 +22,20 @@ const FAR: u32 = NEAR + 1;
 
 const BELOW: u32 = NEAR + 2;
 
-fn put(disk: &mut MemDisk, b: u32, block: &Block) -> Result<(), Fail> {
+// The parts that are read: a file's number, a place, and how many bytes.
+const READINGS: [(u32, u32, u32); 8] = [
+    (1, 0, 2),
+    (1, 1023, 2),
+    // The first block behind a block of addresses, and the one behind two.
+    (1, 11 * 1024 - 1, 2),
+    (1, 267 * 1024 - 1, 2),
+    (1, 267 * 1024, 2),
+    (1, 0, FILE_SIZE),
+    (1, 1, FILE_SIZE),
+    (2, 0, 0),
+];
+
+fn put(disk: &mut MemDisk, b: u32, block: &Block) -> Result<(), MkfsFault> {
     if b < disk.size() {
         disk.write(b, block)?;
     }
@@ -35,7 +50,7 @@ fn data_block(alloc: Global, k: u16) -> Result<Block, NoMemory> {
     Ok(block)
 }
 
-fn put_file(alloc: Global, disk: &mut MemDisk) -> Result<(), Fail> {
+fn put_file(alloc: Global, disk: &mut MemDisk) -> Result<(), MkfsFault> {
     for k in 0..268u16 {
         let block = data_block(alloc, k)?;
         put(disk, FIRST + k as u32, &block)?;
@@ -43,7 +58,7 @@ fn put_file(alloc: Global, disk: &mut MemDisk) -> Result<(), Fail> {
     Ok(())
 }
 
-fn put_addresses(alloc: Global, disk: &mut MemDisk) -> Result<(), Fail> {
+fn put_addresses(alloc: Global, disk: &mut MemDisk) -> Result<(), MkfsFault> {
     let mut near = Block::zeroed(alloc)?;
     for e in 0..256 {
         entries::set_entry(&mut near, e, FIRST + 11 + e);
@@ -57,7 +72,7 @@ fn put_addresses(alloc: Global, disk: &mut MemDisk) -> Result<(), Fail> {
     put(disk, BELOW, &below)
 }
 
-fn put_bitmap(alloc: Global, disk: &mut MemDisk) -> Result<(), Fail> {
+fn put_bitmap(alloc: Global, disk: &mut MemDisk) -> Result<(), MkfsFault> {
     let mut marks = Block::zeroed(alloc)?;
     for b in 0..BELOW + 1 {
         bitmap::set_bit(&mut marks, b);
@@ -66,7 +81,7 @@ fn put_bitmap(alloc: Global, disk: &mut MemDisk) -> Result<(), Fail> {
 }
 
 // The inode of file 1 stands in the log alone: block 3 belongs to block 33.
-fn put_logged_inode(alloc: Global, disk: &mut MemDisk) -> Result<(), Fail> {
+fn put_logged_inode(alloc: Global, disk: &mut MemDisk) -> Result<(), MkfsFault> {
     let mut addrs = [0; 13];
     for k in 0..11 {
         addrs[k] = FIRST + k as u32;
@@ -89,14 +104,18 @@ fn put_logged_inode(alloc: Global, disk: &mut MemDisk) -> Result<(), Fail> {
     put(disk, 2, &header)
 }
 
-fn logged_image(alloc: Global) -> Result<MemDisk, Fail> {
-    let mut disk = MemDisk::new(alloc, 400)?;
-    mkfs_as(alloc, &mut disk, 400, 16, Form::Two)?;
-    put_file(alloc, &mut disk)?;
-    put_addresses(alloc, &mut disk)?;
-    put_bitmap(alloc, &mut disk)?;
-    put_logged_inode(alloc, &mut disk)?;
-    Ok(disk)
+fn make_image(alloc: Global, disk: &mut MemDisk) -> Result<(), MkfsFault> {
+    mkfs_as(alloc, disk, 400, 16, Form::Two)?;
+    put_file(alloc, disk)?;
+    put_addresses(alloc, disk)?;
+    put_bitmap(alloc, disk)?;
+    put_logged_inode(alloc, disk)
+}
+
+fn zeroes(alloc: Global, count: u32) -> Result<Vec<u8>, NoMemory>
+    ensures { IfOk result (λ bytes. length bytes.items ≡ count) }
+{
+    Ok(vec![in alloc; 0; count as usize]?)
 }
 
 // Bytes of the file of a number, from place `at` on. None where it has no file, or too few.
@@ -106,7 +125,7 @@ fn part_of_file<D: Disk>(
     i: u32,
     at: u32,
     count: u32,
-) -> Result<Option<Vec<u8>>, Fail> {
+) -> Result<Option<Vec<u8>>, CheckFault> {
     check(alloc, disk)?;
     checked_files_may_be_read();
     let mut block = Block::zeroed(alloc)?;
@@ -118,32 +137,47 @@ fn part_of_file<D: Disk>(
     if inode.kind == 0 || at > inode.size || count > inode.size - at {
         return Ok(None);
     }
-    let mut bytes = vec![in alloc; 0; count as usize]?;
+    let mut bytes = zeroes(alloc, count)?;
     image.read(disk, &inode, at, &mut bytes, &mut block)?;
     Ok(Some(bytes))
 }
 
-#[test]
-fn files_are_read_through_the_log(rt: HostRuntime) -> Result<(), Fail> {
-    let alloc = rt.alloc();
-    let mut disk = logged_image(alloc)?;
-    let report = check(alloc, &mut disk)?;
-    assert_eq!(rt; (report.logged, report.files), (1, 1));
-    let rows = [
-        (0, [0, 0]),
-        (1023, [7, 1]),
-        // the first block behind a block of addresses, and the one behind two
-        (11 * 1024 - 1, [7, 11]),
-        (267 * 1024 - 1, [7, 11]),
-        (267 * 1024, [11, 1]),
-    ];
-    for (at, expected) in rows {
-        let bytes = part_of_file(alloc, &mut disk, 1, at, 2)?.ok_or("no file")?;
-        assert_eq!(rt; bytes.as_slice(), expected.as_slice(), "at {at}");
+/// Files are read through the log.
+pub fn print_readings(rt: &impl Print, alloc: Global) -> anyhow::Result<()> {
+    println!(rt; "\nfiles are read through the log")?;
+    let mut disk = MemDisk::new(alloc, 400)?;
+    print_image(rt, alloc, &mut disk)
+}
+
+fn print_image(rt: &impl Print, alloc: Global, disk: &mut MemDisk) -> anyhow::Result<()> {
+    make_image(alloc, disk)?;
+    let report = check(alloc, disk)?;
+    println!(rt; "{} logged, {} files", report.logged, report.files)?;
+    for (i, at, count) in READINGS {
+        let part = part_of_file(alloc, disk, i, at, count);
+        print_part(rt, (i, at, count), part)?;
     }
-    let whole = part_of_file(alloc, &mut disk, 1, 0, FILE_SIZE)?.ok_or("no file")?;
-    assert_eq!(rt; whole.as_slice().iter().filter(|b| **b == 7).count(), 269);
-    assert!(rt; part_of_file(alloc, &mut disk, 1, 1, FILE_SIZE)?.is_none());
-    assert!(rt; part_of_file(alloc, &mut disk, 2, 0, 0)?.is_none());
     Ok(())
+}
+
+// A part of a file: two bytes as they are, and how many of more are 7.
+fn print_part(
+    rt: &impl Print,
+    (i, at, count): (u32, u32, u32),
+    part: Result<Option<Vec<u8>>, CheckFault>,
+) -> anyhow::Result<()> {
+    match part {
+        Ok(Some(bytes)) if count == 2 => println!(rt; "file {i} at {at}: {bytes:?}")?,
+        Ok(Some(bytes)) => {
+            let (all, sevens) = (bytes.len(), count_of(7, &bytes));
+            println!(rt; "file {i} at {at}: {all} bytes, {sevens} of them 7")?;
+        }
+        Ok(None) => println!(rt; "file {i} at {at}: no {count} bytes")?,
+        Err(fault) => println!(rt; "file {i} at {at}: {fault}")?,
+    }
+    Ok(())
+}
+
+fn count_of(byte: u8, bytes: &[u8]) -> usize {
+    bytes.iter().filter(|other| **other == byte).count()
 }

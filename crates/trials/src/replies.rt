@@ -6,7 +6,6 @@ use plain::files::Files;
 use plain::journal::{replay_answered, replay_kept};
 use plain::operations::apply;
 use std::alloc::Global;
-use std::test::Fail;
 
 // A table of 32 places, all empty.
 fn no_files(alloc: Global) -> Result<Files, NoMemory> {
@@ -25,55 +24,67 @@ fn first_file(files: &[Option<File>]) -> Option<(u16, usize)> {
     }
 }
 
-#[test]
-fn replies_are_judged(rt: HostRuntime) -> Result<(), Fail> {
-    let mut files = no_files(rt.alloc())?;
-    // the number 1 is taken from the second row on, and free again after the removal
-    let rows = [
-        (Op::Create(2), Reply::Made(1), true),
-        (Op::Create(2), Reply::Made(1), false),
-        (Op::Create(4), Reply::Made(2), false),
-        (Op::Create(2), Reply::Made(32), false),
-        (Op::Create(2), Reply::Made(0), false),
-        (Op::Create(2), Reply::Done, false),
-        (Op::Create(4), Reply::BadType, true),
-        (Op::Create(3), Reply::NoInode, true),
-        (Op::Stat(1), Reply::NoFile, false),
-        (Op::Stat(1), Reply::StatOf(2, 0), true),
-        (Op::Stat(32), Reply::NoFile, true),
-        (Op::Read(1, 0, 3073), Reply::TooLong, true),
-        (Op::Trunc(2), Reply::Done, false),
-        (Op::Trunc(1), Reply::Done, true),
-        (Op::Remove(1), Reply::Done, true),
-        (Op::Remove(1), Reply::NoFile, true),
-    ];
-    for (op, reply, expected) in rows {
-        let answer = apply(rt.alloc(), Form::One, &mut files, &op, &reply)?;
-        assert_eq!(rt; answer, expected, "{op:?} {reply:?}");
-    }
+/// Replies are judged. The number 1 is taken from the second row on, and free again after the removal.
+pub fn print_replies(rt: &impl Print, alloc: Global) -> anyhow::Result<()> {
+    println!(rt; "\nreplies are judged")?;
+    let mut files = no_files(alloc)?;
+    print_creations(rt, alloc, &mut files)?;
+    print_others(rt, alloc, &mut files)
+}
+
+fn print_creations(rt: &impl Print, alloc: Global, files: &mut Files) -> anyhow::Result<()> {
+    print_reply(rt, alloc, files, Op::Create(2), Reply::Made(1))?;
+    print_reply(rt, alloc, files, Op::Create(2), Reply::Made(1))?;
+    print_reply(rt, alloc, files, Op::Create(4), Reply::Made(2))?;
+    print_reply(rt, alloc, files, Op::Create(2), Reply::Made(32))?;
+    print_reply(rt, alloc, files, Op::Create(2), Reply::Made(0))?;
+    print_reply(rt, alloc, files, Op::Create(2), Reply::Done)?;
+    print_reply(rt, alloc, files, Op::Create(4), Reply::BadType)?;
+    print_reply(rt, alloc, files, Op::Create(3), Reply::NoInode)
+}
+
+fn print_others(rt: &impl Print, alloc: Global, files: &mut Files) -> anyhow::Result<()> {
+    print_reply(rt, alloc, files, Op::Stat(1), Reply::NoFile)?;
+    print_reply(rt, alloc, files, Op::Stat(1), Reply::StatOf(2, 0))?;
+    print_reply(rt, alloc, files, Op::Stat(32), Reply::NoFile)?;
+    print_reply(rt, alloc, files, Op::Read(1, 0, 3073), Reply::TooLong)?;
+    print_reply(rt, alloc, files, Op::Trunc(2), Reply::Done)?;
+    print_reply(rt, alloc, files, Op::Trunc(1), Reply::Done)?;
+    print_reply(rt, alloc, files, Op::Remove(1), Reply::Done)?;
+    print_reply(rt, alloc, files, Op::Remove(1), Reply::NoFile)
+}
+
+fn print_reply(
+    rt: &impl Print,
+    alloc: Global,
+    files: &mut Files,
+    op: Op,
+    reply: Reply,
+) -> anyhow::Result<()> {
+    let answer = apply(alloc, Form::One, files, &op, &reply);
+    println!(rt; "{op:?} {reply:?}: {answer:?}")?;
     Ok(())
 }
 
-#[test]
-fn short_writes_end_at_a_block(rt: HostRuntime) -> Result<(), Fail> {
-    let mut files = no_files(rt.alloc())?;
-    let (create, made) = (Op::Create(2), Reply::Made(1));
-    assert!(rt; apply(rt.alloc(), Form::One, &mut files, &create, &made)?);
-    let write = Op::Write(1, 0, Content::copy_of(rt.alloc(), &[0x78; 2048])?);
-    // below the file's end no block is missing
-    let rows = [
-        (1000, false, 0),
-        (1024, true, 1024),
-        (0, false, 1024),
-        (1024, true, 1024),
-        (2048, true, 2048),
-        (2049, false, 2048),
-    ];
-    for (count, expected, length) in rows {
-        let reply = Reply::Wrote(count);
-        let answer = apply(rt.alloc(), Form::One, &mut files, &write, &reply)?;
-        assert_eq!(rt; answer, expected, "{count} bytes");
-        assert_eq!(rt; first_file(files.as_slice()), Some((2, length)));
+/// Short writes end at a block. Below the file's end no block is missing.
+pub fn print_short_writes(rt: &impl Print, alloc: Global) -> anyhow::Result<()> {
+    println!(rt; "\nshort writes end at a block")?;
+    let mut files = no_files(alloc)?;
+    print_reply(rt, alloc, &mut files, Op::Create(2), Reply::Made(1))?;
+    let bytes = Content::copy_of(alloc, &[0x78; 2048])?;
+    print_writes(rt, alloc, &mut files, &Op::Write(1, 0, bytes))
+}
+
+fn print_writes(
+    rt: &impl Print,
+    alloc: Global,
+    files: &mut Files,
+    write: &Op,
+) -> anyhow::Result<()> {
+    for count in [1000, 1024, 0, 1024, 2048, 2049] {
+        let answer = apply(alloc, Form::One, files, write, &Reply::Wrote(count));
+        let file = first_file(files);
+        println!(rt; "{count} of 2048 bytes: {answer:?}, and the file is {file:?}")?;
     }
     Ok(())
 }
@@ -89,25 +100,35 @@ fn entry(seq: u64, op: Op, reply: Option<Reply>) -> Entry {
     }
 }
 
-#[test]
-fn journals_are_replayed(rt: HostRuntime) -> Result<(), Fail> {
-    let alloc = rt.alloc();
-    let write = Op::Write(1, 0, Content::copy_of(alloc, b"a")?);
+/// Journals are replayed.
+pub fn print_journals(rt: &impl Print, alloc: Global) -> anyhow::Result<()> {
+    println!(rt; "\njournals are replayed")?;
+    let bytes = Content::copy_of(alloc, b"a")?;
     let entries = [
         entry(1, Op::Create(2), Some(Reply::Made(1))),
-        entry(2, write, Some(Reply::Wrote(1))),
+        entry(2, Op::Write(1, 0, bytes), Some(Reply::Wrote(1))),
         entry(3, Op::Stat(1), Some(Reply::StatOf(2, 1))),
         entry(4, Op::Trunc(1), None),
     ];
+    print_replays(rt, alloc, &entries)
+}
+
+fn print_replays(rt: &impl Print, alloc: Global, entries: &[Entry]) -> anyhow::Result<()> {
     let mut files = no_files(alloc)?;
-    assert!(rt; replay_answered(alloc, Form::One, &mut files, &entries)?);
-    assert_eq!(rt; first_file(files.as_slice()), Some((2, 1)));
-    // the groups up to the second number are kept: the last has no reply
-    for (group, expected, length) in [(1, true, 0), (3, true, 1), (4, false, 1)] {
-        let mut files = no_files(alloc)?;
-        let answer = replay_kept(alloc, Form::One, &mut files, 32, &entries, group)?;
-        assert_eq!(rt; answer, expected, "up to group {group}");
-        assert_eq!(rt; first_file(files.as_slice()), Some((2, length)));
+    let answer = replay_answered(alloc, Form::One, &mut files, entries);
+    let file = first_file(&files);
+    println!(rt; "answered: {answer:?}, and the file is {file:?}")?;
+    // The groups up to this number are kept: the last has no reply.
+    for group in [1, 3, 4] {
+        print_kept(rt, alloc, entries, group)?;
     }
+    Ok(())
+}
+
+fn print_kept(rt: &impl Print, alloc: Global, entries: &[Entry], group: u64) -> anyhow::Result<()> {
+    let mut files = no_files(alloc)?;
+    let answer = replay_kept(alloc, Form::One, &mut files, 32, entries, group);
+    let file = first_file(&files);
+    println!(rt; "kept up to group {group}: {answer:?}, and the file is {file:?}")?;
     Ok(())
 }

@@ -12,36 +12,47 @@ pub fn call(
     words: &[&str],
 ) -> anyhow::Result<Option<String>> {
     match *words {
-        ["acquire", pid, block] => {
-            let answer = cache.acquire(pid.parse()?, block.parse()?);
-            Ok(Some(format!(in alloc; "{answer:?}")?))
-        }
-        ["find", block] => {
-            let answer = cache.find(block.parse()?);
-            Ok(Some(format!(in alloc; "{answer:?}")?))
-        }
-        ["fill", slot] => fill(alloc, cache, disk, slot.parse()?),
-        ["unlock", pid, slot] => unlock(alloc, cache, pid.parse()?, slot.parse()?),
-        ["write", pid, slot, at, hex] => {
-            write(alloc, cache, pid.parse()?, slot.parse()?, at.parse()?, hex)
-        }
-        ["first", count] => first(alloc, cache, count.parse()?),
-        ["ends"] => {
-            let links = cache.links();
-            Ok(Some(format!(in alloc; "{} {}", links.first, links.last)?))
-        }
-        ["beside", slot] => beside(alloc, cache, slot.parse()?),
-        ["data", slot, count] => data(alloc, cache, slot.parse()?, count.parse()?),
+        ["acquire", pid, block] => acquire(alloc, cache, pid, block),
+        ["find", block] => find(alloc, cache, block),
+        ["fill", slot] => fill(alloc, cache, disk, slot),
+        ["unlock", pid, slot] => unlock(alloc, cache, pid, slot),
+        ["write", pid, slot, at, hex] => write(alloc, cache, pid, slot, at, hex),
+        ["first", count] => first(alloc, cache, count),
+        ["ends"] => ends(alloc, cache),
+        ["beside", slot] => beside(alloc, cache, slot),
+        ["data", slot, count] => data(alloc, cache, slot, count),
         _ => Ok(None),
     }
+}
+
+fn acquire(
+    alloc: Global,
+    cache: &mut Cache,
+    pid: &str,
+    block: &str,
+) -> anyhow::Result<Option<String>> {
+    let answer = cache.acquire(pid.parse()?, block.parse()?);
+    Ok(Some(format!(in alloc; "{answer:?}")?))
+}
+
+fn find(alloc: Global, cache: &Cache, block: &str) -> anyhow::Result<Option<String>> {
+    let answer = cache.find(block.parse()?);
+    Ok(Some(format!(in alloc; "{answer:?}")?))
+}
+
+// The order's ends.
+fn ends(alloc: Global, cache: &Cache) -> anyhow::Result<Option<String>> {
+    let links = cache.links();
+    Ok(Some(format!(in alloc; "{} {}", links.first, links.last)?))
 }
 
 fn fill(
     alloc: Global,
     cache: &mut Cache,
     disk: &mut Faulty,
-    slot: u32,
+    slot: &str,
 ) -> anyhow::Result<Option<String>> {
+    let slot: u32 = slot.parse()?;
     if slot >= 40 {
         return Ok(None);
     }
@@ -54,7 +65,14 @@ fn fill(
     }
 }
 
-fn unlock(alloc: Global, cache: &mut Cache, pid: u32, slot: u32) -> anyhow::Result<Option<String>> {
+fn unlock(
+    alloc: Global,
+    cache: &mut Cache,
+    pid: &str,
+    slot: &str,
+) -> anyhow::Result<Option<String>> {
+    let pid: u32 = pid.parse()?;
+    let slot: u32 = slot.parse()?;
     if slot >= 40 || cache.holder(slot) != Some(pid) {
         return Ok(None);
     }
@@ -66,11 +84,14 @@ fn unlock(alloc: Global, cache: &mut Cache, pid: u32, slot: u32) -> anyhow::Resu
 fn write(
     alloc: Global,
     cache: &mut Cache,
-    pid: u32,
-    slot: u32,
-    at: usize,
+    pid: &str,
+    slot: &str,
+    at: &str,
     hex: &str,
 ) -> anyhow::Result<Option<String>> {
+    let pid: u32 = pid.parse()?;
+    let slot: u32 = slot.parse()?;
+    let at: usize = at.parse()?;
     let bytes = hex::decode(alloc, hex)?;
     if slot >= 40 || at > 1024 || bytes.len() > 1024 - at || cache.holder(slot) != Some(pid) {
         return Ok(None);
@@ -84,7 +105,8 @@ fn write(
 }
 
 // The slots of the order's first places.
-fn first(alloc: Global, cache: &Cache, count: u32) -> anyhow::Result<Option<String>> {
+fn first(alloc: Global, cache: &Cache, count: &str) -> anyhow::Result<Option<String>> {
+    let count: u32 = count.parse()?;
     let mut slots = Vec::new(alloc);
     for place in 0..count.min(40) {
         slots.push(cache.slot_at(place))?;
@@ -93,7 +115,8 @@ fn first(alloc: Global, cache: &Cache, count: u32) -> anyhow::Result<Option<Stri
 }
 
 // The slots before and after a slot in the order.
-fn beside(alloc: Global, cache: &Cache, slot: usize) -> anyhow::Result<Option<String>> {
+fn beside(alloc: Global, cache: &Cache, slot: &str) -> anyhow::Result<Option<String>> {
+    let slot: usize = slot.parse()?;
     if slot >= 40 {
         return Ok(None);
     }
@@ -102,7 +125,9 @@ fn beside(alloc: Global, cache: &Cache, slot: usize) -> anyhow::Result<Option<St
     Ok(Some(format!(in alloc; "{before} {after}")?))
 }
 
-fn data(alloc: Global, cache: &Cache, slot: u32, count: usize) -> anyhow::Result<Option<String>> {
+fn data(alloc: Global, cache: &Cache, slot: &str, count: &str) -> anyhow::Result<Option<String>> {
+    let slot: u32 = slot.parse()?;
+    let count: usize = count.parse()?;
     if slot >= 40 {
         return Ok(None);
     }

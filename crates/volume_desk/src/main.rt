@@ -7,6 +7,7 @@ mod caches;
 mod volumes;
 
 use bcache::Cache;
+use blocks::NoMemory;
 use desk::{Bench, text_of};
 use std::alloc::Global;
 use std::fs;
@@ -14,19 +15,58 @@ use volumes::Opened;
 
 fn main(rt: HostRuntime) -> anyhow::Result<()> {
     let alloc = rt.alloc();
-    let mut table = Table {
-        bench: Bench::new(alloc)?,
-        cache: Cache::new(alloc)?,
-        volume: None,
-    };
     let text = fs::read_to_string(&rt, "calls")?;
-    for line in text.as_str().lines() {
-        if line.is_empty() || line.starts_with('#') {
-            println!(rt; "{line}")?;
-        } else {
-            let answer = text_of(alloc, call(alloc, &mut table, line))?;
-            println!(rt; "{line}: {answer}")?;
-        }
+    print_all(
+        &rt,
+        alloc,
+        text.as_str(),
+        Bench::new(alloc),
+        Cache::new(alloc),
+    )
+}
+
+// Prints the lines over a new table. The disk may have been refused, or the cache.
+fn print_all(
+    rt: &impl Print,
+    alloc: Global,
+    text: &str,
+    bench: anyhow::Result<Bench>,
+    cache: Result<Cache, NoMemory>,
+) -> anyhow::Result<()> {
+    match (bench, cache) {
+        (Ok(bench), Ok(cache)) => print_lines(
+            rt,
+            alloc,
+            text,
+            &mut Table {
+                bench,
+                cache,
+                volume: None,
+            },
+        ),
+        (Err(error), _) => Err(error),
+        (_, Err(NoMemory)) => Err(NoMemory.into()),
+    }
+}
+
+fn print_lines(
+    rt: &impl Print,
+    alloc: Global,
+    text: &str,
+    table: &mut Table,
+) -> anyhow::Result<()> {
+    for line in text.lines() {
+        print_line(rt, alloc, line, table)?;
+    }
+    Ok(())
+}
+
+fn print_line(rt: &impl Print, alloc: Global, line: &str, table: &mut Table) -> anyhow::Result<()> {
+    if line.is_empty() || line.starts_with('#') {
+        println!(rt; "{line}")?;
+    } else {
+        let answer = text_of(alloc, call(alloc, table, line))?;
+        println!(rt; "{line}: {answer}")?;
     }
     Ok(())
 }
@@ -41,13 +81,17 @@ struct Table {
 
 fn call(alloc: Global, table: &mut Table, line: &str) -> anyhow::Result<Option<String>> {
     let words: Vec<&str> = line.split_whitespace().collect(alloc)?;
-    let answer = desk::call(alloc, &mut table.bench, &words)?;
+    call_words(alloc, table, &words)
+}
+
+fn call_words(alloc: Global, table: &mut Table, words: &[&str]) -> anyhow::Result<Option<String>> {
+    let answer = desk::call(alloc, &mut table.bench, words)?;
     if answer.is_some() {
         return Ok(answer);
     }
-    let answer = caches::call(alloc, &mut table.cache, &mut table.bench.disk, &words)?;
+    let answer = caches::call(alloc, &mut table.cache, &mut table.bench.disk, words)?;
     if answer.is_some() {
         return Ok(answer);
     }
-    volumes::call(alloc, &mut table.bench.disk, &mut table.volume, &words)
+    volumes::call(alloc, &mut table.bench.disk, &mut table.volume, words)
 }

@@ -2,7 +2,7 @@
 use bcache::Cache;
 use blocks::Disk;
 use desk::{Faulty, block_of, disk_of, done};
-use layout::superblock;
+use layout::{Super, superblock};
 use std::alloc::Global;
 use wal::{Commit, Committed, Get, Log, Volume, recover};
 
@@ -18,7 +18,7 @@ pub fn call(
 ) -> anyhow::Result<Option<String>> {
     match *words {
         ["open"] => open(alloc, disk, volume),
-        ["close"] => close(alloc, disk, volume),
+        ["close"] => done(alloc, take_back(disk, volume)),
         _ => match volume {
             Some(volume) => call_open(alloc, volume, words),
             None => Ok(None),
@@ -29,26 +29,15 @@ pub fn call(
 fn call_open(alloc: Global, volume: &mut Opened, words: &[&str]) -> anyhow::Result<Option<String>> {
     match *words {
         ["stand"] => stand(alloc, volume),
-        ["slot", slot] => holding(alloc, volume, slot.parse()?),
-        ["show", slot, at, count] => {
-            show(alloc, volume, slot.parse()?, at.parse()?, count.parse()?)
-        }
+        ["slot", slot] => holding(alloc, volume, slot),
+        ["show", slot, at, count] => show(alloc, volume, slot, at, count),
         ["may"] => may(alloc, volume),
-        ["begin", pid] => begin(alloc, volume, pid.parse()?),
-        ["end", pid] => end(alloc, volume, pid.parse()?),
-        ["get", pid, block] => told_get(alloc, volume, pid.parse()?, block.parse()?),
-        ["release", pid, slot] => release(alloc, volume, pid.parse()?, slot.parse()?),
-        ["change", pid, block, at, hex] => {
-            change(
-                alloc,
-                volume,
-                pid.parse()?,
-                block.parse()?,
-                at.parse()?,
-                hex,
-            )
-        }
-        ["commit", count] => commit(alloc, volume, count.parse()?),
+        ["begin", pid] => begin(alloc, volume, pid),
+        ["end", pid] => end(alloc, volume, pid),
+        ["get", pid, block] => told_get(alloc, volume, pid, block),
+        ["release", pid, slot] => release(alloc, volume, pid, slot),
+        ["change", pid, block, at, hex] => change(alloc, volume, pid, block, at, hex),
+        ["commit", count] => commit(alloc, volume, count),
         _ => Ok(None),
     }
 }
@@ -63,34 +52,40 @@ fn open(
         return Ok(None);
     };
     let sup = superblock::read(block.as_slice());
-    let mut disk = std::mem::replace(desk, disk_of(alloc, 0)?);
-    let size = disk.size();
-    if !superblock::is_lawful(&sup, size) {
+    recover_and_open(alloc, desk, volume, &sup)
+}
+
+fn recover_and_open(
+    alloc: Global,
+    desk: &mut Faulty,
+    volume: &mut Option<Opened>,
+    sup: &Super,
+) -> anyhow::Result<Option<String>> {
+    let size = desk.size();
+    if !superblock::is_lawful(sup, size) {
         return Ok(None);
     }
-    let count = recover(alloc, &mut disk, &sup)?;
-    let size = disk.size();
-    if sup.size != size || !superblock::is_lawful(&sup, size) {
+    let count = recover(alloc, desk, sup)?;
+    let size = desk.size();
+    if sup.size != size || !superblock::is_lawful(sup, size) {
         return Ok(None);
     }
-    let log = Log::new(alloc, &sup)?;
+    let empty = disk_of(alloc, 0)?;
     let cache = Cache::new(alloc)?;
+    let log = Log::new(alloc, sup)?;
+    let disk = std::mem::replace(desk, empty);
     *volume = Some(Volume::open(disk, cache, log));
     Ok(Some(format!(in alloc; "{count} recovered")?))
 }
 
-// Takes the disk back from the volume.
-fn close(
-    alloc: Global,
-    disk: &mut Faulty,
-    volume: &mut Option<Opened>,
-) -> anyhow::Result<Option<String>> {
+// Takes the disk back from the volume, if there is one.
+fn take_back(disk: &mut Faulty, volume: &mut Option<Opened>) -> bool {
     match volume.take() {
         Some(volume) => {
             *disk = volume.into_disk();
-            done(alloc, true)
+            true
         }
-        None => Ok(None),
+        None => false,
     }
 }
 
@@ -106,7 +101,8 @@ fn stand(alloc: Global, volume: &Opened) -> anyhow::Result<Option<String>> {
 }
 
 // Who holds a slot, and its pins.
-fn holding(alloc: Global, volume: &Opened, slot: u32) -> anyhow::Result<Option<String>> {
+fn holding(alloc: Global, volume: &Opened, slot: &str) -> anyhow::Result<Option<String>> {
+    let slot: u32 = slot.parse()?;
     if slot >= 40 {
         return Ok(None);
     }
@@ -119,10 +115,13 @@ fn holding(alloc: Global, volume: &Opened, slot: u32) -> anyhow::Result<Option<S
 fn show(
     alloc: Global,
     volume: &Opened,
-    slot: u32,
-    at: usize,
-    count: usize,
+    slot: &str,
+    at: &str,
+    count: &str,
 ) -> anyhow::Result<Option<String>> {
+    let slot: u32 = slot.parse()?;
+    let at: usize = at.parse()?;
+    let count: usize = count.parse()?;
     if slot >= 40 {
         return Ok(None);
     }
@@ -145,7 +144,8 @@ fn may(alloc: Global, volume: &Opened) -> anyhow::Result<Option<String>> {
     Ok(Some(format!(in alloc; "{cause:?}")?))
 }
 
-fn begin(alloc: Global, volume: &mut Opened, pid: u32) -> anyhow::Result<Option<String>> {
+fn begin(alloc: Global, volume: &mut Opened, pid: &str) -> anyhow::Result<Option<String>> {
+    let pid: u32 = pid.parse()?;
     if pid >= 32 || volume.fault().is_some() || volume.log().used(pid).is_some() {
         return Ok(None);
     }
@@ -156,7 +156,8 @@ fn begin(alloc: Global, volume: &mut Opened, pid: u32) -> anyhow::Result<Option<
     Ok(Some(format!(in alloc; "{answer:?}")?))
 }
 
-fn end(alloc: Global, volume: &mut Opened, pid: u32) -> anyhow::Result<Option<String>> {
+fn end(alloc: Global, volume: &mut Opened, pid: &str) -> anyhow::Result<Option<String>> {
+    let pid: u32 = pid.parse()?;
     if pid >= 32 || volume.fault().is_some() || volume.log().used(pid).is_none() {
         return Ok(None);
     }
@@ -175,9 +176,11 @@ fn get(volume: &mut Opened, pid: u32, block: u32) -> Option<Get> {
 fn told_get(
     alloc: Global,
     volume: &mut Opened,
-    pid: u32,
-    block: u32,
+    pid: &str,
+    block: &str,
 ) -> anyhow::Result<Option<String>> {
+    let pid: u32 = pid.parse()?;
+    let block: u32 = block.parse()?;
     match get(volume, pid, block) {
         Some(answer) => Ok(Some(format!(in alloc; "{answer:?}")?)),
         None => Ok(None),
@@ -187,9 +190,11 @@ fn told_get(
 fn release(
     alloc: Global,
     volume: &mut Opened,
-    pid: u32,
-    slot: u32,
+    pid: &str,
+    slot: &str,
 ) -> anyhow::Result<Option<String>> {
+    let pid: u32 = pid.parse()?;
+    let slot: u32 = slot.parse()?;
     if slot >= 40 || volume.fault().is_some() || volume.cache().holder(slot) != Some(pid) {
         return Ok(None);
     }
@@ -201,11 +206,14 @@ fn release(
 fn change(
     alloc: Global,
     volume: &mut Opened,
-    pid: u32,
-    block: u32,
-    at: usize,
+    pid: &str,
+    block: &str,
+    at: &str,
     hex: &str,
 ) -> anyhow::Result<Option<String>> {
+    let pid: u32 = pid.parse()?;
+    let block: u32 = block.parse()?;
+    let at: usize = at.parse()?;
     let bytes = hex::decode(alloc, hex)?;
     if pid >= 32 || !volume.log().has_room(pid) || at > 1024 || bytes.len() > 1024 - at {
         return Ok(None);
@@ -222,7 +230,8 @@ fn change(
 }
 
 // Makes so many steps of a commit, but none behind a fault or where no commit is under way.
-fn commit(alloc: Global, volume: &mut Opened, count: u32) -> anyhow::Result<Option<String>> {
+fn commit(alloc: Global, volume: &mut Opened, count: &str) -> anyhow::Result<Option<String>> {
+    let count: u32 = count.parse()?;
     let mut text = String::from_str(alloc, "steps")?;
     for _ in 0..count {
         if volume.fault().is_some() || matches!(volume.log().commit(), Commit::Quiet) {

@@ -1,0 +1,39 @@
+//! Trials of disks over files, with a fake system of files and with the real one, of the reading of
+//! an image as recovery would leave it, and of what the plain program says of replies. Each row is a
+//! call, which is printed with what it answers; what they have to answer is the stored run.
+#![tactic(auto)]
+
+mod files;
+mod real_file;
+mod recovered;
+mod replies;
+
+use crate::files::{print_makings, print_openings};
+use crate::real_file::print_real_file;
+use crate::recovered::print_readings;
+use crate::replies::{print_journals, print_replies, print_short_writes};
+use blocks::{DiskFault, FileFault, NoMemory};
+
+fn main(rt: HostRuntime) -> anyhow::Result<()> {
+    let alloc = rt.alloc();
+    print_openings(&rt, alloc)?;
+    print_makings(&rt, alloc)?;
+    print_real_file(&rt)?;
+    print_faults(&rt)?;
+    print_readings(&rt, alloc)?;
+    print_replies(&rt, alloc)?;
+    print_short_writes(&rt, alloc)?;
+    print_journals(&rt, alloc)
+}
+
+fn print_faults(rt: &impl Print) -> anyhow::Result<()> {
+    println!(rt; "\nfaults have texts")?;
+    println!(rt; "{}, {}", DiskFault(7), NoMemory)?;
+    println!(rt;
+        "{}, {}, {}",
+        FileFault::Open,
+        FileFault::Length,
+        FileFault::NoMemory
+    )?;
+    Ok(())
+}
