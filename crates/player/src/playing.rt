@@ -13,7 +13,7 @@ use crate::player::Player;
 use blocks::{Disk, FaultyDisk, NoMemory};
 use scripts::Word;
 use std::io::Write;
-use texts::{Event, Progress, Refusal, print, print_counts};
+use texts::{Event, Progress, Refusal, print_counts, print_event};
 
 /// Makes the turns of the words over a disk that had counted `base` writes before them, and prints
 /// what they came to. The write of number `stop` isn't made. The processes that the words name are
@@ -95,7 +95,7 @@ fn play<D: Disk + Drop, O: Write>(
 {
     for word in words {
         let event = player.turn(*word, stop);
-        print(out, format_args!("{event}\n"))?;
+        print_event(out, &event)?;
         if event.is_last() {
             return Ok(());
         }

@@ -82,7 +82,7 @@ impl fmt::Display for Event {
 }
 
 // The rest of a line behind the process: what its step came to.
-fn rest_of_line(progress: Progress) -> &'static str
+pub(crate) fn rest_of_line(progress: Progress) -> &'static str
     ensures { result.now ≡ codes " " ++ progress_text progress }
 {
     match progress {

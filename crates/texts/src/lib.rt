@@ -20,7 +20,7 @@ pub use faults::{
 };
 pub use lines::{AccountLine, AnswerLine};
 pub use output::{
-    pass_on, print, print_copied, print_counts, print_files, print_images, print_last,
+    pass_on, print, print_copied, print_counts, print_event, print_files, print_images, print_last,
     print_number, print_numbers, print_report, write_bytes,
 };
 pub use refusal::Refusal;

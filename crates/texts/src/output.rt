@@ -1,8 +1,11 @@
 // What a command prints.
 ghost use Rattle.std.specs.Prelude.{IfSome, OnOk, IsOkUnless};
 ghost use Rattle.std.specs.Io.KnownBytes.{Appends, Keeps};
+ghost use Rattle.texts.specs.Events.{event_line};
+ghost use Rattle.texts.specs.declared.events.Event.TheVariants.{Stepped};
 ghost use Rattle.texts.specs.Output.{copied_text, counts_text, files_text, images_text, number_text, numbers_text, report_text};
 
+use crate::events::{Event, Progress, rest_of_line};
 use crate::refusal::Refusal;
 use itoa::Buffer;
 use layout::Super;
@@ -47,6 +50,34 @@ pub fn write_bytes<O: Write>(out: &mut O, bytes: &[u8]) -> Result<(), Refusal>
     ensures err { IsOkUnless result Refusal.Output }
 {
     out.write_all(bytes).map_err(|_| Refusal::Output)
+}
+
+/// Writes the line of a turn. The writer may hold it back.
+///
+/// # Errors
+///
+/// `Output` where the writer fails.
+pub fn print_event<O: Write>(out: &mut O, event: &Event) -> Result<(), Refusal>
+    ensures ok { OnOk result (Appends (O.contents out.old) (O.contents out.new)
+        (event_line event.now)) }
+    ensures err { IsOkUnless result Refusal.Output }
+{
+    match event {
+        Event::Stepped(pid, progress) => print_step(out, *pid, *progress),
+        _ => print(out, format_args!("{event}\n")),
+    }
+}
+
+// Writes the line of a turn without an answer. Most are, so it goes by no `Formatter`.
+fn print_step<O: Write>(out: &mut O, pid: u32, progress: Progress) -> Result<(), Refusal>
+    ensures ok { OnOk result (Appends (O.contents out.old) (O.contents out.new)
+        (event_line (Stepped pid progress))) }
+    ensures err { IsOkUnless result Refusal.Output }
+{
+    let mut digits = Buffer::new();
+    write_bytes(out, digits.format(pid).as_bytes())?;
+    write_bytes(out, rest_of_line(progress).as_bytes())?;
+    write_bytes(out, b"\n")
 }
 
 /// Passes on what the writer holds back.
