@@ -14,6 +14,9 @@ use std::io::{BufWriter, Stdout};
 use std::process::ExitCode;
 use texts::{Refusal, input_unread};
 
+// How many bytes of the output are held back: ten times the digits of the longest Read.
+const HELD_BACK: usize = 65_536;
+
 fn main(rt: HostRuntime) -> ExitCode {
     let mut err = rt.stderr();
     let status = match words_and_output(&rt) {
@@ -33,8 +36,8 @@ fn main(rt: HostRuntime) -> ExitCode {
 // each command.
 fn words_and_output(rt: &HostRuntime) -> Result<(Vec<String>, BufWriter<Stdout>), Refusal> {
     let words = arguments::given(rt)?;
-    let out = BufWriter::new(rt.alloc(), rt.stdout()).map_err(|error| Refusal::Input(input_unread(
-        error,
-    )))?;
+    let out = BufWriter::with_capacity(rt.alloc(), HELD_BACK, rt.stdout()).map_err(
+        |error| Refusal::Input(input_unread(error)),
+    )?;
     Ok((words, out))
 }
