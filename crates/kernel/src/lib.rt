@@ -27,10 +27,10 @@
 //! bytes, once for the journal and once for the answer. That no later step takes any is by test: no
 //! clause can say it.
 //!
-//! A stop keeps the groups that are committed, each whole, and nothing of a later one: of a disk
-//! that holds writes back, whichever of these it loses. Only between the write of a header and its
-//! sync such a disk keeps one group more, exactly where the header got through. So an answer
-//! outlives a stop once the group that it names is committed, which the herald hears.
+//! A stop keeps the groups that are committed, each whole, whichever writes a disk loses that holds
+//! them back. It keeps one group more exactly where a header got through whose write failed or whose
+//! sync is still to come. So an answer outlives a stop once the group that it names is committed,
+//! which the herald hears.
 //!
 //! After a fault of the disk each step is `Halted`. After a shutdown no operation begins, and those
 //! under way go on to their ends.

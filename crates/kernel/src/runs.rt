@@ -18,8 +18,9 @@ use ports::{Herald, Intake};
 /// process whose step answers that it sleeps, idles or is halted counts, too. A kernel that is shut
 /// stays so, and takes no operation.
 ///
-/// A stop at any moment of the run leaves a sound image whose files are the opening ones after the
-/// changing operations of the groups committed by then, in the order of the journal.
+/// A stop at any moment of the run leaves, once it is recovered, a sound image whose files are the
+/// opening ones after the changing operations of the first of the groups, in the order of the
+/// journal: of all that were committed when the run began, at least.
 pub fn run<D: Disk, I: Intake, H: Herald>(kernel: &mut Kernel<D, I, H>, turns: &[Turn]) -> u64
     requires turns { IsTrue (list_all (is_turn_of (length kernel.old.world.processes)) turns.now) }
     ensures made { result ≡ length turns.now }

@@ -25,9 +25,9 @@ use texts::{KernelFault, Refusal};
 /// many groups are committed. With `stop` the write of this number, from 1, is not made, and ends
 /// the run.
 ///
-/// Hands the disk back as the last turn left it. Whatever a stop at any moment leaves keeps each
-/// group that was committed then; what is kept of each process, up to any group, is a beginning of
-/// its changing operations.
+/// Hands the disk back as the last turn left it. Where it held nothing back at the start, whatever a
+/// stop at any moment leaves keeps a beginning of the groups; what is kept of each process, up to
+/// any group, is a beginning of its changing operations.
 ///
 /// # Errors
 ///

@@ -42,16 +42,17 @@ impl Gate for NoGate {
 /// process's in order, with so many workers, from 1 to 32, on threads of their own. Prints, process
 /// by process, a line for each answer and one for what became of the operations.
 ///
-/// Hands the disk back as the last step left it. Whatever a stop at any moment leaves keeps some of
-/// the groups that were committed, in order, and what one now leaves keeps all of them; what is kept
-/// of each process, up to any group, is a beginning of its changing operations.
+/// Hands the disk back as the last step left it. Where it held nothing back at the start, whatever a
+/// stop at any moment leaves keeps a beginning of the groups, and what one now leaves keeps all that
+/// were committed; what is kept of each process, up to any group, is a beginning of its changing
+/// operations.
 ///
 /// # Errors
 ///
 /// A fault of the kernel's opening, with `NoMemory` also where memory for the operations, the rings
 /// or the board is refused: then nothing was printed, and whatever a stop leaves is recovered to the
-/// same image. `Run` with `Thread` where no thread can be started. `Disk` where a step found that
-/// the disk failed, and then all was printed; else `Output`.
+/// same image. `Run` with `Thread` where no thread can be started. `Disk` with the kernel's fault,
+/// and then all was printed; else `Output`.
 pub fn run_disk<D: Disk + Drop + Send, R: Threads + Wait + Clock + AllocGlobal + Sync, O: Write>(
     rt: &R,
     disk: D,

@@ -8,7 +8,7 @@ pub enum CallFault {
     /// The disk failed.
     #[error("the disk failed: {0:?}")]
     Disk(DeviceFault),
-    /// Memory for the operation was refused, and nothing was done.
+    /// Memory for the operation was refused, and the disk was only read.
     #[error("memory was refused")]
     NoMemory,
 }

@@ -7,8 +7,7 @@
 //!
 //! The recovery theorem says of the kernel that each image passes, but for a stop before the write
 //! of a header: there it allows one group more, for it speaks of any disk. This check asks for
-//! exactly the committed groups, and what it answers is right of any kernel: that all images have
-//! their files, or that one has not.
+//! exactly the committed groups, and is passed only where all images have their files.
 //!
 //! A run begins anew for each stop, and takes the memory that it needs. No file is opened here.
 #![tactic(auto)]

@@ -24,9 +24,9 @@
 //!
 //! A disk may hold writes back, so that a stop loses any of those since the last sync. It is synced
 //! behind each of the four parts, with a `commit_step` each, and by `recover` at its start, behind
-//! the homes and behind the header. So what is held at one time are log blocks, homes, or one
-//! write of the header, and none of these is in front of what it rests on. There the sync behind
-//! the header commits the group: until then a stop keeps it exactly where the header got through.
+//! the homes and behind the header. So no write that is held is in front of what it rests on. There
+//! the sync behind the header commits the group: until then a stop keeps it exactly where the header
+//! got through.
 #![tactic(auto)]
 
 mod faults;
