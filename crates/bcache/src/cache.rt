@@ -45,8 +45,8 @@ impl Model for Cache {
 }
 
 impl Cache {
-    /// A cache whose 40 slots were never taken. Slot 0 will be the first one taken. No later call
-    /// takes memory.
+    /// A cache whose 40 slots were never taken. Slot 0 will be the first one taken. That no later
+    /// call takes memory is tested.
     ///
     /// # Errors
     ///

@@ -29,8 +29,9 @@ const PIECE: u32 = 64;
 /// it is opened; reads are answered from a copy in memory, and a write goes to the file first.
 ///
 /// It is a plain disk, whose writes are taken to reach the file in their order; or, after
-/// `hold_back`, one that holds them back, where a stop of the system may lose any of those since
-/// the last sync. A sync of either syncs the file.
+/// `hold_back`, one that holds them back: a stop of the system leaves of each block what was written
+/// last, or what it held at some moment since the last sync. By its code a sync of either syncs the
+/// file.
 ///
 /// Contracts speak of the copy. What the file itself holds after a write of it failed is the
 /// system's affair.

@@ -3,7 +3,8 @@ ghost use Rattle.clients.specs.Clients.{AreSameClients, AreCalled};
 
 use crate::client::Client;
 
-/// Calls each of the clients. Whether any of them handed an operation in or got an answer.
+/// Calls each of the clients. By its code it answers whether any of them handed an operation in or
+/// got an answer.
 pub fn call_all(clients: &mut [Client]) -> bool
     ensures same { AreSameClients clients.old clients.new }
     ensures called { AreCalled clients.new }

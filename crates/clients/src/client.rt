@@ -44,7 +44,7 @@ impl Client {
     }
 
     /// Hands in as many operations as the ring takes, and polls the answers that there are, up to
-    /// one for each operation. Whether there were any.
+    /// one for each operation. By its code it answers whether there were any of either.
     pub fn call(&mut self) -> bool
         ensures same { IsSameClient self.old self.new }
         ensures called { IsCalled self.new }

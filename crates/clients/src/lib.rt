@@ -2,7 +2,7 @@
 //! process's ends of its rings, hands in what the ring takes, and keeps the answers that come.
 //!
 //! Whoever has the clients calls them in turn, until each has all its answers, and then takes them
-//! apart. No call but the making of them takes memory, and none waits.
+//! apart. By its code no call but the making of them takes memory, and none waits.
 #![tactic(auto)]
 
 mod backlog;

@@ -18,7 +18,7 @@ impl Source {
     ghost use Rattle.rings.specs.Callers.{answers_known, places, polled, submitted, unpolled};
     ghost use Rattle.clients.specs.Sources.{HasHandedIn, IsSameSource};
 
-    /// Hands in as many operations as the ring takes. Whether it took any.
+    /// Hands in as many operations as the ring takes. By its code it answers whether it took any.
     pub fn hand_in(&mut self) -> bool
         ensures same { IsSameSource self.old self.new }
         ensures polled { polled self.new.caller ≡ polled self.old.caller }

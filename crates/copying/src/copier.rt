@@ -10,7 +10,7 @@ use crate::source::read_source;
 use blocks::Disk;
 use std::alloc::Global;
 
-/// Who is told how far a copy is.
+/// Who is told how far a copy is. What it is told is so by the copy's code.
 pub trait Progress {
     /// So many of so many files were copied.
     fn copied(&mut self, files: u32, of: u32);
@@ -21,9 +21,10 @@ pub trait Progress {
 
 /// Copies the files of an image of the first form, as recovery would leave it, each with its number,
 /// into a new image of the second form of `size` blocks, which has as many numbers. The old image is
-/// only read. The labels of a used inode are 0, 0, 1 in the new one, whatever they are in the old.
+/// only read.
 ///
-/// The numbers up to the last used one are made in order, the free ones among them are removed
+/// By its code: the labels of a used inode are 0, 0, 1 in the new one, whatever they are in the old;
+/// the numbers up to the last used one are made in order, the free ones among them are removed
 /// again, and then each file is written, by its number, in pieces of at most `TRANSFER_LIMIT` bytes.
 /// Answers how many files there are, and hands the new disk back.
 ///

@@ -13,7 +13,7 @@
 //!
 //! With 32 processes, of which each refers to one inode at most, the table's 50 places are always
 //! enough. A free inode is never kept in it. A reading gathers its bytes block by block (`Readi`),
-//! in room that it was handed at its beginning, so no step of a task takes memory.
+//! in room that it was handed at its beginning. That no step of a task takes memory is tested.
 #![tactic(auto)]
 
 mod ialloc;

@@ -27,7 +27,7 @@ use wal::DeviceFault;
 const PIECE_SIZE: u32 = 16 * BLOCK_SIZE as u32;
 
 /// Recovers the image of a disk, and writes the bytes of its file of a number, and nothing else.
-/// The file is read and written piece by piece, and no memory is taken behind the recovery.
+/// The file is read and written piece by piece, by its code without memory after the recovery.
 ///
 /// Hands the disk back, with nothing but the recovery done to it. Where it held nothing back at the
 /// start, whatever a crash at any moment leaves is recovered to the same image.

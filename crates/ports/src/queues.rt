@@ -22,7 +22,7 @@ impl QueueIntake {
     ghost use Rattle.ports.specs.Lanes.{polled_after};
     ghost use Rattle.ports.specs.Queues.{waiting, answers, polled, queue_count, QueueFits, IsHandedIn, LeavesRest};
 
-    /// Empty queues for so many processes. No later call takes memory.
+    /// Empty queues for so many processes. That no later call takes memory is tested.
     ///
     /// # Errors
     ///

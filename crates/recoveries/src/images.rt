@@ -99,7 +99,7 @@ fn recover(alloc: Global, disk: &mut MemDisk) -> Result<Option<u32>, NoMemory>
     }
 }
 
-/// Whether a refusal is one for want of memory.
+/// Whether a refusal says that memory was refused.
 pub fn is_want_of_memory(refusal: &Refusal) -> bool
     ensures { result ≡ is_want_of_memory refusal.now }
 {

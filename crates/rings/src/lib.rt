@@ -1,8 +1,9 @@
-//! Two rings for each process, of 16 places each: its operations go through one to the kernel, its
-//! answers come back through the other.
+//! Two rings for each process, made with 16 places each: its operations go through one to the
+//! kernel, its answers come back through the other.
 //!
 //! `rings` makes both ends: the kernel's are a `RingIntake`, and each process has a `Caller`, which
-//! may go to a thread of its own. No call of either end takes a lock, waits or takes memory. An end
+//! may go to a thread of its own. By its code no call of either end takes a lock or waits; that none
+//! takes memory is tested. An end
 //! learns what the other did when it looks: the kernel's where it asks what waits and whether there
 //! is room, the caller's where it hands in and polls. A place that the kernel has seen free stays
 //! free until it answers, since nobody else puts answers in.

@@ -17,7 +17,8 @@ const SHORTEST_REST: u64 = 50;
 const LONGEST_REST: u64 = 200;
 
 /// Calls the clients in turn until each has all its answers, or the workers have ended, and then
-/// asks for a shutdown. The watches are of that board.
+/// asks for a shutdown: so by its code. What is promised is that these are the same clients. The
+/// watches are of that board.
 pub fn drive<R: Wait + Clock>(
     rt: &R,
     board: &Board,

@@ -3,9 +3,8 @@
 //!
 //! So a call is a whole operation: where it is answered, the files on the disk are those before it
 //! after this operation, and the log is empty. A stop in the midst of one leaves, once it is
-//! recovered, the files before it or those behind it. The only process of a kernel waits for nobody
-//! (`kernel::laws`), so a call ends with its answer, or with a fault of the disk, or for want of
-//! memory.
+//! recovered, the files before it or those after it. The only process of a kernel waits for nobody
+//! (`kernel::laws`), so a call ends with its answer, with a fault of the disk, or with `NoMemory`.
 #![tactic(auto)]
 
 mod calling;

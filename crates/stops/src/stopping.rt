@@ -13,7 +13,7 @@ use std::alloc::Global;
 use std::io::Write;
 use texts::{Refusal, StopsFault, print_images};
 
-/// Who is told how far a check is.
+/// Who is told how far a check is. What it is told is so by the check's code.
 pub trait Progress {
     /// So many of so many stops were tried, and their images passed.
     fn tried(&mut self, stops: u64, of: u64);
@@ -30,10 +30,11 @@ pub trait Progress {
 ///
 /// # Errors
 ///
-/// `Stops` with `Mismatch` at the first image that can't be recovered or has other files than those
-/// after the committed groups (over a disk that holds writes back those after all groups that were
-/// opened, where the image's own header logs something), and with `NoMemory` where memory was
-/// refused, also that of an operation: then nothing was printed. Else `Output`.
+/// `Stops` with `Mismatch` where some image can't be recovered or has other files than those after
+/// the committed groups (over a disk that holds writes back those after all groups that were opened,
+/// where the image's own header logs something), and with `NoMemory` where memory was refused, also
+/// that of an operation: then nothing was printed. Else `Output`. By its code the first such image
+/// ends the check.
 pub fn check_stops<P: Progress, O: Write>(
     alloc: Global,
     tasks: &[Task],

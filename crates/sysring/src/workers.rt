@@ -46,9 +46,9 @@ enum Round {
 /// leave w when divided by the number of workers. The calling thread is worker 0, and has the
 /// processes of each worker that can't be started, too.
 ///
-/// The lock is got anew for each step. A worker waits after a round in which each of its processes
-/// sleeps until another one moves, if no step changed anything since. After any other round in
-/// which nothing moved it rests for a moment.
+/// By its code, and by no clause: the lock is got anew for each step; a worker waits after a round
+/// in which each of its processes sleeps until another one moves, if no step changed anything since;
+/// after any other round in which nothing moved it rests for a moment.
 pub fn serve<
     D: Disk + Send,
     H: Herald + Send,

@@ -30,7 +30,7 @@ const PROCESSES: usize = 32;
 /// layer" and "Code: logging"). The homes and all that open operations may still add are at most
 /// 30.
 ///
-/// No call but `new` takes memory.
+/// That no call but `new` takes memory is tested.
 #[derive(Drop)]
 pub struct Log {
     size: u32,
@@ -303,7 +303,7 @@ impl Log {
     /// on, then the header with the homes in block 2, with which the group is committed
     /// (`Durable`, with its number), then the homes themselves, each unpinned with its write, and
     /// last an empty header (`Done`); else `More`. So a commit of n blocks is 2n + 2 writes. Blocks
-    /// are written from their buffers, and nothing is read.
+    /// are written from their buffers, by its code without a read.
     ///
     /// A disk that holds writes back is synced behind each of these four parts, by a step of its
     /// own: the group is committed with the sync behind the header, and the last sync is `Done`.
