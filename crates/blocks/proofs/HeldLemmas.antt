@@ -136,26 +136,6 @@ module _ (holds : Bool) (old new : Shadow) (past : new.past ≡ old.past ++ old.
       by_kind true was noted settled = crash_noted old new past at bytes (noted refl)
       by_kind false was noted settled = crash_written old new shown at bytes was (settled refl)
 
--- nothing happens
-pub adds_none_same : (s : Shadow) → AddsNone (length s.past) (length s.past) (LeftSince s) (LeftSince s)
-adds_none_same s = record { later = omega arith; adds = λ t x le left. left; keeps = λ t x le left. left }
-
--- from here on it holds writes back
-pub shadow_holds : (holds : Bool) (shown : Image) (s : Shadow) → IsShadow holds shown s → IsShadow true shown s
-shadow_holds holds shown s is = record { shows = is.shows; plain = λ free. absurd (true≢false free); are = is.are; were = is.were }
-
--- a new disk
-pub shadow_over : (holds : Bool) (blocks : Image) (s : Shadow) → s.past ≡ [] → IsSettledOn blocks s.state → IsImage blocks → IsShadow holds blocks s
-shadow_over holds blocks s past settled whole = record {
-  shows = sym (ap (applied s.state.synced.value.items) settled.held ∙ settled.synced);
-  plain = λ free. settled.held;
-  are = λ x left. subst IsImage (sym (subst (λ (h : List Write). HeldImages s.state.synced.value.items h x) settled.held left ∙ settled.synced)) whole;
-  were = λ x had. absurd (subst (λ (l : List Floating). HadLeft l x) past had);
-}
-
-pub settled_over : (blocks : Image) (s : Shadow) → IsSettledOn blocks s.state → IsSettled blocks (LeftSince s (length s.past))
-settled_over blocks s settled x left = subst (λ (h : List Write). HeldImages s.state.synced.value.items h x) settled.held (only_left s x left) ∙ settled.synced
-
 -- held writes stay inside
 pub inside_push : (size : ℕ) (held : List Write) (write : Write) → AreInside size held → write.0 < size → AreInside size (held ++ write ∷ [])
 inside_push size [] write are lt zero below = lt

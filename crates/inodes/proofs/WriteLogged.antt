@@ -59,9 +59,6 @@ adds_one l p a homes lt used some = by_home (is_among a l.homes) refl
 pub counts_on : (l : LogState) (p a : ℕ) → CountsOn l (noted l p a)
 counts_on l p a b = counts_more l (noted l p a) b (noted_grows l p a b)
 
-pub counts_same : (l : LogState) → CountsOn l l
-counts_same l b = omega arith
-
 -- ---- what may be logged beside the file's blocks
 
 abbrev pub beside : Image → Dinode → WriteState → List ℕ

@@ -24,10 +24,9 @@ use Rattle.model.specs.Lemmas.Super.{lawful_geometry, or_else_none, verdict_none
 use Rattle.offline.specs.Cause.{IsCause}
 use Rattle.offline.specs.Recovered.{LiesBehindLog, IsRecoveredOf}
 use Rattle.offline.specs.declared.recovered.Recovered.{Recovered}
-use Rattle.listing.specs.Gathering.{IsCheckedOf, IsGatherCause, LieBehindLog}
+use Rattle.listing.specs.Gathering.{IsCheckedOf, LieBehindLog}
 use Rattle.listing.specs.Owned.{owned_by_all, owned_of}
 use Rattle.listing.specs.Signs.{owner_among, owner_sign, sign_among, sign_of, signs_of}
-use Rattle.listing.specs.declared.fault.GatherFault.{GatherFault}
 use Rattle.listing.specs.declared.owned.Owned.{Owned}
 use Rattle.listing.proofs.OwnedLemmas.{map-flat_map, owns_what_is_pointed_at}
 
@@ -60,10 +59,6 @@ open_fault x old new fault sound (inl here) other =
     absurd (cc (here, ap (λ (g : Option CheckFault). or_else g (log_fault x)) first.0, second.0))
 open_fault x old new fault sound (inr (inl failed)) other = failed.1
 open_fault x old new fault sound (inr (inr refused)) other = absurd (other refused)
-
--- the count of faults since an earlier moment, up to which it stayed
-pub cause_since : (old mid new : ℕ) (fault : GatherFault) → mid ≡ old → IsGatherCause mid new fault → IsGatherCause old new fault
-cause_since old mid new fault same cause = subst (λ (n : ℕ). IsGatherCause n new fault) same cause
 
 -- ---- its inodes name blocks behind the log
 

@@ -81,12 +81,6 @@ pub judged_on_more : (y : Image) (i : ℕ) (earlier : List ℕ) (front back : Li
 judged_on_more y i earlier front back old new owners (Ok u) none h = judged_more y i earlier front back owners (Ok u) none h
 judged_on_more y i earlier front back old new owners (Err fault) none h = cause_more y i earlier front back old new fault none h
 
--- a judgement without reads is one with reads
-judged_on : (y : Image) (i : ℕ) (earlier : List ℕ) (pointers : List Pointer) (old new : ℕ) (owners : Owners) (result : Result (Unit {0}) CheckFault) →
-    Judges y i earlier pointers owners result → JudgesOn y i earlier pointers old new owners result
-judged_on y i earlier pointers old new owners (Ok u) h = h
-judged_on y i earlier pointers old new owners (Err fault) h = inl h
-
 -- of the pointers `whole` of inode i, `rest` are still to be judged: those in front of them have no
 -- fault, and their places joined the table
 pub record HasJudged (y : Image) (i : ℕ) (earlier : List ℕ) (whole rest : List Pointer) (owners : Owners) : Type 0 where

@@ -11,14 +11,9 @@ use Rattle.filing.specs.Stopped.{AppendsFirst, Empties, KeepsChange, LeavesChang
 use Rattle.journal.specs.Lemmas.Leaving.{leaves_wider}
 use Rattle.sole.specs.Calls.{KeepsFiles, image_on}
 use Rattle.sole.specs.Stepping.{Plain}
-use Rattle.putting.specs.Places.{IsPlace, put_at}
+use Rattle.putting.specs.Places.{put_at}
 use Rattle.putting.specs.Stopped.{IsSpot, KeepsPut, LeavesFirst, StaysPut}
 use Rattle.putting.proofs.PlaceLemmas.{appended_put, emptied_put, made_put, put_at_again, removed_put}
-
--- the place of the bytes is a spot for them
-pub spot_of_place : (files : Files) (inum : Option ℕ) (i : ℕ) → IsPlace files inum i → IsSpot files inum i
-spot_of_place files None i place = (place.some, place.below, place.free)
-spot_of_place files (Some inum) i place = place
 
 module _ {D N : Type 0} (disk : Ghosts D N) (x : Image) (inum : Option ℕ) (bytes : List ℕ) where
   -- the files on a disk as a put may leave them

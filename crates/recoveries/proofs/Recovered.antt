@@ -1,9 +1,7 @@
 -- Images that were recovered.
-use Rattle.std.proofs.Common.{◌≡◌, ◌≢◌, ◌∙◌, ℕ, Bool, false, Some, None, sym, subst, ap}
-use Rattle.std.specs.Prelude.{◌↔◌, IsTrue}
+use Rattle.std.proofs.Common.{◌≡◌, ◌≢◌, ◌∙◌, ℕ, false, Some, None, sym, subst, ap}
 use Rattle.blocks.specs.Disk.{Image}
 use Rattle.blocks.specs.declared.disk.Disk.{Ghosts}
-use Rattle.model.specs.Files.{Files, files_of}
 use Rattle.model.specs.Log.{recovered}
 use Rattle.model.specs.Verdict.{verdict}
 use Rattle.model.specs.declared.types.fault.CheckFault.{CheckFault}
@@ -13,7 +11,7 @@ use Rattle.model.specs.Lemmas.Soundness.{verdict_sound}
 use Rattle.opening.specs.Lemmas.Recovered.{recovered_verdict}
 use Rattle.opening.specs.Recoveries.{IsRecovered}
 use Rattle.texts.specs.declared.refusal.Refusal.TheVariants.{Check}
-use Rattle.recoveries.specs.Images.{HasFiles, IsFound, is_want_of_memory}
+use Rattle.recoveries.specs.Images.{is_want_of_memory}
 
 -- what was recovered twice is as after the first time, and nothing was copied the second time
 pub twice : {D N : Type 0} (disk : Ghosts D N) (a b c : D) (m n : ℕ) → IsRecovered disk m a b → IsRecovered disk n b c → (n ≡ 0) × (disk.image c ≡ recovered (disk.image a))
@@ -26,16 +24,6 @@ again disk a b m one = ap verdict one.image ∙ recovered_verdict (disk.image a)
 -- what is known of one recovery is known of the next
 pub once : (x : Image) → verdict x ≡ None → recovered (recovered x) ≡ recovered x
 once x none = recovered_empty (recovered x) (verdict_sound x none).2.empty_log
-
-some_files : (a b : Files) → Some a ≡ Some b → a ≡ b
-some_files a b is = cc is
-
--- files were compared with those that an image has once it is recovered
-pub found_so : (x : Image) (count : ℕ) (found due : Files) (same : Bool) → IsFound x count found → (IsTrue same ↔ (found ≡ due)) → IsTrue same ↔ HasFiles x (Some due)
-found_so x count found due same is both = (
-  λ alike. record { sound = is.sound; files = ap Some (sym (both.0 alike) ∙ is.files) },
-  λ kept. both.1 (is.files ∙ sym (some_files due (files_of (recovered x)) kept.files)),
-)
 
 -- it is another fault than that memory was refused
 pub not_memory : (fault : CheckFault) → is_want_of_memory (Check fault) ≡ false → fault ≢ check.NoMemory

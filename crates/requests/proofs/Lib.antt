@@ -1,2 +1,1 @@
 pub mod CommandLines
-pub mod Told

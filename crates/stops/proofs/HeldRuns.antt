@@ -7,9 +7,8 @@ use Rattle.blocks.specs.contracts.sync.SyncDiskDisk.TheImpl.{ghosts}
 use Rattle.scripts.specs.declared.schedule.Word.{Word}
 use Rattle.scripts.specs.declared.script.Task.{Task}
 use Rattle.texts.specs.declared.faults.StopsFault.{StopsFault}
-use Rattle.texts.specs.declared.faults.StopsFault.TheVariants.{Mismatch, NoMemory}
+use Rattle.texts.specs.declared.faults.StopsFault.TheVariants.{Mismatch}
 use Rattle.blocks.specs.SyncDisk.{held_of}
-use Rattle.blocks.specs.declared.errors.NoMemory.{NoMemory as MemoryRefused}
 use Rattle.blocks.specs.declared.sync.SyncDisk.{SyncDisk}
 use Rattle.model.specs.Files.{Files}
 use Rattle.recoveries.specs.Choices.{HasAllDue, HasDue, IsChoice, LacksDue, choice_count, due_files, left_by}
@@ -97,10 +96,6 @@ module _ (tasks : List Task) (processes : ℕ) (words : List Word) (write sync :
 pub passed_on : {T : Type 0} (r : Result T StopsFault) (f : StopsFault) (X : Type 0) → IsErrAnd r (λ e. e ≡ f) → (f ≡ Mismatch → X) → IfErr r (λ e. e ≡ Mismatch → X)
 passed_on (Ok _) f X is x = tt
 passed_on (Err e) f X is x = λ mismatch. x (sym is ∙ mismatch)
-
--- memory that was refused is no mismatch
-pub refused_memory : {T : Type 0} (r : Result T StopsFault) (X : Type 0) → IsErrAnd r (λ e. e ≡ NoMemory) → IfErr r (λ e. e ≡ Mismatch → X)
-refused_memory r X is = passed_on r NoMemory X is (λ no. absurd (cc no))
 
 -- a run that was stopped by these numbers
 pub tried_behind : (tasks : List Task) (processes : ℕ) (words : List Word) (calls : Calls) (before write sync : ℕ) (run : HeldRun) → write ≡ write_behind calls before → sync ≡ sync_behind calls before

@@ -1,5 +1,5 @@
 -- A kernel is of its frame, and stays so in each step.
-use Rattle.std.proofs.Common.{◌≡◌, ◌∙◌, ℕ, refl, length, Option, Some, None}
+use Rattle.std.proofs.Common.{◌∙◌, ℕ, refl, Option, Some, None}
 use Rattle.blocks.specs.declared.disk.Disk as disk_trait
 use Rattle.ports.specs.History.{SameNames}
 use Rattle.ports.specs.declared.herald.Herald as herald_trait
@@ -11,12 +11,7 @@ use Rattle.kernel.specs.Known.{Known}
 use Rattle.kernel.specs.Lemmas.Turns.{runs_on_none, runs_on_step, runs_on_then}
 use Rattle.kernel.specs.State.{State}
 use Rattle.kernel.specs.Steps.{MakesStep}
-use Rattle.sysring.specs.Frames.{IsFramed, HasFrameOf, processes_in}
-
--- it has its processes
-pub framed_many : {D N H : Type 0} (disk : disk_trait.Ghosts D N) (o : Option (State D RingIntake H)) (k : State D RingIntake H) → IsFramed disk o k → length k.world.processes ≡ processes_in o
-framed_many disk None k had = absurd had
-framed_many disk (Some a) k had = had.runs.many
+use Rattle.sysring.specs.Frames.{IsFramed, HasFrameOf}
 
 module _ {D N M H : Type 0} (disk : disk_trait.Ghosts D N) (intake : intake_trait.Ghosts RingIntake M) (herald : herald_trait.Ghosts H) where
   pub framed_now : (k : State D RingIntake H) → Known disk intake herald k → HasFrameOf disk k k

@@ -10,7 +10,7 @@ use Rattle.wal.specs.declared.types.Commit.TheVariants as commit
 use Rattle.wal.specs.declared.types.Ended.TheVariants as ended_as
 use Rattle.wal.specs.declared.types.Part.TheVariants as part
 use Rattle.wal.specs.Joint.{stepped_at}
-use Rattle.wal.specs.Machine.{LogState, used_by, ended, end_answer, left_by, is_quiet, ten, IsLogAt, Idle, Counts}
+use Rattle.wal.specs.Machine.{LogState, used_by, ended, end_answer, left_by, is_quiet, ten, IsLogAt, Counts}
 use Rattle.wal.specs.Lemmas.Log.{some_open, is_open, quiet_of}
 use Rattle.journal.specs.Crash.{in_reads, AwaitsHeader}
 use Rattle.journal.specs.Most.{most_kept}
@@ -73,11 +73,6 @@ group_unread l q (suc g) log is some =
     let same = reads_quiet l o.quiet in
     let later = o.later in let newest = is.1 in omega (arith, same, later, newest)
 
--- and not committed
-pub group_later : (l : LogState) (q g : ℕ) → IsLogAt l.commit l → InGroup l q g → 0 < g → l.committed < g
-group_later l q zero log is some = omega (arith, some)
-group_later l q (suc g) log is some = in_later l q (suc g) log is
-
 -- what neither an end nor what may follow it changes, it keeps
 pub ended_keeps : {T : Type 0} (of : LogState → T) (l : LogState) (p : ℕ) → of (left_by l p) ≡ of l → of (record (left_by l p) { committed = l.opened }) ≡ of l → of (record (left_by l p) { commit = commit.Logging 0 }) ≡ of l → of (ended l p) ≡ of l
 ended_keeps of l p left committed commits = by_last (eqb l.outstanding 1) (eqb (length l.homes) 0)
@@ -108,18 +103,6 @@ stepped_same h (commit.Syncing part.Log) l = record { used = refl; opened = refl
 stepped_same h (commit.Syncing part.Header) l = record { used = refl; opened = refl; outstanding = refl }
 stepped_same h (commit.Syncing part.Homes) l = record { used = refl; opened = refl; outstanding = refl }
 stepped_same h (commit.Syncing part.Clear) l = record { used = refl; opened = refl; outstanding = refl }
-
--- while a commit is under way, no operation is open
-pub none_while_busy : (l : LogState) → IsLogAt l.commit l → is_quiet l.commit ≡ false → l.outstanding ≡ 0
-none_while_busy l is busy = by_phase l.commit is.idle busy
-  where
-    by_phase : (k : Commit) → Idle k l → is_quiet k ≡ false → l.outstanding ≡ 0
-    by_phase commit.Quiet idle busy = absurd (false≢true (sym busy))
-    by_phase (commit.Logging j) idle busy = idle.0
-    by_phase commit.Heading idle busy = idle.0
-    by_phase (commit.Homing j) idle busy = idle.0
-    by_phase commit.Clearing idle busy = idle.0
-    by_phase (commit.Syncing p) idle busy = idle.0
 
 -- where no operation is open and no commit under way, all groups are committed
 pub all_committed : (l : LogState) → IsLogAt l.commit l → l.outstanding ≡ 0 → is_quiet l.commit ≡ true → l.committed ≡ l.opened

@@ -1,14 +1,11 @@
 -- Where an inode's addresses lead, direct ones and those behind them.
 use Rattle.std.proofs.Common.{◌≡◌, ℕ, zero, suc, ◌-◌, ◌/◌, ◌<◌, ◌≤◌, List, [], ◌∷◌, ◌++◌, length, get_or, drop, replicate, refl, ap, ◌∙◌, arith}
-use Rattle.std.specs.Prelude.{◌==◌, if◌then◌else◌, slice_index}
+use Rattle.std.specs.Prelude.{◌==◌, slice_index}
 use Rattle.std.proofs.lemmas.Bool.{le-ltb, lt-ltb}
 use Rattle.std.proofs.Math.Seq.{drop-cons}
 use Rattle.blocks.specs.Disk.{Image, block_at}
-use Rattle.model.specs.declared.types.image.Form.TheVariants.{One}
-use Rattle.model.specs.declared.types.image.Dinode.{Dinode}
 use Rattle.model.specs.Fields.{words_of}
-use Rattle.model.specs.Layout.{form_of}
-use Rattle.model.specs.Places.{address_along, address_in}
+use Rattle.model.specs.Places.{address_along}
 
 -- a direct address is the block itself
 pub along_direct : (x : Image) (n k : ℕ) (depths addresses : List ℕ) → k < n → k < length addresses →
@@ -29,20 +26,6 @@ along_behind x (suc n) k depths (a ∷ rest) h l =
     let later : k - 1 - n ≡ k - suc n = omega arith in
     rw (le-ltb k 1 (omega arith))
     (along_behind x n (k - 1) depths rest (omega arith) (omega arith) ∙ ap (λ j. address_along x j depths (drop n rest)) later)
-
--- the inode's address of a direct block
-pub address_direct : (x : Image) (d : Dinode) (k : ℕ) → form_of x ≡ One → length d.addrs ≡ 13 → k < 12 → address_in x d k ≡ slice_index d.addrs k
-unfolding address_in
-address_direct x d k one all lt = rw one (along_direct x 12 k (1 ∷ []) d.addrs lt (omega (arith, all)))
-
--- what is behind the direct ones stands in a block of addresses, where there is one
-pub address_behind : (x : Image) (d : Dinode) (k : ℕ) → form_of x ≡ One → length d.addrs ≡ 13 → 12 ≤ k → k < 268 →
-    address_in x d k ≡ (if slice_index d.addrs 12 == 0 then 0 else slice_index (words_of (block_at x (slice_index d.addrs 12))) (k - 12))
-unfolding address_in
-address_behind x d k one all le lt = rw one (along_behind x 12 k (1 ∷ []) d.addrs le (omega (arith, all)) ∙ last d.addrs all)
-  where
-    past : k - 12 < 256
-    past = omega (arith, le, lt)
 
     same : (k - 12) / 1 ≡ k - 12
     same = omega arith
