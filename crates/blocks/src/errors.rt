@@ -47,6 +47,12 @@ pub enum FileFault {
     /// Memory was refused.
     #[error("memory was refused")]
     NoMemory,
+    /// Another program holds the file's lock. No function of this crate asks for a lock.
+    #[error("another program has the file")]
+    Locked,
+    /// A new file was asked for, and something has its name.
+    #[error("there is such a file")]
+    Exists,
 }
 
 impl From<NoMemory> for FileFault {

@@ -48,7 +48,7 @@ pub struct FileDisk<F> {
 }
 
 impl<F: Read + Write + Seek + OpenFile + Drop> FileDisk<F> {
-    ghost use Rattle.blocks.specs.FileDisk.{file_of};
+    ghost use Rattle.blocks.specs.FileDisk.{IsFirstRead, IsZeroed, file_of};
 
     /// The disk that the file at this path holds, opened for reading and writing. It has 1 to
     /// `MAX_BLOCKS` blocks.
@@ -63,22 +63,40 @@ impl<F: Read + Write + Seek + OpenFile + Drop> FileDisk<F> {
         rt: &R,
         path: &str,
     ) -> Result<FileDisk<F>, FileFault>
-        ensures some { IfOk result (λ disk. 1 ≤ length (⟦<FileDisk<F> as Disk>⟧.image disk)) }
-        ensures at_most { IfOk result
-            (λ disk. length (⟦<FileDisk<F> as Disk>⟧.image disk) ≤ MAX_BLOCKS) }
-        ensures bytes { IfOk result (λ disk. IsReadFrom F.remaining (file_of disk)
-            (⟦<FileDisk<F> as Disk>⟧.image disk)) }
-        ensures writes { IfOk result (λ disk. ⟦<FileDisk<F> as Disk>⟧.write_count disk ≡ 0) }
-        ensures faults { IfOk result (λ disk. ⟦<FileDisk<F> as Disk>⟧.fault_count disk ≡ 0) }
-        ensures plain { IfOk result (λ disk. IsPlain ⟦<FileDisk<F> as Disk>⟧ disk) }
+        ensures { IfOk result (IsFirstRead F.remaining ⟦<FileDisk<F> as Disk>⟧) }
     {
         let file = OpenOptions::new()
             .read(true)
             .write(true)
             .open(rt, path)
             .map_err(fault_of)?;
+        FileDisk::whole_file(rt.alloc(), file)
+    }
+
+    /// As `open`, for a file that is only to be read: the system refuses each write of this disk.
+    ///
+    /// # Errors
+    ///
+    /// As those of `open`; `Open` only where the file can't be opened for reading.
+    pub fn open_to_read<R: Files<File = F> + AllocGlobal>(
+        rt: &R,
+        path: &str,
+    ) -> Result<FileDisk<F>, FileFault>
+        ensures { IfOk result (IsFirstRead F.remaining ⟦<FileDisk<F> as Disk>⟧) }
+    {
+        let file = OpenOptions::new()
+            .read(true)
+            .open(rt, path)
+            .map_err(fault_of)?;
+        FileDisk::whole_file(rt.alloc(), file)
+    }
+
+    // The disk that a file holds which was just opened.
+    fn whole_file(alloc: Global, file: F) -> Result<FileDisk<F>, FileFault>
+        ensures { IfOk result (IsFirstRead F.remaining ⟦<FileDisk<F> as Disk>⟧) }
+    {
         let size = file.metadata().map_err(fault_of)?.len();
-        FileDisk::over_file(rt.alloc(), file, size)
+        FileDisk::over_file(alloc, file, size)
     }
 
     /// The disk that an opened file of this many bytes holds. It is read from where it stands, at
@@ -118,11 +136,7 @@ impl<F: Read + Write + Seek + OpenFile + Drop> FileDisk<F> {
         path: &str,
         size: u32,
     ) -> Result<FileDisk<F>, FileFault>
-        ensures image { IfOk result
-            (λ disk. ⟦<FileDisk<F> as Disk>⟧.image disk ≡ replicate size zero_block) }
-        ensures writes { IfOk result (λ disk. ⟦<FileDisk<F> as Disk>⟧.write_count disk ≡ 0) }
-        ensures faults { IfOk result (λ disk. ⟦<FileDisk<F> as Disk>⟧.fault_count disk ≡ 0) }
-        ensures plain { IfOk result (λ disk. IsPlain ⟦<FileDisk<F> as Disk>⟧ disk) }
+        ensures made { IfOk result (IsZeroed size ⟦<FileDisk<F> as Disk>⟧) }
         ensures err { IfErr result (λ fault. fault ≢ FileFault.Length) }
     {
         let copy = MemDisk::new(rt.alloc(), size)?;
@@ -133,7 +147,41 @@ impl<F: Read + Write + Seek + OpenFile + Drop> FileDisk<F> {
             .truncate(true)
             .open(rt, path)
             .map_err(fault_of)?;
-        file.set_len(size as u64 * BLOCK_SIZE as u64)
+        FileDisk::sized(copy, file)
+    }
+
+    /// As `create`, in a file that wasn't there before.
+    ///
+    /// # Errors
+    ///
+    /// `NoMemory` where memory is refused; `Exists` where the system says that something has this
+    /// name, be it a link that leads nowhere; `Open` where the file can't be made or given its length.
+    pub fn create_new<R: Files<File = F> + AllocGlobal>(
+        rt: &R,
+        path: &str,
+        size: u32,
+    ) -> Result<FileDisk<F>, FileFault>
+        ensures made { IfOk result (IsZeroed size ⟦<FileDisk<F> as Disk>⟧) }
+        ensures err { IfErr result (λ fault. fault ≢ FileFault.Length) }
+    {
+        let blocks = MemDisk::new(rt.alloc(), size)?;
+        let file = OpenOptions::new()
+            .read(true)
+            .write(true)
+            .create_new(true)
+            .open(rt, path)
+            .map_err(fault_of_new)?;
+        FileDisk::sized(blocks, file)
+    }
+
+    // The disk of these blocks in a new file, which gets its length.
+    fn sized(copy: MemDisk, file: F) -> Result<FileDisk<F>, FileFault>
+        ensures copy { IfOk result (λ disk. disk.copy ≡ copy) }
+        ensures faults { IfOk result (λ disk. disk.faults ≡ 0) }
+        ensures plain { IfOk result (λ disk. disk.holds ≡ false) }
+        ensures err { IfErr result (λ fault. fault ≢ FileFault.Length) }
+    {
+        file.set_len(copy.size() as u64 * BLOCK_SIZE as u64)
             .map_err(fault_of)?;
         Ok(FileDisk::over(copy, file))
     }
@@ -201,6 +249,17 @@ fn fault_of(error: io::Error) -> FileFault
     match error.kind() {
         ErrorKind::OutOfMemory => FileFault::NoMemory,
         _ => FileFault::Open,
+    }
+}
+
+// What an error of the system's means where a new file was asked for.
+fn fault_of_new(error: io::Error) -> FileFault
+    ensures exists { error_kind error ≡ ErrorKind.AlreadyExists ↔ (result ≡ FileFault.Exists) }
+    ensures err { result ≢ FileFault.Length }
+{
+    match error.kind() {
+        ErrorKind::AlreadyExists => FileFault::Exists,
+        _ => fault_of(error),
     }
 }
 

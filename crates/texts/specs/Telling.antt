@@ -55,6 +55,8 @@ abbrev pub file_telling : FileFault → Telling
 file_telling file.Open = plain 1 (codes "Open")
 file_telling file.Length = plain 2 (codes "Length")
 file_telling file.NoMemory = plain 3 (codes "NoMemory")
+file_telling file.Locked = plain 4 (codes "Locked")
+file_telling file.Exists = plain 5 (codes "Exists")
 
 abbrev pub mkfs_telling : MkfsFault → Telling
 mkfs_telling mkfs.SizeRange = plain 1 (codes "SizeRange")

@@ -204,6 +204,8 @@ impl Fault for FileFault {
             FileFault::Open => Told::new(1, "Open"),
             FileFault::Length => Told::new(2, "Length"),
             FileFault::NoMemory => Told::new(3, "NoMemory"),
+            FileFault::Locked => Told::new(4, "Locked"),
+            FileFault::Exists => Told::new(5, "Exists"),
         }
     }
 }

@@ -74,11 +74,38 @@ impl OpenFile for FakeFile {
     }
 }
 
-// A runtime with one file, "disk", of two blocks, which says that it has this length and refuses
-// this call with this error.
+// How a file has to be opened.
+#[derive(Clone, Copy, PartialEq)]
+enum Way {
+    Read,
+    Write,
+    WriteOver,
+    WriteNew,
+}
+
+impl Way {
+    // How these options open a file; None where they don't ask to read it.
+    fn of(how: &OpenOptions) -> Option<Way> {
+        if !how.asks_read() {
+            None
+        } else if !how.asks_write() {
+            Some(Way::Read)
+        } else if how.asks_create_new() {
+            Some(Way::WriteNew)
+        } else if how.asks_create() && how.asks_truncate() {
+            Some(Way::WriteOver)
+        } else {
+            Some(Way::Write)
+        }
+    }
+}
+
+// A runtime with one file, "disk", of two blocks, which has to be opened in this way, says that it
+// has this length and refuses this call with this error.
 #[derive(Drop)]
 struct Shelf {
     alloc: Global,
+    way: Way,
     length: u64,
     refuses: Option<Call>,
     error: ErrorKind,
@@ -109,7 +136,7 @@ impl Files for Shelf {
             error: self.error,
         };
         file.allow(Call::Open)?;
-        if path != "disk" || !how.asks_read() || !how.asks_write() {
+        if path != "disk" || Way::of(how) != Some(self.way) {
             return Err(unsupported());
         }
         Ok(file)
@@ -175,15 +202,31 @@ const OPENINGS: [Row; 12] = [
     (2048, Some(Call::Read), MEMORY),
 ];
 
+const READABLE: [Row; 4] = [
+    (2048, None, DENIED),
+    (2047, None, DENIED),
+    (2048, Some(Call::Open), DENIED),
+    (2048, Some(Call::Read), MEMORY),
+];
+
 const MAKINGS: [Row; 3] = [
     (0, None, DENIED),
     (0, Some(Call::Open), DENIED),
     (0, Some(Call::SetLen), DENIED),
 ];
 
-fn make_shelf(alloc: Global, (length, refuses, error): Row) -> Shelf {
+const NEW_ONES: [Row; 5] = [
+    (0, None, DENIED),
+    (0, Some(Call::Open), DENIED),
+    (0, Some(Call::Open), MEMORY),
+    (0, Some(Call::Open), ErrorKind::AlreadyExists),
+    (0, Some(Call::SetLen), ErrorKind::AlreadyExists),
+];
+
+fn make_shelf(alloc: Global, way: Way, (length, refuses, error): Row) -> Shelf {
     Shelf {
         alloc,
+        way,
         length,
         refuses,
         error,
@@ -202,7 +245,12 @@ pub fn size_of<D: Disk + Drop>(disk: Result<D, FileFault>) -> Result<u32, FileFa
 pub fn print_openings(rt: &impl Print, alloc: Global) -> anyhow::Result<()> {
     println!(rt; "opens what is a disk")?;
     for row in OPENINGS {
-        let answer = size_of(FileDisk::open(&make_shelf(alloc, row), "disk"));
+        let answer = size_of(FileDisk::open(&make_shelf(alloc, Way::Write, row), "disk"));
+        print_row(rt, row, answer)?;
+    }
+    println!(rt; "\nopens what is only to be read")?;
+    for row in READABLE {
+        let answer = size_of(FileDisk::open_to_read(&make_shelf(alloc, Way::Read, row), "disk"));
         print_row(rt, row, answer)?;
     }
     Ok(())
@@ -212,7 +260,12 @@ pub fn print_openings(rt: &impl Print, alloc: Global) -> anyhow::Result<()> {
 pub fn print_makings(rt: &impl Print, alloc: Global) -> anyhow::Result<()> {
     println!(rt; "\nmakes what the system allows")?;
     for row in MAKINGS {
-        let answer = size_of(FileDisk::create(&make_shelf(alloc, row), "disk", 3));
+        let answer = size_of(FileDisk::create(&make_shelf(alloc, Way::WriteOver, row), "disk", 3));
+        print_row(rt, row, answer)?;
+    }
+    println!(rt; "\nmakes what has to be new")?;
+    for row in NEW_ONES {
+        let answer = size_of(FileDisk::create_new(&make_shelf(alloc, Way::WriteNew, row), "disk", 3));
         print_row(rt, row, answer)?;
     }
     Ok(())

@@ -30,10 +30,12 @@ fn print_faults(rt: &impl Print) -> anyhow::Result<()> {
     println!(rt; "\nfaults have texts")?;
     println!(rt; "{}, {}", DiskFault(7), NoMemory)?;
     println!(rt;
-        "{}, {}, {}",
+        "{}, {}, {}, {}, {}",
         FileFault::Open,
         FileFault::Length,
-        FileFault::NoMemory
+        FileFault::NoMemory,
+        FileFault::Locked,
+        FileFault::Exists
     )?;
     Ok(())
 }

@@ -17,6 +17,8 @@ pub fn print_real_file(rt: &HostRuntime) -> anyhow::Result<()> {
     write_disk(rt, path)?;
     print_bytes(rt, path)?;
     print_opening(rt, path)?;
+    print_new(rt, path)?;
+    print_read_only(rt, path)?;
     fs::write(rt, path, [1; 2560].as_slice())?;
     print_opening(rt, path)?;
     fs::remove_file(rt, path)?;
@@ -27,6 +29,21 @@ fn print_opening(rt: &HostRuntime, path: &str) -> anyhow::Result<()> {
     let answer = size_of(FileDisk::open(rt, path));
     println!(rt; "opened: {answer:?}")?;
     Ok(())
+}
+
+// A disk that has to be new is refused where the file stands, which stays as it is.
+fn print_new(rt: &HostRuntime, path: &str) -> anyhow::Result<()> {
+    let answer = size_of(FileDisk::create_new(rt, path, 2));
+    println!(rt; "made where it stands: {answer:?}")?;
+    print_opening(rt, path)
+}
+
+// A disk that is only to be read takes no write.
+fn print_read_only(rt: &HostRuntime, path: &str) -> anyhow::Result<()> {
+    let block = Block::zeroed(rt.alloc())?;
+    let answer = written(FileDisk::open_to_read(rt, path), &block);
+    println!(rt; "opened to be read, and written to: {answer:?}")?;
+    print_bytes(rt, path)
 }
 
 fn write_disk(rt: &HostRuntime, path: &str) -> anyhow::Result<()> {

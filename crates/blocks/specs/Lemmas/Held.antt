@@ -1,8 +1,8 @@
 -- The laws of a disk that may hold writes back.
-use Rattle.std.specs.Prelude.{◌≡◌, ◌⊎◌, ◌≤◌, ℕ, List, Bool, true, false, [], ◌∷◌, length, drop, slice_set, refl}
+use Rattle.std.specs.Prelude.{◌≡◌, ℕ, List, Bool, true, false, [], ◌∷◌, length, drop, slice_set, refl}
 use Rattle.std.proofs.Common.{zero, suc, inl, inr, ⊎_elim, subst, sym, ◌∙◌, ap, arith}
 use Rattle.blocks.specs.Disk.{Image, IsImage, IsSettled}
-use Rattle.blocks.specs.Held.{AreWhole, CanFloat, HadLeft, HeldImages, IsShadow, LeftSince, Write, applied, chosen, noted_by}
+use Rattle.blocks.specs.Held.{CanFloat, HadLeft, HeldImages, IsShadow, LeftSince, Write, applied, chosen, noted_by}
 use Rattle.blocks.specs.declared.floating.Floating.{Floating}
 use Rattle.blocks.specs.declared.floating.Shadow.{Shadow}
 

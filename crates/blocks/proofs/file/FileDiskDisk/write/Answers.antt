@@ -1,4 +1,4 @@
-use Rattle.std.proofs.Common.{◌≡◌, ◌∙◌, ap, false, refl, set, subst, sym, [], arith, length-set}
+use Rattle.std.proofs.Common.{◌≡◌, ◌∙◌, ap, false, refl, subst, sym, [], arith, length-set}
 use Rattle.std.proofs.lemmas.List.{get_or-set_same}
 use Rattle.blocks.specs.Block.{IsBlock}
 use Rattle.blocks.specs.Disk.{Image, IsImage}

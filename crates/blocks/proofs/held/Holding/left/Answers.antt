@@ -1,4 +1,4 @@
-use Rattle.std.proofs.Common.{◌≡◌, ◌<◌, ◌∙◌, ap, subst, sym, arith, length, length-set, set, List, rules, drop, get_or, [], ℕ, ◌+◌}
+use Rattle.std.proofs.Common.{◌≡◌, ◌<◌, ◌∙◌, ap, subst, sym, arith, length, length-set, set, rules, drop, get_or, [], ℕ, ◌+◌}
 use Rattle.std.specs.Vec.{vec_len}
 use Rattle.blocks.specs.Held.{chosen, held_by, Write}
 use Rattle.blocks.specs.declared.held.Held.{Held}

@@ -1,7 +1,7 @@
-use Rattle.std.proofs.Common.{◌≡◌, ◌∙◌, ap, subst, sym, arith, inl, length}
-use Rattle.blocks.specs.Disk.{Image, IsImage}
-use Rattle.blocks.specs.Held.{CanFloat, chosen, held_by}
-use Rattle.blocks.proofs.HeldLemmas.{chosen_left, length-chosen, length-held}
+use Rattle.std.proofs.Common.{◌∙◌, ap, subst, sym, inl, length}
+use Rattle.blocks.specs.Disk.{IsImage}
+use Rattle.blocks.specs.Held.{CanFloat, held_by}
+use Rattle.blocks.proofs.HeldLemmas.{chosen_left, length-chosen}
 use Rattle.blocks.proofs.sync.SyncDisk.left.Goals as goal
 
 pub of-requires-clause-sized : goal.of-requires-clause-sized

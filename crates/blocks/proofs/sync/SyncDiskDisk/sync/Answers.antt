@@ -1,6 +1,4 @@
-use Rattle.std.proofs.Common.{◌≡◌, ◌∙◌, ap, subst, sym, refl, arith, length, rules, true, map, take, ℕ}
-use Rattle.blocks.specs.Held.{AreInside, IsSettledOn, Write, held_by}
-use Rattle.blocks.specs.declared.held.Holding.{Holding}
+use Rattle.std.proofs.Common.{◌∙◌, ap, sym, refl, arith, length, true}
 use Rattle.blocks.proofs.HeldLemmas.{adds_none_settled, held_none, settled_now, shadow_settled}
 use Rattle.blocks.proofs.sync.SyncDiskDisk.sync.Goals as goal
 

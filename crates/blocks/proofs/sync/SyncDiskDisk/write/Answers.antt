@@ -1,7 +1,6 @@
-use Rattle.std.proofs.Common.{◌≡◌, ◌<◌, ◌∙◌, ap, subst, sym, refl, arith, length, length-set, set, rules, true, List, ◌++◌, ◌∷◌, []}
+use Rattle.std.proofs.Common.{◌∙◌, ap, subst, sym, refl, arith, length, length-set, set, true, List, ◌++◌, ◌∷◌, []}
 use Rattle.blocks.specs.Block.{IsBlock}
-use Rattle.blocks.specs.Disk.{Image}
-use Rattle.blocks.specs.Held.{AreInside, IsShadow, LeftSince, Write, held_by}
+use Rattle.blocks.specs.Held.{AreInside, IsShadow, Write, held_by}
 use Rattle.blocks.proofs.BlockLemmas.{is_image-set}
 use Rattle.blocks.proofs.HeldLemmas.{crash_noted, elapses_on, inside_push, shadow_noted}
 use Rattle.blocks.proofs.sync.SyncDiskDisk.write.Goals as goal

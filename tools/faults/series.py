@@ -1,0 +1,251 @@
+"""The series of faults, and what each run has to come to."""
+import concurrent.futures
+import hashlib
+import os
+import re
+import signal
+import subprocess
+import sys
+import tempfile
+
+PROGRAM, WORK = os.path.realpath(sys.argv[1]), sys.argv[2]
+MOST = 10**6 if "--all" in sys.argv[3:] else 60
+HOWS = {
+    "write": ["eio", "enospc", "zero", "short", "eintr", "kill"],
+    "lseek": ["eio"],
+    "read": ["eio", "short", "zero"],
+    "fdatasync": ["eio", "kill"],
+    "ftruncate": ["eio"],
+}
+# Where the log ends: what an image holds but for it tells its files.
+BEHIND_LOG = 33 * 1024
+
+
+class Trial:
+    """A run of the program over an image of its own, in a folder of its own."""
+
+    def __init__(self, image, words, call=None, at=0, how=None, power=None):
+        self.folder = tempfile.TemporaryDirectory(dir=WORK)
+        self.image = os.path.join(self.folder.name, "a.img")
+        if image is not None:
+            self.put("a.img", image)
+        for name, text in FILES.items():
+            self.put(name, text)
+        env = dict(os.environ, LD_PRELOAD=WORK + "/faults.so", FAULTS_FILE="a.img")
+        if call:
+            env.update(FAULTS_CALL=call, FAULTS_AT=str(at), FAULTS_HOW=how)
+        if power is not None:
+            env["FAULTS_LOG"] = os.path.join(self.folder.name, "notes")
+        ran = subprocess.run([PROGRAM, *words], cwd=self.folder.name, env=env, capture_output=True, timeout=60)
+        self.status, self.out, self.err = ran.returncode, ran.stdout.decode(), ran.stderr.decode()
+        if power is not None:
+            subprocess.run([WORK + "/cut", "a.img", "notes", str(power)], cwd=self.folder.name, check=True)
+
+    def put(self, name, text):
+        with open(os.path.join(self.folder.name, name), "wb") as file:
+            file.write(text)
+
+    def run(self, *words):
+        return subprocess.run([PROGRAM, *words], cwd=self.folder.name, capture_output=True, timeout=60)
+
+    def bytes(self):
+        with open(self.image, "rb") as file:
+            return file.read()
+
+    def checked(self):
+        """What `check` says of the image."""
+        ran = self.run("check", "a.img")
+        return (ran.stdout or ran.stderr).decode().strip()
+
+    def files(self):
+        """What tells the files of the image, once it is recovered; None where it isn't sound."""
+        if not self.checked().startswith("sound") or self.run("recover", "a.img").returncode != 0:
+            return None
+        return hashlib.md5(self.bytes()[BEHIND_LOG:]).hexdigest()
+
+
+def made(*words):
+    trial = Trial(None, ["mkfs", "a.img", *words])
+    return trial.bytes()
+
+
+def script():
+    lines = [f"{p} create 2" for p in range(4)]
+    for turn in range(12):
+        for p in range(4):
+            kind = (turn + p) % 6
+            if kind == 0:
+                lines.append(f"{p} trunc {p + 1}")
+            elif kind == 4:
+                lines.append(f"{p} remove {5 + p}")
+            elif kind == 5:
+                lines.append(f"{p} create 2")
+            else:
+                lines.append(f"{p} fill {(p + turn) % 4 + 1} 0 2500 {turn * 4 + p:02x}")
+    return "\n".join(lines) + "\n"
+
+
+def schedule():
+    return " ".join("0 1 2 3" for _ in range(400)) + " " + " ".join("0! 1! 2! 3!" for _ in range(40)) + "\n"
+
+
+FILES = {"script": script().encode(), "schedule": schedule().encode()}
+BASE = made("200", "32")
+
+
+def replayed_states(*more):
+    """The files after each number of groups, by the number of groups that a stop leaves."""
+    states, n = {}, 0
+    while True:
+        n += 1
+        trial = Trial(BASE, ["replay", "a.img", "script", "schedule", "--stop", str(n), *more])
+        committed = int(re.findall(r"committed (\d+)", trial.out)[-1])
+        states[trial.files()] = committed
+        if f"stopped before write {n}\n" not in trial.out:
+            return states, n - 1
+
+
+def places(count):
+    return range(1, count + 1, max(1, -(-count // MOST)))
+
+
+def count_calls(words, call, image):
+    """How many calls of that kind a run makes, to the nearest at which one that fails shows."""
+    low, high = 0, 1
+    shows = lambda n: Trial(image, words, call, n, "eio").status != 0
+    while shows(high):
+        low, high = high, high * 2
+    while high - low > 1:
+        middle = (low + high) // 2
+        low, high = (middle, high) if shows(middle) else (low, middle)
+    return low
+
+
+def is_failure(how):
+    """Whether the program has to tell of it; else it has to go on."""
+    return how in ("eio", "enospc", "zero")
+
+
+def judge_groups(trial, how, states, final, told, later):
+    """The ends of a replay: whole groups, as many as were told and at most so many more."""
+    kept = states.get(trial.files())
+    if kept is None:
+        return f"the image is not one of whole groups: {trial.checked()}"
+    if how == "kill":
+        return None if trial.status == -signal.SIGKILL else f"status {trial.status}"
+    if not is_failure(how):
+        return None if trial.status == 0 and kept == final else f"status {trial.status}, {kept} groups"
+    if trial.status != 1 or not re.fullmatch(told, trial.err):
+        return f"status {trial.status}: {trial.err.strip()}"
+    committed = re.findall(r"^committed (\d+)$", trial.out, re.M)
+    count = int(committed[-1]) if committed else 0
+    return None if count <= kept <= count + later else f"{count} groups told, {kept} kept"
+
+
+def replay(call, how, sync):
+    words = ["replay", "a.img", "script", "schedule", *(["--sync"] if sync else [])]
+    told = r"xvfs: (disk 1 DiskFault \d+|file 1 Open)\n"
+    if call == "fdatasync":
+        told = r"xvfs: (disk 2 SyncFault|recover 4 Sync)\n"
+    for at in places(COUNTS[call, sync]):
+        trial = Trial(BASE, words, call, at, how)
+        yield at, judge_groups(trial, how, STATES, GROUPS, told, 1 if call == "fdatasync" else 0)
+
+
+def power_cut(seed):
+    """Before each write of a run that syncs: what was written since the last sync is lost in part."""
+    words = ["replay", "a.img", "script", "schedule", "--sync"]
+    for at in places(COUNTS["write", True]):
+        trial = Trial(BASE, words, "write", at, "kill", power=seed * 1000 + at)
+        yield at, judge_groups(trial, "kill", STATES, GROUPS, "", 0)
+    trial = Trial(BASE, words, power=seed)
+    yield "its end", judge_groups(trial, "none", STATES, GROUPS, "", 0)
+
+
+def run(call, how, sync):
+    """Threads: how many groups there are depends on their turns."""
+    words = ["run", "a.img", "script", "--workers", "2", *(["--sync"] if sync else [])]
+    for at in places(COUNTS[call, sync] // 4):
+        trial = Trial(BASE, words, call, at, how)
+        expected = -signal.SIGKILL if how == "kill" else 1 if is_failure(how) else 0
+        if trial.files() is None:
+            yield at, f"the image is not sound: {trial.checked()}"
+        elif trial.status not in (expected, 0):
+            yield at, f"status {trial.status}: {trial.err.strip()}"
+        else:
+            yield at, None
+
+
+def recover(call, how):
+    words = ["recover", "a.img", "--sync"]
+    for at in places(count_calls(words, call, LOGGED)):
+        trial = Trial(LOGGED, words, call, at, how)
+        if trial.files() != LOGGED_FILES:
+            yield at, f"other files: {trial.checked()}"
+        elif is_failure(how) and trial.status != 1:
+            yield at, f"status {trial.status}"
+        else:
+            yield at, None
+
+
+def mkfs(call, how):
+    words = ["mkfs", "a.img", "200", "32"]
+    for at in places(200 if call == "write" else 1):
+        trial = Trial(None, words, call, at, how)
+        if how in ("short", "eintr"):
+            good = trial.status == 0 and trial.bytes() == BASE
+        else:
+            good = trial.status in (1, -signal.SIGKILL) and not trial.checked().startswith("sound")
+        yield at, None if good else f"status {trial.status}: {trial.checked()}"
+
+
+def put(call, how):
+    """A new file beside one that is there: the old one stays, and the new one is a first part."""
+    words = ["put", "a.img", "long"]
+    for at in places(count_calls(words, call, ONE_FILE)):
+        trial = Trial(ONE_FILE, words, call, at, how)
+        whole = trial.run("recover", "a.img").returncode == 0 and trial.checked().startswith("sound")
+        old, new = trial.run("cat", "a.img", "1").stdout, trial.run("cat", "a.img", "2").stdout
+        if not whole or old != FILES["short"] or not FILES["long"].startswith(new):
+            yield at, f"{trial.checked()}, {len(old)} and {len(new)} bytes"
+        elif trial.status == 0 and new != FILES["long"]:
+            yield at, f"status 0, {len(new)} of {len(FILES['long'])} bytes"
+        else:
+            yield at, None
+
+
+def told_wrong(series, *words):
+    name = " ".join([series.__name__, *[str(word) for word in words]])
+    return [f"{name}: at {at}: {wrong}" for at, wrong in series(*words) if wrong]
+
+
+FILES["short"] = bytes(range(256)) * 9
+FILES["long"] = b"".join(b"%07d\n" % n for n in range(5000))
+STATES, GROUPS = replayed_states()
+GROUPS = max(STATES.values())
+COUNTS = {}
+for sync in (False, True):
+    words = ["replay", "a.img", "script", "schedule", *(["--sync"] if sync else [])]
+    for call in ("write", "lseek", "read", "fdatasync"):
+        COUNTS[call, sync] = count_calls(words, call, BASE)
+ONE_FILE = Trial(BASE, ["put", "a.img", "short"]).bytes()
+LOGGED = LOGGED_FILES = None
+for stop in range(1, 40):
+    trial = Trial(BASE, ["replay", "a.img", "script", "schedule", "--stop", str(stop)])
+    logged = re.match(r"sound log (\d+)", trial.checked())
+    if logged and int(logged.group(1)) >= 3:
+        LOGGED, LOGGED_FILES = trial.bytes(), trial.files()
+        break
+
+SERIES = [(replay, call, how, sync) for sync in (False, True) for call in ("write", "lseek", "read")
+          for how in HOWS[call]]
+SERIES += [(replay, "fdatasync", how, True) for how in HOWS["fdatasync"]]
+SERIES += [(power_cut, seed) for seed in (1, 2, 3)]
+SERIES += [(run, call, how, sync) for sync in (False, True) for call in ("write", "lseek") for how in HOWS[call]]
+SERIES += [(recover, call, how) for call in ("write", "lseek", "fdatasync") for how in HOWS[call]]
+SERIES += [(mkfs, call, how) for call in ("write", "ftruncate") for how in HOWS[call]]
+SERIES += [(put, call, how) for call in ("write", "lseek") for how in HOWS[call]]
+with concurrent.futures.ThreadPoolExecutor(os.cpu_count()) as pool:
+    found = [line for lines in pool.map(lambda one: told_wrong(*one), SERIES) for line in lines]
+print("\n".join(found + [f"faults: {len(SERIES)} series, {len(found)} ends that are not as they should be"]))
+sys.exit(1 if found else 0)
