@@ -1,4 +1,5 @@
 """The series of faults, and what each run has to come to."""
+import collections
 import concurrent.futures
 import hashlib
 import os
@@ -86,23 +87,26 @@ def script():
 
 
 def schedule():
-    return " ".join("0 1 2 3" for _ in range(400)) + " " + " ".join("0! 1! 2! 3!" for _ in range(40)) + "\n"
+    return " ".join("0 1 2 3 " * 6 + "0! 1! 2! 3!" for _ in range(40)) + "\n"
 
 
 FILES = {"script": script().encode(), "schedule": schedule().encode()}
 BASE = made("200", "32")
 
 
-def replayed_states(*more):
-    """The files after each number of groups, by the number of groups that a stop leaves."""
-    states, n = {}, 0
+def replayed_states(sync):
+    """How many groups were told where a stop of the run left these files."""
+    states, n = collections.defaultdict(set), 0
     while True:
         n += 1
-        trial = Trial(BASE, ["replay", "a.img", "script", "schedule", "--stop", str(n), *more])
-        committed = int(re.findall(r"committed (\d+)", trial.out)[-1])
-        states[trial.files()] = committed
+        trial = Trial(BASE, [*replay_words(sync), "--stop", str(n)])
+        states[trial.files()].add(int(re.findall(r"committed (\d+)", trial.out)[-1]))
         if f"stopped before write {n}\n" not in trial.out:
-            return states, n - 1
+            return states
+
+
+def replay_words(sync):
+    return ["replay", "a.img", "script", "schedule", *(["--sync"] if sync else [])]
 
 
 def places(count):
@@ -126,40 +130,39 @@ def is_failure(how):
     return how in ("eio", "enospc", "zero")
 
 
-def judge_groups(trial, how, states, final, told, later):
+def judge_groups(trial, how, states, told, later):
     """The ends of a replay: whole groups, as many as were told and at most so many more."""
-    kept = states.get(trial.files())
+    kept, final = states.get(trial.files()), max(max(counts) for counts in states.values())
     if kept is None:
         return f"the image is not one of whole groups: {trial.checked()}"
     if how == "kill":
         return None if trial.status == -signal.SIGKILL else f"status {trial.status}"
     if not is_failure(how):
-        return None if trial.status == 0 and kept == final else f"status {trial.status}, {kept} groups"
+        return None if trial.status == 0 and final in kept else f"status {trial.status}, {kept} groups"
     if trial.status != 1 or not re.fullmatch(told, trial.err):
         return f"status {trial.status}: {trial.err.strip()}"
     committed = re.findall(r"^committed (\d+)$", trial.out, re.M)
     count = int(committed[-1]) if committed else 0
-    return None if count <= kept <= count + later else f"{count} groups told, {kept} kept"
+    is_right = any(count <= groups <= count + later for groups in kept)
+    return None if is_right else f"{count} groups told, {kept} kept"
 
 
 def replay(call, how, sync):
-    words = ["replay", "a.img", "script", "schedule", *(["--sync"] if sync else [])]
-    told = r"xvfs: (disk 1 DiskFault \d+|file 1 Open)\n"
+    told = r"xvfs: (disk 1 DiskFault \d+|recover 1 Disk|file 1 Open)\n"
     if call == "fdatasync":
         told = r"xvfs: (disk 2 SyncFault|recover 4 Sync)\n"
     for at in places(COUNTS[call, sync]):
-        trial = Trial(BASE, words, call, at, how)
-        yield at, judge_groups(trial, how, STATES, GROUPS, told, 1 if call == "fdatasync" else 0)
+        trial = Trial(BASE, replay_words(sync), call, at, how)
+        yield at, judge_groups(trial, how, STATES[sync], told, 1 if call == "fdatasync" else 0)
 
 
 def power_cut(seed):
     """Before each write of a run that syncs: what was written since the last sync is lost in part."""
-    words = ["replay", "a.img", "script", "schedule", "--sync"]
     for at in places(COUNTS["write", True]):
-        trial = Trial(BASE, words, "write", at, "kill", power=seed * 1000 + at)
-        yield at, judge_groups(trial, "kill", STATES, GROUPS, "", 0)
-    trial = Trial(BASE, words, power=seed)
-    yield "its end", judge_groups(trial, "none", STATES, GROUPS, "", 0)
+        trial = Trial(BASE, replay_words(True), "write", at, "kill", power=seed * 1000 + at)
+        yield at, judge_groups(trial, "kill", STATES[True], "", 0)
+    trial = Trial(BASE, replay_words(True), power=seed)
+    yield "its end", judge_groups(trial, "none", STATES[True], "", 0)
 
 
 def run(call, how, sync):
@@ -221,13 +224,9 @@ def told_wrong(series, *words):
 
 FILES["short"] = bytes(range(256)) * 9
 FILES["long"] = b"".join(b"%07d\n" % n for n in range(5000))
-STATES, GROUPS = replayed_states()
-GROUPS = max(STATES.values())
-COUNTS = {}
-for sync in (False, True):
-    words = ["replay", "a.img", "script", "schedule", *(["--sync"] if sync else [])]
-    for call in ("write", "lseek", "read", "fdatasync"):
-        COUNTS[call, sync] = count_calls(words, call, BASE)
+STATES = {sync: replayed_states(sync) for sync in (False, True)}
+COUNTS = {(call, sync): count_calls(replay_words(sync), call, BASE)
+          for sync in (False, True) for call in ("write", "lseek", "read", "fdatasync")}
 ONE_FILE = Trial(BASE, ["put", "a.img", "short"]).bytes()
 LOGGED = LOGGED_FILES = None
 for stop in range(1, 40):
