@@ -11,11 +11,8 @@ use Rattle.model.specs.declared.types.image.Dinode.{Dinode}
 use Rattle.model.specs.declared.types.image.Form.{Form}
 use Rattle.model.specs.Layout.{reach, depths, form_of}
 use Rattle.model.specs.Places.{address_under, address_along, address_in}
+use Rattle.model.specs.Lemmas.Wholes.{reach_pos}
 use Rattle.offline.specs.Recovered.{LiesBehindLog, LeadsUnder, LeadsAlong}
-
-pub reach_pos : (depth : ℕ) → 0 < reach depth
-reach_pos zero = omega arith
-reach_pos (suc depth) = let p = reach_pos depth in let e = pow-suc 256 depth in omega arith
 
 -- ---- down from an address
 

@@ -7,7 +7,8 @@ use Rattle.model.specs.declared.types.image.Dinode.{Dinode}
 use Rattle.model.specs.declared.types.image.Form.{Form}
 use Rattle.model.specs.Gathered.{GatheredBytes}
 use Rattle.model.specs.Operations.{part_of}
-use Rattle.blockmap.specs.Lemmas.Reading.{length-bytes, part_cut, part_in_two}
+use Rattle.model.specs.Lemmas.Bytes.{part_in_two}
+use Rattle.blockmap.specs.Lemmas.Reading.{length-bytes, part_cut}
 use Rattle.blockmap.specs.Target.{target_for}
 use Rattle.inodes.specs.Readi.{ReadState, first_read}
 use Rattle.inodes.specs.ReadRuns.{ReadMade, IsReadRun, EndsWithBytes, ReadsPart}

@@ -7,7 +7,7 @@ use Rattle.model.specs.Files.{Files, bytes_in, file_in}
 use Rattle.loose.specs.HeldLaws.{FitsThen, IsHeldIn}
 use Rattle.model.specs.declared.types.image.Form.{Form}
 use Rattle.blocks.specs.Disk.{Image, block_at}
-use Rattle.loose.specs.Lemmas.Looks.{IsFullAt, byte_at, length-bytes_in, between}
+use Rattle.loose.specs.Lemmas.Looks.{between}
 use Rattle.model.specs.Soundness.{IsLawfulGeometry, count_of}
 use Rattle.loose.specs.Lemmas.Growing.{WritesOwn, but_own, own_agrees, own_base, own_inode, writes_own}
 use Rattle.loose.specs.Lemmas.KeptTrees.{SameTrees, names_same_along, address_same_along}
@@ -23,6 +23,7 @@ use Rattle.loose.specs.Lemmas.GrowthBlocks.{copy_full, copy_size, full_block, le
 use Rattle.model.specs.Layout.{depths, form_of, greatest_size}
 use Rattle.loose.specs.Lemmas.Frames.{geometry_same}
 use Rattle.model.specs.Lemmas.Codecs.{get_or-overwritten_before, get_or-overwritten_behind, get_or-overwritten_in, length-overwritten}
+use Rattle.model.specs.Lemmas.Bytes.{IsFullAt, byte_at, length-bytes_in}
 use Rattle.blocks.specs.Block.{overwritten}
 
 -- two writes, the second right behind the first

@@ -55,10 +55,10 @@ address_fault-none y i earlier a h =
     rw (le-ltb a (first_data_block y) there.0, lt-ltb a (length y) there.1, h.absent, there.2) refl
 
 -- the pointer's address, where there is one, in a list
-no_address : (p : Pointer) (pointers : List Pointer) → p.address ≡ 0 → addresses_in (p ∷ pointers) ≡ addresses_in pointers
+pub no_address : (p : Pointer) (pointers : List Pointer) → p.address ≡ 0 → addresses_in (p ∷ pointers) ≡ addresses_in pointers
 no_address p pointers e = rw e refl
 
-one_address : (p : Pointer) (pointers : List Pointer) → p.address ≢ 0 → addresses_in (p ∷ pointers) ≡ p.address ∷ addresses_in pointers
+pub one_address : (p : Pointer) (pointers : List Pointer) → p.address ≢ 0 → addresses_in (p ∷ pointers) ≡ p.address ∷ addresses_in pointers
 one_address p pointers some = rw (ne_eqb p.address 0 some) refl
 
 pub faultless_pointers : (y : Image) (i : ℕ) (earlier : List ℕ) (pointers : List Pointer) → first_pointer_fault y i earlier pointers ≡ None →
@@ -178,7 +178,7 @@ inode_fault-none y i lawful none =
     (cases_eq (inode_of y i).kind 0)
 
 -- the places of one inode more
-places_below_next : (y : Image) (i : ℕ) → 1 ≤ i → places_below y (i + 1) ≡ places_below y i ++ addresses_in (pointers_of y i)
+pub places_below_next : (y : Image) (i : ℕ) → 1 ≤ i → places_below y (i + 1) ≡ places_below y i ++ addresses_in (pointers_of y i)
 places_below_next y i h = flat_mapped_next (λ j. addresses_in (pointers_of y j)) i h
 
 -- the places of the inodes below an end
