@@ -20,6 +20,7 @@ use Rattle.model.specs.Places.{address_in}
 use Rattle.model.specs.Lemmas.Inodes.{IsPlaced, inode_of-with_inode_other}
 use Rattle.model.specs.Lemmas.Log.{both_of}
 use Rattle.model.specs.Lemmas.OutsideLog.{inode_agree}
+use Rattle.model.specs.Lemmas.Frames.{form_same}
 use Rattle.loose.specs.Claims.{HasClaimed}
 use Rattle.model.specs.Soundness.{count_of}
 use Rattle.loose.specs.Held.{Held, Claims, FitsHeld, Growth, IsClaimedNow, last_inode, unmarked, frees, Claim, grows, names_claimed}
@@ -60,7 +61,6 @@ use Rattle.inodes.specs.Tasks.{TaskState, task, no_task}
 use Rattle.inodes.specs.Lemmas.Grips.{is_table_at_opening, kept_by_image}
 use Rattle.inodes.specs.Lemmas.Holding.{claim_stays, own_holds}
 use Rattle.inodes.specs.Lemmas.Looks.{copy_is, trunc_names, write_locks}
-use Rattle.inodes.proofs.Frames.{form_same}
 use Rattle.inodes.proofs.InHand.{first_tree, given_kept, keeps_kept, root_there}
 use Rattle.inodes.proofs.Gripping.{grip_is, grips_same}
 use Rattle.inodes.specs.Lemmas.Unclaimed.{own_claim, unclaimed, claim_locks, own_growth}

@@ -15,7 +15,6 @@ use Rattle.model.specs.Log.{recovered, homes_of, place_among}
 use Rattle.model.specs.Names.{names_under, names_along}
 use Rattle.model.specs.Places.{pointers_of, addresses_in, address_under, address_along, address_in}
 use Rattle.model.specs.Soundness.{IsSound, IsFilled, IsLawfulInode}
-use Rattle.model.specs.Lemmas.Codecs.{length-words_of-block}
 use Rattle.model.specs.Lemmas.Counts.{AllByRecursion-parts, All-range_at, flat_at, all_weaker}
 use Rattle.model.specs.Lemmas.Frames.{under_zero}
 use Rattle.model.specs.Lemmas.Inodes.{is_dinode-inode_of}
@@ -25,6 +24,7 @@ use Rattle.model.specs.Lemmas.Recovery.{few_homes, place_below}
 use Rattle.model.specs.Lemmas.Super.{super_of-recovered}
 use Rattle.model.specs.Lemmas.Soundness.{verdict_sound, IsInData, facts_of, long_geometry, inode_in_data}
 use Rattle.model.specs.Lemmas.Wholes.{names_used, filled_whole}
+use Rattle.model.specs.Lemmas.Words.{length-words_of-block}
 use Rattle.offline.specs.Cause.{source_at}
 use Rattle.offline.specs.Laws.{CheckedFilesMayBeRead}
 use Rattle.offline.specs.Recovered.{LiesBehindLog, LeadsUnder, LeadsAlong, MayReadFile}
