@@ -19,3 +19,4 @@ pub mod Inodes
 pub mod MadeImages
 pub mod Wholes
 pub mod Bytes
+pub mod Replies
