@@ -68,11 +68,11 @@ get_or-overwritten_in old at bytes k d h below =
     ∙ get_or_append_left bytes (drop (at + length bytes) old) d k below
 
 -- two writes, the second right behind the first
-pub overwritten-join : (old a b : List ℕ) (at next : ℕ) → next ≡ at + length a → next + length b ≤ length old →
+pub overwritten-join : (old a b : List ℕ) (at next : ℕ) → next ≡ at + length a → at ≤ length old →
     overwritten (overwritten old at a) next b ≡ overwritten old at (a ++ b)
-overwritten-join old a b at next is h =
+overwritten-join old a b at next is inside =
     let rest = drop (at + length a) old in
-    let len : length (take at old ++ a) ≡ next = omega (arith, length-append (take at old) a, length-take-le at old (omega arith)) in
+    let len : length (take at old ++ a) ≡ next = omega (arith, is, length-append (take at old) a, length-take-le at old inside) in
     let front : take next (overwritten old at a) ≡ take at old ++ a = take_at (take at old ++ a) rest next len in
     let back : drop (next + length b) (overwritten old at a) ≡ drop (at + length (a ++ b)) old =
     sym (drop-drop (length b) next (overwritten old at a))
