@@ -2,7 +2,7 @@
 use Rattle.std.proofs.Common.{◌≡◌, ◌∙◌, sym, ap, subst, refl, arith, ⊎_elim, ℕ, ◌+◌, ◌*◌, ◌/◌, ◌%◌, ◌<◌, ◌≤◌, ◌≢◌, true, false, not, eqb, List, [], ◌∷◌, length, get_or, set, replicate, Option, Some, None}
 use Rattle.std.specs.Int.{bit_at, trailing_ones}
 use mir.Syntax.{w8}
-use Rattle.std.proofs.lemmas.Bool.{cases_lt, eq-eqb, eqb-true}
+use Rattle.std.proofs.lemmas.Bool.{cases_lt, eq-eqb, eqb-true, not-false, not-true}
 use Rattle.std.proofs.lemmas.List.Quantifiers.{position-Some}
 use Rattle.std.specs.List.{position}
 use Rattle.bcache.specs.Lemmas.Order.{none_passes}
@@ -18,7 +18,7 @@ use Rattle.wal.specs.Joint.{seen}
 use Rattle.wal.specs.Volume.{VolumeState, Holds}
 use Rattle.blockmap.specs.Balloc.{AllocState, AreFull, MayAlloc, MayAllocAt, TakesLowest, Zeroes, byte_with, lowest_clear, lowest_in, with_taken}
 use Rattle.driver.specs.Getting.{Puts, WritesBlock}
-use Rattle.blockmap.specs.Lemmas.Bitmap.{lowest_clear_found, not_false, not_true}
+use Rattle.blockmap.specs.Lemmas.Bitmap.{lowest_clear_found}
 use Rattle.driver.specs.Lemmas.Putting.{writes_put}
 use Rattle.blockmap.specs.declared.balloc.AllocAt.{AllocAt}
 use Rattle.blockmap.specs.declared.balloc.AllocAt.TheVariants as alloc_at
@@ -48,10 +48,10 @@ clear_there bits at t few clear =
 
 -- the bytes before the first that isn't full
 full_byte : (byte : ℕ) → not (eqb byte 255) ≡ false → byte ≡ 255
-full_byte byte e = eqb-true byte 255 (not_false (eqb byte 255) e)
+full_byte byte e = eqb-true byte 255 (not-false (eqb byte 255) e)
 
 some_clear : (byte : ℕ) → not (eqb byte 255) ≡ true → byte ≢ 255
-some_clear byte e full = let e' = not_true (eqb byte 255) e in let yes = eq-eqb byte 255 full in absurd (cc (e', yes))
+some_clear byte e full = let e' = not-true (eqb byte 255) e in let yes = eq-eqb byte 255 full in absurd (cc (e', yes))
 
 -- the first that isn't full, behind those that are
 pub first_clear : (bytes : List ℕ) (at : ℕ) → at < length bytes → get_or bytes at 0 ≢ 255 → AreFull bytes 0 at → Some at ≡ position (λ byte. not (eqb byte 255)) bytes

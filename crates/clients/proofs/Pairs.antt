@@ -2,7 +2,7 @@
 use Rattle.std.proofs.Common.{◌≡◌, ℕ, zero, suc, ◌<◌, List, [], ◌∷◌, ◌++◌, length, map, Option, Some, refl, sym, ap, subst, ◌∙◌}
 use Rattle.std.specs.Prelude.{option_map, slice_get}
 use Rattle.std.proofs.lemmas.List.{length-map}
-use Rattle.std.proofs.lemmas.Option.{slice_get-map, slice_get_within}
+use Rattle.std.proofs.lemmas.Option.{slice_get-map, slice_get_within, same_Some}
 use Rattle.rings.specs.Callers.{IsNewCaller, caller_names, polled, submitted}
 use Rattle.rings.specs.declared.caller.Caller.{Caller}
 use Rattle.rings.specs.declared.name.Names.{Names}
@@ -13,7 +13,6 @@ use Rattle.clients.specs.Sources.{AreNewSources, ArePaired, IsPaired}
 use Rattle.clients.specs.declared.backlog.Backlog.{Backlog}
 use Rattle.clients.specs.declared.client.Client.{Client}
 use Rattle.clients.specs.declared.source.Source.{Source}
-use Rattle.clients.specs.Lemmas.Sets.{only}
 
 -- one pair more
 pub one_paired : (ks : List Caller) (bs : List Backlog) (ss : List Source) (k : Caller) (b : Backlog) (s : Source) → ArePaired ks bs ss → IsPaired k b s → ArePaired (ks ++ k ∷ []) (bs ++ b ∷ []) (ss ++ s ∷ [])
@@ -46,7 +45,7 @@ pair_at [] [] (x ∷ ss) had p s at = absurd had
 pair_at [] (x ∷ bs) ss had p s at = absurd had
 pair_at (x ∷ ks) [] ss had p s at = absurd had
 pair_at (x ∷ ks) (y ∷ bs) [] had p s at = absurd had
-pair_at (x ∷ ks) (y ∷ bs) (z ∷ ss) had zero s at = record { caller = x; backlog = y; is = refl; ops = refl; pair = subst (IsPaired x y) (only z s at) had.0 }
+pair_at (x ∷ ks) (y ∷ bs) (z ∷ ss) had zero s at = record { caller = x; backlog = y; is = refl; ops = refl; pair = subst (IsPaired x y) (same_Some z s at) had.0 }
 pair_at (x ∷ ks) (y ∷ bs) (z ∷ ss) had (suc p) s at =
     let deeper = pair_at ks bs ss had.1 p s at in record { caller = deeper.caller; backlog = deeper.backlog; is = deeper.is; ops = deeper.ops; pair = deeper.pair }
 

@@ -3,7 +3,7 @@ use Rattle.std.proofs.Common.{◌≡◌, ◌≢◌, ◌∙◌, ℕ, ◌+◌, ◌
 use Rattle.std.proofs.Math.Seq.{take-add}
 use Rattle.std.proofs.lemmas.Bool.{cases_lt, cases_eq, ne_eqb}
 use Rattle.std.proofs.lemmas.Bool.Decides.{nat_tests}
-use Rattle.std.proofs.lemmas.List.{append-nil, append_assoc, ext_get_or, get_or-map, get_or-replicate, get_or-set_same, get_or-set_other, get_or_past, length-append, length-drop, length-map, length-replicate, length-set, length-take, length-take-le, nil_from_length, set-get_or, set-set, take_all}
+use Rattle.std.proofs.lemmas.List.{append-nil, append_assoc, ext_get_or, get_or-map, get_or-replicate, get_or-set_same, get_or-set_other, length-append, length-drop, length-map, length-replicate, length-set, length-take, length-take-le, nil_from_length, set-get_or, set-set, take_all}
 use Rattle.std.proofs.lemmas.List.FromFn.{length-map-range_with_len, get_or-map-range_with_len}
 use Rattle.blocks.specs.Disk.{Image}
 use Rattle.model.specs.declared.types.image.Dinode.{Dinode}
@@ -13,8 +13,9 @@ use Rattle.model.specs.declared.types.image.Form.TheVariants.{Two}
 use Rattle.model.specs.Files.{Files, blocks_for, bytes_in, file_in, file_of, files_of, joined}
 use Rattle.model.specs.Layout.{inode_count_of, inode_of}
 use Rattle.model.specs.Operations.{with_bytes}
-use Rattle.model.specs.Lemmas.FileNumbers.{file_in-files_of, file_in-files_of_zero, length-files_of}
+use Rattle.model.specs.Lemmas.FileNumbers.{file_in-files_of, file_in-files_of_zero, length-files_of, below_there}
 use Rattle.filing.specs.Files.{MakesFile, MakesNone, MayAppend, appended, empty_file, size_of, with_more, without_bytes}
+use Rattle.filing.specs.Lemmas.Sizes.{there_of_size}
 use Rattle.copying.specs.Holding.{HasFirst}
 use Rattle.copying.specs.Source.{AreKindsOf}
 use Rattle.copying.specs.Stages.{kept_at, kind_at, kind_or_plain, listed, made_at, written_at}
@@ -150,11 +151,6 @@ module _ (kinds : List ℕ) where
 
 -- ---- the files are written
 
--- a number that has a file is one of them
-pub below_there : (files : Files) (i : ℕ) → file_in files i ≢ None → i < length files
-below_there files i there =
-    ⊎_elim (λ (h : i < length files). h) (λ (h : length files ≤ i). absurd (there (get_or_past files i None h))) (cases_lt i (length files))
-
 -- a file without its bytes has none
 empty_bytes : (o : Option File) (file : File) → without_bytes o ≡ Some file → length file.bytes ≡ 0
 empty_bytes None file is = absurd (cc is)
@@ -240,10 +236,6 @@ more_more (Some file) a b = ap (λ (c : List ℕ). Some (record file { bytes = c
 more_size : (o : Option File) (a : List ℕ) → size_of o ≡ Some 0 → size_of (with_more o a) ≡ Some (length a)
 more_size None a empty = absurd (cc empty)
 more_size (Some file) a empty = let none : length file.bytes ≡ 0 = cc empty in ap Some (length-append file.bytes a ∙ omega arith)
-
-pub there_of_size : (o : Option File) (n : ℕ) → size_of o ≡ Some n → o ≢ None
-there_of_size None n h is = cc h
-there_of_size (Some file) n h is = cc is
 
 module _ (files : Files) (i : ℕ) (empty : size_of (file_in files i) ≡ Some 0) where
   low : i < length files

@@ -1,8 +1,8 @@
 -- A name that was linked stays, whatever later operations are kept that spare its entry.
-use Rattle.std.proofs.Common.{◌≡◌, ◌≢◌, ◌⊎◌, inl, inr, ℕ, ◌+◌, ◌*◌, ◌%◌, ◌<◌, ◌≤◌, Bool, true, false, cond, ◌&&◌, ◌||◌, eqb, ltb, leb, List, [], ◌∷◌, ◌++◌, length, take, drop, get_or, set, Option, Some, None, refl, sym, ap, subst, ◌∙◌, ⊎_elim, arith}
+use Rattle.std.proofs.Common.{◌≡◌, ◌≢◌, ◌⊎◌, ℕ, ◌+◌, ◌*◌, ◌<◌, ◌≤◌, Bool, true, false, cond, ◌&&◌, ltb, List, [], ◌∷◌, ◌++◌, length, take, get_or, set, Option, Some, None, refl, sym, ap, subst, ◌∙◌, ⊎_elim, arith}
 use Rattle.std.specs.Prelude.{is_none}
-use Rattle.std.proofs.lemmas.Bool.{ltb-false, leb-true, eqb-true, cases_lt, and_parts, or_cases, both_ways}
-use Rattle.std.proofs.lemmas.List.{append-nil, take-append-drop, get_or_past, get_or-set_same, get_or-set_other, take_all}
+use Rattle.std.proofs.lemmas.Bool.{ltb-false, and_parts, both_ways}
+use Rattle.std.proofs.lemmas.List.{get_or-set_same, get_or-set_other, take_all}
 use Rattle.blocks.specs.Block.{overwritten}
 use Rattle.model.specs.declared.types.image.File.{File}
 use Rattle.model.specs.declared.types.image.Form.{Form}
@@ -10,13 +10,15 @@ use Rattle.model.specs.declared.types.operations.Entry.{Entry}
 use Rattle.model.specs.declared.types.operations.Op.{Op}
 use Rattle.model.specs.declared.types.operations.Op.TheVariants.{Create, Write, Read, Trunc, Remove, Stat}
 use Rattle.model.specs.declared.types.operations.Reply.{Reply}
-use Rattle.model.specs.declared.types.operations.Reply.TheVariants.{Made, NoInode, Wrote, Bytes, Done, StatOf, NoFile, BadOffset, TooBig, TooLong, BadType}
+use Rattle.model.specs.declared.types.operations.Reply.TheVariants.{Made, NoInode, Wrote, Bytes, Done, StatOf, BadOffset, TooBig, TooLong}
 use Rattle.model.specs.Files.{Files, file_in, files_of}
 use Rattle.model.specs.Journal.{replay, and_then, after_answer}
 use Rattle.model.specs.Layout.{form_of, greatest_size}
 use Rattle.model.specs.Lemmas.Runs.{where_true_some, and_then_some, replays_in_parts}
+use Rattle.model.specs.Lemmas.Replies.{after_cases, wrote_done}
+use Rattle.model.specs.Lemmas.FileNumbers.{below_file}
 use Rattle.model.specs.Log.{recovered}
-use Rattle.model.specs.Operations.{after, after_refusal, after_done, after_create, after_at, after_on, refusal_of, write_refusal, is_refusal, may_have_written, with_bytes}
+use Rattle.model.specs.Operations.{after, after_done, after_create, after_at, after_on, refusal_of, write_refusal, may_have_written, with_bytes}
 use Rattle.directory.specs.declared.entries.EntryWrite.{EntryWrite}
 use Rattle.directory.specs.Entries.{entries_of, number_in, is_for}
 use Rattle.directory.specs.Writes.{written, Links}
@@ -25,50 +27,9 @@ use Rattle.directory.proofs.Standing.{StandsAt, puts_keeps, lookup_at}
 use Rattle.directory.proofs.Chunks.{puts_entry}
 use Rattle.directory.proofs.EntryBytes.{length-entry_bytes}
 use Rattle.directory.proofs.Changes.{link_stands, link_number}
+use Rattle.directory.specs.Lemmas.Writes.{nothing_written, whole_entry}
 
 -- ---- what an operation makes of the files
-
-within : (files : Files) (d : File) → file_in files 1 ≡ Some d → 1 < length files
-within files d e =
-    ⊎_elim (λ (lt : 1 < length files). lt)
-    (λ (past : length files ≤ 1). let both : None ≡ Some d = sym (get_or_past files 1 None past) ∙ e in absurd (cc both))
-    (cases_lt 1 (length files))
-
-refusal_cases : (files new : Files) (refusal : Option Reply) (op : Op) (reply : Reply) → after_refusal refusal files op reply ≡ Some new →
-    (new ≡ files) ⊎ ((refusal ≡ None) × (after_done files op reply ≡ Some new))
-refusal_cases files new None op reply h = inr (refl, h)
-refusal_cases files new (Some refusal) op reply h = inl (where_true_some (is_refusal refusal reply) files new h).1
-
--- an operation was refused, or done
-after_cases : (form : Form) (files new : Files) (op : Op) (reply : Reply) → after form files op reply ≡ Some new →
-    (new ≡ files) ⊎ ((refusal_of form files op ≡ None) × (after_done files op reply ≡ Some new))
-unfolding after
-after_cases form files new op reply h = refusal_cases files new (refusal_of form files op) op reply h
-
-not_refusal : (refusal : Reply) (k : ℕ) → is_refusal refusal (Wrote k) ≡ false
-not_refusal (Made i) k = refl
-not_refusal NoInode k = refl
-not_refusal (Wrote j) k = refl
-not_refusal (Bytes bytes) k = refl
-not_refusal Done k = refl
-not_refusal (StatOf kind size) k = refl
-not_refusal NoFile k = refl
-not_refusal BadOffset k = refl
-not_refusal TooBig k = refl
-not_refusal TooLong k = refl
-not_refusal BadType k = refl
-
-wrote_by : (files new : Files) (refusal : Option Reply) (op : Op) (k : ℕ) → after_refusal refusal files op (Wrote k) ≡ Some new →
-    after_done files op (Wrote k) ≡ Some new
-wrote_by files new None op k h = h
-wrote_by files new (Some refusal) op k h =
-    absurd (both_ways (is_refusal refusal (Wrote k)) (not_refusal refusal k) (where_true_some (is_refusal refusal (Wrote k)) files new h).0)
-
--- one that wrote was done
-wrote_done : (form : Form) (files new : Files) (op : Op) (k : ℕ) → after form files op (Wrote k) ≡ Some new →
-    after_done files op (Wrote k) ≡ Some new
-unfolding after
-wrote_done form files new op k h = wrote_by files new (refusal_of form files op) op k h
 
 at_cases : (files new : Files) (i : ℕ) (o : Option File) (op : Op) (reply : Reply) → after_at files i o op reply ≡ Some new →
     (file : File) × (o ≡ Some file) × (after_on files i file op reply ≡ Some new)
@@ -156,30 +117,6 @@ begins_within form files d off bytes is h =
     (subst (λ (o : Option File). write_refusal form o off (length bytes) ≡ None) is later.1) in
     ltb-false (length d.bytes) off here.0
 
-none_or_all : (other k : ℕ) → k ≤ 16 → (16 * other + k) % 1024 ≡ 0 → (k ≡ 0) ⊎ (k ≡ 16)
-none_or_all other k few whole =
-    ⊎_elim (λ (low : k < 1). inl (omega arith))
-    (λ (some : 1 ≤ k). ⊎_elim (λ (less : k < 16). absurd (omega arith)) (λ (all : 16 ≤ k). inr (omega arith)) (cases_lt k 16)) (cases_lt k 1)
-
--- an entry is written whole, or nothing of it
-whole_entry : (old other n k : ℕ) → n ≡ 16 → may_have_written old (16 * other) n k ≡ true → (k ≡ 0) ⊎ (k ≡ 16)
-whole_entry old other n k size h =
-    let parts = and_parts (leb k n) (eqb k n || (eqb ((16 * other + k) % 1024) 0 && leb old (16 * other + k))) h in
-    let few : k ≤ n = leb-true k n parts.0 in
-    ⊎_elim (λ (all : eqb k n ≡ true). inr (eqb-true k n all ∙ size))
-    (λ (short : (eqb ((16 * other + k) % 1024) 0 && leb old (16 * other + k)) ≡ true).
-    none_or_all other k (omega arith)
-    (eqb-true ((16 * other + k) % 1024) 0 (and_parts (eqb ((16 * other + k) % 1024) 0) (leb old (16 * other + k)) short).0))
-    (or_cases (eqb k n) (eqb ((16 * other + k) % 1024) 0 && leb old (16 * other + k)) parts.1)
-
-nothing_written : (old : List ℕ) (at k : ℕ) (entry : List ℕ) → k ≡ 0 → overwritten old at (take k entry) ≡ old
-nothing_written old at k entry none =
-    let here : at + 0 ≡ at = omega arith in
-    ap (λ (i : ℕ). overwritten old at (take i entry)) none
-    ∙ ap (λ (l : List ℕ). l ++ drop (at + 0) old) (append-nil (take at old))
-    ∙ ap (λ (i : ℕ). take at old ++ drop i old) here
-    ∙ take-append-drop at old
-
 all_written : (old : List ℕ) (at k : ℕ) (entry : List ℕ) → length entry ≡ 16 → k ≡ 16 → overwritten old at (take k entry) ≡ overwritten old at entry
 all_written old at k entry size all =
     ap (λ (l : List ℕ). overwritten old at l) (ap (λ (i : ℕ). take i entry) all ∙ take_all 16 entry (omega arith))
@@ -220,7 +157,7 @@ holds_written files new name number place other entry holds apart size fails fit
     let puts = puts_entry holds.directory.bytes other entry fits size in
     let apart_from : place ≢ other = λ same. apart (sym same) in
     holds_bytes files new name number place holds.directory (overwritten holds.directory.bytes (16 * other) entry)
-    (within files holds.directory holds.is) e
+    (below_file files 1 holds.directory holds.is) e
     (puts_keeps (is_for name) (entries_of holds.directory.bytes) (entries_of (overwritten holds.directory.bytes (16 * other) entry))
     other entry puts fails place apart_from holds.stands)
     (ap number_in (puts.others place holds.stands.within apart_from) ∙ holds.number_is)
@@ -236,7 +173,7 @@ holds_other form files new name number place other entry reply holds apart size 
     let fits = begins_within form files d (16 * other) entry holds.is allowed in
     ⊎_elim
     (λ (none : wrote.0 ≡ 0).
-    holds_bytes files new name number place d d.bytes (within files d holds.is)
+    holds_bytes files new name number place d d.bytes (below_file files 1 d holds.is)
     (wrote.2 ∙ ap (λ (b : List ℕ). set files 1 (with_bytes d b)) (nothing_written d.bytes (16 * other) wrote.0 entry none))
     holds.stands holds.number_is)
     (λ (all : wrote.0 ≡ 16).
@@ -286,7 +223,7 @@ holds_linked form files new name number d write is links h =
     (set files 1 (with_bytes d (overwritten d.bytes (16 * write.place) (take 16 write.entry)))) new
     (subst (λ (o : Option File). after_at files 1 o (Write 1 (16 * write.place) write.entry) (Wrote 16) ≡ Some new) is done) in
     let size : length write.entry ≡ 16 = ap length links.entry ∙ length-entry_bytes number name links.size in
-    holds_bytes files new name number write.place d (written d.bytes write) (within files d is)
+    holds_bytes files new name number write.place d (written d.bytes write) (below_file files 1 d is)
     (there.1 ∙ ap (λ (b : List ℕ). set files 1 (with_bytes d b)) (all_written d.bytes (16 * write.place) 16 write.entry size refl))
     (link_stands d.bytes name number write links) (link_number d.bytes name number write links)
 

@@ -2,3 +2,4 @@ pub mod Entries
 pub mod Names
 pub mod Writes
 pub mod Laws
+pub mod Lemmas

@@ -1,3 +1,4 @@
 pub mod Answered
 pub mod Files
 pub mod Stopped
+pub mod Lemmas

@@ -2,10 +2,10 @@
 use Rattle.std.proofs.Common.{◌≡◌, ℕ, ◌<◌, true, ltb, length, refl, arith, Option}
 use Rattle.std.specs.Prelude.{IsTrue}
 use Rattle.std.proofs.lemmas.Bool.{ltb-true}
-use Rattle.blocks.specs.Disk.{Image, block_at}
+use Rattle.blocks.specs.Disk.{Image}
 use Rattle.model.specs.declared.types.operations.Reply.{Reply}
 use Rattle.model.specs.Journal.{is_making, is_number}
-use Rattle.model.specs.Layout.{form_of, inode_block, inode_count_of}
+use Rattle.model.specs.Layout.{inode_block, inode_count_of}
 use Rattle.model.specs.Lemmas.Log.{both_of}
 use Rattle.model.specs.Lemmas.Soundness.{facts_of}
 use Rattle.model.specs.Soundness.{IsLawfulGeometry}
@@ -19,10 +19,6 @@ within_image x i g number =
     let room = f.room in
     let size = f.size in
     omega arith
-
--- an image's form is told by its superblock
-pub form_same : (x y : Image) → block_at y 1 ≡ block_at x 1 → form_of y ≡ form_of x
-form_same x y same = rw same refl
 
 -- nothing is done to an image
 pub marks_same : (made : Option Reply) (x : Image) → ((i : ℕ) → is_making i made ≡ true → ⊥) → Marks made x x

@@ -2,7 +2,7 @@
 -- another block, and that it waits for this alone.
 use Rattle.std.proofs.Common.{◌≡◌, ◌≢◌, ℕ, ◌+◌, ◌≤◌, Bool, true, false, List, [], ◌∷◌, ◌++◌, length, map, refl, sym, ap, inl, inr, ◌⊎◌, arith, Option, Some, None}
 use Rattle.std.specs.Prelude.{is_none, is_some, not}
-use Rattle.std.proofs.lemmas.Bool.{eq-eqb}
+use Rattle.std.proofs.lemmas.Bool.{eq-eqb, not-true}
 use Rattle.bcache.specs.Buffers.{Buffers}
 use Rattle.blockmap.specs.declared.bmap_alloc.MapAt.{MapAt}
 use Rattle.blockmap.specs.declared.bmap_alloc.MapAt.TheVariants as map_at
@@ -262,14 +262,10 @@ lock_waits c t lock_at.Reference i e other = absurd (cc e)
 lock_waits c t (lock_at.Lock k) i e other = absurd (cc other)
 lock_waits c t (lock_at.Read k slot) i e other = (_, some_got c slot _ e)
 
-not_lock : (b : Bool) → not b ≡ true → b ≡ false
-not_lock true e = absurd (cc e)
-not_lock false e = refl
-
 pub getting_waits : (c : Buffers) (t : TableState) (a : Place) → is_free a ≡ false → is_getting a ≡ true → Waits c t a
 getting_waits c t place.Nowhere e is = absurd (cc is)
 getting_waits c t (place.Creating m) e is = (_, some_got c m.slot _ e)
-getting_waits c t (place.Taking m) e is = lock_waits c t m.at m.number e (not_lock (is_lock m.at) is)
+getting_waits c t (place.Taking m) e is = lock_waits c t m.at m.number e (not-true (is_lock m.at) is)
 getting_waits c t (place.Reading k m) e is = (_, some_got c (slot_in m.target) _ e)
 getting_waits c t (place.Delivering k) e is = absurd (cc e)
 getting_waits c t (place.Truncating k m) e is = driven_waits c (wanted_by (trunc_next m) m.used) e

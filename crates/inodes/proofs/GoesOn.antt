@@ -2,8 +2,8 @@
 -- where there is none, one that keeps a block of addresses; where there is none, one that gets a
 -- block; and else any, for nobody has an inode's lock then.
 use Rattle.std.proofs.Common.{◌≡◌, ◌≢◌, ℕ, Bool, true, false, List, [], ◌∷◌, refl, sym, ◌∙◌, ap, subst, Option, Some, None, inl, inr}
-use Rattle.std.specs.Prelude.{IfNone, not}
-use Rattle.std.proofs.lemmas.Bool.{both_ways}
+use Rattle.std.specs.Prelude.{IfNone}
+use Rattle.std.proofs.lemmas.Bool.{both_ways, not-false}
 use Rattle.wal.specs.declared.types.DeviceFault.{DeviceFault}
 use Rattle.blocks.specs.Disk.{Image}
 use Rattle.bcache.specs.Buffers.{Buffers, buffer, victim}
@@ -60,14 +60,10 @@ at_lock c t lock_at.Reference i is = absurd (cc is)
 at_lock c t (lock_at.Lock k) i is = (k, refl)
 at_lock c t (lock_at.Read k slot) i is = absurd (cc is)
 
-lock_is : (b : Bool) → not b ≡ false → b ≡ true
-lock_is true e = refl
-lock_is false e = absurd (cc e)
-
 only_lock : (c : Buffers) (t : TableState) (a : Place) → is_over a ≡ false → is_getting a ≡ false → WaitsForLock c t a
 only_lock c t place.Nowhere busy is = absurd (cc busy)
 only_lock c t (place.Creating m) busy is = absurd (cc is)
-only_lock c t (place.Taking m) busy is = at_lock c t m.at m.number (lock_is (is_lock m.at) is)
+only_lock c t (place.Taking m) busy is = at_lock c t m.at m.number (not-false (is_lock m.at) is)
 only_lock c t (place.Reading k m) busy is = absurd (cc is)
 only_lock c t (place.Delivering k) busy is = absurd (cc is)
 only_lock c t (place.Truncating k m) busy is = absurd (cc is)

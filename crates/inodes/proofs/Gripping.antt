@@ -1,16 +1,13 @@
 -- What processes have of the table of inodes, by their tasks.
 use Rattle.std.proofs.Common.{◌≡◌, ℕ, zero, suc, List, [], ◌∷◌, set, refl, sym, ◌∙◌, ap, Option}
 use Rattle.std.proofs.lemmas.List.{map-set, set-get_or}
-use Rattle.inodes.specs.Grips.{Grip, grip, with_grip}
+use Rattle.inodes.specs.Grips.{Grip, with_grip}
 use Rattle.inodes.specs.Places.{grip_of, grips_of}
 use Rattle.inodes.specs.declared.tasks.Place.{Place}
 use Rattle.inodes.specs.Tasks.{TaskState, task, no_task}
 
 -- a process has what its task has
-pub grip_is : (ts : List TaskState) (p : ℕ) → grip (grips_of ts) p ≡ grip_of (task ts p)
-grip_is [] p = refl
-grip_is (t ∷ ts) zero = refl
-grip_is (t ∷ ts) (suc p) = grip_is ts p
+pub use Rattle.inodes.specs.Lemmas.Looks.{grip_of_task as grip_is}
 
 -- one task is another, and has another grip
 pub grips_set : (ts : List TaskState) (p : ℕ) (t : TaskState) → grips_of (set ts p t) ≡ with_grip (grips_of ts) p (grip_of t)

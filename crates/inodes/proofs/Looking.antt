@@ -15,6 +15,7 @@ use Rattle.model.specs.Files.{Files}
 use Rattle.model.specs.Journal.{is_making}
 use Rattle.model.specs.Layout.{form_of, inode_count_of}
 use Rattle.model.specs.Tasks.{FilesThen, reply_at_turn, Marks}
+use Rattle.model.specs.Lemmas.Frames.{form_same}
 use Rattle.wal.specs.Volume.{fault_of_task}
 use Rattle.loose.specs.Held.{FitsHeld}
 use Rattle.loose.specs.Lemmas.HeldFrames.{held_alike}
@@ -36,7 +37,7 @@ use Rattle.inodes.specs.Table.{copy_at}
 use Rattle.inodes.specs.Tasks.{TaskState, task, no_task}
 use Rattle.inodes.proofs.Agreeing.{agrees_now}
 use Rattle.inodes.proofs.Gripping.{grip_is, grips_set}
-use Rattle.inodes.proofs.Frames.{form_same, marks_same}
+use Rattle.inodes.proofs.Frames.{marks_same}
 use Rattle.inodes.proofs.LooksKept.{KeepsUsed, keeps_same, logged_still, stands_still}
 use Rattle.inodes.proofs.Shares.{shares}
 use Rattle.inodes.specs.Writing.{IsWriting}

@@ -19,6 +19,8 @@ use Rattle.model.specs.Soundness.{count_of}
 use Rattle.model.specs.Places.{address_in}
 use Rattle.model.specs.Lemmas.Inodes.{IsPlaced, inode_of-with_inode_other}
 use Rattle.model.specs.Lemmas.Log.{both_of}
+use Rattle.model.specs.Lemmas.OutsideLog.{inode_agree}
+use Rattle.model.specs.Lemmas.Frames.{form_same}
 use Rattle.loose.specs.Claims.{HasClaimed}
 use Rattle.model.specs.Soundness.{count_of}
 use Rattle.loose.specs.Held.{Held, Claims, FitsHeld, Growth, IsClaimedNow, last_inode, unmarked, frees, Claim, grows, names_claimed}
@@ -40,7 +42,6 @@ use Rattle.loose.specs.Trees.{names_left}
 use Rattle.loose.specs.Lemmas.HeldLooks.{free_tells}
 use Rattle.loose.specs.Lemmas.HeldOutsideLog.{held_outside}
 use Rattle.loose.specs.Lemmas.Looks.{between}
-use Rattle.loose.specs.Lemmas.OutsideLog.{inode_outside}
 use Rattle.loose.specs.Lemmas.WriteBacks.{claim_fits, last_fields, write_back_rests}
 use Rattle.blockmap.specs.Lemmas.Resting.{resting_may_be_read}
 use Rattle.blockmap.specs.Lemmas.Targets.{leads_still, needed_within}
@@ -60,7 +61,6 @@ use Rattle.inodes.specs.Tasks.{TaskState, task, no_task}
 use Rattle.inodes.specs.Lemmas.Grips.{is_table_at_opening, kept_by_image}
 use Rattle.inodes.specs.Lemmas.Holding.{claim_stays, own_holds}
 use Rattle.inodes.specs.Lemmas.Looks.{copy_is, trunc_names, write_locks}
-use Rattle.inodes.proofs.Frames.{form_same}
 use Rattle.inodes.proofs.InHand.{first_tree, given_kept, keeps_kept, root_there}
 use Rattle.inodes.proofs.Gripping.{grip_is, grips_same}
 use Rattle.inodes.specs.Lemmas.Unclaimed.{own_claim, unclaimed, claim_locks, own_growth}
@@ -111,7 +111,7 @@ pub keeps_outside : (files : Files) (x y : Image) (claims : Claims) (i : ℕ) �
 keeps_outside files x y claims i fits same = record {
   size = same.size;
   super = same.agree 1 refl;
-  inodes = λ j number apart used. inode_outside x y j same.agree;
+  inodes = λ j number apart used. inode_agree x y j same.agree;
   contents = λ j number apart used none. (held_outside files x y claims same fits).others j (some_number x j number) none (number, used);
   held = λ j c number apart holds. (held_outside files x y claims same fits).held j c (some_number x j number) number holds;
 }

@@ -12,12 +12,13 @@ use Rattle.model.specs.Gathered.{GatheredBytes, gathered_with}
 use Rattle.model.specs.Layout.{form_of}
 use Rattle.model.specs.Operations.{part_of}
 use Rattle.model.specs.Places.{address_in}
+use Rattle.model.specs.Lemmas.Bytes.{length-part}
 use Rattle.bcache.specs.Buffers.{buffer}
 use Rattle.bcache.specs.Lemmas.Current.{length-current}
 use Rattle.wal.specs.Joint.{Joint, seen}
 use Rattle.wal.specs.Volume.{VolumeState, Holds}
 use Rattle.driver.specs.Getting.{HoldsWhereGot, Releases}
-use Rattle.blockmap.specs.Lemmas.Reading.{length-bytes, length-part, part_in_block}
+use Rattle.blockmap.specs.Lemmas.Reading.{length-bytes, part_in_block}
 use Rattle.blockmap.specs.Lemmas.Seeking.{SeeksOn, seeks_on}
 use Rattle.blockmap.specs.Lemmas.Targets.{few_at, leads_for, needed_within, steps_enough, steps_grow, steps_more}
 use Rattle.blockmap.specs.Reading.{MayRead}

@@ -17,6 +17,7 @@ use Rattle.model.specs.Journal.{is_making}
 use Rattle.model.specs.Layout.{form_of}
 use Rattle.model.specs.Operations.{part_of}
 use Rattle.model.specs.Tasks.{FilesThen, reply_at_turn}
+use Rattle.model.specs.Lemmas.Bytes.{part_in_two}
 use Rattle.wal.specs.Volume.{fault_of_task}
 use Rattle.bcache.specs.Buffers.{Buffers}
 use Rattle.wal.specs.Held.{LocksAfter, WaitsFor}
@@ -29,7 +30,7 @@ use Rattle.blockmap.specs.Bmap.{EntryState, Ends, GoesBelow, LooksUp, with_slot}
 use Rattle.blockmap.specs.Branch.{named_by}
 use Rattle.blockmap.specs.Lemmas.Targets.{first_slot}
 use Rattle.driver.specs.Getting.{GetsFor, Releases, progress_of}
-use Rattle.blockmap.specs.Lemmas.Reading.{length-bytes, part_cut, part_in_two}
+use Rattle.blockmap.specs.Lemmas.Reading.{length-bytes, part_cut}
 use Rattle.blockmap.specs.Target.{LeadsToBlock, LooksUpFor, block_of, progress_behind, slot_in, steps_at, target_behind, target_for}
 use Rattle.driver.specs.declared.progress.Progress.{Progress}
 use Rattle.driver.specs.declared.progress.Progress.TheVariants as machine

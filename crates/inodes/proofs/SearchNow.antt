@@ -1,7 +1,7 @@
 -- A store makes a step of a creation's search, and what its contract speaks of is the same store.
-use Rattle.std.proofs.Common.{◌≡◌, ◌<◌, ◌≤◌, ℕ, leb, ltb, length, List, refl, sym, ◌∙◌, ap, subst, arith, Option, Some, None}
+use Rattle.std.proofs.Common.{◌≡◌, ◌<◌, ◌≤◌, ℕ, leb, length, List, refl, sym, ◌∙◌, ap, subst, arith, Option, Some, None}
 use Rattle.std.specs.Prelude.{IfNone}
-use Rattle.std.proofs.lemmas.Bool.{leb-true, ltb-true}
+use Rattle.std.proofs.lemmas.Bool.{leb-true}
 use Rattle.std.proofs.lemmas.List.{get_or-set_same}
 use Rattle.blocks.specs.Disk.{IsImage}
 use Rattle.blocks.specs.declared.disk.Disk.{Ghosts}
@@ -19,30 +19,23 @@ use Rattle.driver.specs.declared.progress.Progress.{Progress}
 use Rattle.inodes.specs.declared.tasks.Place.{Place}
 use Rattle.inodes.specs.declared.tasks.Place.TheVariants as place
 use Rattle.inodes.specs.Goes.{Goes, GoesFrom, progress_of_search, shown_of}
-use Rattle.inodes.specs.Grips.{Grip, TableIs, locked_grip}
+use Rattle.inodes.specs.Grips.{Grip, TableIs}
 use Rattle.inodes.specs.Holding.{claims_of}
 use Rattle.inodes.specs.Ialloc.{SearchState, SearchSteps, MayStep}
 use Rattle.inodes.specs.Looks.{AreLooking}
-use Rattle.inodes.specs.Places.{block_at_place, grip_of, grips_of, steps_left}
+use Rattle.inodes.specs.Places.{block_at_place, grips_of, steps_left}
 use Rattle.inodes.specs.Steps.{Steps, IsHeldByAnother, LeavesLate}
 use Rattle.inodes.specs.Store.{StoreState, IsStore, IsSearching, Agrees, FitsFiles, LoggedAt, current_of}
-use Rattle.inodes.specs.Table.{TableState}
 use Rattle.inodes.specs.Tasks.{TaskState, task, no_task}
 use Rattle.inodes.specs.Lemmas.Faults.{where_none}
 use Rattle.inodes.specs.Lemmas.Grips.{kept_by_image}
-use Rattle.inodes.proofs.Gripping.{grip_is, grips_same, grips_set}
+use Rattle.inodes.proofs.Gripping.{grips_same, grips_set}
 use Rattle.inodes.proofs.Looking.{IsNow, Stepped, steps_stepped, store_stepped}
 use Rattle.inodes.proofs.LooksKept.{KeepsUsed}
 use Rattle.inodes.proofs.Searching.{ready_of, search as searching}
 use Rattle.inodes.proofs.StoreKeeps.{geometry_then, task_then}
 use Rattle.inodes.proofs.StoreSteps.{apart_then, asleep_then, claims_then, fault_then, falls_then, files_then, goes_now, groups_after, held_then, keeps_now, looks_at_then, marks_now, no_inode_held, place_then, same_op, set_then, store_then, unclaimed_then, ungripped_then}
-
--- nobody locks number 0
-zero_unlocked : (cur : Image) (t : TableState) (ts : List TaskState) → AreLooking cur t ts → (q k : ℕ) → grip_of (task ts q) ≡ Some (locked_grip k 0) → ⊥
-zero_unlocked cur t ts are q k has =
-    let number = are.table.numbers 0 k (are.table.places q (locked_grip k 0) (grip_is ts q ∙ has)).1 in
-    let low = ltb-true 0 0 (both_of (ltb 0 0) (ltb 0 t.inode_count) number).0 in
-    absurd (omega (arith, low))
+use Rattle.inodes.proofs.Taking.{none_of_zero}
 
 -- the files that a store stands for
 files_fit : {D : Type 0} (image : D → Image) (s : StoreState D) (looks : AreLooking (current_of image s.volume) s.table s.tasks) → FitsFiles image s looks.files.0
@@ -144,7 +137,7 @@ module _ {D N : Type 0} (disk : Ghosts D N) (s now : StoreState D) (p : ℕ) (m 
         groups = subst (λ (l : LogState). SameGroups s.volume.log l) (sym steps.log) (groups_after s.volume.log p m.block r pid);
         marks = marks_now disk.image s t p m new op r agrees is.numbers lt stood is_op steps.current claimed_same is.geometry filled few m.slot steps.goes;
         files = files_then disk.image s t p m new op r agrees is.numbers lt stood is_op steps.current claimed_same m.slot steps.goes;
-        alone = λ q k apart has. zero_unlocked (current_of disk.image s.volume) s.table s.tasks looks q k has;
+        alone = λ q k apart has. none_of_zero (current_of disk.image s.volume) s.table s.tasks looks q k has;
         claims = λ j other. unclaimed_then s.tasks p m new r stood j;
         keeps = keeps;
         now = here;

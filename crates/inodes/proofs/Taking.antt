@@ -29,6 +29,7 @@ use Rattle.inodes.specs.Table.{TableState}
 use Rattle.inodes.specs.Tasks.{TaskState, task}
 use Rattle.inodes.specs.Holding.{claim_by, claims_of, claim_of}
 use Rattle.inodes.specs.Lemmas.Holding.{claim_stays}
+use Rattle.inodes.specs.Lemmas.Looks.{look_takes}
 use Rattle.loose.specs.Lemmas.HeldFrames.{held_alike}
 use Rattle.model.specs.Files.{Files}
 use Rattle.model.specs.Lemmas.Log.{both_of}
@@ -59,15 +60,7 @@ few_bytes n (Trunc i) can = omega arith
 few_bytes n (Remove i) can = omega arith
 few_bytes n (Stat i) can = omega arith
 
--- one that looks at a file takes its inode, and needs nothing open in the log
-pub look_takes : (n : ℕ) (op : Op) → CanLook n op → CanTake n op
-look_takes n (Create kind) can = absurd can
-look_takes n (Write i off bytes) can = absurd can
-look_takes n (Read i off count) can = can
-look_takes n (Trunc i) can = absurd can
-look_takes n (Remove i) can = absurd can
-look_takes n (Stat i) can = can
-
+-- and it needs nothing open in the log
 look_open : (l : LogState) (p n : ℕ) (op : Op) → CanLook n op → IsOpenFor l p (Some op)
 look_open l p n (Create kind) can = absurd can
 look_open l p n (Write i off bytes) can = absurd can

@@ -11,6 +11,7 @@ use Rattle.model.specs.declared.types.operations.Op.TheVariants.{Trunc, Remove}
 use Rattle.model.specs.declared.types.operations.TaskProgress.TheVariants as progress
 use Rattle.model.specs.Fields.{words_of}
 use Rattle.model.specs.Journal.{is_number}
+use Rattle.model.specs.Lemmas.Frames.{form_same}
 use Rattle.loose.specs.Held.{Claim, Claims, IsClaimedNow, frees}
 use Rattle.wal.specs.declared.types.Get.{Get}
 use Rattle.wal.specs.declared.types.Get.TheVariants as get
@@ -44,7 +45,6 @@ use Rattle.inodes.specs.Tasks.{TaskState, task, no_task}
 use Rattle.inodes.specs.Lemmas.Holding.{own_holds}
 use Rattle.inodes.specs.Lemmas.Looks.{trunc_number}
 use Rattle.inodes.proofs.AtWork.{Does, Works, store_worked, steps_worked}
-use Rattle.inodes.proofs.Frames.{form_same}
 use Rattle.inodes.proofs.Driving.{Driving, IsDone, Moves, does_fail, does_move, does_wait}
 use Rattle.inodes.proofs.TruncMakes.{HasNone, Makes, makes}
 use Rattle.inodes.proofs.Truncating.{alone, got, gripped, keeps_apart, looking, work}

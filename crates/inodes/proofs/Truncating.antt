@@ -12,6 +12,7 @@ use Rattle.model.specs.declared.types.image.Form.{Form}
 use Rattle.model.specs.Layout.{direct_count, inode_block, inode_count_of, super_of, bitmap_block}
 use Rattle.model.specs.Soundness.{count_of}
 use Rattle.model.specs.Lemmas.Soundness.{facts_of}
+use Rattle.model.specs.Lemmas.Words.{length-words_of-block}
 use Rattle.loose.specs.Held.{Claims, FitsHeld, IsFine, IsHeld, frees, Claim, listed}
 use Rattle.loose.specs.HeldLaws.{IsMarkedData, IsHeldIn}
 use Rattle.loose.specs.Loose.{LiesInData}
@@ -21,7 +22,6 @@ use Rattle.loose.specs.Lemmas.GivenUp.{direct_left, first_left, first_twice}
 use Rattle.loose.specs.Lemmas.LeftOnWays.{ahead_at, ahead_of}
 use Rattle.loose.specs.Lemmas.Ways.{led_further}
 use Rattle.loose.specs.Lemmas.Ways.{ahead_root, led_step}
-use Rattle.model.specs.Lemmas.Codecs.{length-words_of-block}
 use Rattle.loose.specs.Lemmas.HeldLooks.{held_has_blocks}
 use Rattle.loose.specs.Lemmas.Looks.{between}
 use Rattle.wal.specs.Joint.{Joint}

@@ -9,6 +9,7 @@ use Rattle.model.specs.Files.{Files}
 use Rattle.model.specs.Layout.{form_of, inode_block, super_of}
 use Rattle.model.specs.Places.{address_in, addresses_in, pointers_in}
 use Rattle.model.specs.Soundness.{count_of}
+use Rattle.model.specs.Lemmas.Frames.{form_same}
 use Rattle.loose.specs.Held.{Claims, FitsHeld, Growth, IsClaimedNow, grows}
 use Rattle.loose.specs.HeldLaws.{FitsThen}
 use Rattle.loose.specs.Loose.{LiesInData}
@@ -42,7 +43,6 @@ use Rattle.inodes.specs.Store.{StoreState, IsStore, current_of}
 use Rattle.inodes.specs.Tasks.{TaskState, task}
 use Rattle.inodes.specs.Writei.{WriteState, progress_mapped}
 use Rattle.inodes.specs.Writing.{IsWriting, at_hand, block_of_write, blocks_left, counted, counted_of, homes_beside, kept_by_write, node_of_write, used_by_write, writes_left, writes_left_at, alloc_left}
-use Rattle.inodes.proofs.Frames.{form_same}
 use Rattle.inodes.specs.Lemmas.Bounds.{some_uses}
 use Rattle.inodes.proofs.TruncSlots.{Slots, slots_none}
 use Rattle.inodes.proofs.WriteLogged.{AddsOne, LogsOn, adds_one, logged_on}

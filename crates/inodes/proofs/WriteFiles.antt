@@ -24,8 +24,8 @@ use Rattle.inodes.specs.Growing.{growth_of, next_block, taken_by}
 use Rattle.model.specs.Fields.{has_bit}
 use Rattle.model.specs.Journal.{is_number}
 use Rattle.blockmap.specs.Lemmas.Bitmap.{lowest_clear_is_lowest}
-use Rattle.blockmap.specs.Lemmas.Reading.{part_in_two}
 use Rattle.model.specs.Operations.{after, part_of}
+use Rattle.model.specs.Lemmas.Bytes.{part_in_two}
 use Rattle.blocks.specs.Block.{zero_block}
 
 -- ---- a block is taken

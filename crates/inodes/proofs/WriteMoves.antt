@@ -16,6 +16,7 @@ use Rattle.model.specs.Journal.{is_number}
 use Rattle.model.specs.declared.types.image.Form.{Form}
 use Rattle.model.specs.Layout.{form_of, greatest_size, inode_count_of, super_of}
 use Rattle.model.specs.Tasks.{Marks}
+use Rattle.model.specs.Lemmas.Frames.{form_same}
 use Rattle.loose.specs.Held.{Claim, Claims, FitsHeld, Growth, IsClaimedNow, grows}
 use Rattle.loose.specs.HeldLaws.{FitsThen}
 use Rattle.loose.specs.Lemmas.Claims.{apart}
@@ -45,7 +46,7 @@ use Rattle.inodes.specs.declared.writei.Extent.{Extent}
 use Rattle.inodes.specs.Lemmas.Grips.{kept_by_image}
 use Rattle.inodes.specs.Lemmas.Holding.{own_grows}
 use Rattle.inodes.proofs.AtWork.{Does, Works, store_then}
-use Rattle.inodes.proofs.Frames.{form_same, marks_same}
+use Rattle.inodes.proofs.Frames.{marks_same}
 use Rattle.inodes.proofs.WriteLogged.{LogsOn, logged_of, open_of}
 use Rattle.inodes.proofs.Getting.{reads_none, fault_of}
 use Rattle.inodes.proofs.LooksKept.{KeepsUsed, keeps_same}

@@ -1,7 +1,7 @@
 -- What is true of store and processes stays so where an operation begins or is answered at once.
-use Rattle.std.proofs.Common.{◌≡◌, ◌≢◌, ℕ, ◌+◌, ◌<◌, ◌≤◌, Bool, true, false, not, ◌||◌, cond, eqb, ltb, length, length-set, refl, sym, ◌∙◌, ap, subst, arith, ⊎_elim, Option, Some, None}
+use Rattle.std.proofs.Common.{◌≡◌, ◌≢◌, ℕ, ◌+◌, ◌<◌, ◌≤◌, Bool, true, false, not, cond, eqb, ltb, length, length-set, refl, sym, ◌∙◌, ap, subst, arith, ⊎_elim, Option, Some, None}
 use Rattle.wal.specs.declared.types.DeviceFault.{DeviceFault}
-use Rattle.std.proofs.lemmas.Bool.{cases_eq, false≢true, le-leb, ltb-false, not-false}
+use Rattle.std.proofs.lemmas.Bool.{cases_eq, le-leb, ltb-false, not-false, or_parts}
 use Rattle.std.proofs.lemmas.List.{get_or-set_other}
 use Rattle.blocks.specs.declared.disk.Disk.{Ghosts}
 use Rattle.model.specs.declared.types.operations.Op.{Op}
@@ -42,10 +42,6 @@ use Rattle.kernel.proofs.Pairing.{paired_goes, keeps_behind, task_begun, begins_
 use Rattle.journal.specs.Lemmas.Places.{there_now, others_stay}
 use Rattle.kernel.proofs.Right.{right_well}
 
-neither : (a b : Bool) → (a || b) ≡ false → (a ≡ false) × (b ≡ false)
-neither true b e = absurd (false≢true (sym e))
-neither false b e = (refl, e)
-
 -- an operation that changes files, and is not refused at once, may begin
 pub change_begins : (n : ℕ) (op : Op) → waiting_of n op ≡ waiting.Change → CanBegin n op × (is_changing n op ≡ true)
 change_begins n op e = by_once (is_at_once n op) refl e
@@ -53,7 +49,7 @@ change_begins n op e = by_once (is_at_once n op) refl e
     by_kind : (o : Op) → is_at_once n o ≡ false → kind_of o ≡ waiting.Change → CanBegin n o × (is_changing n o ≡ true)
     by_kind (Create kind) out e = let is = not-false (is_kind kind) out in (is, is)
     by_kind (Write i off bytes) out e =
-        let both = neither (ltb 3072 (length bytes)) (not (is_number n i)) out in
+        let both = or_parts (ltb 3072 (length bytes)) (not (is_number n i)) out in
         let few = ltb-false 3072 (length bytes) both.0 in
         let named = not-false (is_number n i) both.1 in
         ((named, few), rw (le-leb (length bytes) 3072 few, named) refl)
@@ -84,7 +80,7 @@ look_begins n op count e = by_once (is_at_once n op) refl e
     by_kind (Create kind) out e = absurd (cc e)
     by_kind (Write i off bytes) out e = absurd (cc e)
     by_kind (Read i off m) out e =
-        let both = neither (ltb 3072 m) (not (is_number n i)) out in
+        let both = or_parts (ltb 3072 m) (not (is_number n i)) out in
         counted (Read i off m) (Some m) (cc e) (record { can = (not-false (is_number n i) both.1, ltb-false 3072 m both.0); read = refl; answer = refl; still = refl; later = out })
     by_kind (Trunc i) out e = absurd (cc e)
     by_kind (Remove i) out e = absurd (cc e)

@@ -1,7 +1,7 @@
 -- What is true of store and processes stays so where an operation ends in the log, and with each write of a commit.
-use Rattle.std.proofs.Common.{◌≡◌, ◌≢◌, ℕ, ◌<◌, true, false, List, [], ◌∷◌, length, set, refl, sym, ◌∙◌, ap, subst, arith, ◌⊎◌, ⊎_elim, inl, inr, Option, Some, None}
+use Rattle.std.proofs.Common.{◌≡◌, ◌≢◌, ℕ, ◌<◌, true, false, List, length, set, refl, sym, ◌∙◌, ap, subst, arith, ◌⊎◌, ⊎_elim, inl, inr, Option, Some, None}
 use Rattle.std.proofs.lemmas.Bool.{false≢true}
-use Rattle.std.proofs.lemmas.List.{set-get_or}
+use Rattle.std.proofs.lemmas.List.{set-get_or, nil_from_length}
 use Rattle.blocks.specs.Disk.{Image, one_more}
 use Rattle.blocks.specs.declared.disk.Disk.{Ghosts}
 use Rattle.wal.specs.declared.types.DeviceFault.{DeviceFault}
@@ -49,10 +49,6 @@ use Rattle.kernel.proofs.Pairing.{paired_goes, keeps_behind}
 use Rattle.journal.specs.Lemmas.Places.{there_now, others_stay}
 use Rattle.kernel.proofs.Lasting.{lasts_unwritten}
 use Rattle.kernel.proofs.Right.{right_well, right_failed}
-
-no_homes : (hs : List ℕ) → length hs ≡ 0 → hs ≡ []
-no_homes [] none = refl
-no_homes (h ∷ hs) none = absurd (omega (arith, none))
 
 -- process p goes from one place to another behind its turn, and nothing else of the processes changes
 pub record GoesTo (w z : World) (p : ℕ) (a b : At) : Type 0 where
@@ -165,7 +161,7 @@ module _ {D N : Type 0} (disk : Ghosts D N) (opening : D) (s : StoreState D) (w 
         -- the log was quiet, without homes: recovery gives the current image
         shown : length s.volume.log.homes ≡ 0 → recovered (disk.image s.volume.device) ≡ seen (disk.image s.volume.device) s.volume.buffers
         shown none = quiet_is_current (disk.image s.volume.device) s.volume.buffers s.volume.log
-            (subst (λ (c : Commit). JointAt c (disk.image s.volume.device) s.volume.buffers s.volume.log) (open_of s.volume.log p had.facts.valid.log stood.1.0).quiet before) (no_homes s.volume.log.homes none)
+            (subst (λ (c : Commit). JointAt c (disk.image s.volume.device) s.volume.buffers s.volume.log) (open_of s.volume.log p had.facts.valid.log stood.1.0).quiet before) (nil_from_length s.volume.log.homes none)
 
   module _ (group k : ℕ) (stands : (process w p).at ≡ at.Committing group k) (t : StoreState D) (r : Committed) (made : Commits disk s r t) (has_now : (d : D) → disk.leaves d (disk.moment d) (disk.image d))
       (before : Joint (disk.image s.volume.device) s.volume.buffers s.volume.log) where

@@ -20,7 +20,7 @@ use Rattle.inodes.specs.declared.tasks.Place.TheVariants as place
 use Rattle.inodes.specs.Holding.{claim_by, claims_of}
 use Rattle.inodes.specs.Lemmas.Faults.{where_none}
 use Rattle.inodes.specs.Lemmas.Holding.{none_held}
-use Rattle.inodes.specs.Lemmas.Looks.{late_is, late_number, late_apart}
+use Rattle.inodes.specs.Lemmas.Looks.{late_is, late_number, late_apart, look_takes}
 use Rattle.inodes.specs.Looks.{AreLooking, CanLook, CanTake, IsLate, IsWrite, LooksAt}
 use Rattle.inodes.specs.Places.{asked, asked_by, is_over, owes_reply, is_unturned}
 use Rattle.inodes.specs.Tasks.{TaskState, task}
@@ -71,15 +71,6 @@ take_number n (Read i off count) can = ap (λ (b : Bool). cond b 0 i) (le-ltb 30
 take_number n (Trunc i) can = refl
 take_number n (Remove i) can = refl
 take_number n (Stat i) can = refl
-
--- what looks, takes an inode
-pub look_takes : (n : ℕ) (op : Op) → CanLook n op → CanTake n op
-look_takes n (Create kind) can = absurd can
-look_takes n (Write i off bytes) can = absurd can
-look_takes n (Read i off count) can = can
-look_takes n (Trunc i) can = absurd can
-look_takes n (Remove i) can = absurd can
-look_takes n (Stat i) can = can
 
 pub look_number : (n : ℕ) (op : Op) → CanLook n op → number_of op ≡ asked op
 look_number n op can = take_number n op (look_takes n op can)

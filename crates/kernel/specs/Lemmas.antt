@@ -2,3 +2,4 @@
 -- use.
 pub mod Openings
 pub mod Turns
+pub mod Moves

@@ -13,6 +13,7 @@ pub mod Awake
 pub mod Known
 pub mod Acts
 pub mod Steps
+pub mod Moves
 pub mod Sleeping
 pub mod Runs
 pub mod Rounds

@@ -1,6 +1,6 @@
 -- The blocks under addresses, step by step.
 use Rattle.std.proofs.Common.{◌≡◌, ◌≢◌, ◌∙◌, ℕ, zero, suc, ◌-◌, ◌+◌, ◌<◌, ◌≤◌, List, [], ◌∷◌, ◌++◌, length, get_or, map, drop, refl, ap, sym, ⊎_elim, arith}
-use Rattle.std.specs.List.{flat_map, AllByRecursion, range_with_len}
+use Rattle.std.specs.List.{flat_map, range_with_len}
 use Rattle.std.proofs.lemmas.Bool.{ne_eqb, cases_eq}
 use Rattle.std.proofs.lemmas.List.{append_assoc, append-nil, at_drop_more, at_drop_all, drop_more, drop_all, length-map, map-append}
 use Rattle.std.proofs.Math.Numerals.{sub-one}
@@ -10,7 +10,7 @@ use Rattle.model.specs.Fields.{words_of}
 use Rattle.model.specs.Layout.{depths, form_of}
 use Rattle.model.specs.Places.{addresses_in, pointers_in}
 use Rattle.model.specs.Names.{names_under, names_along, names_of}
-use Rattle.model.specs.Lemmas.Counts.{AllByRecursion-parts}
+use Rattle.model.specs.Lemmas.Counts.{AllByRecursion-parts, flat_at}
 use Rattle.model.specs.Lemmas.Names.{pointers_named}
 use Rattle.model.specs.Lemmas.Verdict.{range_more, range_all}
 use Rattle.offline.specs.Recovered.{LiesBehindLog}
@@ -76,12 +76,6 @@ pub names_here : (y : Image) (depth address : ℕ) → address ≢ 0 → LieBehi
 names_here y zero address some all = (let one : LieBehindLog y (address ∷ []) = rw (ne_eqb address 0 some) at all in one.0)
 names_here y (suc depth) address some all =
     (let parts : LieBehindLog y (address ∷ flat_map (λ a. names_under y depth a) (words_of (block_at y address))) = rw (ne_eqb address 0 some) at all in parts.0)
-
-flat_at : (P : ℕ → Type 0) (f : ℕ → List ℕ) (ws : List ℕ) (j : ℕ) → AllByRecursion P (flat_map f ws) → j < length ws →
-    AllByRecursion P (f (get_or ws j 0))
-flat_at P f [] j h low = absurd (omega (arith, low))
-flat_at P f (w ∷ ws) zero h low = (AllByRecursion-parts P (f w) (flat_map f ws) h).0
-flat_at P f (w ∷ ws) (suc j) h low = flat_at P f ws j (AllByRecursion-parts P (f w) (flat_map f ws) h).1 (omega (arith, low))
 
 -- and so do those under its entries
 pub names_entry : (y : Image) (depth address k : ℕ) → address ≢ 0 → depth ≢ 0 → LieBehindLog y (names_under y depth address) →

@@ -1,6 +1,5 @@
 -- What a check without a fault says of the blocks that files own.
-use Rattle.std.proofs.Common.{◌≡◌, ◌≢◌, ◌∙◌, ℕ, ◌<◌, ◌≤◌, List, [], ◌∷◌, length, get_or, map, Option, None, ap, sym, subst, inl, inr, arith, cond, eqb}
-use Rattle.std.specs.List.{AllByRecursion}
+use Rattle.std.proofs.Common.{◌≡◌, ◌≢◌, ◌∙◌, ℕ, ◌<◌, ◌≤◌, List, length, get_or, map, Option, None, ap, sym, subst, inl, inr, arith, cond, eqb}
 use Rattle.std.proofs.lemmas.List.{get_or-map, length-map}
 use Rattle.std.proofs.lemmas.List.FromFn.{fill_by_all}
 use Rattle.blocks.specs.Disk.{Image, Rose}
@@ -21,6 +20,7 @@ use Rattle.model.specs.Lemmas.Log.{recovered_low, length-recovered}
 use Rattle.model.specs.Lemmas.Names.{pointers_named}
 use Rattle.model.specs.Lemmas.Soundness.{verdict_sound, IsInData, inode_in_data}
 use Rattle.model.specs.Lemmas.Super.{lawful_geometry, or_else_none, verdict_none, super_of-recovered, long_where_sound}
+use Rattle.model.specs.Lemmas.Counts.{all_weaker}
 use Rattle.offline.specs.Cause.{IsCause}
 use Rattle.offline.specs.Recovered.{LiesBehindLog, IsRecoveredOf}
 use Rattle.offline.specs.declared.recovered.Recovered.{Recovered}
@@ -61,10 +61,6 @@ open_fault x old new fault sound (inr (inl failed)) other = failed.1
 open_fault x old new fault sound (inr (inr refused)) other = absurd (other refused)
 
 -- ---- its inodes name blocks behind the log
-
-all_weaker : (P Q : ℕ → Type 0) (xs : List ℕ) → ((a : ℕ) → P a → Q a) → AllByRecursion P xs → AllByRecursion Q xs
-all_weaker P Q [] each h = tt
-all_weaker P Q (a ∷ xs) each h = (each a h.0, all_weaker P Q xs each h.1)
 
 pub names_behind : (x : Image) (i : ℕ) → verdict x ≡ None → 1 ≤ i → i < inode_count_of (recovered x) →
     LieBehindLog (recovered x) (names_of (recovered x) (inode_of (recovered x) i))

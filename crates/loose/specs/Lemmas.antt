@@ -13,7 +13,6 @@ pub mod Claims
 pub mod Made
 pub mod Looks
 pub mod HeldFrames
-pub mod Addresses
 pub mod AtRest
 pub mod Remapped
 pub mod GivenUp

@@ -17,3 +17,6 @@ pub mod FileNumbers
 pub mod Codecs
 pub mod Inodes
 pub mod MadeImages
+pub mod Wholes
+pub mod Bytes
+pub mod Replies

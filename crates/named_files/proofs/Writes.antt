@@ -1,19 +1,21 @@
 -- What calls on the directory are answered, and what they make of the files.
-use Rattle.std.proofs.Common.{◌≡◌, ◌≢◌, ◌⊎◌, inl, inr, ℕ, ◌+◌, ◌*◌, ◌%◌, ◌<◌, ◌≤◌, Bool, true, false, ◌&&◌, ◌||◌, eqb, leb, List, ◌++◌, length, take, drop, get_or, set, Option, Some, None, refl, sym, ap, subst, ◌∙◌, ⊎_elim, arith}
+use Rattle.std.proofs.Common.{◌≡◌, ◌≢◌, ◌⊎◌, ℕ, ◌*◌, true, ◌&&◌, eqb, List, length, take, set, Option, Some, None, refl, sym, ap, subst, ◌∙◌, ⊎_elim, arith}
 use Rattle.std.specs.Str.{bytes_eq}
-use Rattle.std.proofs.lemmas.Bool.{leb-true, eqb-true, cases_lt, and_parts, or_cases, both_ways}
-use Rattle.std.proofs.lemmas.List.{append-nil, take-append-drop, get_or_past, get_or-set_same, set-get_or, take_all}
+use Rattle.std.proofs.lemmas.Bool.{eqb-true, and_parts}
+use Rattle.std.proofs.lemmas.List.{get_or-set_same, set-get_or, take_all}
 use Rattle.std.proofs.lemmas.Slice.Eq.{bytes_eq-Decides}
 use Rattle.blocks.specs.Block.{overwritten}
 use Rattle.model.specs.declared.types.image.File.{File}
 use Rattle.model.specs.declared.types.image.Form.{Form}
-use Rattle.model.specs.declared.types.operations.Op.{Op}
 use Rattle.model.specs.declared.types.operations.Op.TheVariants.{Read, Stat, Write}
 use Rattle.model.specs.declared.types.operations.Reply.{Reply}
-use Rattle.model.specs.declared.types.operations.Reply.TheVariants.{Made, NoInode, Wrote, Bytes, Done, StatOf, NoFile, BadOffset, TooBig, TooLong, BadType}
+use Rattle.model.specs.declared.types.operations.Reply.TheVariants.{Wrote, Bytes, StatOf}
 use Rattle.model.specs.Files.{Files, file_in}
 use Rattle.model.specs.Lemmas.Runs.{where_true_some}
-use Rattle.model.specs.Operations.{after, after_refusal, after_done, after_at, after_on, refusal_of, no_file_refusal, is_refusal, may_have_written, part_of, with_bytes}
+use Rattle.model.specs.Lemmas.Replies.{after_cases, wrote_done}
+use Rattle.model.specs.Lemmas.FileNumbers.{below_file}
+use Rattle.model.specs.Operations.{after, after_refusal, after_done, after_at, refusal_of, no_file_refusal, may_have_written, part_of, with_bytes}
+use Rattle.directory.specs.Lemmas.Writes.{nothing_written, whole_entry}
 
 -- ---- looks at the directory
 
@@ -48,42 +50,6 @@ bytes_read form files new bytes h = read_by files new (file_in files 1) bytes re
 
 -- ---- the write of an entry
 
-refusal_cases : (files new : Files) (refusal : Option Reply) (op : Op) (reply : Reply) → after_refusal refusal files op reply ≡ Some new →
-    (new ≡ files) ⊎ (after_done files op reply ≡ Some new)
-refusal_cases files new None op reply h = inr h
-refusal_cases files new (Some refusal) op reply h = inl (where_true_some (is_refusal refusal reply) files new h).1
-
--- an operation was refused, or done
-after_cases : (form : Form) (files new : Files) (op : Op) (reply : Reply) → after form files op reply ≡ Some new →
-    (new ≡ files) ⊎ (after_done files op reply ≡ Some new)
-unfolding after
-after_cases form files new op reply h = refusal_cases files new (refusal_of form files op) op reply h
-
-not_refusal : (refusal : Reply) (k : ℕ) → is_refusal refusal (Wrote k) ≡ false
-not_refusal (Made i) k = refl
-not_refusal NoInode k = refl
-not_refusal (Wrote j) k = refl
-not_refusal (Bytes bytes) k = refl
-not_refusal Done k = refl
-not_refusal (StatOf kind size) k = refl
-not_refusal NoFile k = refl
-not_refusal BadOffset k = refl
-not_refusal TooBig k = refl
-not_refusal TooLong k = refl
-not_refusal BadType k = refl
-
-wrote_by : (files new : Files) (refusal : Option Reply) (op : Op) (k : ℕ) → after_refusal refusal files op (Wrote k) ≡ Some new →
-    after_done files op (Wrote k) ≡ Some new
-wrote_by files new None op k h = h
-wrote_by files new (Some refusal) op k h =
-    absurd (both_ways (is_refusal refusal (Wrote k)) (not_refusal refusal k) (where_true_some (is_refusal refusal (Wrote k)) files new h).0)
-
--- one that wrote was done
-wrote_done : (form : Form) (files new : Files) (op : Op) (k : ℕ) → after form files op (Wrote k) ≡ Some new →
-    after_done files op (Wrote k) ≡ Some new
-unfolding after
-wrote_done form files new op k h = wrote_by files new (refusal_of form files op) op k h
-
 -- so many bytes of an entry were written at a place of the directory
 record HasWritten (files : Files) (place : ℕ) (entry : List ℕ) (k : ℕ) (new : Files) : Type 0 where
   file : File
@@ -99,30 +65,6 @@ on_file files new (Some file) place entry (Wrote k) is h =
     (k, refl, record { file = file; was = is; may = done.0; made = done.1 })
 on_file files new (Some file) place entry reply is h = absurd (cc h)
 
-none_or_all : (place k : ℕ) → k ≤ 16 → (16 * place + k) % 1024 ≡ 0 → (k ≡ 0) ⊎ (k ≡ 16)
-none_or_all place k few whole =
-    ⊎_elim (λ (low : k < 1). inl (omega arith))
-    (λ (some : 1 ≤ k). ⊎_elim (λ (less : k < 16). absurd (omega arith)) (λ (all : 16 ≤ k). inr (omega arith)) (cases_lt k 16)) (cases_lt k 1)
-
--- an entry is written whole, or nothing of it
-whole_entry : (old place n k : ℕ) → n ≡ 16 → may_have_written old (16 * place) n k ≡ true → (k ≡ 0) ⊎ (k ≡ 16)
-whole_entry old place n k size h =
-    let parts = and_parts (leb k n) (eqb k n || (eqb ((16 * place + k) % 1024) 0 && leb old (16 * place + k))) h in
-    let few : k ≤ n = leb-true k n parts.0 in
-    ⊎_elim (λ (all : eqb k n ≡ true). inr (eqb-true k n all ∙ size))
-    (λ (short : (eqb ((16 * place + k) % 1024) 0 && leb old (16 * place + k)) ≡ true).
-    none_or_all place k (omega arith)
-    (eqb-true ((16 * place + k) % 1024) 0 (and_parts (eqb ((16 * place + k) % 1024) 0) (leb old (16 * place + k)) short).0))
-    (or_cases (eqb k n) (eqb ((16 * place + k) % 1024) 0 && leb old (16 * place + k)) parts.1)
-
-nothing_written : (old : List ℕ) (at k : ℕ) (entry : List ℕ) → k ≡ 0 → overwritten old at (take k entry) ≡ old
-nothing_written old at k entry none =
-    let here : at + 0 ≡ at = omega arith in
-    ap (λ (i : ℕ). overwritten old at (take i entry)) none
-    ∙ ap (λ (l : List ℕ). l ++ drop (at + 0) old) (append-nil (take at old))
-    ∙ ap (λ (i : ℕ). take at old ++ drop i old) here
-    ∙ take-append-drop at old
-
 spared : (files new : Files) (place k : ℕ) (entry : List ℕ) → k ≡ 0 → HasWritten files place entry k new → new ≡ files
 spared files new place k entry none has =
     has.made
@@ -135,8 +77,8 @@ pub unwritten : (form : Form) (files new : Files) (place : ℕ) (entry : List �
     after form files (Write 1 (16 * place) entry) reply ≡ Some new → new ≡ files
 unwritten form files new place entry reply size short h =
     ⊎_elim (λ (same : new ≡ files). same)
-    (λ (done : after_done files (Write 1 (16 * place) entry) reply ≡ Some new).
-    let (k, is, has) = on_file files new (file_in files 1) place entry reply refl done in
+    (λ (done : (refusal_of form files (Write 1 (16 * place) entry) ≡ None) × (after_done files (Write 1 (16 * place) entry) reply ≡ Some new)).
+    let (k, is, has) = on_file files new (file_in files 1) place entry reply refl done.1 in
     ⊎_elim (λ (none : k ≡ 0). spared files new place k entry none has)
     (λ (all : k ≡ 16). absurd (short (is ∙ ap Wrote all)))
     (whole_entry (length has.file.bytes) place (length entry) k size has.may))
@@ -152,14 +94,8 @@ written_whole form files new place entry size h =
     let whole : take k entry ≡ entry = take_all k entry (omega (arith, size)) in
     (has.file, has.was, has.made ∙ ap (λ (b : List ℕ). set files 1 (with_bytes has.file (overwritten has.file.bytes (16 * place) b))) whole)
 
-within : (files : Files) (file : File) → file_in files 1 ≡ Some file → 1 < length files
-within files file e =
-    ⊎_elim (λ (lt : 1 < length files). lt)
-    (λ (past : length files ≤ 1). let both : None ≡ Some file = sym (get_or_past files 1 None past) ∙ e in absurd (cc both))
-    (cases_lt 1 (length files))
-
 -- the directory that was written is there
 pub stands : (files new : Files) (file : File) (bytes : List ℕ) → file_in files 1 ≡ Some file → new ≡ set files 1 (with_bytes file bytes) →
     file_in new 1 ≡ with_bytes file bytes
 stands files new file bytes was made =
-    ap (λ (l : Files). file_in l 1) made ∙ get_or-set_same files 1 (with_bytes file bytes) None (within files file was)
+    ap (λ (l : Files). file_in l 1) made ∙ get_or-set_same files 1 (with_bytes file bytes) None (below_file files 1 file was)

@@ -1,11 +1,11 @@
 -- Reading the recovered image block by block.
-use Rattle.std.proofs.Common.{◌≡◌, ◌≢◌, ℕ, ◌<◌, ◌≤◌, true, false, List, [], length, take, drop, get_or, replicate, min, Option, Some, None, refl, sym, ap, subst, ◌∙◌, ⊎_elim, arith}
+use Rattle.std.proofs.Common.{◌≡◌, ◌≢◌, ℕ, ◌<◌, ◌≤◌, true, false, List, [], length, get_or, replicate, Option, Some, None, refl, sym, ap, subst, ◌∙◌, ⊎_elim, arith}
 use Rattle.std.specs.Prelude.{slice_get}
 use Rattle.std.proofs.lemmas.Bool.{ne_eqb, cases_eq, le-ltb, lt-ltb}
 use Rattle.std.proofs.lemmas.List.{get_or-replicate}
 use Rattle.std.proofs.lemmas.Option.{get_or_from_slice_get}
 use Rattle.blocks.specs.Disk.{Image, block_at}
-use Rattle.model.specs.Fields.{u32_at, words_of}
+use Rattle.model.specs.Fields.{u32_at}
 use Rattle.model.specs.Layout.{is_known_magic, form_of, super_in, super_of, is_lawful_super, meta_count}
 use Rattle.model.specs.declared.types.fault.CheckFault.{CheckFault}
 use Rattle.model.specs.declared.types.fault.CheckFault.TheVariants.{BadGeometry}
@@ -15,6 +15,7 @@ use Rattle.model.specs.Log.{homes_of, logged_count, place_among, block_from_log,
 use Rattle.model.specs.Verdict.{or_else, geometry_fault, log_fault, inodes_fault, marks_fault, verdict}
 use Rattle.model.specs.Lemmas.Log.{recovered_empty, recovered_at, recovered_low, length-recovered}
 use Rattle.model.specs.Lemmas.Super.{lawful_geometry, super_of-recovered}
+use Rattle.model.specs.Lemmas.Recovery.{no_homes}
 use Rattle.offline.specs.declared.owners.Owners.{Owners}
 use Rattle.offline.specs.declared.recovered.Recovered.{Recovered}
 use Rattle.offline.specs.Check.{IsGround}
@@ -27,17 +28,13 @@ block_from_log-source : (x : Image) (b : ℕ) (place : Option ℕ) → block_fro
 block_from_log-source x b None = refl
 block_from_log-source x b (Some k) = refl
 
--- no block has a home where none is logged
-homes_none : (x : Image) → logged_count x ≡ 0 → homes_of x ≡ []
-homes_none x e = ap (λ n. take (min n 30) (words_of (drop 4 (block_at x 2)))) e
-
 -- a block of the recovered image is the block at its source
 pub recovered_source : (x : Image) (b : ℕ) → b ≢ 2 → b < length x → block_at (recovered x) b ≡ block_at x (source_among (homes_of x) b)
 unfolding recovered_block
 recovered_source x b other inside =
     ⊎_elim
     (λ (e : logged_count x ≡ 0).
-    ap (λ y. block_at y b) (recovered_empty x e) ∙ sym (ap (λ homes. block_at x (source_among homes b)) (homes_none x e)))
+    ap (λ y. block_at y b) (recovered_empty x e) ∙ sym (ap (λ homes. block_at x (source_among homes b)) (no_homes x e)))
     (λ (some : logged_count x ≢ 0).
     recovered_at x b some inside ∙ rw (ne_eqb b 2 other) (block_from_log-source x b (place_among (homes_of x) b)))
     (cases_eq (logged_count x) 0)

@@ -1,39 +1,34 @@
 -- The files of a sound image may be read.
-use Rattle.std.proofs.Common.{◌≡◌, ◌≢◌, ℕ, zero, suc, ◌+◌, ◌-◌, ◌*◌, ◌/◌, ◌%◌, ◌^◌, ◌<◌, ◌≤◌, List, [], ◌∷◌, length, get_or, Option, Some, None, refl, ap, sym, subst, ◌∙◌, ⊎_elim, arith}
+use Rattle.std.proofs.Common.{◌≡◌, ◌≢◌, ℕ, zero, suc, ◌+◌, ◌-◌, ◌*◌, ◌/◌, ◌%◌, ◌<◌, ◌≤◌, List, [], ◌∷◌, length, get_or, Option, Some, None, refl, ap, sym, subst, ◌∙◌, ⊎_elim, arith}
 use Rattle.std.specs.Prelude.{All}
 use Rattle.std.specs.List.{flat_map, AllByRecursion}
 use Rattle.std.proofs.lemmas.Bool.{ne_eqb, cases_eq, cases_lt, lt-ltb, le-ltb}
 use Rattle.std.proofs.lemmas.List.{get_or_past}
 use Rattle.std.proofs.lemmas.List.Elements.{recursion_from_All}
-use Rattle.std.proofs.lemmas.Nat.{div_below, div-add-mod'}
-use Rattle.std.proofs.Math.Nat.{pow-suc, mod-lt}
 use Rattle.blocks.specs.Block.{IsBlock}
 use Rattle.blocks.specs.Disk.{Image, IsImage, block_at}
 use Rattle.model.specs.declared.types.image.Dinode.{Dinode}
-use Rattle.model.specs.declared.types.image.Form.{Form}
-use Rattle.model.specs.declared.types.image.Form.TheVariants.{One, Two}
-use Rattle.model.specs.declared.types.image.Pointer.{Pointer}
 use Rattle.model.specs.declared.types.image.Super.{Super}
 use Rattle.model.specs.Fields.{words_of}
-use Rattle.model.specs.Layout.{reach, depths, form_of, greatest_size, inode_of, inode_block, inode_count_of}
+use Rattle.model.specs.Layout.{reach, depths, form_of, inode_of, inode_block, inode_count_of}
 use Rattle.model.specs.Log.{recovered, homes_of, place_among}
-use Rattle.model.specs.Names.{names_under, names_along, names_of}
-use Rattle.model.specs.Places.{pointers_under, pointers_behind, pointers_along, pointers_of, addresses_in, address_under, address_along, address_in}
+use Rattle.model.specs.Names.{names_under, names_along}
+use Rattle.model.specs.Places.{pointers_of, addresses_in, address_under, address_along, address_in}
 use Rattle.model.specs.Soundness.{IsSound, IsFilled, IsLawfulInode}
-use Rattle.model.specs.Lemmas.Codecs.{length-words_of-block}
-use Rattle.model.specs.Lemmas.Counts.{AllByRecursion-parts, All-range_at}
-use Rattle.model.specs.Lemmas.Frames.{pointers_used}
+use Rattle.model.specs.Lemmas.Counts.{AllByRecursion-parts, All-range_at, flat_at, all_weaker}
+use Rattle.model.specs.Lemmas.Frames.{under_zero}
 use Rattle.model.specs.Lemmas.Inodes.{is_dinode-inode_of}
 use Rattle.model.specs.Lemmas.Log.{length-recovered}
 use Rattle.model.specs.Lemmas.Names.{pointers_named}
 use Rattle.model.specs.Lemmas.Recovery.{few_homes, place_below}
 use Rattle.model.specs.Lemmas.Super.{super_of-recovered}
 use Rattle.model.specs.Lemmas.Soundness.{verdict_sound, IsInData, facts_of, long_geometry, inode_in_data}
+use Rattle.model.specs.Lemmas.Wholes.{names_used, filled_whole}
+use Rattle.model.specs.Lemmas.Words.{length-words_of-block}
 use Rattle.offline.specs.Cause.{source_at}
 use Rattle.offline.specs.Laws.{CheckedFilesMayBeRead}
 use Rattle.offline.specs.Recovered.{LiesBehindLog, LeadsUnder, LeadsAlong, MayReadFile}
 use Rattle.offline.proofs.CheckLemmas.{recovered_source}
-use Rattle.offline.proofs.WayLemmas.{reach_pos}
 
 -- ---- blocks that recovery leaves
 
@@ -52,12 +47,6 @@ block_behind x b is long behind inside =
     (is source (source_inside x b (place_among (homes_of x) b) refl long inside))
 
 -- ---- what an inode names leads on to what it names
-
-flat_at : (P : ℕ → Type 0) (f : ℕ → List ℕ) (ws : List ℕ) (j : ℕ) → AllByRecursion P (flat_map f ws) → j < length ws →
-    AllByRecursion P (f (get_or ws j 0))
-flat_at P f [] j h low = absurd (omega (arith, low))
-flat_at P f (w ∷ ws) zero h low = (AllByRecursion-parts P (f w) (flat_map f ws) h).0
-flat_at P f (w ∷ ws) (suc j) h low = flat_at P f ws j (AllByRecursion-parts P (f w) (flat_map f ws) h).1 (omega (arith, low))
 
 leads_none : (y : Image) (depth k : ℕ) → LeadsUnder y depth k 0
 leads_none y zero k = tt
@@ -106,13 +95,9 @@ under_names P y (suc depth) k address all some =
     (λ (low : e < length words).
     under_names P y depth (k % reach depth) (get_or words e 0) (flat_at P (λ a. names_under y depth a) words e parts.1 low) next)
     (λ (past : length words ≤ e).
-    absurd (next (rw (get_or_past words e 0 past) (none y depth (k % reach depth)))))
+    absurd (next (rw (get_or_past words e 0 past) (under_zero y depth (k % reach depth)))))
     (cases_lt e (length words))))
     (cases_eq address 0)
-  where
-    none : (y : Image) (depth k : ℕ) → address_under y depth k 0 ≡ 0
-    none y zero k = refl
-    none y (suc depth) k = refl
 
 along_names : (P : ℕ → Type 0) (y : Image) (k : ℕ) (ds addresses : List ℕ) → AllByRecursion P (names_along y ds addresses) →
     address_along y k ds addresses ≢ 0 → P (address_along y k ds addresses)
@@ -127,95 +112,7 @@ along_names P y k (depth ∷ ds) (a ∷ addresses) all some =
     let le = le-ltb k (reach depth) high in rw le (along_names P y (k - reach depth) ds addresses parts.1 (rw le at some)))
     (cases_lt k (reach depth))
 
--- ---- where the pointers are filled, each block that the size needs is there
-
--- what the size needs is there, and each block of addresses has 256
-abbrev IsSteady : Image → Pointer → Type 0
-IsSteady y p = IsFilled p × (p.address ≢ 0 → length (words_of (block_at y p.address)) ≡ 256)
-
-no_address : (p : Pointer) (pointers : List Pointer) → p.address ≡ 0 → addresses_in (p ∷ pointers) ≡ addresses_in pointers
-no_address p pointers e = rw e refl
-
-one_address : (p : Pointer) (pointers : List Pointer) → p.address ≢ 0 → addresses_in (p ∷ pointers) ≡ p.address ∷ addresses_in pointers
-one_address p pointers some = rw (ne_eqb p.address 0 some) refl
-
-steady : (y : Image) (pointers : List Pointer) → AllByRecursion IsFilled pointers →
-    AllByRecursion (λ a. length (words_of (block_at y a)) ≡ 256) (addresses_in pointers) → AllByRecursion (IsSteady y) pointers
-steady y [] f all = tt
-steady y (p ∷ pointers) f all =
-    ⊎_elim
-    (λ (z : p.address ≡ 0). ((f.0, λ some. absurd (some z)), steady y pointers f.1 (rw (no_address p pointers z) at all)))
-    (λ (some : p.address ≢ 0).
-    let parts : AllByRecursion (λ a. length (words_of (block_at y a)) ≡ 256) (p.address ∷ addresses_in pointers)
-    = rw (one_address p pointers some) at all in
-    ((f.0, λ _. parts.0), steady y pointers f.1 parts.1))
-    (cases_eq p.address 0)
-
-behind_at : (P : Pointer → Type 0) (f : ℕ → ℕ → List Pointer) (first step : ℕ) (ws : List ℕ) (j : ℕ) →
-    AllByRecursion P (pointers_behind f first step ws) → j < length ws → AllByRecursion P (f (first + j * step) (get_or ws j 0))
-behind_at P f first step [] j h low = absurd (omega arith)
-behind_at P f first step (w ∷ ws) zero h low =
-    let z : first ≡ first + 0 * step = omega arith in
-    subst (λ n. AllByRecursion P (f n w)) z (AllByRecursion-parts P (f first w) (pointers_behind f (first + step) step ws) h).0
-behind_at P f first step (w ∷ ws) (suc j) h low =
-    let e : first + step + j * step ≡ first + suc j * step = grind arith in
-    subst (λ n. AllByRecursion P (f n (get_or ws j 0))) e
-    (behind_at P f (first + step) step ws j
-    (AllByRecursion-parts P (f first w) (pointers_behind f (first + step) step ws) h).1 (omega arith))
-
-under_whole : (y : Image) (size depth first k address : ℕ) → AllByRecursion (IsSteady y) (pointers_under y size depth first address) →
-    k < reach depth → (first + k) * 1024 < size → address_under y depth k address ≢ 0
-under_whole y size zero first k address h low need = h.0.0 (lt-ltb (first * 1024) size (omega arith))
-under_whole y size (suc depth) first k address h low need =
-    let there : address ≢ 0 = h.0.0 (lt-ltb (first * 1024) size (omega arith)) in
-    let no = ne_eqb address 0 there in
-    let words = words_of (block_at y address) in
-    let count : length words ≡ 256 = h.0.1 there in
-    let r = reach depth in
-    let pos = reach_pos depth in
-    let wide : reach (suc depth) ≡ 256 ^ depth * 256 = pow-suc 256 depth in
-    let few : k / r < 256 = div_below k r 256 pos (omega arith) in
-    let rest : k % r < r = mod-lt k pos in
-    let split : k / r * r + k % r ≡ k = div-add-mod' k r in
-    let behind = behind_at (IsSteady y) (λ f a. pointers_under y size depth f a) first r words (k / r) (rw no at h.1) (omega arith) in
-    λ z. under_whole y size depth (first + k / r * r) (k % r) (get_or words (k / r) 0) behind rest (omega arith) (rw no at z)
-
--- how many blocks addresses of those depths lead to
-abbrev room_for : List ℕ → ℕ
-room_for [] = 0
-room_for (d ∷ ds) = reach d + room_for ds
-
-along_whole : (y : Image) (size first k : ℕ) (ds addresses : List ℕ) → length addresses ≡ length ds →
-    AllByRecursion (IsSteady y) (pointers_along y size first ds addresses) → k < room_for ds → (first + k) * 1024 < size →
-    address_along y k ds addresses ≢ 0
-along_whole y size first k [] addresses len h low need = absurd (omega arith)
-along_whole y size first k (d ∷ ds) [] len h low need = absurd (omega arith)
-along_whole y size first k (d ∷ ds) (a ∷ addresses) len h low need =
-    let parts = AllByRecursion-parts (IsSteady y) (pointers_under y size d first a) (pointers_along y size (first + reach d) ds addresses) h in
-    ⊎_elim
-    (λ (lt : k < reach d). λ z. under_whole y size d first k a parts.0 lt need (rw (lt-ltb k (reach d) lt) at z))
-    (λ (le : reach d ≤ k).
-    λ z. along_whole y size (first + reach d) (k - reach d) ds addresses (omega arith) parts.1 (omega arith) (omega arith)
-    (rw (le-ltb k (reach d) le) at z))
-    (cases_lt k (reach d))
-
-room_of_form : (f : Form) → room_for (depths f) * 1024 ≡ greatest_size f
-room_of_form One = refl
-room_of_form Two = refl
-
-thirteen_depths : (f : Form) → length (depths f) ≡ 13
-thirteen_depths One = refl
-thirteen_depths Two = refl
-
 -- ---- a used inode of an image that recovery leaves sound
-
-all_weaker : (P Q : ℕ → Type 0) (xs : List ℕ) → ((a : ℕ) → P a → Q a) → AllByRecursion P xs → AllByRecursion Q xs
-all_weaker P Q [] each h = tt
-all_weaker P Q (a ∷ xs) each h = (each a h.0, all_weaker P Q xs each h.1)
-
-names_used : (y : Image) (d : Dinode) → d.kind ≢ 0 → names_of y d ≡ names_along y (depths (form_of y)) d.addrs
-unfolding names_of
-names_used y d used = rw (ne_eqb d.kind 0 used) refl
 
 module _ (x : Image) (i : ℕ) (is : IsImage x) (sound : IsSound (recovered x)) (low : 1 ≤ i) (high : i < inode_count_of (recovered x)) (used : (inode_of (recovered x) i).kind ≢ 0) where
   abbrev y : Image
@@ -248,21 +145,14 @@ module _ (x : Image) (i : ℕ) (is : IsImage x) (sound : IsSound (recovered x)) 
       (is_dinode-inode_of y i (full (inode_block i) (omega arith) (omega (arith, high, size, room)))).count
 
   needed : (k : ℕ) → k * 1024 < d.size → address_in y d k ≢ 0
-  unfolding address_in
-  needed k need =
-      let f = form_of y in
+  needed =
       let n = inode_count_of y - 1 in
       let inside : i < 1 + n = omega (arith, low, high) in
       let lawful = All-range_at (λ j. IsLawfulInode (form_of y) (inode_of y j)) 1 n i sound.inodes low inside in
       let filled = recursion_from_All IsFilled (pointers_of y i) (All-range_at (λ j. All IsFilled (pointers_of y j)) 1 n i sound.filled low inside) in
       let words = all_weaker (IsInData y) (λ a. length (words_of (block_at y a)) ≡ 256) (addresses_in (pointers_of y i))
       (λ a there. length-words_of-block (block_at y a) (full a (let from = there.0 in omega (arith, from)) there.1).size) in_data in
-      let most = room_of_form f in
-      let lens = thirteen_depths f in
-      let size = lawful.size used in
-      along_whole y d.size 0 k (depths f) d.addrs (count ∙ sym lens)
-      (subst (λ (l : List Pointer). AllByRecursion (IsSteady y) l) (pointers_used y d used) (steady y (pointers_of y i) filled words))
-      (omega (arith, need, size, most)) (omega (arith, need))
+      filled_whole y d used count (lawful.size used) filled words
 
   may_read : MayReadFile y d
   unfolding address_in

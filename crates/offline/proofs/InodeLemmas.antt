@@ -15,7 +15,8 @@ use Rattle.model.specs.Places.{pointers_along, pointers_in, pointers_of, address
 use Rattle.model.specs.Files.{file_at, file_of, file_count}
 use Rattle.model.specs.Verdict.{first_of, inode_fault, inodes_fault, first_pointer_fault, places_below}
 use Rattle.model.specs.Lemmas.Verdict.{first_here, first_later, first_none}
-use Rattle.model.specs.Lemmas.Steps.{flat_mapped_next, mapped_more}
+use Rattle.model.specs.Lemmas.Steps.{mapped_more}
+use Rattle.model.specs.Lemmas.Soundness.{places_below_next}
 use Rattle.offline.specs.declared.owners.Owners.{Owners}
 use Rattle.offline.specs.Cause.{IsCause}
 use Rattle.offline.specs.Owners.{Stand, JudgesPointers, JudgesInode, JudgesInodes}
@@ -25,10 +26,6 @@ pub pointers_used : (y : Image) (d : Dinode) (form : Form) → form_of y ≡ for
     pointers_in y d ≡ pointers_along y d.size 0 (depths form) d.addrs
 unfolding pointers_in
 pointers_used y d form is used = rw (ne_eqb d.kind 0 used, is) refl
-
--- the places of one inode more
-pub places_next : (y : Image) (i : ℕ) → 1 ≤ i → places_below y (i + 1) ≡ places_below y i ++ addresses_in (pointers_of y i)
-places_next y i h = flat_mapped_next (λ j. addresses_in (pointers_of y j)) i h
 
 pub bad_type : (y : Image) (i : ℕ) → 3 < (inode_of y i).kind → inode_fault y i ≡ Some (BadType i)
 unfolding inode_fault
@@ -45,7 +42,7 @@ pub judged_free : (y : Image) (i old new : ℕ) (owners : Owners) → 1 ≤ i �
 unfolding inode_fault pointers_in file_of
 judged_free y i old new owners some free stand = (
   rw free refl,
-  subst (Stand owners y) (sym (places_next y i some ∙ rw free (append-nil (places_below y i)))) stand,
+  subst (Stand owners y) (sym (places_below_next y i some ∙ rw free (append-nil (places_below y i)))) stand,
   rw (ne_eqb i 0 (omega arith), free) refl,
 )
 
@@ -104,7 +101,7 @@ judged_used y i form old new before owners some is judges stand =
     let h = judges (places_below y i) stand in
     let same : pointers_of y i ≡ pointers_along y d.size 0 (depths form) d.addrs = pointers_used y d form is.is_form is.used in (
       used_fault y i form is ∙ ap (first_pointer_fault y i (places_below y i)) same ∙ h.0,
-      subst (Stand owners y) (sym (places_next y i some ∙ ap (λ ps. places_below y i ++ addresses_in ps) same)) h.1,
+      subst (Stand owners y) (sym (places_below_next y i some ∙ ap (λ ps. places_below y i ++ addresses_in ps) same)) h.1,
       file_there y i some is.used,
     )
 

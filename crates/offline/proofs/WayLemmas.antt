@@ -1,6 +1,6 @@
 -- Ways to the blocks of a file, step by step.
 use Rattle.std.proofs.Common.{◌≡◌, ◌≢◌, ℕ, zero, suc, ◌+◌, ◌-◌, ◌*◌, ◌/◌, ◌%◌, ◌^◌, ◌<◌, ◌≤◌, List, length, get_or, drop, refl, sym, ap, ◌∙◌, arith}
-use Rattle.std.proofs.lemmas.Bool.{ne_eqb, lt-ltb, le-ltb}
+use Rattle.std.proofs.lemmas.Bool.{lt-ltb, le-ltb}
 use Rattle.std.proofs.lemmas.List.{drop_more, drop_all}
 use Rattle.std.proofs.lemmas.Nat.{div_below}
 use Rattle.std.proofs.Math.Nat.{pow-suc}
@@ -11,11 +11,9 @@ use Rattle.model.specs.declared.types.image.Dinode.{Dinode}
 use Rattle.model.specs.declared.types.image.Form.{Form}
 use Rattle.model.specs.Layout.{reach, depths, form_of}
 use Rattle.model.specs.Places.{address_under, address_along, address_in}
+use Rattle.model.specs.Lemmas.Wholes.{reach_pos}
+use Rattle.model.specs.Lemmas.Frames.{address_block}
 use Rattle.offline.specs.Recovered.{LiesBehindLog, LeadsUnder, LeadsAlong}
-
-pub reach_pos : (depth : ℕ) → 0 < reach depth
-reach_pos zero = omega arith
-reach_pos (suc depth) = let p = reach_pos depth in let e = pow-suc 256 depth in omega arith
 
 -- ---- down from an address
 
@@ -39,17 +37,11 @@ pub leads_block : (y : Image) (depth k address : ℕ) → depth ≢ 0 → addres
 leads_block y zero k address deep some h = absurd (deep refl)
 leads_block y (suc depth) k address deep some h = rw sub-one (h some)
 
-under_block : (y : Image) (depth k address : ℕ) → depth ≢ 0 → address ≢ 0 →
-    address_under y depth k address
-    ≡ address_under y (depth - 1) (k % reach (depth - 1)) (get_or (words_of (block_at y address)) (k / reach (depth - 1)) 0)
-under_block y zero k address deep some = absurd (deep refl)
-under_block y (suc depth) k address deep some = rw (ne_eqb address 0 some, sub-one) refl
-
 -- the same with what was read
 module _ (y z : Image) (depth k address below next : ℕ) (entries : List ℕ) (deep : depth ≢ 0) (some : address ≢ 0) (same : z ≡ y)
     (wide : below ≡ reach (depth - 1)) (read : entries ≡ block_at y address) (named : next ≡ get_or (words_of entries) (k / below) 0) where
   pub under_next : address_under z (depth - 1) (k % below) next ≡ address_under y depth k address
-  under_next = rw (same, named, wide, read) (sym (under_block y depth k address deep some))
+  under_next = rw (same, named, wide, read) (sym (address_block y depth k address deep some))
 
   pub leads_next : LeadsUnder y depth k address → LeadsUnder z (depth - 1) (k % below) next
   leads_next h = rw (same, named, wide, read) (leads_block y depth k address deep some h).1

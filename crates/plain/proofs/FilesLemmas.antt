@@ -1,10 +1,8 @@
 -- The address of a file's block, step by step.
-use Rattle.std.proofs.Common.{◌≡◌, ◌≢◌, ℕ, zero, suc, ◌+◌, ◌-◌, ◌/◌, ◌%◌, ◌<◌, ◌≤◌, List, length, get_or, drop, refl, arith}
-use Rattle.std.proofs.lemmas.Bool.{ne_eqb, le-ltb, lt-ltb}
-use Rattle.std.proofs.Math.Numerals.{sub-one}
+use Rattle.std.proofs.Common.{◌≡◌, ℕ, zero, suc, ◌+◌, ◌-◌, ◌<◌, ◌≤◌, List, length, get_or, drop, refl, arith}
+use Rattle.std.proofs.lemmas.Bool.{le-ltb, lt-ltb}
 use Rattle.std.proofs.lemmas.List.{drop_more}
-use Rattle.blocks.specs.Disk.{Image, block_at}
-use Rattle.model.specs.Fields.{words_of}
+use Rattle.blocks.specs.Disk.{Image}
 use Rattle.model.specs.Layout.{reach}
 use Rattle.model.specs.Places.{address_under, address_along}
 
@@ -17,13 +15,6 @@ address_data x (suc depth) k address e = absurd (omega arith)
 pub address_none : (x : Image) (depth k address : ℕ) → address ≡ 0 → address_under x depth k address ≡ address
 address_none x zero k address e = refl
 address_none x (suc depth) k address e = rw e refl
-
--- an address of a block of addresses
-pub address_block : (x : Image) (depth k address : ℕ) → depth ≢ 0 → address ≢ 0 →
-    address_under x depth k address
-    ≡ address_under x (depth - 1) (k % reach (depth - 1)) (get_or (words_of (block_at x address)) (k / reach (depth - 1)) 0)
-address_block x zero k address d a = absurd (d refl)
-address_block x (suc depth) k address d a = rw (ne_eqb address 0 a, sub-one) refl
 
 -- the rest of the addresses, where the block isn't under the first
 pub address_later : (x : Image) (k : ℕ) (depths addresses : List ℕ) (j step : ℕ) → j < length depths → j < length addresses →

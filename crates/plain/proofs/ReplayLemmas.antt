@@ -8,13 +8,8 @@ use Rattle.model.specs.declared.types.operations.Entry.{Entry}
 use Rattle.model.specs.declared.types.image.Form.{Form}
 use Rattle.model.specs.Files.{Files}
 use Rattle.model.specs.Journal.{after_answer, replay}
-use Rattle.model.specs.Lemmas.Runs.{replays_in_parts}
+use Rattle.model.specs.Lemmas.Runs.{replay_more}
 use Rattle.plain.specs.Replay.{IsOnTheWay, reached}
-
-pub replay_more : (form : Form) (old files new : Files) (before : List Entry) (e : Entry) →
-    replay form old before ≡ Some files → after_answer form files e.op e.reply ≡ Some new →
-    replay form old (before ++ e ∷ []) ≡ Some new
-replay_more form old files new before e run here = replays_in_parts form old before (e ∷ []) ∙ rw (run, here)
 
 filter_left : (p : Entry → Bool) (entries : List Entry) (i : ℕ) (e : Entry) → i < length entries → e ≡ get_or entries i e →
     filter p (drop i entries) ≡ cond (p e) (e ∷ filter p (drop (i + 1) entries)) (filter p (drop (i + 1) entries))

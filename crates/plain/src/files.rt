@@ -17,7 +17,7 @@ use std::alloc::Global;
 pub type Files = Vec<Option<File>>;
 
 /// The block at place `k` under an address: 0 where there is none.
-#[tactic(auto, using(crate::proofs::FilesLemmas::address_data, crate::proofs::FilesLemmas::address_none, crate::proofs::FilesLemmas::address_block))]
+#[tactic(auto, using(crate::proofs::FilesLemmas::address_data, crate::proofs::FilesLemmas::address_none, model::specs::Lemmas::Frames::address_block))]
 fn address_under(image: &[Block], depth: u32, k: u32, address: u32) -> u32
     requires { depth ≤ 2 }
     ensures { result ≡ address_under image.now depth k address }

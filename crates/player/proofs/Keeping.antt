@@ -19,6 +19,7 @@ use Rattle.kernel.specs.declared.types.Step.{Step}
 use Rattle.kernel.specs.declared.types.Step.TheVariants as step
 use Rattle.kernel.specs.Lemmas.Turns.{Keeps, runs_on_none, runs_on_step, runs_on_then}
 use Rattle.kernel.specs.Runs.{RunsOn}
+use Rattle.kernel.specs.Moves.{MakesSteps, Moves}
 use Rattle.journal.specs.Lemmas.Leaving.{kept_whole}
 use Rattle.scripts.specs.declared.schedule.Word.{Word}
 use Rattle.scripts.specs.declared.schedule.Word.TheVariants as word
@@ -27,7 +28,7 @@ use Rattle.texts.specs.declared.events.Event.{Event}
 use Rattle.player.specs.declared.player.Player.{Player}
 use Rattle.texts.specs.Events.{is_last}
 use Rattle.player.specs.Opening.{IsPlayedOn, IsReadyOver, KeepsSome}
-use Rattle.player.specs.Stepping.{KeepOps, KeepsOfSources, Ringed, MakesRingedStep, MakesSteps, MakesTurn, MakesTurns, Moves, board_herald, ring_ends}
+use Rattle.player.specs.Stepping.{KeepOps, KeepsOfSources, Ringed, MakesRingedStep, MakesTurn, MakesTurns, board_herald, ring_ends}
 use Rattle.player.specs.Turns.{IfLast}
 use Rattle.player.proofs.Disks.{faulty}
 

@@ -2,7 +2,7 @@
 use Rattle.std.proofs.Common.{◌≡◌, ◌∙◌, ◌<◌, ℕ, List, [], ◌∷◌, ◌++◌, length, set, Option, Some, None, refl, sym, ap, subst, arith}
 use Rattle.std.specs.Prelude.{IfNone, IfSome, IsSome, slice_get}
 use Rattle.std.proofs.lemmas.List.{length-set, set-set}
-use Rattle.std.proofs.lemmas.Option.{slice_get_within}
+use Rattle.std.proofs.lemmas.Option.{slice_get_within, same_Some}
 use mathlib.Core.List.{IsPrefix}
 use Rattle.board.specs.Boards.{WatchOf}
 use Rattle.model.specs.declared.types.operations.Answer.{Answer}
@@ -12,7 +12,7 @@ use Rattle.rings.specs.Callers.{answers_known, intake_names, polled, submitted, 
 use Rattle.rings.specs.declared.caller.Caller.{Caller}
 use Rattle.rings.specs.declared.name.Names.{Names}
 use Rattle.scripts.specs.declared.script.Task.{Task}
-use Rattle.clients.specs.Lemmas.Sets.{each_set, only}
+use Rattle.clients.specs.Lemmas.Sets.{each_set}
 use Rattle.clients.specs.Sources.{AreNewSources, HasHandedIn, HaveSourceRings, IsSameSource, source_names, source_ops}
 use Rattle.clients.specs.declared.source.Source.{Source}
 use Rattle.player.specs.Stepping.{HandsIn, HasItsWatch, HasSame, IsSeated, MeetsAt, Polls, Ringed, TakesOldest}
@@ -79,7 +79,7 @@ takes (Some a) old new some oldest none succeeds = (some, oldest)
 
 module _ {D : Type 0} (p : ℕ) (k m : Ringed D) (b c : List Source) (at : MeetsAt p k.intake b m.intake c) (had now : Source) (here : slice_get c p ≡ Some had) (same : HasSame k m) where
   had_is : had ≡ record at.source { caller = at.met }
-  had_is = only had (record at.source { caller = at.met }) (sym here ∙ ap (λ ss. slice_get ss p) at.set ∙ slice_get-set_here b p (record at.source { caller = at.met }) (slice_get_within b p at.source at.is))
+  had_is = same_Some had (record at.source { caller = at.met }) (sym here ∙ ap (λ ss. slice_get ss p) at.set ∙ slice_get-set_here b p (record at.source { caller = at.met }) (slice_get_within b p at.source at.is))
 
   set_is : set c p now ≡ set b p now
   set_is = ap (λ ss. set ss p now) at.set ∙ set-set b p (record at.source { caller = at.met }) now

@@ -19,8 +19,9 @@ use Rattle.model.specs.declared.types.image.Dinode.{Dinode}
 use Rattle.model.specs.declared.types.image.Form.{Form}
 use Rattle.model.specs.declared.types.image.Form.TheVariants.{One, Two}
 use Rattle.model.specs.declared.types.image.Super.{Super}
-use Rattle.model.specs.Lemmas.FileNumbers.{file_in-files_of, file_in-files_of_past, file_in-files_of_zero}
+use Rattle.model.specs.Lemmas.FileNumbers.{file_in-files_of, file_in-files_of_past}
 use Rattle.model.specs.Lemmas.Super.{long_where_sound, super_of-recovered, verdict_none}
+use Rattle.model.specs.Lemmas.Bytes.{file_used}
 use Rattle.offline.specs.Laws.{CheckedFilesMayBeRead}
 use Rattle.offline.specs.Recovered.{IsHeaderOf}
 use Rattle.layout.specs.declared.header.Header.{Header}
@@ -59,9 +60,6 @@ none_past x image i is past =
     let count = count_recovered x image is in
     file_in-files_of_past (recovered x) i (omega (arith, count, past))
 
-pub none_at_zero : (x : Image) (i : ℕ) → i ≡ 0 → file_in (files_of x) i ≡ None
-none_at_zero x i zero = subst (λ (n : ℕ). file_in (files_of x) n ≡ None) (sym zero) (file_in-files_of_zero x)
-
 file_here : (x : Image) (i : ℕ) → i ≢ 0 → file_at x i ≡ file_of x (inode_of x i)
 file_here x i some = rw (ne_eqb i 0 some) refl
 
@@ -71,10 +69,6 @@ none_free x image i d is some low here free =
     let count = count_recovered x image is in
     let kind : (inode_of (recovered x) i).kind ≡ 0 = ap (λ (e : Dinode). e.kind) (sym here) ∙ free in
     file_in-files_of (recovered x) i (omega (arith, count, low)) ∙ file_here (recovered x) i some ∙ rw kind refl
-
-file_used : (x : Image) (d : Dinode) → d.kind ≢ 0 → file_of x d ≡ Some (record { kind = d.kind; bytes = bytes_in x d })
-unfolding file_of
-file_used x d used = rw (ne_eqb d.kind 0 used) refl
 
 pub inode_used : (x : Image) (image : Recovered) (i : ℕ) (d : Dinode) → IsImage x → CheckedFilesMayBeRead → IsReaderOf x image → i ≢ 0 → i < image.sup.ninodes → d ≡ inode_of (recovered x) i → d.kind ≢ 0 → IsInodeOf (recovered x) i d
 inode_used x image i d is_image law is some low here used =

@@ -1,5 +1,5 @@
 -- What steps and turns make of a kernel, and of the operations that wait to be handed in.
-use Rattle.std.specs.Prelude.{◌≡◌, ◌≢◌, ℕ, zero, suc, ◌-◌, ◌<◌, true, false, length, List, [], ◌∷◌, ◌++◌, flat_map, set, slice_get, take, Option, Some, None}
+use Rattle.std.specs.Prelude.{◌≡◌, ℕ, ◌-◌, true, length, List, [], ◌∷◌, ◌++◌, flat_map, set, slice_get, take, Option, Some, None}
 use Rattle.std.specs.Io.KnownBytes.{Appends}
 use mathlib.Core.List.{IsPrefix}
 use Rattle.wal.specs.declared.types.DeviceFault.{DeviceFault}
@@ -8,12 +8,8 @@ use Rattle.blocks.specs.declared.faulty.Trap.{Trap}
 use Rattle.blocks.specs.FaultyDisk.{has_fired}
 use Rattle.blocks.specs.declared.faulty.FaultyDisk.{FaultyDisk}
 use Rattle.model.specs.declared.types.operations.Answer.{Answer}
-use Rattle.ports.specs.PlainHerald.{count_of, IsSame, CountsOne}
-use Rattle.ports.specs.Queues.{queue_count, queue_name, queue_side, QueueFits}
 use Rattle.ports.specs.declared.herald.Herald.{Ghosts as Heralds}
 use Rattle.ports.specs.declared.intake.Intake.{Ghosts as Intakes}
-use Rattle.ports.specs.declared.herald.PlainHerald.{PlainHerald}
-use Rattle.ports.specs.declared.queues.QueueIntake.{QueueIntake}
 use Rattle.board.specs.Boards.{HasHeeded, HasPublished, WatchOf, asked, heard, published}
 use Rattle.board.specs.declared.herald.BoardHerald.{BoardHerald}
 use Rattle.rings.specs.Callers.{Meets, intake_count, intake_names, intake_side, polled, submitted, unpolled, IntakeFits}
@@ -26,13 +22,12 @@ use Rattle.clients.specs.Backlogs.{backlog_of}
 use Rattle.clients.specs.Sources.{HasHandedIn, HaveSourceRings, source_ops}
 use Rattle.clients.specs.declared.source.Source.{Source}
 use Rattle.kernel.specs.declared.types.Step.{Step}
-use Rattle.kernel.specs.declared.types.Step.TheVariants as step
-use Rattle.model.specs.Layout.{form_of, inode_count_of}
+use Rattle.model.specs.Layout.{inode_count_of}
 use Rattle.model.specs.declared.types.operations.Op.{Op}
 use Rattle.journal.specs.Own.{KeepsFirst, KeepsOwn}
-use Rattle.kernel.specs.Bound.{step_bound}
 use Rattle.kernel.specs.State.{State}
 use Rattle.kernel.specs.Steps.{MakesStep}
+use Rattle.kernel.specs.Moves.{MakesSteps}
 use Rattle.texts.specs.declared.events.Event.{Event}
 use Rattle.texts.specs.declared.events.Event.TheVariants.{Shut}
 use Rattle.player.specs.declared.player.Player.{Player}
@@ -41,27 +36,6 @@ use Rattle.texts.specs.declared.refusal.Refusal.TheVariants.{Disk, Output}
 use Rattle.texts.specs.Events.{event_line, is_last}
 use Rattle.texts.specs.Output.{counts_text}
 use Rattle.player.specs.Turns.{IfLast, event_of, told_fault}
-
--- a kernel over plain queues
-abbrev pub Plain : Type 0 → Type 0
-Plain D = State D QueueIntake PlainHerald
-
--- what contracts see of plain queues
-abbrev pub plain_queues : Intakes QueueIntake (ℕ × ℕ)
-plain_queues = record {
-  name = queue_name;
-  process_count = queue_count;
-  side = queue_side;
-  fits = QueueFits;
-}
-
--- and of a plain herald, which tells of no shutdown
-abbrev pub plain_herald : Heralds PlainHerald
-plain_herald = record { count = count_of; told = λ h. false; asks = IsSame; hears = CountsOne }
-
--- one step of process p, which answers r, makes m of k: the kernel's promise of a step
-abbrev pub MakesPlainStep : {D N : Type 0} → Ghosts D N → ℕ → Step → Plain D → Plain D → Type 0
-MakesPlainStep disk p r k m = MakesStep disk plain_queues plain_herald p r k m
 
 -- a kernel over rings and a board
 abbrev pub Ringed : Type 0 → Type 0
@@ -87,22 +61,6 @@ board_herald = record {
 
 abbrev pub MakesRingedStep : {D N : Type 0} → Ghosts D N → ℕ → Step → Ringed D → Ringed D → Type 0
 MakesRingedStep disk p r k m = MakesStep disk ring_ends board_herald p r k m
-
--- n steps, each of which moves, make m of k, where one step does as `steps` says
-unfoldable pub Moves : {K : Type 0} → (Step → K → K → Type 0) → ℕ → K → K → Type 0
-Moves steps zero k m = m ≡ k
-Moves {K} steps (suc n) k m = (mid : K) × steps step.Moved k mid × Moves steps n mid m
-
--- Steps of process p make m of k: fewer that move than an operation may have, and one that doesn't
--- and answers r.
-pub record MakesSteps {D N I M H : Type 0} (disk : Ghosts D N) (intake : Intakes I M)
-    (herald : Heralds H) (p : ℕ) (r : Step) (k m : State D I H) : Type 0 where
-  pub moved : ℕ
-  pub mid : State D I H
-  pub moves : Moves (MakesStep disk intake herald p) moved k mid
-  pub few : moved < step_bound (form_of (disk.image k.opening))
-  pub last : r ≢ step.Moved
-  pub made : MakesStep disk intake herald p r mid m
 
 -- nothing of the kernel changed but its ends of the rings
 abbrev pub HasSame : {D : Type 0} → Ringed D → Ringed D → Type 0

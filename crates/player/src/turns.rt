@@ -5,6 +5,7 @@ ghost use Rattle.blocks.specs.Disk.{counted};
 ghost use Rattle.board.specs.Boards.{KeeperOf, WatchOf, asked, published};
 ghost use Rattle.model.specs.Log.{logged_count};
 ghost use Rattle.model.specs.declared.types.operations.Answer.{Answer as SomeAnswer};
+ghost use Rattle.kernel.specs.Moves.{MakesSteps};
 ghost use Rattle.scripts.specs.Schedule.{is_word_of};
 ghost use Rattle.wal.specs.Recovery.{LeavesIfCalm, RecoversAs, writes_to_recover};
 ghost use Rattle.player.specs.Afterwards.{IsUnopenedOver};
@@ -16,7 +17,6 @@ ghost use Rattle.player.specs.Stepping.{
   KeepsOfSource,
   KeepsOfSources,
   MakesRingedStep,
-  MakesSteps,
   MakesTurn,
   MakesTurnOf,
   MeetsAt,

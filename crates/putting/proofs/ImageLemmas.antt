@@ -16,7 +16,7 @@ use Rattle.model.specs.declared.types.image.Dinode.{Dinode}
 use Rattle.model.specs.declared.types.image.Form.{Form}
 use Rattle.model.specs.declared.types.image.Form.TheVariants.{One, Two}
 use Rattle.model.specs.declared.types.image.Super.{Super}
-use Rattle.model.specs.Lemmas.FileNumbers.{file_in-files_of, file_in-files_of_past, file_in-files_of_zero}
+use Rattle.model.specs.Lemmas.FileNumbers.{file_in-files_of, file_in-files_of_past}
 use Rattle.model.specs.Lemmas.Log.{length-recovered, recovered_low}
 use Rattle.model.specs.Lemmas.Super.{SuperFacts, lawful_geometry, long_where_sound, or_else_none, super_of-recovered, verdict_none}
 use Rattle.putting.specs.Judging.{IsCheckedOf}
@@ -75,9 +75,6 @@ module _ (x : Image) (image : Recovered) (is : IsCheckedOf x image) where
     used_number used none =
         let file : file_of (recovered x) d ≡ Some (record { kind = d.kind; bytes = bytes_in (recovered x) d }) = rw (ne_eqb d.kind 0 used) refl in
         cc (sym file_here ∙ none, file)
-
-pub none_at_zero : (y : Image) (i : ℕ) → i ≡ 0 → file_in (files_of y) i ≡ None
-none_at_zero y i zero = subst (λ (n : ℕ). file_in (files_of y) n ≡ None) (sym zero) (file_in-files_of_zero y)
 
 -- ---- a checked image is opened
 

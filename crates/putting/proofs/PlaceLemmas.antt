@@ -1,7 +1,6 @@
 -- What becomes of files where bytes are put, call by call.
-use Rattle.std.proofs.Common.{◌≡◌, ◌≢◌, ◌∙◌, ℕ, ◌<◌, ◌≤◌, List, [], ◌∷◌, ◌++◌, length, set, Option, Some, None, refl, sym, ap, ⊎_elim, arith}
-use Rattle.std.proofs.lemmas.Bool.{cases_lt}
-use Rattle.std.proofs.lemmas.List.{get_or-set_same, set-get_or, get_or_past, set-set}
+use Rattle.std.proofs.Common.{◌≡◌, ◌≢◌, ◌∙◌, ℕ, ◌<◌, List, [], ◌++◌, length, set, Option, Some, None, refl, sym, ap}
+use Rattle.std.proofs.lemmas.List.{get_or-set_same, set-get_or, set-set, nil_from_length}
 use Rattle.filing.specs.Files.{MakesFile, appended, emptied, empty_file, size_of, with_more, without_bytes}
 use Rattle.model.specs.Files.{Files, file_in}
 use Rattle.model.specs.declared.types.image.File.{File}
@@ -29,20 +28,11 @@ put_free : (o : Option File) → o ≡ None → empty_file 2 ≡ put_file o []
 put_free None free = refl
 put_free (Some file) free = absurd (cc free)
 
-no_bytes : (bytes : List ℕ) → length bytes ≡ 0 → bytes ≡ []
-no_bytes [] h = refl
-no_bytes (x ∷ xs) h = absurd (omega (arith, h))
-
 same_empty : (o : Option File) → size_of o ≡ Some 0 → put_file o [] ≡ o
 same_empty None h = absurd (cc h)
-same_empty (Some file) h = let none : length file.bytes ≡ 0 = cc h in ap (λ (b : List ℕ). Some (record file { bytes = b })) (sym (no_bytes file.bytes none))
+same_empty (Some file) h = let none : length file.bytes ≡ 0 = cc h in ap (λ (b : List ℕ). Some (record file { bytes = b })) (sym (nil_from_length file.bytes none))
 
 -- ---- among files
-
--- a number that has a file is one of them
-pub below_there : (files : Files) (i : ℕ) → file_in files i ≢ None → i < length files
-below_there files i there =
-    ⊎_elim (λ (h : i < length files). h) (λ (h : length files ≤ i). absurd (there (get_or_past files i None h))) (cases_lt i (length files))
 
 pub file_put : (files : Files) (i : ℕ) (bytes : List ℕ) → i < length files → file_in (put_at files i bytes) i ≡ put_file (file_in files i) bytes
 file_put files i bytes below = get_or-set_same files i (put_file (file_in files i) bytes) None below
@@ -82,7 +72,3 @@ lowest_made old new kind i made = record { some = made.some; below = made.below;
 -- an empty file holds none of the bytes
 pub empty_put : (files : Files) (i : ℕ) → size_of (file_in files i) ≡ Some 0 → put_at files i [] ≡ files
 empty_put files i empty = ap (set files i) (same_empty (file_in files i) empty) ∙ set-get_or files i None
-
-pub there_of_size : (o : Option File) (n : ℕ) → size_of o ≡ Some n → o ≢ None
-there_of_size None n h is = cc h
-there_of_size (Some file) n h is = cc is

@@ -1,7 +1,8 @@
 -- The command line, word by word, and what a parse of it says.
 use Rattle.std.proofs.Common.{◌≡◌, ◌∙◌, ℕ, List, [], Bool, true, false, ◌||◌, Option, Some, None, Ok, Err, refl, sym, ap, ap₂, subst, inl}
-use Rattle.std.specs.Prelude.{⊤, codes, IfOk, MatchOption, Result, option_map, unwrap_or}
+use Rattle.std.specs.Prelude.{⊤, codes, IfOk, MatchOption, Result, option_map}
 use Rattle.std.proofs.lemmas.Result.{IfOk-weaker}
+use Rattle.std.proofs.lemmas.Option.{same_Some}
 use Rattle.clap.specs.Built.{AddsArg, AddsSubcommand}
 use Rattle.clap.specs.Words.{one_text, App, FailsBy, HasKind, HasMatchesOf, Row, Rule, fault_of, first_of, first_value, is_simple, is_simple_and_free, rows_of, rule_of, subcommand_of, subcommand_rows_of, with_rule, with_subcommand}
 use Rattle.clap.specs.declared.builder.arg.Arg.{Arg}
@@ -49,9 +50,6 @@ pub met : (app : App) (words : List (List ℕ)) (m : ArgMatches) (request : Requ
 met app words m request is matches asks =
     subst (λ command. Asks command request) ((matches (ap is_simple is ∙ simple)).1 ∙ ap (λ (a : App). subcommand_of a words) is) asks
 
-some_is : {A : Type 0} (x y : A) → Some x ≡ Some y → x ≡ y
-some_is x y same = ap (λ o. unwrap_or o x) same
-
 pub some_is_not_none : {A : Type 0} (x : A) → Some x ≡ None → ⊥
 some_is_not_none x same = subst (λ o. MatchOption o ⊥ (λ _. ⊤)) same tt
 
@@ -60,7 +58,7 @@ pub asked : {B : Type 0} (f : B → List ℕ × List Row) (sub : Option B) (name
     → AsksBy name rows request → Asks (option_map f sub) request
 asked f None name rows request named has asks = absurd (some_is_not_none name named)
 asked f (Some b) name rows request named has asks =
-    subst (λ n. AsksBy n (f b).1 request) (some_is name (f b).0 named) (subst (λ rs. AsksBy name rs request) (some_is rows (f b).1 has) asks)
+    subst (λ n. AsksBy n (f b).1 request) (same_Some name (f b).0 named) (subst (λ rs. AsksBy name rs request) (same_Some rows (f b).1 has) asks)
 
 -- so is one of the command of that name
 pub asked_by : {B : Type 0} (f : B → List ℕ × List Row) (sub : Option B) (name of : List ℕ) (rows : List Row) (request : Request) → name ≡ of → Some name ≡ option_map (λ b. (f b).0) sub → Some rows ≡ option_map (λ p. p.1) (option_map f sub)

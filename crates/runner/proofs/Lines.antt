@@ -1,9 +1,9 @@
 -- Lines that are printed one after the other.
-use Rattle.std.proofs.Common.{◌≡◌, ◌∙◌, ◌<◌, ℕ, List, [], ◌∷◌, ◌++◌, flat_map, length, Option, Some, None, sym, ap, subst, arith}
+use Rattle.std.proofs.Common.{◌≡◌, ◌∙◌, ◌<◌, ℕ, List, [], ◌∷◌, ◌++◌, flat_map, length, Option, sym, ap, subst, arith}
 use Rattle.std.proofs.KnownBytes.{Appends-trans}
 use Rattle.std.proofs.lemmas.Grind.{flat_map-append}
 use Rattle.std.proofs.lemmas.List.{append_assoc, flat_map_more}
-use Rattle.std.specs.Io.KnownBytes.{Appends, Keeps}
+use Rattle.std.specs.Io.KnownBytes.{Appends}
 use mathlib.Core.List.{IsPrefix}
 use Rattle.model.specs.declared.types.operations.Answer.{Answer}
 
@@ -15,13 +15,6 @@ one_more_line line done a old mid new before here = subst (Appends old new) (fla
 pub lines_and_last : {A : Type 0} (line : A → List ℕ) (first more : List A) (last : List ℕ) (a b c d : Option (List ℕ)) → Appends a b (flat_map line first) → Appends b c (flat_map line more) → Appends c d last → Appends a d (flat_map line (first ++ more) ++ last)
 lines_and_last line first more last a b c d one two three =
     Appends-trans a c d (flat_map line (first ++ more)) last (subst (Appends a c) (sym (flat_map-append line first more)) (Appends-trans a b c _ _ one two)) three
-
--- what is printed is passed on
-pub passed_on : (old mid new : Option (List ℕ)) (bytes : List ℕ) → Appends old mid bytes → Keeps mid new → Appends old new bytes
-passed_on None mid new bytes before keeps = tt
-passed_on (Some a) None new bytes before keeps = absurd before
-passed_on (Some a) (Some b) None bytes before keeps = absurd keeps
-passed_on (Some a) (Some b) (Some c) bytes before keeps = keeps ∙ before
 
 head_is : (x a : Answer) (xs ys : List Answer) → x ∷ xs ≡ a ∷ ys → x ≡ a
 head_is x a xs ys is = cc is

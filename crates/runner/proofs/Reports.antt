@@ -2,6 +2,7 @@
 use Rattle.std.proofs.Common.{◌≡◌, ◌+◌, ℕ, zero, suc, List, [], ◌∷◌, ◌++◌, length, Option, Some, Result, Ok, Err, refl, subst, ap, sym, ◌∙◌}
 use Rattle.std.proofs.lemmas.List.{append_assoc, length-append}
 use Rattle.std.specs.Prelude.{IsOk, OnOk, slice_get}
+use Rattle.std.proofs.lemmas.Option.{same_Some}
 use Rattle.blocks.specs.Disk.{Image}
 use Rattle.blocks.specs.declared.disk.Disk as disk_trait
 use Rattle.ports.specs.declared.herald.Herald as herald_trait
@@ -21,13 +22,10 @@ use Rattle.texts.specs.declared.refusal.Refusal.{Refusal}
 use Rattle.runner.specs.Reports.{IsReport, IsReported, PrintsReport}
 use Rattle.runner.proofs.Lines.{one_more_line}
 
-only : (x y : List ℕ) → Some x ≡ Some y → x ≡ y
-only x y is = cc is
-
 -- a report behind others
 pub each_more : (reports : List (List ℕ)) (t : List ℕ) (P : ℕ → List ℕ → Type 0) → ((p : ℕ) (text : List ℕ) → slice_get reports p ≡ Some text → P p text) → P (length reports) t
     → (p : ℕ) (text : List ℕ) → slice_get (reports ++ t ∷ []) p ≡ Some text → P p text
-each_more [] t P old here zero text at = subst (P 0) (only t text at) here
+each_more [] t P old here zero text at = subst (P 0) (same_Some t text at) here
 each_more [] t P old here (suc p) text at = absurd (cc at)
 each_more (r ∷ rs) t P old here zero text at = old zero text at
 each_more (r ∷ rs) t P old here (suc p) text at = each_more rs t (λ q. P (suc q)) (λ q. old (suc q)) here p text at

@@ -33,16 +33,17 @@ use Rattle.journal.specs.Histories.{Owed, entry_answer, pending_at}
 use Rattle.journal.specs.Processes.{World, process}
 use Rattle.kernel.specs.Known.{Known}
 use Rattle.kernel.specs.Lemmas.Turns.{runs_on_none, runs_on_step, runs_on_then}
+use Rattle.kernel.specs.Lemmas.Moves.{steps_keep}
 use Rattle.kernel.specs.Runs.{RunsOn}
 use Rattle.kernel.specs.State.{kind_of}
 use Rattle.kernel.specs.declared.types.Step.{Step}
 use Rattle.kernel.specs.declared.types.Step.TheVariants as step
 use Rattle.kernel.specs.declared.waiting.Waiting.TheVariants as waiting_as
+use Rattle.kernel.specs.Moves.{MakesSteps}
 use Rattle.sole.specs.Calls.{Rests, call_count, is_look, is_own}
-use Rattle.sole.specs.Stepping.{Plain, MakesSteps, plain_herald, plain_queues}
+use Rattle.sole.specs.Stepping.{Plain, plain_herald, plain_queues}
 use Rattle.sole.proofs.Idle.{unopened}
 use Rattle.sole.proofs.Stages.{After, Before, Behind, Committing, Over, IsKept, IsLeft, IsOver, ListIs, StageOf, Waits, Where, is_left, kind_then, stage_first, stages_move, steps_after}
-use Rattle.sole.proofs.Steps.{steps_keep}
 
 -- a kernel with other queues
 abbrev pub with_intake : {D : Type 0} → Plain D → QueueIntake → Plain D

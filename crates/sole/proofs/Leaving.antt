@@ -13,6 +13,7 @@ use Rattle.model.specs.Layout.{form_of, inode_count_of}
 use Rattle.model.specs.Log.{recovered}
 use Rattle.model.specs.Operations.{after}
 use Rattle.model.specs.Lemmas.Runs.{and_then_some, replays_in_parts}
+use Rattle.model.specs.Lemmas.Frames.{form_same}
 use Rattle.journal.specs.Keeps.{KeepsBetween}
 use Rattle.journal.specs.Most.{most_of}
 use Rattle.journal.specs.Lemmas.Kept.{kept-append}
@@ -21,7 +22,7 @@ use Rattle.sole.specs.declared.fault.CallFault.{CallFault}
 use Rattle.sole.specs.Calls.{KeepsCall, MayReply, image_on}
 use Rattle.sole.specs.Stepping.{Plain}
 use Rattle.sole.proofs.Called.{IsAnswered, IsCall, call_lists, call_opening, call_runs, last_same}
-use Rattle.sole.proofs.Rest.{IsSettledDisk, kept_before, same_form, settled_disk}
+use Rattle.sole.proofs.Rest.{IsSettledDisk, kept_before, settled_disk}
 use Rattle.sole.proofs.Stages.{ListIs}
 
 -- what is kept with one entry more: nothing more, or this entry
@@ -72,7 +73,7 @@ module _ {D N : Type 0} (disk : Ghosts D N) (has_now : (d : D) → disk.leaves d
         | inr made ↦ inr (
           made.0,
           may e made.0 more.is made.1,
-          subst (λ (f : Form). after f (files_of x) op made.0 ≡ Some (files_of (recovered z))) (sym (same_form (disk.image k.opening) x was.super))
+          subst (λ (f : Form). after f (files_of x) op made.0 ≡ Some (files_of (recovered z))) (sym (form_same (disk.image k.opening) x was.super))
               (subst (λ (o : Op). after form (files_of x) o made.0 ≡ Some (files_of (recovered z))) more.same made.2),
         )
       ]

@@ -1,4 +1,3 @@
-pub mod Steps
 pub mod Stages
 pub mod Called
 pub mod Idle

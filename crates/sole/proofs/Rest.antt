@@ -9,16 +9,15 @@ use Rattle.model.specs.declared.types.operations.Entry.{Entry}
 use Rattle.model.specs.declared.types.operations.Op.{Op}
 use Rattle.model.specs.declared.types.operations.Reply.{Reply}
 use Rattle.model.specs.Crash.{Keeps}
-use Rattle.model.specs.Fields.{u32_at}
 use Rattle.model.specs.Files.{Files, files_of}
 use Rattle.model.specs.Journal.{after_answer, and_then, kept, replay}
-use Rattle.model.specs.Layout.{form_of, inode_count_of, magic_of}
-use Rattle.model.specs.declared.types.image.Form.TheVariants.{One, Two}
+use Rattle.model.specs.Layout.{form_of, inode_count_of}
 use Rattle.model.specs.Log.{logged_count, recovered}
 use Rattle.model.specs.Operations.{after}
 use Rattle.model.specs.Soundness.{IsSound}
 use Rattle.model.specs.Lemmas.Log.{recovered_empty}
 use Rattle.model.specs.Lemmas.Runs.{and_then_some, replays_in_parts}
+use Rattle.model.specs.Lemmas.Frames.{form_same}
 use Rattle.ports.specs.declared.queues.QueueIntake.{QueueIntake}
 use Rattle.journal.specs.declared.types.At.TheVariants as at
 use Rattle.journal.specs.Keeps.{AreUpTo, KeepsNow}
@@ -91,10 +90,6 @@ module _ {D N : Type 0} (disk : Ghosts D N) (k : Plain D) (was : IsSettledDisk d
       let same : Some (files_of (recovered z)) ≡ Some (files_of (image_on disk.image k)) = sym keeps.files ∙ kept_before now.between.groups now.between.low in
       record { log = keeps.log; sound = keeps.sound; files = cc same }
 
--- images with the same superblock have the same form
-pub same_form : (x y : Image) → block_at y 1 ≡ block_at x 1 → form_of y ≡ form_of x
-same_form x y super = ap (λ (bytes : List ℕ). if u32_at bytes 0 == magic_of Two then Two else One) super
-
 -- one entry more of a replay
 pub one_entry : (form : Form) (start mid last : Files) (es : List Entry) (e : Entry) (r : Reply) → replay form start es ≡ Some mid → e.reply ≡ Some r → replay form start (es ++ e ∷ []) ≡ Some last → after form mid e.op r ≡ Some last
 one_entry form start mid last es e r before replied run =
@@ -122,7 +117,7 @@ module _ {D N : Type 0} (disk : Ghosts D N) (has_now : (d : D) → disk.leaves d
       = subst (λ (d : D). replay (form_of (disk.image d)) (files_of (disk.image d)) (k.world.journal.list ++ is.entry ∷ []) ≡ Some (files_of (image_on disk.image m))) opening
       (subst (λ (l : List Entry). replay (form_of (disk.image m.opening)) (files_of (disk.image m.opening)) l ≡ Some (files_of (image_on disk.image m))) is.list now.run) in
       let one = one_entry form start (files_of (image_on disk.image k)) (files_of (image_on disk.image m)) k.world.journal.list is.entry is.answer.reply was.run is.replied run in
-      subst (λ (f : Form). after f (files_of (image_on disk.image k)) op is.answer.reply ≡ Some (files_of (image_on disk.image m))) (sym (same_form (disk.image k.opening) (image_on disk.image k) was.super))
+      subst (λ (f : Form). after f (files_of (image_on disk.image k)) op is.answer.reply ≡ Some (files_of (image_on disk.image m))) (sym (form_same (disk.image k.opening) (image_on disk.image k) was.super))
       (subst (λ (o : Op). after form (files_of (image_on disk.image k)) o is.answer.reply ≡ Some (files_of (image_on disk.image m))) is.same one)
 
   call_whole : IsWhole (image_on disk.image k) (image_on disk.image m)

@@ -38,8 +38,9 @@ use Rattle.kernel.specs.declared.waiting.Waiting.{Waiting}
 use Rattle.kernel.specs.declared.waiting.Waiting.TheVariants as waiting_as
 use Rattle.kernel.specs.Next.{BeginsNext, BeginsWith, IsNotTaken, NextAt, NextIf, step_behind, step_of, step_of_end, step_of_write, world_after, world_behind, world_ended, world_written}
 use Rattle.kernel.specs.State.{room_for, waiting_of}
-use Rattle.sole.specs.Stepping.{MakesPlainStep, MakesSteps, Moves, Plain, plain_herald, plain_queues}
-use Rattle.sole.proofs.Steps.{moves_keep}
+use Rattle.kernel.specs.Moves.{MakesSteps, Moves}
+use Rattle.kernel.specs.Lemmas.Moves.{moves_keep}
+use Rattle.sole.specs.Stepping.{MakesPlainStep, Plain, plain_herald, plain_queues}
 
 -- ---- what is to be kept
 

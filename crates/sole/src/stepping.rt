@@ -1,8 +1,8 @@
 // Steps of a process, one after the other.
 ghost use Rattle.std.specs.Prelude.{◌≡◌, ◌<◌, length};
+ghost use Rattle.kernel.specs.Moves.{MakesSteps};
 ghost use Rattle.kernel.specs.Steps.{MakesStep};
 ghost use Rattle.ports.specs.History.{SameNames};
-ghost use Rattle.sole.specs.Stepping.{MakesSteps};
 
 use blocks::Disk;
 use kernel::{Kernel, Step};
@@ -12,7 +12,7 @@ use ports::{Herald, Intake};
 const MOST_STEPS: u32 = 40000;
 
 /// Makes steps of a process, until one doesn't move. What the last of them answers.
-#[tactic(auto, using(crate::proofs::Steps::none_moved, crate::proofs::Steps::one_moved))]
+#[tactic(auto, using(kernel::specs::Lemmas::Moves::none_moved, kernel::specs::Lemmas::Moves::one_moved))]
 pub fn make_steps<D: Disk, I: Intake, H: Herald>(kernel: &mut Kernel<D, I, H>, pid: u32) -> Step
     requires { pid < length kernel.old.world.processes }
     ensures makes { MakesSteps D.Disk I.Intake H.Herald pid

@@ -33,10 +33,7 @@ use Rattle.wal.proofs.CommitLemmas.{write_current, unpinned_current}
 use Rattle.wal.proofs.CacheCallLemmas.{clean_shows, joint_filled}
 use Rattle.wal.proofs.StepLemmas.{joint_lawful, some_block}
 use Rattle.wal.specs.Lemmas.Volume.{IsAcquired, holds_now, changed_lock}
-
-whole_of : {J : Type 0} (fault : Option DeviceFault) → fault ≡ None → IfNone fault J → J
-whole_of None none whole = whole
-whole_of (Some f) none whole = absurd (cc none)
+use Rattle.wal.specs.Lemmas.Faults.{where_none}
 
 pub if_whole : {holds : Bool} {x : Image} {c : Buffers} {l : LogState} {left : Image → Type 0} (fault : Option DeviceFault) → Joint x c l → AreBlocks c → IsAfloat holds l.commit x l.homes left → IfNone fault (IsVolume holds x c l left)
 if_whole None joint are floats = record { joint = joint; blocks = are; floats = floats }
@@ -53,13 +50,13 @@ if_survives holds x c l left (Some f) whole = tt
 
 -- where the disk hasn't failed: v is what the fields of w were
 pub joint_here : {D N : Type 0} (disk : Ghosts D N) (v w : VolumeState D) → v ≡ w → w.fault ≡ None → IfNone v.fault (IsVolume (disk.holding (disk.name v.device)) (disk.image v.device) v.buffers v.log (disk.leaves v.device (disk.moment v.device))) → Joint (disk.image v.device) v.buffers v.log
-joint_here {D} {N} disk v w is none whole = (whole_of v.fault (ap (λ (u : VolumeState D). u.fault) is ∙ none) whole).joint
+joint_here {D} {N} disk v w is none whole = (where_none v.fault (ap (λ (u : VolumeState D). u.fault) is ∙ none) whole).joint
 
 pub blocks_here : {D N : Type 0} (disk : Ghosts D N) (v w : VolumeState D) → v ≡ w → w.fault ≡ None → IfNone v.fault (IsVolume (disk.holding (disk.name v.device)) (disk.image v.device) v.buffers v.log (disk.leaves v.device (disk.moment v.device))) → AreBlocks v.buffers
-blocks_here {D} {N} disk v w is none whole = (whole_of v.fault (ap (λ (u : VolumeState D). u.fault) is ∙ none) whole).blocks
+blocks_here {D} {N} disk v w is none whole = (where_none v.fault (ap (λ (u : VolumeState D). u.fault) is ∙ none) whole).blocks
 
 pub floats_at : {D N : Type 0} (disk : Ghosts D N) (v w : VolumeState D) → v ≡ w → w.fault ≡ None → IfNone v.fault (IsVolume (disk.holding (disk.name v.device)) (disk.image v.device) v.buffers v.log (disk.leaves v.device (disk.moment v.device))) → IsAfloat (disk.holding (disk.name v.device)) v.log.commit (disk.image v.device) v.log.homes (disk.leaves v.device (disk.moment v.device))
-floats_at {D} {N} disk v w is none whole = (whole_of v.fault (ap (λ (u : VolumeState D). u.fault) is ∙ none) whole).floats
+floats_at {D} {N} disk v w is none whole = (where_none v.fault (ap (λ (u : VolumeState D). u.fault) is ∙ none) whole).floats
 
 -- nothing is held: that is so in each phase
 pub any_afloat : (x : Image) (left : Image → Type 0) (k : Commit) (hs : List ℕ) → is_lawful_log x ≡ true → IsSettled x left → AreAfloat k x hs left

@@ -1,7 +1,7 @@
 -- The lowest clear bit of a bitmap.
 use Rattle.std.proofs.Common.{◌≡◌, sym, ap, subst, refl, arith, ⊎_elim, ℕ, zero, suc, ◌+◌, ◌<◌, ◌≤◌, Bool, true, false, not, cond, List, Option, Some, None}
 use Rattle.std.specs.List.{find, range_with_len}
-use Rattle.std.proofs.lemmas.Bool.{cases_eq, cases_lt}
+use Rattle.std.proofs.lemmas.Bool.{cases_eq, cases_lt, not-false, not-true}
 use Rattle.model.specs.Fields.{has_bit}
 use Rattle.blockmap.specs.Balloc.{IsLowestClear, LowestClear, lowest_clear}
 
@@ -44,22 +44,14 @@ first_found test a (suc n) =
 
 -- ---- the lowest clear bit
 
-pub not_false : (t : Bool) → not t ≡ false → t ≡ true
-not_false true e = refl
-not_false false e = absurd (cc e)
-
-pub not_true : (t : Bool) → not t ≡ true → t ≡ false
-not_true true e = absurd (cc e)
-not_true false e = refl
-
 first_clear : (bits : List ℕ) (size : ℕ) (o : Option ℕ) →
     IsFirst (λ k. not (has_bit bits k)) 0 size o → IsLowestClear bits size o
 first_clear bits size None first =
-    λ k below. not_false (has_bit bits k) (first k (omega arith) (omega (arith, below)))
+    λ k below. not-false (has_bit bits k) (first k (omega arith) (omega (arith, below)))
 first_clear bits size (Some b) (low, high, clear, before) = (
   omega (arith, high),
-  not_true (has_bit bits b) clear,
-  λ k below. not_false (has_bit bits k) (before k (omega arith) below),
+  not-true (has_bit bits b) clear,
+  λ k below. not-false (has_bit bits k) (before k (omega arith) below),
 )
 
 pub lowest_clear_is_lowest : LowestClear

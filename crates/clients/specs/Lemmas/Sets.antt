@@ -2,12 +2,8 @@
 use Rattle.std.proofs.Common.{◌≡◌, ◌∙◌, ℕ, List, set, Some, sym, ap, subst, ⊎_elim}
 use Rattle.std.specs.Prelude.{slice_get}
 use Rattle.std.proofs.lemmas.Bool.Decides.{eqb_tells}
-use Rattle.std.proofs.lemmas.Option.{slice_get_within}
+use Rattle.std.proofs.lemmas.Option.{slice_get_within, same_Some}
 use Rattle.ports.specs.Lemmas.Lanes.{slice_get-set_here, slice_get-set_other}
-
--- what stands at a place is one thing
-pub only : {A : Type 0} (x y : A) → Some x ≡ Some y → x ≡ y
-only x y is = cc is
 
 module _ {A : Type 0} (P : ℕ → A → Type 0) (xs : List A) (i : ℕ) (x d : A)
     (here : slice_get xs i ≡ Some x) (new : P i d)
@@ -17,7 +13,7 @@ module _ {A : Type 0} (P : ℕ → A → Type 0) (xs : List A) (i : ℕ) (x d : 
       let low = slice_get_within xs i x here in
       let is : Some d ≡ Some e = sym (slice_get-set_here xs i d low)
       ∙ ap (slice_get (set xs i d)) eq ∙ at in
-      subst (λ (q : ℕ). P q e) eq (subst (P i) (only d e is) new)
+      subst (λ (q : ℕ). P q e) eq (subst (P i) (same_Some d e is) new)
 
   pub each_set : (p : ℕ) (e : A) → slice_get (set xs i d) p ≡ Some e → P p e
   each_set p e at = ⊎_elim (λ eq. itself p e eq.1 at)

@@ -7,7 +7,7 @@ use Rattle.std.proofs.lemmas.Bool.{eqb-true, cases_eq, both_ways}
 use Rattle.std.proofs.lemmas.List.{length-take}
 use Rattle.blocks.specs.Disk.{Image, block_at}
 use Rattle.model.specs.declared.types.image.Dinode.{Dinode}
-use Rattle.model.specs.declared.types.operations.Op.TheVariants.{Trunc, Remove}
+use Rattle.model.specs.declared.types.operations.Op.TheVariants.{Trunc, Remove, Create, Write, Read, Stat}
 use Rattle.model.specs.Layout.{inode_in, inode_bytes_in, inode_block, inode_of}
 use Rattle.model.specs.Journal.{is_number}
 use Rattle.model.specs.Lemmas.Log.{both_of}
@@ -17,7 +17,7 @@ use Rattle.inodes.specs.Creation.{is_free_in, lowest_free}
 use Rattle.inodes.specs.declared.tasks.Place.{Place}
 use Rattle.inodes.specs.declared.tasks.Place.TheVariants as place
 use Rattle.inodes.specs.Grips.{grip, locked_grip}
-use Rattle.inodes.specs.Looks.{AreLooking, LooksAt, HasAllRead, HoldsInode, IsRead, IsLate, IsWrite}
+use Rattle.inodes.specs.Looks.{AreLooking, LooksAt, HasAllRead, HoldsInode, IsRead, IsLate, IsWrite, CanLook, CanTake}
 use Rattle.inodes.specs.Holding.{IsTruncating, trunc_op}
 use Rattle.inodes.specs.Itrunc.{Freeing}
 use Rattle.inodes.specs.declared.itrunc.Itrunc.{Itrunc}
@@ -105,6 +105,17 @@ taken_by_look x n block j o found passed number place free =
     let fails = passed_by (is_free_in bytes n) ((block - 33) * 16) 16 j o found passed
     (omega (arith, place)) (omega (arith, place)) in
     both_ways (is_free_in bytes n j) fails passes
+
+-- ---- operations that take an inode
+
+-- one that looks at a file takes its inode
+pub look_takes : (n : ℕ) (op : Op) → CanLook n op → CanTake n op
+look_takes n (Create kind) can = absurd can
+look_takes n (Write i off bytes) can = absurd can
+look_takes n (Read i off count) can = can
+look_takes n (Trunc i) can = absurd can
+look_takes n (Remove i) can = absurd can
+look_takes n (Stat i) can = can
 
 -- ---- tasks that had their turn, and whose reply is to come
 

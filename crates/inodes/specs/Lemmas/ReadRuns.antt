@@ -1,13 +1,14 @@
 -- What a whole run of a reading gathers.
 use Rattle.std.proofs.Common.{◌≡◌, ◌≢◌, ℕ, ◌+◌, ◌-◌, ◌/◌, ◌<◌, ◌≤◌, ◌++◌, Bool, true, false, List, [], ◌∷◌, length, min, refl, sym, ap, ◌∙◌, append_assoc, Some, arith}
 use Rattle.std.specs.Prelude.{nat_le, ◌==◌, ◌||◌}
-use Rattle.std.proofs.lemmas.Bool.{eqb-true, eqb-false, leb-false}
+use Rattle.std.proofs.lemmas.Bool.{eqb-true, eqb-false, leb-false, or_parts}
 use Rattle.blocks.specs.declared.disk.Disk.{Ghosts}
 use Rattle.model.specs.declared.types.image.Dinode.{Dinode}
 use Rattle.model.specs.declared.types.image.Form.{Form}
 use Rattle.model.specs.Gathered.{GatheredBytes}
 use Rattle.model.specs.Operations.{part_of}
-use Rattle.blockmap.specs.Lemmas.Reading.{length-bytes, part_cut, part_in_two}
+use Rattle.model.specs.Lemmas.Bytes.{part_in_two}
+use Rattle.blockmap.specs.Lemmas.Reading.{length-bytes, part_cut}
 use Rattle.blockmap.specs.Target.{target_for}
 use Rattle.inodes.specs.Readi.{ReadState, first_read}
 use Rattle.inodes.specs.ReadRuns.{ReadMade, IsReadRun, EndsWithBytes, ReadsPart}
@@ -54,10 +55,6 @@ pub record Begins (its : Form) (d : Dinode) (offset count : ℕ) (m : ReadState)
 pub begins : (form : Form) (d : Dinode) (offset count : ℕ) (m : ReadState) → first_read form d offset count ≡ Some m → Begins form d offset count m
 begins form d offset count m is = by_none (nat_le d.size offset || (count == 0)) refl
   where
-    neither : (a b : Bool) → (a || b) ≡ false → (a ≡ false) × (b ≡ false)
-    neither true b both = absurd (cc both)
-    neither false b both = (refl, both)
-
     by_none : (b : Bool) → (nat_le d.size offset || (count == 0)) ≡ b → Begins form d offset count m
     by_none true none = absurd (cc (is, none))
     by_none false some =
@@ -70,8 +67,8 @@ begins form d offset count m is = by_none (nat_le d.size offset || (count == 0))
           next = ap (λ (o : ReadState). o.next) same;
           end = ap (λ (o : ReadState). o.end) same;
           target = ap (λ (o : ReadState). o.target) same;
-          before = leb-false d.size offset (neither (nat_le d.size offset) (count == 0) some).0;
-          some = eqb-false count 0 (neither (nat_le d.size offset) (count == 0) some).1;
+          before = leb-false d.size offset (or_parts (nat_le d.size offset) (count == 0) some).0;
+          some = eqb-false count 0 (or_parts (nat_le d.size offset) (count == 0) some).1;
         }
 
 pub reads_part : {D N : Type 0} (disk : Ghosts D N) → ReadsPart disk

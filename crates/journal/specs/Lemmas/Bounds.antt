@@ -165,3 +165,11 @@ module _ (p : ℕ) (ats new : ℕ → At) (old left : ℕ → ℕ) (l : LogState
     where
       sole : (q : ℕ) → q ≢ p → is_committing_at (ats q) ≡ true → ⊥
       sole q other commits = other (alone.sole q p commits (ap is_committing_at stood))
+
+-- who has steps left has an operation under way
+pub busy_with : (a : At) (left : ℕ) (l : LogState) → 0 < all_steps_left a left l → is_busy_at a ≡ true
+busy_with at.Idle left l some = let none : ⊥ = omega (arith, some) in absurd none
+busy_with (at.Before group op) left l some = refl
+busy_with (at.Behind group k) left l some = refl
+busy_with (at.Ending group k) left l some = refl
+busy_with (at.Committing group k) left l some = refl

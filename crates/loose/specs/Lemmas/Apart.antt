@@ -10,6 +10,7 @@ use Rattle.model.specs.Names.{names_along}
 use Rattle.model.specs.Places.{address_in, addresses_in, pointers_in}
 use Rattle.model.specs.Soundness.{count_of}
 use Rattle.model.specs.Lemmas.Counts.{count_of-append}
+use Rattle.model.specs.Lemmas.Wholes.{thirteen_depths}
 use Rattle.loose.specs.Held.{Claim, Claims, Growth, IsGrowing, names_claimed, names_held, grows, listed}
 use Rattle.loose.specs.HeldLaws.{IsHeldIn, IsMarkedData}
 use Rattle.loose.specs.Trees.{depth_of, led_to, place_along, place_under}
@@ -18,7 +19,6 @@ use Rattle.loose.specs.Lemmas.HeldFrames.{growing_of, owned_once, whole_names}
 use Rattle.loose.specs.Lemmas.HeldLooks.{owned_marked}
 use Rattle.loose.specs.Lemmas.Looks.{between}
 use Rattle.loose.specs.Lemmas.Ways.{IsWayTo, led_none, led_along, along_apart, way_along}
-use Rattle.loose.specs.Lemmas.Wholes.{thirteen_depths}
 
 module _ (m : Files) (x : Image) (claims : Claims) (i : ℕ) (g : Growth) (h : IsHeldIn m x claims i (grows g)) where
   abbrev d : Dinode

@@ -1,5 +1,5 @@
 -- A task writes bytes into a block of its file.
-use Rattle.std.proofs.Common.{◌≡◌, ◌≢◌, ℕ, ◌+◌, ◌-◌, ◌*◌, ◌/◌, ◌%◌, ◌<◌, ◌≤◌, List, [], ◌++◌, length, get_or, set, take, drop, max, Option, Some, sym, ap, ap₂, subst, ◌∙◌, ⊎_elim, arith, length-append}
+use Rattle.std.proofs.Common.{◌≡◌, ◌≢◌, ℕ, ◌+◌, ◌-◌, ◌*◌, ◌/◌, ◌%◌, ◌<◌, ◌≤◌, List, [], ◌++◌, length, get_or, set, max, Option, Some, sym, ap, subst, ◌∙◌, ⊎_elim, arith}
 use Rattle.loose.specs.GrowthLaws.{BytesWritten, WritesNext}
 use Rattle.loose.specs.Held.{Claim, Claims, Growth, IsClaimedNow, IsFine, IsGrowing, names_claimed, grows, reaching, listed}
 use Rattle.model.specs.declared.types.image.Dinode.{Dinode}
@@ -7,7 +7,7 @@ use Rattle.model.specs.Files.{Files, bytes_in, file_in}
 use Rattle.loose.specs.HeldLaws.{FitsThen, IsHeldIn}
 use Rattle.model.specs.declared.types.image.Form.{Form}
 use Rattle.blocks.specs.Disk.{Image, block_at}
-use Rattle.loose.specs.Lemmas.Looks.{IsFullAt, byte_at, length-bytes_in, between}
+use Rattle.loose.specs.Lemmas.Looks.{between}
 use Rattle.model.specs.Soundness.{IsLawfulGeometry, count_of}
 use Rattle.loose.specs.Lemmas.Growing.{WritesOwn, but_own, own_agrees, own_base, own_inode, writes_own}
 use Rattle.loose.specs.Lemmas.KeptTrees.{SameTrees, names_same_along, address_same_along}
@@ -15,30 +15,16 @@ use Rattle.loose.specs.Lemmas.Wholes.{greatest_small}
 use Rattle.model.specs.Lemmas.Frames.{form_agree}
 use Rattle.model.specs.Names.{names_along}
 use Rattle.model.specs.Places.{address_along, address_in, addresses_in, pointers_in}
-use Rattle.std.proofs.lemmas.List.{append_assoc, drop-drop, drop_at, ext_get_or, get_or-set_other, get_or-set_same, length-take-le, take_at}
+use Rattle.std.proofs.lemmas.List.{ext_get_or, get_or-set_other, get_or-set_same}
 use Rattle.loose.specs.Lemmas.Apart.{blocks_apart, copy_marked, data_apart, data_named, named_mine}
 use Rattle.std.proofs.lemmas.Bool.{cases_eq, cases_lt}
 use Rattle.loose.specs.Lemmas.HeldFrames.{growing_of, labels_same, whole_names}
 use Rattle.loose.specs.Lemmas.GrowthBlocks.{copy_full, copy_size, full_block, length-written_over}
 use Rattle.model.specs.Layout.{depths, form_of, greatest_size}
 use Rattle.loose.specs.Lemmas.Frames.{geometry_same}
-use Rattle.model.specs.Lemmas.Codecs.{get_or-overwritten_before, get_or-overwritten_behind, get_or-overwritten_in, length-overwritten}
+use Rattle.model.specs.Lemmas.Codecs.{get_or-overwritten_before, get_or-overwritten_behind, get_or-overwritten_in, length-overwritten, overwritten-join}
+use Rattle.model.specs.Lemmas.Bytes.{IsFullAt, byte_at, length-bytes_in}
 use Rattle.blocks.specs.Block.{overwritten}
-
--- two writes, the second right behind the first
-overwritten_more : (old a b : List ℕ) (at next : ℕ) → next ≡ at + length a → at ≤ length old →
-    overwritten (overwritten old at a) next b ≡ overwritten old at (a ++ b)
-overwritten_more old a b at next is inside =
-    let rest = drop (at + length a) old in
-    let len : length (take at old ++ a) ≡ next = omega (arith, is, length-append (take at old) a, length-take-le at old inside) in
-    let front : take next (overwritten old at a) ≡ take at old ++ a = take_at (take at old ++ a) rest next len in
-    let back : drop (next + length b) (overwritten old at a) ≡ drop (at + length (a ++ b)) old =
-    sym (drop-drop (length b) next (overwritten old at a))
-    ∙ ap (drop (length b)) (drop_at (take at old ++ a) rest next len)
-    ∙ drop-drop (length b) (at + length a) old
-    ∙ ap (λ (k : ℕ). drop k old) (omega (arith, length-append a b)) in
-    ap₂ (λ (x y : List ℕ). x ++ b ++ y) front back
-    ∙ ap (λ (x : List ℕ). x ++ drop (at + length (a ++ b)) old) (append_assoc (take at old) a b)
 
 record Writes (m : Files) (x : Image) (claims new : Claims) (i k at b : ℕ) (bytes : List ℕ) (g : Growth) : Type 0 where
   held : IsHeldIn m x claims i (grows g)
@@ -284,7 +270,7 @@ module _ (m : Files) (x : Image) (claims new : Claims) (i k at b : ℕ) (bytes :
         kind = growing.kind;
         reaches = growing.reaches;
         bytes = file_now ∙ ap (λ (l : List ℕ). overwritten l q bytes) growing.bytes
-            ∙ overwritten_more growing.old.bytes g.written bytes g.offset q (sym h.next.place) growing.reaches;
+            ∙ overwritten-join growing.old.bytes g.written bytes g.offset q (sym h.next.place) growing.reaches;
       }
 
   same_names : addresses_in (pointers_in y t.copy) ≡ addresses_in (pointers_in x d)

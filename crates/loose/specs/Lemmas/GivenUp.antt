@@ -11,15 +11,16 @@ use Rattle.model.specs.Files.{Files, file_in}
 use Rattle.model.specs.Layout.{super_of, inode_of, inode_count_of, first_data_block, is_marked, depths, direct_count, form_of}
 use Rattle.model.specs.Soundness.{count_of}
 use Rattle.model.specs.Lemmas.Bits.{has_bit-without_bit_same, has_bit-without_bit_other, length-without_bit}
-use Rattle.model.specs.Lemmas.Codecs.{length-words_of-block}
 use Rattle.model.specs.Lemmas.Counts.{count_of-append}
+use Rattle.model.specs.Lemmas.Wholes.{thirteen_depths}
+use Rattle.model.specs.Lemmas.Words.{length-words_of-block}
 use Rattle.loose.specs.Held.{Held, Claims, IsHeld, IsFine, IsClaimedNow, names_claimed, owned, unmarked, without_address, blocks_left, frees, Claim}
 use Rattle.loose.specs.HeldLaws.{FitsThen, IsHeldIn, IsGivenUp, DirectGivenUp, BlockGivenUp, LeavesAsMany, TreeGivenUp}
 use Rattle.loose.specs.Trees.{names_left, left_under, left_along, depth_of, entry_of, led_to, IsFirstTree, LeavesAlike}
 use Rattle.loose.specs.Lemmas.Lengths.{as_many}
 use Rattle.loose.specs.Lemmas.LeftInTrees.{MovesOn, left_parts, passed, given, alone, without_along, direct_along}
 use Rattle.loose.specs.Lemmas.Ways.{IsAhead, ahead_root, led_left}
-use Rattle.loose.specs.Lemmas.Wholes.{thirteen_depths, direct_depth, direct_few}
+use Rattle.loose.specs.Lemmas.Wholes.{direct_depth, direct_few}
 use Rattle.loose.specs.Loose.{IsLoose}
 use Rattle.loose.specs.Lemmas.Claims.{apart}
 use Rattle.loose.specs.Lemmas.HeldFrames.{ChangesOne, loose_alike, names_same, fine_same, owned_kept, fits_then, claimed_in_data, at_data, Passes, data_passes}

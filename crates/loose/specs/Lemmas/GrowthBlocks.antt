@@ -6,9 +6,9 @@ use Rattle.model.specs.declared.types.image.File.{File}
 use Rattle.model.specs.Files.{Files, file_in}
 use Rattle.loose.specs.GrowthLaws.{GrowthHasBlocks, HasGrowthBlocks}
 use Rattle.blocks.specs.Disk.{Image}
-use Rattle.loose.specs.Lemmas.Looks.{IsFullAt, length-bytes_in}
 use Rattle.loose.specs.HeldLaws.{IsHeldIn}
 use Rattle.model.specs.Places.{address_in}
+use Rattle.model.specs.Lemmas.Bytes.{IsFullAt, length-bytes_in}
 use Rattle.loose.specs.Lemmas.Apart.{data_marked, slot_marked}
 use Rattle.loose.specs.Lemmas.HeldFrames.{growing_of}
 use Rattle.std.proofs.lemmas.List.{length-drop, length-take-le}

@@ -1,21 +1,20 @@
 -- A task that writes is done: its copy is written back, and its reply stands.
-use Rattle.std.proofs.Common.{◌≡◌, ◌≢◌, ℕ, ◌+◌, ◌*◌, ◌/◌, ◌%◌, ◌<◌, ◌≤◌, true, List, length, set, take, Some, None, refl, sym, ap, ◌∙◌, ⊎_elim, arith, ap₂, eqb, length-set}
-use Rattle.model.specs.declared.types.image.Dinode.{Dinode}
+use Rattle.std.proofs.Common.{◌≡◌, ℕ, ◌+◌, ◌*◌, ◌/◌, ◌%◌, ◌<◌, ◌≤◌, true, List, length, set, take, Some, None, refl, sym, ap, ◌∙◌, ⊎_elim, arith, ap₂, eqb, length-set}
 use Rattle.model.specs.declared.types.image.File.{File}
-use Rattle.model.specs.Files.{Files, bytes_in, file_in, file_of}
+use Rattle.model.specs.Files.{Files, bytes_in, file_in}
 use Rattle.model.specs.declared.types.image.Form.{Form}
 use Rattle.loose.specs.GrowthLaws.{GrowthAnswers, GrowthRests, RestingRefuses}
-use Rattle.blocks.specs.Disk.{Image}
 use Rattle.model.specs.declared.types.operations.Op.TheVariants.{Write}
 use Rattle.model.specs.declared.types.operations.Reply.TheVariants.{Wrote}
 use Rattle.model.specs.Places.{address_in}
-use Rattle.std.proofs.lemmas.Bool.{cases_lt, eq-eqb, le-leb, le-ltb, lt-ltb, ne_eqb, or_right}
+use Rattle.std.proofs.lemmas.Bool.{cases_lt, eq-eqb, le-leb, le-ltb, lt-ltb, or_right}
 use Rattle.loose.specs.Lemmas.GrowthBlocks.{copy_size, same_file_there}
 use Rattle.model.specs.Soundness.{count_of}
 use Rattle.model.specs.Layout.{form_of, greatest_size, inode_of}
 use Rattle.std.proofs.lemmas.List.{get_or-set_other, get_or-set_same, length-take-le}
 use Rattle.loose.specs.Lemmas.HeldFrames.{growing_of}
 use Rattle.model.specs.Operations.{may_have_written, transfer_limit, with_bytes, after}
+use Rattle.model.specs.Lemmas.Bytes.{file_used}
 use Rattle.loose.specs.Lemmas.Apart.{named_mine}
 use Rattle.loose.specs.Lemmas.HeldLooks.{resting_tells}
 use Rattle.loose.specs.Lemmas.WriteBacks.{writes_back}
@@ -24,10 +23,6 @@ use Rattle.blocks.specs.Block.{overwritten}
 use Rattle.loose.specs.Held.{listed}
 
 -- ---- the write-back
-
-used_is : (x : Image) (d : Dinode) → d.kind ≢ 0 → file_of x d ≡ Some (record { kind = d.kind; bytes = bytes_in x d })
-unfolding file_of
-used_is x d used = rw (ne_eqb d.kind 0 used) refl
 
 pub growth_rests : GrowthRests
 growth_rests m x claims new i g old h none is now =
@@ -55,7 +50,7 @@ growth_rests m x claims new i g old h none is now =
       count = length-set m i (Some file);
       own = get_or-set_same m i (Some file) None inside
           ∙ ap₂ (λ (k : ℕ) (l : List ℕ). Some (record { kind = k; bytes = l })) (sym kind) (sym bytes)
-          ∙ sym (used_is x g.copy growing.fit.used);
+          ∙ sym (file_used x g.copy growing.fit.used);
       files = λ j ne. get_or-set_other m i j (Some file) None ne;
     })
 

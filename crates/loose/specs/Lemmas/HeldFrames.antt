@@ -1,5 +1,5 @@
 -- What stays of the claims in an image that agrees with another at its data blocks.
-use Rattle.std.proofs.Common.{◌≡◌, ◌≢◌, ℕ, ◌+◌, ◌-◌, ◌<◌, ◌≤◌, Bool, ◌||◌, eqb, ltb, List, [], ◌++◌, length, Option, Some, None, refl, sym, ap, subst, ◌∙◌, ⊎_elim, arith, true, eqb-true, IsTrue, set, get_or-set_other}
+use Rattle.std.proofs.Common.{◌≡◌, ◌≢◌, ℕ, ◌+◌, ◌-◌, ◌<◌, ◌≤◌, Bool, ◌||◌, ltb, List, [], ◌++◌, length, Option, Some, None, refl, sym, ap, subst, ◌∙◌, ⊎_elim, arith, true, IsTrue, set, get_or-set_other}
 use Rattle.std.specs.List.{flat_map, range_with_len}
 use Rattle.std.proofs.lemmas.Bool.{cases_eq}
 use Rattle.blocks.specs.Disk.{Image}
@@ -9,7 +9,7 @@ use Rattle.model.specs.declared.types.image.Super.{Super}
 use Rattle.model.specs.Agreement.{AgreesFor, Agrees}
 use Rattle.model.specs.Fields.{u32_at}
 use Rattle.model.specs.Files.{Files, file_in}
-use Rattle.model.specs.Layout.{super_in, super_of, magic_of, is_lawful_super, inode_of, inode_count_of, first_data_block, meta_count, form_of, magic_at, depths, inode_block, inode_in, inode_bytes_in, is_known_magic}
+use Rattle.model.specs.Layout.{super_in, super_of, is_lawful_super, inode_of, inode_count_of, first_data_block, meta_count, form_of, depths, inode_block, inode_in, inode_bytes_in, is_known_magic}
 use Rattle.model.specs.Places.{addresses_in, pointers_in}
 use Rattle.model.specs.Soundness.{IsLawfulGeometry, count_of}
 use Rattle.model.specs.Lemmas.Counts.{count_flat, count_flat_one, count_of-append, count_two}
@@ -24,7 +24,7 @@ use Rattle.loose.specs.Lemmas.Looks.{between}
 use Rattle.model.specs.Crash.{labels_of}
 use Rattle.model.specs.Names.{names_along}
 use Rattle.model.specs.Lemmas.Names.{pointers_named}
-use Rattle.loose.specs.Lemmas.Wholes.{names_used}
+use Rattle.model.specs.Lemmas.Wholes.{names_used}
 use Rattle.loose.specs.Lemmas.KeptTrees.{left_along_kept}
 use Rattle.loose.specs.Trees.{left_along}
 use Rattle.model.specs.Journal.{is_number}

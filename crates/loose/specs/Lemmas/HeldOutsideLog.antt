@@ -5,14 +5,14 @@ use Rattle.model.specs.Agreement.{IsSameOutsideLog, is_outside_log}
 use Rattle.model.specs.Files.{Files, file_in}
 use Rattle.model.specs.Layout.{super_of, inode_count_of}
 use Rattle.model.specs.Soundness.{count_of}
-use Rattle.model.specs.Lemmas.OutsideLog.{behind_log}
+use Rattle.model.specs.Lemmas.OutsideLog.{behind_log, inode_agree}
 use Rattle.model.specs.Lemmas.Soundness.{facts_of}
 use Rattle.loose.specs.Held.{Claims, FitsHeld, owned, names_claimed}
 use Rattle.loose.specs.HeldLaws.{HeldOutsideLog, FitsThen}
 use Rattle.loose.specs.Loose.{AreFull}
 use Rattle.loose.specs.Lemmas.Frames.{SameSuperAndMap, loose_same}
 use Rattle.loose.specs.Lemmas.HeldFrames.{ChangesOne, loose_alike, names_same, fine_same, owned_kept, fits_then, same_file, at_data, Passes, data_passes, stays_held}
-use Rattle.loose.specs.Lemmas.OutsideLog.{inode_outside, data_outside}
+use Rattle.loose.specs.Lemmas.OutsideLog.{data_outside}
 
 module _ (m : Files) (x y : Image) (claims : Claims) (same : IsSameOutsideLog x y) (f : FitsHeld m x claims) where
   all_pass : (j : ℕ) → 1 ≤ j → j < inode_count_of x → Passes is_outside_log (names_claimed x j (claims j))
@@ -25,7 +25,7 @@ module _ (m : Files) (x y : Image) (claims : Claims) (same : IsSameOutsideLog x 
     agree = at_data is_outside_log x y (data_outside x y same.agree);
     passes = λ j first last ne. all_pass j first last;
     size = same.size;
-    inodes = λ j inside ne. inode_outside x y j same.agree;
+    inodes = λ j inside ne. inode_agree x y j same.agree;
     claims_same = λ j ne. refl;
     count = refl;
     files = λ j ne. refl;
@@ -51,7 +51,7 @@ module _ (m : Files) (x y : Image) (claims : Claims) (same : IsSameOutsideLog x 
   same_owned c =
       let inside = two in
       let kept = owned_kept is_outside_log m x claims 1 m y claims first c (omega arith) inside in
-      let own = ap (count_of c) (names_same is_outside_log x y 1 (claims 1) first.agree (inode_outside x y 1 same.agree)
+      let own = ap (count_of c) (names_same is_outside_log x y 1 (claims 1) first.agree (inode_agree x y 1 same.agree)
       (all_pass 1 (omega arith) inside)) in
       omega arith
 
@@ -65,7 +65,7 @@ module _ (m : Files) (x y : Image) (claims : Claims) (same : IsSameOutsideLog x 
       let inside = two in
       (fits_then is_outside_log m x claims 1 m y claims first full_kept
       (loose_alike y (owned x claims) (owned y claims) same_owned (loose_same x y (owned x claims) base f.loose))
-      (fine_same is_outside_log x y 1 (claims 1) (file_in m 1) first.agree (inode_outside x y 1 same.agree)
+      (fine_same is_outside_log x y 1 (claims 1) (file_in m 1) first.agree (inode_agree x y 1 same.agree)
       (all_pass 1 (omega arith) inside) (f.each 1 (omega arith) inside))).fits
 
   -- as if the number behind j changed

@@ -1,13 +1,11 @@
 -- What looks at a file answer: the file of a number is what its inode says in the image.
-use Rattle.std.proofs.Common.{◌≡◌, ◌≢◌, ℕ, zero, suc, ◌+◌, ◌*◌, ◌<◌, ◌≤◌, Bool, true, ◌&&◌, leb, ltb, List, [], ◌∷◌, length, get_or, Some, None, refl, sym, ap, ◌∙◌, arith, ◌/◌, ◌%◌, ⊎_elim, get_or-take, ◌-◌}
-use Rattle.std.specs.List.{flat_map, range_with_len}
-use Rattle.std.proofs.lemmas.Bool.{ne_eqb, eq-eqb, leb-true, ltb-true, lt-ltb, le-leb, le-ltb, cases_lt}
-use Rattle.std.proofs.lemmas.List.{length-append, length-take-le, get_or_append_left, get_or-append_right}
+use Rattle.std.proofs.Common.{◌≡◌, ◌≢◌, ℕ, zero, suc, ◌+◌, ◌*◌, ◌<◌, ◌≤◌, Bool, true, ◌&&◌, leb, ltb, List, [], ◌∷◌, length, get_or, Some, None, refl, sym, ◌∙◌, arith, ◌-◌}
+use Rattle.std.proofs.lemmas.Bool.{ne_eqb, eq-eqb, leb-true, ltb-true, lt-ltb, le-leb, le-ltb}
 use Rattle.std.proofs.lemmas.Slice.Eq.{bytes_eq-Decides}
 use Rattle.blocks.specs.Disk.{Image, block_at}
 use Rattle.model.specs.declared.types.image.Dinode.{Dinode}
 use Rattle.model.specs.Agreement.{all_pass}
-use Rattle.model.specs.Files.{Files, file_in, file_at, file_of, bytes_in, joined, data_at, blocks_for}
+use Rattle.model.specs.Files.{Files, file_in, file_at, file_of, bytes_in}
 use Rattle.model.specs.Fields.{words_of}
 use Rattle.model.specs.Layout.{reach, depths, form_of, inode_of, inode_count_of, first_data_block}
 use Rattle.model.specs.Operations.{after, part_of, transfer_limit}
@@ -17,76 +15,12 @@ use Rattle.model.specs.declared.types.operations.Op.TheVariants.{Read, Stat}
 use Rattle.model.specs.declared.types.operations.Reply.TheVariants.{Bytes, StatOf}
 use Rattle.model.specs.Lemmas.Frames.{all_pass-append, along_address, pointers_used}
 use Rattle.model.specs.Lemmas.Log.{both_of}
+use Rattle.model.specs.Lemmas.Bytes.{IsFullAt, length-bytes_in}
+use Rattle.model.specs.Lemmas.Wholes.{thirteen_depths}
 use Rattle.loose.specs.Looks.{IsUsed, IsUnused, HasItsFile, HasDataBlocks, AnswersNoFile, UsedIsFit, UsedHasBlocks, StatTells, ReadTells, NoFileTells}
 use Rattle.loose.specs.Loose.{AreFull, LiesInData, IsFit, IsAtRest, Fits}
 use Rattle.loose.specs.Lemmas.Claims.{free_file}
 use Rattle.loose.specs.Lemmas.Frames.{list_all-counted, named_in_data}
-use Rattle.loose.specs.Lemmas.Wholes.{thirteen_depths}
-
--- ---- an inode that has the blocks that its size needs
-
--- each block of a range has 1024 bytes
-abbrev pub AreWhole : (ℕ → List ℕ) → ℕ → ℕ → Type 0
-AreWhole f a n = (k : ℕ) → a ≤ k → k < a + n → length (f k) ≡ 1024
-
-length_blocks : (f : ℕ → List ℕ) (a n : ℕ) → AreWhole f a n → length (flat_map f (range_with_len a n)) ≡ 1024 * n
-length_blocks f a zero each = refl
-length_blocks f a (suc n) each =
-    let both = length-append (f a) (flat_map f (range_with_len (a + 1) n)) in
-    let first = each a (omega arith) (omega arith) in
-    let rest = length_blocks f (a + 1) n (λ k low high. each k (omega arith) (omega arith)) in
-    omega (arith, both, first, rest)
-
--- byte t of joined blocks
-pub get_or_blocks : (f : ℕ → List ℕ) (a n t : ℕ) → AreWhole f a n → t < 1024 * n →
-    get_or (flat_map f (range_with_len a n)) t 0 ≡ get_or (f (a + t / 1024)) (t % 1024) 0
-get_or_blocks f a zero t each h = absurd (omega arith)
-get_or_blocks f a (suc n) t each h =
-    let one = each a (omega arith) (omega arith) in
-    let more = flat_map f (range_with_len (a + 1) n) in
-    ⊎_elim
-    (λ (lt : t < 1024).
-    let q : a + t / 1024 ≡ a = omega arith in
-    let r : t % 1024 ≡ t = omega arith in
-    get_or_append_left (f a) more 0 t (omega (arith, one, lt))
-    ∙ sym (ap (λ k. get_or (f k) (t % 1024) 0) q ∙ ap (λ k. get_or (f a) k 0) r))
-    (λ (le : 1024 ≤ t).
-    let q : a + 1 + (t - 1024) / 1024 ≡ a + t / 1024 = omega arith in
-    let r : (t - 1024) % 1024 ≡ t % 1024 = omega arith in
-    get_or-append_right (f a) more 1024 t 0 one le
-    ∙ get_or_blocks f (a + 1) n (t - 1024) (λ k low high. each k (omega arith) (omega arith)) (omega arith)
-    ∙ ap (λ k. get_or (f k) ((t - 1024) % 1024) 0) q ∙ ap (λ k. get_or (f (a + t / 1024)) k 0) r)
-    (cases_lt t 1024)
-
--- a block that is there has 1024 bytes
-abbrev pub IsFullAt : Image → ℕ → Type 0
-IsFullAt x b = (b ≢ 0) × (length (block_at x b) ≡ 1024)
-
-module _ (x : Image) (d : Dinode) (there : (k : ℕ) → k * 1024 < d.size → IsFullAt x (address_in x d k)) where
-  pub data_there : (k : ℕ) → k * 1024 < d.size → data_at x (address_in x d k) ≡ block_at x (address_in x d k)
-  data_there k low = rw (ne_eqb (address_in x d k) 0 (there k low).0) refl
-
-  pub whole_each : AreWhole (λ k. data_at x (address_in x d k)) 0 (blocks_for d.size)
-  whole_each k low high =
-      let needed : k * 1024 < d.size = omega (arith, high) in
-      ap length (data_there k needed) ∙ (there k needed).1
-
-  pub length-bytes_in : length (bytes_in x d) ≡ d.size
-  unfolding bytes_in joined
-  length-bytes_in =
-      let all = length_blocks (λ k. data_at x (address_in x d k)) 0 (blocks_for d.size) whole_each in
-      length-take-le d.size (flat_map (λ k. data_at x (address_in x d k)) (range_with_len 0 (blocks_for d.size))) (omega (arith, all))
-
-  -- byte t of its file
-  pub byte_at : (t : ℕ) → t < d.size → get_or (bytes_in x d) t 0 ≡ get_or (block_at x (address_in x d (t / 1024))) (t % 1024) 0
-  unfolding bytes_in joined
-  byte_at t low =
-      let f : ℕ → List ℕ = λ k. data_at x (address_in x d k) in
-      let z : 0 + t / 1024 ≡ t / 1024 = omega arith in
-      get_or-take d.size (flat_map f (range_with_len 0 (blocks_for d.size))) t 0 low
-      ∙ get_or_blocks f 0 (blocks_for d.size) t whole_each (omega (arith, low))
-      ∙ ap (λ k. get_or (f k) (t % 1024) 0) z
-      ∙ ap (λ l. get_or l (t % 1024) 0) (data_there (t / 1024) (omega (arith, low)))
 
 -- ---- what an inode names passes a test that its pointers do
 

@@ -1,24 +1,19 @@
 -- The log has no part in which files an image stands for.
-use Rattle.std.proofs.Common.{◌≡◌, ℕ, ◌<◌, length, refl, sym, ap, subst, ◌∙◌, arith}
+use Rattle.std.proofs.Common.{◌≡◌, ◌<◌, length, refl, sym, ap, subst, ◌∙◌, arith}
 use Rattle.blocks.specs.Disk.{Image}
 use Rattle.model.specs.declared.types.image.Super.{Super}
 use Rattle.model.specs.Agreement.{Agrees, IsSameOutsideLog, is_outside_log}
 use Rattle.model.specs.Files.{Files, file_in}
-use Rattle.model.specs.Layout.{super_of, inode_count_of, inode_of, inode_in, inode_bytes_in, inode_block}
+use Rattle.model.specs.Layout.{super_of, inode_count_of}
 use Rattle.model.specs.Log.{cleared}
 use Rattle.model.specs.Places.{places_of}
 use Rattle.model.specs.Lemmas.Log.{none_cleared}
-use Rattle.model.specs.Lemmas.OutsideLog.{behind_log, cleared_outside}
+use Rattle.model.specs.Lemmas.OutsideLog.{behind_log, cleared_outside, inode_agree}
 use Rattle.model.specs.Lemmas.Soundness.{facts_of, long_geometry}
 use Rattle.loose.specs.Laws.{FitsOutsideLog, FitsWhenCleared}
 use Rattle.loose.specs.Loose.{IsLoose, Fits}
 use Rattle.loose.specs.Lemmas.Frames.{AgreesAtData, agrees_for, rest_alike, addresses_alike, SameSuperAndMap, super_same, geometry_same, loose_same, places_same}
 use Rattle.loose.specs.Lemmas.Soundly.{sound_quiet}
-
-pub inode_outside : (x y : Image) (i : ℕ) → Agrees is_outside_log x y → inode_of y i ≡ inode_of x i
-unfolding inode_of
-inode_outside x y i agree =
-    ap (λ block. inode_in (inode_bytes_in block i)) (agree (inode_block i) (behind_log (inode_block i) (omega arith)))
 
 base_outside : (m : Files) (x y : Image) → IsSameOutsideLog x y → Fits m x → SameSuperAndMap x y
 base_outside m x y same f =
@@ -44,7 +39,7 @@ fits_outside m x y same f =
     let data_same = data_outside x y agree in
     let numbers : inode_count_of y ≡ inode_count_of x = ap (λ (s : Super). s.ninodes) (super_same x y base) in
     let places : places_of y ≡ places_of x = places_same x y base
-    (λ i low high. addresses_alike is_outside_log x y i (inode_outside x y i agree) (agrees_for is_outside_log m x y i f data_same low high)) in
+    (λ i low high. addresses_alike is_outside_log x y i (inode_agree x y i agree) (agrees_for is_outside_log m x y i f data_same low high)) in
     record {
       geometry = geometry_same x y base f.geometry;
       full = λ b low within. ap length (agree b (behind_log b low)) ∙ f.full b low (omega arith);
@@ -53,7 +48,7 @@ fits_outside m x y same f =
       zero = f.zero;
       each = λ i low high.
           let inside : i < inode_count_of x = omega arith in
-          rest_alike is_outside_log x y i (file_in m i) (inode_outside x y i agree)
+          rest_alike is_outside_log x y i (file_in m i) (inode_agree x y i agree)
           (agrees_for is_outside_log m x y i f data_same low inside) (f.each i low inside);
     }
 

@@ -10,7 +10,8 @@ use Rattle.model.specs.Fields.{words_of}
 use Rattle.model.specs.Names.{names_under, names_along}
 use Rattle.model.specs.Soundness.{count_of}
 use Rattle.model.specs.Lemmas.Counts.{count_of-append, count_flat, count_flat_one, count_two}
-use Rattle.model.specs.Lemmas.Codecs.{length-words_of-block, words_of-with_entry}
+use Rattle.model.specs.Lemmas.Codecs.{words_of-with_entry}
+use Rattle.model.specs.Lemmas.Words.{length-words_of-block}
 use Rattle.loose.specs.Trees.{entry_of, led_to}
 use Rattle.loose.specs.Lemmas.KeptTrees.{names_kept}
 use Rattle.loose.specs.Lemmas.LeftInTrees.{under_none}

@@ -13,6 +13,7 @@ use Rattle.model.specs.Soundness.{count_of, IsLawfulGeometry}
 use Rattle.model.specs.Lemmas.Codecs.{length-overwritten}
 use Rattle.model.specs.Lemmas.Counts.{AllByRecursion-append}
 use Rattle.model.specs.Lemmas.Frames.{form_agree}
+use Rattle.model.specs.Lemmas.Wholes.{thirteen_depths}
 use Rattle.loose.specs.GrowthLaws.{AddressPlaced, EntryPlaced, LeadsToNone}
 use Rattle.loose.specs.Held.{Claims, Growth, grows, IsClaimedNow, IsGrowing, placing, placed_behind, Claim, names_claimed, listed, IsFine}
 use Rattle.loose.specs.HeldLaws.{FitsThen, IsHeldIn, IsMarkedData}
@@ -29,7 +30,6 @@ use Rattle.loose.specs.Lemmas.Remapped.{mapped}
 use Rattle.loose.specs.Lemmas.SameBytes.{bytes_alike, growing_at}
 use Rattle.loose.specs.Lemmas.Turns.{changes_claim}
 use Rattle.loose.specs.Lemmas.Ways.{KeepsEntries, address_kept, address_set, along_at, led_further, led_kept}
-use Rattle.loose.specs.Lemmas.Wholes.{thirteen_depths}
 
 -- a block that was taken lies among the data
 pub taken_lies : (m : Files) (x : Image) (claims : Claims) (i b : ℕ) (g : Growth) → IsHeldIn m x claims i (grows g) → g.taken ≡ Some b →

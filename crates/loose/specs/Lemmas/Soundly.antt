@@ -11,17 +11,18 @@ use Rattle.model.specs.Files.{Files, file_in, file_at, files_of}
 use Rattle.model.specs.Layout.{form_of, inode_of, inode_block, inode_count_of}
 use Rattle.model.specs.Places.{pointers_of, places_of, addresses_in}
 use Rattle.model.specs.Soundness.{IsSound, IsLawfulInode, IsFilled}
-use Rattle.model.specs.Lemmas.Codecs.{length-words_of-block}
-use Rattle.model.specs.Lemmas.Counts.{All-range, All-range_at, count_of-All}
+use Rattle.model.specs.Lemmas.Counts.{All-range, All-range_at, count_of-All, all_weaker}
 use Rattle.model.specs.Lemmas.FileNumbers.{length-files_of, file_in-files_of, file_in-files_of_zero}
 use Rattle.model.specs.Lemmas.Frames.{pointers_free}
 use Rattle.model.specs.Lemmas.Inodes.{is_dinode-inode_of}
 use Rattle.model.specs.Lemmas.Names.{pointers_named}
 use Rattle.model.specs.Lemmas.Soundness.{IsInData, facts_of, inode_in_data}
+use Rattle.model.specs.Lemmas.Wholes.{filled_whole}
+use Rattle.model.specs.Lemmas.Words.{length-words_of-block}
 use Rattle.loose.specs.Laws.{SoundFits, FitsSoundly}
 use Rattle.loose.specs.Loose.{LiesInData, IsLoose, IsFit, Fits}
 use Rattle.loose.specs.Lemmas.Frames.{AllByRecursion-counted, named_in_data}
-use Rattle.loose.specs.Lemmas.Wholes.{HasFew, whole_filled, filled_whole}
+use Rattle.loose.specs.Lemmas.Wholes.{HasFew, whole_filled}
 
 -- ---- a sound image
 
@@ -31,9 +32,6 @@ loose_sound x sound = record {
   once = sound.once;
   marked = sound.marked;
 }
-
-all_weaker : (P Q : ℕ → Type 0) (xs : List ℕ) → ((a : ℕ) → P a → Q a) → AllByRecursion P xs → AllByRecursion Q xs
-all_weaker P Q xs each h = AllByRecursion-counted Q xs (λ a some. each a (count_of-All P a xs h (λ none. omega arith)))
 
 pub fit_sound : (x : Image) (i : ℕ) → IsImage x → IsSound x → 1 ≤ i → i < inode_count_of x → (inode_of x i).kind ≢ 0 → IsFit x (inode_of x i)
 fit_sound x i is sound low high used =

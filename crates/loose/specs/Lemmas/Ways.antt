@@ -12,9 +12,11 @@ use Rattle.model.specs.Names.{names_under, names_along}
 use Rattle.model.specs.Places.{address_under, address_along}
 use Rattle.model.specs.Soundness.{count_of}
 use Rattle.model.specs.Lemmas.Counts.{count_flat, count_two}
+use Rattle.model.specs.Lemmas.Wholes.{reach_pos}
+use Rattle.model.specs.Lemmas.Frames.{under_zero}
 use Rattle.loose.specs.Trees.{left_under, entry_of, led_to, place_under, place_along, way_to}
 use Rattle.loose.specs.Lemmas.LeftInTrees.{left_parts, under_none}
-use Rattle.loose.specs.Lemmas.Wholes.{reach_pos, inside_reach}
+use Rattle.loose.specs.Lemmas.Wholes.{inside_reach}
 
 -- ---- lists
 
@@ -344,10 +346,6 @@ address_kept x y keeps k (d ∷ ds) (a ∷ addresses) some =
     let no = le-ltb k (reach d) past in
     rw no (address_kept x y keeps (k - reach d) ds addresses (rw no at some)))
     (cases_lt k (reach d))
-
-under_zero : (x : Image) (depth k : ℕ) → address_under x depth k 0 ≡ 0
-under_zero x zero k = refl
-under_zero x (suc depth) k = refl
 
 -- an address is there that was not
 pub address_set : (x : Image) (k : ℕ) (ds addresses : List ℕ) (slot b : ℕ) → get_or addresses slot 0 ≡ 0 → address_along x k ds addresses ≢ 0 →

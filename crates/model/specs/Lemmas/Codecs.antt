@@ -18,7 +18,7 @@ use Rattle.model.specs.declared.types.image.Dinode.{Dinode}
 use Rattle.model.specs.Layout.{magic_of, super_in, inode_in, inode_bytes_in}
 use Rattle.model.specs.Log.{logged_in, homes_in}
 use Rattle.model.specs.Codec.{bytes_of_words, block_of_words, super_words, super_block, header_block, dinode_bytes, IsDinode, with_inode_bytes, with_entry, with_bit, first_bits}
-use Rattle.model.specs.Lemmas.Words.{word_at, word_below, four_times_words}
+use Rattle.model.specs.Lemmas.Words.{word_at, length-words_of-block}
 
 -- ---- bytes in the place of others
 
@@ -68,11 +68,11 @@ get_or-overwritten_in old at bytes k d h below =
     ∙ get_or_append_left bytes (drop (at + length bytes) old) d k below
 
 -- two writes, the second right behind the first
-pub overwritten-join : (old a b : List ℕ) (at next : ℕ) → next ≡ at + length a → next + length b ≤ length old →
+pub overwritten-join : (old a b : List ℕ) (at next : ℕ) → next ≡ at + length a → at ≤ length old →
     overwritten (overwritten old at a) next b ≡ overwritten old at (a ++ b)
-overwritten-join old a b at next is h =
+overwritten-join old a b at next is inside =
     let rest = drop (at + length a) old in
-    let len : length (take at old ++ a) ≡ next = omega (arith, length-append (take at old) a, length-take-le at old (omega arith)) in
+    let len : length (take at old ++ a) ≡ next = omega (arith, is, length-append (take at old) a, length-take-le at old inside) in
     let front : take next (overwritten old at a) ≡ take at old ++ a = take_at (take at old ++ a) rest next len in
     let back : drop (next + length b) (overwritten old at a) ≡ drop (at + length (a ++ b)) old =
     sym (drop-drop (length b) next (overwritten old at a))
@@ -363,12 +363,6 @@ u32_at-overwritten_apart old at bytes j h apart =
     u32_at_same (overwritten old at bytes) old j
     (λ k below. ⊎_elim (λ (low : j + 4 ≤ at). get_or-overwritten_before old at bytes (j + k) 0 h (omega arith))
     (λ (high : at + length bytes ≤ j). get_or-overwritten_behind old at bytes (j + k) 0 h (omega arith)) apart)
-
-pub length-words_of-block : (block : List ℕ) → length block ≡ 1024 → length (words_of block) ≡ 256
-length-words_of-block block h =
-    let below = word_below block 255 (omega arith) in
-    let above = four_times_words block in
-    omega arith
 
 -- the entries of a block in which one was written
 pub words_of-with_entry : (block : List ℕ) (e address : ℕ) → length block ≡ 1024 → e < 256 → address < 2 ^ 32 →

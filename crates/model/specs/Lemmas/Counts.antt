@@ -81,6 +81,18 @@ AllByRecursion-flat P f a (suc n) i all low high =
     ⊎_elim (λ (e : a ≡ i). subst (λ (j : ℕ). AllByRecursion P (f j)) e parts.0)
     (λ (ne : a ≢ i). AllByRecursion-flat P f (a + 1) n i parts.1 (omega arith) (omega arith)) (cases_eq a i)
 
+-- the same of lists that stand for the words of one
+pub flat_at : (P : ℕ → Type 0) (f : ℕ → List ℕ) (ws : List ℕ) (j : ℕ) → AllByRecursion P (flat_map f ws) → j < length ws →
+    AllByRecursion P (f (get_or ws j 0))
+flat_at P f [] j h low = absurd (omega arith)
+flat_at P f (w ∷ ws) zero h low = (AllByRecursion-parts P (f w) (flat_map f ws) h).0
+flat_at P f (w ∷ ws) (suc j) h low = flat_at P f ws j (AllByRecursion-parts P (f w) (flat_map f ws) h).1 (omega arith)
+
+-- what follows of each holds of all
+pub all_weaker : (P Q : ℕ → Type 0) (xs : List ℕ) → ((a : ℕ) → P a → Q a) → AllByRecursion P xs → AllByRecursion Q xs
+all_weaker P Q [] each h = tt
+all_weaker P Q (a ∷ xs) each h = (each a h.0, all_weaker P Q xs each h.1)
+
 -- a fact of each number is a fact of each of their list
 pub All-range : (P : ℕ → Type 0) (a n : ℕ) → ((i : ℕ) → a ≤ i → i < a + n → P i) → All P (range_with_len a n)
 All-range P a n each k d h =

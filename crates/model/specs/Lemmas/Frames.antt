@@ -4,6 +4,7 @@ use Rattle.std.specs.List.{list_all, flat_map, range_with_len}
 use Rattle.std.proofs.lemmas.Bool.{ne_eqb, cases_eq, cases_lt, lt-ltb, le-ltb, eqb-false, not-true}
 use Rattle.std.proofs.lemmas.List.{get_or_past, get_or-set_other}
 use Rattle.std.proofs.lemmas.List.Folds.{list_all-append}
+use Rattle.std.proofs.Math.Numerals.{sub-one}
 use Rattle.blocks.specs.Disk.{Image, block_at}
 use Rattle.model.specs.declared.types.image.Dinode.{Dinode}
 use Rattle.model.specs.declared.types.image.Pointer.{Pointer}
@@ -74,6 +75,13 @@ pub under_zero : (x : Image) (depth k : ℕ) → address_under x depth k 0 ≡ 0
 under_zero x zero k = refl
 under_zero x (suc depth) k = refl
 
+-- an address of a block of addresses
+pub address_block : (x : Image) (depth k address : ℕ) → depth ≢ 0 → address ≢ 0 →
+    address_under x depth k address
+    ≡ address_under x (depth - 1) (k % reach (depth - 1)) (get_or (words_of (block_at x address)) (k / reach (depth - 1)) 0)
+address_block x zero k address deep some = absurd (deep refl)
+address_block x (suc depth) k address deep some = rw (ne_eqb address 0 some, sub-one) refl
+
 -- an address is met that is the same in both images, and passes if it is there
 abbrev pub Meets : (ℕ → Bool) → ℕ → ℕ → Type 0
 Meets test here there = (there ≡ here) × (here ≢ 0 → test here ≡ true)
@@ -121,6 +129,10 @@ along_address test x y agree size first k (depth ∷ depths) (address ∷ addres
 
 pub form_agree : (test : ℕ → Bool) (x y : Image) → Agrees test x y → test 1 ≡ true → form_of y ≡ form_of x
 form_agree test x y agree one = rw (agree 1 one) refl
+
+-- an image's form is told by its superblock
+pub form_same : (x y : Image) → block_at y 1 ≡ block_at x 1 → form_of y ≡ form_of x
+form_same x y same = rw same refl
 
 pub pointers_free : (x : Image) (d : Dinode) → d.kind ≡ 0 → pointers_in x d ≡ []
 unfolding pointers_in

@@ -11,7 +11,7 @@ use Rattle.model.specs.Codec.{IsDinode, with_inode_bytes, with_inode, new_inode}
 use Rattle.model.specs.Fields.{u16_at, u32_at, words_of}
 use Rattle.model.specs.Layout.{inode_in, inode_of, inode_bytes, inode_bytes_in, inode_block}
 use Rattle.model.specs.Lemmas.Codecs.{inode_in-with_inode_bytes, inode_bytes_in-with_inode_bytes_other}
-use Rattle.model.specs.Lemmas.Words.{word_at, word_below, word_past, four_times_words}
+use Rattle.model.specs.Lemmas.Words.{word_at, word_past, thirteen}
 
 -- ---- an inode that is read
 
@@ -39,12 +39,6 @@ words_small : (xs : List ℕ) (k : ℕ) → AreBytes xs → get_or (words_of xs)
 words_small xs k each =
     ⊎_elim (λ (past : length xs < 4 * k + 4). let z = word_past xs k past in rw z (omega arith))
     (λ (le : 4 * k + 4 ≤ length xs). rw (word_at xs k le) (four_small xs (4 * k) each)) (cases_lt (length xs) (4 * k + 4))
-
-thirteen : (xs : List ℕ) → length xs ≡ 64 → length (words_of (drop 12 xs)) ≡ 13
-thirteen xs h =
-    let below = word_below (drop 12 xs) 12 (omega (arith, length-drop 12 xs)) in
-    let above = four_times_words (drop 12 xs) in
-    omega (arith, length-drop 12 xs)
 
 pub is_dinode-inode_in : (xs : List ℕ) → length xs ≡ 64 → ((k : ℕ) → get_or xs k 0 < 256) → IsDinode (inode_in xs)
 unfolding inode_in

@@ -1,5 +1,5 @@
 -- Images that differ in the log alone are sound together, and have the same files.
-use Rattle.std.proofs.Common.{◌≡◌, ◌≢◌, ℕ, zero, suc, ◌+◌, ◌-◌, ◌<◌, ◌≤◌, true, ◌||◌, eqb, ltb, List, [], ◌∷◌, length, map, refl, sym, ap, subst, ◌∙◌, ⊎_elim, arith}
+use Rattle.std.proofs.Common.{◌≡◌, ◌≢◌, ℕ, zero, suc, ◌+◌, ◌-◌, ◌<◌, ◌≤◌, true, ◌||◌, ltb, List, [], ◌∷◌, length, map, refl, sym, ap, subst, ◌∙◌, ⊎_elim, arith}
 use Rattle.std.specs.Prelude.{All}
 use Rattle.std.specs.List.{flat_map, list_all, range_with_len, AllByRecursion}
 use Rattle.std.proofs.lemmas.Bool.{ne_eqb, cases_eq, lt-ltb, le-ltb}
@@ -68,7 +68,7 @@ record Likeness (x y : Image) : Type 0 where
   files : (i : ℕ) → 1 ≤ i → i < inode_count_of x → file_of y (inode_of y i) ≡ file_of x (inode_of x i)
   places : places_of y ≡ places_of x
 
-inode_agree : (x y : Image) (i : ℕ) → Agrees is_outside_log x y → inode_of y i ≡ inode_of x i
+pub inode_agree : (x y : Image) (i : ℕ) → Agrees is_outside_log x y → inode_of y i ≡ inode_of x i
 unfolding inode_of
 inode_agree x y i agree = ap (λ block. inode_in (inode_bytes_in block i)) (agree (inode_block i) (behind_log (inode_block i) (omega arith)))
 

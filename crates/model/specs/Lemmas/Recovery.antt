@@ -65,7 +65,7 @@ no_place (home ∷ homes) n b e =
 pub few_homes : (x : Image) → length (homes_of x) ≤ 30
 few_homes x = omega (arith, length-take (min (logged_count x) 30) (words_of (drop 4 (block_at x 2))))
 
-no_homes : (x : Image) → logged_count x ≡ 0 → homes_of x ≡ []
+pub no_homes : (x : Image) → logged_count x ≡ 0 → homes_of x ≡ []
 no_homes x e = ap (λ n. take (min n 30) (words_of (drop 4 (block_at x 2)))) e
 
 pub recovered_map : (x : Image) → logged_count x ≢ 0 → recovered x ≡ map (recovered_block x) (range_with_len 0 (length x))

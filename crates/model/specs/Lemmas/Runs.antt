@@ -1,5 +1,5 @@
 -- Runs in parts, what operations keep, and what a creation makes of files.
-use Rattle.std.proofs.Common.{◌≡◌, ℕ, Bool, true, false, cond, not, ◌&&◌, ◌||◌, ltb, leb, ◌<◌, List, [], ◌∷◌, length, set, Option, Some, None, refl, sym, ap, subst, ◌∙◌, inl, inr, ⊎_elim, ◌⊎◌, arith, ◌≢◌}
+use Rattle.std.proofs.Common.{◌≡◌, ℕ, Bool, true, false, cond, not, ◌&&◌, ◌||◌, ltb, leb, ◌<◌, List, [], ◌∷◌, length, set, Option, Some, None, refl, sym, ap, subst, ◌∙◌, inl, inr, ⊎_elim, ◌⊎◌, arith, ◌≢◌, ◌++◌}
 use Rattle.std.specs.Prelude.{IsSome, is_none}
 use Rattle.std.proofs.lemmas.Bool.{and_cases, ltb-false, le-leb, le-ltb, lt-ltb, lt-leb, cases_lt, not-true, and_parts, ltb-true}
 use Rattle.std.proofs.lemmas.List.{length-set, get_or_past, get_or-set_other}
@@ -26,6 +26,12 @@ replays_in_parts form files [] second = refl
 replays_in_parts form files (e ∷ es) second =
     ap (λ k. and_then (after_answer form files e.op e.reply) k) (λ i f. replays_in_parts form f es second i)
     ∙ and_then-and_then (after_answer form files e.op e.reply) (λ f. replay form f es) (λ mid. replay form mid second)
+
+-- one entry more
+pub replay_more : (form : Form) (old files new : Files) (before : List Entry) (e : Entry) →
+    replay form old before ≡ Some files → after_answer form files e.op e.reply ≡ Some new →
+    replay form old (before ++ e ∷ []) ≡ Some new
+replay_more form old files new before e run here = replays_in_parts form old before (e ∷ []) ∙ rw (run, here)
 
 -- what a test gives where it is passed
 pub where_true_some : {A : Type 0} (b : Bool) (a c : A) → where_true b a ≡ Some c → (b ≡ true) × (c ≡ a)

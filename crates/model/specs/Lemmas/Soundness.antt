@@ -8,7 +8,7 @@ use Rattle.std.proofs.lemmas.List.Elements.{All-from_recursion, recursion_from_A
 use Rattle.blocks.specs.Disk.{Image}
 use Rattle.model.specs.declared.types.image.Pointer.{Pointer}
 use Rattle.model.specs.declared.types.fault.CheckFault.{CheckFault}
-use Rattle.model.specs.declared.types.fault.CheckFault.TheVariants.{BadMagic, BadGeometry, BadLog, BadType, BadSize, BadAddress, TwiceUsed, UsedButFree, LostBlock}
+use Rattle.model.specs.declared.types.fault.CheckFault.TheVariants.{BadMagic, BadGeometry, BadType, BadSize, BadAddress, TwiceUsed, UsedButFree, LostBlock}
 use Rattle.model.specs.Fields.{u32_at}
 use Rattle.model.specs.Layout.{first_data_block, is_marked, inode_of, inode_count_of, greatest_size, form_of, has_known_magic, super_of, is_lawful_super, is_known_magic}
 use Rattle.model.specs.Log.{recovered, is_lawful_log, logged_count}
@@ -17,7 +17,7 @@ use Rattle.model.specs.Soundness.{count_of, place_count, IsFilled, IsSound, IsLa
 use Rattle.model.specs.Verdict.{first_of, or_else, inode_fault, inodes_fault, mark_fault, marks_fault, places_below, verdict, geometry_fault, log_fault, pointer_fault, address_fault, first_pointer_fault}
 use Rattle.model.specs.Laws.{VerdictIsSound}
 use Rattle.model.specs.Lemmas.Steps.{flat_mapped_next}
-use Rattle.model.specs.Lemmas.Super.{guard_none, or_else_none, super_of-recovered, super_facts, SuperFacts}
+use Rattle.model.specs.Lemmas.Super.{guard_none, or_else_none, super_of-recovered, super_facts, SuperFacts, verdict_none}
 use Rattle.model.specs.Lemmas.Log.{recovered_low, length-recovered}
 use Rattle.model.specs.Lemmas.Recovery.{logged_count-left}
 use Rattle.model.specs.Lemmas.Frames.{pointers_free}
@@ -55,10 +55,10 @@ address_fault-none y i earlier a h =
     rw (le-ltb a (first_data_block y) there.0, lt-ltb a (length y) there.1, h.absent, there.2) refl
 
 -- the pointer's address, where there is one, in a list
-no_address : (p : Pointer) (pointers : List Pointer) → p.address ≡ 0 → addresses_in (p ∷ pointers) ≡ addresses_in pointers
+pub no_address : (p : Pointer) (pointers : List Pointer) → p.address ≡ 0 → addresses_in (p ∷ pointers) ≡ addresses_in pointers
 no_address p pointers e = rw e refl
 
-one_address : (p : Pointer) (pointers : List Pointer) → p.address ≢ 0 → addresses_in (p ∷ pointers) ≡ p.address ∷ addresses_in pointers
+pub one_address : (p : Pointer) (pointers : List Pointer) → p.address ≢ 0 → addresses_in (p ∷ pointers) ≡ p.address ∷ addresses_in pointers
 one_address p pointers some = rw (ne_eqb p.address 0 some) refl
 
 pub faultless_pointers : (y : Image) (i : ℕ) (earlier : List ℕ) (pointers : List Pointer) → first_pointer_fault y i earlier pointers ≡ None →
@@ -178,7 +178,7 @@ inode_fault-none y i lawful none =
     (cases_eq (inode_of y i).kind 0)
 
 -- the places of one inode more
-places_below_next : (y : Image) (i : ℕ) → 1 ≤ i → places_below y (i + 1) ≡ places_below y i ++ addresses_in (pointers_of y i)
+pub places_below_next : (y : Image) (i : ℕ) → 1 ≤ i → places_below y (i + 1) ≡ places_below y i ++ addresses_in (pointers_of y i)
 places_below_next y i h = flat_mapped_next (λ j. addresses_in (pointers_of y j)) i h
 
 -- the places of the inodes below an end
@@ -300,10 +300,6 @@ faultless_where_sound y sound = record {
   marks = λ b h. mark_fault-none y b (sound.marked b h);
 }
 
-faultless_log : (b : Bool) → cond b None (Some BadLog) ≡ None → b ≡ true
-faultless_log true e = refl
-faultless_log false e = absurd (cc e)
-
 faultless_geometry : (x : Image) → geometry_fault x ≡ None → IsLawfulGeometry x
 faultless_geometry x h =
     let rest = guard_none (ltb (length x) 2) BadGeometry _ h in
@@ -349,7 +345,7 @@ verdict_sound x h =
     let second = or_else_none (log_fault x) _ first.1 in
     let third = or_else_none (inodes_fault (recovered x)) (marks_fault (recovered x)) second.1 in
     let g = faultless_geometry x first.0 in
-    let lawful = faultless_log (is_lawful_log x) second.0 in
+    let lawful = (verdict_none x h).1 in
     let after = IsLawfulGeometry-recovered x lawful g in
     let some = (facts_of (recovered x) after).some in
     (g, lawful, sound_content (recovered x) after (logged_count-left x) (omega arith) (faultless_content (recovered x) third.0 third.1))

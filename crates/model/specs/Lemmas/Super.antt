@@ -1,6 +1,6 @@
 -- What a lawful superblock gives.
 use Rattle.std.proofs.Common.{◌≡◌, ℕ, ◌+◌, ◌/◌, ◌<◌, ◌≤◌, Bool, true, false, cond, not, ◌&&◌, eqb, leb, ltb, length, Option, Some, None, refl, ap, arith}
-use Rattle.std.proofs.lemmas.Bool.{leb-true, ltb-true, eqb-true}
+use Rattle.std.proofs.lemmas.Bool.{leb-true, ltb-true, eqb-true, not-false}
 use Rattle.model.specs.declared.types.image.Super.{Super}
 use Rattle.model.specs.declared.types.fault.CheckFault.TheVariants.{BadMagic, BadGeometry, BadLog}
 use Rattle.blocks.specs.Disk.{Image}
@@ -13,10 +13,6 @@ use Rattle.model.specs.Lemmas.Log.{both_of, length-recovered, recovered_low}
 pub guard_none : {A : Type 0} (b : Bool) (e : A) (r : Option A) → cond b (Some e) r ≡ None → (b ≡ false) × (r ≡ None)
 guard_none true e r h = absurd (cc h)
 guard_none false e r h = (refl, h)
-
-pub not_false : (b : Bool) → not b ≡ false → b ≡ true
-not_false true h = refl
-not_false false h = absurd (cc h)
 
 -- the facts that a lawful superblock's test stands for
 pub record SuperFacts (s : Super) (n : ℕ) : Type 0 where
@@ -50,7 +46,7 @@ lawful_geometry x h =
     let rest = guard_none (ltb (length x) 2) BadGeometry _ h in
     let known = guard_none (not (has_known_magic x)) BadMagic _ rest.1 in
     let lawful = guard_none (not (is_lawful_super (super_of x) (length x))) BadGeometry None known.1 in
-    super_facts (super_of x) (length x) (not_false (is_lawful_super (super_of x) (length x)) lawful.0)
+    super_facts (super_of x) (length x) (not-false (is_lawful_super (super_of x) (length x)) lawful.0)
 
 -- an image with a lawful superblock can be read
 pub readable : (x : Image) → SuperFacts (super_of x) (length x) → IsReadable x

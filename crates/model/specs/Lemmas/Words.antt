@@ -51,7 +51,7 @@ header_words_more bs k h =
     words_more (drop 4 bs) k (omega (arith, length-drop 4 bs))
     ∙ ap (λ w. take k (words_of (drop 4 bs)) ++ w ∷ []) (u32_at_drop bs 4 (4 * k))
 
-thirteen : (bs : List ℕ) → length bs ≡ 64 → length (words_of (drop 12 bs)) ≡ 13
+pub thirteen : (bs : List ℕ) → length bs ≡ 64 → length (words_of (drop 12 bs)) ≡ 13
 thirteen bs h =
     let below = word_below (drop 12 bs) 12 (omega (arith, length-drop 12 bs)) in
     let above = four_times_words (drop 12 bs) in
@@ -69,8 +69,8 @@ thirteen_words bs ws hb hw each =
 pub word_past : (bs : List ℕ) (k : ℕ) → length bs < 4 * k + 4 → get_or (words_of bs) k 0 ≡ 0
 word_past bs k h = let few = four_times_words bs in get_or_past (words_of bs) k 0 (omega arith)
 
-block_word_count : (bs : List ℕ) → length bs ≡ 1024 → length (words_of bs) ≡ 256
-block_word_count bs h =
+pub length-words_of-block : (bs : List ℕ) → length bs ≡ 1024 → length (words_of bs) ≡ 256
+length-words_of-block bs h =
     let below = word_below bs 255 (omega arith) in
     let above = four_times_words bs in
     omega arith
@@ -79,5 +79,5 @@ block_word_count bs h =
 pub block_words : (bs ws : List ℕ) → length bs ≡ 1024 → length ws ≡ 256 →
     ((k : ℕ) → k < 256 → get_or ws k 0 ≡ u32_at bs (4 * k)) → ws ≡ words_of bs
 block_words bs ws hb hw each =
-    ext_get_or 0 ws (words_of bs) (hw ∙ sym (block_word_count bs hb))
+    ext_get_or 0 ws (words_of bs) (hw ∙ sym (length-words_of-block bs hb))
     (λ k h. each k (omega (arith, hw)) ∙ sym (word_at bs k (omega (arith, hw, hb))))

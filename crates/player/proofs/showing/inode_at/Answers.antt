@@ -1,5 +1,6 @@
-use Rattle.player.proofs.Shown.{inode_used, none_at_zero, none_free, none_past}
+use Rattle.player.proofs.Shown.{inode_used, none_free, none_past}
 use Rattle.model.specs.Log.{recovered}
+use Rattle.model.specs.Lemmas.FileNumbers.{none_at_zero}
 use Rattle.player.proofs.showing.inode_at.Goals as goal
 use Rattle.player.proofs.showing.inode_at.Goals.{then-number-eq0-via-then-number-eq0, then-number-eq0-via-else-number-eq0+then-number-image}
 

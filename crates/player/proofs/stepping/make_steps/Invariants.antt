@@ -1,7 +1,7 @@
 use Rattle.std.proofs.Common.{◌≡◌, length}
 use Rattle.kernel.specs.Steps.{MakesStep}
+use Rattle.kernel.specs.Moves.{Moves}
 use Rattle.ports.specs.History.{SameNames}
-use Rattle.player.specs.Stepping.{Moves}
 use Rattle.player.proofs.stepping.make_steps.Given as goal
 
 -- the steps so far moved

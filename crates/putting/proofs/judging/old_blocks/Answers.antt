@@ -4,10 +4,11 @@ use Rattle.model.specs.Layout.{form_of}
 use Rattle.model.specs.Log.{recovered}
 use Rattle.model.specs.declared.types.image.Dinode.{Dinode}
 use Rattle.model.specs.declared.types.image.Form.{Form}
+use Rattle.model.specs.Lemmas.FileNumbers.{none_at_zero}
 use Rattle.putting.specs.Judging.{FindsOld}
 use Rattle.putting.specs.Needs.{needed_blocks}
 use Rattle.putting.specs.Places.{LacksOld}
-use Rattle.putting.proofs.ImageLemmas.{form_recovered, free_number, none_at_zero, none_past, used_number}
+use Rattle.putting.proofs.ImageLemmas.{form_recovered, free_number, none_past, used_number}
 use Rattle.putting.proofs.judging.old_blocks.Goals as goal
 use Rattle.putting.proofs.judging.old_blocks.Goals.{then-number-eq0-via-then-number-eq0, then-number-eq0-via-else-number-eq0+then-number-image}
 

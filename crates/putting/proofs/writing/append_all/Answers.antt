@@ -1,14 +1,16 @@
 use Rattle.std.proofs.Common.{◌≡◌, ◌∙◌, ◌+◌, ◌-◌, ◌*◌, ◌<◌, ℕ, Bool, length, take, drop, Some, sym, ap, subst, refl, inl, arith}
 use Rattle.model.specs.Layout.{form_of}
+use Rattle.model.specs.Lemmas.FileNumbers.{below_there}
 use Rattle.filing.specs.Files.{Appends, files_on}
 use Rattle.filing.specs.Stopped.{AppendsFirst}
+use Rattle.filing.specs.Lemmas.Sizes.{there_of_size}
 use Rattle.sole.specs.Calls.{image_on}
 use Rattle.putting.specs.Places.{put_at}
 use Rattle.putting.specs.Stopped.{StaysPut}
 use Rattle.putting.proofs.AppendLemmas.{part_put, piece_first, piece_put, piece_room}
 use Rattle.putting.proofs.CallLemmas.{answered_none, answered_then}
 use Rattle.putting.proofs.PieceLemmas.{piece_inside}
-use Rattle.putting.proofs.PlaceLemmas.{below_there, empty_put, there_of_size}
+use Rattle.putting.proofs.PlaceLemmas.{empty_put}
 use Rattle.putting.proofs.StopLemmas.{led_by_piece, stays_first, stays_none, stays_then}
 use Rattle.putting.proofs.writing.append_all.Goals as goal
 

@@ -7,9 +7,10 @@ use Rattle.putting.specs.Places.{put_at}
 use Rattle.putting.specs.Stopped.{StaysPut}
 use Rattle.putting.specs.Writing.{AreAnswered, Puts}
 use Rattle.putting.proofs.CallLemmas.{all_behind, answered_none, answered_then, cut_behind, part_behind}
-use Rattle.putting.proofs.PlaceLemmas.{below_there, emptied_put}
+use Rattle.putting.proofs.PlaceLemmas.{emptied_put}
 use Rattle.putting.proofs.StopLemmas.{led_behind, led_by_emptying, stays_behind, stays_first, stays_then}
 use Rattle.putting.proofs.writing.replace.Goals as goal
+use Rattle.model.specs.Lemmas.FileNumbers.{below_there}
 
 pub returns-in_err-append_all-clause-refused : goal.returns-in_err-append_all-clause-refused
 returns-in_err-append_all-clause-refused g c =

@@ -9,9 +9,10 @@ use Rattle.journal.specs.Processes.{process}
 use Rattle.kernel.specs.Known.{Known}
 use Rattle.kernel.specs.declared.types.Step.{Step}
 use Rattle.kernel.specs.declared.types.Step.TheVariants as step
+use Rattle.kernel.specs.Moves.{MakesSteps}
 use Rattle.sole.specs.declared.fault.CallFault.TheVariants as fault
 use Rattle.sole.specs.Calls.{Calls, KeepsCall, image_on}
-use Rattle.sole.specs.Stepping.{MakesSteps, Plain, plain_herald, plain_queues}
+use Rattle.sole.specs.Stepping.{Plain, plain_herald, plain_queues}
 use Rattle.sole.proofs.Called.{IsCall, call_looks, call_names, call_opening, is_answered, refused_reads, rests_again}
 use Rattle.sole.proofs.Leaving.{call_leaves, may_given}
 use Rattle.sole.proofs.Rest.{call_made}

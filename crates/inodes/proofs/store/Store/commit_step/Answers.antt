@@ -7,10 +7,10 @@ use Rattle.inodes.specs.Holding.{claims_of}
 use Rattle.inodes.specs.Store.{StoreState, FitsFiles, current_of}
 use Rattle.inodes.specs.Steps.{Commits}
 use Rattle.inodes.specs.Lemmas.Faults.{where_none, if_none}
-use Rattle.inodes.proofs.Frames.{form_same}
 use Rattle.inodes.proofs.StoreKeeps.{geometry_kept, count_kept, agrees_committed, logged_committed}
 use Rattle.inodes.proofs.LooksKept.{looks_outside}
 use Rattle.inodes.proofs.store.Store.commit_step.Goals as goal
+use Rattle.model.specs.Lemmas.Frames.{form_same}
 
 pub invariant_of-self : goal.invariant_of-self
 invariant_of-self g c =

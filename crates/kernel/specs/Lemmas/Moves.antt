@@ -1,13 +1,10 @@
 -- Steps of a process, one after the other.
-use Rattle.std.proofs.Common.{◌≡◌, ℕ, ◌+◌, zero, suc, ◌≢◌, ◌<◌, ◌≤◌, true, refl, sym, subst, arith, add-one}
+use Rattle.std.proofs.Common.{ℕ, ◌+◌, zero, suc, ◌≢◌, ◌<◌, ◌≤◌, refl, sym, subst, arith, add-one}
 use Rattle.blocks.specs.declared.disk.Disk as disk_trait
 use Rattle.ports.specs.declared.herald.Herald as herald_trait
 use Rattle.ports.specs.declared.intake.Intake as intake_trait
-use Rattle.wal.specs.Machine.{LogState}
-use Rattle.journal.specs.declared.types.At.{At}
-use Rattle.journal.specs.declared.types.At.TheVariants as at
-use Rattle.journal.specs.Bound.{all_steps_left, is_busy_at}
 use Rattle.journal.specs.Processes.{process}
+use Rattle.journal.specs.Lemmas.Bounds.{busy_with}
 use Rattle.model.specs.declared.types.image.Form.{Form}
 use Rattle.model.specs.declared.types.image.Form.TheVariants.{One, Two}
 use Rattle.model.specs.Layout.{form_of}
@@ -16,7 +13,7 @@ use Rattle.kernel.specs.declared.types.Step.{Step}
 use Rattle.kernel.specs.declared.types.Step.TheVariants as step
 use Rattle.kernel.specs.State.{State}
 use Rattle.kernel.specs.Steps.{MakesStep}
-use Rattle.sole.specs.Stepping.{MakesSteps, Moves}
+use Rattle.kernel.specs.Moves.{MakesSteps, Moves}
 
 -- none yet
 pub none_moved : {K : Type 0} (steps : Step → K → K → Type 0) (k : K) → Moves steps 0 k k
@@ -37,14 +34,6 @@ pub moves_keep : {K : Type 0} (steps : Step → K → K → Type 0) (P : K → T
 unfolding Moves
 moves_keep steps P keeps zero k m is holds = subst P (sym is) holds
 moves_keep steps P keeps (suc n) k m (mid, made, moves) holds = moves_keep steps P keeps n mid m moves (keeps k mid made holds)
-
--- who has steps left has an operation under way
-busy_with : (a : At) (left : ℕ) (l : LogState) → 0 < all_steps_left a left l → is_busy_at a ≡ true
-busy_with at.Idle left l some = let none : ⊥ = omega (arith, some) in absurd none
-busy_with (at.Before group op) left l some = refl
-busy_with (at.Behind group k) left l some = refl
-busy_with (at.Ending group k) left l some = refl
-busy_with (at.Committing group k) left l some = refl
 
 some_bound : (form : Form) → 0 < step_bound form
 some_bound One = omega arith
