@@ -2,4 +2,4 @@ pub mod OrderLemmas
 pub mod SlotLemmas
 pub mod NextLemmas
 pub mod LinkLemmas
-mod NumberLemmas
+mod EntryLemmas

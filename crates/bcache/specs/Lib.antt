@@ -2,6 +2,6 @@ pub mod Order
 pub mod Links
 pub mod Current
 pub mod Buffers
-pub mod Numbers
+pub mod Entries
 pub mod Laws
 pub mod Lemmas

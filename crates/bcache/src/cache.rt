@@ -1,5 +1,5 @@
 // The cache.
-ghost use Rattle.std.specs.Prelude.{◌≡◌, ℕ, ◌<◌, ◌≤◌, ◌+◌, ◌^◌, length, slice_index, Some, None, IfOk, OnOk, OnErr, IfErr, IfSome, IsSome, position, reverse};
+ghost use Rattle.std.specs.Prelude.{◌≡◌, ℕ, ◌<◌, ◌≤◌, ◌+◌, ◌^◌, length, slice_index, slice_index_or, if◌then◌else◌, Some, None, IfOk, OnOk, OnErr, IfErr, IfSome, IsSome, position, reverse};
 ghost use Rattle.std.specs.Borrow.{Lends, sem};
 ghost use Rattle.blocks.specs.Block.{IsBlock, overwritten, block_size};
 ghost use Rattle.blocks.specs.Calls.{OnlyReads};
@@ -8,7 +8,7 @@ ghost use Rattle.blocks.specs.contracts.block.Block.{the_row as block_row};
 ghost use Rattle.bcache.specs.Current.{is_of};
 ghost use Rattle.bcache.specs.Links.{changed_entries, links_of, walk};
 ghost use Rattle.bcache.specs.Buffers.{IsCache, buffer, found, victim, acquire_answer, after_acquire, taken, filled, changed, released, pinned, unpinned, lock_answer, after_lock, take_answer, after_take, block_or_zero, EndsUnfilled, fresh_buffers, empty_buffer};
-ghost use Rattle.bcache.specs.Numbers.{HasNot};
+ghost use Rattle.bcache.specs.Entries.{is_shared, with_slot};
 ghost use Rattle.bcache.specs.contracts.cache.Cache.{the_row};
 
 use crate::order::Order;
@@ -19,6 +19,12 @@ use std::marker::Model;
 
 const SLOTS: usize = 40;
 
+// How many entries the table of slots has: one for each block of the largest image.
+const ENTRIES: usize = 8192;
+
+// The entry of blocks of which several may have slots.
+const SEVERAL: u8 = 40;
+
 /// The buffers of the file system: 40 slots, numbered from 0, each with a copy of a block of 1024
 /// bytes (the xv6 book, "Buffer cache layer": bget, brelse, bpin, bunpin).
 ///
@@ -26,22 +32,22 @@ const SLOTS: usize = 40;
 #[derive(Drop)]
 pub struct Cache {
     buffers: Vec<Buffer>,
-    // The number of each slot's block once more, side by side, where a search meets no buffer. That
-    // of a slot that was never taken means nothing.
-    numbers: [u32; SLOTS],
+    // The slot that a block has, if it has one, so that no search goes over the buffers. Blocks whose
+    // numbers differ by 8192 share an entry.
+    slot_of: [u8; ENTRIES],
     order: Order,
 }
 
 impl Model for Cache {
     ghost use Rattle.bcache.specs.Buffers.{Buffers};
-    ghost use Rattle.bcache.specs.Numbers.{IsNumbered};
+    ghost use Rattle.bcache.specs.Entries.{IsEntered};
 
     ghost Value = { Buffers };
 
     ghost view = { λ c. record { slots = c.buffers.items; order = c.order } };
 
     ghost invariant = { λ c.
-        IsNumbered c.numbers (record { slots = c.buffers.items; order = c.order }) };
+        IsEntered c.slot_of (record { slots = c.buffers.items; order = c.order }) };
 }
 
 impl Cache {
@@ -60,7 +66,7 @@ impl Cache {
         }
         Ok(Cache {
             buffers,
-            numbers: [u32::MAX; SLOTS],
+            slot_of: [0; ENTRIES],
             order: Order::new(),
         })
     }
@@ -77,15 +83,11 @@ impl Cache {
         ensures slot { result ≡ found self.now block }
         ensures within { IfSome result (λ slot. slot < 40) }
     {
-        let places = places_of(&self.numbers, block);
-        if places == 0 {
-            return None;
+        let slot = self.slot_of[block as usize % ENTRIES] as u32;
+        if slot < 40 {
+            return this_if_of(&self.buffers, slot, block);
         }
-        let slot = places - 1;
-        if slot < 40 && is_of(&self.buffers[slot as usize], block) {
-            return Some(slot);
-        }
-        // The number stands also at a slot that was never taken: rare, so the buffers are asked.
+        // Several blocks that share the entry have slots, as none of one image do.
         match place_of(&self.buffers, block) {
             Some(place) => Some(place as u32),
             None => None,
@@ -252,7 +254,7 @@ impl Cache {
         requires other { found self.old block ≡ None }
         ensures { self.new ≡ taken self.old pid block slot }
     {
-        self.numbers[slot as usize] = block;
+        enter(&mut self.slot_of, &self.buffers, block, slot);
         let buffer = &mut self.buffers[slot as usize];
         buffer.block = Some(block);
         buffer.valid = false;
@@ -316,6 +318,19 @@ fn is_of(buffer: &Buffer, block: u32) -> bool
     }
 }
 
+// A slot, where it is the block's.
+fn this_if_of(buffers: &[Buffer], slot: u32, block: u32) -> Option<u32>
+    requires { slot < length buffers.now }
+    ensures { result ≡ (if is_of block (slice_index_or buffers.now slot empty_buffer)
+        then Some slot else None) }
+{
+    if is_of(&buffers[slot as usize], block) {
+        Some(slot)
+    } else {
+        None
+    }
+}
+
 // The first buffer of a block.
 fn place_of(buffers: &[Buffer], block: u32) -> Option<usize>
     ensures place { result ≡ position (λ buffer. is_of block buffer) buffers.now }
@@ -324,16 +339,29 @@ fn place_of(buffers: &[Buffer], block: u32) -> Option<usize>
     buffers.iter().position(|buffer| is_of(buffer, block))
 }
 
-// The places of a number, counted from 1, added up: 0 where it has none, and its place where it has
-// one. No number ends the sum early, so that several are compared at once.
-fn places_of(numbers: &[u32; SLOTS], number: u32) -> u32
-    ensures { result ≡ 0 → HasNot numbers.now number 40 }
+// A slot is that of a block from now on.
+fn enter(slot_of: &mut [u8; ENTRIES], buffers: &[Buffer], block: u32, slot: u32)
+    requires { slot < 40 }
+    ensures { slot_of.new ≡ with_slot slot_of.old buffers.now block slot }
 {
-    let mut places = 0;
-    for slot in 0..SLOTS {
-        if numbers[slot] == number {
-            places += slot as u32 + 1;
-        }
+    let place = block as usize % ENTRIES;
+    slot_of[place] = if is_shared(buffers, slot_of[place] as usize, block) {
+        SEVERAL
+    } else {
+        slot as u8
+    };
+}
+
+// Whether the slot of an entry is that of a block which shares it with this one, or it stands for
+// several.
+fn is_shared(buffers: &[Buffer], entry: usize, block: u32) -> bool
+    ensures { result ≡ is_shared buffers.now entry block }
+{
+    if entry >= buffers.len() {
+        return true;
     }
-    places
+    match buffers[entry].block {
+        Some(other) => other as usize % ENTRIES == block as usize % ENTRIES,
+        None => false,
+    }
 }

@@ -43,6 +43,7 @@ mod WriteDoes
 mod WriteEnds
 mod Staying
 mod TableNumbers
+mod NoneFree
 mod FreePlaces
 mod KeptBlocks
 mod GoesOn

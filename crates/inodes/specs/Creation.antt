@@ -1,5 +1,5 @@
 -- What a creation looks for in an inode block.
-use Rattle.std.specs.Prelude.{ℕ, ◌-◌, ◌*◌, ◌==◌, ◌&&◌, Bool, List, find, Option}
+use Rattle.std.specs.Prelude.{ℕ, ◌<◌, ◌≢◌, ◌-◌, ◌*◌, ◌==◌, ◌&&◌, Bool, List, find, Option}
 use Rattle.std.specs.List.{range_with_len}
 use Rattle.model.specs.Format.{inode_start, inodes_per_block}
 use Rattle.model.specs.Layout.{inode_in, inode_bytes_in}
@@ -17,3 +17,7 @@ numbers_in block = range_with_len ((block - inode_start) * inodes_per_block) ino
 -- the lowest free number in an inode block of these bytes
 abbrev pub lowest_free : List ℕ → ℕ → ℕ → Option ℕ
 lowest_free bytes inode_count block = find (is_free_in bytes inode_count) (numbers_in block)
+
+-- the first n inodes in an inode block of these bytes are used
+abbrev pub AreUsed : List ℕ → ℕ → Type 0
+AreUsed bytes n = (k : ℕ) → k < n → (inode_in (inode_bytes_in bytes k)).kind ≢ 0

@@ -104,6 +104,10 @@ without_reference (Some e) =
 abbrev pub left : TableState → ℕ → TableState
 left t k = with_entry t k (without_reference (entry_at t.places k))
 
+-- none of the first n is this number
+abbrev pub HasNot : List ℕ → ℕ → ℕ → Type 0
+HasNot numbers i n = (k : ℕ) → k < n → slice_index numbers k ≢ i
+
 -- the numbers of the inodes, side by side, in which one is searched
 pub record IsNumbered (numbers : List ℕ) (ps : List (Option InMemory)) : Type 0 where
   pub size : length ps ≡ 50

@@ -1,5 +1,5 @@
 // A creation's search for a free inode number.
-ghost use Rattle.std.specs.Prelude.{◌≡◌, ◌<◌, ◌≤◌, ◌-◌, Some, None, if◌then◌else◌};
+ghost use Rattle.std.specs.Prelude.{◌≡◌, ◌<◌, ◌≤◌, ◌-◌, Some, None, true, if◌then◌else◌};
 ghost use Rattle.model.specs.Format.{inode_start, most_blocks, most_inodes};
 ghost use Rattle.model.specs.Layout.{inode_block};
 ghost use Rattle.model.specs.Codec.{new_inode, with_inode};
@@ -7,7 +7,7 @@ ghost use Rattle.wal.specs.Machine.{used_by, HasRoom};
 ghost use Rattle.wal.specs.Held.{GivesUpLock};
 ghost use Rattle.wal.specs.Joint.{seen};
 ghost use Rattle.wal.specs.Volume.{Holds};
-ghost use Rattle.inodes.specs.Creation.{is_free_in, lowest_free};
+ghost use Rattle.inodes.specs.Creation.{AreUsed, is_free_in, lowest_free};
 ghost use Rattle.inodes.specs.Ialloc.{MayStep, SearchSteps, is_last_block, at_next_block, with_new_inode};
 
 use crate::Progress;
@@ -182,8 +182,24 @@ fn lowest_free(bytes: &Block, inode_count: u32, block: u32) -> Option<u32>
     requires small { block ≤ most_blocks }
     ensures { result ≡ lowest_free bytes.now inode_count block }
 {
+    // Most blocks that a search looks at have none.
+    if are_used(bytes) {
+        return None;
+    }
     let first = (block - INODE_START) * INODES_PER_BLOCK;
     (first..first + INODES_PER_BLOCK).find(|i| is_free(bytes, *i, inode_count))
+}
+
+// Whether each inode of an inode block is used.
+fn are_used(block: &Block) -> bool
+    ensures { result ≡ true → AreUsed block.now 16 }
+{
+    for place in 0..INODES_PER_BLOCK {
+        if inode::read_at(block, place).kind == 0 {
+            return false;
+        }
+    }
+    true
 }
 
 fn new_inode(kind: u16) -> Dinode

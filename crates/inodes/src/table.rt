@@ -1,7 +1,6 @@
 // The inodes in memory.
 ghost use Rattle.std.specs.Prelude.{◌≡◌, ◌<◌, ◌+◌, ◌^◌, ℕ, IsSome, IfSome, Some, false, is_none, length, position, if◌then◌else◌};
-ghost use Rattle.bcache.specs.Numbers.{HasNot};
-ghost use Rattle.inodes.specs.Table.{IsNumbered, TableState, new_table, HasPlaceFor, place_for, entry_at, holder_at, copy_at, is_of, number_in, with_reference, without_reference, referred, locked, renewed, left};
+ghost use Rattle.inodes.specs.Table.{HasNot, IsNumbered, TableState, new_table, HasPlaceFor, place_for, entry_at, holder_at, copy_at, is_of, number_in, with_reference, without_reference, referred, locked, renewed, left};
 
 use layout::Super;
 use model::types::{Dinode, Form};
@@ -36,7 +35,7 @@ pub struct Inodes {
 }
 
 impl Model for Inodes {
-    ghost use Rattle.inodes.specs.Table.{IsNumbered, TableState};
+    ghost use Rattle.inodes.specs.Table.{HasNot, IsNumbered, TableState};
 
     ghost Value = { TableState };
 
