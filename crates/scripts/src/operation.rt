@@ -1,24 +1,27 @@
 // The operation that a line's fields write.
-ghost use Rattle.std.specs.Prelude.{◌≡◌, ◌==◌, IfOk, count_by, map};
+ghost use Rattle.std.specs.Prelude.{◌≡◌, ◌<◌, ◌==◌, count_by, map};
 ghost use Rattle.scripts.specs.Field.{Tells};
 ghost use Rattle.scripts.specs.Operation.{fill_of, operation_of, process_and_operation, read_of, short_of, statement_of, write_of, write_or_read_of};
 ghost use Rattle.std.specs.List.{slice_split};
 
 use crate::field::{LineFault, byte, content};
 use crate::number::{number, number_up_to};
+use arrayvec::ArrayVec;
 use model::content::Content;
 use model::types::Op;
-use std::alloc::{AllocError, Global};
+use std::alloc::Global;
 
-// The process of a line, and its operation. A line of more fields than any row has isn't divided,
-// so that it takes no memory.
+// The most fields of a row of the table.
+const MOST_FIELDS: usize = 6;
+
+// The process of a line, and its operation. A line of more fields than any row has isn't divided.
 pub(crate) fn statement(alloc: Global, line: &[u8]) -> Result<(u32, Op), LineFault>
     ensures { Tells result (statement_of line.now) }
 {
-    if spaces(line) > 5 {
+    if spaces(line) >= MOST_FIELDS {
         return Err(LineFault::Bad);
     }
-    let fields = fields_of(alloc, line)?;
+    let fields = fields_of(line);
     process_and_operation(alloc, fields.as_slice())
 }
 
@@ -30,11 +33,15 @@ fn spaces(line: &[u8]) -> usize
 }
 
 // The fields of a line, which has one space between two of them.
-fn fields_of<'a>(alloc: Global, line: &'a [u8]) -> Result<Vec<&'a [u8]>, AllocError>
-    ensures { IfOk result (λ fields. map (λ field. field.now) fields.items
-        ≡ slice_split (λ byte. byte == 32) line.now) }
+fn fields_of(line: &[u8]) -> ArrayVec<&[u8], MOST_FIELDS>
+    requires { count_by (λ byte. byte == 32) line.now < 6 }
+    ensures { map (λ field. field.now) result.items ≡ slice_split (λ byte. byte == 32) line.now }
 {
-    line.split(|byte| *byte == b' ').collect(alloc)
+    let mut fields = ArrayVec::new();
+    for field in line.split(|byte| *byte == b' ') {
+        fields.push(field);
+    }
+    fields
 }
 
 // The process in front of an operation, and the operation.

@@ -1,15 +1,12 @@
 // What a turn of a schedule came to, and its line.
-ghost use Rattle.std.specs.Prelude.{◌≡◌, ◌*◌, ◌≤◌, ◌++◌, Some, codes, length};
-ghost use Rattle.hex.specs.Hex.{encode_lower};
+ghost use Rattle.std.specs.Prelude.{◌≡◌, ◌++◌, Some, codes};
 ghost use Rattle.texts.specs.Events.{progress_text, bytes_text, reply_text, answer_text, event_text, is_last};
 ghost use Rattle.texts.specs.declared.events.Progress.TheVariants.{Sleeping};
 
+use crate::hex_digits::{PIECE, digits_as_text};
 use itoa::Buffer;
 use model::types::{Answer, Reply, Why};
 use std::fmt;
-
-// The most bytes whose digits are made at once.
-const PIECE: usize = 256;
 
 /// What a step of a process came to.
 #[derive(Clone, Copy)]
@@ -65,7 +62,8 @@ impl fmt::Display for Event {
         match self {
             Event::Stepped(pid, progress) => {
                 f.write_str(digits.format(*pid))?;
-                f.write_str(rest_of_line(*progress))
+                let end = end_of_line(*progress);
+                f.write_str(&end[..end.len() - 1])
             }
             Event::Answered(pid, answer) => {
                 let pid = digits.format(*pid);
@@ -81,32 +79,32 @@ impl fmt::Display for Event {
     }
 }
 
-// The rest of a line behind the process: what its step came to.
-pub(crate) fn rest_of_line(progress: Progress) -> &'static str
-    ensures { result.now ≡ codes " " ++ progress_text progress }
+// The end of a line after the process, with its line feed: what its step came to.
+pub(crate) fn end_of_line(progress: Progress) -> &'static str
+    ensures { result.now ≡ codes " " ++ progress_text progress ++ codes "\n" }
 {
     match progress {
-        Progress::Moved => " moved",
-        Progress::Answered => " answered",
-        Progress::Sleeping(why) => sleeping_rest(why),
-        Progress::Idle => " idle",
-        Progress::NoMemory => " nomemory",
-        Progress::ShutDown => " shutdown",
-        Progress::Halted => " halted",
+        Progress::Moved => " moved\n",
+        Progress::Answered => " answered\n",
+        Progress::Sleeping(why) => sleeping_end(why),
+        Progress::Idle => " idle\n",
+        Progress::NoMemory => " nomemory\n",
+        Progress::ShutDown => " shutdown\n",
+        Progress::Halted => " halted\n",
     }
 }
 
 // The same of a step that waits for this.
-fn sleeping_rest(why: Why) -> &'static str
-    ensures { result.now ≡ codes " " ++ progress_text (Sleeping why) }
+fn sleeping_end(why: Why) -> &'static str
+    ensures { result.now ≡ codes " " ++ progress_text (Sleeping why) ++ codes "\n" }
 {
     match why {
-        Why::Committing => " sleeping 1 Committing",
-        Why::LogFull => " sleeping 2 LogFull",
-        Why::InodeHeld => " sleeping 3 InodeHeld",
-        Why::BufferHeld => " sleeping 4 BufferHeld",
-        Why::NoBuffer => " sleeping 5 NoBuffer",
-        Why::AnswersFull => " sleeping 6 AnswersFull",
+        Why::Committing => " sleeping 1 Committing\n",
+        Why::LogFull => " sleeping 2 LogFull\n",
+        Why::InodeHeld => " sleeping 3 InodeHeld\n",
+        Why::BufferHeld => " sleeping 4 BufferHeld\n",
+        Why::NoBuffer => " sleeping 5 NoBuffer\n",
+        Why::AnswersFull => " sleeping 6 AnswersFull\n",
     }
 }
 
@@ -175,25 +173,10 @@ impl fmt::Display for HexText<'_> {
         if self.0.is_empty() {
             return write!(f, "-");
         }
-        let mut place = [0u8; 2 * PIECE];
+        let mut place = [[0u8; 2]; PIECE];
         for piece in self.0.chunks(PIECE) {
-            f.write_str(digits_of(piece, &mut place))?;
+            f.write_str(digits_as_text(piece, &mut place))?;
         }
         Ok(())
     }
-}
-
-// The digits of these bytes, which are made in a place that has room for them.
-fn digits_of<'a>(bytes: &[u8], place: &'a mut [u8]) -> &'a str
-    requires { 2 * length bytes.now ≤ length place.old }
-    ensures { result.now ≡ encode_lower bytes.now }
-{
-    let digits = &mut place[..2 * bytes.len()];
-    let Ok(()) = hex::encode_to_slice(bytes, digits) else {
-        unreachable!();
-    };
-    let Ok(text) = str::from_utf8(digits) else {
-        unreachable!();
-    };
-    text
 }

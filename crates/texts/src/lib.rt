@@ -6,8 +6,10 @@
 //! layer above maps its own.
 #![tactic(auto)]
 
+mod answers;
 mod events;
 mod faults;
+mod hex_digits;
 mod lines;
 mod output;
 mod refusal;

@@ -1,11 +1,12 @@
 // What a command prints.
-ghost use Rattle.std.specs.Prelude.{IfSome, OnOk, IsOkUnless};
+ghost use Rattle.std.specs.Prelude.{IfSome, OnOk, IsOkUnless, decimal};
 ghost use Rattle.std.specs.Io.KnownBytes.{Appends, Keeps};
 ghost use Rattle.texts.specs.Events.{event_line};
 ghost use Rattle.texts.specs.declared.events.Event.TheVariants.{Stepped};
 ghost use Rattle.texts.specs.Output.{copied_text, counts_text, files_text, images_text, number_text, numbers_text, report_text};
 
-use crate::events::{Event, Progress, rest_of_line};
+use crate::answers::print_answer;
+use crate::events::{Event, Progress, end_of_line};
 use crate::refusal::Refusal;
 use itoa::Buffer;
 use layout::Super;
@@ -64,6 +65,7 @@ pub fn print_event<O: Write>(out: &mut O, event: &Event) -> Result<(), Refusal>
 {
     match event {
         Event::Stepped(pid, progress) => print_step(out, *pid, *progress),
+        Event::Answered(pid, answer) => print_answer(out, *pid, answer),
         _ => print(out, format_args!("{event}\n")),
     }
 }
@@ -74,10 +76,20 @@ fn print_step<O: Write>(out: &mut O, pid: u32, progress: Progress) -> Result<(),
         (event_line (Stepped pid progress))) }
     ensures err { IsOkUnless result Refusal.Output }
 {
+    print_process(out, pid)?;
+    write_bytes(out, end_of_line(progress).as_bytes())
+}
+
+// Writes the number of a process. Most have one digit.
+pub(crate) fn print_process<O: Write>(out: &mut O, pid: u32) -> Result<(), Refusal>
+    ensures ok { OnOk result (Appends (O.contents out.old) (O.contents out.new) (decimal pid)) }
+    ensures err { IsOkUnless result Refusal.Output }
+{
+    if pid < 10 {
+        return write_bytes(out, &[b'0' + pid as u8]);
+    }
     let mut digits = Buffer::new();
-    write_bytes(out, digits.format(pid).as_bytes())?;
-    write_bytes(out, rest_of_line(progress).as_bytes())?;
-    write_bytes(out, b"\n")
+    write_bytes(out, digits.format(pid).as_bytes())
 }
 
 /// Passes on what the writer holds back.

@@ -1,6 +1,6 @@
 use Rattle.std.proofs.Common.{refl}
 use Rattle.std.specs.Fmt.{digits}
-use Rattle.texts.proofs.events.sleeping_rest.Goals as goal
+use Rattle.texts.proofs.events.sleeping_end.Goals as goal
 
 pub returns-in-Committing : goal.returns-in-Committing
 unfolding digits
