@@ -24,9 +24,19 @@ impl Source {
         ensures polled { polled self.new.caller ≡ polled self.old.caller }
         ensures all { HasHandedIn self.new }
     {
-        if !self.caller.has_room() {
+        if self.backlog.count() == 0 || !self.caller.has_room() {
             return false;
         }
+        self.hand_in_first()
+    }
+
+    // The same where there are operations and a place for one.
+    #[inline(never)]
+    fn hand_in_first(&mut self) -> bool
+        ensures same { IsSameSource self.old self.new }
+        ensures polled { polled self.new.caller ≡ polled self.old.caller }
+        ensures all { HasHandedIn self.new }
+    {
         let mut moved = false;
         for _op in 0..self.backlog.count() {
             let Some(op) = self.backlog.next() else {
@@ -42,6 +52,7 @@ impl Source {
     }
 
     /// Takes the oldest answer that was not polled, as `Caller::poll`.
+    #[inline(never)]
     pub fn poll(&mut self) -> Option<Answer>
         ensures same { IsSameSource self.old self.new }
         ensures some { IfSome result (λ answer.

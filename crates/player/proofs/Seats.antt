@@ -1,7 +1,7 @@
 -- A player's seats: its board, its watch, and its sources with their rings.
 use Rattle.std.proofs.Common.{◌≡◌, ◌∙◌, ◌<◌, ℕ, List, [], ◌∷◌, ◌++◌, length, set, Option, Some, None, refl, sym, ap, subst, arith}
 use Rattle.std.specs.Prelude.{IfNone, IfSome, IsSome, slice_get}
-use Rattle.std.proofs.lemmas.List.{length-set, set-set}
+use Rattle.std.proofs.lemmas.List.{length-set, nil_from_length, set-set}
 use Rattle.std.proofs.lemmas.Option.{slice_get_within, same_Some}
 use mathlib.Core.List.{IsPrefix}
 use Rattle.board.specs.Boards.{WatchOf}
@@ -112,6 +112,20 @@ module _ {D : Type 0} (p : ℕ) (k m : Ringed D) (b c : List Source) (at : Meets
     untouched = (untouched.0 ∙ ap (λ s. submitted s.caller) had_is, untouched.1 ∙ ap (λ s. s.backlog) had_is);
     same = same;
   }
+
+-- nothing is there to be polled behind a meeting
+pub polls_none : {D : Type 0} (p : ℕ) (k m : Ringed D) (b c : List Source) (at : MeetsAt p k.intake b m.intake c) (had : Source) (here : slice_get c p ≡ Some had) (same : HasSame k m) → answers_known had.caller ≡ 0 → Polls p None k b m c
+polls_none p k m b c at had here same none = record {
+  source = at.source;
+  met = at.met;
+  now = record at.source { caller = at.met };
+  is = at.is;
+  set = at.set;
+  meets = at.meets;
+  takes = (refl, subst (λ (s : Source). unpolled s.caller ≡ []) (had_is p k m b c at had had here same) (nil_from_length (unpolled had.caller) none));
+  untouched = (refl, refl);
+  same = same;
+}
 
 -- the board and the watch, through three calls
 pub watch_then : {D N : Type 0} (a b c d : Player D N) → HasItsWatch a b → HasItsWatch b c → HasItsWatch c d → HasItsWatch a d

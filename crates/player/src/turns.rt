@@ -280,6 +280,9 @@ impl<'a, D: Disk + Drop> Player<'a, D> {
         ensures seated { IsSeated self.new }
     {
         self.meet(pid);
+        if self.sources[pid as usize].caller.answers_known() == 0 {
+            return None;
+        }
         self.sources[pid as usize].poll()
     }
 

@@ -50,7 +50,10 @@ pub fn write_bytes<O: Write>(out: &mut O, bytes: &[u8]) -> Result<(), Refusal>
     ensures ok { OnOk result (Appends (O.contents out.old) (O.contents out.new) bytes.now) }
     ensures err { IsOkUnless result Refusal.Output }
 {
-    out.write_all(bytes).map_err(|_| Refusal::Output)
+    match out.write_all(bytes) {
+        Ok(()) => Ok(()),
+        Err(_) => Err(Refusal::Output),
+    }
 }
 
 /// Writes the line of a turn. The writer may hold it back.

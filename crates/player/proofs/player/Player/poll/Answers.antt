@@ -1,8 +1,15 @@
-use Rattle.std.proofs.Common.{length, refl}
+use Rattle.std.proofs.Common.{◌∙◌, length, refl, sym}
 use Rattle.std.proofs.lemmas.Option.{slice_get_read}
 use Rattle.std.specs.Vec.{with_item}
-use Rattle.player.proofs.Seats.{polls_then, takes, low_in, set_seated}
+use Rattle.player.proofs.Seats.{polls_none, polls_then, takes, low_in, set_seated}
 use Rattle.player.proofs.player.Player.poll.Goals as goal
+
+pub returns-then-answers_known-eq0-clause-polls : goal.returns-then-answers_known-eq0-clause-polls
+returns-then-answers_known-eq0-clause-polls g c =
+    let met = c.meet.new.self in
+    let low = low_in c.args.pid c.args.self.now met c.requires.pid c.meet.ensures.same c.meet.ensures.seated in
+    polls_none c.args.pid c.args.self.now.kernel met.kernel c.args.self.now.sources.items met.sources.items c.meet.ensures.meets c.index.result.now
+    (slice_get_read met.sources.items (length met.sources.items) c.args.pid c.index.result.now refl low c.index.ensures) c.meet.ensures.same (sym c.answers_known.ensures ∙ c.if-answers_known-eq0.true)
 
 pub returns-clause-polls : goal.returns-clause-polls
 returns-clause-polls g c =

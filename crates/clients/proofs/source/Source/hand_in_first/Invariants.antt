@@ -2,7 +2,7 @@ use Rattle.std.proofs.Common.{◌≡◌, ◌+◌, length}
 use Rattle.rings.specs.Callers.{polled}
 use Rattle.clients.specs.Backlogs.{backlog_of}
 use Rattle.clients.specs.Sources.{IsSameSource}
-use Rattle.clients.proofs.source.Source.hand_in.Given as goal
+use Rattle.clients.proofs.source.Source.hand_in_first.Given as goal
 
 abbrev pub invariant-loop-op : goal.invariant-loop-op
 invariant-loop-op l = record {
