@@ -24,15 +24,15 @@ use Rattle.offline.specs.Recovered.{MayReadFile}
 use Rattle.sole.specs.Calls.{call_count, image_on}
 use Rattle.sole.specs.Stepping.{Plain}
 use Rattle.filing.specs.Answered.{IsAnswered}
-use Rattle.filing.specs.Files.{Appends, AppendsPart, Creates, IsFull, MakesFile, MakesNone, MayAppend, appended, files_on, size_of}
-use Rattle.copying.specs.Holding.{HasFirst, Holds, IsUnwritten}
+use Rattle.filing.specs.Files.{Appends, AppendsPart, Creates, MakesFile, MakesNone, MayAppend, appended, files_on, size_of}
+use Rattle.copying.specs.Holding.{BreaksOff, CutsShort, HasFirst, HasNoRoom, Holds, IsUnwritten}
 use Rattle.copying.specs.Source.{IsSourceOf}
 use Rattle.copying.specs.Stages.{kept_at, kind_or_plain, listed, made_at, written_at}
 use Rattle.copying.specs.declared.fault.CopyFault.{CopyFault}
 use Rattle.copying.specs.declared.fault.CopyFault.TheVariants.{Old, NotFirst, Mkfs, Full, NoMemory, Disk}
 use Rattle.copying.specs.declared.source.Source.{Source}
 use Rattle.copying.proofs.SourceLemmas.{count_recovered}
-use Rattle.copying.proofs.StageLemmas.{few_bytes, file_free, file_used, first_written, kept_removed, kept_same, kept_there, length-listed, made_always, made_next, piece_appended, piece_begun, piece_fits, written_empty, written_end, written_next, written_none}
+use Rattle.copying.proofs.StageLemmas.{few_bytes, file_free, file_used, kept_removed, kept_same, kept_there, length-listed, made_always, made_next, piece_appended, piece_begun, piece_fits, written_empty, written_end, written_next, written_none}
 
 module _ {D N : Type 0} (disk : Ghosts D N) where
   -- after a call more
@@ -113,15 +113,22 @@ module _ {D N : Type 0} (disk : Ghosts D N) where
 
     -- or no block is free, and only the first of its bytes are there
     pub part_appended : (m : Plain D) (whole : Bool) → whole ≡ false → Appends whole i bytes (image_on disk.image l) (image_on disk.image m) → length bytes ≡ count → IsAnswered disk l m →
-        (o : D) → l.opening ≡ o → (these : List ℕ) → all ≡ these → HasFirst i (appended files i these) (files_on disk.image m) × IsFull (image_on disk.image m) × (length (image_on disk.image m) ≡ length (disk.image o))
+        (o : D) → l.opening ≡ o → (these : List ℕ) → all ≡ these → CutsShort i (appended files i these) i (files_on disk.image m) × HasNoRoom (length (disk.image o)) (image_on disk.image m)
     part_appended m whole false_is appends long answered o opening these same =
         let part : AppendsPart i bytes (image_on disk.image l) (image_on disk.image m)
         = subst (λ (b : Bool). Appends b i bytes (image_on disk.image l) (image_on disk.image m)) false_is appends in (
-          subst (λ (b : List ℕ). HasFirst i (appended files i b) (files_on disk.image m)) same
-              (piece_begun all size at count few inside is files i bytes part.count empty read long part.fewer (files_on disk.image m)
-              (part.files ∙ ap (λ (now : Files). appended now i (take part.count bytes)) before.held)),
-          part.full,
-          answered.whole.size ∙ before.size ∙ ap (λ (d : D). length (disk.image d)) opening,
+          (
+            refl,
+            subst (λ (b : List ℕ). HasFirst i (appended files i b) (files_on disk.image m)) same
+                (piece_begun all size at count few inside is files i bytes part.count empty read long part.fewer (files_on disk.image m)
+                (part.files ∙ ap (λ (now : Files). appended now i (take part.count bytes)) before.held)),
+          ),
+          record {
+            sound = answered.whole.sound;
+            form = answered.form ∙ before.form;
+            long = answered.whole.size ∙ before.size ∙ ap (λ (d : D). length (disk.image d)) opening;
+            full = part.full;
+          },
         )
 
   -- at last all of its bytes are there
@@ -153,16 +160,15 @@ module _ {D N : Type 0} (disk : Ghosts D N) where
       )
 
       -- why its file is not all written is why not all files are
-      pub one_unwritten : {C M : Type 0} (from : Ghosts C M) (c d c' : C) (p o e : D) (fault : CopyFault) → IsUnwritten from disk (appended (files_on disk.image l) (k + 1) file.bytes) c c' p e fault →
-          from.fault_count c ≡ from.fault_count d → p ≡ o → IsUnwritten from disk files d c' o e fault
+      pub one_unwritten : {C M : Type 0} (from : Ghosts C M) (c d c' : C) (p o e : D) (fault : CopyFault) → IsUnwritten from disk (CutsShort (k + 1) (appended (files_on disk.image l) (k + 1) file.bytes)) c c' p e fault →
+          from.fault_count c ≡ from.fault_count d → p ≡ o → IsUnwritten from disk (BreaksOff files) d c' o e fault
       one_unwritten from c d c' p o e (Old fault) refused same opening = refused
       one_unwritten from c d c' p o e NotFirst refused same opening = refused
       one_unwritten from c d c' p o e (Mkfs fault) refused same opening = refused
       one_unwritten from c d c' p o e (Full i) refused same opening =
           let now = ap (λ (now : Files). appended now (k + 1) file.bytes) before.held ∙ written_next files k room file is in (
-            first_written files (k + 1) i (files_of (disk.image e)) (subst (λ (old : Files). HasFirst i old (files_of (disk.image e))) now refused.0),
-            refused.1,
-            refused.2 ∙ ap (λ (d : D). length (disk.image d)) opening,
+            subst (λ (n : ℕ). BreaksOff files n (files_of (disk.image e))) (sym refused.0.0) (subst (λ (old : Files). HasFirst (k + 1) old (files_of (disk.image e))) now refused.0.1),
+            subst (λ (d : D). HasNoRoom (length (disk.image d)) (disk.image e)) opening refused.1,
           )
       one_unwritten from c d c' p o e NoMemory refused same opening = refused
       one_unwritten from c d c' p o e Disk refused same opening =

@@ -151,11 +151,6 @@ module _ (kinds : List ℕ) where
 
 -- ---- the files are written
 
--- a file without its bytes has none
-empty_bytes : (o : Option File) (file : File) → without_bytes o ≡ Some file → length file.bytes ≡ 0
-empty_bytes None file is = absurd (cc is)
-empty_bytes (Some other) file is = let same : record other { bytes = [] } ≡ file = cc is in ap (λ (f : File). length f.bytes) (sym same)
-
 module _ (files : Files) where
   written_here : (k i : ℕ) → i ≤ k → written_at files k i ≡ file_in files i
   written_here k i low = grind (arith, nat_tests)
@@ -175,17 +170,6 @@ module _ (files : Files) where
       (λ (zero : j ≡ 0). subst (λ (n : ℕ). without_bytes (file_in files n) ≡ written_at files 0 n) (sym zero) (ap without_bytes none ∙ sym none))
       (λ (some : j ≢ 0). sym (written_later 0 j (omega arith)))
       (cases_eq j 0))
-
-  -- only those that were written have bytes: a file that has only the first of them is one of these
-  pub first_written : (k i : ℕ) (new : Files) → HasFirst i (listed (length files) (written_at files k)) new → HasFirst i files new
-  first_written k i new first =
-      let there : i < length (listed (length files) (written_at files k)) = below_there (listed (length files) (written_at files k)) i (λ none. absurd (cc (sym first.was, none))) in
-      let low : i < length files = omega (arith, length-listed (length files) (written_at files k)) in
-      let is = sym (in_listed (length files) (written_at files k) i low) ∙ first.was in
-      ⊎_elim
-      (λ (later : k < i). let fewer = first.fewer in let none = empty_bytes (file_in files i) first.file (sym (written_later k i later) ∙ is) in absurd (omega arith))
-      (λ (here : i ≤ k). record { file = first.file; count = first.count; was = sym (written_here k i here) ∙ is; fewer = first.fewer; now = first.now })
-      (cases_lt k i)
 
   -- and at last each has them
   pub written_end : (k : ℕ) → ((i : ℕ) → k < i → i < length files → file_in files i ≡ None) → listed (length files) (written_at files k) ≡ files
@@ -247,7 +231,7 @@ module _ (files : Files) (i : ℕ) (empty : size_of (file_in files i) ≡ Some 0
   pub appended_size : (a : List ℕ) → size_of (file_in (appended files i a) i) ≡ Some (length a)
   appended_size a = ap size_of (file_appended a) ∙ more_size (file_in files i) a empty
 
-  first_more : (o : Option File) (all : List ℕ) (n : ℕ) → size_of o ≡ Some 0 → n < length all → (old new : Files) → file_in old i ≡ with_more o all → file_in new i ≡ with_more o (take n all) → HasFirst i old new
+  first_more : (o : Option File) (all : List ℕ) (n : ℕ) → size_of o ≡ Some 0 → n < length all → (old new : Files) → file_in old i ≡ with_more o all → new ≡ set old i (with_more o (take n all)) → HasFirst i old new
   first_more None all n none fewer old new was now = absurd (cc none)
   first_more (Some file) all n none fewer old new was now =
       let nil : file.bytes ≡ [] = nil_from_length file.bytes (cc none) in
@@ -257,13 +241,13 @@ module _ (files : Files) (i : ℕ) (empty : size_of (file_in files i) ≡ Some 0
         count = n;
         was = was;
         fewer = omega arith;
-        now = now ∙ ap (with_bytes file) (ap (λ (b : List ℕ). b ++ take n all) nil ∙ sym (ap (λ (b : List ℕ). take n (b ++ all)) nil));
+        now = now ∙ ap (λ (b : List ℕ). set old i (with_bytes file b)) (ap (λ (b : List ℕ). b ++ take n all) nil ∙ sym (ap (λ (b : List ℕ). take n (b ++ all)) nil));
       }
 
   -- only the first of all bytes are there
   first_appended : (all : List ℕ) (n : ℕ) → n < length all → (new : Files) → new ≡ appended files i (take n all) → HasFirst i (appended files i all) new
   first_appended all n fewer new is =
-      first_more (file_in files i) all n empty fewer (appended files i all) new (file_appended all) (ap (λ (now : Files). file_in now i) is ∙ file_appended (take n all))
+      first_more (file_in files i) all n empty fewer (appended files i all) new (file_appended all) (is ∙ sym (set-set files i (with_more (file_in files i) all) (with_more (file_in files i) (take n all))))
 
   pub appended_more : (a b : List ℕ) → appended (appended files i a) i b ≡ appended files i (a ++ b)
   appended_more a b =

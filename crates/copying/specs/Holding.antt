@@ -1,6 +1,6 @@
 -- A kernel that is being filled, and why it isn't filled to the end.
-use Rattle.std.specs.Prelude.{◌≡◌, ℕ, ◌<◌, ◌≤◌, ◌⊎◌, ⊤, length, take, Some}
-use Rattle.blocks.specs.Disk.{Rose}
+use Rattle.std.specs.Prelude.{◌≡◌, ℕ, ◌<◌, ◌≤◌, ◌⊎◌, ⊤, length, slice_set, take, Some}
+use Rattle.blocks.specs.Disk.{Image, Rose}
 use Rattle.blocks.specs.declared.disk.Disk.{Ghosts}
 use Rattle.model.specs.declared.types.image.File.{File}
 use Rattle.model.specs.declared.types.image.Form.TheVariants.{Two}
@@ -13,6 +13,7 @@ use Rattle.sole.specs.Stepping.{Plain}
 use Rattle.sole.specs.declared.fault.CallFault.{CallFault}
 use Rattle.sole.specs.declared.fault.CallFault.TheVariants as call
 use Rattle.filing.specs.Files.{IsFull, files_on}
+use Rattle.copying.specs.Stages.{listed, written_at}
 use Rattle.copying.specs.declared.fault.CopyFault.{CopyFault}
 use Rattle.copying.specs.declared.fault.CopyFault.TheVariants.{Old, NotFirst, Mkfs, Full, NoMemory, Disk}
 
@@ -32,24 +33,44 @@ abbrev pub IsUnanswered : {D N : Type 0} → Ghosts D N → D → D → CallFaul
 IsUnanswered disk o e (call.Disk cause) = Rose (disk.fault_count o) (disk.fault_count e)
 IsUnanswered disk o e call.NoMemory = ⊤
 
--- of file i only the first bytes are there
+-- the files, but of file i only the first bytes
 pub record HasFirst (i : ℕ) (old new : Files) : Type 0 where
   pub file : File
   pub count : ℕ
   pub was : file_in old i ≡ Some file
   pub fewer : count < length file.bytes
-  pub now : file_in new i ≡ with_bytes file (take count file.bytes)
+  pub now : new ≡ slice_set old i (with_bytes file (take count file.bytes))
 
--- why these files, read of the disk d, which is d' then, were not all written to the disk o, which
--- is e then
-abbrev pub IsUnwritten : {D E M N : Type 0} → Ghosts D M → Ghosts E N → Files → D → D → E → E
-    → CopyFault → Type 0
-IsUnwritten old new files d d' o e (Old fault) = ⊥
-IsUnwritten old new files d d' o e NotFirst = ⊥
-IsUnwritten old new files d d' o e (Mkfs fault) = ⊥
-IsUnwritten old new files d d' o e (Full i) =
-    HasFirst i files (files_of (new.image e))
-    × IsFull (new.image e) × (length (new.image e) ≡ length (new.image o))
-IsUnwritten old new files d d' o e NoMemory = ⊤
-IsUnwritten old new files d d' o e Disk =
+-- it is file i that was cut short
+abbrev pub CutsShort : ℕ → Files → ℕ → Files → Type 0
+CutsShort i files j new = (j ≡ i) × HasFirst i files new
+
+-- file i was cut short, those before it are whole, and later ones are without bytes
+abbrev pub BreaksOff : Files → ℕ → Files → Type 0
+BreaksOff files i new = HasFirst i (listed (length files) (written_at files i)) new
+
+-- no block is free in a sound image of the second form of that many blocks
+pub record HasNoRoom (size : ℕ) (x : Image) : Type 0 where
+  pub sound : IsSound x
+  pub form : form_of x ≡ Two
+  pub long : length x ≡ size
+  pub full : IsFull x
+
+-- The files don't fit in an image of that size: in this one file i is cut short.
+pub record DontFit (size i : ℕ) (files : Files) : Type 0 where
+  pub image : Image
+  pub part : BreaksOff files i (files_of image)
+  pub room : HasNoRoom size image
+
+-- why files, read of the disk d, which is d' then, were not all written to the disk o, which is e
+-- then: where it has no room, they are cut short as `part` says
+abbrev pub IsUnwritten : {D E M N : Type 0} → Ghosts D M → Ghosts E N → (ℕ → Files → Type 0)
+    → D → D → E → E → CopyFault → Type 0
+IsUnwritten old new part d d' o e (Old fault) = ⊥
+IsUnwritten old new part d d' o e NotFirst = ⊥
+IsUnwritten old new part d d' o e (Mkfs fault) = ⊥
+IsUnwritten old new part d d' o e (Full i) =
+    part i (files_of (new.image e)) × HasNoRoom (length (new.image o)) (new.image e)
+IsUnwritten old new part d d' o e NoMemory = ⊤
+IsUnwritten old new part d d' o e Disk =
     Rose (old.fault_count d) (old.fault_count d') ⊎ Rose (new.fault_count o) (new.fault_count e)

@@ -1,5 +1,5 @@
 // Why a copy was not made.
-use blocks::{DiskFault, NoMemory};
+use blocks::{DiskFault, NoMemory, SyncFault};
 use layout::{CheckFault, MkfsFault};
 use sole::CallFault;
 use std::alloc::AllocFailed;
@@ -17,7 +17,7 @@ pub enum CopyFault {
     /// No new image was made.
     #[error("no new image was made: {0}")]
     Mkfs(MkfsFault),
-    /// No block was free for all bytes of the file of this number.
+    /// The files don't fit: no block was free for all bytes of the file of this number.
     #[error("the new image has no room for file {0}")]
     Full(u32),
     /// Memory was refused.
@@ -57,6 +57,17 @@ impl From<DiskFault> for CopyFault {
     ghost from_gives = { λ _ e. e ≡ fault.Disk };
 
     fn from(_failed: DiskFault) -> CopyFault {
+        CopyFault::Disk
+    }
+}
+
+impl From<SyncFault> for CopyFault {
+    ghost use Rattle.std.specs.Prelude.{◌≡◌};
+    ghost use Rattle.copying.specs.declared.fault.CopyFault.TheVariants as fault;
+
+    ghost from_gives = { λ _ e. e ≡ fault.Disk };
+
+    fn from(_failed: SyncFault) -> CopyFault {
         CopyFault::Disk
     }
 }

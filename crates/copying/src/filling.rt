@@ -7,7 +7,7 @@ ghost use Rattle.model.specs.Log.{recovered};
 ghost use Rattle.sole.specs.Calls.{call_count};
 ghost use Rattle.filing.specs.Files.{appended, files_on, size_of, without_bytes};
 ghost use Rattle.filing.specs.Stopped.{StaysOver};
-ghost use Rattle.copying.specs.Holding.{Holds, IsUnanswered, IsUnwritten};
+ghost use Rattle.copying.specs.Holding.{BreaksOff, CutsShort, Holds, IsUnanswered, IsUnwritten};
 ghost use Rattle.copying.specs.Source.{IsFileOf, IsSourceOf};
 ghost use Rattle.copying.specs.Stages.{kept_at, kind_or_plain, listed, made_at};
 
@@ -37,7 +37,7 @@ pub(crate) fn fill<D: Disk, E: Disk, P: Progress>(
     ensures filled { OnOk result (Holds E.Disk (92 * length source.now.kinds.items)
         (files_of (recovered (D.image old.old))) kernel.new) }
     ensures refused { IfErr result (IsUnwritten D.Disk E.Disk
-        (files_of (recovered (D.image old.old))) old.old old.new
+        (BreaksOff (files_of (recovered (D.image old.old)))) old.old old.new
         kernel.old.opening kernel.new.store.volume.device) }
     ensures reads { OnlyReads D.Disk old.old old.new }
     ensures faults { OnOk result (D.fault_count old.new ≡ D.fault_count old.old) }
@@ -117,7 +117,7 @@ fn write_files<D: Disk, E: Disk, P: Progress>(
     ensures written { OnOk result (Holds E.Disk (92 * length source.now.kinds.items)
         (files_of (recovered (D.image old.old))) kernel.new) }
     ensures refused { IfErr result (IsUnwritten D.Disk E.Disk
-        (files_of (recovered (D.image old.old))) old.old old.new
+        (BreaksOff (files_of (recovered (D.image old.old)))) old.old old.new
         kernel.old.opening kernel.new.store.volume.device) }
     ensures reads { OnlyReads D.Disk old.old old.new }
     ensures faults { OnOk result (D.fault_count old.new ≡ D.fault_count old.old) }
@@ -155,8 +155,8 @@ fn write_file<D: Disk, E: Disk>(
         (bytes_in (recovered (D.image old.old)) (inode_of (recovered (D.image old.old)) i)))
         kernel.new) }
     ensures refused { IfErr result (IsUnwritten D.Disk E.Disk
-        (appended (files_on E.image kernel.old) i
-        (bytes_in (recovered (D.image old.old)) (inode_of (recovered (D.image old.old)) i)))
+        (CutsShort i (appended (files_on E.image kernel.old) i
+        (bytes_in (recovered (D.image old.old)) (inode_of (recovered (D.image old.old)) i))))
         old.old old.new kernel.old.opening kernel.new.store.volume.device) }
     ensures reads { OnlyReads D.Disk old.old old.new }
     ensures faults { OnOk result (D.fault_count old.new ≡ D.fault_count old.old) }

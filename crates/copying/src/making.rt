@@ -1,18 +1,32 @@
 // A kernel over a new image.
-ghost use Rattle.std.specs.Prelude.{◌≡◌, IsTrue, IfOk, IfErr};
-ghost use Rattle.model.specs.Layout.{is_inode_count};
+ghost use Rattle.std.specs.Prelude.{◌≡◌, ◌&&◌, ◌==◌, false, length, IsTrue, IfOk, IfErr, OnOk};
+ghost use Rattle.model.specs.Layout.{is_inode_count, is_size};
 ghost use Rattle.copying.specs.Copies.{IsNewKernel, IsUnmade};
 ghost use Rattle.copying.specs.Faults.{fault_of_opening};
 
 use crate::fault::CopyFault;
 use blocks::Disk;
 use kernel::OpenFault;
-use layout::{CheckFault, Form};
+use layout::{CheckFault, Form, MkfsFault, plan};
 use offline::laws::new_image_is_sound;
 use offline::mkfs_as;
 use sole::{Sole, open_sole};
 use std::alloc::Global;
 use wal::RecoverFault;
+
+/// Refuses a size that no image of so many numbers has, or that isn't the disk's.
+pub(crate) fn check_size<E: Disk>(new: &E, size: u32, ninodes: u32) -> Result<(), CopyFault>
+    requires { IsTrue (is_inode_count ninodes) }
+    ensures fits { OnOk result
+        (IsTrue (is_size size ninodes) × (length (E.image new.now) ≡ size)) }
+    ensures refused { IfErr result (λ fault. (fault ≡ CopyFault.Mkfs MkfsFault.SizeRange)
+        × ((is_size size ninodes && (size == length (E.image new.now))) ≡ false)) }
+{
+    if plan(size, ninodes).is_err() || new.size() != size {
+        return Err(CopyFault::Mkfs(MkfsFault::SizeRange));
+    }
+    Ok(())
+}
 
 /// Makes an image of the second form, and opens a kernel of one process over it.
 pub(crate) fn make_new<E: Disk + Drop>(

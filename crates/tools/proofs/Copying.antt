@@ -1,5 +1,5 @@
 -- Why a copy is not planned, and what is told of one that was made.
-use Rattle.std.proofs.Common.{◌≡◌, ◌∙◌, ℕ, Bool, true, false, ◌&&◌, leb, Option, None, List, ap, sym, subst, refl, inr}
+use Rattle.std.proofs.Common.{◌≡◌, ◌≢◌, ◌∙◌, ℕ, Bool, true, false, ◌&&◌, leb, Option, None, List, ap, sym, subst, refl, inr}
 use Rattle.std.specs.Prelude.{◌↔◌, Result, Ok, Err, IsOk, IsTrue, IfErr, IsOkUnless, OnOk}
 use Rattle.std.specs.Result.{IsErrOf}
 use Rattle.std.specs.Io.KnownBytes.{Appends}
@@ -62,3 +62,8 @@ module _ {F N : Type 0} (remaining : F → Option (List ℕ)) (disk : Ghosts (Fi
   pub copied_untold : (r : Result (Unit {0}) Refusal) → IsOkUnless r Output → IfErr r (OnCopyRefusal remaining disk size)
   copied_untold (Ok _) unless = unless
   copied_untold (Err refusal) unless = inr (inr (inr (unless, (count, made))))
+
+-- nothing but the printing fails then
+pub only_output : (P : Type 0) (r : Result (Unit {0}) Refusal) → IsOkUnless r Output → IfErr r (λ refusal. refusal ≢ Output → P)
+only_output P (Ok _) unless = unless
+only_output P (Err refusal) unless = λ other. absurd (other unless)

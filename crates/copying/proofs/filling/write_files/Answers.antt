@@ -10,7 +10,7 @@ use Rattle.model.specs.Lemmas.FileNumbers.{file_in-files_of_zero}
 use Rattle.filing.specs.Files.{appended, files_on}
 use Rattle.sole.specs.Calls.{call_count}
 use Rattle.sole.specs.Stepping.{Plain}
-use Rattle.copying.specs.Holding.{Holds, IsUnwritten}
+use Rattle.copying.specs.Holding.{CutsShort, Holds, IsUnwritten}
 use Rattle.copying.specs.Source.{IsFileOf}
 use Rattle.copying.specs.Stages.{listed, written_at}
 use Rattle.copying.proofs.FillingLemmas.{all_written, file_listed, few_numbers, holds_as, none_listed, none_written, number_listed, number_within, one_unwritten, one_written, still_empty}
@@ -96,7 +96,7 @@ returns-in_err-write_file-clause-refused g c =
     let fault = c.in_err-write_file.field-0.0 in
     let low : k < length source.kinds.items = omega (arith, ap length c.deref-kind-items.ensures.value) in
     let used : get_or source.kinds.items k 0 ≢ 0 = subst (λ (kinds : List ℕ). get_or kinds k 0 ≢ 0) c.deref-kind-items.ensures.value c.if-kind-ne0.true in
-    let refused = subst (λ (z : Image). IsUnwritten from to (appended (files_on to.image l) (k + 1) (bytes_in (recovered z) (inode_of (recovered z) (k + 1)))) c.loop-k.old c.write_file.new.old l.opening e fault)
+    let refused = subst (λ (z : Image). IsUnwritten from to (CutsShort (k + 1) (appended (files_on to.image l) (k + 1) (bytes_in (recovered z) (inode_of (recovered z) (k + 1))))) c.loop-k.old c.write_file.new.old l.opening e fault)
     c.loop-k.invariant.reads.image c.in_err-write_file.ensures.refused in
     let p = err_from_is_err_and c.from_residual-in_err-write_file.result c.from_residual-in_err-write_file.ensures.1 in
     rw (p.1, p.2)

@@ -3,7 +3,7 @@ use Rattle.std.proofs.lemmas.Result.{err_from_is_err_and}
 use Rattle.copying.specs.Copies.{IsUncopied}
 use Rattle.filedisks.specs.Lemmas.Disks.{file_disk}
 use Rattle.tools.specs.Copies.{HasMade, HasNotCopied, HasNotPlanned, MayCopy, OnCopyRefusal}
-use Rattle.tools.proofs.Copying.{copied_told, copied_untold}
+use Rattle.tools.proofs.Copying.{copied_told, copied_untold, only_output}
 use Rattle.tools.proofs.copies.copy_from.Goals as goal
 
 pub returns-in_err-size-clause-refused : goal.returns-in_err-size-clause-refused
@@ -52,6 +52,9 @@ returns-in-Ok-clause-refused g c =
       copied = search rules;
     } in
     copied_untold g.R.File.Read.remaining file_disk c.args.size c.in-Ok.files made c.print_files.result c.print_files.ensures.err
+
+pub returns-in-Ok-clause-silent : goal.returns-in-Ok-clause-silent
+returns-in-Ok-clause-silent g c = only_output _ c.print_files.result c.print_files.ensures.err
 
 pub returns-in-Err-clause-refused : goal.returns-in-Err-clause-refused
 returns-in-Err-clause-refused g c =
