@@ -15,6 +15,9 @@ use wal::Volume;
 // So many bytes of a bitmap are looked at at once.
 const GROUP: usize = 32;
 
+// What a block is zeroed from.
+static ZEROES: [u8; BLOCK_SIZE] = [0; BLOCK_SIZE];
+
 /// Where the taking of a block stands.
 #[derive(Clone, Copy)]
 pub enum AllocAt {
@@ -137,7 +140,7 @@ fn zero_block<D: Disk>(volume: &mut Volume<D>, pid: u32, block: u32, slot: u32)
     ensures { Zeroes D.Disk volume.old pid slot block volume.new }
 {
     let _bytes = volume.data(slot);
-    put_block(volume, pid, slot, 0, &[0; BLOCK_SIZE]);
+    put_block(volume, pid, slot, 0, &ZEROES);
 }
 
 // The lowest bit below a size that is clear.
