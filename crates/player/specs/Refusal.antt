@@ -54,15 +54,6 @@ IsOfCat (Put _) = ⊥
 IsOfCat (Copy _) = ⊥
 IsOfCat _ = ⊤
 
--- those of the words and lines that the program is given
-abbrev pub IsOfInput : Refusal → Type 0
-IsOfInput (Input _) = ⊤
-IsOfInput (Ls _) = ⊤
-IsOfInput (Show _) = ⊤
-IsOfInput (Put _) = ⊤
-IsOfInput (Copy _) = ⊤
-IsOfInput _ = ⊥
-
 -- after the disk failed all was printed; before the run nothing was
 abbrev pub OnRefusal : Refusal → Type 0 → Type 0 → Type 0
 OnRefusal (Disk _) whole none = whole
