@@ -3,10 +3,12 @@ ghost use Rattle.std.specs.Prelude.{IfSome, OnOk, IsOkUnless};
 ghost use Rattle.std.specs.Io.KnownBytes.{Appends, Keeps};
 ghost use Rattle.texts.specs.Events.{event_line};
 ghost use Rattle.texts.specs.declared.events.Event.TheVariants.{Stepped};
+ghost use Rattle.texts.specs.Telling.{telling_line};
 ghost use Rattle.texts.specs.Output.{copied_text, counts_text, files_text, images_text, number_text, numbers_text, report_text};
 
 use crate::events::{Event, Progress, rest_of_line};
 use crate::refusal::Refusal;
+use crate::told::{Reason, Unwritten};
 use itoa::Buffer;
 use layout::Super;
 use offline::Report;
@@ -14,42 +16,27 @@ use std::fmt::Display;
 use std::io::Write;
 
 /// Writes a text. The writer may hold it back: `print_last` passes it on.
-///
-/// # Errors
-///
-/// `Output` where the writer fails.
-pub fn print<O: Write, D: Display + Drop>(out: &mut O, text: D) -> Result<(), Refusal>
+pub fn print<O: Write, D: Display + Drop>(out: &mut O, text: D) -> Result<(), Unwritten>
     ensures ok { OnOk result (IfSome (D.output text)
         (Appends (O.contents out.old) (O.contents out.new))) }
-    ensures err { IsOkUnless result Refusal.Output }
 {
-    write!(out, "{text}").map_err(|_| Refusal::Output)
+    write!(out, "{text}").map_err(|_| Unwritten)
 }
 
 /// Writes the last text of a command, and passes on what the writer holds back.
-///
-/// # Errors
-///
-/// `Output` where the writer fails.
-pub fn print_last<O: Write, D: Display + Drop>(out: &mut O, text: D) -> Result<(), Refusal>
+pub fn print_last<O: Write, D: Display + Drop>(out: &mut O, text: D) -> Result<(), Unwritten>
     ensures ok { OnOk result (IfSome (D.output text)
         (Appends (O.contents out.old) (O.contents out.new))) }
-    ensures err { IsOkUnless result Refusal.Output }
 {
     print(out, text)?;
     pass_on(out)
 }
 
 /// Writes bytes as they are. The writer may hold them back: `pass_on` passes them on.
-///
-/// # Errors
-///
-/// `Output` where the writer fails.
-pub fn write_bytes<O: Write>(out: &mut O, bytes: &[u8]) -> Result<(), Refusal>
+pub fn write_bytes<O: Write>(out: &mut O, bytes: &[u8]) -> Result<(), Unwritten>
     ensures ok { OnOk result (Appends (O.contents out.old) (O.contents out.new) bytes.now) }
-    ensures err { IsOkUnless result Refusal.Output }
 {
-    out.write_all(bytes).map_err(|_| Refusal::Output)
+    out.write_all(bytes).map_err(|_| Unwritten)
 }
 
 /// Writes the line of a turn. The writer may hold it back.
@@ -64,7 +51,7 @@ pub fn print_event<O: Write>(out: &mut O, event: &Event) -> Result<(), Refusal>
 {
     match event {
         Event::Stepped(pid, progress) => print_step(out, *pid, *progress),
-        _ => print(out, format_args!("{event}\n")),
+        _ => Ok(print(out, format_args!("{event}\n"))?),
     }
 }
 
@@ -77,30 +64,21 @@ fn print_step<O: Write>(out: &mut O, pid: u32, progress: Progress) -> Result<(),
     let mut digits = Buffer::new();
     write_bytes(out, digits.format(pid).as_bytes())?;
     write_bytes(out, rest_of_line(progress).as_bytes())?;
-    write_bytes(out, b"\n")
+    write_bytes(out, b"\n")?;
+    Ok(())
 }
 
 /// Passes on what the writer holds back.
-///
-/// # Errors
-///
-/// `Output` where the writer fails.
-pub fn pass_on<O: Write>(out: &mut O) -> Result<(), Refusal>
+pub fn pass_on<O: Write>(out: &mut O) -> Result<(), Unwritten>
     ensures ok { OnOk result (Keeps (O.contents out.old) (O.contents out.new)) }
-    ensures err { IsOkUnless result Refusal.Output }
 {
-    out.flush().map_err(|_| Refusal::Output)
+    out.flush().map_err(|_| Unwritten)
 }
 
 /// Prints the numbers of a new image, as the last text of a command.
-///
-/// # Errors
-///
-/// `Output` where the writer fails.
-pub fn print_numbers<O: Write>(out: &mut O, fields: &Super) -> Result<(), Refusal>
+pub fn print_numbers<O: Write>(out: &mut O, fields: &Super) -> Result<(), Unwritten>
     ensures ok { OnOk result (Appends (O.contents out.old) (O.contents out.new)
         (numbers_text fields.now)) }
-    ensures err { IsOkUnless result Refusal.Output }
 {
     let mut buffers = (Buffer::new(), Buffer::new(), Buffer::new());
     let size = buffers.0.format(fields.size);
@@ -113,14 +91,9 @@ pub fn print_numbers<O: Write>(out: &mut O, fields: &Super) -> Result<(), Refusa
 }
 
 /// Prints what a check found, as the last text of a command.
-///
-/// # Errors
-///
-/// `Output` where the writer fails.
-pub fn print_report<O: Write>(out: &mut O, report: &Report) -> Result<(), Refusal>
+pub fn print_report<O: Write>(out: &mut O, report: &Report) -> Result<(), Unwritten>
     ensures ok { OnOk result (Appends (O.contents out.old) (O.contents out.new)
         (report_text report.now.logged report.now.files)) }
-    ensures err { IsOkUnless result Refusal.Output }
 {
     let mut buffers = (Buffer::new(), Buffer::new());
     let logged = buffers.0.format(report.logged);
@@ -129,14 +102,9 @@ pub fn print_report<O: Write>(out: &mut O, report: &Report) -> Result<(), Refusa
 }
 
 /// Prints how many blocks were copied home, as the last text of a command.
-///
-/// # Errors
-///
-/// `Output` where the writer fails.
-pub fn print_copied<O: Write>(out: &mut O, copied: u32) -> Result<(), Refusal>
+pub fn print_copied<O: Write>(out: &mut O, copied: u32) -> Result<(), Unwritten>
     ensures ok { OnOk result (Appends (O.contents out.old) (O.contents out.new)
         (copied_text copied)) }
-    ensures err { IsOkUnless result Refusal.Output }
 {
     let mut buffer = Buffer::new();
     let copied = buffer.format(copied);
@@ -155,7 +123,8 @@ pub fn print_files<O: Write>(out: &mut O, files: u32) -> Result<(), Refusal>
 {
     let mut buffer = Buffer::new();
     let files = buffer.format(files);
-    print_last(out, format_args!("copied {files}\n"))
+    print_last(out, format_args!("copied {files}\n"))?;
+    Ok(())
 }
 
 /// Prints the number of a file, as the last text of a command.
@@ -170,7 +139,8 @@ pub fn print_number<O: Write>(out: &mut O, number: u32) -> Result<(), Refusal>
 {
     let mut buffer = Buffer::new();
     let number = buffer.format(number);
-    print_last(out, format_args!("{number}\n"))
+    print_last(out, format_args!("{number}\n"))?;
+    Ok(())
 }
 
 /// Prints how many blocks a run wrote, and how many groups are committed, as the last text of a
@@ -190,7 +160,8 @@ pub fn print_counts<O: Write>(out: &mut O, writes: u64, committed: u64) -> Resul
     print_last(
         out,
         format_args!("writes {writes}\ncommitted {committed}\n"),
-    )
+    )?;
+    Ok(())
 }
 
 /// Prints how many images the stops of a script left, as the last text of a command.
@@ -205,5 +176,15 @@ pub fn print_images<O: Write>(out: &mut O, images: u64) -> Result<(), Refusal>
 {
     let mut buffer = Buffer::new();
     let images = buffer.format(images);
-    print_last(out, format_args!("images {images}\n"))
+    print_last(out, format_args!("images {images}\n"))?;
+    Ok(())
+}
+
+/// Prints the line of a refusal, as the last text of a command.
+pub fn print_refusal<E: Write, R: Reason>(err: &mut E, refusal: &R) -> Result<(), Unwritten>
+    ensures { OnOk result (Appends (E.contents err.old) (E.contents err.new)
+        (telling_line (R.telling refusal.now))) }
+{
+    let told = refusal.told();
+    print_last(err, format_args!("xvfs: {told}\n"))
 }
