@@ -5,11 +5,31 @@
 ghost use Rattle.std.specs.Prelude.{IfErr, IfOk};
 ghost use Rattle.filedisks.specs.Opened.{IsOfFile, IsOpened};
 
-use blocks::{Disk, FileDisk};
+use blocks::{Disk, FileDisk, FileFault};
 use std::rt::Files;
 use texts::Refusal;
 
 /// The disk in the file at this path. With `sync` it holds writes back until it is synced.
+///
+/// # Errors
+///
+/// A fault of `FileDisk::open`.
+pub fn open<R: Files + AllocGlobal>(
+    rt: &R,
+    image: &str,
+    sync: bool,
+) -> Result<FileDisk<R::File>, FileFault>
+    ensures { IfOk result
+        (IsOpened R.File.remaining ⟦<FileDisk<R::File> as Disk>⟧ sync) }
+{
+    let disk = FileDisk::open(rt, image)?;
+    if sync {
+        return Ok(disk.hold_back());
+    }
+    Ok(disk)
+}
+
+/// The same for a command that answers a `Refusal`.
 ///
 /// # Errors
 ///
@@ -23,9 +43,5 @@ pub fn open_disk<R: Files + AllocGlobal>(
         (IsOpened R.File.remaining ⟦<FileDisk<R::File> as Disk>⟧ sync) }
     ensures refused { IfErr result IsOfFile }
 {
-    let disk = FileDisk::open(rt, image).map_err(Refusal::File)?;
-    if sync {
-        return Ok(disk.hold_back());
-    }
-    Ok(disk)
+    Ok(open(rt, image, sync).map_err(Refusal::File)?)
 }

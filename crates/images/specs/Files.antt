@@ -1,29 +1,19 @@
 -- What became of the disk in a file that a command created or opened, where it was done and where
 -- refused.
-use Rattle.std.specs.Prelude.{◌≡◌, ◌≤◌, ℕ, Bool, List, length, replicate, Option, None}
+use Rattle.std.specs.Prelude.{◌≡◌, ℕ, List, replicate, Option, None}
 use Rattle.std.specs.Io.KnownBytes.{Appends}
 use Rattle.blocks.specs.Block.{zero_block}
-use Rattle.blocks.specs.Disk.{IsSettled}
-use Rattle.blocks.specs.File.{IsReadFrom}
-use Rattle.blocks.specs.FileDisk.{file_of}
 use Rattle.blocks.specs.declared.disk.Disk.{Ghosts}
 use Rattle.blocks.specs.declared.faulty.FaultyDisk.{FaultyDisk}
 use Rattle.blocks.specs.declared.faulty.Trap.{Trap}
 use Rattle.blocks.specs.declared.file.FileDisk.{FileDisk}
 use Rattle.model.specs.declared.types.image.Form.{Form}
 use Rattle.offline.specs.Making.{MakesAs}
-use Rattle.model.specs.Files.{file_count, files_of}
 use Rattle.model.specs.Layout.{planned_super}
-use Rattle.model.specs.Log.{logged_count, recovered}
-use Rattle.model.specs.Verdict.{verdict}
-use Rattle.opening.specs.Recoveries.{IsRecovered}
 use Rattle.player.specs.Opening.{IsNotReplayed, Replays}
 use Rattle.runner.specs.Running.{IsNotRun as IsNotRunOver, Runs}
-use Rattle.texts.specs.Output.{copied_text, numbers_text, report_text}
-use Rattle.player.specs.Showing.{Shows}
+use Rattle.texts.specs.Output.{numbers_text}
 use Rattle.texts.specs.declared.refusal.Refusal.{Refusal}
-use Rattle.blocks.specs.declared.errors.FileFault.{FileFault}
-use Rattle.texts.specs.declared.refusal.Refusal.TheVariants.{File, Schedule, Script}
 use Rattle.scripts.specs.declared.schedule.Word.{Word}
 use Rattle.scripts.specs.declared.script.Task.{Task}
 
@@ -36,25 +26,6 @@ pub record IsMade {F N : Type 0} (disk : Ghosts (FileDisk F) N) (form : Form)
   pub zeroes : disk.image created ≡ replicate size zero_block
   pub makes : MakesAs disk form size inode_count created now
   pub printed : Appends old new (numbers_text (planned_super size inode_count))
-
--- it was checked, and the report of it printed
-abbrev pub IsReported : {F N : Type 0} → Ghosts (FileDisk F) N → Option (List ℕ) → Option (List ℕ)
-    → FileDisk F → FileDisk F → Type 0
-IsReported disk old new d e = (disk.image e ≡ disk.image d) × (verdict (disk.image d) ≡ None)
-    × Appends old new (report_text (logged_count (disk.image d))
-    (file_count (files_of (recovered (disk.image d)))))
-
--- it was recovered, and how many blocks were copied was printed
-abbrev pub IsCopied : {F N : Type 0} → Ghosts (FileDisk F) N → Option (List ℕ) → Option (List ℕ)
-    → FileDisk F → FileDisk F → Type 0
-IsCopied disk old new d e = IsRecovered disk (logged_count (disk.image d)) d e
-    × Appends old new (copied_text (logged_count (disk.image d)))
-
--- it was recovered, and the bytes of its file of a number written
-abbrev pub IsShown : {F N : Type 0} → Ghosts (FileDisk F) N → ℕ → Option (List ℕ)
-    → Option (List ℕ) → FileDisk F → FileDisk F → Type 0
-IsShown disk i old new d e = IsRecovered disk (logged_count (disk.image d)) d e
-    × Shows (disk.image d) i old new
 
 -- it was recovered, a player of some operations was opened over it, and the turns of some words
 -- made and printed

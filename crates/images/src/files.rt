@@ -4,30 +4,18 @@ ghost use Rattle.std.specs.Result.{IsErrOf};
 ghost use Rattle.layout.specs.declared.geometry.MkfsFault.TheVariants as fault;
 ghost use Rattle.model.specs.Layout.{is_inode_count, is_size};
 ghost use Rattle.texts.specs.declared.refusal.Refusal.TheVariants as refusal;
-ghost use Rattle.opening.specs.Recoveries.{IsUnrecovered};
-ghost use Rattle.player.specs.Causes.{IsUnchecked};
-ghost use Rattle.player.specs.Refusal.{IsOfCat, IsOfCheck, IsOfMkfs, IsOfRecover, IsOfReplay};
-ghost use Rattle.player.specs.Showing.{IsNotShown};
+ghost use Rattle.player.specs.Refusal.{IsOfMkfs, IsOfReplay};
 ghost use Rattle.runner.specs.Running.{IsOfRun};
 ghost use Rattle.sysring.specs.Frames.{AreWorkers};
 ghost use Rattle.filedisks.specs.Opened.{OnDiskRefusal, OpensDisk};
-ghost use Rattle.images.specs.Files.{
-  IsCopied,
-  IsMade,
-  IsNotRun,
-  IsReplayed,
-  IsReported,
-  IsRun,
-  IsShown,
-  IsUnreplayed,
-};
+ghost use Rattle.images.specs.Files.{IsMade, IsNotRun, IsReplayed, IsRun, IsUnreplayed};
 
 use crate::inputs::{schedule_from, script_from};
 use blocks::{Disk, FaultyDisk, FileDisk};
 use filedisks::open_disk;
 use layout::plan;
 use model::types::Form;
-use player::{cat_disk, check_disk, make_disk, recover_disk, replay_disk};
+use player::{make_disk, replay_disk};
 use runner::run_disk;
 use scripts::processes;
 use std::io::{Read, Write};
@@ -63,79 +51,6 @@ pub fn make_file<R: Files + AllocGlobal, O: Write>(
     plan(size, ninodes).map_err(Refusal::Mkfs)?;
     let mut disk = FileDisk::create(rt, image, size).map_err(Refusal::File)?;
     make_disk(rt.alloc(), &mut disk, form, size, ninodes, out)
-}
-
-/// Checks the image in the file at this path, and prints how many blocks its log holds and how many
-/// files there are.
-///
-/// # Errors
-///
-/// A fault of `FileDisk::open` or of `check_disk`. Which it is, and the numbers, are those of the
-/// disk that was opened; which bytes a path's file has no contract can name.
-pub fn check_file<R: Files + AllocGlobal, O: Write>(
-    rt: &R,
-    image: &str,
-    out: &mut O,
-) -> Result<(), Refusal>
-    ensures opened { OnOk result (OpensDisk R.File.remaining ⟦<FileDisk<R::File> as Disk>⟧ false
-        (IsReported ⟦<FileDisk<R::File> as Disk>⟧ (O.contents out.old) (O.contents out.new))) }
-    ensures refused { IfErr result (OnDiskRefusal R.File.remaining
-        ⟦<FileDisk<R::File> as Disk>⟧ false (out.new ≡ out.old)
-        (IsUnchecked ⟦<FileDisk<R::File> as Disk>⟧.image
-        ⟦<FileDisk<R::File> as Disk>⟧.fault_count)) }
-    ensures silent { IfErr result (λ r. r ≢ refusal.Output → out.new ≡ out.old) }
-    ensures layers { IfErr result IsOfCheck }
-{
-    let mut disk = open_disk(rt, image, false)?;
-    check_disk(rt.alloc(), &mut disk, out)
-}
-
-/// Checks the image in the file at this path, copies the blocks of its log home, and prints how
-/// many these were. With `sync` the file is a disk that holds writes back, and is synced.
-///
-/// # Errors
-///
-/// A fault of `FileDisk::open` or of `recover_disk`.
-pub fn recover_file<R: Files + AllocGlobal, O: Write>(
-    rt: &R,
-    image: &str,
-    sync: bool,
-    out: &mut O,
-) -> Result<(), Refusal>
-    ensures opened { OnOk result (OpensDisk R.File.remaining ⟦<FileDisk<R::File> as Disk>⟧ sync
-        (IsCopied ⟦<FileDisk<R::File> as Disk>⟧ (O.contents out.old) (O.contents out.new))) }
-    ensures refused { IfErr result (OnDiskRefusal R.File.remaining
-        ⟦<FileDisk<R::File> as Disk>⟧ sync (out.new ≡ out.old)
-        (IsUnrecovered ⟦<FileDisk<R::File> as Disk>⟧)) }
-    ensures silent { IfErr result (λ r. r ≢ refusal.Output → out.new ≡ out.old) }
-    ensures layers { IfErr result IsOfRecover }
-{
-    let mut disk = open_disk(rt, image, sync)?;
-    recover_disk(rt.alloc(), &mut disk, out)
-}
-
-/// Recovers the image in the file at this path, and writes the bytes of its file of a number.
-///
-/// # Errors
-///
-/// A fault of `FileDisk::open` or of `cat_disk`.
-pub fn cat_file<R: Files + AllocGlobal, O: Write>(
-    rt: &R,
-    image: &str,
-    inum: u32,
-    out: &mut O,
-) -> Result<(), Refusal>
-    ensures opened { OnOk result (OpensDisk R.File.remaining ⟦<FileDisk<R::File> as Disk>⟧ false
-        (IsShown ⟦<FileDisk<R::File> as Disk>⟧ inum (O.contents out.old) (O.contents out.new))) }
-    ensures layers { IfErr result IsOfCat }
-    ensures refused { IfErr result (OnDiskRefusal R.File.remaining
-        ⟦<FileDisk<R::File> as Disk>⟧ false (out.new ≡ out.old)
-        (λ d e. IsNotShown ⟦<FileDisk<R::File> as Disk>⟧ d e inum
-        (O.contents out.old) (O.contents out.new) (out.new ≡ out.old))) }
-{
-    let disk = open_disk(rt, image, false)?;
-    let (shown, _disk) = cat_disk(rt.alloc(), disk, inum, out);
-    shown
 }
 
 /// Recovers the image in the file at this path, and makes the operations of a script in the turns

@@ -7,5 +7,5 @@
 mod files;
 mod inputs;
 
-pub use files::{cat_file, check_file, make_file, recover_file, replay_files, run_files};
+pub use files::{make_file, replay_files, run_files};
 pub use inputs::{schedule_from, script_from};

@@ -6,12 +6,12 @@ use Rattle.model.specs.Verdict.{verdict}
 use Rattle.model.specs.declared.types.fault.CheckFault.TheVariants as check
 use Rattle.offline.specs.Recovered.{IsRecoveredOf, LiesBehindLog}
 use Rattle.offline.specs.declared.recovered.Recovered.{Recovered}
-use Rattle.texts.specs.declared.faults.LsFault.TheVariants as ls
-use Rattle.texts.specs.declared.faults.ShowFault.TheVariants as show
-use Rattle.texts.specs.declared.refusal.Refusal.{Refusal}
-use Rattle.texts.specs.declared.refusal.Refusal.TheVariants.{Check, Ls, Show}
 use Rattle.listing.specs.declared.fault.GatherFault.{GatherFault}
 use Rattle.listing.specs.declared.fault.GatherFault.TheVariants.{Disk, NoMemory}
+use Rattle.listing.specs.declared.refused.LsRefusal.{LsRefusal}
+use Rattle.listing.specs.declared.refused.LsRefusal.TheVariants as ls
+use Rattle.listing.specs.declared.refused.ShowRefusal.{ShowRefusal}
+use Rattle.listing.specs.declared.refused.ShowRefusal.TheVariants as show
 
 -- the reader of an image that has no fault
 pub record IsCheckedOf (x : Image) (image : Recovered) : Type 0 where
@@ -31,10 +31,10 @@ abbrev pub KeepsCount : {T : Type 0} → Result T GatherFault → ℕ → ℕ �
 KeepsCount result old new = MatchResult result (λ _. new ≡ old) (IsGatherCause old new)
 
 -- how the commands refuse then
-abbrev pub ls_refusal_of : GatherFault → Refusal
-ls_refusal_of Disk = Check check.Disk
-ls_refusal_of NoMemory = Ls ls.NoMemory
+abbrev pub ls_refusal_of : GatherFault → LsRefusal
+ls_refusal_of Disk = ls.Check check.Disk
+ls_refusal_of NoMemory = ls.NoMemory
 
-abbrev pub show_refusal_of : GatherFault → Refusal
-show_refusal_of Disk = Check check.Disk
-show_refusal_of NoMemory = Show show.NoMemory
+abbrev pub show_refusal_of : GatherFault → ShowRefusal
+show_refusal_of Disk = show.Check check.Disk
+show_refusal_of NoMemory = show.NoMemory

@@ -1,8 +1,10 @@
 pub mod Owned
+pub mod Refusals
 pub mod Gathering
 pub mod Causes
 pub mod Listing
 pub mod Showing
 pub mod Signs
 pub mod Drawing
+pub mod Looks
 pub mod Laws

@@ -1,19 +1,19 @@
 // A drawing of the blocks of an image.
-ghost use Rattle.std.specs.Prelude.{◌≡◌, ◌≢◌, ◌*◌, ◌+◌, IfErr, None, OnOk, length, take, drop};
+ghost use Rattle.std.specs.Prelude.{◌≡◌, ◌*◌, ◌+◌, IfErr, None, OnOk, length, take, drop};
 ghost use Rattle.std.specs.Io.KnownBytes.{Appends};
 ghost use Rattle.blocks.specs.Calls.{OnlyReads};
 ghost use Rattle.model.specs.Verdict.{verdict};
-ghost use Rattle.texts.specs.declared.refusal.Refusal.TheVariants as refusal;
 ghost use Rattle.listing.specs.Causes.{IsUndrawn};
 ghost use Rattle.listing.specs.Drawing.{drawing_of, drawing_text, label_text, row_text};
 
+use crate::refused::ShowRefusal;
 use crate::signs::gather_signs;
 use blocks::Disk;
 use itoa::Buffer;
 use offline::check;
 use std::alloc::Global;
 use std::io::Write;
-use texts::{Refusal, print, print_last, write_bytes};
+use texts::{Unwritten, print, print_last, write_bytes};
 
 // Blocks in a row.
 const ROW: usize = 64;
@@ -28,29 +28,29 @@ const ROW: usize = 64;
 ///
 /// # Errors
 ///
-/// `Check` with a fault of the image or of its check, or with `Disk` where a read behind the check
-/// failed. `Show` with `NoMemory` where memory behind the check was refused. With these nothing was
-/// printed. Else `Output`.
-pub fn show_disk<D: Disk, O: Write>(alloc: Global, disk: &mut D, out: &mut O) -> Result<(), Refusal>
+/// `Check` with a fault of the image or of its check, or with `Disk` where a read after the check
+/// failed. `NoMemory` where memory after the check was refused. With these nothing was printed. Else
+/// `Output`.
+pub fn show_disk<D: Disk, O: Write>(
+    alloc: Global,
+    disk: &mut D,
+    out: &mut O,
+) -> Result<(), ShowRefusal>
     ensures sound { OnOk result (verdict (D.image disk.old) ≡ None) }
     ensures printed { OnOk result (Appends (O.contents out.old) (O.contents out.new)
         (drawing_of (D.image disk.old))) }
     ensures reads { OnlyReads D.Disk disk.old disk.new }
-    ensures refused { IfErr result (IsUndrawn D.image D.fault_count disk.old disk.new) }
-    ensures silent { IfErr result (λ r. r ≢ refusal.Output → out.new ≡ out.old) }
+    ensures refused { IfErr result (IsUndrawn D.Disk disk.old disk.new (out.new ≡ out.old)) }
 {
-    check(alloc, disk)?;
-    match gather_signs(alloc, disk) {
-        Ok(signs) => draw(out, signs.as_slice()),
-        Err(fault) => Err(fault.of_show()),
-    }
+    check(alloc, disk).map_err(ShowRefusal::Check)?;
+    let signs = gather_signs(alloc, disk)?;
+    draw(out, signs.as_slice()).map_err(|_| ShowRefusal::Output)
 }
 
 // Prints rows of these signs, and the key, as the last text of a command.
-fn draw<O: Write>(out: &mut O, signs: &[u8]) -> Result<(), Refusal>
+fn draw<O: Write>(out: &mut O, signs: &[u8]) -> Result<(), Unwritten>
     ensures printed { OnOk result (Appends (O.contents out.old) (O.contents out.new)
         (drawing_text signs.now)) }
-    ensures err { IfErr result (λ r. r ≡ refusal.Output) }
 {
     for row in 0..signs.len().div_ceil(ROW) {
         let from = row * ROW;
@@ -65,10 +65,9 @@ fn draw<O: Write>(out: &mut O, signs: &[u8]) -> Result<(), Refusal>
 }
 
 // Prints a row of signs, which begins with that block.
-fn print_row<O: Write>(out: &mut O, first: usize, signs: &[u8]) -> Result<(), Refusal>
+fn print_row<O: Write>(out: &mut O, first: usize, signs: &[u8]) -> Result<(), Unwritten>
     ensures printed { OnOk result (Appends (O.contents out.old) (O.contents out.new)
         (row_text first signs.now)) }
-    ensures err { IfErr result (λ r. r ≡ refusal.Output) }
 {
     print_label(out, first)?;
     write_bytes(out, signs)?;
@@ -76,10 +75,9 @@ fn print_row<O: Write>(out: &mut O, first: usize, signs: &[u8]) -> Result<(), Re
 }
 
 // Prints a number right-aligned in four columns, and a space.
-fn print_label<O: Write>(out: &mut O, number: usize) -> Result<(), Refusal>
+fn print_label<O: Write>(out: &mut O, number: usize) -> Result<(), Unwritten>
     ensures printed { OnOk result (Appends (O.contents out.old) (O.contents out.new)
         (label_text number)) }
-    ensures err { IfErr result (λ r. r ≡ refusal.Output) }
 {
     let mut buffer = Buffer::new();
     let digits = buffer.format(number);

@@ -1,10 +1,10 @@
 // Why blocks aren't gathered from a disk whose image was checked.
 ghost use Rattle.std.specs.Prelude.{◌≡◌};
 
+use crate::refused::{LsRefusal, ShowRefusal};
 use blocks::{DiskFault, NoMemory};
 use layout::CheckFault;
 use std::alloc::{AllocError, AllocFailed};
-use texts::{LsFault, Refusal, ShowFault};
 
 // Why what an image has was not gathered.
 #[derive(Clone, Copy)]
@@ -15,26 +15,28 @@ pub enum GatherFault {
     NoMemory,
 }
 
-impl GatherFault {
-    ghost use Rattle.listing.specs.Gathering.{ls_refusal_of, show_refusal_of};
+impl From<GatherFault> for LsRefusal {
+    ghost use Rattle.listing.specs.Gathering.{ls_refusal_of};
 
-    // As `ls` refuses.
-    pub fn of_ls(self) -> Refusal
-        ensures { result ≡ ls_refusal_of self }
-    {
-        match self {
-            GatherFault::Disk => Refusal::Check(CheckFault::Disk),
-            GatherFault::NoMemory => Refusal::Ls(LsFault::NoMemory),
+    ghost from_gives = { λ fault r. r ≡ ls_refusal_of fault };
+
+    fn from(fault: GatherFault) -> LsRefusal {
+        match fault {
+            GatherFault::Disk => LsRefusal::Check(CheckFault::Disk),
+            GatherFault::NoMemory => LsRefusal::NoMemory,
         }
     }
+}
 
-    // As `show` refuses.
-    pub fn of_show(self) -> Refusal
-        ensures { result ≡ show_refusal_of self }
-    {
-        match self {
-            GatherFault::Disk => Refusal::Check(CheckFault::Disk),
-            GatherFault::NoMemory => Refusal::Show(ShowFault::NoMemory),
+impl From<GatherFault> for ShowRefusal {
+    ghost use Rattle.listing.specs.Gathering.{show_refusal_of};
+
+    ghost from_gives = { λ fault r. r ≡ show_refusal_of fault };
+
+    fn from(fault: GatherFault) -> ShowRefusal {
+        match fault {
+            GatherFault::Disk => ShowRefusal::Check(CheckFault::Disk),
+            GatherFault::NoMemory => ShowRefusal::NoMemory,
         }
     }
 }

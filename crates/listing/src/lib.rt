@@ -7,11 +7,15 @@ mod drawing;
 mod fault;
 pub mod laws;
 mod listing;
+mod looks;
 mod owned;
+mod refused;
 mod showing;
 mod signs;
 
 pub use drawing::show_disk;
 pub use listing::list_disk;
+pub use looks::{Ls, Show};
 pub use owned::Owned;
+pub use refused::{LsRefusal, ShowRefusal};
 pub use showing::show_file;

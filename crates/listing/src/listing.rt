@@ -1,25 +1,25 @@
 // A list of the files of an image.
-ghost use Rattle.std.specs.Prelude.{◌≡◌, ◌≢◌, ◌++◌, ◌<◌, ◌≤◌, IfErr, IfOk, None, OnOk, length};
+ghost use Rattle.std.specs.Prelude.{◌≡◌, ◌++◌, ◌<◌, ◌≤◌, IfErr, IfOk, None, OnOk, length};
 ghost use Rattle.std.specs.Io.KnownBytes.{Appends};
 ghost use Rattle.blocks.specs.Calls.{OnlyReads};
 ghost use Rattle.model.specs.Log.{recovered};
 ghost use Rattle.model.specs.Names.{names_of};
 ghost use Rattle.model.specs.Places.{addresses_in, pointers_in};
 ghost use Rattle.model.specs.Verdict.{verdict};
-ghost use Rattle.texts.specs.declared.refusal.Refusal.TheVariants as refusal;
 ghost use Rattle.listing.specs.Causes.{IsUnlisted};
 ghost use Rattle.listing.specs.Gathering.{IsCheckedOf, KeepsCount, LieBehindLog};
 ghost use Rattle.listing.specs.Listing.{listing_of, row_text, rows_at, rows_of, rows_text};
 
 use crate::fault::GatherFault;
 use crate::owned::{add_owned, open};
+use crate::refused::LsRefusal;
 use blocks::{Block, Disk};
 use itoa::Buffer;
 use layout::Dinode;
 use offline::{Recovered, check};
 use std::alloc::Global;
 use std::io::Write;
-use texts::{Refusal, pass_on, print};
+use texts::{Unwritten, pass_on, print};
 
 // A file of an image, as a line of the list tells of it.
 #[derive(Clone, Copy)]
@@ -38,22 +38,23 @@ pub struct Row {
 ///
 /// # Errors
 ///
-/// `Check` with a fault of the image or of its check, or with `Disk` where a read behind the check
-/// failed. `Ls` with `NoMemory` where memory behind the check was refused. With these nothing was
-/// printed. Else `Output`.
-pub fn list_disk<D: Disk, O: Write>(alloc: Global, disk: &mut D, out: &mut O) -> Result<(), Refusal>
+/// `Check` with a fault of the image or of its check, or with `Disk` where a read after the check
+/// failed. `NoMemory` where memory after the check was refused. With these nothing was printed. Else
+/// `Output`.
+pub fn list_disk<D: Disk, O: Write>(
+    alloc: Global,
+    disk: &mut D,
+    out: &mut O,
+) -> Result<(), LsRefusal>
     ensures sound { OnOk result (verdict (D.image disk.old) ≡ None) }
     ensures printed { OnOk result (Appends (O.contents out.old) (O.contents out.new)
         (listing_of (recovered (D.image disk.old)))) }
     ensures reads { OnlyReads D.Disk disk.old disk.new }
-    ensures refused { IfErr result (IsUnlisted D.image D.fault_count disk.old disk.new) }
-    ensures silent { IfErr result (λ r. r ≢ refusal.Output → out.new ≡ out.old) }
+    ensures refused { IfErr result (IsUnlisted D.Disk disk.old disk.new (out.new ≡ out.old)) }
 {
-    check(alloc, disk)?;
-    match gather_rows(alloc, disk) {
-        Ok(rows) => print_rows(out, rows.as_slice()),
-        Err(fault) => Err(fault.of_ls()),
-    }
+    check(alloc, disk).map_err(LsRefusal::Check)?;
+    let rows = gather_rows(alloc, disk)?;
+    print_rows(out, rows.as_slice()).map_err(|_| LsRefusal::Output)
 }
 
 // The rows of the files of a disk that was checked.
@@ -130,10 +131,9 @@ fn count_blocks<D: Disk>(
 }
 
 // Prints the lines of these rows, as the last text of a command.
-fn print_rows<O: Write>(out: &mut O, rows: &[Row]) -> Result<(), Refusal>
+fn print_rows<O: Write>(out: &mut O, rows: &[Row]) -> Result<(), Unwritten>
     ensures printed { OnOk result (Appends (O.contents out.old) (O.contents out.new)
         (rows_text rows.now)) }
-    ensures err { IfErr result (λ r. r ≡ refusal.Output) }
 {
     for row in rows {
         print_row(out, row)?;
@@ -141,10 +141,9 @@ fn print_rows<O: Write>(out: &mut O, rows: &[Row]) -> Result<(), Refusal>
     pass_on(out)
 }
 
-fn print_row<O: Write>(out: &mut O, row: &Row) -> Result<(), Refusal>
+fn print_row<O: Write>(out: &mut O, row: &Row) -> Result<(), Unwritten>
     ensures printed { OnOk result (Appends (O.contents out.old) (O.contents out.new)
         (row_text row.now)) }
-    ensures err { IfErr result (λ r. r ≡ refusal.Output) }
 {
     let mut buffers = (Buffer::new(), Buffer::new(), Buffer::new(), Buffer::new());
     let number = buffers.0.format(row.number);

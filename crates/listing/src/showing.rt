@@ -1,11 +1,10 @@
 // The blocks of one file of an image.
-ghost use Rattle.std.specs.Prelude.{◌≡◌, ◌≢◌, IfErr, IfOk, IsSome, MatchOption, None, OnOk};
+ghost use Rattle.std.specs.Prelude.{◌≡◌, IfErr, IfOk, IsSome, MatchOption, None, OnOk};
 ghost use Rattle.std.specs.Io.KnownBytes.{Appends};
 ghost use Rattle.blocks.specs.Calls.{OnlyReads};
 ghost use Rattle.model.specs.Files.{file_in, files_of};
 ghost use Rattle.model.specs.Log.{recovered};
 ghost use Rattle.model.specs.Verdict.{verdict};
-ghost use Rattle.texts.specs.declared.refusal.Refusal.TheVariants as refusal;
 ghost use Rattle.listing.specs.Causes.{IsUnshown};
 ghost use Rattle.listing.specs.Gathering.{KeepsCount};
 ghost use Rattle.listing.specs.Owned.{owned_of};
@@ -13,12 +12,13 @@ ghost use Rattle.listing.specs.Showing.{IsOwnedBy, block_line, blocks_text, file
 
 use crate::fault::GatherFault;
 use crate::owned::{Owned, add_owned, open};
+use crate::refused::ShowRefusal;
 use blocks::{Block, Disk};
 use itoa::Buffer;
 use offline::check;
 use std::alloc::Global;
 use std::io::Write;
-use texts::{Refusal, ShowFault, pass_on, print};
+use texts::{Unwritten, pass_on, print};
 
 /// Checks the image of a disk, and prints the numbers of the blocks that one of its files owns once
 /// the log is copied home, a line for each in the order of the file's places. A block of addresses
@@ -26,30 +26,29 @@ use texts::{Refusal, ShowFault, pass_on, print};
 ///
 /// # Errors
 ///
-/// `Check` with a fault of the image or of its check, or with `Disk` where a read behind the check
-/// failed. `Show` with `NoFile` where there is no file of that number, or with `NoMemory` where
-/// memory behind the check was refused. With these nothing was printed. Else `Output`.
+/// `Check` with a fault of the image or of its check, or with `Disk` where a read after the check
+/// failed. `NoFile` where there is no file of that number, or `NoMemory` where memory after the check
+/// was refused. With these nothing was printed. Else `Output`.
 pub fn show_file<D: Disk, O: Write>(
     alloc: Global,
     disk: &mut D,
     number: u32,
     out: &mut O,
-) -> Result<(), Refusal>
+) -> Result<(), ShowRefusal>
     ensures sound { OnOk result (verdict (D.image disk.old) ≡ None) }
     ensures there { OnOk result
         (IsSome (file_in (files_of (recovered (D.image disk.old))) number)) }
     ensures printed { OnOk result (Appends (O.contents out.old) (O.contents out.new)
         (file_text (recovered (D.image disk.old)) number)) }
     ensures reads { OnlyReads D.Disk disk.old disk.new }
-    ensures refused { IfErr result (IsUnshown D.image D.fault_count number disk.old disk.new) }
-    ensures silent { IfErr result (λ r. r ≢ refusal.Output → out.new ≡ out.old) }
+    ensures refused { IfErr result
+        (IsUnshown D.Disk number disk.old disk.new (out.new ≡ out.old)) }
 {
-    check(alloc, disk)?;
-    match blocks_of(alloc, disk, number) {
-        Ok(Some(owned)) => print_blocks(out, owned.as_slice()),
-        Ok(None) => Err(Refusal::Show(ShowFault::NoFile)),
-        Err(fault) => Err(fault.of_show()),
-    }
+    check(alloc, disk).map_err(ShowRefusal::Check)?;
+    let Some(owned) = blocks_of(alloc, disk, number)? else {
+        return Err(ShowRefusal::NoFile);
+    };
+    print_blocks(out, owned.as_slice()).map_err(|_| ShowRefusal::Output)
 }
 
 // The blocks of the file of a number, on a disk that was checked; None where there is no such file.
@@ -81,10 +80,9 @@ fn blocks_of<D: Disk>(
 }
 
 // Prints the lines of these blocks, as the last text of a command.
-fn print_blocks<O: Write>(out: &mut O, blocks: &[Owned]) -> Result<(), Refusal>
+fn print_blocks<O: Write>(out: &mut O, blocks: &[Owned]) -> Result<(), Unwritten>
     ensures printed { OnOk result (Appends (O.contents out.old) (O.contents out.new)
         (blocks_text blocks.now)) }
-    ensures err { IfErr result (λ r. r ≡ refusal.Output) }
 {
     for block in blocks {
         print_block(out, block)?;
@@ -92,10 +90,9 @@ fn print_blocks<O: Write>(out: &mut O, blocks: &[Owned]) -> Result<(), Refusal>
     pass_on(out)
 }
 
-fn print_block<O: Write>(out: &mut O, block: &Owned) -> Result<(), Refusal>
+fn print_block<O: Write>(out: &mut O, block: &Owned) -> Result<(), Unwritten>
     ensures printed { OnOk result (Appends (O.contents out.old) (O.contents out.new)
         (block_line block.now)) }
-    ensures err { IfErr result (λ r. r ≡ refusal.Output) }
 {
     let mut buffer = Buffer::new();
     let number = buffer.format(block.block);

@@ -9,12 +9,23 @@ use Rattle.model.specs.Verdict.{verdict}
 use Rattle.wal.specs.Recovery.{syncs_to_recover, writes_to_recover}
 use Rattle.wal.specs.declared.faults.RecoverFault.TheVariants as recover
 use Rattle.kernel.specs.Opening.{IsRecoverCause}
+use Rattle.texts.specs.Telling.{Telling, check_telling, recover_telling}
 use Rattle.texts.specs.declared.refusal.Refusal.{Refusal}
-use Rattle.texts.specs.declared.refusal.Refusal.TheVariants.{Check, Recover, Output}
+use Rattle.texts.specs.declared.refusal.Refusal.TheVariants as refusal
+use Rattle.opening.specs.declared.recovering.RecoverRefusal.{RecoverRefusal}
+use Rattle.opening.specs.declared.recovering.RecoverRefusal.TheVariants.{Check, Recover}
 
--- the disk d, now e, was checked and not recovered, or how many blocks were copied could not be
--- printed
-abbrev pub IsUnrecovered : {D N : Type 0} → Ghosts D N → D → D → Refusal → Type 0
+-- how it is told that an image isn't recovered, and by the commands that answer a `Refusal`
+abbrev pub unrecovered_telling : RecoverRefusal → Telling
+unrecovered_telling (Check fault) = check_telling fault
+unrecovered_telling (Recover fault) = recover_telling fault
+
+abbrev pub recover_refusal : RecoverRefusal → Refusal
+recover_refusal (Check fault) = refusal.Check fault
+recover_refusal (Recover fault) = refusal.Recover fault
+
+-- the disk d, now e, was checked and not recovered
+abbrev pub IsUnrecovered : {D N : Type 0} → Ghosts D N → D → D → RecoverRefusal → Type 0
 IsUnrecovered disk d e (Check fault) =
     IsCause (verdict (disk.image d)) (disk.fault_count d) (disk.fault_count e) fault
     × (disk.image e ≡ disk.image d)
@@ -22,18 +33,16 @@ IsUnrecovered disk d e (Recover recover.NoMemory) =
     (verdict (disk.image d) ≡ None) × (disk.image e ≡ disk.image d)
 IsUnrecovered disk d e (Recover fault) =
     (verdict (disk.image d) ≡ None) × IsRecoverCause disk d e fault
-IsUnrecovered disk d e Output =
-    (verdict (disk.image d) ≡ None) × (disk.image e ≡ recovered (disk.image d))
-IsUnrecovered disk d e _ = ⊥
 
 -- the refusals at which blocks may have been written: a write of the recovery failed, or a sync
-abbrev pub MayHaveWritten : Refusal → Type 0
+abbrev pub MayHaveWritten : RecoverRefusal → Type 0
 MayHaveWritten (Recover recover.Disk) = ⊤
 MayHaveWritten (Recover recover.Sync) = ⊤
 MayHaveWritten _ = ⊥
 
 -- of the disk d, now e, nothing was written but by a recovery that failed
-pub record IsUnwritten {D N : Type 0} (disk : Ghosts D N) (d e : D) (r : Refusal) : Type 0 where
+pub record IsUnwritten {D N : Type 0} (disk : Ghosts D N) (d e : D) (r : RecoverRefusal) : Type 0
+    where
   pub writes : MayHaveWritten r ⊎ (disk.write_count e ≡ disk.write_count d)
   -- a disk that holds no writes back is not synced
   pub plain : UnlessHolds disk d (disk.sync_count e ≡ disk.sync_count d)

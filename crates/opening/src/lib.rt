@@ -11,7 +11,7 @@ ghost use Rattle.std.specs.Prelude.{◌≡◌};
 ghost use Rattle.opening.specs.Openings.{open_refusal};
 
 use kernel::OpenFault;
-pub use recovering::recover_image;
+pub use recovering::{RecoverRefusal, recover_image};
 use texts::{KernelFault, Refusal};
 
 /// Why a kernel wasn't opened. A fault of the check or of the recovery inside is told as its own

@@ -1,15 +1,62 @@
 // A recovery of a disk's image.
-ghost use Rattle.std.specs.Prelude.{◌≡◌, ◌≢◌, IfOk, OnOk, IfErr};
+ghost use Rattle.std.specs.Prelude.{◌≡◌, IfOk, OnOk, IfErr};
 ghost use Rattle.wal.specs.Recovery.{IsCalm};
 ghost use Rattle.kernel.specs.Opening.{LeavesRecovered};
-ghost use Rattle.texts.specs.declared.refusal.Refusal.TheVariants as refusal;
-ghost use Rattle.opening.specs.Recoveries.{IsRecovered, IsUnrecovered, IsUnwritten};
+ghost use Rattle.opening.specs.Recoveries.{
+  IsRecovered,
+  IsUnrecovered,
+  IsUnwritten,
+  recover_refusal,
+  unrecovered_telling,
+};
 
 use blocks::Disk;
+use model::types::CheckFault;
 use offline::check;
 use std::alloc::Global;
-use texts::Refusal;
-use wal::recover;
+use texts::{Reason, Refusal, Told};
+use wal::{RecoverFault, recover};
+
+/// Why the image of a disk isn't recovered.
+#[derive(Clone, Copy, Debug)]
+pub enum RecoverRefusal {
+    /// A fault of the image or of its check.
+    Check(CheckFault),
+    /// A fault of the recovery.
+    Recover(RecoverFault),
+}
+
+impl Reason for RecoverRefusal {
+    ghost telling = { unrecovered_telling };
+
+    fn told(&self) -> Told {
+        match self {
+            RecoverRefusal::Check(fault) => fault.told(),
+            RecoverRefusal::Recover(fault) => fault.told(),
+        }
+    }
+}
+
+impl From<CheckFault> for RecoverRefusal {
+    ghost use Rattle.opening.specs.declared.recovering.RecoverRefusal.TheVariants as recover;
+
+    ghost from_gives = { λ fault r. r ≡ recover.Check fault };
+
+    fn from(fault: CheckFault) -> RecoverRefusal {
+        RecoverRefusal::Check(fault)
+    }
+}
+
+impl From<RecoverRefusal> for Refusal {
+    ghost from_gives = { λ refusal r. r ≡ recover_refusal refusal };
+
+    fn from(refusal: RecoverRefusal) -> Refusal {
+        match refusal {
+            RecoverRefusal::Check(fault) => Refusal::Check(fault),
+            RecoverRefusal::Recover(fault) => Refusal::Recover(fault),
+        }
+    }
+}
 
 /// Checks the image of a disk, and copies the blocks of its log home. How many these were.
 ///
@@ -21,18 +68,17 @@ use wal::recover;
 ///
 /// Whatever a crash at any moment leaves is recovered to the same image: of a disk that holds
 /// writes back from the first sync on, or from the start where nothing was held then.
-pub fn recover_image<D: Disk>(alloc: Global, disk: &mut D) -> Result<u32, Refusal>
+pub fn recover_image<D: Disk>(alloc: Global, disk: &mut D) -> Result<u32, RecoverRefusal>
     ensures ok { IfOk result (λ copied. IsRecovered D.Disk copied disk.old disk.new) }
     ensures name { D.name disk.new ≡ D.name disk.old }
     ensures refused { IfErr result (IsUnrecovered D.Disk disk.old disk.new) }
     ensures unwritten { IfErr result (IsUnwritten D.Disk disk.old disk.new) }
-    ensures output { IfErr result (λ r. r ≢ refusal.Output) }
     ensures stops { LeavesRecovered D.Disk disk.old disk.new }
     ensures settled { OnOk result (IsCalm D.Disk disk.new) }
 {
     let report = check(alloc, disk)?;
     match recover(alloc, disk, &report.sup) {
         Ok(copied) => Ok(copied),
-        Err(fault) => Err(Refusal::Recover(fault)),
+        Err(fault) => Err(RecoverRefusal::Recover(fault)),
     }
 }

@@ -8,11 +8,10 @@ use Rattle.blocks.specs.declared.faulty.Trap.{Trap}
 use Rattle.scripts.specs.declared.schedule.Word.{Word}
 use Rattle.scripts.specs.declared.script.Task.{Task}
 use Rattle.player.specs.Afterwards.{IsUnopenedOver}
-use Rattle.opening.specs.Recoveries.{IsUnrecovered}
 use Rattle.player.specs.Opening.{HasNotBegun, IsNotReplayed, IsPlayedOn, IsReadyOver, Replays}
 use Rattle.player.specs.declared.player.Player.{Player}
 use Rattle.texts.specs.declared.refusal.Refusal.{Refusal}
-use Rattle.texts.specs.declared.refusal.Refusal.TheVariants.{File, Mkfs, Check, Recover, Open, Script, Schedule, Disk, Cat, Run, Stops, Ls, Show, Put, Copy, Input, Output}
+use Rattle.texts.specs.declared.refusal.Refusal.TheVariants.{File, Mkfs, Check, Recover, Open, Script, Schedule, Disk, Run, Stops, Put, Copy, Output}
 use Rattle.player.specs.Stepping.{BreaksOff, IsBrokenOff, RunsTo, kernel_fault}
 use Rattle.opening.specs.Openings.{IsOpening}
 use Rattle.opening.specs.Lemmas.Telling.{told_of_opening}
@@ -40,12 +39,8 @@ module _ {D N : Type 0} (disk : Ghosts (FaultyDisk D) (N × Trap)) (stop base : 
   broken_off (Err (Open _)) P f breaks h is = h
   broken_off (Err (Script _)) P f breaks h is = h
   broken_off (Err (Schedule _)) P f breaks h is = h
-  broken_off (Err (Cat _)) P f breaks h is = h
   broken_off (Err (Run _)) P f breaks h is = h
   broken_off (Err (Stops _)) P f breaks h is = h
-  broken_off (Err (Input _)) P f breaks h is = h
-  broken_off (Err (Ls _)) P f breaks h is = h
-  broken_off (Err (Show _)) P f breaks h is = h
   broken_off (Err (Put _)) P f breaks h is = h
   broken_off (Err (Copy _)) P f breaks h is = h
 
@@ -57,25 +52,6 @@ module _ {D N : Type 0} (below : Ghosts D N) (disk : Ghosts (FaultyDisk D) (N ×
   pub unopened_over_so : (r : Refusal) → IsUnopenedOver disk processes d e r → IsOpening r
   unopened_over_so r why = ⊎_elim (λ refused. subst IsOpening (sym refused.0) tt) (λ refuses. told_of_opening refuses.fault r refuses.told) why
 
-  pub unrecovered_so : (r : Refusal) → r ≢ Output → IsUnrecovered below d e r → IsOpening r
-  unrecovered_so (Check fault) other why = tt
-  unrecovered_so (Recover fault) other why = tt
-  unrecovered_so Output other why = absurd (other refl)
-  unrecovered_so (File fault) other why = absurd why
-  unrecovered_so (Mkfs fault) other why = absurd why
-  unrecovered_so (Script fault) other why = absurd why
-  unrecovered_so (Schedule fault) other why = absurd why
-  unrecovered_so (Disk fault) other why = absurd why
-  unrecovered_so (Cat fault) other why = absurd why
-  unrecovered_so (Run fault) other why = absurd why
-  unrecovered_so (Stops fault) other why = absurd why
-  unrecovered_so (Input fault) other why = absurd why
-  unrecovered_so (Ls fault) other why = absurd why
-  unrecovered_so (Show fault) other why = absurd why
-  unrecovered_so (Put fault) other why = absurd why
-  unrecovered_so (Copy fault) other why = absurd why
-  unrecovered_so (Open fault) other why = absurd why
-
   pub not_begun : (tasks : List Task) (words : List Word) (stop : ℕ) (text printed : Option (List ℕ)) (none : Type 0) (r : Refusal) → IsOpening r → HasNotBegun below disk d e processes r → none → IsNotReplayed below disk d e tasks processes words stop text printed none r
   not_begun tasks words stop text printed none (Check fault) opens why nothing = (why, nothing)
   not_begun tasks words stop text printed none (Recover fault) opens why nothing = (why, nothing)
@@ -85,12 +61,8 @@ module _ {D N : Type 0} (below : Ghosts D N) (disk : Ghosts (FaultyDisk D) (N ×
   not_begun tasks words stop text printed none (Script fault) opens why nothing = absurd opens
   not_begun tasks words stop text printed none (Schedule fault) opens why nothing = absurd opens
   not_begun tasks words stop text printed none (Disk fault) opens why nothing = absurd opens
-  not_begun tasks words stop text printed none (Cat fault) opens why nothing = absurd opens
   not_begun tasks words stop text printed none (Run fault) opens why nothing = absurd opens
   not_begun tasks words stop text printed none (Stops fault) opens why nothing = absurd opens
-  not_begun tasks words stop text printed none (Input fault) opens why nothing = absurd opens
-  not_begun tasks words stop text printed none (Ls fault) opens why nothing = absurd opens
-  not_begun tasks words stop text printed none (Show fault) opens why nothing = absurd opens
   not_begun tasks words stop text printed none (Put fault) opens why nothing = absurd opens
   not_begun tasks words stop text printed none (Copy fault) opens why nothing = absurd opens
   not_begun tasks words stop text printed none Output opens why nothing = absurd opens
@@ -104,12 +76,8 @@ opening_of_replay (Mkfs fault) opens = absurd opens
 opening_of_replay (Script fault) opens = absurd opens
 opening_of_replay (Schedule fault) opens = absurd opens
 opening_of_replay (Disk fault) opens = absurd opens
-opening_of_replay (Cat fault) opens = absurd opens
 opening_of_replay (Run fault) opens = absurd opens
 opening_of_replay (Stops fault) opens = absurd opens
-opening_of_replay (Input fault) opens = absurd opens
-opening_of_replay (Ls fault) opens = absurd opens
-opening_of_replay (Show fault) opens = absurd opens
 opening_of_replay (Put fault) opens = absurd opens
 opening_of_replay (Copy fault) opens = absurd opens
 opening_of_replay Output opens = absurd opens
@@ -142,12 +110,8 @@ module _ {D N : Type 0} (below : Ghosts D N) (disk : Ghosts (FaultyDisk D) (N ×
   run_refused none (Open fault) why = absurd why
   run_refused none (Script fault) why = absurd why
   run_refused none (Schedule fault) why = absurd why
-  run_refused none (Cat fault) why = absurd why
   run_refused none (Run fault) why = absurd why
   run_refused none (Stops fault) why = absurd why
-  run_refused none (Input fault) why = absurd why
-  run_refused none (Ls fault) why = absurd why
-  run_refused none (Show fault) why = absurd why
   run_refused none (Put fault) why = absurd why
   run_refused none (Copy fault) why = absurd why
 
@@ -161,11 +125,7 @@ module _ {D N : Type 0} (below : Ghosts D N) (disk : Ghosts (FaultyDisk D) (N ×
   run_of_replay (Open fault) why = absurd why
   run_of_replay (Script fault) why = absurd why
   run_of_replay (Schedule fault) why = absurd why
-  run_of_replay (Cat fault) why = absurd why
   run_of_replay (Run fault) why = absurd why
   run_of_replay (Stops fault) why = absurd why
-  run_of_replay (Input fault) why = absurd why
-  run_of_replay (Ls fault) why = absurd why
-  run_of_replay (Show fault) why = absurd why
   run_of_replay (Put fault) why = absurd why
   run_of_replay (Copy fault) why = absurd why

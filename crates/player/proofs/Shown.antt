@@ -5,7 +5,7 @@ use Rattle.std.proofs.KnownBytes.{Appends-trans}
 use Rattle.std.proofs.lemmas.Bool.{ne_eqb}
 use Rattle.std.proofs.lemmas.List.{take-take}
 use Rattle.std.proofs.lemmas.Option.{get_or_from_slice_get}
-use Rattle.std.specs.Prelude.{slice_get, Result, Ok, Err, IsErrAnd, MatchResult, is_ok}
+use Rattle.std.specs.Prelude.{slice_get}
 use Rattle.std.specs.Io.KnownBytes.{Appends, Keeps}
 use Rattle.blocks.specs.Calls.{OnlyReads}
 use Rattle.blocks.specs.Disk.{Image, IsImage, Rose}
@@ -28,9 +28,10 @@ use Rattle.layout.specs.declared.header.Header.{Header}
 use Rattle.offline.specs.declared.recovered.Recovered.{Recovered}
 use Rattle.opening.specs.Lemmas.Recovered.{recovered_again}
 use Rattle.opening.specs.Recoveries.{IsRecovered}
-use Rattle.texts.specs.declared.refusal.Refusal.{Refusal}
 use Rattle.player.specs.Afterwards.{FailsRecovered}
-use Rattle.player.specs.Showing.{IsInodeOf, IsNotShown, IsReaderOf, IsUnshown, ShowsFile, ShowsFirst}
+use Rattle.player.specs.Showing.{IsInodeOf, IsNotShown, IsPartly, IsReaderOf, IsUnshown, ShowsFile, ShowsFirst}
+use Rattle.player.specs.declared.refusals.CatRefusal.{CatRefusal}
+use Rattle.player.specs.declared.refusals.CatRefusal.TheVariants.{NoMemory, Unrecovered, NoFile, Disk, Output}
 
 -- ---- the reader of a disk that has no fault
 
@@ -83,15 +84,6 @@ inode_used x image i d is_image law is some low here used =
 
 -- ---- piece by piece
 
-pub ok_of : {T E P : Type 0} (Q : E → Type 0) (r : Result T E) → is_ok r ≡ true → MatchResult r (λ _. P) Q → P
-ok_of Q (Ok x) fine both = both
-ok_of Q (Err e) fine both = absurd (cc fine)
-
--- what was mapped to its other error
-pub mapped : {T E F : Type 0} (r : Result T E) (s : Result T F) (x : T) (Q : E → F → Type 0) → MatchResult r (λ y. s ≡ Ok y) (λ e. IsErrAnd s (Q e)) → is_ok s ≡ is_ok r → s ≡ Ok x → r ≡ Ok x
-mapped (Ok y) s x Q cases same is = cc
-mapped (Err e) s x Q cases same is = absurd (cc (sym same ∙ ap is_ok is))
-
 -- one piece more
 pub piece_more : (all : List ℕ) (at count : ℕ) (bytes : List ℕ) (old mid new : Option (List ℕ)) → bytes ≡ take count (drop at all) → Appends old mid (take at all) → Appends mid new bytes → Appends old new (take (at + count) all)
 piece_more all at count bytes old mid new is before piece =
@@ -142,13 +134,26 @@ module _ {D N : Type 0} (disk : Ghosts D N) (d mid e : D) (is : IsRecovered disk
     faults = subst (λ (n : ℕ). Rose n (disk.fault_count e)) is.faults rose;
   }
 
-  pub not_shown : (i : ℕ) (old new : Option (List ℕ)) (none : Type 0) (r : Refusal) → IsUnshown disk mid e i old new none r → IsNotShown disk d e i old new none r
-  not_shown i old new none r (inl none_there) =
-      let none_here = none_there.0 in
-      subst (IsNotShown disk d e i old new none) (sym none_here.told)
-      (recovered_still none_here.faultless, (is.sound, subst (λ (y : Image). file_in (files_of y) i ≡ None) (recovered_again disk d mid is) none_here.none), none_there.1)
-  not_shown i old new none r (inr (inl failed)) =
-      subst (IsNotShown disk d e i old new none) (sym failed.0.told)
-      (failed_still failed.0.rose, ⊎_elim (λ nothing. inl nothing) (λ part. inr (is.sound, subst (λ (y : Image). ShowsFirst y i old new) (recovered_again disk d mid is) part)) failed.1)
-  not_shown i old new none r (inr (inr unprinted)) =
-      subst (IsNotShown disk d e i old new none) (sym unprinted.told) (recovered_still unprinted.faultless)
+  pub not_shown : (i : ℕ) (old new : Option (List ℕ)) (none : Type 0) (r : CatRefusal) → IsUnshown disk mid e i old new none r → IsNotShown disk d e i old new none r
+  not_shown i old new none NoFile why = (recovered_still why.0, (is.sound, subst (λ (y : Image). file_in (files_of y) i ≡ None) (recovered_again disk d mid is) why.1), why.2)
+  not_shown i old new none (Disk fault) why = (failed_still why.0, ⊎_elim (λ nothing. inl nothing) (λ part. inr (is.sound, subst (λ (y : Image). ShowsFirst y i old new) (recovered_again disk d mid is) part)) why.1)
+  not_shown i old new none Output why = recovered_still why
+  not_shown i old new none NoMemory why = absurd why
+  not_shown i old new none (Unrecovered refusal) why = absurd why
+
+-- a file of which some bytes were written, over a disk that is now mid
+pub part_unshown : {D N : Type 0} (disk : Ghosts D N) (d mid e : D) (i : ℕ) (inode : Dinode) (old new : Option (List ℕ)) (none : Type 0) → disk.image mid ≡ disk.image d → disk.fault_count mid ≡ disk.fault_count d → IsInodeOf (recovered (disk.image d)) i inode
+    → (r : CatRefusal) → IsPartly disk mid e (bytes_in (recovered (disk.image mid)) inode) old new r → IsUnshown disk d e i old new none r
+part_unshown disk d mid e i inode old new none image same is (Disk fault) why = (
+  subst (λ (n : ℕ). Rose n (disk.fault_count e)) same why.0,
+  inr (record {
+    file = record { kind = inode.kind; bytes = bytes_in (recovered (disk.image d)) inode };
+    is = is.file;
+    count = why.1.0;
+    bytes = subst (λ (y : Image). Appends old new (take why.1.0 (bytes_in (recovered y) inode))) image why.1.1;
+  }),
+)
+part_unshown disk d mid e i inode old new none image same is Output why = why ∙ same
+part_unshown disk d mid e i inode old new none image same is NoMemory why = absurd why
+part_unshown disk d mid e i inode old new none image same is NoFile why = absurd why
+part_unshown disk d mid e i inode old new none image same is (Unrecovered refusal) why = absurd why

@@ -10,18 +10,20 @@ use Rattle.model.specs.Verdict.{verdict}
 use Rattle.wal.specs.Recovery.{writes_to_recover}
 use Rattle.kernel.specs.Opening.{LeavesRecovered, RefusesToOpen}
 use Rattle.kernel.specs.declared.types.OpenFault.{OpenFault}
-use Rattle.opening.specs.Recoveries.{IsRecovered, IsUnrecovered, IsUnwritten}
+use Rattle.opening.specs.Recoveries.{IsRecovered, IsUnrecovered, IsUnwritten, recover_refusal}
 use Rattle.opening.specs.Openings.{HasNoRoom, open_refusal}
+use Rattle.opening.specs.declared.recovering.RecoverRefusal.{RecoverRefusal}
 use Rattle.texts.specs.declared.refusal.Refusal.{Refusal}
 
 -- The disk d, now e, was not recovered, for that reason: nothing of it was written but by a recovery
 -- that failed.
-pub record FailsToRecover {D N : Type 0} (disk : Ghosts D N) (d e : D) (r : Refusal) : Type 0 where
+pub record FailsToRecover {D N : Type 0} (disk : Ghosts D N) (d e : D) (r : RecoverRefusal)
+    : Type 0 where
   pub cause : IsUnrecovered disk d e r
   pub unwritten : IsUnwritten disk d e r
   pub leaves : LeavesRecovered disk d e
 
--- the disk d, now e, was recovered, and a call of it failed behind that
+-- the disk d, now e, was recovered, and a call of it failed after that
 pub record FailsRecovered {D N : Type 0} (disk : Ghosts D N) (d e : D) : Type 0 where
   pub sound : verdict (disk.image d) ≡ None
   pub image : disk.image e ≡ recovered (disk.image d)
@@ -45,11 +47,16 @@ abbrev pub IsUnopenedOver : {D N : Type 0} → Ghosts (FaultyDisk D) (N × Trap)
     → Type 0
 IsUnopenedOver disk processes d e r = HasNoRoom d e r ⊎ RefusesOver disk processes d e r
 
+-- the disk d, now e, was not recovered, as a command that answers a `Refusal` tells it
+abbrev pub IsToldUnrecovered : {D N : Type 0} → Ghosts D N → D → D → Refusal → Type 0
+IsToldUnrecovered disk d e r =
+    (cause : RecoverRefusal) × (r ≡ recover_refusal cause) × IsUnrecovered disk d e cause
+
 -- why the disk d, now e, was not recovered; or, where it was, why no kernel was opened over it;
 -- memory may be refused before either
 abbrev pub IsUnready : {D N : Type 0} → Ghosts D N → Ghosts (FaultyDisk D) (N × Trap) → ℕ → D → D
     → Refusal → Type 0
 IsUnready {D} below disk processes d e r = HasNoRoom d e r
-    ⊎ (IsUnrecovered below d e r
+    ⊎ (IsToldUnrecovered below d e r
     ⊎ ((mid : D) × IsRecovered below (logged_count (below.image d)) d mid
     × IsUnopenedOver disk processes mid e r))

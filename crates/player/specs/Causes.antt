@@ -1,20 +1,36 @@
 -- Why a command over a disk wasn't done, and how the disk is then.
 use Rattle.std.specs.Prelude.{◌≡◌, ◌&&◌, ◌==◌, ℕ, false, length, None}
 use Rattle.blocks.specs.Disk.{Image, Rose}
+use Rattle.blocks.specs.declared.disk.Disk.{Ghosts}
 use Rattle.offline.specs.Cause.{IsCause}
 use Rattle.layout.specs.declared.geometry.MkfsFault.TheVariants as mkfs
 use Rattle.model.specs.Codec.{made_image}
 use Rattle.model.specs.Layout.{is_inode_count, is_size}
+use Rattle.model.specs.Log.{recovered}
 use Rattle.model.specs.Verdict.{verdict}
+use Rattle.model.specs.declared.types.fault.CheckFault.{CheckFault}
 use Rattle.model.specs.declared.types.image.Form.{Form}
+use Rattle.opening.specs.Recoveries.{IsUnrecovered}
+use Rattle.opening.specs.declared.recovering.RecoverRefusal.{RecoverRefusal}
+use Rattle.texts.specs.declared.printed.Printed.{Printed}
+use Rattle.texts.specs.declared.printed.Printed.TheVariants as printed
 use Rattle.texts.specs.declared.refusal.Refusal.{Refusal}
-use Rattle.texts.specs.declared.refusal.Refusal.TheVariants.{Mkfs, Check, Output}
+use Rattle.texts.specs.declared.refusal.Refusal.TheVariants.{Mkfs, Output}
 
--- the disk d, now e, was not checked, or what was found could not be printed
-abbrev pub IsUnchecked : {D : Type 0} → (D → Image) → (D → ℕ) → D → D → Refusal → Type 0
-IsUnchecked image faults d e (Check fault) = IsCause (verdict (image d)) (faults d) (faults e) fault
-IsUnchecked image faults d e Output = verdict (image d) ≡ None
-IsUnchecked image faults d e _ = ⊥
+-- The disk d, now e, was not checked, or what was found could not be printed; here and below `none`
+-- says that nothing was printed.
+abbrev pub IsUnchecked : {D N : Type 0} → Ghosts D N → D → D → Type 0 → Printed CheckFault → Type 0
+IsUnchecked disk d e none (printed.Fault fault) =
+    IsCause (verdict (disk.image d)) (disk.fault_count d) (disk.fault_count e) fault × none
+IsUnchecked disk d e none printed.Output = verdict (disk.image d) ≡ None
+
+-- the disk d, now e, was not recovered; or it was, and how many blocks were copied could not be
+-- printed
+abbrev pub IsNotRecovered : {D N : Type 0} → Ghosts D N → D → D → Type 0 → Printed RecoverRefusal
+    → Type 0
+IsNotRecovered disk d e none (printed.Fault refusal) = IsUnrecovered disk d e refusal × none
+IsNotRecovered disk d e none printed.Output =
+    (verdict (disk.image d) ≡ None) × (disk.image e ≡ recovered (disk.image d))
 
 -- on the disk d, now e, no image of that form and size was made, or its numbers could not be
 -- printed

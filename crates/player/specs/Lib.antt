@@ -5,3 +5,5 @@ pub mod Turns
 pub mod Stepping
 pub mod Opening
 pub mod Showing
+pub mod Refusals
+pub mod Looks

@@ -3,7 +3,6 @@ use Rattle.std.specs.Prelude.{◌≡◌, ◌⊎◌, ℕ, List, take, Option, Som
 use Rattle.std.specs.Io.KnownBytes.{Appends}
 use Rattle.blocks.specs.Disk.{Image, Rose}
 use Rattle.blocks.specs.declared.disk.Disk.{Ghosts}
-use Rattle.blocks.specs.declared.errors.DiskFault.{DiskFault}
 use Rattle.model.specs.Files.{bytes_in, files_of, file_in}
 use Rattle.model.specs.Log.{logged_count, recovered}
 use Rattle.model.specs.Verdict.{verdict}
@@ -11,13 +10,10 @@ use Rattle.model.specs.declared.types.image.Dinode.{Dinode}
 use Rattle.model.specs.declared.types.image.File.{File}
 use Rattle.offline.specs.Recovered.{IsRecoveredOf, MayReadFile}
 use Rattle.offline.specs.declared.recovered.Recovered.{Recovered}
-use Rattle.wal.specs.declared.types.DeviceFault.TheVariants.{Block}
-use Rattle.opening.specs.Openings.{HasNoRoom}
 use Rattle.opening.specs.Recoveries.{IsRecovered}
 use Rattle.player.specs.Afterwards.{FailsRecovered, FailsToRecover}
-use Rattle.texts.specs.declared.faults.CatFault.TheVariants.{NoFile}
-use Rattle.texts.specs.declared.refusal.Refusal.{Refusal}
-use Rattle.texts.specs.declared.refusal.Refusal.TheVariants.{Check, Recover, Open, Disk, Cat, Output}
+use Rattle.player.specs.declared.refusals.CatRefusal.{CatRefusal}
+use Rattle.player.specs.declared.refusals.CatRefusal.TheVariants.{NoMemory, Unrecovered, NoFile, Disk, Output}
 
 -- the file of number i of image x was written, all its bytes and nothing else
 pub record ShowsFile (x : Image) (i : ℕ) (old new : Option (List ℕ)) : Type 0 where
@@ -53,48 +49,32 @@ pub record IsInodeOf (x : Image) (i : ℕ) (d : Dinode) : Type 0 where
   pub file : file_in (files_of x) i ≡ Some (record { kind = d.kind; bytes = bytes_in x d })
   pub readable : MayReadFile x d
 
--- a read of the disk d, now e, failed, and this tells of it
-pub record FailsToRead {D N : Type 0} (disk : Ghosts D N) (d e : D) (r : Refusal) : Type 0 where
-  pub fault : DiskFault
-  pub told : r ≡ Disk (Block fault)
-  pub rose : Rose (disk.fault_count d) (disk.fault_count e)
-
--- the output failed, and no call of the disk did
-pub record FailsToPrint {D N : Type 0} (disk : Ghosts D N) (d e : D) (r : Refusal) : Type 0 where
-  pub told : r ≡ Output
-  pub faultless : disk.fault_count e ≡ disk.fault_count d
-
--- the disk has no file of number i, and none of its calls failed
-pub record HasNone {D N : Type 0} (disk : Ghosts D N) (d e : D) (i : ℕ) (r : Refusal) : Type 0 where
-  pub told : r ≡ Cat NoFile
-  pub none : file_in (files_of (recovered (disk.image d))) i ≡ None
-  pub faultless : disk.fault_count e ≡ disk.fault_count d
-
 -- why these bytes were not written whole, over a disk that was d and is e
 abbrev pub IsPartly : {D N : Type 0} → Ghosts D N → D → D → List ℕ → Option (List ℕ)
-    → Option (List ℕ) → Refusal → Type 0
-IsPartly disk d e bytes old new r =
-    (FailsToRead disk d e r × ((count : ℕ) × Appends old new (take count bytes)))
-    ⊎ FailsToPrint disk d e r
+    → Option (List ℕ) → CatRefusal → Type 0
+IsPartly disk d e bytes old new (Disk fault) =
+    Rose (disk.fault_count d) (disk.fault_count e) × ((count : ℕ) × Appends old new (take count bytes))
+IsPartly disk d e bytes old new Output = disk.fault_count e ≡ disk.fault_count d
+IsPartly disk d e bytes old new _ = ⊥
 
 -- why its file of number i was not; `none` says that nothing was written
 abbrev pub IsUnshown : {D N : Type 0} → Ghosts D N → D → D → ℕ → Option (List ℕ)
-    → Option (List ℕ) → Type 0 → Refusal → Type 0
-IsUnshown disk d e i old new none r =
-    (HasNone disk d e i r × none)
-    ⊎ ((FailsToRead disk d e r × (none ⊎ ShowsFirst (recovered (disk.image d)) i old new))
-    ⊎ FailsToPrint disk d e r)
+    → Option (List ℕ) → Type 0 → CatRefusal → Type 0
+IsUnshown disk d e i old new none NoFile = (disk.fault_count e ≡ disk.fault_count d)
+    × (file_in (files_of (recovered (disk.image d))) i ≡ None) × none
+IsUnshown disk d e i old new none (Disk fault) = Rose (disk.fault_count d) (disk.fault_count e)
+    × (none ⊎ ShowsFirst (recovered (disk.image d)) i old new)
+IsUnshown disk d e i old new none Output = disk.fault_count e ≡ disk.fault_count d
+IsUnshown disk d e i old new none _ = ⊥
 
--- Why the file of number i of the disk d, now e, was not written whole. Behind the recovery nothing
+-- Why the file of number i of the disk d, now e, was not written whole. After the recovery nothing
 -- else was done to it.
 abbrev pub IsNotShown : {D N : Type 0} → Ghosts D N → D → D → ℕ → Option (List ℕ)
-    → Option (List ℕ) → Type 0 → Refusal → Type 0
-IsNotShown disk d e i old new none (Check fault) = FailsToRecover disk d e (Check fault) × none
-IsNotShown disk d e i old new none (Recover fault) = FailsToRecover disk d e (Recover fault) × none
-IsNotShown disk d e i old new none (Open fault) = HasNoRoom d e (Open fault) × none
-IsNotShown disk d e i old new none (Cat NoFile) =
+    → Option (List ℕ) → Type 0 → CatRefusal → Type 0
+IsNotShown disk d e i old new none NoMemory = (e ≡ d) × none
+IsNotShown disk d e i old new none (Unrecovered r) = FailsToRecover disk d e r × none
+IsNotShown disk d e i old new none NoFile =
     IsRecovered disk (logged_count (disk.image d)) d e × HasNoFile (disk.image d) i × none
-IsNotShown disk d e i old new none (Disk (Block fault)) =
+IsNotShown disk d e i old new none (Disk fault) =
     FailsRecovered disk d e × (none ⊎ ShowsPart (disk.image d) i old new)
 IsNotShown disk d e i old new none Output = IsRecovered disk (logged_count (disk.image d)) d e
-IsNotShown disk d e i old new none _ = ⊥

@@ -7,11 +7,13 @@
 #![tactic(auto)]
 
 mod checking;
+mod looks;
 mod making;
 mod meeting;
 mod player;
 mod playing;
 mod recovering;
+mod refusals;
 mod replaying;
 mod showing;
 mod stepping;
@@ -19,10 +21,12 @@ mod told;
 mod turns;
 
 pub use checking::check_disk;
+pub use looks::{Cat, Check, Recover};
 pub use making::make_disk;
 pub use player::Player;
 pub use playing::make_turns;
 pub use recovering::recover_disk;
+pub use refusals::CatRefusal;
 pub use replaying::{replay_disk, take_board};
 pub use showing::cat_disk;
 pub use turns::{Hands, Outcome, open_player};

@@ -43,5 +43,6 @@ pub fn make_disk<D: Disk, O: Write>(
 {
     let fields = plan(size, ninodes).map_err(Refusal::Mkfs)?;
     mkfs_as(alloc, disk, size, ninodes, form).map_err(Refusal::Mkfs)?;
-    print_numbers(out, &fields)
+    print_numbers(out, &fields)?;
+    Ok(())
 }

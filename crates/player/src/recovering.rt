@@ -1,18 +1,18 @@
 // A recovery of a disk's image, and what it prints.
-ghost use Rattle.std.specs.Prelude.{◌≡◌, ◌≢◌, OnOk, IfErr};
+ghost use Rattle.std.specs.Prelude.{◌≡◌, OnOk, IfErr};
 ghost use Rattle.std.specs.Io.KnownBytes.{Appends};
 ghost use Rattle.model.specs.Log.{logged_count};
 ghost use Rattle.wal.specs.Recovery.{IsCalm};
-ghost use Rattle.texts.specs.declared.refusal.Refusal.TheVariants as refusal;
 ghost use Rattle.kernel.specs.Opening.{LeavesRecovered};
-ghost use Rattle.opening.specs.Recoveries.{IsRecovered, IsUnrecovered};
+ghost use Rattle.opening.specs.Recoveries.{IsRecovered};
+ghost use Rattle.player.specs.Causes.{IsNotRecovered};
 ghost use Rattle.texts.specs.Output.{copied_text};
 
 use blocks::Disk;
-use opening::recover_image;
+use opening::{RecoverRefusal, recover_image};
 use std::alloc::Global;
 use std::io::Write;
-use texts::{Refusal, print_copied};
+use texts::{Printed, print_copied};
 
 /// Checks the image of a disk, copies the blocks of its log home, and prints how many these were.
 ///
@@ -28,17 +28,19 @@ pub fn recover_disk<D: Disk, O: Write>(
     alloc: Global,
     disk: &mut D,
     out: &mut O,
-) -> Result<(), Refusal>
+) -> Result<(), Printed<RecoverRefusal>>
     ensures recovered { OnOk result (IsRecovered D.Disk
         (logged_count (D.image disk.old)) disk.old disk.new) }
     ensures name { D.name disk.new ≡ D.name disk.old }
     ensures printed { OnOk result (Appends (O.contents out.old) (O.contents out.new)
         (copied_text (logged_count (D.image disk.old)))) }
-    ensures refused { IfErr result (IsUnrecovered D.Disk disk.old disk.new) }
-    ensures silent { IfErr result (λ r. r ≢ refusal.Output → out.new ≡ out.old) }
+    ensures refused { IfErr result (IsNotRecovered D.Disk disk.old disk.new (out.new ≡ out.old)) }
     ensures stops { LeavesRecovered D.Disk disk.old disk.new }
     ensures settled { OnOk result (IsCalm D.Disk disk.new) }
 {
-    let copied = recover_image(alloc, disk)?;
-    print_copied(out, copied)
+    let copied = match recover_image(alloc, disk) {
+        Ok(copied) => copied,
+        Err(refusal) => return Err(Printed::Fault(refusal)),
+    };
+    print_copied(out, copied).map_err(|_| Printed::Output)
 }

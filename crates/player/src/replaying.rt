@@ -114,7 +114,7 @@ fn open_recovered<'a, D: Disk + Drop>(
     ensures opening { IfErr result (λ e. IsOpening e.0) }
 {
     if let Err(refusal) = recover_image(alloc, &mut disk) {
-        return Err((refusal, disk));
+        return Err((Refusal::from(refusal), disk));
     }
     let base = disk.writes();
     let player = open_player(alloc, board, hands, disk, tasks, processes, stop)?;

@@ -9,9 +9,9 @@ ghost use Rattle.model.specs.Verdict.{verdict};
 ghost use Rattle.offline.specs.Recovered.{IsRecoveredOf, MayReadFile};
 ghost use Rattle.wal.specs.Recovery.{LeavesIfCalm, RecoversAs};
 ghost use Rattle.opening.specs.Recoveries.{IsRecovered};
-ghost use Rattle.player.specs.Refusal.{IsOfCat};
 ghost use Rattle.player.specs.Showing.{IsInodeOf, IsNotShown, IsPartly, IsReaderOf, IsUnshown, Shows, ShowsFile};
 
+use crate::refusals::CatRefusal;
 use blocks::{BLOCK_SIZE, Block, Disk, DiskFault};
 use layout::header::Header;
 use layout::{Dinode, LOG_START, superblock};
@@ -20,8 +20,7 @@ use offline::laws::checked_files_may_be_read;
 use opening::recover_image;
 use std::alloc::Global;
 use std::io::Write;
-use texts::{CatFault, KernelFault, Refusal, pass_on, write_bytes};
-use wal::DeviceFault;
+use texts::{pass_on, write_bytes};
 
 // So many bytes are read and then written at once.
 const PIECE_SIZE: u32 = 16 * BLOCK_SIZE as u32;
@@ -34,33 +33,32 @@ const PIECE_SIZE: u32 = 16 * BLOCK_SIZE as u32;
 ///
 /// # Errors
 ///
-/// `Open` with `NoMemory` where memory for a block is refused, and then nothing was done with the
-/// disk. A fault of `recover_image`, or `Cat` with `NoFile` where there is no such file. With these
-/// nothing was written. `Disk` where a read behind the recovery failed: then the file's first bytes
-/// were written, if any. `Output`.
+/// `NoMemory` where memory for a block is refused, and then nothing was done with the disk.
+/// `Unrecovered` with a refusal of `recover_image`, or `NoFile` where there is no such file. With
+/// these nothing was written. `Disk` where a read after the recovery failed: then the file's first
+/// bytes were written, if any. `Output`.
 pub fn cat_disk<D: Disk + Drop, O: Write>(
     alloc: Global,
     disk: D,
     number: u32,
     out: &mut O,
-) -> (Result<(), Refusal>, D)
+) -> (Result<(), CatRefusal>, D)
     ensures shown { OnOk result.0
         (Shows (D.image disk) number (O.contents out.old) (O.contents out.new)) }
     ensures recovered { OnOk result.0
         (IsRecovered D.Disk (logged_count (D.image disk)) disk result.1) }
     ensures refused { IfErr result.0 (IsNotShown D.Disk disk result.1 number
         (O.contents out.old) (O.contents out.new) (out.new ≡ out.old)) }
-    ensures layers { IfErr result.0 IsOfCat }
     ensures name { D.name result.1 ≡ D.name disk }
     ensures any_moment { LeavesIfCalm D.Disk disk result.1 (RecoversAs (D.image disk)) }
 {
     let mut block = match Block::zeroed(alloc) {
         Ok(block) => block,
-        Err(refused) => return (Err(KernelFault::from(refused).into()), disk),
+        Err(_) => return (Err(CatRefusal::NoMemory), disk),
     };
     let mut disk = disk;
     if let Err(refusal) = recover_image(alloc, &mut disk) {
-        return (Err(refusal), disk);
+        return (Err(CatRefusal::Unrecovered(refusal)), disk);
     }
     let shown = show(&mut disk, number, &mut block, out);
     (shown, disk)
@@ -73,7 +71,7 @@ fn show<D: Disk, O: Write>(
     number: u32,
     block: &mut Block,
     out: &mut O,
-) -> Result<(), Refusal>
+) -> Result<(), CatRefusal>
     requires sound { verdict (D.image disk.old) ≡ None }
     ensures shown { OnOk result (ShowsFile (recovered (D.image disk.old)) number
         (O.contents out.old) (O.contents out.new)) }
@@ -82,20 +80,14 @@ fn show<D: Disk, O: Write>(
         (O.contents out.old) (O.contents out.new) (out.new ≡ out.old)) }
     ensures reads { OnlyReads D.Disk disk.old disk.new }
 {
-    let image = open_reader(disk, block).map_err(refusal_of)?;
-    let found = inode_at(disk, &image, number, block).map_err(refusal_of)?;
+    let image = open_reader(disk, block)?;
+    let found = inode_at(disk, &image, number, block)?;
     let Some(inode) = found else {
-        return Err(Refusal::Cat(CatFault::NoFile));
+        return Err(CatRefusal::NoFile);
     };
     write_file(disk, &image, &inode, block, out)?;
-    pass_on(out)
-}
-
-// How a fault of a read is told.
-fn refusal_of(fault: DiskFault) -> Refusal
-    ensures { result ≡ Refusal.Disk (DeviceFault.Block fault) }
-{
-    Refusal::Disk(DeviceFault::Block(fault))
+    pass_on(out)?;
+    Ok(())
 }
 
 // The reader of a disk that has no fault.
@@ -146,7 +138,7 @@ fn write_file<D: Disk, O: Write>(
     inode: &Dinode,
     block: &mut Block,
     out: &mut O,
-) -> Result<(), Refusal>
+) -> Result<(), CatRefusal>
     requires recovered { IsRecoveredOf (D.image disk.old) image.now }
     requires file { MayReadFile (recovered (D.image disk.old)) inode.now }
     ensures all { OnOk result (Appends (O.contents out.old) (O.contents out.new)
@@ -162,9 +154,7 @@ fn write_file<D: Disk, O: Write>(
     while at < inode.size {
         let count = (inode.size - at).min(PIECE_SIZE);
         let bytes = &mut piece[..count as usize];
-        image
-            .read(disk, inode, at, bytes, block)
-            .map_err(refusal_of)?;
+        image.read(disk, inode, at, bytes, block)?;
         write_bytes(out, bytes)?;
         at += count;
     }

@@ -6,7 +6,7 @@ use runner::run_disk;
 use scripts::{processes, read_schedule, read_script};
 use std::io::{BufWriter, Write};
 use std::test::Fail;
-use texts::Refusal;
+use texts::{Printed, Refusal};
 use wal::DeviceFault;
 
 // A writer that fails once this many bytes are written.
@@ -86,14 +86,14 @@ fn tells_of_a_failing_output(rt: HostRuntime) -> Result<(), Fail> {
     let mut disk = new_image(&rt)?;
     for room in [0, 5, 19] {
         let ended = check_disk(alloc, &mut disk, &mut Narrow { room });
-        assert!(rt; matches!(ended, Err(Refusal::Output)));
+        assert!(rt; matches!(ended, Err(Printed::Output)));
         let mut out = BufWriter::new(alloc, Narrow { room })?;
         let ended = check_disk(alloc, &mut disk, &mut out);
-        assert!(rt; matches!(ended, Err(Refusal::Output)));
+        assert!(rt; matches!(ended, Err(Printed::Output)));
     }
     let mut out = BufWriter::new(alloc, Narrow { room: 20 })?;
     assert!(rt; check_disk(alloc, &mut disk, &mut out).is_ok());
     let ended = recover_disk(alloc, &mut disk, &mut out);
-    assert!(rt; matches!(ended, Err(Refusal::Output)));
+    assert!(rt; matches!(ended, Err(Printed::Output)));
     Ok(())
 }

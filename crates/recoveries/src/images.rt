@@ -94,7 +94,7 @@ fn recover(alloc: Global, disk: &mut MemDisk) -> Result<Option<u32>, NoMemory>
 {
     match recover_image(alloc, disk) {
         Ok(copied) => Ok(Some(copied)),
-        Err(refusal) if is_want_of_memory(&refusal) => Err(NoMemory),
+        Err(refusal) if is_want_of_memory(&Refusal::from(refusal)) => Err(NoMemory),
         Err(_) => Ok(None),
     }
 }

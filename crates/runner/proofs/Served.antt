@@ -28,7 +28,7 @@ use Rattle.opening.specs.Lemmas.Keeping.{unopened_leaves, unopened_name}
 use Rattle.opening.specs.Lemmas.Telling.{unopened_so}
 use Rattle.opening.specs.Openings.{IsOpening, IsUnopened}
 use Rattle.texts.specs.declared.refusal.Refusal.{Refusal}
-use Rattle.texts.specs.declared.refusal.Refusal.TheVariants.{File, Mkfs, Check, Recover, Open, Script, Schedule, Disk, Cat, Run, Stops, Ls, Show, Put, Copy, Input, Output}
+use Rattle.texts.specs.declared.refusal.Refusal.TheVariants.{File, Mkfs, Check, Recover, Open, Script, Schedule, Disk, Run, Stops, Put, Copy, Output}
 use Rattle.runner.specs.Reports.{IsReport}
 use Rattle.runner.specs.Running.{HasNotBegun, Ends, IsEndedBy, IsNotRun, IsServed, KeepsTasks, Ringed}
 
@@ -100,12 +100,8 @@ module _ {D N : Type 0} (disk : Ghosts D N) (d e : D) (tasks : List Task) (proce
   not_run m names cs served are own (Open fault) why = absurd why
   not_run m names cs served are own (Script fault) why = absurd why
   not_run m names cs served are own (Schedule fault) why = absurd why
-  not_run m names cs served are own (Cat fault) why = absurd why
   not_run m names cs served are own (Run fault) why = absurd why
   not_run m names cs served are own (Stops fault) why = absurd why
-  not_run m names cs served are own (Input fault) why = absurd why
-  not_run m names cs served are own (Ls fault) why = absurd why
-  not_run m names cs served are own (Show fault) why = absurd why
   not_run m names cs served are own (Put fault) why = absurd why
   not_run m names cs served are own (Copy fault) why = absurd why
 
@@ -119,12 +115,8 @@ module _ {D N : Type 0} (disk : Ghosts D N) (d e : D) (tasks : List Task) (proce
   begun_none (Script fault) opens why nothing = absurd opens
   begun_none (Schedule fault) opens why nothing = absurd opens
   begun_none (Disk fault) opens why nothing = absurd opens
-  begun_none (Cat fault) opens why nothing = absurd opens
   begun_none (Run fault) opens why nothing = absurd opens
   begun_none (Stops fault) opens why nothing = absurd opens
-  begun_none (Input fault) opens why nothing = absurd opens
-  begun_none (Ls fault) opens why nothing = absurd opens
-  begun_none (Show fault) opens why nothing = absurd opens
   begun_none (Put fault) opens why nothing = absurd opens
   begun_none (Copy fault) opens why nothing = absurd opens
   begun_none Output opens why nothing = absurd opens

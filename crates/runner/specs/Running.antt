@@ -19,7 +19,7 @@ use Rattle.scripts.specs.declared.script.Task.{Task}
 use Rattle.clients.specs.Backlogs.{ops_of}
 use Rattle.opening.specs.Openings.{IsUnopened}
 use Rattle.texts.specs.declared.refusal.Refusal.{Refusal}
-use Rattle.texts.specs.declared.refusal.Refusal.TheVariants.{Mkfs, Schedule, Disk, Cat, Run, Stops, Ls, Show, Put, Copy, Input, Output}
+use Rattle.texts.specs.declared.refusal.Refusal.TheVariants.{Mkfs, Schedule, Disk, Run, Stops, Put, Copy, Output}
 use Rattle.runner.specs.Reports.{IsReported}
 
 -- a kernel over rings and a board
@@ -106,11 +106,7 @@ IsNotRun disk d e tasks processes old new none r = HasNotBegun disk d e processe
 abbrev pub IsOfRun : Refusal → Type 0
 IsOfRun (Mkfs _) = ⊥
 IsOfRun (Schedule _) = ⊥
-IsOfRun (Cat _) = ⊥
 IsOfRun (Stops _) = ⊥
-IsOfRun (Input _) = ⊥
-IsOfRun (Ls _) = ⊥
-IsOfRun (Show _) = ⊥
 IsOfRun (Put _) = ⊥
 IsOfRun (Copy _) = ⊥
 IsOfRun _ = ⊤

@@ -49,7 +49,8 @@ pub fn report<D: Disk, H: Herald, O: Write>(
         pid += 1;
     }
     reported?;
-    pass_on(out)
+    pass_on(out)?;
+    Ok(())
 }
 
 // The same for one process. Where the reports before it could not be printed, nothing is printed.
@@ -87,7 +88,8 @@ fn report_one<D: Disk, H: Herald, O: Write>(
             left: account.left,
             kept: account.kept,
         },
-    )
+    )?;
+    Ok(())
 }
 
 // Prints a line for each of the answers of a process.

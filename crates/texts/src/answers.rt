@@ -1,5 +1,5 @@
 // The line of a turn with an answer, written piece by piece with no `Formatter`.
-ghost use Rattle.std.specs.Prelude.{◌++◌, OnOk, IsOkUnless, codes, decimal};
+ghost use Rattle.std.specs.Prelude.{◌++◌, OnOk, codes, decimal};
 ghost use Rattle.std.specs.Io.KnownBytes.{Appends};
 ghost use Rattle.texts.specs.Events.{bytes_text, event_line, reply_text};
 ghost use Rattle.texts.specs.declared.events.Event.TheVariants.{Answered};
@@ -8,16 +8,15 @@ ghost use Rattle.hex.specs.Hex.{encode_lower};
 use crate::events::ReplyText;
 use crate::hex_digits::{PIECE, digits_of};
 use crate::output::{print, print_process, write_bytes};
-use crate::refusal::Refusal;
+use crate::told::Unwritten;
 use itoa::Buffer;
 use model::types::{Answer, Reply};
 use std::io::Write;
 
 // Writes the line of a turn with an answer.
-pub(crate) fn print_answer<O: Write>(out: &mut O, pid: u32, answer: &Answer) -> Result<(), Refusal>
+pub(crate) fn print_answer<O: Write>(out: &mut O, pid: u32, answer: &Answer) -> Result<(), Unwritten>
     ensures ok { OnOk result (Appends (O.contents out.old) (O.contents out.new)
         (event_line (Answered pid answer.now))) }
-    ensures err { IsOkUnless result Refusal.Output }
 {
     print_process(out, pid)?;
     print_places(out, answer.seq, answer.group)?;
@@ -26,10 +25,9 @@ pub(crate) fn print_answer<O: Write>(out: &mut O, pid: u32, answer: &Answer) -> 
 }
 
 // Writes an answer's place among its process's, and its group.
-fn print_places<O: Write>(out: &mut O, seq: u64, group: u64) -> Result<(), Refusal>
+fn print_places<O: Write>(out: &mut O, seq: u64, group: u64) -> Result<(), Unwritten>
     ensures ok { OnOk result (Appends (O.contents out.old) (O.contents out.new)
         (codes " answered " ++ decimal seq ++ codes " " ++ decimal group ++ codes " ")) }
-    ensures err { IsOkUnless result Refusal.Output }
 {
     let mut digits = Buffer::new();
     write_bytes(out, b" answered ")?;
@@ -40,10 +38,9 @@ fn print_places<O: Write>(out: &mut O, seq: u64, group: u64) -> Result<(), Refus
 }
 
 // Writes a reply. Those of a write and a read are most.
-fn print_reply<O: Write>(out: &mut O, reply: &Reply) -> Result<(), Refusal>
+fn print_reply<O: Write>(out: &mut O, reply: &Reply) -> Result<(), Unwritten>
     ensures ok { OnOk result (Appends (O.contents out.old) (O.contents out.new)
         (reply_text reply.now)) }
-    ensures err { IsOkUnless result Refusal.Output }
 {
     match reply {
         Reply::Made(inode) => print_counted(out, b"made ", *inode),
@@ -55,10 +52,9 @@ fn print_reply<O: Write>(out: &mut O, reply: &Reply) -> Result<(), Refusal>
 }
 
 // Writes a word and a number.
-fn print_counted<O: Write>(out: &mut O, word: &[u8], count: u32) -> Result<(), Refusal>
+fn print_counted<O: Write>(out: &mut O, word: &[u8], count: u32) -> Result<(), Unwritten>
     ensures ok { OnOk result (Appends (O.contents out.old) (O.contents out.new)
         (word.now ++ decimal count)) }
-    ensures err { IsOkUnless result Refusal.Output }
 {
     let mut digits = Buffer::new();
     write_bytes(out, word)?;
@@ -66,10 +62,9 @@ fn print_counted<O: Write>(out: &mut O, word: &[u8], count: u32) -> Result<(), R
 }
 
 // Writes the bytes that were read.
-fn print_content<O: Write>(out: &mut O, bytes: &[u8]) -> Result<(), Refusal>
+fn print_content<O: Write>(out: &mut O, bytes: &[u8]) -> Result<(), Unwritten>
     ensures ok { OnOk result (Appends (O.contents out.old) (O.contents out.new)
         (codes "bytes " ++ bytes_text bytes.now)) }
-    ensures err { IsOkUnless result Refusal.Output }
 {
     write_bytes(out, b"bytes ")?;
     if bytes.is_empty() {
@@ -79,10 +74,9 @@ fn print_content<O: Write>(out: &mut O, bytes: &[u8]) -> Result<(), Refusal>
 }
 
 // Writes the hexadecimal digits of bytes.
-fn print_digits<O: Write>(out: &mut O, bytes: &[u8]) -> Result<(), Refusal>
+fn print_digits<O: Write>(out: &mut O, bytes: &[u8]) -> Result<(), Unwritten>
     ensures ok { OnOk result (Appends (O.contents out.old) (O.contents out.new)
         (encode_lower bytes.now)) }
-    ensures err { IsOkUnless result Refusal.Output }
 {
     let mut place = [[0u8; 2]; PIECE];
     for piece in bytes.chunks(PIECE) {

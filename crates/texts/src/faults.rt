@@ -1,69 +1,27 @@
-// The faults of the layers, as a refusal tells them, and two that the program has of its own.
-ghost use Rattle.std.specs.Prelude.{◌≡◌, ◌≢◌};
-ghost use Rattle.std.specs.IoError.{error_kind};
+// The faults of the layers, as they are told, and those that commands have of their own.
+ghost use Rattle.std.specs.Prelude.{◌≡◌};
 ghost use Rattle.texts.specs.Telling.{
-  cat_telling,
   check_telling,
   copy_telling,
   disk_telling,
   file_telling,
-  input_telling,
   kernel_telling,
-  ls_telling,
   mkfs_telling,
   put_telling,
   recover_telling,
   run_telling,
   schedule_telling,
   script_telling,
-  show_telling,
   stops_telling,
 };
 
-use crate::told::{Fault, Told};
+use crate::told::{Reason, Told};
 use blocks::{DiskFault, FileFault, NoMemory};
 use layout::{CheckFault, MkfsFault};
 use scripts::{ScheduleFault, ScriptFault};
 use std::alloc::AllocError;
-use std::io;
-use std::io::ErrorKind;
 use thiserror::Error;
 use wal::{DeviceFault, RecoverFault};
-
-/// Why command lines can't be had from a reader.
-#[derive(Clone, Copy, Debug, Error)]
-pub enum InputFault {
-    /// It can't be read, or gives what is no UTF-8.
-    #[error("the input can't be read")]
-    Read,
-    /// It gives more than `LIMIT` bytes.
-    #[error("the input is too large")]
-    TooLarge,
-    /// Memory was refused.
-    #[error("memory was refused")]
-    NoMemory,
-}
-
-impl From<AllocError> for InputFault {
-    ghost use Rattle.texts.specs.declared.faults.InputFault.TheVariants as fault;
-
-    ghost from_gives = { λ _ e. e ≡ fault.NoMemory };
-
-    fn from(_refused: AllocError) -> InputFault {
-        InputFault::NoMemory
-    }
-}
-
-/// Why a reader or the system gave no words.
-pub fn input_unread(error: io::Error) -> InputFault
-    ensures memory { error_kind error ≡ ErrorKind.OutOfMemory → result ≡ InputFault.NoMemory }
-    ensures other { error_kind error ≢ ErrorKind.OutOfMemory → result ≡ InputFault.Read }
-{
-    match error.kind() {
-        ErrorKind::OutOfMemory => InputFault::NoMemory,
-        _ => InputFault::Read,
-    }
-}
 
 /// Why a kernel isn't opened over an image that can be used.
 #[derive(Clone, Copy, Debug, Error)]
@@ -74,14 +32,6 @@ pub enum KernelFault {
     /// There are not 1 to 32 processes.
     #[error("a kernel has 1 to 32 processes")]
     ProcRange,
-}
-
-/// Why a file isn't shown.
-#[derive(Clone, Copy, Debug, Error)]
-pub enum CatFault {
-    /// There is no file of that number.
-    #[error("there is no file of that number")]
-    NoFile,
 }
 
 /// Why a script isn't run by threads.
@@ -98,25 +48,6 @@ pub enum StopsFault {
     /// The image that a stop left is not recovered to the files that it has to have.
     #[error("a stop left an image with other files")]
     Mismatch,
-    /// Memory was refused.
-    #[error("memory was refused")]
-    NoMemory,
-}
-
-/// Why the files of an image aren't listed.
-#[derive(Clone, Copy, Debug, Error)]
-pub enum LsFault {
-    /// Memory was refused.
-    #[error("memory was refused")]
-    NoMemory,
-}
-
-/// Why the blocks of an image, or of a file, aren't shown.
-#[derive(Clone, Copy, Debug, Error)]
-pub enum ShowFault {
-    /// There is no file of that number.
-    #[error("there is no file of that number")]
-    NoFile,
     /// Memory was refused.
     #[error("memory was refused")]
     NoMemory,
@@ -196,203 +127,160 @@ impl From<AllocError> for KernelFault {
     }
 }
 
-impl Fault for FileFault {
+impl Reason for FileFault {
     ghost telling = { file_telling };
 
     fn told(&self) -> Told {
         match self {
-            FileFault::Open => Told::new(1, "Open"),
-            FileFault::Length => Told::new(2, "Length"),
-            FileFault::NoMemory => Told::new(3, "NoMemory"),
-            FileFault::Locked => Told::new(4, "Locked"),
-            FileFault::Exists => Told::new(5, "Exists"),
+            FileFault::Open => Told::new("file", 1, "Open"),
+            FileFault::Length => Told::new("file", 2, "Length"),
+            FileFault::NoMemory => Told::new("file", 3, "NoMemory"),
+            FileFault::Locked => Told::new("file", 4, "Locked"),
+            FileFault::Exists => Told::new("file", 5, "Exists"),
         }
     }
 }
 
-impl Fault for MkfsFault {
+impl Reason for MkfsFault {
     ghost telling = { mkfs_telling };
 
     fn told(&self) -> Told {
         match self {
-            MkfsFault::SizeRange => Told::new(1, "SizeRange"),
-            MkfsFault::InodeRange => Told::new(2, "InodeRange"),
-            MkfsFault::Disk => Told::new(3, "Disk"),
-            MkfsFault::NoMemory => Told::new(4, "NoMemory"),
+            MkfsFault::SizeRange => Told::new("mkfs", 1, "SizeRange"),
+            MkfsFault::InodeRange => Told::new("mkfs", 2, "InodeRange"),
+            MkfsFault::Disk => Told::new("mkfs", 3, "Disk"),
+            MkfsFault::NoMemory => Told::new("mkfs", 4, "NoMemory"),
         }
     }
 }
 
-impl Fault for CheckFault {
+impl Reason for CheckFault {
     ghost telling = { check_telling };
 
     fn told(&self) -> Told {
         match self {
-            CheckFault::BadMagic => Told::new(1, "BadMagic"),
-            CheckFault::BadGeometry => Told::new(2, "BadGeometry"),
-            CheckFault::BadLog => Told::new(3, "BadLog"),
-            CheckFault::BadType(inode) => Told::naming(4, "BadType", *inode),
-            CheckFault::BadSize(inode) => Told::naming(5, "BadSize", *inode),
-            CheckFault::BadAddress(inode) => Told::naming(6, "BadAddress", *inode),
-            CheckFault::TwiceUsed(block) => Told::naming(7, "TwiceUsed", *block),
-            CheckFault::UsedButFree(block) => Told::naming(8, "UsedButFree", *block),
-            CheckFault::LostBlock(block) => Told::naming(9, "LostBlock", *block),
-            CheckFault::Disk => Told::new(10, "Disk"),
-            CheckFault::NoMemory => Told::new(11, "NoMemory"),
+            CheckFault::BadMagic => Told::new("check", 1, "BadMagic"),
+            CheckFault::BadGeometry => Told::new("check", 2, "BadGeometry"),
+            CheckFault::BadLog => Told::new("check", 3, "BadLog"),
+            CheckFault::BadType(inode) => Told::naming("check", 4, "BadType", *inode),
+            CheckFault::BadSize(inode) => Told::naming("check", 5, "BadSize", *inode),
+            CheckFault::BadAddress(inode) => Told::naming("check", 6, "BadAddress", *inode),
+            CheckFault::TwiceUsed(block) => Told::naming("check", 7, "TwiceUsed", *block),
+            CheckFault::UsedButFree(block) => Told::naming("check", 8, "UsedButFree", *block),
+            CheckFault::LostBlock(block) => Told::naming("check", 9, "LostBlock", *block),
+            CheckFault::Disk => Told::new("check", 10, "Disk"),
+            CheckFault::NoMemory => Told::new("check", 11, "NoMemory"),
         }
     }
 }
 
-impl Fault for RecoverFault {
+impl Reason for RecoverFault {
     ghost telling = { recover_telling };
 
     fn told(&self) -> Told {
         match self {
-            RecoverFault::Disk => Told::new(1, "Disk"),
-            RecoverFault::BadLog => Told::new(2, "BadLog"),
-            RecoverFault::NoMemory => Told::new(3, "NoMemory"),
-            RecoverFault::Sync => Told::new(4, "Sync"),
+            RecoverFault::Disk => Told::new("recover", 1, "Disk"),
+            RecoverFault::BadLog => Told::new("recover", 2, "BadLog"),
+            RecoverFault::NoMemory => Told::new("recover", 3, "NoMemory"),
+            RecoverFault::Sync => Told::new("recover", 4, "Sync"),
         }
     }
 }
 
-impl Fault for KernelFault {
+impl Reason for KernelFault {
     ghost telling = { kernel_telling };
 
     fn told(&self) -> Told {
         match self {
-            KernelFault::NoMemory => Told::new(3, "NoMemory"),
-            KernelFault::ProcRange => Told::new(4, "ProcRange"),
+            KernelFault::NoMemory => Told::new("open", 3, "NoMemory"),
+            KernelFault::ProcRange => Told::new("open", 4, "ProcRange"),
         }
     }
 }
 
-impl Fault for ScriptFault {
+impl Reason for ScriptFault {
     ghost telling = { script_telling };
 
     fn told(&self) -> Told {
         match self {
-            ScriptFault::BadLine(line) => Told::naming(1, "BadLine", *line),
-            ScriptFault::TooLarge => Told::new(2, "TooLarge"),
-            ScriptFault::NoMemory => Told::new(3, "NoMemory"),
-            ScriptFault::File => Told::new(4, "File"),
+            ScriptFault::BadLine(line) => Told::naming("script", 1, "BadLine", *line),
+            ScriptFault::TooLarge => Told::new("script", 2, "TooLarge"),
+            ScriptFault::NoMemory => Told::new("script", 3, "NoMemory"),
+            ScriptFault::File => Told::new("script", 4, "File"),
         }
     }
 }
 
-impl Fault for ScheduleFault {
+impl Reason for ScheduleFault {
     ghost telling = { schedule_telling };
 
     fn told(&self) -> Told {
         match self {
-            ScheduleFault::BadWord(word) => Told::naming(1, "BadWord", *word),
-            ScheduleFault::TooLarge => Told::new(2, "TooLarge"),
-            ScheduleFault::NoMemory => Told::new(3, "NoMemory"),
-            ScheduleFault::File => Told::new(4, "File"),
+            ScheduleFault::BadWord(word) => Told::naming("schedule", 1, "BadWord", *word),
+            ScheduleFault::TooLarge => Told::new("schedule", 2, "TooLarge"),
+            ScheduleFault::NoMemory => Told::new("schedule", 3, "NoMemory"),
+            ScheduleFault::File => Told::new("schedule", 4, "File"),
         }
     }
 }
 
-impl Fault for DeviceFault {
+impl Reason for DeviceFault {
     ghost telling = { disk_telling };
 
     fn told(&self) -> Told {
         match self {
-            DeviceFault::Block(DiskFault(block)) => Told::naming(1, "DiskFault", *block),
-            DeviceFault::Sync(_) => Told::new(2, "SyncFault"),
+            DeviceFault::Block(DiskFault(block)) => Told::naming("disk", 1, "DiskFault", *block),
+            DeviceFault::Sync(_) => Told::new("disk", 2, "SyncFault"),
         }
     }
 }
 
-impl Fault for CatFault {
-    ghost telling = { cat_telling };
-
-    fn told(&self) -> Told {
-        match self {
-            CatFault::NoFile => Told::new(1, "NoFile"),
-        }
-    }
-}
-
-impl Fault for RunFault {
+impl Reason for RunFault {
     ghost telling = { run_telling };
 
     fn told(&self) -> Told {
         match self {
-            RunFault::Thread => Told::new(1, "Thread"),
+            RunFault::Thread => Told::new("run", 1, "Thread"),
         }
     }
 }
 
-impl Fault for StopsFault {
+impl Reason for StopsFault {
     ghost telling = { stops_telling };
 
     fn told(&self) -> Told {
         match self {
-            StopsFault::Mismatch => Told::new(1, "Mismatch"),
-            StopsFault::NoMemory => Told::new(2, "NoMemory"),
+            StopsFault::Mismatch => Told::new("stops", 1, "Mismatch"),
+            StopsFault::NoMemory => Told::new("stops", 2, "NoMemory"),
         }
     }
 }
 
-impl Fault for LsFault {
-    ghost telling = { ls_telling };
-
-    fn told(&self) -> Told {
-        match self {
-            LsFault::NoMemory => Told::new(1, "NoMemory"),
-        }
-    }
-}
-
-impl Fault for ShowFault {
-    ghost telling = { show_telling };
-
-    fn told(&self) -> Told {
-        match self {
-            ShowFault::NoFile => Told::new(1, "NoFile"),
-            ShowFault::NoMemory => Told::new(2, "NoMemory"),
-        }
-    }
-}
-
-impl Fault for PutFault {
+impl Reason for PutFault {
     ghost telling = { put_telling };
 
     fn told(&self) -> Told {
         match self {
-            PutFault::NoFile => Told::new(1, "NoFile"),
-            PutFault::NoInode => Told::new(2, "NoInode"),
-            PutFault::TooBig => Told::new(3, "TooBig"),
-            PutFault::Full => Told::new(4, "Full"),
-            PutFault::NoMemory => Told::new(5, "NoMemory"),
-            PutFault::File => Told::new(6, "File"),
+            PutFault::NoFile => Told::new("put", 1, "NoFile"),
+            PutFault::NoInode => Told::new("put", 2, "NoInode"),
+            PutFault::TooBig => Told::new("put", 3, "TooBig"),
+            PutFault::Full => Told::new("put", 4, "Full"),
+            PutFault::NoMemory => Told::new("put", 5, "NoMemory"),
+            PutFault::File => Told::new("put", 6, "File"),
         }
     }
 }
 
-impl Fault for CopyFault {
+impl Reason for CopyFault {
     ghost telling = { copy_telling };
 
     fn told(&self) -> Told {
         match self {
-            CopyFault::NotFirst => Told::new(2, "NotFirst"),
-            CopyFault::Full(number) => Told::naming(4, "Full", *number),
-            CopyFault::NoMemory => Told::new(5, "NoMemory"),
-            CopyFault::Disk => Told::new(6, "Disk"),
-            CopyFault::Exists => Told::new(7, "Exists"),
-        }
-    }
-}
-
-impl Fault for InputFault {
-    ghost telling = { input_telling };
-
-    fn told(&self) -> Told {
-        match self {
-            InputFault::Read => Told::new(1, "Read"),
-            InputFault::TooLarge => Told::new(2, "TooLarge"),
-            InputFault::NoMemory => Told::new(3, "NoMemory"),
+            CopyFault::NotFirst => Told::new("copy", 2, "NotFirst"),
+            CopyFault::Full(number) => Told::naming("copy", 4, "Full", *number),
+            CopyFault::NoMemory => Told::new("copy", 5, "NoMemory"),
+            CopyFault::Disk => Told::new("copy", 6, "Disk"),
+            CopyFault::Exists => Told::new("copy", 7, "Exists"),
         }
     }
 }

@@ -1,6 +1,6 @@
 //! What the program prints: the lines of a replay's turns, those of a run's answers and accounts,
-//! what a command found or did, and the refusals, each of which names its layer and that layer's
-//! fault.
+//! what a command found or did, and why it was refused: each reason names its layer and that
+//! layer's fault.
 //!
 //! Nothing here knows how it came to be. What a kernel answers has small enums here, to which the
 //! layer above maps its own.
@@ -12,18 +12,17 @@ mod faults;
 mod hex_digits;
 mod lines;
 mod output;
+mod printed;
 mod refusal;
 mod told;
 
 pub use events::{Event, Progress};
-pub use faults::{
-    CatFault, CopyFault, InputFault, KernelFault, LsFault, PutFault, RunFault, ShowFault,
-    StopsFault, input_unread,
-};
+pub use faults::{CopyFault, KernelFault, PutFault, RunFault, StopsFault};
 pub use lines::{AccountLine, AnswerLine};
 pub use output::{
     pass_on, print, print_copied, print_counts, print_event, print_files, print_images, print_last,
-    print_number, print_numbers, print_report, write_bytes,
+    print_number, print_numbers, print_refusal, print_report, write_bytes,
 };
+pub use printed::Printed;
 pub use refusal::Refusal;
-pub use told::{Fault, Told};
+pub use told::{Reason, Told, Unwritten};

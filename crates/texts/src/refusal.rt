@@ -1,21 +1,17 @@
 // Which layer refused a command, and why.
 ghost use Rattle.std.specs.Prelude.{◌≡◌, Some};
-ghost use Rattle.texts.specs.Refusal.{layer_of, refusal_telling, refusal_text};
-ghost use Rattle.texts.specs.Telling.{telling_of};
+ghost use Rattle.texts.specs.Refusal.{refusal_telling, refusal_text};
 
-use crate::faults::{
-    CatFault, CopyFault, InputFault, KernelFault, LsFault, PutFault, RunFault, ShowFault,
-    StopsFault,
-};
-use crate::told::{Fault, Told};
+use crate::faults::{CopyFault, KernelFault, PutFault, RunFault, StopsFault};
+use crate::told::{Reason, Told, Unwritten};
 use blocks::FileFault;
-use itoa::Buffer;
 use layout::{CheckFault, MkfsFault};
 use scripts::{ScheduleFault, ScriptFault};
 use std::fmt;
 use wal::{DeviceFault, RecoverFault};
 
-/// A layer's fault that ends a command.
+/// A layer's fault that ends a command: one enum for the commands that have no refusal of their own
+/// yet.
 #[derive(Clone, Copy, Debug)]
 pub enum Refusal {
     /// The file can't be used as a disk.
@@ -34,56 +30,22 @@ pub enum Refusal {
     Schedule(ScheduleFault),
     /// The disk failed in a step of the kernel.
     Disk(DeviceFault),
-    /// The file can't be shown.
-    Cat(CatFault),
     /// The script can't be run by threads.
     Run(RunFault),
     /// A stop of the script kept other files than it has to, or the check wasn't ended.
     Stops(StopsFault),
-    /// The files can't be listed.
-    Ls(LsFault),
-    /// The image's blocks can't be shown.
-    Show(ShowFault),
     /// The file can't be put into the image.
     Put(PutFault),
     /// The image can't be copied.
     Copy(CopyFault),
-    /// The command lines can't be had.
-    Input(InputFault),
     /// The output can't be written.
     Output,
 }
 
-impl Refusal {
-    /// The word for the layer.
-    pub fn layer(self) -> &'static str
-        ensures { result.now ≡ layer_of self }
-    {
-        match self {
-            Refusal::File(_) => "file",
-            Refusal::Mkfs(_) => "mkfs",
-            Refusal::Check(_) => "check",
-            Refusal::Recover(_) => "recover",
-            Refusal::Open(_) => "open",
-            Refusal::Script(_) => "script",
-            Refusal::Schedule(_) => "schedule",
-            Refusal::Disk(_) => "disk",
-            Refusal::Cat(_) => "cat",
-            Refusal::Run(_) => "run",
-            Refusal::Stops(_) => "stops",
-            Refusal::Ls(_) => "ls",
-            Refusal::Show(_) => "show",
-            Refusal::Put(_) => "put",
-            Refusal::Copy(_) => "copy",
-            Refusal::Input(_) => "input",
-            Refusal::Output => "output",
-        }
-    }
+impl Reason for Refusal {
+    ghost telling = { refusal_telling };
 
-    /// How the fault is told.
-    pub fn told(self) -> Told
-        ensures { telling_of result ≡ refusal_telling self }
-    {
+    fn told(&self) -> Told {
         match self {
             Refusal::File(fault) => fault.told(),
             Refusal::Mkfs(fault) => fault.told(),
@@ -93,34 +55,22 @@ impl Refusal {
             Refusal::Script(fault) => fault.told(),
             Refusal::Schedule(fault) => fault.told(),
             Refusal::Disk(fault) => fault.told(),
-            Refusal::Cat(fault) => fault.told(),
             Refusal::Run(fault) => fault.told(),
             Refusal::Stops(fault) => fault.told(),
-            Refusal::Ls(fault) => fault.told(),
-            Refusal::Show(fault) => fault.told(),
             Refusal::Put(fault) => fault.told(),
             Refusal::Copy(fault) => fault.told(),
-            Refusal::Input(fault) => fault.told(),
-            Refusal::Output => Told::new(1, "Write"),
+            Refusal::Output => Unwritten.told(),
         }
     }
 }
 
-/// Layer, number, name, and what the fault names, if anything, with one space between them.
+/// As it is told.
 impl fmt::Display for Refusal {
     ghost output = { λ r. Some (refusal_text r) };
 
     fn fmt<W: fmt::Write>(&self, f: &mut fmt::Formatter<W>) -> fmt::Result {
         let told = self.told();
-        let mut digits = Buffer::new();
-        let number = digits.format(told.number);
-        write!(f, "{} {number} {}", self.layer(), told.name)?;
-        if let Some(argument) = told.argument {
-            let mut digits = Buffer::new();
-            let argument = digits.format(argument);
-            write!(f, " {argument}")?;
-        }
-        Ok(())
+        write!(f, "{told}")
     }
 }
 
@@ -143,5 +93,15 @@ impl From<KernelFault> for Refusal {
 
     fn from(fault: KernelFault) -> Refusal {
         Refusal::Open(fault)
+    }
+}
+
+impl From<Unwritten> for Refusal {
+    ghost use Rattle.texts.specs.declared.refusal.Refusal.TheVariants as refusal;
+
+    ghost from_gives = { λ _ r. r ≡ refusal.Output };
+
+    fn from(_unwritten: Unwritten) -> Refusal {
+        Refusal::Output
     }
 }

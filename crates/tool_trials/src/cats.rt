@@ -4,10 +4,11 @@ use anyhow::{bail, ensure};
 use blocks::{FaultyDisk, Kind, MemDisk};
 use layout::CheckFault;
 use offline::mkfs;
-use player::cat_disk;
+use opening::RecoverRefusal;
+use player::{CatRefusal, cat_disk};
 use putting::put_disk;
 use std::alloc::Global;
-use texts::{CatFault, Refusal};
+use texts::Reason;
 use wal::RecoverFault;
 
 // How many bytes the file has: 22 blocks, of which one of addresses leads to the last ten.
@@ -22,7 +23,7 @@ pub fn fail_cats(rt: &impl Print, alloc: Global) -> anyhow::Result<()> {
     for number in [0, 2, 31, 32, u32::MAX] {
         let mut out = Vec::new(alloc);
         let (shown, _disk) = cat_disk(alloc, lettered(alloc)?, number, &mut out);
-        let is_none = matches!(shown, Err(Refusal::Cat(CatFault::NoFile)));
+        let is_none = matches!(shown, Err(CatRefusal::NoFile));
         ensure!(is_none && out.is_empty(), "number {number} has a file");
     }
     let (before, later) = fail_each(alloc)?;
@@ -53,21 +54,24 @@ fn fail_each(alloc: Global) -> anyhow::Result<(u64, u64)> {
                 );
                 before = before.saturating_add(1);
             }
-            Err(Refusal::Disk(_)) => {
+            Err(CatRefusal::Disk(_)) => {
                 ensure!(bytes.len() % PIECE == 0, "read {nth}: part of a piece");
                 later = later.saturating_add(1);
             }
-            Err(refusal) => bail!("read {nth}: {refusal}"),
+            Err(refusal) => bail!("read {nth}: {}", refusal.told()),
         }
     }
     bail!("a cat makes too many reads")
 }
 
 // Whether the disk failed before the recovery was done.
-fn is_early(refusal: Refusal) -> bool {
+fn is_early(refusal: CatRefusal) -> bool {
+    let CatRefusal::Unrecovered(refusal) = refusal else {
+        return false;
+    };
     matches!(
         refusal,
-        Refusal::Check(CheckFault::Disk) | Refusal::Recover(RecoverFault::Disk)
+        RecoverRefusal::Check(CheckFault::Disk) | RecoverRefusal::Recover(RecoverFault::Disk)
     )
 }
 

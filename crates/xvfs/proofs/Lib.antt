@@ -1,5 +1,5 @@
 pub mod Reading
-pub mod Undone
+pub mod Dispatch
 pub mod Sequences
 mod Disks
 pub mod Unchecked

@@ -1,8 +1,10 @@
 -- Commands that were done one after the other.
-use Rattle.std.proofs.Common.{ℕ, suc, ◌<◌, ◌∙◌, List, [], ◌∷◌, ◌++◌, length, map, take, drop, get_or, drop-cons, Option, ap, refl, sym, subst}
+use Rattle.std.proofs.Common.{◌≡◌, ◌≢◌, ℕ, zero, suc, ◌<◌, ◌∙◌, List, [], ◌∷◌, ◌++◌, length, map, take, drop, get_or, drop-cons, Option, ap, refl, sym, subst, inl, inr, arith}
+use Rattle.std.specs.Prelude.{◌≤◌}
 use Rattle.std.proofs.lemmas.List.{map-append, take-append-drop}
 use Rattle.xvfs.specs.Files.{FileGhosts}
-use Rattle.xvfs.specs.Requests.{IsDone, IsNotDone, AreDone, StopsAmong}
+use Rattle.requests.specs.declared.explanation.Explanation.{Explanation}
+use Rattle.xvfs.specs.Requests.{IsDone, IsMisused, IsNotDone, IsRefused, AreDone, StopsAmong}
 
 module _ {F N : Type 0} (file : FileGhosts F N) where
   -- one more at the end
@@ -22,3 +24,11 @@ module _ {F N : Type 0} (file : FileGhosts F N) where
     done = done;
     fails = fails;
   }
+
+  -- a command that ended with 1 or 2
+  pub not_done : {O : Type 0} (contents : O → Option (List ℕ)) (words : List (List ℕ)) (old new : O) (status : ℕ) → status ≤ 2 → status ≢ 0 → (status ≡ 1 → IsRefused file words (contents old) (contents new) (new ≡ old))
+      → (status ≡ 2 → (e : Explanation) × IsMisused words (new ≡ old) e) → IsNotDone file contents words old new
+  not_done contents words old new zero few other refused wrong = absurd (other refl)
+  not_done contents words old new (suc zero) few other refused wrong = inl (refused refl)
+  not_done contents words old new (suc (suc zero)) few other refused wrong = inr (wrong refl)
+  not_done contents words old new (suc (suc (suc n))) few other refused wrong = absurd (omega (arith, few))

@@ -5,7 +5,7 @@ use Rattle.scripts.specs.declared.schedule.Word.{Word}
 use Rattle.scripts.specs.declared.script.Task.{Task}
 use Rattle.stops.specs.Checks.{ChecksAll, IsUnchecked}
 use Rattle.texts.specs.declared.refusal.Refusal.{Refusal}
-use Rattle.texts.specs.declared.refusal.Refusal.TheVariants.{File, Mkfs, Check, Recover, Open, Script, Schedule, Disk, Cat, Run, Stops, Ls, Show, Put, Copy, Input, Output}
+use Rattle.texts.specs.declared.refusal.Refusal.TheVariants.{File, Mkfs, Check, Recover, Open, Script, Schedule, Disk, Run, Stops, Put, Copy, Output}
 use Rattle.xvfs.specs.Scripts.{ChecksScript, IsScriptUnchecked}
 
 -- a script that was checked, or not, and the operations and words that it was read as
@@ -23,12 +23,8 @@ module _ (held : Bool) (tasks : List Task) (processes : ℕ) (words : List Word)
   unchecked_as none (Recover fault) why = record { tasks = tasks; processes = processes; words = words; refused = why }
   unchecked_as none (Open fault) why = record { tasks = tasks; processes = processes; words = words; refused = why }
   unchecked_as none (Disk fault) why = record { tasks = tasks; processes = processes; words = words; refused = why }
-  unchecked_as none (Cat fault) why = record { tasks = tasks; processes = processes; words = words; refused = why }
   unchecked_as none (Run fault) why = record { tasks = tasks; processes = processes; words = words; refused = why }
   unchecked_as none (Stops fault) why = record { tasks = tasks; processes = processes; words = words; refused = why }
-  unchecked_as none (Input fault) why = record { tasks = tasks; processes = processes; words = words; refused = why }
-  unchecked_as none (Ls fault) why = record { tasks = tasks; processes = processes; words = words; refused = why }
-  unchecked_as none (Show fault) why = record { tasks = tasks; processes = processes; words = words; refused = why }
   unchecked_as none (Put fault) why = record { tasks = tasks; processes = processes; words = words; refused = why }
   unchecked_as none (Copy fault) why = record { tasks = tasks; processes = processes; words = words; refused = why }
   unchecked_as none Output why = record { tasks = tasks; processes = processes; words = words; refused = why }

@@ -1,25 +1,19 @@
 // The words that the program was started with.
-ghost use Rattle.std.specs.Prelude.{IfErr};
-ghost use Rattle.player.specs.Refusal.{IsOfInput};
+ghost use Rattle.std.specs.Prelude.{◌≢◌, IfErr};
 
+use crate::input::{InputFault, input_unread};
 use std::env;
 use std::rt::Env;
-use texts::{InputFault, Refusal, input_unread};
 
 /// The arguments without the program's name.
 ///
 /// # Errors
 ///
-/// `InputFault::NoMemory` where memory is refused; `InputFault::Read` where the system doesn't give
-/// them, or one is no UTF-8.
-pub fn given<R: Env + AllocGlobal>(rt: &R) -> Result<Vec<String>, Refusal>
-    ensures { IfErr result IsOfInput }
+/// `NoMemory` where memory is refused; `Read` where the system doesn't give them, or one is no UTF-8.
+pub fn given<R: Env + AllocGlobal>(rt: &R) -> Result<Vec<String>, InputFault>
+    ensures { IfErr result (λ fault. fault ≢ InputFault.TooLarge) }
 {
-    let arguments = env::args(rt).map_err(|error| Refusal::Input(input_unread(error)))?;
-    let words: Vec<String> = arguments
-        .skip(1)
-        .collect(rt.alloc())
-        .map_err(InputFault::from)
-        .map_err(Refusal::Input)?;
+    let arguments = env::args(rt).map_err(|error| input_unread(error))?;
+    let words: Vec<String> = arguments.skip(1).collect(rt.alloc())?;
     Ok(words)
 }

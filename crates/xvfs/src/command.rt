@@ -1,47 +1,37 @@
 // One command, and the exit status that it ends with.
-ghost use Rattle.std.specs.Prelude.{◌≡◌, ◌≤◌, map, Err, OnOk, IfErr, IsOkUnless};
+ghost use Rattle.std.specs.Prelude.{◌≡◌, ◌≤◌, map};
 ghost use Rattle.std.specs.Io.KnownBytes.{Appends};
 ghost use Rattle.requests.specs.CommandLine.{HasFewWorkers};
 ghost use Rattle.requests.specs.Told.{explanation_text};
 ghost use Rattle.xvfs.specs.Files.{ghosts_of};
-ghost use Rattle.xvfs.specs.Requests.{Answers, IsDone, IsMisused, IsUndone, OnRefused, form_asked};
-ghost use Rattle.xvfs.specs.Status.{IsHelp, IsUnprinted, Tells, status_of};
-ghost use Rattle.xvfs.specs.declared.command.Failure.TheVariants as failure;
-ghost use Rattle.texts.specs.declared.refusal.Refusal.{Refusal as SomeRefusal};
+ghost use Rattle.xvfs.specs.Requests.{
+  Answers,
+  IsDone,
+  IsHelp,
+  IsMisused,
+  IsRefused,
+  OnRefused,
+  form_asked,
+};
 ghost use Rattle.requests.specs.declared.explanation.Explanation.{Explanation as SomeExplanation};
+ghost use Rattle.texts.specs.declared.told.Unwritten.{Unwritten as IsUnwritten};
 
 use crate::progress::{Meter, Screen};
 use crate::stopping::stops_files;
 use blocks::{Disk, FaultyDisk, FileDisk};
-use images::{cat_file, check_file, make_file, recover_file, replay_files, run_files};
+use cmd::{OverFile, end, perform};
+use images::{make_file, replay_files, run_files};
+use listing::{Ls, Show};
 use model::types::Form;
+use player::{Cat, Check, Recover};
 use requests::{Explanation, Request, parse};
 use std::convert::AsStr;
 use std::io::Write;
 use std::rt::{Clock, Files};
 use std::sync::Wait;
 use std::thread::Threads;
-use texts::{Refusal, print_last};
-use tools::{copy_files, ls_file, put_file, show_blocks};
-
-/// Why a command wasn't done.
-#[derive(Drop)]
-pub enum Failure {
-    /// A layer refused.
-    Refused(Refusal),
-    /// The words are no command, or memory for them was refused.
-    Misused(Explanation),
-}
-
-impl From<Refusal> for Failure {
-    ghost use Rattle.xvfs.specs.declared.command.Failure.TheVariants as failure;
-
-    ghost from_gives = { λ refusal f. f ≡ failure.Refused refusal };
-
-    fn from(refusal: Refusal) -> Failure {
-        Failure::Refused(refusal)
-    }
-}
+use texts::print_last;
+use tools::{copy_files, put_file};
 
 /// Does the command that these words ask for, the program's name not among them: prints what it
 /// answers to `out`, and why it wasn't done to `err`, as far as that can be written. The exit
@@ -65,102 +55,57 @@ where
     ensures done { result ≡ 0 → IsDone (ghosts_of R.File.remaining
         ⟦<FileDisk<R::File> as Disk>⟧ ⟦<FaultyDisk<FileDisk<R::File>> as Disk>⟧)
         (map S.text words.now) (O.contents out.old) (O.contents out.new) }
-    ensures refused { result ≡ 1 → (r : SomeRefusal) × IsUndone (ghosts_of R.File.remaining
+    ensures refused { result ≡ 1 → IsRefused (ghosts_of R.File.remaining
         ⟦<FileDisk<R::File> as Disk>⟧ ⟦<FaultyDisk<FileDisk<R::File>> as Disk>⟧)
-        (map S.text words.now) (O.contents out.old) (O.contents out.new)
-        (out.new ≡ out.old) (failure.Refused r) }
+        (map S.text words.now) (O.contents out.old) (O.contents out.new) (out.new ≡ out.old) }
     ensures wrong { result ≡ 2 → (e : SomeExplanation)
         × IsMisused (map S.text words.now) (out.new ≡ out.old) e }
     ensures silent { result ≡ 0 → err.new ≡ err.old }
     ensures misused { result ≡ 2 → out.new ≡ out.old }
 {
-    let ended = perform(rt, words, out);
-    let status = status_of(&ended);
-    if let Err(failure) = ended {
-        let _unwritten = report(failure, err);
-    }
-    status
-}
-
-/// Says why command lines can't be done. The exit status.
-pub fn refuse<E: Write>(refusal: Refusal, err: &mut E) -> u8
-    ensures { result ≡ 1 }
-{
-    let _unwritten = report(Failure::Refused(refusal), err);
-    1
-}
-
-fn status_of(ended: &Result<(), Failure>) -> u8
-    ensures { result ≡ status_of ended.now }
-{
-    match ended {
-        Ok(()) => 0,
-        Err(Failure::Refused(_)) => 1,
-        Err(Failure::Misused(_)) => 2,
-    }
-}
-
-// Writes why a command wasn't done.
-fn report<E: Write>(failure: Failure, err: &mut E) -> Result<(), Refusal>
-    ensures ok { OnOk result (Tells failure (E.contents err.old) (E.contents err.new)) }
-    ensures err { IsOkUnless result Refusal.Output }
-{
-    match failure {
-        Failure::Refused(refusal) => print_last(err, format_args!("xvfs: {refusal}\n")),
-        Failure::Misused(explanation) => print_last(err, explanation),
-    }
-}
-
-fn perform<R: Files + AllocGlobal + Threads + Wait + Clock + Screen + Sync, S: AsStr, O: Write>(
-    rt: &R,
-    words: &[S],
-    out: &mut O,
-) -> Result<(), Failure>
-where
-    R::File: Send,
-    ensures ok { OnOk result (IsDone (ghosts_of R.File.remaining
-        ⟦<FileDisk<R::File> as Disk>⟧ ⟦<FaultyDisk<FileDisk<R::File>> as Disk>⟧)
-        (map S.text words.now) (O.contents out.old) (O.contents out.new)) }
-    ensures err { IfErr result (IsUndone (ghosts_of R.File.remaining
-        ⟦<FileDisk<R::File> as Disk>⟧ ⟦<FaultyDisk<FileDisk<R::File>> as Disk>⟧)
-        (map S.text words.now) (O.contents out.old) (O.contents out.new) (out.new ≡ out.old)) }
-    ensures silent { IfErr result (λ failure. status_of (Err failure) ≡ 2 → out.new ≡ out.old) }
-{
     match parse(rt.alloc(), words) {
-        Ok(request) => Ok(dispatch(rt, request, out)?),
-        Err(explanation) => explain(explanation, out),
+        Ok(request) => dispatch(rt, request, out, err),
+        Err(explanation) => explain(explanation, out, err),
     }
 }
 
 // Help and the version are answers, the other texts are not.
-fn explain<O: Write>(explanation: Explanation, out: &mut O) -> Result<(), Failure>
-    ensures ok { OnOk result (IsHelp explanation) }
-    ensures printed { OnOk result (Appends (O.contents out.old) (O.contents out.new)
-        (explanation_text explanation)) }
-    ensures err { IfErr result (IsUnprinted explanation) }
-    ensures silent { IfErr result (λ failure. status_of (Err failure) ≡ 2 → out.new ≡ out.old) }
+fn explain<O: Write, E: Write>(explanation: Explanation, out: &mut O, err: &mut E) -> u8
+    ensures status { result ≤ 2 }
+    ensures help { result ≡ 0 → IsHelp explanation }
+    ensures printed { result ≡ 0 → Appends (O.contents out.old) (O.contents out.new)
+        (explanation_text explanation) }
+    ensures unwritten { result ≡ 1 → IsUnwritten × IsHelp explanation }
+    ensures mistake { result ≡ 2 → ¬ (IsHelp explanation) }
+    ensures misused { result ≡ 2 → out.new ≡ out.old }
+    ensures silent { result ≡ 0 → err.new ≡ err.old }
 {
     match explanation {
-        Explanation::Help(text) => Ok(print_last(out, text)?),
-        mistake => Err(Failure::Misused(mistake)),
+        Explanation::Help(text) => end(print_last(out, text), err),
+        mistake => {
+            let _unwritten = print_last(err, mistake);
+            2
+        }
     }
 }
 
-// Does what is asked for, and prints the answer.
-fn dispatch<R: Files + AllocGlobal + Threads + Wait + Clock + Screen + Sync, O: Write>(
-    rt: &R,
-    request: Request<'_>,
-    out: &mut O,
-) -> Result<(), Refusal>
+// Does what is asked for, and prints the answer, or why it was refused. The exit status.
+fn dispatch<
+    R: Files + AllocGlobal + Threads + Wait + Clock + Screen + Sync,
+    O: Write,
+    E: Write,
+>(rt: &R, request: Request<'_>, out: &mut O, err: &mut E) -> u8
 where
     R::File: Send,
     requires { HasFewWorkers request }
-    ensures ok { OnOk result (Answers (ghosts_of R.File.remaining
+    ensures status { result ≤ 1 }
+    ensures done { result ≡ 0 → Answers (ghosts_of R.File.remaining
         ⟦<FileDisk<R::File> as Disk>⟧ ⟦<FaultyDisk<FileDisk<R::File>> as Disk>⟧)
-        request.entry (O.contents out.old) (O.contents out.new)) }
-    ensures err { IfErr result (λ r. OnRefused (ghosts_of R.File.remaining
+        request.entry (O.contents out.old) (O.contents out.new) }
+    ensures refused { result ≡ 1 → OnRefused (ghosts_of R.File.remaining
         ⟦<FileDisk<R::File> as Disk>⟧ ⟦<FaultyDisk<FileDisk<R::File>> as Disk>⟧)
-        request.entry r (O.contents out.old) (O.contents out.new) (out.new ≡ out.old)) }
+        request.entry (O.contents out.old) (O.contents out.new) (out.new ≡ out.old) }
+    ensures silent { result ≡ 0 → err.new ≡ err.old }
 {
     match request {
         Request::Mkfs {
@@ -168,34 +113,43 @@ where
             size,
             ninodes,
             large,
-        } => make_file(rt, image, form_asked(large), size, ninodes, out),
-        Request::Check { image } => check_file(rt, image, out),
-        Request::Recover { image, sync } => recover_file(rt, image, sync, out),
-        Request::Cat { image, inum } => cat_file(rt, image, inum, out),
-        Request::Ls { image } => ls_file(rt, image, out),
-        Request::Show { image, inum } => show_blocks(rt, image, inum, out),
-        Request::Put { image, file, inum } => put_file(rt, image, file, inum, out),
-        Request::Copy { old, new, size } => {
-            copy_files(rt, old, new, size, &mut Meter::new(rt), out)
+        } => end(
+            make_file(rt, image, form_asked(large), size, ninodes, out),
+            err,
+        ),
+        Request::Check { image } => perform(rt, OverFile(image, false, Check), out, err),
+        Request::Recover { image, sync } => {
+            perform(rt, OverFile(image, sync, Recover), out, err)
         }
+        Request::Cat { image, inum } => perform(rt, OverFile(image, false, Cat(inum)), out, err),
+        Request::Ls { image } => perform(rt, OverFile(image, false, Ls), out, err),
+        Request::Show { image, inum } => perform(rt, OverFile(image, false, Show(inum)), out, err),
+        Request::Put { image, file, inum } => end(put_file(rt, image, file, inum, out), err),
+        Request::Copy { old, new, size } => end(
+            copy_files(rt, old, new, size, &mut Meter::new(rt), out),
+            err,
+        ),
         Request::Replay {
             image,
             script,
             schedule,
             stop,
             sync,
-        } => replay_files(rt, image, script, schedule, stop, sync, out),
+        } => end(
+            replay_files(rt, image, script, schedule, stop, sync, out),
+            err,
+        ),
         Request::Run {
             image,
             script,
             workers,
             sync,
-        } => run_files(rt, image, script, workers, sync, out),
+        } => end(run_files(rt, image, script, workers, sync, out), err),
         Request::Stops {
             script,
             schedule,
             held,
-        } => stops_files(rt, script, schedule, held, out),
+        } => end(stops_files(rt, script, schedule, held, out), err),
     }
 }
 

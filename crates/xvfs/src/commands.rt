@@ -6,15 +6,16 @@ ghost use Rattle.xvfs.specs.Files.{ghosts_of};
 ghost use Rattle.xvfs.specs.Lines.{lines_in, words_in, script_in};
 ghost use Rattle.xvfs.specs.Requests.{AreDone, StopsAmong};
 
-use crate::command::{command, refuse};
+use crate::command::command;
+use crate::input::{InputFault, input_unread};
 use crate::progress::Screen;
 use blocks::{Disk, FaultyDisk, FileDisk};
+use cmd::end;
 use std::alloc::{AllocError, Global};
 use std::io::{Read, Write};
 use std::rt::{Clock, Files};
 use std::sync::Wait;
 use std::thread::Threads;
-use texts::{InputFault, Refusal, input_unread};
 
 /// The most bytes of the command lines.
 pub const LIMIT: usize = 65_536;
@@ -44,7 +45,7 @@ where
 {
     match read_text(rt.alloc(), input) {
         Ok(text) => perform_text(rt, text.as_str(), out, err),
-        Err(fault) => refuse(Refusal::Input(fault), err),
+        Err(fault) => end(Err(fault), err),
     }
 }
 
@@ -91,7 +92,7 @@ where
 {
     match script_of(rt.alloc(), text) {
         Ok(lines) => perform_lines(rt, lines.as_slice(), out, err),
-        Err(_) => refuse(Refusal::Input(InputFault::NoMemory), err),
+        Err(_) => end(Err(InputFault::NoMemory), err),
     }
 }
 

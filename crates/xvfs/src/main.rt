@@ -5,14 +5,16 @@
 mod arguments;
 mod command;
 mod commands;
+mod input;
 mod progress;
 mod stopping;
 
-use command::{command, refuse};
+use cmd::end;
+use command::command;
 use commands::commands;
+use input::{InputFault, input_unread};
 use std::io::{BufWriter, Stdout};
 use std::process::ExitCode;
-use texts::{Refusal, input_unread};
 
 // How many bytes of the output are held back: ten times the digits of the longest Read.
 const HELD_BACK: usize = 65_536;
@@ -20,7 +22,7 @@ const HELD_BACK: usize = 65_536;
 fn main(rt: HostRuntime) -> ExitCode {
     let mut err = rt.stderr();
     let status = match words_and_output(&rt) {
-        Err(refusal) => refuse(refusal, &mut err),
+        Err(fault) => end(Err(fault), &mut err),
         Ok((words, mut out)) => {
             if words.is_empty() {
                 commands(&rt, rt.stdin(), &mut out, &mut err)
@@ -34,10 +36,9 @@ fn main(rt: HostRuntime) -> ExitCode {
 
 // The words that the program was started with, and its output, which is held back up to the end of
 // each command.
-fn words_and_output(rt: &HostRuntime) -> Result<(Vec<String>, BufWriter<Stdout>), Refusal> {
+fn words_and_output(rt: &HostRuntime) -> Result<(Vec<String>, BufWriter<Stdout>), InputFault> {
     let words = arguments::given(rt)?;
-    let out = BufWriter::with_capacity(rt.alloc(), HELD_BACK, rt.stdout()).map_err(
-        |error| Refusal::Input(input_unread(error)),
-    )?;
+    let out = BufWriter::with_capacity(rt.alloc(), HELD_BACK, rt.stdout())
+        .map_err(|error| input_unread(error))?;
     Ok((words, out))
 }

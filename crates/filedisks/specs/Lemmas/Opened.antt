@@ -4,7 +4,7 @@ use Rattle.blocks.specs.declared.disk.Disk.{Ghosts}
 use Rattle.blocks.specs.declared.errors.FileFault.{FileFault}
 use Rattle.blocks.specs.declared.file.FileDisk.{FileDisk}
 use Rattle.texts.specs.declared.refusal.Refusal.{Refusal}
-use Rattle.texts.specs.declared.refusal.Refusal.TheVariants.{File, Mkfs, Check, Recover, Open, Script, Schedule, Disk, Cat, Run, Stops, Ls, Show, Put, Copy, Input, Output}
+use Rattle.texts.specs.declared.refusal.Refusal.TheVariants.{File, Mkfs, Check, Recover, Open, Script, Schedule, Disk, Run, Stops, Put, Copy, Output}
 use Rattle.scripts.specs.declared.schedule.ScheduleFault.{ScheduleFault}
 use Rattle.scripts.specs.declared.script.ScriptFault.{ScriptFault}
 use Rattle.filedisks.specs.Opened.{IsOfFile, IsOpened, OnDiskRefusal, OpensDisk}
@@ -34,12 +34,8 @@ module _ {F N : Type 0} (remaining : F → Option (List ℕ)) (disk : Ghosts (Fi
   refuses_disk opened now none P is f g h (Recover fault) why = (opened, (now, is, why))
   refuses_disk opened now none P is f g h (Open fault) why = (opened, (now, is, why))
   refuses_disk opened now none P is f g h (Disk fault) why = (opened, (now, is, why))
-  refuses_disk opened now none P is f g h (Cat fault) why = (opened, (now, is, why))
   refuses_disk opened now none P is f g h (Run fault) why = (opened, (now, is, why))
   refuses_disk opened now none P is f g h (Stops fault) why = (opened, (now, is, why))
-  refuses_disk opened now none P is f g h (Input fault) why = (opened, (now, is, why))
-  refuses_disk opened now none P is f g h (Ls fault) why = (opened, (now, is, why))
-  refuses_disk opened now none P is f g h (Show fault) why = (opened, (now, is, why))
   refuses_disk opened now none P is f g h (Put fault) why = (opened, (now, is, why))
   refuses_disk opened now none P is f g h (Copy fault) why = (opened, (now, is, why))
   refuses_disk opened now none P is f g h Output why = (opened, (now, is, why))

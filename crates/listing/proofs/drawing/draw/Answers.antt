@@ -20,10 +20,10 @@ loop-row-preserved g c =
     (subst (λ (l : List ℕ). Appends (g.O.Write.contents c.loop-row.out) (g.O.Write.contents c.print_row.new.out) (row_text (row * 64) l))
     (row_taken signs (row * 64) c.min-to.result within c.min-to.ensures) c.in_ok-print_row.ensures.printed)
 
-pub returns-clause-printed : goal.returns-clause-printed
-returns-clause-printed g c =
+pub returns : goal.returns
+returns g c =
     let signs = c.args.signs.now in
     let contents = g.O.Write.contents in
     let end : c.loop-row.row ≡ div_ceil (length signs) 64 = omega (arith, c.div_ceil-row-end.ensures, c.loop-row-test.false, c.loop-row.auto.row-end) in
     let rows = subst (λ (n : ℕ). Appends (contents c.args.out.now) (contents c.loop-row.out) (flat_map (row_at signs) (range_with_len 0 n))) end c.loop-row.invariant in
-    on_ok_weaker c.print_last.result (λ key. Appends-trans _ _ _ _ key_text rows key) c.print_last.ensures.ok
+    record { printed = on_ok_weaker c.print_last.result (λ key. Appends-trans _ _ _ _ key_text rows key) c.print_last.ensures.ok }

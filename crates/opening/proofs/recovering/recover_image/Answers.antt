@@ -11,8 +11,8 @@ use Rattle.wal.specs.Recovery.{RefusesToRecover}
 use Rattle.wal.specs.declared.faults.RecoverFault.{RecoverFault}
 use Rattle.wal.specs.declared.faults.RecoverFault.TheVariants as recover
 use Rattle.kernel.specs.Lemmas.Openings.{opened_leaves, lawful_super}
-use Rattle.texts.specs.declared.refusal.Refusal.TheVariants as refusal
 use Rattle.opening.specs.Recoveries.{IsUnrecovered}
+use Rattle.opening.specs.declared.recovering.RecoverRefusal.TheVariants as refusal
 use Rattle.opening.proofs.recovering.recover_image.Goals as goal
 
 -- the fault of a recovery that follows a check without one

@@ -3,22 +3,22 @@ use Rattle.std.specs.Prelude.{IfErr}
 use Rattle.blocks.specs.Disk.{counted}
 use Rattle.model.specs.Log.{logged_count}
 use Rattle.wal.specs.Recovery.{writes_to_recover}
+use Rattle.opening.specs.Lemmas.Telling.{told_of_recovery}
 use Rattle.opening.specs.Recoveries.{IsRecovered}
 use Rattle.player.specs.Opening.{HasNotBegun}
 use Rattle.player.proofs.Disks.{faulty}
 use Rattle.player.proofs.Openings.{none_counted, opened_again, over_name, over_only, recovered_then}
-use Rattle.player.proofs.Refused.{unrecovered_so}
 use Rattle.player.proofs.replaying.open_recovered.Goals as goal
 
 pub returns-in-Err-clause-refused : goal.returns-in-Err-clause-refused
 returns-in-Err-clause-refused g c = record {
-  cause = inr (inl c.in-Err.ensures.refused);
+  cause = inr (inl (c.in-Err.refusal, search rules, c.in-Err.ensures.refused));
   name = c.recover_image.ensures.name;
   leaves = c.recover_image.ensures.stops.any_moment;
 }
 
 pub returns-in-Err-clause-opening : goal.returns-in-Err-clause-opening
-returns-in-Err-clause-opening g c = unrecovered_so g.D.Disk (faulty g.D.Disk) c.args.processes c.args.disk c.recover_image.new.disk c.in-Err.refusal c.in-Err.ensures.output c.in-Err.ensures.refused
+returns-in-Err-clause-opening g c = told_of_recovery c.in-Err.refusal c.from.result (search rules)
 
 pub returns-in_err-player-clause-refused : goal.returns-in_err-player-clause-refused
 returns-in_err-player-clause-refused g c =

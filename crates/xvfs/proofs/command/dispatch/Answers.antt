@@ -1,82 +1,79 @@
 use Rattle.std.proofs.Common.{subst, sym}
-use Rattle.std.specs.Prelude.{◌≡◌, Result, Ok, Err, IfErr, OnOk}
+use Rattle.std.specs.Prelude.{◌≡◌}
+use Rattle.images.specs.Files.{IsMade}
 use Rattle.xvfs.specs.Requests.{Answers, OnRefused}
 use Rattle.xvfs.proofs.Disks.{seen_by}
+use Rattle.xvfs.proofs.Dispatch.{on_both, was_done, was_refused}
 use Rattle.xvfs.proofs.command.dispatch.Goals as goal
 
--- two things that are known of an error
-on_both : {T E : Type 0} (r : Result T E) (P Q : E → Type 0) → IfErr r P → IfErr r Q → IfErr r (λ e. P e × Q e)
-on_both (Ok _) P Q p q = tt
-on_both (Err e) P Q p q = (p, q)
+pub returns-in-Mkfs-clause-done : goal.returns-in-Mkfs-clause-done
+returns-in-Mkfs-clause-done g c =
+    λ done. subst (λ request. Answers (seen_by g.R.File.Read.remaining) request (g.O.Write.contents c.args.out.now) (g.O.Write.contents c.make_file.new.out)) (sym c.in-Mkfs.is) (subst (λ form. IsMade (seen_by g.R.File.Read.remaining).disk form c.in-Mkfs.size c.in-Mkfs.ninodes (g.O.Write.contents c.args.out.now) (g.O.Write.contents c.make_file.new.out)) c.form_asked.ensures (was_done c.make_file.result _ c.make_file.ensures.made (c.end.ensures.done done)))
 
-pub returns-in-Recover-clause-ok : goal.returns-in-Recover-clause-ok
-returns-in-Recover-clause-ok g c =
-    subst (λ request. OnOk c.recover_file.result (Answers (seen_by g.R.File.Read.remaining) request (g.O.Write.contents c.args.out.now) (g.O.Write.contents c.recover_file.new.out))) (sym c.in-Recover.is) c.recover_file.ensures.opened
+pub returns-in-Mkfs-clause-refused : goal.returns-in-Mkfs-clause-refused
+returns-in-Mkfs-clause-refused g c =
+    λ refused. subst (λ request. OnRefused (seen_by g.R.File.Read.remaining) request (g.O.Write.contents c.args.out.now) (g.O.Write.contents c.make_file.new.out) (c.make_file.new.out ≡ c.args.out.now)) (sym c.in-Mkfs.is) (was_refused c.make_file.result _ c.make_file.ensures.silent (c.end.ensures.refused refused))
 
-pub returns-in-Recover-clause-err : goal.returns-in-Recover-clause-err
-returns-in-Recover-clause-err g c =
-    subst (λ request. IfErr c.recover_file.result (λ r. OnRefused (seen_by g.R.File.Read.remaining) request r (g.O.Write.contents c.args.out.now) (g.O.Write.contents c.recover_file.new.out) (c.recover_file.new.out ≡ c.args.out.now))) (sym c.in-Recover.is) (on_both c.recover_file.result _ _ c.recover_file.ensures.silent c.recover_file.ensures.refused)
+pub returns-in-Recover-clause-done : goal.returns-in-Recover-clause-done
+returns-in-Recover-clause-done g c =
+    λ done. subst (λ request. Answers (seen_by g.R.File.Read.remaining) request (g.O.Write.contents c.args.out.now) (g.O.Write.contents c.perform-in-Recover.new.out)) (sym c.in-Recover.is) (c.perform-in-Recover.ensures.done done)
 
-pub returns-in-Cat-clause-ok : goal.returns-in-Cat-clause-ok
-returns-in-Cat-clause-ok g c =
-    subst (λ request. OnOk c.cat_file.result (Answers (seen_by g.R.File.Read.remaining) request (g.O.Write.contents c.args.out.now) (g.O.Write.contents c.cat_file.new.out))) (sym c.in-Cat.is) c.cat_file.ensures.opened
+pub returns-in-Recover-clause-refused : goal.returns-in-Recover-clause-refused
+returns-in-Recover-clause-refused g c =
+    λ refused. subst (λ request. OnRefused (seen_by g.R.File.Read.remaining) request (g.O.Write.contents c.args.out.now) (g.O.Write.contents c.perform-in-Recover.new.out) (c.perform-in-Recover.new.out ≡ c.args.out.now)) (sym c.in-Recover.is) (c.perform-in-Recover.ensures.refused refused)
 
-pub returns-in-Cat-clause-err : goal.returns-in-Cat-clause-err
-returns-in-Cat-clause-err g c =
-    subst (λ request. IfErr c.cat_file.result (λ r. OnRefused (seen_by g.R.File.Read.remaining) request r (g.O.Write.contents c.args.out.now) (g.O.Write.contents c.cat_file.new.out) (c.cat_file.new.out ≡ c.args.out.now))) (sym c.in-Cat.is) c.cat_file.ensures.refused
+pub returns-in-Put-clause-done : goal.returns-in-Put-clause-done
+returns-in-Put-clause-done g c =
+    λ done. subst (λ request. Answers (seen_by g.R.File.Read.remaining) request (g.O.Write.contents c.args.out.now) (g.O.Write.contents c.put_file.new.out)) (sym c.in-Put.is) (was_done c.put_file.result _ c.put_file.ensures.opened (c.end-in-Put.ensures.done done))
 
-pub returns-in-Replay-clause-ok : goal.returns-in-Replay-clause-ok
-returns-in-Replay-clause-ok g c =
-    subst (λ request. OnOk c.replay_files.result (Answers (seen_by g.R.File.Read.remaining) request (g.O.Write.contents c.args.out.now) (g.O.Write.contents c.replay_files.new.out))) (sym c.in-Replay.is) c.replay_files.ensures.opened
+pub returns-in-Put-clause-refused : goal.returns-in-Put-clause-refused
+returns-in-Put-clause-refused g c =
+    λ refused. subst (λ request. OnRefused (seen_by g.R.File.Read.remaining) request (g.O.Write.contents c.args.out.now) (g.O.Write.contents c.put_file.new.out) (c.put_file.new.out ≡ c.args.out.now)) (sym c.in-Put.is) (was_refused c.put_file.result _ (on_both c.put_file.result _ _ c.put_file.ensures.silent c.put_file.ensures.refused) (c.end-in-Put.ensures.refused refused))
 
-pub returns-in-Replay-clause-err : goal.returns-in-Replay-clause-err
-returns-in-Replay-clause-err g c =
-    subst (λ request. IfErr c.replay_files.result (λ r. OnRefused (seen_by g.R.File.Read.remaining) request r (g.O.Write.contents c.args.out.now) (g.O.Write.contents c.replay_files.new.out) (c.replay_files.new.out ≡ c.args.out.now))) (sym c.in-Replay.is) c.replay_files.ensures.refused
+pub returns-in-Copy-clause-done : goal.returns-in-Copy-clause-done
+returns-in-Copy-clause-done g c =
+    λ done. subst (λ request. Answers (seen_by g.R.File.Read.remaining) request (g.O.Write.contents c.args.out.now) (g.O.Write.contents c.copy_files.new.out)) (sym c.in-Copy.is) (was_done c.copy_files.result _ c.copy_files.ensures.copied (c.end-in-Copy.ensures.done done))
 
-pub returns-in-Run-clause-ok : goal.returns-in-Run-clause-ok
-returns-in-Run-clause-ok g c =
-    subst (λ request. OnOk c.run_files.result (Answers (seen_by g.R.File.Read.remaining) request (g.O.Write.contents c.args.out.now) (g.O.Write.contents c.run_files.new.out))) (sym c.in-Run.is) c.run_files.ensures.opened
+pub returns-in-Copy-clause-refused : goal.returns-in-Copy-clause-refused
+returns-in-Copy-clause-refused g c =
+    λ refused. subst (λ request. OnRefused (seen_by g.R.File.Read.remaining) request (g.O.Write.contents c.args.out.now) (g.O.Write.contents c.copy_files.new.out) (c.copy_files.new.out ≡ c.args.out.now)) (sym c.in-Copy.is) (was_refused c.copy_files.result _ (on_both c.copy_files.result _ _ c.copy_files.ensures.silent c.copy_files.ensures.refused) (c.end-in-Copy.ensures.refused refused))
 
-pub returns-in-Run-clause-err : goal.returns-in-Run-clause-err
-returns-in-Run-clause-err g c =
-    subst (λ request. IfErr c.run_files.result (λ r. OnRefused (seen_by g.R.File.Read.remaining) request r (g.O.Write.contents c.args.out.now) (g.O.Write.contents c.run_files.new.out) (c.run_files.new.out ≡ c.args.out.now))) (sym c.in-Run.is) c.run_files.ensures.refused
+pub returns-in-Replay-clause-done : goal.returns-in-Replay-clause-done
+returns-in-Replay-clause-done g c =
+    λ done. subst (λ request. Answers (seen_by g.R.File.Read.remaining) request (g.O.Write.contents c.args.out.now) (g.O.Write.contents c.replay_files.new.out)) (sym c.in-Replay.is) (was_done c.replay_files.result _ c.replay_files.ensures.opened (c.end-in-Replay.ensures.done done))
 
-pub returns-in-Stops-clause-ok : goal.returns-in-Stops-clause-ok
-returns-in-Stops-clause-ok g c =
-    subst (λ request. OnOk c.stops_files.result (Answers (seen_by g.R.File.Read.remaining) request (g.O.Write.contents c.args.out.now) (g.O.Write.contents c.stops_files.new.out))) (sym c.in-Stops.is) c.stops_files.ensures.checked
+pub returns-in-Replay-clause-refused : goal.returns-in-Replay-clause-refused
+returns-in-Replay-clause-refused g c =
+    λ refused. subst (λ request. OnRefused (seen_by g.R.File.Read.remaining) request (g.O.Write.contents c.args.out.now) (g.O.Write.contents c.replay_files.new.out) (c.replay_files.new.out ≡ c.args.out.now)) (sym c.in-Replay.is) (was_refused c.replay_files.result _ c.replay_files.ensures.refused (c.end-in-Replay.ensures.refused refused))
 
-pub returns-in-Stops-clause-err : goal.returns-in-Stops-clause-err
-returns-in-Stops-clause-err g c =
-    subst (λ request. IfErr c.stops_files.result (λ r. OnRefused (seen_by g.R.File.Read.remaining) request r (g.O.Write.contents c.args.out.now) (g.O.Write.contents c.stops_files.new.out) (c.stops_files.new.out ≡ c.args.out.now))) (sym c.in-Stops.is) c.stops_files.ensures.refused
+pub returns-in-Run-clause-done : goal.returns-in-Run-clause-done
+returns-in-Run-clause-done g c =
+    λ done. subst (λ request. Answers (seen_by g.R.File.Read.remaining) request (g.O.Write.contents c.args.out.now) (g.O.Write.contents c.run_files.new.out)) (sym c.in-Run.is) (was_done c.run_files.result _ c.run_files.ensures.opened (c.end-in-Run.ensures.done done))
 
-pub returns-in-Ls-clause-ok : goal.returns-in-Ls-clause-ok
-returns-in-Ls-clause-ok g c =
-    subst (λ request. OnOk c.ls_file.result (Answers (seen_by g.R.File.Read.remaining) request (g.O.Write.contents c.args.out.now) (g.O.Write.contents c.ls_file.new.out))) (sym c.in-Ls.is) c.ls_file.ensures.opened
+pub returns-in-Run-clause-refused : goal.returns-in-Run-clause-refused
+returns-in-Run-clause-refused g c =
+    λ refused. subst (λ request. OnRefused (seen_by g.R.File.Read.remaining) request (g.O.Write.contents c.args.out.now) (g.O.Write.contents c.run_files.new.out) (c.run_files.new.out ≡ c.args.out.now)) (sym c.in-Run.is) (was_refused c.run_files.result _ c.run_files.ensures.refused (c.end-in-Run.ensures.refused refused))
 
-pub returns-in-Ls-clause-err : goal.returns-in-Ls-clause-err
-returns-in-Ls-clause-err g c =
-    subst (λ request. IfErr c.ls_file.result (λ r. OnRefused (seen_by g.R.File.Read.remaining) request r (g.O.Write.contents c.args.out.now) (g.O.Write.contents c.ls_file.new.out) (c.ls_file.new.out ≡ c.args.out.now))) (sym c.in-Ls.is) (on_both c.ls_file.result _ _ c.ls_file.ensures.silent c.ls_file.ensures.refused)
+pub returns-in-Stops-clause-done : goal.returns-in-Stops-clause-done
+returns-in-Stops-clause-done g c =
+    λ done. subst (λ request. Answers (seen_by g.R.File.Read.remaining) request (g.O.Write.contents c.args.out.now) (g.O.Write.contents c.stops_files.new.out)) (sym c.in-Stops.is) (was_done c.stops_files.result _ c.stops_files.ensures.checked (c.end-in-Stops.ensures.done done))
 
-pub returns-in-Show-clause-ok : goal.returns-in-Show-clause-ok
-returns-in-Show-clause-ok g c =
-    subst (λ request. OnOk c.show_blocks.result (Answers (seen_by g.R.File.Read.remaining) request (g.O.Write.contents c.args.out.now) (g.O.Write.contents c.show_blocks.new.out))) (sym c.in-Show.is) c.show_blocks.ensures.opened
+pub returns-in-Stops-clause-refused : goal.returns-in-Stops-clause-refused
+returns-in-Stops-clause-refused g c =
+    λ refused. subst (λ request. OnRefused (seen_by g.R.File.Read.remaining) request (g.O.Write.contents c.args.out.now) (g.O.Write.contents c.stops_files.new.out) (c.stops_files.new.out ≡ c.args.out.now)) (sym c.in-Stops.is) (was_refused c.stops_files.result _ c.stops_files.ensures.refused (c.end-in-Stops.ensures.refused refused))
 
-pub returns-in-Show-clause-err : goal.returns-in-Show-clause-err
-returns-in-Show-clause-err g c =
-    subst (λ request. IfErr c.show_blocks.result (λ r. OnRefused (seen_by g.R.File.Read.remaining) request r (g.O.Write.contents c.args.out.now) (g.O.Write.contents c.show_blocks.new.out) (c.show_blocks.new.out ≡ c.args.out.now))) (sym c.in-Show.is) (on_both c.show_blocks.result _ _ c.show_blocks.ensures.silent c.show_blocks.ensures.refused)
+pub returns-in-Cat-clause-done : goal.returns-in-Cat-clause-done
+returns-in-Cat-clause-done g c =
+    λ done. subst (λ request. Answers (seen_by g.R.File.Read.remaining) request (g.O.Write.contents c.args.out.now) (g.O.Write.contents c.perform-in-Cat.new.out)) (sym c.in-Cat.is) (c.perform-in-Cat.ensures.done done)
 
-pub returns-in-Put-clause-ok : goal.returns-in-Put-clause-ok
-returns-in-Put-clause-ok g c =
-    subst (λ request. OnOk c.put_file.result (Answers (seen_by g.R.File.Read.remaining) request (g.O.Write.contents c.args.out.now) (g.O.Write.contents c.put_file.new.out))) (sym c.in-Put.is) c.put_file.ensures.opened
+pub returns-in-Cat-clause-refused : goal.returns-in-Cat-clause-refused
+returns-in-Cat-clause-refused g c =
+    λ refused. subst (λ request. OnRefused (seen_by g.R.File.Read.remaining) request (g.O.Write.contents c.args.out.now) (g.O.Write.contents c.perform-in-Cat.new.out) (c.perform-in-Cat.new.out ≡ c.args.out.now)) (sym c.in-Cat.is) (c.perform-in-Cat.ensures.refused refused)
 
-pub returns-in-Put-clause-err : goal.returns-in-Put-clause-err
-returns-in-Put-clause-err g c =
-    subst (λ request. IfErr c.put_file.result (λ r. OnRefused (seen_by g.R.File.Read.remaining) request r (g.O.Write.contents c.args.out.now) (g.O.Write.contents c.put_file.new.out) (c.put_file.new.out ≡ c.args.out.now))) (sym c.in-Put.is) (on_both c.put_file.result _ _ c.put_file.ensures.silent c.put_file.ensures.refused)
+pub returns-in-Show-clause-done : goal.returns-in-Show-clause-done
+returns-in-Show-clause-done g c =
+    λ done. subst (λ request. Answers (seen_by g.R.File.Read.remaining) request (g.O.Write.contents c.args.out.now) (g.O.Write.contents c.perform-in-Show.new.out)) (sym c.in-Show.is) (c.perform-in-Show.ensures.done done)
 
-pub returns-in-Copy-clause-ok : goal.returns-in-Copy-clause-ok
-returns-in-Copy-clause-ok g c =
-    subst (λ request. OnOk c.copy_files.result (Answers (seen_by g.R.File.Read.remaining) request (g.O.Write.contents c.args.out.now) (g.O.Write.contents c.copy_files.new.out))) (sym c.in-Copy.is) c.copy_files.ensures.copied
-
-pub returns-in-Copy-clause-err : goal.returns-in-Copy-clause-err
-returns-in-Copy-clause-err g c =
-    subst (λ request. IfErr c.copy_files.result (λ r. OnRefused (seen_by g.R.File.Read.remaining) request r (g.O.Write.contents c.args.out.now) (g.O.Write.contents c.copy_files.new.out) (c.copy_files.new.out ≡ c.args.out.now))) (sym c.in-Copy.is) (on_both c.copy_files.result _ _ c.copy_files.ensures.silent c.copy_files.ensures.refused)
+pub returns-in-Show-clause-refused : goal.returns-in-Show-clause-refused
+returns-in-Show-clause-refused g c =
+    λ refused. subst (λ request. OnRefused (seen_by g.R.File.Read.remaining) request (g.O.Write.contents c.args.out.now) (g.O.Write.contents c.perform-in-Show.new.out) (c.perform-in-Show.new.out ≡ c.args.out.now)) (sym c.in-Show.is) (c.perform-in-Show.ensures.refused refused)

@@ -2,8 +2,7 @@ use Rattle.std.proofs.Common.{rules, arith, refl, ◌≡◌, ◌<◌, ◌∙◌,
 use Rattle.std.proofs.lemmas.List.{take_more, map-append}
 use Rattle.xvfs.specs.Requests.{IsDone, IsNotDone, AreDone}
 use Rattle.xvfs.proofs.Disks.{seen_by}
-use Rattle.xvfs.proofs.Sequences.{one_more_done, stops_here}
-use Rattle.xvfs.proofs.Undone.{not_done}
+use Rattle.xvfs.proofs.Sequences.{not_done, one_more_done, stops_here}
 use Rattle.xvfs.proofs.commands.perform_lines.Goals as goal
 
 pub loop-words-init : goal.loop-words-init

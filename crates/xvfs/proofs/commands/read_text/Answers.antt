@@ -1,6 +1,6 @@
 use Rattle.std.proofs.Common.{◌≡◌, rules, take, subst}
 use Rattle.std.specs.Prelude.{IfSome, option_map, string_bytes}
-use Rattle.texts.specs.declared.faults.InputFault.TheVariants as fault
+use Rattle.xvfs.specs.declared.input.InputFault.TheVariants as fault
 use Rattle.xvfs.specs.declared.commands.TheConstants.{LIMIT}
 use Rattle.xvfs.proofs.Reading.{whole_read}
 use Rattle.xvfs.proofs.commands.read_text.Goals as goal

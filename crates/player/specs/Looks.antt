@@ -1,0 +1,29 @@
+-- What a command over a disk came to.
+use Rattle.std.specs.Prelude.{◌≡◌, ℕ, List, Option, None}
+use Rattle.std.specs.Io.KnownBytes.{Appends}
+use Rattle.blocks.specs.declared.disk.Disk.{Ghosts}
+use Rattle.model.specs.Files.{file_count, files_of}
+use Rattle.model.specs.Log.{logged_count, recovered}
+use Rattle.model.specs.Verdict.{verdict}
+use Rattle.opening.specs.Recoveries.{IsRecovered}
+use Rattle.texts.specs.Output.{copied_text, report_text}
+use Rattle.player.specs.Showing.{Shows}
+
+-- it was checked, and the report of it printed
+abbrev pub HasReported : {D N : Type 0} → Ghosts D N → D → D → Option (List ℕ) → Option (List ℕ)
+    → Type 0
+HasReported disk d e old new = (disk.image e ≡ disk.image d) × (verdict (disk.image d) ≡ None)
+    × Appends old new (report_text (logged_count (disk.image d))
+    (file_count (files_of (recovered (disk.image d)))))
+
+-- it was recovered, and how many blocks were copied was printed
+abbrev pub HasRecovered : {D N : Type 0} → Ghosts D N → D → D → Option (List ℕ) → Option (List ℕ)
+    → Type 0
+HasRecovered disk d e old new = IsRecovered disk (logged_count (disk.image d)) d e
+    × Appends old new (copied_text (logged_count (disk.image d)))
+
+-- it was recovered, and the bytes of its file of number i written
+abbrev pub HasShown : {D N : Type 0} → Ghosts D N → ℕ → D → D → Option (List ℕ)
+    → Option (List ℕ) → Type 0
+HasShown disk i d e old new =
+    IsRecovered disk (logged_count (disk.image d)) d e × Shows (disk.image d) i old new

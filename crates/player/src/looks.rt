@@ -1,0 +1,83 @@
+// The commands over a disk that need no kernel.
+ghost use Rattle.player.specs.Causes.{IsNotRecovered, IsUnchecked};
+ghost use Rattle.player.specs.Looks.{HasRecovered, HasReported, HasShown};
+ghost use Rattle.player.specs.Showing.{IsNotShown};
+
+use crate::checking::check_disk;
+use crate::recovering::recover_disk;
+use crate::refusals::CatRefusal;
+use crate::showing::cat_disk;
+use blocks::Disk;
+use cmd::DiskCommand;
+use model::types::CheckFault;
+use opening::RecoverRefusal;
+use std::alloc::Global;
+use std::io::Write;
+use texts::Printed;
+
+/// Checks an image, as `check_disk`.
+#[derive(Clone, Copy, Drop)]
+pub struct Check;
+
+impl DiskCommand for Check {
+    type Refusal = Printed<CheckFault>;
+
+    ghost done = { λ check c. HasReported c.disk c.was c.now };
+
+    ghost refused = { λ check c old new. IsUnchecked c.disk c.was c.now };
+
+    fn run_on<D: Disk + Drop, O: Write>(
+        self,
+        alloc: Global,
+        disk: D,
+        out: &mut O,
+    ) -> (Result<(), Printed<CheckFault>>, D) {
+        let mut disk = disk;
+        let ended = check_disk(alloc, &mut disk, out);
+        (ended, disk)
+    }
+}
+
+/// Recovers an image, as `recover_disk`.
+#[derive(Clone, Copy, Drop)]
+pub struct Recover;
+
+impl DiskCommand for Recover {
+    type Refusal = Printed<RecoverRefusal>;
+
+    ghost done = { λ recover c. HasRecovered c.disk c.was c.now };
+
+    ghost refused = { λ recover c old new. IsNotRecovered c.disk c.was c.now };
+
+    fn run_on<D: Disk + Drop, O: Write>(
+        self,
+        alloc: Global,
+        disk: D,
+        out: &mut O,
+    ) -> (Result<(), Printed<RecoverRefusal>>, D) {
+        let mut disk = disk;
+        let ended = recover_disk(alloc, &mut disk, out);
+        (ended, disk)
+    }
+}
+
+/// Recovers an image, and writes the bytes of its file of this number, as `cat_disk`.
+#[derive(Clone, Copy, Drop)]
+pub struct Cat(pub u32);
+
+impl DiskCommand for Cat {
+    type Refusal = CatRefusal;
+
+    ghost done = { λ cat c. HasShown c.disk cat.0 c.was c.now };
+
+    ghost refused = { λ cat c. IsNotShown c.disk c.was c.now cat.0 };
+
+    fn run_on<D: Disk + Drop, O: Write>(
+        self,
+        alloc: Global,
+        disk: D,
+        out: &mut O,
+    ) -> (Result<(), CatRefusal>, D) {
+        cat_disk(alloc, disk, self.0, out)
+    }
+}
