@@ -27,13 +27,14 @@ pub trait Progress {
 /// into a new image of the second form of `size` blocks, which has as many numbers. The old image is
 /// only read. The labels of a used inode are 0, 0, 1 in the new one, whatever they are in the old.
 ///
-/// The new image is filled in memory. The numbers up to the last used one are made in order, the free
-/// ones among them are removed again, and then each file is written, by its number, in pieces of at
-/// most `TRANSFER_LIMIT` bytes.
+/// The new image is filled in memory. The numbers up to the last used one are made in order, the
+/// free ones among them are removed again, and then each file is written, by its number, in pieces
+/// of at most `TRANSFER_LIMIT` bytes.
 ///
-/// Then the image is written to the new disk: block 0, blocks 2 to the last in order, a sync, block 1,
-/// the superblock, and a sync. So a stop at any moment leaves block 1 as it was, or the whole copy.
-/// Answers how many files there are, and hands the new disk back.
+/// Then it is written to the new disk: block 0, blocks 2 to the last in order, a sync, block 1, the
+/// superblock, and a sync. So where the disk holds no write back at the start, a stop at any moment
+/// leaves block 1 as it was, or the whole copy. Answers how many files there are, and hands the new
+/// disk back.
 ///
 /// # Errors
 ///
