@@ -75,8 +75,8 @@ pub record IsCopyOf (size : ℕ) (old x : Image) : Type 0 where
   pub long : length x ≡ size
   pub files : files_of x ≡ files_of (recovered old)
 
--- Such a copy of the image on d was made on e, by one write for each of its blocks and two syncs, and
--- nothing is held. A stop before left block 1 as it was, or this very image.
+-- Such a copy of the image on d was made on e, by one write for each of its blocks and two syncs,
+-- and nothing is held. A stop before left block 1 as it was, or this very image.
 pub record IsCopied {D E M N : Type 0} (old : Ghosts D M) (new : Ghosts E N) (size : ℕ) (d : D)
     (n e : E) (count : ℕ) : Type 0 where
   pub old_sound : verdict (old.image d) ≡ None
@@ -88,7 +88,7 @@ pub record IsCopied {D E M N : Type 0} (old : Ghosts D M) (new : Ghosts E N) (si
   pub settles : Settles new 2 n e
   pub stops : LeavesIfCalm new n e (IsNoneOr (new.image n) (new.image e))
 
--- what a stop leaves of a copy of image old to a disk with image n: block 1 as it was, or a whole copy
+-- what a stop leaves of a copy of image old to a disk with image n: block 1 as it was, or the whole
 abbrev pub IsNoneOrWhole : ℕ → Image → Image → Image → Type 0
 IsNoneOrWhole size old n x = KeepsSuperblock n x ⊎ IsCopyOf size old x
 

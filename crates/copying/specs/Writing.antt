@@ -21,7 +21,8 @@ pub record HasWritten (k : ℕ) (whole old x : Image) : Type 0 where
   pub superblock : KeepsSuperblock old x
 
 -- all blocks of that image but block 1 were written, with one write for each
-pub record WritesRest {E N : Type 0} (disk : Ghosts E N) (whole : Image) (old new : E) : Type 0 where
+pub record WritesRest {E N : Type 0} (disk : Ghosts E N) (whole : Image) (old new : E)
+    : Type 0 where
   pub image : HasWritten (length whole) whole (disk.image old) (disk.image new)
   pub writes : disk.write_count new ≡ counted (disk.write_count old) (length whole - 1)
   pub faults : disk.fault_count new ≡ disk.fault_count old

@@ -32,9 +32,10 @@ pub trait Progress {
 /// ones among them are removed again, and then each file is written, by its number, in pieces of at
 /// most `TRANSFER_LIMIT` bytes.
 ///
-/// Then the image is written to the new disk: block 0, blocks 2 to the last in order, a sync, block 1,
-/// the superblock, and a sync. So a stop at any moment leaves block 1 as it was, or the whole copy.
-/// Answers how many files there are, and hands the new disk back.
+/// Then it is written to the new disk: block 0, blocks 2 to the last in order, a sync, block 1, the
+/// superblock, and a sync. So where the disk holds no write back at the start, a stop at any moment
+/// leaves block 1 as it was, or the whole copy. Answers how many files there are, and hands the new
+/// disk back.
 ///
 /// # Errors
 ///

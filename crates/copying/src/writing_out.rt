@@ -9,14 +9,14 @@ use crate::fault::CopyFault;
 use blocks::{Block, Disk, DiskFault, MemDisk};
 use std::alloc::Global;
 
-/// Writes the image in memory to a disk of its size, without a log: block 0, then blocks 2 to the last
-/// in order, a sync, block 1, the superblock, and a sync. So where it stops before its end, block 1 is
-/// as it was, or all of the image is there.
+/// Writes the image in memory to a disk of its size, without a log: block 0, then blocks 2 to the
+/// last in order, a sync, block 1, the superblock, and a sync. So where it stops before its end,
+/// block 1 is as it was, or all of the image is there.
 ///
 /// # Errors
 ///
-/// `NoMemory` where memory for a block was refused: nothing was written. `Disk` where the disk failed:
-/// what it holds then is not said, but for the above.
+/// `NoMemory` where memory for a block was refused: nothing was written. `Disk` where the disk
+/// failed: what it holds then is not said, but for the above.
 pub(crate) fn write_out<E: Disk>(
     alloc: Global,
     mut memory: MemDisk,
@@ -53,8 +53,7 @@ fn write_all<E: Disk>(
     write_rest(memory, disk, block)?;
     disk.sync()?;
     write_block(memory, disk, 1, block)?;
-    disk.sync()?;
-    Ok(())
+    Ok(disk.sync()?)
 }
 
 // Writes all blocks but the superblock, in order.
