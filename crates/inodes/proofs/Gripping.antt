@@ -5,7 +5,6 @@ use Rattle.inodes.specs.Grips.{Grip, with_grip}
 use Rattle.inodes.specs.Places.{grip_of, grips_of}
 use Rattle.inodes.specs.declared.tasks.Place.{Place}
 use Rattle.inodes.specs.Tasks.{TaskState, task, no_task}
-
 -- a process has what its task has
 pub use Rattle.inodes.specs.Lemmas.Looks.{grip_of_task as grip_is}
 

@@ -14,7 +14,11 @@ use model::types::{Answer, Reply};
 use std::io::Write;
 
 // Writes the line of a turn with an answer.
-pub(crate) fn print_answer<O: Write>(out: &mut O, pid: u32, answer: &Answer) -> Result<(), Unwritten>
+pub(crate) fn print_answer<O: Write>(
+    out: &mut O,
+    pid: u32,
+    answer: &Answer,
+) -> Result<(), Unwritten>
     ensures ok { OnOk result (Appends (O.contents out.old) (O.contents out.new)
         (event_line (Answered pid answer.now))) }
 {

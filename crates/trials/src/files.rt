@@ -265,7 +265,11 @@ pub fn print_makings(rt: &impl Print, alloc: Global) -> anyhow::Result<()> {
     }
     println!(rt; "\nmakes what has to be new")?;
     for row in NEW_ONES {
-        let answer = size_of(FileDisk::create_new(&make_shelf(alloc, Way::WriteNew, row), "disk", 3));
+        let answer = size_of(FileDisk::create_new(
+            &make_shelf(alloc, Way::WriteNew, row),
+            "disk",
+            3,
+        ));
         print_row(rt, row, answer)?;
     }
     Ok(())
