@@ -1,170 +1,215 @@
 // Calls of disks, of images on them, and of their recovery.
+ghost use Rattle.std.specs.Prelude.{◌<◌};
+
 use crate::bench::{Bench, Faulty, block_of, blocks_of, disk_of, disk_with, done, put_block};
+use crate::fault::LineFault;
 use blocks::{Block, Disk, FaultyDisk, Kind};
 use layout::{plan, superblock};
-use model::types::Form;
+use model::types::{File, Form};
 use offline::{check, mkfs, mkfs_as};
 use plain::check::verdict;
 use plain::report::files_after_recovery;
-use std::alloc::Global;
+use std::alloc::{AllocError, Global};
 use wal::recover;
 
+// What a call answers; None where the line is no call for which all holds that it asks.
+type Answered = Result<Option<String>, LineFault>;
+
+fn answered(text: Result<String, AllocError>) -> Answered {
+    Ok(Some(text?))
+}
+
 /// Does a call of a disk or an image, if the line is one for which all holds that it asks.
-pub fn call(alloc: Global, bench: &mut Bench, words: &[&str]) -> anyhow::Result<Option<String>> {
+pub fn call(alloc: Global, bench: &mut Bench, words: &[&str]) -> Answered {
     match *words {
-        ["disk", size] => {
-            bench.disk = disk_of(alloc, size.parse()?)?;
-            done(alloc, true)
-        }
-        ["put", b, at, hex] => put(alloc, &mut bench.disk, b.parse()?, at.parse()?, hex),
-        ["bytes", b, at, count] => bytes(
-            alloc,
-            &mut bench.disk,
-            b.parse()?,
-            at.parse()?,
-            count.parse()?,
-        ),
-        ["fail", kind, n] => fail(alloc, bench, kind, n.parse()?),
+        ["disk", size] => make_disk(alloc, bench, size),
+        ["put", b, at, digits] => put(alloc, &mut bench.disk, b, at, digits),
+        ["bytes", b, at, count] => bytes(alloc, &mut bench.disk, b, at, count),
+        ["fail", kind, n] => fail(alloc, bench, kind, n),
         ["counts"] => counts(alloc, &bench.disk),
         ["keep"] => keep(alloc, bench),
-        ["back", k] => back(alloc, bench, k.parse()?),
-        ["same", k] => same(alloc, bench, k.parse()?),
+        ["back", k] => back(alloc, bench, k),
+        ["same", k] => same(alloc, bench, k),
         _ => call_image(alloc, &mut bench.disk, words),
     }
 }
 
-fn call_image(alloc: Global, disk: &mut Faulty, words: &[&str]) -> anyhow::Result<Option<String>> {
+fn call_image(alloc: Global, disk: &mut Faulty, words: &[&str]) -> Answered {
     match *words {
-        ["mkfs", size, inodes] => {
-            let answer = mkfs(alloc, disk, size.parse()?, inodes.parse()?);
-            Ok(Some(format!(in alloc; "{answer:?}")?))
-        }
-        ["mkfs", size, inodes, "large"] => {
-            let answer = mkfs_as(alloc, disk, size.parse()?, inodes.parse()?, Form::Two);
-            Ok(Some(format!(in alloc; "{answer:?}")?))
-        }
-        ["plan", size, inodes] => {
-            let answer = plan(size.parse()?, inodes.parse()?);
-            Ok(Some(format!(in alloc; "{answer:?}")?))
-        }
+        ["mkfs", size, inodes] => make_image(alloc, disk, Form::One, size, inodes),
+        ["mkfs", size, inodes, "large"] => make_image(alloc, disk, Form::Two, size, inodes),
+        ["plan", size, inodes] => told_plan(alloc, size, inodes),
         ["check"] => told_check(alloc, disk),
-        ["verdict"] => {
-            let image = blocks_of(alloc, disk)?;
-            let answer = verdict(alloc, image.as_slice())?;
-            Ok(Some(format!(in alloc; "{answer:?}")?))
-        }
-        ["hurt", b, count] => hurt(alloc, disk, b.parse()?, count.parse()?),
+        ["verdict"] => told_verdict(alloc, disk),
+        ["hurt", b, count] => hurt(alloc, disk, b, count),
         ["files"] => files(alloc, disk),
         ["recover"] => told_recovery(alloc, disk),
         _ => Ok(None),
     }
 }
 
+fn make_disk(alloc: Global, bench: &mut Bench, size: &str) -> Answered {
+    bench.disk = disk_of(alloc, size.parse()?)?;
+    done(alloc, true)
+}
+
 // Puts bytes into a block, from the index `at` on.
-fn put(
-    alloc: Global,
-    disk: &mut Faulty,
-    b: u32,
-    at: usize,
-    hex: &str,
-) -> anyhow::Result<Option<String>> {
-    let bytes = hex::decode(alloc, hex)?;
-    let Some(mut block) = block_of(alloc, disk, b)? else {
-        return Ok(None);
-    };
-    if at > 1024 || bytes.len() > 1024 - at {
-        return Ok(None);
-    }
-    block.put(at, bytes.as_slice());
-    let is_done = put_block(disk, b, &block)?;
+fn put(alloc: Global, disk: &mut Faulty, b: &str, at: &str, digits: &str) -> Answered {
+    let (b, at): (u32, usize) = (b.parse()?, at.parse()?);
+    let bytes = hex::decode(alloc, digits)?;
+    let is_done = put_bytes(alloc, disk, b, at, &bytes)?;
     done(alloc, is_done)
 }
 
-fn bytes(
+// Whether there is such a block, with room for them.
+fn put_bytes(
     alloc: Global,
     disk: &mut Faulty,
     b: u32,
     at: usize,
-    count: usize,
-) -> anyhow::Result<Option<String>> {
-    let Some(block) = block_of(alloc, disk, b)? else {
+    bytes: &[u8],
+) -> Result<bool, LineFault> {
+    let Some(mut block) = block_of(alloc, disk, b)? else {
+        return Ok(false);
+    };
+    if at > 1024 || bytes.len() > 1024 - at {
+        return Ok(false);
+    }
+    block.put(at, bytes);
+    Ok(put_block(disk, b, &block)?)
+}
+
+fn bytes(alloc: Global, disk: &mut Faulty, b: &str, at: &str, count: &str) -> Answered {
+    let (at, count): (usize, usize) = (at.parse()?, count.parse()?);
+    let Some(block) = block_of(alloc, disk, b.parse()?)? else {
         return Ok(None);
     };
     match block.as_slice().get(at..at.saturating_add(count)) {
-        Some(bytes) => Ok(Some(hex::encode(alloc, bytes)?)),
+        Some(bytes) => answered(hex::encode(alloc, bytes)),
         None => Ok(None),
     }
 }
 
 // The nth call of a kind fails from now on.
-fn fail(alloc: Global, bench: &mut Bench, kind: &str, n: u64) -> anyhow::Result<Option<String>> {
+fn fail(alloc: Global, bench: &mut Bench, kind: &str, n: &str) -> Answered {
     let kind = match kind {
         "read" => Kind::Read,
         "write-old" => Kind::WriteOld,
         "write-new" => Kind::WriteNew,
         _ => return Ok(None),
     };
-    let disk = std::mem::replace(&mut bench.disk, disk_of(alloc, 0)?);
+    let n: u64 = n.parse()?;
+    let empty = disk_of(alloc, 0)?;
+    let disk = std::mem::replace(&mut bench.disk, empty);
     bench.disk = FaultyDisk::new(disk.into_inner(), n, kind);
     done(alloc, true)
 }
 
-fn counts(alloc: Global, disk: &Faulty) -> anyhow::Result<Option<String>> {
+fn counts(alloc: Global, disk: &Faulty) -> Answered {
     let (writes, faults, fired) = (disk.writes(), disk.faults(), disk.fired());
-    let text = format!(in alloc; "{writes} writes, {faults} faults, fired {fired}")?;
-    Ok(Some(text))
+    answered(format!(in alloc; "{writes} writes, {faults} faults, fired {fired}"))
 }
 
-fn told_check(alloc: Global, disk: &mut Faulty) -> anyhow::Result<Option<String>> {
-    let text = match check(alloc, disk) {
+fn make_image(
+    alloc: Global,
+    disk: &mut Faulty,
+    form: Form,
+    size: &str,
+    inodes: &str,
+) -> Answered {
+    let (size, inodes): (u32, u32) = (size.parse()?, inodes.parse()?);
+    let answer = match form {
+        Form::One => mkfs(alloc, disk, size, inodes),
+        Form::Two => mkfs_as(alloc, disk, size, inodes, Form::Two),
+    };
+    answered(format!(in alloc; "{answer:?}"))
+}
+
+fn told_plan(alloc: Global, size: &str, inodes: &str) -> Answered {
+    let answer = plan(size.parse()?, inodes.parse()?);
+    answered(format!(in alloc; "{answer:?}"))
+}
+
+fn told_check(alloc: Global, disk: &mut Faulty) -> Answered {
+    match check(alloc, disk) {
         Ok(report) => {
             let (logged, files) = (report.logged, report.files);
-            format!(in alloc; "sound, {logged} logged, {files} files")?
+            answered(format!(in alloc; "sound, {logged} logged, {files} files"))
         }
-        Err(fault) => format!(in alloc; "{fault:?}")?,
-    };
-    Ok(Some(text))
+        Err(fault) => answered(format!(in alloc; "{fault:?}")),
+    }
+}
+
+fn told_verdict(alloc: Global, disk: &mut Faulty) -> Answered {
+    let image = blocks_of(alloc, disk)?;
+    let answer = verdict(alloc, image.as_slice())?;
+    answered(format!(in alloc; "{answer:?}"))
 }
 
 // Sets the first bytes of a block to four values, one byte and one value at a time. For how many of
 // these images the check and the plain program answer alike.
-fn hurt(alloc: Global, disk: &mut Faulty, b: u32, count: usize) -> anyhow::Result<Option<String>> {
+fn hurt(alloc: Global, disk: &mut Faulty, b: &str, count: &str) -> Answered {
+    let (b, count): (u32, usize) = (b.parse()?, count.parse()?);
     let Some(whole) = block_of(alloc, disk, b)? else {
         return Ok(None);
     };
     let mut alike: u32 = 0;
     for k in 0..4 * count.min(1024) {
-        let mut block = whole.copied(alloc)?;
-        block.put(k / 4, &[[0x00, 0x01, 0x7f, 0xff][k % 4]]);
-        put_block(disk, b, &block)?;
-        let image = blocks_of(alloc, disk)?;
-        if check(alloc, disk).err() == verdict(alloc, image.as_slice())? {
+        let value = [0x00, 0x01, 0x7f, 0xff][k % 4];
+        put_hurt(alloc, disk, b, &whole, k / 4, value)?;
+        if is_alike(alloc, disk)? {
             alike = alike.saturating_add(1);
         }
     }
     put_block(disk, b, &whole)?;
-    Ok(Some(format!(in alloc; "{alike} alike")?))
+    answered(format!(in alloc; "{alike} alike"))
+}
+
+// Writes a block with this value as its byte at an index.
+fn put_hurt(
+    alloc: Global,
+    disk: &mut Faulty,
+    b: u32,
+    whole: &Block,
+    at: usize,
+    value: u8,
+) -> Result<(), LineFault>
+    requires { at < 1024 }
+{
+    let mut block = whole.copied(alloc)?;
+    block.put(at, &[value]);
+    put_block(disk, b, &block)?;
+    Ok(())
+}
+
+// Whether the check and the plain program answer alike.
+fn is_alike(alloc: Global, disk: &mut Faulty) -> Result<bool, LineFault> {
+    let image = blocks_of(alloc, disk)?;
+    let answer = verdict(alloc, image.as_slice())?;
+    Ok(check(alloc, disk).err() == answer)
 }
 
 // The files of an image once it is recovered: number, type and length.
-fn files(alloc: Global, disk: &mut Faulty) -> anyhow::Result<Option<String>> {
+fn files(alloc: Global, disk: &mut Faulty) -> Answered {
     let image = blocks_of(alloc, disk)?;
     match files_after_recovery(alloc, image.as_slice()) {
-        Ok(files) => {
-            let mut text = format!(in alloc; "{} numbers", files.len())?;
-            for (i, place) in files.iter().enumerate() {
-                if let Some(file) = place {
-                    let (kind, length) = (file.kind, file.bytes.len());
-                    text = format!(in alloc; "{text}, {i} of type {kind} has {length}")?;
-                }
-            }
-            Ok(Some(text))
-        }
-        Err(fault) => Ok(Some(format!(in alloc; "{fault:?}")?)),
+        Ok(files) => answered(told_files(alloc, files.as_slice())),
+        Err(fault) => answered(format!(in alloc; "{fault:?}")),
     }
 }
 
-fn told_recovery(alloc: Global, disk: &mut Faulty) -> anyhow::Result<Option<String>> {
+fn told_files(alloc: Global, files: &[Option<File>]) -> Result<String, AllocError> {
+    let mut text = format!(in alloc; "{} numbers", files.len())?;
+    for (i, place) in files.iter().enumerate() {
+        if let Some(file) = place {
+            let (kind, length) = (file.kind, file.bytes.len());
+            text = format!(in alloc; "{text}, {i} of type {kind} has {length}")?;
+        }
+    }
+    Ok(text)
+}
+
+fn told_recovery(alloc: Global, disk: &mut Faulty) -> Answered {
     let Some(block) = block_of(alloc, disk, 1)? else {
         return Ok(None);
     };
@@ -174,19 +219,20 @@ fn told_recovery(alloc: Global, disk: &mut Faulty) -> anyhow::Result<Option<Stri
         return Ok(None);
     }
     let answer = recover(alloc, disk, &sup);
-    Ok(Some(format!(in alloc; "{answer:?}")?))
+    answered(format!(in alloc; "{answer:?}"))
 }
 
 // Keeps the image, and answers its number.
-fn keep(alloc: Global, bench: &mut Bench) -> anyhow::Result<Option<String>> {
+fn keep(alloc: Global, bench: &mut Bench) -> Answered {
     let image = blocks_of(alloc, &mut bench.disk)?;
-    let text = format!(in alloc; "image {}", bench.kept.len())?;
+    let number = bench.kept.len();
     bench.kept.push(image)?;
-    Ok(Some(text))
+    answered(format!(in alloc; "image {number}"))
 }
 
 // Takes a new disk with an image that was kept.
-fn back(alloc: Global, bench: &mut Bench, k: usize) -> anyhow::Result<Option<String>> {
+fn back(alloc: Global, bench: &mut Bench, k: &str) -> Answered {
+    let k: usize = k.parse()?;
     match bench.kept.get(k) {
         Some(image) => {
             bench.disk = disk_with(alloc, image.as_slice())?;
@@ -197,12 +243,13 @@ fn back(alloc: Global, bench: &mut Bench, k: usize) -> anyhow::Result<Option<Str
 }
 
 // Whether the disk has an image that was kept.
-fn same(alloc: Global, bench: &mut Bench, k: usize) -> anyhow::Result<Option<String>> {
+fn same(alloc: Global, bench: &mut Bench, k: &str) -> Answered {
+    let k: usize = k.parse()?;
     let image = blocks_of(alloc, &mut bench.disk)?;
     match bench.kept.get(k) {
         Some(kept) => {
             let is_same = is_same_image(image.as_slice(), kept.as_slice());
-            Ok(Some(format!(in alloc; "{is_same}")?))
+            answered(format!(in alloc; "{is_same}"))
         }
         None => Ok(None),
     }

@@ -4,9 +4,11 @@
 #![tactic(auto)]
 
 mod bench;
+mod fault;
 mod images;
 mod operations;
 
 pub use bench::{Bench, Faulty, block_of, blocks_of, disk_of, done, text_of};
+pub use fault::LineFault;
 pub use images::call;
 pub use operations::{filled, operation, told_answer};

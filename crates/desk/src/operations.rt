@@ -1,67 +1,103 @@
 // The operations that lines hand in, and the answers that they get.
+use crate::fault::LineFault;
 use model::content::Content;
 use model::types::{Answer, Op, Reply};
-use std::alloc::Global;
+use std::alloc::{AllocError, Global};
 
 /// What a line hands in, and for which process.
-pub fn operation(alloc: Global, words: &[&str]) -> anyhow::Result<Option<(u32, Op)>> {
-    let handed = match *words {
-        ["submit", pid, "create", kind] => (pid.parse()?, Op::Create(kind.parse()?)),
+pub fn operation(alloc: Global, words: &[&str]) -> Result<Option<(u32, Op)>, LineFault> {
+    match *words {
+        ["submit", pid, what, number] => handed(pid, of_file(what, number)),
         ["submit", pid, "write", inode, offset, count] => {
-            let bytes = filled(alloc, count.parse()?, "00")?;
-            let op = Op::Write(inode.parse()?, offset.parse()?, bytes);
-            (pid.parse()?, op)
+            handed(pid, written(alloc, [inode, offset, count], "00"))
         }
         ["submit", pid, "fill", inode, offset, count, digits] => {
-            let bytes = filled(alloc, count.parse()?, digits)?;
-            let op = Op::Write(inode.parse()?, offset.parse()?, bytes);
-            (pid.parse()?, op)
+            handed(pid, written(alloc, [inode, offset, count], digits))
         }
-        ["submit", pid, "read", inode, offset, count] => {
-            let op = Op::Read(inode.parse()?, offset.parse()?, count.parse()?);
-            (pid.parse()?, op)
-        }
-        ["submit", pid, "trunc", inode] => (pid.parse()?, Op::Trunc(inode.parse()?)),
-        ["submit", pid, "remove", inode] => (pid.parse()?, Op::Remove(inode.parse()?)),
-        ["submit", pid, "stat", inode] => (pid.parse()?, Op::Stat(inode.parse()?)),
-        _ => return Ok(None),
-    };
-    Ok(Some(handed))
+        ["submit", pid, "read", inode, offset, count] => handed(pid, read([inode, offset, count])),
+        _ => Ok(None),
+    }
+}
+
+// For which process an operation is handed in.
+fn handed(pid: &str, op: Result<Option<Op>, LineFault>) -> Result<Option<(u32, Op)>, LineFault> {
+    match (pid.parse(), op) {
+        (Ok(pid), Ok(Some(op))) => Ok(Some((pid, op))),
+        (_, Ok(None)) => Ok(None),
+        (Err(_), _) => Err(LineFault::Number),
+        (_, Err(fault)) => Err(fault),
+    }
+}
+
+// An operation with one number.
+fn of_file(what: &str, number: &str) -> Result<Option<Op>, LineFault> {
+    match what {
+        "create" => Ok(Some(Op::Create(number.parse()?))),
+        "trunc" => Ok(Some(Op::Trunc(number.parse()?))),
+        "remove" => Ok(Some(Op::Remove(number.parse()?))),
+        "stat" => Ok(Some(Op::Stat(number.parse()?))),
+        _ => Ok(None),
+    }
+}
+
+fn read(words: [&str; 3]) -> Result<Option<Op>, LineFault> {
+    let (inode, offset, count) = numbers(words)?;
+    Ok(Some(Op::Read(inode, offset, count)))
+}
+
+// A write of so many bytes, each of which has these two digits.
+fn written(alloc: Global, words: [&str; 3], digits: &str) -> Result<Option<Op>, LineFault> {
+    let (inode, offset, count) = numbers(words)?;
+    let bytes = filled(alloc, count, digits)?;
+    Ok(Some(Op::Write(inode, offset, bytes)))
+}
+
+fn numbers([inode, offset, count]: [&str; 3]) -> Result<(u32, u32, u32), LineFault> {
+    Ok((inode.parse()?, offset.parse()?, count.parse()?))
 }
 
 /// So many bytes, each of which has these two digits.
-pub fn filled(alloc: Global, count: u32, digits: &str) -> anyhow::Result<Content> {
-    let byte = hex::decode(alloc, digits)?.first().copied().unwrap_or(0);
-    let mut bytes = Vec::new(alloc);
-    for _ in 0..count {
-        bytes.push(byte)?;
-    }
+pub fn filled(alloc: Global, count: u32, digits: &str) -> Result<Content, LineFault> {
+    let byte = byte_of(alloc, digits)?;
+    let bytes = vec![in alloc; byte; count as usize]?;
     Ok(Content::new(bytes))
 }
 
+// The first of the bytes that have these digits, or 0.
+fn byte_of(alloc: Global, digits: &str) -> Result<u8, LineFault> {
+    let bytes = hex::decode(alloc, digits)?;
+    Ok(bytes.first().copied().unwrap_or(0))
+}
+
 /// An answer as a text: its number, its reply and its group; or that there is none.
-pub fn told_answer(alloc: Global, answer: Option<Answer>) -> anyhow::Result<String> {
+pub fn told_answer(alloc: Global, answer: Option<Answer>) -> Result<String, AllocError> {
     match answer {
-        Some(answer) => {
-            let (seq, group) = (answer.seq, answer.group);
-            let reply = told_reply(alloc, &answer.reply)?;
-            Ok(format!(in alloc; "{seq} {reply}, group {group}")?)
-        }
-        None => Ok(String::from_str(alloc, "none")?),
+        Some(answer) => told(alloc, &answer),
+        None => String::from_str(alloc, "none"),
     }
 }
 
-// A reply, with the digits of the bytes that it has, or of the first and the last of many.
-fn told_reply(alloc: Global, reply: &Reply) -> anyhow::Result<String> {
-    let Reply::Bytes(bytes) = reply else {
-        return Ok(format!(in alloc; "{reply:?}")?);
-    };
-    let (count, bytes) = (bytes.len(), bytes.as_slice());
+fn told(alloc: Global, answer: &Answer) -> Result<String, AllocError> {
+    let reply = told_reply(alloc, &answer.reply)?;
+    format!(in alloc; "{} {reply}, group {}", answer.seq, answer.group)
+}
+
+// A reply, with the digits of the bytes that it has.
+fn told_reply(alloc: Global, reply: &Reply) -> Result<String, AllocError> {
+    match reply {
+        Reply::Bytes(bytes) => told_bytes(alloc, bytes.as_slice()),
+        reply => format!(in alloc; "{reply:?}"),
+    }
+}
+
+// Bytes by their digits, or by those of the first and the last of many.
+fn told_bytes(alloc: Global, bytes: &[u8]) -> Result<String, AllocError> {
+    let count = bytes.len();
     if count <= 16 {
         let digits = hex::encode(alloc, bytes)?;
-        return Ok(format!(in alloc; "Bytes {digits}")?);
+        return format!(in alloc; "Bytes {digits}");
     }
     let first = hex::encode(alloc, &bytes[..4])?;
     let last = hex::encode(alloc, &bytes[count - 4..])?;
-    Ok(format!(in alloc; "{count} Bytes {first}..{last}")?)
+    format!(in alloc; "{count} Bytes {first}..{last}")
 }

@@ -9,6 +9,7 @@ mod readings;
 mod rounds;
 mod teller;
 
+use blocks::NoMemory;
 use desk::{Bench, text_of};
 use kernels::Opened;
 use std::alloc::Global;
@@ -25,7 +26,7 @@ fn print_all(
     rt: &impl Print,
     alloc: Global,
     text: &str,
-    bench: anyhow::Result<Bench>,
+    bench: Result<Bench, NoMemory>,
 ) -> anyhow::Result<()> {
     match bench {
         Ok(bench) => print_lines(
@@ -37,7 +38,7 @@ fn print_all(
                 kernel: None,
             },
         ),
-        Err(error) => Err(error),
+        Err(refused) => Err(refused.into()),
     }
 }
 

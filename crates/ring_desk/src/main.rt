@@ -4,11 +4,13 @@
 //! second how many processes it has.
 #![tactic(auto)]
 
+mod calls;
+mod lines;
 mod session;
 #[cfg(test)]
 mod sharing;
 
-use session::answer_lines;
+use lines::answer_lines;
 use std::fs;
 
 fn main(rt: HostRuntime) -> anyhow::Result<()> {

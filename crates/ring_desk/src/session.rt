@@ -1,26 +1,23 @@
-// Calls of one kernel over rings and a board.
-ghost use Rattle.std.specs.Prelude.{◌≡◌, ◌<◌, All, IfOk, Some, length, map};
+// A kernel over rings and a board, and the calls of it.
+ghost use Rattle.std.specs.Prelude.{◌≡◌, ◌<◌, ℕ, All, IfOk, Some, length, map};
 ghost use Rattle.board.specs.Boards.{KeeperOf, WatchOf, published};
+ghost use Rattle.ports.specs.History.{nothing_yet};
+ghost use Rattle.rings.specs.Callers.{IntakeFits, intake_count};
 ghost use Rattle.ring_desk.specs.Sessions.{AreCallersOf};
 
-use blocks::MemDisk;
-use desk::{done, operation, text_of, told_answer};
-use kernel::{Kernel, Step};
+use crate::calls::{Call, Told};
+use blocks::{MemDisk, NoMemory};
+use kernel::{Kernel, OpenFault, Step};
 use model::types::Op;
-use offline::mkfs;
 use std::alloc::{AllocError, Global};
 use sysring::{Board, BoardHerald, Caller, Keeper, RingIntake, Watch, rings, settle};
-
-// How many watches a board has here.
-const WATCHES: usize = 2;
 
 // A kernel over rings and a board.
 type Opened<'a> = Kernel<MemDisk, RingIntake, BoardHerald<'a>>;
 
-// What the lines work on.
+/// What the lines work on.
 #[derive(Drop)]
-struct Session<'a> {
-    alloc: Global,
+pub struct Session<'a> {
     board: &'a Board,
     watches: Vec<Watch>,
     kernel: Opened<'a>,
@@ -30,55 +27,46 @@ struct Session<'a> {
     ghost callers_are: { AreCallersOf kernel.intake callers.items },
 }
 
-/// Does the calls of these lines behind the second, and prints each with its answer. The first is
-/// printed, and the second says how many processes the kernel has.
-pub fn answer_lines<R: Print + AllocGlobal>(rt: &R, lines: &str) -> anyhow::Result<()> {
-    let alloc = rt.alloc();
-    let mut lines = lines.lines();
-    let (Some(title), Some(second)) = (lines.next(), lines.next()) else {
-        return Ok(());
-    };
-    println!(rt; "{title}")?;
-    println!(rt; "{second}")?;
-    let Some(("processes", count)) = second.split_once(' ') else {
-        return Ok(());
-    };
-    let (board, keeper, watches) = Board::new(alloc, WATCHES)?;
-    let mut session = open(alloc, &board, keeper, watches, count.parse()?)?;
-    for line in lines {
-        let answer = text_of(alloc, session.call(line))?;
-        println!(rt; "{line}: {answer}")?;
-    }
-    Ok(())
-}
-
-// Opens a kernel over a new image.
-fn open<'a>(
+/// Opens a kernel of so many processes over the image on a disk.
+pub fn open<'a>(
     alloc: Global,
+    disk: MemDisk,
     board: &'a Board,
     keeper: Keeper,
     watches: Vec<Watch>,
     processes: u32,
-) -> anyhow::Result<Session<'a>>
+) -> Result<Session<'a>, OpenFault>
     requires keeper { KeeperOf board.now keeper × (published keeper ≡ 0) }
     requires watches { All (WatchOf board.now) watches.items }
 {
-    let mut disk = MemDisk::new(alloc, 200)?;
-    mkfs(alloc, &mut disk, 200, 32)?;
+    match ends(alloc, processes) {
+        Ok((intake, callers)) => {
+            let herald = BoardHerald::new(board, keeper);
+            match Kernel::open(alloc, disk, intake, herald, processes) {
+                Ok(kernel) => Ok(Session {
+                    board,
+                    watches,
+                    kernel,
+                    callers,
+                }),
+                Err((fault, _disk)) => Err(fault),
+            }
+        }
+        Err(NoMemory) => Err(OpenFault::NoMemory),
+    }
+}
+
+// The kernel's ends of so many processes' rings, and callers none of which has finished.
+fn ends(alloc: Global, processes: u32) -> Result<(RingIntake, Vec<Option<Caller>>), NoMemory>
+    ensures count { IfOk result (λ r. intake_count r.0 ≡ processes) }
+    ensures fresh { IfOk result (λ r. (p : ℕ) → IntakeFits r.0 p nothing_yet) }
+    ensures callers { IfOk result (λ r. AreCallersOf r.0 r.1.items) }
+{
     let (intake, callers) = rings(alloc, processes)?;
-    let herald = BoardHerald::new(board, keeper);
-    let kernel = match Kernel::open(alloc, disk, intake, herald, processes) {
-        Ok(kernel) => kernel,
-        Err((fault, _disk)) => return Err(fault.into()),
-    };
-    let callers = held(alloc, callers)?;
-    Ok(Session {
-        alloc,
-        board,
-        watches,
-        kernel,
-        callers,
-    })
+    match held(alloc, callers) {
+        Ok(callers) => Ok((intake, callers)),
+        Err(AllocError) => Err(NoMemory),
+    }
 }
 
 // Callers none of which has finished.
@@ -96,25 +84,17 @@ impl<'a> Session<'a> {
     ghost use Rattle.std.specs.Prelude.{◌≡◌, IfSome, Some};
     ghost use Rattle.rings.specs.Callers.{caller_names, intake_names};
 
-    // Does the call of a line, if it is one for which all holds that it asks.
-    fn call(&mut self, line: &str) -> anyhow::Result<Option<String>> {
-        let words: Vec<&str> = line.split_whitespace().collect(self.alloc)?;
-        if let Some((pid, op)) = operation(self.alloc, &words)? {
-            return self.submit(pid as usize, op);
-        }
-        match *words.as_slice() {
-            ["poll", pid] => self.poll(pid.parse()?),
-            ["step", pid] => self.steps(pid.parse()?, 1),
-            ["steps", pid] => self.steps(pid.parse()?, 2000),
-            ["durable", watch] => self.durable(watch.parse()?),
-            ["ask", watch] => self.ask(watch.parse()?),
-            ["counts", pid] => self.counts(pid.parse()?),
-            ["settle", pid] => self.settle(pid.parse()?),
-            ["shut"] => {
-                self.kernel.shut();
-                done(self.alloc, true)
-            }
-            _ => Ok(None),
+    /// Makes a call, and tells what it answers.
+    pub fn make(&mut self, call: Call) -> Told {
+        match call {
+            Call::Submit(pid, op) => self.submit(pid, op),
+            Call::Poll(pid) => self.poll(pid),
+            Call::Step(pid, most) => self.steps(pid, most),
+            Call::Durable(watch) => self.durable(watch),
+            Call::Ask(watch) => self.ask(watch),
+            Call::Counts(pid) => self.counts(pid),
+            Call::Settle(pid) => self.settle(pid),
+            Call::Shut => self.shut(),
         }
     }
 
@@ -139,38 +119,37 @@ impl<'a> Session<'a> {
         }
     }
 
-    fn submit(&mut self, pid: usize, op: Op) -> anyhow::Result<Option<String>> {
+    fn submit(&mut self, pid: usize, op: Op) -> Told {
         let Some(mut caller) = self.take(pid) else {
-            return Ok(None);
+            return Told::Refused;
         };
         let answer = caller.submit(op);
         self.put(pid, caller);
         match answer {
-            Ok(number) => Ok(Some(format!(in self.alloc; "{number}")?)),
-            Err(_) => Ok(Some(String::from_str(self.alloc, "handed back")?)),
+            Ok(number) => Told::Number(number),
+            Err(_op) => Told::HandedBack,
         }
     }
 
-    fn poll(&mut self, pid: usize) -> anyhow::Result<Option<String>> {
+    fn poll(&mut self, pid: usize) -> Told {
         let Some(mut caller) = self.take(pid) else {
-            return Ok(None);
+            return Told::Refused;
         };
         let answer = caller.poll();
         self.put(pid, caller);
-        Ok(Some(told_answer(self.alloc, answer)?))
+        Told::Polled(answer)
     }
 
     // Steps until one doesn't answer Moved, or so many.
-    fn steps(&mut self, pid: u32, most: u32) -> anyhow::Result<Option<String>> {
+    fn steps(&mut self, pid: u32, most: u32) -> Told {
         for moved in 0..most {
-            let Some(answer) = self.step(pid) else {
-                return Ok(None);
-            };
-            if answer != Step::Moved {
-                return Ok(Some(format!(in self.alloc; "{moved} Moved, {answer:?}")?));
+            match self.step(pid) {
+                Some(Step::Moved) => {}
+                Some(answer) => return Told::Moved(moved, Some(answer)),
+                None => return Told::Refused,
             }
         }
-        Ok(Some(format!(in self.alloc; "{most} Moved")?))
+        Told::Moved(most, None)
     }
 
     // A step of a process, if there is one of that number.
@@ -181,45 +160,45 @@ impl<'a> Session<'a> {
         Some(self.kernel.step(pid))
     }
 
-    fn durable(&mut self, watch: usize) -> anyhow::Result<Option<String>> {
-        let Some(watch) = self.watches.get_mut(watch) else {
-            return Ok(None);
-        };
-        let count = self.board.durable(watch);
-        Ok(Some(format!(in self.alloc; "{count}")?))
+    fn durable(&mut self, watch: usize) -> Told {
+        match self.watches.get_mut(watch) {
+            Some(watch) => Told::Number(self.board.durable(watch)),
+            None => Told::Refused,
+        }
     }
 
-    fn ask(&mut self, watch: usize) -> anyhow::Result<Option<String>> {
+    fn ask(&mut self, watch: usize) -> Told {
         let Some(watch) = self.watches.get_mut(watch) else {
-            return Ok(None);
+            return Told::Refused;
         };
         self.board.ask_shut(watch);
-        done(self.alloc, true)
+        Told::Done
     }
 
-    fn counts(&mut self, pid: u32) -> anyhow::Result<Option<String>> {
+    fn counts(&mut self, pid: u32) -> Told {
         if pid as usize >= self.kernel.processes() {
-            return Ok(None);
+            return Told::Refused;
         }
         let (begun, kept) = self.kernel.counts(pid);
-        Ok(Some(format!(in self.alloc; "begun {begun} kept {kept}")?))
+        Told::Counts(begun, kept)
     }
 
     // Finishes a caller, and settles its rings.
-    fn settle(&mut self, pid: u32) -> anyhow::Result<Option<String>> {
+    fn settle(&mut self, pid: u32) -> Told {
         if pid as usize >= self.kernel.processes() {
-            return Ok(None);
+            return Told::Refused;
         }
         let Some(caller) = self.take(pid as usize) else {
-            return Ok(None);
+            return Told::Refused;
         };
-        let Some(finished) = caller.finish() else {
-            return Ok(Some(String::from_str(self.alloc, "not finished")?));
-        };
-        let account = settle(&mut self.kernel, pid, finished);
-        Ok(Some(format!(in self.alloc;
-            "submitted {} begun {} left {} kept {}",
-            account.submitted, account.begun, account.left, account.kept
-        )?))
+        match caller.finish() {
+            Some(finished) => Told::Settled(settle(&mut self.kernel, pid, finished)),
+            None => Told::NotFinished,
+        }
+    }
+
+    fn shut(&mut self) -> Told {
+        self.kernel.shut();
+        Told::Done
     }
 }

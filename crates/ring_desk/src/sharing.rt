@@ -1,6 +1,8 @@
 // Kernels that threads share.
-ghost use Rattle.std.specs.Prelude.{◌≡◌, ◌<◌, All};
-ghost use Rattle.board.specs.Boards.{WatchOf};
+ghost use Rattle.std.specs.Prelude.{◌≡◌, ◌<◌, ℕ, All};
+ghost use Rattle.board.specs.Boards.{KeeperOf, WatchOf, published};
+ghost use Rattle.ports.specs.History.{nothing_yet};
+ghost use Rattle.rings.specs.Callers.{IntakeFits, intake_count};
 ghost use Rattle.sysring.specs.Frames.{AreWorkers};
 
 use blocks::MemDisk;
@@ -15,16 +17,32 @@ use std::sync::atomic::{AtomicU64, Ordering};
 use std::test::Fail;
 use std::thread;
 use std::thread::Threads;
-use sysring::{Board, BoardHerald, Caller, Gate, Serving, Watch, rings, serve_while};
+use sysring::{
+    Board, BoardHerald, Caller, Gate, Keeper, RingIntake, Serving, Watch, rings, serve_while,
+};
 
 // The turns that a process makes until it sees the other one.
 const TURNS: u32 = 100_000_000;
+
+// The processes of which each makes a file.
+const PROCESSES: u32 = 32;
+
+type Opened<'a> = Kernel<MemDisk, RingIntake, BoardHerald<'a>>;
 
 // A place where two processes meet before their steps.
 #[derive(Drop)]
 struct Meeting {
     here: [AtomicU64; 2],
     met: [AtomicU64; 2],
+}
+
+impl Meeting {
+    fn new() -> Meeting {
+        Meeting {
+            here: [AtomicU64::new(0), AtomicU64::new(0)],
+            met: [AtomicU64::new(0), AtomicU64::new(0)],
+        }
+    }
 }
 
 impl Gate for Meeting {
@@ -53,29 +71,64 @@ impl Gate for NoGate {
 
 fn image(alloc: Global) -> Result<MemDisk, Fail> {
     let mut disk = MemDisk::new(alloc, 200)?;
-    mkfs(alloc, &mut disk, 200, 32)?;
-    Ok(disk)
+    match mkfs(alloc, &mut disk, 200, 32) {
+        Ok(()) => Ok(disk),
+        Err(fault) => Err(fault.into()),
+    }
+}
+
+// Opens a kernel of so many processes, if its image can be used.
+fn opened<'a>(
+    alloc: Global,
+    disk: MemDisk,
+    intake: RingIntake,
+    board: &'a Board,
+    keeper: Keeper,
+    processes: u32,
+) -> Option<Opened<'a>>
+    requires keeper { KeeperOf board.now keeper × (published keeper ≡ 0) }
+    requires count { intake_count intake ≡ processes }
+    requires fresh { (p : ℕ) → IntakeFits intake p nothing_yet }
+{
+    let herald = BoardHerald::new(board, keeper);
+    match Kernel::open(alloc, disk, intake, herald, processes) {
+        Ok(kernel) => Some(kernel),
+        Err((_fault, _disk)) => None,
+    }
 }
 
 // Two workers step two processes at one time.
 #[test]
 fn two_workers_meet(rt: HostRuntime) -> Result<(), Fail> {
-    let (intake, _callers) = rings(rt.alloc(), 2)?;
-    let (board, keeper, watches) = Board::new(rt.alloc(), 1)?;
-    let herald = BoardHerald::new(&board, keeper);
-    let Ok(kernel) = Kernel::open(rt.alloc(), image(rt.alloc())?, intake, herald, 2) else {
-        rt.abort();
-    };
-    let gate = Meeting {
-        here: [AtomicU64::new(0), AtomicU64::new(0)],
-        met: [AtomicU64::new(0), AtomicU64::new(0)],
-    };
-    shut(&board, watches);
-    let (done, _kernel) = serve_while(&rt, kernel, 2, &gate, |_serving| ());
-    assert!(rt; done.is_some());
+    let disk = image(rt.alloc())?;
+    let gate = Meeting::new();
+    assert!(rt; serve_two(&rt, disk, &gate));
     assert_eq!(rt; gate.met[0].load(Ordering::SeqCst), 1);
     assert_eq!(rt; gate.met[1].load(Ordering::SeqCst), 1);
     Ok(())
+}
+
+// Serves a kernel of two processes with two workers, whose shutdown is asked for before. Whether
+// that was done.
+fn serve_two<R: AllocGlobal + Threads + Wait + Clock + Sync>(
+    rt: &R,
+    disk: MemDisk,
+    gate: &Meeting,
+) -> bool {
+    let (Ok((intake, _callers)), Ok((board, keeper, watches))) = (
+        rings(rt.alloc(), 2),
+        Board::new(rt.alloc(), 1),
+    ) else {
+        return false;
+    };
+    match opened(rt.alloc(), disk, intake, &board, keeper, 2) {
+        Some(kernel) => {
+            shut(&board, watches);
+            let (done, _kernel) = serve_while(rt, kernel, 2, gate, |_serving| ());
+            done.is_some()
+        }
+        None => false,
+    }
 }
 
 // Asks for a shutdown.
@@ -99,12 +152,8 @@ fn collect<R: Wait>(
 {
     let mut answers = 0u32;
     for _round in rt.forever() {
-        for caller in callers.iter_mut() {
-            if caller.poll().is_some() {
-                answers = answers.saturating_add(1);
-            }
-        }
-        if answers >= 32 || serving.has_ended() {
+        answers = answers.saturating_add(poll_all(&mut callers));
+        if answers >= PROCESSES || serving.has_ended() {
             break;
         }
         thread::yield_now();
@@ -113,41 +162,94 @@ fn collect<R: Wait>(
     answers
 }
 
-// 32 processes with one creation each, and so many workers.
-fn all_create<R: Abort + AllocGlobal + Threads + Wait + Clock + Sync>(
-    rt: &R,
-    workers: u32,
-) -> Result<(), Fail>
-    requires { AreWorkers workers }
-{
-    let (intake, mut callers) = rings(rt.alloc(), 32)?;
-    let (board, keeper, watches) = Board::new(rt.alloc(), 1)?;
-    let herald = BoardHerald::new(&board, keeper);
-    let Ok(kernel) = Kernel::open(rt.alloc(), image(rt.alloc())?, intake, herald, 32) else {
-        rt.abort();
-    };
+// Polls each caller once. How many answers there were.
+fn poll_all(callers: &mut Vec<Caller>) -> u32 {
+    let mut answers = 0u32;
+    for caller in callers.iter_mut() {
+        if caller.poll().is_some() {
+            answers = answers.saturating_add(1);
+        }
+    }
+    answers
+}
+
+fn submit_all(callers: &mut Vec<Caller>) {
     for caller in callers.iter_mut() {
         let _number = caller.submit(Op::Create(2));
     }
-    let board_side = &board;
+}
+
+// What came of the creations: how many answers there were, and of how many the kernel has an entry;
+// and whether the image is sound.
+#[derive(Clone, Copy)]
+struct Created {
+    answers: Option<u32>,
+    entries: usize,
+    is_sound: bool,
+}
+
+// 32 processes with one creation each, and so many workers.
+fn create_all<R: AllocGlobal + Threads + Wait + Clock + Sync>(
+    rt: &R,
+    disk: MemDisk,
+    workers: u32,
+) -> Option<Created>
+    requires { AreWorkers workers }
+{
+    let (Ok((intake, mut callers)), Ok((board, keeper, watches))) = (
+        rings(rt.alloc(), PROCESSES),
+        Board::new(rt.alloc(), 1),
+    ) else {
+        return None;
+    };
+    submit_all(&mut callers);
+    match opened(rt.alloc(), disk, intake, &board, keeper, PROCESSES) {
+        Some(kernel) => Some(serve_callers(rt, kernel, &board, watches, callers, workers)),
+        None => None,
+    }
+}
+
+// Serves a kernel, while its callers wait for their answers.
+fn serve_callers<R: AllocGlobal + Threads + Wait + Clock + Sync>(
+    rt: &R,
+    kernel: Opened<'_>,
+    board: &Board,
+    watches: Vec<Watch>,
+    callers: Vec<Caller>,
+    workers: u32,
+) -> Created
+    requires workers { AreWorkers workers }
+    requires watches { All (WatchOf board.now) watches.items }
+{
     let (answers, kernel) = serve_while(
         rt,
         kernel,
         workers,
         &NoGate,
         move |serving| -> u32
-            requires { All (WatchOf board_side.now) watches.items }
-        { collect(rt, board_side, watches, callers, serving) },
+            requires { All (WatchOf board.now) watches.items }
+        { collect(rt, board, watches, callers, serving) },
     );
-    assert!(rt; answers == Some(32));
-    assert_eq!(rt; kernel.journal().len(), 32);
-    assert!(rt; check(rt.alloc(), &mut kernel.into_disk()).is_ok());
-    Ok(())
+    Created {
+        answers,
+        entries: kernel.journal().len(),
+        is_sound: check(rt.alloc(), &mut kernel.into_disk()).is_ok(),
+    }
+}
+
+fn assert_created(rt: &impl Abort, created: Option<Created>) {
+    assert!(rt; created.is_some());
+    if let Some(created) = created {
+        assert!(rt; created.answers == Some(PROCESSES));
+        assert_eq!(rt; created.entries, 32);
+        assert!(rt; created.is_sound);
+    }
 }
 
 #[test]
 fn all_processes_create(rt: HostRuntime) -> Result<(), Fail> {
-    all_create(&rt, 1)?;
-    all_create(&rt, 2)?;
-    all_create(&rt, 8)
+    assert_created(&rt, create_all(&rt, image(rt.alloc())?, 1));
+    assert_created(&rt, create_all(&rt, image(rt.alloc())?, 2));
+    assert_created(&rt, create_all(&rt, image(rt.alloc())?, 8));
+    Ok(())
 }

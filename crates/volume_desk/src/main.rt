@@ -30,7 +30,7 @@ fn print_all(
     rt: &impl Print,
     alloc: Global,
     text: &str,
-    bench: anyhow::Result<Bench>,
+    bench: Result<Bench, NoMemory>,
     cache: Result<Cache, NoMemory>,
 ) -> anyhow::Result<()> {
     match (bench, cache) {
@@ -44,8 +44,7 @@ fn print_all(
                 volume: None,
             },
         ),
-        (Err(error), _) => Err(error),
-        (_, Err(NoMemory)) => Err(NoMemory.into()),
+        (Err(NoMemory), _) | (_, Err(NoMemory)) => Err(NoMemory.into()),
     }
 }
 
