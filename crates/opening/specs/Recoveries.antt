@@ -42,10 +42,10 @@ MayHaveWritten _ = ⊥
 
 -- of the disk d, now e, nothing was written but by a recovery that failed
 pub record IsUnwritten {D N : Type 0} (disk : Ghosts D N) (d e : D) (r : RecoverRefusal) : Type 0
-    where
-  pub writes : MayHaveWritten r ⊎ (disk.write_count e ≡ disk.write_count d)
-  -- a disk that holds no writes back is not synced
-  pub plain : UnlessHolds disk d (disk.sync_count e ≡ disk.sync_count d)
+  where
+    pub writes : MayHaveWritten r ⊎ (disk.write_count e ≡ disk.write_count d)
+    -- a disk that holds no writes back is not synced
+    pub plain : UnlessHolds disk d (disk.sync_count e ≡ disk.sync_count d)
 
 -- the disk of an image without a fault was recovered, with so many blocks copied, and nothing is
 -- logged any more

@@ -90,11 +90,12 @@ fn explain<O: Write, E: Write>(explanation: Explanation, out: &mut O, err: &mut 
 }
 
 // Does what is asked for, and prints the answer, or why it was refused. The exit status.
-fn dispatch<
-    R: Files + AllocGlobal + Threads + Wait + Clock + Screen + Sync,
-    O: Write,
-    E: Write,
->(rt: &R, request: Request<'_>, out: &mut O, err: &mut E) -> u8
+fn dispatch<R: Files + AllocGlobal + Threads + Wait + Clock + Screen + Sync, O: Write, E: Write>(
+    rt: &R,
+    request: Request<'_>,
+    out: &mut O,
+    err: &mut E,
+) -> u8
 where
     R::File: Send,
     requires { HasFewWorkers request }

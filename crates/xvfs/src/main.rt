@@ -38,7 +38,8 @@ fn main(rt: HostRuntime) -> ExitCode {
 // each command.
 fn words_and_output(rt: &HostRuntime) -> Result<(Vec<String>, BufWriter<Stdout>), InputFault> {
     let words = arguments::given(rt)?;
-    let out = BufWriter::with_capacity(rt.alloc(), HELD_BACK, rt.stdout())
-        .map_err(|error| input_unread(error))?;
+    let out = BufWriter::with_capacity(rt.alloc(), HELD_BACK, rt.stdout()).map_err(
+        |error| input_unread(error),
+    )?;
     Ok((words, out))
 }

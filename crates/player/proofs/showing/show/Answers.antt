@@ -30,5 +30,5 @@ returns-in_err-write_file-clause-refused g c =
     subst (λ (y : Image). IsInodeOf (recovered y) c.args.number c.in-Some.inode) first
     (subst (λ (found : Option Dinode). IfSome found (IsInodeOf (recovered (d.image c.open_reader.new.disk)) c.args.number)) c.in-Some.is c.in_ok-found.ensures.found) in
     let why = part_unshown d c.args.disk.now c.inode_at.new.disk c.write_file.new.disk c.args.number c.in-Some.inode (g.O.Write.contents c.args.out.now) (g.O.Write.contents c.write_file.new.out) (c.write_file.new.out ≡ c.args.out.now)
-        (c.inode_at.ensures.reads.image ∙ first) (c.in_ok-found.ensures.faults ∙ c.in_ok-image.ensures.faults) inode c.in_err-write_file.field-0.0 c.in_err-write_file.ensures.part in
+    (c.inode_at.ensures.reads.image ∙ first) (c.in_ok-found.ensures.faults ∙ c.in_ok-image.ensures.faults) inode c.in_err-write_file.field-0.0 c.in_err-write_file.ensures.part in
     search rules

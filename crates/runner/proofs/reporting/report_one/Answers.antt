@@ -11,8 +11,7 @@ pub returns-clause-reported : goal.returns-clause-reported
 returns-clause-reported g c =
     let parts = c.into_parts-caller.ensures in
     let caller = c.into_parts-caller.result.0 in
-    let known = unpolled c.account-caller.result.1 in
-    (
+    let known = unpolled c.account-caller.result.1 in (
       ap is_ok c.in_ok-before.was,
       (
         _,
