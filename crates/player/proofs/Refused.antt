@@ -1,5 +1,5 @@
 -- What was printed where a replay was refused.
-use Rattle.std.proofs.Common.{ℕ, List, refl, subst, sym, ⊎_elim}
+use Rattle.std.proofs.Common.{ℕ, List, subst, sym, ⊎_elim}
 use Rattle.std.specs.Prelude.{◌≡◌, ◌≢◌, Result, Ok, Err, OnOk, IfErr, Option, Some, None, option_map}
 use Rattle.blocks.specs.declared.disk.Disk.{Ghosts}
 use Rattle.wal.specs.declared.types.DeviceFault.{DeviceFault}

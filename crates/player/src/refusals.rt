@@ -10,7 +10,7 @@ use wal::DeviceFault;
 /// Why the bytes of a file of an image aren't written.
 #[derive(Clone, Copy, Debug)]
 pub enum CatRefusal {
-    /// Memory was refused before the recovery.
+    /// Memory was refused before the recovery. It is told as that of a kernel's opening.
     NoMemory,
     /// The image can't be recovered.
     Unrecovered(RecoverRefusal),
