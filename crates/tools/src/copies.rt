@@ -1,9 +1,19 @@
 // The command that copies an image into a new one.
-ghost use Rattle.std.specs.Prelude.{◌≡◌, ◌≢◌, false, IfErr, IfOk, OnOk};
+ghost use Rattle.std.specs.Prelude.{◌≡◌, ◌≢◌, ◌⊎◌, false, IfErr, IfOk, OnOk};
 ghost use Rattle.blocks.specs.Calls.{OnlyReads};
 ghost use Rattle.texts.specs.declared.refusal.Refusal.TheVariants as refusal;
-ghost use Rattle.filedisks.specs.Opened.{IsOpened};
-ghost use Rattle.tools.specs.Copies.{HasCopied, IsPlanned, IsUnplanned, OnCopyRefusal, copy_refusal};
+ghost use Rattle.filedisks.specs.Opened.{IsOfFile, IsOpened};
+ghost use Rattle.tools.specs.Copies.{
+  HasCopied,
+  HasFilled,
+  HasNotFilled,
+  IsFilled,
+  IsPlanned,
+  IsUnfilled,
+  IsUnplanned,
+  OnCopyRefusal,
+  copy_refusal,
+};
 
 use blocks::{Disk, FileDisk};
 use copying::{CopyFault as Fault, Progress, copy};
@@ -66,9 +76,41 @@ fn copy_from<R: Files + AllocGlobal, O: Write, P: Progress>(
     ensures silent { IfErr result (λ r. r ≢ refusal.Output → out.new ≡ out.old) }
 {
     let size = plan_copy(rt.alloc(), disk, size)?;
-    let made = FileDisk::create(rt, new, size).map_err(Refusal::File)?;
-    match copy(rt.alloc(), disk, made, size, progress) {
-        Ok((files, _made)) => print_files(out, files),
+    let files = make_copy(rt, disk, new, size, progress)?;
+    print_files(out, files)
+}
+
+// Copies the image on a disk into a new file at the path, with so many blocks. How many files it has.
+fn make_copy<R: Files + AllocGlobal, P: Progress>(
+    rt: &R,
+    disk: &mut FileDisk<R::File>,
+    new: &str,
+    size: u32,
+    progress: &mut P,
+) -> Result<u32, Refusal>
+    ensures filled { IfOk result (HasFilled ⟦<FileDisk<R::File> as Disk>⟧ size disk.old) }
+    ensures refused { IfErr result (λ r. IsOfFile r
+        ⊎ HasNotFilled ⟦<FileDisk<R::File> as Disk>⟧ size disk.old disk.new r) }
+{
+    match FileDisk::create(rt, new, size) {
+        Ok(created) => fill(rt.alloc(), disk, created, size, progress),
+        Err(fault) => Err(Refusal::File(fault)),
+    }
+}
+
+// Copies the image on a disk to another, which nobody keeps. How many files it has.
+fn fill<D: Disk, E: Disk + Drop, P: Progress>(
+    alloc: Global,
+    old: &mut D,
+    new: E,
+    size: u32,
+    progress: &mut P,
+) -> Result<u32, Refusal>
+    ensures filled { IfOk result (IsFilled D.Disk E.Disk size old.old new) }
+    ensures refused { IfErr result (IsUnfilled D.Disk E.Disk size old.old old.new new) }
+{
+    match copy(alloc, old, new, size, progress) {
+        Ok((files, _made)) => Ok(files),
         Err((fault, _made)) => Err(copy_refusal(fault)),
     }
 }
