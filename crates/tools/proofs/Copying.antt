@@ -1,8 +1,9 @@
 -- Why a copy is not planned, and what is told of one that was made.
-use Rattle.std.proofs.Common.{◌≡◌, ◌≢◌, ◌∙◌, ℕ, Bool, true, false, ◌&&◌, leb, Option, None, List, ap, sym, subst, refl, inr}
+use Rattle.std.proofs.Common.{◌≡◌, ◌≢◌, ◌∙◌, ◌⊎◌, ℕ, Bool, true, false, ◌&&◌, leb, Option, None, List, ap, sym, subst, refl, inl, inr}
 use Rattle.std.specs.Prelude.{◌↔◌, Result, Ok, Err, IsOk, IsTrue, IfErr, IsOkUnless, OnOk}
 use Rattle.std.specs.Result.{IsErrOf}
 use Rattle.std.specs.Io.KnownBytes.{Appends}
+use Rattle.blocks.specs.Calls.{OnlyReads}
 use Rattle.blocks.specs.declared.disk.Disk.{Ghosts}
 use Rattle.blocks.specs.declared.file.FileDisk.{FileDisk}
 use Rattle.layout.specs.declared.geometry.MkfsFault.{MkfsFault}
@@ -15,7 +16,8 @@ use Rattle.std.proofs.lemmas.Bool.{le-leb}
 use Rattle.texts.specs.Output.{files_text}
 use Rattle.texts.specs.declared.refusal.Refusal.{Refusal}
 use Rattle.texts.specs.declared.refusal.Refusal.TheVariants.{Mkfs, Output}
-use Rattle.tools.specs.Copies.{HasCopied, HasMade, IsUnplanned, OnCopyRefusal, size_asked}
+use Rattle.filedisks.specs.Opened.{IsOpened}
+use Rattle.tools.specs.Copies.{HasCopied, HasFilled, HasMade, HasNotFilled, IsOfPath, IsUnplanned, OnCopyRefusal, size_asked}
 
 -- an image without a fault has a number of inodes within the limits
 count_within : {D N : Type 0} (disk : Ghosts D N) (d : D) → verdict (disk.image d) ≡ None → is_inode_count (inode_count_of (disk.image d)) ≡ true
@@ -67,3 +69,14 @@ module _ {F N : Type 0} (remaining : F → Option (List ℕ)) (disk : Ghosts (Fi
 pub only_output : (P : Type 0) (r : Result (Unit {0}) Refusal) → IsOkUnless r Output → IfErr r (λ refusal. refusal ≢ Output → P)
 only_output P (Ok _) unless = unless
 only_output P (Err refusal) unless = λ other. absurd (other unless)
+
+-- why a planned copy was not made
+pub uncopied : {F N : Type 0} (remaining : F → Option (List ℕ)) (disk : Ghosts (FileDisk F) N) (size : Option ℕ) (planned : ℕ) (d e left : FileDisk F) (r : Refusal) → IsOpened remaining disk false d → OnlyReads disk d e
+    → planned ≡ size_asked size (disk.image d) → IsOfPath r ⊎ HasNotFilled disk planned e left r → OnCopyRefusal remaining disk size r
+uncopied remaining disk size planned d e left r opened reads asked (inl path) = inl path
+uncopied remaining disk size planned d e left r opened reads asked (inr unfilled) = inr (inr (inl (record { opened = d; read = e; left = left; is = opened; reads = reads; why = subst (λ n. HasNotFilled disk n e left r) asked unfilled })))
+
+-- and what is known where it was
+pub has_made : {F N : Type 0} (remaining : F → Option (List ℕ)) (disk : Ghosts (FileDisk F) N) (size : Option ℕ) (planned count : ℕ) (d e : FileDisk F) → IsOpened remaining disk false d → OnlyReads disk d e
+    → planned ≡ size_asked size (disk.image d) → HasFilled disk planned e count → HasMade remaining disk size count
+has_made remaining disk size planned count d e opened reads asked filled = record { opened = d; read = e; is = opened; reads = reads; filled = subst (λ n. HasFilled disk n e count) asked filled }

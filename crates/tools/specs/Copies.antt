@@ -51,23 +51,43 @@ IsUnplanned disk size d e (Mkfs mkfs.SizeRange) = (verdict (disk.image d) ≡ No
     × (is_size (size_asked size (disk.image d)) (inode_count_of (disk.image d)) ≡ false)
 IsUnplanned disk size d e r = ⊥
 
--- The disk of a file was opened, and only read: d at first, and e before the copy. A disk of zeroes
--- was created in a new file.
-pub record MayCopy {F N : Type 0} (remaining : F → Option (List ℕ)) (disk : Ghosts (FileDisk F) N)
-    (size : Option ℕ) (d e created : FileDisk F) : Type 0 where
-  pub opened : IsOpened remaining disk false d
-  pub reads : OnlyReads disk d e
-  pub zeroes : disk.image created ≡ replicate (size_asked size (disk.image d)) zero_block
+-- the files of disk d were copied to the disk `new`, and so many there are
+pub record IsFilled {D E M N : Type 0} (old : Ghosts D M) (over : Ghosts E N) (size : ℕ) (d : D)
+    (new : E) (count : ℕ) : Type 0 where
+  pub made : E
+  pub copied : IsCopied old over size d new made count
 
--- its files were copied to that disk, and so many there are
+-- or they were not, which is told so; d is d' then
+pub record IsUnfilled {D E M N : Type 0} (old : Ghosts D M) (over : Ghosts E N) (size : ℕ)
+    (d d' : D) (new : E) (r : Refusal) : Type 0 where
+  pub made : E
+  pub cause : Fault
+  pub is : r ≡ copy_refusal cause
+  pub why : IsUncopied old over size d d' new made cause
+
+-- a disk of so many blocks of zeroes was created in a new file, and the files of disk d copied to it
+pub record HasFilled {F N : Type 0} (disk : Ghosts (FileDisk F) N) (size : ℕ) (d : FileDisk F)
+    (count : ℕ) : Type 0 where
+  pub created : FileDisk F
+  pub zeroes : disk.image created ≡ replicate size zero_block
+  pub filled : IsFilled disk disk size d created count
+
+-- or they were not
+pub record HasNotFilled {F N : Type 0} (disk : Ghosts (FileDisk F) N) (size : ℕ)
+    (d d' : FileDisk F) (r : Refusal) : Type 0 where
+  pub created : FileDisk F
+  pub zeroes : disk.image created ≡ replicate size zero_block
+  pub unfilled : IsUnfilled disk disk size d d' created r
+
+-- The disk of a file was opened, and only read before its files were copied to that disk. So many
+-- there are.
 pub record HasMade {F N : Type 0} (remaining : F → Option (List ℕ)) (disk : Ghosts (FileDisk F) N)
     (size : Option ℕ) (count : ℕ) : Type 0 where
   pub opened : FileDisk F
   pub read : FileDisk F
-  pub created : FileDisk F
-  pub made : FileDisk F
-  pub may : MayCopy remaining disk size opened read created
-  pub copied : IsCopied disk disk (size_asked size (disk.image opened)) read created made count
+  pub is : IsOpened remaining disk false opened
+  pub reads : OnlyReads disk opened read
+  pub filled : HasFilled disk (size_asked size (disk.image opened)) read count
 
 -- and how many was printed
 pub record HasCopied {F N : Type 0} (remaining : F → Option (List ℕ))
@@ -85,18 +105,15 @@ pub record HasNotPlanned {F N : Type 0} (remaining : F → Option (List ℕ))
   pub reads : OnlyReads disk opened read
   pub cause : IsUnplanned disk size opened read r
 
--- a copy ended with this refusal
+-- a copy was planned, and ended with this refusal
 pub record HasNotCopied {F N : Type 0} (remaining : F → Option (List ℕ))
     (disk : Ghosts (FileDisk F) N) (size : Option ℕ) (r : Refusal) : Type 0 where
   pub opened : FileDisk F
   pub read : FileDisk F
-  pub created : FileDisk F
-  pub may : MayCopy remaining disk size opened read created
   pub left : FileDisk F
-  pub made : FileDisk F
-  pub cause : Fault
-  pub is : r ≡ copy_refusal cause
-  pub why : IsUncopied disk disk (size_asked size (disk.image opened)) read left created made cause
+  pub is : IsOpened remaining disk false opened
+  pub reads : OnlyReads disk opened read
+  pub why : HasNotFilled disk (size_asked size (disk.image opened)) read left r
 
 -- there is a file at the new path, or a file could not be opened or made
 abbrev pub IsOfPath : Refusal → Type 0

@@ -1,18 +1,29 @@
 // The command that copies an image into a new one.
-ghost use Rattle.std.specs.Prelude.{◌≡◌, ◌≢◌, false, IfErr, IfOk, OnOk};
+ghost use Rattle.std.specs.Prelude.{◌≡◌, ◌≢◌, ◌⊎◌, false, IfErr, IfOk, OnOk};
 ghost use Rattle.blocks.specs.Calls.{OnlyReads};
 ghost use Rattle.texts.specs.declared.refusal.Refusal.TheVariants as refusal;
 ghost use Rattle.filedisks.specs.Opened.{IsOpened};
-ghost use Rattle.tools.specs.Copies.{HasCopied, IsPlanned, IsUnplanned, OnCopyRefusal, copy_refusal};
+ghost use Rattle.tools.specs.Copies.{
+  HasCopied,
+  HasFilled,
+  HasNotFilled,
+  IsFilled,
+  IsOfPath,
+  IsPlanned,
+  IsUnfilled,
+  IsUnplanned,
+  OnCopyRefusal,
+  copy_refusal,
+};
 
-use blocks::{Disk, FileDisk};
+use blocks::{Disk, FileDisk, FileFault};
 use copying::{CopyFault as Fault, Progress, copy};
 use filedisks::open_disk;
 use layout::plan;
 use model::types::Form;
 use offline::check;
 use std::alloc::Global;
-use std::fs::exists;
+use std::fs::{exists, remove_file};
 use std::io::Write;
 use std::rt::Files;
 use texts::{CopyFault, Refusal, print_files};
@@ -25,8 +36,8 @@ use texts::{CopyFault, Refusal, print_files};
 ///
 /// The first of these. `Copy` with `Exists` where there is a file at the path `new`; a fault of
 /// `FileDisk::open` over the old one; `Check` with a fault of the old image, `Copy` with `NotFirst`,
-/// or `Mkfs` with `SizeRange`: with these no file was made. A fault of `FileDisk::create`, and then
-/// one of the copy: what the new file holds then is not said, but for `Full`.
+/// or `Mkfs` with `SizeRange`: with these no file was made. A fault of `FileDisk::create_new`, where
+/// `Exists` is told as above, and then one of the copy: by its code the new file is taken away.
 pub fn copy_files<R: Files + AllocGlobal, O: Write, P: Progress>(
     rt: &R,
     old: &str,
@@ -66,9 +77,53 @@ fn copy_from<R: Files + AllocGlobal, O: Write, P: Progress>(
     ensures silent { IfErr result (λ r. r ≢ refusal.Output → out.new ≡ out.old) }
 {
     let size = plan_copy(rt.alloc(), disk, size)?;
-    let made = FileDisk::create(rt, new, size).map_err(Refusal::File)?;
-    match copy(rt.alloc(), disk, made, size, progress) {
-        Ok((files, _made)) => print_files(out, files),
+    let files = make_copy(rt, disk, new, size, progress)?;
+    print_files(out, files)
+}
+
+// Copies the image on a disk into a new file at the path, with so many blocks. How many files it has.
+fn make_copy<R: Files + AllocGlobal, P: Progress>(
+    rt: &R,
+    disk: &mut FileDisk<R::File>,
+    new: &str,
+    size: u32,
+    progress: &mut P,
+) -> Result<u32, Refusal>
+    ensures filled { IfOk result (HasFilled ⟦<FileDisk<R::File> as Disk>⟧ size disk.old) }
+    ensures refused { IfErr result (λ r. IsOfPath r
+        ⊎ HasNotFilled ⟦<FileDisk<R::File> as Disk>⟧ size disk.old disk.new r) }
+{
+    match FileDisk::create_new(rt, new, size) {
+        Ok(created) => {
+            let copied = fill(rt.alloc(), disk, created, size, progress);
+            remove_refused(rt, new, &copied);
+            copied
+        }
+        Err(FileFault::Exists) => Err(Refusal::Copy(CopyFault::Exists)),
+        Err(fault) => Err(Refusal::File(fault)),
+    }
+}
+
+// Takes the file at the path away where no copy was made in it.
+fn remove_refused<R: Files>(rt: &R, path: &str, copied: &Result<u32, Refusal>) {
+    if copied.is_err() {
+        let _gone = remove_file(rt, path);
+    }
+}
+
+// Copies the image on a disk to another, which nobody keeps. How many files it has.
+fn fill<D: Disk, E: Disk + Drop, P: Progress>(
+    alloc: Global,
+    old: &mut D,
+    new: E,
+    size: u32,
+    progress: &mut P,
+) -> Result<u32, Refusal>
+    ensures filled { IfOk result (IsFilled D.Disk E.Disk size old.old new) }
+    ensures refused { IfErr result (IsUnfilled D.Disk E.Disk size old.old old.new new) }
+{
+    match copy(alloc, old, new, size, progress) {
+        Ok((files, _made)) => Ok(files),
         Err((fault, _made)) => Err(copy_refusal(fault)),
     }
 }
