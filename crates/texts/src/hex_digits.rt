@@ -44,7 +44,7 @@ fn pair_of(byte: u8) -> [u8; 2]
     [digit_of(byte / 16), digit_of(byte % 16)]
 }
 
-// The digit of a number below 16. It is computed, so that many are at once.
+// The digit of a number below 16. It is computed and not looked up, so that many are made at once.
 fn digit_of(value: u8) -> u8
     requires { value < 16 }
     ensures { result ≡ slice_index lower_digits value }

@@ -70,14 +70,24 @@ fn print_step<O: Write>(out: &mut O, pid: u32, progress: Progress) -> Result<(),
 }
 
 // Writes the number of a process. Most have one digit.
+#[inline(always)]
 pub(crate) fn print_process<O: Write>(out: &mut O, pid: u32) -> Result<(), Unwritten>
     ensures ok { OnOk result (Appends (O.contents out.old) (O.contents out.new) (decimal pid)) }
 {
     if pid < 10 {
         return write_bytes(out, &[b'0' + pid as u8]);
     }
+    print_decimal(out, pid)
+}
+
+// Writes a number.
+#[inline(never)]
+fn print_decimal<O: Write>(out: &mut O, number: u32) -> Result<(), Refusal>
+    ensures ok { OnOk result (Appends (O.contents out.old) (O.contents out.new) (decimal number)) }
+    ensures err { IsOkUnless result Refusal.Output }
+{
     let mut digits = Buffer::new();
-    write_bytes(out, digits.format(pid).as_bytes())
+    write_bytes(out, digits.format(number).as_bytes())
 }
 
 /// Passes on what the writer holds back.
