@@ -30,11 +30,7 @@ pub fn disk_of(alloc: Global, size: u32) -> Result<Faulty, NoMemory> {
 }
 
 /// Reads a block; None where there is no such block.
-pub fn block_of<D: Disk>(
-    alloc: Global,
-    disk: &mut D,
-    b: u32,
-) -> Result<Option<Block>, LineFault> {
+pub fn block_of<D: Disk>(alloc: Global, disk: &mut D, b: u32) -> Result<Option<Block>, LineFault> {
     if b >= disk.size() {
         return Ok(None);
     }

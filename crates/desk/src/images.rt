@@ -110,13 +110,7 @@ fn counts(alloc: Global, disk: &Faulty) -> Answered {
     answered(format!(in alloc; "{writes} writes, {faults} faults, fired {fired}"))
 }
 
-fn make_image(
-    alloc: Global,
-    disk: &mut Faulty,
-    form: Form,
-    size: &str,
-    inodes: &str,
-) -> Answered {
+fn make_image(alloc: Global, disk: &mut Faulty, form: Form, size: &str, inodes: &str) -> Answered {
     let (size, inodes): (u32, u32) = (size.parse()?, inodes.parse()?);
     let answer = match form {
         Form::One => mkfs(alloc, disk, size, inodes),
