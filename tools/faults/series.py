@@ -25,14 +25,14 @@ BEHIND_LOG = 33 * 1024
 class Trial:
     """A run of the program over an image of its own, in a folder of its own."""
 
-    def __init__(self, image, words, call=None, at=0, how=None, power=None):
+    def __init__(self, image, words, call=None, at=0, how=None, power=None, over="a.img"):
         self.folder = tempfile.TemporaryDirectory(dir=WORK)
         self.image = os.path.join(self.folder.name, "a.img")
         if image is not None:
             self.put("a.img", image)
         for name, text in FILES.items():
             self.put(name, text)
-        env = dict(os.environ, LD_PRELOAD=WORK + "/faults.so", FAULTS_FILE="a.img")
+        env = dict(os.environ, LD_PRELOAD=WORK + "/faults.so", FAULTS_FILE=over)
         if call:
             env.update(FAULTS_CALL=call, FAULTS_AT=str(at), FAULTS_HOW=how)
         if power is not None:
@@ -40,7 +40,7 @@ class Trial:
         ran = subprocess.run([PROGRAM, *words], cwd=self.folder.name, env=env, capture_output=True, timeout=60)
         self.status, self.out, self.err = ran.returncode, ran.stdout.decode(), ran.stderr.decode()
         if power is not None:
-            subprocess.run([WORK + "/cut", "a.img", "notes", str(power)], cwd=self.folder.name, check=True)
+            subprocess.run([WORK + "/cut", over, "notes", str(power)], cwd=self.folder.name, check=True)
 
     def put(self, name, text):
         with open(os.path.join(self.folder.name, name), "wb") as file:
@@ -217,6 +217,35 @@ def put(call, how):
             yield at, None
 
 
+def judge_copy(trial, expected):
+    """A copy that was cut short is no image, one that was refused is gone, and any other is whole."""
+    new = os.path.join(trial.folder.name, "b.img")
+    if trial.status not in expected:
+        return f"status {trial.status}: {trial.err.strip()}"
+    # A new file that can't be given its length stays, without a byte.
+    if not os.path.exists(new) or os.path.getsize(new) == 0:
+        return None if trial.status == 1 else "there is no copy"
+    told = trial.run("check", "b.img")
+    if told.returncode == 0:
+        bytes_there = trial.run("cat", "b.img", "1").stdout
+        return None if bytes_there == FILES["short"] else f"a sound copy with {len(bytes_there)} bytes"
+    is_none = told.stderr == b"xvfs: check 1 BadMagic\n" and trial.status == -signal.SIGKILL
+    return None if is_none else f"{told.stderr.decode().strip()} after status {trial.status}"
+
+
+def copy(call, how):
+    for at in places(200 if call == "write" else 2 if call == "fdatasync" else 1):
+        trial = Trial(ONE_FILE, ["copy", "a.img", "b.img"], call, at, how, over="b.img")
+        yield at, judge_copy(trial, [-signal.SIGKILL if how == "kill" else 1 if is_failure(how) else 0])
+
+
+def copy_cut(seed):
+    """The power is cut before a write, or after the end."""
+    for at in [*places(200), 0]:
+        trial = Trial(ONE_FILE, ["copy", "a.img", "b.img"], "write", at, "kill", seed * 1000 + at, "b.img")
+        yield at, judge_copy(trial, [-signal.SIGKILL if at else 0])
+
+
 def told_wrong(series, *words):
     name = " ".join([series.__name__, *[str(word) for word in words]])
     return [f"{name}: at {at}: {wrong}" for at, wrong in series(*words) if wrong]
@@ -243,6 +272,8 @@ SERIES += [(power_cut, seed) for seed in (1, 2, 3)]
 SERIES += [(run, call, how, sync) for sync in (False, True) for call in ("write", "lseek") for how in HOWS[call]]
 SERIES += [(recover, call, how) for call in ("write", "lseek", "fdatasync") for how in HOWS[call]]
 SERIES += [(mkfs, call, how) for call in ("write", "ftruncate") for how in HOWS[call]]
+SERIES += [(copy, call, how) for call in ("write", "fdatasync", "ftruncate") for how in HOWS[call]]
+SERIES += [(copy_cut, seed) for seed in (1, 2, 3)]
 SERIES += [(put, call, how) for call in ("write", "lseek") for how in HOWS[call]]
 with concurrent.futures.ThreadPoolExecutor(os.cpu_count()) as pool:
     found = [line for lines in pool.map(lambda one: told_wrong(*one), SERIES) for line in lines]
