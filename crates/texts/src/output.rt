@@ -82,9 +82,8 @@ pub(crate) fn print_process<O: Write>(out: &mut O, pid: u32) -> Result<(), Unwri
 
 // Writes a number.
 #[inline(never)]
-fn print_decimal<O: Write>(out: &mut O, number: u32) -> Result<(), Refusal>
+fn print_decimal<O: Write>(out: &mut O, number: u32) -> Result<(), Unwritten>
     ensures ok { OnOk result (Appends (O.contents out.old) (O.contents out.new) (decimal number)) }
-    ensures err { IsOkUnless result Refusal.Output }
 {
     let mut digits = Buffer::new();
     write_bytes(out, digits.format(number).as_bytes())
