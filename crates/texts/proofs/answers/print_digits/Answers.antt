@@ -29,8 +29,8 @@ loop-piece-preserved g c =
       ),
     )
 
-pub returns-clause-ok : goal.returns-clause-ok
-returns-clause-ok g c =
+pub returns : goal.returns
+returns g c =
     let so_far = c.loop-piece.invariant.3 in
     let none = nil_from_length _ c.in-None.ensures.steps.1.0 in
-    subst (Appends (g.O.Write.contents c.args.out.now) (g.O.Write.contents c.loop-piece.out)) (rw (none, encode_with-nil, append-nil) at so_far.2) so_far.1
+    record { ok = subst (Appends (g.O.Write.contents c.args.out.now) (g.O.Write.contents c.loop-piece.out)) (rw (none, encode_with-nil, append-nil) at so_far.2) so_far.1 }

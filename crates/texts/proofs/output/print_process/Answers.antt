@@ -4,6 +4,7 @@ use Rattle.std.proofs.lemmas.Fmt.{decimal_digit}
 use Rattle.std.proofs.lemmas.Result.{on_ok_weaker}
 use Rattle.texts.proofs.output.print_process.Goals as goal
 
-pub returns-then-pid-lt10-clause-ok : goal.returns-then-pid-lt10-clause-ok
-returns-then-pid-lt10-clause-ok g c =
-    on_ok_weaker c.write_bytes.result (subst (Appends (g.O.Write.contents c.args.out.now) (g.O.Write.contents c.write_bytes.new.out)) (sym (decimal_digit c.args.pid c.if-pid-lt10.true))) c.write_bytes.ensures.ok
+pub returns-then-pid-lt10 : goal.returns-then-pid-lt10
+returns-then-pid-lt10 g c = record {
+  ok = on_ok_weaker c.write_bytes.result (subst (Appends (g.O.Write.contents c.args.out.now) (g.O.Write.contents c.write_bytes.new.out)) (sym (decimal_digit c.args.pid c.if-pid-lt10.true))) c.write_bytes.ensures.ok;
+}
