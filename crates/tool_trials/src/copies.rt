@@ -3,7 +3,8 @@ use crate::ground::{KINDS, MOST_CALLS, ground, is_ground};
 use anyhow::{bail, ensure};
 use blocks::{FaultyDisk, Kind, MemDisk};
 use copying::{CopyFault, Progress, copy};
-use layout::{CheckFault, MkfsFault};
+use layout::CheckFault;
+use offline::check;
 use std::alloc::Global;
 use std::io;
 
@@ -18,7 +19,6 @@ enum Failing {
 #[derive(Clone, Copy)]
 struct Failures {
     checks: u64,
-    makings: u64,
     later: u64,
 }
 
@@ -26,7 +26,6 @@ impl Failures {
     fn count(&mut self, fault: CopyFault) -> anyhow::Result<()> {
         match fault {
             CopyFault::Old(CheckFault::Disk) => self.checks = self.checks.saturating_add(1),
-            CopyFault::Mkfs(MkfsFault::Disk) => self.makings = self.makings.saturating_add(1),
             CopyFault::Disk => self.later = self.later.saturating_add(1),
             other => bail!("another fault: {other}"),
         }
@@ -35,8 +34,8 @@ impl Failures {
 
     fn print(self, rt: &impl Print, disk: &str, calls: &str) -> io::Result<()> {
         println!(rt;
-            "copy, {disk}, {calls}: Old(Disk) {}, Mkfs(Disk) {}, Disk {}",
-            self.checks, self.makings, self.later
+            "copy, {disk}, {calls}: Old(Disk) {}, Disk {}",
+            self.checks, self.later
         )
     }
 }
@@ -51,13 +50,14 @@ impl Progress for Nobody {
     fn ended(&mut self) {}
 }
 
-/// Makes each call of a copy fail in turn: the reads of the old disk, and the reads and the writes of
-/// the new one. Prints how many there were.
+/// Makes each call of a copy fail in turn: the reads of the old disk, and the reads, the writes and
+/// the syncs of the new one. Prints how many there were.
 pub fn fail_copies(rt: &impl Print, alloc: Global) -> anyhow::Result<()> {
     fail_each(alloc, Failing::Old, Kind::Read)?.print(rt, "old disk", "reads")?;
     for (kind, calls) in KINDS {
         fail_each(alloc, Failing::New, kind)?.print(rt, "new disk", calls)?;
     }
+    fail_each(alloc, Failing::New, Kind::Sync)?.print(rt, "new disk", "syncs")?;
     Ok(())
 }
 
@@ -65,7 +65,6 @@ pub fn fail_copies(rt: &impl Print, alloc: Global) -> anyhow::Result<()> {
 fn fail_each(alloc: Global, failing: Failing, kind: Kind) -> anyhow::Result<Failures> {
     let mut failures = Failures {
         checks: 0,
-        makings: 0,
         later: 0,
     };
     for nth in 1..MOST_CALLS {
@@ -83,8 +82,8 @@ fn fail_each(alloc: Global, failing: Failing, kind: Kind) -> anyhow::Result<Fail
     bail!("a copy makes too many calls")
 }
 
-// Makes a copy, and looks whether the old image stays as it was. Why there is no copy, if there is
-// none.
+// Makes a copy, and looks whether the old image stays as it was, and the new one is none or whole. Why
+// there is no copy, if there is none.
 fn copy_all(
     alloc: Global,
     mut old: FaultyDisk<MemDisk>,
@@ -98,6 +97,18 @@ fn copy_all(
             ensure!(files == 1, "{files} files were copied");
             Ok(None)
         }
-        Err((fault, _new)) => Ok(Some(fault)),
+        Err((fault, new)) => {
+            let is_none = is_none_or_whole(alloc, new.into_inner());
+            ensure!(is_none, "{fault}: the new image is cut short");
+            Ok(Some(fault))
+        }
+    }
+}
+
+// Whether the disk has no superblock, or the whole copy.
+fn is_none_or_whole(alloc: Global, mut disk: MemDisk) -> bool {
+    match check(alloc, &mut disk) {
+        Ok(report) => report.files == 1,
+        Err(fault) => matches!(fault, CheckFault::BadMagic),
     }
 }
