@@ -3,3 +3,4 @@ pub mod Dispatch
 pub mod Sequences
 mod Disks
 pub mod Unchecked
+pub mod LockedOut

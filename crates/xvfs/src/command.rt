@@ -16,6 +16,7 @@ ghost use Rattle.xvfs.specs.Requests.{
 ghost use Rattle.requests.specs.declared.explanation.Explanation.{Explanation as SomeExplanation};
 ghost use Rattle.texts.specs.declared.told.Unwritten.{Unwritten as IsUnwritten};
 
+use crate::locks::{Locks, lock_image};
 use crate::progress::{Meter, Screen};
 use crate::stopping::stops_files;
 use blocks::{Disk, FaultyDisk, FileDisk};
@@ -44,7 +45,7 @@ use tools::{copy_files, put_file};
 /// that failed. With 2 nothing is written to `out`, with 0 nothing to `err`. What else `err` gets
 /// no contract tells, since it may fail at any byte.
 pub fn command<
-    R: Files + AllocGlobal + Threads + Wait + Clock + Screen + Sync,
+    R: Files + AllocGlobal + Threads + Wait + Clock + Screen + Locks + Sync,
     S: AsStr,
     O: Write,
     E: Write,
@@ -64,7 +65,7 @@ where
     ensures misused { result ≡ 2 → out.new ≡ out.old }
 {
     match parse(rt.alloc(), words) {
-        Ok(request) => dispatch(rt, request, out, err),
+        Ok(request) => dispatch_alone(rt, request, out, err),
         Err(explanation) => explain(explanation, out, err),
     }
 }
@@ -86,6 +87,30 @@ fn explain<O: Write, E: Write>(explanation: Explanation, out: &mut O, err: &mut 
             let _unwritten = print_last(err, mistake);
             2
         }
+    }
+}
+
+// Does what is asked for where no other program has the image, as `dispatch`. The exit status.
+fn dispatch_alone<
+    R: Files + AllocGlobal + Threads + Wait + Clock + Screen + Locks + Sync,
+    O: Write,
+    E: Write,
+>(rt: &R, request: Request<'_>, out: &mut O, err: &mut E) -> u8
+where
+    R::File: Send,
+    requires { HasFewWorkers request }
+    ensures status { result ≤ 1 }
+    ensures done { result ≡ 0 → Answers (ghosts_of R.File.remaining
+        ⟦<FileDisk<R::File> as Disk>⟧ ⟦<FaultyDisk<FileDisk<R::File>> as Disk>⟧)
+        request.entry (O.contents out.old) (O.contents out.new) }
+    ensures refused { result ≡ 1 → OnRefused (ghosts_of R.File.remaining
+        ⟦<FileDisk<R::File> as Disk>⟧ ⟦<FaultyDisk<FileDisk<R::File>> as Disk>⟧)
+        request.entry (O.contents out.old) (O.contents out.new) (out.new ≡ out.old) }
+    ensures silent { result ≡ 0 → err.new ≡ err.old }
+{
+    match lock_image(rt, &request) {
+        Ok(_lock) => dispatch(rt, request, out, err),
+        Err(fault) => end(Err(fault), err),
     }
 }
 

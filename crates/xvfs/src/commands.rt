@@ -8,6 +8,7 @@ ghost use Rattle.xvfs.specs.Requests.{AreDone, StopsAmong};
 
 use crate::command::command;
 use crate::input::{InputFault, input_unread};
+use crate::locks::Locks;
 use crate::progress::Screen;
 use blocks::{Disk, FaultyDisk, FileDisk};
 use cmd::end;
@@ -25,7 +26,7 @@ pub const LIMIT: usize = 65_536;
 /// `command` does, and so nothing to `err` where the status is 0; then each line's command was
 /// done. Status 1, and no command is done, where the text can't be had.
 pub fn commands<
-    R: Files + AllocGlobal + Threads + Wait + Clock + Screen + Sync,
+    R: Files + AllocGlobal + Threads + Wait + Clock + Screen + Locks + Sync,
     I: Read + Drop,
     O: Write,
     E: Write,
@@ -75,7 +76,7 @@ fn text_of(bytes: Vec<u8>) -> Result<String, InputFault>
 }
 
 fn perform_text<
-    R: Files + AllocGlobal + Threads + Wait + Clock + Screen + Sync,
+    R: Files + AllocGlobal + Threads + Wait + Clock + Screen + Locks + Sync,
     O: Write,
     E: Write,
 >(rt: &R, text: &str, out: &mut O, err: &mut E) -> u8
@@ -97,7 +98,7 @@ where
 }
 
 fn perform_lines<
-    R: Files + AllocGlobal + Threads + Wait + Clock + Screen + Sync,
+    R: Files + AllocGlobal + Threads + Wait + Clock + Screen + Locks + Sync,
     O: Write,
     E: Write,
 >(rt: &R, lines: &[Vec<&str>], out: &mut O, err: &mut E) -> u8

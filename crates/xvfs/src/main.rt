@@ -6,6 +6,7 @@ mod arguments;
 mod command;
 mod commands;
 mod input;
+mod locks;
 mod progress;
 mod stopping;
 
