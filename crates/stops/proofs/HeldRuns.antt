@@ -9,6 +9,7 @@ use Rattle.scripts.specs.declared.script.Task.{Task}
 use Rattle.texts.specs.declared.faults.StopsFault.{StopsFault}
 use Rattle.texts.specs.declared.faults.StopsFault.TheVariants.{Mismatch}
 use Rattle.blocks.specs.SyncDisk.{held_of}
+use Rattle.blocks.specs.declared.errors.NoMemory.{NoMemory as MemoryRefused}
 use Rattle.blocks.specs.declared.sync.SyncDisk.{SyncDisk}
 use Rattle.model.specs.Files.{Files}
 use Rattle.recoveries.specs.Choices.{HasAllDue, HasDue, IsChoice, LacksDue, choice_count, due_files, left_by}
