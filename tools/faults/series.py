@@ -246,6 +246,33 @@ def copy_cut(seed):
         yield at, judge_copy(trial, [-signal.SIGKILL if at else 0])
 
 
+def at_once(other):
+    """Two programs at once on an image: each does all that it is asked for, or is refused at once."""
+    for at in range(1, min(MOST, 60) + 1):
+        trial = Trial(ONE_FILE, ["check", "a.img"])
+        words = [["put", "a.img", "long"], [other, "a.img", "short" if other == "put" else "1"]]
+        running = [subprocess.Popen([PROGRAM, *one], cwd=trial.folder.name, stdout=subprocess.PIPE,
+                                    stderr=subprocess.PIPE) for one in words]
+        ends = [(process.communicate(timeout=60), process.returncode) for process in running]
+        yield at, judge_pair(trial, words, ends)
+
+
+def judge_pair(trial, words, ends):
+    if not trial.checked().startswith("sound"):
+        return trial.checked()
+    for (command, _image, name), ((out, err), status) in zip(words, ends):
+        if status != 0:
+            if err != b"xvfs: file 4 Locked\n" or out:
+                return f"{command}: {err.decode().strip()}"
+        elif command == "put" and trial.run("cat", "a.img", out.decode().strip()).stdout != FILES[name]:
+            return f"put: other bytes in file {out.decode().strip()}"
+        elif command == "cat" and out != FILES["short"]:
+            return f"cat: {len(out)} bytes"
+    files = len(trial.run("ls", "a.img").stdout.splitlines())
+    put = sum(1 for (command, _image, _name), (_out, status) in zip(words, ends) if command == "put" and status == 0)
+    return None if files == 1 + put else f"{files} files after {put} puts"
+
+
 def told_wrong(series, *words):
     name = " ".join([series.__name__, *[str(word) for word in words]])
     return [f"{name}: at {at}: {wrong}" for at, wrong in series(*words) if wrong]
@@ -273,6 +300,7 @@ SERIES += [(run, call, how, sync) for sync in (False, True) for call in ("write"
 SERIES += [(recover, call, how) for call in ("write", "lseek", "fdatasync") for how in HOWS[call]]
 SERIES += [(mkfs, call, how) for call in ("write", "ftruncate") for how in HOWS[call]]
 SERIES += [(copy, call, how) for call in ("write", "fdatasync", "ftruncate") for how in HOWS[call]]
+SERIES += [(at_once, other) for other in ("put", "cat")]
 SERIES += [(copy_cut, seed) for seed in (1, 2, 3)]
 SERIES += [(put, call, how) for call in ("write", "lseek") for how in HOWS[call]]
 with concurrent.futures.ThreadPoolExecutor(os.cpu_count()) as pool:
