@@ -1,8 +1,8 @@
 -- A command over the disk in a file, by what it does to the disk.
 use Rattle.std.specs.Prelude.{ℕ, Bool, List, Option, Result, Ok, Err, OnOk, IfErr}
 use Rattle.blocks.specs.declared.file.FileDisk.{FileDisk}
-use Rattle.filedisks.specs.Lemmas.Disks.{file_disk}
-use Rattle.filedisks.specs.Opened.{IsOpened, OpensDisk}
+use Rattle.cmd.specs.Lemmas.Disks.{file_disk}
+use Rattle.cmd.specs.Opened.{IsOpened, OpensDisk}
 use Rattle.cmd.specs.Over.{IsRefusedOn, of}
 
 module _ {F R : Type 0} (remaining : F → Option (List ℕ)) (holds : Bool) (opened now : FileDisk F) (is : IsOpened remaining file_disk holds opened) where

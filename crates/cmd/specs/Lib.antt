@@ -1,2 +1,4 @@
+pub mod Opened
+pub mod Lemmas
 pub mod Changes
 pub mod Over

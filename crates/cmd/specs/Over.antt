@@ -1,8 +1,8 @@
 -- What a command over the disk in a file comes to, by what it comes to over that disk.
 use Rattle.std.specs.Prelude.{ℕ, Bool, List, Option, Result, Ok, Err}
 use Rattle.blocks.specs.declared.file.FileDisk.{FileDisk}
-use Rattle.filedisks.specs.Lemmas.Disks.{file_disk}
-use Rattle.filedisks.specs.Opened.{OpensDisk}
+use Rattle.cmd.specs.Lemmas.Disks.{file_disk}
+use Rattle.cmd.specs.Opened.{OpensDisk}
 use Rattle.texts.specs.Telling.{Telling, file_telling}
 use Rattle.cmd.specs.declared.files.OnFile.{OnFile}
 use Rattle.cmd.specs.declared.files.OnFile.TheVariants.{File, Of}

@@ -1,13 +1,13 @@
 // A command over the disk in a file.
 ghost use Rattle.std.specs.Prelude.{◌≡◌, ℕ, List, Option, OnOk, IfErr};
-ghost use Rattle.filedisks.specs.Opened.{OpensDisk};
-ghost use Rattle.filedisks.specs.Lemmas.Disks.{file_disk};
+ghost use Rattle.cmd.specs.Opened.{OpensDisk};
+ghost use Rattle.cmd.specs.Lemmas.Disks.{file_disk};
 ghost use Rattle.cmd.specs.Changes.{Change, change};
 ghost use Rattle.cmd.specs.Over.{IsRefusedOn, of, on_file_telling};
 
 use crate::command::Command;
 use blocks::{Disk, FileFault};
-use filedisks::open;
+use crate::opened::open;
 use std::alloc::Global;
 use std::io::Write;
 use std::rt::Files;

@@ -1,12 +1,12 @@
 // One operation after the other: each call is whole, and a stop keeps all of it or nothing.
 ghost use Rattle.std.specs.Prelude.{◌+◌, ◌≤◌, ◌^◌};
-ghost use Rattle.sole.specs.Calls.{Rests, call_count};
+ghost use Rattle.calls.specs.Calls.{Rests, call_count};
 
 use anyhow::bail;
 use blocks::Disk;
 use model::content::Content;
 use model::types::{Op, Reply};
-use sole::{Sole, call};
+use calls::{Sole, call};
 
 /// Makes a file with these bytes, and reads up to 100 of them back.
 pub fn write_and_read<D: Disk>(kernel: &mut Sole<D>, bytes: Content) -> anyhow::Result<Content>

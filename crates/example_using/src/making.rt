@@ -1,11 +1,11 @@
 // A new image on a disk, and a kernel of one process over it.
 ghost use Rattle.std.specs.Prelude.{◌≡◌, IfOk};
-ghost use Rattle.sole.specs.Calls.{Rests, call_count};
+ghost use Rattle.calls.specs.Calls.{Rests, call_count};
 
 use blocks::Disk;
 use model::types::Form;
 use offline::mkfs_as;
-use sole::{Sole, open_sole};
+use calls::{Sole, open_sole};
 use std::alloc::Global;
 
 /// Makes an image of 200 blocks with 32 inode numbers, and opens it for calls.

@@ -13,8 +13,8 @@ use Rattle.model.specs.declared.types.operations.Reply.{Reply}
 use Rattle.model.specs.declared.types.operations.Reply.TheVariants.{Wrote, Bytes, StatOf}
 use Rattle.model.specs.Files.{file_in, files_of}
 use Rattle.model.specs.Layout.{form_of}
-use Rattle.sole.specs.Calls.{Calls, image_on}
-use Rattle.sole.specs.Stepping.{Plain}
+use Rattle.calls.specs.Calls.{Calls, image_on}
+use Rattle.calls.specs.Stepping.{Plain}
 use Rattle.named_files.specs.Names.{HasDirectory, KeepsOrFails, LinksName, WritesEntry}
 use Rattle.named_files.proofs.Writes.{bytes_read, size_told, stands, unwritten, written_whole}
 

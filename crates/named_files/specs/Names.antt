@@ -9,8 +9,8 @@ use Rattle.directory.specs.Writes.{directory_number, written, KeepsOthers, Links
 use Rattle.model.specs.declared.types.image.File.{File}
 use Rattle.model.specs.Files.{file_in, files_of}
 use Rattle.model.specs.Operations.{with_bytes}
-use Rattle.sole.specs.Calls.{Rests, call_count}
-use Rattle.sole.specs.Stepping.{Plain}
+use Rattle.calls.specs.Calls.{Rests, call_count}
+use Rattle.calls.specs.Stepping.{Plain}
 
 -- a kernel's only process may make that many calls
 pub record HasCalls {D : Type 0} (faults : D → ℕ) (k : Plain D) (left : ℕ) : Type 0 where

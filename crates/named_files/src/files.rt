@@ -2,15 +2,15 @@
 ghost use Rattle.std.specs.Prelude.{◌≡◌, ◌<◌, ◌≤◌, length, IsTrue, IfOk, OnErr, OnOk};
 ghost use Rattle.directory.specs.Entries.{directory_size, most_entries};
 ghost use Rattle.named_files.specs.Names.{Finds, HasDirectory, KeepsOrFails, LinksName, MayCall, WritesEntry};
-ghost use Rattle.sole.specs.Calls.{Calls, image_on, is_look};
-ghost use Rattle.sole.specs.Opening.{IsOpenedSole};
+ghost use Rattle.calls.specs.Calls.{Calls, image_on, is_look};
+ghost use Rattle.calls.specs.Opening.{IsOpenedSole};
 
 use anyhow::{bail, ensure};
 use blocks::Disk;
 use directory::{DIRECTORY, DIRECTORY_SIZE, ENTRY_SIZE, EntryWrite, Name, link, lookup, unlink};
 use model::content::Content;
 use model::types::{Op, Reply};
-use sole::{Sole, call, open_sole};
+use calls::{Sole, call, open_sole};
 use std::alloc::Global;
 
 // As many calls as a kernel may have answered.

@@ -13,8 +13,8 @@ use Rattle.kernel.specs.Opening.{IsOpened}
 use Rattle.model.specs.Layout.{form_of, inode_count_of}
 use Rattle.model.specs.Log.{recovered}
 use Rattle.model.specs.Verdict.{verdict}
-use Rattle.board.specs.Boards.{asked}
-use Rattle.board.specs.declared.herald.BoardHerald.{BoardHerald}
+use Rattle.rings.specs.Boards.{asked}
+use Rattle.rings.specs.declared.herald.BoardHerald.{BoardHerald}
 use Rattle.clients.specs.Sources.{AreNewSources}
 use Rattle.rings.specs.Callers.{intake_names}
 use Rattle.rings.specs.declared.intake.RingIntake.{RingIntake}

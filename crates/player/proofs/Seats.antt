@@ -4,7 +4,7 @@ use Rattle.std.specs.Prelude.{IfNone, IfSome, IsSome, slice_get}
 use Rattle.std.proofs.lemmas.List.{length-set, nil_from_length, set-set}
 use Rattle.std.proofs.lemmas.Option.{slice_get_within, same_Some}
 use mathlib.Core.List.{IsPrefix}
-use Rattle.board.specs.Boards.{WatchOf}
+use Rattle.rings.specs.Boards.{WatchOf}
 use Rattle.model.specs.declared.types.operations.Answer.{Answer}
 use Rattle.ports.specs.History.{SameNames}
 use Rattle.ports.specs.Lemmas.Lanes.{slice_get-set_here}

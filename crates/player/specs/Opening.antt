@@ -23,7 +23,7 @@ use Rattle.journal.specs.Most.{most_of}
 use Rattle.kernel.specs.Runs.{RunsOn}
 use Rattle.wal.specs.Recovery.{LeavesIfCalm, RecoversAs, writes_to_recover}
 use Rattle.player.specs.Afterwards.{IsUnready}
-use Rattle.board.specs.Boards.{asked}
+use Rattle.rings.specs.Boards.{asked}
 use Rattle.clients.specs.Backlogs.{ops_of}
 use Rattle.clients.specs.Sources.{AreNewSources}
 use Rattle.rings.specs.Callers.{intake_names}

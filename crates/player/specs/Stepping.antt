@@ -10,8 +10,8 @@ use Rattle.blocks.specs.declared.faulty.FaultyDisk.{FaultyDisk}
 use Rattle.model.specs.declared.types.operations.Answer.{Answer}
 use Rattle.ports.specs.declared.herald.Herald.{Ghosts as Heralds}
 use Rattle.ports.specs.declared.intake.Intake.{Ghosts as Intakes}
-use Rattle.board.specs.Boards.{HasHeeded, HasPublished, WatchOf, asked, heard, published}
-use Rattle.board.specs.declared.herald.BoardHerald.{BoardHerald}
+use Rattle.rings.specs.Boards.{HasHeeded, HasPublished, WatchOf, asked, heard, published}
+use Rattle.rings.specs.declared.herald.BoardHerald.{BoardHerald}
 use Rattle.rings.specs.Callers.{Meets, intake_count, intake_names, intake_side, polled, submitted, unpolled, IntakeFits}
 use Rattle.rings.specs.declared.caller.Caller.{Caller}
 use Rattle.rings.specs.declared.intake.RingIntake.{RingIntake}

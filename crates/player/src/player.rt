@@ -1,6 +1,6 @@
 // What turns are made of.
 use blocks::{Disk, FaultyDisk};
-use board::{Board, BoardHerald, Watch};
+use rings::{Board, BoardHerald, Watch};
 use clients::Source;
 use kernel::Kernel;
 use rings::RingIntake;

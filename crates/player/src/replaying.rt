@@ -1,6 +1,6 @@
 // A script's operations over a disk, in the turns of a schedule.
 ghost use Rattle.std.specs.Prelude.{◌≡◌, ◌<◌, false, length, All, IsTrue, IfOk, OnOk, IfErr, IsOkUnless, None, unwrap_or};
-ghost use Rattle.board.specs.Boards.{KeeperOf, WatchOf, asked, published};
+ghost use Rattle.rings.specs.Boards.{KeeperOf, WatchOf, asked, published};
 ghost use Rattle.std.specs.List.{list_all};
 ghost use Rattle.scripts.specs.Schedule.{is_word_of};
 ghost use Rattle.player.specs.Opening.{HasNotBegun, IsNotReplayed, IsReadyOver, Replays};
@@ -12,7 +12,7 @@ use crate::player::Player;
 use crate::playing::run;
 use crate::turns::{Hands, open_player};
 use blocks::{Disk, FaultyDisk};
-use board::Board;
+use rings::Board;
 use opening::recover_image;
 use scripts::{Task, Word};
 use std::alloc::Global;

@@ -2,7 +2,7 @@
 ghost use Rattle.std.specs.Prelude.{◌≡◌, ◌-◌, ◌<◌, false, All, IsTrue, length, IfOk, IfErr, Option};
 ghost use Rattle.blocks.specs.FaultyDisk.{has_fired, inner_of};
 ghost use Rattle.blocks.specs.Disk.{counted};
-ghost use Rattle.board.specs.Boards.{KeeperOf, WatchOf, asked, published};
+ghost use Rattle.rings.specs.Boards.{KeeperOf, WatchOf, asked, published};
 ghost use Rattle.model.specs.Log.{logged_count};
 ghost use Rattle.model.specs.declared.types.operations.Answer.{Answer as SomeAnswer};
 ghost use Rattle.kernel.specs.Moves.{MakesSteps};
@@ -33,7 +33,7 @@ use crate::player::Player;
 use crate::stepping::make_steps;
 use crate::told::progress_of;
 use blocks::{Disk, FaultyDisk, Kind};
-use board::{Board, BoardHerald, Keeper, Watch};
+use rings::{Board, BoardHerald, Keeper, Watch};
 use clients::sources;
 use kernel::{Kernel, Step};
 use model::types::{Answer, Entry};

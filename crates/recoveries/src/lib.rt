@@ -13,4 +13,4 @@ mod images;
 
 pub use choices::{Due, try_choices};
 pub use files::{has_files, kept_files};
-pub use images::{is_want_of_memory, new_image};
+pub use commands::{is_want_of_memory, new_image};

@@ -1,6 +1,6 @@
 // Kernels that threads share.
 ghost use Rattle.std.specs.Prelude.{◌≡◌, ◌<◌, ℕ, All};
-ghost use Rattle.board.specs.Boards.{KeeperOf, WatchOf, published};
+ghost use Rattle.rings.specs.Boards.{KeeperOf, WatchOf, published};
 ghost use Rattle.ports.specs.History.{nothing_yet};
 ghost use Rattle.rings.specs.Callers.{IntakeFits, intake_count};
 ghost use Rattle.sysring.specs.Frames.{AreWorkers};

@@ -10,18 +10,35 @@
 //!
 //! `RingIntake::meet` lets both ends see what the other did, where one thread has both.
 //! `Caller::finish` and `RingIntake::settle` compare the two ends once the caller is done.
+//!
+//! A board of two words, which the kernel and its callers share without a lock: how many groups are
+//! committed, and whether a shutdown was asked for.
+//!
+//! The kernel's side is a `BoardHerald`, which has the one `Keeper`: it publishes each commit, and
+//! heeds a shutdown. Each caller may have a `Watch`, with which it looks at the count and asks for a
+//! shutdown. By its code each use is one atomic step on one word, and none waits.
 #![tactic(auto)]
 
+mod board;
 mod caller;
 mod ends;
+mod herald;
 mod intake;
+mod laws;
 mod making;
 mod meeting;
 mod name;
+mod rule;
 mod settling;
+mod view;
 
+pub use board::{Board, Keeper, Watch};
 pub use caller::{Caller, Finished};
+pub use herald::BoardHerald;
 pub use intake::RingIntake;
+pub use laws::{none_asked, some_asked};
 pub use making::{PLACES, rings};
 pub use name::{Names, RingName};
+pub use rule::Ruled;
 pub use settling::Settled;
+pub use view::View;

@@ -8,7 +8,7 @@ use Rattle.model.specs.Log.{recovered}
 use Rattle.model.specs.Verdict.{verdict}
 use Rattle.model.specs.declared.types.operations.Op.{Op}
 use Rattle.wal.specs.Recovery.{LeavesIfCalm, RecoversAs}
-use Rattle.board.specs.declared.herald.BoardHerald.{BoardHerald}
+use Rattle.rings.specs.declared.herald.BoardHerald.{BoardHerald}
 use Rattle.rings.specs.declared.intake.RingIntake.{RingIntake}
 use Rattle.journal.specs.Keeps.{KeepsBetween, KeepsNow}
 use Rattle.journal.specs.Most.{most_of}

@@ -1,6 +1,6 @@
 // The calling thread's part of a run.
 ghost use Rattle.std.specs.Prelude.{All};
-ghost use Rattle.board.specs.Boards.{WatchOf};
+ghost use Rattle.rings.specs.Boards.{WatchOf};
 ghost use Rattle.clients.specs.Clients.{AreSameClients};
 
 use clients::{Client, call_all};

@@ -1,6 +1,6 @@
 // A script's operations over a disk, by threads.
 ghost use Rattle.std.specs.Prelude.{◌≡◌, ◌<◌, ℕ, false, length, All, IfOk, OnOk, IfErr, IfSome, None};
-ghost use Rattle.board.specs.Boards.{KeeperOf, WatchOf, published};
+ghost use Rattle.rings.specs.Boards.{KeeperOf, WatchOf, published};
 ghost use Rattle.clients.specs.Clients.{AreSameClients, HaveRings, ops_at};
 ghost use Rattle.journal.specs.Own.{KeepsOwn};
 ghost use Rattle.kernel.specs.Known.{Known};

@@ -3,7 +3,7 @@
 ghost use Rattle.std.specs.Prelude.{◌≡◌, ◌<◌, ◌+◌, ◌^◌, false, All, IfOk, IfErr, IsTrue, length, option_map};
 ghost use Rattle.std.specs.Result.{IsOkAnd};
 ghost use Rattle.std.specs.List.{list_all};
-ghost use Rattle.board.specs.Boards.{KeeperOf, WatchOf, asked, published};
+ghost use Rattle.rings.specs.Boards.{KeeperOf, WatchOf, asked, published};
 ghost use Rattle.player.specs.Opening.{IsArmed, IsOpenedOver};
 ghost use Rattle.player.specs.Stepping.{IsSeated};
 ghost use Rattle.scripts.specs.Schedule.{is_word_of};
@@ -30,7 +30,7 @@ ghost use Rattle.recoveries.specs.Images.{kept_files, new_image};
 use crate::copying::copies_of;
 use crate::running::{opened, play};
 use blocks::{Disk, FaultyDisk, Kind, NoMemory, SyncDisk};
-use board::Board;
+use rings::Board;
 use model::types::Entry;
 use player::{Hands, Outcome, Player, open_player, take_board};
 use recoveries::{Due, kept_files, new_image, try_choices};

@@ -1,7 +1,7 @@
 // One run, and whether the image that it leaves has the files that it has to have.
 ghost use Rattle.std.specs.Prelude.{◌≡◌, ◌<◌, false, All, IfOk, IfErr, IsTrue, length, option_map};
 ghost use Rattle.std.specs.Result.{IsOkAnd};
-ghost use Rattle.board.specs.Boards.{KeeperOf, WatchOf, asked, published};
+ghost use Rattle.rings.specs.Boards.{KeeperOf, WatchOf, asked, published};
 ghost use Rattle.player.specs.Opening.{IsArmed, IsOpenedOver};
 ghost use Rattle.player.specs.Stepping.{IsSeated};
 ghost use Rattle.std.specs.List.{list_all};
@@ -22,7 +22,7 @@ ghost use Rattle.stops.specs.Trials.{
 use crate::copying::copies_of;
 use crate::running::{opened, play};
 use blocks::{Disk, MemDisk, NoMemory};
-use board::Board;
+use rings::Board;
 use plain::files::Files;
 use player::{Hands, Outcome, Player, open_player, take_board};
 use recoveries::{has_files, kept_files, new_image};

@@ -17,7 +17,7 @@ mod shared;
 mod workers;
 
 pub use accounting::{Meeting, account};
-pub use board::{Board, BoardHerald, Keeper, Watch};
+pub use rings::{Board, BoardHerald, Keeper, Watch};
 pub use frame::{Frame, Framed};
 pub use rings::{Caller, Finished, RingIntake, rings};
 pub use serving::{Serving, serve_while};

@@ -5,7 +5,7 @@
 #![tactic(auto)]
 
 ghost use Rattle.std.specs.Prelude.{◌≡◌, All, length};
-ghost use Rattle.board.specs.Boards.{WatchOf};
+ghost use Rattle.rings.specs.Boards.{WatchOf};
 ghost use Rattle.rings.specs.Callers.{intake_count};
 
 use anyhow::bail;

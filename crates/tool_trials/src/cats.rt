@@ -6,7 +6,7 @@ use layout::CheckFault;
 use offline::mkfs;
 use opening::RecoverRefusal;
 use player::{CatRefusal, cat_disk};
-use putting::put_disk;
+use transfer::put_disk;
 use std::alloc::Global;
 use texts::Reason;
 use wal::RecoverFault;

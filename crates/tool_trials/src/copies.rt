@@ -2,7 +2,7 @@
 use crate::ground::{KINDS, MOST_CALLS, ground, is_ground};
 use anyhow::{bail, ensure};
 use blocks::{FaultyDisk, Kind, MemDisk};
-use copying::{CopyFault, Progress, copy};
+use transfer::{CopyFault, Progress, copy};
 use layout::CheckFault;
 use offline::check;
 use std::alloc::Global;

@@ -3,7 +3,7 @@ use anyhow::bail;
 use blocks::{Kind, MemDisk};
 use desk::blocks_of;
 use offline::mkfs;
-use putting::put_disk;
+use transfer::put_disk;
 use std::alloc::Global;
 
 /// More calls than a copy or a put of it makes.

@@ -6,7 +6,7 @@ use desk::blocks_of;
 use layout::CheckFault;
 use model::types::File;
 use plain::report::files_after_recovery;
-use putting::put_disk;
+use transfer::put_disk;
 use std::alloc::Global;
 use texts::Refusal;
 use wal::RecoverFault;

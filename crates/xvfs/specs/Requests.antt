@@ -11,17 +11,17 @@ use Rattle.requests.specs.declared.explanation.Explanation.{Explanation}
 use Rattle.requests.specs.declared.explanation.Explanation.TheVariants.{Help, Mistake, NoMemory}
 use Rattle.requests.specs.declared.words.Request.{Request}
 use Rattle.requests.specs.declared.words.Request.TheVariants.{Mkfs, Check, Recover, Cat, Ls, Show, Put, Copy, Replay, Run, Stops}
-use Rattle.filedisks.specs.Lemmas.Disks.{file_disk}
-use Rattle.filedisks.specs.Opened.{OnDiskRefusal, OpensDisk}
+use Rattle.cmd.specs.Lemmas.Disks.{file_disk}
+use Rattle.cmd.specs.Opened.{OnDiskRefusal, OpensDisk}
 use Rattle.cmd.specs.Over.{IsRefusedOn}
 use Rattle.listing.specs.Causes.{IsHidden, IsUnlisted}
 use Rattle.listing.specs.Looks.{HasListed, HasShown as HasBlocksShown}
 use Rattle.player.specs.Causes.{IsNotRecovered, IsUnchecked}
 use Rattle.player.specs.Looks.{HasRecovered, HasReported, HasShown}
 use Rattle.player.specs.Showing.{IsNotShown}
-use Rattle.images.specs.Files.{IsMade, IsNotRun, IsReplayed, IsRun, IsUnreplayed}
-use Rattle.tools.specs.Copies.{HasCopied, OnCopyRefusal}
-use Rattle.tools.specs.Puts.{HasPut, OnPutRefusal}
+use Rattle.commands.specs.Files.{IsMade, IsNotRun, IsReplayed, IsRun, IsUnreplayed}
+use Rattle.commands.specs.Copies.{HasCopied, OnCopyRefusal}
+use Rattle.commands.specs.Puts.{HasPut, OnPutRefusal}
 use Rattle.xvfs.specs.Files.{FileGhosts}
 use Rattle.xvfs.specs.Scripts.{ChecksScript, IsScriptUnchecked}
 

@@ -21,7 +21,7 @@ use crate::progress::{Meter, Screen};
 use crate::stopping::stops_files;
 use blocks::{Disk, FaultyDisk, FileDisk};
 use cmd::{OverFile, end, perform};
-use images::{make_file, replay_files, run_files};
+use commands::{make_file, replay_files, run_files};
 use listing::{Ls, Show};
 use model::types::Form;
 use player::{Cat, Check, Recover};
@@ -32,7 +32,7 @@ use std::rt::{Clock, Files};
 use std::sync::Wait;
 use std::thread::Threads;
 use texts::print_last;
-use tools::{copy_files, put_file};
+use commands::{copy_files, put_file};
 
 /// Does the command that these words ask for, the program's name not among them: prints what it
 /// answers to `out`, and why it wasn't done to `err`, as far as that can be written. The exit

@@ -1,5 +1,5 @@
 use Rattle.std.proofs.Common.{◌≡◌}
-use Rattle.board.specs.Boards.{WatchOf}
+use Rattle.rings.specs.Boards.{WatchOf}
 use Rattle.rings.specs.Callers.{intake_count}
 use Rattle.thread_bench.proofs.pairs.Given as goal
 

@@ -1,6 +1,6 @@
 use Rattle.std.proofs.Common.{subst, sym}
 use Rattle.std.specs.Prelude.{◌≡◌}
-use Rattle.images.specs.Files.{IsMade}
+use Rattle.commands.specs.Files.{IsMade}
 use Rattle.xvfs.specs.Requests.{Answers, OnRefused}
 use Rattle.xvfs.proofs.Disks.{seen_by}
 use Rattle.xvfs.proofs.Dispatch.{on_both, was_done, was_refused}

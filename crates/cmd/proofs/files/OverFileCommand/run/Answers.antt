@@ -1,7 +1,7 @@
 use Rattle.std.proofs.Common.{◌≡◌, subst, sym}
 use Rattle.std.specs.Prelude.{OnOk, IfErr}
-use Rattle.filedisks.specs.Lemmas.Disks.{file_disk}
-use Rattle.filedisks.specs.Opened.{OpensDisk}
+use Rattle.cmd.specs.Lemmas.Disks.{file_disk}
+use Rattle.cmd.specs.Opened.{OpensDisk}
 use Rattle.cmd.specs.Changes.{change}
 use Rattle.cmd.specs.Over.{IsRefusedOn}
 use Rattle.cmd.proofs.Over.{done_over, refused_over}

@@ -1,6 +1,6 @@
 use Rattle.std.proofs.Common.{◌≡◌, ◌≤◌, rules, arith}
 use Rattle.std.proofs.lemmas.Grind.{common_steps}
-use Rattle.sole.specs.Calls.{image_on}
+use Rattle.calls.specs.Calls.{image_on}
 use Rattle.named_files.proofs.Calls.{reads_directory}
 use Rattle.named_files.proofs.files.NamedFiles.directory.Goals as goal
 

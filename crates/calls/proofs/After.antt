@@ -1,0 +1,151 @@
+-- What an answered operation makes of the files, reply by reply.
+use Rattle.std.proofs.Common.{◌≡◌, ◌≢◌, ℕ, ◌+◌, ◌<◌, ◌≤◌, ◌⊎◌, Bool, true, false, cond, ltb, leb, List, [], ◌++◌, length, take, drop, set, Option, Some, None, refl, ap, subst, ◌∙◌, inl, inr, arith}
+use Rattle.std.specs.Prelude.{is_none, ◌&&◌}
+use Rattle.std.proofs.lemmas.Bool.{le-ltb, ltb-true, leb-true, and_parts}
+use Rattle.std.proofs.lemmas.List.{take_all, append-nil}
+use Rattle.std.proofs.Math.ListN.{drop_of_length-le}
+use Rattle.blocks.specs.Block.{overwritten}
+use Rattle.model.specs.declared.types.image.Form.{Form}
+use Rattle.model.specs.declared.types.image.File.{File}
+use Rattle.model.specs.declared.types.operations.Op.{Op}
+use Rattle.model.specs.declared.types.operations.Op.TheVariants.{Create, Write, Trunc, Remove}
+use Rattle.model.specs.declared.types.operations.Reply.{Reply}
+use Rattle.model.specs.declared.types.operations.Reply.TheVariants.{Made, NoInode, Wrote, Done, BadOffset, TooBig, TooLong, BadType}
+use Rattle.model.specs.Files.{Files, file_in}
+use Rattle.model.specs.Layout.{greatest_size}
+use Rattle.model.specs.Operations.{after, after_refusal, after_done, after_create, after_at, after_on, write_refusal, no_file_refusal, is_kind, transfer_limit, may_have_written, with_bytes}
+use Rattle.model.specs.Lemmas.Runs.{where_true_some}
+use Rattle.calls.specs.Files.{without_bytes, with_more, emptied, appended, empty_file, MayAppend}
+
+-- ---- a creation
+
+-- the file of a free number was made
+pub record HasMade (files : Files) (kind i : ℕ) (new : Files) : Type 0 where
+  pub some : 1 ≤ i
+  pub below : i < length files
+  pub free : file_in files i ≡ None
+  pub made : new ≡ set files i (empty_file kind)
+
+free_of : (o : Option File) → is_none o ≡ true → o ≡ None
+free_of None h = refl
+free_of (Some file) h = absurd (cc h)
+
+created : (files : Files) (kind : ℕ) (reply : Reply) (new : Files) → after_create files kind reply ≡ Some new →
+    ((i : ℕ) × (reply ≡ Made i) × HasMade files kind i new) ⊎ ((reply ≡ NoInode) × (new ≡ files))
+created files kind (Made i) new h =
+    let made = where_true_some (ltb 0 i && ltb i (length files) && is_none (file_in files i)) _ new h in
+    let first = and_parts (ltb 0 i && ltb i (length files)) (is_none (file_in files i)) made.0 in
+    let within = and_parts (ltb 0 i) (ltb i (length files)) first.0 in
+    let low = ltb-true 0 i within.0 in
+    inl (
+      i,
+      refl,
+      record {
+        some = omega arith;
+        below = ltb-true i (length files) within.1;
+        free = free_of (file_in files i) first.1;
+        made = made.1;
+      },
+    )
+created files kind NoInode new h = inr (refl, cc h)
+created files kind reply new h = absurd (cc h)
+
+pub after_creation : (form : Form) (files : Files) (kind : ℕ) (reply : Reply) (new : Files) → is_kind kind ≡ true →
+    after form files (Create kind) reply ≡ Some new →
+    ((i : ℕ) × (reply ≡ Made i) × HasMade files kind i new) ⊎ ((reply ≡ NoInode) × (new ≡ files))
+unfolding after
+after_creation form files kind reply new is h =
+    created files kind reply new
+    (subst (λ (b : Bool). after_refusal (cond b None (Some BadType)) files (Create kind) reply ≡ Some new) is h)
+
+-- ---- what is done to a file that is there
+
+-- it isn't refused
+allowed : (files : Files) (o : Option File) (op : Op) (reply : Reply) (new : Files) → o ≢ None →
+    after_refusal (no_file_refusal o) files op reply ≡ Some new → after_done files op reply ≡ Some new
+allowed files None op reply new there h = absurd (there refl)
+allowed files (Some file) op reply new there h = h
+
+removed_on : (files : Files) (i : ℕ) (file : File) (reply : Reply) (new : Files) →
+    after_on files i file (Remove i) reply ≡ Some new → (reply ≡ Done) × (new ≡ set files i None)
+removed_on files i file Done new h = (refl, cc h)
+removed_on files i file reply new h = absurd (cc h)
+
+removed : (files : Files) (i : ℕ) (o : Option File) (reply : Reply) (new : Files) →
+    after_at files i o (Remove i) reply ≡ Some new → (reply ≡ Done) × (new ≡ set files i None)
+removed files i None reply new h = absurd (cc h)
+removed files i (Some file) reply new h = removed_on files i file reply new h
+
+pub after_removal : (form : Form) (files : Files) (i : ℕ) (reply : Reply) (new : Files) → file_in files i ≢ None →
+    after form files (Remove i) reply ≡ Some new → (reply ≡ Done) × (new ≡ set files i None)
+unfolding after
+after_removal form files i reply new there h =
+    removed files i (file_in files i) reply new (allowed files (file_in files i) (Remove i) reply new there h)
+
+emptied_on : (files : Files) (i : ℕ) (file : File) (reply : Reply) (new : Files) →
+    after_on files i file (Trunc i) reply ≡ Some new → (reply ≡ Done) × (new ≡ set files i (with_bytes file []))
+emptied_on files i file Done new h = (refl, cc h)
+emptied_on files i file reply new h = absurd (cc h)
+
+emptied_at : (files : Files) (i : ℕ) (o : Option File) (reply : Reply) (new : Files) →
+    after_at files i o (Trunc i) reply ≡ Some new → (reply ≡ Done) × (new ≡ set files i (without_bytes o))
+emptied_at files i None reply new h = absurd (cc h)
+emptied_at files i (Some file) reply new h = emptied_on files i file reply new h
+
+pub after_emptying : (form : Form) (files : Files) (i : ℕ) (reply : Reply) (new : Files) → file_in files i ≢ None →
+    after form files (Trunc i) reply ≡ Some new → (reply ≡ Done) × (new ≡ emptied files i)
+unfolding after
+after_emptying form files i reply new there h =
+    emptied_at files i (file_in files i) reply new (allowed files (file_in files i) (Trunc i) reply new there h)
+
+-- ---- a write at a file's end
+
+-- the first of these bytes were written, at the end of the file of number i
+pub record HasWritten (files : Files) (i : ℕ) (bytes : List ℕ) (count : ℕ) (new : Files) : Type 0 where
+  pub few : count ≤ length bytes
+  pub made : new ≡ appended files i (take count bytes)
+
+-- bytes that are written over the end of others come behind them
+overwritten-end : (old : List ℕ) (off : ℕ) (bytes : List ℕ) → length old ≡ off → overwritten old off bytes ≡ old ++ bytes
+overwritten-end old off bytes end =
+    let kept : take off old ≡ old = take_all off old (omega arith) in
+    let none : drop (off + length bytes) old ≡ [] = drop_of_length-le old (omega arith) in
+    rw (kept, none, append-nil) refl
+
+written_on : (files : Files) (i off : ℕ) (bytes : List ℕ) (file : File) (reply : Reply) (new : Files) → length file.bytes ≡ off →
+    after_on files i file (Write i off bytes) reply ≡ Some new →
+    (k : ℕ) × (reply ≡ Wrote k) × (k ≤ length bytes) × (new ≡ set files i (with_bytes file (file.bytes ++ take k bytes)))
+written_on files i off bytes file (Wrote k) new end h =
+    let done = where_true_some (may_have_written (length file.bytes) off (length bytes) k) _ new h in
+    let few = (and_parts (leb k (length bytes)) _ done.0).0 in (
+      k,
+      refl,
+      leb-true k (length bytes) few,
+      done.1 ∙ ap (λ (b : List ℕ). set files i (with_bytes file b)) (overwritten-end file.bytes off (take k bytes) end),
+    )
+written_on files i off bytes file reply new end h = absurd (cc h)
+
+written : (form : Form) (files : Files) (i off : ℕ) (bytes : List ℕ) (o : Option File) (reply : Reply) (new : Files) →
+    file_in files i ≡ o → MayAppend form o off (length bytes) →
+    after_refusal (write_refusal form o off (length bytes)) files (Write i off bytes) reply ≡ Some new →
+    (k : ℕ) × (reply ≡ Wrote k) × (k ≤ length bytes) × (new ≡ set files i (with_more o (take k bytes)))
+written form files i off bytes None reply new is room h = absurd (cc room.size)
+written form files i off bytes (Some file) reply new is room h =
+    let end : length file.bytes ≡ off = cc room.size in
+    let short = room.short in
+    let inside : ltb (length file.bytes) off ≡ false = le-ltb (length file.bytes) off (omega arith) in
+    let small : ltb (greatest_size form) (off + length bytes) ≡ false = le-ltb (greatest_size form) (off + length bytes) short in
+    let first = subst (λ (b : Bool). after_refusal (cond b (Some BadOffset) (cond (ltb (greatest_size form) (off + length bytes)) (Some TooBig) None)) files (Write i off bytes) reply ≡ Some new) inside h in
+    let second = subst (λ (b : Bool). after_refusal (cond b (Some TooBig) None) files (Write i off bytes) reply ≡ Some new) small first in
+    written_on files i off bytes file reply new end
+    (subst (λ (f : Option File). after_at files i f (Write i off bytes) reply ≡ Some new) is second)
+
+pub after_write : (form : Form) (files : Files) (i off : ℕ) (bytes : List ℕ) (reply : Reply) (new : Files) →
+    MayAppend form (file_in files i) off (length bytes) → after form files (Write i off bytes) reply ≡ Some new →
+    (k : ℕ) × (reply ≡ Wrote k) × HasWritten files i bytes k new
+unfolding after
+after_write form files i off bytes reply new room h =
+    let few : ltb transfer_limit (length bytes) ≡ false = le-ltb transfer_limit (length bytes) room.few in
+    let allowed = subst (λ (b : Bool). after_refusal (cond b (Some TooLong) (write_refusal form (file_in files i) off (length bytes))) files (Write i off bytes) reply ≡ Some new) few h in
+    let (k, is, below, made) = written form files i off bytes (file_in files i) reply new refl room allowed in
+    (k, is, record { few = below; made = made })

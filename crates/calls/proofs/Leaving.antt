@@ -1,0 +1,107 @@
+-- What a stop in the midst of a call leaves.
+use Rattle.std.proofs.Common.{◌≡◌, ◌∙◌, ◌≤◌, ℕ, Bool, true, false, cond, ◌&&◌, leb, List, [], ◌∷◌, ◌++◌, Option, Some, None, refl, sym, ap, subst, inl, inr, ⊎_elim}
+use Rattle.std.specs.Prelude.{◌⊎◌, Result, Ok}
+use Rattle.blocks.specs.Disk.{Image, LeavesOnly}
+use Rattle.blocks.specs.declared.disk.Disk.{Ghosts}
+use Rattle.model.specs.declared.types.image.Form.{Form}
+use Rattle.model.specs.declared.types.operations.Entry.{Entry}
+use Rattle.model.specs.declared.types.operations.Op.{Op}
+use Rattle.model.specs.declared.types.operations.Reply.{Reply}
+use Rattle.model.specs.Files.{Files, files_of}
+use Rattle.model.specs.Journal.{after_answer, and_then, is_changing, kept, replay}
+use Rattle.model.specs.Layout.{form_of, inode_count_of}
+use Rattle.model.specs.Log.{recovered}
+use Rattle.model.specs.Operations.{after}
+use Rattle.model.specs.Lemmas.Runs.{and_then_some, replays_in_parts}
+use Rattle.model.specs.Lemmas.Frames.{form_same}
+use Rattle.journal.specs.Keeps.{KeepsBetween}
+use Rattle.journal.specs.Most.{most_of}
+use Rattle.journal.specs.Lemmas.Kept.{kept-append}
+use Rattle.kernel.specs.declared.types.Step.{Step}
+use Rattle.calls.specs.declared.fault.CallFault.{CallFault}
+use Rattle.calls.specs.Calls.{KeepsCall, MayReply, image_on}
+use Rattle.calls.specs.Stepping.{Plain}
+use Rattle.calls.proofs.Called.{IsAnswered, IsCall, call_lists, call_opening, call_runs, last_same}
+use Rattle.calls.proofs.Rest.{IsSettledDisk, kept_before, settled_disk}
+use Rattle.calls.proofs.Stages.{ListIs}
+
+-- what is kept with one entry more: nothing more, or this entry
+one_kept : (form : Form) (files last : Files) (e : Entry) (b : Bool) → replay form files (cond b (e ∷ []) []) ≡ Some last
+    → (last ≡ files) ⊎ ((r : Reply) × (e.reply ≡ Some r) × (after form files e.op r ≡ Some last))
+one_kept form files last e false run = inl (let same : Some files ≡ Some last = run in cc same)
+one_kept form files last e true run = by_reply e.reply refl
+  where
+    found : (o : Option Reply) → e.reply ≡ o → (mid : Files) × (after_answer form files e.op o ≡ Some mid) × (Some mid ≡ Some last)
+    found o is = and_then_some (after_answer form files e.op o) (λ f. Some f) last (subst (λ (p : Option Reply). and_then (after_answer form files e.op p) (λ f. Some f) ≡ Some last) is run)
+
+    by_reply : (o : Option Reply) → e.reply ≡ o → (last ≡ files) ⊎ ((r : Reply) × (e.reply ≡ Some r) × (after form files e.op r ≡ Some last))
+    by_reply None is = let f = found None is in absurd (cc f.1)
+    by_reply (Some r) is = let f = found (Some r) is in inr (r, is, f.1 ∙ f.2)
+
+module _ {D N : Type 0} (disk : Ghosts D N) (has_now : (d : D) → disk.leaves d (disk.moment d) (disk.image d)) (op : Op) (r : Step) (k m : Plain D) (call : IsCall disk op r k m) (result : Result Reply CallFault)
+    (may : (e : Entry) (r : Reply) → m.world.journal.list ≡ k.world.journal.list ++ e ∷ [] → e.reply ≡ Some r → MayReply result r) where
+  abbrev x : Image
+  x = image_on disk.image k
+
+  abbrev form : Form
+  form = form_of (disk.image k.opening)
+
+  abbrev start : Files
+  start = files_of (disk.image k.opening)
+
+  abbrev n : ℕ
+  n = inode_count_of (disk.image k.opening)
+
+  abbrev Leaves : Image → Type 0
+  Leaves z = (files_of (recovered z) ≡ files_of x) ⊎ ((r : Reply) × MayReply result r × (after (form_of x) (files_of x) op r ≡ Some (files_of (recovered z))))
+
+  was : IsSettledDisk disk k
+  was = settled_disk disk has_now k call.known call.rests.well call.rests.one call.rests.idle
+
+  kept_after : (c : ℕ) (z : Image) → k.store.volume.log.committed ≤ c → ListIs op k.world.journal.list m.world.journal.list → replay form start (kept n m.world.journal.list c) ≡ Some (files_of (recovered z)) → Leaves z
+  kept_after c z low (inl same) run =
+      let before : Some (files_of x) ≡ Some (files_of (recovered z)) = sym (kept_before disk k was c low) ∙ ap (λ (es : List Entry). replay form start (kept n es c)) (sym same) ∙ run in
+      inl (cc before)
+  kept_after c z low (inr more) run =
+      let e = more.entry in
+      let es = k.world.journal.list in
+      let split : kept n m.world.journal.list c ≡ kept n es c ++ kept n (e ∷ []) c = ap (λ (l : List Entry). kept n l c) more.is ∙ kept-append n c es (e ∷ []) in
+      let both = sym (replays_in_parts form start (kept n es c) (kept n (e ∷ []) c)) ∙ ap (λ (l : List Entry). replay form start l) (sym split) ∙ run in
+      let last : replay form (files_of x) (kept n (e ∷ []) c) ≡ Some (files_of (recovered z)) = subst (λ (o : Option Files). and_then o (λ f. replay form f (kept n (e ∷ []) c)) ≡ Some (files_of (recovered z))) (kept_before disk k was c low) both in
+      elim (one_kept form (files_of x) (files_of (recovered z)) e (is_changing n e.op && leb e.group c) last) [
+        | inl same ↦ inl same
+        | inr made ↦ inr (
+          made.0,
+          may e made.0 more.is made.1,
+          subst (λ (f : Form). after f (files_of x) op made.0 ≡ Some (files_of (recovered z))) (sym (form_same (disk.image k.opening) x was.super))
+              (subst (λ (o : Op). after form (files_of x) o made.0 ≡ Some (files_of (recovered z))) more.same made.2),
+        )
+      ]
+
+  keeps_call : (most : ℕ) (z : Image) → ListIs op k.world.journal.list m.world.journal.list → KeepsBetween k.store.volume.log.committed most (disk.image m.opening) m.world.journal.list z → KeepsCall x op result z
+  keeps_call most z lists kept_so =
+      record {
+        log = kept_so.keeps.log;
+        sound = kept_so.keeps.sound;
+        files = kept_after kept_so.groups z kept_so.low lists
+            (subst (λ (d : D). replay (form_of (disk.image d)) (files_of (disk.image d)) (kept (inode_count_of (disk.image d)) m.world.journal.list kept_so.groups) ≡ Some (files_of (recovered z))) (call_opening disk op r k m call) kept_so.keeps.files);
+      }
+
+  -- a stop in the midst of a call
+  pub call_leaves : LeavesOnly disk.moment disk.leaves k.store.volume.device m.store.volume.device (KeepsCall (image_on disk.image k) op result)
+  call_leaves =
+      let leaves = (call_runs disk op r k m call).stop.leaves in
+      let lists = call_lists disk op r k m call in
+      record {
+        later = leaves.later;
+        each = λ z left. keeps_call (most_of m.store.volume) z lists (leaves.each z left);
+        before = λ t z le left. ⊎_elim (λ old. inl old) (λ kept_so. inr (keeps_call (most_of m.store.volume) z lists kept_so)) (leaves.before t z le left);
+        keeps = leaves.keeps;
+      }
+
+-- only the reply that was given may have come
+pub may_given : {D : Type 0} (op : Op) (k m : Plain D) (is : IsAnswered op k m) (e : Entry) (r : Reply) → m.world.journal.list ≡ k.world.journal.list ++ e ∷ [] → e.reply ≡ Some r → MayReply (Ok is.answer.reply) r
+may_given op k m is e r list replied =
+    let entry : e ≡ is.entry = last_same k.world.journal.list k.world.journal.list e is.entry (sym list ∙ is.list) in
+    let both : Some r ≡ Some is.answer.reply = sym replied ∙ ap (λ (f : Entry). f.reply) entry ∙ is.replied in
+    cc both

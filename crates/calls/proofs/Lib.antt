@@ -1,0 +1,12 @@
+pub mod Stages
+pub mod Called
+pub mod Idle
+pub mod Searches
+pub mod Shorts
+pub mod Unanswered
+pub mod Rest
+pub mod Leaving
+pub mod Opened
+pub mod After
+pub mod Calls
+pub mod Stopping

@@ -1,0 +1,126 @@
+use Rattle.std.proofs.Common.{◌≡◌, ◌∙◌, ◌≤◌, ◌⊎◌, ◌+◌, ◌^◌, length, rules, subst, sym, ap, ⊎_elim}
+use Rattle.std.specs.Prelude.{Ok, Err}
+use Rattle.blocks.specs.Calls.{OnlyReads}
+use Rattle.blocks.specs.Disk.{LeavesOnly}
+use Rattle.ports.specs.History.{first_in}
+use Rattle.ports.specs.Lanes.{polled_after}
+use Rattle.ports.specs.Queues.{polled, waiting}
+use Rattle.journal.specs.Processes.{process}
+use Rattle.kernel.specs.Known.{Known}
+use Rattle.kernel.specs.declared.types.Step.{Step}
+use Rattle.kernel.specs.declared.types.Step.TheVariants as step
+use Rattle.kernel.specs.Moves.{MakesSteps}
+use Rattle.calls.specs.declared.fault.CallFault.TheVariants as fault
+use Rattle.calls.specs.Calls.{Calls, KeepsCall, image_on}
+use Rattle.calls.specs.Stepping.{Plain, plain_herald, plain_queues}
+use Rattle.calls.proofs.Called.{IsCall, call_looks, call_names, call_opening, is_answered, refused_reads, rests_again}
+use Rattle.calls.proofs.Leaving.{call_leaves, may_given}
+use Rattle.calls.proofs.Rest.{call_made}
+use Rattle.calls.proofs.Unanswered.{EndsSo, call_ends, has_failed, is_faultless, is_handed_in}
+use Rattle.calls.proofs.calling.call.Given.{Over}
+use Rattle.calls.proofs.calling.call.Goals.{After-sleeps_for_cause}
+use Rattle.calls.proofs.calling.call.Goals as goal
+
+-- once its steps are made
+called : (g : Over) (c : After-sleeps_for_cause g) → IsCall g.D.Disk c.args.op c.make_steps-step.result c.args.kernel.now c.make_steps-step.new.kernel
+called g c =
+    let l = c.submit.new.self in
+    record {
+      i = l.intake;
+      rests = c.requires.rests;
+      few = c.requires.few;
+      waits = c.in-Ok.ensures.ok;
+      fetched = c.submit.ensures.answers.1;
+      known = c.known.ensures;
+      known_then = subst (λ (s : Plain _). Known g.D.Disk plain_queues plain_herald s) c.submit.ensures.same c.known-2.ensures;
+      known_now = c.known-3.ensures;
+      makes = subst (λ (s : Plain _). MakesSteps g.D.Disk plain_queues plain_herald 0 c.make_steps-step.result s c.make_steps-step.new.kernel) c.submit.ensures.same c.make_steps-step.ensures.makes;
+      names = c.make_steps-step.ensures.names 0;
+    }
+
+pub unreachable-requires : goal.unreachable-requires
+unreachable-requires g c =
+    let k = c.args.kernel.now in
+    let full : (16 ≤ length (waiting k.intake 0)) ⊎ ((process k.world 0).begun + length (waiting k.intake 0) + 1 ≡ 2 ^ 64) = search rules in
+    is_handed_in g.D.Disk k c.known.ensures c.requires.rests c.requires.few full
+
+-- the disk failed
+pub returns-in-Some : goal.returns-in-Some
+returns-in-Some g c =
+    let op = c.args.op in
+    let k = c.args.kernel.now in
+    let m = c.make_steps-step.new.kernel in
+    let r = c.make_steps-step.result in
+    let call = called g (goal.at.returns-in-Some g c).After-sleeps_for_cause in
+    record {
+      rests = search rules;
+      calls = search rules;
+      refused = has_failed g.D.Disk op r k m call c.in-Some.fault (search rules);
+      leaves = call_leaves g.D.Disk g.met.D.Disk.has_now op r k m call (Err (fault.Disk c.in-Some.fault)) (λ e reply list told. tt);
+      looks = call_looks g.D.Disk op r k m call;
+      opening = call_opening g.D.Disk op r k m call;
+      name = call_names g.D.Disk op r k m call;
+    }
+
+-- memory was refused
+pub returns-in-NoMemory : goal.returns-in-NoMemory
+returns-in-NoMemory g c =
+    let op = c.args.op in
+    let k = c.args.kernel.now in
+    let m = c.make_steps-step.new.kernel in
+    let r = c.make_steps-step.result in
+    let call = called g (goal.at.returns-in-NoMemory g c).After-sleeps_for_cause in
+    record {
+      rests = search rules;
+      calls = search rules;
+      refused = (refused_reads g.D.Disk op r k m call (search rules), is_faultless g.D.Disk op r k m call (search rules));
+      leaves = call_leaves g.D.Disk g.met.D.Disk.has_now op r k m call (Err fault.NoMemory) (λ e reply list told. tt);
+      looks = call_looks g.D.Disk op r k m call;
+      opening = call_opening g.D.Disk op r k m call;
+      name = call_names g.D.Disk op r k m call;
+    }
+
+-- the operation was answered
+pub returns-in-Some-poll : goal.returns-in-Some-poll
+returns-in-Some-poll g c =
+    let op = c.args.op in
+    let k = c.args.kernel.now in
+    let m = c.make_steps-step.new.kernel in
+    let r = c.make_steps-step.result in
+    let call = called g (goal.at.returns-in-Some-poll g c).After-sleeps_for_cause in
+    let done = is_answered g.D.Disk op r k m call (search rules) in
+    let same = sym c.in-Some-poll.is ∙ c.poll.ensures.oldest ∙ ap first_in done.only in
+    let answer : c.in-Some-poll.answer ≡ done.answer = cc same in
+    record {
+      rests = rests_again g.D.Disk op k m c.poll.new.self c.known-3.ensures done (search rules) c.poll.ensures.same c.poll.ensures.waiting
+          (c.poll.ensures.polled ∙ ap (λ a. polled_after a (polled m.intake 0)) c.poll.ensures.oldest);
+      calls = subst (λ n. Calls g.D.Disk.image op k n c.in-Some-poll.answer.reply) (sym c.poll.ensures.same)
+          (subst (λ a. Calls g.D.Disk.image op k (record m { intake = c.poll.new.self.intake }) a.reply) (sym answer) (call_made g.D.Disk g.met.D.Disk.has_now op r k m call (search rules) (search rules) done c.poll.new.self.intake));
+      refused = search rules;
+      leaves = subst (λ n. LeavesOnly g.D.Disk.moment g.D.Disk.leaves k.store.volume.device n.store.volume.device (KeepsCall (image_on g.D.Disk.image k) op (Ok c.in-Some-poll.answer.reply))) (sym c.poll.ensures.same)
+          (subst (λ a. LeavesOnly g.D.Disk.moment g.D.Disk.leaves k.store.volume.device m.store.volume.device (KeepsCall (image_on g.D.Disk.image k) op (Ok a.reply))) (sym answer)
+          (call_leaves g.D.Disk g.met.D.Disk.has_now op r k m call (Ok done.answer.reply) (λ e reply. may_given op k m done e reply)));
+      looks = λ look. subst (λ n. OnlyReads g.D.Disk k.store.volume.device n.store.volume.device) (sym c.poll.ensures.same) (call_looks g.D.Disk op r k m call look);
+      opening = ap (λ n. n.opening) c.poll.ensures.same ∙ call_opening g.D.Disk op r k m call;
+      name = ap (λ n. g.D.Disk.name n.store.volume.device) c.poll.ensures.same ∙ call_names g.D.Disk op r k m call;
+    }
+
+pub unreachable-requires-in-None : goal.unreachable-requires-in-None
+unreachable-requires-in-None g c =
+    let call = called g (goal.at.unreachable-requires-in-None g c).After-sleeps_for_cause in
+    let done = is_answered g.D.Disk c.args.op c.make_steps-step.result c.args.kernel.now c.make_steps-step.new.kernel call (search rules) in
+    let none = sym c.in-None.is ∙ c.poll.ensures.oldest ∙ ap first_in done.only in
+    cc none
+
+-- its steps end with its answer, or for want of memory
+pub unreachable-requires-in-Moved : goal.unreachable-requires-in-Moved
+unreachable-requires-in-Moved g c =
+    let m = c.make_steps-step.new.kernel in
+    let r = c.make_steps-step.result in
+    let call = called g (goal.at.unreachable-requires-in-Moved g c).After-sleeps_for_cause in
+    let well = sym c.fault.ensures ∙ c.in_default-fault.is in
+    let ends : (q : Step) → r ≡ q → EndsSo q = λ q is. call_ends g.D.Disk c.sleeps_for_cause.ensures.sole c.args.op c.args.kernel.now m q well (subst (λ a. IsCall g.D.Disk c.args.op a c.args.kernel.now m) is call) in
+    ⊎_elim (λ moved. ends step.Moved moved)
+    (λ o. ⊎_elim (λ asleep. ends (step.Sleeping asleep.0) asleep.1)
+    (λ p. ⊎_elim (λ idle. ends step.Idle idle) (λ q. ⊎_elim (λ shut. ends step.ShutDown shut) (λ halted. ends step.Halted halted) q) p) o)
+    c.in-Moved.is

@@ -1,0 +1,82 @@
+-- What changes make of the files on a disk.
+use Rattle.std.specs.Prelude.{◌≡◌, ◌≢◌, ℕ, ◌+◌, ◌<◌, ◌≤◌, Bool, true, false, List, [], ◌++◌, length, take, Option, Some, None, slice_set}
+use Rattle.blocks.specs.Disk.{Image}
+use Rattle.model.specs.declared.types.image.Form.{Form}
+use Rattle.model.specs.declared.types.image.File.{File}
+use Rattle.model.specs.Files.{Files, file_in, files_of}
+use Rattle.model.specs.Layout.{greatest_size, is_marked}
+use Rattle.model.specs.Operations.{transfer_limit, with_bytes}
+use Rattle.calls.specs.Calls.{image_on}
+use Rattle.calls.specs.Stepping.{Plain}
+
+-- the files on a kernel's disk
+abbrev pub files_on : {D : Type 0} → (D → Image) → Plain D → Files
+files_on image k = files_of (image_on image k)
+
+-- an empty file of that type
+abbrev pub empty_file : ℕ → Option File
+empty_file kind = Some (record { kind = kind; bytes = [] })
+
+-- how many bytes a file has, if there is one
+abbrev pub size_of : Option File → Option ℕ
+size_of None = None
+size_of (Some file) = Some (length file.bytes)
+
+-- the same file without its bytes
+abbrev pub without_bytes : Option File → Option File
+without_bytes None = None
+without_bytes (Some file) = with_bytes file []
+
+-- the same file with more bytes behind its own
+abbrev pub with_more : Option File → List ℕ → Option File
+with_more None bytes = None
+with_more (Some file) bytes = with_bytes file (file.bytes ++ bytes)
+
+-- the files once file i was emptied
+abbrev pub emptied : Files → ℕ → Files
+emptied files i = slice_set files i (without_bytes (file_in files i))
+
+-- the files once these bytes were written behind those of file i
+abbrev pub appended : Files → ℕ → List ℕ → Files
+appended files i bytes = slice_set files i (with_more (file_in files i) bytes)
+
+-- an empty file was made at the lowest free number
+pub record MakesFile (kind i : ℕ) (old new : Files) : Type 0 where
+  pub some : 1 ≤ i
+  pub below : i < length old
+  pub free : file_in old i ≡ None
+  pub lowest : (j : ℕ) → 1 ≤ j → j < i → file_in old j ≢ None
+  pub files : new ≡ slice_set old i (empty_file kind)
+
+-- no file was made, since each number is taken
+pub record MakesNone (old new : Files) : Type 0 where
+  pub full : (j : ℕ) → 1 ≤ j → j < length old → file_in old j ≢ None
+  pub files : new ≡ old
+
+-- what a creation makes of the files, by its answer
+abbrev pub Creates : ℕ → Option ℕ → Files → Files → Type 0
+Creates kind (Some i) old new = MakesFile kind i old new
+Creates kind None old new = MakesNone old new
+
+-- So many bytes may be written at once behind those of a file, whose end is at `off`: no more than
+-- one write moves, and then it is no longer than a file of that form can be.
+pub record MayAppend (form : Form) (file : Option File) (off count : ℕ) : Type 0 where
+  pub size : size_of file ≡ Some off
+  pub few : count ≤ transfer_limit
+  pub short : off + count ≤ greatest_size form
+
+-- no block of an image is free
+abbrev pub IsFull : Image → Type 0
+IsFull x = (b : ℕ) → b < length x → is_marked x b ≡ true
+
+-- only the first of these bytes were written behind those of file i, and no block is free
+pub record AppendsPart (i : ℕ) (bytes : List ℕ) (x y : Image) : Type 0 where
+  pub count : ℕ
+  pub fewer : count < length bytes
+  pub files : files_of y ≡ appended (files_of x) i (take count bytes)
+  pub full : IsFull y
+
+-- what is made of an image where bytes are written behind those of file i: all of them, or not
+abbrev pub Appends : Bool → ℕ → List ℕ → Image → Image → Type 0
+Appends true i bytes x y = files_of y ≡ appended (files_of x) i bytes
+Appends false i bytes x y = AppendsPart i bytes x y

@@ -1,0 +1,7 @@
+pub mod Stepping
+pub mod Calls
+pub mod Opening
+pub mod Answered
+pub mod Files
+pub mod Stopped
+pub mod Lemmas

@@ -1,3 +1,0 @@
-pub mod After
-pub mod Calls
-pub mod Stopping

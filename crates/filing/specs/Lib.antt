@@ -1,4 +1,0 @@
-pub mod Answered
-pub mod Files
-pub mod Stopped
-pub mod Lemmas

@@ -1,9 +1,0 @@
-pub mod Stages
-pub mod Called
-pub mod Idle
-pub mod Searches
-pub mod Shorts
-pub mod Unanswered
-pub mod Rest
-pub mod Leaving
-pub mod Opened

@@ -1,3 +1,0 @@
-pub mod Stepping
-pub mod Calls
-pub mod Opening

@@ -1,0 +1,122 @@
+-- What calls one after the other come to.
+use Rattle.std.proofs.Common.{◌≡◌, ◌∙◌, ℕ, ◌<◌, List, [], length, take, Option, Some, refl, sym, ap, subst, inl, inr}
+use Rattle.blocks.specs.Disk.{Image, Rose}
+use Rattle.blocks.specs.declared.disk.Disk.{Ghosts}
+use Rattle.model.specs.Files.{Files, files_of}
+use Rattle.model.specs.Soundness.{IsSound}
+use Rattle.calls.specs.Answered.{IsAnswered}
+use Rattle.calls.specs.Files.{files_on}
+use Rattle.calls.specs.Calls.{IsUncalled, IsWhole, Rests, image_on}
+use Rattle.calls.specs.Stepping.{Plain}
+use Rattle.calls.specs.declared.fault.CallFault.{CallFault}
+use Rattle.calls.specs.declared.fault.CallFault.TheVariants as fault
+use Rattle.transfer.specs.Places.{IsPlace, MayPut, PutsAll, put_at}
+use Rattle.transfer.specs.PutWriting.{AreAnswered, IsCutOff, MayCall, PutsPart}
+use Rattle.transfer.proofs.PlaceLemmas.{put_at_again}
+
+pub whole_then : (x y z : Image) → IsWhole x y → IsWhole y z → IsWhole x z
+whole_then x y z first second = record {
+  sound = second.sound;
+  size = second.size ∙ first.size;
+  super = second.super ∙ first.super;
+}
+
+whole_same : (x y : Image) → IsSound x → y ≡ x → IsWhole x y
+whole_same x y sound same = subst (λ (z : Image). IsWhole x z) (sym same) (record { sound = sound; size = refl; super = refl })
+
+module _ {D N : Type 0} (disk : Ghosts D N) where
+  pub answered_none : {most : ℕ} (k : Plain D) → MayCall disk most k → AreAnswered disk k k
+  answered_none k ready = record {
+    rests = ready.rests;
+    whole = record { sound = ready.sound; size = refl; super = refl };
+    form = refl;
+    opening = refl;
+  }
+
+  -- a call more
+  pub answered_then : (k l m : Plain D) → AreAnswered disk k l → IsAnswered disk l m → m.opening ≡ l.opening → AreAnswered disk k m
+  answered_then k l m before call opening = record {
+    rests = call.rests;
+    whole = whole_then (image_on disk.image k) (image_on disk.image l) (image_on disk.image m) before.whole call.whole;
+    form = call.form ∙ before.form;
+    opening = opening ∙ before.opening;
+  }
+
+  pub answered_both : (k l m : Plain D) → AreAnswered disk k l → AreAnswered disk l m → AreAnswered disk k m
+  answered_both k l m before calls = record {
+    rests = calls.rests;
+    whole = whole_then (image_on disk.image k) (image_on disk.image l) (image_on disk.image m) before.whole calls.whole;
+    form = calls.form ∙ before.form;
+    opening = calls.opening ∙ before.opening;
+  }
+
+  -- no call failed
+  pub faults_same : (k l : Plain D) → Rests disk.fault_count k → AreAnswered disk k l → disk.fault_count l.store.volume.device ≡ disk.fault_count k.store.volume.device
+  faults_same k l rests before =
+      before.rests.faultless ∙ ap disk.fault_count before.opening ∙ sym rests.faultless
+
+  -- ---- a call that is not answered
+
+  cut_memory : (inum : Option ℕ) (bytes : List ℕ) (k l : Plain D) (e : D) → Rests disk.fault_count k → AreAnswered disk k l →
+      MayPut (files_on disk.image k) inum bytes (files_on disk.image l) → IsUncalled disk l.store.volume.device e fault.NoMemory →
+      IsCutOff disk inum bytes k.store.volume.device e fault.NoMemory
+  cut_memory inum bytes k l e rests before files why =
+      let same : disk.image e ≡ image_on disk.image l = why.0.image in (
+        why.1 ∙ faults_same k l rests before,
+        record {
+          whole = whole_then (image_on disk.image k) (image_on disk.image l) (disk.image e) before.whole (whole_same (image_on disk.image l) (disk.image e) before.whole.sound same);
+          files = subst (λ (y : Image). MayPut (files_on disk.image k) inum bytes (files_of y)) (sym same) files;
+        },
+      )
+
+  pub cut_after : (inum : Option ℕ) (bytes : List ℕ) (k l : Plain D) (e : D) (cause : CallFault) → Rests disk.fault_count k → AreAnswered disk k l →
+      MayPut (files_on disk.image k) inum bytes (files_on disk.image l) → IsUncalled disk l.store.volume.device e cause →
+      IsCutOff disk inum bytes k.store.volume.device e cause
+  cut_after inum bytes k l e (fault.Disk cause) rests before files why =
+      subst (λ (n : ℕ). Rose n (disk.fault_count e)) (faults_same k l rests before) why
+  cut_after inum bytes k l e fault.NoMemory rests before files why = cut_memory inum bytes k l e rests before files why
+
+  -- ---- behind the call that made the file, or emptied it
+
+  module _ (inum : Option ℕ) (bytes : List ℕ) (k l : Plain D) (i : ℕ) (below : i < length (files_on disk.image k))
+      (place : IsPlace (files_on disk.image k) inum i) (begun : files_on disk.image l ≡ put_at (files_on disk.image k) i []) where
+    -- what was put behind it
+    pub put_behind : (more : List ℕ) (new : Files) → new ≡ put_at (files_on disk.image l) i more → new ≡ put_at (files_on disk.image k) i more
+    put_behind more new is =
+        is ∙ ap (λ (files : Files). put_at files i more) begun ∙ put_at_again (files_on disk.image k) i [] more below
+
+    pub all_behind : (new : Files) → new ≡ put_at (files_on disk.image l) i bytes → PutsAll (files_on disk.image k) inum bytes new i
+    all_behind new is = record { place = place; files = put_behind bytes new is }
+
+    pub part_behind : (y : Image) → PutsPart i bytes (image_on disk.image l) y → PutsPart i bytes (image_on disk.image k) y
+    part_behind y part = record {
+      count = part.count;
+      fewer = part.fewer;
+      files = put_behind (take part.count bytes) (files_of y) part.files;
+      full = part.full;
+    }
+
+    first_behind : (new : Files) → MayPut (files_on disk.image l) (Some i) bytes new → MayPut (files_on disk.image k) inum bytes new
+    first_behind new (inl same) = inr (record { number = i; place = place; count = 0; files = same ∙ begun })
+    first_behind new (inr first) = inr (record {
+      number = i;
+      place = place;
+      count = first.count;
+      files = put_behind (take first.count bytes) new
+          (first.files ∙ ap (λ (n : ℕ). put_at (files_on disk.image l) n (take first.count bytes)) first.place.0);
+    })
+
+    pub part_first : (y : Image) → PutsPart i bytes (image_on disk.image k) y → MayPut (files_on disk.image k) inum bytes (files_of y)
+    part_first y part = inr (record { number = i; place = place; count = part.count; files = part.files })
+
+    pub cut_behind : (e : D) (cause : CallFault) → Rests disk.fault_count k → AreAnswered disk k l → IsCutOff disk (Some i) bytes l.store.volume.device e cause →
+        IsCutOff disk inum bytes k.store.volume.device e cause
+    cut_behind e (fault.Disk cause) rests before why =
+        subst (λ (n : ℕ). Rose n (disk.fault_count e)) (faults_same k l rests before) why
+    cut_behind e fault.NoMemory rests before why = (
+      why.0 ∙ faults_same k l rests before,
+      record {
+        whole = whole_then (image_on disk.image k) (image_on disk.image l) (disk.image e) before.whole why.1.whole;
+        files = first_behind (files_of (disk.image e)) why.1.files;
+      },
+    )

@@ -1,0 +1,14 @@
+pub mod SourceLemmas
+pub mod MakingLemmas
+pub mod StageLemmas
+pub mod WritingLemmas
+pub mod CopierLemmas
+pub mod FillingLemmas
+pub mod PlaceLemmas
+pub mod CallLemmas
+pub mod NeedLemmas
+pub mod PieceLemmas
+pub mod AppendLemmas
+pub mod ImageLemmas
+pub mod OpenedLemmas
+pub mod StopLemmas

@@ -1,0 +1,121 @@
+-- What calls come to over a disk that was judged, and recovered as its kernel was opened.
+use Rattle.std.proofs.Common.{◌≡◌, ◌∙◌, ◌≤◌, ℕ, List, Option, None, length, refl, sym, ap, subst, inl, inr, ⊎_elim}
+use Rattle.blocks.specs.Calls.{OnlyReads}
+use Rattle.blocks.specs.Disk.{Image, LeavesOnly, Rose}
+use Rattle.blocks.specs.Lemmas.Moments.{joined, now_stays, started, stays}
+use Rattle.blocks.specs.declared.disk.Disk.{Ghosts}
+use Rattle.model.specs.Files.{files_of}
+use Rattle.model.specs.Lemmas.Soundness.{verdict_sound}
+use Rattle.model.specs.Log.{recovered}
+use Rattle.model.specs.Soundness.{IsSound}
+use Rattle.model.specs.Verdict.{verdict}
+use Rattle.kernel.specs.declared.types.OpenFault.{OpenFault}
+use Rattle.kernel.specs.declared.types.OpenFault.TheVariants as open_fault
+use Rattle.journal.specs.Lemmas.Leaving.{leaves_wider}
+use Rattle.opening.specs.Openings.{IsUnopened, open_refusal}
+use Rattle.calls.specs.Calls.{IsWhole, image_on}
+use Rattle.calls.specs.Opening.{IsNotOpenedSole, IsOpenedSole}
+use Rattle.calls.specs.Stepping.{Plain}
+use Rattle.wal.specs.Recovery.{IsCalm, LeavesIfCalm, RecoversAs}
+use Rattle.texts.specs.declared.faults.PutFault.TheVariants.{NoInode, Full, NoMemory}
+use Rattle.texts.specs.declared.refusal.Refusal.{Refusal}
+use Rattle.texts.specs.declared.refusal.Refusal.TheVariants.{Disk, Put, Output}
+use Rattle.transfer.specs.Judging.{IsFit}
+use Rattle.transfer.specs.Stopped.{KeepsPut, StaysPut}
+use Rattle.transfer.specs.Putting.{ComesTo, IsPut, IsUnopenedThen, IsUnput}
+use Rattle.transfer.specs.PutWriting.{CallsTo, Comes, IsUnwritten, IsWritten, KeepsPart}
+use Rattle.transfer.specs.declared.writing.Outcome.{Outcome}
+use Rattle.transfer.proofs.CallLemmas.{whole_then}
+
+module _ {D N : Type 0} (disk : Ghosts D N) (inum : Option ℕ) (bytes : List ℕ) (d mid : D) (fit : IsFit disk inum (length bytes) d mid) where
+  -- ---- no kernel is opened
+
+  pub unopened_sole : (e : D) (fault : OpenFault) → IsNotOpenedSole disk mid e fault → IsUnopened disk 1 mid e (open_refusal fault)
+  unopened_sole e fault why = ⊎_elim (λ none. inl (ap open_refusal none.0, none.1)) (λ refuses. inr (fault, refl, refuses)) why
+
+  unopened_then : (e : D) (fault : OpenFault) → IsNotOpenedSole disk mid e fault → IsUnopenedThen disk d e (open_refusal fault)
+  unopened_then e fault why = record {
+    mid = mid;
+    sound = fit.sound;
+    reads = fit.reads;
+    faults = fit.faults;
+    unopened = unopened_sole e fault why;
+  }
+
+  pub unopened : (e : D) (fault : OpenFault) → IsNotOpenedSole disk mid e fault → IsUnput disk inum bytes d e (open_refusal fault)
+  unopened e (open_fault.Check fault) why = inr (unopened_then e (open_fault.Check fault) why)
+  unopened e (open_fault.Recover fault) why = unopened_then e (open_fault.Recover fault) why
+  unopened e open_fault.NoMemory why = unopened_then e open_fault.NoMemory why
+  unopened e open_fault.ProcRange why = unopened_then e open_fault.ProcRange why
+
+  -- ---- calls were made
+
+  module _ (k : Plain D) (opened : IsOpenedSole disk mid k) where
+    begun : image_on disk.image k ≡ recovered (disk.image d)
+    begun = opened.image ∙ ap recovered fit.reads.image
+
+    faults : disk.fault_count k.store.volume.device ≡ disk.fault_count d
+    faults = ap disk.fault_count opened.device ∙ opened.faults ∙ fit.faults
+
+    comes_to : (e : D) (outcome : Outcome) → CallsTo disk inum bytes k.store.volume.device e outcome → ComesTo disk inum bytes d e outcome
+    comes_to e outcome calls = record {
+      sound = fit.sound;
+      whole = subst (λ (x : Image). IsWhole x (disk.image e)) fit.reads.image
+          (whole_then (disk.image mid) (image_on disk.image k) (disk.image e) opened.whole calls.whole);
+      comes = subst (λ (x : Image). Comes x inum bytes (disk.image e) outcome) begun calls.comes;
+      faults = calls.faults ∙ faults;
+    }
+
+    pub written_so : (e : D) (old new : Option (List ℕ)) → IsWritten disk inum bytes k.store.volume.device e old new → IsPut disk inum bytes d e old new
+    written_so e old new written = record {
+      number = written.number;
+      put = comes_to e _ written.calls;
+      printed = written.printed;
+    }
+
+    pub unwritten_so : (e : D) (r : Refusal) → IsUnwritten disk inum bytes k.store.volume.device e r → IsUnput disk inum bytes d e r
+    unwritten_so e (Put NoInode) why = comes_to e _ why
+    unwritten_so e (Put Full) why = inr (comes_to e _ why)
+    unwritten_so e (Put NoMemory) why = inr (record {
+      sound = fit.sound;
+      keeps = subst (λ (x : Image). KeepsPart x inum bytes (disk.image e)) begun why.1;
+      faults = why.0 ∙ faults;
+    })
+    unwritten_so e (Disk cause) why = (fit.sound, subst (λ (n : ℕ). Rose n (disk.fault_count e)) faults why)
+    unwritten_so e Output why = (why.0, comes_to e _ why.1)
+    unwritten_so e r why = absurd why
+
+-- ---- what a stop leaves of the whole
+
+module _ {D N : Type 0} (disk : Ghosts D N) (counts_now : (e : D) (t : ℕ) (x : Image) → t ≤ disk.moment e → disk.leaves e (disk.moment e) x → disk.leaves e t x)
+    (inum : Option ℕ) (bytes : List ℕ) (d mid : D) (sound : verdict (disk.image d) ≡ None) (reads : OnlyReads disk d mid) (calm : IsCalm disk d) where
+  abbrev Keeps : Image → Type 0
+  Keeps = KeepsPut (recovered (disk.image d)) inum bytes
+
+  keeps : (z : Image) → RecoversAs (disk.image d) z → Keeps z
+  keeps z same =
+      let is = verdict_sound (disk.image d) sound in
+      record { log = same.lawful ∙ is.1; sound = subst IsSound (sym same.image) is.2; files = inl (ap files_of same.image) }
+
+  -- the disk was only read
+  pub read_leaves : LeavesOnly disk.moment disk.leaves d mid (KeepsPut (recovered (disk.image d)) inum bytes)
+  read_leaves =
+      stays disk.moment disk.leaves d d mid Keeps
+      (started disk.moment disk.leaves d Keeps (λ z left. keeps z (subst (RecoversAs (disk.image d)) (sym (calm z left)) (record { image = refl; lawful = refl }))))
+      reads.time
+
+  -- then it was recovered, or not
+  pub recovered_leaves : (e : D) → LeavesIfCalm disk mid e (RecoversAs (disk.image mid)) → LeavesOnly disk.moment disk.leaves d e (KeepsPut (recovered (disk.image d)) inum bytes)
+  recovered_leaves e leaves =
+      let still : IsCalm disk mid = λ z left. calm z (now_stays disk.moment disk.leaves d mid (counts_now mid) reads.time z left) ∙ sym reads.image in
+      joined disk.moment disk.leaves d mid e Keeps read_leaves
+      (leaves_wider disk.moment disk.leaves mid e (RecoversAs (disk.image mid)) Keeps (λ z same. keeps z (subst (λ (x : Image). RecoversAs x z) reads.image same)) (leaves still))
+
+  -- and then calls were made
+  pub put_leaves : (k m : Plain D) → IsOpenedSole disk mid k → StaysPut disk (image_on disk.image k) inum bytes k m
+      → LeavesOnly disk.moment disk.leaves d m.store.volume.device (KeepsPut (recovered (disk.image d)) inum bytes)
+  put_leaves k m opened put =
+      let begun : image_on disk.image k ≡ recovered (disk.image d) = opened.image ∙ ap recovered reads.image in
+      joined disk.moment disk.leaves d k.opening m.store.volume.device Keeps (recovered_leaves k.opening opened.leaves)
+      (subst (λ (o : D). LeavesOnly disk.moment disk.leaves o m.store.volume.device Keeps) opened.device
+      (subst (λ (x : Image). LeavesOnly disk.moment disk.leaves k.store.volume.device m.store.volume.device (KeepsPut x inum bytes)) begun put.leaves))

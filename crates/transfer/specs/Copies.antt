@@ -1,0 +1,124 @@
+-- A copy, and why there is none.
+use Rattle.std.specs.Prelude.{◌≡◌, ◌⊎◌, ℕ, ◌==◌, ◌&&◌, ⊤, false, length, replicate, None, Result, Ok, Err}
+use Rattle.blocks.specs.Disk.{Image, Rose, counted}
+use Rattle.blocks.specs.declared.disk.Disk.{Ghosts}
+use Rattle.model.specs.declared.types.image.Form.TheVariants.{One, Two}
+use Rattle.model.specs.Files.{files_of, file_count}
+use Rattle.model.specs.Layout.{form_of, inode_count_of, is_size}
+use Rattle.model.specs.Log.{recovered}
+use Rattle.model.specs.Soundness.{IsSound}
+use Rattle.model.specs.Verdict.{verdict}
+use Rattle.offline.specs.Cause.{IsCause}
+use Rattle.layout.specs.declared.geometry.MkfsFault.{MkfsFault}
+use Rattle.layout.specs.declared.geometry.MkfsFault.TheVariants as mkfs
+use Rattle.calls.specs.Stepping.{Plain}
+use Rattle.wal.specs.Recovery.{LeavesIfCalm, Settles}
+use Rattle.transfer.specs.Holding.{DontFit, Holds}
+use Rattle.transfer.specs.Writing.{IsNoneOr, KeepsSuperblock}
+use Rattle.transfer.specs.declared.fault.CopyFault.{CopyFault}
+use Rattle.transfer.specs.declared.fault.CopyFault.TheVariants.{Old, NotFirst, Mkfs, Full, NoMemory, Disk}
+
+-- ---- before anything is written
+
+-- why the old disk d, which is d' then, can't be copied
+abbrev pub IsUnread : {D M : Type 0} → Ghosts D M → D → D → CopyFault → Type 0
+IsUnread old d d' (Old fault) =
+    IsCause (verdict (old.image d)) (old.fault_count d) (old.fault_count d') fault
+IsUnread old d d' NotFirst = (verdict (old.image d) ≡ None) × (form_of (old.image d) ≡ Two)
+IsUnread old d d' (Mkfs fault) = ⊥
+IsUnread old d d' (Full i) = ⊥
+IsUnread old d d' NoMemory = ⊤
+IsUnread old d d' Disk = Rose (old.fault_count d) (old.fault_count d')
+
+-- why no image was made on the disk n, which is e then
+abbrev pub IsMakingCause : {E N : Type 0} → Ghosts E N → ℕ → ℕ → E → E → MkfsFault → Type 0
+IsMakingCause new size inode_count n e mkfs.SizeRange =
+    (is_size size inode_count && (size == length (new.image n))) ≡ false
+IsMakingCause new size inode_count n e mkfs.InodeRange = ⊥
+IsMakingCause new size inode_count n e mkfs.Disk = Rose (new.fault_count n) (new.fault_count e)
+IsMakingCause new size inode_count n e mkfs.NoMemory = ⊤
+
+-- a kernel without files, over an image that was made on the disk n
+pub record IsNewKernel {E N : Type 0} (new : Ghosts E N) (size inode_count : ℕ) (n : E)
+    (k : Plain E) : Type 0 where
+  pub holds : Holds new 0 (replicate inode_count None) k
+  pub device : k.store.volume.device ≡ k.opening
+  pub long : length (new.image k.opening) ≡ size
+  pub name : new.name k.opening ≡ new.name n
+  pub faults : new.fault_count k.opening ≡ new.fault_count n
+
+-- why there is none on the disk n, which is e then
+abbrev pub IsUnmade : {E N : Type 0} → Ghosts E N → ℕ → ℕ → E → E → CopyFault → Type 0
+IsUnmade new size inode_count n e (Old fault) = ⊥
+IsUnmade new size inode_count n e NotFirst = ⊥
+IsUnmade new size inode_count n e (Mkfs fault) = IsMakingCause new size inode_count n e fault
+IsUnmade new size inode_count n e (Full i) = ⊥
+IsUnmade new size inode_count n e NoMemory = ⊤
+IsUnmade new size inode_count n e Disk = Rose (new.fault_count n) (new.fault_count e)
+
+-- why the files of the disk d, which is d' then, are not all in an image in memory
+abbrev pub IsUnfilled : {D M : Type 0} → Ghosts D M → ℕ → D → D → CopyFault → Type 0
+IsUnfilled old size d d' (Old fault) = ⊥
+IsUnfilled old size d d' NotFirst = ⊥
+IsUnfilled old size d d' (Mkfs fault) = fault ≡ mkfs.NoMemory
+IsUnfilled old size d d' (Full i) = DontFit size i (files_of (recovered (old.image d)))
+IsUnfilled old size d d' NoMemory = ⊤
+IsUnfilled old size d d' Disk = Rose (old.fault_count d) (old.fault_count d')
+
+-- ---- the whole
+
+-- Image x has the files of image old, each with its number, as recovery would leave them. It is a
+-- sound one of the second form and of that size.
+pub record IsCopyOf (size : ℕ) (old x : Image) : Type 0 where
+  pub sound : IsSound x
+  pub form : form_of x ≡ Two
+  pub long : length x ≡ size
+  pub files : files_of x ≡ files_of (recovered old)
+
+-- Such a copy of the image on d was made on e, by one write for each of its blocks and two syncs,
+-- and nothing is held. A stop before left block 1 as it was, or this very image.
+pub record IsCopied {D E M N : Type 0} (old : Ghosts D M) (new : Ghosts E N) (size : ℕ) (d : D)
+    (n e : E) (count : ℕ) : Type 0 where
+  pub old_sound : verdict (old.image d) ≡ None
+  pub first : form_of (old.image d) ≡ One
+  pub copy : IsCopyOf size (old.image d) (new.image e)
+  pub told : count ≡ file_count (files_of (recovered (old.image d)))
+  pub writes : new.write_count e ≡ counted (new.write_count n) size
+  pub faults : new.fault_count e ≡ new.fault_count n
+  pub settles : Settles new 2 n e
+  pub stops : LeavesIfCalm new n e (IsNoneOr (new.image n) (new.image e))
+
+-- what a stop leaves of a copy of image old to a disk with image n: block 1 as it was, or the whole
+abbrev pub IsNoneOrWhole : ℕ → Image → Image → Image → Type 0
+IsNoneOrWhole size old n x = KeepsSuperblock n x ⊎ IsCopyOf size old x
+
+-- why a disk of so many blocks can't have an image of that size, with so many numbers
+abbrev pub IsMkfsCause : ℕ → ℕ → ℕ → MkfsFault → Type 0
+IsMkfsCause size inode_count long mkfs.SizeRange =
+    (is_size size inode_count && (size == long)) ≡ false
+IsMkfsCause size inode_count long mkfs.InodeRange = ⊥
+IsMkfsCause size inode_count long mkfs.Disk = ⊥
+IsMkfsCause size inode_count long mkfs.NoMemory = ⊤
+
+-- why the files of the disk d, which is d' then, were not copied to n, which is e then
+abbrev pub IsUncopied : {D E M N : Type 0} → Ghosts D M → Ghosts E N → ℕ → D → D → E → E
+    → CopyFault → Type 0
+IsUncopied old new size d d' n e (Old fault) =
+    IsCause (verdict (old.image d)) (old.fault_count d) (old.fault_count d') fault × (e ≡ n)
+IsUncopied old new size d d' n e NotFirst =
+    (verdict (old.image d) ≡ None) × (form_of (old.image d) ≡ Two) × (e ≡ n)
+IsUncopied old new size d d' n e (Mkfs fault) =
+    (verdict (old.image d) ≡ None) × (form_of (old.image d) ≡ One)
+    × IsMkfsCause size (inode_count_of (old.image d)) (length (new.image n)) fault × (e ≡ n)
+IsUncopied old new size d d' n e (Full i) =
+    (verdict (old.image d) ≡ None) × (form_of (old.image d) ≡ One)
+    × DontFit size i (files_of (recovered (old.image d))) × (e ≡ n)
+IsUncopied old new size d d' n e NoMemory = e ≡ n
+IsUncopied old new size d d' n e Disk =
+    (Rose (old.fault_count d) (old.fault_count d') × (e ≡ n))
+    ⊎ Rose (new.fault_count n) (new.fault_count e)
+
+-- the new disk that a copy hands back, with a count or with a fault
+abbrev pub disk_of : {E : Type 0} → Result (ℕ × E) (CopyFault × E) → E
+disk_of (Ok copied) = copied.1
+disk_of (Err refused) = refused.1

@@ -1,0 +1,13 @@
+pub mod Faults
+pub mod Source
+pub mod Stages
+pub mod Holding
+pub mod Writing
+pub mod Copies
+pub mod Laws
+pub mod Needs
+pub mod Places
+pub mod Stopped
+pub mod PutWriting
+pub mod Judging
+pub mod Putting

@@ -1,0 +1,106 @@
+-- What calls that put bytes come to.
+use Rattle.std.specs.Prelude.{◌≡◌, ◌<◌, ◌≤◌, ℕ, Bool, true, false, List, length, take, Option, Some, None}
+use Rattle.std.specs.Io.KnownBytes.{Appends}
+use Rattle.blocks.specs.Disk.{Image, Rose}
+use Rattle.blocks.specs.declared.disk.Disk.{Ghosts}
+use Rattle.model.specs.Files.{files_of}
+use Rattle.model.specs.Layout.{form_of}
+use Rattle.model.specs.Soundness.{IsSound}
+use Rattle.calls.specs.Files.{IsFull}
+use Rattle.calls.specs.Calls.{IsWhole, Rests, call_count, image_on}
+use Rattle.calls.specs.Stepping.{Plain}
+use Rattle.calls.specs.declared.fault.CallFault.{CallFault}
+use Rattle.calls.specs.declared.fault.CallFault.TheVariants as fault
+use Rattle.texts.specs.Output.{number_text}
+use Rattle.texts.specs.declared.faults.PutFault.TheVariants.{NoInode, Full, NoMemory}
+use Rattle.texts.specs.declared.refusal.Refusal.{Refusal}
+use Rattle.texts.specs.declared.refusal.Refusal.TheVariants.{Disk, Put, Output}
+use Rattle.transfer.specs.Places.{HasNoFree, IsPlace, MayPut, PutsAll, put_at}
+use Rattle.transfer.specs.declared.writing.Outcome.{Outcome}
+use Rattle.transfer.specs.declared.writing.Outcome.TheVariants as outcome
+
+-- nothing is under way, at most so many calls were made, and the image is sound
+pub record MayCall {D N : Type 0} (disk : Ghosts D N) (most : ℕ) (k : Plain D) : Type 0 where
+  pub rests : Rests disk.fault_count k
+  pub few : call_count k ≤ most
+  pub sound : IsSound (image_on disk.image k)
+
+-- calls were answered, and nothing is under way
+pub record AreAnswered {D N : Type 0} (disk : Ghosts D N) (k m : Plain D) : Type 0 where
+  pub rests : Rests disk.fault_count m
+  pub whole : IsWhole (image_on disk.image k) (image_on disk.image m)
+  pub form : form_of (image_on disk.image m) ≡ form_of (image_on disk.image k)
+  pub opening : m.opening ≡ k.opening
+
+-- all of the bytes were put at number i, or only the first of them, and then no block is free
+pub record PutsPart (i : ℕ) (bytes : List ℕ) (x y : Image) : Type 0 where
+  pub count : ℕ
+  pub fewer : count < length bytes
+  pub files : files_of y ≡ put_at (files_of x) i (take count bytes)
+  pub full : IsFull y
+
+abbrev pub Puts : Bool → ℕ → List ℕ → Image → Image → Type 0
+Puts true i bytes x y = files_of y ≡ put_at (files_of x) i bytes
+Puts false i bytes x y = PutsPart i bytes x y
+
+-- what is left where no block is free for all of the bytes: the old file keeps the first of them, a
+-- new one is removed
+abbrev pub IsLeftOf : Option ℕ → Image → Image → Image → Type 0
+IsLeftOf (Some inum) x full y = y ≡ full
+IsLeftOf None x full y = files_of y ≡ files_of x
+
+-- no block was free for all of the bytes
+pub record FillsUp (x : Image) (inum : Option ℕ) (bytes : List ℕ) (y : Image) : Type 0 where
+  pub number : ℕ
+  pub place : IsPlace (files_of x) inum number
+  pub full : Image
+  pub part : PutsPart number bytes x full
+  pub left : IsLeftOf inum x full y
+
+-- each number is taken
+pub record FindsNone (x : Image) (inum : Option ℕ) (y : Image) : Type 0 where
+  pub new : inum ≡ None
+  pub full : HasNoFree (files_of x)
+  pub files : files_of y ≡ files_of x
+
+-- what the calls make of an image
+abbrev pub Comes : Image → Option ℕ → List ℕ → Image → Outcome → Type 0
+Comes x inum bytes y (outcome.Put i) = PutsAll (files_of x) inum bytes (files_of y) i
+Comes x inum bytes y outcome.NoInode = FindsNone x inum y
+Comes x inum bytes y outcome.Full = FillsUp x inum bytes y
+
+-- an image is whole, and has its files as before, or with the first of the bytes put
+pub record KeepsPart (x : Image) (inum : Option ℕ) (bytes : List ℕ) (y : Image) : Type 0 where
+  pub whole : IsWhole x y
+  pub files : MayPut (files_of x) inum bytes (files_of y)
+
+-- why a call was not answered, over a disk that was d before all calls and is e
+abbrev pub IsCutOff : {D N : Type 0} → Ghosts D N → Option ℕ → List ℕ → D → D → CallFault → Type 0
+IsCutOff disk inum bytes d e (fault.Disk cause) = Rose (disk.fault_count d) (disk.fault_count e)
+IsCutOff disk inum bytes d e fault.NoMemory =
+    (disk.fault_count e ≡ disk.fault_count d)
+    × KeepsPart (disk.image d) inum bytes (disk.image e)
+
+-- the calls came to this, and none failed
+pub record CallsTo {D N : Type 0} (disk : Ghosts D N) (inum : Option ℕ) (bytes : List ℕ) (d e : D)
+    (outcome : Outcome) : Type 0 where
+  pub whole : IsWhole (disk.image d) (disk.image e)
+  pub comes : Comes (disk.image d) inum bytes (disk.image e) outcome
+  pub faults : disk.fault_count e ≡ disk.fault_count d
+
+-- the bytes were put, and the number of their file was printed
+pub record IsWritten {D N : Type 0} (disk : Ghosts D N) (inum : Option ℕ) (bytes : List ℕ)
+    (d e : D) (old new : Option (List ℕ)) : Type 0 where
+  pub number : ℕ
+  pub calls : CallsTo disk inum bytes d e (outcome.Put number)
+  pub printed : Appends old new (number_text number)
+
+-- why not
+abbrev pub IsUnwritten : {D N : Type 0} → Ghosts D N → Option ℕ → List ℕ → D → D → Refusal → Type 0
+IsUnwritten disk inum bytes d e (Put NoInode) = CallsTo disk inum bytes d e outcome.NoInode
+IsUnwritten disk inum bytes d e (Put Full) = CallsTo disk inum bytes d e outcome.Full
+IsUnwritten disk inum bytes d e (Put NoMemory) = IsCutOff disk inum bytes d e fault.NoMemory
+IsUnwritten disk inum bytes d e (Disk cause) = IsCutOff disk inum bytes d e (fault.Disk cause)
+IsUnwritten disk inum bytes d e Output =
+    (i : ℕ) × CallsTo disk inum bytes d e (outcome.Put i)
+IsUnwritten disk inum bytes d e r = ⊥

@@ -1,0 +1,70 @@
+-- What putting a file's bytes into an image comes to.
+use Rattle.std.specs.Prelude.{◌≡◌, ◌⊎◌, ℕ, List, length, Option, None}
+use Rattle.std.specs.Io.KnownBytes.{Appends}
+use Rattle.blocks.specs.Calls.{OnlyReads}
+use Rattle.blocks.specs.Disk.{Rose}
+use Rattle.blocks.specs.declared.disk.Disk.{Ghosts}
+use Rattle.model.specs.Log.{recovered}
+use Rattle.model.specs.Verdict.{verdict}
+use Rattle.opening.specs.Openings.{IsUnopened}
+use Rattle.calls.specs.Calls.{IsWhole}
+use Rattle.texts.specs.Output.{number_text}
+use Rattle.texts.specs.declared.faults.PutFault.TheVariants.{NoFile, NoInode, TooBig, Full, NoMemory}
+use Rattle.texts.specs.declared.refusal.Refusal.{Refusal}
+use Rattle.texts.specs.declared.refusal.Refusal.TheVariants.{Check, Recover, Open, Disk, Put, Output}
+use Rattle.transfer.specs.Judging.{IsTold}
+use Rattle.transfer.specs.PutWriting.{Comes, KeepsPart}
+use Rattle.transfer.specs.declared.writing.Outcome.{Outcome}
+use Rattle.transfer.specs.declared.writing.Outcome.TheVariants as outcome
+
+-- The disk d, now e, had no fault. Its image is sound, with nothing logged, of the same size and
+-- superblock, and calls came to this; none failed.
+pub record ComesTo {D N : Type 0} (disk : Ghosts D N) (inum : Option ℕ) (bytes : List ℕ) (d e : D)
+    (outcome : Outcome) : Type 0 where
+  pub sound : verdict (disk.image d) ≡ None
+  pub whole : IsWhole (disk.image d) (disk.image e)
+  pub comes : Comes (recovered (disk.image d)) inum bytes (disk.image e) outcome
+  pub faults : disk.fault_count e ≡ disk.fault_count d
+
+-- the bytes were put, and the number of their file was printed
+pub record IsPut {D N : Type 0} (disk : Ghosts D N) (inum : Option ℕ) (bytes : List ℕ) (d e : D)
+    (old new : Option (List ℕ)) : Type 0 where
+  pub number : ℕ
+  pub put : ComesTo disk inum bytes d e (outcome.Put number)
+  pub printed : Appends old new (number_text number)
+
+-- no kernel was opened over the disk d, now e, which was only read before
+pub record IsUnopenedThen {D N : Type 0} (disk : Ghosts D N) (d e : D) (r : Refusal)
+    : Type 0 where
+  pub mid : D
+  pub sound : verdict (disk.image d) ≡ None
+  pub reads : OnlyReads disk d mid
+  pub faults : disk.fault_count mid ≡ disk.fault_count d
+  pub unopened : IsUnopened disk 1 mid e r
+
+-- memory was refused to a call: the first of the bytes may be put
+pub record RunsOut {D N : Type 0} (disk : Ghosts D N) (inum : Option ℕ) (bytes : List ℕ) (d e : D)
+    : Type 0 where
+  pub sound : verdict (disk.image d) ≡ None
+  pub keeps : KeepsPart (recovered (disk.image d)) inum bytes (disk.image e)
+  pub faults : disk.fault_count e ≡ disk.fault_count d
+
+-- Why the bytes were not put into the image of the disk d, now e, or their number was not printed.
+-- Of what is told before anything is written the disk was only read.
+abbrev pub IsUnput : {D N : Type 0} → Ghosts D N → Option ℕ → List ℕ → D → D → Refusal → Type 0
+IsUnput disk inum bytes d e (Check fault) =
+    IsTold disk inum (length bytes) d e (Check fault) ⊎ IsUnopenedThen disk d e (Check fault)
+IsUnput disk inum bytes d e (Recover fault) = IsUnopenedThen disk d e (Recover fault)
+IsUnput disk inum bytes d e (Open fault) = IsUnopenedThen disk d e (Open fault)
+IsUnput disk inum bytes d e (Put NoFile) = IsTold disk inum (length bytes) d e (Put NoFile)
+IsUnput disk inum bytes d e (Put TooBig) = IsTold disk inum (length bytes) d e (Put TooBig)
+IsUnput disk inum bytes d e (Put Full) =
+    IsTold disk inum (length bytes) d e (Put Full) ⊎ ComesTo disk inum bytes d e outcome.Full
+IsUnput disk inum bytes d e (Put NoInode) = ComesTo disk inum bytes d e outcome.NoInode
+IsUnput disk inum bytes d e (Put NoMemory) =
+    IsTold disk inum (length bytes) d e (Put NoMemory) ⊎ RunsOut disk inum bytes d e
+IsUnput disk inum bytes d e (Disk fault) =
+    (verdict (disk.image d) ≡ None) × Rose (disk.fault_count d) (disk.fault_count e)
+IsUnput disk inum bytes d e Output =
+    (i : ℕ) × ComesTo disk inum bytes d e (outcome.Put i)
+IsUnput disk inum bytes d e r = ⊥

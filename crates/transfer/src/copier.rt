@@ -1,0 +1,130 @@
+// The files of an image of the first form, copied into a new one of the second.
+ghost use Rattle.std.specs.Prelude.{◌≡◌, IsTrue, IfOk, IfErr, OnOk};
+ghost use Rattle.blocks.specs.Calls.{OnlyReads};
+ghost use Rattle.model.specs.Layout.{is_size};
+ghost use Rattle.wal.specs.Recovery.{LeavesIfCalm};
+ghost use Rattle.transfer.specs.Copies.{IsCopied, IsCopyOf, IsNoneOrWhole, IsUncopied, IsUnfilled, disk_of};
+ghost use Rattle.transfer.specs.Source.{IsSourceOf};
+
+use crate::fault::CopyFault;
+use crate::filling::fill;
+use crate::making::{check_size, make_new};
+use crate::source::{Source, read_source};
+use crate::writing_out::write_out;
+use blocks::{Disk, MemDisk};
+use std::alloc::Global;
+
+/// Who is told how far a copy is. What it is told is so by the copy's code.
+pub trait Progress {
+    /// So many of so many files were copied.
+    fn copied(&mut self, files: u32, of: u32);
+
+    /// The copy is over, however it ended.
+    fn ended(&mut self);
+}
+
+/// Copies the files of an image of the first form, as recovery would leave it, each with its number,
+/// into a new image of the second form of `size` blocks, which has as many numbers. The old image is
+/// only read.
+///
+/// The new image is filled in memory. By its code the labels of a used inode are 0, 0, 1 in it,
+/// whatever they are in the old one; the numbers up to the last used one are made in order, the free
+/// ones among them are removed again, and then each file is written, by its number, in pieces of at
+/// most `TRANSFER_LIMIT` bytes.
+///
+/// Then it is written to the new disk: block 0, blocks 2 to the last in order, a sync, block 1, the
+/// superblock, and a sync. So where the disk holds no write back at the start, a stop at any moment
+/// leaves block 1 as it was, or the whole copy. Answers how many files there are, and hands the new
+/// disk back.
+///
+/// # Errors
+///
+/// Hands the new disk back with the first of these. It is as it was, but for the last:
+///
+/// - `Old`: the old image has this fault, or could not be checked.
+/// - `NotFirst`: the old image is of the second form.
+/// - `Mkfs`: with `SizeRange` where there is no image of that size with so many numbers, or the new
+///   disk has another size; with `NoMemory` where the allocator refused memory.
+/// - `Full`: the files don't fit: no block was free for all bytes of the file of this number, when
+///   those before it were written.
+/// - `NoMemory` where memory was refused.
+/// - `Disk` where one of the disks failed. Where it was the old one, the new one is as it was; else
+///   block 1 is, or the copy is whole.
+pub fn copy<D: Disk, E: Disk + Drop, P: Progress>(
+    alloc: Global,
+    old: &mut D,
+    mut new: E,
+    size: u32,
+    progress: &mut P,
+) -> Result<(u32, E), (CopyFault, E)>
+    ensures copied { IfOk result (λ copied.
+        IsCopied D.Disk E.Disk size old.old new copied.1 copied.0) }
+    ensures refused { IfErr result (λ refused.
+        IsUncopied D.Disk E.Disk size old.old old.new new refused.1 refused.0) }
+    ensures reads { OnlyReads D.Disk old.old old.new }
+    ensures faults { OnOk result (D.fault_count old.new ≡ D.fault_count old.old) }
+    ensures name { E.name (disk_of result) ≡ E.name new }
+    ensures whole { LeavesIfCalm E.Disk new (disk_of result)
+        (IsNoneOrWhole size (D.image old.old) (E.image new)) }
+{
+    let copied = copy_into(alloc, old, &mut new, size, progress);
+    progress.ended();
+    match copied {
+        Ok(files) => Ok((files, new)),
+        Err(fault) => Err((fault, new)),
+    }
+}
+
+// Copies the files to a disk that is lent. Answers how many there are.
+fn copy_into<D: Disk, E: Disk, P: Progress>(
+    alloc: Global,
+    old: &mut D,
+    new: &mut E,
+    size: u32,
+    progress: &mut P,
+) -> Result<u32, CopyFault>
+    ensures copied { IfOk result (λ count.
+        IsCopied D.Disk E.Disk size old.old new.old new.new count) }
+    ensures refused { IfErr result
+        (IsUncopied D.Disk E.Disk size old.old old.new new.old new.new) }
+    ensures reads { OnlyReads D.Disk old.old old.new }
+    ensures faults { OnOk result (D.fault_count old.new ≡ D.fault_count old.old) }
+    ensures name { E.name new.new ≡ E.name new.old }
+    ensures whole { LeavesIfCalm E.Disk new.old new.new
+        (IsNoneOrWhole size (D.image old.old) (E.image new.old)) }
+{
+    let source = read_source(alloc, old)?;
+    check_size(new, size, source.image.sup.ninodes)?;
+    let memory = fill_new(alloc, old, &source, size, progress)?;
+    write_out(alloc, memory, new)?;
+    Ok(source.files)
+}
+
+// The new image, in memory.
+fn fill_new<D: Disk, P: Progress>(
+    alloc: Global,
+    old: &mut D,
+    source: &Source,
+    size: u32,
+    progress: &mut P,
+) -> Result<MemDisk, CopyFault>
+    requires source { IsSourceOf (D.image old.old) source.now }
+    requires size { IsTrue (is_size size source.now.image.sup.ninodes) }
+    ensures filled { IfOk result (λ memory.
+        IsCopyOf size (D.image old.old) (⟦<MemDisk as Disk>⟧.image memory)) }
+    ensures refused { IfErr result (IsUnfilled D.Disk size old.old old.new) }
+    ensures reads { OnlyReads D.Disk old.old old.new }
+    ensures faults { OnOk result (D.fault_count old.new ≡ D.fault_count old.old) }
+{
+    let memory = MemDisk::new(alloc, size)?;
+    let mut kernel = match make_new(alloc, memory, size, source.image.sup.ninodes) {
+        Ok(kernel) => kernel,
+        Err((fault, _memory)) => return Err(fault),
+    };
+    let filled = fill(alloc, old, source, &mut kernel, progress);
+    let memory = kernel.into_disk();
+    match filled {
+        Ok(()) => Ok(memory),
+        Err(fault) => Err(fault),
+    }
+}

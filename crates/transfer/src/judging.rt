@@ -1,0 +1,87 @@
+// What is told of an image before anything is written.
+ghost use Rattle.std.specs.Prelude.{◌≡◌, ◌≤◌, ◌^◌, IfErr, IfOk, MatchOption, OnOk, length};
+ghost use Rattle.blocks.specs.Calls.{OnlyReads};
+ghost use Rattle.model.specs.Files.{files_of};
+ghost use Rattle.model.specs.Log.{recovered};
+ghost use Rattle.transfer.specs.Judging.{FailsByDisk, FindsOld, IsCheckedOf, IsFit, IsTold};
+ghost use Rattle.transfer.specs.Needs.{free_count};
+ghost use Rattle.transfer.specs.Places.{LacksOld};
+
+use crate::needs::{count_free, needed_blocks};
+use blocks::{Block, Disk};
+use layout::{CheckFault, greatest_size};
+use offline::{Recovered, check};
+use std::alloc::Global;
+use texts::{PutFault, Refusal};
+
+// Checks the image of a disk, and judges whether that many bytes can be put there.
+pub fn judge<D: Disk>(
+    alloc: Global,
+    disk: &mut D,
+    inum: Option<u32>,
+    count: usize,
+) -> Result<(), Refusal>
+    ensures fit { OnOk result (IsFit D.Disk inum count disk.old disk.new) }
+    ensures refused { IfErr result (IsTold D.Disk inum count disk.old disk.new) }
+{
+    check(alloc, disk)?;
+    let Ok(mut block) = Block::zeroed(alloc) else {
+        return Err(Refusal::Put(PutFault::NoMemory));
+    };
+    let image = Recovered::open(disk, &mut block)?;
+    let Some(old) = old_blocks(disk, &image, &mut block, inum)? else {
+        return Err(Refusal::Put(PutFault::NoFile));
+    };
+    if count > greatest_size(image.form) as usize {
+        return Err(Refusal::Put(PutFault::TooBig));
+    }
+    let free = free_blocks(disk, &image, &mut block)?;
+    if needed_blocks(image.form, count as u32) > free + old {
+        return Err(Refusal::Put(PutFault::Full));
+    }
+    Ok(())
+}
+
+// The blocks that the size of the old file needs, of a disk that was checked; None where it isn't
+// there.
+fn old_blocks<D: Disk>(
+    disk: &mut D,
+    image: &Recovered,
+    block: &mut Block,
+    inum: Option<u32>,
+) -> Result<Option<u32>, CheckFault>
+    requires checked { IsCheckedOf (D.image disk.old) image.now }
+    ensures found { IfOk result (λ found. MatchOption found
+        (LacksOld (files_of (recovered (D.image disk.old))) inum)
+        (FindsOld (recovered (D.image disk.old)) inum)) }
+    ensures reads { OnlyReads D.Disk disk.old disk.new }
+    ensures faults { FailsByDisk result (D.fault_count disk.old) (D.fault_count disk.new) }
+{
+    let Some(number) = inum else {
+        return Ok(Some(0));
+    };
+    if number == 0 || number >= image.sup.ninodes {
+        return Ok(None);
+    }
+    let inode = image.inode(disk, number, block)?;
+    if inode.kind == 0 {
+        return Ok(None);
+    }
+    Ok(Some(needed_blocks(image.form, inode.size)))
+}
+
+// The free blocks of a disk that was checked.
+fn free_blocks<D: Disk>(
+    disk: &mut D,
+    image: &Recovered,
+    block: &mut Block,
+) -> Result<u32, CheckFault>
+    requires checked { IsCheckedOf (D.image disk.old) image.now }
+    ensures count { IfOk result (λ count. count ≡ free_count (recovered (D.image disk.old))) }
+    ensures few { IfOk result (λ count. count ≤ 2 ^ 13) }
+    ensures reads { OnlyReads D.Disk disk.old disk.new }
+    ensures faults { FailsByDisk result (D.fault_count disk.old) (D.fault_count disk.new) }
+{
+    image.block(disk, image.sup.bmapstart, block)?;
+    Ok(count_free(block, image.sup.size))
+}

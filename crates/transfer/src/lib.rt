@@ -1,0 +1,24 @@
+//! A copy of the files of an image of the first form, as recovery would leave it, into a new image
+//! of the second. The old image is read and never written. The new one is filled in memory, by
+//! calls of a kernel of one process, and then written to its disk, the superblock last.
+//!
+//! Bytes put into an image as those of a file: of a new one, or in the place of an old one's. What
+//! can be told from the image is told before anything is written; then a kernel of one process makes
+//! the calls.
+#![tactic(auto)]
+
+mod copier;
+mod fault;
+mod filling;
+mod judging;
+pub mod laws;
+mod making;
+mod needs;
+mod putting;
+mod source;
+mod writing;
+mod writing_out;
+
+pub use copier::{Progress, copy};
+pub use fault::CopyFault;
+pub use putting::put_disk;

@@ -1,0 +1,134 @@
+// Calls that put bytes.
+ghost use Rattle.std.specs.Prelude.{◌≡◌, ◌≢◌, ◌+◌, ◌<◌, ◌≤◌, ◌^◌, length, None, Some, IfErr, IfOk, OnOk};
+ghost use Rattle.model.specs.Files.{file_in};
+ghost use Rattle.model.specs.Layout.{form_of, greatest_size};
+ghost use Rattle.calls.specs.Calls.{call_count, image_on};
+ghost use Rattle.calls.specs.Files.{files_on, size_of};
+ghost use Rattle.transfer.specs.Places.{HasOld};
+ghost use Rattle.transfer.specs.Stopped.{StaysPut};
+ghost use Rattle.transfer.specs.PutWriting.{AreAnswered, Comes, IsCutOff, MayCall, Puts};
+
+use blocks::Disk;
+use calls::{append, create, empty, remove};
+use model::types::TRANSFER_LIMIT;
+use calls::{CallFault, Sole, rested};
+use std::alloc::Global;
+
+// The type of a new file.
+const NEW_KIND: u16 = 2;
+
+// The most bytes of a piece.
+const PIECE: usize = TRANSFER_LIMIT as usize;
+
+// What the calls came to.
+#[derive(Clone, Copy)]
+pub enum Outcome {
+    // All bytes were put at this number.
+    Put(u32),
+    // Each number is taken.
+    NoInode,
+    // No block was free for all bytes.
+    Full,
+}
+
+// Puts bytes in the place of those of a file, or as those of a new one.
+pub fn put_bytes<D: Disk>(
+    alloc: Global,
+    kernel: &mut Sole<D>,
+    bytes: &[u8],
+    inum: Option<u32>,
+) -> Result<Outcome, CallFault>
+    requires ready { MayCall D.Disk (2 ^ 31) kernel.old }
+    requires there { HasOld (files_on D.image kernel.old) inum }
+    requires short { length bytes.now ≤ greatest_size (form_of (image_on D.image kernel.old)) }
+    ensures comes { IfOk result (Comes (image_on D.image kernel.old) inum bytes.now
+        (image_on D.image kernel.new)) }
+    ensures answered { OnOk result (AreAnswered D.Disk kernel.old kernel.new) }
+    ensures refused { IfErr result (IsCutOff D.Disk inum bytes.now
+        kernel.old.store.volume.device kernel.new.store.volume.device) }
+    ensures stays { StaysPut D.Disk (image_on D.image kernel.old) inum bytes.now
+        kernel.old kernel.new }
+{
+    match inum {
+        Some(number) => replace(alloc, kernel, bytes, number),
+        None => add(alloc, kernel, bytes),
+    }
+}
+
+// Puts bytes as those of a new file, which is removed again where no block is free for all.
+fn add<D: Disk>(alloc: Global, kernel: &mut Sole<D>, bytes: &[u8]) -> Result<Outcome, CallFault>
+    requires ready { MayCall D.Disk (2 ^ 31) kernel.old }
+    requires short { length bytes.now ≤ greatest_size (form_of (image_on D.image kernel.old)) }
+    ensures comes { IfOk result (Comes (image_on D.image kernel.old) None bytes.now
+        (image_on D.image kernel.new)) }
+    ensures answered { OnOk result (AreAnswered D.Disk kernel.old kernel.new) }
+    ensures refused { IfErr result (IsCutOff D.Disk None bytes.now
+        kernel.old.store.volume.device kernel.new.store.volume.device) }
+    ensures stays { StaysPut D.Disk (image_on D.image kernel.old) None bytes.now
+        kernel.old kernel.new }
+{
+    let Some(number) = create(kernel, NEW_KIND)? else {
+        return Ok(Outcome::NoInode);
+    };
+    if append_all(alloc, kernel, bytes, number)? {
+        return Ok(Outcome::Put(number));
+    }
+    remove(kernel, number)?;
+    Ok(Outcome::Full)
+}
+
+// Puts bytes in the place of those of a file.
+fn replace<D: Disk>(
+    alloc: Global,
+    kernel: &mut Sole<D>,
+    bytes: &[u8],
+    number: u32,
+) -> Result<Outcome, CallFault>
+    requires ready { MayCall D.Disk (2 ^ 31) kernel.old }
+    requires there { file_in (files_on D.image kernel.old) number ≢ None }
+    requires short { length bytes.now ≤ greatest_size (form_of (image_on D.image kernel.old)) }
+    ensures comes { IfOk result (Comes (image_on D.image kernel.old) (Some number) bytes.now
+        (image_on D.image kernel.new)) }
+    ensures answered { OnOk result (AreAnswered D.Disk kernel.old kernel.new) }
+    ensures refused { IfErr result (IsCutOff D.Disk (Some number) bytes.now
+        kernel.old.store.volume.device kernel.new.store.volume.device) }
+    ensures stays { StaysPut D.Disk (image_on D.image kernel.old) (Some number) bytes.now
+        kernel.old kernel.new }
+{
+    empty(kernel, number)?;
+    if append_all(alloc, kernel, bytes, number)? {
+        Ok(Outcome::Put(number))
+    } else {
+        Ok(Outcome::Full)
+    }
+}
+
+// Writes bytes into an empty file, piece by piece. False where no block was free for all.
+fn append_all<D: Disk>(
+    alloc: Global,
+    kernel: &mut Sole<D>,
+    bytes: &[u8],
+    number: u32,
+) -> Result<bool, CallFault>
+    requires ready { MayCall D.Disk (2 ^ 31 + 1) kernel.old }
+    requires empty { size_of (file_in (files_on D.image kernel.old) number) ≡ Some 0 }
+    requires short { length bytes.now ≤ greatest_size (form_of (image_on D.image kernel.old)) }
+    ensures puts { IfOk result (λ all. Puts all number bytes.now (image_on D.image kernel.old)
+        (image_on D.image kernel.new)) }
+    ensures answered { OnOk result (AreAnswered D.Disk kernel.old kernel.new) }
+    ensures few { OnOk result (call_count kernel.new < 2 ^ 32) }
+    ensures refused { IfErr result (IsCutOff D.Disk (Some number) bytes.now
+        kernel.old.store.volume.device kernel.new.store.volume.device) }
+    ensures stays { StaysPut D.Disk (image_on D.image kernel.old) (Some number) bytes.now
+        kernel.old kernel.new }
+{
+    rested(kernel);
+    for piece in 0..bytes.len().div_ceil(PIECE) {
+        let from = piece * PIECE;
+        let to = (from + PIECE).min(bytes.len());
+        if !append(kernel, alloc, number, from as u32, &bytes[from..to])? {
+            return Ok(false);
+        }
+    }
+    Ok(true)
+}
