@@ -1,1 +1,3 @@
+mod Clearing
+pub mod Wanting
 mod Taking

@@ -17,12 +17,12 @@ use Rattle.model.specs.Lemmas.Codecs.{overwritten_zeroes, with_bit_written}
 use Rattle.wal.specs.Joint.{seen}
 use Rattle.wal.specs.Volume.{VolumeState, Holds}
 use Rattle.blockmap.specs.Balloc.{AllocState, AreFull, MayAlloc, MayAllocAt, TakesLowest, Zeroes, byte_with, lowest_clear, lowest_in, with_taken}
-use Rattle.driver.specs.Getting.{Puts, WritesBlock}
+use Rattle.blockmap.specs.Getting.{Puts, WritesBlock}
 use Rattle.blockmap.specs.Lemmas.Bitmap.{lowest_clear_found}
-use Rattle.driver.specs.Lemmas.Putting.{writes_put}
+use Rattle.blockmap.specs.Lemmas.Putting.{writes_put}
 use Rattle.blockmap.specs.declared.balloc.AllocAt.{AllocAt}
 use Rattle.blockmap.specs.declared.balloc.AllocAt.TheVariants as alloc_at
-use Rattle.driver.specs.declared.progress.Progress.TheVariants as progress
+use Rattle.blockmap.specs.declared.progress.Progress.TheVariants as progress
 
 -- ---- the search
 

@@ -9,11 +9,11 @@ use Rattle.model.specs.Codec.{with_bit}
 use Rattle.model.specs.Fields.{has_bit}
 use Rattle.wal.specs.Joint.{seen}
 use Rattle.wal.specs.Volume.{VolumeState}
-use Rattle.driver.specs.Getting.{GetsFor, HoldsWhereGot, Releases, WritesBlock}
+use Rattle.blockmap.specs.Getting.{GetsFor, HoldsWhereGot, Releases, WritesBlock}
 use Rattle.blockmap.specs.declared.balloc.AllocAt.{AllocAt}
 use Rattle.blockmap.specs.declared.balloc.AllocAt.TheVariants as alloc_at
-use Rattle.driver.specs.declared.progress.Progress.{Progress}
-use Rattle.driver.specs.declared.progress.Progress.TheVariants as progress
+use Rattle.blockmap.specs.declared.progress.Progress.{Progress}
+use Rattle.blockmap.specs.declared.progress.Progress.TheVariants as progress
 
 -- Where the taking of a block stands.
 pub record AllocState : Type 0 where

@@ -9,9 +9,9 @@ use Rattle.wal.specs.Joint.{seen}
 use Rattle.wal.specs.Volume.{VolumeState}
 use Rattle.blockmap.specs.Branch.{named_by, node_at, rest_under}
 use Rattle.blockmap.specs.declared.branch.Node.{Node}
-use Rattle.driver.specs.declared.progress.Progress.{Progress}
-use Rattle.driver.specs.declared.progress.Progress.TheVariants as progress
-use Rattle.driver.specs.Getting.{GetsFor, Releases, HoldsWhereGot}
+use Rattle.blockmap.specs.declared.progress.Progress.{Progress}
+use Rattle.blockmap.specs.declared.progress.Progress.TheVariants as progress
+use Rattle.blockmap.specs.Getting.{GetsFor, Releases, HoldsWhereGot}
 
 -- Where the seeking stands.
 pub record EntryState : Type 0 where

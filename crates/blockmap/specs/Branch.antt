@@ -7,7 +7,7 @@ use Rattle.model.specs.declared.types.image.Form.{Form}
 use Rattle.model.specs.declared.types.image.Form.TheVariants.{One, Two}
 use Rattle.model.specs.Layout.{direct_count, greatest_size, reach}
 use Rattle.model.specs.Places.{address_under}
-use Rattle.loose.specs.Trees.{entry_of, led_to, way_to}
+use Rattle.in_flight.specs.Trees.{entry_of, led_to, way_to}
 use Rattle.blockmap.specs.declared.branch.Branch.{Branch}
 use Rattle.blockmap.specs.declared.branch.Node.{Node}
 

@@ -4,7 +4,10 @@ pub mod Addresses
 pub mod Bitmap
 pub mod Branches
 pub mod Leading
+pub mod Others
+pub mod Putting
 pub mod Reading
 pub mod Resting
 pub mod Seeking
+pub mod Slots
 pub mod Targets

@@ -1,3 +1,9 @@
+pub mod Deeds
+pub mod Driver
+pub mod Getting
+pub mod Holds
+pub mod Lemmas
+pub mod Next
 pub mod Bfree
 pub mod Balloc
 pub mod Bmap
@@ -6,4 +12,3 @@ pub mod BmapAlloc
 pub mod Map
 pub mod Target
 pub mod Reading
-pub mod Lemmas

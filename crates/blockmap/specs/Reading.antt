@@ -7,9 +7,9 @@ use Rattle.model.specs.declared.types.image.Dinode.{Dinode}
 use Rattle.model.specs.Layout.{form_of, inode_of}
 use Rattle.model.specs.Files.{Files}
 use Rattle.model.specs.Places.{address_in}
-use Rattle.loose.specs.Held.{Claims, FitsHeld}
-use Rattle.loose.specs.Looks.{IsUsed}
-use Rattle.loose.specs.Loose.{AreFull, IsFit}
+use Rattle.in_flight.specs.Held.{Claims, FitsHeld}
+use Rattle.in_flight.specs.Looks.{IsUsed}
+use Rattle.in_flight.specs.Loose.{AreFull, IsFit}
 use Rattle.blockmap.specs.Branch.{LiesOnWay, branch_of}
 use Rattle.blockmap.specs.declared.branch.Node.{Node}
 

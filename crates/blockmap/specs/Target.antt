@@ -12,12 +12,12 @@ use Rattle.wal.specs.Joint.{seen}
 use Rattle.wal.specs.Volume.{VolumeState}
 use Rattle.blockmap.specs.Bmap.{EntryState, IsReady, LooksUp}
 use Rattle.blockmap.specs.Branch.{LiesOnWay, branch_of}
-use Rattle.driver.specs.Getting.{GetsFor, HoldsWhereGot}
+use Rattle.blockmap.specs.Getting.{GetsFor, HoldsWhereGot}
 use Rattle.blockmap.specs.Map.{mapped, address_or_zero}
 use Rattle.blockmap.specs.declared.mapping.Mapped.{Mapped}
 use Rattle.blockmap.specs.declared.mapping.Mapped.TheVariants as mapped_as
-use Rattle.driver.specs.declared.progress.Progress.{Progress}
-use Rattle.driver.specs.declared.progress.Progress.TheVariants as progress
+use Rattle.blockmap.specs.declared.progress.Progress.{Progress}
+use Rattle.blockmap.specs.declared.progress.Progress.TheVariants as progress
 use Rattle.blockmap.specs.declared.target.Target.{Target}
 use Rattle.blockmap.specs.declared.target.Target.TheVariants as target
 

@@ -8,7 +8,8 @@ ghost use Rattle.blockmap.specs.Balloc.{MayAlloc, Allocs, AreFull, Zeroes, byte_
 ghost use Rattle.blockmap.specs.declared.balloc.AllocAt.TheVariants as alloc_at;
 
 use blocks::{BLOCK_SIZE, Block, Disk};
-use driver::{Progress, get_block, put_block, release_block};
+use crate::progress::Progress;
+use crate::getting::{get_block, put_block, release_block};
 use std::marker::Model;
 use wal::Volume;
 

@@ -1,6 +1,7 @@
 // A block is freed.
 use blocks::Block;
-use driver::{Deed, Machine, Next, Patch};
+use crate::deed::{Deed, Patch};
+use crate::machine::{Machine, Next};
 
 /// The machine that frees a block (`bfree`; the xv6 book, the chapter "File system": "Code: Block
 /// allocator"): one step gets the bitmap's block, the other one clears the block's bit in it.
@@ -15,9 +16,9 @@ pub struct Bfree {
 impl Machine for Bfree {
     ghost use Rattle.std.specs.Prelude.{Some};
     ghost use Rattle.blockmap.specs.Bfree.{HasBit};
-    ghost use Rattle.driver.specs.declared.deed.Deed.TheVariants as deed;
-    ghost use Rattle.driver.specs.declared.deed.Patch.TheVariants as patch;
-    ghost use Rattle.driver.specs.declared.machine.Next.TheVariants as next;
+    ghost use Rattle.blockmap.specs.declared.deed.Deed.TheVariants as deed;
+    ghost use Rattle.blockmap.specs.declared.deed.Patch.TheVariants as patch;
+    ghost use Rattle.blockmap.specs.declared.machine.Next.TheVariants as next;
 
     type Out = ();
 

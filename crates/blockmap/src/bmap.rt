@@ -4,7 +4,8 @@ ghost use Rattle.blockmap.specs.Bmap.{below, first_entry, some_address, IsReady,
 
 use crate::Node;
 use blocks::Disk;
-use driver::{Progress, get_block, release_block};
+use crate::progress::Progress;
+use crate::getting::{get_block, release_block};
 use layout::entries::entry;
 use std::marker::Model;
 use wal::Volume;

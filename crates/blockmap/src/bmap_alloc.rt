@@ -12,7 +12,8 @@ ghost use Rattle.blockmap.specs.declared.bmap_alloc.MapAt.TheVariants as map_at;
 
 use crate::{Balloc, Branch, Node};
 use blocks::Disk;
-use driver::{Progress, get_block, put_block, release_block};
+use crate::progress::Progress;
+use crate::getting::{get_block, put_block, release_block};
 use layout::entries::{bytes, entry};
 use model::types::Dinode;
 use std::marker::Model;

@@ -1,3 +1,17 @@
+//! Machines and the one driver that carries them out over a volume.
+//!
+//! What an operation does to blocks is done by machines. A `Machine` is a plain value that touches
+//! no volume: it says which block its next step uses, and what it does with that block, a `Deed`.
+//! `Driven` carries it out: one step gets the block, the next one does the deed, and between two
+//! steps other processes make theirs. A block that is changed is logged and released. Up to two
+//! blocks may be kept for a while, each from the step on that gets it; the one that was kept last is
+//! given back first, by a step of its own.
+//! The driver alone knows slots. A step that has to wait changes nothing.
+//!
+//! The same steps without a machine (`get_block`, `put_block`, `release_block`) serve those that
+//! handle the volume themselves. What a step comes to is a `Progress`, and a step that gets a block
+//! promises what the volume's `get` does (`GetsFor`).
+//!
 //! From the blocks of a file to those of the image (the xv6 book, the chapter "File system": "Code:
 //! Inode content").
 //!
@@ -30,8 +44,14 @@ mod bfree;
 mod bmap;
 mod bmap_alloc;
 mod branch;
+mod carrying;
+mod deed;
+mod driving;
+mod getting;
 pub mod laws;
+mod machine;
 mod mapping;
+mod progress;
 mod target;
 
 pub use balloc::{AllocAt, Balloc};
@@ -39,6 +59,11 @@ pub use bfree::Bfree;
 pub use bmap::Bmap;
 pub use bmap_alloc::{BmapAlloc, MapAt};
 pub use branch::{Branch, Node, branch_of};
+pub use deed::{Deed, Patch};
+pub use driving::{Driven, Got, Kept};
+pub use getting::{get_block, put_block, release_block};
+pub use machine::{Machine, Next};
 pub use mapping::{Mapped, MappedForWriting, map, map_for_writing};
 pub use model::types::Why;
+pub use progress::Progress;
 pub use target::{Target, seek, target_for};

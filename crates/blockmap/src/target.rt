@@ -6,7 +6,8 @@ ghost use Rattle.blockmap.specs.Target.{is_entry, target_for, IsSought, Seeks};
 
 use crate::{Bmap, Mapped, map};
 use blocks::Disk;
-use driver::{Progress, get_block};
+use crate::progress::Progress;
+use crate::getting::get_block;
 use model::types::{Dinode, Form};
 use wal::Volume;
 

@@ -27,10 +27,10 @@ use Rattle.ports.specs.Lanes.{polled_after}
 use Rattle.ports.specs.Queues.{FitsAt, waiting, answers, polled, submitted, waiting_at, answers_at, polled_at, submitted_at, queue_name}
 use Rattle.ports.specs.declared.lane.Lane.{Lane}
 use Rattle.ports.specs.declared.queues.QueueIntake.{QueueIntake}
-use Rattle.journal.specs.declared.types.At.TheVariants as at
-use Rattle.journal.specs.declared.types.At.{At}
-use Rattle.journal.specs.Histories.{Owed, entry_answer, pending_at}
-use Rattle.journal.specs.Processes.{World, process}
+use Rattle.history.specs.declared.types.At.TheVariants as at
+use Rattle.history.specs.declared.types.At.{At}
+use Rattle.history.specs.Histories.{Owed, entry_answer, pending_at}
+use Rattle.history.specs.Processes.{World, process}
 use Rattle.kernel.specs.Known.{Known}
 use Rattle.kernel.specs.Lemmas.Turns.{runs_on_none, runs_on_step, runs_on_then}
 use Rattle.kernel.specs.Lemmas.Moves.{steps_keep}

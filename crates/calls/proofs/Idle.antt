@@ -11,10 +11,10 @@ use Rattle.model.specs.Lemmas.Soundness.{facts_of}
 use Rattle.model.specs.Log.{cleared}
 use Rattle.wal.specs.declared.types.DeviceFault.{DeviceFault}
 use Rattle.inodes.specs.Store.{current_of}
-use Rattle.journal.specs.Keeps.{HasFilesAfter}
-use Rattle.journal.specs.Processes.{process}
-use Rattle.journal.specs.declared.types.At.TheVariants as at
-use Rattle.journal.specs.declared.types.Process.{Process}
+use Rattle.history.specs.Keeps.{HasFilesAfter}
+use Rattle.history.specs.Processes.{process}
+use Rattle.history.specs.declared.types.At.TheVariants as at
+use Rattle.history.specs.declared.types.Process.{Process}
 use Rattle.kernel.specs.Awake.{AreIdle}
 use Rattle.kernel.specs.Known.{Known, IsCurrent}
 use Rattle.calls.specs.Calls.{image_on}
@@ -23,7 +23,7 @@ use Rattle.calls.specs.Stepping.{Plain, plain_herald, plain_queues}
 module _ {D N : Type 0} (disk : Ghosts D N) (k : Plain D) (known : Known disk plain_queues plain_herald k) (one : length k.world.processes ≡ 1) (idle : (process k.world 0).at ≡ at.Idle) (well : k.store.volume.fault ≡ None) where
   pub all_idle : AreIdle k.world
   all_idle zero = idle
-  all_idle (suc p) = ap (λ (u : Process). u.at) (get_or_past k.world.processes (suc p) Rattle.journal.specs.Processes.idle (omega (arith, one)))
+  all_idle (suc p) = ap (λ (u : Process). u.at) (get_or_past k.world.processes (suc p) Rattle.history.specs.Processes.idle (omega (arith, one)))
 
   pub current : IsCurrent disk.image k
   current = subst (λ (f : Option DeviceFault). IfNone f (IsCurrent disk.image k)) well known.current

@@ -14,9 +14,9 @@ use Rattle.model.specs.Log.{recovered}
 use Rattle.model.specs.Operations.{after}
 use Rattle.model.specs.Lemmas.Runs.{and_then_some, replays_in_parts}
 use Rattle.model.specs.Lemmas.Frames.{form_same}
-use Rattle.journal.specs.Keeps.{KeepsBetween}
-use Rattle.journal.specs.Most.{most_of}
-use Rattle.journal.specs.Lemmas.Kept.{kept-append}
+use Rattle.history.specs.Keeps.{KeepsBetween}
+use Rattle.history.specs.Most.{most_of}
+use Rattle.history.specs.Lemmas.Kept.{kept-append}
 use Rattle.kernel.specs.declared.types.Step.{Step}
 use Rattle.calls.specs.declared.fault.CallFault.{CallFault}
 use Rattle.calls.specs.Calls.{KeepsCall, MayReply, image_on}

@@ -16,7 +16,7 @@ use Rattle.ports.specs.Queues.{FitsAt, QueueFits, polled, polled_at, waiting}
 use Rattle.ports.specs.declared.herald.PlainHerald.{PlainHerald}
 use Rattle.ports.specs.declared.lane.Lane.{Lane}
 use Rattle.ports.specs.declared.queues.QueueIntake.{QueueIntake}
-use Rattle.journal.specs.Processes.{process}
+use Rattle.history.specs.Processes.{process}
 use Rattle.kernel.specs.Opening.{IsOpened}
 use Rattle.calls.specs.Calls.{IsWhole, image_on, is_own}
 use Rattle.calls.specs.Opening.{IsOpenedSole}

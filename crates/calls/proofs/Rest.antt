@@ -19,11 +19,11 @@ use Rattle.model.specs.Lemmas.Log.{recovered_empty}
 use Rattle.model.specs.Lemmas.Runs.{and_then_some, replays_in_parts}
 use Rattle.model.specs.Lemmas.Frames.{form_same}
 use Rattle.ports.specs.declared.queues.QueueIntake.{QueueIntake}
-use Rattle.journal.specs.declared.types.At.TheVariants as at
-use Rattle.journal.specs.Keeps.{AreUpTo, KeepsNow}
-use Rattle.journal.specs.Most.{most_of}
-use Rattle.journal.specs.Lemmas.Kept.{kept_up_to}
-use Rattle.journal.specs.Processes.{process}
+use Rattle.history.specs.declared.types.At.TheVariants as at
+use Rattle.history.specs.Keeps.{AreUpTo, KeepsNow}
+use Rattle.history.specs.Most.{most_of}
+use Rattle.history.specs.Lemmas.Kept.{kept_up_to}
+use Rattle.history.specs.Processes.{process}
 use Rattle.kernel.specs.Known.{Known}
 use Rattle.kernel.specs.declared.types.Step.{Step}
 use Rattle.kernel.specs.declared.types.Step.TheVariants as step

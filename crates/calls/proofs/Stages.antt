@@ -24,14 +24,14 @@ use Rattle.inodes.specs.Store.{StoreState, with_begun, with_log, with_look}
 use Rattle.inodes.specs.Tasks.{task}
 use Rattle.ports.specs.History.{Side, first_in}
 use Rattle.ports.specs.Queues.{waiting}
-use Rattle.journal.specs.declared.types.At.{At}
-use Rattle.journal.specs.declared.types.At.TheVariants as at
-use Rattle.journal.specs.declared.types.Process.{Process}
-use Rattle.journal.specs.AtOnce.{at_once_reply}
-use Rattle.journal.specs.Grows.{Becomes, Extends}
-use Rattle.journal.specs.Journal.{Entries, entry_in, entry_of, journal_told, journal_with, no_entry, reserved}
-use Rattle.journal.specs.Open.{told}
-use Rattle.journal.specs.Processes.{World, idle, process, refusal, turned_from}
+use Rattle.history.specs.declared.types.At.{At}
+use Rattle.history.specs.declared.types.At.TheVariants as at
+use Rattle.history.specs.declared.types.Process.{Process}
+use Rattle.history.specs.AtOnce.{at_once_reply}
+use Rattle.history.specs.Grows.{Becomes, Extends}
+use Rattle.history.specs.Journal.{Entries, entry_in, entry_of, journal_told, journal_with, no_entry, reserved}
+use Rattle.history.specs.Open.{told}
+use Rattle.history.specs.Processes.{World, idle, process, refusal, turned_from}
 use Rattle.kernel.specs.declared.types.Step.{Step}
 use Rattle.kernel.specs.declared.types.Step.TheVariants as step
 use Rattle.kernel.specs.declared.waiting.Waiting.{Waiting}

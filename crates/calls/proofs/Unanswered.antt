@@ -10,9 +10,9 @@ use Rattle.model.specs.declared.types.operations.Entry.{Entry}
 use Rattle.model.specs.declared.types.operations.Op.{Op}
 use Rattle.model.specs.declared.types.operations.Why.{Why}
 use Rattle.ports.specs.Queues.{waiting, answers}
-use Rattle.journal.specs.declared.types.At.{At}
-use Rattle.journal.specs.declared.types.At.TheVariants as at
-use Rattle.journal.specs.Processes.{World, process}
+use Rattle.history.specs.declared.types.At.{At}
+use Rattle.history.specs.declared.types.At.TheVariants as at
+use Rattle.history.specs.Processes.{World, process}
 use Rattle.kernel.specs.Known.{Known}
 use Rattle.kernel.specs.Sleeping.{SoleWaitsForAnswers}
 use Rattle.kernel.specs.declared.types.Step.{Step}

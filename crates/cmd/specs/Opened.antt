@@ -6,8 +6,8 @@ use Rattle.blocks.specs.FileDisk.{file_of}
 use Rattle.blocks.specs.declared.disk.Disk.{Ghosts}
 use Rattle.blocks.specs.declared.errors.FileFault.{FileFault}
 use Rattle.blocks.specs.declared.file.FileDisk.{FileDisk}
-use Rattle.texts.specs.declared.refusal.Refusal.{Refusal}
-use Rattle.texts.specs.declared.refusal.Refusal.TheVariants.{File, Schedule, Script}
+use Rattle.messages.specs.declared.refusal.Refusal.{Refusal}
+use Rattle.messages.specs.declared.refusal.Refusal.TheVariants.{File, Schedule, Script}
 
 -- The disk that a file holds, just opened: its blocks were read from the file, one after another,
 -- where that tells of its bytes. It holds writes back, or doesn't, and now holds none.

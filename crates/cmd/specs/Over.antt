@@ -3,7 +3,7 @@ use Rattle.std.specs.Prelude.{ℕ, Bool, List, Option, Result, Ok, Err}
 use Rattle.blocks.specs.declared.file.FileDisk.{FileDisk}
 use Rattle.cmd.specs.Lemmas.Disks.{file_disk}
 use Rattle.cmd.specs.Opened.{OpensDisk}
-use Rattle.texts.specs.Telling.{Telling, file_telling}
+use Rattle.messages.specs.Telling.{Telling, file_telling}
 use Rattle.cmd.specs.declared.files.OnFile.{OnFile}
 use Rattle.cmd.specs.declared.files.OnFile.TheVariants.{File, Of}
 

@@ -2,7 +2,7 @@
 ghost use Rattle.std.specs.Prelude.{◌≡◌, ◌≤◌, ℕ, List, Option, Err, IsOk, OnOk, IfErr};
 
 use std::io::Write;
-use texts::{Reason, print_refusal};
+use messages::{Reason, print_refusal};
 
 /// A command, which is done with the runtime `R`.
 pub trait Command<R> {

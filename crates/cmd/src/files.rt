@@ -11,7 +11,7 @@ use crate::opened::open;
 use std::alloc::Global;
 use std::io::Write;
 use std::rt::Files;
-use texts::{Reason, Told};
+use messages::{Reason, Told};
 
 /// A command over any disk.
 pub trait DiskCommand {

@@ -5,7 +5,7 @@ ghost use Rattle.cmd.specs.Opened.{IsOfFile, IsOpened};
 
 use blocks::{Disk, FileDisk, FileFault};
 use std::rt::Files;
-use texts::Refusal;
+use messages::Refusal;
 
 /// The disk in the file at this path. With `sync` it holds writes back until it is synced.
 ///

@@ -13,9 +13,9 @@ use Rattle.model.specs.Lemmas.Super.{lawful_geometry, verdict_none}
 use Rattle.model.specs.Verdict.{verdict}
 use Rattle.model.specs.declared.types.image.Super.{Super}
 use Rattle.std.proofs.lemmas.Bool.{le-leb}
-use Rattle.texts.specs.Output.{files_text}
-use Rattle.texts.specs.declared.refusal.Refusal.{Refusal}
-use Rattle.texts.specs.declared.refusal.Refusal.TheVariants.{Mkfs, Output}
+use Rattle.messages.specs.Output.{files_text}
+use Rattle.messages.specs.declared.refusal.Refusal.{Refusal}
+use Rattle.messages.specs.declared.refusal.Refusal.TheVariants.{Mkfs, Output}
 use Rattle.cmd.specs.Opened.{IsOpened}
 use Rattle.commands.specs.Copies.{HasCopied, HasFilled, HasMade, HasNotFilled, IsOfPath, IsUnplanned, OnCopyRefusal, size_asked}
 

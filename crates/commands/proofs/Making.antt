@@ -7,8 +7,8 @@ use Rattle.blocks.specs.declared.file.FileDisk.{FileDisk}
 use Rattle.offline.specs.Making.{MakesAs}
 use Rattle.model.specs.declared.types.image.Form.{Form}
 use Rattle.model.specs.Layout.{planned_super}
-use Rattle.texts.specs.Output.{numbers_text}
-use Rattle.texts.specs.declared.refusal.Refusal.{Refusal}
+use Rattle.messages.specs.Output.{numbers_text}
+use Rattle.messages.specs.declared.refusal.Refusal.{Refusal}
 use Rattle.commands.specs.Files.{IsMade}
 
 -- what was made on the disk that was created, where it was

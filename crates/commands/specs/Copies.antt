@@ -14,10 +14,10 @@ use Rattle.layout.specs.declared.geometry.MkfsFault.TheVariants as mkfs
 use Rattle.model.specs.Layout.{form_of, inode_count_of, is_size, super_of}
 use Rattle.model.specs.Verdict.{verdict}
 use Rattle.model.specs.declared.types.image.Form.TheVariants.{One, Two}
-use Rattle.texts.specs.Output.{files_text}
-use Rattle.texts.specs.declared.faults.CopyFault.TheVariants as told
-use Rattle.texts.specs.declared.refusal.Refusal.{Refusal}
-use Rattle.texts.specs.declared.refusal.Refusal.TheVariants.{Mkfs, Check, Copy, Output}
+use Rattle.messages.specs.Output.{files_text}
+use Rattle.messages.specs.declared.faults.CopyFault.TheVariants as told
+use Rattle.messages.specs.declared.refusal.Refusal.{Refusal}
+use Rattle.messages.specs.declared.refusal.Refusal.TheVariants.{Mkfs, Check, Copy, Output}
 use Rattle.cmd.specs.Opened.{IsOfFile, IsOpened}
 
 -- how a fault of a copy is told

@@ -12,8 +12,8 @@ use Rattle.offline.specs.Making.{MakesAs}
 use Rattle.model.specs.Layout.{planned_super}
 use Rattle.player.specs.Opening.{IsNotReplayed, Replays}
 use Rattle.runner.specs.Running.{IsNotRun as IsNotRunOver, Runs}
-use Rattle.texts.specs.Output.{numbers_text}
-use Rattle.texts.specs.declared.refusal.Refusal.{Refusal}
+use Rattle.messages.specs.Output.{numbers_text}
+use Rattle.messages.specs.declared.refusal.Refusal.{Refusal}
 use Rattle.scripts.specs.declared.schedule.Word.{Word}
 use Rattle.scripts.specs.declared.script.Task.{Task}
 

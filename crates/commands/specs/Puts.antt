@@ -3,10 +3,10 @@ use Rattle.std.specs.Prelude.{◌≡◌, ◌⊎◌, ⊤, ℕ, false, List, Optio
 use Rattle.blocks.specs.declared.disk.Disk.{Ghosts}
 use Rattle.blocks.specs.declared.file.FileDisk.{FileDisk}
 use Rattle.transfer.specs.Putting.{IsPut, IsUnput}
-use Rattle.texts.specs.declared.faults.PutFault.{PutFault}
-use Rattle.texts.specs.declared.faults.PutFault.TheVariants as put
-use Rattle.texts.specs.declared.refusal.Refusal.{Refusal}
-use Rattle.texts.specs.declared.refusal.Refusal.TheVariants.{Put}
+use Rattle.messages.specs.declared.faults.PutFault.{PutFault}
+use Rattle.messages.specs.declared.faults.PutFault.TheVariants as put
+use Rattle.messages.specs.declared.refusal.Refusal.{Refusal}
+use Rattle.messages.specs.declared.refusal.Refusal.TheVariants.{Put}
 use Rattle.cmd.specs.Opened.{OnDiskRefusal}
 
 -- the bytes of some file were put

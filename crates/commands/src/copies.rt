@@ -1,7 +1,7 @@
 // The command that copies an image into a new one.
 ghost use Rattle.std.specs.Prelude.{◌≡◌, ◌≢◌, ◌⊎◌, false, IfErr, IfOk, OnOk};
 ghost use Rattle.blocks.specs.Calls.{OnlyReads};
-ghost use Rattle.texts.specs.declared.refusal.Refusal.TheVariants as refusal;
+ghost use Rattle.messages.specs.declared.refusal.Refusal.TheVariants as refusal;
 ghost use Rattle.cmd.specs.Opened.{IsOpened};
 ghost use Rattle.commands.specs.Copies.{
   HasCopied,
@@ -26,7 +26,7 @@ use std::alloc::Global;
 use std::fs::{exists, remove_file};
 use std::io::Write;
 use std::rt::Files;
-use texts::{CopyFault, Refusal, print_files};
+use messages::{CopyFault, Refusal, print_files};
 
 /// Copies the image in the file at the path `old` into a new one, in a new file at the path `new`, as
 /// `transfer::copy`, and prints how many files it has. The new image has `size` blocks, as many as the

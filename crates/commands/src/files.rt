@@ -3,7 +3,7 @@ ghost use Rattle.std.specs.Prelude.{◌≡◌, ◌≢◌, ◌↔◌, false, IsTr
 ghost use Rattle.std.specs.Result.{IsErrOf};
 ghost use Rattle.layout.specs.declared.geometry.MkfsFault.TheVariants as fault;
 ghost use Rattle.model.specs.Layout.{is_inode_count, is_size};
-ghost use Rattle.texts.specs.declared.refusal.Refusal.TheVariants as refusal;
+ghost use Rattle.messages.specs.declared.refusal.Refusal.TheVariants as refusal;
 ghost use Rattle.player.specs.Refusal.{IsOfMkfs, IsOfReplay};
 ghost use Rattle.runner.specs.Running.{IsOfRun};
 ghost use Rattle.sysring.specs.Frames.{AreWorkers};
@@ -22,7 +22,7 @@ use std::io::{Read, Write};
 use std::rt::{Clock, Files};
 use std::sync::Wait;
 use std::thread::Threads;
-use texts::Refusal;
+use messages::Refusal;
 
 /// Makes an image of that form, of `size` blocks of 1024 bytes and with `ninodes` inode numbers, in a
 /// file at this path, and prints its numbers.

@@ -1,6 +1,6 @@
 // The command that puts a file of the system into an image.
 ghost use Rattle.std.specs.Prelude.{◌≡◌, ◌≢◌, false, IfErr, OnOk};
-ghost use Rattle.texts.specs.declared.refusal.Refusal.TheVariants as refusal;
+ghost use Rattle.messages.specs.declared.refusal.Refusal.TheVariants as refusal;
 ghost use Rattle.cmd.specs.Opened.{OpensDisk};
 ghost use Rattle.commands.specs.Puts.{HasPut, IsUnhad, OnPutRefusal};
 
@@ -14,7 +14,7 @@ use std::fs::File;
 use std::io;
 use std::io::{ErrorKind, Read, Write};
 use std::rt::Files;
-use texts::{PutFault, Refusal};
+use messages::{PutFault, Refusal};
 
 /// Puts the bytes of the file at the path `file` into the image in the file at the path `image`, as
 /// `put_disk`.

@@ -7,8 +7,8 @@ use blocks::{Block, Disk, FaultyDisk, Kind};
 use layout::{plan, superblock};
 use model::types::{File, Form};
 use offline::{check, mkfs, mkfs_as};
-use plain::check::verdict;
-use plain::report::files_after_recovery;
+use reference::check::verdict;
+use reference::report::files_after_recovery;
 use std::alloc::{AllocError, Global};
 use wal::recover;
 

@@ -7,8 +7,8 @@ use Rattle.wal.specs.Held.{HoldsBlock, HasLock}
 use Rattle.wal.specs.Machine.{LogState, is_among, used_by}
 use Rattle.model.specs.declared.types.operations.Op.{Op}
 use Rattle.model.specs.declared.types.operations.Op.TheVariants.{Create, Write, Read, Trunc, Remove, Stat}
-use Rattle.driver.specs.Lemmas.Others.{StaysForOthers}
-use Rattle.driver.specs.Lemmas.Slots.{holds_still}
+use Rattle.blockmap.specs.Lemmas.Others.{StaysForOthers}
+use Rattle.blockmap.specs.Lemmas.Slots.{holds_still}
 use Rattle.inodes.specs.declared.tasks.Place.{Place}
 use Rattle.inodes.specs.declared.tasks.Place.TheVariants as place
 use Rattle.inodes.specs.Tasks.{TaskState, task, no_task}

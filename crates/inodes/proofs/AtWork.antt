@@ -13,11 +13,11 @@ use Rattle.model.specs.Files.{Files}
 use Rattle.model.specs.Layout.{form_of, super_in}
 use Rattle.model.specs.Tasks.{FilesThen, Marks, reply_at_turn}
 use Rattle.wal.specs.Volume.{fault_of_task}
-use Rattle.loose.specs.Held.{Claims, FitsHeld, IsClaimedNow}
+use Rattle.in_flight.specs.Held.{Claims, FitsHeld, IsClaimedNow}
 use Rattle.wal.specs.Held.{HasLock}
 use Rattle.wal.specs.Machine.{SameGroups}
 use Rattle.wal.specs.Volume.{VolumeState}
-use Rattle.driver.specs.Lemmas.Others.{StaysForOthers}
+use Rattle.blockmap.specs.Lemmas.Others.{StaysForOthers}
 use Rattle.inodes.specs.declared.tasks.Place.{Place}
 use Rattle.inodes.specs.Goes.{Goes}
 use Rattle.inodes.specs.Grips.{Grip, KeepsTable, locked_grip, with_grip}

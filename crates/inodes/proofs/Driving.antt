@@ -13,22 +13,22 @@ use Rattle.model.specs.declared.types.operations.Why.TheVariants as why
 use Rattle.model.specs.Files.{Files}
 use Rattle.model.specs.Layout.{form_of}
 use Rattle.model.specs.Tasks.{FilesThen, Marks, reply_at_turn}
-use Rattle.loose.specs.Held.{Claims, FitsHeld, IsClaimedNow}
-use Rattle.loose.specs.Lemmas.HeldFrames.{held_alike}
+use Rattle.in_flight.specs.Held.{Claims, FitsHeld, IsClaimedNow}
+use Rattle.in_flight.specs.Lemmas.HeldFrames.{held_alike}
 use Rattle.wal.specs.declared.types.DeviceFault.TheVariants.{Block}
 use Rattle.wal.specs.Held.{HasLock, IsLocked, WaitsFor}
 use Rattle.wal.specs.Joint.{Joint}
 use Rattle.wal.specs.Machine.{SameGroups}
 use Rattle.wal.specs.Volume.{VolumeState, fault_of_task}
-use Rattle.driver.specs.Driver.{Drives, progress_of_over}
-use Rattle.driver.specs.Lemmas.Others.{StaysForOthers, deed_device, deed_fault, drives_groups, drives_sleeps, drives_stays, never_fails, never_sleeps, stays_same}
-use Rattle.driver.specs.Lemmas.Slots.{HasGot, drives_has, waits_apart}
-use Rattle.driver.specs.Next.{KeepsApart, block_of_next, used_now}
-use Rattle.driver.specs.declared.driving.Driven.{Driven}
-use Rattle.driver.specs.declared.driving.Got.{Got}
-use Rattle.driver.specs.declared.machine.Machine.{Ghosts as Pure}
-use Rattle.driver.specs.declared.progress.Progress.{Progress}
-use Rattle.driver.specs.declared.progress.Progress.TheVariants as machine
+use Rattle.blockmap.specs.Driver.{Drives, progress_of_over}
+use Rattle.blockmap.specs.Lemmas.Others.{StaysForOthers, deed_device, deed_fault, drives_groups, drives_sleeps, drives_stays, never_fails, never_sleeps, stays_same}
+use Rattle.blockmap.specs.Lemmas.Slots.{HasGot, drives_has, waits_apart}
+use Rattle.blockmap.specs.Next.{KeepsApart, block_of_next, used_now}
+use Rattle.blockmap.specs.declared.driving.Driven.{Driven}
+use Rattle.blockmap.specs.declared.driving.Got.{Got}
+use Rattle.blockmap.specs.declared.machine.Machine.{Ghosts as Pure}
+use Rattle.blockmap.specs.declared.progress.Progress.{Progress}
+use Rattle.blockmap.specs.declared.progress.Progress.TheVariants as machine
 use Rattle.inodes.specs.declared.tasks.Place.{Place}
 use Rattle.inodes.specs.Grips.{KeepsTable, locked_grip}
 use Rattle.inodes.specs.Holding.{claim_by, claims_of}

@@ -7,12 +7,12 @@ use Rattle.bcache.specs.Buffers.{Buffers}
 use Rattle.blockmap.specs.declared.bmap_alloc.MapAt.{MapAt}
 use Rattle.blockmap.specs.declared.bmap_alloc.MapAt.TheVariants as map_at
 use Rattle.blockmap.specs.Target.{slot_in}
-use Rattle.driver.specs.Holds.{slot_kept, slot_used}
-use Rattle.driver.specs.Next.{wanted_by}
-use Rattle.driver.specs.declared.driving.Got.{Got}
-use Rattle.driver.specs.declared.driving.Kept.{Kept}
-use Rattle.driver.specs.declared.machine.Next.{Next}
-use Rattle.driver.specs.declared.machine.Next.TheVariants as next
+use Rattle.blockmap.specs.Holds.{slot_kept, slot_used}
+use Rattle.blockmap.specs.Next.{wanted_by}
+use Rattle.blockmap.specs.declared.driving.Got.{Got}
+use Rattle.blockmap.specs.declared.driving.Kept.{Kept}
+use Rattle.blockmap.specs.declared.machine.Next.{Next}
+use Rattle.blockmap.specs.declared.machine.Next.TheVariants as next
 use Rattle.inodes.specs.declared.ilock.LockAt.{LockAt}
 use Rattle.inodes.specs.declared.ilock.LockAt.TheVariants as lock_at
 use Rattle.inodes.specs.declared.tasks.Place.{Place}

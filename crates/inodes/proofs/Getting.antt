@@ -15,15 +15,15 @@ use Rattle.wal.specs.declared.types.Get.TheVariants as get
 use Rattle.wal.specs.Held.{HasLock, IsLocked, LocksAfter, GetsLock, GivesUpLock}
 use Rattle.wal.specs.Machine.{LogState}
 use Rattle.wal.specs.Volume.{VolumeState, OnSleeping, fault_of_get, faults_after}
-use Rattle.driver.specs.declared.progress.Progress.{Progress}
-use Rattle.driver.specs.declared.progress.Progress.TheVariants as machine
-use Rattle.driver.specs.Getting.{GetsFor, progress_of, slot_of}
+use Rattle.blockmap.specs.declared.progress.Progress.{Progress}
+use Rattle.blockmap.specs.declared.progress.Progress.TheVariants as machine
+use Rattle.blockmap.specs.Getting.{GetsFor, progress_of, slot_of}
 use Rattle.inodes.specs.Goes.{ShowsSame}
 use Rattle.inodes.specs.Places.{HasSlot}
 use Rattle.inodes.specs.Steps.{Reads, IsHeldByAnother}
 use Rattle.inodes.specs.Store.{StoreState, HoldsAt, Agrees, current_of}
 use Rattle.inodes.specs.Tasks.{TaskState, task}
-use Rattle.driver.specs.Lemmas.Others.{StaysForOthers, stays_same, stays_got, stays_left}
+use Rattle.blockmap.specs.Lemmas.Others.{StaysForOthers, stays_same, stays_got, stays_left}
 
 -- Process p has block b where it was got, and nothing else; the others have what they had.
 pub record HasOne (c d : Buffers) (l : LogState) (p b : ℕ) (slot : Option ℕ) : Type 0 where

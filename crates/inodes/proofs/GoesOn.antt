@@ -9,7 +9,7 @@ use Rattle.blocks.specs.Disk.{Image}
 use Rattle.bcache.specs.Buffers.{Buffers, buffer, victim}
 use Rattle.model.specs.Soundness.{count_of}
 use Rattle.wal.specs.Held.{HasLock}
-use Rattle.driver.specs.declared.driving.Got.{Got}
+use Rattle.blockmap.specs.declared.driving.Got.{Got}
 use Rattle.wal.specs.Joint.{Joint}
 use Rattle.inodes.specs.declared.ilock.LockAt.{LockAt}
 use Rattle.inodes.specs.declared.ilock.LockAt.TheVariants as lock_at

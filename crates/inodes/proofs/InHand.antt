@@ -6,11 +6,11 @@ use Rattle.blocks.specs.Disk.{Image, block_at}
 use Rattle.model.specs.declared.types.image.Form.{Form}
 use Rattle.model.specs.Fields.{words_of}
 use Rattle.model.specs.Layout.{depths, form_of}
-use Rattle.loose.specs.Held.{listed}
-use Rattle.loose.specs.Trees.{IsFirstTree, depth_of, entry_of, led_to}
-use Rattle.loose.specs.Lemmas.Ways.{led_none}
-use Rattle.loose.specs.Lemmas.Wholes.{tree_depth}
-use Rattle.driver.specs.declared.driving.Kept.{Kept}
+use Rattle.in_flight.specs.Held.{listed}
+use Rattle.in_flight.specs.Trees.{IsFirstTree, depth_of, entry_of, led_to}
+use Rattle.in_flight.specs.Lemmas.Ways.{led_none}
+use Rattle.in_flight.specs.Lemmas.Wholes.{tree_depth}
+use Rattle.blockmap.specs.declared.driving.Kept.{Kept}
 use Rattle.inodes.specs.declared.itrunc.Itrunc.{Itrunc}
 use Rattle.inodes.specs.declared.itrunc.TruncAt.{TruncAt}
 use Rattle.inodes.specs.declared.itrunc.TruncAt.TheVariants as trunc_at

@@ -9,17 +9,17 @@ use Rattle.model.specs.Journal.{is_number}
 use Rattle.model.specs.Layout.{form_of, inode_count_of, first_data_block, bitmap_block}
 use Rattle.model.specs.Places.{addresses_in, pointers_in}
 use Rattle.model.specs.Soundness.{count_of}
-use Rattle.loose.specs.Held.{Claim, frees, grows, listed, names_claimed}
-use Rattle.loose.specs.Trees.{led_to, names_left}
-use Rattle.loose.specs.HeldLaws.{IsHeldIn}
-use Rattle.loose.specs.Lemmas.Apart.{named_mine}
-use Rattle.loose.specs.Lemmas.GivenUp.{first_left, first_twice}
-use Rattle.loose.specs.Lemmas.HeldLooks.{held_has_blocks}
-use Rattle.loose.specs.Lemmas.LeftOnWays.{ahead_of}
-use Rattle.loose.specs.Lemmas.Ways.{ahead_root, led_step}
-use Rattle.loose.specs.Lemmas.BlocksTaken.{taken_owned}
-use Rattle.loose.specs.Lemmas.HeldFrames.{claimed_in_data, owned_by_one}
-use Rattle.loose.specs.Lemmas.Looks.{between}
+use Rattle.in_flight.specs.Held.{Claim, frees, grows, listed, names_claimed}
+use Rattle.in_flight.specs.Trees.{led_to, names_left}
+use Rattle.in_flight.specs.HeldLaws.{IsHeldIn}
+use Rattle.in_flight.specs.Lemmas.Apart.{named_mine}
+use Rattle.in_flight.specs.Lemmas.GivenUp.{first_left, first_twice}
+use Rattle.in_flight.specs.Lemmas.HeldLooks.{held_has_blocks}
+use Rattle.in_flight.specs.Lemmas.LeftOnWays.{ahead_of}
+use Rattle.in_flight.specs.Lemmas.Ways.{ahead_root, led_step}
+use Rattle.in_flight.specs.Lemmas.BlocksTaken.{taken_owned}
+use Rattle.in_flight.specs.Lemmas.HeldFrames.{claimed_in_data, owned_by_one}
+use Rattle.in_flight.specs.Lemmas.Looks.{between}
 use Rattle.bcache.specs.Buffers.{Buffers}
 use Rattle.wal.specs.Held.{HoldsBlock}
 use Rattle.wal.specs.Machine.{LogState, used_by}
@@ -31,11 +31,11 @@ use Rattle.blockmap.specs.declared.balloc.AllocAt.{AllocAt}
 use Rattle.blockmap.specs.declared.balloc.AllocAt.TheVariants as alloc_at
 use Rattle.blockmap.specs.declared.bmap_alloc.MapAt.{MapAt}
 use Rattle.blockmap.specs.declared.bmap_alloc.MapAt.TheVariants as map_at
-use Rattle.driver.specs.Holds.{HasOne}
-use Rattle.driver.specs.Next.{wanted_by}
-use Rattle.driver.specs.declared.driving.Got.{Got}
-use Rattle.driver.specs.declared.machine.Next.{Next}
-use Rattle.driver.specs.declared.machine.Next.TheVariants as next
+use Rattle.blockmap.specs.Holds.{HasOne}
+use Rattle.blockmap.specs.Next.{wanted_by}
+use Rattle.blockmap.specs.declared.driving.Got.{Got}
+use Rattle.blockmap.specs.declared.machine.Next.{Next}
+use Rattle.blockmap.specs.declared.machine.Next.TheVariants as next
 use Rattle.inodes.specs.declared.itrunc.TruncAt.{TruncAt}
 use Rattle.inodes.specs.declared.itrunc.TruncAt.TheVariants as trunc_at
 use Rattle.inodes.specs.declared.tasks.Place.{Place}

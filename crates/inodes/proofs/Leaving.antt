@@ -18,7 +18,7 @@ use Rattle.model.specs.Layout.{form_of, inode_of, inode_count_of}
 use Rattle.model.specs.Operations.{after, part_of}
 use Rattle.model.specs.Tasks.{Answers}
 use Rattle.wal.specs.Volume.{fault_of_task}
-use Rattle.loose.specs.Lemmas.HeldLooks.{resting_tells}
+use Rattle.in_flight.specs.Lemmas.HeldLooks.{resting_tells}
 use Rattle.inodes.specs.declared.tasks.Place.{Place}
 use Rattle.inodes.specs.declared.tasks.Place.TheVariants as place
 use Rattle.inodes.specs.Goes.{Goes, GivesUp}
@@ -38,7 +38,7 @@ use Rattle.inodes.proofs.Looking.{Looked, Stepped, files_same, stepped_looked, s
 use Rattle.inodes.specs.Holding.{claim_by, claims_of, claim_of}
 use Rattle.inodes.proofs.Taking.{none_of_zero}
 use Rattle.inodes.specs.Lemmas.Unclaimed.{unclaimed}
-use Rattle.loose.specs.Held.{FitsHeld}
+use Rattle.in_flight.specs.Held.{FitsHeld}
 
 -- a task that is over, without bytes
 abbrev pub finished : TaskState → TaskState

@@ -8,10 +8,10 @@ use Rattle.model.specs.Codec.{new_inode, with_inode}
 use Rattle.model.specs.Layout.{inode_in, inode_bytes_in, inode_block, inode_of}
 use Rattle.bcache.specs.Buffers.{Buffers, buffer}
 use Rattle.wal.specs.Volume.{Holds}
-use Rattle.driver.specs.Getting.{HoldsWhereGot}
+use Rattle.blockmap.specs.Getting.{HoldsWhereGot}
 use Rattle.inodes.specs.Ialloc.{SearchState}
-use Rattle.driver.specs.declared.progress.Progress.{Progress}
-use Rattle.driver.specs.declared.progress.Progress.TheVariants as progress
+use Rattle.blockmap.specs.declared.progress.Progress.{Progress}
+use Rattle.blockmap.specs.declared.progress.Progress.TheVariants as progress
 use Rattle.inodes.specs.Creation.{lowest_free}
 use Rattle.bcache.specs.Buffers.{block_or_zero}
 use Rattle.wal.specs.Held.{GivesUpLock}

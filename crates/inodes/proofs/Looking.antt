@@ -17,11 +17,11 @@ use Rattle.model.specs.Layout.{form_of, inode_count_of}
 use Rattle.model.specs.Tasks.{FilesThen, reply_at_turn, Marks}
 use Rattle.model.specs.Lemmas.Frames.{form_same}
 use Rattle.wal.specs.Volume.{fault_of_task}
-use Rattle.loose.specs.Held.{FitsHeld}
-use Rattle.loose.specs.Lemmas.HeldFrames.{held_alike}
+use Rattle.in_flight.specs.Held.{FitsHeld}
+use Rattle.in_flight.specs.Lemmas.HeldFrames.{held_alike}
 use Rattle.wal.specs.Held.{HasLock}
 use Rattle.wal.specs.Machine.{LogState, SameGroups}
-use Rattle.driver.specs.Lemmas.Others.{StaysForOthers, groups_same}
+use Rattle.blockmap.specs.Lemmas.Others.{StaysForOthers, groups_same}
 use Rattle.inodes.specs.declared.tasks.Place.{Place}
 use Rattle.inodes.specs.declared.tasks.Place.TheVariants as place
 use Rattle.inodes.specs.Goes.{Shown, Goes, ShowsSame}

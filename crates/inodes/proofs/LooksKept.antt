@@ -21,28 +21,28 @@ use Rattle.model.specs.Lemmas.Inodes.{IsPlaced, inode_of-with_inode_other}
 use Rattle.model.specs.Lemmas.Log.{both_of}
 use Rattle.model.specs.Lemmas.OutsideLog.{inode_agree}
 use Rattle.model.specs.Lemmas.Frames.{form_same}
-use Rattle.loose.specs.Claims.{HasClaimed}
+use Rattle.in_flight.specs.Claims.{HasClaimed}
 use Rattle.model.specs.Soundness.{count_of}
-use Rattle.loose.specs.Held.{Held, Claims, FitsHeld, Growth, IsClaimedNow, last_inode, unmarked, frees, Claim, grows, names_claimed}
-use Rattle.loose.specs.Lemmas.BlocksTaken.{taken_owned}
-use Rattle.loose.specs.Lemmas.KeptTrees.{SameInside}
+use Rattle.in_flight.specs.Held.{Held, Claims, FitsHeld, Growth, IsClaimedNow, last_inode, unmarked, frees, Claim, grows, names_claimed}
+use Rattle.in_flight.specs.Lemmas.BlocksTaken.{taken_owned}
+use Rattle.in_flight.specs.Lemmas.KeptTrees.{SameInside}
 use Rattle.wal.specs.Machine.{LogState, is_among, used_by}
 use Rattle.blockmap.specs.Lemmas.Branches.{same_keeps}
 use Rattle.blockmap.specs.Branch.{branch_of}
-use Rattle.loose.specs.HeldLaws.{FitsThen, HasSameFile, IsHeldIn, StaysHeld}
-use Rattle.loose.specs.Loose.{Fits}
-use Rattle.loose.specs.Lemmas.AtRest.{fits_at_rest}
-use Rattle.loose.specs.Lemmas.Claims.{IsApart, apart as apart_from}
-use Rattle.loose.specs.Lemmas.Apart.{named_held}
-use Rattle.loose.specs.Lemmas.GivenUp.{first_left, held_of as is_held}
-use Rattle.loose.specs.Lemmas.HeldFrames.{held_alike, stays_same, whole_names}
-use Rattle.loose.specs.Lemmas.LeftOnWays.{ahead_of}
-use Rattle.loose.specs.Lemmas.Ways.{ahead_root}
-use Rattle.loose.specs.Trees.{names_left}
-use Rattle.loose.specs.Lemmas.HeldLooks.{free_tells}
-use Rattle.loose.specs.Lemmas.HeldOutsideLog.{held_outside}
-use Rattle.loose.specs.Lemmas.Looks.{between}
-use Rattle.loose.specs.Lemmas.WriteBacks.{claim_fits, last_fields, write_back_rests}
+use Rattle.in_flight.specs.HeldLaws.{FitsThen, HasSameFile, IsHeldIn, StaysHeld}
+use Rattle.in_flight.specs.Loose.{Fits}
+use Rattle.in_flight.specs.Lemmas.AtRest.{fits_at_rest}
+use Rattle.in_flight.specs.Lemmas.Claims.{IsApart, apart as apart_from}
+use Rattle.in_flight.specs.Lemmas.Apart.{named_held}
+use Rattle.in_flight.specs.Lemmas.GivenUp.{first_left, held_of as is_held}
+use Rattle.in_flight.specs.Lemmas.HeldFrames.{held_alike, stays_same, whole_names}
+use Rattle.in_flight.specs.Lemmas.LeftOnWays.{ahead_of}
+use Rattle.in_flight.specs.Lemmas.Ways.{ahead_root}
+use Rattle.in_flight.specs.Trees.{names_left}
+use Rattle.in_flight.specs.Lemmas.HeldLooks.{free_tells}
+use Rattle.in_flight.specs.Lemmas.HeldOutsideLog.{held_outside}
+use Rattle.in_flight.specs.Lemmas.Looks.{between}
+use Rattle.in_flight.specs.Lemmas.WriteBacks.{claim_fits, last_fields, write_back_rests}
 use Rattle.blockmap.specs.Lemmas.Resting.{resting_may_be_read}
 use Rattle.blockmap.specs.Lemmas.Targets.{leads_still, needed_within}
 use Rattle.blockmap.specs.Reading.{MayRead}
@@ -64,7 +64,7 @@ use Rattle.inodes.specs.Lemmas.Looks.{copy_is, trunc_names, write_locks}
 use Rattle.inodes.proofs.InHand.{first_tree, given_kept, keeps_kept, root_there}
 use Rattle.inodes.proofs.Gripping.{grip_is, grips_same}
 use Rattle.inodes.specs.Lemmas.Unclaimed.{own_claim, unclaimed, claim_locks, own_growth}
-use Rattle.loose.specs.Lemmas.Remapped.{IsMapped, mapped, inode_same}
+use Rattle.in_flight.specs.Lemmas.Remapped.{IsMapped, mapped, inode_same}
 use Rattle.inodes.specs.Growing.{growth_of, bytes_by, taken_by}
 use Rattle.inodes.specs.Writing.{HasLoggedWrite, IsWriting, at_hand, extent_of}
 use Rattle.inodes.specs.declared.writei.Extent.{Extent}

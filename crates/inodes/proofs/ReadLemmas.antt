@@ -17,14 +17,14 @@ use Rattle.bcache.specs.Buffers.{buffer}
 use Rattle.bcache.specs.Lemmas.Current.{length-current}
 use Rattle.wal.specs.Joint.{Joint, seen}
 use Rattle.wal.specs.Volume.{VolumeState, Holds}
-use Rattle.driver.specs.Getting.{HoldsWhereGot, Releases}
+use Rattle.blockmap.specs.Getting.{HoldsWhereGot, Releases}
 use Rattle.blockmap.specs.Lemmas.Reading.{length-bytes, part_in_block}
 use Rattle.blockmap.specs.Lemmas.Seeking.{SeeksOn, seeks_on}
 use Rattle.blockmap.specs.Lemmas.Targets.{few_at, leads_for, needed_within, steps_enough, steps_grow, steps_more}
 use Rattle.blockmap.specs.Reading.{MayRead}
 use Rattle.blockmap.specs.Target.{IsSought, LeadsTo, Seeks, got_slot, steps_at, steps_for, target_for}
-use Rattle.driver.specs.declared.progress.Progress.{Progress}
-use Rattle.driver.specs.declared.progress.Progress.TheVariants as progress
+use Rattle.blockmap.specs.declared.progress.Progress.{Progress}
+use Rattle.blockmap.specs.declared.progress.Progress.TheVariants as progress
 use Rattle.blockmap.specs.declared.target.Target.{Target}
 use Rattle.blockmap.specs.declared.target.Target.TheVariants as target
 use Rattle.inodes.specs.Lemmas.ReadRuns.{Begins, begins}

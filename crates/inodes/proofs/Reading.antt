@@ -8,7 +8,7 @@ use Rattle.model.specs.Journal.{is_number}
 use Rattle.model.specs.Layout.{inode_count_of}
 use Rattle.bcache.specs.Lemmas.Current.{length-current}
 use Rattle.wal.specs.Joint.{Joint}
-use Rattle.driver.specs.Getting.{HoldsWhereGot}
+use Rattle.blockmap.specs.Getting.{HoldsWhereGot}
 use Rattle.blockmap.specs.Lemmas.Resting.{resting_may_be_read}
 use Rattle.blockmap.specs.Lemmas.Targets.{node_there}
 use Rattle.blockmap.specs.Reading.{MayRead}

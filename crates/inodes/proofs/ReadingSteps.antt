@@ -29,14 +29,14 @@ use Rattle.wal.specs.declared.types.Get.TheVariants as get
 use Rattle.blockmap.specs.Bmap.{EntryState, Ends, GoesBelow, LooksUp, with_slot}
 use Rattle.blockmap.specs.Branch.{named_by}
 use Rattle.blockmap.specs.Lemmas.Targets.{first_slot}
-use Rattle.driver.specs.Getting.{GetsFor, Releases, progress_of}
+use Rattle.blockmap.specs.Getting.{GetsFor, Releases, progress_of}
 use Rattle.blockmap.specs.Lemmas.Reading.{length-bytes, part_cut}
 use Rattle.blockmap.specs.Target.{LeadsToBlock, LooksUpFor, block_of, progress_behind, slot_in, steps_at, target_behind, target_for}
-use Rattle.driver.specs.declared.progress.Progress.{Progress}
-use Rattle.driver.specs.declared.progress.Progress.TheVariants as machine
+use Rattle.blockmap.specs.declared.progress.Progress.{Progress}
+use Rattle.blockmap.specs.declared.progress.Progress.TheVariants as machine
 use Rattle.blockmap.specs.declared.target.Target.{Target}
 use Rattle.blockmap.specs.declared.target.Target.TheVariants as target
-use Rattle.driver.specs.Lemmas.Others.{StaysForOthers}
+use Rattle.blockmap.specs.Lemmas.Others.{StaysForOthers}
 use Rattle.inodes.specs.declared.tasks.Place.{Place}
 use Rattle.inodes.specs.declared.tasks.Place.TheVariants as place
 use Rattle.inodes.specs.Goes.{Goes, Shown, ShowsSame, progress_of_read, place_of_reading}

@@ -3,8 +3,8 @@ use Rattle.std.proofs.Common.{◌≡◌, ◌≢◌, ℕ, suc, ◌+◌, ◌-◌, 
 use Rattle.std.proofs.lemmas.Bool.{cases_eq, eq-eqb, ne_eqb}
 use Rattle.blocks.specs.Disk.{Image}
 use Rattle.model.specs.declared.types.image.Dinode.{Dinode}
-use Rattle.loose.specs.Trees.{led_to, way_to}
-use Rattle.loose.specs.Lemmas.Ways.{led_none, length-way_to}
+use Rattle.in_flight.specs.Trees.{led_to, way_to}
+use Rattle.in_flight.specs.Lemmas.Ways.{led_none, length-way_to}
 use Rattle.blockmap.specs.Lemmas.Branches.{KeepsBehind, led_behind}
 use Rattle.blockmap.specs.declared.branch.Branch.{Branch}
 use Rattle.inodes.specs.Routes.{Route, node_by, routes_beyond, routes_on, routes_past, routes_to}

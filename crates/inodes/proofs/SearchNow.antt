@@ -14,8 +14,8 @@ use Rattle.wal.specs.Volume.{fault_of_task}
 use Rattle.wal.specs.Joint.{Joint}
 use Rattle.wal.specs.Machine.{LogState, SameGroups}
 use Rattle.wal.specs.Volume.{VolumeState, faults_after}
-use Rattle.driver.specs.declared.progress.Progress.TheVariants as machine
-use Rattle.driver.specs.declared.progress.Progress.{Progress}
+use Rattle.blockmap.specs.declared.progress.Progress.TheVariants as machine
+use Rattle.blockmap.specs.declared.progress.Progress.{Progress}
 use Rattle.inodes.specs.declared.tasks.Place.{Place}
 use Rattle.inodes.specs.declared.tasks.Place.TheVariants as place
 use Rattle.inodes.specs.Goes.{Goes, GoesFrom, progress_of_search, shown_of}

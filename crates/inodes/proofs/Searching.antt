@@ -13,8 +13,8 @@ use Rattle.wal.specs.Joint.{Joint, seen}
 use Rattle.wal.specs.Machine.{LogState, used_by}
 use Rattle.wal.specs.Lemmas.Held.{held_is}
 use Rattle.wal.specs.Lemmas.Rooms.{GrowsHomes}
-use Rattle.driver.specs.Getting.{HoldsWhereGot}
-use Rattle.driver.specs.Lemmas.Others.{StaysForOthers, stays_got, stays_same}
+use Rattle.blockmap.specs.Getting.{HoldsWhereGot}
+use Rattle.blockmap.specs.Lemmas.Others.{StaysForOthers, stays_got, stays_same}
 use Rattle.inodes.specs.Ialloc.{SearchState}
 use Rattle.inodes.specs.declared.tasks.Place.{Place}
 use Rattle.inodes.specs.declared.tasks.Place.TheVariants as place

@@ -4,7 +4,7 @@ use Rattle.std.specs.Prelude.{IsTrue}
 use Rattle.blocks.specs.Disk.{Image}
 use Rattle.model.specs.Journal.{is_number}
 use Rattle.model.specs.Layout.{inode_count_of, inode_of}
-use Rattle.loose.specs.Held.{Claim}
+use Rattle.in_flight.specs.Held.{Claim}
 use Rattle.inodes.specs.Grips.{locked_grip}
 use Rattle.inodes.specs.Holding.{claims_of, claim_of}
 use Rattle.inodes.specs.Looks.{AreLooking}

@@ -20,21 +20,21 @@ use Rattle.blockmap.specs.declared.balloc.AllocAt.{AllocAt}
 use Rattle.blockmap.specs.declared.balloc.AllocAt.TheVariants as alloc_at
 use Rattle.blockmap.specs.declared.bmap_alloc.MapAt.{MapAt}
 use Rattle.blockmap.specs.declared.bmap_alloc.MapAt.TheVariants as map_at
-use Rattle.driver.specs.declared.progress.Progress.{Progress}
-use Rattle.driver.specs.declared.progress.Progress.TheVariants as machine
+use Rattle.blockmap.specs.declared.progress.Progress.{Progress}
+use Rattle.blockmap.specs.declared.progress.Progress.TheVariants as machine
 use Rattle.blockmap.specs.declared.target.Target.{Target}
 use Rattle.blockmap.specs.declared.target.Target.TheVariants as target
-use Rattle.driver.specs.Getting.{GetsFor, progress_of}
+use Rattle.blockmap.specs.Getting.{GetsFor, progress_of}
 use Rattle.blockmap.specs.Target.{block_of, slot_in, progress_behind}
-use Rattle.driver.specs.Driver.{Drives}
-use Rattle.driver.specs.Lemmas.Others.{never_sleeps}
-use Rattle.driver.specs.Next.{block_of_next, used_now, wanted_by}
-use Rattle.driver.specs.declared.driving.Driven.{Driven}
-use Rattle.driver.specs.declared.driving.Got.{Got}
-use Rattle.driver.specs.declared.driving.Kept.{Kept}
-use Rattle.driver.specs.declared.machine.Machine.{Ghosts as Pure}
-use Rattle.driver.specs.declared.machine.Next.{Next}
-use Rattle.driver.specs.declared.machine.Next.TheVariants as next
+use Rattle.blockmap.specs.Driver.{Drives}
+use Rattle.blockmap.specs.Lemmas.Others.{never_sleeps}
+use Rattle.blockmap.specs.Next.{block_of_next, used_now, wanted_by}
+use Rattle.blockmap.specs.declared.driving.Driven.{Driven}
+use Rattle.blockmap.specs.declared.driving.Got.{Got}
+use Rattle.blockmap.specs.declared.driving.Kept.{Kept}
+use Rattle.blockmap.specs.declared.machine.Machine.{Ghosts as Pure}
+use Rattle.blockmap.specs.declared.machine.Next.{Next}
+use Rattle.blockmap.specs.declared.machine.Next.TheVariants as next
 use Rattle.inodes.specs.declared.ilock.LockAt.{LockAt}
 use Rattle.inodes.specs.declared.ilock.LockAt.TheVariants as lock_at
 use Rattle.inodes.specs.declared.tasks.Place.{Place}

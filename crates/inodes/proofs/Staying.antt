@@ -11,11 +11,11 @@ use Rattle.wal.specs.Joint.{seen}
 use Rattle.wal.specs.Volume.{VolumeState}
 use Rattle.wal.specs.declared.types.Get.TheVariants as get
 use Rattle.wal.specs.declared.types.Get.{Get}
-use Rattle.driver.specs.Driver.{Drives, over_with, progress_of_over, when_got}
-use Rattle.driver.specs.Getting.{GetsFor, progress_of, slot_of}
-use Rattle.driver.specs.declared.driving.Got.{Got}
-use Rattle.driver.specs.declared.progress.Progress.TheVariants as machine
-use Rattle.driver.specs.declared.progress.Progress.{Progress}
+use Rattle.blockmap.specs.Driver.{Drives, over_with, progress_of_over, when_got}
+use Rattle.blockmap.specs.Getting.{GetsFor, progress_of, slot_of}
+use Rattle.blockmap.specs.declared.driving.Got.{Got}
+use Rattle.blockmap.specs.declared.progress.Progress.TheVariants as machine
+use Rattle.blockmap.specs.declared.progress.Progress.{Progress}
 use Rattle.blockmap.specs.Balloc.{AllocState, Allocs, TakesLowest, lowest_in}
 use Rattle.blockmap.specs.Bmap.{Ends, EntryState, GoesBelow, LooksUp, some_address, with_slot}
 use Rattle.blockmap.specs.BmapAlloc.{FindsEntry, MapState, MapSteps, SetsEntry, after_address, address_at, after_behind, behind_at, naming}

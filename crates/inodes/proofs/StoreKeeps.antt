@@ -13,7 +13,7 @@ use Rattle.model.specs.Fields.{u32_at}
 use Rattle.model.specs.Layout.{super_of, super_in, inode_block, inode_count_of, is_lawful_super, is_known_magic}
 use Rattle.model.specs.Journal.{is_number}
 use Rattle.model.specs.Soundness.{IsLawfulGeometry}
-use Rattle.loose.specs.Lemmas.Claims.{claims}
+use Rattle.in_flight.specs.Lemmas.Claims.{claims}
 use Rattle.bcache.specs.Buffers.{Buffers, fresh_buffers}
 use Rattle.wal.specs.declared.types.Commit.{Commit}
 use Rattle.wal.specs.declared.types.Commit.TheVariants as commit
@@ -26,8 +26,8 @@ use Rattle.wal.specs.Lemmas.Held.{none_locked}
 use Rattle.wal.specs.Lemmas.Log.{is_open, quiet_of}
 use Rattle.wal.specs.Lemmas.Rooms.{GrowsHomes, begun_grows, ended_grows, noted_grows, used_begun, used_noted, used_ended, used_first}
 use Rattle.inodes.specs.Ialloc.{SearchState}
-use Rattle.driver.specs.declared.progress.Progress.{Progress}
-use Rattle.driver.specs.declared.progress.Progress.TheVariants as search
+use Rattle.blockmap.specs.declared.progress.Progress.{Progress}
+use Rattle.blockmap.specs.declared.progress.Progress.TheVariants as search
 use Rattle.inodes.specs.declared.tasks.Place.{Place}
 use Rattle.inodes.specs.declared.tasks.Place.TheVariants as place
 use Rattle.inodes.specs.Ialloc.{SearchSteps, SearchGoes, SearchLocks, IsFree, current_after, log_after, fault_in, at_slot}

@@ -19,18 +19,18 @@ use Rattle.model.specs.Layout.{form_of, inode_block, inode_of, inode_count_of, H
 use Rattle.model.specs.Lemmas.Log.{both_of}
 use Rattle.model.specs.Lemmas.Runs.{after-no_inode}
 use Rattle.model.specs.Soundness.{IsLawfulGeometry}
-use Rattle.loose.specs.Claims.{HasClaimed, with_new_file}
-use Rattle.loose.specs.Held.{FitsHeld}
-use Rattle.loose.specs.Lemmas.Claims.{claims}
-use Rattle.loose.specs.Lemmas.HeldFrames.{held_alike}
-use Rattle.loose.specs.Lemmas.HeldLooks.{free_tells}
-use Rattle.loose.specs.Lemmas.WriteBacks.{claim_fits}
+use Rattle.in_flight.specs.Claims.{HasClaimed, with_new_file}
+use Rattle.in_flight.specs.Held.{FitsHeld}
+use Rattle.in_flight.specs.Lemmas.Claims.{claims}
+use Rattle.in_flight.specs.Lemmas.HeldFrames.{held_alike}
+use Rattle.in_flight.specs.Lemmas.HeldLooks.{free_tells}
+use Rattle.in_flight.specs.Lemmas.WriteBacks.{claim_fits}
 use Rattle.wal.specs.Machine.{LogState, SameGroups}
 use Rattle.wal.specs.Volume.{VolumeState}
-use Rattle.driver.specs.Lemmas.Others.{groups_noted, groups_same}
+use Rattle.blockmap.specs.Lemmas.Others.{groups_noted, groups_same}
 use Rattle.inodes.specs.Ialloc.{SearchState}
-use Rattle.driver.specs.declared.progress.Progress.{Progress}
-use Rattle.driver.specs.declared.progress.Progress.TheVariants as search
+use Rattle.blockmap.specs.declared.progress.Progress.{Progress}
+use Rattle.blockmap.specs.declared.progress.Progress.TheVariants as search
 use Rattle.model.specs.declared.types.operations.TaskProgress.TheVariants as progress
 use Rattle.inodes.specs.declared.tasks.Place.{Place}
 use Rattle.inodes.specs.declared.tasks.Place.TheVariants as place

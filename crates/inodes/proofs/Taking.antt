@@ -11,8 +11,8 @@ use Rattle.model.specs.Journal.{is_number}
 use Rattle.model.specs.Layout.{inode_block, inode_count_of}
 use Rattle.bcache.specs.Lemmas.Current.{length-current}
 use Rattle.wal.specs.Joint.{Joint}
-use Rattle.driver.specs.Getting.{HoldsWhereGot}
-use Rattle.driver.specs.Lemmas.Others.{stays_same}
+use Rattle.blockmap.specs.Getting.{HoldsWhereGot}
+use Rattle.blockmap.specs.Lemmas.Others.{stays_same}
 use Rattle.inodes.specs.declared.ilock.LockAt.{LockAt}
 use Rattle.inodes.specs.declared.ilock.LockAt.TheVariants as lock_at
 use Rattle.inodes.specs.declared.tasks.Place.{Place}
@@ -30,7 +30,7 @@ use Rattle.inodes.specs.Tasks.{TaskState, task}
 use Rattle.inodes.specs.Holding.{claim_by, claims_of, claim_of}
 use Rattle.inodes.specs.Lemmas.Holding.{claim_stays}
 use Rattle.inodes.specs.Lemmas.Looks.{look_takes}
-use Rattle.loose.specs.Lemmas.HeldFrames.{held_alike}
+use Rattle.in_flight.specs.Lemmas.HeldFrames.{held_alike}
 use Rattle.model.specs.Files.{Files}
 use Rattle.model.specs.Lemmas.Log.{both_of}
 use Rattle.wal.specs.Machine.{LogState}

@@ -21,10 +21,10 @@ use Rattle.wal.specs.Machine.{LogState}
 use Rattle.wal.specs.Volume.{VolumeState}
 use Rattle.wal.specs.declared.types.Get.{Get}
 use Rattle.wal.specs.declared.types.Get.TheVariants as get
-use Rattle.driver.specs.declared.progress.Progress.{Progress}
-use Rattle.driver.specs.declared.progress.Progress.TheVariants as machine
-use Rattle.driver.specs.Getting.{GetsFor, progress_of, slot_of as got_slot_of}
-use Rattle.driver.specs.Lemmas.Others.{StaysForOthers}
+use Rattle.blockmap.specs.declared.progress.Progress.{Progress}
+use Rattle.blockmap.specs.declared.progress.Progress.TheVariants as machine
+use Rattle.blockmap.specs.Getting.{GetsFor, progress_of, slot_of as got_slot_of}
+use Rattle.blockmap.specs.Lemmas.Others.{StaysForOthers}
 use Rattle.inodes.specs.declared.ilock.LockAt.{LockAt}
 use Rattle.inodes.specs.declared.ilock.LockAt.TheVariants as lock_at
 use Rattle.inodes.specs.declared.tasks.Place.{Place}

@@ -3,9 +3,9 @@ use Rattle.std.proofs.Common.{◌≡◌, ◌≢◌, ℕ, cond, eqb, refl, sym, �
 use Rattle.std.proofs.lemmas.Bool.{cases_eq, eq-eqb, ne_eqb, cond-true, cond-false}
 use Rattle.blocks.specs.Disk.{Image}
 use Rattle.model.specs.Files.{Files}
-use Rattle.loose.specs.Held.{Held, Claims, FitsHeld, IsClaimedNow, Claim, frees}
-use Rattle.loose.specs.HeldLaws.{IsHeldIn}
-use Rattle.loose.specs.Lemmas.HeldFrames.{held_alike}
+use Rattle.in_flight.specs.Held.{Held, Claims, FitsHeld, IsClaimedNow, Claim, frees}
+use Rattle.in_flight.specs.HeldLaws.{IsHeldIn}
+use Rattle.in_flight.specs.Lemmas.HeldFrames.{held_alike}
 
 -- the claims with another one of number i
 abbrev pub with_claim : Claims → ℕ → Option Claim → Claims

@@ -15,36 +15,36 @@ use Rattle.model.specs.Layout.{depths, form_of, direct_count, inode_block, inode
 use Rattle.model.specs.Lemmas.Frames.{form_agree}
 use Rattle.model.specs.Lemmas.Inodes.{inode_of-with_inode}
 use Rattle.model.specs.Tasks.{Marks}
-use Rattle.loose.specs.Held.{Held, Claims, FitsHeld, IsClaimedNow, blocks_left, last_inode, listed, unmarked, frees, Claim, without_address}
-use Rattle.loose.specs.HeldLaws.{IsGivenUp, IsHeldIn}
-use Rattle.loose.specs.Trees.{Gives, LeavesAlike, depth_of, entry_of, led_to, left_under}
-use Rattle.loose.specs.Loose.{LiesInData}
-use Rattle.loose.specs.Lemmas.Claims.{apart}
-use Rattle.loose.specs.Lemmas.Frames.{AgreesAtData}
-use Rattle.loose.specs.Lemmas.GivenUp.{bits, block_given_up, direct_given_up, first_alone, leaves_as_many, tree_given_up}
-use Rattle.loose.specs.Lemmas.HeldMarks.{cleared_bit_keeps, write_back_keeps}
-use Rattle.loose.specs.Lemmas.LeftInTrees.{alone, begun_left}
-use Rattle.loose.specs.Lemmas.LeftOnWays.{gives_on_way}
-use Rattle.loose.specs.Lemmas.Looks.{between}
-use Rattle.loose.specs.Lemmas.Remapped.{IsMapped, agrees, inode_same, test}
-use Rattle.loose.specs.Lemmas.Turns.{entry_passed}
-use Rattle.loose.specs.Lemmas.WriteBacks.{last_fields, write_back_rests}
+use Rattle.in_flight.specs.Held.{Held, Claims, FitsHeld, IsClaimedNow, blocks_left, last_inode, listed, unmarked, frees, Claim, without_address}
+use Rattle.in_flight.specs.HeldLaws.{IsGivenUp, IsHeldIn}
+use Rattle.in_flight.specs.Trees.{Gives, LeavesAlike, depth_of, entry_of, led_to, left_under}
+use Rattle.in_flight.specs.Loose.{LiesInData}
+use Rattle.in_flight.specs.Lemmas.Claims.{apart}
+use Rattle.in_flight.specs.Lemmas.Frames.{AgreesAtData}
+use Rattle.in_flight.specs.Lemmas.GivenUp.{bits, block_given_up, direct_given_up, first_alone, leaves_as_many, tree_given_up}
+use Rattle.in_flight.specs.Lemmas.HeldMarks.{cleared_bit_keeps, write_back_keeps}
+use Rattle.in_flight.specs.Lemmas.LeftInTrees.{alone, begun_left}
+use Rattle.in_flight.specs.Lemmas.LeftOnWays.{gives_on_way}
+use Rattle.in_flight.specs.Lemmas.Looks.{between}
+use Rattle.in_flight.specs.Lemmas.Remapped.{IsMapped, agrees, inode_same, test}
+use Rattle.in_flight.specs.Lemmas.Turns.{entry_passed}
+use Rattle.in_flight.specs.Lemmas.WriteBacks.{last_fields, write_back_rests}
 use Rattle.wal.specs.Joint.{Joint}
 use Rattle.wal.specs.Machine.{LogState, is_among, noted, used_by}
 use Rattle.wal.specs.Volume.{VolumeState}
 use Rattle.wal.specs.Lemmas.Rooms.{noted_among, noted_home, used_noted_new}
-use Rattle.driver.specs.Deeds.{CarriesOut, image_with}
-use Rattle.driver.specs.Driver.{Drives, GetsNext, Uses, progress_of_over, taken, when_got}
-use Rattle.driver.specs.Getting.{Releases, WritesBlock}
-use Rattle.driver.specs.Lemmas.Slots.{not_got}
-use Rattle.driver.specs.Next.{beside, block_of_next, kept_and, kept_then, used_now}
-use Rattle.driver.specs.declared.deed.Deed.TheVariants as deed
-use Rattle.driver.specs.declared.deed.Patch.TheVariants as patch
-use Rattle.driver.specs.declared.driving.Got.{Got}
-use Rattle.driver.specs.declared.driving.Kept.{Kept}
-use Rattle.driver.specs.declared.machine.Next.TheVariants as next
-use Rattle.driver.specs.declared.progress.Progress.{Progress}
-use Rattle.driver.specs.declared.progress.Progress.TheVariants as machine
+use Rattle.blockmap.specs.Deeds.{CarriesOut, image_with}
+use Rattle.blockmap.specs.Driver.{Drives, GetsNext, Uses, progress_of_over, taken, when_got}
+use Rattle.blockmap.specs.Getting.{Releases, WritesBlock}
+use Rattle.blockmap.specs.Lemmas.Slots.{not_got}
+use Rattle.blockmap.specs.Next.{beside, block_of_next, kept_and, kept_then, used_now}
+use Rattle.blockmap.specs.declared.deed.Deed.TheVariants as deed
+use Rattle.blockmap.specs.declared.deed.Patch.TheVariants as patch
+use Rattle.blockmap.specs.declared.driving.Got.{Got}
+use Rattle.blockmap.specs.declared.driving.Kept.{Kept}
+use Rattle.blockmap.specs.declared.machine.Next.TheVariants as next
+use Rattle.blockmap.specs.declared.progress.Progress.{Progress}
+use Rattle.blockmap.specs.declared.progress.Progress.TheVariants as machine
 use Rattle.inodes.specs.declared.itrunc.Itrunc.{Itrunc}
 use Rattle.inodes.specs.declared.itrunc.TruncAt.{TruncAt}
 use Rattle.inodes.specs.declared.itrunc.TruncAt.TheVariants as trunc_at

@@ -12,9 +12,9 @@ use Rattle.wal.specs.declared.types.Get.{Get}
 use Rattle.wal.specs.declared.types.Get.TheVariants as get
 use Rattle.wal.specs.Held.{HasLock, HoldsBlock, IsLocked, LocksAfter, WaitsFor, GetsLock, GivesUpLock}
 use Rattle.wal.specs.Volume.{OnSleeping, fault_of_get, faults_after}
-use Rattle.driver.specs.declared.progress.Progress.{Progress}
-use Rattle.driver.specs.declared.progress.Progress.TheVariants as machine
-use Rattle.driver.specs.Getting.{GetsFor, progress_of, slot_of}
+use Rattle.blockmap.specs.declared.progress.Progress.{Progress}
+use Rattle.blockmap.specs.declared.progress.Progress.TheVariants as machine
+use Rattle.blockmap.specs.Getting.{GetsFor, progress_of, slot_of}
 use Rattle.inodes.specs.Steps.{Reads, IsHeldByAnother}
 use Rattle.inodes.specs.Store.{StoreState, HoldsAt, Agrees}
 use Rattle.inodes.proofs.Getting.{fault_of}

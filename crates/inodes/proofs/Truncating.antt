@@ -13,26 +13,26 @@ use Rattle.model.specs.Layout.{direct_count, inode_block, inode_count_of, super_
 use Rattle.model.specs.Soundness.{count_of}
 use Rattle.model.specs.Lemmas.Soundness.{facts_of}
 use Rattle.model.specs.Lemmas.Words.{length-words_of-block}
-use Rattle.loose.specs.Held.{Claims, FitsHeld, IsFine, IsHeld, frees, Claim, listed}
-use Rattle.loose.specs.HeldLaws.{IsMarkedData, IsHeldIn}
-use Rattle.loose.specs.Loose.{LiesInData}
-use Rattle.loose.specs.Lemmas.Claims.{IsApart, apart}
-use Rattle.loose.specs.Trees.{names_left, entry_of, led_to}
-use Rattle.loose.specs.Lemmas.GivenUp.{direct_left, first_left, first_twice}
-use Rattle.loose.specs.Lemmas.LeftOnWays.{ahead_at, ahead_of}
-use Rattle.loose.specs.Lemmas.Ways.{led_further}
-use Rattle.loose.specs.Lemmas.Ways.{ahead_root, led_step}
-use Rattle.loose.specs.Lemmas.HeldLooks.{held_has_blocks}
-use Rattle.loose.specs.Lemmas.Looks.{between}
+use Rattle.in_flight.specs.Held.{Claims, FitsHeld, IsFine, IsHeld, frees, Claim, listed}
+use Rattle.in_flight.specs.HeldLaws.{IsMarkedData, IsHeldIn}
+use Rattle.in_flight.specs.Loose.{LiesInData}
+use Rattle.in_flight.specs.Lemmas.Claims.{IsApart, apart}
+use Rattle.in_flight.specs.Trees.{names_left, entry_of, led_to}
+use Rattle.in_flight.specs.Lemmas.GivenUp.{direct_left, first_left, first_twice}
+use Rattle.in_flight.specs.Lemmas.LeftOnWays.{ahead_at, ahead_of}
+use Rattle.in_flight.specs.Lemmas.Ways.{led_further}
+use Rattle.in_flight.specs.Lemmas.Ways.{ahead_root, led_step}
+use Rattle.in_flight.specs.Lemmas.HeldLooks.{held_has_blocks}
+use Rattle.in_flight.specs.Lemmas.Looks.{between}
 use Rattle.wal.specs.Joint.{Joint}
 use Rattle.wal.specs.Held.{HoldsBlock}
 use Rattle.wal.specs.Machine.{HasRoom, used_by}
 use Rattle.wal.specs.Volume.{Holds}
-use Rattle.driver.specs.Deeds.{DeedFits}
-use Rattle.driver.specs.Driver.{MayDo, MayDrive}
-use Rattle.driver.specs.Lemmas.Slots.{HasGot, shows_kept, shows_used}
-use Rattle.driver.specs.Next.{IsBeside, IsThere, KeepsApart, MayGet, beside, got_or, used_now}
-use Rattle.driver.specs.declared.driving.Got.{Got}
+use Rattle.blockmap.specs.Deeds.{DeedFits}
+use Rattle.blockmap.specs.Driver.{MayDo, MayDrive}
+use Rattle.blockmap.specs.Lemmas.Slots.{HasGot, shows_kept, shows_used}
+use Rattle.blockmap.specs.Next.{IsBeside, IsThere, KeepsApart, MayGet, beside, got_or, used_now}
+use Rattle.blockmap.specs.declared.driving.Got.{Got}
 use Rattle.inodes.specs.declared.itrunc.TruncAt.{TruncAt}
 use Rattle.inodes.specs.declared.itrunc.TruncAt.TheVariants as trunc_at
 use Rattle.inodes.specs.declared.table.InMemory.{InMemory}
@@ -52,7 +52,7 @@ use Rattle.inodes.proofs.Gripping.{grip_is}
 use Rattle.inodes.proofs.InHand.{first_tree, root_there, two_deep}
 use Rattle.inodes.proofs.Searching.{where_got}
 use Rattle.inodes.specs.Lemmas.Unclaimed.{LocksAlone, locks_alone, own_claim}
-use Rattle.loose.specs.Lemmas.Remapped.{IsMapped, mapped}
+use Rattle.in_flight.specs.Lemmas.Remapped.{IsMapped, mapped}
 
 -- a place of a number has an inode
 pub has_inode : (e : Option InMemory) (i : ℕ) → is_of i e ≡ true → IsSome e

@@ -15,11 +15,11 @@ use Rattle.model.specs.declared.types.image.Form.{Form}
 use Rattle.model.specs.Layout.{form_of, greatest_size, inode_of, bitmap_block}
 use Rattle.model.specs.Operations.{after, transfer_limit}
 use Rattle.model.specs.Tasks.{TurnsTo}
-use Rattle.loose.specs.Held.{Growth, Held, FitsHeld, IsClaimedNow, blocks_left, file_left, most_left, Claim, frees, grows}
-use Rattle.loose.specs.Lemmas.FewLeft.{few_left}
-use Rattle.loose.specs.Lemmas.HeldLooks.{resting_tells, free_tells}
-use Rattle.loose.specs.Lemmas.LeftInTrees.{begun_left}
-use Rattle.loose.specs.Lemmas.Turns.{turn_holds, turn_answers}
+use Rattle.in_flight.specs.Held.{Growth, Held, FitsHeld, IsClaimedNow, blocks_left, file_left, most_left, Claim, frees, grows}
+use Rattle.in_flight.specs.Lemmas.FewLeft.{few_left}
+use Rattle.in_flight.specs.Lemmas.HeldLooks.{resting_tells, free_tells}
+use Rattle.in_flight.specs.Lemmas.LeftInTrees.{begun_left}
+use Rattle.in_flight.specs.Lemmas.Turns.{turn_holds, turn_answers}
 use Rattle.blockmap.specs.Lemmas.Resting.{resting_may_be_read}
 use Rattle.blockmap.specs.Lemmas.Targets.{first_slot}
 use Rattle.blockmap.specs.Reading.{MayRead}
@@ -28,9 +28,9 @@ use Rattle.bcache.specs.Buffers.{Buffers}
 use Rattle.bcache.specs.Lemmas.Current.{length-current}
 use Rattle.wal.specs.Joint.{Joint}
 use Rattle.wal.specs.Machine.{LogState, used_by}
-use Rattle.driver.specs.Driver.{first_driven}
-use Rattle.driver.specs.Next.{no_block_kept}
-use Rattle.driver.specs.Lemmas.Slots.{holds_none}
+use Rattle.blockmap.specs.Driver.{first_driven}
+use Rattle.blockmap.specs.Next.{no_block_kept}
+use Rattle.blockmap.specs.Lemmas.Slots.{holds_none}
 use Rattle.inodes.specs.declared.tasks.Place.{Place}
 use Rattle.inodes.specs.declared.tasks.Place.TheVariants as place
 use Rattle.inodes.specs.Grips.{locked_grip}
@@ -60,8 +60,8 @@ use Rattle.inodes.proofs.WriteComes.{fresh_next, comes_next}
 use Rattle.blockmap.specs.Lemmas.Branches.{branch_shallow}
 use Rattle.inodes.specs.Lemmas.Bounds.{few_frees, most_elsewhere, next_low, writes_most}
 use Rattle.inodes.specs.Growing.{growth_of, bytes_by, HasComeTo}
-use Rattle.loose.specs.Lemmas.GrowthEnds.{resting_refuses}
-use Rattle.loose.specs.Lemmas.BlocksTaken.{turn_grows}
+use Rattle.in_flight.specs.Lemmas.GrowthEnds.{resting_refuses}
+use Rattle.in_flight.specs.Lemmas.BlocksTaken.{turn_grows}
 
 -- a turn makes no number
 pub makes_none : (form : Form) (d : Dinode) (op : Op) (used : Bool) (i : ℕ) → is_making i (reply_when_taken form (if_used used d) op) ≡ true → ⊥

@@ -10,11 +10,11 @@ use Rattle.model.specs.Layout.{form_of, inode_block, super_of}
 use Rattle.model.specs.Places.{address_in, addresses_in, pointers_in}
 use Rattle.model.specs.Soundness.{count_of}
 use Rattle.model.specs.Lemmas.Frames.{form_same}
-use Rattle.loose.specs.Held.{Claims, FitsHeld, Growth, IsClaimedNow, grows}
-use Rattle.loose.specs.HeldLaws.{FitsThen}
-use Rattle.loose.specs.Loose.{LiesInData}
-use Rattle.loose.specs.Trees.{way_to}
-use Rattle.loose.specs.Lemmas.HeldFrames.{held_alike}
+use Rattle.in_flight.specs.Held.{Claims, FitsHeld, Growth, IsClaimedNow, grows}
+use Rattle.in_flight.specs.HeldLaws.{FitsThen}
+use Rattle.in_flight.specs.Loose.{LiesInData}
+use Rattle.in_flight.specs.Trees.{way_to}
+use Rattle.in_flight.specs.Lemmas.HeldFrames.{held_alike}
 use Rattle.wal.specs.Joint.{Joint}
 use Rattle.wal.specs.Machine.{LogState, noted}
 use Rattle.wal.specs.Volume.{VolumeState}
@@ -31,8 +31,8 @@ use Rattle.blockmap.specs.declared.bmap_alloc.MapAt.{MapAt}
 use Rattle.blockmap.specs.declared.bmap_alloc.MapAt.TheVariants as map_at
 use Rattle.blockmap.specs.declared.branch.Branch.{Branch}
 use Rattle.blockmap.specs.declared.branch.Node.{Node}
-use Rattle.driver.specs.Getting.{progress_of}
-use Rattle.driver.specs.declared.progress.Progress.{Progress}
+use Rattle.blockmap.specs.Getting.{progress_of}
+use Rattle.blockmap.specs.declared.progress.Progress.{Progress}
 use Rattle.inodes.specs.declared.tasks.Place.TheVariants as place
 use Rattle.inodes.specs.declared.writei.WriteAt.{WriteAt}
 use Rattle.inodes.specs.declared.writei.WriteAt.TheVariants as write_at

@@ -8,7 +8,7 @@ use Rattle.model.specs.declared.types.image.Form.{Form}
 use Rattle.model.specs.Layout.{form_of}
 use Rattle.model.specs.Places.{address_in, address_under}
 use Rattle.model.specs.Fields.{words_of}
-use Rattle.loose.specs.Lemmas.KeptTrees.{SameInside}
+use Rattle.in_flight.specs.Lemmas.KeptTrees.{SameInside}
 use Rattle.blockmap.specs.Balloc.{AllocState, first_alloc}
 use Rattle.blockmap.specs.Branch.{block_limit, branch_of, entry_under, node_at}
 use Rattle.blockmap.specs.Map.{mapped_for_writing}

@@ -9,19 +9,19 @@ use Rattle.blocks.specs.declared.disk.Disk.{Ghosts}
 use Rattle.model.specs.declared.types.image.Form.{Form}
 use Rattle.model.specs.Files.{Files}
 use Rattle.model.specs.Layout.{inode_block, greatest_size}
-use Rattle.loose.specs.Held.{Claims, FitsHeld, Growth, IsClaimedNow, grows}
-use Rattle.loose.specs.HeldLaws.{FitsThen}
-use Rattle.loose.specs.Loose.{LiesInData}
-use Rattle.loose.specs.Lemmas.HeldMarks.{data_keeps}
+use Rattle.in_flight.specs.Held.{Claims, FitsHeld, Growth, IsClaimedNow, grows}
+use Rattle.in_flight.specs.HeldLaws.{FitsThen}
+use Rattle.in_flight.specs.Loose.{LiesInData}
+use Rattle.in_flight.specs.Lemmas.HeldMarks.{data_keeps}
 use Rattle.wal.specs.Joint.{Joint}
 use Rattle.wal.specs.Machine.{noted}
 use Rattle.wal.specs.Volume.{VolumeState}
 use Rattle.blockmap.specs.Branch.{branch_of}
 use Rattle.blockmap.specs.Branch.{branch_of}
 use Rattle.blockmap.specs.Lemmas.Branches.{same_keeps, within_limit}
-use Rattle.driver.specs.Getting.{GetsFor}
-use Rattle.driver.specs.declared.progress.Progress.{Progress}
-use Rattle.driver.specs.declared.progress.Progress.TheVariants as machine
+use Rattle.blockmap.specs.Getting.{GetsFor}
+use Rattle.blockmap.specs.declared.progress.Progress.{Progress}
+use Rattle.blockmap.specs.declared.progress.Progress.TheVariants as machine
 use Rattle.inodes.specs.declared.tasks.Place.TheVariants as place
 use Rattle.inodes.specs.declared.writei.WriteAt.TheVariants as write_at
 use Rattle.inodes.specs.Growing.{HasComeTo, growth_of, next_block, taken_by}

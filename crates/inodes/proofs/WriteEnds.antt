@@ -17,24 +17,24 @@ use Rattle.model.specs.Layout.{form_of, greatest_size, inode_block, inode_count_
 use Rattle.model.specs.Lemmas.Inodes.{IsPlaced, inode_of-with_inode, inode_of-with_inode_other}
 use Rattle.model.specs.Operations.{after}
 use Rattle.model.specs.Tasks.{FilesThen, Marks}
-use Rattle.loose.specs.GrowthLaws.{files_grown}
-use Rattle.loose.specs.Held.{Claims, FitsHeld, Growth, IsClaimedNow}
-use Rattle.loose.specs.HeldLaws.{FitsThen}
-use Rattle.loose.specs.Lemmas.GrowthEnds.{growth_rests}
-use Rattle.loose.specs.Lemmas.HeldFrames.{growing_of}
-use Rattle.loose.specs.Lemmas.HeldMarks.{growth_keeps}
+use Rattle.in_flight.specs.GrowthLaws.{files_grown}
+use Rattle.in_flight.specs.Held.{Claims, FitsHeld, Growth, IsClaimedNow}
+use Rattle.in_flight.specs.HeldLaws.{FitsThen}
+use Rattle.in_flight.specs.Lemmas.GrowthEnds.{growth_rests}
+use Rattle.in_flight.specs.Lemmas.HeldFrames.{growing_of}
+use Rattle.in_flight.specs.Lemmas.HeldMarks.{growth_keeps}
 use Rattle.wal.specs.Joint.{Joint}
 use Rattle.wal.specs.Machine.{LogState, SameGroups}
 use Rattle.wal.specs.Volume.{VolumeState}
 use Rattle.blockmap.specs.BmapAlloc.{MapState, MapSteps}
 use Rattle.blockmap.specs.Branch.{named_by}
 use Rattle.blockmap.specs.Bmap.{some_address}
-use Rattle.driver.specs.Getting.{WritesBlock, progress_of}
+use Rattle.blockmap.specs.Getting.{WritesBlock, progress_of}
 use Rattle.blockmap.specs.declared.bmap_alloc.MapAt.{MapAt}
 use Rattle.blockmap.specs.declared.bmap_alloc.MapAt.TheVariants as map_at
-use Rattle.driver.specs.declared.progress.Progress.{Progress}
-use Rattle.driver.specs.declared.progress.Progress.TheVariants as machine
-use Rattle.driver.specs.Lemmas.Others.{StaysForOthers, groups_noted, stays_noted}
+use Rattle.blockmap.specs.declared.progress.Progress.{Progress}
+use Rattle.blockmap.specs.declared.progress.Progress.TheVariants as machine
+use Rattle.blockmap.specs.Lemmas.Others.{StaysForOthers, groups_noted, stays_noted}
 use Rattle.inodes.specs.declared.tasks.Place.TheVariants as place
 use Rattle.inodes.specs.declared.writei.WriteAt.{WriteAt}
 use Rattle.inodes.specs.declared.writei.WriteAt.TheVariants as write_at

@@ -13,15 +13,15 @@ use Rattle.model.specs.Layout.{reach}
 use Rattle.model.specs.Places.{addresses_in, pointers_in}
 use Rattle.model.specs.Soundness.{count_of}
 use Rattle.model.specs.Lemmas.Counts.{AllByRecursion-parts}
-use Rattle.loose.specs.Held.{Claims, FitsHeld, Growth, IsClaimedNow, grows}
-use Rattle.loose.specs.HeldLaws.{FitsThen}
-use Rattle.loose.specs.Loose.{LiesInData}
-use Rattle.loose.specs.GrowthLaws.{LeadsToNone}
-use Rattle.loose.specs.Trees.{depth_of, way_to}
-use Rattle.loose.specs.Lemmas.Placing.{entry_placed}
-use Rattle.loose.specs.Lemmas.PlacedInTrees.{IsPlaced, entries_kept, entry_now}
-use Rattle.loose.specs.Lemmas.HeldMarks.{data_keeps}
-use Rattle.loose.specs.Lemmas.Ways.{entries_way_to, led_further}
+use Rattle.in_flight.specs.Held.{Claims, FitsHeld, Growth, IsClaimedNow, grows}
+use Rattle.in_flight.specs.HeldLaws.{FitsThen}
+use Rattle.in_flight.specs.Loose.{LiesInData}
+use Rattle.in_flight.specs.GrowthLaws.{LeadsToNone}
+use Rattle.in_flight.specs.Trees.{depth_of, way_to}
+use Rattle.in_flight.specs.Lemmas.Placing.{entry_placed}
+use Rattle.in_flight.specs.Lemmas.PlacedInTrees.{IsPlaced, entries_kept, entry_now}
+use Rattle.in_flight.specs.Lemmas.HeldMarks.{data_keeps}
+use Rattle.in_flight.specs.Lemmas.Ways.{entries_way_to, led_further}
 use Rattle.wal.specs.Joint.{Joint}
 use Rattle.wal.specs.Held.{GetsLock}
 use Rattle.wal.specs.Machine.{LogState, noted}
@@ -38,9 +38,9 @@ use Rattle.blockmap.specs.declared.bmap_alloc.MapAt.{MapAt}
 use Rattle.blockmap.specs.declared.bmap_alloc.MapAt.TheVariants as map_at
 use Rattle.blockmap.specs.declared.branch.Branch.{Branch}
 use Rattle.blockmap.specs.declared.branch.Node.{Node}
-use Rattle.driver.specs.Getting.{GetsFor, progress_of, slot_of}
-use Rattle.driver.specs.declared.progress.Progress.{Progress}
-use Rattle.driver.specs.declared.progress.Progress.TheVariants as machine
+use Rattle.blockmap.specs.Getting.{GetsFor, progress_of, slot_of}
+use Rattle.blockmap.specs.declared.progress.Progress.{Progress}
+use Rattle.blockmap.specs.declared.progress.Progress.TheVariants as machine
 use Rattle.inodes.specs.declared.tasks.Place.TheVariants as place
 use Rattle.inodes.specs.declared.writei.WriteAt.{WriteAt}
 use Rattle.inodes.specs.declared.writei.WriteAt.TheVariants as write_at

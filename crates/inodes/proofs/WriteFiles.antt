@@ -1,25 +1,25 @@
 -- What the steps of a write make of its claim, by the laws over images in which tasks write files.
 use Rattle.std.proofs.Common.{zero-add, ◌≡◌, ◌≢◌, ℕ, ◌+◌, ◌*◌, ◌%◌, ◌<◌, ◌≤◌, List, ◌++◌, length, take, drop, max, Option, Some, None, false, refl, sym, ap, ap₂, subst, ◌∙◌, ⊎_elim, arith, IsTrue, slice_index, ◌⊎◌, [], inl, inr}
 use Rattle.blockmap.specs.Balloc.{AllocState, IsLowestClear, lowest_in, with_taken}
-use Rattle.loose.specs.Held.{Claims, Growth, IsClaimedNow, grows, reaching, taking, zeroed, placing}
+use Rattle.in_flight.specs.Held.{Claims, Growth, IsClaimedNow, grows, reaching, taking, zeroed, placing}
 use Rattle.model.specs.declared.types.image.File.{File}
 use Rattle.model.specs.Files.{Files, file_in}
-use Rattle.loose.specs.HeldLaws.{FitsThen, IsHeldIn}
+use Rattle.in_flight.specs.HeldLaws.{FitsThen, IsHeldIn}
 use Rattle.blocks.specs.Disk.{Image, block_at}
 use Rattle.model.specs.declared.types.operations.Op.TheVariants.{Write}
 use Rattle.inodes.specs.Writei.{WriteState, next_byte, piece_of, with_piece, with_written, piece}
 use Rattle.model.specs.declared.types.operations.Reply.TheVariants.{Wrote}
 use Rattle.model.specs.Places.{address_in}
-use Rattle.loose.specs.Lemmas.BlocksTaken.{block_taken, taken_zeroed}
-use Rattle.loose.specs.Lemmas.BytesWritten.{bytes_written}
+use Rattle.in_flight.specs.Lemmas.BlocksTaken.{block_taken, taken_zeroed}
+use Rattle.in_flight.specs.Lemmas.BytesWritten.{bytes_written}
 use Rattle.std.proofs.lemmas.Bool.{cases_lt}
-use Rattle.loose.specs.Lemmas.Placing.{address_placed, taken_lies}
+use Rattle.in_flight.specs.Lemmas.Placing.{address_placed, taken_lies}
 use Rattle.std.proofs.lemmas.List.{get_or-set_same, length-drop, length-take-le}
-use Rattle.loose.specs.GrowthLaws.{WritesNext as FillsNext, files_grown}
+use Rattle.in_flight.specs.GrowthLaws.{WritesNext as FillsNext, files_grown}
 use Rattle.model.specs.Layout.{form_of, greatest_size, inode_count_of, is_marked, super_of}
-use Rattle.loose.specs.Lemmas.HeldFrames.{growing_of}
-use Rattle.loose.specs.Lemmas.GrowthEnds.{growth_answers}
-use Rattle.loose.specs.Lemmas.GrowthBlocks.{growth_has_blocks}
+use Rattle.in_flight.specs.Lemmas.HeldFrames.{growing_of}
+use Rattle.in_flight.specs.Lemmas.GrowthEnds.{growth_answers}
+use Rattle.in_flight.specs.Lemmas.GrowthBlocks.{growth_has_blocks}
 use Rattle.inodes.specs.Growing.{growth_of, next_block, taken_by}
 use Rattle.model.specs.Fields.{has_bit}
 use Rattle.model.specs.Journal.{is_number}

@@ -8,7 +8,7 @@ use Rattle.model.specs.declared.types.image.Form.{Form}
 use Rattle.model.specs.declared.types.image.Form.TheVariants.{One, Two}
 use Rattle.model.specs.Layout.{greatest_size}
 use Rattle.model.specs.Soundness.{count_of}
-use Rattle.loose.specs.Trees.{way_to}
+use Rattle.in_flight.specs.Trees.{way_to}
 use Rattle.wal.specs.Machine.{LogState, is_among, noted, used_by}
 use Rattle.wal.specs.Lemmas.Rooms.{noted_among, noted_grows, noted_home, used_noted_new}
 use Rattle.blockmap.specs.Branch.{branch_of}

@@ -17,19 +17,19 @@ use Rattle.model.specs.declared.types.image.Form.{Form}
 use Rattle.model.specs.Layout.{form_of, greatest_size, inode_count_of, super_of}
 use Rattle.model.specs.Tasks.{Marks}
 use Rattle.model.specs.Lemmas.Frames.{form_same}
-use Rattle.loose.specs.Held.{Claim, Claims, FitsHeld, Growth, IsClaimedNow, grows}
-use Rattle.loose.specs.HeldLaws.{FitsThen}
-use Rattle.loose.specs.Lemmas.Claims.{apart}
-use Rattle.loose.specs.Lemmas.HeldFrames.{held_alike, inode_elsewhere}
-use Rattle.loose.specs.Lemmas.Looks.{between}
+use Rattle.in_flight.specs.Held.{Claim, Claims, FitsHeld, Growth, IsClaimedNow, grows}
+use Rattle.in_flight.specs.HeldLaws.{FitsThen}
+use Rattle.in_flight.specs.Lemmas.Claims.{apart}
+use Rattle.in_flight.specs.Lemmas.HeldFrames.{held_alike, inode_elsewhere}
+use Rattle.in_flight.specs.Lemmas.Looks.{between}
 use Rattle.wal.specs.Joint.{Joint}
 use Rattle.wal.specs.Held.{GetsLock, HasLock}
 use Rattle.wal.specs.Machine.{LogState, SameGroups}
 use Rattle.wal.specs.Volume.{VolumeState}
-use Rattle.driver.specs.Getting.{GetsFor, Releases, WritesBlock}
-use Rattle.driver.specs.declared.progress.Progress.{Progress}
-use Rattle.driver.specs.declared.progress.Progress.TheVariants as machine
-use Rattle.driver.specs.Lemmas.Others.{StaysForOthers, groups_noted, groups_same, stays_got, stays_left, stays_noted, stays_same}
+use Rattle.blockmap.specs.Getting.{GetsFor, Releases, WritesBlock}
+use Rattle.blockmap.specs.declared.progress.Progress.{Progress}
+use Rattle.blockmap.specs.declared.progress.Progress.TheVariants as machine
+use Rattle.blockmap.specs.Lemmas.Others.{StaysForOthers, groups_noted, groups_same, stays_got, stays_left, stays_noted, stays_same}
 use Rattle.inodes.specs.declared.tasks.Place.{Place}
 use Rattle.inodes.specs.declared.tasks.Place.TheVariants as place
 use Rattle.inodes.specs.Goes.{place_of_writing, progress_of_write, table_of_writing}

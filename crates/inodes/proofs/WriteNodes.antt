@@ -10,12 +10,12 @@ use Rattle.model.specs.Layout.{depths, direct_count, form_of}
 use Rattle.model.specs.Places.{addresses_in, pointers_in}
 use Rattle.model.specs.Soundness.{count_of}
 use Rattle.model.specs.Lemmas.Wholes.{thirteen_depths}
-use Rattle.loose.specs.Held.{Claims, Growth, grows}
-use Rattle.loose.specs.HeldLaws.{IsHeldIn}
-use Rattle.loose.specs.Trees.{depth_of, led_to, way_to}
-use Rattle.loose.specs.Lemmas.Apart.{way_inside, way_named}
-use Rattle.loose.specs.Lemmas.KeptTrees.{SameInside}
-use Rattle.loose.specs.Lemmas.Wholes.{direct_depth}
+use Rattle.in_flight.specs.Held.{Claims, Growth, grows}
+use Rattle.in_flight.specs.HeldLaws.{IsHeldIn}
+use Rattle.in_flight.specs.Trees.{depth_of, led_to, way_to}
+use Rattle.in_flight.specs.Lemmas.Apart.{way_inside, way_named}
+use Rattle.in_flight.specs.Lemmas.KeptTrees.{SameInside}
+use Rattle.in_flight.specs.Lemmas.Wholes.{direct_depth}
 use Rattle.wal.specs.Machine.{LogState}
 use Rattle.blockmap.specs.Branch.{LiesOnWay, block_limit, branch_of, deepest}
 use Rattle.blockmap.specs.Lemmas.Branches.{is_branch, lies_short}

@@ -11,10 +11,10 @@ use Rattle.model.specs.Layout.{super_of}
 use Rattle.model.specs.Places.{addresses_in, pointers_in}
 use Rattle.model.specs.Soundness.{count_of}
 use Rattle.model.specs.Tasks.{Marks}
-use Rattle.loose.specs.Held.{Claims, FitsHeld, Growth, IsClaimedNow, grows, zeroed}
-use Rattle.loose.specs.HeldLaws.{FitsThen}
-use Rattle.loose.specs.Lemmas.HeldMarks.{data_keeps, set_bit_keeps}
-use Rattle.loose.specs.Lemmas.KeptTrees.{SameInside}
+use Rattle.in_flight.specs.Held.{Claims, FitsHeld, Growth, IsClaimedNow, grows, zeroed}
+use Rattle.in_flight.specs.HeldLaws.{FitsThen}
+use Rattle.in_flight.specs.Lemmas.HeldMarks.{data_keeps, set_bit_keeps}
+use Rattle.in_flight.specs.Lemmas.KeptTrees.{SameInside}
 use Rattle.wal.specs.Joint.{Joint}
 use Rattle.wal.specs.Machine.{LogState, noted}
 use Rattle.wal.specs.Volume.{VolumeState}
@@ -25,13 +25,13 @@ use Rattle.blockmap.specs.BmapAlloc.{MapState}
 use Rattle.blockmap.specs.Branch.{LiesOnWay}
 use Rattle.blockmap.specs.declared.branch.Branch.{Branch}
 use Rattle.blockmap.specs.declared.branch.Node.{Node}
-use Rattle.driver.specs.Getting.{GetsFor, WritesBlock, progress_of, slot_of}
+use Rattle.blockmap.specs.Getting.{GetsFor, WritesBlock, progress_of, slot_of}
 use Rattle.blockmap.specs.Lemmas.Bitmap.{lowest_clear_is_lowest}
 use Rattle.blockmap.specs.declared.balloc.AllocAt.{AllocAt}
 use Rattle.blockmap.specs.declared.balloc.AllocAt.TheVariants as alloc_at
 use Rattle.blockmap.specs.declared.bmap_alloc.MapAt.{MapAt}
-use Rattle.driver.specs.declared.progress.Progress.{Progress}
-use Rattle.driver.specs.declared.progress.Progress.TheVariants as machine
+use Rattle.blockmap.specs.declared.progress.Progress.{Progress}
+use Rattle.blockmap.specs.declared.progress.Progress.TheVariants as machine
 use Rattle.inodes.specs.declared.tasks.Place.TheVariants as place
 use Rattle.inodes.specs.declared.writei.Extent.{Extent}
 use Rattle.inodes.specs.declared.writei.WriteAt.TheVariants as write_at

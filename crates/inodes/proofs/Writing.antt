@@ -12,17 +12,17 @@ use Rattle.model.specs.Layout.{depths, form_of, inode_block, inode_count_of, sup
 use Rattle.model.specs.Places.{address_in, addresses_in, pointers_in}
 use Rattle.model.specs.Soundness.{count_of}
 use Rattle.model.specs.Lemmas.Soundness.{facts_of}
-use Rattle.loose.specs.Held.{Claims, FitsHeld, Growth, IsGrowing, grows}
-use Rattle.loose.specs.HeldLaws.{IsHeldIn, IsMarkedData}
-use Rattle.loose.specs.Loose.{LiesInData}
-use Rattle.loose.specs.Lemmas.Claims.{IsApart, apart}
-use Rattle.loose.specs.Trees.{depth_of, led_to}
-use Rattle.loose.specs.Lemmas.Ways.{led_none}
-use Rattle.loose.specs.Lemmas.Apart.{copy_marked, data_apart, data_marked, taken_marked, taken_apart}
-use Rattle.loose.specs.Lemmas.HeldFrames.{growing_of}
-use Rattle.loose.specs.Lemmas.KeptTrees.{SameInside}
-use Rattle.loose.specs.Lemmas.Looks.{between}
-use Rattle.loose.specs.Lemmas.Remapped.{IsMapped, mapped}
+use Rattle.in_flight.specs.Held.{Claims, FitsHeld, Growth, IsGrowing, grows}
+use Rattle.in_flight.specs.HeldLaws.{IsHeldIn, IsMarkedData}
+use Rattle.in_flight.specs.Loose.{LiesInData}
+use Rattle.in_flight.specs.Lemmas.Claims.{IsApart, apart}
+use Rattle.in_flight.specs.Trees.{depth_of, led_to}
+use Rattle.in_flight.specs.Lemmas.Ways.{led_none}
+use Rattle.in_flight.specs.Lemmas.Apart.{copy_marked, data_apart, data_marked, taken_marked, taken_apart}
+use Rattle.in_flight.specs.Lemmas.HeldFrames.{growing_of}
+use Rattle.in_flight.specs.Lemmas.KeptTrees.{SameInside}
+use Rattle.in_flight.specs.Lemmas.Looks.{between}
+use Rattle.in_flight.specs.Lemmas.Remapped.{IsMapped, mapped}
 use Rattle.wal.specs.Joint.{Joint}
 use Rattle.wal.specs.Machine.{HasRoom, LogState, used_by}
 use Rattle.blockmap.specs.Balloc.{AllocState, MayAlloc, MayAllocAt}
@@ -32,7 +32,7 @@ use Rattle.blockmap.specs.Branch.{LiesOnWay, block_limit, branch_of}
 use Rattle.blockmap.specs.Lemmas.Branches.{branch_shallow, is_branch, lies_short, same_keeps}
 use Rattle.blockmap.specs.declared.branch.Branch.{Branch}
 use Rattle.blockmap.specs.declared.branch.Node.{Node}
-use Rattle.driver.specs.Getting.{HoldsWhereGot}
+use Rattle.blockmap.specs.Getting.{HoldsWhereGot}
 use Rattle.blockmap.specs.declared.balloc.AllocAt.{AllocAt}
 use Rattle.blockmap.specs.declared.balloc.AllocAt.TheVariants as alloc_at
 use Rattle.blockmap.specs.declared.bmap_alloc.MapAt.{MapAt}

@@ -16,10 +16,10 @@ use Rattle.bcache.specs.Buffers.{Buffers}
 use Rattle.wal.specs.Machine.{LogState, noted}
 use Rattle.wal.specs.Volume.{VolumeState, get_answer}
 use Rattle.wal.specs.declared.types.Get.TheVariants as get
-use Rattle.driver.specs.Driver.{Drives}
-use Rattle.driver.specs.Next.{used_now}
-use Rattle.driver.specs.declared.progress.Progress.{Progress}
-use Rattle.driver.specs.declared.progress.Progress.TheVariants as machine
+use Rattle.blockmap.specs.Driver.{Drives}
+use Rattle.blockmap.specs.Next.{used_now}
+use Rattle.blockmap.specs.declared.progress.Progress.{Progress}
+use Rattle.blockmap.specs.declared.progress.Progress.TheVariants as machine
 use Rattle.inodes.specs.declared.tasks.Place.{Place}
 use Rattle.inodes.specs.declared.tasks.Place.TheVariants as place
 use Rattle.inodes.specs.Creation.{lowest_free}

@@ -6,7 +6,7 @@ use Rattle.model.specs.declared.types.image.Dinode.{Dinode}
 use Rattle.model.specs.declared.types.operations.Op.{Op}
 use Rattle.model.specs.declared.types.operations.Op.TheVariants.{Create, Write, Read, Trunc, Remove, Stat}
 use Rattle.model.specs.Places.{address_in}
-use Rattle.loose.specs.Held.{Growth}
+use Rattle.in_flight.specs.Held.{Growth}
 use Rattle.blockmap.specs.Balloc.{AllocState}
 use Rattle.blockmap.specs.BmapAlloc.{MapState}
 use Rattle.blockmap.specs.Branch.{LiesOnWay, branch_of, named_by}

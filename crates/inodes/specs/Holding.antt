@@ -7,10 +7,10 @@ use Rattle.model.specs.Format.{addresses_per_block}
 use Rattle.model.specs.declared.types.operations.Op.{Op}
 use Rattle.model.specs.declared.types.operations.Op.TheVariants.{Trunc, Remove}
 use Rattle.model.specs.Journal.{is_number}
-use Rattle.loose.specs.Held.{Held, Claims, Claim, frees, grows, listed, blocks_left}
-use Rattle.loose.specs.Trees.{depth_of, entry_of, led_to}
-use Rattle.driver.specs.declared.driving.Got.{Got}
-use Rattle.driver.specs.declared.driving.Kept.{Kept}
+use Rattle.in_flight.specs.Held.{Held, Claims, Claim, frees, grows, listed, blocks_left}
+use Rattle.in_flight.specs.Trees.{depth_of, entry_of, led_to}
+use Rattle.blockmap.specs.declared.driving.Got.{Got}
+use Rattle.blockmap.specs.declared.driving.Kept.{Kept}
 use Rattle.inodes.specs.declared.itrunc.TruncAt.{TruncAt}
 use Rattle.inodes.specs.declared.itrunc.TruncAt.TheVariants as trunc_at
 use Rattle.inodes.specs.declared.tasks.Place.{Place}

@@ -7,9 +7,9 @@ use Rattle.model.specs.declared.types.operations.Why.TheVariants as why
 use Rattle.model.specs.Layout.{inode_block, inode_of}
 use Rattle.wal.specs.Joint.{seen}
 use Rattle.wal.specs.Volume.{VolumeState}
-use Rattle.driver.specs.declared.progress.Progress.{Progress}
-use Rattle.driver.specs.declared.progress.Progress.TheVariants as progress
-use Rattle.driver.specs.Getting.{GetsFor, Releases, HoldsWhereGot}
+use Rattle.blockmap.specs.declared.progress.Progress.{Progress}
+use Rattle.blockmap.specs.declared.progress.Progress.TheVariants as progress
+use Rattle.blockmap.specs.Getting.{GetsFor, Releases, HoldsWhereGot}
 use Rattle.inodes.specs.declared.ilock.LockAt.{LockAt}
 use Rattle.inodes.specs.declared.ilock.LockAt.TheVariants as lock_at
 use Rattle.inodes.specs.LockState.{LockState}

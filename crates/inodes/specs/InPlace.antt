@@ -2,9 +2,9 @@
 use Rattle.std.specs.Prelude.{◌≡◌, ℕ, List, Option, Some, None, slice_set}
 use Rattle.blocks.specs.declared.disk.Disk.{Ghosts}
 use Rattle.model.specs.Gathered.{GatheredBytes}
-use Rattle.driver.specs.Driver.{Drives}
-use Rattle.driver.specs.Next.{used_now}
-use Rattle.driver.specs.declared.progress.Progress.{Progress}
+use Rattle.blockmap.specs.Driver.{Drives}
+use Rattle.blockmap.specs.Next.{used_now}
+use Rattle.blockmap.specs.declared.progress.Progress.{Progress}
 use Rattle.wal.specs.Volume.{VolumeState}
 use Rattle.inodes.specs.declared.tasks.Place.{Place}
 use Rattle.inodes.specs.declared.tasks.Place.TheVariants as place

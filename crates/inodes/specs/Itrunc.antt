@@ -6,13 +6,13 @@ use Rattle.model.specs.declared.types.image.Form.{Form}
 use Rattle.model.specs.declared.types.image.Dinode.{Dinode}
 use Rattle.model.specs.Fields.{words_of}
 use Rattle.model.specs.Layout.{inode_block, direct_count, depths}
-use Rattle.driver.specs.declared.deed.Deed.{Deed}
-use Rattle.driver.specs.declared.deed.Deed.TheVariants as deed
-use Rattle.driver.specs.declared.deed.Patch.TheVariants as patch
-use Rattle.driver.specs.declared.driving.Driven.{Driven}
-use Rattle.driver.specs.declared.machine.Machine.{Ghosts as Pure}
-use Rattle.driver.specs.declared.machine.Next.{Next}
-use Rattle.driver.specs.declared.machine.Next.TheVariants as next
+use Rattle.blockmap.specs.declared.deed.Deed.{Deed}
+use Rattle.blockmap.specs.declared.deed.Deed.TheVariants as deed
+use Rattle.blockmap.specs.declared.deed.Patch.TheVariants as patch
+use Rattle.blockmap.specs.declared.driving.Driven.{Driven}
+use Rattle.blockmap.specs.declared.machine.Machine.{Ghosts as Pure}
+use Rattle.blockmap.specs.declared.machine.Next.{Next}
+use Rattle.blockmap.specs.declared.machine.Next.TheVariants as next
 use Rattle.inodes.specs.declared.itrunc.Itrunc.{Itrunc}
 use Rattle.inodes.specs.declared.itrunc.TruncAt.{TruncAt}
 use Rattle.inodes.specs.declared.itrunc.TruncAt.TheVariants as trunc_at

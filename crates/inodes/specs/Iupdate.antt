@@ -7,9 +7,9 @@ use Rattle.model.specs.Codec.{with_inode}
 use Rattle.model.specs.Layout.{inode_block}
 use Rattle.wal.specs.Joint.{seen}
 use Rattle.wal.specs.Volume.{VolumeState}
-use Rattle.driver.specs.Getting.{GetsFor, HoldsWhereGot, WritesBlock}
-use Rattle.driver.specs.declared.progress.Progress.{Progress}
-use Rattle.driver.specs.declared.progress.Progress.TheVariants as progress
+use Rattle.blockmap.specs.Getting.{GetsFor, HoldsWhereGot, WritesBlock}
+use Rattle.blockmap.specs.declared.progress.Progress.{Progress}
+use Rattle.blockmap.specs.declared.progress.Progress.TheVariants as progress
 
 -- Where the writing of an inode stands.
 pub record UpdateState : Type 0 where

@@ -11,7 +11,7 @@ use Rattle.model.specs.Gathered.{GatheredBytes}
 use Rattle.model.specs.Journal.{is_number}
 use Rattle.model.specs.Layout.{form_of}
 use Rattle.model.specs.Operations.{part_of, transfer_limit}
-use Rattle.loose.specs.Held.{Claims, FitsHeld}
+use Rattle.in_flight.specs.Held.{Claims, FitsHeld}
 use Rattle.blockmap.specs.Target.{LeadsToBlock}
 use Rattle.inodes.specs.declared.tasks.Place.{Place}
 use Rattle.inodes.specs.declared.tasks.Place.TheVariants as place

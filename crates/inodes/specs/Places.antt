@@ -5,10 +5,10 @@ use Rattle.model.specs.declared.types.image.Form.{Form}
 use Rattle.model.specs.declared.types.operations.Op.{Op}
 use Rattle.model.specs.declared.types.operations.Op.TheVariants.{Create, Write, Read, Trunc, Remove, Stat}
 use Rattle.model.specs.Layout.{form_of, inode_block}
-use Rattle.loose.specs.Held.{most_left}
+use Rattle.in_flight.specs.Held.{most_left}
 use Rattle.blockmap.specs.Target.{block_of, slot_in}
-use Rattle.driver.specs.Holds.{IsGot}
-use Rattle.driver.specs.Next.{block_of_next}
+use Rattle.blockmap.specs.Holds.{IsGot}
+use Rattle.blockmap.specs.Next.{block_of_next}
 use Rattle.inodes.specs.declared.ilock.LockAt.{LockAt}
 use Rattle.inodes.specs.declared.ilock.LockAt.TheVariants as lock_at
 use Rattle.inodes.specs.declared.tasks.Place.{Place}

@@ -12,10 +12,10 @@ use Rattle.model.specs.Layout.{form_of}
 use Rattle.model.specs.Operations.{part_of}
 use Rattle.wal.specs.Joint.{seen}
 use Rattle.wal.specs.Volume.{VolumeState}
-use Rattle.driver.specs.Getting.{Releases}
+use Rattle.blockmap.specs.Getting.{Releases}
 use Rattle.blockmap.specs.Reading.{MayRead}
-use Rattle.driver.specs.declared.progress.Progress.{Progress}
-use Rattle.driver.specs.declared.progress.Progress.TheVariants as progress
+use Rattle.blockmap.specs.declared.progress.Progress.{Progress}
+use Rattle.blockmap.specs.declared.progress.Progress.TheVariants as progress
 use Rattle.blockmap.specs.declared.target.Target.{Target}
 use Rattle.blockmap.specs.declared.target.Target.TheVariants as target
 use Rattle.blockmap.specs.Target.{LeadsTo, Seeks, target_for, steps_at, steps_for}

@@ -2,7 +2,7 @@
 use Rattle.std.specs.Prelude.{ℕ, ◌==◌, if◌then◌else◌, List, [], ◌∷◌, ◌++◌, slice_index}
 use Rattle.blocks.specs.Disk.{Image}
 use Rattle.model.specs.declared.types.image.Dinode.{Dinode}
-use Rattle.loose.specs.Trees.{led_to, way_to}
+use Rattle.in_flight.specs.Trees.{led_to, way_to}
 use Rattle.blockmap.specs.declared.branch.Branch.{Branch}
 
 -- It begins at that address of the inode, and goes on by entries of blocks of addresses.

@@ -14,8 +14,8 @@ use Rattle.model.specs.Journal.{is_making}
 use Rattle.model.specs.Layout.{form_of, inode_of}
 use Rattle.model.specs.Tasks.{FilesThen, reply_at_turn, Marks}
 use Rattle.wal.specs.Volume.{fault_of_task}
-use Rattle.loose.specs.Held.{Claim, names_claimed}
-use Rattle.loose.specs.HeldLaws.{HasSameFile}
+use Rattle.in_flight.specs.Held.{Claim, names_claimed}
+use Rattle.in_flight.specs.HeldLaws.{HasSameFile}
 use Rattle.wal.specs.declared.types.Committed.{Committed}
 use Rattle.wal.specs.Held.{HasLock}
 use Rattle.wal.specs.Machine.{SameGroups}

@@ -11,7 +11,7 @@ use Rattle.model.specs.Layout.{form_of, inode_block, inode_count_of}
 use Rattle.model.specs.Journal.{is_number}
 use Rattle.model.specs.Operations.{is_kind, transfer_limit}
 use Rattle.model.specs.Soundness.{IsLawfulGeometry}
-use Rattle.loose.specs.Held.{FitsHeld}
+use Rattle.in_flight.specs.Held.{FitsHeld}
 use Rattle.bcache.specs.Buffers.{Buffers, fresh_buffers}
 use Rattle.wal.specs.Held.{HoldsBlock, HasLock}
 use Rattle.wal.specs.Joint.{seen}
@@ -19,7 +19,7 @@ use Rattle.wal.specs.Machine.{LogState, used_by, is_among, begin_cause, begun, n
 use Rattle.wal.specs.Volume.{VolumeState}
 use Rattle.model.specs.Gathered.{GatheredBytes}
 use Rattle.blockmap.specs.Target.{block_of, slot_in}
-use Rattle.driver.specs.Holds.{HoldsBlocks}
+use Rattle.blockmap.specs.Holds.{HoldsBlocks}
 use Rattle.inodes.specs.Ialloc.{SearchState}
 use Rattle.inodes.specs.declared.ilock.LockAt.TheVariants as lock_at
 use Rattle.inodes.specs.declared.tasks.Place.{Place}

@@ -13,7 +13,7 @@ use Rattle.blockmap.specs.Balloc.{AllocState}
 use Rattle.blockmap.specs.Target.{block_of, slot_in}
 use Rattle.blockmap.specs.declared.bmap_alloc.MapAt.{MapAt}
 use Rattle.blockmap.specs.declared.bmap_alloc.MapAt.TheVariants as map_at
-use Rattle.driver.specs.Next.{wanted_by}
+use Rattle.blockmap.specs.Next.{wanted_by}
 use Rattle.inodes.specs.declared.ilock.LockAt.{LockAt}
 use Rattle.inodes.specs.declared.ilock.LockAt.TheVariants as lock_at
 use Rattle.inodes.specs.declared.tasks.Place.{Place}

@@ -10,7 +10,7 @@ ghost use Rattle.inodes.specs.declared.ilock.LockAt.TheVariants as lock_at;
 
 use crate::{Inodes, Progress};
 use blocks::Disk;
-use driver::{get_block, release_block};
+use blockmap::{get_block, release_block};
 use layout::{inode, inode_block};
 use model::types::Why;
 use std::marker::Model;

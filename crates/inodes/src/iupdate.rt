@@ -4,7 +4,7 @@ ghost use Rattle.wal.specs.Machine.{HasRoom, used_by};
 ghost use Rattle.inodes.specs.Iupdate.{MayUpdate, Updates};
 
 use blocks::Disk;
-use driver::{Progress, get_block, put_block};
+use blockmap::{Progress, get_block, put_block};
 use layout::{inode, inode_block, inode_offset};
 use model::types::Dinode;
 use std::marker::Model;

@@ -28,7 +28,7 @@ mod table;
 mod tasks;
 mod writei;
 
-pub use driver::Progress;
+pub use blockmap::Progress;
 pub use ialloc::Ialloc;
 pub use ilock::{Ilock, LockAt};
 pub use itrunc::{Itrunc, TruncAt};

@@ -16,7 +16,7 @@ ghost use Rattle.inodes.specs.declared.tasks.Place.TheVariants as stands_at;
 
 use crate::{Extent, Ilock, Inodes, Itrunc, Place, Progress, Readi, Store, Writei};
 use blocks::Disk;
-use driver::Driven;
+use blockmap::Driven;
 use layout::{bitmap_block, greatest_size};
 use model::gathered::Gathered;
 use model::types::{Dinode, Form, Op, Reply, TaskProgress};

@@ -8,7 +8,7 @@ ghost use Rattle.inodes.specs.Readi.{first_read, IsReading, HasRoomLeft, ReadSte
 use crate::Progress;
 use blockmap::{Target, seek, target_for};
 use blocks::{BLOCK_SIZE, Disk};
-use driver::release_block;
+use blockmap::release_block;
 use model::gathered::Gathered;
 use model::types::{Dinode, Form};
 use std::marker::Model;

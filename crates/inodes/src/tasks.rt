@@ -1,7 +1,7 @@
 // What the processes' operations do next.
 ghost use Rattle.std.specs.Prelude.{◌≡◌, ◌<◌, length, replicate, slice_set, Some, None, IsSome, IfSome, IfOk};
 ghost use Rattle.wal.specs.Machine.{HasRoom, used_by};
-ghost use Rattle.driver.specs.Driver.{MayDrive};
+ghost use Rattle.blockmap.specs.Driver.{MayDrive};
 ghost use Rattle.inodes.specs.declared.tasks.Place.TheVariants as place;
 ghost use Rattle.inodes.specs.Ialloc.{MayStep};
 ghost use Rattle.inodes.specs.InPlace.{ReadsInPlace, SearchesInPlace, TruncatesInPlace, WritesInPlace, freeing_at, writing_at};
@@ -12,7 +12,7 @@ ghost use Rattle.inodes.specs.Writei.{MayWrite};
 
 use crate::{Ialloc, Ilock, Itrunc, Progress, Readi, Writei};
 use blocks::{Disk, NoMemory};
-use driver::Driven;
+use blockmap::Driven;
 use model::gathered::Gathered;
 use model::types::{Dinode, Op};
 use std::alloc::Global;

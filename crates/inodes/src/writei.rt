@@ -8,7 +8,7 @@ ghost use Rattle.inodes.specs.declared.writei.WriteAt.TheVariants as write_at;
 use crate::Iupdate;
 use blockmap::{BmapAlloc, MappedForWriting, map_for_writing};
 use blocks::{BLOCK_SIZE, Disk};
-use driver::{Progress, get_block, put_block};
+use blockmap::{Progress, get_block, put_block};
 use model::types::{Dinode, Form};
 use std::marker::Model;
 use std::snapshot::Snapshot;

@@ -36,12 +36,12 @@ use Rattle.inodes.specs.Places.{block_at_place, is_over}
 use Rattle.inodes.specs.Steps.{Steps, Commits}
 use Rattle.inodes.specs.Store.{StoreState}
 use Rattle.inodes.specs.Tasks.{task}
-use Rattle.journal.specs.declared.types.At.{At}
-use Rattle.journal.specs.declared.types.At.TheVariants as at
-use Rattle.journal.specs.Alone.{is_committing_at}
-use Rattle.journal.specs.Bound.{is_busy_at}
-use Rattle.journal.specs.Journal.{entry_in}
-use Rattle.journal.specs.Processes.{World, process}
+use Rattle.history.specs.declared.types.At.{At}
+use Rattle.history.specs.declared.types.At.TheVariants as at
+use Rattle.history.specs.Alone.{is_committing_at}
+use Rattle.history.specs.Bound.{is_busy_at}
+use Rattle.history.specs.Journal.{entry_in}
+use Rattle.history.specs.Processes.{World, process}
 use Rattle.kernel.specs.declared.types.Step.{Step}
 use Rattle.kernel.specs.declared.types.Step.TheVariants as step
 use Rattle.kernel.specs.Device.{UsesDisk, CountsItsFault, FailsSo, UsesOnce, block_at_step, counts_of}
@@ -54,7 +54,7 @@ use Rattle.kernel.specs.Ports.{KeepsOthers, Asks}
 use Rattle.kernel.specs.State.{State, waiting_of}
 use Rattle.kernel.specs.Acts.{Acts, may_begin}
 use Rattle.kernel.proofs.Events.{not_taken}
-use Rattle.journal.specs.Lemmas.Leaving.{elapses_none, elapses_same}
+use Rattle.history.specs.Lemmas.Leaving.{elapses_none, elapses_same}
 
 -- no other side changed
 pub sides_same : {I M : Type 0} (intake : intake_trait.Ghosts I M) (p : ℕ) (i : I) → KeepsOthers intake p i i

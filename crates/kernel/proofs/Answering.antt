@@ -12,16 +12,16 @@ use Rattle.model.specs.Layout.{form_of, inode_count_of}
 use Rattle.inodes.specs.Lemmas.Faults.{where_none}
 use Rattle.inodes.specs.Store.{StoreState}
 use Rattle.inodes.specs.Tasks.{task}
-use Rattle.journal.specs.declared.types.At.{At}
-use Rattle.journal.specs.declared.types.At.TheVariants as at
-use Rattle.journal.specs.Bound.{is_busy_at}
-use Rattle.journal.specs.Journal.{IsItsRoom, entry_in}
-use Rattle.journal.specs.Lemmas.Answers.{CanAnswer, answer_at_end, answer_at_commit, answer_there, entry_inside}
-use Rattle.journal.specs.Lemmas.Lists.{entry_set}
-use Rattle.journal.specs.Lemmas.Places.{behind_there, ending_there}
-use Rattle.journal.specs.Open.{IsEntry, told}
-use Rattle.journal.specs.Processes.{World, process, last_answer, is_behind, is_ending, decided, told_at, entry_place, operation_at, answered}
-use Rattle.journal.specs.Views.{HasEntry, StandsAt}
+use Rattle.history.specs.declared.types.At.{At}
+use Rattle.history.specs.declared.types.At.TheVariants as at
+use Rattle.history.specs.Bound.{is_busy_at}
+use Rattle.history.specs.Journal.{IsItsRoom, entry_in}
+use Rattle.history.specs.Lemmas.Answers.{CanAnswer, answer_at_end, answer_at_commit, answer_there, entry_inside}
+use Rattle.history.specs.Lemmas.Lists.{entry_set}
+use Rattle.history.specs.Lemmas.Places.{behind_there, ending_there}
+use Rattle.history.specs.Open.{IsEntry, told}
+use Rattle.history.specs.Processes.{World, process, last_answer, is_behind, is_ending, decided, told_at, entry_place, operation_at, answered}
+use Rattle.history.specs.Views.{HasEntry, StandsAt}
 use Rattle.kernel.specs.Invariant.{IsRight, HasFacts, IsBehind, TaskStands}
 use Rattle.kernel.specs.View.{view_of}
 

@@ -5,11 +5,11 @@ use Rattle.blocks.specs.declared.disk.Disk.{Ghosts}
 use Rattle.wal.specs.Machine.{LogState, is_quiet, used_by}
 use Rattle.inodes.specs.Places.{is_over}
 use Rattle.inodes.specs.Tasks.{TaskState, no_task, task}
-use Rattle.journal.specs.declared.types.Process.{Process}
-use Rattle.journal.specs.Alone.{CommitsAlone, is_committing_at}
-use Rattle.journal.specs.Lemmas.Nexts.{at_same}
-use Rattle.journal.specs.Processes.{World, fresh_world}
-use Rattle.journal.specs.Views.{View, KernelFacts}
+use Rattle.history.specs.declared.types.Process.{Process}
+use Rattle.history.specs.Alone.{CommitsAlone, is_committing_at}
+use Rattle.history.specs.Lemmas.Nexts.{at_same}
+use Rattle.history.specs.Processes.{World, fresh_world}
+use Rattle.history.specs.Views.{View, KernelFacts}
 use Rattle.kernel.specs.Invariant.{IsRight}
 use Rattle.kernel.specs.State.{ats_of}
 use Rattle.kernel.proofs.Openings.{idle_at, paired_new, counted_new, same_at}
@@ -23,10 +23,10 @@ use Rattle.model.specs.Soundness.{IsSound}
 use Rattle.wal.specs.Lemmas.Volume.{fresh_seen}
 use Rattle.wal.specs.Volume.{VolumeState}
 use Rattle.inodes.specs.Store.{StoreState, FitsFiles, current_of, fresh_volume}
-use Rattle.journal.specs.declared.types.At.TheVariants as at
-use Rattle.journal.specs.Crash.{Survives}
-use Rattle.journal.specs.Lemmas.Known.{inv_new}
-use Rattle.journal.specs.Lemmas.Stops.{recovers_opened}
+use Rattle.history.specs.declared.types.At.TheVariants as at
+use Rattle.history.specs.Crash.{Survives}
+use Rattle.history.specs.Lemmas.Known.{inv_new}
+use Rattle.history.specs.Lemmas.Stops.{recovers_opened}
 use Rattle.kernel.specs.View.{view_of}
 use Rattle.kernel.proofs.Valid.{HasAgreed, over_unread, unread_holds, valid_joint}
 

@@ -31,15 +31,15 @@ use Rattle.inodes.specs.Waiting.{NobodyWaitsForEver, SleepsForCause, WaitsWithCa
 use Rattle.ports.specs.History.{Side, first_in}
 use Rattle.ports.specs.declared.herald.Herald as herald_trait
 use Rattle.ports.specs.declared.intake.Intake as intake_trait
-use Rattle.journal.specs.declared.types.At.{At}
-use Rattle.journal.specs.declared.types.At.TheVariants as at
-use Rattle.journal.specs.declared.types.Process.{Process}
-use Rattle.journal.specs.Alone.{is_committing_at}
-use Rattle.journal.specs.Bound.{is_busy_at, all_steps_left}
-use Rattle.journal.specs.Lemmas.Bounds.{some_write}
-use Rattle.journal.specs.Journal.{entry_in}
-use Rattle.journal.specs.Processes.{World, process, idle}
-use Rattle.journal.specs.Views.{StandsAt}
+use Rattle.history.specs.declared.types.At.{At}
+use Rattle.history.specs.declared.types.At.TheVariants as at
+use Rattle.history.specs.declared.types.Process.{Process}
+use Rattle.history.specs.Alone.{is_committing_at}
+use Rattle.history.specs.Bound.{is_busy_at, all_steps_left}
+use Rattle.history.specs.Lemmas.Bounds.{some_write}
+use Rattle.history.specs.Journal.{entry_in}
+use Rattle.history.specs.Processes.{World, process, idle}
+use Rattle.history.specs.Views.{StandsAt}
 use Rattle.kernel.specs.declared.types.Step.{Step}
 use Rattle.kernel.specs.declared.types.Step.TheVariants as step
 use Rattle.kernel.specs.declared.waiting.Waiting.{Waiting}

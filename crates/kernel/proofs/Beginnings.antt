@@ -18,18 +18,18 @@ use Rattle.inodes.specs.Looks.{CanLook, HasRoom}
 use Rattle.inodes.specs.Places.{is_over}
 use Rattle.inodes.specs.Store.{StoreState, KeepsFiles, CanBegin, first_place, with_begun, with_look}
 use Rattle.inodes.specs.Tasks.{task, no_task}
-use Rattle.journal.specs.AtOnce.{at_once_reply}
-use Rattle.journal.specs.declared.types.At.{At}
-use Rattle.journal.specs.declared.types.At.TheVariants as at
-use Rattle.journal.specs.declared.types.Process.{Process}
-use Rattle.journal.specs.Alone.{is_committing_at}
-use Rattle.journal.specs.Lemmas.Alone.{alone_begun, alone_taken}
-use Rattle.journal.specs.Lemmas.Answers.{change_fits}
-use Rattle.journal.specs.Lemmas.Events.{inv_at_once}
-use Rattle.journal.specs.Journal.{IsItsRoom}
-use Rattle.journal.specs.Lemmas.LogEvents.{inv_begun, inv_taken}
-use Rattle.journal.specs.Lemmas.Nexts.{at_same, at_once_journal, others_back}
-use Rattle.journal.specs.Processes.{World, process, with_place, taken, refused}
+use Rattle.history.specs.AtOnce.{at_once_reply}
+use Rattle.history.specs.declared.types.At.{At}
+use Rattle.history.specs.declared.types.At.TheVariants as at
+use Rattle.history.specs.declared.types.Process.{Process}
+use Rattle.history.specs.Alone.{is_committing_at}
+use Rattle.history.specs.Lemmas.Alone.{alone_begun, alone_taken}
+use Rattle.history.specs.Lemmas.Answers.{change_fits}
+use Rattle.history.specs.Lemmas.Events.{inv_at_once}
+use Rattle.history.specs.Journal.{IsItsRoom}
+use Rattle.history.specs.Lemmas.LogEvents.{inv_begun, inv_taken}
+use Rattle.history.specs.Lemmas.Nexts.{at_same, at_once_journal, others_back}
+use Rattle.history.specs.Processes.{World, process, with_place, taken, refused}
 use Rattle.kernel.specs.declared.waiting.Waiting.{Waiting}
 use Rattle.kernel.specs.declared.waiting.Waiting.TheVariants as waiting
 use Rattle.kernel.specs.Invariant.{IsRight, HasFacts, TaskStands}
@@ -37,9 +37,9 @@ use Rattle.kernel.specs.State.{ats_of, kind_of, room_for, waiting_of}
 use Rattle.kernel.specs.View.{view_of}
 use Rattle.kernel.proofs.LogCalls.{logs_begun, logs_looked}
 use Rattle.kernel.proofs.Valid.{HasAgreed, valid_joint}
-use Rattle.journal.specs.Lemmas.Counting.{counted_taken, counted_refused}
+use Rattle.history.specs.Lemmas.Counting.{counted_taken, counted_refused}
 use Rattle.kernel.proofs.Pairing.{paired_goes, keeps_behind, task_begun, begins_unturned}
-use Rattle.journal.specs.Lemmas.Places.{there_now, others_stay}
+use Rattle.history.specs.Lemmas.Places.{there_now, others_stay}
 use Rattle.kernel.proofs.Right.{right_well}
 
 -- an operation that changes files, and is not refused at once, may begin

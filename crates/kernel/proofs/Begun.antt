@@ -12,11 +12,11 @@ use Rattle.wal.specs.declared.types.Ended.{Ended}
 use Rattle.wal.specs.declared.types.Ended.TheVariants as ended_as
 use Rattle.inodes.specs.Store.{StoreState}
 use Rattle.ports.specs.History.{Side}
-use Rattle.journal.specs.declared.types.At.{At}
-use Rattle.journal.specs.declared.types.At.TheVariants as at
-use Rattle.journal.specs.declared.types.Process.{Process}
-use Rattle.journal.specs.Lemmas.Places.{there_now}
-use Rattle.journal.specs.Processes.{World, process, idle, with_process, with_place, turned_from, decided, told_at, entry_place, refused, over, committing, answered}
+use Rattle.history.specs.declared.types.At.{At}
+use Rattle.history.specs.declared.types.At.TheVariants as at
+use Rattle.history.specs.declared.types.Process.{Process}
+use Rattle.history.specs.Lemmas.Places.{there_now}
+use Rattle.history.specs.Processes.{World, process, idle, with_process, with_place, turned_from, decided, told_at, entry_place, refused, over, committing, answered}
 use Rattle.kernel.specs.declared.types.Step.{Step}
 use Rattle.kernel.specs.declared.waiting.Waiting.{Waiting}
 use Rattle.kernel.specs.Next.{BeginsWith, NextAt, NextIf, world_after, world_behind, world_of_last, world_of_told, world_ended, world_written}

@@ -8,8 +8,8 @@ use Rattle.inodes.specs.Lemmas.StepsLeft.{few_in_task}
 use Rattle.inodes.specs.Looks.{AreLooking}
 use Rattle.inodes.specs.Places.{most_behind}
 use Rattle.inodes.specs.Store.{StoreState, current_of}
-use Rattle.journal.specs.Lemmas.Bounds.{steps_few}
-use Rattle.journal.specs.Processes.{World, process}
+use Rattle.history.specs.Lemmas.Bounds.{steps_few}
+use Rattle.history.specs.Processes.{World, process}
 use Rattle.kernel.specs.Bound.{left_in, step_bound, task_left}
 use Rattle.kernel.specs.Invariant.{HasFacts}
 use Rattle.kernel.proofs.TaskSteps.{form_untouched}

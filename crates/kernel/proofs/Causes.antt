@@ -28,17 +28,17 @@ use Rattle.ports.specs.History.{Side, first_in}
 use Rattle.ports.specs.declared.herald.Herald as herald_trait
 use Rattle.ports.specs.declared.intake.Intake as intake_trait
 use Rattle.std.specs.Option.{option_map}
-use Rattle.journal.specs.AtOnce.{at_once_reply}
-use Rattle.journal.specs.Grows.{Becomes, Extends}
-use Rattle.journal.specs.Lemmas.Growing.{extends_same, extends_then}
-use Rattle.journal.specs.Lemmas.Lists.{entry_new, entry_next, entry_same}
-use Rattle.journal.specs.Lemmas.Places.{there_now, others_stay}
-use Rattle.journal.specs.Open.{IsEntry}
-use Rattle.journal.specs.Journal.{entry_of, no_entry}
-use Rattle.journal.specs.Processes.{World, process, idle, place_behind, turned_from}
-use Rattle.journal.specs.declared.types.At.{At}
-use Rattle.journal.specs.declared.types.At.TheVariants as at
-use Rattle.journal.specs.declared.types.Process.{Process}
+use Rattle.history.specs.AtOnce.{at_once_reply}
+use Rattle.history.specs.Grows.{Becomes, Extends}
+use Rattle.history.specs.Lemmas.Growing.{extends_same, extends_then}
+use Rattle.history.specs.Lemmas.Lists.{entry_new, entry_next, entry_same}
+use Rattle.history.specs.Lemmas.Places.{there_now, others_stay}
+use Rattle.history.specs.Open.{IsEntry}
+use Rattle.history.specs.Journal.{entry_of, no_entry}
+use Rattle.history.specs.Processes.{World, process, idle, place_behind, turned_from}
+use Rattle.history.specs.declared.types.At.{At}
+use Rattle.history.specs.declared.types.At.TheVariants as at
+use Rattle.history.specs.declared.types.Process.{Process}
 use Rattle.kernel.specs.Causes.{IsAnswered, MadeHasCause, NoInodeHasCause, SomeTurnMakes, TurnMakes}
 use Rattle.kernel.specs.Next.{BeginsWith, NextAt, NextIf, Works, world_after}
 use Rattle.kernel.specs.Runs.{Session, with_ports, with_shutdown}
@@ -187,7 +187,7 @@ module _ {D N I M H : Type 0} (disk : disk_trait.Ghosts D N) (intake : intake_tr
       never_refused None is = cc is
       never_refused (Some i) is = cc is
 
-      at_once_apart : (op : Op) → Spares (Rattle.journal.specs.Processes.refusal w p op (at_once_reply op))
+      at_once_apart : (op : Op) → Spares (Rattle.history.specs.Processes.refusal w p op (at_once_reply op))
       at_once_apart op kind is (inl has) = never_refused o (sym (ap (λ (q : Op). Some (at_once_reply q)) is) ∙ has)
       at_once_apart op kind is (inr has) = cc has
 

@@ -25,28 +25,28 @@ use Rattle.inodes.specs.Steps.{Commits}
 use Rattle.inodes.specs.Store.{StoreState, IsStore, KeepsFiles, with_log}
 use Rattle.inodes.specs.Table.{TableState}
 use Rattle.inodes.specs.Tasks.{TaskState, task}
-use Rattle.journal.specs.declared.types.At.{At}
-use Rattle.journal.specs.declared.types.At.TheVariants as at
-use Rattle.journal.specs.declared.types.Process.{Process}
-use Rattle.journal.specs.Alone.{CommitsAlone, is_committing_at}
-use Rattle.journal.specs.Lemmas.Alone.{alone_end_leaves, alone_end_commits, alone_written, alone_done}
-use Rattle.journal.specs.Lemmas.Groups.{ended_opened, open_of, SameOpen, stepped_same}
-use Rattle.journal.specs.Lemmas.Known.{known_failed, known_keeps}
-use Rattle.journal.specs.Lemmas.LogEvents.{inv_end_leaves, inv_end_commits, inv_written}
-use Rattle.journal.specs.Processes.{World, process, idle, committing, committing_at, answered, is_before}
-use Rattle.journal.specs.Bound.{is_busy_at}
-use Rattle.journal.specs.Journal.{Entries, IsItsRoom}
-use Rattle.journal.specs.Views.{IsValidView, KernelFacts, StandsAt, Writes}
+use Rattle.history.specs.declared.types.At.{At}
+use Rattle.history.specs.declared.types.At.TheVariants as at
+use Rattle.history.specs.declared.types.Process.{Process}
+use Rattle.history.specs.Alone.{CommitsAlone, is_committing_at}
+use Rattle.history.specs.Lemmas.Alone.{alone_end_leaves, alone_end_commits, alone_written, alone_done}
+use Rattle.history.specs.Lemmas.Groups.{ended_opened, open_of, SameOpen, stepped_same}
+use Rattle.history.specs.Lemmas.Known.{known_failed, known_keeps}
+use Rattle.history.specs.Lemmas.LogEvents.{inv_end_leaves, inv_end_commits, inv_written}
+use Rattle.history.specs.Processes.{World, process, idle, committing, committing_at, answered, is_before}
+use Rattle.history.specs.Bound.{is_busy_at}
+use Rattle.history.specs.Journal.{Entries, IsItsRoom}
+use Rattle.history.specs.Views.{IsValidView, KernelFacts, StandsAt, Writes}
 use Rattle.kernel.specs.Invariant.{IsRight, HasFacts, IsPaired, TaskStands}
 use Rattle.kernel.specs.State.{ats_of}
 use Rattle.kernel.specs.View.{view_of}
-use Rattle.journal.specs.Lemmas.Answers.{group_there}
+use Rattle.history.specs.Lemmas.Answers.{group_there}
 use Rattle.kernel.proofs.Committing.{holds_back, writes_of}
 use Rattle.kernel.proofs.LogCalls.{logs_ended}
 use Rattle.kernel.proofs.Valid.{HasAgreed, valid_joint}
-use Rattle.journal.specs.Lemmas.Counting.{counted_same}
+use Rattle.history.specs.Lemmas.Counting.{counted_same}
 use Rattle.kernel.proofs.Pairing.{paired_goes, keeps_behind}
-use Rattle.journal.specs.Lemmas.Places.{there_now, others_stay}
+use Rattle.history.specs.Lemmas.Places.{there_now, others_stay}
 use Rattle.kernel.proofs.Lasting.{lasts_unwritten}
 use Rattle.kernel.proofs.Right.{right_well, right_failed}
 

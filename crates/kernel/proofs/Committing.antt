@@ -10,7 +10,7 @@ use Rattle.wal.specs.declared.types.Committed.{Committed}
 use Rattle.inodes.specs.Tasks.{TaskState, task}
 use Rattle.inodes.specs.Steps.{Commits}
 use Rattle.inodes.specs.Store.{StoreState}
-use Rattle.journal.specs.Views.{Writes}
+use Rattle.history.specs.Views.{Writes}
 use Rattle.kernel.specs.View.{held_at, view_of}
 
 module _ {D N : Type 0} (disk : Ghosts D N) (s t : StoreState D) where

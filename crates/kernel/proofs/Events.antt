@@ -25,8 +25,8 @@ use Rattle.wal.specs.declared.types.Ended.TheVariants as ended_as
 use Rattle.wal.specs.Joint.{stepped_at}
 use Rattle.wal.specs.Lemmas.Commits.{commit_fails, commit_log, commit_makes}
 use Rattle.wal.specs.Volume.{fault_of_step}
-use Rattle.journal.specs.Crash.{in_reads}
-use Rattle.journal.specs.Lemmas.Commits.{reads_up, reads_written, stepped_count}
+use Rattle.history.specs.Crash.{in_reads}
+use Rattle.history.specs.Lemmas.Commits.{reads_up, reads_written, stepped_count}
 use Rattle.wal.specs.Lemmas.Log.{few_homes, let_in}
 use Rattle.model.specs.Gathered.{GatheredBytes}
 use Rattle.wal.specs.Machine.{LogState, begun, ended, end_answer, is_quiet, used_by}
@@ -38,22 +38,22 @@ use Rattle.inodes.specs.Steps.{Steps, Commits, is_made}
 use Rattle.inodes.specs.Store.{StoreState, current_of, first_place, with_begun, with_look}
 use Rattle.inodes.specs.Table.{TableState}
 use Rattle.inodes.specs.Tasks.{TaskState, task, no_task}
-use Rattle.journal.specs.AtOnce.{at_once_reply}
-use Rattle.journal.specs.Journal.{entry_of, entry_in}
-use Rattle.journal.specs.declared.types.At.{At}
-use Rattle.journal.specs.declared.types.At.TheVariants as at
-use Rattle.journal.specs.declared.types.Process.{Process}
-use Rattle.journal.specs.Alone.{is_committing_at}
-use Rattle.journal.specs.Bound.{all_steps_left, is_busy_at, writes_left}
-use Rattle.journal.specs.Grows.{Grows, IsTold, JournalGoes}
-use Rattle.journal.specs.Views.{HasEntry}
-use Rattle.journal.specs.Lemmas.Alone.{goes_on, none_commits, quiet_if_open}
-use Rattle.journal.specs.Lemmas.Answers.{entry_inside}
-use Rattle.journal.specs.Lemmas.Bounds.{some_write, writes_fall}
-use Rattle.journal.specs.Lemmas.Events.{at_once_still}
-use Rattle.journal.specs.Lemmas.Groups.{open_of}
-use Rattle.journal.specs.Lemmas.Growing.{grows_goes, grows_none}
-use Rattle.journal.specs.Processes.{World, process, idle, answered, at_place, committing, committing_at, decided, entry_place, over as goes_to_end, over_at, place_behind, refusal, told_at, turned, turned_from}
+use Rattle.history.specs.AtOnce.{at_once_reply}
+use Rattle.history.specs.Journal.{entry_of, entry_in}
+use Rattle.history.specs.declared.types.At.{At}
+use Rattle.history.specs.declared.types.At.TheVariants as at
+use Rattle.history.specs.declared.types.Process.{Process}
+use Rattle.history.specs.Alone.{is_committing_at}
+use Rattle.history.specs.Bound.{all_steps_left, is_busy_at, writes_left}
+use Rattle.history.specs.Grows.{Grows, IsTold, JournalGoes}
+use Rattle.history.specs.Views.{HasEntry}
+use Rattle.history.specs.Lemmas.Alone.{goes_on, none_commits, quiet_if_open}
+use Rattle.history.specs.Lemmas.Answers.{entry_inside}
+use Rattle.history.specs.Lemmas.Bounds.{some_write, writes_fall}
+use Rattle.history.specs.Lemmas.Events.{at_once_still}
+use Rattle.history.specs.Lemmas.Groups.{open_of}
+use Rattle.history.specs.Lemmas.Growing.{grows_goes, grows_none}
+use Rattle.history.specs.Processes.{World, process, idle, answered, at_place, committing, committing_at, decided, entry_place, over as goes_to_end, over_at, place_behind, refusal, told_at, turned, turned_from}
 use Rattle.kernel.specs.declared.waiting.Waiting.{Waiting}
 use Rattle.kernel.specs.declared.waiting.Waiting.TheVariants as waiting
 use Rattle.kernel.specs.declared.types.Step.{Step}
@@ -70,7 +70,7 @@ use Rattle.kernel.proofs.Well.{IsWell, log_of, stands_at, later_before, later_be
 use Rattle.kernel.proofs.Working.{reply_missing}
 use Rattle.inodes.specs.Lemmas.Bounds.{most_elsewhere}
 use Rattle.inodes.specs.Lemmas.StepsLeft.{left_outside, others_left}
-use Rattle.journal.specs.Lemmas.Ends.{commits_now, ended_count}
+use Rattle.history.specs.Lemmas.Ends.{commits_now, ended_count}
 use Rattle.inodes.specs.Lemmas.StepEnds.{StepEnds, ends_of, logs_of}
 
 -- what is counted is never less
@@ -328,7 +328,7 @@ module _ {D N : Type 0} (disk : Ghosts D N) (opening : Image) (p : ℕ) (s t : S
         counted q done = done.groups.committed
 
         -- its entry is told its reply
-        tells : (reply : Reply) → Steps disk s p op (progress.Decided reply) t → IsTold n p (in_reads s.volume.log) w.journal.list (set w.journal.list k (Rattle.journal.specs.Open.told (entry_in w.journal.list k) reply))
+        tells : (reply : Reply) → Steps disk s p op (progress.Decided reply) t → IsTold n p (in_reads s.volume.log) w.journal.list (set w.journal.list k (Rattle.history.specs.Open.told (entry_in w.journal.list k) reply))
         tells reply done =
             let reads = (stops op same_op more (progress.Decided reply) done).0 in
             record {
@@ -339,7 +339,7 @@ module _ {D N : Type 0} (disk : Ghosts D N) (opening : Image) (p : ℕ) (s t : S
               mine = there.1.mine;
               none = reply_missing there.0.reply (sym there.2.reply ∙ reads);
               later = later_behind disk.image opening s w p is group k there.0 stands there.1.at;
-              list = ap (λ (e : Entry). set w.journal.list k (Rattle.journal.specs.Open.told e reply)) inside;
+              list = ap (λ (e : Entry). set w.journal.list k (Rattle.history.specs.Open.told e reply)) inside;
             }
 
         by_progress : (q : TaskProgress) → Steps disk s p op q t → z ≡ world_behind group q w p → Made (step_behind group q)

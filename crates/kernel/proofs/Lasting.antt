@@ -13,8 +13,8 @@ use Rattle.model.specs.Agreement.{IsSameOutsideLog}
 use Rattle.model.specs.declared.types.image.Form.{Form}
 use Rattle.model.specs.Layout.{form_of, inode_of}
 use Rattle.wal.specs.Machine.{LogState}
-use Rattle.driver.specs.declared.progress.Progress.{Progress}
-use Rattle.driver.specs.declared.progress.Progress.TheVariants as machine
+use Rattle.blockmap.specs.declared.progress.Progress.{Progress}
+use Rattle.blockmap.specs.declared.progress.Progress.TheVariants as machine
 use Rattle.inodes.specs.declared.ilock.LockAt.{LockAt}
 use Rattle.inodes.specs.declared.ilock.LockAt.TheVariants as lock_at
 use Rattle.inodes.specs.declared.tasks.Place.{Place}
@@ -31,10 +31,10 @@ use Rattle.inodes.specs.Store.{StoreState, IsStore, current_of}
 use Rattle.inodes.specs.Table.{TableState, copy_at, holder_at}
 use Rattle.inodes.specs.Tasks.{task}
 use Rattle.inodes.specs.Writing.{extent_of}
-use Rattle.journal.specs.Alone.{is_committing_at}
-use Rattle.journal.specs.Lemmas.Alone.{none_commits, quiet_if_open}
-use Rattle.journal.specs.Lemmas.Bounds.{left_same}
-use Rattle.journal.specs.Processes.{World, process}
+use Rattle.history.specs.Alone.{is_committing_at}
+use Rattle.history.specs.Lemmas.Alone.{none_commits, quiet_if_open}
+use Rattle.history.specs.Lemmas.Bounds.{left_same}
+use Rattle.history.specs.Processes.{World, process}
 use Rattle.kernel.specs.Bound.{task_left}
 use Rattle.kernel.specs.Invariant.{HasFacts, IsRight}
 use Rattle.kernel.specs.Lasting.{HaveLocks, Lasts}

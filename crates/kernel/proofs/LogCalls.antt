@@ -11,7 +11,7 @@ use Rattle.wal.specs.Volume.{VolumeState}
 use Rattle.inodes.specs.Places.{is_over, owes_reply}
 use Rattle.inodes.specs.Tasks.{TaskState, task, no_task}
 use Rattle.inodes.specs.Store.{StoreState, KeepsFiles, first_place, with_begun, with_log, with_look, current_of}
-use Rattle.journal.specs.Views.{CallsLog}
+use Rattle.history.specs.Views.{CallsLog}
 use Rattle.kernel.specs.View.{held_at, view_of}
 use Rattle.kernel.proofs.Valid.{over_unread, unread_holds}
 

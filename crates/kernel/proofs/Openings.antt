@@ -31,10 +31,10 @@ use Rattle.inodes.specs.Places.{is_over}
 use Rattle.inodes.specs.Store.{StoreState}
 use Rattle.inodes.specs.Table.{new_table}
 use Rattle.inodes.specs.Tasks.{TaskState, task, no_task}
-use Rattle.journal.specs.declared.types.Process.{Process}
-use Rattle.journal.specs.Processes.{process, fresh_world, idle, is_before}
+use Rattle.history.specs.declared.types.Process.{Process}
+use Rattle.history.specs.Processes.{process, fresh_world, idle, is_before}
 use Rattle.kernel.specs.Invariant.{ArePaired, IsPaired}
-use Rattle.journal.specs.Counting.{IsCounted}
+use Rattle.history.specs.Counting.{IsCounted}
 
 pub super_size : (x : Image) (sup : Super) → verdict x ≡ None → sup ≡ super_of x → sup.size ≡ length x
 super_size x sup none is = ap (λ (s : Super). s.size) is ∙ (facts_of x (verdict_sound x none).0).size

@@ -10,14 +10,14 @@ use Rattle.inodes.specs.declared.tasks.Place.{Place}
 use Rattle.inodes.specs.Store.{StoreState, CanBegin, first_place}
 use Rattle.inodes.specs.Places.{is_unturned}
 use Rattle.inodes.specs.Tasks.{TaskState, task, no_task}
-use Rattle.journal.specs.declared.types.At.{At}
-use Rattle.journal.specs.declared.types.At.TheVariants as at
-use Rattle.journal.specs.declared.types.Process.{Process}
-use Rattle.journal.specs.Journal.{IsItsRoom}
-use Rattle.journal.specs.Open.{IsEntry}
-use Rattle.journal.specs.Processes.{World, process}
+use Rattle.history.specs.declared.types.At.{At}
+use Rattle.history.specs.declared.types.At.TheVariants as at
+use Rattle.history.specs.declared.types.Process.{Process}
+use Rattle.history.specs.Journal.{IsItsRoom}
+use Rattle.history.specs.Open.{IsEntry}
+use Rattle.history.specs.Processes.{World, process}
 use Rattle.kernel.specs.Invariant.{ArePaired, IsPaired, TaskStands}
-use Rattle.journal.specs.Lemmas.Places.{there_now, others_stay}
+use Rattle.history.specs.Lemmas.Places.{there_now, others_stay}
 
 -- a process goes on with its task where its own entry stays
 stands_back : (es fs : List Entry) (v : TaskState) (a : At) → ((g k : ℕ) (e : Entry) → a ≡ at.Behind g k → IsEntry fs k e → IsEntry es k e) → TaskStands es v a → TaskStands fs v a

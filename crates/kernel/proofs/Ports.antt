@@ -11,15 +11,15 @@ use Rattle.ports.specs.declared.herald.Herald as herald_trait
 use Rattle.ports.specs.declared.intake.Intake as intake_trait
 use Rattle.ports.specs.History.{Side, History, OthersStay, AllFit, FitWith, nothing_yet, takes, gives}
 use Rattle.model.specs.Gathered.{GatheredBytes}
-use Rattle.journal.specs.Journal.{entry_of}
-use Rattle.journal.specs.Open.{IsEntry, told}
-use Rattle.journal.specs.declared.types.At.{At}
-use Rattle.journal.specs.declared.types.At.TheVariants as at
-use Rattle.journal.specs.declared.types.Process.{Process}
-use Rattle.journal.specs.Bound.{is_busy_at}
-use Rattle.journal.specs.Histories.{IsHistory}
-use Rattle.journal.specs.Processes.{World, process, idle, fresh_world, with_place, taken, refusal, refused, refusal_answer, place_behind, turned_from, turned, committing_at, committing, last_answer, answered, decided, told_at, entry_place, at_place, over, over_at}
-use Rattle.journal.specs.Lemmas.Histories.{history_new, history_more, history_taken, history_turned, history_turned_over, history_ending, history_committing, history_at_once, history_told, history_replied}
+use Rattle.history.specs.Journal.{entry_of}
+use Rattle.history.specs.Open.{IsEntry, told}
+use Rattle.history.specs.declared.types.At.{At}
+use Rattle.history.specs.declared.types.At.TheVariants as at
+use Rattle.history.specs.declared.types.Process.{Process}
+use Rattle.history.specs.Bound.{is_busy_at}
+use Rattle.history.specs.Histories.{IsHistory}
+use Rattle.history.specs.Processes.{World, process, idle, fresh_world, with_place, taken, refusal, refused, refusal_answer, place_behind, turned_from, turned, committing_at, committing, last_answer, answered, decided, told_at, entry_place, at_place, over, over_at}
+use Rattle.history.specs.Lemmas.Histories.{history_new, history_more, history_taken, history_turned, history_turned_over, history_ending, history_committing, history_at_once, history_told, history_replied}
 use Rattle.kernel.specs.Invariant.{HasHistory, ArePorts}
 use Rattle.wal.specs.Machine.{LogState}
 use Rattle.kernel.specs.declared.beginning.Rooms.{Rooms}
@@ -27,8 +27,8 @@ use Rattle.kernel.specs.declared.types.Step.{Step}
 use Rattle.kernel.specs.declared.waiting.Waiting.{Waiting}
 use Rattle.kernel.specs.Begins.{TakesFirst, LeavesFirst}
 use Rattle.kernel.specs.Ports.{Gives}
-use Rattle.journal.specs.Lemmas.Answers.{entry_inside, history_given}
-use Rattle.journal.specs.Lemmas.Places.{there_now, others_stay, as_many}
+use Rattle.history.specs.Lemmas.Answers.{entry_inside, history_given}
+use Rattle.history.specs.Lemmas.Places.{there_now, others_stay, as_many}
 
 -- a room of another process stays where its side does
 other_room : (old new : ℕ → Side) (p q : ℕ) → OthersStay old new p → q ≢ p → (old q).has_room ≡ true → (new q).has_room ≡ true

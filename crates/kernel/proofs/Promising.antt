@@ -11,13 +11,13 @@ use Rattle.ports.specs.declared.intake.Intake as intake_trait
 use Rattle.wal.specs.Machine.{LogState}
 use Rattle.inodes.specs.Lemmas.Faults.{where_none}
 use Rattle.inodes.specs.Store.{IsStore}
-use Rattle.journal.specs.declared.types.Process.{Process}
-use Rattle.journal.specs.Bound.{all_steps_left}
-use Rattle.journal.specs.Keeps.{KeepsNow, KeepsBetween}
-use Rattle.journal.specs.Most.{most_of}
-use Rattle.journal.specs.Lemmas.Bounds.{left_same}
-use Rattle.journal.specs.Lemmas.Leaving.{leaves_between, leaves_on}
-use Rattle.journal.specs.Processes.{process}
+use Rattle.history.specs.declared.types.Process.{Process}
+use Rattle.history.specs.Bound.{all_steps_left}
+use Rattle.history.specs.Keeps.{KeepsNow, KeepsBetween}
+use Rattle.history.specs.Most.{most_of}
+use Rattle.history.specs.Lemmas.Bounds.{left_same}
+use Rattle.history.specs.Lemmas.Leaving.{leaves_between, leaves_on}
+use Rattle.history.specs.Processes.{process}
 use Rattle.kernel.specs.declared.types.Step.{Step}
 use Rattle.kernel.specs.declared.types.Step.TheVariants as step
 use Rattle.kernel.specs.Awake.{IsAwake}
@@ -29,7 +29,7 @@ use Rattle.kernel.specs.Acts.{Acts}
 use Rattle.kernel.specs.Steps.{MakesStep}
 use Rattle.kernel.proofs.Events.{Event, event_of}
 use Rattle.kernel.proofs.Right.{Survive, keeps_now}
-use Rattle.journal.specs.Lemmas.Places.{as_many, others_stay, there_now}
+use Rattle.history.specs.Lemmas.Places.{as_many, others_stay, there_now}
 use Rattle.kernel.proofs.Well.{IsWell, few_numbers}
 
 module _ {D I H : Type 0} (image : D → Image) (form : Form) (n : ℕ) (holds : Bool) (p : ℕ) (r : Step) (k m : State D I H) (lt : p < length k.world.processes) (e : Event image form n holds p k.store k.world m.store m.world r) where

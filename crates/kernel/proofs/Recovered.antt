@@ -7,9 +7,9 @@ use Rattle.model.specs.Lemmas.Recovery.{recovers_once}
 use Rattle.ports.specs.declared.herald.Herald as herald_trait
 use Rattle.ports.specs.declared.intake.Intake as intake_trait
 use Rattle.wal.specs.Recovery.{LeavesIfCalm, RecoversAs, Recovers}
-use Rattle.journal.specs.Keeps.{KeepsBetween}
-use Rattle.journal.specs.Most.{most_of}
-use Rattle.journal.specs.Lemmas.Leaving.{kept_alike, kept_whole}
+use Rattle.history.specs.Keeps.{KeepsBetween}
+use Rattle.history.specs.Most.{most_of}
+use Rattle.history.specs.Lemmas.Leaving.{kept_alike, kept_whole}
 use Rattle.kernel.specs.Known.{Known}
 use Rattle.kernel.specs.Lemmas.Turns.{runs_on_session}
 use Rattle.kernel.specs.Opening.{IsOpened}

@@ -15,10 +15,10 @@ use Rattle.wal.specs.Machine.{LogState, is_quiet}
 use Rattle.wal.specs.declared.types.Commit.{Commit}
 use Rattle.wal.specs.declared.types.Commit.TheVariants as commit
 use Rattle.inodes.specs.Store.{StoreState, FitsFiles}
-use Rattle.journal.specs.Alone.{is_committing_at}
-use Rattle.journal.specs.Lemmas.Groups.{outstanding_none}
-use Rattle.journal.specs.Lemmas.Known.{idle_used}
-use Rattle.journal.specs.Processes.{World}
+use Rattle.history.specs.Alone.{is_committing_at}
+use Rattle.history.specs.Lemmas.Groups.{outstanding_none}
+use Rattle.history.specs.Lemmas.Known.{idle_used}
+use Rattle.history.specs.Processes.{World}
 use Rattle.model.specs.Layout.{inode_count_of}
 use Rattle.kernel.specs.Invariant.{HasFacts}
 use Rattle.kernel.specs.Awake.{AreIdle}

@@ -12,16 +12,16 @@ use Rattle.model.specs.Layout.{form_of, inode_count_of}
 use Rattle.wal.specs.Volume.{faults_after}
 use Rattle.inodes.specs.Lemmas.Faults.{if_none, if_some, where_none}
 use Rattle.inodes.specs.Store.{StoreState}
-use Rattle.journal.specs.Follows.{IsJournal}
-use Rattle.journal.specs.Keeps.{KeepsNow}
-use Rattle.journal.specs.Most.{most_of}
-use Rattle.journal.specs.Lemmas.Known.{known_keeps, known_run}
-use Rattle.journal.specs.Processes.{World}
+use Rattle.history.specs.Follows.{IsJournal}
+use Rattle.history.specs.Keeps.{KeepsNow}
+use Rattle.history.specs.Most.{most_of}
+use Rattle.history.specs.Lemmas.Known.{known_keeps, known_run}
+use Rattle.history.specs.Processes.{World}
 use Rattle.wal.specs.Floats.{Survives as SurvivesAt}
 use Rattle.kernel.specs.State.{ats_of}
 use Rattle.kernel.specs.View.{view_of}
 use Rattle.kernel.specs.Invariant.{IsRight, HasFacts, ArePaired}
-use Rattle.journal.specs.Counting.{IsCounted}
+use Rattle.history.specs.Counting.{IsCounted}
 
 unfailed : {D : Type 0} (image : D → Image) (form : Form) (s : StoreState D) (w : World) (o : Option DeviceFault) → o ≡ None → IfSome o (λ (f : DeviceFault). Lasts image form s w)
 unfailed image form s w None none = tt

@@ -25,11 +25,11 @@ use Rattle.inodes.specs.Store.{StoreState}
 use Rattle.inodes.specs.Waiting.{sleep_cause}
 use Rattle.ports.specs.declared.herald.Herald as herald_trait
 use Rattle.ports.specs.declared.intake.Intake as intake_trait
-use Rattle.journal.specs.declared.types.At.{At}
-use Rattle.journal.specs.declared.types.At.TheVariants as at
-use Rattle.journal.specs.declared.types.Process.{Process}
-use Rattle.journal.specs.Bound.{is_busy_at, all_steps_left}
-use Rattle.journal.specs.Processes.{World, process, idle, answered, decided}
+use Rattle.history.specs.declared.types.At.{At}
+use Rattle.history.specs.declared.types.At.TheVariants as at
+use Rattle.history.specs.declared.types.Process.{Process}
+use Rattle.history.specs.Bound.{is_busy_at, all_steps_left}
+use Rattle.history.specs.Processes.{World, process, idle, answered, decided}
 use Rattle.kernel.specs.declared.types.Step.{Step}
 use Rattle.kernel.specs.declared.types.Step.TheVariants as step
 use Rattle.kernel.specs.declared.types.Turn.{Turn}

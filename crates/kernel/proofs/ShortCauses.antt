@@ -27,18 +27,18 @@ use Rattle.inodes.specs.declared.writei.Extent.{Extent}
 use Rattle.ports.specs.History.{Side, first_in}
 use Rattle.ports.specs.declared.herald.Herald as herald_trait
 use Rattle.ports.specs.declared.intake.Intake as intake_trait
-use Rattle.journal.specs.AtOnce.{at_once_reply}
-use Rattle.journal.specs.Grows.{Becomes, Extends}
-use Rattle.journal.specs.Histories.{Owed}
-use Rattle.journal.specs.Journal.{entry_of}
-use Rattle.journal.specs.Lemmas.Answers.{entry_inside}
-use Rattle.journal.specs.Lemmas.Lists.{entry_more, entry_new, entry_same, entry_set, entry_set_other}
-use Rattle.journal.specs.Lemmas.Places.{there_now, others_stay}
-use Rattle.journal.specs.Open.{IsEntry, told}
-use Rattle.journal.specs.Processes.{World, process, idle, entry_place, place_behind, refusal, turned_from, decided, told_at}
-use Rattle.journal.specs.declared.types.At.{At}
-use Rattle.journal.specs.declared.types.At.TheVariants as at
-use Rattle.journal.specs.declared.types.Process.{Process}
+use Rattle.history.specs.AtOnce.{at_once_reply}
+use Rattle.history.specs.Grows.{Becomes, Extends}
+use Rattle.history.specs.Histories.{Owed}
+use Rattle.history.specs.Journal.{entry_of}
+use Rattle.history.specs.Lemmas.Answers.{entry_inside}
+use Rattle.history.specs.Lemmas.Lists.{entry_more, entry_new, entry_same, entry_set, entry_set_other}
+use Rattle.history.specs.Lemmas.Places.{there_now, others_stay}
+use Rattle.history.specs.Open.{IsEntry, told}
+use Rattle.history.specs.Processes.{World, process, idle, entry_place, place_behind, refusal, turned_from, decided, told_at}
+use Rattle.history.specs.declared.types.At.{At}
+use Rattle.history.specs.declared.types.At.TheVariants as at
+use Rattle.history.specs.declared.types.Process.{Process}
 use Rattle.kernel.specs.Causes.{ShortHasCause, SomeTurnMakes, TurnMakes}
 use Rattle.kernel.specs.Known.{Known}
 use Rattle.kernel.specs.Next.{BeginsWith, Finishes, NextAt, NextIf, Works, world_after, world_behind}

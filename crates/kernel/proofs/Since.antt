@@ -8,14 +8,14 @@ use Rattle.model.specs.declared.types.operations.Op.{Op}
 use Rattle.model.specs.Journal.{is_at_once}
 use Rattle.model.specs.Layout.{inode_count_of}
 use Rattle.inodes.specs.Store.{StoreState}
-use Rattle.journal.specs.AtOnce.{at_once_reply}
-use Rattle.journal.specs.Grows.{Grows}
-use Rattle.journal.specs.Keeps.{KeepsBetween}
-use Rattle.journal.specs.Most.{most_of}
-use Rattle.journal.specs.Lemmas.Events.{at_once_still}
-use Rattle.journal.specs.Lemmas.Growing.{grows_goes, keeps_later}
-use Rattle.journal.specs.Lemmas.Leaving.{keeps_fewer, leaves_wider}
-use Rattle.journal.specs.Processes.{World, refusal, refused, with_place}
+use Rattle.history.specs.AtOnce.{at_once_reply}
+use Rattle.history.specs.Grows.{Grows}
+use Rattle.history.specs.Keeps.{KeepsBetween}
+use Rattle.history.specs.Most.{most_of}
+use Rattle.history.specs.Lemmas.Events.{at_once_still}
+use Rattle.history.specs.Lemmas.Growing.{grows_goes, keeps_later}
+use Rattle.history.specs.Lemmas.Leaving.{keeps_fewer, leaves_wider}
+use Rattle.history.specs.Processes.{World, refusal, refused, with_place}
 use Rattle.kernel.specs.declared.waiting.Waiting.TheVariants as waiting
 use Rattle.kernel.specs.Invariant.{IsRight, LeavesSince}
 use Rattle.kernel.specs.State.{waiting_of}

@@ -22,8 +22,8 @@ use Rattle.inodes.specs.Places.{asked, asked_by, is_over, owes_reply}
 use Rattle.inodes.specs.Tasks.{task}
 use Rattle.inodes.specs.Steps.{Steps}
 use Rattle.inodes.specs.Store.{StoreState, current_of}
-use Rattle.journal.specs.Open.{Held, held_by, number_of}
-use Rattle.journal.specs.Views.{LeavesRest, Moves, Takes, Turns, Opens, Leaves}
+use Rattle.history.specs.Open.{Held, held_by, number_of}
+use Rattle.history.specs.Views.{LeavesRest, Moves, Takes, Turns, Opens, Leaves}
 use Rattle.kernel.specs.View.{held_at, view_of}
 use Rattle.kernel.proofs.Valid.{LateOp, unread_holds, over_unread, late_op, held_late}
 

@@ -24,14 +24,14 @@ use Rattle.inodes.specs.Store.{StoreState, first_place, with_begun, with_log, wi
 use Rattle.inodes.specs.Tasks.{TaskState, task, no_task}
 use Rattle.ports.specs.History.{Side, first_in}
 use Rattle.std.specs.Option.{option_map}
-use Rattle.journal.specs.AtOnce.{at_once_reply}
-use Rattle.journal.specs.declared.types.At.{At}
-use Rattle.journal.specs.declared.types.At.TheVariants as at
-use Rattle.journal.specs.declared.types.Process.{Process}
-use Rattle.journal.specs.Journal.{entry_in, entry_of}
-use Rattle.journal.specs.Lemmas.Groups.{ended_keeps}
-use Rattle.journal.specs.Open.{told}
-use Rattle.journal.specs.Processes.{World, process, idle, entry_place, place_behind, refusal, turned_from, decided, told_at, over_at, committing_at, with_place}
+use Rattle.history.specs.AtOnce.{at_once_reply}
+use Rattle.history.specs.declared.types.At.{At}
+use Rattle.history.specs.declared.types.At.TheVariants as at
+use Rattle.history.specs.declared.types.Process.{Process}
+use Rattle.history.specs.Journal.{entry_in, entry_of}
+use Rattle.history.specs.Lemmas.Groups.{ended_keeps}
+use Rattle.history.specs.Open.{told}
+use Rattle.history.specs.Processes.{World, process, idle, entry_place, place_behind, refusal, turned_from, decided, told_at, over_at, committing_at, with_place}
 use Rattle.kernel.specs.declared.types.Step.{Step}
 use Rattle.kernel.specs.declared.waiting.Waiting.{Waiting}
 use Rattle.kernel.specs.Next.{BeginsWith, Ends, Finishes, NextAt, NextIf, Works, Writes, world_after, world_behind, world_ended, world_written}
@@ -234,7 +234,7 @@ module _ {D N : Type 0} (disk : disk_trait.Ghosts D N) (q : ℕ) (s : StoreState
       by_progress progress.Moved g same to = rests (at.Behind group k) w stands to refl refl store
       by_progress (progress.Turned reply) g same to = rests (at.Behind group k) w stands to refl refl store
       by_progress (progress.Decided reply) zero same to =
-          becomes (at.Behind group k) _ (record (process w q) { at = at.Idle; room = None }) (to ∙ ap (λ (o : World). Rattle.journal.specs.Processes.answered o q) (told_here reply)) refl (inr (inr (tells reply))) (λ i no. absurd (cc no)) (λ g o is. absurd (cc is)) store
+          becomes (at.Behind group k) _ (record (process w q) { at = at.Idle; room = None }) (to ∙ ap (λ (o : World). Rattle.history.specs.Processes.answered o q) (told_here reply)) refl (inr (inr (tells reply))) (λ i no. absurd (cc no)) (λ g o is. absurd (cc is)) store
       by_progress (progress.Decided reply) (suc g) same to =
           becomes (at.Behind group k) (told_at (Some k) w reply) (process w q) (to ∙ told_here reply) (sym (set-get_or w.processes q idle)) (inr (inr (tells reply))) (λ i at. inl (ap entry_place (sym stands) ∙ at)) (λ g o is. inr (sym stands)) store
       by_progress progress.Over zero same to =

@@ -12,13 +12,13 @@ use Rattle.inodes.specs.Store.{StoreState, current_of}
 use Rattle.inodes.specs.Tasks.{TaskState, task}
 use Rattle.inodes.specs.declared.tasks.Place.{Place}
 use Rattle.inodes.specs.declared.tasks.Place.TheVariants as place
-use Rattle.journal.specs.declared.types.At.{At}
-use Rattle.journal.specs.declared.types.At.TheVariants as at
-use Rattle.journal.specs.Lemmas.Lists.{last_one}
-use Rattle.journal.specs.Lemmas.Opens.{open_entry, open_last}
-use Rattle.journal.specs.Open.{Held, IsEntry, held_by, is_late}
-use Rattle.journal.specs.Processes.{World}
-use Rattle.journal.specs.Views.{StandsAt}
+use Rattle.history.specs.declared.types.At.{At}
+use Rattle.history.specs.declared.types.At.TheVariants as at
+use Rattle.history.specs.Lemmas.Lists.{last_one}
+use Rattle.history.specs.Lemmas.Opens.{open_entry, open_last}
+use Rattle.history.specs.Open.{Held, IsEntry, held_by, is_late}
+use Rattle.history.specs.Processes.{World}
+use Rattle.history.specs.Views.{StandsAt}
 use Rattle.kernel.specs.Invariant.{ArePaired, HasFacts, TaskStands}
 use Rattle.kernel.specs.Lasting.{IsUnderWay}
 use Rattle.kernel.specs.State.{ats_of}

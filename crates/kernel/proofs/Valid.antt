@@ -11,8 +11,8 @@ use Rattle.model.specs.Journal.{is_number}
 use Rattle.model.specs.Log.{cleared}
 use Rattle.model.specs.Soundness.{IsSound}
 use Rattle.bcache.specs.Buffers.{Buffers}
-use Rattle.loose.specs.Lemmas.AtRest.{fits_at_rest}
-use Rattle.loose.specs.Lemmas.OutsideLog.{sound_cleared}
+use Rattle.in_flight.specs.Lemmas.AtRest.{fits_at_rest}
+use Rattle.in_flight.specs.Lemmas.OutsideLog.{sound_cleared}
 use Rattle.wal.specs.Joint.{Joint}
 use Rattle.wal.specs.Machine.{IsLogAt, LogState, used_by}
 use Rattle.inodes.specs.declared.tasks.Place.{Place}
@@ -25,9 +25,9 @@ use Rattle.inodes.specs.Looks.{AreLooking, CanLook, CanTake, IsLate, IsWrite, Lo
 use Rattle.inodes.specs.Places.{asked, asked_by, is_over, owes_reply, is_unturned}
 use Rattle.inodes.specs.Tasks.{TaskState, task}
 use Rattle.inodes.specs.Store.{Agrees, FitsFiles, IsStore, Stands, StoreState, current_of}
-use Rattle.journal.specs.Lemmas.Groups.{open_of}
-use Rattle.journal.specs.Open.{Held, held_by, is_late, number_of}
-use Rattle.journal.specs.Views.{IsValidView}
+use Rattle.history.specs.Lemmas.Groups.{open_of}
+use Rattle.history.specs.Open.{Held, held_by, is_late, number_of}
+use Rattle.history.specs.Views.{IsValidView}
 use Rattle.kernel.specs.View.{held_at, view_of}
 
 -- a store whose disk has not failed agrees with the disk, and its looks with what is shown

@@ -13,14 +13,14 @@ use Rattle.inodes.specs.Looks.{AreLooking}
 use Rattle.inodes.specs.Places.{is_over, is_unturned}
 use Rattle.inodes.specs.Store.{StoreState, IsStore, Agrees, current_of}
 use Rattle.inodes.specs.Tasks.{task}
-use Rattle.journal.specs.declared.types.At.{At}
-use Rattle.journal.specs.declared.types.At.TheVariants as at
-use Rattle.journal.specs.Lemmas.Events.{changing_later}
-use Rattle.journal.specs.Lemmas.Groups.{group_unread}
-use Rattle.journal.specs.Open.{IsEntry}
-use Rattle.journal.specs.Processes.{World, process}
-use Rattle.journal.specs.Crash.{in_reads}
-use Rattle.journal.specs.Views.{InGroup, HasEntry, StandsAt}
+use Rattle.history.specs.declared.types.At.{At}
+use Rattle.history.specs.declared.types.At.TheVariants as at
+use Rattle.history.specs.Lemmas.Events.{changing_later}
+use Rattle.history.specs.Lemmas.Groups.{group_unread}
+use Rattle.history.specs.Open.{IsEntry}
+use Rattle.history.specs.Processes.{World, process}
+use Rattle.history.specs.Crash.{in_reads}
+use Rattle.history.specs.Views.{InGroup, HasEntry, StandsAt}
 use Rattle.kernel.specs.Invariant.{ArePaired, HasFacts, IsBehind, TaskStands}
 use Rattle.kernel.specs.State.{ats_of}
 use Rattle.kernel.specs.View.{view_of}

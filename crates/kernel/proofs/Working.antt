@@ -32,32 +32,32 @@ use Rattle.inodes.specs.Store.{StoreState, IsStore, CanBegin, current_of}
 use Rattle.inodes.specs.Tasks.{task}
 use Rattle.inodes.specs.declared.tasks.Place.{Place}
 use Rattle.inodes.specs.declared.tasks.Place.TheVariants as place
-use Rattle.journal.specs.declared.types.At.{At}
-use Rattle.journal.specs.declared.types.At.TheVariants as at
-use Rattle.journal.specs.declared.types.Process.{Process}
-use Rattle.journal.specs.Alone.{is_committing_at}
-use Rattle.journal.specs.Bound.{is_busy_at}
-use Rattle.journal.specs.Counting.{IsCounted}
-use Rattle.journal.specs.Grows.{JournalGoes}
-use Rattle.journal.specs.Journal.{IsItsRoom, entry_of, entry_in}
-use Rattle.journal.specs.Lemmas.Alone.{alone_stepped}
-use Rattle.journal.specs.Lemmas.Answers.{changing_in_group, entry_inside, group_tells}
-use Rattle.journal.specs.Lemmas.Known.{known_keeps}
-use Rattle.journal.specs.Lemmas.Lists.{entry_new, entry_same, entry_set}
-use Rattle.journal.specs.Lemmas.Nexts.{task_next, task_journal, others_back}
-use Rattle.journal.specs.Next.{TaskNext}
-use Rattle.journal.specs.Open.{IsEntry, number_of, told}
-use Rattle.journal.specs.Processes.{World, process, idle, turned, turned_from, place_behind, decided, told_at, entry_place, answered, at_place, over, over_at}
-use Rattle.journal.specs.Crash.{in_reads}
-use Rattle.journal.specs.Views.{View, HasEntry, StandsAt, Takes, IsValidView}
+use Rattle.history.specs.declared.types.At.{At}
+use Rattle.history.specs.declared.types.At.TheVariants as at
+use Rattle.history.specs.declared.types.Process.{Process}
+use Rattle.history.specs.Alone.{is_committing_at}
+use Rattle.history.specs.Bound.{is_busy_at}
+use Rattle.history.specs.Counting.{IsCounted}
+use Rattle.history.specs.Grows.{JournalGoes}
+use Rattle.history.specs.Journal.{IsItsRoom, entry_of, entry_in}
+use Rattle.history.specs.Lemmas.Alone.{alone_stepped}
+use Rattle.history.specs.Lemmas.Answers.{changing_in_group, entry_inside, group_tells}
+use Rattle.history.specs.Lemmas.Known.{known_keeps}
+use Rattle.history.specs.Lemmas.Lists.{entry_new, entry_same, entry_set}
+use Rattle.history.specs.Lemmas.Nexts.{task_next, task_journal, others_back}
+use Rattle.history.specs.Next.{TaskNext}
+use Rattle.history.specs.Open.{IsEntry, number_of, told}
+use Rattle.history.specs.Processes.{World, process, idle, turned, turned_from, place_behind, decided, told_at, entry_place, answered, at_place, over, over_at}
+use Rattle.history.specs.Crash.{in_reads}
+use Rattle.history.specs.Views.{View, HasEntry, StandsAt, Takes, IsValidView}
 use Rattle.kernel.specs.Invariant.{IsRight, HasFacts, ArePaired, IsBehind, TaskStands}
 use Rattle.kernel.specs.State.{ats_of}
 use Rattle.kernel.specs.View.{view_of}
 use Rattle.kernel.proofs.TaskSteps.{form_untouched, moves_of, turns_of, opens_of, takes_of, reads_rest, leaves_of, free_then}
 use Rattle.kernel.proofs.Valid.{HasAgreed, valid_joint, over_unread, take_number, unturned_unread}
-use Rattle.journal.specs.Lemmas.Counting.{counted_turned, counted_same}
+use Rattle.history.specs.Lemmas.Counting.{counted_turned, counted_same}
 use Rattle.kernel.proofs.Pairing.{paired_goes, keeps_behind}
-use Rattle.journal.specs.Lemmas.Places.{there_now, others_stay}
+use Rattle.history.specs.Lemmas.Places.{there_now, others_stay}
 use Rattle.kernel.proofs.Lasting.{lasts_failed}
 use Rattle.kernel.proofs.Right.{right_well, right_failed}
 
@@ -356,7 +356,7 @@ module _ {D N : Type 0} (disk : Ghosts D N) (opening : D) (s : StoreState D) (w 
             now = refl;
           }),
         )
-        (counted_same s.volume.log.opened p w right.counted lt t.volume.log.opened z at.Idle None (ap Rattle.journal.specs.Processes.is_before stands) refl refl (length-set es k (told (entry_in es k) reply)) refl steps.groups.opened)
+        (counted_same s.volume.log.opened p w right.counted lt t.volume.log.opened z at.Idle None (ap Rattle.history.specs.Processes.is_before stands) refl refl (length-set es k (told (entry_in es k) reply)) refl steps.groups.opened)
         read.0 (λ busy. absurd (false≢true busy)) refl refl)
 
     -- its writing is done: its entry is told the reply, and its task goes on
@@ -386,7 +386,7 @@ module _ {D N : Type 0} (disk : Ghosts D N) (opening : D) (s : StoreState D) (w 
         subst (λ (y : World). IsRight disk opening t y) (sym same)
         (right_stepped (progress.Decided reply) steps refl agreed z (process w p) (sym (set-get_or w.processes p idle)) (at.Behind group k) stands (progress.Decided reply)
         (subst (λ (b : At). TaskNext (at.Behind group k) (progress.Decided reply) n form p (process w p).begun before es now z.journal.list b) (sym stands) goes)
-        (counted_same s.volume.log.opened p w right.counted lt t.volume.log.opened z (process w p).at (process w p).room (ap Rattle.journal.specs.Processes.is_before stands) (ap Rattle.journal.specs.Processes.is_before stands) (sym (set-get_or w.processes p idle)) (length-set es k (told (entry_in es k) reply)) refl steps.groups.opened)
+        (counted_same s.volume.log.opened p w right.counted lt t.volume.log.opened z (process w p).at (process w p).room (ap Rattle.history.specs.Processes.is_before stands) (ap Rattle.history.specs.Processes.is_before stands) (sym (set-get_or w.processes p idle)) (length-set es k (told (entry_in es k) reply)) refl steps.groups.opened)
         (subst (λ (b : At). TaskStands z.journal.list (task t.tasks p) b) (sym stands) goes_on) (room_stays (progress.Decided reply) steps) refl (ap is_committing_at stands))
 
     -- another operation of no group is over, and answered
@@ -396,7 +396,7 @@ module _ {D N : Type 0} (disk : Ghosts D N) (opening : D) (s : StoreState D) (w 
         let reply = reply_there own.reply (sym its.reply ∙ ends.1) in
         right_stepped progress.Over steps refl agreed (answered w p) (record (process w p) { at = at.Idle; room = None }) refl (at.Behind group k) stands progress.Over
         (own, has.at, inr (inr (record { reply = reply.0; has = reply.1; none = none; leaves = leaves_of disk s t p op ends.2 steps; list = refl; now = refl })))
-        (counted_same s.volume.log.opened p w right.counted lt t.volume.log.opened (answered w p) at.Idle None (ap Rattle.journal.specs.Processes.is_before stands) refl refl refl refl steps.groups.opened)
+        (counted_same s.volume.log.opened p w right.counted lt t.volume.log.opened (answered w p) at.Idle None (ap Rattle.history.specs.Processes.is_before stands) refl refl refl refl steps.groups.opened)
         ends.2 (λ busy. absurd (false≢true busy)) refl refl
 
     -- one of a group is over, and ends in the log next
@@ -409,5 +409,5 @@ module _ {D N : Type 0} (disk : Ghosts D N) (opening : D) (s : StoreState D) (w 
         subst (λ (y : World). IsRight disk opening t y) (sym same)
         (right_stepped progress.Over steps refl agreed z (record (process w p) { at = at.Ending group k }) refl (at.Behind group k) stands progress.Over
         (own, has.at, inr (inl (record { reply = reply.0; has = reply.1; changing = grouped later; leaves = leaves_of disk s t p op ends.2 steps; list = refl; now = refl })))
-        (counted_same s.volume.log.opened p w right.counted lt t.volume.log.opened z (at.Ending group k) (process w p).room (ap Rattle.journal.specs.Processes.is_before stands) refl refl refl refl steps.groups.opened)
+        (counted_same s.volume.log.opened p w right.counted lt t.volume.log.opened z (at.Ending group k) (process w p).room (ap Rattle.history.specs.Processes.is_before stands) refl refl refl refl steps.groups.opened)
         ends.2 (λ busy. room_stays progress.Over steps (ap is_busy_at stands)) refl refl)

@@ -4,8 +4,8 @@ use mathlib.Core.List.{IsPrefix}
 use Rattle.blocks.specs.declared.disk.Disk as disk_trait
 use Rattle.ports.specs.declared.herald.Herald as herald_trait
 use Rattle.ports.specs.declared.intake.Intake as intake_trait
-use Rattle.journal.specs.Bound.{is_busy_at}
-use Rattle.journal.specs.Processes.{process}
+use Rattle.history.specs.Bound.{is_busy_at}
+use Rattle.history.specs.Processes.{process}
 use Rattle.kernel.specs.declared.types.Step.{Step}
 use Rattle.kernel.specs.declared.types.Step.TheVariants as step
 use Rattle.kernel.specs.Device.{UsesDisk}

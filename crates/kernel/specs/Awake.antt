@@ -4,10 +4,10 @@ use Rattle.blocks.specs.Disk.{Image}
 use Rattle.model.specs.declared.types.operations.Why.{Why}
 use Rattle.wal.specs.Machine.{begin_cause}
 use Rattle.inodes.specs.Waiting.{sleep_cause}
-use Rattle.journal.specs.declared.types.At.{At}
-use Rattle.journal.specs.declared.types.At.TheVariants as at
-use Rattle.journal.specs.Bound.{is_busy_at}
-use Rattle.journal.specs.Processes.{World}
+use Rattle.history.specs.declared.types.At.{At}
+use Rattle.history.specs.declared.types.At.TheVariants as at
+use Rattle.history.specs.Bound.{is_busy_at}
+use Rattle.history.specs.Processes.{World}
 use Rattle.kernel.specs.Bound.{left_of}
 use Rattle.kernel.specs.State.{State, ats_of}
 

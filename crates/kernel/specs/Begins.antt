@@ -5,7 +5,7 @@ use Rattle.model.specs.declared.types.operations.Why.{Why}
 use Rattle.wal.specs.Machine.{LogState, begin_cause}
 use Rattle.ports.specs.declared.intake.Intake.{Ghosts}
 use Rattle.ports.specs.History.{AllFit, FitWith, takes}
-use Rattle.journal.specs.Processes.{World, with_place}
+use Rattle.history.specs.Processes.{World, with_place}
 use Rattle.kernel.specs.declared.beginning.Rooms.{Rooms}
 use Rattle.kernel.specs.declared.waiting.Waiting.{Waiting}
 use Rattle.kernel.specs.declared.waiting.Waiting.TheVariants as waiting

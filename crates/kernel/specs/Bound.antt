@@ -7,8 +7,8 @@ use Rattle.model.specs.Layout.{form_of}
 use Rattle.inodes.specs.Places.{steps_left}
 use Rattle.inodes.specs.Store.{StoreState, current_of}
 use Rattle.inodes.specs.Tasks.{task}
-use Rattle.journal.specs.Bound.{all_steps_left, is_busy_at}
-use Rattle.journal.specs.Processes.{World, process}
+use Rattle.history.specs.Bound.{all_steps_left, is_busy_at}
+use Rattle.history.specs.Processes.{World, process}
 use Rattle.kernel.specs.State.{State}
 
 -- those that a process's task has, over the store's current image

@@ -10,11 +10,11 @@ use Rattle.wal.specs.Joint.{place_at}
 use Rattle.inodes.specs.Store.{StoreState}
 use Rattle.inodes.specs.Places.{block_at_place}
 use Rattle.inodes.specs.Tasks.{task}
-use Rattle.journal.specs.declared.types.At.{At}
-use Rattle.journal.specs.declared.types.At.TheVariants as at
+use Rattle.history.specs.declared.types.At.{At}
+use Rattle.history.specs.declared.types.At.TheVariants as at
 use Rattle.kernel.specs.declared.types.Step.{Step}
 use Rattle.kernel.specs.declared.types.Step.TheVariants as step
-use Rattle.journal.specs.Alone.{is_committing_at}
+use Rattle.history.specs.Alone.{is_committing_at}
 
 -- the counts of a disk that its use raises
 pub record Counts : Type 0 where

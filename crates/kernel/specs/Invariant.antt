@@ -15,19 +15,19 @@ use Rattle.inodes.specs.Places.{is_over, owes_reply, is_unturned}
 use Rattle.ports.specs.History.{History}
 use Rattle.ports.specs.declared.herald.Herald as herald_trait
 use Rattle.ports.specs.declared.intake.Intake as intake_trait
-use Rattle.journal.specs.declared.types.At.{At}
-use Rattle.journal.specs.declared.types.At.TheVariants as at
-use Rattle.journal.specs.Alone.{CommitsAlone}
-use Rattle.journal.specs.Views.{KernelFacts}
-use Rattle.journal.specs.Follows.{IsJournal}
-use Rattle.journal.specs.Histories.{IsHistory}
-use Rattle.journal.specs.Journal.{IsItsRoom}
-use Rattle.journal.specs.Stop.{KeptNow, KeptSince}
-use Rattle.journal.specs.Most.{most_of}
-use Rattle.journal.specs.Counting.{IsCounted}
-use Rattle.journal.specs.Open.{IsEntry}
-use Rattle.journal.specs.Processes.{World, process}
-use Rattle.journal.specs.Bound.{is_busy_at}
+use Rattle.history.specs.declared.types.At.{At}
+use Rattle.history.specs.declared.types.At.TheVariants as at
+use Rattle.history.specs.Alone.{CommitsAlone}
+use Rattle.history.specs.Views.{KernelFacts}
+use Rattle.history.specs.Follows.{IsJournal}
+use Rattle.history.specs.Histories.{IsHistory}
+use Rattle.history.specs.Journal.{IsItsRoom}
+use Rattle.history.specs.Stop.{KeptNow, KeptSince}
+use Rattle.history.specs.Most.{most_of}
+use Rattle.history.specs.Counting.{IsCounted}
+use Rattle.history.specs.Open.{IsEntry}
+use Rattle.history.specs.Processes.{World, process}
+use Rattle.history.specs.Bound.{is_busy_at}
 use Rattle.kernel.specs.Lasting.{Lasts}
 use Rattle.kernel.specs.State.{State, ats_of}
 use Rattle.kernel.specs.View.{view_of}

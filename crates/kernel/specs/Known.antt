@@ -16,12 +16,12 @@ use Rattle.inodes.specs.Store.{FitsFiles, current_of}
 use Rattle.ports.specs.History.{History}
 use Rattle.ports.specs.declared.herald.Herald as herald_trait
 use Rattle.ports.specs.declared.intake.Intake as intake_trait
-use Rattle.journal.specs.Follows.{IsJournal}
-use Rattle.journal.specs.Histories.{IsHistory}
-use Rattle.journal.specs.Keeps.{HasFilesAfter, KeepsBeginnings}
-use Rattle.journal.specs.Most.{most_of}
-use Rattle.journal.specs.Processes.{process}
-use Rattle.journal.specs.Stop.{StopLeaves}
+use Rattle.history.specs.Follows.{IsJournal}
+use Rattle.history.specs.Histories.{IsHistory}
+use Rattle.history.specs.Keeps.{HasFilesAfter, KeepsBeginnings}
+use Rattle.history.specs.Most.{most_of}
+use Rattle.history.specs.Processes.{process}
+use Rattle.history.specs.Stop.{StopLeaves}
 use Rattle.kernel.specs.Awake.{AreIdle, IsAwake}
 use Rattle.kernel.specs.Bound.{left_of, step_bound}
 use Rattle.kernel.specs.Invariant.{CanReplay, HasHistory}

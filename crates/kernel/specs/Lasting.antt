@@ -7,9 +7,9 @@ use Rattle.inodes.specs.Looks.{HoldsInode}
 use Rattle.inodes.specs.Places.{asked}
 use Rattle.inodes.specs.Store.{StoreState}
 use Rattle.inodes.specs.Table.{TableState}
-use Rattle.journal.specs.declared.types.At.TheVariants as at
-use Rattle.journal.specs.Open.{IsEntry, is_late}
-use Rattle.journal.specs.Processes.{World}
+use Rattle.history.specs.declared.types.At.TheVariants as at
+use Rattle.history.specs.Open.{IsEntry, is_late}
+use Rattle.history.specs.Processes.{World}
 use Rattle.kernel.specs.Bound.{left_in, step_bound}
 use Rattle.kernel.specs.State.{ats_of}
 

@@ -21,11 +21,11 @@ use Rattle.inodes.specs.Tasks.{task}
 use Rattle.inodes.specs.Places.{is_over}
 use Rattle.inodes.specs.Steps.{Steps, Commits}
 use Rattle.ports.specs.History.{Side, first_in}
-use Rattle.journal.specs.AtOnce.{at_once_reply}
-use Rattle.journal.specs.declared.types.At.{At}
-use Rattle.journal.specs.declared.types.At.TheVariants as at
-use Rattle.journal.specs.Journal.{entry_in}
-use Rattle.journal.specs.Processes.{World, process, with_place, taken, turned, decided, refused, over, committing, answered}
+use Rattle.history.specs.AtOnce.{at_once_reply}
+use Rattle.history.specs.declared.types.At.{At}
+use Rattle.history.specs.declared.types.At.TheVariants as at
+use Rattle.history.specs.Journal.{entry_in}
+use Rattle.history.specs.Processes.{World, process, with_place, taken, turned, decided, refused, over, committing, answered}
 use Rattle.kernel.specs.declared.waiting.Waiting.{Waiting}
 use Rattle.kernel.specs.declared.waiting.Waiting.TheVariants as waiting
 use Rattle.kernel.specs.declared.types.Step.{Step}
@@ -53,7 +53,7 @@ pub record TakesChange {D : Type 0} (what : Option Waiting) (s : StoreState D) (
   pub answer : r ≡ step.Moved
   pub store : t ≡ with_begun s p op
   pub world : z
-      ≡ Rattle.journal.specs.Processes.taken (with_place w) p (begun s.volume.log p).opened op None
+      ≡ Rattle.history.specs.Processes.taken (with_place w) p (begun s.volume.log p).opened op None
 
 -- an operation that looks at a file was taken; it is none of the log's, and has room for what it
 -- reads and for its answer
@@ -66,7 +66,7 @@ pub record TakesLook {D : Type 0} (what : Option Waiting) (s : StoreState D) (w 
   pub room : side.has_room ≡ true
   pub answer : r ≡ step.Moved
   pub store : t ≡ with_look s p op (room_for count)
-  pub world : z ≡ Rattle.journal.specs.Processes.taken (with_place w) p 0 op (room_for count)
+  pub world : z ≡ Rattle.history.specs.Processes.taken (with_place w) p 0 op (room_for count)
 
 -- an operation that is refused by itself alone was taken, and answered at once
 pub record TakesRefused {D : Type 0} (what : Option Waiting) (s : StoreState D) (w : World) (p : ℕ)

@@ -13,7 +13,7 @@ use Rattle.wal.specs.declared.faults.RecoverFault.TheVariants as recover
 use Rattle.inodes.specs.Store.{fresh_volume}
 use Rattle.inodes.specs.Table.{new_table}
 use Rattle.inodes.specs.Tasks.{no_task}
-use Rattle.journal.specs.Processes.{fresh_world}
+use Rattle.history.specs.Processes.{fresh_world}
 use Rattle.kernel.specs.State.{State}
 use Rattle.kernel.specs.declared.types.OpenFault.{OpenFault}
 use Rattle.kernel.specs.declared.types.OpenFault.TheVariants.{Check, Recover, NoMemory, ProcRange}

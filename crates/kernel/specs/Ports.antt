@@ -5,7 +5,7 @@ use mathlib.Core.List.{IsPrefix}
 use Rattle.model.specs.declared.types.operations.Answer.{Answer}
 use Rattle.ports.specs.declared.intake.Intake.{Ghosts}
 use Rattle.ports.specs.History.{SameNames, OthersStay, FitWith, gives, first_in}
-use Rattle.journal.specs.Processes.{World, process, last_answer}
+use Rattle.history.specs.Processes.{World, process, last_answer}
 use Rattle.kernel.specs.declared.waiting.Waiting.{Waiting}
 use Rattle.kernel.specs.State.{waiting_of}
 

@@ -4,11 +4,11 @@ use Rattle.std.specs.Prelude.{◌≡◌, ℕ, ◌+◌, ◌==◌, ◌&&◌, if◌
 use Rattle.blocks.specs.declared.disk.Disk.{Ghosts}
 use Rattle.model.specs.Layout.{inode_count_of}
 use Rattle.wal.specs.Machine.{LogState}
-use Rattle.journal.specs.declared.types.At.{At}
-use Rattle.journal.specs.declared.types.At.TheVariants as at
-use Rattle.journal.specs.Bound.{is_durable}
-use Rattle.journal.specs.Grows.{Grows}
-use Rattle.journal.specs.Processes.{World, process}
+use Rattle.history.specs.declared.types.At.{At}
+use Rattle.history.specs.declared.types.At.TheVariants as at
+use Rattle.history.specs.Bound.{is_durable}
+use Rattle.history.specs.Grows.{Grows}
+use Rattle.history.specs.Processes.{World, process}
 use Rattle.kernel.specs.declared.types.Step.{Step}
 use Rattle.kernel.specs.declared.types.Step.TheVariants as step
 use Rattle.kernel.specs.Awake.{IsAwake}

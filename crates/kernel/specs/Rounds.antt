@@ -5,7 +5,7 @@ use Rattle.std.specs.List.{list_all, All, Contains}
 use Rattle.blocks.specs.declared.disk.Disk as disk_trait
 use Rattle.ports.specs.declared.herald.Herald as herald_trait
 use Rattle.ports.specs.declared.intake.Intake as intake_trait
-use Rattle.journal.specs.Processes.{World, process}
+use Rattle.history.specs.Processes.{World, process}
 use Rattle.kernel.specs.declared.types.Turn.{Turn}
 use Rattle.kernel.specs.declared.types.Turn.TheVariants.{Proc}
 use Rattle.kernel.specs.Awake.{AreIdle}

@@ -7,7 +7,7 @@ use Rattle.kernel.specs.declared.types.Step.{Step}
 use Rattle.kernel.specs.declared.types.Turn.{Turn}
 use Rattle.kernel.specs.declared.types.Turn.TheVariants.{Proc, Shut}
 use Rattle.model.specs.Layout.{inode_count_of}
-use Rattle.journal.specs.Grows.{Grows}
+use Rattle.history.specs.Grows.{Grows}
 use Rattle.kernel.specs.Progress.{StaysShut}
 use Rattle.kernel.specs.State.{State, StopsIn}
 use Rattle.kernel.specs.Steps.{MakesStep}

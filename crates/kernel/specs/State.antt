@@ -6,11 +6,11 @@ use Rattle.model.specs.declared.types.operations.Op.TheVariants.{Create, Write, 
 use Rattle.model.specs.Gathered.{GatheredBytes}
 use Rattle.model.specs.Journal.{is_at_once}
 use Rattle.inodes.specs.Store.{StoreState}
-use Rattle.journal.specs.declared.types.At.{At}
-use Rattle.journal.specs.Most.{most_of}
-use Rattle.journal.specs.Processes.{process}
-use Rattle.journal.specs.Stop.{StepsLeave}
-use Rattle.journal.specs.World.{World}
+use Rattle.history.specs.declared.types.At.{At}
+use Rattle.history.specs.Most.{most_of}
+use Rattle.history.specs.Processes.{process}
+use Rattle.history.specs.Stop.{StepsLeave}
+use Rattle.history.specs.World.{World}
 use Rattle.kernel.specs.declared.waiting.Waiting.{Waiting}
 use Rattle.kernel.specs.declared.waiting.Waiting.TheVariants as waiting
 

@@ -16,10 +16,10 @@ use Rattle.ports.specs.History.{History}
 use Rattle.ports.specs.declared.herald.Herald as herald_trait
 use Rattle.ports.specs.declared.intake.Intake as intake_trait
 use Rattle.wal.specs.Recovery.{IsCalm, Recovers, RecoversAs}
-use Rattle.journal.specs.Histories.{IsHistory}
-use Rattle.journal.specs.Keeps.{KeepsBetween}
-use Rattle.journal.specs.Most.{most_of}
-use Rattle.journal.specs.Processes.{process}
+use Rattle.history.specs.Histories.{IsHistory}
+use Rattle.history.specs.Keeps.{KeepsBetween}
+use Rattle.history.specs.Most.{most_of}
+use Rattle.history.specs.Processes.{process}
 use Rattle.kernel.specs.declared.types.Turn.{Turn}
 use Rattle.kernel.specs.Known.{Known}
 use Rattle.kernel.specs.Opening.{IsOpened}

@@ -5,8 +5,8 @@ use Rattle.blocks.specs.Disk.{Image}
 use Rattle.inodes.specs.Store.{StoreState, FitsFiles, current_of}
 use Rattle.inodes.specs.Places.{owes_reply}
 use Rattle.inodes.specs.Tasks.{TaskState, task}
-use Rattle.journal.specs.Open.{Held, held_by}
-use Rattle.journal.specs.Views.{View}
+use Rattle.history.specs.Open.{Held, held_by}
+use Rattle.history.specs.Views.{View}
 
 -- what a task holds: its inode where its reply is still to come behind its turn, else nothing
 abbrev pub held_at : TaskState → Option Held

@@ -1,8 +1,8 @@
 // The beginning of operations that wait.
 ghost use Rattle.std.specs.Prelude.{◌≡◌, ◌⊎◌, ◌<◌, ◌+◌, ◌^◌, length, Option, Some, None, IsSome, IfOk, IfErr, true, false};
 ghost use Rattle.ports.specs.History.{first_in};
-ghost use Rattle.journal.specs.declared.types.At.TheVariants as at;
-ghost use Rattle.journal.specs.Processes.{process};
+ghost use Rattle.history.specs.declared.types.At.TheVariants as at;
+ghost use Rattle.history.specs.Processes.{process};
 ghost use Rattle.kernel.specs.Begins.{Begins, TakesFirst, LeavesFirst, kept_out, count_of, rooms_for};
 ghost use Rattle.kernel.specs.Ports.{Asks, first_waiting};
 ghost use Rattle.kernel.specs.Acts.{Acts};
@@ -12,7 +12,7 @@ use crate::stepping::Kernel;
 use crate::waiting::{Waiting, at_once_reply, waiting_of};
 use blocks::{Disk, NoMemory};
 use inodes::Store;
-use journal::Processes;
+use history::Processes;
 use model::gathered::Gathered;
 use model::types::{Op, Why};
 use ports::{Herald, Intake};

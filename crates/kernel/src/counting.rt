@@ -1,7 +1,7 @@
 // How many operations of a process began, and how many are kept.
 ghost use Rattle.std.specs.Prelude.{◌≡◌, ◌<◌, length};
 ghost use Rattle.model.specs.Layout.{inode_count_of};
-ghost use Rattle.journal.specs.Processes.{process};
+ghost use Rattle.history.specs.Processes.{process};
 ghost use Rattle.kernel.specs.Counts.{counted_entries, kept_of};
 
 use crate::stepping::Kernel;

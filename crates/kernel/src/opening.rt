@@ -3,7 +3,7 @@ ghost use Rattle.std.specs.Prelude.{◌≡◌, ◌<◌, ℕ, true, length, repli
 ghost use Rattle.model.specs.Layout.{is_lawful_super};
 ghost use Rattle.wal.specs.Volume.{IsNewMemory};
 ghost use Rattle.inodes.specs.Tasks.{no_task};
-ghost use Rattle.journal.specs.Processes.{fresh_world, process};
+ghost use Rattle.history.specs.Processes.{fresh_world, process};
 ghost use Rattle.kernel.specs.Opening.{IsOpened, RefusesToOpen};
 ghost use Rattle.ports.specs.History.{nothing_yet};
 
@@ -12,7 +12,7 @@ use crate::stepping::Kernel;
 use bcache::Cache;
 use blocks::{Disk, NoMemory};
 use inodes::{Store, Tasks};
-use journal::Processes;
+use history::Processes;
 use layout::Super;
 use model::types::Entry;
 use offline::check;

@@ -3,7 +3,7 @@ ghost use Rattle.std.specs.Prelude.{◌≡◌, ◌⊎◌, ◌<◌, ◌≤◌, �
 ghost use Rattle.ports.specs.History.{first_in};
 ghost use Rattle.ports.specs.Lanes.{polled_after};
 ghost use Rattle.ports.specs.Queues.{waiting, answers, polled, OthersWait};
-ghost use Rattle.journal.specs.Processes.{process};
+ghost use Rattle.history.specs.Processes.{process};
 
 use crate::stepping::Kernel;
 use blocks::Disk;

@@ -3,9 +3,9 @@ ghost use Rattle.std.specs.Prelude.{◌≡◌, IsTrue, length, true};
 ghost use Rattle.std.specs.List.{list_all};
 ghost use Rattle.blocks.specs.Disk.{Image, LeavesOnly};
 ghost use Rattle.model.specs.Layout.{inode_count_of};
-ghost use Rattle.journal.specs.Grows.{Grows};
-ghost use Rattle.journal.specs.Keeps.{KeepsNow, KeepsBetween};
-ghost use Rattle.journal.specs.Most.{most_of};
+ghost use Rattle.history.specs.Grows.{Grows};
+ghost use Rattle.history.specs.Keeps.{KeepsNow, KeepsBetween};
+ghost use Rattle.history.specs.Most.{most_of};
 ghost use Rattle.kernel.specs.Progress.{KeepsShutdown, StaysShut};
 ghost use Rattle.kernel.specs.Runs.{is_turn_of, Makes, Runs, RunsOn};
 

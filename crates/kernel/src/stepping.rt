@@ -3,7 +3,7 @@ use crate::Step;
 use crate::telling::{give, tell};
 use blocks::Disk;
 use inodes::Store;
-use journal::{At, Processes};
+use history::{At, Processes};
 use model::types::TaskProgress;
 use ports::{Herald, Intake};
 use std::alloc::Global;
@@ -47,9 +47,9 @@ impl<D: Disk, I: Intake, H: Herald> Model for Kernel<D, I, H> {
 
 impl<D: Disk, I: Intake, H: Herald> Kernel<D, I, H> {
     ghost use Rattle.std.specs.Prelude.{◌≡◌, ◌<◌, length, None, true};
-    ghost use Rattle.journal.specs.Processes.{process, is_before, is_behind, is_ending};
+    ghost use Rattle.history.specs.Processes.{process, is_before, is_behind, is_ending};
     ghost use Rattle.kernel.specs.Known.{Known};
-    ghost use Rattle.journal.specs.Alone.{is_committing_at};
+    ghost use Rattle.history.specs.Alone.{is_committing_at};
     ghost use Rattle.kernel.specs.Acts.{Acts};
     ghost use Rattle.kernel.specs.Progress.{MakesProgress};
     ghost use Rattle.kernel.specs.State.{StopsIn};

@@ -1,11 +1,11 @@
 // What a kernel tells its herald, and gives its intake.
 ghost use Rattle.std.specs.Prelude.{◌≡◌, ◌⊎◌, ◌<◌, ◌+◌, length, IsSome, IfSome, true};
-ghost use Rattle.journal.specs.Journal.{FitsRoom};
-ghost use Rattle.journal.specs.Processes.{process, last_answer, answered};
+ghost use Rattle.history.specs.Journal.{FitsRoom};
+ghost use Rattle.history.specs.Processes.{process, last_answer, answered};
 ghost use Rattle.kernel.specs.Heralds.{IsUnasked};
 ghost use Rattle.kernel.specs.Ports.{Gives};
 
-use journal::Processes;
+use history::Processes;
 use ports::{Herald, Intake};
 
 // Tells a herald that one group more is committed, if one is.

@@ -2,8 +2,8 @@
 ghost use Rattle.std.specs.Prelude.{◌≡◌, ◌↔◌, ◌<◌, true, length, IsTrue, Some};
 ghost use Rattle.model.specs.Journal.{is_number, is_at_once};
 ghost use Rattle.model.specs.Operations.{transfer_limit};
-ghost use Rattle.journal.specs.AtOnce.{at_once_reply};
-ghost use Rattle.journal.specs.Journal.{plain_reply};
+ghost use Rattle.history.specs.AtOnce.{at_once_reply};
+ghost use Rattle.history.specs.Journal.{plain_reply};
 ghost use Rattle.kernel.specs.State.{waiting_of};
 ghost use Rattle.kernel.specs.declared.waiting.Waiting.TheVariants as waiting;
 

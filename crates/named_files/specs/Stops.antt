@@ -5,7 +5,7 @@ use Rattle.blocks.specs.declared.disk.Disk as disk_trait
 use Rattle.model.specs.declared.types.operations.Entry.{Entry}
 use Rattle.model.specs.Files.{files_of}
 use Rattle.model.specs.Log.{recovered}
-use Rattle.journal.specs.Most.{most_of}
+use Rattle.history.specs.Most.{most_of}
 use Rattle.directory.specs.Laws.{HasLinked, Leads}
 use Rattle.kernel.specs.State.{State}
 

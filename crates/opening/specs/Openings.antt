@@ -4,9 +4,9 @@ use Rattle.blocks.specs.declared.disk.Disk.{Ghosts}
 use Rattle.kernel.specs.Opening.{RefusesToOpen}
 use Rattle.kernel.specs.declared.types.OpenFault.{OpenFault}
 use Rattle.kernel.specs.declared.types.OpenFault.TheVariants as open_fault
-use Rattle.texts.specs.declared.faults.KernelFault.TheVariants as kernel
-use Rattle.texts.specs.declared.refusal.Refusal.{Refusal}
-use Rattle.texts.specs.declared.refusal.Refusal.TheVariants.{Check, Recover, Open}
+use Rattle.messages.specs.declared.faults.KernelFault.TheVariants as kernel
+use Rattle.messages.specs.declared.refusal.Refusal.{Refusal}
+use Rattle.messages.specs.declared.refusal.Refusal.TheVariants.{Check, Recover, Open}
 
 -- why a kernel isn't opened; a fault of the check or of the recovery inside is told as its own
 abbrev pub open_refusal : OpenFault → Refusal

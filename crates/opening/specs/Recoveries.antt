@@ -9,9 +9,9 @@ use Rattle.model.specs.Verdict.{verdict}
 use Rattle.wal.specs.Recovery.{syncs_to_recover, writes_to_recover}
 use Rattle.wal.specs.declared.faults.RecoverFault.TheVariants as recover
 use Rattle.kernel.specs.Opening.{IsRecoverCause}
-use Rattle.texts.specs.Telling.{Telling, check_telling, recover_telling}
-use Rattle.texts.specs.declared.refusal.Refusal.{Refusal}
-use Rattle.texts.specs.declared.refusal.Refusal.TheVariants as refusal
+use Rattle.messages.specs.Telling.{Telling, check_telling, recover_telling}
+use Rattle.messages.specs.declared.refusal.Refusal.{Refusal}
+use Rattle.messages.specs.declared.refusal.Refusal.TheVariants as refusal
 use Rattle.opening.specs.declared.recovering.RecoverRefusal.{RecoverRefusal}
 use Rattle.opening.specs.declared.recovering.RecoverRefusal.TheVariants.{Check, Recover}
 

@@ -12,7 +12,7 @@ ghost use Rattle.opening.specs.Openings.{open_refusal};
 
 use kernel::OpenFault;
 pub use recovering::{RecoverRefusal, recover_image};
-use texts::{KernelFault, Refusal};
+use messages::{KernelFault, Refusal};
 
 /// Why a kernel wasn't opened. A fault of the check or of the recovery inside is told as its own
 /// layer's.

@@ -14,7 +14,7 @@ use blocks::Disk;
 use model::types::CheckFault;
 use offline::check;
 use std::alloc::Global;
-use texts::{Reason, Refusal, Told};
+use messages::{Reason, Refusal, Told};
 use wal::{RecoverFault, recover};
 
 /// Why the image of a disk isn't recovered.

@@ -11,22 +11,22 @@ use Rattle.model.specs.Lemmas.Soundness.{verdict_sound}
 use Rattle.model.specs.Verdict.{verdict}
 use Rattle.wal.specs.Lemmas.Commits.{empty_lawful}
 use Rattle.wal.specs.Recovery.{LeavesIfCalm, RecoversAs}
-use Rattle.journal.specs.Keeps.{KeepsBetween}
-use Rattle.journal.specs.Most.{most_of}
-use Rattle.journal.specs.Own.{KeepsOwn}
+use Rattle.history.specs.Keeps.{KeepsBetween}
+use Rattle.history.specs.Most.{most_of}
+use Rattle.history.specs.Own.{KeepsOwn}
 use Rattle.clients.specs.Backlogs.{ops_of}
 use Rattle.kernel.specs.declared.types.Step.{Step}
 use Rattle.kernel.specs.declared.types.Step.TheVariants as step
 use Rattle.kernel.specs.Lemmas.Turns.{Keeps, runs_on_none, runs_on_step, runs_on_then}
 use Rattle.kernel.specs.Runs.{RunsOn}
 use Rattle.kernel.specs.Moves.{MakesSteps, Moves}
-use Rattle.journal.specs.Lemmas.Leaving.{kept_whole}
+use Rattle.history.specs.Lemmas.Leaving.{kept_whole}
 use Rattle.scripts.specs.declared.schedule.Word.{Word}
 use Rattle.scripts.specs.declared.schedule.Word.TheVariants as word
 use Rattle.scripts.specs.declared.script.Task.{Task}
-use Rattle.texts.specs.declared.events.Event.{Event}
+use Rattle.messages.specs.declared.events.Event.{Event}
 use Rattle.player.specs.declared.player.Player.{Player}
-use Rattle.texts.specs.Events.{is_last}
+use Rattle.messages.specs.Events.{is_last}
 use Rattle.player.specs.Opening.{IsPlayedOn, IsReadyOver, KeepsSome}
 use Rattle.player.specs.Stepping.{KeepOps, KeepsOfSources, Ringed, MakesRingedStep, MakesTurn, MakesTurns, board_herald, ring_ends}
 use Rattle.player.specs.Turns.{IfLast}

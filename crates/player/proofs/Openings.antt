@@ -23,10 +23,10 @@ use Rattle.wal.specs.Recovery.{IsCalm, LeavesIfCalm, RecoversAs, writes_to_recov
 use Rattle.player.specs.Afterwards.{IsUnopenedOver, RefusesOver}
 use Rattle.player.specs.Opening.{IsOpenedOver}
 use Rattle.player.specs.Stepping.{Ringed}
-use Rattle.texts.specs.declared.refusal.Refusal.{Refusal}
+use Rattle.messages.specs.declared.refusal.Refusal.{Refusal}
 use Rattle.player.specs.declared.player.Player.{Player}
 use Rattle.player.proofs.Disks.{faulty}
-use Rattle.journal.specs.Lemmas.Leaving.{leaves_wider}
+use Rattle.history.specs.Lemmas.Leaving.{leaves_wider}
 use Rattle.player.proofs.Keeping.{recovers_before}
 
 -- a player whose kernel was opened over new rings

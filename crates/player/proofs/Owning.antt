@@ -7,8 +7,8 @@ use Rattle.blocks.specs.declared.faulty.Trap.{Trap}
 use Rattle.model.specs.Layout.{inode_count_of}
 use Rattle.model.specs.declared.types.operations.Answer.{Answer}
 use Rattle.model.specs.declared.types.operations.Op.{Op}
-use Rattle.journal.specs.Own.{KeepsFirst}
-use Rattle.journal.specs.Lemmas.Own.{keeps_first}
+use Rattle.history.specs.Own.{KeepsFirst}
+use Rattle.history.specs.Lemmas.Own.{keeps_first}
 use Rattle.kernel.specs.Known.{Known}
 use Rattle.rings.specs.Callers.{intake_side, submitted}
 use Rattle.rings.specs.declared.intake.RingIntake.{RingIntake}
@@ -18,8 +18,8 @@ use Rattle.clients.specs.Backlogs.{backlog_of}
 use Rattle.clients.specs.Lemmas.Sets.{each_set}
 use Rattle.clients.specs.Sources.{source_ops}
 use Rattle.clients.specs.declared.source.Source.{Source}
-use Rattle.texts.specs.declared.events.Event.{Event}
-use Rattle.texts.specs.Events.{is_last}
+use Rattle.messages.specs.declared.events.Event.{Event}
+use Rattle.messages.specs.Events.{is_last}
 use Rattle.player.specs.Stepping.{HandsIn, HasSame, HaveOps, KeepOps, KeepsOfSource, MakesTurn, MakesTurns, MeetsAt, Polls, Ringed, board_herald, ring_ends}
 use Rattle.player.specs.Turns.{IfLast}
 use Rattle.player.specs.declared.player.Player.{Player}

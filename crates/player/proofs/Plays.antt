@@ -9,9 +9,9 @@ use Rattle.blocks.specs.declared.faulty.Trap.{Trap}
 use Rattle.wal.specs.declared.types.DeviceFault.{DeviceFault}
 use Rattle.blocks.specs.declared.faulty.FaultyDisk.{FaultyDisk}
 use Rattle.scripts.specs.declared.schedule.Word.{Word}
-use Rattle.texts.specs.declared.events.Event.{Event}
+use Rattle.messages.specs.declared.events.Event.{Event}
 use Rattle.player.specs.declared.player.Player.{Player}
-use Rattle.texts.specs.Events.{event_line, is_last}
+use Rattle.messages.specs.Events.{event_line, is_last}
 use Rattle.player.specs.Stepping.{BreaksOff, MakesTurn, MakesTurns, PlaysTo, RunsTo, kernel_counts, kernel_fault}
 use Rattle.player.specs.Turns.{IfLast}
 

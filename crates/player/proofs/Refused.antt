@@ -10,8 +10,8 @@ use Rattle.scripts.specs.declared.script.Task.{Task}
 use Rattle.player.specs.Afterwards.{IsUnopenedOver}
 use Rattle.player.specs.Opening.{HasNotBegun, IsNotReplayed, IsPlayedOn, IsReadyOver, Replays}
 use Rattle.player.specs.declared.player.Player.{Player}
-use Rattle.texts.specs.declared.refusal.Refusal.{Refusal}
-use Rattle.texts.specs.declared.refusal.Refusal.TheVariants.{File, Mkfs, Check, Recover, Open, Script, Schedule, Disk, Run, Stops, Put, Copy, Output}
+use Rattle.messages.specs.declared.refusal.Refusal.{Refusal}
+use Rattle.messages.specs.declared.refusal.Refusal.TheVariants.{File, Mkfs, Check, Recover, Open, Script, Schedule, Disk, Run, Stops, Put, Copy, Output}
 use Rattle.player.specs.Stepping.{BreaksOff, IsBrokenOff, RunsTo, kernel_fault}
 use Rattle.opening.specs.Openings.{IsOpening}
 use Rattle.opening.specs.Lemmas.Telling.{told_of_opening}

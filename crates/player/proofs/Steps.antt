@@ -5,7 +5,7 @@ use Rattle.blocks.specs.declared.faulty.FaultyDisk.{FaultyDisk}
 use Rattle.model.specs.declared.types.operations.Answer.{Answer}
 use Rattle.kernel.specs.declared.types.Step.{Step}
 use Rattle.clients.specs.declared.source.Source.{Source}
-use Rattle.texts.specs.declared.events.Event.{Event}
+use Rattle.messages.specs.declared.events.Event.{Event}
 use Rattle.player.specs.declared.player.Player.{Player}
 use Rattle.player.specs.Stepping.{Ringed, HandsIn, HasItsWatch, Polls, MakesTurnOf}
 use Rattle.player.specs.Turns.{event_of}

@@ -13,7 +13,7 @@ use Rattle.kernel.specs.declared.types.OpenFault.{OpenFault}
 use Rattle.opening.specs.Recoveries.{IsRecovered, IsUnrecovered, IsUnwritten, recover_refusal}
 use Rattle.opening.specs.Openings.{HasNoRoom, open_refusal}
 use Rattle.opening.specs.declared.recovering.RecoverRefusal.{RecoverRefusal}
-use Rattle.texts.specs.declared.refusal.Refusal.{Refusal}
+use Rattle.messages.specs.declared.refusal.Refusal.{Refusal}
 
 -- The disk d, now e, was not recovered, for that reason: nothing of it was written but by a recovery
 -- that failed.

@@ -12,10 +12,10 @@ use Rattle.model.specs.declared.types.fault.CheckFault.{CheckFault}
 use Rattle.model.specs.declared.types.image.Form.{Form}
 use Rattle.opening.specs.Recoveries.{IsUnrecovered}
 use Rattle.opening.specs.declared.recovering.RecoverRefusal.{RecoverRefusal}
-use Rattle.texts.specs.declared.printed.Printed.{Printed}
-use Rattle.texts.specs.declared.printed.Printed.TheVariants as printed
-use Rattle.texts.specs.declared.refusal.Refusal.{Refusal}
-use Rattle.texts.specs.declared.refusal.Refusal.TheVariants.{Mkfs, Output}
+use Rattle.messages.specs.declared.printed.Printed.{Printed}
+use Rattle.messages.specs.declared.printed.Printed.TheVariants as printed
+use Rattle.messages.specs.declared.refusal.Refusal.{Refusal}
+use Rattle.messages.specs.declared.refusal.Refusal.TheVariants.{Mkfs, Output}
 
 -- The disk d, now e, was not checked, or what was found could not be printed; here and below `none`
 -- says that nothing was printed.

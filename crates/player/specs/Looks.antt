@@ -6,7 +6,7 @@ use Rattle.model.specs.Files.{file_count, files_of}
 use Rattle.model.specs.Log.{logged_count, recovered}
 use Rattle.model.specs.Verdict.{verdict}
 use Rattle.opening.specs.Recoveries.{IsRecovered}
-use Rattle.texts.specs.Output.{copied_text, report_text}
+use Rattle.messages.specs.Output.{copied_text, report_text}
 use Rattle.player.specs.Showing.{Shows}
 
 -- it was checked, and the report of it printed

@@ -10,16 +10,16 @@ use Rattle.blocks.specs.declared.faulty.Trap.{Trap}
 use Rattle.inodes.specs.Store.{fresh_volume}
 use Rattle.inodes.specs.Table.{new_table}
 use Rattle.inodes.specs.Tasks.{no_task}
-use Rattle.journal.specs.Processes.{fresh_world}
+use Rattle.history.specs.Processes.{fresh_world}
 use Rattle.blocks.specs.Disk.{counted}
 use Rattle.model.specs.Layout.{form_of, inode_count_of}
 use Rattle.model.specs.Log.{logged_count, recovered}
 use Rattle.model.specs.Verdict.{verdict}
 use Rattle.scripts.specs.declared.schedule.Word.{Word}
 use Rattle.scripts.specs.declared.script.Task.{Task}
-use Rattle.journal.specs.Keeps.{KeepsBetween}
-use Rattle.journal.specs.Own.{KeepsOwn}
-use Rattle.journal.specs.Most.{most_of}
+use Rattle.history.specs.Keeps.{KeepsBetween}
+use Rattle.history.specs.Own.{KeepsOwn}
+use Rattle.history.specs.Most.{most_of}
 use Rattle.kernel.specs.Runs.{RunsOn}
 use Rattle.wal.specs.Recovery.{LeavesIfCalm, RecoversAs, writes_to_recover}
 use Rattle.player.specs.Afterwards.{IsUnready}
@@ -28,8 +28,8 @@ use Rattle.clients.specs.Backlogs.{ops_of}
 use Rattle.clients.specs.Sources.{AreNewSources}
 use Rattle.rings.specs.Callers.{intake_names}
 use Rattle.player.specs.Stepping.{BreaksOff, Ringed, RunsTo}
-use Rattle.texts.specs.declared.refusal.Refusal.{Refusal}
-use Rattle.texts.specs.declared.refusal.Refusal.TheVariants.{Disk, Output}
+use Rattle.messages.specs.declared.refusal.Refusal.{Refusal}
+use Rattle.messages.specs.declared.refusal.Refusal.TheVariants.{Disk, Output}
 use Rattle.player.specs.declared.player.Player.{Player}
 
 -- The player of these operations, of so many processes, over a disk whose image was x: the image

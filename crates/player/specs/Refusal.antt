@@ -1,7 +1,7 @@
 -- Which commands have which refusals.
 use Rattle.std.specs.Prelude.{⊤}
-use Rattle.texts.specs.declared.refusal.Refusal.{Refusal}
-use Rattle.texts.specs.declared.refusal.Refusal.TheVariants.{File, Mkfs, Disk, Run, Stops, Put, Copy, Output}
+use Rattle.messages.specs.declared.refusal.Refusal.{Refusal}
+use Rattle.messages.specs.declared.refusal.Refusal.TheVariants.{File, Mkfs, Disk, Run, Stops, Put, Copy, Output}
 
 -- the refusals of `mkfs`: of the size or the number of inodes, of the file, or of the output
 abbrev pub IsOfMkfs : Refusal → Type 0

@@ -1,7 +1,7 @@
 -- How it is told that a file of an image isn't written.
 use Rattle.std.specs.Prelude.{codes}
 use Rattle.opening.specs.Recoveries.{unrecovered_telling}
-use Rattle.texts.specs.Telling.{Telling, naming, plain, unwritten}
+use Rattle.messages.specs.Telling.{Telling, naming, plain, unwritten}
 use Rattle.player.specs.declared.refusals.CatRefusal.{CatRefusal}
 use Rattle.player.specs.declared.refusals.CatRefusal.TheVariants as cat
 

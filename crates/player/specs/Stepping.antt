@@ -24,17 +24,17 @@ use Rattle.clients.specs.declared.source.Source.{Source}
 use Rattle.kernel.specs.declared.types.Step.{Step}
 use Rattle.model.specs.Layout.{inode_count_of}
 use Rattle.model.specs.declared.types.operations.Op.{Op}
-use Rattle.journal.specs.Own.{KeepsFirst, KeepsOwn}
+use Rattle.history.specs.Own.{KeepsFirst, KeepsOwn}
 use Rattle.kernel.specs.State.{State}
 use Rattle.kernel.specs.Steps.{MakesStep}
 use Rattle.kernel.specs.Moves.{MakesSteps}
-use Rattle.texts.specs.declared.events.Event.{Event}
-use Rattle.texts.specs.declared.events.Event.TheVariants.{Shut}
+use Rattle.messages.specs.declared.events.Event.{Event}
+use Rattle.messages.specs.declared.events.Event.TheVariants.{Shut}
 use Rattle.player.specs.declared.player.Player.{Player}
-use Rattle.texts.specs.declared.refusal.Refusal.{Refusal}
-use Rattle.texts.specs.declared.refusal.Refusal.TheVariants.{Disk, Output}
-use Rattle.texts.specs.Events.{event_line, is_last}
-use Rattle.texts.specs.Output.{counts_text}
+use Rattle.messages.specs.declared.refusal.Refusal.{Refusal}
+use Rattle.messages.specs.declared.refusal.Refusal.TheVariants.{Disk, Output}
+use Rattle.messages.specs.Events.{event_line, is_last}
+use Rattle.messages.specs.Output.{counts_text}
 use Rattle.player.specs.Turns.{IfLast, event_of, told_fault}
 
 -- a kernel over rings and a board

@@ -4,10 +4,10 @@ use Rattle.wal.specs.declared.types.DeviceFault.{DeviceFault}
 use Rattle.model.specs.declared.types.operations.Answer.{Answer}
 use Rattle.kernel.specs.declared.types.Step.{Step}
 use Rattle.kernel.specs.declared.types.Step.TheVariants as step
-use Rattle.texts.specs.declared.events.Event.{Event}
-use Rattle.texts.specs.declared.events.Event.TheVariants.{Stepped, Answered, Stopped}
-use Rattle.texts.specs.declared.events.Progress.{Progress}
-use Rattle.texts.specs.declared.events.Progress.TheVariants as progress
+use Rattle.messages.specs.declared.events.Event.{Event}
+use Rattle.messages.specs.declared.events.Event.TheVariants.{Stepped, Answered, Stopped}
+use Rattle.messages.specs.declared.events.Progress.{Progress}
+use Rattle.messages.specs.declared.events.Progress.TheVariants as progress
 
 -- what a step came to that was answered so
 abbrev pub progress_of : Step → Progress

@@ -5,7 +5,7 @@ ghost use Rattle.blocks.specs.Calls.{OnlyReads};
 ghost use Rattle.model.specs.Files.{file_count, files_of};
 ghost use Rattle.model.specs.Log.{logged_count, recovered};
 ghost use Rattle.model.specs.Verdict.{verdict};
-ghost use Rattle.texts.specs.Output.{report_text};
+ghost use Rattle.messages.specs.Output.{report_text};
 ghost use Rattle.player.specs.Causes.{IsUnchecked};
 
 use blocks::Disk;
@@ -13,7 +13,7 @@ use model::types::CheckFault;
 use offline::check;
 use std::alloc::Global;
 use std::io::Write;
-use texts::{Printed, print_report};
+use messages::{Printed, print_report};
 
 /// Checks the image of a disk, and prints how many blocks its log holds and how many files there
 /// are once they are copied home. It writes no block.

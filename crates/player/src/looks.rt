@@ -13,7 +13,7 @@ use model::types::CheckFault;
 use opening::RecoverRefusal;
 use std::alloc::Global;
 use std::io::Write;
-use texts::Printed;
+use messages::Printed;
 
 /// Checks an image, as `check_disk`.
 #[derive(Clone, Copy, Drop)]

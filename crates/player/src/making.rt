@@ -5,8 +5,8 @@ ghost use Rattle.blocks.specs.Calls.{UnlessHolds};
 ghost use Rattle.blocks.specs.Disk.{LeavesOnly};
 ghost use Rattle.offline.specs.Making.{IsMadeInPartAs, MakesAs};
 ghost use Rattle.model.specs.Layout.{planned_super};
-ghost use Rattle.texts.specs.declared.refusal.Refusal.TheVariants as refusal;
-ghost use Rattle.texts.specs.Output.{numbers_text};
+ghost use Rattle.messages.specs.declared.refusal.Refusal.TheVariants as refusal;
+ghost use Rattle.messages.specs.Output.{numbers_text};
 ghost use Rattle.player.specs.Causes.{IsUnmade};
 
 use blocks::Disk;
@@ -15,7 +15,7 @@ use model::types::Form;
 use offline::mkfs_as;
 use std::alloc::Global;
 use std::io::Write;
-use texts::{Refusal, print_numbers};
+use messages::{Refusal, print_numbers};
 
 /// Makes an image of that form, of `size` blocks of 1024 bytes and with `ninodes` inode numbers, on
 /// a disk of that size, and prints its numbers.

@@ -3,8 +3,8 @@ ghost use Rattle.std.specs.Prelude.{◌≡◌, ◌≢◌, List, OnOk, IsTrue, If
 ghost use Rattle.std.specs.Io.KnownBytes.{Appends};
 ghost use Rattle.std.specs.List.{list_all};
 ghost use Rattle.scripts.specs.Schedule.{is_word_of};
-ghost use Rattle.texts.specs.declared.events.Event.{Event as SomeEvent};
-ghost use Rattle.texts.specs.declared.refusal.Refusal.TheVariants as refusal;
+ghost use Rattle.messages.specs.declared.events.Event.{Event as SomeEvent};
+ghost use Rattle.messages.specs.declared.refusal.Refusal.TheVariants as refusal;
 ghost use Rattle.player.specs.Stepping.{BreaksOff, IsBrokenOff, IsSeated, KeepOps, MakesTurns, PlaysTo, RunsTo, kernel_counts, kernel_fault};
 ghost use Rattle.kernel.specs.Runs.{RunsOn};
 ghost use Rattle.player.specs.Refusal.{OnRefusal};
@@ -13,7 +13,7 @@ use crate::player::Player;
 use blocks::{Disk, FaultyDisk, NoMemory};
 use scripts::Word;
 use std::io::Write;
-use texts::{Event, Progress, Refusal, print_counts, print_event};
+use messages::{Event, Progress, Refusal, print_counts, print_event};
 
 /// Makes the turns of the words over a disk that had counted `base` writes before them, and prints
 /// what they came to. The write of number `stop` isn't made. The processes that the words name are

@@ -6,13 +6,13 @@ ghost use Rattle.wal.specs.Recovery.{IsCalm};
 ghost use Rattle.kernel.specs.Opening.{LeavesRecovered};
 ghost use Rattle.opening.specs.Recoveries.{IsRecovered};
 ghost use Rattle.player.specs.Causes.{IsNotRecovered};
-ghost use Rattle.texts.specs.Output.{copied_text};
+ghost use Rattle.messages.specs.Output.{copied_text};
 
 use blocks::Disk;
 use opening::{RecoverRefusal, recover_image};
 use std::alloc::Global;
 use std::io::Write;
-use texts::{Printed, print_copied};
+use messages::{Printed, print_copied};
 
 /// Checks the image of a disk, copies the blocks of its log home, and prints how many these were.
 ///

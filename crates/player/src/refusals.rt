@@ -4,7 +4,7 @@ ghost use Rattle.player.specs.Refusals.{cat_telling};
 
 use blocks::DiskFault;
 use opening::RecoverRefusal;
-use texts::{Reason, Told, Unwritten};
+use messages::{Reason, Told, Unwritten};
 use wal::DeviceFault;
 
 /// Why the bytes of a file of an image aren't written.

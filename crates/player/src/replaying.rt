@@ -17,7 +17,7 @@ use opening::recover_image;
 use scripts::{Task, Word};
 use std::alloc::Global;
 use std::io::Write;
-use texts::{KernelFault, Refusal};
+use messages::{KernelFault, Refusal};
 
 /// Recovers the image of a disk, and makes the operations of a script of so many processes in the
 /// turns of a schedule. Prints a line for each word of the schedule, up to the one in whose turn

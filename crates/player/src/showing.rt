@@ -20,7 +20,7 @@ use offline::laws::checked_files_may_be_read;
 use opening::recover_image;
 use std::alloc::Global;
 use std::io::Write;
-use texts::{pass_on, write_bytes};
+use messages::{pass_on, write_bytes};
 
 // So many bytes are read and then written at once.
 const PIECE_SIZE: u32 = 16 * BLOCK_SIZE as u32;

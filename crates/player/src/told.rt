@@ -3,7 +3,7 @@ ghost use Rattle.std.specs.Prelude.{◌≡◌};
 ghost use Rattle.player.specs.Turns.{progress_of};
 
 use kernel::Step;
-use texts::Progress;
+use messages::Progress;
 
 /// What a step came to that was answered so.
 pub fn progress_of(step: Step) -> Progress

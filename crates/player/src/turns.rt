@@ -40,7 +40,7 @@ use model::types::{Answer, Entry};
 use opening::open_refusal;
 use scripts::{Task, Word};
 use std::alloc::Global;
-use texts::{Event, KernelFault, Refusal};
+use messages::{Event, KernelFault, Refusal};
 use wal::DeviceFault;
 
 /// What the turns came to.

@@ -6,7 +6,7 @@ use runner::run_disk;
 use scripts::{processes, read_schedule, read_script};
 use std::io::{BufWriter, Write};
 use std::test::Fail;
-use texts::{Printed, Refusal};
+use messages::{Printed, Refusal};
 use wal::DeviceFault;
 
 // A writer that fails once this many bytes are written.

@@ -5,7 +5,7 @@ use player::replay_disk;
 use scripts::{processes, read_schedule, read_script};
 use std::alloc::Global;
 use std::test::Fail;
-use texts::Refusal;
+use messages::Refusal;
 use wal::{DeviceFault, RecoverFault};
 
 // A new image of 200 blocks and 32 inode numbers, over a disk that holds writes back, of which the

@@ -8,7 +8,7 @@ use blocks::{Block, Disk, MemDisk};
 use model::content::Content;
 use model::types::File;
 use offline::mkfs_as;
-use plain::files::Files;
+use reference::files::Files;
 use std::alloc::Global;
 
 /// An image over which the script of a seed is run again and again, and its files.

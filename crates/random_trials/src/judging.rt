@@ -5,9 +5,9 @@ use crate::wrong::{What, if_done};
 use blocks::{MemDisk, NoMemory};
 use model::types::{CheckFault, Entry, File};
 use offline::check;
-use plain::files::Files;
-use plain::journal::{is_kept, replay_answered, replay_kept};
-use plain::report::files_after_recovery;
+use reference::files::Files;
+use reference::journal::{is_kept, replay_answered, replay_kept};
+use reference::report::files_after_recovery;
 use std::alloc::Global;
 
 /// What the groups of a run that are kept have to leave.

@@ -7,7 +7,7 @@ use crate::wrong::{What, if_done};
 use blocks::{Disk, DiskFault, FaultyDisk, Kind, NoMemory};
 use kernel::{Kernel, OpenFault, Step};
 use model::types::Entry;
-use plain::files::Files;
+use reference::files::Files;
 use ports::{PlainHerald, QueueIntake};
 use std::alloc::Global;
 use wal::DeviceFault;

@@ -9,8 +9,8 @@ use Rattle.ports.specs.declared.herald.Herald as herald_trait
 use Rattle.ports.specs.declared.intake.Intake as intake_trait
 use Rattle.rings.specs.declared.intake.RingIntake.{RingIntake}
 use Rattle.clients.specs.declared.client.Client.{Client}
-use Rattle.journal.specs.Own.{KeepsFirst}
-use Rattle.journal.specs.Lemmas.Own.{keeps_first}
+use Rattle.history.specs.Own.{KeepsFirst}
+use Rattle.history.specs.Lemmas.Own.{keeps_first}
 use Rattle.kernel.specs.Known.{Known}
 use Rattle.kernel.specs.State.{State}
 use Rattle.model.specs.Layout.{inode_count_of}
@@ -18,7 +18,7 @@ use Rattle.model.specs.declared.types.operations.Answer.{Answer}
 use Rattle.model.specs.declared.types.operations.Op.{Op}
 use Rattle.sysring.specs.Accounts.{AccountsForAll}
 use Rattle.sysring.specs.declared.settling.Account.{Account}
-use Rattle.texts.specs.declared.refusal.Refusal.{Refusal}
+use Rattle.messages.specs.declared.refusal.Refusal.{Refusal}
 use Rattle.runner.specs.Reports.{IsReport, IsReported, PrintsReport}
 use Rattle.runner.proofs.Lines.{one_more_line}
 

@@ -13,9 +13,9 @@ use Rattle.rings.specs.Callers.{intake_names}
 use Rattle.rings.specs.declared.intake.RingIntake.{RingIntake}
 use Rattle.rings.specs.declared.name.Names.{Names}
 use Rattle.scripts.specs.declared.script.Task.{Task}
-use Rattle.journal.specs.Keeps.{KeepsBetween, KeepsNow}
-use Rattle.journal.specs.Most.{most_of}
-use Rattle.journal.specs.Own.{KeepsFirst, KeepsOwn}
+use Rattle.history.specs.Keeps.{KeepsBetween, KeepsNow}
+use Rattle.history.specs.Most.{most_of}
+use Rattle.history.specs.Own.{KeepsFirst, KeepsOwn}
 use Rattle.kernel.specs.Known.{Known}
 use Rattle.kernel.specs.Opening.{IsOpened}
 use Rattle.kernel.specs.State.{State}
@@ -23,12 +23,12 @@ use Rattle.sysring.specs.Frames.{HasFrameOf}
 use Rattle.clients.specs.Backlogs.{ops_of}
 use Rattle.clients.specs.Clients.{AreClients, HaveRings, ops_at, ops_in}
 use Rattle.clients.specs.declared.client.Client.{Client}
-use Rattle.journal.specs.Lemmas.Leaving.{kept_whole}
+use Rattle.history.specs.Lemmas.Leaving.{kept_whole}
 use Rattle.opening.specs.Lemmas.Keeping.{unopened_leaves, unopened_name}
 use Rattle.opening.specs.Lemmas.Telling.{unopened_so}
 use Rattle.opening.specs.Openings.{IsOpening, IsUnopened}
-use Rattle.texts.specs.declared.refusal.Refusal.{Refusal}
-use Rattle.texts.specs.declared.refusal.Refusal.TheVariants.{File, Mkfs, Check, Recover, Open, Script, Schedule, Disk, Run, Stops, Put, Copy, Output}
+use Rattle.messages.specs.declared.refusal.Refusal.{Refusal}
+use Rattle.messages.specs.declared.refusal.Refusal.TheVariants.{File, Mkfs, Check, Recover, Open, Script, Schedule, Disk, Run, Stops, Put, Copy, Output}
 use Rattle.runner.specs.Reports.{IsReport}
 use Rattle.runner.specs.Running.{HasNotBegun, Ends, IsEndedBy, IsNotRun, IsServed, KeepsTasks, Ringed}
 

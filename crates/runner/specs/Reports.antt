@@ -6,7 +6,7 @@ use Rattle.model.specs.declared.types.operations.Op.{Op}
 use Rattle.kernel.specs.State.{State}
 use Rattle.sysring.specs.Accounts.{AccountsForAll}
 use Rattle.sysring.specs.declared.settling.Account.{Account}
-use Rattle.texts.specs.Answers.{account_line, answer_line}
+use Rattle.messages.specs.Answers.{account_line, answer_line}
 
 -- a line for each answer of process p, and one for its account
 abbrev pub report_text : ℕ → List Answer → Account → List ℕ

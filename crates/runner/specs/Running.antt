@@ -10,16 +10,16 @@ use Rattle.model.specs.declared.types.operations.Op.{Op}
 use Rattle.wal.specs.Recovery.{LeavesIfCalm, RecoversAs}
 use Rattle.rings.specs.declared.herald.BoardHerald.{BoardHerald}
 use Rattle.rings.specs.declared.intake.RingIntake.{RingIntake}
-use Rattle.journal.specs.Keeps.{KeepsBetween, KeepsNow}
-use Rattle.journal.specs.Most.{most_of}
-use Rattle.journal.specs.Own.{KeepsOwn}
+use Rattle.history.specs.Keeps.{KeepsBetween, KeepsNow}
+use Rattle.history.specs.Most.{most_of}
+use Rattle.history.specs.Own.{KeepsOwn}
 use Rattle.kernel.specs.Known.{IsCurrent}
 use Rattle.kernel.specs.State.{State}
 use Rattle.scripts.specs.declared.script.Task.{Task}
 use Rattle.clients.specs.Backlogs.{ops_of}
 use Rattle.opening.specs.Openings.{IsUnopened}
-use Rattle.texts.specs.declared.refusal.Refusal.{Refusal}
-use Rattle.texts.specs.declared.refusal.Refusal.TheVariants.{Mkfs, Schedule, Disk, Run, Stops, Put, Copy, Output}
+use Rattle.messages.specs.declared.refusal.Refusal.{Refusal}
+use Rattle.messages.specs.declared.refusal.Refusal.TheVariants.{Mkfs, Schedule, Disk, Run, Stops, Put, Copy, Output}
 use Rattle.runner.specs.Reports.{IsReported}
 
 -- a kernel over rings and a board

@@ -1,12 +1,12 @@
 // What a run's processes were answered, and what became of their operations.
 ghost use Rattle.std.specs.Prelude.{◌≡◌, ◌<◌, ◌≤◌, Some, length, flat_map, IsOk, OnOk, IsOkUnless};
 ghost use Rattle.std.specs.Io.KnownBytes.{Appends};
-ghost use Rattle.journal.specs.Own.{KeepsFirst, KeepsOwn};
+ghost use Rattle.history.specs.Own.{KeepsFirst, KeepsOwn};
 ghost use Rattle.model.specs.Layout.{inode_count_of};
 ghost use Rattle.ports.specs.History.{SameNames};
 ghost use Rattle.rings.specs.Callers.{caller_names, intake_names, unpolled};
 ghost use Rattle.clients.specs.Clients.{HaveRings, client_names, client_ops, ops_at};
-ghost use Rattle.texts.specs.Answers.{answer_line};
+ghost use Rattle.messages.specs.Answers.{answer_line};
 ghost use Rattle.runner.specs.Reports.{IsReported, PrintsReport};
 
 use blocks::Disk;
@@ -16,7 +16,7 @@ use model::types::Answer;
 use ports::Herald;
 use std::io::Write;
 use sysring::{Caller, RingIntake, account};
-use texts::{AccountLine, AnswerLine, Refusal, pass_on, print};
+use messages::{AccountLine, AnswerLine, Refusal, pass_on, print};
 
 /// Prints, process by process, a line for each answer and one for what became of its operations.
 /// There is a client for each process, with its rings. Where the writer fails the processes behind

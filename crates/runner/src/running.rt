@@ -2,7 +2,7 @@
 ghost use Rattle.std.specs.Prelude.{◌≡◌, ◌<◌, ℕ, false, length, All, IfOk, OnOk, IfErr, IfSome, None};
 ghost use Rattle.rings.specs.Boards.{KeeperOf, WatchOf, published};
 ghost use Rattle.clients.specs.Clients.{AreSameClients, HaveRings, ops_at};
-ghost use Rattle.journal.specs.Own.{KeepsOwn};
+ghost use Rattle.history.specs.Own.{KeepsOwn};
 ghost use Rattle.kernel.specs.Known.{Known};
 ghost use Rattle.kernel.specs.Opening.{IsOpened};
 ghost use Rattle.model.specs.Layout.{inode_count_of};
@@ -27,7 +27,7 @@ use std::rt::Clock;
 use std::sync::Wait;
 use std::thread::Threads;
 use sysring::{Board, BoardHerald, Gate, Keeper, RingIntake, Watch, serve_while};
-use texts::{KernelFault, Refusal, RunFault};
+use messages::{KernelFault, Refusal, RunFault};
 
 // Nothing is called round a step.
 struct NoGate;

@@ -6,17 +6,17 @@ use Rattle.blocks.specs.FaultyDisk.{inner_of}
 use Rattle.blocks.specs.contracts.sync.SyncDiskDisk.TheImpl.{ghosts}
 use Rattle.scripts.specs.declared.schedule.Word.{Word}
 use Rattle.scripts.specs.declared.script.Task.{Task}
-use Rattle.texts.specs.declared.faults.StopsFault.{StopsFault}
-use Rattle.texts.specs.declared.faults.StopsFault.TheVariants.{Mismatch}
+use Rattle.messages.specs.declared.faults.StopsFault.{StopsFault}
+use Rattle.messages.specs.declared.faults.StopsFault.TheVariants.{Mismatch}
 use Rattle.blocks.specs.SyncDisk.{held_of}
 use Rattle.blocks.specs.declared.errors.NoMemory.{NoMemory as MemoryRefused}
 use Rattle.blocks.specs.declared.sync.SyncDisk.{SyncDisk}
 use Rattle.model.specs.Files.{Files}
-use Rattle.recoveries.specs.Choices.{HasAllDue, HasDue, IsChoice, LacksDue, choice_count, due_files, left_by}
+use Rattle.crash_check.specs.Choices.{HasAllDue, HasDue, IsChoice, LacksDue, choice_count, due_files, left_by}
 use Rattle.stops.specs.Holding.{FailsHeld, FailsSync, HasPlayedHeld, HeldPlayer, IsJudged, IsKeptBy, IsTriedHeld, KeepsAll, LosesHeld, LosesSome, RunsHeld, disk_of, over, sync_behind, write_behind}
 use Rattle.player.specs.Opening.{IsArmed, IsOpenedOver}
-use Rattle.recoveries.specs.Images.{HasFiles, kept_files, new_image}
-use Rattle.recoveries.specs.declared.choices.Due.{Due}
+use Rattle.crash_check.specs.Images.{HasFiles, kept_files, new_image}
+use Rattle.crash_check.specs.declared.choices.Due.{Due}
 use Rattle.stops.specs.declared.held_trial.Calls.{Calls}
 use Rattle.stops.specs.declared.held_trial.HeldRun.{HeldRun}
 use Rattle.stops.specs.declared.held_trial.Played.{Played}

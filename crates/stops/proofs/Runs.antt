@@ -9,10 +9,10 @@ use Rattle.model.specs.Files.{Files}
 use Rattle.player.specs.Opening.{IsArmed, IsOpenedOver}
 use Rattle.scripts.specs.declared.schedule.Word.{Word}
 use Rattle.scripts.specs.declared.script.Task.{Task}
-use Rattle.texts.specs.declared.faults.StopsFault.{StopsFault}
-use Rattle.texts.specs.declared.faults.StopsFault.TheVariants.{Mismatch}
-use Rattle.texts.specs.declared.refusal.Refusal.{Refusal}
-use Rattle.recoveries.specs.Images.{HasFiles, is_want_of_memory, kept_files, new_image}
+use Rattle.messages.specs.declared.faults.StopsFault.{StopsFault}
+use Rattle.messages.specs.declared.faults.StopsFault.TheVariants.{Mismatch}
+use Rattle.messages.specs.declared.refusal.Refusal.{Refusal}
+use Rattle.crash_check.specs.Images.{HasFiles, is_want_of_memory, kept_files, new_image}
 use Rattle.stops.specs.Trials.{Fails, HasPlayedOn, IsKeptOf, IsTried, Loses, MemoryPlayer, RunsTo, memory}
 use Rattle.stops.specs.declared.trial.Played.{Played}
 

@@ -4,10 +4,10 @@ use Rattle.std.specs.Prelude.{ℕ, Bool, true, false, List, Option}
 use Rattle.std.specs.Io.KnownBytes.{Appends}
 use Rattle.scripts.specs.declared.schedule.Word.{Word}
 use Rattle.scripts.specs.declared.script.Task.{Task}
-use Rattle.texts.specs.Output.{images_text}
-use Rattle.texts.specs.declared.faults.StopsFault.TheVariants.{Mismatch, NoMemory}
-use Rattle.texts.specs.declared.refusal.Refusal.{Refusal}
-use Rattle.texts.specs.declared.refusal.Refusal.TheVariants.{Stops, Output}
+use Rattle.messages.specs.Output.{images_text}
+use Rattle.messages.specs.declared.faults.StopsFault.TheVariants.{Mismatch, NoMemory}
+use Rattle.messages.specs.declared.refusal.Refusal.{Refusal}
+use Rattle.messages.specs.declared.refusal.Refusal.TheVariants.{Stops, Output}
 use Rattle.stops.specs.Holding.{AllHeldPass, SomeHeldFails}
 use Rattle.stops.specs.Trials.{AllPass, SomeFails}
 

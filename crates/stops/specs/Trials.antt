@@ -8,14 +8,14 @@ use Rattle.blocks.specs.declared.faulty.Trap.{Trap}
 use Rattle.blocks.specs.declared.memory.MemDisk.{MemDisk}
 use Rattle.scripts.specs.declared.schedule.Word.{Word}
 use Rattle.scripts.specs.declared.script.Task.{Task}
-use Rattle.texts.specs.declared.events.Event.{Event}
-use Rattle.texts.specs.declared.refusal.Refusal.{Refusal}
+use Rattle.messages.specs.declared.events.Event.{Event}
+use Rattle.messages.specs.declared.refusal.Refusal.{Refusal}
 use Rattle.player.specs.Afterwards.{IsUnopenedOver}
 use Rattle.player.specs.Opening.{IsArmed, IsOpenedOver}
 use Rattle.player.specs.Stepping.{MakesTurns}
 use Rattle.player.specs.declared.player.Player.{Player}
 use Rattle.player.specs.declared.turns.Outcome.{Outcome}
-use Rattle.recoveries.specs.Images.{HasFiles, is_want_of_memory, kept_files, new_image}
+use Rattle.crash_check.specs.Images.{HasFiles, is_want_of_memory, kept_files, new_image}
 use Rattle.stops.specs.declared.trial.Played.{Played}
 
 -- what contracts see of a disk in memory of which one call fails

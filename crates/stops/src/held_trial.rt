@@ -7,7 +7,7 @@ ghost use Rattle.rings.specs.Boards.{KeeperOf, WatchOf, asked, published};
 ghost use Rattle.player.specs.Opening.{IsArmed, IsOpenedOver};
 ghost use Rattle.player.specs.Stepping.{IsSeated};
 ghost use Rattle.scripts.specs.Schedule.{is_word_of};
-ghost use Rattle.texts.specs.declared.faults.StopsFault.TheVariants as fault;
+ghost use Rattle.messages.specs.declared.faults.StopsFault.TheVariants as fault;
 ghost use Rattle.blocks.specs.FaultyDisk.{inner_of};
 ghost use Rattle.stops.specs.Holding.{
   FailsHeld,
@@ -24,8 +24,8 @@ ghost use Rattle.stops.specs.Holding.{
   write_behind,
 };
 ghost use Rattle.stops.specs.Trials.{IsUnopenedNew};
-ghost use Rattle.recoveries.specs.Choices.{LacksDue};
-ghost use Rattle.recoveries.specs.Images.{kept_files, new_image};
+ghost use Rattle.crash_check.specs.Choices.{LacksDue};
+ghost use Rattle.crash_check.specs.Images.{kept_files, new_image};
 
 use crate::copying::copies_of;
 use crate::running::{opened, play};
@@ -33,10 +33,10 @@ use blocks::{Disk, FaultyDisk, Kind, NoMemory, SyncDisk};
 use rings::Board;
 use model::types::Entry;
 use player::{Hands, Outcome, Player, open_player, take_board};
-use recoveries::{Due, kept_files, new_image, try_choices};
+use crash_check::{Due, kept_files, new_image, try_choices};
 use scripts::{Task, Word};
 use std::alloc::Global;
-use texts::StopsFault;
+use messages::StopsFault;
 
 /// The calls of a disk before which a run may be stopped.
 #[derive(Clone, Copy)]

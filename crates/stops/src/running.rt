@@ -2,16 +2,16 @@
 ghost use Rattle.std.specs.Prelude.{◌≡◌, false, IfOk, IfErr, IsErrAnd, IsTrue, length};
 ghost use Rattle.std.specs.List.{list_all};
 ghost use Rattle.player.specs.Stepping.{IsSeated};
-ghost use Rattle.recoveries.specs.Images.{is_want_of_memory};
+ghost use Rattle.crash_check.specs.Images.{is_want_of_memory};
 ghost use Rattle.scripts.specs.Schedule.{is_word_of};
-ghost use Rattle.texts.specs.declared.faults.StopsFault.TheVariants as fault;
+ghost use Rattle.messages.specs.declared.faults.StopsFault.TheVariants as fault;
 ghost use Rattle.stops.specs.Trials.{HasPlayed};
 
 use blocks::{Disk, FaultyDisk, NoMemory};
 use player::{Outcome, Player, make_turns};
-use recoveries::is_want_of_memory;
+use crash_check::is_want_of_memory;
 use scripts::Word;
-use texts::{Refusal, StopsFault};
+use messages::{Refusal, StopsFault};
 
 /// The player that was opened.
 ///

@@ -2,7 +2,7 @@
 ghost use Rattle.std.specs.Prelude.{◌≡◌, ◌<◌, ◌+◌, ◌^◌, All, IfOk, IfErr, IsTrue, OnOk};
 ghost use Rattle.std.specs.List.{list_all};
 ghost use Rattle.scripts.specs.Schedule.{is_word_of};
-ghost use Rattle.texts.specs.declared.faults.StopsFault.TheVariants as fault;
+ghost use Rattle.messages.specs.declared.faults.StopsFault.TheVariants as fault;
 ghost use Rattle.stops.specs.Checks.{ChecksAll, FailsSome, IsUnchecked, PassesAll};
 ghost use Rattle.stops.specs.Trials.{AllPass, FailsBehind, Passes, SomeFails};
 
@@ -11,7 +11,7 @@ use crate::trial::try_run;
 use scripts::{Task, Word};
 use std::alloc::Global;
 use std::io::Write;
-use texts::{Refusal, StopsFault, print_images};
+use messages::{Refusal, StopsFault, print_images};
 
 /// Who is told how far a check is. What it is told is so by the check's code.
 pub trait Progress {

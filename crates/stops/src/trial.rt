@@ -6,8 +6,8 @@ ghost use Rattle.player.specs.Opening.{IsArmed, IsOpenedOver};
 ghost use Rattle.player.specs.Stepping.{IsSeated};
 ghost use Rattle.std.specs.List.{list_all};
 ghost use Rattle.scripts.specs.Schedule.{is_word_of};
-ghost use Rattle.texts.specs.declared.faults.StopsFault.TheVariants as fault;
-ghost use Rattle.recoveries.specs.Images.{HasFiles, new_image};
+ghost use Rattle.messages.specs.declared.faults.StopsFault.TheVariants as fault;
+ghost use Rattle.crash_check.specs.Images.{HasFiles, new_image};
 ghost use Rattle.stops.specs.Trials.{
   Fails,
   HasPlayedOn,
@@ -23,12 +23,12 @@ use crate::copying::copies_of;
 use crate::running::{opened, play};
 use blocks::{Disk, MemDisk, NoMemory};
 use rings::Board;
-use plain::files::Files;
+use reference::files::Files;
 use player::{Hands, Outcome, Player, open_player, take_board};
-use recoveries::{has_files, kept_files, new_image};
+use crash_check::{has_files, kept_files, new_image};
 use scripts::{Task, Word};
 use std::alloc::Global;
-use texts::StopsFault;
+use messages::StopsFault;
 
 /// Makes the turns of the words over a new image, and compares what they leave with what the
 /// journal keeps. The write of number `stop` isn't made, counted from 1, and ends the run; each is

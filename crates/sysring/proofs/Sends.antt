@@ -13,7 +13,7 @@ use Rattle.inodes.proofs.tasks.Place.TheSendSync as place
 use Rattle.inodes.proofs.table.Inodes.TheSendSync as inodes
 use Rattle.model.proofs.gathered.Gathered.TheSendSync as gathered
 use Rattle.wal.proofs.volume.Volume.TheSendSync as volume
-use Rattle.journal.proofs.processes.Processes.TheSendSync as processes
+use Rattle.history.proofs.processes.Processes.TheSendSync as processes
 use Rattle.kernel.specs.contracts.stepping.Kernel as Kernel
 use Rattle.rings.proofs.intake.RingIntake.TheSendSync as rings
 use Rattle.sysring.specs.contracts.frame.Framed as Framed

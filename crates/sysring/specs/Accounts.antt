@@ -7,8 +7,8 @@ use Rattle.model.specs.declared.types.operations.Entry.{Entry}
 use Rattle.model.specs.declared.types.operations.Op.{Op}
 use Rattle.model.specs.Journal.{is_changing}
 use Rattle.ports.specs.History.{History}
-use Rattle.journal.specs.Histories.{IsHistory}
-use Rattle.journal.specs.Processes.{process}
+use Rattle.history.specs.Histories.{IsHistory}
+use Rattle.history.specs.Processes.{process}
 use Rattle.kernel.specs.Counts.{kept_of}
 use Rattle.kernel.specs.State.{State}
 use Rattle.sysring.specs.declared.settling.Account.{Account}

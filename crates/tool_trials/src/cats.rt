@@ -8,7 +8,7 @@ use opening::RecoverRefusal;
 use player::{CatRefusal, cat_disk};
 use transfer::put_disk;
 use std::alloc::Global;
-use texts::Reason;
+use messages::Reason;
 use wal::RecoverFault;
 
 // How many bytes the file has: 22 blocks, of which one of addresses leads to the last ten.

@@ -5,10 +5,10 @@ use blocks::{FaultyDisk, Kind, MemDisk};
 use desk::blocks_of;
 use layout::CheckFault;
 use model::types::File;
-use plain::report::files_after_recovery;
+use reference::report::files_after_recovery;
 use transfer::put_disk;
 use std::alloc::Global;
-use texts::Refusal;
+use messages::Refusal;
 use wal::RecoverFault;
 
 // The bytes that are put: of more blocks than one write has.

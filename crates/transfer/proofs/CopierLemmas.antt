@@ -3,7 +3,7 @@ use Rattle.std.proofs.Common.{◌≡◌, ◌∙◌, ℕ, ◌≤◌, true, false,
 use Rattle.std.proofs.lemmas.Bool.{eq-eqb, le-ltb}
 use Rattle.blocks.specs.Disk.{Image, Rose, counted}
 use Rattle.blocks.specs.declared.disk.Disk.{Ghosts}
-use Rattle.journal.specs.Lemmas.Leaving.{leaves_wider}
+use Rattle.history.specs.Lemmas.Leaving.{leaves_wider}
 use Rattle.layout.specs.declared.geometry.MkfsFault.TheVariants as mkfs
 use Rattle.model.specs.declared.types.fault.CheckFault.TheVariants.{BadMagic}
 use Rattle.model.specs.declared.types.image.Form.TheVariants.{One}

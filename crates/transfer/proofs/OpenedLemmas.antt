@@ -11,15 +11,15 @@ use Rattle.model.specs.Soundness.{IsSound}
 use Rattle.model.specs.Verdict.{verdict}
 use Rattle.kernel.specs.declared.types.OpenFault.{OpenFault}
 use Rattle.kernel.specs.declared.types.OpenFault.TheVariants as open_fault
-use Rattle.journal.specs.Lemmas.Leaving.{leaves_wider}
+use Rattle.history.specs.Lemmas.Leaving.{leaves_wider}
 use Rattle.opening.specs.Openings.{IsUnopened, open_refusal}
 use Rattle.calls.specs.Calls.{IsWhole, image_on}
 use Rattle.calls.specs.Opening.{IsNotOpenedSole, IsOpenedSole}
 use Rattle.calls.specs.Stepping.{Plain}
 use Rattle.wal.specs.Recovery.{IsCalm, LeavesIfCalm, RecoversAs}
-use Rattle.texts.specs.declared.faults.PutFault.TheVariants.{NoInode, Full, NoMemory}
-use Rattle.texts.specs.declared.refusal.Refusal.{Refusal}
-use Rattle.texts.specs.declared.refusal.Refusal.TheVariants.{Disk, Put, Output}
+use Rattle.messages.specs.declared.faults.PutFault.TheVariants.{NoInode, Full, NoMemory}
+use Rattle.messages.specs.declared.refusal.Refusal.{Refusal}
+use Rattle.messages.specs.declared.refusal.Refusal.TheVariants.{Disk, Put, Output}
 use Rattle.transfer.specs.Judging.{IsFit}
 use Rattle.transfer.specs.Stopped.{KeepsPut, StaysPut}
 use Rattle.transfer.specs.Putting.{ComesTo, IsPut, IsUnopenedThen, IsUnput}

@@ -8,7 +8,7 @@ use Rattle.model.specs.Files.{Files, file_in, files_of}
 use Rattle.model.specs.Log.{recovered}
 use Rattle.calls.specs.Files.{appended, files_on}
 use Rattle.calls.specs.Stopped.{AppendsFirst, Empties, KeepsChange, LeavesChange, MakesAny, Removes, StaysOver}
-use Rattle.journal.specs.Lemmas.Leaving.{leaves_wider}
+use Rattle.history.specs.Lemmas.Leaving.{leaves_wider}
 use Rattle.calls.specs.Calls.{KeepsFiles, image_on}
 use Rattle.calls.specs.Stepping.{Plain}
 use Rattle.transfer.specs.Places.{put_at}

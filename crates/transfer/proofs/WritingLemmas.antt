@@ -7,7 +7,7 @@ use Rattle.blocks.specs.Calls.{WritesOne}
 use Rattle.blocks.specs.Disk.{AddsNone, Image, IsOldOrNew, IsSettled, block_at, counted, one_more}
 use Rattle.blocks.specs.declared.disk.Disk.{Ghosts}
 use Rattle.blocks.specs.Lemmas.Moments.{goes_on, started, stays}
-use Rattle.journal.specs.Lemmas.Leaving.{leaves_wider}
+use Rattle.history.specs.Lemmas.Leaving.{leaves_wider}
 use Rattle.wal.specs.Recovery.{LeavesIfCalm}
 use Rattle.transfer.specs.Writing.{HasWritten, IsNoneOr, KeepsSuperblock}
 

@@ -12,9 +12,9 @@ use Rattle.model.specs.Log.{recovered}
 use Rattle.model.specs.Verdict.{verdict}
 use Rattle.model.specs.declared.types.fault.CheckFault.{CheckFault}
 use Rattle.model.specs.declared.types.fault.CheckFault.TheVariants as check
-use Rattle.texts.specs.declared.faults.PutFault.TheVariants.{NoFile, TooBig, Full, NoMemory}
-use Rattle.texts.specs.declared.refusal.Refusal.{Refusal}
-use Rattle.texts.specs.declared.refusal.Refusal.TheVariants.{Check, Put}
+use Rattle.messages.specs.declared.faults.PutFault.TheVariants.{NoFile, TooBig, Full, NoMemory}
+use Rattle.messages.specs.declared.refusal.Refusal.{Refusal}
+use Rattle.messages.specs.declared.refusal.Refusal.TheVariants.{Check, Put}
 use Rattle.transfer.specs.Needs.{needed_blocks, old_blocks, room_for}
 use Rattle.transfer.specs.Places.{HasOld, LacksOld}
 

@@ -11,10 +11,10 @@ use Rattle.calls.specs.Calls.{IsWhole, Rests, call_count, image_on}
 use Rattle.calls.specs.Stepping.{Plain}
 use Rattle.calls.specs.declared.fault.CallFault.{CallFault}
 use Rattle.calls.specs.declared.fault.CallFault.TheVariants as fault
-use Rattle.texts.specs.Output.{number_text}
-use Rattle.texts.specs.declared.faults.PutFault.TheVariants.{NoInode, Full, NoMemory}
-use Rattle.texts.specs.declared.refusal.Refusal.{Refusal}
-use Rattle.texts.specs.declared.refusal.Refusal.TheVariants.{Disk, Put, Output}
+use Rattle.messages.specs.Output.{number_text}
+use Rattle.messages.specs.declared.faults.PutFault.TheVariants.{NoInode, Full, NoMemory}
+use Rattle.messages.specs.declared.refusal.Refusal.{Refusal}
+use Rattle.messages.specs.declared.refusal.Refusal.TheVariants.{Disk, Put, Output}
 use Rattle.transfer.specs.Places.{HasNoFree, IsPlace, MayPut, PutsAll, put_at}
 use Rattle.transfer.specs.declared.writing.Outcome.{Outcome}
 use Rattle.transfer.specs.declared.writing.Outcome.TheVariants as outcome

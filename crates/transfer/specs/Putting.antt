@@ -8,10 +8,10 @@ use Rattle.model.specs.Log.{recovered}
 use Rattle.model.specs.Verdict.{verdict}
 use Rattle.opening.specs.Openings.{IsUnopened}
 use Rattle.calls.specs.Calls.{IsWhole}
-use Rattle.texts.specs.Output.{number_text}
-use Rattle.texts.specs.declared.faults.PutFault.TheVariants.{NoFile, NoInode, TooBig, Full, NoMemory}
-use Rattle.texts.specs.declared.refusal.Refusal.{Refusal}
-use Rattle.texts.specs.declared.refusal.Refusal.TheVariants.{Check, Recover, Open, Disk, Put, Output}
+use Rattle.messages.specs.Output.{number_text}
+use Rattle.messages.specs.declared.faults.PutFault.TheVariants.{NoFile, NoInode, TooBig, Full, NoMemory}
+use Rattle.messages.specs.declared.refusal.Refusal.{Refusal}
+use Rattle.messages.specs.declared.refusal.Refusal.TheVariants.{Check, Recover, Open, Disk, Put, Output}
 use Rattle.transfer.specs.Judging.{IsTold}
 use Rattle.transfer.specs.PutWriting.{Comes, KeepsPart}
 use Rattle.transfer.specs.declared.writing.Outcome.{Outcome}

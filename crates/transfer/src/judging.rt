@@ -12,7 +12,7 @@ use blocks::{Block, Disk};
 use layout::{CheckFault, greatest_size};
 use offline::{Recovered, check};
 use std::alloc::Global;
-use texts::{PutFault, Refusal};
+use messages::{PutFault, Refusal};
 
 // Checks the image of a disk, and judges whether that many bytes can be put there.
 pub fn judge<D: Disk>(

@@ -6,7 +6,7 @@ ghost use Rattle.model.specs.Verdict.{verdict};
 ghost use Rattle.wal.specs.Recovery.{LeavesIfCalm};
 ghost use Rattle.calls.specs.Calls.{image_on};
 ghost use Rattle.calls.specs.Files.{files_on};
-ghost use Rattle.texts.specs.declared.refusal.Refusal.TheVariants as refusal;
+ghost use Rattle.messages.specs.declared.refusal.Refusal.TheVariants as refusal;
 ghost use Rattle.transfer.specs.Places.{HasOld};
 ghost use Rattle.transfer.specs.Putting.{IsPut, IsUnput};
 ghost use Rattle.transfer.specs.Stopped.{KeepsPut, StaysPut};
@@ -19,7 +19,7 @@ use opening::open_refusal;
 use calls::{CallFault, Sole, open_sole};
 use std::alloc::Global;
 use std::io::Write;
-use texts::{PutFault, Refusal, print_number};
+use messages::{PutFault, Refusal, print_number};
 
 /// Puts bytes into the image of a disk, and prints the number of their file: they take the place of
 /// those of the file of this number, which keeps its type, or are those of a new file of type 2 at

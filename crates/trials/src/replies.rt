@@ -2,9 +2,9 @@
 use blocks::NoMemory;
 use model::content::Content;
 use model::types::{Entry, File, Form, Op, Reply};
-use plain::files::Files;
-use plain::journal::{replay_answered, replay_kept};
-use plain::operations::apply;
+use reference::files::Files;
+use reference::journal::{replay_answered, replay_kept};
+use reference::operations::apply;
 use std::alloc::Global;
 
 // A table of 32 places, all empty.

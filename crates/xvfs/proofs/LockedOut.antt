@@ -2,9 +2,9 @@
 use Rattle.std.proofs.Common.{ℕ, List, Option, inl, inr, refl}
 use Rattle.blocks.specs.declared.errors.FileFault.TheVariants.{Locked}
 use Rattle.scripts.specs.declared.script.ScriptFault.TheVariants as script
-use Rattle.texts.specs.declared.refusal.Refusal.TheVariants.{File, Script}
-use Rattle.requests.specs.declared.words.Request.{Request}
-use Rattle.requests.specs.declared.words.Request.TheVariants.{Mkfs, Check, Recover, Cat, Ls, Show, Put, Copy, Replay, Run, Stops}
+use Rattle.messages.specs.declared.refusal.Refusal.TheVariants.{File, Script}
+use Rattle.cli.specs.declared.words.Request.{Request}
+use Rattle.cli.specs.declared.words.Request.TheVariants.{Mkfs, Check, Recover, Cat, Ls, Show, Put, Copy, Replay, Run, Stops}
 use Rattle.cmd.specs.declared.files.OnFile.TheVariants as on
 use Rattle.xvfs.specs.Files.{FileGhosts}
 use Rattle.xvfs.specs.Requests.{OnRefused}

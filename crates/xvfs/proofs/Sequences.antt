@@ -3,7 +3,7 @@ use Rattle.std.proofs.Common.{◌≡◌, ◌≢◌, ℕ, zero, suc, ◌<◌, ◌
 use Rattle.std.specs.Prelude.{◌≤◌}
 use Rattle.std.proofs.lemmas.List.{map-append, take-append-drop}
 use Rattle.xvfs.specs.Files.{FileGhosts}
-use Rattle.requests.specs.declared.explanation.Explanation.{Explanation}
+use Rattle.cli.specs.declared.explanation.Explanation.{Explanation}
 use Rattle.xvfs.specs.Requests.{IsDone, IsMisused, IsNotDone, IsRefused, AreDone, StopsAmong}
 
 module _ {F N : Type 0} (file : FileGhosts F N) where

@@ -1,6 +1,6 @@
 -- How it is told that command lines can't be had.
 use Rattle.std.specs.Prelude.{codes}
-use Rattle.texts.specs.Telling.{Telling, plain}
+use Rattle.messages.specs.Telling.{Telling, plain}
 use Rattle.xvfs.specs.declared.input.InputFault.{InputFault}
 use Rattle.xvfs.specs.declared.input.InputFault.TheVariants.{Read, TooLarge, NoMemory}
 

@@ -2,20 +2,20 @@
 use Rattle.std.specs.Prelude.{◌≡◌, ◌≢◌, ◌⊎◌, ⊤, ℕ, Bool, false, if◌then◌else◌, List, [], ◌∷◌, ◌++◌, Option, unwrap_or}
 use Rattle.model.specs.declared.types.image.Form.{Form}
 use Rattle.model.specs.declared.types.image.Form.TheVariants.{One, Two}
-use Rattle.texts.specs.declared.refusal.Refusal.{Refusal}
-use Rattle.texts.specs.declared.refusal.Refusal.TheVariants.{Output}
-use Rattle.texts.specs.declared.told.Unwritten.{Unwritten}
-use Rattle.requests.specs.CommandLine.{AskFor}
-use Rattle.requests.specs.Told.{AskForHelp, IsToldOf}
-use Rattle.requests.specs.declared.explanation.Explanation.{Explanation}
-use Rattle.requests.specs.declared.explanation.Explanation.TheVariants.{Help, Mistake, NoMemory}
-use Rattle.requests.specs.declared.words.Request.{Request}
-use Rattle.requests.specs.declared.words.Request.TheVariants.{Mkfs, Check, Recover, Cat, Ls, Show, Put, Copy, Replay, Run, Stops}
+use Rattle.messages.specs.declared.refusal.Refusal.{Refusal}
+use Rattle.messages.specs.declared.refusal.Refusal.TheVariants.{Output}
+use Rattle.messages.specs.declared.told.Unwritten.{Unwritten}
+use Rattle.cli.specs.CommandLine.{AskFor}
+use Rattle.cli.specs.Told.{AskForHelp, IsToldOf}
+use Rattle.cli.specs.declared.explanation.Explanation.{Explanation}
+use Rattle.cli.specs.declared.explanation.Explanation.TheVariants.{Help, Mistake, NoMemory}
+use Rattle.cli.specs.declared.words.Request.{Request}
+use Rattle.cli.specs.declared.words.Request.TheVariants.{Mkfs, Check, Recover, Cat, Ls, Show, Put, Copy, Replay, Run, Stops}
 use Rattle.cmd.specs.Lemmas.Disks.{file_disk}
 use Rattle.cmd.specs.Opened.{OnDiskRefusal, OpensDisk}
 use Rattle.cmd.specs.Over.{IsRefusedOn}
-use Rattle.listing.specs.Causes.{IsHidden, IsUnlisted}
-use Rattle.listing.specs.Looks.{HasListed, HasShown as HasBlocksShown}
+use Rattle.inspect.specs.Causes.{IsHidden, IsUnlisted}
+use Rattle.inspect.specs.Looks.{HasListed, HasShown as HasBlocksShown}
 use Rattle.player.specs.Causes.{IsNotRecovered, IsUnchecked}
 use Rattle.player.specs.Looks.{HasRecovered, HasReported, HasShown}
 use Rattle.player.specs.Showing.{IsNotShown}

@@ -1,8 +1,8 @@
 // One command, and the exit status that it ends with.
 ghost use Rattle.std.specs.Prelude.{◌≡◌, ◌≤◌, map};
 ghost use Rattle.std.specs.Io.KnownBytes.{Appends};
-ghost use Rattle.requests.specs.CommandLine.{HasFewWorkers};
-ghost use Rattle.requests.specs.Told.{explanation_text};
+ghost use Rattle.cli.specs.CommandLine.{HasFewWorkers};
+ghost use Rattle.cli.specs.Told.{explanation_text};
 ghost use Rattle.xvfs.specs.Files.{ghosts_of};
 ghost use Rattle.xvfs.specs.Requests.{
   Answers,
@@ -13,8 +13,8 @@ ghost use Rattle.xvfs.specs.Requests.{
   OnRefused,
   form_asked,
 };
-ghost use Rattle.requests.specs.declared.explanation.Explanation.{Explanation as SomeExplanation};
-ghost use Rattle.texts.specs.declared.told.Unwritten.{Unwritten as IsUnwritten};
+ghost use Rattle.cli.specs.declared.explanation.Explanation.{Explanation as SomeExplanation};
+ghost use Rattle.messages.specs.declared.told.Unwritten.{Unwritten as IsUnwritten};
 
 use crate::locks::{Locks, lock_image};
 use crate::progress::{Meter, Screen};
@@ -22,16 +22,16 @@ use crate::stopping::stops_files;
 use blocks::{Disk, FaultyDisk, FileDisk};
 use cmd::{OverFile, end, perform};
 use commands::{make_file, replay_files, run_files};
-use listing::{Ls, Show};
+use inspect::{Ls, Show};
 use model::types::Form;
 use player::{Cat, Check, Recover};
-use requests::{Explanation, Request, parse};
+use cli::{Explanation, Request, parse};
 use std::convert::AsStr;
 use std::io::Write;
 use std::rt::{Clock, Files};
 use std::sync::Wait;
 use std::thread::Threads;
-use texts::print_last;
+use messages::print_last;
 use commands::{copy_files, put_file};
 
 /// Does the command that these words ask for, the program's name not among them: prints what it

@@ -6,7 +6,7 @@ ghost use Rattle.xvfs.specs.Input.{input_telling};
 use std::alloc::AllocError;
 use std::io;
 use std::io::ErrorKind;
-use texts::{Reason, Told};
+use messages::{Reason, Told};
 
 /// Why the words that the program was started with, or command lines from a reader, can't be had.
 #[derive(Clone, Copy, Debug)]

@@ -2,7 +2,7 @@
 ghost use Rattle.std.specs.Prelude.{◌≡◌, IfErr};
 
 use blocks::FileFault;
-use requests::Request;
+use cli::Request;
 use std::fs::{File, TryLockError, metadata};
 
 /// Who may have a file at the same time.

@@ -10,10 +10,10 @@ use Rattle.model.specs.Fields.{words_of}
 use Rattle.model.specs.Layout.{depths, direct_count, form_of, greatest_size, reach}
 use Rattle.model.specs.Places.{address_along, address_in}
 use Rattle.model.specs.Lemmas.Wholes.{reach_pos, thirteen_depths}
-use Rattle.loose.specs.Trees.{entry_of, led_to, place_along, place_under, way_to}
-use Rattle.loose.specs.Lemmas.KeptTrees.{SameInside}
-use Rattle.loose.specs.Lemmas.Ways.{address_led, along_at, entries_way_to, led_further, led_none, led_step, length-way_to, place_way_to}
-use Rattle.loose.specs.Lemmas.Wholes.{direct_depth}
+use Rattle.in_flight.specs.Trees.{entry_of, led_to, place_along, place_under, way_to}
+use Rattle.in_flight.specs.Lemmas.KeptTrees.{SameInside}
+use Rattle.in_flight.specs.Lemmas.Ways.{address_led, along_at, entries_way_to, led_further, led_none, led_step, length-way_to, place_way_to}
+use Rattle.in_flight.specs.Lemmas.Wholes.{direct_depth}
 use Rattle.blockmap.specs.Branch.{LiesOnWay, address_on, block_limit, branch_of, deepest, entry_under, named_by, node_at, rest_under}
 use Rattle.blockmap.specs.Map.{IsBranchOf}
 use Rattle.blockmap.specs.declared.branch.Branch.{Branch}

@@ -5,15 +5,15 @@ use Rattle.std.proofs.lemmas.List.{get_or-set_same, get_or_past}
 use Rattle.blocks.specs.Disk.{Image, block_at}
 use Rattle.model.specs.declared.types.image.Dinode.{Dinode}
 use Rattle.model.specs.Lemmas.Codecs.{entry-with_entry}
-use Rattle.loose.specs.Held.{with_address}
-use Rattle.loose.specs.Trees.{entry_of}
+use Rattle.in_flight.specs.Held.{with_address}
+use Rattle.in_flight.specs.Trees.{entry_of}
 use Rattle.wal.specs.Joint.{seen}
 use Rattle.wal.specs.Volume.{VolumeState}
 use Rattle.blockmap.specs.Branch.{address_on}
 use Rattle.blockmap.specs.BmapAlloc.{IsLed, LeadsThere, come_to}
 use Rattle.blockmap.specs.declared.bmap_alloc.MapAt.{MapAt}
 use Rattle.blockmap.specs.declared.branch.Branch.{Branch}
-use Rattle.driver.specs.declared.progress.Progress.TheVariants as progress
+use Rattle.blockmap.specs.declared.progress.Progress.TheVariants as progress
 
 -- a block that was come to is the file's, where it is one of data
 pub leads_on : {D : Type 0} (image : D → Image) (depth a : ℕ) (b : Branch) (at : MapAt) (d : Dinode) (w : VolumeState D) →

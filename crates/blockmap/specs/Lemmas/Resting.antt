@@ -5,11 +5,11 @@ use Rattle.model.specs.Layout.{depths, form_of, inode_of}
 use Rattle.model.specs.Names.{names_along}
 use Rattle.model.specs.Places.{address_in}
 use Rattle.model.specs.Soundness.{count_of}
-use Rattle.loose.specs.Held.{Claim, names_claimed}
-use Rattle.loose.specs.Loose.{LiesInData}
-use Rattle.loose.specs.Lemmas.HeldFrames.{claimed_in_data, whole_names}
-use Rattle.loose.specs.Lemmas.HeldLooks.{resting_tells}
-use Rattle.loose.specs.Lemmas.Looks.{between}
+use Rattle.in_flight.specs.Held.{Claim, names_claimed}
+use Rattle.in_flight.specs.Loose.{LiesInData}
+use Rattle.in_flight.specs.Lemmas.HeldFrames.{claimed_in_data, whole_names}
+use Rattle.in_flight.specs.Lemmas.HeldLooks.{resting_tells}
+use Rattle.in_flight.specs.Lemmas.Looks.{between}
 use Rattle.blockmap.specs.Lemmas.Targets.{lies_named, needed_within}
 use Rattle.blockmap.specs.Reading.{LiesBehindLog, RestingMayBeRead}
 

@@ -11,9 +11,9 @@ use Rattle.wal.specs.Joint.{seen}
 use Rattle.wal.specs.Volume.{VolumeState, Gets, ReadsFor}
 use Rattle.wal.specs.declared.types.Get.{Get}
 use Rattle.wal.specs.declared.types.Get.TheVariants as get
-use Rattle.driver.specs.Getting.{GetsFor, Releases, progress_of, slot_of}
-use Rattle.driver.specs.declared.progress.Progress.{Progress}
-use Rattle.driver.specs.declared.progress.Progress.TheVariants as progress
+use Rattle.blockmap.specs.Getting.{GetsFor, Releases, progress_of, slot_of}
+use Rattle.blockmap.specs.declared.progress.Progress.{Progress}
+use Rattle.blockmap.specs.declared.progress.Progress.TheVariants as progress
 use Rattle.blockmap.specs.Bmap.{EntryState, Ends, GoesBelow, IsNode, LooksUp, below, some_address, with_slot}
 use Rattle.blockmap.specs.Branch.{LiesOnWay, branch_of, named_by, node_at, rest_under}
 use Rattle.blockmap.specs.Map.{address_or_zero}

@@ -12,9 +12,9 @@ use Rattle.model.specs.Soundness.{count_of}
 use Rattle.model.specs.Lemmas.Wholes.{thirteen_depths}
 use Rattle.wal.specs.Joint.{seen}
 use Rattle.wal.specs.Volume.{VolumeState}
-use Rattle.loose.specs.Lemmas.KeptTrees.{SameInside}
-use Rattle.loose.specs.Lemmas.Ways.{led_along}
-use Rattle.loose.specs.Loose.{IsFit}
+use Rattle.in_flight.specs.Lemmas.KeptTrees.{SameInside}
+use Rattle.in_flight.specs.Lemmas.Ways.{led_along}
+use Rattle.in_flight.specs.Loose.{IsFit}
 use Rattle.blockmap.specs.Bmap.{EntryState, IsNode, ends_at, first_entry, some_address, sought_in}
 use Rattle.blockmap.specs.Branch.{LiesOnWay, address_on, block_limit, branch_of, deepest, named_by, node_at}
 use Rattle.blockmap.specs.Reading.{MayRead}

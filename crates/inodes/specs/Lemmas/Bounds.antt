@@ -6,7 +6,7 @@ use Rattle.model.specs.declared.types.image.Dinode.{Dinode}
 use Rattle.model.specs.declared.types.image.Form.{Form}
 use Rattle.model.specs.declared.types.image.Form.TheVariants.{One, Two}
 use Rattle.model.specs.Layout.{form_of, greatest_size}
-use Rattle.loose.specs.Held.{blocks_left, most_left}
+use Rattle.in_flight.specs.Held.{blocks_left, most_left}
 use Rattle.blockmap.specs.Lemmas.Targets.{few_at, steps_most}
 use Rattle.inodes.specs.declared.ilock.LockAt.{LockAt}
 use Rattle.inodes.specs.declared.ilock.LockAt.TheVariants as lock_at

@@ -15,12 +15,12 @@ use Rattle.model.specs.Layout.{inode_of, inode_block}
 use Rattle.wal.specs.Machine.{used_by}
 use Rattle.wal.specs.Volume.{VolumeState}
 use Rattle.blockmap.specs.Bmap.{EntryState, LooksUp, some_address}
-use Rattle.driver.specs.Driver.{Drives}
-use Rattle.driver.specs.Lemmas.Others.{drives_fails, gets_fails}
-use Rattle.driver.specs.Next.{block_of_next, used_now}
+use Rattle.blockmap.specs.Driver.{Drives}
+use Rattle.blockmap.specs.Lemmas.Others.{drives_fails, gets_fails}
+use Rattle.blockmap.specs.Next.{block_of_next, used_now}
 use Rattle.blockmap.specs.Target.{block_of, progress_behind}
-use Rattle.driver.specs.declared.progress.Progress.{Progress}
-use Rattle.driver.specs.declared.progress.Progress.TheVariants as machine
+use Rattle.blockmap.specs.declared.progress.Progress.{Progress}
+use Rattle.blockmap.specs.declared.progress.Progress.TheVariants as machine
 use Rattle.blockmap.specs.declared.target.Target.{Target}
 use Rattle.blockmap.specs.declared.target.Target.TheVariants as target
 use Rattle.inodes.specs.declared.ilock.LockAt.{LockAt}

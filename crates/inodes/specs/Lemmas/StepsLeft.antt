@@ -15,15 +15,15 @@ use Rattle.model.specs.Fields.{u32_at}
 use Rattle.model.specs.Journal.{is_number}
 use Rattle.model.specs.Layout.{form_of, inode_count_of, inode_of, magic_of}
 use Rattle.model.specs.Lemmas.Soundness.{facts_of}
-use Rattle.loose.specs.Held.{blocks_left, frees, most_left}
-use Rattle.loose.specs.HeldLaws.{IsHeldIn}
-use Rattle.loose.specs.Lemmas.FewLeft.{few_left}
-use Rattle.loose.specs.Lemmas.GivenUp as given_up
-use Rattle.loose.specs.Lemmas.HeldOutsideLog.{held_outside}
-use Rattle.loose.specs.Lemmas.Looks.{between}
-use Rattle.driver.specs.declared.driving.Got.{Got}
-use Rattle.driver.specs.Driver.{Drives, progress_of_over}
-use Rattle.driver.specs.Next.{used_now}
+use Rattle.in_flight.specs.Held.{blocks_left, frees, most_left}
+use Rattle.in_flight.specs.HeldLaws.{IsHeldIn}
+use Rattle.in_flight.specs.Lemmas.FewLeft.{few_left}
+use Rattle.in_flight.specs.Lemmas.GivenUp as given_up
+use Rattle.in_flight.specs.Lemmas.HeldOutsideLog.{held_outside}
+use Rattle.in_flight.specs.Lemmas.Looks.{between}
+use Rattle.blockmap.specs.declared.driving.Got.{Got}
+use Rattle.blockmap.specs.Driver.{Drives, progress_of_over}
+use Rattle.blockmap.specs.Next.{used_now}
 use Rattle.inodes.specs.declared.tasks.Place.{Place}
 use Rattle.inodes.specs.declared.tasks.Place.TheVariants as place
 use Rattle.inodes.specs.Goes.{Goes, Truncates, progress_of_trunc}

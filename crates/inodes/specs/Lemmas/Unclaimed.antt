@@ -1,7 +1,7 @@
 -- Who has locked a number knows what tasks hold of it.
 use Rattle.std.proofs.Common.{◌≡◌, ◌≢◌, ℕ, List, refl, sym, ◌∙◌, ap, subst, Option, Some, None, ⊎_elim, true}
 use Rattle.blocks.specs.Disk.{Image}
-use Rattle.loose.specs.Held.{Claim, frees, grows}
+use Rattle.in_flight.specs.Held.{Claim, frees, grows}
 use Rattle.inodes.specs.declared.tasks.Place.{Place}
 use Rattle.inodes.specs.declared.tasks.Place.TheVariants as place
 use Rattle.inodes.specs.Grips.{locked_grip, grip}
@@ -21,7 +21,7 @@ use Rattle.model.specs.declared.types.image.Dinode.{Dinode}
 use Rattle.inodes.specs.Writing.{IsWriting}
 use Rattle.std.specs.Prelude.{IsTrue}
 use Rattle.model.specs.Journal.{is_number}
-use Rattle.loose.specs.Lemmas.HeldFrames.{growing_of}
+use Rattle.in_flight.specs.Lemmas.HeldFrames.{growing_of}
 
 -- no process but p has locked number i
 abbrev pub LocksAlone : List TaskState → ℕ → ℕ → Type 0

@@ -3,8 +3,8 @@ use Rattle.std.proofs.Common.{ℕ, ◌+◌, zero, suc, ◌≢◌, ◌<◌, ◌�
 use Rattle.blocks.specs.declared.disk.Disk as disk_trait
 use Rattle.ports.specs.declared.herald.Herald as herald_trait
 use Rattle.ports.specs.declared.intake.Intake as intake_trait
-use Rattle.journal.specs.Processes.{process}
-use Rattle.journal.specs.Lemmas.Bounds.{busy_with}
+use Rattle.history.specs.Processes.{process}
+use Rattle.history.specs.Lemmas.Bounds.{busy_with}
 use Rattle.model.specs.declared.types.image.Form.{Form}
 use Rattle.model.specs.declared.types.image.Form.TheVariants.{One, Two}
 use Rattle.model.specs.Layout.{form_of}

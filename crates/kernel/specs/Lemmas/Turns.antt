@@ -5,12 +5,12 @@ use Rattle.blocks.specs.declared.disk.Disk as disk_trait
 use Rattle.ports.specs.declared.herald.Herald as herald_trait
 use Rattle.ports.specs.declared.intake.Intake as intake_trait
 use Rattle.model.specs.Layout.{inode_count_of}
-use Rattle.journal.specs.Grows.{Grows}
-use Rattle.journal.specs.Keeps.{KeepsBetween, KeepsNow}
-use Rattle.journal.specs.Most.{most_of}
-use Rattle.journal.specs.Lemmas.Growing.{grows_then, grows_none}
-use Rattle.journal.specs.Lemmas.Leaving.{leaves_then}
-use Rattle.journal.specs.Processes.{World}
+use Rattle.history.specs.Grows.{Grows}
+use Rattle.history.specs.Keeps.{KeepsBetween, KeepsNow}
+use Rattle.history.specs.Most.{most_of}
+use Rattle.history.specs.Lemmas.Growing.{grows_then, grows_none}
+use Rattle.history.specs.Lemmas.Leaving.{leaves_then}
+use Rattle.history.specs.Processes.{World}
 use Rattle.kernel.specs.declared.types.Step.{Step}
 use Rattle.kernel.specs.Progress.{KeepsShutdown, StaysShut}
 use Rattle.kernel.specs.declared.types.Turn.{Turn}

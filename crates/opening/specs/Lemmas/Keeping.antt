@@ -3,7 +3,7 @@ use Rattle.std.proofs.Common.{◌≡◌, ℕ, refl, sym, ap, subst, ⊎_elim}
 use Rattle.blocks.specs.Lemmas.Moments.{started}
 use Rattle.blocks.specs.declared.disk.Disk.{Ghosts}
 use Rattle.wal.specs.Recovery.{LeavesIfCalm, RecoversAs}
-use Rattle.texts.specs.declared.refusal.Refusal.{Refusal}
+use Rattle.messages.specs.declared.refusal.Refusal.{Refusal}
 use Rattle.opening.specs.Openings.{IsUnopened}
 
 module _ {D N : Type 0} (disk : Ghosts D N) (processes : ℕ) (d e : D) where

@@ -3,7 +3,7 @@ use Rattle.std.proofs.Common.{◌≡◌, ℕ, sym, subst, ⊎_elim}
 use Rattle.blocks.specs.declared.disk.Disk.{Ghosts}
 use Rattle.kernel.specs.declared.types.OpenFault.{OpenFault}
 use Rattle.kernel.specs.declared.types.OpenFault.TheVariants as open_fault
-use Rattle.texts.specs.declared.refusal.Refusal.{Refusal}
+use Rattle.messages.specs.declared.refusal.Refusal.{Refusal}
 use Rattle.opening.specs.Openings.{IsOpening, IsUnopened, open_refusal}
 use Rattle.opening.specs.Recoveries.{recover_refusal}
 use Rattle.opening.specs.declared.recovering.RecoverRefusal.{RecoverRefusal}

@@ -5,7 +5,7 @@ use Rattle.blocks.specs.Disk.{LeavesOnly}
 use Rattle.ports.specs.History.{first_in}
 use Rattle.ports.specs.Lanes.{polled_after}
 use Rattle.ports.specs.Queues.{polled, waiting}
-use Rattle.journal.specs.Processes.{process}
+use Rattle.history.specs.Processes.{process}
 use Rattle.kernel.specs.Known.{Known}
 use Rattle.kernel.specs.declared.types.Step.{Step}
 use Rattle.kernel.specs.declared.types.Step.TheVariants as step

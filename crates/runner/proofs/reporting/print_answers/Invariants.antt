@@ -1,6 +1,6 @@
 use Rattle.std.proofs.Common.{flat_map, take}
 use Rattle.std.specs.Io.KnownBytes.{Appends}
-use Rattle.texts.specs.Answers.{answer_line}
+use Rattle.messages.specs.Answers.{answer_line}
 use Rattle.runner.proofs.reporting.print_answers.Given as goal
 
 -- the lines of the first answers are printed

@@ -1,7 +1,7 @@
 use Rattle.std.proofs.Common.{◌∙◌, ◌<◌, ◌+◌, [], ◌∷◌, ◌++◌, ap, arith, length, sym}
 use Rattle.std.proofs.lemmas.List.{append_assoc, length-append}
 use Rattle.rings.specs.Callers.{unpolled}
-use Rattle.texts.specs.Answers.{answer_line}
+use Rattle.messages.specs.Answers.{answer_line}
 use Rattle.runner.proofs.Lines.{next_known, one_more_line}
 use Rattle.runner.proofs.reporting.print_known.Goals as goal
 

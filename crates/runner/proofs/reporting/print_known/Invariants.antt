@@ -3,7 +3,7 @@ use Rattle.std.specs.Io.KnownBytes.{Appends}
 use mathlib.Core.List.{IsPrefix}
 use Rattle.model.specs.declared.types.operations.Answer.{Answer}
 use Rattle.rings.specs.Callers.{unpolled}
-use Rattle.texts.specs.Answers.{answer_line}
+use Rattle.messages.specs.Answers.{answer_line}
 use Rattle.runner.proofs.reporting.print_known.Given as goal
 
 -- the first answers are polled and their lines printed, and the caller knows the others

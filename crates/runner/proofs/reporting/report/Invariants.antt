@@ -1,11 +1,11 @@
 use Rattle.std.proofs.Common.{◌≡◌, ◌≤◌, ◌++◌, length}
 use Rattle.std.specs.Prelude.{IsOkUnless, OnOk}
-use Rattle.journal.specs.Own.{KeepsOwn}
+use Rattle.history.specs.Own.{KeepsOwn}
 use Rattle.model.specs.Layout.{inode_count_of}
 use Rattle.ports.specs.History.{SameNames}
 use Rattle.rings.specs.Callers.{intake_names}
 use Rattle.clients.specs.Clients.{ops_at}
-use Rattle.texts.specs.declared.refusal.Refusal.TheVariants.{Output}
+use Rattle.messages.specs.declared.refusal.Refusal.TheVariants.{Output}
 use Rattle.runner.specs.Reports.{IsReported}
 use Rattle.runner.proofs.reporting.report.Given as goal
 

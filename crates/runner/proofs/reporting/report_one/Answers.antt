@@ -1,7 +1,7 @@
 use Rattle.std.proofs.Common.{◌∙◌, ◌++◌, ap, flat_map, is_ok, refl, subst, sym}
 use Rattle.std.specs.Io.KnownBytes.{Appends}
 use Rattle.rings.specs.Callers.{polled, submitted, unpolled}
-use Rattle.texts.specs.Answers.{answer_line}
+use Rattle.messages.specs.Answers.{answer_line}
 use Rattle.clients.specs.Clients.{client_ops}
 use Rattle.runner.proofs.Lines.{lines_and_last}
 use Rattle.runner.proofs.Reports.{account_own}

@@ -4,8 +4,8 @@ use Rattle.blocks.specs.contracts.sync.SyncDiskDisk.TheImpl.{ghosts}
 use Rattle.blocks.specs.declared.faulty.Trap.{Trap}
 use Rattle.model.specs.Log.{logged_count}
 use Rattle.player.specs.Opening.{IsOpenedOver}
-use Rattle.recoveries.specs.Images.{new_image}
-use Rattle.recoveries.specs.Lemmas.NewImages.{new_empty}
+use Rattle.crash_check.specs.Images.{new_image}
+use Rattle.crash_check.specs.Lemmas.NewImages.{new_empty}
 use Rattle.stops.specs.Holding.{below, over}
 use Rattle.stops.proofs.Runs.{handed_on, refused_so}
 use Rattle.std.proofs.lemmas.Result.{IfOk-weaker}

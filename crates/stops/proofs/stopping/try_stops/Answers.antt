@@ -1,5 +1,5 @@
 use Rattle.std.proofs.Common.{arith}
-use Rattle.recoveries.specs.Lemmas.Counting.{one_more_passed}
+use Rattle.crash_check.specs.Lemmas.Counting.{one_more_passed}
 use Rattle.stops.specs.Trials.{Passes}
 use Rattle.stops.proofs.stopping.try_stops.Goals as goal
 

@@ -3,8 +3,8 @@ use Rattle.std.specs.Prelude.{IfOk}
 use Rattle.std.proofs.lemmas.Result.{IfOk-weaker}
 use Rattle.model.specs.Log.{logged_count}
 use Rattle.player.specs.Opening.{IsOpenedOver}
-use Rattle.recoveries.specs.Images.{new_image}
-use Rattle.recoveries.specs.Lemmas.NewImages.{new_empty}
+use Rattle.crash_check.specs.Images.{new_image}
+use Rattle.crash_check.specs.Lemmas.NewImages.{new_empty}
 use Rattle.stops.specs.Trials.{memory}
 use Rattle.stops.proofs.Runs.{handed_on, refused_so}
 use Rattle.stops.proofs.trial.open.Goals as goal

@@ -1,5 +1,5 @@
 use Rattle.std.proofs.Common.{◌∙◌, ap₂}
-use Rattle.recoveries.specs.Images.{kept_files}
+use Rattle.crash_check.specs.Images.{kept_files}
 use Rattle.stops.proofs.trial.play_kept.Goals as goal
 
 pub returns : goal.returns

@@ -2,7 +2,7 @@ use Rattle.std.proofs.Common.{rules, ◌≡◌, ◌-◌, [], length, refl, sym, 
 use Rattle.std.proofs.lemmas.List.{length-append}
 use Rattle.rings.specs.Callers.{intake_side, submitted}
 use Rattle.model.specs.Layout.{inode_count_of}
-use Rattle.journal.specs.Lemmas.Own.{keeps_first}
+use Rattle.history.specs.Lemmas.Own.{keeps_first}
 use Rattle.sysring.proofs.accounting.account.Goals as goal
 
 pub overflow_sub-account : goal.overflow_sub-account

@@ -5,7 +5,7 @@ use Rattle.blocks.specs.Disk.{LeavesOnly}
 use Rattle.model.specs.Log.{recovered}
 use Rattle.opening.specs.Lemmas.Keeping.{unopened_leaves}
 use Rattle.opening.specs.Openings.{open_refusal}
-use Rattle.texts.specs.declared.refusal.Refusal.{Refusal}
+use Rattle.messages.specs.declared.refusal.Refusal.{Refusal}
 use Rattle.transfer.specs.Putting.{IsPut, IsUnput}
 use Rattle.transfer.specs.Stopped.{KeepsPut}
 use Rattle.transfer.proofs.OpenedLemmas.{put_leaves, read_leaves, recovered_leaves, unopened, unopened_sole, unwritten_so, written_so}

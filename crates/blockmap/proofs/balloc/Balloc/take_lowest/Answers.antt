@@ -1,9 +1,9 @@
 use Rattle.std.proofs.Common.{◌≡◌, ◌∙◌, sym, ap, subst, arith, ℕ, ◌/◌, ◌<◌, [], ◌∷◌, Some, None}
 use Rattle.blockmap.specs.Balloc.{AllocState, MayAlloc, TakesLowest, byte_with, lowest_in}
-use Rattle.driver.specs.Getting.{Puts}
+use Rattle.blockmap.specs.Getting.{Puts}
 use Rattle.blockmap.specs.Lemmas.Bitmap.{lowest_clear_below}
 use Rattle.blockmap.specs.declared.balloc.AllocAt.TheVariants as alloc_at
-use Rattle.driver.specs.declared.progress.Progress.TheVariants as progress
+use Rattle.blockmap.specs.declared.progress.Progress.TheVariants as progress
 use Rattle.blockmap.proofs.Taking.{takes_some}
 use Rattle.wal.specs.Joint.{seen}
 use Rattle.blockmap.proofs.balloc.Balloc.take_lowest.Goals as goal

@@ -7,10 +7,10 @@ use Rattle.blockmap.specs.Branch.{entry_under}
 use Rattle.blockmap.specs.BmapAlloc.{LeadsThere}
 use Rattle.blockmap.specs.Lemmas.Branches.{lies_last}
 use Rattle.blockmap.specs.Lemmas.Leading.{entry_set, leads_on}
-use Rattle.driver.specs.Lemmas.Putting.{writes_put}
+use Rattle.blockmap.specs.Lemmas.Putting.{writes_put}
 use Rattle.blockmap.specs.declared.bmap_alloc.MapAt.TheVariants as map_at
 use Rattle.blockmap.specs.declared.branch.Node.{Node}
-use Rattle.driver.specs.declared.progress.Progress.{Progress}
+use Rattle.blockmap.specs.declared.progress.Progress.{Progress}
 use Rattle.blockmap.proofs.bmap_alloc.BmapAlloc.set_entry.Goals as goal
 
 pub returns-clause-there : goal.returns-clause-there

@@ -2,8 +2,8 @@ use Rattle.std.proofs.Common.{rules, ℕ, ◌≡◌, ◌<◌, length, length-set
 use Rattle.std.specs.Prelude.{IfNone, None, Some, slice_set}
 use Rattle.model.specs.Layout.{form_of, inode_count_of}
 use Rattle.model.specs.Soundness.{IsLawfulGeometry}
-use Rattle.loose.specs.Held.{FitsHeld}
-use Rattle.loose.specs.Lemmas.HeldFrames.{held_alike}
+use Rattle.in_flight.specs.Held.{FitsHeld}
+use Rattle.in_flight.specs.Lemmas.HeldFrames.{held_alike}
 use Rattle.wal.specs.Machine.{begun}
 use Rattle.wal.specs.Volume.{VolumeState}
 use Rattle.inodes.specs.declared.tasks.Place.{Place}

@@ -1,7 +1,7 @@
 use Rattle.std.proofs.Common.{rules, false, refl, ◌≡◌, sym, subst, ◌∙◌}
 use Rattle.std.specs.Prelude.{None}
 use Rattle.wal.specs.Lemmas.Commits.{commit_log}
-use Rattle.loose.specs.Lemmas.HeldOutsideLog.{held_outside}
+use Rattle.in_flight.specs.Lemmas.HeldOutsideLog.{held_outside}
 use Rattle.wal.specs.Machine.{is_quiet}
 use Rattle.inodes.specs.Holding.{claims_of}
 use Rattle.inodes.specs.Store.{StoreState, FitsFiles, current_of}

@@ -2,7 +2,7 @@ use Rattle.std.proofs.Common.{rules, ◌≡◌, sym, subst}
 use Rattle.std.specs.Prelude.{IfNone, None}
 use Rattle.model.specs.Layout.{form_of, inode_count_of}
 use Rattle.model.specs.Soundness.{IsLawfulGeometry}
-use Rattle.loose.specs.Held.{FitsHeld}
+use Rattle.in_flight.specs.Held.{FitsHeld}
 use Rattle.wal.specs.Volume.{VolumeState}
 use Rattle.inodes.specs.Holding.{claims_of}
 use Rattle.inodes.specs.Looks.{AreLooking}

@@ -4,8 +4,8 @@ use Rattle.blocks.specs.Disk.{Image}
 use Rattle.model.specs.Files.{files_of}
 use Rattle.model.specs.Layout.{form_of, inode_count_of}
 use Rattle.model.specs.Soundness.{IsLawfulGeometry}
-use Rattle.loose.specs.Held.{FitsHeld}
-use Rattle.loose.specs.Lemmas.Soundly.{fits_sound}
+use Rattle.in_flight.specs.Held.{FitsHeld}
+use Rattle.in_flight.specs.Lemmas.Soundly.{fits_sound}
 use Rattle.bcache.specs.Buffers.{fresh_buffers}
 use Rattle.wal.specs.Machine.{new_log}
 use Rattle.wal.specs.Volume.{VolumeState}

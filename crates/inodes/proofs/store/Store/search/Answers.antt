@@ -2,7 +2,7 @@ use Rattle.std.proofs.Common.{rules, ◌≡◌, ◌<◌, length, sym, subst, Lis
 use Rattle.std.specs.Prelude.{Some}
 use Rattle.model.specs.declared.types.operations.Reply.{Reply}
 use Rattle.model.specs.declared.types.operations.TaskProgress.TheVariants as task_progress
-use Rattle.driver.specs.declared.progress.Progress.TheVariants as progress
+use Rattle.blockmap.specs.declared.progress.Progress.TheVariants as progress
 use Rattle.inodes.specs.Steps.{Steps}
 use Rattle.inodes.specs.Store.{StoreState, IsStore}
 use Rattle.inodes.specs.Tasks.{TaskState, task}

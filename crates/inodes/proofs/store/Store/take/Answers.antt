@@ -4,7 +4,7 @@ use Rattle.model.specs.declared.types.image.Form.{Form}
 use Rattle.model.specs.Layout.{inode_of}
 use Rattle.model.specs.declared.types.operations.Reply.{Reply}
 use Rattle.model.specs.declared.types.operations.TaskProgress.TheVariants as task_progress
-use Rattle.driver.specs.declared.progress.Progress.TheVariants as progress
+use Rattle.blockmap.specs.declared.progress.Progress.TheVariants as progress
 use Rattle.inodes.specs.declared.tasks.Place.{Place}
 use Rattle.inodes.specs.declared.tasks.Place.TheVariants as place
 use Rattle.inodes.specs.Lemmas.Faults.{where_none}

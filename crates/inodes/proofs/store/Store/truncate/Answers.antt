@@ -2,8 +2,8 @@ use Rattle.std.proofs.Common.{rules, ◌≡◌, ◌<◌, length, set, get_or-set
 use Rattle.std.specs.Prelude.{IfSome}
 use Rattle.model.specs.declared.types.image.Dinode.{Dinode}
 use Rattle.model.specs.declared.types.operations.TaskProgress.TheVariants as task_progress
-use Rattle.driver.specs.Next.{used_now}
-use Rattle.driver.specs.declared.progress.Progress.TheVariants as progress
+use Rattle.blockmap.specs.Next.{used_now}
+use Rattle.blockmap.specs.declared.progress.Progress.TheVariants as progress
 use Rattle.inodes.specs.declared.tasks.Place.{Place}
 use Rattle.inodes.specs.declared.tasks.Place.TheVariants as place
 use Rattle.inodes.specs.InPlace.{freeing_at}

@@ -1,7 +1,7 @@
 use Rattle.std.proofs.Common.{rules, arith, refl, ◌≡◌, ◌<◌, ⊎_elim, inl, inr, length, ap, subst}
 use Rattle.ports.specs.contracts.queues.QueueIntakeIntake.TheImpl.{ghosts}
 use Rattle.ports.specs.Queues.{waiting}
-use Rattle.journal.specs.Processes.{process}
+use Rattle.history.specs.Processes.{process}
 use Rattle.kernel.specs.State.{State}
 use Rattle.kernel.proofs.Openings.{where_ok, where_both, where_err}
 use Rattle.kernel.proofs.Ports.{ports_stay}

@@ -6,9 +6,9 @@ use Rattle.model.specs.declared.types.operations.Reply.{Reply}
 use Rattle.ports.specs.History.{FitWith, gives, first_in}
 use Rattle.wal.specs.Machine.{begun, begin_cause}
 use Rattle.inodes.specs.Store.{StoreState, KeepsFiles, with_begun, with_look}
-use Rattle.journal.specs.AtOnce.{at_once_reply}
-use Rattle.journal.specs.declared.types.At.TheVariants as at
-use Rattle.journal.specs.Processes.{World, process, with_place, taken, refused, refusal_answer}
+use Rattle.history.specs.AtOnce.{at_once_reply}
+use Rattle.history.specs.declared.types.At.TheVariants as at
+use Rattle.history.specs.Processes.{World, process, with_place, taken, refused, refusal_answer}
 use Rattle.kernel.specs.declared.beginning.Rooms.{Rooms}
 use Rattle.kernel.specs.declared.types.Step.{Step}
 use Rattle.kernel.specs.declared.types.Step.TheVariants as step

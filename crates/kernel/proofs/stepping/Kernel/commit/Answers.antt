@@ -7,12 +7,12 @@ use Rattle.inodes.specs.Lemmas.Faults.{where_none}
 use Rattle.inodes.specs.Steps.{Commits}
 use Rattle.inodes.specs.Store.{StoreState}
 use Rattle.inodes.specs.Tasks.{task}
-use Rattle.journal.specs.declared.types.At.{At}
-use Rattle.journal.specs.declared.types.At.TheVariants as at
-use Rattle.journal.specs.Alone.{is_committing_at}
-use Rattle.journal.specs.Lemmas.Alone.{goes_on, over_now, same_committed, durable_count}
-use Rattle.journal.specs.Lemmas.Answers.{CanAnswer}
-use Rattle.journal.specs.Processes.{World, process, last_answer}
+use Rattle.history.specs.declared.types.At.{At}
+use Rattle.history.specs.declared.types.At.TheVariants as at
+use Rattle.history.specs.Alone.{is_committing_at}
+use Rattle.history.specs.Lemmas.Alone.{goes_on, over_now, same_committed, durable_count}
+use Rattle.history.specs.Lemmas.Answers.{CanAnswer}
+use Rattle.history.specs.Processes.{World, process, last_answer}
 use Rattle.kernel.specs.declared.types.Step.TheVariants as step
 use Rattle.kernel.specs.Invariant.{IsRight, HasFacts, LeavesSince, TaskStands}
 use Rattle.kernel.specs.Next.{world_written}
@@ -25,7 +25,7 @@ use Rattle.wal.specs.Joint.{Joint}
 use Rattle.wal.specs.Lemmas.Commits.{commit_fails}
 use Rattle.kernel.proofs.Committing.{makes_of}
 use Rattle.kernel.proofs.Closing.{right_written, right_done, right_unwritten}
-use Rattle.journal.specs.Lemmas.Places.{committing_there}
+use Rattle.history.specs.Lemmas.Places.{committing_there}
 use Rattle.kernel.proofs.Ports.{ports_given, ports_counted, ports_stay}
 use Rattle.kernel.proofs.Promising.{since_step}
 use Rattle.kernel.proofs.Valid.{agreed_now}

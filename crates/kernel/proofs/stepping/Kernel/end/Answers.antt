@@ -4,9 +4,9 @@ use Rattle.wal.specs.declared.types.Ended.TheVariants as ended_as
 use Rattle.wal.specs.Joint.{Joint}
 use Rattle.wal.specs.Machine.{ended, end_answer}
 use Rattle.inodes.specs.Store.{StoreState, KeepsFiles, with_log}
-use Rattle.journal.specs.declared.types.At.TheVariants as at
-use Rattle.journal.specs.Lemmas.Answers.{CanAnswer}
-use Rattle.journal.specs.Processes.{World, process, last_answer, is_ending}
+use Rattle.history.specs.declared.types.At.TheVariants as at
+use Rattle.history.specs.Lemmas.Answers.{CanAnswer}
+use Rattle.history.specs.Processes.{World, process, last_answer, is_ending}
 use Rattle.kernel.specs.declared.types.Step.TheVariants as step
 use Rattle.kernel.specs.Invariant.{IsRight, LeavesSince}
 use Rattle.kernel.specs.Next.{step_of_end, world_ended}
@@ -14,9 +14,9 @@ use Rattle.kernel.specs.State.{State}
 use Rattle.kernel.specs.Acts.{Acts}
 use Rattle.kernel.proofs.Acting.{acts_ended, same_unasked, sides_same}
 use Rattle.kernel.proofs.Answering.{answer_ends}
-use Rattle.journal.specs.Lemmas.Groups.{closed_uncommitted}
+use Rattle.history.specs.Lemmas.Groups.{closed_uncommitted}
 use Rattle.kernel.proofs.Closing.{right_closed, right_left}
-use Rattle.journal.specs.Lemmas.Places.{ending_there}
+use Rattle.history.specs.Lemmas.Places.{ending_there}
 use Rattle.kernel.proofs.Ports.{ports_committing, ports_given, ports_counted}
 use Rattle.kernel.proofs.Promising.{since_step}
 use Rattle.kernel.proofs.Valid.{HasAgreed, agreed_now}

@@ -8,11 +8,11 @@ use Rattle.wal.specs.Volume.{fault_of_task}
 use Rattle.inodes.specs.Steps.{Steps}
 use Rattle.inodes.specs.Store.{StoreState}
 use Rattle.inodes.specs.Tasks.{task}
-use Rattle.journal.specs.declared.types.At.{At}
-use Rattle.journal.specs.declared.types.At.TheVariants as at
-use Rattle.journal.specs.Journal.{entry_in}
-use Rattle.journal.specs.Lemmas.Answers.{CanAnswer}
-use Rattle.journal.specs.Processes.{World, process, is_behind, last_answer, decided, answered}
+use Rattle.history.specs.declared.types.At.{At}
+use Rattle.history.specs.declared.types.At.TheVariants as at
+use Rattle.history.specs.Journal.{entry_in}
+use Rattle.history.specs.Lemmas.Answers.{CanAnswer}
+use Rattle.history.specs.Processes.{World, process, is_behind, last_answer, decided, answered}
 use Rattle.kernel.specs.Invariant.{IsRight, ArePorts, LeavesSince}
 use Rattle.kernel.specs.Next.{step_behind, step_of_last, step_of_told, world_behind, world_of_last, world_of_told}
 use Rattle.kernel.specs.Ports.{KeepsOthers}

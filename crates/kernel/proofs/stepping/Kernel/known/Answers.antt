@@ -2,11 +2,11 @@ use Rattle.std.proofs.Common.{rules, ◌≡◌, ◌∙◌, sym, subst}
 use Rattle.bcache.specs.Buffers.{IsCache}
 use Rattle.bcache.specs.Lemmas.Current.{length-current}
 use Rattle.blocks.specs.Disk.{Image}
-use Rattle.journal.specs.Keeps.{KeepsNow}
-use Rattle.journal.specs.Most.{most_of}
-use Rattle.journal.specs.Lemmas.Groups.{all_committed}
-use Rattle.journal.specs.Lemmas.Known.{known_current, known_files, known_size, kept_of_taken}
-use Rattle.journal.specs.Lemmas.Shapes.{rising_beginnings}
+use Rattle.history.specs.Keeps.{KeepsNow}
+use Rattle.history.specs.Most.{most_of}
+use Rattle.history.specs.Lemmas.Groups.{all_committed}
+use Rattle.history.specs.Lemmas.Known.{known_current, known_files, known_size, kept_of_taken}
+use Rattle.history.specs.Lemmas.Shapes.{rising_beginnings}
 use Rattle.kernel.specs.Known.{Known}
 use Rattle.kernel.specs.State.{State}
 use Rattle.kernel.proofs.Openings.{opens_again}

@@ -15,7 +15,7 @@ use Rattle.model.specs.Files.{files_of}
 use Rattle.model.specs.declared.types.image.Super.{Super}
 use Rattle.kernel.proofs.Valid.{agreed_now}
 use Rattle.inodes.specs.Tasks.{no_task}
-use Rattle.journal.specs.Processes.{World, fresh_world}
+use Rattle.history.specs.Processes.{World, fresh_world}
 use Rattle.kernel.specs.Invariant.{IsRight, ArePorts}
 use Rattle.kernel.proofs.AtOpening.{right_new}
 use Rattle.kernel.proofs.Openings.{super_size, lawful_here, recover_cause, syncs_at_open, opened_form, opened_numbers, empty_left, recover_unwritten, store_is}

@@ -9,9 +9,9 @@ use Rattle.inodes.specs.Places.{is_over}
 use Rattle.inodes.specs.Steps.{Steps}
 use Rattle.inodes.specs.Store.{StoreState}
 use Rattle.inodes.specs.Tasks.{task}
-use Rattle.journal.specs.declared.types.At.{At}
-use Rattle.journal.specs.declared.types.At.TheVariants as at
-use Rattle.journal.specs.Processes.{World, process, turned}
+use Rattle.history.specs.declared.types.At.{At}
+use Rattle.history.specs.declared.types.At.TheVariants as at
+use Rattle.history.specs.Processes.{World, process, turned}
 use Rattle.kernel.specs.Invariant.{Inv, IsRight, ArePorts, LeavesSince, TaskStands}
 use Rattle.kernel.specs.Next.{step_of, world_after}
 use Rattle.kernel.specs.State.{State}

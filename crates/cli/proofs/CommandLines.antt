@@ -1,0 +1,103 @@
+-- The command line, word by word, and what a parse of it says.
+use Rattle.std.proofs.Common.{◌≡◌, ◌∙◌, ℕ, List, [], Bool, true, false, ◌||◌, Option, Some, None, Ok, Err, refl, sym, ap, ap₂, subst, inl}
+use Rattle.std.specs.Prelude.{⊤, codes, IfOk, MatchOption, Result, option_map}
+use Rattle.std.proofs.lemmas.Result.{IfOk-weaker}
+use Rattle.std.proofs.lemmas.Option.{same_Some}
+use Rattle.clap.specs.Built.{AddsArg, AddsSubcommand}
+use Rattle.clap.specs.Words.{one_text, App, FailsBy, HasKind, HasMatchesOf, Row, Rule, fault_of, first_of, first_value, is_simple, is_simple_and_free, rows_of, rule_of, subcommand_of, subcommand_rows_of, with_rule, with_subcommand}
+use Rattle.clap.specs.declared.builder.arg.Arg.{Arg}
+use Rattle.clap.specs.declared.builder.command.Command.{Command}
+use Rattle.clap.specs.declared.error.Error.{Error}
+use Rattle.clap.specs.declared.parser.matches.ArgMatches.{ArgMatches}
+use Rattle.clap.specs.declared.parser.matches.Found.{Found}
+use Rattle.clap.proofs.OnLiterals.{clap_on_literals}
+use Rattle.clap.proofs.WalkLemmas.{first_value-rows, one_text-rows}
+use Rattle.cli.specs.declared.words.Request.{Request}
+use Rattle.cli.specs.declared.words.Request.TheVariants.{Mkfs, Check, Recover, Cat, Ls, Show, Put, Copy, Replay, Run, Stops}
+use Rattle.cli.specs.CommandLine.{AskFor, Asks, AsksBy, HasApp, HasChoice, HasFewWorkers, HasFlag, HasWord, IsMistakeIn, mistakes_in, xvfs_app}
+
+pub one_word : (app : App) (rule : Rule) (old : Command) (word : Arg) (new : Command) → HasApp app old → rule_of word ≡ rule → word.global ≡ false → AddsArg old word new → HasApp (with_rule app rule) new
+one_word app rule old word new has is local adds =
+    (adds.shape local ∙ ap₂ with_rule has.0 is, adds.globals ∙ ap₂ (λ (a b : Bool). a || b) has.1 local)
+
+-- a command that was handed on got one more word
+pub next_word : {E F : Type 0} (app : App) (rule : Rule) (old : Result Command E) (word : Arg) (new : Result Command F) → IfOk old (HasApp app) → rule_of word ≡ rule → word.global ≡ false → IfOk new (HasWord old word) → IfOk new (HasApp (with_rule app rule))
+next_word app rule old word new has is local more = IfOk-weaker new _ _ (λ r adds. adds app rule has is local) more
+
+pub one_command : (app sub : App) (old added new : Command) → HasApp app old → HasApp sub added → AddsSubcommand old added new → HasApp (with_subcommand app sub.top) new
+one_command app sub old added new has own adds =
+    (adds.shape own.1 ∙ ap₂ with_subcommand has.0 (ap (λ (a : App). a.top) own.0), adds.globals ∙ ap₂ (λ (a b : Bool). a || b) has.1 own.1)
+
+-- the program's command line is one that clap's definitions read
+simple : is_simple xvfs_app ≡ true
+unfolding clap_on_literals
+simple = refl
+
+free : is_simple_and_free xvfs_app ≡ true
+unfolding clap_on_literals
+free = refl
+
+-- words that a parse took have no mistake
+pub none_mistaken : (app : App) (words : List (List ℕ)) (m : ArgMatches) → app ≡ xvfs_app → (is_simple_and_free app ≡ true → FailsBy (fault_of app words) (Ok m)) → mistakes_in words ≡ []
+none_mistaken app words m is fails = subst (λ (a : App). fault_of a words ≡ []) is (fails (ap is_simple_and_free is ∙ free))
+
+-- words that a parse refused have the error's kind of mistake
+pub mistaken : (app : App) (words : List (List ℕ)) (e : Error) → app ≡ xvfs_app → (is_simple_and_free app ≡ true → FailsBy {T = ArgMatches} (fault_of app words) (Err e)) → IsMistakeIn words e
+mistaken app words e is fails = inl (subst (λ (a : App). HasKind (fault_of a words) e) is (fails (ap is_simple_and_free is ∙ free)))
+
+-- the command that a parse met is the words'
+pub met : (app : App) (words : List (List ℕ)) (m : ArgMatches) (request : Request) → app ≡ xvfs_app → HasMatchesOf app words m → Asks (subcommand_rows_of m) request → Asks (subcommand_of xvfs_app words) request
+met app words m request is matches asks =
+    subst (λ command. Asks command request) ((matches (ap is_simple is ∙ simple)).1 ∙ ap (λ (a : App). subcommand_of a words) is) asks
+
+pub some_is_not_none : {A : Type 0} (x : A) → Some x ≡ None → ⊥
+some_is_not_none x same = subst (λ o. MatchOption o ⊥ (λ _. ⊤)) same tt
+
+-- a request of the command that was met
+pub asked : {B : Type 0} (f : B → List ℕ × List Row) (sub : Option B) (name : List ℕ) (rows : List Row) (request : Request) → Some name ≡ option_map (λ b. (f b).0) sub → Some rows ≡ option_map (λ p. p.1) (option_map f sub)
+    → AsksBy name rows request → Asks (option_map f sub) request
+asked f None name rows request named has asks = absurd (some_is_not_none name named)
+asked f (Some b) name rows request named has asks =
+    subst (λ n. AsksBy n (f b).1 request) (same_Some name (f b).0 named) (subst (λ rs. AsksBy name rs request) (same_Some rows (f b).1 has) asks)
+
+-- so is one of the command of that name
+pub asked_by : {B : Type 0} (f : B → List ℕ × List Row) (sub : Option B) (name of : List ℕ) (rows : List Row) (request : Request) → name ≡ of → Some name ≡ option_map (λ b. (f b).0) sub → Some rows ≡ option_map (λ p. p.1) (option_map f sub)
+    → AsksBy of rows request → Asks (option_map f sub) request
+asked_by f sub name of rows request is named has asks = asked f sub name rows request named has (subst (λ n. AsksBy n rows request) (sym is) asks)
+
+-- the first value of a word
+pub value_read : (f : Found) (id text : List ℕ) → Some text ≡ first_value f id → first_of id (rows_of f) ≡ Some text
+value_read f id text gives = sym (gives ∙ first_value-rows f id)
+
+-- what clap says of a word that may be given
+pub flag_read : (f : Found) (id : List ℕ) (given : Bool) → (one_text f id ≡ None → given ≡ false) → (one_text f id ≡ Some (codes "true") → given ≡ true) → (one_text f id ≡ Some (codes "false") → given ≡ false) → HasFlag id (rows_of f) given
+flag_read f id given none set unset = record {
+  set = λ is. set (one_text-rows f id ∙ is);
+  unset = λ is. unset (one_text-rows f id ∙ is);
+  none = λ is. none (one_text-rows f id ∙ is);
+}
+
+-- what clap says of a number that may be left out
+pub choice_read : (f : Found) (id : List ℕ) (given : Option ℕ) → (one_text f id ≡ None → given ≡ None) → HasChoice id (rows_of f) given
+choice_read f id given none = record { none = λ is. none (one_text-rows f id ∙ is) }
+
+few_by : (name : List ℕ) (rows : List Row) (request : Request) → AsksBy name rows request → HasFewWorkers request
+few_by name rows (Mkfs image size ninodes large) asks = tt
+few_by name rows (Check image) asks = tt
+few_by name rows (Recover image sync) asks = tt
+few_by name rows (Cat image inum) asks = tt
+few_by name rows (Ls image) asks = tt
+few_by name rows (Show image inum) asks = tt
+few_by name rows (Put image file inum) asks = tt
+few_by name rows (Copy old new size) asks = tt
+few_by name rows (Replay image script schedule stop sync) asks = tt
+few_by name rows (Run image script workers sync) asks = (asks.3.0, asks.3.1)
+few_by name rows (Stops script schedule held) asks = tt
+
+few_of : (command : Option (List ℕ × List Row)) (request : Request) → Asks command request → HasFewWorkers request
+few_of None request asks = absurd asks
+few_of (Some command) request asks = few_by command.0 command.1 request asks
+
+-- what words ask for has few workers
+pub few_workers : (words : List (List ℕ)) (request : Request) → AskFor words request → HasFewWorkers request
+few_workers words request asks = few_of (subcommand_of xvfs_app words) request asks.asks

@@ -1,0 +1,13 @@
+use Rattle.std.proofs.Common.{codes, refl}
+use Rattle.clap.specs.Words.{found_of}
+use Rattle.cli.proofs.CommandLines.{choice_read, value_read}
+use Rattle.cli.proofs.words.put_request.Goals as goal
+
+pub returns : goal.returns
+returns c =
+    let found = found_of c.args.values.now in (
+      refl,
+      value_read found (codes "IMAGE") _ c.in_ok-image.ensures,
+      value_read found (codes "FILE") _ c.in_ok-get_str.ensures,
+      choice_read found (codes "INUM") c.get_one.result c.get_one.ensures.none,
+    )

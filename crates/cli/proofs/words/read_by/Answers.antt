@@ -1,0 +1,18 @@
+use Rattle.std.proofs.Common.{map, rules}
+use Rattle.cli.specs.CommandLine.{IsMistakeIn}
+use Rattle.cli.proofs.CommandLines.{met, mistaken, none_mistaken}
+use Rattle.cli.proofs.words.read_by.Goals as goal
+
+pub returns-in_err-matches-clause-err : goal.returns-in_err-matches-clause-err
+returns-in_err-matches-clause-err g c =
+    let words = map g.S.AsStr.text c.args.words.now in
+    let mistake : IsMistakeIn words c.in_err-matches.field-0.0 = mistaken _ words c.in_err-matches.field-0.0 c.requires.0 c.in_err-matches.ensures.kinds in
+    search rules
+
+pub returns-in-Some-clause-ok : goal.returns-in-Some-clause-ok
+returns-in-Some-clause-ok g c =
+    let words = map g.S.AsStr.text c.args.words.now in
+    record {
+      right = none_mistaken _ words c.in_ok-matches.matches c.requires.0 c.in_ok-matches.ensures.kinds;
+      asks = met _ words c.in_ok-matches.matches c.in-Some.request c.requires.0 c.in_ok-matches.ensures.ok.2 c.in-Some.ensures;
+    }

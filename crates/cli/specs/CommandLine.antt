@@ -1,0 +1,203 @@
+-- The command line, as clap is told it.
+use Rattle.std.specs.Prelude.{◌≡◌, ◌⊎◌, ◌≤◌, ⊤, ℕ, List, [], Bool, IfOk, Option, Result, Some, None, true, false, codes, pos}
+use Rattle.clap.specs.Words.{App, HasKind, Kinds, Row, Rule, new_app, new_rule, app_of, fault_of, first_of, kind_of, one_of, rule_of, subcommand_of, with_rule, with_subcommand}
+use Rattle.clap.specs.declared.error.Error.{Error}
+use Rattle.clap.specs.declared.error.kind.ErrorKind.TheVariants as kind
+use Rattle.cli.specs.declared.words.Request.{Request}
+use Rattle.cli.specs.declared.words.Request.TheVariants.{Mkfs, Check, Recover, Cat, Ls, Show, Put, Copy, Replay, Run, Stops}
+use Rattle.clap.specs.declared.builder.arg.Arg.{Arg}
+use Rattle.clap.specs.declared.builder.command.Command.{Command}
+use Rattle.clap.specs.declared.builder.command.Command.TheViews.{out-Command}
+use Rattle.clap.specs.declared.builder.action.ArgAction.TheVariants.{SetTrue}
+use Rattle.clap.specs.declared.builder.value_parser.ValueParser.TheVariants.{Signed, Unsigned}
+
+-- a word that has to be there
+abbrev pub required_rule : List ℕ → Rule
+required_rule id = record (new_rule id) { required = true }
+
+-- the same, a number of 32 bits
+abbrev pub number_rule : List ℕ → Rule
+number_rule id = record (required_rule id) { parser = Some (Signed (pos 0) (pos 4294967295)) }
+
+-- `--stop N`, where N is from 1
+abbrev pub stop_rule : Rule
+stop_rule = record (new_rule (codes "stop")) {
+  long = Some (codes "stop");
+  value_names = 1;
+  parser = Some (Unsigned 1 18446744073709551615);
+}
+
+-- a word `--` that may be given
+abbrev pub flag_rule : List ℕ → Rule
+flag_rule id = record (new_rule id) { long = Some id; action = Some SetTrue }
+
+-- a command with one word
+abbrev pub first_app : List ℕ → List ℕ → App
+first_app name word = with_rule (new_app name) (required_rule word)
+
+-- a command over an image
+abbrev pub image_app : List ℕ → App
+image_app name = with_rule (new_app name) (required_rule (codes "IMAGE"))
+
+abbrev pub mkfs_app : App
+mkfs_app = with_rule (with_rule (with_rule (image_app (codes "mkfs"))
+    (number_rule (codes "SIZE"))) (number_rule (codes "NINODES"))) (flag_rule (codes "large"))
+
+abbrev pub recover_app : App
+recover_app = with_rule (image_app (codes "recover")) (flag_rule (codes "sync"))
+
+abbrev pub cat_app : App
+cat_app = with_rule (image_app (codes "cat")) (number_rule (codes "INUM"))
+
+-- the same number where it may be left out
+abbrev pub choice_rule : List ℕ → Rule
+choice_rule id = record (new_rule id) { parser = Some (Signed (pos 0) (pos 4294967295)) }
+
+abbrev pub show_app : App
+show_app = with_rule (image_app (codes "show")) (choice_rule (codes "INUM"))
+
+abbrev pub put_app : App
+put_app = with_rule (with_rule (image_app (codes "put")) (required_rule (codes "FILE")))
+    (choice_rule (codes "INUM"))
+
+-- `--size N`
+abbrev pub size_rule : Rule
+size_rule = record (choice_rule (codes "size")) {
+  long = Some (codes "size");
+  value_names = 1;
+}
+
+abbrev pub copy_app : App
+copy_app = with_rule (with_rule (with_rule (new_app (codes "copy"))
+    (required_rule (codes "OLD"))) (required_rule (codes "NEW"))) size_rule
+
+abbrev pub replay_app : App
+replay_app = with_rule (with_rule (with_rule (with_rule (image_app (codes "replay"))
+    (required_rule (codes "SCRIPT"))) (required_rule (codes "SCHEDULE"))) stop_rule)
+    (flag_rule (codes "sync"))
+
+-- `--workers N`, where N is from 1 to 32
+abbrev pub workers_rule : Rule
+workers_rule = record (new_rule (codes "workers")) {
+  long = Some (codes "workers");
+  value_names = 1;
+  parser = Some (Signed (pos 1) (pos 32));
+}
+
+abbrev pub run_app : App
+run_app = with_rule (with_rule (with_rule (image_app (codes "run"))
+    (required_rule (codes "SCRIPT"))) workers_rule) (flag_rule (codes "sync"))
+
+abbrev pub stops_app : App
+stops_app = with_rule (with_rule (with_rule (new_app (codes "stops"))
+    (required_rule (codes "SCRIPT"))) (required_rule (codes "SCHEDULE"))) (flag_rule (codes "held"))
+
+-- the program, with no command yet
+abbrev pub bare_app : App
+bare_app = record (new_app (codes "xvfs")) {
+  top = record (new_app (codes "xvfs")).top {
+    has_version = true;
+    no_binary_name = true;
+    subcommand_required = true;
+  };
+}
+
+-- with those that make an image and read it
+abbrev pub files_app : App
+files_app =
+    with_subcommand (with_subcommand (with_subcommand (with_subcommand bare_app mkfs_app.top)
+    (image_app (codes "check")).top) (image_app (codes "ls")).top) cat_app.top
+
+-- and with those over an image that need no script
+abbrev pub images_app : App
+images_app = with_subcommand (with_subcommand (with_subcommand (with_subcommand files_app
+    show_app.top) put_app.top) copy_app.top) recover_app.top
+
+abbrev pub xvfs_app : App
+xvfs_app =
+    with_subcommand (with_subcommand (with_subcommand (with_subcommand (with_subcommand
+    (with_subcommand (with_subcommand files_app show_app.top) put_app.top) copy_app.top)
+    recover_app.top) replay_app.top) run_app.top) stops_app.top
+
+-- a command of this shape, whose arguments are its own
+abbrev pub HasApp : App → Command → Type 0
+HasApp app c = (app_of c ≡ app) × ((out-Command c).has_globals ≡ false)
+
+-- a program that has one more command than another had
+abbrev pub HasMore : {E : Type 0} → Command → Result Command E → Command → Type 0
+HasMore old more new = (app sub : App) → HasApp app old → IfOk more (HasApp sub)
+    → HasApp (with_subcommand app sub.top) new
+
+-- a command that has one more word than another had
+abbrev pub HasWord : {E : Type 0} → Result Command E → Arg → Command → Type 0
+HasWord old word new = (app : App) (rule : Rule) → IfOk old (HasApp app) → rule_of word ≡ rule
+    → word.global ≡ false → HasApp (with_rule app rule) new
+
+-- the kinds of mistake in these words, and of answers about the program; none where they make a
+-- command
+abbrev pub mistakes_in : List (List ℕ) → Kinds
+mistakes_in words = fault_of xvfs_app words
+
+-- so many workers are asked for: from 1 to 32, and 1 where no number is given
+abbrev pub HasWorkers : List Row → ℕ → Type 0
+HasWorkers rows n = (1 ≤ n) × (n ≤ 32) × (one_of (codes "workers") rows ≡ None → n ≡ 1)
+
+-- a word that may be given is there, or isn't
+pub record HasFlag (id : List ℕ) (rows : List Row) (given : Bool) : Type 0 where
+  pub set : one_of id rows ≡ Some (codes "true") → given ≡ true
+  pub unset : one_of id rows ≡ Some (codes "false") → given ≡ false
+  pub none : one_of id rows ≡ None → given ≡ false
+
+-- a number that may be left out is there where its word is, and only there
+pub record HasChoice (id : List ℕ) (rows : List Row) (given : Option ℕ) : Type 0 where
+  pub none : one_of id rows ≡ None → given ≡ None
+
+-- a run that is asked for has from 1 to 32 workers
+abbrev pub HasFewWorkers : Request → Type 0
+HasFewWorkers (Run image script workers sync) = (1 ≤ workers) × (workers ≤ 32)
+HasFewWorkers request = ⊤
+
+-- a command of this name, with these values, asks for the request
+abbrev pub AsksBy : List ℕ → List Row → Request → Type 0
+AsksBy name rows (Mkfs image size ninodes large) = (name ≡ codes "mkfs")
+    × (first_of (codes "IMAGE") rows ≡ Some image.now) × HasFlag (codes "large") rows large
+AsksBy name rows (Check image) = (name ≡ codes "check")
+    × (first_of (codes "IMAGE") rows ≡ Some image.now)
+AsksBy name rows (Recover image sync) = (name ≡ codes "recover")
+    × (first_of (codes "IMAGE") rows ≡ Some image.now) × HasFlag (codes "sync") rows sync
+AsksBy name rows (Cat image inum) = (name ≡ codes "cat")
+    × (first_of (codes "IMAGE") rows ≡ Some image.now)
+AsksBy name rows (Ls image) = (name ≡ codes "ls")
+    × (first_of (codes "IMAGE") rows ≡ Some image.now)
+AsksBy name rows (Show image inum) = (name ≡ codes "show")
+    × (first_of (codes "IMAGE") rows ≡ Some image.now) × HasChoice (codes "INUM") rows inum
+AsksBy name rows (Put image file inum) = (name ≡ codes "put")
+    × (first_of (codes "IMAGE") rows ≡ Some image.now)
+    × (first_of (codes "FILE") rows ≡ Some file.now) × HasChoice (codes "INUM") rows inum
+AsksBy name rows (Copy old new size) = (name ≡ codes "copy")
+    × (first_of (codes "OLD") rows ≡ Some old.now)
+    × (first_of (codes "NEW") rows ≡ Some new.now) × HasChoice (codes "size") rows size
+AsksBy name rows (Replay image script schedule stop sync) =
+    (name ≡ codes "replay") × (first_of (codes "IMAGE") rows ≡ Some image.now)
+    × (first_of (codes "SCRIPT") rows ≡ Some script.now)
+    × (first_of (codes "SCHEDULE") rows ≡ Some schedule.now) × HasFlag (codes "sync") rows sync
+AsksBy name rows (Run image script workers sync) =
+    (name ≡ codes "run") × (first_of (codes "IMAGE") rows ≡ Some image.now)
+    × (first_of (codes "SCRIPT") rows ≡ Some script.now) × HasWorkers rows workers
+    × HasFlag (codes "sync") rows sync
+AsksBy name rows (Stops script schedule held) =
+    (name ≡ codes "stops") × (first_of (codes "SCRIPT") rows ≡ Some script.now)
+    × (first_of (codes "SCHEDULE") rows ≡ Some schedule.now) × HasFlag (codes "held") rows held
+
+abbrev pub Asks : Option (List ℕ × List Row) → Request → Type 0
+Asks None request = ⊥
+Asks (Some command) request = AsksBy command.0 command.1 request
+
+-- the words make a command, which asks for the request
+pub record AskFor (words : List (List ℕ)) (request : Request) : Type 0 where
+  pub right : mistakes_in words ≡ []
+  pub asks : Asks (subcommand_of xvfs_app words) request
+
+-- the error is a mistake in the words, or that memory was refused
+abbrev pub IsMistakeIn : List (List ℕ) → Error → Type 0
+IsMistakeIn words e = HasKind (mistakes_in words) e ⊎ (kind_of e ≡ kind.MissingSubcommand)

@@ -1,0 +1,48 @@
+-- The images of runs, and the files that they have to have.
+use Rattle.std.specs.Prelude.{◌≡◌, ℕ, Bool, true, false, List, replicate, Option, Some, None}
+use Rattle.blocks.specs.Disk.{Image}
+use Rattle.model.specs.declared.types.fault.CheckFault.TheVariants as check
+use Rattle.model.specs.declared.types.image.Form.TheVariants.{One}
+use Rattle.model.specs.declared.types.operations.Entry.{Entry}
+use Rattle.model.specs.Codec.{made_image}
+use Rattle.model.specs.Files.{Files, files_of}
+use Rattle.model.specs.Journal.{kept, replay}
+use Rattle.model.specs.Log.{logged_count, recovered}
+use Rattle.model.specs.Verdict.{verdict}
+use Rattle.wal.specs.declared.faults.RecoverFault.TheVariants as recover
+use Rattle.messages.specs.declared.faults.KernelFault.TheVariants as kernel
+use Rattle.messages.specs.declared.refusal.Refusal.{Refusal}
+use Rattle.messages.specs.declared.refusal.Refusal.TheVariants.{Check, Recover, Open}
+
+-- a new image of 48 blocks with 16 inode numbers
+abbrev pub new_image : Image
+new_image = made_image One 48 16
+
+-- the files after the operations of the committed groups, where there was none before; None where
+-- one of them can't have its reply
+abbrev pub kept_files : List Entry → ℕ → Option Files
+kept_files entries committed = replay One (replicate 16 None) (kept 16 entries committed)
+
+-- the image can be recovered, and then has exactly these files
+pub record HasFiles (x : Image) (due : Option Files) : Type 0 where
+  pub sound : verdict x ≡ None
+  pub files : due ≡ Some (files_of (recovered x))
+
+-- the image was recovered to that one, with so many blocks of its log copied home
+pub record IsRecoveredTo (x : Image) (count : ℕ) (y : Image) : Type 0 where
+  pub sound : verdict x ≡ None
+  pub logged : count ≡ logged_count x
+  pub image : y ≡ recovered x
+
+-- it can be recovered, its log holds so many blocks, and these are its files then
+pub record IsFound (x : Image) (count : ℕ) (found : Files) : Type 0 where
+  pub sound : verdict x ≡ None
+  pub logged : count ≡ logged_count x
+  pub files : found ≡ files_of (recovered x)
+
+-- the refusals that memory was refused
+abbrev pub is_want_of_memory : Refusal → Bool
+is_want_of_memory (Check check.NoMemory) = true
+is_want_of_memory (Recover recover.NoMemory) = true
+is_want_of_memory (Open kernel.NoMemory) = true
+is_want_of_memory r = false

@@ -1,0 +1,112 @@
+// The images of runs: new ones, and what they leave.
+ghost use Rattle.std.specs.Prelude.{◌≡◌, ◌↔◌, IfNone, IfOk, IfSome, IsTrue, None};
+ghost use Rattle.model.specs.Log.{logged_count, recovered};
+ghost use Rattle.model.specs.Verdict.{verdict};
+ghost use Rattle.opening.specs.Recoveries.{IsRecovered};
+ghost use Rattle.crash_check.specs.Images.{IsFound, IsRecoveredTo, is_want_of_memory, new_image};
+
+use blocks::{Block, Disk, MemDisk, NoMemory};
+use layout::CheckFault;
+use offline::mkfs;
+use opening::recover_image;
+use reference::files::Files;
+use reference::report::files_after_recovery;
+use std::alloc::Global;
+use messages::{KernelFault, Refusal};
+use wal::RecoverFault;
+
+// The blocks of an image.
+const SIZE: u32 = 48;
+
+/// Its inode numbers, the unused number 0 included.
+pub const INODES: u32 = 16;
+
+/// A new image in memory.
+pub fn new_image(alloc: Global) -> Result<MemDisk, NoMemory>
+    ensures { IfOk result (λ disk. ⟦<MemDisk as Disk>⟧.image disk ≡ new_image) }
+{
+    let mut disk = MemDisk::new(alloc, SIZE)?;
+    // An image of this size can be made, and a disk in memory doesn't fail.
+    mkfs(alloc, &mut disk, SIZE, INODES).map_err(|_| NoMemory)?;
+    Ok(disk)
+}
+
+/// How many blocks the log of a disk's image holds, and the files that it has once it is recovered;
+/// None where it can't be recovered, twice.
+pub fn recovered_files(alloc: Global, disk: &mut MemDisk) -> Result<Option<(u32, Files)>, NoMemory>
+    ensures some { IfOk result (λ found. IfSome found (λ f.
+        IsFound (⟦<MemDisk as Disk>⟧.image disk.old) f.0 f.1.items)) }
+    ensures none { IfOk result (λ found. IfNone found
+        (¬ (verdict (⟦<MemDisk as Disk>⟧.image disk.old) ≡ None))) }
+{
+    let Some(logged) = recover_twice(alloc, disk)? else {
+        return Ok(None);
+    };
+    let blocks = blocks_of(alloc, disk)?;
+    match files_after_recovery(alloc, blocks.as_slice()) {
+        Ok(files) => Ok(Some((logged, files))),
+        Err(fault) if is_want_of_memory(&Refusal::Check(fault)) => Err(NoMemory),
+        Err(_) => Ok(None),
+    }
+}
+
+// The blocks of a disk.
+fn blocks_of(alloc: Global, disk: &mut MemDisk) -> Result<Vec<Block>, NoMemory>
+    ensures { IfOk result (λ blocks. blocks.items ≡ ⟦<MemDisk as Disk>⟧.image disk.old) }
+{
+    let mut blocks = Vec::new(alloc);
+    for b in 0..disk.size() {
+        let mut block = Block::zeroed(alloc)?;
+        if disk.read(b, &mut block).is_err() {
+            // A disk in memory doesn't fail.
+            return Err(NoMemory);
+        }
+        blocks.push(block)?;
+    }
+    Ok(blocks)
+}
+
+// Recovers the image of a disk, and once more. How many blocks were copied home the first time; None
+// where it can't be recovered, or something was left to do the second time.
+fn recover_twice(alloc: Global, disk: &mut MemDisk) -> Result<Option<u32>, NoMemory>
+    ensures some { IfOk result (λ logged. IfSome logged (λ n.
+        IsRecoveredTo (⟦<MemDisk as Disk>⟧.image disk.old) n
+        (⟦<MemDisk as Disk>⟧.image disk.new))) }
+    ensures none { IfOk result (λ logged. IfNone logged
+        (¬ (verdict (⟦<MemDisk as Disk>⟧.image disk.old) ≡ None))) }
+{
+    let Some(logged) = recover(alloc, disk)? else {
+        return Ok(None);
+    };
+    match recover(alloc, disk)? {
+        Some(left) if left == 0 => Ok(Some(logged)),
+        Some(_) => Ok(None),
+        None => Ok(None),
+    }
+}
+
+// Recovers the image of a disk. How many blocks were copied home; None where it can't be recovered.
+fn recover(alloc: Global, disk: &mut MemDisk) -> Result<Option<u32>, NoMemory>
+    ensures some { IfOk result (λ copied. IfSome copied (λ n.
+        IsRecovered ⟦<MemDisk as Disk>⟧ n disk.old disk.new)) }
+    ensures none { IfOk result (λ copied. IfNone copied
+        (¬ (verdict (⟦<MemDisk as Disk>⟧.image disk.old) ≡ None))) }
+{
+    match recover_image(alloc, disk) {
+        Ok(copied) => Ok(Some(copied)),
+        Err(refusal) if is_want_of_memory(&Refusal::from(refusal)) => Err(NoMemory),
+        Err(_) => Ok(None),
+    }
+}
+
+/// Whether a refusal says that memory was refused.
+pub fn is_want_of_memory(refusal: &Refusal) -> bool
+    ensures { result ≡ is_want_of_memory refusal.now }
+{
+    match refusal {
+        Refusal::Check(fault) => matches!(fault, CheckFault::NoMemory),
+        Refusal::Recover(fault) => matches!(fault, RecoverFault::NoMemory),
+        Refusal::Open(fault) => matches!(fault, KernelFault::NoMemory),
+        _ => false,
+    }
+}

@@ -1,0 +1,16 @@
+//! The images that the runs of a script may leave, and the files that they have to have.
+//!
+//! A run begins with a new image in memory. What it leaves is recovered, by its code twice, and
+//! compared with the files that a plain program gets from the journal's operations of the committed
+//! groups; of a disk that holds writes back each image is, that a choice of the held writes leaves.
+//!
+//! No player and no schedule is known here.
+#![tactic(auto)]
+
+mod choices;
+mod files;
+mod images;
+
+pub use choices::{Due, try_choices};
+pub use commands::{is_want_of_memory, new_image};
+pub use files::{has_files, kept_files};

@@ -1,0 +1,6 @@
+use Rattle.std.proofs.Common.{◌≡◌, replicate}
+use Rattle.history.specs.Processes.{idle}
+use Rattle.history.proofs.processes.Processes.new.Given as goal
+
+abbrev pub invariant-loop-process : goal.invariant-loop-process
+invariant-loop-process l = l.processes.items ≡ replicate l._process idle

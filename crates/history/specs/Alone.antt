@@ -1,0 +1,22 @@
+-- Who commits does so alone.
+use Rattle.std.specs.Prelude.{◌≡◌, ℕ, Bool, true, false}
+use Rattle.wal.specs.Machine.{LogState, is_quiet}
+use Rattle.history.specs.declared.types.At.{At}
+use Rattle.history.specs.declared.types.At.TheVariants as at
+
+-- a process makes its group's commit
+abbrev pub is_committing_at : At → Bool
+is_committing_at at.Idle = false
+is_committing_at (at.Before group op) = false
+is_committing_at (at.Behind group k) = false
+is_committing_at (at.Ending group k) = false
+is_committing_at (at.Committing group k) = true
+
+-- One process at most makes a commit, while the log has one under way and no operation is open;
+-- where nobody does, the log has none.
+pub record CommitsAlone (ats : ℕ → At) (l : LogState) : Type 0 where
+  pub sole : (p q : ℕ) → is_committing_at (ats p) ≡ true → is_committing_at (ats q) ≡ true
+      → p ≡ q
+  pub busy : (p : ℕ) → is_committing_at (ats p) ≡ true → is_quiet l.commit ≡ false
+  pub none_open : (p : ℕ) → is_committing_at (ats p) ≡ true → l.outstanding ≡ 0
+  pub quiet : ((p : ℕ) → is_committing_at (ats p) ≡ false) → is_quiet l.commit ≡ true

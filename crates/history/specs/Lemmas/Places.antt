@@ -1,0 +1,52 @@
+-- The processes after one of them went elsewhere.
+use Rattle.std.proofs.Common.{◌≡◌, ◌≢◌, ℕ, ◌<◌, true, List, length, get_or, set, refl, ◌∙◌, ap, length-set}
+use Rattle.std.proofs.lemmas.Bool.{false≢true}
+use Rattle.std.proofs.lemmas.List.{get_or-set_same, get_or-set_other}
+use Rattle.model.specs.declared.types.operations.Op.{Op}
+use Rattle.history.specs.declared.types.At.{At}
+use Rattle.history.specs.declared.types.At.TheVariants as at
+use Rattle.history.specs.declared.types.Process.{Process}
+use Rattle.history.specs.Alone.{is_committing_at}
+use Rattle.history.specs.Processes.{World, process, idle, is_before}
+use Rattle.history.specs.Processes.{is_behind, is_ending}
+
+module _ (w v : World) (p : ℕ) (t : Process) (is : v.processes ≡ set w.processes p t) where
+  pub there_now : p < length w.processes → process v p ≡ t
+  there_now lt = ap (λ (ps : List Process). get_or ps p idle) is ∙ get_or-set_same w.processes p t idle lt
+
+  pub others_stay : (q : ℕ) → q ≢ p → process v q ≡ process w q
+  others_stay q apart = ap (λ (ps : List Process). get_or ps q idle) is ∙ get_or-set_other w.processes p q t idle apart
+
+  -- as many processes
+  pub as_many : length v.processes ≡ length w.processes
+  as_many = ap (λ (ps : List Process). length ps) is ∙ length-set w.processes p t
+
+-- an operation that has not had its turn, one that goes on behind it, one that ends next, and one that
+-- commits
+pub before_there : (a : At) → is_before a ≡ true → (group : ℕ) × (op : Op) × (a ≡ at.Before group op)
+before_there at.Idle is = absurd (false≢true is)
+before_there (at.Before group op) is = (group, op, refl)
+before_there (at.Behind group k) is = absurd (false≢true is)
+before_there (at.Ending group k) is = absurd (false≢true is)
+before_there (at.Committing group k) is = absurd (false≢true is)
+
+pub behind_there : (a : At) → is_behind a ≡ true → (group : ℕ) × (k : ℕ) × (a ≡ at.Behind group k)
+behind_there at.Idle is = absurd (false≢true is)
+behind_there (at.Before group op) is = absurd (false≢true is)
+behind_there (at.Behind group k) is = (group, k, refl)
+behind_there (at.Ending group k) is = absurd (false≢true is)
+behind_there (at.Committing group k) is = absurd (false≢true is)
+
+pub ending_there : (a : At) → is_ending a ≡ true → (group : ℕ) × (k : ℕ) × (a ≡ at.Ending group k)
+ending_there at.Idle is = absurd (false≢true is)
+ending_there (at.Before group op) is = absurd (false≢true is)
+ending_there (at.Behind group k) is = absurd (false≢true is)
+ending_there (at.Ending group k) is = (group, k, refl)
+ending_there (at.Committing group k) is = absurd (false≢true is)
+
+pub committing_there : (a : At) → is_committing_at a ≡ true → (group : ℕ) × (k : ℕ) × (a ≡ at.Committing group k)
+committing_there at.Idle is = absurd (false≢true is)
+committing_there (at.Before group op) is = absurd (false≢true is)
+committing_there (at.Behind group k) is = absurd (false≢true is)
+committing_there (at.Ending group k) is = absurd (false≢true is)
+committing_there (at.Committing group k) is = (group, k, refl)

@@ -1,0 +1,267 @@
+// The processes and their journal, without store and ports.
+ghost use Rattle.std.specs.Prelude.{◌≡◌, ◌<◌, ◌^◌, ◌+◌, ◌↔◌, [], IsTrue, true, length, Some, IsSome, IfSome, IfOk, OnErr};
+ghost use Rattle.history.specs.Processes.{World, process, fresh_world, with_place, taken, refused};
+ghost use Rattle.history.specs.Journal.{plain_reply, FitsRoom};
+ghost use Rattle.history.specs.Processes.{turned, decided, over, entry_place, operation_at, HasEntryPlace, committing, answered, is_before, last_answer, refusal_answer};
+
+use crate::{At, Journal, Process};
+use blocks::NoMemory;
+use model::gathered::Gathered;
+use model::types::{Answer, Entry, Op, Reply};
+use std::alloc::Global;
+use std::marker::Model;
+use std::mem;
+
+/// The processes, numbered from 0, with the journal of their operations.
+#[derive(Drop)]
+pub struct Processes {
+    processes: Vec<Process>,
+    journal: Journal,
+    is_shut: bool,
+}
+
+impl Model for Processes {
+    ghost use Rattle.history.specs.World.{World};
+
+    ghost Value = { World };
+
+    ghost view = { λ w.
+        record { processes = w.processes.items; journal = w.journal; is_shut = w.is_shut } };
+}
+
+impl Processes {
+    /// So many idle processes, and an empty journal.
+    ///
+    /// # Errors
+    ///
+    /// `NoMemory` where the allocator refuses the processes.
+    pub fn new(alloc: Global, count: u32) -> Result<Processes, NoMemory>
+        ensures { IfOk result (λ w. w ≡ fresh_world count) }
+    {
+        let mut processes = Vec::new(alloc);
+        for _process in 0..count {
+            processes.push(Process {
+                begun: 0,
+                at: At::Idle,
+                room: None,
+            })?;
+        }
+        Ok(Processes {
+            processes,
+            journal: Journal::new(alloc),
+            is_shut: false,
+        })
+    }
+
+    /// The journal's entries, the oldest first.
+    pub fn entries(&self) -> &[Entry]
+        ensures { result.now ≡ self.now.journal.list }
+    {
+        self.journal.entries()
+    }
+
+    /// Whether no operation begins any more.
+    pub fn is_shut(&self) -> bool
+        ensures { result ≡ self.now.is_shut }
+    {
+        self.is_shut
+    }
+
+    /// No operation begins from now on.
+    pub fn shut(&mut self)
+        ensures { self.new ≡ record self.old { is_shut = true } }
+    {
+        self.is_shut = true;
+    }
+
+    /// How many processes there are.
+    pub fn len(&self) -> usize
+        ensures { result ≡ length self.now.processes }
+    {
+        self.processes.len()
+    }
+
+    /// Whether there are none.
+    pub fn is_empty(&self) -> bool
+        ensures { IsTrue result ↔ (self.now.processes ≡ []) }
+    {
+        self.processes.is_empty()
+    }
+
+    /// How many operations were taken for a process.
+    pub fn begun(&self, pid: u32) -> u64
+        requires { pid < length self.now.processes }
+        ensures { result ≡ (process self.now pid).begun }
+    {
+        self.processes[pid as usize].begun
+    }
+
+    /// Where the operation of a process stands.
+    pub fn at(&self, pid: u32) -> &At
+        requires { pid < length self.now.processes }
+        ensures { result.now ≡ (process self.now pid).at }
+    {
+        &self.processes[pid as usize].at
+    }
+
+    /// Does nothing: entries and kept places can be counted.
+    pub fn known(&self)
+        ensures { length self.now.journal.list + self.now.journal.room < 2 ^ 64 }
+    {
+        self.journal.known();
+    }
+
+    /// Keeps a place in the journal for one more operation.
+    ///
+    /// # Errors
+    ///
+    /// `NoMemory` where the allocator refuses the place; nothing is changed.
+    pub fn reserve(&mut self) -> Result<(), NoMemory>
+        requires { self.old.journal.room + 1 < 2 ^ 64 }
+        ensures ok { IfOk result (λ _. self.new ≡ with_place self.old) }
+        ensures err { OnErr result (self.new ≡ self.old) }
+    {
+        self.journal.reserve()
+    }
+
+    /// An operation of a process begins in this group (0: in none), with this room for the bytes of
+    /// its answer. A place in the journal is kept for it.
+    pub fn take(&mut self, pid: u32, group: u64, op: Op, room: Option<Gathered>)
+        requires pid { pid < length self.old.processes }
+        requires begun { (process self.old pid).begun + 1 < 2 ^ 64 }
+        ensures { self.new ≡ taken self.old pid group op room }
+    {
+        let process = &mut self.processes[pid as usize];
+        process.begun += 1;
+        process.at = At::Before { group, op };
+        process.room = room;
+    }
+
+    /// An operation is answered at once with a reply without bytes: its entry, of no group, is in
+    /// the journal, in a place that was kept. Its answer.
+    pub fn refuse(&mut self, pid: u32, op: Op, reply: Reply) -> Answer
+        requires pid { pid < length self.old.processes }
+        requires begun { (process self.old pid).begun + 1 < 2 ^ 64 }
+        requires room { 0 < self.old.journal.room }
+        requires plain { plain_reply (Some reply) ≡ Some reply }
+        ensures answer { result ≡ refusal_answer self.old pid reply }
+        ensures processes { self.new ≡ refused self.old pid op reply }
+    {
+        let process = &mut self.processes[pid as usize];
+        let seq = process.begun + 1;
+        process.begun = seq;
+        let place = self.journal.add(Entry {
+            pid,
+            seq,
+            op,
+            group: 0,
+            reply: Some(reply),
+        });
+        self.journal.answer(place, None)
+    }
+
+    /// The operation of a process has its turn: its entry, with the reply if it is known, is in the
+    /// journal, in the place that was kept. Where its task is over with it, it ends next.
+    pub fn turn(&mut self, pid: u32, reply: Option<Reply>, is_over: bool)
+        requires pid { pid < length self.old.processes }
+        requires before { is_before (process self.old pid).at ≡ true }
+        requires room { 0 < self.old.journal.room }
+        ensures { self.new ≡ turned self.old pid reply is_over }
+    {
+        let process = &mut self.processes[pid as usize];
+        let At::Before { group, op } = mem::replace(&mut process.at, At::Idle) else {
+            unreachable!();
+        };
+        let entry = self.journal.add(Entry {
+            pid,
+            seq: process.begun,
+            op,
+            group,
+            reply,
+        });
+        process.at = if is_over {
+            At::Ending { group, entry }
+        } else {
+            At::Behind { group, entry }
+        };
+    }
+
+    /// The operation of a process that had its turn and goes on.
+    pub fn operation(&self, pid: u32) -> &Op
+        requires pid { pid < length self.now.processes }
+        requires entry { HasEntryPlace self.now (entry_place (process self.now pid).at) }
+        ensures { Some result.now ≡ operation_at self.now (entry_place (process self.now pid).at) }
+    {
+        let Some(place) = entry_place(&self.processes[pid as usize].at) else {
+            unreachable!();
+        };
+        self.journal.operation(place)
+    }
+
+    /// The reply of a process's operation that had its turn is decided.
+    pub fn decide(&mut self, pid: u32, reply: Reply)
+        requires pid { pid < length self.old.processes }
+        requires entry { HasEntryPlace self.old (entry_place (process self.old pid).at) }
+        ensures { self.new ≡ decided self.old pid reply }
+    {
+        let Some(place) = entry_place(&self.processes[pid as usize].at) else {
+            unreachable!();
+        };
+        self.journal.tell(place, reply);
+    }
+
+    /// The task of an operation that had its turn is over: it ends in the log next.
+    pub fn go_to_end(&mut self, pid: u32)
+        requires { pid < length self.old.processes }
+        ensures { self.new ≡ over self.old pid }
+    {
+        let process = &mut self.processes[pid as usize];
+        process.at = match mem::replace(&mut process.at, At::Idle) {
+            At::Behind { group, entry } => At::Ending { group, entry },
+            at => at,
+        };
+    }
+
+    /// The operation of a process was the last of its group, and commits it.
+    pub fn commit(&mut self, pid: u32)
+        requires { pid < length self.old.processes }
+        ensures { self.new ≡ committing self.old pid }
+    {
+        let process = &mut self.processes[pid as usize];
+        process.at = match mem::replace(&mut process.at, At::Idle) {
+            At::Ending { group, entry } => At::Committing { group, entry },
+            at => at,
+        };
+    }
+
+    /// The operation of a process, which has its reply, is answered, with its bytes in the room
+    /// that was taken for them. Its answer.
+    pub fn answer(&mut self, pid: u32) -> Answer
+        requires pid { pid < length self.old.processes }
+        requires entry { IsSome (last_answer self.old (process self.old pid).at) }
+        requires fits { IfSome (last_answer self.old (process self.old pid).at)
+            (λ answer. FitsRoom (process self.old pid).room answer.reply) }
+        ensures answer { Some result ≡ last_answer self.old (process self.old pid).at }
+        ensures processes { self.new ≡ answered self.old pid }
+    {
+        let process = &mut self.processes[pid as usize];
+        let at = mem::replace(&mut process.at, At::Idle);
+        let room = process.room.take();
+        let Some(entry) = entry_place(&at) else {
+            unreachable!();
+        };
+        self.journal.answer(entry, room)
+    }
+}
+
+// Where the entry of an operation stands that had its turn.
+fn entry_place(at: &At) -> Option<usize>
+    ensures { result ≡ entry_place at.now }
+{
+    match at {
+        At::Idle | At::Before { .. } => None,
+        At::Behind { entry, .. } | At::Ending { entry, .. } | At::Committing { entry, .. } => {
+            Some(*entry)
+        }
+    }
+}

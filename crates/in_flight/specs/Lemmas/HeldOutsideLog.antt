@@ -1,0 +1,86 @@
+-- The log has no part in which files an image stands for, be numbers held or not.
+use Rattle.std.proofs.Common.{◌≡◌, ◌≢◌, ℕ, suc, ◌<◌, length, refl, ap, ◌∙◌, arith, ◌≤◌}
+use Rattle.blocks.specs.Disk.{Image}
+use Rattle.model.specs.Agreement.{IsSameOutsideLog, is_outside_log}
+use Rattle.model.specs.Files.{Files, file_in}
+use Rattle.model.specs.Layout.{super_of, inode_count_of}
+use Rattle.model.specs.Soundness.{count_of}
+use Rattle.model.specs.Lemmas.OutsideLog.{behind_log, inode_agree}
+use Rattle.model.specs.Lemmas.Soundness.{facts_of}
+use Rattle.in_flight.specs.Held.{Claims, FitsHeld, owned, names_claimed}
+use Rattle.in_flight.specs.HeldLaws.{HeldOutsideLog, FitsThen}
+use Rattle.in_flight.specs.Loose.{AreFull}
+use Rattle.in_flight.specs.Lemmas.Frames.{SameSuperAndMap, loose_same}
+use Rattle.in_flight.specs.Lemmas.HeldFrames.{ChangesOne, loose_alike, names_same, fine_same, owned_kept, fits_then, same_file, at_data, Passes, data_passes, stays_held}
+use Rattle.in_flight.specs.Lemmas.OutsideLog.{data_outside}
+
+module _ (m : Files) (x y : Image) (claims : Claims) (same : IsSameOutsideLog x y) (f : FitsHeld m x claims) where
+  all_pass : (j : ℕ) → 1 ≤ j → j < inode_count_of x → Passes is_outside_log (names_claimed x j (claims j))
+  all_pass = data_passes is_outside_log m x y claims f (data_outside x y same.agree)
+
+  -- whichever number is taken for the one that changes
+  change : (i : ℕ) → i ≢ 0 → ChangesOne is_outside_log m x claims i m y claims
+  change i some = record {
+    fits = f;
+    agree = at_data is_outside_log x y (data_outside x y same.agree);
+    passes = λ j first last ne. all_pass j first last;
+    size = same.size;
+    inodes = λ j inside ne. inode_agree x y j same.agree;
+    claims_same = λ j ne. refl;
+    count = refl;
+    files = λ j ne. refl;
+    some = some;
+  }
+
+  first : ChangesOne is_outside_log m x claims 1 m y claims
+  first = change 1 (λ e. omega arith)
+
+  base : SameSuperAndMap x y
+  base =
+      let bitmap = (facts_of x f.geometry).map in
+      record {
+        size = same.size;
+        super = same.agree 1 refl;
+        map = same.agree (super_of x).bmapstart (behind_log (super_of x).bmapstart (omega arith));
+      }
+
+  two : 1 < inode_count_of x
+  two = let some = (facts_of x f.geometry).some in omega arith
+
+  same_owned : (c : ℕ) → count_of c (owned x claims) ≡ count_of c (owned y claims)
+  same_owned c =
+      let inside = two in
+      let kept = owned_kept is_outside_log m x claims 1 m y claims first c (omega arith) inside in
+      let own = ap (count_of c) (names_same is_outside_log x y 1 (claims 1) first.agree (inode_agree x y 1 same.agree)
+      (all_pass 1 (omega arith) inside)) in
+      omega arith
+
+  full_kept : AreFull y
+  full_kept b low within =
+      let size = same.size in
+      ap length (same.agree b (behind_log b low)) ∙ f.full b low (omega arith)
+
+  fits_outside : FitsHeld m y claims
+  fits_outside =
+      let inside = two in
+      (fits_then is_outside_log m x claims 1 m y claims first full_kept
+      (loose_alike y (owned x claims) (owned y claims) same_owned (loose_same x y (owned x claims) base f.loose))
+      (fine_same is_outside_log x y 1 (claims 1) (file_in m 1) first.agree (inode_agree x y 1 same.agree)
+      (all_pass 1 (omega arith) inside) (f.each 1 (omega arith) inside))).fits
+
+  -- as if the number behind j changed
+  as_behind : (j : ℕ) → FitsThen m x claims (suc j) y claims
+  as_behind j =
+      let one = change (suc j) (λ e. omega arith) in
+      record {
+        fits = fits_outside;
+        others = same_file is_outside_log m x claims (suc j) m y claims one;
+        held = stays_held is_outside_log m x claims (suc j) m y claims one;
+      }
+
+pub held_outside : HeldOutsideLog
+held_outside m x y claims same f = record {
+  fits = fits_outside m x y claims same f;
+  others = λ j ne rest used. (as_behind m x y claims same f j).others j (λ e. omega arith) rest used;
+  held = λ j c ne number holds. (as_behind m x y claims same f j).held j c (λ e. omega arith) number holds;
+}

@@ -1,0 +1,129 @@
+-- What becomes of the claims where the image stays: a turn, and an entry that is passed over.
+use Rattle.std.proofs.Common.{◌≡◌, ◌≢◌, ℕ, ◌<◌, ◌≤◌, true, length, set, Option, Some, None, refl, sym, ap, subst, ◌∙◌, arith}
+use Rattle.std.proofs.lemmas.Bool.{ne_eqb}
+use Rattle.std.proofs.lemmas.List.{length-set, get_or-set_same, get_or-set_other}
+use Rattle.blocks.specs.Disk.{Image}
+use Rattle.model.specs.Files.{Files, file_in, file_at, file_of, bytes_in}
+use Rattle.model.specs.Layout.{inode_of, inode_count_of, depths, form_of}
+use Rattle.model.specs.Operations.{after}
+use Rattle.model.specs.Soundness.{count_of}
+use Rattle.in_flight.specs.Held.{Claims, FitsHeld, IsFine, names_claimed, owned, file_left, Claim}
+use Rattle.in_flight.specs.HeldLaws.{FitsThen, EntryPassed, TurnHolds, TurnAnswers}
+use Rattle.in_flight.specs.Loose.{IsAtRest}
+use Rattle.in_flight.specs.Looks.{IsUsed}
+use Rattle.in_flight.specs.Lemmas.Frames.{AgreesAtData}
+use Rattle.in_flight.specs.Lemmas.GivenUp.{held_of, held_further}
+use Rattle.in_flight.specs.Lemmas.LeftInTrees.{whole_along}
+use Rattle.in_flight.specs.Lemmas.HeldFrames.{ChangesOne, loose_alike, owned_kept, fits_then, at_data, whole_names}
+use Rattle.in_flight.specs.Lemmas.Looks.{between}
+
+agrees_itself : (x : Image) → AgreesAtData (λ _. true) x x
+agrees_itself x = record { agree = λ b pass. refl; one = refl; from_data = λ b from. refl }
+
+-- the image stays, and so do the blocks that the number owns
+pub record ChangesClaim (m : Files) (x : Image) (claims : Claims) (i : ℕ) (n : Files) (new : Claims) : Type 0 where
+  pub fits : FitsHeld m x claims
+  pub low : 1 ≤ i
+  pub high : i < inode_count_of x
+  pub claims_same : (j : ℕ) → j ≢ i → new j ≡ claims j
+  pub count : length n ≡ length m
+  pub files : (j : ℕ) → j ≢ i → file_in n j ≡ file_in m j
+  pub alike : (c : ℕ) → count_of c (names_claimed x i (new i)) ≡ count_of c (names_claimed x i (claims i))
+  pub fine : IsFine x i (new i) (file_in n i)
+
+module _ (m : Files) (x : Image) (claims : Claims) (i : ℕ) (n : Files) (new : Claims) (h : ChangesClaim m x claims i n new) where
+  change : ChangesOne (λ _. true) m x claims i n x new
+  change =
+      let low = h.low in
+      record {
+        fits = h.fits;
+        agree = at_data (λ _. true) x x (agrees_itself x);
+        passes = λ j first last ne b some. refl;
+        size = refl;
+        inodes = λ j inside ne. refl;
+        claims_same = h.claims_same;
+        count = h.count;
+        files = h.files;
+        some = λ e. omega arith;
+      }
+
+  same_owned : (c : ℕ) → count_of c (owned x claims) ≡ count_of c (owned x new)
+  same_owned c =
+      let kept = owned_kept (λ _. true) m x claims i n x new change c h.low h.high in
+      let alike = h.alike c in
+      omega arith
+
+  pub changes_claim : FitsThen n x claims i x new
+  changes_claim =
+      fits_then (λ _. true) m x claims i n x new change h.fits.full
+      (loose_alike x (owned x claims) (owned x new) same_owned h.fits.loose) h.fine
+
+-- ---- entries under which nothing is left
+
+pub entry_passed : EntryPassed
+entry_passed m x claims new i cursor h g alike now =
+    let at = between x i g.number in
+    (changes_claim m x claims i m new (record {
+      fits = g.fits;
+      low = at.low;
+      high = at.high;
+      claims_same = now.others;
+      count = refl;
+      files = λ j ne. refl;
+      alike = λ c.
+          ap (λ (o : Option Claim). count_of c (names_claimed x i o)) now.own ∙ alike c
+          ∙ sym (ap (λ (o : Option Claim). count_of c (names_claimed x i o)) g.holds);
+      fine = subst (λ (o : Option Claim). IsFine x i o (file_in m i)) (sym now.own)
+          (held_further x i cursor h (file_in m i) (held_of m x claims i h g));
+    })).fits
+
+-- ---- a turn
+
+pub at_rest_of : (m : Files) (x : Image) (claims : Claims) (i : ℕ) → FitsHeld m x claims → IsUsed x i → claims i ≡ None → IsAtRest x i (file_in m i)
+at_rest_of m x claims i f used none =
+    let at = between x i used.0 in
+    subst (λ (o : Option Claim). IsFine x i o (file_in m i)) none (f.each i at.low at.high)
+
+pub turn_holds : TurnHolds
+turn_holds m x claims new i last cursor f used none last_is alike now =
+    let at = between x i used.0 in
+    let d = inode_of x i in
+    let high = at.high in
+    let fit = (at_rest_of m x claims i f used none).fit used.1 in
+    let inside : i < length m = omega (arith, high, f.count) in
+    changes_claim m x claims i (set m i (file_left last)) new (record {
+      fits = f;
+      low = at.low;
+      high = at.high;
+      claims_same = now.others;
+      count = length-set m i (file_left last);
+      files = λ j ne. get_or-set_other m i j (file_left last) None ne;
+      alike = λ c.
+          ap (λ (o : Option Claim). count_of c (names_claimed x i o)) now.own
+          ∙ alike c ∙ ap (count_of c) (whole_along x (depths (form_of x)) d.addrs ∙ sym (whole_names x d used.1))
+          ∙ sym (ap (λ (o : Option Claim). count_of c (names_claimed x i o)) none);
+      fine = subst (λ (o : Option Claim). IsFine x i o (file_in (set m i (file_left last)) i)) (sym now.own)
+          (record {
+            fields = fit.fields;
+            used = fit.used;
+            kind = fit.kind;
+            same_kind = refl;
+            labels = refl;
+            last = last_is;
+            told = get_or-set_same m i (file_left last) None inside;
+          });
+    })
+
+pub used_file : (x : Image) (i : ℕ) → 1 ≤ i → (inode_of x i).kind ≢ 0 → file_at x i ≡ Some (record { kind = (inode_of x i).kind; bytes = bytes_in x (inode_of x i) })
+unfolding file_of
+used_file x i low used = rw (ne_eqb i 0 (λ e. omega (arith, low, e)), ne_eqb (inode_of x i).kind 0 used) refl
+
+pub turn_answers : TurnAnswers
+unfolding after
+turn_answers m x claims i f used none =
+    let at = between x i used.0 in
+    let d = inode_of x i in
+    let file = sym (at_rest_of m x claims i f used none).same ∙ used_file x i at.low used.1 in (
+      rw (file, file, ne_eqb d.kind 0 used.1) refl,
+      rw (file, file) refl,
+    )

@@ -1,0 +1,35 @@
+-- What was told of a disk, whose image stayed as it was.
+use Rattle.std.specs.Prelude.{◌≡◌, ℕ, IsSome, List, Option, Some, None}
+use Rattle.std.specs.Io.KnownBytes.{Appends}
+use Rattle.blocks.specs.declared.disk.Disk.{Ghosts}
+use Rattle.model.specs.Files.{file_in, files_of}
+use Rattle.model.specs.Log.{recovered}
+use Rattle.model.specs.Verdict.{verdict}
+use Rattle.inspect.specs.Drawing.{drawing_of}
+use Rattle.inspect.specs.Listing.{listing_of}
+use Rattle.inspect.specs.Showing.{file_text}
+
+-- it was checked, and its files were listed
+abbrev pub HasListed : {D N : Type 0} → Ghosts D N → D → D → Option (List ℕ) → Option (List ℕ)
+    → Type 0
+HasListed disk d e old new = (disk.image e ≡ disk.image d) × (verdict (disk.image d) ≡ None)
+    × Appends old new (listing_of (recovered (disk.image d)))
+
+-- it was checked, and its blocks were drawn
+abbrev pub HasDrawn : {D N : Type 0} → Ghosts D N → D → D → Option (List ℕ) → Option (List ℕ)
+    → Type 0
+HasDrawn disk d e old new = (disk.image e ≡ disk.image d) × (verdict (disk.image d) ≡ None)
+    × Appends old new (drawing_of (disk.image d))
+
+-- it was checked, and the blocks of its file of number i, which is there, were listed
+abbrev pub HasFileShown : {D N : Type 0} → Ghosts D N → ℕ → D → D → Option (List ℕ)
+    → Option (List ℕ) → Type 0
+HasFileShown disk i d e old new = (disk.image e ≡ disk.image d) × (verdict (disk.image d) ≡ None)
+    × IsSome (file_in (files_of (recovered (disk.image d))) i)
+    × Appends old new (file_text (recovered (disk.image d)) i)
+
+-- what was asked for of these: the whole image, or a file of a number
+abbrev pub HasShown : {D N : Type 0} → Ghosts D N → Option ℕ → D → D → Option (List ℕ)
+    → Option (List ℕ) → Type 0
+HasShown disk None d e old new = HasDrawn disk d e old new
+HasShown disk (Some i) d e old new = HasFileShown disk i d e old new

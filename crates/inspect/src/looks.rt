@@ -1,0 +1,62 @@
+// The commands that look at a disk, and leave its image as it is.
+ghost use Rattle.inspect.specs.Causes.{IsHidden, IsUnlisted};
+ghost use Rattle.inspect.specs.Looks.{HasListed, HasShown};
+
+use crate::drawing::show_disk;
+use crate::listing::list_disk;
+use crate::refused::{LsRefusal, ShowRefusal};
+use crate::showing::show_file;
+use blocks::Disk;
+use cmd::DiskCommand;
+use std::alloc::Global;
+use std::io::Write;
+
+/// Lists the files of an image, as `list_disk`.
+#[derive(Clone, Copy, Drop)]
+pub struct Ls;
+
+impl DiskCommand for Ls {
+    type Refusal = LsRefusal;
+
+    ghost done = { λ ls c. HasListed c.disk c.was c.now };
+
+    ghost refused = { λ ls c old new. IsUnlisted c.disk c.was c.now };
+
+    fn run_on<D: Disk + Drop, O: Write>(
+        self,
+        alloc: Global,
+        disk: D,
+        out: &mut O,
+    ) -> (Result<(), LsRefusal>, D) {
+        let mut disk = disk;
+        let ended = list_disk(alloc, &mut disk, out);
+        (ended, disk)
+    }
+}
+
+/// Draws the blocks of an image, as `show_disk`, or lists those of its file of a number, as
+/// `show_file`.
+#[derive(Clone, Copy, Drop)]
+pub struct Show(pub Option<u32>);
+
+impl DiskCommand for Show {
+    type Refusal = ShowRefusal;
+
+    ghost done = { λ show c. HasShown c.disk show.0 c.was c.now };
+
+    ghost refused = { λ show c old new. IsHidden c.disk show.0 c.was c.now };
+
+    fn run_on<D: Disk + Drop, O: Write>(
+        self,
+        alloc: Global,
+        disk: D,
+        out: &mut O,
+    ) -> (Result<(), ShowRefusal>, D) {
+        let mut disk = disk;
+        let ended = match self.0 {
+            None => show_disk(alloc, &mut disk, out),
+            Some(number) => show_file(alloc, &mut disk, number, out),
+        };
+        (ended, disk)
+    }
+}

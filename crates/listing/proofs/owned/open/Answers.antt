@@ -1,7 +1,0 @@
-use Rattle.listing.proofs.PlaceLemmas.{open_fault}
-use Rattle.listing.proofs.owned.open.Goals as goal
-
-pub returns-in-Err-clause-faults : goal.returns-in-Err-clause-faults
-returns-in-Err-clause-faults g c =
-    open_fault (g.D.Disk.image c.args.disk.now) (g.D.Disk.fault_count c.args.disk.now) (g.D.Disk.fault_count c.open.new.disk) c.in-Err.field-0
-    c.requires c.in-Err.ensures.fault c.in-Err.ensures.memory

@@ -1,5 +1,0 @@
-use Rattle.loose.specs.Lemmas.Claims.{claims}
-use Rattle.loose.proofs.laws.claims.Goals as goal
-
-pub returns : goal.returns
-returns c = claims

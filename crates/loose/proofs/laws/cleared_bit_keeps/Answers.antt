@@ -1,5 +1,0 @@
-use Rattle.loose.specs.Lemmas.HeldMarks.{cleared_bit_keeps}
-use Rattle.loose.proofs.laws.cleared_bit_keeps.Goals as goal
-
-pub returns : goal.returns
-returns c = cleared_bit_keeps

@@ -1,5 +1,0 @@
-use Rattle.loose.specs.Lemmas.GivenUp.{direct_given_up}
-use Rattle.loose.proofs.laws.direct_given_up.Goals as goal
-
-pub returns : goal.returns
-returns c = direct_given_up

@@ -1,5 +1,0 @@
-use Rattle.loose.specs.Lemmas.AtRest.{fits_at_rest}
-use Rattle.loose.proofs.laws.fits_at_rest.Goals as goal
-
-pub returns : goal.returns
-returns c = fits_at_rest

@@ -1,5 +1,0 @@
-use Rattle.loose.specs.Lemmas.GrowthBlocks.{growth_has_blocks}
-use Rattle.loose.proofs.laws.growth_has_blocks.Goals as goal
-
-pub returns : goal.returns
-returns c = growth_has_blocks

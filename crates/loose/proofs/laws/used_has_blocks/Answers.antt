@@ -1,5 +1,0 @@
-use Rattle.loose.specs.Lemmas.Looks.{used_has_blocks}
-use Rattle.loose.proofs.laws.used_has_blocks.Goals as goal
-
-pub returns : goal.returns
-returns c = used_has_blocks

@@ -1,5 +1,0 @@
-use Rattle.loose.specs.Lemmas.Looks.{used_is_fit}
-use Rattle.loose.proofs.laws.used_is_fit.Goals as goal
-
-pub returns : goal.returns
-returns c = used_is_fit

@@ -1,5 +1,0 @@
-use Rattle.loose.specs.Lemmas.HeldMarks.{write_back_keeps}
-use Rattle.loose.proofs.laws.write_back_keeps.Goals as goal
-
-pub returns : goal.returns
-returns c = write_back_keeps

@@ -1,4 +1,0 @@
-use Rattle.plain.proofs.files.+address_under.Given as goal
-
-abbrev pub decreases-address_under : goal.decreases-address_under
-decreases-address_under l = l.depth

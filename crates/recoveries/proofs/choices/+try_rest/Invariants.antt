@@ -1,5 +1,0 @@
-use Rattle.std.specs.Prelude.{◌-◌, length}
-use Rattle.recoveries.proofs.choices.+try_rest.Given as goal
-
-abbrev pub decreases-try_rest : goal.decreases-try_rest
-decreases-try_rest l = length l.keep.now - l.from

@@ -1,5 +1,0 @@
-use Rattle.texts.proofs.Digits.{IsUtf8-encode_lower}
-use Rattle.texts.proofs.hex_digits.digits_as_text.Goals as goal
-
-pub unreachable-requires : goal.unreachable-requires
-unreachable-requires c = c.in_default.ensures.cases.0 (rw c.digits_of.ensures (IsUtf8-encode_lower c.args.bytes.now))
