@@ -27,8 +27,8 @@ use Rattle.ports.specs.Lanes.{polled_after}
 use Rattle.ports.specs.Queues.{FitsAt, waiting, answers, polled, submitted, waiting_at, answers_at, polled_at, submitted_at, queue_name}
 use Rattle.ports.specs.declared.lane.Lane.{Lane}
 use Rattle.ports.specs.declared.queues.QueueIntake.{QueueIntake}
-use Rattle.history.specs.declared.types.At.TheVariants as at
-use Rattle.history.specs.declared.types.At.{At}
+use Rattle.history.specs.declared.types.Phase.TheVariants as at
+use Rattle.history.specs.declared.types.Phase.{Phase}
 use Rattle.history.specs.Histories.{Owed, entry_answer, pending_at}
 use Rattle.history.specs.Processes.{World, process}
 use Rattle.kernel.specs.Known.{Known}
@@ -43,7 +43,7 @@ use Rattle.kernel.specs.Moves.{MakesSteps}
 use Rattle.calls.specs.Calls.{Rests, call_count, is_look, is_own}
 use Rattle.calls.specs.Stepping.{Plain, plain_herald, plain_queues}
 use Rattle.calls.proofs.Idle.{unopened}
-use Rattle.calls.proofs.Stages.{After, Before, Behind, Committing, Over, IsKept, IsLeft, IsOver, ListIs, StageOf, Waits, Where, is_left, kind_then, stage_first, stages_move, steps_after}
+use Rattle.calls.proofs.Stages.{After, BeforeTurn, AfterTurn, Committing, Over, IsKept, IsLeft, IsOver, ListIs, StageOf, Waits, Where, is_left, kind_then, stage_first, stages_move, steps_after}
 
 -- a kernel with other queues
 abbrev pub with_intake : {D : Type 0} → Plain D → QueueIntake → Plain D
@@ -121,8 +121,8 @@ module _ {D N : Type 0} (disk : Ghosts D N) (op : Op) (old : StoreState D) where
   -- nothing is done while the operation waits; a look opens nothing in the log, and closes no group
   abbrev pub Quiet : Where → StoreState D → Type 0
   Quiet Waits s = s ≡ old
-  Quiet Before s = OnlyLooks s
-  Quiet (Behind reply) s = OnlyLooks s
+  Quiet BeforeTurn s = OnlyLooks s
+  Quiet (AfterTurn reply) s = OnlyLooks s
   Quiet (Over reply) s = OnlyLooks s
   Quiet (Committing reply) s = Look → ⊥
 
@@ -160,8 +160,8 @@ module _ {D N : Type 0} (disk : Ghosts D N) (op : Op) (old : StoreState D) where
 
   only_looks : (stand : Where) (s : StoreState D) → Quiet stand s → OnlyLooks s
   only_looks Waits s same = looks_first s same
-  only_looks Before s was = was
-  only_looks (Behind reply) s was = was
+  only_looks BeforeTurn s was = was
+  only_looks (AfterTurn reply) s was = was
   only_looks (Over reply) s was = was
   only_looks (Committing reply) s none = λ look. absurd (none look)
 
@@ -219,9 +219,9 @@ counts disk k known one idle owns =
     let has = known.histories 0 (omega (arith, one)) in
     let fits = fits_in k.intake.lanes.items has.history (known.served ∙ one) has.fit in
     let own_is = own_all es owns in
-    let owed : Owed at.Idle 0 es has.is.answered = subst (λ (a : At). Owed a 0 es has.is.answered) idle has.is.owed in
+    let owed : Owed at.Idle 0 es has.is.answered = subst (λ (a : Phase). Owed a 0 es has.is.answered) idle has.is.owed in
     let entries : has.is.answered ≡ es = sym owed ∙ own_is in
-    let taken : length has.history.taken ≡ length es = ap (λ (l : List Op). length l) has.is.taken ∙ ap (λ (a : At). length (map (λ (e : Entry). e.op) (own 0 es) ++ pending_at a)) idle
+    let taken : length has.history.taken ≡ length es = ap (λ (l : List Op). length l) has.is.taken ∙ ap (λ (a : Phase). length (map (λ (e : Entry). e.op) (own 0 es) ++ pending_at a)) idle
     ∙ length-append (map (λ (e : Entry). e.op) (own 0 es)) [] ∙ ap (λ (n : ℕ). n + 0) (length-map (own 0 es) (λ (e : Entry). e.op) ∙ ap (λ (l : List Entry). length l) own_is) ∙ omega arith in
     record {
       begun = has.is.count ∙ taken;

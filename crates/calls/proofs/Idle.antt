@@ -13,7 +13,7 @@ use Rattle.wal.specs.declared.types.DeviceFault.{DeviceFault}
 use Rattle.inodes.specs.Store.{current_of}
 use Rattle.history.specs.Keeps.{HasFilesAfter}
 use Rattle.history.specs.Processes.{process}
-use Rattle.history.specs.declared.types.At.TheVariants as at
+use Rattle.history.specs.declared.types.Phase.TheVariants as at
 use Rattle.history.specs.declared.types.Process.{Process}
 use Rattle.kernel.specs.Awake.{AreIdle}
 use Rattle.kernel.specs.Known.{Known, IsCurrent}

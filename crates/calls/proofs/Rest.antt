@@ -19,7 +19,7 @@ use Rattle.model.specs.Lemmas.Log.{recovered_empty}
 use Rattle.model.specs.Lemmas.Runs.{and_then_some, replays_in_parts}
 use Rattle.model.specs.Lemmas.Frames.{form_same}
 use Rattle.ports.specs.declared.queues.QueueIntake.{QueueIntake}
-use Rattle.history.specs.declared.types.At.TheVariants as at
+use Rattle.history.specs.declared.types.Phase.TheVariants as at
 use Rattle.history.specs.Keeps.{AreUpTo, KeepsNow}
 use Rattle.history.specs.Most.{most_of}
 use Rattle.history.specs.Lemmas.Kept.{kept_up_to}

@@ -25,8 +25,8 @@ use Rattle.inodes.specs.Lemmas.Runs.{IsAt}
 use Rattle.inodes.specs.Runs.{SeesTaken}
 use Rattle.inodes.specs.Steps.{Steps}
 use Rattle.inodes.specs.Store.{StoreState, current_of, reply_of}
-use Rattle.inodes.specs.declared.tasks.Place.{Place}
-use Rattle.inodes.specs.declared.tasks.Place.TheVariants as place
+use Rattle.inodes.specs.declared.tasks.Stage.{Stage}
+use Rattle.inodes.specs.declared.tasks.Stage.TheVariants as stage
 use Rattle.kernel.specs.State.{kind_of}
 use Rattle.kernel.specs.declared.types.Step.{Step}
 use Rattle.kernel.specs.declared.types.Step.TheVariants as step
@@ -35,7 +35,7 @@ use Rattle.calls.specs.Calls.{MakesLowest, MakesNoneIfFull, image_on}
 use Rattle.calls.specs.Stepping.{Plain}
 use Rattle.calls.proofs.Called.{IsAnswered, IsCall, kept_then}
 use Rattle.calls.proofs.Idle.{numbers, on_disk}
-use Rattle.calls.proofs.Stages.{Before, Behind, Committing, Over, IsKept, IsUnturned, Waits, Where, kind_then}
+use Rattle.calls.proofs.Stages.{BeforeTurn, AfterTurn, Committing, Over, IsKept, IsUnturned, Waits, Where, kind_then}
 
 -- ---- a creation, where number j is free in the image before it
 
@@ -47,7 +47,7 @@ module _ {D N : Type 0} (disk : Ghosts D N) (cur : Image) (n j kind : ℕ) (numb
 
   -- its search may still come to the number's block, or there is no task
   abbrev MayCome : StoreState D → Type 0
-  MayCome s = IsAhead 0 j s ⊎ IsAt 0 s place.Nowhere
+  MayCome s = IsAhead 0 j s ⊎ IsAt 0 s stage.Nowhere
 
   -- its reply doesn't pass the number by
   abbrev Spares : Option Reply → Type 0
@@ -56,8 +56,8 @@ module _ {D N : Type 0} (disk : Ghosts D N) (cur : Image) (n j kind : ℕ) (numb
   -- what is kept of the creation
   abbrev Searching : Where → StoreState D → Type 0
   Searching Waits s = IsUnchanged s
-  Searching Before s = IsUnchanged s × MayCome s
-  Searching (Behind r) s = Spares r × (r ≢ None)
+  Searching BeforeTurn s = IsUnchanged s × MayCome s
+  Searching (AfterTurn r) s = Spares r × (r ≢ None)
   Searching (Over r) s = Spares r
   Searching (Committing r) s = Spares r
 
@@ -71,13 +71,13 @@ module _ {D N : Type 0} (disk : Ghosts D N) (cur : Image) (n j kind : ℕ) (numb
   -- and before its turn it changes nothing
   works_on : (s t : StoreState D) (x : TaskProgress) → IsUnturned x → Steps disk s 0 (Create kind) x t → IsUnchanged s × MayCome s → IsUnchanged t × MayCome t
   works_on s t x unturned steps (was, inl ahead) =
-      let goes = subst (λ (a : Place). Goes disk a s 0 (Create kind) x t) ahead.stands steps.goes in
+      let goes = subst (λ (a : Stage). Goes disk a s 0 (Create kind) x t) ahead.stands steps.goes in
       let same = search_shows _ _ _ _ _ x _ _ _ unturned goes.0 in (
         record { same = ap (λ (v : Shown). v.current) same ∙ was.same; count = steps.tasks.numbers ∙ was.count },
         ⊎_elim (λ made. absurd (unturned (Some (Made made.0)) made.1)) (λ on. inl on.1) (sees_free s t x steps was ahead),
       )
   works_on s t x unturned steps (was, inr none) =
-      let goes = subst (λ (a : Place). Goes disk a s 0 (Create kind) x t) none steps.goes in
+      let goes = subst (λ (a : Stage). Goes disk a s 0 (Create kind) x t) none steps.goes in
       subst (λ (o : StoreState D). IsUnchanged o × MayCome o) (sym goes.1) (was, inr none)
 
   -- with its turn it finds none that is higher
@@ -96,7 +96,7 @@ module _ {D N : Type 0} (disk : Ghosts D N) (cur : Image) (n j kind : ℕ) (numb
       by_found i low None told passed = cc told
       by_found i low (Some k) told passed = let same : i ≡ k = cc told in omega (arith, same, low, passed)
   turns_so s t r steps (was, inr none) =
-      let goes = subst (λ (a : Place). Goes disk a s 0 (Create kind) (progress.Turned r) t) none steps.goes in
+      let goes = subst (λ (a : Stage). Goes disk a s 0 (Create kind) (progress.Turned r) t) none steps.goes in
       let no = goes.0 in absurd (cc no)
 
   -- nor does a refusal tell one

@@ -26,8 +26,8 @@ use Rattle.inodes.specs.Steps.{Steps}
 use Rattle.inodes.specs.Store.{StoreState, current_of}
 use Rattle.inodes.specs.WriteRuns.{IsFull}
 use Rattle.inodes.specs.Writing.{extent_of}
-use Rattle.inodes.specs.declared.tasks.Place.{Place}
-use Rattle.inodes.specs.declared.tasks.Place.TheVariants as place
+use Rattle.inodes.specs.declared.tasks.Stage.{Stage}
+use Rattle.inodes.specs.declared.tasks.Stage.TheVariants as stage
 use Rattle.inodes.specs.declared.writei.Extent.{Extent}
 use Rattle.kernel.specs.State.{kind_of, waiting_of}
 use Rattle.kernel.specs.declared.types.Step.{Step}
@@ -37,7 +37,7 @@ use Rattle.calls.specs.Calls.{ShortIsFull, image_on}
 use Rattle.calls.specs.Stepping.{Plain}
 use Rattle.calls.proofs.Called.{IsAnswered, IsCall, call_opening, kept_then}
 use Rattle.calls.proofs.Idle.{bitmap, current, long, on_disk}
-use Rattle.calls.proofs.Stages.{Before, Behind, Committing, Over, IsGoing, IsKept, Waits, Where, kind_then}
+use Rattle.calls.proofs.Stages.{BeforeTurn, AfterTurn, Committing, Over, IsGoing, IsKept, Waits, Where, kind_then}
 
 -- ---- a write that gives fewer bytes
 
@@ -69,7 +69,7 @@ module _ {D N : Type 0} (disk : Ghosts D N) (i off done : ℕ) (bytes : List ℕ
   -- behind a reply, only the inode is to be given up
   record IsTold (s : StoreState D) : Type 0 where
     pub entry : ℕ
-    pub stands : IsAt 0 s (place.Leaving entry)
+    pub stands : IsAt 0 s (stage.Leaving entry)
     pub full : LeavesNone s
 
   -- where it is answered so, no block is left
@@ -84,8 +84,8 @@ module _ {D N : Type 0} (disk : Ghosts D N) (i off done : ℕ) (bytes : List ℕ
   -- what is kept of the write
   abbrev Writing : Where → StoreState D → Type 0
   Writing Waits s = HasCounts s
-  Writing Before s = HasNumber × HasCounts s
-  Writing (Behind r) s = BehindTurn r s
+  Writing BeforeTurn s = HasNumber × HasCounts s
+  Writing (AfterTurn r) s = BehindTurn r s
   Writing (Over r) s = Judged r s
   Writing (Committing r) s = Judged r s
 
@@ -95,7 +95,7 @@ module _ {D N : Type 0} (disk : Ghosts D N) (i off done : ℕ) (bytes : List ℕ
 
   -- ---- its turn
 
-  turns_so : (s t : StoreState D) (r : Option Reply) → Steps disk s 0 op (progress.Turned r) t → HasNumber × HasCounts s → Writing (Behind r) t × Writing (Over r) t
+  turns_so : (s t : StoreState D) (r : Option Reply) → Steps disk s 0 op (progress.Turned r) t → HasNumber × HasCounts s → Writing (AfterTurn r) t × Writing (Over r) t
   turns_so s t r steps (number, counts) = (by_reply r turned.begins turned.other, λ is. absurd (turned.other done is))
     where
       turned : TurnsToWrite 0 i (length bytes) (extent_of s.table.form s.table.inode_count s.volume.log.size) r t
@@ -136,7 +136,7 @@ module _ {D N : Type 0} (disk : Ghosts D N) (i off done : ℕ) (bytes : List ℕ
     -- who gives up its inode is over with this step
     gives_up : IsTold s → (x ≡ progress.Over) × LeavesNone t
     gives_up up =
-        let goes = subst (λ (a : Place). Goes disk a s 0 op x t) up.stands steps.goes in
+        let goes = subst (λ (a : Stage). Goes disk a s 0 op x t) up.stands steps.goes in
         (goes.0, subst (λ v. IsFull (current_of disk.image v) e) (sym goes.1.volume) up.full)
 
   -- so by the reply that the entry has

@@ -24,8 +24,8 @@ use Rattle.inodes.specs.Store.{StoreState, with_begun, with_log, with_look}
 use Rattle.inodes.specs.Tasks.{task}
 use Rattle.ports.specs.History.{Side, first_in}
 use Rattle.ports.specs.Queues.{waiting}
-use Rattle.history.specs.declared.types.At.{At}
-use Rattle.history.specs.declared.types.At.TheVariants as at
+use Rattle.history.specs.declared.types.Phase.{Phase}
+use Rattle.history.specs.declared.types.Phase.TheVariants as at
 use Rattle.history.specs.declared.types.Process.{Process}
 use Rattle.history.specs.AtOnce.{at_once_reply}
 use Rattle.history.specs.Grows.{Becomes, Extends}
@@ -48,8 +48,8 @@ use Rattle.calls.specs.Stepping.{MakesPlainStep, Plain, plain_herald, plain_queu
 -- turn, its task is over, or its group is being committed.
 pub data Where : Type 0 where
   Waits : Where
-  Before : Where
-  Behind : (reply : Option Reply) → Where
+  BeforeTurn : Where
+  AfterTurn : (reply : Option Reply) → Where
   Over : (reply : Option Reply) → Where
   Committing : (reply : Option Reply) → Where
 
@@ -65,17 +65,17 @@ IsGoing x = ((reply : Reply) → x ≢ progress.Decided reply) × (x ≢ progres
 -- its answer
 pub record IsKept {D N : Type 0} (disk : Ghosts D N) (op : Op) (P : Where → StoreState D → Type 0) : Type 0 where
   -- it is taken, or refused at once
-  pub begins : (s : StoreState D) → waiting_of s.table.inode_count op ≡ waiting_as.Change → P Waits s → P Before (with_begun s 0 op)
-  pub looks : (s : StoreState D) (count : Option ℕ) → waiting_of s.table.inode_count op ≡ waiting_as.Look count → P Waits s → P Before (with_look s 0 op (room_for count))
+  pub begins : (s : StoreState D) → waiting_of s.table.inode_count op ≡ waiting_as.Change → P Waits s → P BeforeTurn (with_begun s 0 op)
+  pub looks : (s : StoreState D) (count : Option ℕ) → waiting_of s.table.inode_count op ≡ waiting_as.Look count → P Waits s → P BeforeTurn (with_look s 0 op (room_for count))
   pub refused : (s : StoreState D) → P Waits s → P (Over (Some (at_once_reply op))) s
   -- its task makes a step before its turn, with it, and behind it
-  pub works : (s t : StoreState D) (x : TaskProgress) → IsUnturned x → Steps disk s 0 op x t → P Before s → P Before t
-  pub turns : (s t : StoreState D) (r : Option Reply) → Steps disk s 0 op (progress.Turned r) t → P Before s → P (Behind r) t × P (Over r) t
-  pub goes : (s t : StoreState D) (r : Option Reply) (x : TaskProgress) → IsGoing x → Steps disk s 0 op x t → P (Behind r) s → P (Behind r) t
-  pub decides : (s t : StoreState D) (r : Option Reply) (reply : Reply) → (r ≡ None) ⊎ (r ≡ Some reply) → Steps disk s 0 op (progress.Decided reply) t → P (Behind r) s → P (Behind (Some reply)) t
-  pub ends : (s t : StoreState D) (r : Option Reply) → Steps disk s 0 op progress.Over t → P (Behind r) s → P (Over r) t
+  pub works : (s t : StoreState D) (x : TaskProgress) → IsUnturned x → Steps disk s 0 op x t → P BeforeTurn s → P BeforeTurn t
+  pub turns : (s t : StoreState D) (r : Option Reply) → Steps disk s 0 op (progress.Turned r) t → P BeforeTurn s → P (AfterTurn r) t × P (Over r) t
+  pub goes : (s t : StoreState D) (r : Option Reply) (x : TaskProgress) → IsGoing x → Steps disk s 0 op x t → P (AfterTurn r) s → P (AfterTurn r) t
+  pub decides : (s t : StoreState D) (r : Option Reply) (reply : Reply) → (r ≡ None) ⊎ (r ≡ Some reply) → Steps disk s 0 op (progress.Decided reply) t → P (AfterTurn r) s → P (AfterTurn (Some reply)) t
+  pub ends : (s t : StoreState D) (r : Option Reply) → Steps disk s 0 op progress.Over t → P (AfterTurn r) s → P (Over r) t
   -- one of no group is answered with its reply; others end in the log, and may commit their group
-  pub told : (s : StoreState D) (r : Option Reply) → P (Behind r) s → P (Over r) s
+  pub told : (s : StoreState D) (r : Option Reply) → P (AfterTurn r) s → P (Over r) s
   pub leaves : (s : StoreState D) (r : Option Reply) → P (Over r) s → P (Over r) (with_log s (ended s.volume.log 0))
   pub closes : (s : StoreState D) (r : Option Reply) → end_answer s.volume.log ≡ ended_as.Commit → P (Over r) s → P (Committing r) (with_log s (ended s.volume.log 0))
   pub commits : (s t : StoreState D) (r : Option Reply) (x : Committed) → Commits disk s x t → P (Committing r) s → P (Committing r) t
@@ -84,7 +84,7 @@ pub record IsKept {D N : Type 0} (disk : Ghosts D N) (op : Op) (P : Where → St
 -- ---- where it stands
 
 -- the processes of a kernel that has one
-abbrev pub lone : ℕ → At → Option GatheredBytes → Entries → World
+abbrev pub lone : ℕ → Phase → Option GatheredBytes → Entries → World
 lone b a m j = record { processes = record { begun = b; at = a; room = m } ∷ []; journal = j; is_shut = false }
 
 -- the journal has one entry more, of the first process's operation, at that place
@@ -101,17 +101,17 @@ ListIs op es list = (list ≡ es) ⊎ HasMore op es (length es) list
 
 module _ {D : Type 0} (op : Op) (P : Where → StoreState D → Type 0) (es : List Entry) where
   -- the operation is the only one that waits, or it is under way, and P is true
-  abbrev pub StandsAt : At → List Op → StoreState D → List Entry → Type 0
+  abbrev pub StandsAt : Phase → List Op → StoreState D → List Entry → Type 0
   StandsAt at.Idle waits s list = (waits ≡ op ∷ []) × (list ≡ es) × P Waits s
-  StandsAt (at.Before group o) waits s list = (o ≡ op) × (list ≡ es) × P Before s
-  StandsAt (at.Behind group k) waits s list = (more : HasMore op es k list) × P (Behind more.entry.reply) s
+  StandsAt (at.BeforeTurn group o) waits s list = (o ≡ op) × (list ≡ es) × P BeforeTurn s
+  StandsAt (at.AfterTurn group k) waits s list = (more : HasMore op es k list) × P (AfterTurn more.entry.reply) s
   StandsAt (at.Ending group k) waits s list = (more : HasMore op es k list) × P (Over more.entry.reply) s
   StandsAt (at.Committing group k) waits s list = (more : HasMore op es k list) × P (Committing more.entry.reply) s
 
   -- so it does in this world
   pub record Stage (waits : List Op) (s : StoreState D) (w : World) : Type 0 where
     pub begun : ℕ
-    pub place : At
+    pub place : Phase
     pub room : Option GatheredBytes
     pub journal : Entries
     pub is : w ≡ lone begun place room journal
@@ -146,10 +146,10 @@ module _ {D : Type 0} (op : Op) (P : Where → StoreState D → Type 0) (es : Li
   abbrev at_end : (k : ℕ) (list : List Entry) → HasMore op es k list → HasMore op es (length es) list
   at_end k list more = record { entry = more.entry; place = refl; is = more.is; mine = more.mine; same = more.same }
 
-  stands_left : (a : At) (waits : List Op) (s : StoreState D) (list : List Entry) → StandsAt a waits s list → IsLeft s list
+  stands_left : (a : Phase) (waits : List Op) (s : StoreState D) (list : List Entry) → StandsAt a waits s list → IsLeft s list
   stands_left at.Idle waits s list stands = record { stand = Waits; holds = stands.2; lists = inl stands.1 }
-  stands_left (at.Before group o) waits s list stands = record { stand = Before; holds = stands.2; lists = inl stands.1 }
-  stands_left (at.Behind group k) waits s list (more, holds) = record { stand = Behind more.entry.reply; holds = holds; lists = inr (at_end k list more) }
+  stands_left (at.BeforeTurn group o) waits s list stands = record { stand = BeforeTurn; holds = stands.2; lists = inl stands.1 }
+  stands_left (at.AfterTurn group k) waits s list (more, holds) = record { stand = AfterTurn more.entry.reply; holds = holds; lists = inr (at_end k list more) }
   stands_left (at.Ending group k) waits s list (more, holds) = record { stand = Over more.entry.reply; holds = holds; lists = inr (at_end k list more) }
   stands_left (at.Committing group k) waits s list (more, holds) = record { stand = Committing more.entry.reply; holds = holds; lists = inr (at_end k list more) }
 
@@ -200,7 +200,7 @@ module _ {D N : Type 0} (disk : Ghosts D N) (op : Op) (P : Where → StoreState 
   to_so : (r q : Step) (z o : World) → r ≡ q → z ≡ o → To q o → To r z
   to_so r q z o says is to = subst (λ (y : Step). To y z) (sym says) (subst (λ (v : World). To q v) (sym is) to)
 
-  there : (a : At) (n : ℕ) (o : Option GatheredBytes) (i : Entries) → StandsAt op P es a after t i.list → Stage op P es after t (lone n a o i)
+  there : (a : Phase) (n : ℕ) (o : Option GatheredBytes) (i : Entries) → StandsAt op P es a after t i.list → Stage op P es after t (lone n a o i)
   there a n o i stands = record { begun = n; place = a; room = o; journal = i; is = refl; stands = stands }
 
   over_now : (k : ℕ) (n : ℕ) (o : Option GatheredBytes) (i : Entries) (more : HasMore op es k i.list) → P (Over more.entry.reply) t → IsOver op P es t (lone n at.Idle o i)
@@ -223,17 +223,17 @@ module _ {D N : Type 0} (disk : Ghosts D N) (op : Op) (P : Where → StoreState 
     begins : (r : Step) (z : World) (ahead rest : List Op) → ahead ≡ op ∷ rest → P Waits s → BeginsWith (option_map (waiting_of s.table.inode_count) (first_in ahead)) s (lone b at.Idle m j) 0 ahead side r t z → To r z
     begins r z ahead rest waits holds (inl made) =
         let same : made.op ≡ op = cc (waits, made.taken.0) in
-        to_so r step.Moved z _ made.answer made.world (there (at.Before _ made.op) _ None (reserved j) (
+        to_so r step.Moved z _ made.answer made.world (there (at.BeforeTurn _ made.op) _ None (reserved j) (
           same,
           list,
-          subst (P Before) (sym (made.store ∙ ap (with_begun s 0) same)) (keeps.begins s (ap (waiting_of s.table.inode_count) (sym same) ∙ made.taken.1) holds),
+          subst (P BeforeTurn) (sym (made.store ∙ ap (with_begun s 0) same)) (keeps.begins s (ap (waiting_of s.table.inode_count) (sym same) ∙ made.taken.1) holds),
         ))
     begins r z ahead rest waits holds (inr (inl made)) =
         let same : made.op ≡ op = cc (waits, made.taken.0) in
-        to_so r step.Moved z _ made.answer made.world (there (at.Before 0 made.op) _ (room_for made.count) (reserved j) (
+        to_so r step.Moved z _ made.answer made.world (there (at.BeforeTurn 0 made.op) _ (room_for made.count) (reserved j) (
           same,
           list,
-          subst (P Before) (sym (made.store ∙ ap (λ (o : Op). with_look s 0 o (room_for made.count)) same)) (keeps.looks s made.count (ap (waiting_of s.table.inode_count) (sym same) ∙ made.taken.1) holds),
+          subst (P BeforeTurn) (sym (made.store ∙ ap (λ (o : Op). with_look s 0 o (room_for made.count)) same)) (keeps.looks s made.count (ap (waiting_of s.table.inode_count) (sym same) ∙ made.taken.1) holds),
         ))
     begins r z ahead rest waits holds (inr (inr (inl made))) =
         let same : made.op ≡ op = cc (waits, made.taken.0) in
@@ -250,8 +250,8 @@ module _ {D N : Type 0} (disk : Ghosts D N) (op : Op) (P : Where → StoreState 
     begun_now r z was holds (inr none) = begins r z none.ahead none.prefix.0 (cc (was, none.prefix.1)) holds none.begins
 
     -- a step of its task before its turn, or with it
-    worked : (group : ℕ) (x : TaskProgress) (o : Op) → o ≡ op → P Before s → Steps disk s 0 op x t → To (step_of x) (world_after x (is_over (task t.tasks 0).place) (lone b (at.Before group o) m j) 0)
-    worked group progress.Moved o same holds steps = there (at.Before group o) b m j (same, list, keeps.works s t progress.Moved (λ r e. cc e) steps holds)
+    worked : (group : ℕ) (x : TaskProgress) (o : Op) → o ≡ op → P BeforeTurn s → Steps disk s 0 op x t → To (step_of x) (world_after x (is_over (task t.tasks 0).place) (lone b (at.BeforeTurn group o) m j) 0)
+    worked group progress.Moved o same holds steps = there (at.BeforeTurn group o) b m j (same, list, keeps.works s t progress.Moved (λ r e. cc e) steps holds)
     worked group (progress.Turned reply) o same holds steps = turned (is_over (task t.tasks 0).place)
       where
         e : Entry
@@ -260,16 +260,16 @@ module _ {D N : Type 0} (disk : Ghosts D N) (op : Op) (P : Where → StoreState 
         more : HasMore op es (length j.list) (j.list ++ e ∷ [])
         more = record { entry = e; place = ap (λ (l : List Entry). length l) list; is = ap (λ (l : List Entry). l ++ e ∷ []) list; mine = refl; same = same }
 
-        both : P (Behind reply) t × P (Over reply) t
+        both : P (AfterTurn reply) t × P (Over reply) t
         both = keeps.turns s t reply steps holds
 
-        turned : (over : Bool) → Stage op P es after t (turned_from (at.Before group o) (lone b (at.Before group o) m j) 0 reply over)
+        turned : (over : Bool) → Stage op P es after t (turned_from (at.BeforeTurn group o) (lone b (at.BeforeTurn group o) m j) 0 reply over)
         turned true = there (at.Ending group (length j.list)) b m (journal_with j e) (more, both.1)
-        turned false = there (at.Behind group (length j.list)) b m (journal_with j e) (more, both.0)
-    worked group (progress.Decided reply) o same holds steps = there (at.Before group o) b m j (same, list, keeps.works s t (progress.Decided reply) (λ r e. cc e) steps holds)
-    worked group progress.Over o same holds steps = there (at.Before group o) b m j (same, list, keeps.works s t progress.Over (λ r e. cc e) steps holds)
-    worked group (progress.Sleeping cause) o same holds steps = record { stand = Before; holds = keeps.works s t (progress.Sleeping cause) (λ r e. cc e) steps holds; lists = inl list }
-    worked group (progress.Fault fault) o same holds steps = record { stand = Before; holds = keeps.works s t (progress.Fault fault) (λ r e. cc e) steps holds; lists = inl list }
+        turned false = there (at.AfterTurn group (length j.list)) b m (journal_with j e) (more, both.0)
+    worked group (progress.Decided reply) o same holds steps = there (at.BeforeTurn group o) b m j (same, list, keeps.works s t (progress.Decided reply) (λ r e. cc e) steps holds)
+    worked group progress.Over o same holds steps = there (at.BeforeTurn group o) b m j (same, list, keeps.works s t progress.Over (λ r e. cc e) steps holds)
+    worked group (progress.Sleeping cause) o same holds steps = record { stand = BeforeTurn; holds = keeps.works s t (progress.Sleeping cause) (λ r e. cc e) steps holds; lists = inl list }
+    worked group (progress.Fault fault) o same holds steps = record { stand = BeforeTurn; holds = keeps.works s t (progress.Fault fault) (λ r e. cc e) steps holds; lists = inl list }
 
   module _ (group k : ℕ) (more : HasMore op es k j.list) where
     abbrev r : Option Reply
@@ -285,24 +285,24 @@ module _ {D N : Type 0} (disk : Ghosts D N) (op : Op) (P : Where → StoreState 
         by_entry (inr none) = inl none.0
 
     -- a step of its task behind its turn
-    finished : (x : TaskProgress) → P (Behind r) s → Steps disk s 0 op x t → Extends j.list (world_behind group x (lone b (at.Behind group k) m j) 0).journal.list → To (step_behind group x) (world_behind group x (lone b (at.Behind group k) m j) 0)
-    finished progress.Moved holds steps grows = there (at.Behind group k) b m j (more, keeps.goes s t r progress.Moved ((λ q e. cc e), λ e. cc e) steps holds)
-    finished (progress.Turned reply) holds steps grows = there (at.Behind group k) b m j (more, keeps.goes s t r (progress.Turned reply) ((λ q e. cc e), λ e. cc e) steps holds)
+    finished : (x : TaskProgress) → P (AfterTurn r) s → Steps disk s 0 op x t → Extends j.list (world_behind group x (lone b (at.AfterTurn group k) m j) 0).journal.list → To (step_behind group x) (world_behind group x (lone b (at.AfterTurn group k) m j) 0)
+    finished progress.Moved holds steps grows = there (at.AfterTurn group k) b m j (more, keeps.goes s t r progress.Moved ((λ q e. cc e), λ e. cc e) steps holds)
+    finished (progress.Turned reply) holds steps grows = there (at.AfterTurn group k) b m j (more, keeps.goes s t r (progress.Turned reply) ((λ q e. cc e), λ e. cc e) steps holds)
     finished (progress.Decided reply) holds steps grows = by_group group grows
       where
-        now : (r ≡ None) ⊎ (r ≡ Some reply) → P (Behind (Some reply)) t
+        now : (r ≡ None) ⊎ (r ≡ Some reply) → P (AfterTurn (Some reply)) t
         now was = keeps.decides s t r reply was steps holds
 
-        by_group : (g : ℕ) → Extends j.list (world_behind g (progress.Decided reply) (lone b (at.Behind group k) m j) 0).journal.list → To (step_behind g (progress.Decided reply)) (world_behind g (progress.Decided reply) (lone b (at.Behind group k) m j) 0)
+        by_group : (g : ℕ) → Extends j.list (world_behind g (progress.Decided reply) (lone b (at.AfterTurn group k) m j) 0).journal.list → To (step_behind g (progress.Decided reply)) (world_behind g (progress.Decided reply) (lone b (at.AfterTurn group k) m j) 0)
         by_group zero grows = over_now k b None (journal_told j k reply) (told_more op P es k j.list reply more) (keeps.told t (Some reply) (now (untold reply grows)))
-        by_group (suc g) grows = there (at.Behind group k) b m (journal_told j k reply) (told_more op P es k j.list reply more, now (untold reply grows))
+        by_group (suc g) grows = there (at.AfterTurn group k) b m (journal_told j k reply) (told_more op P es k j.list reply more, now (untold reply grows))
     finished progress.Over holds steps grows = by_group group
       where
-        by_group : (g : ℕ) → To (step_behind g progress.Over) (world_behind g progress.Over (lone b (at.Behind group k) m j) 0)
+        by_group : (g : ℕ) → To (step_behind g progress.Over) (world_behind g progress.Over (lone b (at.AfterTurn group k) m j) 0)
         by_group zero = over_now k b None j more (keeps.ends s t r steps holds)
         by_group (suc g) = there (at.Ending group k) b m j (more, keeps.ends s t r steps holds)
-    finished (progress.Sleeping cause) holds steps grows = record { stand = Behind r; holds = keeps.goes s t r (progress.Sleeping cause) ((λ q e. cc e), λ e. cc e) steps holds; lists = inr (at_end op P es k j.list more) }
-    finished (progress.Fault fault) holds steps grows = record { stand = Behind r; holds = keeps.goes s t r (progress.Fault fault) ((λ q e. cc e), λ e. cc e) steps holds; lists = inr (at_end op P es k j.list more) }
+    finished (progress.Sleeping cause) holds steps grows = record { stand = AfterTurn r; holds = keeps.goes s t r (progress.Sleeping cause) ((λ q e. cc e), λ e. cc e) steps holds; lists = inr (at_end op P es k j.list more) }
+    finished (progress.Fault fault) holds steps grows = record { stand = AfterTurn r; holds = keeps.goes s t r (progress.Fault fault) ((λ q e. cc e), λ e. cc e) steps holds; lists = inr (at_end op P es k j.list more) }
 
     -- its end in the log
     ended_now : (x : Ended) → end_answer s.volume.log ≡ x → t ≡ with_log s (ended s.volume.log 0) → P (Over r) s → To (step_of_end x) (world_ended x (lone b (at.Ending group k) m j) 0)
@@ -317,17 +317,17 @@ module _ {D N : Type 0} (disk : Ghosts D N) (op : Op) (P : Where → StoreState 
     written (committed.Fault fault) commits holds = record { stand = Committing r; holds = keeps.commits s t r (committed.Fault fault) commits holds; lists = inr (at_end op P es k j.list more) }
 
   -- by where its process stands
-  next_at : (a : At) (r : Step) (z : World) → NextAt disk a s (lone b a m j) 0 before side false r t z → Extends j.list z.journal.list → StandsAt op P es a before s j.list → To r z
+  next_at : (a : Phase) (r : Step) (z : World) → NextAt disk a s (lone b a m j) 0 before side false r t z → Extends j.list z.journal.list → StandsAt op P es a before s j.list → To r z
   next_at at.Idle r z next grows (was, list, holds) = begun_now list r z was holds next
-  next_at (at.Before group o) r z next grows (same, list, holds) =
+  next_at (at.BeforeTurn group o) r z next grows (same, list, holds) =
       to_so r _ z _ next.answer next.world (worked list group next.progress o same holds (subst (λ (p : Op). Steps disk s 0 p next.progress t) same next.steps))
-  next_at (at.Behind group k) r z next grows (more, holds) =
+  next_at (at.AfterTurn group k) r z next grows (more, holds) =
       let made : Steps disk s 0 op next.progress t = subst (λ (p : Op). Steps disk s 0 p next.progress t) (ap (λ (e : Entry). e.op) (entry_there op P es k j.list more) ∙ more.same) next.steps in
       to_so r _ z _ next.answer next.world (finished group k more next.progress holds made (subst (λ (w : World). Extends j.list w.journal.list) next.world grows))
   next_at (at.Ending group k) r z next grows (more, holds) = to_so r _ z _ next.answer next.world (ended_now group k more (end_answer s.volume.log) refl next.store holds)
   next_at (at.Committing group k) r z next grows (more, holds) = to_so r _ z _ next.answer next.world (written group k more next.result next.commits holds)
 
-  next_if : (f : Option DeviceFault) (a : At) (r : Step) (z : World) → NextIf disk f s (lone b a m j) 0 before side false r t z → Extends j.list z.journal.list → StandsAt op P es a before s j.list → To r z
+  next_if : (f : Option DeviceFault) (a : Phase) (r : Step) (z : World) → NextIf disk f s (lone b a m j) 0 before side false r t z → Extends j.list z.journal.list → StandsAt op P es a before s j.list → To r z
   next_if None a r z next grows stands = next_at a r z next grows stands
   next_if (Some fault) a r z next grows stands =
       to_so r step.Halted z (lone b a m j) next.0 next.1.1 (subst (λ (o : StoreState D). IsLeft op P es o j.list) (sym next.1.0) (stands_left op P es a before s j.list stands))
@@ -340,7 +340,7 @@ is_lone w one stands unshut = by_list w.processes one stands ∙ ap (λ (b : Boo
   where
     by_list : (ps : List Process) → length ps ≡ 1 → (get_or ps 0 idle).at ≡ at.Idle → record w { processes = ps } ≡ record w { processes = record (get_or ps 0 idle) { at = at.Idle } ∷ [] }
     by_list [] one stands = absurd (cc one)
-    by_list (u ∷ []) one stands = ap (λ (a : At). record w { processes = record u { at = a } ∷ [] }) stands
+    by_list (u ∷ []) one stands = ap (λ (a : Phase). record w { processes = record u { at = a } ∷ [] }) stands
     by_list (u ∷ (v ∷ ps)) one stands = absurd (cc one)
 
 module _ {D N : Type 0} (disk : Ghosts D N) (op : Op) (P : Where → StoreState D → Type 0) where

@@ -10,8 +10,8 @@ use Rattle.model.specs.declared.types.operations.Entry.{Entry}
 use Rattle.model.specs.declared.types.operations.Op.{Op}
 use Rattle.model.specs.declared.types.operations.Why.{Why}
 use Rattle.ports.specs.Queues.{waiting, answers}
-use Rattle.history.specs.declared.types.At.{At}
-use Rattle.history.specs.declared.types.At.TheVariants as at
+use Rattle.history.specs.declared.types.Phase.{Phase}
+use Rattle.history.specs.declared.types.Phase.TheVariants as at
 use Rattle.history.specs.Processes.{World, process}
 use Rattle.kernel.specs.Known.{Known}
 use Rattle.kernel.specs.Sleeping.{SoleWaitsForAnswers}
@@ -55,7 +55,7 @@ module _ {D N : Type 0} (disk : Ghosts D N) (sole : SoleWaitsForAnswers disk pla
       let one : length mid.world.processes ≡ 1 = ap (λ (w : World). length w.processes) there.is in
       let waits = sole mid m 0 cause one (omega arith) call.makes.made in
       let same : there.place ≡ at.Idle = ap (λ (w : World). (process w 0).at) (sym there.is) ∙ waits.idle in
-      let stands : StandsAt op (Quiet disk op k.store) k.world.journal.list at.Idle (waiting mid.intake 0) mid.store there.journal.list = subst (λ (a : At). StandsAt op (Quiet disk op k.store) k.world.journal.list a (waiting mid.intake 0) mid.store there.journal.list) same there.stands in
+      let stands : StandsAt op (Quiet disk op k.store) k.world.journal.list at.Idle (waiting mid.intake 0) mid.store there.journal.list = subst (λ (a : Phase). StandsAt op (Quiet disk op k.store) k.world.journal.list a (waiting mid.intake 0) mid.store there.journal.list) same there.stands in
       let list : m.world.journal.list ≡ k.world.journal.list = ap (λ (w : World). w.journal.list) (waits.world ∙ there.is) ∙ stands.1 in
       let idle : (process m.world 0).at ≡ at.Idle = ap (λ w. (process w 0).at) waits.world ∙ waits.idle in
       let now = counts disk m call.known_now (call.makes.made.progress.many ∙ one) idle (ap (λ (l : List Entry). list_all is_own l) list ∙ call.rests.own) in

@@ -1,20 +1,20 @@
 -- Who commits does so alone.
 use Rattle.std.specs.Prelude.{◌≡◌, ℕ, Bool, true, false}
 use Rattle.wal.specs.Machine.{LogState, is_quiet}
-use Rattle.history.specs.declared.types.At.{At}
-use Rattle.history.specs.declared.types.At.TheVariants as at
+use Rattle.history.specs.declared.types.Phase.{Phase}
+use Rattle.history.specs.declared.types.Phase.TheVariants as at
 
 -- a process makes its group's commit
-abbrev pub is_committing_at : At → Bool
+abbrev pub is_committing_at : Phase → Bool
 is_committing_at at.Idle = false
-is_committing_at (at.Before group op) = false
-is_committing_at (at.Behind group k) = false
+is_committing_at (at.BeforeTurn group op) = false
+is_committing_at (at.AfterTurn group k) = false
 is_committing_at (at.Ending group k) = false
 is_committing_at (at.Committing group k) = true
 
 -- One process at most makes a commit, while the log has one under way and no operation is open;
 -- where nobody does, the log has none.
-pub record CommitsAlone (ats : ℕ → At) (l : LogState) : Type 0 where
+pub record CommitsAlone (ats : ℕ → Phase) (l : LogState) : Type 0 where
   pub sole : (p q : ℕ) → is_committing_at (ats p) ≡ true → is_committing_at (ats q) ≡ true
       → p ≡ q
   pub busy : (p : ℕ) → is_committing_at (ats p) ≡ true → is_quiet l.commit ≡ false

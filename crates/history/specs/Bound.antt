@@ -7,8 +7,8 @@ use Rattle.wal.specs.declared.types.Commit.TheVariants as commit
 use Rattle.wal.specs.declared.types.Part.{Part}
 use Rattle.wal.specs.declared.types.Part.TheVariants as part
 use Rattle.wal.specs.Machine.{LogState}
-use Rattle.history.specs.declared.types.At.{At}
-use Rattle.history.specs.declared.types.At.TheVariants as at
+use Rattle.history.specs.declared.types.Phase.{Phase}
+use Rattle.history.specs.declared.types.Phase.TheVariants as at
 
 -- the sync of a header commits its group
 abbrev pub is_header : Part → Bool
@@ -45,18 +45,18 @@ writes_left (commit.Syncing part) n = synced_left part n
 
 -- An operation's steps: those that its task has left, one for its end in the log, and at most 66
 -- for its group's commit.
-abbrev pub all_steps_left : At → ℕ → LogState → ℕ
+abbrev pub all_steps_left : Phase → ℕ → LogState → ℕ
 all_steps_left at.Idle left l = 0
-all_steps_left (at.Before group op) left l = left + 67
-all_steps_left (at.Behind group k) left l = left + 67
+all_steps_left (at.BeforeTurn group op) left l = left + 67
+all_steps_left (at.AfterTurn group k) left l = left + 67
 all_steps_left (at.Ending group k) left l = 67
 all_steps_left (at.Committing group k) left l = writes_left l.commit (length l.homes)
 
 -- an operation is under way
-abbrev pub is_busy_at : At → Bool
+abbrev pub is_busy_at : Phase → Bool
 is_busy_at at.Idle = false
-is_busy_at (at.Before group op) = true
-is_busy_at (at.Behind group k) = true
+is_busy_at (at.BeforeTurn group op) = true
+is_busy_at (at.AfterTurn group k) = true
 is_busy_at (at.Ending group k) = true
 is_busy_at (at.Committing group k) = true
 
@@ -71,8 +71,8 @@ Lowers (progress.Fault fault) old left = Unit {0}
 
 -- A step of process p took one of the steps that its operation had left, and gave no other process
 -- more of them. A store's tasks had as many left as `old` says, and have as many as `left` says.
-pub record TakesStep (p : ℕ) (ats : ℕ → At) (old : ℕ → ℕ) (l : LogState)
-    (new : ℕ → At) (left : ℕ → ℕ) (m : LogState) : Type 0 where
+pub record TakesStep (p : ℕ) (ats : ℕ → Phase) (old : ℕ → ℕ) (l : LogState)
+    (new : ℕ → Phase) (left : ℕ → ℕ) (m : LogState) : Type 0 where
   pub falls : is_busy_at (ats p) ≡ true
       → all_steps_left (new p) (left p) m < all_steps_left (ats p) (old p) l
   pub others : (q : ℕ) → q ≢ p

@@ -8,8 +8,8 @@ use Rattle.model.specs.declared.types.operations.Op.{Op}
 use Rattle.model.specs.declared.types.operations.Reply.{Reply}
 use Rattle.model.specs.Journal.{own}
 use Rattle.ports.specs.History.{History}
-use Rattle.history.specs.declared.types.At.{At}
-use Rattle.history.specs.declared.types.At.TheVariants as at
+use Rattle.history.specs.declared.types.Phase.{Phase}
+use Rattle.history.specs.declared.types.Phase.TheVariants as at
 use Rattle.history.specs.Open.{IsEntry, IsLast}
 
 -- the answer that an entry tells; none while it has no reply
@@ -18,10 +18,10 @@ entry_answer e =
     option_map (λ (r : Reply). record { seq = e.seq; reply = r; group = e.group }) e.reply
 
 -- the operation that was taken and has no entry yet
-abbrev pub pending_at : At → List Op
+abbrev pub pending_at : Phase → List Op
 pending_at at.Idle = []
-pending_at (at.Before group op) = op ∷ []
-pending_at (at.Behind group k) = []
+pending_at (at.BeforeTurn group op) = op ∷ []
+pending_at (at.AfterTurn group k) = []
 pending_at (at.Ending group k) = []
 pending_at (at.Committing group k) = []
 
@@ -35,10 +35,10 @@ pub record Owes (p k : ℕ) (es given : List Entry) : Type 0 where
   pub own : own p es ≡ given ++ entry ∷ []
 
 -- whether an answer is still to be given, by where the process stands
-abbrev pub Owed : At → ℕ → List Entry → List Entry → Type 0
+abbrev pub Owed : Phase → ℕ → List Entry → List Entry → Type 0
 Owed at.Idle p es given = own p es ≡ given
-Owed (at.Before group op) p es given = own p es ≡ given
-Owed (at.Behind group k) p es given = Owes p k es given
+Owed (at.BeforeTurn group op) p es given = own p es ≡ given
+Owed (at.AfterTurn group k) p es given = Owes p k es given
 Owed (at.Ending group k) p es given = Owes p k es given
 Owed (at.Committing group k) p es given = Owes p k es given
 
@@ -46,7 +46,7 @@ Owed (at.Committing group k) p es given = Owes p k es given
 -- one that waits for its turn; the answers that were given are those of its entries, in their
 -- order, but for the last where it is still to be answered. So each entry that was answered has its
 -- reply.
-pub record IsHistory (es : List Entry) (a : At) (begun p : ℕ) (h : History) : Type 0 where
+pub record IsHistory (es : List Entry) (a : Phase) (begun p : ℕ) (h : History) : Type 0 where
   pub answered : List Entry
   pub owed : Owed a p es answered
   pub taken : h.taken ≡ map (λ (e : Entry). e.op) (own p es) ++ pending_at a

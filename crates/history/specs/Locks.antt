@@ -3,8 +3,8 @@ use Rattle.std.specs.Prelude.{◌≡◌, ◌≢◌, ℕ, List, Option, Some, Non
 use Rattle.model.specs.declared.types.operations.Entry.{Entry}
 use Rattle.model.specs.declared.types.operations.Op.{Op}
 use Rattle.model.specs.declared.types.operations.Op.TheVariants.{Create, Write, Read, Trunc, Remove, Stat}
-use Rattle.history.specs.declared.types.At.{At}
-use Rattle.history.specs.declared.types.At.TheVariants as at
+use Rattle.history.specs.declared.types.Phase.{Phase}
+use Rattle.history.specs.declared.types.Phase.TheVariants as at
 use Rattle.history.specs.Open.{IsEntry}
 
 -- the number whose lock an operation takes
@@ -22,10 +22,10 @@ HasInodeLock lock p None = Unit {0}
 HasInodeLock lock p (Some i) = lock i ≡ Some p
 
 -- from its turn to its finish
-abbrev pub HasLockAt : (ℕ → Option ℕ) → List Entry → ℕ → At → Type 0
+abbrev pub HasLockAt : (ℕ → Option ℕ) → List Entry → ℕ → Phase → Type 0
 HasLockAt lock es p at.Idle = Unit {0}
-HasLockAt lock es p (at.Before group op) = Unit {0}
-HasLockAt lock es p (at.Behind group k) =
+HasLockAt lock es p (at.BeforeTurn group op) = Unit {0}
+HasLockAt lock es p (at.AfterTurn group k) =
     (e : Entry) → IsEntry es k e → HasInodeLock lock p (locks e.op)
 HasLockAt lock es p (at.Ending group k) = Unit {0}
 HasLockAt lock es p (at.Committing group k) = Unit {0}

@@ -5,8 +5,8 @@ use Rattle.model.specs.declared.types.operations.Answer.{Answer}
 use Rattle.model.specs.declared.types.operations.Entry.{Entry}
 use Rattle.model.specs.declared.types.operations.Op.{Op}
 use Rattle.model.specs.declared.types.operations.Reply.{Reply}
-use Rattle.history.specs.declared.types.At.{At}
-use Rattle.history.specs.declared.types.At.TheVariants as at
+use Rattle.history.specs.declared.types.Phase.{Phase}
+use Rattle.history.specs.declared.types.Phase.TheVariants as at
 use Rattle.history.specs.declared.types.Process.{Process}
 pub use Rattle.history.specs.World.{World}
 use Rattle.history.specs.Journal.{reserved, journal_with, journal_told, entry_in, entry_of, answer_of}
@@ -30,7 +30,7 @@ abbrev pub with_process : World → ℕ → Process → World
 with_process w p t = record w { processes = slice_set w.processes p t }
 
 -- a process stands elsewhere
-abbrev pub at_place : World → ℕ → At → World
+abbrev pub at_place : World → ℕ → Phase → World
 at_place w p place = with_process w p (record (process w p) { at = place })
 
 -- a place in the journal is kept for one operation more
@@ -42,7 +42,7 @@ abbrev pub taken : World → ℕ → ℕ → Op → Option GatheredBytes → Wor
 taken w p group op room =
     with_process w p (record {
       begun = (process w p).begun + 1;
-      at = at.Before group op;
+      at = at.BeforeTurn group op;
       room = room;
     })
 
@@ -60,16 +60,16 @@ abbrev pub refusal_answer : World → ℕ → Reply → Answer
 refusal_answer w p reply = record { seq = (process w p).begun + 1; reply = reply; group = 0 }
 
 -- where an operation stands behind its turn: its task goes on, or is over
-abbrev pub place_behind : Bool → ℕ → ℕ → At
+abbrev pub place_behind : Bool → ℕ → ℕ → Phase
 place_behind true group k = at.Ending group k
-place_behind false group k = at.Behind group k
+place_behind false group k = at.AfterTurn group k
 
-abbrev pub turned_from : At → World → ℕ → Option Reply → Bool → World
+abbrev pub turned_from : Phase → World → ℕ → Option Reply → Bool → World
 turned_from at.Idle w p reply over = w
-turned_from (at.Before group op) w p reply over =
+turned_from (at.BeforeTurn group op) w p reply over =
     record (at_place w p (place_behind over group (length w.journal.list)))
     { journal = journal_with w.journal (entry_of p (process w p).begun op group reply) }
-turned_from (at.Behind group k) w p reply over = w
+turned_from (at.AfterTurn group k) w p reply over = w
 turned_from (at.Ending group k) w p reply over = w
 turned_from (at.Committing group k) w p reply over = w
 
@@ -78,10 +78,10 @@ abbrev pub turned : World → ℕ → Option Reply → Bool → World
 turned w p reply over = turned_from (process w p).at w p reply over
 
 -- where the entry of an operation stands that had its turn
-abbrev pub entry_place : At → Option ℕ
+abbrev pub entry_place : Phase → Option ℕ
 entry_place at.Idle = None
-entry_place (at.Before group op) = None
-entry_place (at.Behind group k) = Some k
+entry_place (at.BeforeTurn group op) = None
+entry_place (at.AfterTurn group k) = Some k
 entry_place (at.Ending group k) = Some k
 entry_place (at.Committing group k) = Some k
 
@@ -102,10 +102,10 @@ told_at (Some k) w reply = record w { journal = journal_told w.journal k reply }
 abbrev pub decided : World → ℕ → Reply → World
 decided w p reply = told_at (entry_place (process w p).at) w reply
 
-abbrev pub over_at : At → At
+abbrev pub over_at : Phase → Phase
 over_at at.Idle = at.Idle
-over_at (at.Before group op) = at.Before group op
-over_at (at.Behind group k) = at.Ending group k
+over_at (at.BeforeTurn group op) = at.BeforeTurn group op
+over_at (at.AfterTurn group k) = at.Ending group k
 over_at (at.Ending group k) = at.Ending group k
 over_at (at.Committing group k) = at.Committing group k
 
@@ -113,33 +113,33 @@ over_at (at.Committing group k) = at.Committing group k
 abbrev pub over : World → ℕ → World
 over w p = at_place w p (over_at (process w p).at)
 
-abbrev pub is_before : At → Bool
+abbrev pub is_before : Phase → Bool
 is_before at.Idle = false
-is_before (at.Before group op) = true
-is_before (at.Behind group k) = false
+is_before (at.BeforeTurn group op) = true
+is_before (at.AfterTurn group k) = false
 is_before (at.Ending group k) = false
 is_before (at.Committing group k) = false
 
 -- it had its turn, and goes on
-abbrev pub is_behind : At → Bool
+abbrev pub is_behind : Phase → Bool
 is_behind at.Idle = false
-is_behind (at.Before group op) = false
-is_behind (at.Behind group k) = true
+is_behind (at.BeforeTurn group op) = false
+is_behind (at.AfterTurn group k) = true
 is_behind (at.Ending group k) = false
 is_behind (at.Committing group k) = false
 
 -- its operation ends next
-abbrev pub is_ending : At → Bool
+abbrev pub is_ending : Phase → Bool
 is_ending at.Idle = false
-is_ending (at.Before group op) = false
-is_ending (at.Behind group k) = false
+is_ending (at.BeforeTurn group op) = false
+is_ending (at.AfterTurn group k) = false
 is_ending (at.Ending group k) = true
 is_ending (at.Committing group k) = false
 
-abbrev pub committing_at : At → At
+abbrev pub committing_at : Phase → Phase
 committing_at at.Idle = at.Idle
-committing_at (at.Before group op) = at.Before group op
-committing_at (at.Behind group k) = at.Behind group k
+committing_at (at.BeforeTurn group op) = at.BeforeTurn group op
+committing_at (at.AfterTurn group k) = at.AfterTurn group k
 committing_at (at.Ending group k) = at.Committing group k
 committing_at (at.Committing group k) = at.Committing group k
 
@@ -152,10 +152,10 @@ abbrev pub answer_in : List Entry → ℕ → Option Answer
 answer_in es k = if nat_lt k (length es) then answer_of (entry_in es k) else None
 
 -- the answer of an operation that had its turn
-abbrev pub last_answer : World → At → Option Answer
+abbrev pub last_answer : World → Phase → Option Answer
 last_answer w at.Idle = None
-last_answer w (at.Before group op) = None
-last_answer w (at.Behind group k) = answer_in w.journal.list k
+last_answer w (at.BeforeTurn group op) = None
+last_answer w (at.AfterTurn group k) = answer_in w.journal.list k
 last_answer w (at.Ending group k) = answer_in w.journal.list k
 last_answer w (at.Committing group k) = answer_in w.journal.list k
 

@@ -16,8 +16,8 @@ use Rattle.wal.specs.declared.types.Commit.TheVariants as commit
 use Rattle.wal.specs.Joint.{stepped_at}
 use Rattle.wal.specs.Kept.{KeepsCommitted}
 use Rattle.wal.specs.Machine.{LogState, used_by, SameGroups, IsLogAt}
-use Rattle.history.specs.declared.types.At.{At}
-use Rattle.history.specs.declared.types.At.TheVariants as at
+use Rattle.history.specs.declared.types.Phase.{Phase}
+use Rattle.history.specs.declared.types.Phase.TheVariants as at
 use Rattle.history.specs.Crash.{Survives, StoreLaws}
 use Rattle.history.specs.Follows.{Follows, IsJournal}
 use Rattle.history.specs.Open.{Held, held_by, number_of, is_late, IsEntry, IsLast}
@@ -51,12 +51,12 @@ pub record HasEntry (es : List Entry) (q k group : ℕ) (e : Entry) : Type 0 whe
   pub same : e.group ≡ group
 
 -- what is true of a process, by where it stands
-abbrev pub StandsAt : ℕ → View → List Entry → ℕ → At → Type 0
+abbrev pub StandsAt : ℕ → View → List Entry → ℕ → Phase → Type 0
 StandsAt n s es q at.Idle = (s.holds q ≡ None) × InGroup s.log q 0
-StandsAt n s es q (at.Before group op) =
+StandsAt n s es q (at.BeforeTurn group op) =
     (s.holds q ≡ None) × InGroup s.log q group × (nat_lt 0 group ≡ is_changing n op)
     × (is_at_once n op ≡ false)
-StandsAt n s es q (at.Behind group k) =
+StandsAt n s es q (at.AfterTurn group k) =
     InGroup s.log q group × ((e : Entry) × HasEntry es q k group e)
 StandsAt n s es q (at.Ending group k) =
     (s.holds q ≡ None) × IsIn s.log q group
@@ -72,7 +72,7 @@ pub record IsValidView (n : ℕ) (s : View) : Type 0 where
   pub numbers : (q : ℕ) (h : Held) → s.holds q ≡ Some h → IsTrue (is_number n h.number)
 
 -- WHAT IS TRUE OF EVERY KERNEL whose disk has not failed
-pub record KernelFacts (opening : Image) (s : View) (es : List Entry) (ats : ℕ → At) : Type 0 where
+pub record KernelFacts (opening : Image) (s : View) (es : List Entry) (ats : ℕ → Phase) : Type 0 where
   pub valid : IsValidView (inode_count_of opening) s
   pub journal : IsJournal (inode_count_of opening) s.log.opened es
   pub follows : Follows (form_of opening) (files_of opening) s.holds s.fits es
@@ -82,10 +82,10 @@ pub record KernelFacts (opening : Image) (s : View) (es : List Entry) (ats : ℕ
 -- WHAT STAYS TRUE AFTER A FAULT OF THE DISK: the entries that have a reply replay, and who holds
 -- something is behind its turn.
 pub record LastingFacts (opening : Image) (opened : ℕ) (holds : ℕ → Option Held) (es : List Entry)
-    (ats : ℕ → At) : Type 0 where
+    (ats : ℕ → Phase) : Type 0 where
   pub journal : IsJournal (inode_count_of opening) opened es
   pub follows : Follows (form_of opening) (files_of opening) holds (λ m. Unit {0}) es
-  pub behind : (q : ℕ) (h : Held) → holds q ≡ Some h → (g : ℕ) × (k : ℕ) × (ats q ≡ at.Behind g k)
+  pub behind : (q : ℕ) (h : Held) → holds q ≡ Some h → (g : ℕ) × (k : ℕ) × (ats q ≡ at.AfterTurn g k)
 
 -- what each step of process p's task leaves of a store in which it made this, or nothing
 pub record LeavesRest (made : Option Reply) (p : ℕ) (s t : View) : Type 0 where

@@ -4,7 +4,7 @@ ghost use Rattle.history.specs.Processes.{World, process, fresh_world, with_plac
 ghost use Rattle.history.specs.Journal.{plain_reply, FitsRoom};
 ghost use Rattle.history.specs.Processes.{turned, decided, over, entry_place, operation_at, HasEntryPlace, committing, answered, is_before, last_answer, refusal_answer};
 
-use crate::{At, Journal, Process};
+use crate::{Phase, Journal, Process};
 use blocks::NoMemory;
 use model::gathered::Gathered;
 use model::types::{Answer, Entry, Op, Reply};
@@ -42,7 +42,7 @@ impl Processes {
         for _process in 0..count {
             processes.push(Process {
                 begun: 0,
-                at: At::Idle,
+                at: Phase::Idle,
                 room: None,
             })?;
         }
@@ -97,7 +97,7 @@ impl Processes {
     }
 
     /// Where the operation of a process stands.
-    pub fn at(&self, pid: u32) -> &At
+    pub fn at(&self, pid: u32) -> &Phase
         requires { pid < length self.now.processes }
         ensures { result.now ≡ (process self.now pid).at }
     {
@@ -133,7 +133,7 @@ impl Processes {
     {
         let process = &mut self.processes[pid as usize];
         process.begun += 1;
-        process.at = At::Before { group, op };
+        process.at = Phase::BeforeTurn { group, op };
         process.room = room;
     }
 
@@ -169,7 +169,7 @@ impl Processes {
         ensures { self.new ≡ turned self.old pid reply is_over }
     {
         let process = &mut self.processes[pid as usize];
-        let At::Before { group, op } = mem::replace(&mut process.at, At::Idle) else {
+        let Phase::BeforeTurn { group, op } = mem::replace(&mut process.at, Phase::Idle) else {
             unreachable!();
         };
         let entry = self.journal.add(Entry {
@@ -180,9 +180,9 @@ impl Processes {
             reply,
         });
         process.at = if is_over {
-            At::Ending { group, entry }
+            Phase::Ending { group, entry }
         } else {
-            At::Behind { group, entry }
+            Phase::AfterTurn { group, entry }
         };
     }
 
@@ -216,8 +216,8 @@ impl Processes {
         ensures { self.new ≡ over self.old pid }
     {
         let process = &mut self.processes[pid as usize];
-        process.at = match mem::replace(&mut process.at, At::Idle) {
-            At::Behind { group, entry } => At::Ending { group, entry },
+        process.at = match mem::replace(&mut process.at, Phase::Idle) {
+            Phase::AfterTurn { group, entry } => Phase::Ending { group, entry },
             at => at,
         };
     }
@@ -228,8 +228,8 @@ impl Processes {
         ensures { self.new ≡ committing self.old pid }
     {
         let process = &mut self.processes[pid as usize];
-        process.at = match mem::replace(&mut process.at, At::Idle) {
-            At::Ending { group, entry } => At::Committing { group, entry },
+        process.at = match mem::replace(&mut process.at, Phase::Idle) {
+            Phase::Ending { group, entry } => Phase::Committing { group, entry },
             at => at,
         };
     }
@@ -245,7 +245,7 @@ impl Processes {
         ensures processes { self.new ≡ answered self.old pid }
     {
         let process = &mut self.processes[pid as usize];
-        let at = mem::replace(&mut process.at, At::Idle);
+        let at = mem::replace(&mut process.at, Phase::Idle);
         let room = process.room.take();
         let Some(entry) = entry_place(&at) else {
             unreachable!();
@@ -255,12 +255,12 @@ impl Processes {
 }
 
 // Where the entry of an operation stands that had its turn.
-fn entry_place(at: &At) -> Option<usize>
+fn entry_place(at: &Phase) -> Option<usize>
     ensures { result ≡ entry_place at.now }
 {
     match at {
-        At::Idle | At::Before { .. } => None,
-        At::Behind { entry, .. } | At::Ending { entry, .. } | At::Committing { entry, .. } => {
+        Phase::Idle | Phase::BeforeTurn { .. } => None,
+        Phase::AfterTurn { entry, .. } | Phase::Ending { entry, .. } | Phase::Committing { entry, .. } => {
             Some(*entry)
         }
     }

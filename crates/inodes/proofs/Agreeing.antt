@@ -9,8 +9,8 @@ use Rattle.model.specs.declared.types.operations.Op.{Op}
 use Rattle.model.specs.declared.types.operations.Op.TheVariants.{Create, Write, Read, Trunc, Remove, Stat}
 use Rattle.blockmap.specs.Lemmas.Others.{StaysForOthers}
 use Rattle.blockmap.specs.Lemmas.Slots.{holds_still}
-use Rattle.inodes.specs.declared.tasks.Place.{Place}
-use Rattle.inodes.specs.declared.tasks.Place.TheVariants as place
+use Rattle.inodes.specs.declared.tasks.Stage.{Stage}
+use Rattle.inodes.specs.declared.tasks.Stage.TheVariants as stage
 use Rattle.inodes.specs.Tasks.{TaskState, task, no_task}
 use Rattle.inodes.specs.Places.{HasSlot}
 use Rattle.inodes.specs.Itrunc.{trunc_next}
@@ -60,9 +60,9 @@ counts_more l m b among = by_zero (eqb b 0)
 pub open_write_still : (l m : LogState) (q : ℕ) → used_by m q ≡ used_by l q → HasOpen l q → HasOpen m q
 open_write_still l m q used has = record { homes = has.homes; used = used ∙ has.used }
 
-stands_other : (c d : Buffers) (l m : LogState) (n p q : ℕ) (t : TaskState) (a : Place) → StaysForOthers c d l m p → q ≢ p → Stands c l n q t.op a → Stands d m n q t.op a
-stands_other c d l m n p q t place.Nowhere stays apart s = tt
-stands_other c d l m n p q t (place.Creating search) stays apart s = record {
+stands_other : (c d : Buffers) (l m : LogState) (n p q : ℕ) (t : TaskState) (a : Stage) → StaysForOthers c d l m p → q ≢ p → Stands c l n q t.op a → Stands d m n q t.op a
+stands_other c d l m n p q t stage.Nowhere stays apart s = tt
+stands_other c d l m n p q t (stage.Creating search) stays apart s = record {
   op = s.op;
   used = stays.used q apart ∙ s.used;
   count = s.count;
@@ -71,19 +71,19 @@ stands_other c d l m n p q t (place.Creating search) stays apart s = record {
   last = s.last;
   holds = holds_other c d l m p q search.block search.slot stays apart s.holds;
 }
-stands_other c d l m n p q t (place.Taking lock) stays apart s = (holds_other c d l m p q (inode_block lock.number) (slot_of lock.at) stays apart s.0, open_still l m q t.op (stays.used q apart) s.1)
-stands_other c d l m n p q t (place.Reading k reading) stays apart s = holds_other c d l m p q (block_of reading.target) (slot_in reading.target) stays apart s
-stands_other c d l m n p q t (place.Delivering k) stays apart s = tt
-stands_other c d l m n p q t (place.Truncating k trunc) stays apart s = record {
+stands_other c d l m n p q t (stage.Taking lock) stays apart s = (holds_other c d l m p q (inode_block lock.number) (slot_of lock.at) stays apart s.0, open_still l m q t.op (stays.used q apart) s.1)
+stands_other c d l m n p q t (stage.Reading k reading) stays apart s = holds_other c d l m p q (block_of reading.target) (slot_in reading.target) stays apart s
+stands_other c d l m n p q t (stage.Delivering k) stays apart s = tt
+stands_other c d l m n p q t (stage.Truncating k trunc) stays apart s = record {
   logged = logged_still l m q trunc.machine.bitmap (stays.used q apart) (λ one has. stays.among trunc.machine.bitmap has) s.logged;
   holds = holds_still c d q (trunc_next trunc) trunc.kept trunc.used (λ b i has. stays.holds q b i apart has) s.holds;
 }
-stands_other c d l m n p q t (place.Writing k w) stays apart s = record {
+stands_other c d l m n p q t (stage.Writing k w) stays apart s = record {
   logged = open_write_still l m q (stays.used q apart) s.logged;
   kept = holds_other c d l m p q (node_of_write w.at) (kept_by_write w.at) stays apart s.kept;
   used = holds_other c d l m p q (block_of_write w.at) (used_by_write w.at) stays apart s.used;
 }
-stands_other c d l m n p q t (place.Leaving k) stays apart s = tt
+stands_other c d l m n p q t (stage.Leaving k) stays apart s = tt
 
 pub agrees_now : (c d : Buffers) (l m : LogState) (n p : ℕ) (ts : List TaskState) (t : TaskState) → TaskIsNow c d l m n p ts t → Agrees d m n (set ts p t)
 agrees_now c d l m n p ts t is = record {
@@ -115,19 +115,19 @@ agrees_still c d l m n ts holds locks used among are = record {
     by_slot q b None has = tt
     by_slot q b (Some i) has = holds q b i has
 
-    by_place : (q : ℕ) (t : TaskState) (a : Place) → Stands c l n q t.op a → Stands d m n q t.op a
-    by_place q t place.Nowhere s = tt
-    by_place q t (place.Creating search) s = record { op = s.op; used = used q ∙ s.used; count = s.count; kind = s.kind; behind = s.behind; last = s.last; holds = by_slot q search.block search.slot s.holds }
-    by_place q t (place.Taking lock) s = (by_slot q (inode_block lock.number) (slot_of lock.at) s.0, open_still l m q t.op (used q) s.1)
-    by_place q t (place.Reading k reading) s = by_slot q (block_of reading.target) (slot_in reading.target) s
-    by_place q t (place.Delivering k) s = tt
-    by_place q t (place.Truncating k trunc) s = record {
+    by_place : (q : ℕ) (t : TaskState) (a : Stage) → Stands c l n q t.op a → Stands d m n q t.op a
+    by_place q t stage.Nowhere s = tt
+    by_place q t (stage.Creating search) s = record { op = s.op; used = used q ∙ s.used; count = s.count; kind = s.kind; behind = s.behind; last = s.last; holds = by_slot q search.block search.slot s.holds }
+    by_place q t (stage.Taking lock) s = (by_slot q (inode_block lock.number) (slot_of lock.at) s.0, open_still l m q t.op (used q) s.1)
+    by_place q t (stage.Reading k reading) s = by_slot q (block_of reading.target) (slot_in reading.target) s
+    by_place q t (stage.Delivering k) s = tt
+    by_place q t (stage.Truncating k trunc) s = record {
       logged = logged_still l m q trunc.machine.bitmap (used q) (λ one has. among q 1 trunc.machine.bitmap one has) s.logged;
       holds = holds_still c d q (trunc_next trunc) trunc.kept trunc.used (holds q) s.holds;
     }
-    by_place q t (place.Writing k w) s = record {
+    by_place q t (stage.Writing k w) s = record {
       logged = open_write_still l m q (used q) s.logged;
       kept = by_slot q (node_of_write w.at) (kept_by_write w.at) s.kept;
       used = by_slot q (block_of_write w.at) (used_by_write w.at) s.used;
     }
-    by_place q t (place.Leaving k) s = tt
+    by_place q t (stage.Leaving k) s = tt

@@ -18,7 +18,7 @@ use Rattle.wal.specs.Held.{HasLock}
 use Rattle.wal.specs.Machine.{SameGroups}
 use Rattle.wal.specs.Volume.{VolumeState}
 use Rattle.blockmap.specs.Lemmas.Others.{StaysForOthers}
-use Rattle.inodes.specs.declared.tasks.Place.{Place}
+use Rattle.inodes.specs.declared.tasks.Stage.{Stage}
 use Rattle.inodes.specs.Goes.{Goes}
 use Rattle.inodes.specs.Grips.{Grip, KeepsTable, locked_grip, with_grip}
 use Rattle.inodes.specs.Holding.{claim_by, claim_of, claims_of}
@@ -36,7 +36,7 @@ use Rattle.inodes.specs.Looks.{AreLooking}
 use Rattle.inodes.proofs.Gripping.{grip_is}
 
 -- process p, whose task stands at `here`, works on number i, at place k of the table
-module _ {D N : Type 0} (disk : Ghosts D N) (s : StoreState D) (p k i : ℕ) (here : Place) where
+module _ {D N : Type 0} (disk : Ghosts D N) (s : StoreState D) (p k i : ℕ) (here : Stage) where
   abbrev cur : Image
   cur = current_of disk.image s.volume
 
@@ -61,7 +61,7 @@ module _ {D N : Type 0} (disk : Ghosts D N) (s : StoreState D) (p k i : ℕ) (he
     pub apart : (j : ℕ) → j ≢ i → claim_by op here j ≡ None
 
   -- the step answers r, and the task stands at `next` then
-  module _ (r : TaskProgress) (next : Place) (w : VolumeState D) (tab : TableState) (ts : List TaskState) where
+  module _ (r : TaskProgress) (next : Stage) (w : VolumeState D) (tab : TableState) (ts : List TaskState) where
     abbrev now : Image
     now = current_of disk.image w
 
@@ -110,7 +110,7 @@ module _ {D N : Type 0} (disk : Ghosts D N) (s : StoreState D) (p k i : ℕ) (he
       same_grips = ap (with_grip (grips_of s.tasks) p) (does.grip ∙ sym (grip_is s.tasks p ∙ works.gripped)) ∙ set-get_or (grips_of s.tasks) p None
 
       same_claim : (j : ℕ) → j ≢ i → claim_of u j ≡ claim_of (task s.tasks p) j
-      same_claim j apart = does.apart_then j apart ∙ sym (ap (λ (a : Place). claim_by op a j) works.stood ∙ works.apart j apart)
+      same_claim j apart = does.apart_then j apart ∙ sym (ap (λ (a : Stage). claim_by op a j) works.stood ∙ works.apart j apart)
 
       claimed_then : IsClaimedNow claims i (claim_of u i) (claims_of ts)
       claimed_then = subst (λ (l : List TaskState). IsClaimedNow claims i (claim_of u i) (claims_of l)) (sym tasks)
@@ -154,7 +154,7 @@ module _ {D N : Type 0} (disk : Ghosts D N) (s : StoreState D) (p k i : ℕ) (he
       slept : (cause : Why) → r ≡ progress.Sleeping cause → t ≡ s
       slept cause waits =
           let same = does.asleep cause waits in
-          let stays : u ≡ task s.tasks p = ap (λ (a : Place). record (task s.tasks p) { place = a }) (same.2 ∙ sym works.stood) in
+          let stays : u ≡ task s.tasks p = ap (λ (a : Stage). record (task s.tasks p) { place = a }) (same.2 ∙ sym works.stood) in
           ap (λ (v : VolumeState D). record { volume = v; tasks = ts; table = tab }) same.0
           ∙ ap (λ (b : TableState). record { volume = s.volume; tasks = ts; table = b }) same.1
           ∙ ap (λ (l : List TaskState). record s { tasks = l }) (tasks ∙ ap (set s.tasks p) stays ∙ set-get_or s.tasks p no_task)
@@ -162,14 +162,14 @@ module _ {D N : Type 0} (disk : Ghosts D N) (s : StoreState D) (p k i : ℕ) (he
       waits_so : Waits s p r t
       waits_so = record {
         sleeping = slept;
-        held = λ waits. subst (λ (a : Place). IsHeldByAnother s p (block_at_place a)) (sym works.stood) (does.held waits);
+        held = λ waits. subst (λ (a : Stage). IsHeldByAnother s p (block_at_place a)) (sym works.stood) (does.held waits);
         inode = λ waits. absurd (does.inode waits);
       }
 
       -- THE STEP
       pub steps_worked : Goes disk here s p its r t → Steps disk s p its r t
       steps_worked goes = steps_stepped disk s p i its r t u works.is works.well works.inside stepped
-          (subst (λ (a : Place). Goes disk a s p its r t) (sym works.stood) goes)
+          (subst (λ (a : Stage). Goes disk a s p its r t) (sym works.stood) goes)
           waits_so
           (λ other apart reads. subst (λ (o : Option Reply). LeavesNumber its o (asked_by (task s.tasks other).op)) (sym does.late) tt)
-          (λ made going. subst (λ (a : Place). steps_left now next count < steps_left cur a count) (sym works.stood) (does.less made))
+          (λ made going. subst (λ (a : Stage). steps_left now next count < steps_left cur a count) (sym works.stood) (does.less made))

@@ -29,7 +29,7 @@ use Rattle.blockmap.specs.declared.driving.Got.{Got}
 use Rattle.blockmap.specs.declared.machine.Machine.{Ghosts as Pure}
 use Rattle.blockmap.specs.declared.progress.Progress.{Progress}
 use Rattle.blockmap.specs.declared.progress.Progress.TheVariants as machine
-use Rattle.inodes.specs.declared.tasks.Place.{Place}
+use Rattle.inodes.specs.declared.tasks.Stage.{Stage}
 use Rattle.inodes.specs.Grips.{KeepsTable, locked_grip}
 use Rattle.inodes.specs.Holding.{claim_by, claims_of}
 use Rattle.inodes.specs.Looks.{LooksAt}
@@ -55,7 +55,7 @@ IsDone (machine.Over out) = Unit {0}
 IsDone (machine.Fault fault) = ⊥
 
 -- process p, whose task stands at `here` with machine m, works on number i, at place k of the table
-module _ {M D N : Type 0} (pure : Pure M (Unit {0})) (disk : Ghosts D N) (s : StoreState D) (p k i : ℕ) (here : Place) (m n : Driven M) (q : Progress (Unit {0})) (w : VolumeState D) where
+module _ {M D N : Type 0} (pure : Pure M (Unit {0})) (disk : Ghosts D N) (s : StoreState D) (p k i : ℕ) (here : Stage) (m n : Driven M) (q : Progress (Unit {0})) (w : VolumeState D) where
   abbrev cur : Image
   cur = current_of disk.image s.volume
 
@@ -87,7 +87,7 @@ module _ {M D N : Type 0} (pure : Pure M (Unit {0})) (disk : Ghosts D N) (s : St
     pub drives : Drives pure disk hand s.volume p m q n w
 
   -- What the machine makes of image and table, where the step was made, and where the task stands then.
-  pub record Moves (r : TaskProgress) (next : Place) (tab : TableState) (its : Op) : Type 0 where
+  pub record Moves (r : TaskProgress) (next : Stage) (tab : TableState) (its : Op) : Type 0 where
     pub fine : fault_of_task r ≡ None
     pub wakes : (cause : Why) → r ≡ progress.Sleeping cause → ⊥
     pub late : reply_at_turn r ≡ None
@@ -105,7 +105,7 @@ module _ {M D N : Type 0} (pure : Pure M (Unit {0})) (disk : Ghosts D N) (s : St
     pub logged : LoggedAt now w.log p next
     pub less : steps_left now next count < steps_left cur here count
 
-  module _ (d : Driving) (ts : List TaskState) (r : TaskProgress) (next : Place) (tab : TableState) where
+  module _ (d : Driving) (ts : List TaskState) (r : TaskProgress) (next : Stage) (tab : TableState) where
     abbrev then : StoreState D
     then = record { volume = w; tasks = ts; table = tab }
 
@@ -200,7 +200,7 @@ module _ {M D N : Type 0} (pure : Pure M (Unit {0})) (disk : Ghosts D N) (s : St
         by_used (Some g) drives = absurd (idle _ drives.answer)
 
     own_claim : claims i ≡ claim_by op here i
-    own_claim = claim_of_locked cur s.table s.tasks d.works.looking p k i d.works.gripped ∙ ap (λ (a : Place). claim_by op a i) d.works.stood
+    own_claim = claim_of_locked cur s.table s.tasks d.works.looking p k i d.works.gripped ∙ ap (λ (a : Stage). claim_by op a i) d.works.stood
 
     fits_still : now ≡ cur → (new : Claims) → IsClaimedNow claims i (claim_by op here i) new → (files : Files) → FitsHeld files cur claims → FitsHeld files now new
     fits_still same new claimed files fits = subst (λ (x : Image). FitsHeld files x new) (sym same) (held_alike files cur claims new (same_claims claims new i (claim_by op here i) own_claim claimed) fits)
@@ -216,7 +216,7 @@ module _ {M D N : Type 0} (pure : Pure M (Unit {0})) (disk : Ghosts D N) (s : St
         (record { table = d.works.looking.table; others = λ q j i other locks. record { number = λ e. refl; holder = refl; copy = refl } })
 
     grip_still : grip_by here (asked_by op) ≡ Some (locked_grip k i)
-    grip_still = sym (ap (λ (a : Place). grip_by a (asked_by op)) d.works.stood) ∙ d.works.gripped
+    grip_still = sym (ap (λ (a : Stage). grip_by a (asked_by op)) d.works.stood) ∙ d.works.gripped
 
     -- it has to wait
     module _ (cause : Why) (waits : q ≡ machine.Sleeping cause) where
@@ -263,9 +263,9 @@ module _ {M D N : Type 0} (pure : Pure M (Unit {0})) (disk : Ghosts D N) (s : St
         grip = grip_still;
         stands = λ fine. subst (λ (v : VolumeState D). StandsSo disk s p k i here answer here v s.table ts) (sym slept.0) (record {
           others = stays_same s.volume.buffers s.volume.log p;
-          locks = λ b j lock. subst (λ (a : Place). HasSlot a j) d.works.stood (agrees.holders p b j lock);
-          stands = subst (λ (a : Place). Stands s.volume.buffers s.volume.log count p op a) d.works.stood (agrees.stands p);
-          looks = subst (λ (t : TaskState). LooksAt cur s.table t t.place) (ap (λ (a : Place). record (task s.tasks p) { place = a }) d.works.stood) (d.works.looking.stand p);
+          locks = λ b j lock. subst (λ (a : Stage). HasSlot a j) d.works.stood (agrees.holders p b j lock);
+          stands = subst (λ (a : Stage). Stands s.volume.buffers s.volume.log count p op a) d.works.stood (agrees.stands p);
+          looks = subst (λ (t : TaskState). LooksAt cur s.table t t.place) (ap (λ (a : Stage). record (task s.tasks p) { place = a }) d.works.stood) (d.works.looking.stand p);
           logged = subst (LoggedAt cur s.volume.log p) d.works.stood (where_none s.volume.fault d.works.well d.works.is.logged p);
         });
         late = refl;

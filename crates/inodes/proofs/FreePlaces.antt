@@ -15,8 +15,8 @@ use Rattle.blockmap.specs.declared.machine.Next.{Next}
 use Rattle.blockmap.specs.declared.machine.Next.TheVariants as next
 use Rattle.inodes.specs.declared.ilock.LockAt.{LockAt}
 use Rattle.inodes.specs.declared.ilock.LockAt.TheVariants as lock_at
-use Rattle.inodes.specs.declared.tasks.Place.{Place}
-use Rattle.inodes.specs.declared.tasks.Place.TheVariants as place
+use Rattle.inodes.specs.declared.tasks.Stage.{Stage}
+use Rattle.inodes.specs.declared.tasks.Stage.TheVariants as stage
 use Rattle.inodes.specs.declared.writei.WriteAt.{WriteAt}
 use Rattle.inodes.specs.declared.writei.WriteAt.TheVariants as write_at
 use Rattle.inodes.specs.Itrunc.{trunc_next}
@@ -49,15 +49,15 @@ locks_freely lock_at.Reference = true
 locks_freely (lock_at.Lock k) = false
 locks_freely (lock_at.Read k slot) = is_some slot
 
-abbrev pub is_free : Place → Bool
-is_free place.Nowhere = false
-is_free (place.Creating m) = is_some m.slot
-is_free (place.Taking m) = locks_freely m.at
-is_free (place.Reading k m) = is_some (slot_in m.target)
-is_free (place.Delivering k) = true
-is_free (place.Truncating k m) = drives_freely (trunc_next m) m.used
-is_free (place.Writing k m) = writes_freely m.at
-is_free (place.Leaving k) = true
+abbrev pub is_free : Stage → Bool
+is_free stage.Nowhere = false
+is_free (stage.Creating m) = is_some m.slot
+is_free (stage.Taking m) = locks_freely m.at
+is_free (stage.Reading k m) = is_some (slot_in m.target)
+is_free (stage.Delivering k) = true
+is_free (stage.Truncating k m) = drives_freely (trunc_next m) m.used
+is_free (stage.Writing k m) = writes_freely m.at
+is_free (stage.Leaving k) = true
 
 got_some : (c : Buffers) (o : Option ℕ) (b : ℕ) → is_some o ≡ true → cause_to_get c (unless_got o b) ≡ None
 got_some c None b e = absurd (cc e)
@@ -84,15 +84,15 @@ free_lock c t (lock_at.Lock k) i e = absurd (cc e)
 free_lock c t (lock_at.Read k slot) i e = got_some c slot _ e
 
 -- who stands so goes on
-pub free_goes : (c : Buffers) (t : TableState) (a : Place) → is_free a ≡ true → cause_at c t a ≡ None
-free_goes c t place.Nowhere e = refl
-free_goes c t (place.Creating m) e = got_some c m.slot _ e
-free_goes c t (place.Taking m) e = free_lock c t m.at m.number e
-free_goes c t (place.Reading k m) e = got_some c (slot_in m.target) _ e
-free_goes c t (place.Delivering k) e = refl
-free_goes c t (place.Truncating k m) e = free_driven c (wanted_by (trunc_next m) m.used) e
-free_goes c t (place.Writing k m) e = free_write c m.at e
-free_goes c t (place.Leaving k) e = refl
+pub free_goes : (c : Buffers) (t : TableState) (a : Stage) → is_free a ≡ true → cause_at c t a ≡ None
+free_goes c t stage.Nowhere e = refl
+free_goes c t (stage.Creating m) e = got_some c m.slot _ e
+free_goes c t (stage.Taking m) e = free_lock c t m.at m.number e
+free_goes c t (stage.Reading k m) e = got_some c (slot_in m.target) _ e
+free_goes c t (stage.Delivering k) e = refl
+free_goes c t (stage.Truncating k m) e = free_driven c (wanted_by (trunc_next m) m.used) e
+free_goes c t (stage.Writing k m) e = free_write c m.at e
+free_goes c t (stage.Leaving k) e = refl
 
 -- ---- what is kept while another block is got
 
@@ -109,15 +109,15 @@ got_at b None = []
 got_at b (Some i) = record { block = b; slot = i } ∷ []
 
 -- the blocks of addresses that a task keeps
-abbrev pub kept_by : Place → List Got
-kept_by place.Nowhere = []
-kept_by (place.Creating m) = []
-kept_by (place.Taking m) = []
-kept_by (place.Reading k m) = []
-kept_by (place.Delivering k) = []
-kept_by (place.Truncating k m) = gots_kept m.kept
-kept_by (place.Writing k m) = got_at (node_of_write m.at) (kept_by_write m.at)
-kept_by (place.Leaving k) = []
+abbrev pub kept_by : Stage → List Got
+kept_by stage.Nowhere = []
+kept_by (stage.Creating m) = []
+kept_by (stage.Taking m) = []
+kept_by (stage.Reading k m) = []
+kept_by (stage.Delivering k) = []
+kept_by (stage.Truncating k m) = gots_kept m.kept
+kept_by (stage.Writing k m) = got_at (node_of_write m.at) (kept_by_write m.at)
+kept_by (stage.Leaving k) = []
 
 -- one of them
 abbrev pub IsOneOf : Got → List Got → Type 0
@@ -146,15 +146,15 @@ few_at b None = omega arith
 few_at b (Some i) = omega arith
 
 -- there are two at most
-pub few_by : (a : Place) → length (slots_of (kept_by a)) ≤ 2
-few_by place.Nowhere = omega arith
-few_by (place.Creating m) = omega arith
-few_by (place.Taking m) = omega arith
-few_by (place.Reading k m) = omega arith
-few_by (place.Delivering k) = omega arith
-few_by (place.Truncating k m) = few_kept m.kept.inner m.kept.outer
-few_by (place.Writing k m) = few_at (node_of_write m.at) (kept_by_write m.at)
-few_by (place.Leaving k) = omega arith
+pub few_by : (a : Stage) → length (slots_of (kept_by a)) ≤ 2
+few_by stage.Nowhere = omega arith
+few_by (stage.Creating m) = omega arith
+few_by (stage.Taking m) = omega arith
+few_by (stage.Reading k m) = omega arith
+few_by (stage.Delivering k) = omega arith
+few_by (stage.Truncating k m) = few_kept m.kept.inner m.kept.outer
+few_by (stage.Writing k m) = few_at (node_of_write m.at) (kept_by_write m.at)
+few_by (stage.Leaving k) = omega arith
 
 not_got : (o : Option ℕ) (i : ℕ) → is_some o ≡ false → o ≡ Some i → ⊥
 not_got None i e has = cc has
@@ -191,7 +191,7 @@ one_later g [] hs is = is
 one_later g (o ∷ gs) hs is = inr (one_later g gs hs is)
 
 -- a kept block in that slot
-abbrev pub KeptIn : Place → ℕ → Type 0
+abbrev pub KeptIn : Stage → ℕ → Type 0
 KeptIn a i = (g : Got) × IsOneOf g (kept_by a) × (g.slot ≡ i)
 
 kept_in : (inner outer : Option Got) (i : ℕ) → (slot_kept inner ≡ Some i) ⊎ (slot_kept outer ≡ Some i) → (g : Got) × IsOneOf g (gots inner ++ gots outer) × (g.slot ≡ i)
@@ -205,15 +205,15 @@ kept_one b None i has = absurd (cc has)
 kept_one b (Some j) i has = (record { block = b; slot = j }, inl refl, cc has)
 
 -- who gets a block next has no other slot
-pub has_kept : (a : Place) (i : ℕ) → is_free a ≡ false → HasSlot a i → KeptIn a i
-has_kept place.Nowhere i e has = absurd (cc has)
-has_kept (place.Creating m) i e has = absurd (not_got m.slot i e has)
-has_kept (place.Taking m) i e has = absurd (locks_none m.at i e has)
-has_kept (place.Reading k m) i e has = absurd (not_got (slot_in m.target) i e has)
-has_kept (place.Delivering k) i e has = absurd (cc has)
-has_kept (place.Truncating k m) i e has = kept_in m.kept.inner m.kept.outer i (either has (used_driven (trunc_next m) m.used i e))
-has_kept (place.Writing k m) i e has = kept_one (node_of_write m.at) (kept_by_write m.at) i (either has (used_write m.at i e))
-has_kept (place.Leaving k) i e has = absurd (cc has)
+pub has_kept : (a : Stage) (i : ℕ) → is_free a ≡ false → HasSlot a i → KeptIn a i
+has_kept stage.Nowhere i e has = absurd (cc has)
+has_kept (stage.Creating m) i e has = absurd (not_got m.slot i e has)
+has_kept (stage.Taking m) i e has = absurd (locks_none m.at i e has)
+has_kept (stage.Reading k m) i e has = absurd (not_got (slot_in m.target) i e has)
+has_kept (stage.Delivering k) i e has = absurd (cc has)
+has_kept (stage.Truncating k m) i e has = kept_in m.kept.inner m.kept.outer i (either has (used_driven (trunc_next m) m.used i e))
+has_kept (stage.Writing k m) i e has = kept_one (node_of_write m.at) (kept_by_write m.at) i (either has (used_write m.at i e))
+has_kept (stage.Leaving k) i e has = absurd (cc has)
 
 -- ---- who waits for an inode's lock
 
@@ -223,18 +223,18 @@ is_lock (lock_at.Lock k) = true
 is_lock (lock_at.Read k slot) = false
 
 -- a task that is to get a block
-abbrev pub is_getting : Place → Bool
-is_getting place.Nowhere = false
-is_getting (place.Creating m) = true
-is_getting (place.Taking m) = not (is_lock m.at)
-is_getting (place.Reading k m) = true
-is_getting (place.Delivering k) = true
-is_getting (place.Truncating k m) = true
-is_getting (place.Writing k m) = true
-is_getting (place.Leaving k) = true
+abbrev pub is_getting : Stage → Bool
+is_getting stage.Nowhere = false
+is_getting (stage.Creating m) = true
+is_getting (stage.Taking m) = not (is_lock m.at)
+is_getting (stage.Reading k m) = true
+is_getting (stage.Delivering k) = true
+is_getting (stage.Truncating k m) = true
+is_getting (stage.Writing k m) = true
+is_getting (stage.Leaving k) = true
 
 -- what a task waits for that waits for no lock
-abbrev pub Waits : Buffers → TableState → Place → Type 0
+abbrev pub Waits : Buffers → TableState → Stage → Type 0
 Waits c t a = (b : ℕ) × (cause_at c t a ≡ cause_to_get c (Some b))
 
 -- a block that was not got is got next
@@ -262,12 +262,12 @@ lock_waits c t lock_at.Reference i e other = absurd (cc e)
 lock_waits c t (lock_at.Lock k) i e other = absurd (cc other)
 lock_waits c t (lock_at.Read k slot) i e other = (_, some_got c slot _ e)
 
-pub getting_waits : (c : Buffers) (t : TableState) (a : Place) → is_free a ≡ false → is_getting a ≡ true → Waits c t a
-getting_waits c t place.Nowhere e is = absurd (cc is)
-getting_waits c t (place.Creating m) e is = (_, some_got c m.slot _ e)
-getting_waits c t (place.Taking m) e is = lock_waits c t m.at m.number e (not-true (is_lock m.at) is)
-getting_waits c t (place.Reading k m) e is = (_, some_got c (slot_in m.target) _ e)
-getting_waits c t (place.Delivering k) e is = absurd (cc e)
-getting_waits c t (place.Truncating k m) e is = driven_waits c (wanted_by (trunc_next m) m.used) e
-getting_waits c t (place.Writing k m) e is = write_waits c m.at e
-getting_waits c t (place.Leaving k) e is = absurd (cc e)
+pub getting_waits : (c : Buffers) (t : TableState) (a : Stage) → is_free a ≡ false → is_getting a ≡ true → Waits c t a
+getting_waits c t stage.Nowhere e is = absurd (cc is)
+getting_waits c t (stage.Creating m) e is = (_, some_got c m.slot _ e)
+getting_waits c t (stage.Taking m) e is = lock_waits c t m.at m.number e (not-true (is_lock m.at) is)
+getting_waits c t (stage.Reading k m) e is = (_, some_got c (slot_in m.target) _ e)
+getting_waits c t (stage.Delivering k) e is = absurd (cc e)
+getting_waits c t (stage.Truncating k m) e is = driven_waits c (wanted_by (trunc_next m) m.used) e
+getting_waits c t (stage.Writing k m) e is = write_waits c m.at e
+getting_waits c t (stage.Leaving k) e is = absurd (cc e)

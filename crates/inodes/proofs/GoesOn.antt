@@ -13,8 +13,8 @@ use Rattle.blockmap.specs.declared.driving.Got.{Got}
 use Rattle.wal.specs.Joint.{Joint}
 use Rattle.inodes.specs.declared.ilock.LockAt.{LockAt}
 use Rattle.inodes.specs.declared.ilock.LockAt.TheVariants as lock_at
-use Rattle.inodes.specs.declared.tasks.Place.{Place}
-use Rattle.inodes.specs.declared.tasks.Place.TheVariants as place
+use Rattle.inodes.specs.declared.tasks.Stage.{Stage}
+use Rattle.inodes.specs.declared.tasks.Stage.TheVariants as stage
 use Rattle.inodes.specs.Grips.{Grip, locked_grip}
 use Rattle.inodes.specs.LockState.{LockState}
 use Rattle.inodes.specs.Looks.{AreLooking}
@@ -41,18 +41,18 @@ lock_taken m lock_at.Reference k i has = refl
 lock_taken m (lock_at.Lock j) k i has = let unlike : false ≡ true = ap is_locked_in has in absurd (cc unlike)
 lock_taken m (lock_at.Read j slot) k i has = refl
 
-locked_gets : (a : Place) (j k i : ℕ) → grip_by a j ≡ Some (locked_grip k i) → is_getting a ≡ true
-locked_gets place.Nowhere j k i has = absurd (cc has)
-locked_gets (place.Creating m) j k i has = refl
-locked_gets (place.Taking m) j k i has = rw (lock_taken m m.at k i has) refl
-locked_gets (place.Reading l m) j k i has = refl
-locked_gets (place.Delivering l) j k i has = refl
-locked_gets (place.Truncating l m) j k i has = refl
-locked_gets (place.Writing l m) j k i has = refl
-locked_gets (place.Leaving l) j k i has = refl
+locked_gets : (a : Stage) (j k i : ℕ) → grip_by a j ≡ Some (locked_grip k i) → is_getting a ≡ true
+locked_gets stage.Nowhere j k i has = absurd (cc has)
+locked_gets (stage.Creating m) j k i has = refl
+locked_gets (stage.Taking m) j k i has = rw (lock_taken m m.at k i has) refl
+locked_gets (stage.Reading l m) j k i has = refl
+locked_gets (stage.Delivering l) j k i has = refl
+locked_gets (stage.Truncating l m) j k i has = refl
+locked_gets (stage.Writing l m) j k i has = refl
+locked_gets (stage.Leaving l) j k i has = refl
 
 -- a task that neither is over nor gets a block waits for a lock at that place, if anybody has it
-abbrev WaitsForLock : Buffers → TableState → Place → Type 0
+abbrev WaitsForLock : Buffers → TableState → Stage → Type 0
 WaitsForLock c t a = (k : ℕ) × (cause_at c t a ≡ cause_of_holder (holder_at t.places k))
 
 at_lock : (c : Buffers) (t : TableState) (a : LockAt) (i : ℕ) → is_lock a ≡ true → (k : ℕ) × (cause_to_lock c t a i ≡ cause_of_holder (holder_at t.places k))
@@ -60,22 +60,22 @@ at_lock c t lock_at.Reference i is = absurd (cc is)
 at_lock c t (lock_at.Lock k) i is = (k, refl)
 at_lock c t (lock_at.Read k slot) i is = absurd (cc is)
 
-only_lock : (c : Buffers) (t : TableState) (a : Place) → is_over a ≡ false → is_getting a ≡ false → WaitsForLock c t a
-only_lock c t place.Nowhere busy is = absurd (cc busy)
-only_lock c t (place.Creating m) busy is = absurd (cc is)
-only_lock c t (place.Taking m) busy is = at_lock c t m.at m.number (not-false (is_lock m.at) is)
-only_lock c t (place.Reading k m) busy is = absurd (cc is)
-only_lock c t (place.Delivering k) busy is = absurd (cc is)
-only_lock c t (place.Truncating k m) busy is = absurd (cc is)
-only_lock c t (place.Writing k m) busy is = absurd (cc is)
-only_lock c t (place.Leaving k) busy is = absurd (cc is)
+only_lock : (c : Buffers) (t : TableState) (a : Stage) → is_over a ≡ false → is_getting a ≡ false → WaitsForLock c t a
+only_lock c t stage.Nowhere busy is = absurd (cc busy)
+only_lock c t (stage.Creating m) busy is = absurd (cc is)
+only_lock c t (stage.Taking m) busy is = at_lock c t m.at m.number (not-false (is_lock m.at) is)
+only_lock c t (stage.Reading k m) busy is = absurd (cc is)
+only_lock c t (stage.Delivering k) busy is = absurd (cc is)
+only_lock c t (stage.Truncating k m) busy is = absurd (cc is)
+only_lock c t (stage.Writing k m) busy is = absurd (cc is)
+only_lock c t (stage.Leaving k) busy is = absurd (cc is)
 
 abbrev has_some : List Got → Bool
 has_some [] = false
 has_some (g ∷ gs) = true
 
 -- a task that stands there keeps a block of addresses
-abbrev keeps : Place → Bool
+abbrev keeps : Stage → Bool
 keeps a = has_some (kept_by a)
 
 one_in : (gs : List Got) → has_some gs ≡ true → (g : Got) × IsOneOf g gs
@@ -90,11 +90,11 @@ module _ {D : Type 0} (image : D → Image) (s : StoreState D) (store : IsStore 
   abbrev c : Buffers
   c = s.volume.buffers
 
-  abbrev at : ℕ → Place
+  abbrev at : ℕ → Stage
   at p = (task s.tasks p).place
 
   -- a task passes a test, or none does
-  some_task : (test : Place → Bool) → test place.Nowhere ≡ false → Sought (λ (t : TaskState). test t.place) no_task s.tasks
+  some_task : (test : Stage → Bool) → test stage.Nowhere ≡ false → Sought (λ (t : TaskState). test t.place) no_task s.tasks
   some_task test fails = sought (λ (t : TaskState). test t.place) no_task s.tasks fails
 
   agrees : Agrees s.volume.buffers s.volume.log s.table.inode_count s.tasks

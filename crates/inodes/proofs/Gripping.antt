@@ -3,7 +3,7 @@ use Rattle.std.proofs.Common.{◌≡◌, ℕ, zero, suc, List, [], ◌∷◌, se
 use Rattle.std.proofs.lemmas.List.{map-set, set-get_or}
 use Rattle.inodes.specs.Grips.{Grip, with_grip}
 use Rattle.inodes.specs.Places.{grip_of, grips_of}
-use Rattle.inodes.specs.declared.tasks.Place.{Place}
+use Rattle.inodes.specs.declared.tasks.Stage.{Stage}
 use Rattle.inodes.specs.Tasks.{TaskState, task, no_task}
 -- a process has what its task has
 pub use Rattle.inodes.specs.Lemmas.Looks.{grip_of_task as grip_is}
@@ -19,5 +19,5 @@ grips_same (s ∷ ts) zero t same = ap (λ (g : Option Grip). g ∷ grips_of ts)
 grips_same (s ∷ ts) (suc p) t same = ap (λ (gs : List (Option Grip)). grip_of s ∷ gs) (grips_same ts p t same)
 
 -- a task that stays where it stands is the same
-pub same_task : (ts : List TaskState) (p : ℕ) (a : Place) → (task ts p).place ≡ a → ts ≡ set ts p (record (task ts p) { place = a })
-same_task ts p a stood = sym (ap (λ (b : Place). set ts p (record (task ts p) { place = b })) (sym stood) ∙ set-get_or ts p no_task)
+pub same_task : (ts : List TaskState) (p : ℕ) (a : Stage) → (task ts p).place ≡ a → ts ≡ set ts p (record (task ts p) { place = a })
+same_task ts p a stood = sym (ap (λ (b : Stage). set ts p (record (task ts p) { place = b })) (sym stood) ∙ set-get_or ts p no_task)

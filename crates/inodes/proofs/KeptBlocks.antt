@@ -38,8 +38,8 @@ use Rattle.blockmap.specs.declared.machine.Next.{Next}
 use Rattle.blockmap.specs.declared.machine.Next.TheVariants as next
 use Rattle.inodes.specs.declared.itrunc.TruncAt.{TruncAt}
 use Rattle.inodes.specs.declared.itrunc.TruncAt.TheVariants as trunc_at
-use Rattle.inodes.specs.declared.tasks.Place.{Place}
-use Rattle.inodes.specs.declared.tasks.Place.TheVariants as place
+use Rattle.inodes.specs.declared.tasks.Stage.{Stage}
+use Rattle.inodes.specs.declared.tasks.Stage.TheVariants as stage
 use Rattle.inodes.specs.declared.writei.WriteAt.{WriteAt}
 use Rattle.inodes.specs.declared.writei.WriteAt.TheVariants as write_at
 use Rattle.inodes.specs.Grips.{locked_grip}
@@ -93,13 +93,13 @@ slot_held b g None is has = absurd is
 slot_held {c} {p} b g (Some i) (inl same) has = subst (λ (o : Got). HoldsBlock c p o.block o.slot) (sym same) has
 slot_held b g (Some i) (inr none) has = absurd none
 
-pub keeps_open : (c : Buffers) (l : LogState) (n p : ℕ) (g : Got) (o : Option Op) (a : Place) → IsOneOf g (kept_by a) → Stands c l n p o a → KeepsOpen c l p g
-keeps_open c l n p g o place.Nowhere has stands = absurd has
-keeps_open c l n p g o (place.Creating m) has stands = absurd has
-keeps_open c l n p g o (place.Taking m) has stands = absurd has
-keeps_open c l n p g o (place.Reading k m) has stands = absurd has
-keeps_open c l n p g o (place.Delivering k) has stands = absurd has
-keeps_open c l n p g o (place.Truncating k m) has stands =
+pub keeps_open : (c : Buffers) (l : LogState) (n p : ℕ) (g : Got) (o : Option Op) (a : Stage) → IsOneOf g (kept_by a) → Stands c l n p o a → KeepsOpen c l p g
+keeps_open c l n p g o stage.Nowhere has stands = absurd has
+keeps_open c l n p g o (stage.Creating m) has stands = absurd has
+keeps_open c l n p g o (stage.Taking m) has stands = absurd has
+keeps_open c l n p g o (stage.Reading k m) has stands = absurd has
+keeps_open c l n p g o (stage.Delivering k) has stands = absurd has
+keeps_open c l n p g o (stage.Truncating k m) has stands =
     let log = some_logged l p m.machine.bitmap stands.logged in
     record {
       holds = elim (in_either g (gots m.kept.inner) (gots m.kept.outer) has) [
@@ -109,12 +109,12 @@ keeps_open c l n p g o (place.Truncating k m) has stands =
       used = log.0;
       has = log.1;
     }
-keeps_open c l n p g o (place.Writing k m) has stands = record {
+keeps_open c l n p g o (stage.Writing k m) has stands = record {
   holds = slot_held (node_of_write m.at) g (kept_by_write m.at) has stands.kept;
   used = stands.logged.homes;
   has = stands.logged.used;
 }
-keeps_open c l n p g o (place.Leaving k) has stands = absurd has
+keeps_open c l n p g o (stage.Leaving k) has stands = absurd has
 
 module _ (cur : Image) (t : TableState) (ts : List TaskState) (are : AreLooking cur t ts) (numbers : t.inode_count ≡ inode_count_of cur) where
   -- ---- whose block it is
@@ -131,7 +131,7 @@ module _ (cur : Image) (t : TableState) (ts : List TaskState) (are : AreLooking 
   named i is = subst (λ (n : ℕ). IsTrue (is_number n i)) numbers is
 
   -- what the freeing of a file's blocks has still to free is its own
-  left_own : (p k b : ℕ) (m : Freeing) → (task ts p).place ≡ place.Truncating k m → IsTrue (is_number t.inode_count m.machine.number) →
+  left_own : (p k b : ℕ) (m : Freeing) → (task ts p).place ≡ stage.Truncating k m → IsTrue (is_number t.inode_count m.machine.number) →
       1 ≤ count_of b (names_left cur m.machine.inode (held_of m.machine).cursor) → IsOwn p b
   left_own p k b m at number some = record {
     number = m.machine.number;
@@ -141,7 +141,7 @@ module _ (cur : Image) (t : TableState) (ts : List TaskState) (are : AreLooking 
     owned = subst (λ (o : Option Claim). 1 ≤ count_of b (names_claimed cur m.machine.number o)) (sym (own_claim cur t ts are p k m at)) some;
   }
 
-  module _ (p k : ℕ) (m : Freeing) (at : (task ts p).place ≡ place.Truncating k m) (number : IsTrue (is_number t.inode_count m.machine.number)) (h : IsInHand cur m.machine) where
+  module _ (p k : ℕ) (m : Freeing) (at : (task ts p).place ≡ stage.Truncating k m) (number : IsTrue (is_number t.inode_count m.machine.number)) (h : IsInHand cur m.machine) where
     root_own : IsOwn p (root_of m.machine)
     root_own = left_own p k (root_of m.machine) m at number
         (first_left cur m.machine.inode m.machine.slot (held_of m.machine).cursor [] (root_of m.machine) (first_tree cur m.machine h) (omega arith) refl (root_there cur m.machine h) (ahead_root (held_of m.machine).cursor))
@@ -174,11 +174,11 @@ module _ (cur : Image) (t : TableState) (ts : List TaskState) (are : AreLooking 
             (record { fits = are.files.1; number = named m.machine.number number; holds = own_claim cur t ts are p k m at })).once root in
             omega (arith, twice, few, alike)
 
-  held_in : (p k : ℕ) (m : WriteState) → (task ts p).place ≡ place.Writing k m → IsTrue (is_number t.inode_count m.number) →
+  held_in : (p k : ℕ) (m : WriteState) → (task ts p).place ≡ stage.Writing k m → IsTrue (is_number t.inode_count m.number) →
       IsHeldIn are.files.0 cur (claims_of ts) m.number (grows (growth_of m (bytes_by (task ts p).op)))
   held_in p k m at number = record { fits = are.files.1; number = named m.number number; holds = own_growth cur t ts are p k m at }
 
-  write_own : (p k b : ℕ) (m : WriteState) → (task ts p).place ≡ place.Writing k m → IsTrue (is_number t.inode_count m.number) → 1 ≤ count_of b (addresses_in (pointers_in cur m.inode)) → IsOwn p b
+  write_own : (p k b : ℕ) (m : WriteState) → (task ts p).place ≡ stage.Writing k m → IsTrue (is_number t.inode_count m.number) → 1 ≤ count_of b (addresses_in (pointers_in cur m.inode)) → IsOwn p b
   write_own p k b m at number has =
       let g = growth_of m (bytes_by (task ts p).op) in
       let h = held_in p k m at number in
@@ -198,7 +198,7 @@ module _ (cur : Image) (t : TableState) (ts : List TaskState) (are : AreLooking 
   block_is g (Some h) (inr none) = absurd none
 
   -- what the freeing of a file's blocks keeps is its own
-  module _ (p k : ℕ) (m : Freeing) (at : (task ts p).place ≡ place.Truncating k m) (work : IsTruncating cur t.inode_count (task ts p) m) where
+  module _ (p k : ℕ) (m : Freeing) (at : (task ts p).place ≡ stage.Truncating k m) (work : IsTruncating cur t.inode_count (task ts p) m) where
     last_own : (b : ℕ) (a : TruncAt) → HasGivenUp cur m.machine a → last_kept cur m.machine a ≡ Some b → IsOwn p b
     last_own b trunc_at.Direct given is = absurd (cc is)
     last_own b (trunc_at.Loading c) given is = above_own p k m at work.number given.0 m.machine.upper b is
@@ -222,7 +222,7 @@ module _ (cur : Image) (t : TableState) (ts : List TaskState) (are : AreLooking 
     ]
 
   -- who keeps one in the writing of a file's bytes keeps one that the copy names
-  module _ (p k : ℕ) (m : WriteState) (at : (task ts p).place ≡ place.Writing k m) (work : IsWriting cur t.inode_count (task ts p) m) where
+  module _ (p k : ℕ) (m : WriteState) (at : (task ts p).place ≡ stage.Writing k m) (work : IsWriting cur t.inode_count (task ts p) m) where
     way_kept : (i : ℕ) (b : Branch) (a : MapAt) → b ≡ branch_of m.extent.form (next_block m) → kept_on_way a ≡ Some i → maps_freely a ≡ false → IsOnWay cur m.inode m.extent b a
         → 1 ≤ count_of (node_on_way a) (addresses_in (pointers_in cur m.inode))
     way_kept i b (map_at.Address s) is has waits on = absurd (cc has)
@@ -248,17 +248,17 @@ module _ (cur : Image) (t : TableState) (ts : List TaskState) (are : AreLooking 
   pub kept_own : (p : ℕ) (g : Got) → IsOneOf g (kept_by (task ts p).place) → is_free (task ts p).place ≡ false → IsOwn p g.block
   kept_own p g has waits = by_place (task ts p).place refl (are.stand p) has waits
     where
-      by_place : (a : Place) → (task ts p).place ≡ a → LooksAt cur t (task ts p) a → IsOneOf g (kept_by a) → is_free a ≡ false → IsOwn p g.block
-      by_place place.Nowhere at looks has waits = absurd has
-      by_place (place.Creating m) at looks has waits = absurd has
-      by_place (place.Taking m) at looks has waits = absurd has
-      by_place (place.Reading k m) at looks has waits = absurd has
-      by_place (place.Delivering k) at looks has waits = absurd has
-      by_place (place.Truncating k m) at looks has waits = trunc_own p k m at looks g has
-      by_place (place.Writing k m) at looks has waits =
+      by_place : (a : Stage) → (task ts p).place ≡ a → LooksAt cur t (task ts p) a → IsOneOf g (kept_by a) → is_free a ≡ false → IsOwn p g.block
+      by_place stage.Nowhere at looks has waits = absurd has
+      by_place (stage.Creating m) at looks has waits = absurd has
+      by_place (stage.Taking m) at looks has waits = absurd has
+      by_place (stage.Reading k m) at looks has waits = absurd has
+      by_place (stage.Delivering k) at looks has waits = absurd has
+      by_place (stage.Truncating k m) at looks has waits = trunc_own p k m at looks g has
+      by_place (stage.Writing k m) at looks has waits =
           let is = slot_is g (node_of_write m.at) (kept_by_write m.at) has in
           subst (IsOwn p) (sym is.1) (write_own p k (node_of_write m.at) m at looks.number (write_kept p k m at looks g.slot m.at is.0 waits looks.come))
-      by_place (place.Leaving k) at looks has waits = absurd has
+      by_place (stage.Leaving k) at looks has waits = absurd has
 
   -- ---- what is waited for
 
@@ -277,7 +277,7 @@ module _ (cur : Image) (t : TableState) (ts : List TaskState) (are : AreLooking 
   the_bitmap : bitmap_block t.inode_count ≡ bitmap_block (inode_count_of cur)
   the_bitmap = ap bitmap_block numbers
 
-  module _ (c : Buffers) (p k : ℕ) (m : Freeing) (g : Got) (at : (task ts p).place ≡ place.Truncating k m) (work : IsTruncating cur t.inode_count (task ts p) m)
+  module _ (c : Buffers) (p k : ℕ) (m : Freeing) (g : Got) (at : (task ts p).place ≡ stage.Truncating k m) (work : IsTruncating cur t.inode_count (task ts p) m)
       (has : IsOneOf g (gots_kept m.kept)) where
     -- it waits for the bitmap's block
     for_bitmap : (a : TruncAt) → m.machine.at ≡ a → next_of_trunc m.machine a ≡ next.Use m.machine.bitmap → drives_freely (next_of_trunc m.machine a) m.used ≡ false → WaitsBehind c p
@@ -299,7 +299,7 @@ module _ (cur : Image) (t : TableState) (ts : List TaskState) (are : AreLooking 
       cause = ap (cause_at c t) at ∙ ap (λ (o : TruncAt). cause_to_get c (wanted_by (next_of_trunc m.machine o) m.used)) is;
       what = inr (record {
         own = subst (IsOwn p) given.2 (hand_own p k m at work.number given.0);
-        apart = λ h one same. elim (in_either h (gots m.kept.inner) (gots m.kept.outer) (subst (λ (a : Place). IsOneOf h (kept_by a)) at one)) [
+        apart = λ h one same. elim (in_either h (gots m.kept.inner) (gots m.kept.outer) (subst (λ (a : Stage). IsOneOf h (kept_by a)) at one)) [
           | inl inner ↦ second_apart p k m at work.number given.0 work.form h.block (sym keeps.inner ∙ block_is h m.kept.inner inner) (given.2 ∙ same)
           | inr outer ↦ let none : None ≡ Some h.block = sym keeps.outer ∙ block_is h m.kept.outer outer in cc none
         ];
@@ -321,7 +321,7 @@ module _ (cur : Image) (t : TableState) (ts : List TaskState) (are : AreLooking 
     trunc_behind trunc_at.Updating is given keeps waits = absurd (nothing_kept trunc_at.Updating keeps refl refl)
 
   -- the writing of a file's bytes
-  taken_own : (p k b : ℕ) (m : WriteState) → (task ts p).place ≡ place.Writing k m → IsTrue (is_number t.inode_count m.number) → 1 ≤ count_of (node_of_write m.at) (addresses_in (pointers_in cur m.inode)) → taken_by m.at ≡ Some b → IsTaken p b
+  taken_own : (p k b : ℕ) (m : WriteState) → (task ts p).place ≡ stage.Writing k m → IsTrue (is_number t.inode_count m.number) → 1 ≤ count_of (node_of_write m.at) (addresses_in (pointers_in cur m.inode)) → taken_by m.at ≡ Some b → IsTaken p b
   taken_own p k b m at number has taken =
       let g = growth_of m (bytes_by (task ts p).op) in
       let h = held_in p k m at number in
@@ -336,17 +336,17 @@ module _ (cur : Image) (t : TableState) (ts : List TaskState) (are : AreLooking 
           owned = owns.0;
         };
         apart = λ g kept same.
-            let is = slot_is g (node_of_write m.at) (kept_by_write m.at) (subst (λ (a : Place). IsOneOf g (kept_by a)) at kept) in
+            let is = slot_is g (node_of_write m.at) (kept_by_write m.at) (subst (λ (a : Stage). IsOneOf g (kept_by a)) at kept) in
             let here : count_of (node_of_write m.at) (addresses_in (pointers_in cur m.inode)) ≡ 0 = ap (λ (a : ℕ). count_of a (addresses_in (pointers_in cur m.inode))) (sym is.1 ∙ sym same) ∙ none in
             omega (arith, has, here);
       }
 
-  alloc_waits : (c : Buffers) (p k : ℕ) (m : WriteState) (s : AllocState) (a : AllocAt) → (task ts p).place ≡ place.Writing k m → IsWriting cur t.inode_count (task ts p) m → 1 ≤ count_of (node_of_write m.at) (addresses_in (pointers_in cur m.inode)) →
+  alloc_waits : (c : Buffers) (p k : ℕ) (m : WriteState) (s : AllocState) (a : AllocAt) → (task ts p).place ≡ stage.Writing k m → IsWriting cur t.inode_count (task ts p) m → 1 ≤ count_of (node_of_write m.at) (addresses_in (pointers_in cur m.inode)) →
       s.bitmap ≡ m.extent.bitmap → s.at ≡ a → taken_by m.at ≡ taken_at a → (block_of_alloc s a ≡ bitmap_block (inode_count_of cur)) ⊎ IsTaken p (block_of_alloc s a)
   alloc_waits c p k m s (alloc_at.Looking slot) at work some place_is is taken = inl (place_is ∙ ap (λ (e : Extent). e.bitmap) work.extent ∙ the_bitmap)
   alloc_waits c p k m s (alloc_at.Zeroing b slot) at work some place_is is taken = inr (taken_own p k b m at work.number some taken)
 
-  way_behind : (c : Buffers) (p k i : ℕ) (m : WriteState) (way : MapState) (a : MapAt) → (task ts p).place ≡ place.Writing k m → m.at ≡ write_at.Mapping way → way.at ≡ a → IsWriting cur t.inode_count (task ts p) m →
+  way_behind : (c : Buffers) (p k i : ℕ) (m : WriteState) (way : MapState) (a : MapAt) → (task ts p).place ≡ stage.Writing k m → m.at ≡ write_at.Mapping way → way.at ≡ a → IsWriting cur t.inode_count (task ts p) m →
       1 ≤ count_of (node_of_write m.at) (addresses_in (pointers_in cur m.inode)) → IsOnWay cur m.inode m.extent way.branch a → kept_on_way a ≡ Some i → maps_freely a ≡ false → WaitsBehind c p
   way_behind c p k i m way (map_at.Address s) at is on work named come has waits = absurd (cc has)
   way_behind c p k i m way (map_at.Entry n None) at is on work named come has waits = absurd (cc has)
@@ -358,7 +358,7 @@ module _ (cur : Image) (t : TableState) (ts : List TaskState) (are : AreLooking 
   }
   way_behind c p k i m way (map_at.Setting n j found) at is on work named come has waits = absurd (cc waits)
 
-  write_behind : (c : Buffers) (p k i : ℕ) (m : WriteState) (a : WriteAt) → (task ts p).place ≡ place.Writing k m → m.at ≡ a → IsWriting cur t.inode_count (task ts p) m →
+  write_behind : (c : Buffers) (p k i : ℕ) (m : WriteState) (a : WriteAt) → (task ts p).place ≡ stage.Writing k m → m.at ≡ a → IsWriting cur t.inode_count (task ts p) m →
       HasComeTo cur m a → kept_by_write a ≡ Some i → writes_freely a ≡ false → WaitsBehind c p
   write_behind c p k i m (write_at.Mapping way) at is work come has waits =
       way_behind c p k i m way way.at at is refl work (subst (λ (a : WriteAt). 1 ≤ count_of (node_of_write a) (addresses_in (pointers_in cur m.inode))) (sym is) (write_kept p k m at work i (write_at.Mapping way) has waits come)) come.1.at has waits
@@ -368,15 +368,15 @@ module _ (cur : Image) (t : TableState) (ts : List TaskState) (are : AreLooking 
   pub kept_waits : (c : Buffers) (p : ℕ) (g : Got) → IsOneOf g (kept_by (task ts p).place) → is_free (task ts p).place ≡ false → WaitsBehind c p
   kept_waits c p g has waits = by_place (task ts p).place refl (are.stand p) has waits
     where
-      by_place : (a : Place) → (task ts p).place ≡ a → LooksAt cur t (task ts p) a → IsOneOf g (kept_by a) → is_free a ≡ false → WaitsBehind c p
-      by_place place.Nowhere at looks has waits = absurd has
-      by_place (place.Creating m) at looks has waits = absurd has
-      by_place (place.Taking m) at looks has waits = absurd has
-      by_place (place.Reading k m) at looks has waits = absurd has
-      by_place (place.Delivering k) at looks has waits = absurd has
-      by_place (place.Truncating k m) at looks has waits = trunc_behind c p k m g at looks has m.machine.at refl looks.given looks.keeps waits
-      by_place (place.Writing k m) at looks has waits = write_behind c p k g.slot m m.at at refl looks looks.come (slot_is g (node_of_write m.at) (kept_by_write m.at) has).0 waits
-      by_place (place.Leaving k) at looks has waits = absurd has
+      by_place : (a : Stage) → (task ts p).place ≡ a → LooksAt cur t (task ts p) a → IsOneOf g (kept_by a) → is_free a ≡ false → WaitsBehind c p
+      by_place stage.Nowhere at looks has waits = absurd has
+      by_place (stage.Creating m) at looks has waits = absurd has
+      by_place (stage.Taking m) at looks has waits = absurd has
+      by_place (stage.Reading k m) at looks has waits = absurd has
+      by_place (stage.Delivering k) at looks has waits = absurd has
+      by_place (stage.Truncating k m) at looks has waits = trunc_behind c p k m g at looks has m.machine.at refl looks.given looks.keeps waits
+      by_place (stage.Writing k m) at looks has waits = write_behind c p k g.slot m m.at at refl looks looks.come (slot_is g (node_of_write m.at) (kept_by_write m.at) has).0 waits
+      by_place (stage.Leaving k) at looks has waits = absurd has
 
   -- what is waited for so, nobody keeps
   pub waits_apart : (c : Buffers) (p q : ℕ) (g : Got) (w : WaitsBehind c p) → IsOneOf g (kept_by (task ts q).place) → IsOwn q g.block → w.block ≢ g.block

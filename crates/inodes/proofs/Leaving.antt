@@ -19,8 +19,8 @@ use Rattle.model.specs.Operations.{after, part_of}
 use Rattle.model.specs.Tasks.{Answers}
 use Rattle.wal.specs.Volume.{fault_of_task}
 use Rattle.in_flight.specs.Lemmas.HeldLooks.{resting_tells}
-use Rattle.inodes.specs.declared.tasks.Place.{Place}
-use Rattle.inodes.specs.declared.tasks.Place.TheVariants as place
+use Rattle.inodes.specs.declared.tasks.Stage.{Stage}
+use Rattle.inodes.specs.declared.tasks.Stage.TheVariants as stage
 use Rattle.inodes.specs.Goes.{Goes, GivesUp}
 use Rattle.inodes.specs.Grips.{grip, locked_grip}
 use Rattle.inodes.specs.Lemmas.Faults.{where_none}
@@ -42,7 +42,7 @@ use Rattle.in_flight.specs.Held.{FitsHeld}
 
 -- a task that is over, without bytes
 abbrev pub finished : TaskState → TaskState
-finished t = record t { place = place.Nowhere; gathered = None }
+finished t = record t { place = stage.Nowhere; gathered = None }
 
 -- its bytes are taken from it first
 pub tasks_finished : (ts : List TaskState) (p : ℕ) → p < length ts
@@ -110,18 +110,18 @@ module _ {D N : Type 0} (disk : Ghosts D N) (s : StoreState D) (p k : ℕ) (is :
     }
 
   -- a reading gives out its bytes
-  module _ (stood : (task s.tasks p).place ≡ place.Delivering k) where
+  module _ (stood : (task s.tasks p).place ≡ stage.Delivering k) where
     pub all_read : HasAllRead cur s.table.inode_count (copy_at s.table.places k) (task s.tasks p)
-    all_read = subst (λ (a : Place). LooksAt cur s.table (task s.tasks p) a) stood (looking.stand p)
+    all_read = subst (λ (a : Stage). LooksAt cur s.table (task s.tasks p) a) stood (looking.stand p)
 
     has_delivering : grip (grips_of s.tasks) p ≡ Some (locked_grip k (asked_by (task s.tasks p).op))
-    has_delivering = grip_is s.tasks p ∙ ap (λ (a : Place). grip_by a (asked_by (task s.tasks p).op)) stood
+    has_delivering = grip_is s.tasks p ∙ ap (λ (a : Stage). grip_by a (asked_by (task s.tasks p).op)) stood
 
     free_delivering : (i : ℕ) → HasSlot (task s.tasks p).place i → None ≡ Some i
-    free_delivering i got = subst (λ (a : Place). HasSlot a i) stood got
+    free_delivering i got = subst (λ (a : Stage). HasSlot a i) stood got
 
     holds_delivering : (j : ℕ) → claim_of (task s.tasks p) j ≡ None
-    holds_delivering j = ap (λ (a : Place). claim_by (task s.tasks p).op a j) stood
+    holds_delivering j = ap (λ (a : Stage). claim_by (task s.tasks p).op a j) stood
 
     module _ (bytes : GatheredBytes) (had : (task s.tasks p).gathered ≡ Some bytes) (ts : List TaskState) (tasks : ts ≡ set s.tasks p (finished (task s.tasks p))) where
       abbrev answer : TaskProgress
@@ -159,20 +159,20 @@ module _ {D N : Type 0} (disk : Ghosts D N) (s : StoreState D) (p k : ℕ) (is :
 
       pub steps_delivered : (op : Op) → (task s.tasks p).op ≡ Some op → Steps disk s p op answer (store_left ts)
       steps_delivered op is_op = steps_stepped disk s p 0 op answer (store_left ts) (finished (task s.tasks p)) is well inside (delivered op is_op)
-          (subst (λ (a : Place). Goes disk a s p op answer (store_left ts)) (sym stood) (record { bytes = bytes; had = had; gives = refl; up = gives_up answer ts tasks refl free_delivering holds_delivering has_delivering }))
+          (subst (λ (a : Stage). Goes disk a s p op answer (store_left ts)) (sym stood) (record { bytes = bytes; had = had; gives = refl; up = gives_up answer ts tasks refl free_delivering holds_delivering has_delivering }))
           (no_wait answer ts tasks refl free_delivering holds_delivering has_delivering refl) (λ q other reads. tt)
-          (λ made going. subst (λ (a : Place). 0 < steps_left cur a s.table.inode_count) (sym stood) (omega arith))
+          (λ made going. subst (λ (a : Stage). 0 < steps_left cur a s.table.inode_count) (sym stood) (omega arith))
 
   -- an operation that was answered is over
-  module _ (stood : (task s.tasks p).place ≡ place.Leaving k) where
+  module _ (stood : (task s.tasks p).place ≡ stage.Leaving k) where
     has_leaving : grip (grips_of s.tasks) p ≡ Some (locked_grip k (asked_by (task s.tasks p).op))
-    has_leaving = grip_is s.tasks p ∙ ap (λ (a : Place). grip_by a (asked_by (task s.tasks p).op)) stood
+    has_leaving = grip_is s.tasks p ∙ ap (λ (a : Stage). grip_by a (asked_by (task s.tasks p).op)) stood
 
     free_leaving : (i : ℕ) → HasSlot (task s.tasks p).place i → None ≡ Some i
-    free_leaving i got = subst (λ (a : Place). HasSlot a i) stood got
+    free_leaving i got = subst (λ (a : Stage). HasSlot a i) stood got
 
     holds_leaving : (j : ℕ) → claim_of (task s.tasks p) j ≡ None
-    holds_leaving j = ap (λ (a : Place). claim_by (task s.tasks p).op a j) stood
+    holds_leaving j = ap (λ (a : Stage). claim_by (task s.tasks p).op a j) stood
 
     pub low_leaving : k < 50
     low_leaving = (looking.table.places p (locked_grip k (asked_by (task s.tasks p).op)) has_leaving).0
@@ -187,6 +187,6 @@ module _ {D N : Type 0} (disk : Ghosts D N) (s : StoreState D) (p k : ℕ) (is :
 
       pub steps_over : (op : Op) → Steps disk s p op progress.Over (store_left ts)
       steps_over op = steps_stepped disk s p 0 op progress.Over (store_left ts) (finished (task s.tasks p)) is well inside (over op)
-          (subst (λ (a : Place). Goes disk a s p op progress.Over (store_left ts)) (sym stood) (refl, gives_up progress.Over ts tasks refl free_leaving holds_leaving has_leaving))
+          (subst (λ (a : Stage). Goes disk a s p op progress.Over (store_left ts)) (sym stood) (refl, gives_up progress.Over ts tasks refl free_leaving holds_leaving has_leaving))
           (no_wait progress.Over ts tasks refl free_leaving holds_leaving has_leaving refl) (λ q other reads. tt)
-          (λ made going. subst (λ (a : Place). 0 < steps_left cur a s.table.inode_count) (sym stood) (omega arith))
+          (λ made going. subst (λ (a : Stage). 0 < steps_left cur a s.table.inode_count) (sym stood) (omega arith))

@@ -22,8 +22,8 @@ use Rattle.in_flight.specs.Lemmas.HeldFrames.{held_alike}
 use Rattle.wal.specs.Held.{HasLock}
 use Rattle.wal.specs.Machine.{LogState, SameGroups}
 use Rattle.blockmap.specs.Lemmas.Others.{StaysForOthers, groups_same}
-use Rattle.inodes.specs.declared.tasks.Place.{Place}
-use Rattle.inodes.specs.declared.tasks.Place.TheVariants as place
+use Rattle.inodes.specs.declared.tasks.Stage.{Stage}
+use Rattle.inodes.specs.declared.tasks.Stage.TheVariants as stage
 use Rattle.inodes.specs.Goes.{Shown, Goes, ShowsSame}
 use Rattle.inodes.specs.Grips.{Grip, KeepsTable, TableIs, locked_grip, with_grip}
 use Rattle.inodes.specs.Lemmas.Holding.{claim_stays}
@@ -130,21 +130,21 @@ module _ {D N : Type 0} (disk : Ghosts D N) (s : StoreState D) (p i : ℕ) (op :
   copy_stays now q k j apart has = (now.table.others q k j apart (grip_is s.tasks q ∙ has)).copy
 
   -- what another has read stays so, with the table as it is now
-  looks_other : (now : IsNow disk.image s t p u) → t.table.inode_count ≡ s.table.inode_count → (q : ℕ) (v : TaskState) (a : Place) → q ≢ p → task s.tasks q ≡ v → v.place ≡ a → LooksAt new s.table v a → LooksAt new t.table v a
-  looks_other now count q v place.Nowhere apart is_task at looks = tt
-  looks_other now count q v (place.Creating m) apart is_task at looks = tt
-  looks_other now count q v (place.Taking m) apart is_task at looks = subst (λ (n : ℕ). IsTaking n v m) (sym count) looks
-  looks_other now count q v (place.Reading k m) apart is_task at looks =
-      let has : grip_of (task s.tasks q) ≡ Some (locked_grip k (asked_by v.op)) = ap grip_of is_task ∙ ap (λ (a : Place). grip_by a (asked_by v.op)) at in
+  looks_other : (now : IsNow disk.image s t p u) → t.table.inode_count ≡ s.table.inode_count → (q : ℕ) (v : TaskState) (a : Stage) → q ≢ p → task s.tasks q ≡ v → v.place ≡ a → LooksAt new s.table v a → LooksAt new t.table v a
+  looks_other now count q v stage.Nowhere apart is_task at looks = tt
+  looks_other now count q v (stage.Creating m) apart is_task at looks = tt
+  looks_other now count q v (stage.Taking m) apart is_task at looks = subst (λ (n : ℕ). IsTaking n v m) (sym count) looks
+  looks_other now count q v (stage.Reading k m) apart is_task at looks =
+      let has : grip_of (task s.tasks q) ≡ Some (locked_grip k (asked_by v.op)) = ap grip_of is_task ∙ ap (λ (a : Stage). grip_by a (asked_by v.op)) at in
       subst (λ (n : ℕ). IsAtRead new n (copy_at t.table.places k) v m) (sym count)
       (subst (λ (c : Option Dinode). IsAtRead new s.table.inode_count c v m) (sym (copy_stays now q k (asked_by v.op) apart has)) looks)
-  looks_other now count q v (place.Delivering k) apart is_task at looks =
-      let has : grip_of (task s.tasks q) ≡ Some (locked_grip k (asked_by v.op)) = ap grip_of is_task ∙ ap (λ (a : Place). grip_by a (asked_by v.op)) at in
+  looks_other now count q v (stage.Delivering k) apart is_task at looks =
+      let has : grip_of (task s.tasks q) ≡ Some (locked_grip k (asked_by v.op)) = ap grip_of is_task ∙ ap (λ (a : Stage). grip_by a (asked_by v.op)) at in
       subst (λ (n : ℕ). HasAllRead new n (copy_at t.table.places k) v) (sym count)
       (subst (λ (c : Option Dinode). HasAllRead new s.table.inode_count c v) (sym (copy_stays now q k (asked_by v.op) apart has)) looks)
-  looks_other now count q v (place.Truncating k m) apart is_task at looks = subst (λ (n : ℕ). IsTruncating new n v m) (sym count) looks
-  looks_other now count q v (place.Writing k m) apart is_task at looks = subst (λ (n : ℕ). IsWriting new n v m) (sym count) looks
-  looks_other now count q v (place.Leaving k) apart is_task at looks = subst (λ (n : ℕ). WasAnswered n v) (sym count) looks
+  looks_other now count q v (stage.Truncating k m) apart is_task at looks = subst (λ (n : ℕ). IsTruncating new n v m) (sym count) looks
+  looks_other now count q v (stage.Writing k m) apart is_task at looks = subst (λ (n : ℕ). IsWriting new n v m) (sym count) looks
+  looks_other now count q v (stage.Leaving k) apart is_task at looks = subst (λ (n : ℕ). WasAnswered n v) (sym count) looks
 
   module _ (stepped : Stepped disk s p i op r t u) where
     -- the files that it stands for then
@@ -157,18 +157,18 @@ module _ {D N : Type 0} (disk : Ghosts D N) (s : StoreState D) (p i : ℕ) (op :
     same_form = form_same cur new stepped.marks.untouched.super
 
     -- what they logged counts still
-    logged_other : IsNow disk.image s t p u → (q : ℕ) (a : Place) → q ≢ p → (task s.tasks q).place ≡ a → LooksAt cur s.table (task s.tasks q) a
+    logged_other : IsNow disk.image s t p u → (q : ℕ) (a : Stage) → q ≢ p → (task s.tasks q).place ≡ a → LooksAt cur s.table (task s.tasks q) a
         → LoggedAt cur s.volume.log q a → LoggedAt new t.volume.log q a
-    logged_other now q place.Nowhere apart at looks had = tt
-    logged_other now q (place.Creating m) apart at looks had = tt
-    logged_other now q (place.Taking m) apart at looks had = tt
-    logged_other now q (place.Reading k m) apart at looks had = tt
-    logged_other now q (place.Delivering k) apart at looks had = tt
-    logged_other now q (place.Truncating k m) apart at looks had = tt
-    logged_other now q (place.Writing k m) apart at looks had =
+    logged_other now q stage.Nowhere apart at looks had = tt
+    logged_other now q (stage.Creating m) apart at looks had = tt
+    logged_other now q (stage.Taking m) apart at looks had = tt
+    logged_other now q (stage.Reading k m) apart at looks had = tt
+    logged_other now q (stage.Delivering k) apart at looks had = tt
+    logged_other now q (stage.Truncating k m) apart at looks had = tt
+    logged_other now q (stage.Writing k m) apart at looks had =
         logged_still cur new s.table s.tasks i were is.numbers stepped.keeps q k m (λ j. stepped.alone q j apart) at looks
         s.volume.log t.volume.log now.others.among (now.others.used q apart) had
-    logged_other now q (place.Leaving k) apart at looks had = tt
+    logged_other now q (stage.Leaving k) apart at looks had = tt
 
     logged_then : IsNow disk.image s t p u → HaveLogged new t.volume.log (set s.tasks p u)
     logged_then now = λ q. ⊎_elim

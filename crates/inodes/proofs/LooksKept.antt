@@ -48,8 +48,8 @@ use Rattle.blockmap.specs.Lemmas.Targets.{leads_still, needed_within}
 use Rattle.blockmap.specs.Reading.{MayRead}
 use Rattle.inodes.specs.declared.itrunc.TruncAt.{TruncAt}
 use Rattle.inodes.specs.declared.itrunc.TruncAt.TheVariants as trunc_at
-use Rattle.inodes.specs.declared.tasks.Place.{Place}
-use Rattle.inodes.specs.declared.tasks.Place.TheVariants as place
+use Rattle.inodes.specs.declared.tasks.Stage.{Stage}
+use Rattle.inodes.specs.declared.tasks.Stage.TheVariants as stage
 use Rattle.inodes.specs.Grips.{Grip, KeepsUsedInodes, TableIs, grip, locked_grip}
 use Rattle.inodes.specs.Holding.{HasGivenUp, IsInHand, Keeps, claim_by, claims_of, hand_in, held_of, claim_of, root_of, way_of}
 use Rattle.inodes.specs.Itrunc.{Freeing}
@@ -202,11 +202,11 @@ module _ (old new : Image) (t : TableState) (ts : List TaskState) (i : ℕ) (are
   form_still = form_same old new keeps.super
 
   -- the blocks of addresses that a task frees stay
-  module _ (p k : ℕ) (m : Freeing) (free : (k : ℕ) → grip_of (task ts p) ≡ Some (locked_grip k i) → ⊥) (at : (task ts p).place ≡ place.Truncating k m) where
+  module _ (p k : ℕ) (m : Freeing) (free : (k : ℕ) → grip_of (task ts p) ≡ Some (locked_grip k i) → ⊥) (at : (task ts p).place ≡ stage.Truncating k m) where
     left_still : (b : ℕ) → 1 ≤ count_of b (names_left old m.machine.inode (held_of m.machine).cursor) → block_at new b ≡ block_at old b
     left_still b some =
         let h = frees (held_of m.machine) in
-        let locked = claim_locks old t ts are p m.machine.number h (ap (λ (a : Place). claim_by (task ts p).op a m.machine.number) at ∙ own_holds k m) in
+        let locked = claim_locks old t ts are p m.machine.number h (ap (λ (a : Stage). claim_by (task ts p).op a m.machine.number) at ∙ own_holds k m) in
         let apart : m.machine.number ≢ i = λ same. free locked.0 (locked.1 ∙ ap (λ (n : ℕ). Some (locked_grip locked.0 n)) same) in
         (keeps.held m.machine.number h (trunc_names old t ts are p k m at) apart (own_claim old t ts are p k m at)).blocks b (λ none. omega (arith, some, none))
 
@@ -236,7 +236,7 @@ module _ (old new : Image) (t : TableState) (ts : List TaskState) (i : ℕ) (are
     come_as_far trunc_at.Updating is given kept = (given, record { inner = kept.inner; outer = kept.outer })
 
   -- a task that writes holds what it held, and its copy leads on as it did
-  module _ (p k : ℕ) (m : WriteState) (free : (k : ℕ) → grip_of (task ts p) ≡ Some (locked_grip k i) → ⊥) (at : (task ts p).place ≡ place.Writing k m) (writes : IsWriting old t.inode_count (task ts p) m) where
+  module _ (p k : ℕ) (m : WriteState) (free : (k : ℕ) → grip_of (task ts p) ≡ Some (locked_grip k i) → ⊥) (at : (task ts p).place ≡ stage.Writing k m) (writes : IsWriting old t.inode_count (task ts p) m) where
     abbrev g : Growth
     g = growth_of m (bytes_by (task ts p).op)
 
@@ -273,14 +273,14 @@ module _ (old new : Image) (t : TableState) (ts : List TaskState) (i : ℕ) (are
         omega (arith, few, more, hand)
 
   -- of a task that has not locked number i
-  pub stands_still : (p : ℕ) (a : Place) → ((k : ℕ) → grip_of (task ts p) ≡ Some (locked_grip k i) → ⊥) → (task ts p).place ≡ a → LooksAt old t (task ts p) a → LooksAt new t (task ts p) a
-  stands_still p place.Nowhere free at stands = tt
-  stands_still p (place.Creating m) free at stands = tt
-  stands_still p (place.Taking m) free at stands = stands
-  stands_still p (place.Reading k m) free at stands =
+  pub stands_still : (p : ℕ) (a : Stage) → ((k : ℕ) → grip_of (task ts p) ≡ Some (locked_grip k i) → ⊥) → (task ts p).place ≡ a → LooksAt old t (task ts p) a → LooksAt new t (task ts p) a
+  stands_still p stage.Nowhere free at stands = tt
+  stands_still p (stage.Creating m) free at stands = tt
+  stands_still p (stage.Taking m) free at stands = stands
+  stands_still p (stage.Reading k m) free at stands =
       let j = asked_by (task ts p).op in
-      let locked : grip_of (task ts p) ≡ Some (locked_grip k j) = ap (λ (a : Place). grip_by a j) at in
-      let same = copy_keeps p j k m.inode (λ one. free k (locked ∙ ap (λ (n : ℕ). Some (locked_grip k n)) one)) locked (ap (λ (a : Place). claim_by (task ts p).op a j) at) stands.copy in
+      let locked : grip_of (task ts p) ≡ Some (locked_grip k j) = ap (λ (a : Stage). grip_by a j) at in
+      let same = copy_keeps p j k m.inode (λ one. free k (locked ∙ ap (λ (n : ℕ). Some (locked_grip k n)) one)) locked (ap (λ (a : Stage). claim_by (task ts p).op a j) at) stands.copy in
       let read = stands.read in
       let needed : m.next / 1024 * 1024 < m.inode.size = let some = read.some in let end = read.end in omega (arith, some, end) in
       record {
@@ -296,17 +296,17 @@ module _ (old new : Image) (t : TableState) (ts : List TaskState) (i : ℕ) (are
           leads = leads_still old new m.inode (m.next / 1024) (needed_within old m.inode (m.next / 1024) same.may.fit needed) same.blocks form_still same.addresses m.target read.leads;
         };
       }
-  stands_still p (place.Delivering k) free at stands =
+  stands_still p (stage.Delivering k) free at stands =
       let j = asked_by (task ts p).op in
-      let locked : grip_of (task ts p) ≡ Some (locked_grip k j) = ap (λ (a : Place). grip_by a j) at in
-      let same = copy_keeps p j k stands.dinode (λ one. free k (locked ∙ ap (λ (n : ℕ). Some (locked_grip k n)) one)) locked (ap (λ (a : Place). claim_by (task ts p).op a j) at) stands.copy in
+      let locked : grip_of (task ts p) ≡ Some (locked_grip k j) = ap (λ (a : Stage). grip_by a j) at in
+      let same = copy_keeps p j k stands.dinode (λ one. free k (locked ∙ ap (λ (n : ℕ). Some (locked_grip k n)) one)) locked (ap (λ (a : Stage). claim_by (task ts p).op a j) at) stands.copy in
       record {
         op = stands.op;
         dinode = stands.dinode;
         copy = stands.copy;
         bytes = stands.bytes ∙ ap (λ (file : List ℕ). part_of file stands.op.offset stands.op.count) (sym same.bytes);
       }
-  stands_still p (place.Truncating k m) free at stands =
+  stands_still p (stage.Truncating k m) free at stands =
       let far = come_as_far p k m free at m.machine.at refl stands.given stands.keeps in
       record {
         op = stands.op;
@@ -317,7 +317,7 @@ module _ (old new : Image) (t : TableState) (ts : List TaskState) (i : ℕ) (are
         given = far.0;
         keeps = far.1;
       }
-  stands_still p (place.Writing k m) free at stands = record {
+  stands_still p (stage.Writing k m) free at stands = record {
     bytes = stands.bytes;
     op = stands.op;
     number = stands.number;
@@ -328,7 +328,7 @@ module _ (old new : Image) (t : TableState) (ts : List TaskState) (i : ℕ) (are
     extent = stands.extent ∙ ap (extent_of (form_of old) t.inode_count) (sym keeps.size) ∙ ap (λ (f : Form). extent_of f t.inode_count (length new)) (sym form_still);
     come = come_still old new m (ways_same p k m free at stands) (its p k m free at stands).grown.0 m.at (taken_same p k m free at stands) stands.come;
   }
-  stands_still p (place.Leaving k) free at stands = stands
+  stands_still p (stage.Leaving k) free at stands = stands
 
 -- where all used inodes stay
 module _ (old new : Image) (t : TableState) (ts : List TaskState) (are : AreLooking old t ts) (numbers : t.inode_count ≡ inode_count_of old) where
@@ -366,12 +366,12 @@ looks_set cur t ts p s are inside same stands claims = record {
 }
 
 -- a changing operation begins: a creation, or one that takes an inode
-module _ (cur : Image) (t : TableState) (ts : List TaskState) (p : ℕ) (are : AreLooking cur t ts) (inside : p < length ts) (stood : (task ts p).place ≡ place.Nowhere) where
+module _ (cur : Image) (t : TableState) (ts : List TaskState) (p : ℕ) (are : AreLooking cur t ts) (inside : p < length ts) (stood : (task ts p).place ≡ stage.Nowhere) where
   no_grip : grip_of (task ts p) ≡ None
-  no_grip = ap (λ (a : Place). grip_by a (asked_by (task ts p).op)) stood
+  no_grip = ap (λ (a : Stage). grip_by a (asked_by (task ts p).op)) stood
 
   no_claim : (j : ℕ) → claim_of (task ts p) j ≡ None
-  no_claim j = ap (λ (a : Place). claim_by (task ts p).op a j) stood
+  no_claim j = ap (λ (a : Stage). claim_by (task ts p).op a j) stood
 
   begun : (s : TaskState) → grip_of s ≡ None → LooksAt cur t s s.place → ((j : ℕ) → claim_of s j ≡ None) → AreLooking cur t (set ts p s)
   begun s none stands holds = looks_set cur t ts p s are inside (none ∙ sym no_grip) stands (λ j. holds j ∙ sym (no_claim j))
@@ -387,7 +387,7 @@ module _ (cur : Image) (t : TableState) (ts : List TaskState) (p : ℕ) (are : A
       begun (record { op = Some (Remove i); place = first_place (Remove i) t.inode_count; gathered = None }) refl (record { op = Remove i; is = refl; can = can; number = refl; room = refl }) (λ j. refl)
   begun_by (Stat i) can = absurd can
 
-pub looks_begun : (cur : Image) (t : TableState) (ts : List TaskState) (p : ℕ) (op : Op) → AreLooking cur t ts → p < length ts → (task ts p).place ≡ place.Nowhere → CanBegin t.inode_count op
+pub looks_begun : (cur : Image) (t : TableState) (ts : List TaskState) (p : ℕ) (op : Op) → AreLooking cur t ts → p < length ts → (task ts p).place ≡ stage.Nowhere → CanBegin t.inode_count op
     → AreLooking cur t (set ts p (record { op = Some op; place = first_place op t.inode_count; gathered = None }))
 looks_begun cur t ts p op are inside stood can = begun_by cur t ts p are inside stood op can
 

@@ -15,8 +15,8 @@ use Rattle.blockmap.specs.Reading.{MayRead}
 use Rattle.blockmap.specs.Target.{HoldsTarget, LeadsToBlock, block_of, slot_in}
 use Rattle.blockmap.specs.declared.target.Target.{Target}
 use Rattle.blockmap.specs.declared.target.Target.TheVariants as target
-use Rattle.inodes.specs.declared.tasks.Place.{Place}
-use Rattle.inodes.specs.declared.tasks.Place.TheVariants as place
+use Rattle.inodes.specs.declared.tasks.Stage.{Stage}
+use Rattle.inodes.specs.declared.tasks.Stage.TheVariants as stage
 use Rattle.inodes.specs.Grips.{grip, locked_grip}
 use Rattle.inodes.specs.Lemmas.Faults.{where_none}
 use Rattle.inodes.specs.Lemmas.Looks.{copy_is, late_number}
@@ -33,7 +33,7 @@ use Rattle.inodes.proofs.Searching.{where_got}
 
 -- in a store whose process p reads
 module _ {D N : Type 0} (disk : Ghosts D N) (s : StoreState D) (p k : ℕ) (m : ReadState) (is : IsStore disk.image s) (well : s.volume.fault ≡ None)
-    (stood : (task s.tasks p).place ≡ place.Reading k m) where
+    (stood : (task s.tasks p).place ≡ stage.Reading k m) where
   abbrev cur : Image
   cur = current_of disk.image s.volume
 
@@ -48,20 +48,20 @@ module _ {D N : Type 0} (disk : Ghosts D N) (s : StoreState D) (p k : ℕ) (m : 
   looking = where_none s.volume.fault well is.looks
 
   pub at_read : IsAtRead cur s.table.inode_count (copy_at s.table.places k) (task s.tasks p) m
-  at_read = subst (λ (a : Place). LooksAt cur s.table (task s.tasks p) a) stood (looking.stand p)
+  at_read = subst (λ (a : Stage). LooksAt cur s.table (task s.tasks p) a) stood (looking.stand p)
 
   pub has : grip (grips_of s.tasks) p ≡ Some (locked_grip k number)
-  has = grip_is s.tasks p ∙ ap (λ (a : Place). grip_by a number) stood
+  has = grip_is s.tasks p ∙ ap (λ (a : Stage). grip_by a number) stood
 
   pub holds : HoldsAt s.volume.buffers p (block_of m.target) (slot_in m.target)
-  holds = subst (λ (a : Place). Stands s.volume.buffers s.volume.log s.table.inode_count p (task s.tasks p).op a) stood (agrees.stands p)
+  holds = subst (λ (a : Stage). Stands s.volume.buffers s.volume.log s.table.inode_count p (task s.tasks p).op a) stood (agrees.stands p)
 
   pub slot_is : (i : ℕ) → HasSlot (task s.tasks p).place i → slot_in m.target ≡ Some i
-  slot_is i got = subst (λ (a : Place). HasSlot a i) stood got
+  slot_is i got = subst (λ (a : Stage). HasSlot a i) stood got
 
   -- no task holds its number
   pub nobody : claims_of s.tasks number ≡ None
-  nobody = unclaimed cur s.table s.tasks looking p k number (sym (grip_is s.tasks p) ∙ has) (ap (λ (a : Place). claim_by (task s.tasks p).op a number) stood)
+  nobody = unclaimed cur s.table s.tasks looking p k number (sym (grip_is s.tasks p) ∙ has) (ap (λ (a : Stage). claim_by (task s.tasks p).op a number) stood)
 
   reads : owes_reply (task s.tasks p).place ≡ true
   reads = ap owes_reply stood

@@ -37,8 +37,8 @@ use Rattle.blockmap.specs.declared.progress.Progress.TheVariants as machine
 use Rattle.blockmap.specs.declared.target.Target.{Target}
 use Rattle.blockmap.specs.declared.target.Target.TheVariants as target
 use Rattle.blockmap.specs.Lemmas.Others.{StaysForOthers}
-use Rattle.inodes.specs.declared.tasks.Place.{Place}
-use Rattle.inodes.specs.declared.tasks.Place.TheVariants as place
+use Rattle.inodes.specs.declared.tasks.Stage.{Stage}
+use Rattle.inodes.specs.declared.tasks.Stage.TheVariants as stage
 use Rattle.inodes.specs.Goes.{Goes, Shown, ShowsSame, progress_of_read, place_of_reading}
 use Rattle.inodes.specs.Grips.{Grip, KeepsTable, TableIs, grip, locked_grip, with_grip}
 use Rattle.inodes.specs.Ialloc.{OnMore}
@@ -125,7 +125,7 @@ no_reply (machine.Over out) = refl
 no_reply (machine.Fault fault) = refl
 
 -- the bytes of a task were taken out, and others put in
-module _ (ts us vs : List TaskState) (p : ℕ) (a : Place) (g : GatheredBytes) (inside : p < length ts) (taken : us ≡ set ts p (record (task ts p) { gathered = None })) (put : vs ≡ set us p (record (task us p) { gathered = Some g })) where
+module _ (ts us vs : List TaskState) (p : ℕ) (a : Stage) (g : GatheredBytes) (inside : p < length ts) (taken : us ≡ set ts p (record (task ts p) { gathered = None })) (put : vs ≡ set us p (record (task us p) { gathered = Some g })) where
   abbrev without : TaskState
   without = record (task ts p) { gathered = None }
 
@@ -145,11 +145,11 @@ module _ (ts us vs : List TaskState) (p : ℕ) (a : Place) (g : GatheredBytes) (
 
   -- or stands where it stood
   pub stays_with : (task ts p).place ≡ a → vs ≡ set ts p (record (task ts p) { place = a; gathered = Some g })
-  stays_with stood = put_in ∙ ap (λ (b : Place). set ts p (record (task ts p) { place = b; gathered = Some g })) stood
+  stays_with stood = put_in ∙ ap (λ (b : Stage). set ts p (record (task ts p) { place = b; gathered = Some g })) stood
 
 -- in a store whose process p reads
 module _ {D N : Type 0} (disk : Ghosts D N) (s : StoreState D) (p k : ℕ) (m : ReadState) (g : GatheredBytes) (is : IsStore disk.image s) (well : s.volume.fault ≡ None) (inside : p < length s.tasks)
-    (stood : (task s.tasks p).place ≡ place.Reading k m) (had : (task s.tasks p).gathered ≡ Some g) (joint : Joint (disk.image s.volume.device) s.volume.buffers s.volume.log) where
+    (stood : (task s.tasks p).place ≡ stage.Reading k m) (had : (task s.tasks p).gathered ≡ Some g) (joint : Joint (disk.image s.volume.device) s.volume.buffers s.volume.log) where
   abbrev cur : Image
   cur = current_of disk.image s.volume
 
@@ -180,7 +180,7 @@ module _ {D N : Type 0} (disk : Ghosts D N) (s : StoreState D) (p k : ℕ) (m : 
   }
 
   module _ (q : Progress (Unit {0})) (n : ReadState) (w : VolumeState D) (h : GatheredBytes) (steps : ReadSteps disk s.volume p m g q w n h) (ts : List TaskState) where
-    abbrev next : Place
+    abbrev next : Stage
     next = place_of_reading k m n q
 
     abbrev then_at : StoreState D
@@ -408,7 +408,7 @@ module _ {D N : Type 0} (disk : Ghosts D N) (s : StoreState D) (p k : ℕ) (m : 
 
     module _ (tasks : ts ≡ set s.tasks p (task_then n q h)) where
       holds_still : (j : ℕ) → claim_of (task_then n q h) j ≡ claim_of (task s.tasks p) j
-      holds_still j = holds_there k m n q (task s.tasks p).op j ∙ sym (ap (λ (a : Place). claim_by (task s.tasks p).op a j) stood)
+      holds_still j = holds_there k m n q (task s.tasks p).op j ∙ sym (ap (λ (a : Stage). claim_by (task s.tasks p).op a j) stood)
 
       -- a reading logs nothing
       logged_by : (r : Progress (Unit {0})) → LoggedAt (current_of disk.image w) w.log p (place_of_reading k m n r)
@@ -444,7 +444,7 @@ module _ {D N : Type 0} (disk : Ghosts D N) (s : StoreState D) (p k : ℕ) (m : 
       slept : (cause : Why) → q ≡ machine.Sleeping cause → then_at ≡ s
       slept cause waits =
           let same = steps.asleep cause waits in
-          let stays : task_then n q h ≡ task s.tasks p = ap (λ (a : Place). record (task s.tasks p) { place = a; gathered = Some h }) (same_place (machine.Sleeping cause) waits ∙ sym stood)
+          let stays : task_then n q h ≡ task s.tasks p = ap (λ (a : Stage). record (task s.tasks p) { place = a; gathered = Some h }) (same_place (machine.Sleeping cause) waits ∙ sym stood)
           ∙ ap (λ (o : Option GatheredBytes). record (task s.tasks p) { gathered = o }) (ap Some same.gathered ∙ sym had) in
           ap (λ (v : VolumeState D). store_then v ts) same.volume
           ∙ ap (λ (l : List TaskState). record s { tasks = l }) (tasks ∙ ap (set s.tasks p) stays ∙ set-get_or s.tasks p no_task)
@@ -490,7 +490,7 @@ module _ {D N : Type 0} (disk : Ghosts D N) (s : StoreState D) (p k : ℕ) (m : 
       -- and what a step promises
       pub steps_read : (op : Op) → Steps disk s p op (progress_of_read q) then_at
       steps_read op = steps_stepped disk s p 0 op (progress_of_read q) then_at (task_then n q h) is well inside (stepped op)
-          (subst (λ (a : Place). Goes disk a s p op (progress_of_read q) then_at) (sym stood) (
+          (subst (λ (a : Stage). Goes disk a s p op (progress_of_read q) then_at) (sym stood) (
             record {
               answer = q;
               now = n;
@@ -507,7 +507,7 @@ module _ {D N : Type 0} (disk : Ghosts D N) (s : StoreState D) (p k : ℕ) (m : 
           ))
           waits_so
           (λ other apart reads. subst (λ (o : Option Reply). LeavesNumber op o (asked_by (task s.tasks other).op)) (sym (no_reply q)) tt)
-          (λ made going. subst (λ (a : Place). steps_left (current_of disk.image w) next s.table.inode_count < steps_left cur a s.table.inode_count) (sym stood) (falls_by q refl made))
+          (λ made going. subst (λ (a : Stage). steps_left (current_of disk.image w) next s.table.inode_count < steps_left cur a s.table.inode_count) (sym stood) (falls_by q refl made))
         where
           now_is : task ts p ≡ task_then n q h
           now_is = ap (λ (l : List TaskState). task l p) tasks ∙ get_or-set_same s.tasks p (task_then n q h) no_task inside

@@ -16,8 +16,8 @@ use Rattle.wal.specs.Machine.{LogState, SameGroups}
 use Rattle.wal.specs.Volume.{VolumeState, faults_after}
 use Rattle.blockmap.specs.declared.progress.Progress.TheVariants as machine
 use Rattle.blockmap.specs.declared.progress.Progress.{Progress}
-use Rattle.inodes.specs.declared.tasks.Place.{Place}
-use Rattle.inodes.specs.declared.tasks.Place.TheVariants as place
+use Rattle.inodes.specs.declared.tasks.Stage.{Stage}
+use Rattle.inodes.specs.declared.tasks.Stage.TheVariants as stage
 use Rattle.inodes.specs.Goes.{Goes, GoesFrom, progress_of_search, shown_of}
 use Rattle.inodes.specs.Grips.{Grip, TableIs}
 use Rattle.inodes.specs.Holding.{claims_of}
@@ -44,7 +44,7 @@ files_fit image s looks = looks.files.1
 
 -- what a step of process p's search is asked of the store `now`, which is s
 module _ {D N : Type 0} (disk : Ghosts D N) (s now : StoreState D) (p : ℕ) (m : SearchState) (is : IsStore disk.image s) (view : s ≡ now)
-    (no_fault : now.volume.fault ≡ None) (within : p < length now.tasks) (at : (task now.tasks p).place ≡ place.Creating m)
+    (no_fault : now.volume.fault ≡ None) (within : p < length now.tasks) (at : (task now.tasks p).place ≡ stage.Creating m)
     (known : IfNone s.volume.fault (Joint (disk.image s.volume.device) s.volume.buffers s.volume.log)) where
   well : s.volume.fault ≡ None
   well = subst (λ (o : StoreState D). o.volume.fault ≡ None) (sym view) no_fault
@@ -52,8 +52,8 @@ module _ {D N : Type 0} (disk : Ghosts D N) (s now : StoreState D) (p : ℕ) (m 
   lt : p < length s.tasks
   lt = subst (λ (o : StoreState D). p < length o.tasks) (sym view) within
 
-  stood : (task s.tasks p).place ≡ place.Creating m
-  stood = subst (λ (o : StoreState D). (task o.tasks p).place ≡ place.Creating m) (sym view) at
+  stood : (task s.tasks p).place ≡ stage.Creating m
+  stood = subst (λ (o : StoreState D). (task o.tasks p).place ≡ stage.Creating m) (sym view) at
 
   joint : Joint (disk.image s.volume.device) s.volume.buffers s.volume.log
   joint = where_none s.volume.fault well known
@@ -148,19 +148,19 @@ module _ {D N : Type 0} (disk : Ghosts D N) (s now : StoreState D) (p : ℕ) (m 
 
       search_steps : Steps disk s p op (progress_of_search r) t
       search_steps = steps_stepped disk s p 0 op (progress_of_search r) t its is well lt stepped
-          (subst (λ (a : Place). Goes disk a s p op (progress_of_search r) t) (sym stood) (
-            subst (λ (a : Place). GoesFrom m.slot s.table.inode_count p m s.volume.buffers (progress_of_search r) a (shown_of disk.image s.volume) (shown_of disk.image u)) (sym placed)
+          (subst (λ (a : Stage). Goes disk a s p op (progress_of_search r) t) (sym stood) (
+            subst (λ (a : Stage). GoesFrom m.slot s.table.inode_count p m s.volume.buffers (progress_of_search r) a (shown_of disk.image s.volume) (shown_of disk.image u)) (sym placed)
                 (goes_now disk.image s t p m new op r agrees is.numbers lt stood is_op steps.current claimed_same is.geometry filled few m.slot steps.log steps.buffers steps.goes),
             refl,
             record { answer = r; gives = refl; buffers = steps.buffers },
           ))
           (record {
             sleeping = λ cause waits. asleep_then s u p new r steps.asleep cause waits;
-            held = λ waits. subst (λ (a : Place). IsHeldByAnother s p (block_at_place a)) (sym stood) (held_then s p m r agrees stood u.buffers new.slot steps.locks waits);
+            held = λ waits. subst (λ (a : Stage). IsHeldByAnother s p (block_at_place a)) (sym stood) (held_then s p m r agrees stood u.buffers new.slot steps.locks waits);
             inode = λ waits. absurd (no_inode_held m.slot s.volume.buffers u.buffers p m.block new.slot r steps.locks waits);
           })
           (subst (λ (q : Op). LeavesLate s p q (progress_of_search r)) (sym (same_op disk.image s t p m new op r agrees is.numbers lt stood is_op steps.current claimed_same)) (apart_then disk.image s p m new s.volume.buffers m.slot r looks is.numbers steps.goes))
-          (λ made unfinished. subst (λ (a : Place). steps_left (current_of disk.image u) (place_then r m new) s.table.inode_count < steps_left (current_of disk.image s.volume) a s.table.inode_count) (sym stood)
+          (λ made unfinished. subst (λ (a : Stage). steps_left (current_of disk.image u) (place_then r m new) s.table.inode_count < steps_left (current_of disk.image s.volume) a s.table.inode_count) (sym stood)
           (falls_then s.table.inode_count m new (current_of disk.image s.volume) (current_of disk.image u) s.volume.buffers r mine.count mine.last steps.goes made))
         where
           placed : (task t.tasks p).place ≡ place_then r m new

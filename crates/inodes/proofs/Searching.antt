@@ -16,28 +16,28 @@ use Rattle.wal.specs.Lemmas.Rooms.{GrowsHomes}
 use Rattle.blockmap.specs.Getting.{HoldsWhereGot}
 use Rattle.blockmap.specs.Lemmas.Others.{StaysForOthers, stays_got, stays_same}
 use Rattle.inodes.specs.Ialloc.{SearchState}
-use Rattle.inodes.specs.declared.tasks.Place.{Place}
-use Rattle.inodes.specs.declared.tasks.Place.TheVariants as place
+use Rattle.inodes.specs.declared.tasks.Stage.{Stage}
+use Rattle.inodes.specs.declared.tasks.Stage.TheVariants as stage
 use Rattle.inodes.specs.Ialloc.{IsReady, at_slot, at_next_block, is_last_block}
 use Rattle.inodes.specs.Tasks.{TaskState, task}
 use Rattle.inodes.specs.Places.{HasSlot}
 use Rattle.inodes.specs.Store.{IsSearching, HoldsAt, Stands, Agrees}
 use Rattle.inodes.proofs.Agreeing.{TaskIsNow}
 
-module _ (c d : Buffers) (l : LogState) (n p : ℕ) (ts : List TaskState) (m : SearchState) (agrees : Agrees c l n ts) (inside : p < length ts) (stood : (task ts p).place ≡ place.Creating m) where
+module _ (c d : Buffers) (l : LogState) (n p : ℕ) (ts : List TaskState) (m : SearchState) (agrees : Agrees c l n ts) (inside : p < length ts) (stood : (task ts p).place ≡ stage.Creating m) where
   pub search : IsSearching c l n p (task ts p).op m
-  search = subst (λ (a : Place). Stands c l n p (task ts p).op a) stood (agrees.stands p)
+  search = subst (λ (a : Stage). Stands c l n p (task ts p).op a) stood (agrees.stands p)
 
   -- what the process has, it has in the search's slot
   own : (o : Option ℕ) (b j : ℕ) → m.slot ≡ o → HasLock c p b j → o ≡ Some j
-  own o b j is has = sym is ∙ subst (λ (a : Place). HasSlot a j) stood (agrees.holders p b j has)
+  own o b j is has = sym is ∙ subst (λ (a : Stage). HasSlot a j) stood (agrees.holders p b j has)
 
   -- it stays where it stands
-  pub task_waits : TaskIsNow c c l l n p ts (record (task ts p) { place = place.Creating m })
+  pub task_waits : TaskIsNow c c l l n p ts (record (task ts p) { place = stage.Creating m })
   task_waits = record { agrees = agrees; inside = inside; others = stays_same c l p; stands = search; locks = λ b j has. own m.slot b j refl has }
 
   -- it got its block
-  pub task_got : (i : ℕ) → m.slot ≡ None → GetsLock c d p m.block i → TaskIsNow c d l l n p ts (record (task ts p) { place = place.Creating (at_slot m i) })
+  pub task_got : (i : ℕ) → m.slot ≡ None → GetsLock c d p m.block i → TaskIsNow c d l l n p ts (record (task ts p) { place = stage.Creating (at_slot m i) })
   task_got i none gets = record {
     agrees = agrees;
     inside = inside;
@@ -66,7 +66,7 @@ module _ (c d : Buffers) (l : LogState) (n p : ℕ) (ts : List TaskState) (m : S
     }
 
     -- it goes on to the next block
-    pub task_next : is_last_block m ≡ false → TaskIsNow c d l l n p ts (record (task ts p) { place = place.Creating (at_next_block m) })
+    pub task_next : is_last_block m ≡ false → TaskIsNow c d l l n p ts (record (task ts p) { place = stage.Creating (at_next_block m) })
     task_next more =
         let other = eqb-false m.block (inode_block (m.inode_count - 1)) more in
         let same : inode_block (m.inode_count - 1) ≡ inode_block (n - 1) = ap (λ (k : ℕ). inode_block (k - 1)) search.count in
@@ -79,7 +79,7 @@ module _ (c d : Buffers) (l : LogState) (n p : ℕ) (ts : List TaskState) (m : S
         }
 
     -- it is over
-    pub task_over : (k : LogState) → GrowsHomes l k → ((q : ℕ) → q ≢ p → used_by k q ≡ used_by l q) → TaskIsNow c d l k n p ts (record (task ts p) { place = place.Nowhere })
+    pub task_over : (k : LogState) → GrowsHomes l k → ((q : ℕ) → q ≢ p → used_by k q ≡ used_by l q) → TaskIsNow c d l k n p ts (record (task ts p) { place = stage.Nowhere })
     task_over k grows used = record {
       agrees = agrees;
       inside = inside;
@@ -94,7 +94,7 @@ where_got x c l p b None joint has = tt
 where_got x c l p b (Some i) joint has = held_is p b i joint has
 
 -- the search may make its next step
-pub ready_of : (x : Image) (c : Buffers) (l : LogState) (n p : ℕ) (ts : List TaskState) (m : SearchState) → Agrees c l n ts → p < length ts → (task ts p).place ≡ place.Creating m → Joint x c l
+pub ready_of : (x : Image) (c : Buffers) (l : LogState) (n p : ℕ) (ts : List TaskState) (m : SearchState) → Agrees c l n ts → p < length ts → (task ts p).place ≡ stage.Creating m → Joint x c l
     → IsLawfulGeometry (seen x c) → n ≡ inode_count_of (seen x c) → IsReady (seen x c) c l.size p m
 ready_of x c l n p ts m agrees inside stood joint geometry numbers =
     let s = search c c l n p ts m agrees inside stood in

@@ -37,8 +37,8 @@ use Rattle.blockmap.specs.declared.machine.Next.{Next}
 use Rattle.blockmap.specs.declared.machine.Next.TheVariants as next
 use Rattle.inodes.specs.declared.ilock.LockAt.{LockAt}
 use Rattle.inodes.specs.declared.ilock.LockAt.TheVariants as lock_at
-use Rattle.inodes.specs.declared.tasks.Place.{Place}
-use Rattle.inodes.specs.declared.tasks.Place.TheVariants as place
+use Rattle.inodes.specs.declared.tasks.Stage.{Stage}
+use Rattle.inodes.specs.declared.tasks.Stage.TheVariants as stage
 use Rattle.inodes.specs.declared.writei.WriteAt.{WriteAt}
 use Rattle.inodes.specs.declared.writei.WriteAt.TheVariants as write_at
 use Rattle.inodes.specs.Goes.{Goes, GoesFrom, Shown, progress_of_search, progress_of_lock, progress_of_read, progress_of_trunc, progress_of_write, shown_of}
@@ -81,7 +81,7 @@ module _ {D N : Type 0} (disk : Ghosts D N) (v w : VolumeState D) (p : ℕ) (cau
 
   -- ---- machines that get one block
 
-  searches : (m : SearchState) (o : Option ℕ) (r : Progress (Option ℕ)) (n : ℕ) (next : Place) (x y : Shown) → HasCause (unless_got o m.block) →
+  searches : (m : SearchState) (o : Option ℕ) (r : Progress (Option ℕ)) (n : ℕ) (next : Stage) (x y : Shown) → HasCause (unless_got o m.block) →
       GoesFrom o n p m v.buffers (progress_of_search r) next x y → BuffersAfter disk.image o m v p r w.buffers → progress_of_search r ≡ progress.Sleeping cause
   searches m (Some i) r n next x y e goes after = absurd (cc e)
   searches m None machine.Moved n next x y e goes after = let unlike = sym goes.0.1 ∙ asleep (get_answer v.buffers m.block) cause e in absurd (cc unlike)
@@ -165,17 +165,17 @@ trunc_asleep disk v w p cause m n (Some g) does = absurd (never_sleeps _ cause (
 pub waits_with_cause : {D N : Type 0} (disk : Ghosts D N) → WaitsWithCause disk
 waits_with_cause {D} {N} disk s t p op r cause waits steps = by (task s.tasks p).place waits steps.goes
   where
-    by : (a : Place) → cause_at s.volume.buffers s.table a ≡ Some cause → Goes disk a s p op r t → r ≡ progress.Sleeping cause
-    by place.Nowhere e goes = absurd (cc e)
-    by (place.Creating m) e goes =
+    by : (a : Stage) → cause_at s.volume.buffers s.table a ≡ Some cause → Goes disk a s p op r t → r ≡ progress.Sleeping cause
+    by stage.Nowhere e goes = absurd (cc e)
+    by (stage.Creating m) e goes =
         let search = goes.2 in
         let from = subst (λ (o : TaskProgress). GoesFrom m.slot s.table.inode_count p m s.volume.buffers o (task t.tasks p).place (shown_of disk.image s.volume) (shown_of disk.image t.volume)) search.gives goes.0 in
         search.gives ∙ searches disk s.volume t.volume p cause m m.slot search.answer s.table.inode_count (task t.tasks p).place (shown_of disk.image s.volume) (shown_of disk.image t.volume) e from search.buffers
-    by (place.Taking m) e goes =
+    by (stage.Taking m) e goes =
         let take = goes.0 in
         take.gives ∙ ap (progress_of_lock s.table.form (inode_of (current_of disk.image s.volume) m.number) op) (locks disk s.volume t.volume p cause s.table t.table m take.now m.at take.answer e take.locks)
-    by (place.Reading k m) e goes = let read = goes.0 in read.gives ∙ ap progress_of_read (reads disk s.volume t.volume p cause m read.now m.target read.answer e read.reads.works)
-    by (place.Delivering k) e goes = absurd (cc e)
-    by (place.Truncating k m) e goes = goes.gives ∙ ap progress_of_trunc (drives disk s.volume t.volume p cause itrunc m goes.now (used_now (trunc_next m) m.kept m.used) goes.answer refl e goes.drives)
-    by (place.Writing k m) e goes = goes.gives ∙ ap (progress_of_write m.done) (writes disk s.volume t.volume p cause m goes.now m.at (bytes_of op) goes.answer e goes.writes)
-    by (place.Leaving k) e goes = absurd (cc e)
+    by (stage.Reading k m) e goes = let read = goes.0 in read.gives ∙ ap progress_of_read (reads disk s.volume t.volume p cause m read.now m.target read.answer e read.reads.works)
+    by (stage.Delivering k) e goes = absurd (cc e)
+    by (stage.Truncating k m) e goes = goes.gives ∙ ap progress_of_trunc (drives disk s.volume t.volume p cause itrunc m goes.now (used_now (trunc_next m) m.kept m.used) goes.answer refl e goes.drives)
+    by (stage.Writing k m) e goes = goes.gives ∙ ap (progress_of_write m.done) (writes disk s.volume t.volume p cause m goes.now m.at (bytes_of op) goes.answer e goes.writes)
+    by (stage.Leaving k) e goes = absurd (cc e)

@@ -29,8 +29,8 @@ use Rattle.blockmap.specs.declared.branch.Branch.{Branch}
 use Rattle.blockmap.specs.declared.branch.Node.{Node}
 use Rattle.blockmap.specs.declared.target.Target.TheVariants as target
 use Rattle.blockmap.specs.declared.target.Target.{Target}
-use Rattle.inodes.specs.declared.tasks.Place.TheVariants as place
-use Rattle.inodes.specs.declared.tasks.Place.{Place}
+use Rattle.inodes.specs.declared.tasks.Stage.TheVariants as stage
+use Rattle.inodes.specs.declared.tasks.Stage.{Stage}
 use Rattle.inodes.specs.declared.writei.WriteAt.TheVariants as write_at
 use Rattle.inodes.specs.declared.writei.WriteAt.{WriteAt}
 use Rattle.inodes.specs.Ialloc.{SearchGoes, SearchState}
@@ -227,14 +227,14 @@ changed_after ts us vs p a f inside came goes = goes ∙ ap (λ (l : List TaskSt
     ∙ set-set ts p a (f a)
 
 -- a reading goes on, whose bytes were out of its task
-pub reads_with : (ts us vs ws : List TaskState) (p : ℕ) (a : Place) (g : GatheredBytes) → p < length ts → us ≡ set ts p (record (task ts p) { gathered = None }) → vs ≡ set us p (record (task us p) { place = a })
+pub reads_with : (ts us vs ws : List TaskState) (p : ℕ) (a : Stage) (g : GatheredBytes) → p < length ts → us ≡ set ts p (record (task ts p) { gathered = None }) → vs ≡ set us p (record (task us p) { place = a })
     → ws ≡ set vs p (record (task vs p) { gathered = Some g }) → ws ≡ set ts p (record (task ts p) { place = a; gathered = Some g })
 reads_with ts us vs ws p a g inside out on in_again =
     changed_after ts vs ws p (record (task ts p) { place = a; gathered = None }) (λ t. record t { gathered = Some g }) inside
     (changed_after ts us vs p (record (task ts p) { gathered = None }) (λ t. record t { place = a }) inside out on) in_again
 
 -- one that goes on from where it came to
-pub left_after : (ts us vs : List TaskState) (p : ℕ) (a b : Place) → p < length ts → us ≡ set ts p (record (task ts p) { place = a }) → vs ≡ set us p (record (task us p) { place = b })
+pub left_after : (ts us vs : List TaskState) (p : ℕ) (a b : Stage) → p < length ts → us ≡ set ts p (record (task ts p) { place = a }) → vs ≡ set us p (record (task us p) { place = b })
     → vs ≡ set ts p (record (task ts p) { place = b })
 left_after ts us vs p a b inside came goes = changed_after ts us vs p (record (task ts p) { place = a }) (λ t. record t { place = b }) inside came goes
 
@@ -249,7 +249,7 @@ search_stays (Some i) x b m n (machine.Fault fault) goes rests = absurd goes
 
 -- and the tasks with it
 pub search_rests : {D N : Type 0} (disk : Ghosts D N) (v w : VolumeState D) (p : ℕ) (m : SearchState) (ts us : List TaskState) (r : Progress (Option ℕ)) → SearchesInPlace disk v ts p m r us w
-    → (task ts p).place ≡ place.Creating m → Rests r → us ≡ ts
+    → (task ts p).place ≡ stage.Creating m → Rests r → us ≡ ts
 search_rests disk v w p m ts us r steps stood rests =
     let stays = search_stays m.slot (seen (disk.image v.device) v.buffers) v.buffers m steps.now r steps.steps.goes rests in
-    steps.tasks ∙ ap (λ (n : SearchState). set ts p (record (task ts p) { place = place.Creating n })) stays ∙ sym (same_task ts p (place.Creating m) stood)
+    steps.tasks ∙ ap (λ (n : SearchState). set ts p (record (task ts p) { place = stage.Creating n })) stays ∙ sym (same_task ts p (stage.Creating m) stood)

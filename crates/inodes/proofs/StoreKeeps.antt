@@ -28,8 +28,8 @@ use Rattle.wal.specs.Lemmas.Rooms.{GrowsHomes, begun_grows, ended_grows, noted_g
 use Rattle.inodes.specs.Ialloc.{SearchState}
 use Rattle.blockmap.specs.declared.progress.Progress.{Progress}
 use Rattle.blockmap.specs.declared.progress.Progress.TheVariants as search
-use Rattle.inodes.specs.declared.tasks.Place.{Place}
-use Rattle.inodes.specs.declared.tasks.Place.TheVariants as place
+use Rattle.inodes.specs.declared.tasks.Stage.{Stage}
+use Rattle.inodes.specs.declared.tasks.Stage.TheVariants as stage
 use Rattle.inodes.specs.Ialloc.{SearchSteps, SearchGoes, SearchLocks, IsFree, current_after, log_after, fault_in, at_slot}
 use Rattle.inodes.specs.Tasks.{TaskState, task, no_task}
 use Rattle.inodes.specs.Holding.{claim_by, claims_of}
@@ -54,25 +54,25 @@ pub count_kept : (x y : Image) → block_at y 1 ≡ block_at x 1 → inode_count
 count_kept x y same = ap (λ (b : List ℕ). (super_in b).ninodes) same
 
 -- process p's task goes on to a place
-abbrev TaskGoes : Buffers → Buffers → LogState → LogState → ℕ → ℕ → List TaskState → Place → Type 0
+abbrev TaskGoes : Buffers → Buffers → LogState → LogState → ℕ → ℕ → List TaskState → Stage → Type 0
 TaskGoes c d l k n p ts a = TaskIsNow c d l k n p ts (record (task ts p) { place = a })
 
 -- where a step of a search that met no fault left its task
-pub task_then : {D N : Type 0} (disk : Ghosts D N) (v u : VolumeState D) (n p : ℕ) (ts : List TaskState) (m new : SearchState) (r : Progress (Option ℕ)) → Agrees v.buffers v.log n ts → p < length ts → (task ts p).place ≡ place.Creating m
+pub task_then : {D N : Type 0} (disk : Ghosts D N) (v u : VolumeState D) (n p : ℕ) (ts : List TaskState) (m new : SearchState) (r : Progress (Option ℕ)) → Agrees v.buffers v.log n ts → p < length ts → (task ts p).place ≡ stage.Creating m
     → SearchSteps disk m.slot v u p m new r → fault_in r ≡ None → TaskIsNow v.buffers u.buffers v.log u.log n p ts (record (task ts p) { place = place_then r m new })
 task_then {D} disk v u n p ts m new r agrees lt stood steps well = by_answer r steps.goes steps.locks steps.log steps.asleep well
   where
-    got : (o : Option ℕ) → m.slot ≡ o → SearchGoes o (current_of disk.image v) v.buffers m search.Moved new → SearchLocks o search.Moved v.buffers u.buffers p m.block new.slot → u.log ≡ v.log → TaskGoes v.buffers u.buffers v.log u.log n p ts (place.Creating new)
+    got : (o : Option ℕ) → m.slot ≡ o → SearchGoes o (current_of disk.image v) v.buffers m search.Moved new → SearchLocks o search.Moved v.buffers u.buffers p m.block new.slot → u.log ≡ v.log → TaskGoes v.buffers u.buffers v.log u.log n p ts (stage.Creating new)
     got None none goes locks log =
         let here : goes.0 ≡ locks.0 = let same : Some goes.0 ≡ Some locks.0 = sym (ap (λ (k : SearchState). k.slot) goes.2) ∙ locks.1 in cc same in
         let is : new ≡ at_slot m locks.0 = goes.2 ∙ ap (at_slot m) here in
-        subst (λ (l : LogState). TaskGoes v.buffers u.buffers v.log l n p ts (place.Creating new)) (sym log)
-        (subst (λ (k : SearchState). TaskGoes v.buffers u.buffers v.log v.log n p ts (place.Creating k)) (sym is) (task_got v.buffers u.buffers v.log n p ts m agrees lt stood locks.0 none locks.2))
+        subst (λ (l : LogState). TaskGoes v.buffers u.buffers v.log l n p ts (stage.Creating new)) (sym log)
+        (subst (λ (k : SearchState). TaskGoes v.buffers u.buffers v.log v.log n p ts (stage.Creating k)) (sym is) (task_got v.buffers u.buffers v.log n p ts m agrees lt stood locks.0 none locks.2))
     got (Some i) slot goes gives log =
-        subst (λ (l : LogState). TaskGoes v.buffers u.buffers v.log l n p ts (place.Creating new)) (sym log)
-        (subst (λ (k : SearchState). TaskGoes v.buffers u.buffers v.log v.log n p ts (place.Creating k)) (sym goes.0) (task_next v.buffers u.buffers v.log n p ts m agrees lt stood i slot gives goes.1))
+        subst (λ (l : LogState). TaskGoes v.buffers u.buffers v.log l n p ts (stage.Creating new)) (sym log)
+        (subst (λ (k : SearchState). TaskGoes v.buffers u.buffers v.log v.log n p ts (stage.Creating k)) (sym goes.0) (task_next v.buffers u.buffers v.log n p ts m agrees lt stood i slot gives goes.1))
 
-    over : (made : Option ℕ) (o : Option ℕ) → m.slot ≡ o → SearchLocks o (search.Over made) v.buffers u.buffers p m.block new.slot → GrowsHomes v.log u.log → ((q : ℕ) → q ≢ p → used_by u.log q ≡ used_by v.log q) → TaskGoes v.buffers u.buffers v.log u.log n p ts place.Nowhere
+    over : (made : Option ℕ) (o : Option ℕ) → m.slot ≡ o → SearchLocks o (search.Over made) v.buffers u.buffers p m.block new.slot → GrowsHomes v.log u.log → ((q : ℕ) → q ≢ p → used_by u.log q ≡ used_by v.log q) → TaskGoes v.buffers u.buffers v.log u.log n p ts stage.Nowhere
     over made None none locks grows used = absurd locks
     over made (Some i) slot gives grows used = task_over v.buffers u.buffers v.log n p ts m agrees lt stood i slot gives u.log grows used
 
@@ -80,20 +80,20 @@ task_then {D} disk v u n p ts m new r agrees lt stood steps well = by_answer r s
         → ((cause : Why) → r ≡ search.Sleeping cause → u ≡ v) → fault_in r ≡ None → TaskGoes v.buffers u.buffers v.log u.log n p ts (place_then r m new)
     by_answer search.Moved goes locks log asleep well = got m.slot refl goes locks log
     by_answer (search.Sleeping cause) goes locks log asleep well =
-        subst (λ (w : VolumeState D). TaskGoes v.buffers w.buffers v.log w.log n p ts (place.Creating m)) (sym (asleep cause refl)) (task_waits v.buffers v.buffers v.log n p ts m agrees lt stood)
+        subst (λ (w : VolumeState D). TaskGoes v.buffers w.buffers v.log w.log n p ts (stage.Creating m)) (sym (asleep cause refl)) (task_waits v.buffers v.buffers v.log n p ts m agrees lt stood)
     by_answer (search.Over None) goes locks log asleep well = over None m.slot refl locks (λ h among. ap (λ (l : LogState). is_among h l.homes) log ∙ among) (λ q apart. ap (λ (l : LogState). used_by l q) log)
     by_answer (search.Over (Some i)) goes locks log asleep well =
         over (Some i) m.slot refl locks (λ h among. ap (λ (l : LogState). is_among h l.homes) log ∙ noted_grows v.log p m.block h among) (λ q apart. ap (λ (l : LogState). used_by l q) log ∙ used_noted v.log p q m.block apart)
     by_answer (search.Fault fault) goes locks log asleep well = absurd (cc well)
 
 -- a task begins
-pub agrees_begun : (c : Buffers) (l : LogState) (n p : ℕ) (op : Op) (ts : List TaskState) → Agrees c l n ts → p < length ts → p < length l.used → (task ts p).place ≡ place.Nowhere → CanBegin n op → Agrees c (begun l p) n (set ts p (record { op = Some op; place = first_place op n; gathered = None }))
+pub agrees_begun : (c : Buffers) (l : LogState) (n p : ℕ) (op : Op) (ts : List TaskState) → Agrees c l n ts → p < length ts → p < length l.used → (task ts p).place ≡ stage.Nowhere → CanBegin n op → Agrees c (begun l p) n (set ts p (record { op = Some op; place = first_place op n; gathered = None }))
 agrees_begun c l n p op ts agrees lt pid stood can = agrees_now c c l (begun l p) n p ts (record { op = Some op; place = first_place op n; gathered = None }) (record {
   agrees = agrees;
   inside = lt;
   others = record { holds = λ q b i apart has. has; locks = λ q b i apart has. has; used = λ q apart. used_begun l p q apart; among = begun_grows l p };
   stands = begins op can;
-  locks = λ b i has. let no : None ≡ Some i = subst (λ (a : Place). HasSlot a i) stood (agrees.holders p b i has) in absurd (cc no);
+  locks = λ b i has. let no : None ≡ Some i = subst (λ (a : Stage). HasSlot a i) stood (agrees.holders p b i has) in absurd (cc no);
 })
   where
     begins : (op : Op) → CanBegin n op → Stands c (begun l p) n p (Some op) (first_place op n)
@@ -105,8 +105,8 @@ agrees_begun c l n p op ts agrees lt pid stood can = agrees_now c c l (begun l p
     begins (Stat i) can = absurd can
 
 -- which holds nothing yet
-pub begun_claims : (ts : List TaskState) (p : ℕ) (op : Op) (n : ℕ) → (task ts p).place ≡ place.Nowhere → (j : ℕ) → claims_of (set ts p (record { op = Some op; place = first_place op n; gathered = None })) j ≡ claims_of ts j
-begun_claims ts p op n stood j = claim_stays ts p j (record { op = Some op; place = first_place op n; gathered = None }) (by_op op ∙ sym (ap (λ (a : Place). claim_by (task ts p).op a j) stood))
+pub begun_claims : (ts : List TaskState) (p : ℕ) (op : Op) (n : ℕ) → (task ts p).place ≡ stage.Nowhere → (j : ℕ) → claims_of (set ts p (record { op = Some op; place = first_place op n; gathered = None })) j ≡ claims_of ts j
+begun_claims ts p op n stood j = claim_stays ts p j (record { op = Some op; place = first_place op n; gathered = None }) (by_op op ∙ sym (ap (λ (a : Stage). claim_by (task ts p).op a j) stood))
   where
     by_op : (op : Op) → claim_by (Some op) (first_place op n) j ≡ None
     by_op (Create kind) = refl
@@ -117,24 +117,24 @@ begun_claims ts p op n stood j = claim_stays ts p j (record { op = Some op; plac
     by_op (Stat i) = refl
 
 -- an operation ends whose task is over
-pub agrees_ended : (c : Buffers) (l : LogState) (n p : ℕ) (ts : List TaskState) → Agrees c l n ts → (task ts p).place ≡ place.Nowhere → Agrees c (ended l p) n ts
+pub agrees_ended : (c : Buffers) (l : LogState) (n p : ℕ) (ts : List TaskState) → Agrees c l n ts → (task ts p).place ≡ stage.Nowhere → Agrees c (ended l p) n ts
 agrees_ended c l n p ts agrees stood = record {
   stands = λ q. ⊎_elim
-      (λ (same : q ≡ p). subst (λ (r : ℕ). Stands c (ended l p) n r (task ts r).op (task ts r).place) (sym same) (subst (λ (a : Place). Stands c (ended l p) n p (task ts p).op a) (sym stood) tt))
+      (λ (same : q ≡ p). subst (λ (r : ℕ). Stands c (ended l p) n r (task ts r).op (task ts r).place) (sym same) (subst (λ (a : Stage). Stands c (ended l p) n p (task ts p).op a) (sym stood) tt))
       (λ (apart : q ≢ p). by_place q apart (task ts q) (task ts q).place (agrees.stands q))
       (cases_eq q p);
   holders = agrees.holders;
 }
   where
-    by_place : (q : ℕ) → q ≢ p → (t : TaskState) (a : Place) → Stands c l n q t.op a → Stands c (ended l p) n q t.op a
-    by_place q apart t place.Nowhere s = tt
-    by_place q apart t (place.Creating m) s = record { op = s.op; used = used_ended l p q apart ∙ s.used; count = s.count; kind = s.kind; behind = s.behind; last = s.last; holds = s.holds }
-    by_place q apart t (place.Taking m) s = (s.0, open_still l (ended l p) q t.op (used_ended l p q apart) s.1)
-    by_place q apart t (place.Reading k m) s = s
-    by_place q apart t (place.Delivering k) s = s
-    by_place q apart t (place.Truncating k m) s = record { logged = logged_still l (ended l p) q m.machine.bitmap (used_ended l p q apart) (λ one has. ended_grows l p m.machine.bitmap has) s.logged; holds = s.holds }
-    by_place q apart t (place.Writing k m) s = record { logged = open_write_still l (ended l p) q (used_ended l p q apart) s.logged; kept = s.kept; used = s.used }
-    by_place q apart t (place.Leaving k) s = s
+    by_place : (q : ℕ) → q ≢ p → (t : TaskState) (a : Stage) → Stands c l n q t.op a → Stands c (ended l p) n q t.op a
+    by_place q apart t stage.Nowhere s = tt
+    by_place q apart t (stage.Creating m) s = record { op = s.op; used = used_ended l p q apart ∙ s.used; count = s.count; kind = s.kind; behind = s.behind; last = s.last; holds = s.holds }
+    by_place q apart t (stage.Taking m) s = (s.0, open_still l (ended l p) q t.op (used_ended l p q apart) s.1)
+    by_place q apart t (stage.Reading k m) s = s
+    by_place q apart t (stage.Delivering k) s = s
+    by_place q apart t (stage.Truncating k m) s = record { logged = logged_still l (ended l p) q m.machine.bitmap (used_ended l p q apart) (λ one has. ended_grows l p m.machine.bitmap has) s.logged; holds = s.holds }
+    by_place q apart t (stage.Writing k m) s = record { logged = open_write_still l (ended l p) q (used_ended l p q apart) s.logged; kept = s.kept; used = s.used }
+    by_place q apart t (stage.Leaving k) s = s
 
 -- a step of a commit
 used_stepped : (h : Bool) (k : Commit) (l : LogState) (q : ℕ) → used_by (stepped_at h k l) q ≡ used_by l q
@@ -178,7 +178,7 @@ logged_begun cur l n p op ts inside had =
     by_op (Remove i) = tt
     by_op (Stat i) = tt
 
-pub logged_ended : (cur : Image) (l : LogState) (p : ℕ) (ts : List TaskState) → (task ts p).place ≡ place.Nowhere → HaveLogged cur l ts → HaveLogged cur (ended l p) ts
+pub logged_ended : (cur : Image) (l : LogState) (p : ℕ) (ts : List TaskState) → (task ts p).place ≡ stage.Nowhere → HaveLogged cur l ts → HaveLogged cur (ended l p) ts
 logged_ended cur l p ts stood had q =
     ⊎_elim
     (λ (own : q ≡ p). subst (λ (r : ℕ). LoggedAt cur (ended l p) r (task ts r).place) (sym own) (subst (LoggedAt cur (ended l p) p) (sym stood) tt))
@@ -188,15 +188,15 @@ logged_ended cur l p ts stood had q =
 pub logged_committed : (h : Bool) (now : Image) (l m : LogState) (ts : List TaskState) → (m ≡ stepped_at h l.commit l) ⊎ (m ≡ l) → IsLogAt l.commit l → is_quiet l.commit ≡ false → HaveLogged now m ts
 logged_committed h now l m ts made log busy q = by_place (task ts q).place
   where
-    by_place : (a : Place) → LoggedAt now m q a
-    by_place place.Nowhere = tt
-    by_place (place.Creating w) = tt
-    by_place (place.Taking w) = tt
-    by_place (place.Reading k w) = tt
-    by_place (place.Delivering k) = tt
-    by_place (place.Truncating k w) = tt
-    by_place (place.Writing k w) = λ homes used. absurd (none_open l q homes log busy (sym (used_committed h l m made q) ∙ used))
-    by_place (place.Leaving k) = tt
+    by_place : (a : Stage) → LoggedAt now m q a
+    by_place stage.Nowhere = tt
+    by_place (stage.Creating w) = tt
+    by_place (stage.Taking w) = tt
+    by_place (stage.Reading k w) = tt
+    by_place (stage.Delivering k) = tt
+    by_place (stage.Truncating k w) = tt
+    by_place (stage.Writing k w) = λ homes used. absurd (none_open l q homes log busy (sym (used_committed h l m made q) ∙ used))
+    by_place (stage.Leaving k) = tt
 
 pub logged_opened : (cur : Image) (l : LogState) (k : ℕ) → HaveLogged cur l (replicate k no_task)
 logged_opened cur l k p = subst (λ (t : TaskState). LoggedAt cur l p t.place) (sym (none_at k p)) tt

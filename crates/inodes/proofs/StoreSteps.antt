@@ -32,8 +32,8 @@ use Rattle.inodes.specs.Ialloc.{SearchState}
 use Rattle.blockmap.specs.declared.progress.Progress.{Progress}
 use Rattle.blockmap.specs.declared.progress.Progress.TheVariants as search
 use Rattle.model.specs.declared.types.operations.TaskProgress.TheVariants as progress
-use Rattle.inodes.specs.declared.tasks.Place.{Place}
-use Rattle.inodes.specs.declared.tasks.Place.TheVariants as place
+use Rattle.inodes.specs.declared.tasks.Stage.{Stage}
+use Rattle.inodes.specs.declared.tasks.Stage.TheVariants as stage
 use Rattle.inodes.specs.Creation.{lowest_free}
 use Rattle.inodes.specs.Ialloc.{BuffersAfter, SearchGoes, SearchLocks, IsFree, current_after, log_after, fault_in}
 use Rattle.inodes.specs.Tasks.{TaskState, task}
@@ -56,11 +56,11 @@ use Rattle.inodes.specs.Steps.{IsHeldByAnother, LeavesNumber, LeavesLate, is_mad
 use Rattle.inodes.specs.Lemmas.Unclaimed.{late_used}
 
 -- where the task stands then
-abbrev pub place_then : Progress (Option ℕ) → SearchState → SearchState → Place
-place_then search.Moved m new = place.Creating new
-place_then (search.Sleeping cause) m new = place.Creating m
-place_then (search.Over made) m new = place.Nowhere
-place_then (search.Fault fault) m new = place.Creating m
+abbrev pub place_then : Progress (Option ℕ) → SearchState → SearchState → Stage
+place_then search.Moved m new = stage.Creating new
+place_then (search.Sleeping cause) m new = stage.Creating m
+place_then (search.Over made) m new = stage.Nowhere
+place_then (search.Fault fault) m new = stage.Creating m
 
 -- where a search goes, its task goes
 module _ {D : Type 0} (image : D → Image) (v : VolumeState D) (p n : ℕ) (m new : SearchState) (now : Shown) (d : Buffers) (count : m.inode_count ≡ n) (numbers : n ≡ inode_count_of (current_of image v)) where
@@ -83,13 +83,13 @@ module _ {D : Type 0} (image : D → Image) (v : VolumeState D) (p n : ℕ) (m n
   }
 
   gets_block : (r : Progress (Option ℕ)) → Shows r → BuffersAfter image None m v p r d → SearchGoes None before.current v.buffers m r new → GetsBlock v.buffers m (progress_of_search r) (place_then r m new) × (now ≡ before)
-  gets_block search.Moved shows made g = ((g.0, g.1, ap place.Creating g.2), shows)
+  gets_block search.Moved shows made g = ((g.0, g.1, ap stage.Creating g.2), shows)
   gets_block (search.Sleeping cause) shows made g = ((g.0, refl), shows)
   gets_block (search.Over out) shows made g = absurd g
   gets_block (search.Fault fault) shows made g = ((made.block, refl), shows)
 
   looks_at : (s : ℕ) (r : Progress (Option ℕ)) → Shows r → Inode r → SearchGoes (Some s) before.current v.buffers m r new → LooksAtBlock n p m (progress_of_search r) (place_then r m new) before now
-  looks_at s search.Moved shows made g = (ap place.Creating g.0, finds_none shows (g.3 (count ∙ numbers)) g.2)
+  looks_at s search.Moved shows made g = (ap stage.Creating g.0, finds_none shows (g.3 (count ∙ numbers)) g.2)
   looks_at s (search.Sleeping cause) shows made g = absurd g
   looks_at s (search.Over None) shows made g =
       (refl, (eqb-true m.block (inode_block (m.inode_count - 1)) g.1 ∙ ap (λ (k : ℕ). inode_block (k - 1)) count, finds_none shows (g.3 (count ∙ numbers)) g.2))
@@ -110,25 +110,25 @@ module _ {D : Type 0} (image : D → Image) (v : VolumeState D) (p n : ℕ) (m n
   goes_from (Some s) r shows inode made g = looks_at s r shows inode g
 
 -- a search that moved has fewer steps left
-fewer : (o : Option ℕ) (n : ℕ) (m new : SearchState) (cur now : Image) (c : Buffers) → m.slot ≡ o → m.inode_count ≡ n → m.block ≤ inode_block (n - 1) → SearchGoes o cur c m search.Moved new → steps_left now (place.Creating new) n < steps_left cur (place.Creating m) n
+fewer : (o : Option ℕ) (n : ℕ) (m new : SearchState) (cur now : Image) (c : Buffers) → m.slot ≡ o → m.inode_count ≡ n → m.block ≤ inode_block (n - 1) → SearchGoes o cur c m search.Moved new → steps_left now (stage.Creating new) n < steps_left cur (stage.Creating m) n
 fewer None n m new cur now c is count last g =
-    let next : steps_left now (place.Creating new) n ≡ 2 * (inode_block (n - 1) - m.block) + 1 = ap (λ (k : SearchState). steps_left now (place.Creating k) n) g.2 in
+    let next : steps_left now (stage.Creating new) n ≡ 2 * (inode_block (n - 1) - m.block) + 1 = ap (λ (k : SearchState). steps_left now (stage.Creating k) n) g.2 in
     let before : looks_left m.slot ≡ 2 = ap looks_left is in
     omega (arith, next, before)
 fewer (Some s) n m new cur now c is count last g =
-    let next : steps_left now (place.Creating new) n ≡ 2 * (inode_block (n - 1) - (m.block + 1)) + 2 = ap (λ (k : SearchState). steps_left now (place.Creating k) n) g.0 in
+    let next : steps_left now (stage.Creating new) n ≡ 2 * (inode_block (n - 1) - (m.block + 1)) + 2 = ap (λ (k : SearchState). steps_left now (stage.Creating k) n) g.0 in
     let before : looks_left m.slot ≡ 1 = ap looks_left is in
     let other = eqb-false m.block (inode_block (m.inode_count - 1)) g.1 in
     let same : inode_block (m.inode_count - 1) ≡ inode_block (n - 1) = ap (λ (k : ℕ). inode_block (k - 1)) count in
     omega (arith, next, before, other, same, last)
 
 -- who waits for a buffer, waits for another's
-held_by : {D : Type 0} (s : StoreState D) (p : ℕ) (m : SearchState) (o : Option ℕ) → Agrees s.volume.buffers s.volume.log s.table.inode_count s.tasks → (task s.tasks p).place ≡ place.Creating m → m.slot ≡ o
+held_by : {D : Type 0} (s : StoreState D) (p : ℕ) (m : SearchState) (o : Option ℕ) → Agrees s.volume.buffers s.volume.log s.table.inode_count s.tasks → (task s.tasks p).place ≡ stage.Creating m → m.slot ≡ o
     → (d : Buffers) (slot : Option ℕ) → SearchLocks o (search.Sleeping why.BufferHeld) s.volume.buffers d p m.block slot → IsHeldByAnother s p m.block
 held_by s p m None agrees stood none d slot waits = record {
   other = waits.0;
   slot = waits.1;
-  apart = λ same. let got : m.slot ≡ Some waits.1 = subst (λ (a : Place). HasSlot a waits.1) stood (subst (λ (q : ℕ). HasSlot (task s.tasks q).place waits.1) same (agrees.holders waits.0 m.block waits.1 waits.2)) in let no : None ≡ Some waits.1 = sym none ∙ got in absurd (cc no);
+  apart = λ same. let got : m.slot ≡ Some waits.1 = subst (λ (a : Stage). HasSlot a waits.1) stood (subst (λ (q : ℕ). HasSlot (task s.tasks q).place waits.1) same (agrees.holders waits.0 m.block waits.1 waits.2)) in let no : None ≡ Some waits.1 = sym none ∙ got in absurd (cc no);
   lock = waits.2;
   got = agrees.holders waits.0 m.block waits.1 waits.2;
 }
@@ -155,7 +155,7 @@ groups_after l p b (search.Fault fault) lt = groups_same l
 -- what a step of the search came to, in a store with these files
 module _ {D : Type 0} (image : D → Image) (s t : StoreState D) (p : ℕ) (m new : SearchState) (op : Op) (r : Progress (Option ℕ))
     (agrees : Agrees s.volume.buffers s.volume.log s.table.inode_count s.tasks) (numbers : s.table.inode_count ≡ inode_count_of (current_of image s.volume)) (inside : p < length s.tasks)
-    (stood : (task s.tasks p).place ≡ place.Creating m) (is_op : (task s.tasks p).op ≡ Some op)
+    (stood : (task s.tasks p).place ≡ stage.Creating m) (is_op : (task s.tasks p).op ≡ Some op)
     (current : current_of image t.volume ≡ current_after (current_of image s.volume) m r) (claimed_same : (j : ℕ) → claims_of t.tasks j ≡ claims_of s.tasks j) where
   abbrev cur : Image
   cur = current_of image s.volume
@@ -248,9 +248,9 @@ module _ {D : Type 0} (image : D → Image) (s t : StoreState D) (p : ℕ) (m ne
 
 -- the tasks then
 abbrev pub tasks_then : List TaskState → ℕ → SearchState → Progress (Option ℕ) → List TaskState
-tasks_then ts p new search.Moved = set ts p (record (task ts p) { place = place.Creating new })
+tasks_then ts p new search.Moved = set ts p (record (task ts p) { place = stage.Creating new })
 tasks_then ts p new (search.Sleeping cause) = ts
-tasks_then ts p new (search.Over made) = set ts p (record (task ts p) { place = place.Nowhere })
+tasks_then ts p new (search.Over made) = set ts p (record (task ts p) { place = stage.Nowhere })
 tasks_then ts p new (search.Fault fault) = ts
 
 -- and the store
@@ -258,15 +258,15 @@ abbrev pub store_then : {D : Type 0} → StoreState D → VolumeState D → ℕ 
 store_then s u p new r = record { volume = u; tasks = tasks_then s.tasks p new r; table = s.table }
 
 -- its task alone goes on
-pub set_then : (ts : List TaskState) (p : ℕ) (m new : SearchState) (r : Progress (Option ℕ)) → (task ts p).place ≡ place.Creating m → tasks_then ts p new r ≡ set ts p (record (task ts p) { place = place_then r m new })
+pub set_then : (ts : List TaskState) (p : ℕ) (m new : SearchState) (r : Progress (Option ℕ)) → (task ts p).place ≡ stage.Creating m → tasks_then ts p new r ≡ set ts p (record (task ts p) { place = place_then r m new })
 set_then ts p m new search.Moved stood = refl
-set_then ts p m new (search.Sleeping cause) stood = same_task ts p (place.Creating m) stood
+set_then ts p m new (search.Sleeping cause) stood = same_task ts p (stage.Creating m) stood
 set_then ts p m new (search.Over made) stood = refl
-set_then ts p m new (search.Fault fault) stood = same_task ts p (place.Creating m) stood
+set_then ts p m new (search.Fault fault) stood = same_task ts p (stage.Creating m) stood
 
 -- a search holds no number
-pub unclaimed_then : (ts : List TaskState) (p : ℕ) (m new : SearchState) (r : Progress (Option ℕ)) → (task ts p).place ≡ place.Creating m → (j : ℕ) → claim_by (task ts p).op (place_then r m new) j ≡ claim_of (task ts p) j
-unclaimed_then ts p m new r stood j = by_answer r ∙ sym (ap (λ (a : Place). claim_by (task ts p).op a j) stood)
+pub unclaimed_then : (ts : List TaskState) (p : ℕ) (m new : SearchState) (r : Progress (Option ℕ)) → (task ts p).place ≡ stage.Creating m → (j : ℕ) → claim_by (task ts p).op (place_then r m new) j ≡ claim_of (task ts p) j
+unclaimed_then ts p m new r stood j = by_answer r ∙ sym (ap (λ (a : Stage). claim_by (task ts p).op a j) stood)
   where
     by_answer : (r : Progress (Option ℕ)) → claim_by (task ts p).op (place_then r m new) j ≡ None
     by_answer search.Moved = refl
@@ -274,13 +274,13 @@ unclaimed_then ts p m new r stood j = by_answer r ∙ sym (ap (λ (a : Place). c
     by_answer (search.Over made) = refl
     by_answer (search.Fault fault) = refl
 
-pub claims_then : (ts : List TaskState) (p : ℕ) (m new : SearchState) (r : Progress (Option ℕ)) → (task ts p).place ≡ place.Creating m → (j : ℕ) → claims_of (tasks_then ts p new r) j ≡ claims_of ts j
+pub claims_then : (ts : List TaskState) (p : ℕ) (m new : SearchState) (r : Progress (Option ℕ)) → (task ts p).place ≡ stage.Creating m → (j : ℕ) → claims_of (tasks_then ts p new r) j ≡ claims_of ts j
 claims_then ts p m new r stood j =
     ap (λ (us : List TaskState). claims_of us j) (set_then ts p m new r stood) ∙ claim_stays ts p j (record (task ts p) { place = place_then r m new }) (unclaimed_then ts p m new r stood j)
 
 -- and nothing of the table
-pub ungripped_then : (t : TaskState) (m new : SearchState) (r : Progress (Option ℕ)) → t.place ≡ place.Creating m → grip_of (record t { place = place_then r m new }) ≡ grip_of t
-ungripped_then t m new r stood = by_answer r ∙ sym (ap (λ (a : Place). grip_by a (asked_by t.op)) stood)
+pub ungripped_then : (t : TaskState) (m new : SearchState) (r : Progress (Option ℕ)) → t.place ≡ stage.Creating m → grip_of (record t { place = place_then r m new }) ≡ grip_of t
+ungripped_then t m new r stood = by_answer r ∙ sym (ap (λ (a : Stage). grip_by a (asked_by t.op)) stood)
   where
     by_answer : (r : Progress (Option ℕ)) → grip_by (place_then r m new) (asked_by t.op) ≡ None
     by_answer search.Moved = refl
@@ -307,7 +307,7 @@ asleep_then s u p new (search.Sleeping other) same cause is = ap (λ (v : Volume
 asleep_then s u p new (search.Over made) same cause is = absurd (cc is)
 asleep_then s u p new (search.Fault fault) same cause is = absurd (cc is)
 
-pub held_then : {D : Type 0} (s : StoreState D) (p : ℕ) (m : SearchState) (r : Progress (Option ℕ)) → Agrees s.volume.buffers s.volume.log s.table.inode_count s.tasks → (task s.tasks p).place ≡ place.Creating m
+pub held_then : {D : Type 0} (s : StoreState D) (p : ℕ) (m : SearchState) (r : Progress (Option ℕ)) → Agrees s.volume.buffers s.volume.log s.table.inode_count s.tasks → (task s.tasks p).place ≡ stage.Creating m
     → (d : Buffers) (slot : Option ℕ) → SearchLocks m.slot r s.volume.buffers d p m.block slot → progress_of_search r ≡ progress.Sleeping why.BufferHeld → IsHeldByAnother s p m.block
 held_then s p m search.Moved agrees stood d slot locks is = absurd (cc is)
 held_then s p m (search.Sleeping cause) agrees stood d slot locks is =
@@ -316,10 +316,10 @@ held_then s p m (search.Sleeping cause) agrees stood d slot locks is =
 held_then s p m (search.Over made) agrees stood d slot locks is = absurd (cc is)
 held_then s p m (search.Fault fault) agrees stood d slot locks is = absurd (cc is)
 
-pub falls_then : (n : ℕ) (m new : SearchState) (cur now : Image) (c : Buffers) (r : Progress (Option ℕ)) → m.inode_count ≡ n → m.block ≤ inode_block (n - 1) → SearchGoes m.slot cur c m r new → is_made (progress_of_search r) ≡ true → steps_left now (place_then r m new) n < steps_left cur (place.Creating m) n
+pub falls_then : (n : ℕ) (m new : SearchState) (cur now : Image) (c : Buffers) (r : Progress (Option ℕ)) → m.inode_count ≡ n → m.block ≤ inode_block (n - 1) → SearchGoes m.slot cur c m r new → is_made (progress_of_search r) ≡ true → steps_left now (place_then r m new) n < steps_left cur (stage.Creating m) n
 falls_then n m new cur now c search.Moved count last g is = fewer m.slot n m new cur now c refl count last g
 falls_then n m new cur now c (search.Sleeping cause) count last g is = absurd (false≢true is)
-falls_then n m new cur now c (search.Over made) count last g is = let some = some_step cur (place.Creating m) n refl in omega (arith, some)
+falls_then n m new cur now c (search.Over made) count last g is = let some = some_step cur (stage.Creating m) n refl in omega (arith, some)
 falls_then n m new cur now c (search.Fault fault) count last g is = absurd (false≢true is)
 
 -- no search waits for an inode

@@ -15,8 +15,8 @@ use Rattle.blockmap.specs.Getting.{HoldsWhereGot}
 use Rattle.blockmap.specs.Lemmas.Others.{stays_same}
 use Rattle.inodes.specs.declared.ilock.LockAt.{LockAt}
 use Rattle.inodes.specs.declared.ilock.LockAt.TheVariants as lock_at
-use Rattle.inodes.specs.declared.tasks.Place.{Place}
-use Rattle.inodes.specs.declared.tasks.Place.TheVariants as place
+use Rattle.inodes.specs.declared.tasks.Stage.{Stage}
+use Rattle.inodes.specs.declared.tasks.Stage.TheVariants as stage
 use Rattle.inodes.specs.Grips.{Grip, grip, locked_grip, unlocked_grip}
 use Rattle.inodes.specs.Ilock.{MayLock, MayLockAt}
 use Rattle.inodes.specs.Lemmas.Faults.{where_none, if_none}
@@ -77,7 +77,7 @@ none_of_zero cur t ts are q k has =
 
 -- in a store whose process p takes its inode
 module _ {D N : Type 0} (disk : Ghosts D N) (s : StoreState D) (p : ℕ) (op : Op) (m : LockState) (is : IsStore disk.image s) (well : s.volume.fault ≡ None)
-    (stood : (task s.tasks p).place ≡ place.Taking m) (is_op : (task s.tasks p).op ≡ Some op) where
+    (stood : (task s.tasks p).place ≡ stage.Taking m) (is_op : (task s.tasks p).op ≡ Some op) where
   abbrev cur : Image
   cur = current_of disk.image s.volume
 
@@ -88,7 +88,7 @@ module _ {D N : Type 0} (disk : Ghosts D N) (s : StoreState D) (p : ℕ) (op : O
   looking = where_none s.volume.fault well is.looks
 
   pub taking : IsTaking s.table.inode_count (task s.tasks p) m
-  taking = subst (λ (a : Place). LooksAt cur s.table (task s.tasks p) a) stood (looking.stand p)
+  taking = subst (λ (a : Stage). LooksAt cur s.table (task s.tasks p) a) stood (looking.stand p)
 
   pub same_op : taking.op ≡ op
   same_op = let both : Some taking.op ≡ Some op = sym taking.is ∙ is_op in cc both
@@ -107,10 +107,10 @@ module _ {D N : Type 0} (disk : Ghosts D N) (s : StoreState D) (p : ℕ) (op : O
   may_name_now = subst (λ (n : ℕ). IsTrue (is_number n m.number)) is.numbers may_name
 
   pub has : grip (grips_of s.tasks) p ≡ grip_at m.at m.number
-  has = grip_is s.tasks p ∙ ap (λ (a : Place). grip_by a (asked_by (task s.tasks p).op)) stood
+  has = grip_is s.tasks p ∙ ap (λ (a : Stage). grip_by a (asked_by (task s.tasks p).op)) stood
 
   stands : HoldsAt s.volume.buffers p (inode_block m.number) (slot_of m.at) × IsOpenFor s.volume.log p (task s.tasks p).op
-  stands = subst (λ (a : Place). Stands s.volume.buffers s.volume.log s.table.inode_count p (task s.tasks p).op a) stood (agrees.stands p)
+  stands = subst (λ (a : Stage). Stands s.volume.buffers s.volume.log s.table.inode_count p (task s.tasks p).op a) stood (agrees.stands p)
 
   pub holds : HoldsAt s.volume.buffers p (inode_block m.number) (slot_of m.at)
   holds = stands.0
@@ -120,7 +120,7 @@ module _ {D N : Type 0} (disk : Ghosts D N) (s : StoreState D) (p : ℕ) (op : O
   is_open = stands.1
 
   pub slot_is : (i : ℕ) → HasSlot (task s.tasks p).place i → slot_of m.at ≡ Some i
-  slot_is i got = subst (λ (a : Place). HasSlot a i) stood got
+  slot_is i got = subst (λ (a : Stage). HasSlot a i) stood got
 
   module _ (joint : Joint (disk.image s.volume.device) s.volume.buffers s.volume.log) where
     within : inode_block m.number < s.volume.log.size
@@ -148,13 +148,13 @@ module _ {D N : Type 0} (disk : Ghosts D N) (s : StoreState D) (p : ℕ) (op : O
 
 -- the task of an operation that looks
 abbrev pub look_task : Op → Option GatheredBytes → TaskState
-look_task op room = record { op = Some op; place = place.Taking (record { number = asked op; at = lock_at.Reference }); gathered = room }
+look_task op room = record { op = Some op; place = stage.Taking (record { number = asked op; at = lock_at.Reference }); gathered = room }
 
 -- such a task begins: it holds no number, as none did before
-nothing_claimed : (ts : List TaskState) (p : ℕ) (op : Op) (room : Option GatheredBytes) → (task ts p).place ≡ place.Nowhere → (j : ℕ) → claim_of (look_task op room) j ≡ claim_of (task ts p) j
-nothing_claimed ts p op room stood j = sym (ap (λ (a : Place). claim_by (task ts p).op a j) stood)
+nothing_claimed : (ts : List TaskState) (p : ℕ) (op : Op) (room : Option GatheredBytes) → (task ts p).place ≡ stage.Nowhere → (j : ℕ) → claim_of (look_task op room) j ≡ claim_of (task ts p) j
+nothing_claimed ts p op room stood j = sym (ap (λ (a : Stage). claim_by (task ts p).op a j) stood)
 
-pub store_looks : {D : Type 0} (image : D → Image) (s : StoreState D) (p : ℕ) (op : Op) (room : Option GatheredBytes) → IsStore image s → s.volume.fault ≡ None → p < length s.tasks → (task s.tasks p).place ≡ place.Nowhere
+pub store_looks : {D : Type 0} (image : D → Image) (s : StoreState D) (p : ℕ) (op : Op) (room : Option GatheredBytes) → IsStore image s → s.volume.fault ≡ None → p < length s.tasks → (task s.tasks p).place ≡ stage.Nowhere
     → CanLook s.table.inode_count op → HasRoom op room → IsStore image (record s { tasks = set s.tasks p (look_task op room) })
 store_looks image s p op room is well inside stood can has = record {
   few = let size = length-set s.tasks p (look_task op room) in let few = is.few in omega (arith, size, few);
@@ -166,16 +166,16 @@ store_looks image s p op room is well inside stood can has = record {
     inside = inside;
     others = stays_same s.volume.buffers s.volume.log p;
     stands = (tt, look_open s.volume.log p s.table.inode_count op can);
-    locks = λ b i lock. subst (λ (a : Place). HasSlot a i) stood ((where_none s.volume.fault well is.agrees).holders p b i lock);
+    locks = λ b i lock. subst (λ (a : Stage). HasSlot a i) stood ((where_none s.volume.fault well is.agrees).holders p b i lock);
   }));
-  looks = if_none s.volume.fault (looks_set (current_of image s.volume) s.table s.tasks p (look_task op room) (where_none s.volume.fault well is.looks) inside (sym (ap (λ (a : Place). grip_by a (asked_by (task s.tasks p).op)) stood))
+  looks = if_none s.volume.fault (looks_set (current_of image s.volume) s.table s.tasks p (look_task op room) (where_none s.volume.fault well is.looks) inside (sym (ap (λ (a : Stage). grip_by a (asked_by (task s.tasks p).op)) stood))
       (record { op = op; is = refl; can = look_takes s.table.inode_count op can; number = refl; room = has })
       (nothing_claimed s.tasks p op room stood));
   logged = if_none s.volume.fault (logged_set (current_of image s.volume) s.volume.log s.volume.log s.tasks p (look_task op room) inside (λ b has. has) (λ q apart. refl) tt (where_none s.volume.fault well is.logged));
 }
 
 -- and the files are the same
-pub files_look : {D : Type 0} (image : D → Image) (s : StoreState D) (p : ℕ) (op : Op) (room : Option GatheredBytes) → (task s.tasks p).place ≡ place.Nowhere → (files : Files) → FitsFiles image s files
+pub files_look : {D : Type 0} (image : D → Image) (s : StoreState D) (p : ℕ) (op : Op) (room : Option GatheredBytes) → (task s.tasks p).place ≡ stage.Nowhere → (files : Files) → FitsFiles image s files
     → FitsFiles image (record s { tasks = set s.tasks p (look_task op room) }) files
 unfolding FitsFiles
 files_look image s p op room stood files fits = held_alike files (current_of image s.volume) (claims_of s.tasks) (claims_of (set s.tasks p (look_task op room))) (λ j. claim_stays s.tasks p j (look_task op room) (nothing_claimed s.tasks p op room stood j)) fits

@@ -27,8 +27,8 @@ use Rattle.blockmap.specs.Getting.{GetsFor, progress_of, slot_of as got_slot_of}
 use Rattle.blockmap.specs.Lemmas.Others.{StaysForOthers}
 use Rattle.inodes.specs.declared.ilock.LockAt.{LockAt}
 use Rattle.inodes.specs.declared.ilock.LockAt.TheVariants as lock_at
-use Rattle.inodes.specs.declared.tasks.Place.{Place}
-use Rattle.inodes.specs.declared.tasks.Place.TheVariants as place
+use Rattle.inodes.specs.declared.tasks.Stage.{Stage}
+use Rattle.inodes.specs.declared.tasks.Stage.TheVariants as stage
 use Rattle.inodes.specs.Goes.{Goes, Shown, ShowsSame, progress_of_lock, place_of_lock}
 use Rattle.inodes.specs.Grips.{Grip, KeepsTable, TableIs, grip, locked_grip, unlocked_grip, with_grip}
 use Rattle.inodes.specs.Ilock.{LockSteps, Locks, ReadsInode, at_lock}
@@ -52,7 +52,7 @@ use Rattle.inodes.proofs.Turning.{readable, few_at_turn, logged_at_turn, makes_n
 use Rattle.inodes.specs.Writing.{extent_of}
 
 module _ {D N : Type 0} (disk : Ghosts D N) (s : StoreState D) (p : ℕ) (op : Op) (m : LockState) (is : IsStore disk.image s) (well : s.volume.fault ≡ None) (inside : p < length s.tasks)
-    (stood : (task s.tasks p).place ≡ place.Taking m) (is_op : (task s.tasks p).op ≡ Some op) (joint : Joint (disk.image s.volume.device) s.volume.buffers s.volume.log) where
+    (stood : (task s.tasks p).place ≡ stage.Taking m) (is_op : (task s.tasks p).op ≡ Some op) (joint : Joint (disk.image s.volume.device) s.volume.buffers s.volume.log) where
   abbrev cur : Image
   cur = current_of disk.image s.volume
 
@@ -110,13 +110,13 @@ module _ {D N : Type 0} (disk : Ghosts D N) (s : StoreState D) (p : ℕ) (op : O
 
   -- who takes its inode holds nothing
   holds_nothing : (j : ℕ) → None ≡ claim_of (task s.tasks p) j
-  holds_nothing j = sym (ap (λ (a : Place). claim_by (task s.tasks p).op a j) stood)
+  holds_nothing j = sym (ap (λ (a : Stage). claim_by (task s.tasks p).op a j) stood)
 
   grip_now : (a : LockAt) → m.at ≡ a → grip (grips_of s.tasks) p ≡ grip_at a m.number
   grip_now a at = has disk s p op m is well stood is_op ∙ ap (λ (b : LockAt). grip_at b m.number) at
 
   -- it takes its inode still
-  still_taking : (n : LockState) → n.number ≡ m.number → IsTaking s.table.inode_count (record (task s.tasks p) { place = place.Taking n }) n
+  still_taking : (n : LockState) → n.number ≡ m.number → IsTaking s.table.inode_count (record (task s.tasks p) { place = stage.Taking n }) n
   still_taking n same = let t = taking disk s p op m is well stood is_op in record { op = t.op; is = t.is; can = t.can; number = same ∙ t.number; room = t.room }
 
   few : p < length (grips_of s.tasks)
@@ -159,7 +159,7 @@ module _ {D N : Type 0} (disk : Ghosts D N) (s : StoreState D) (p : ℕ) (op : O
       (makes_never q)
 
   -- a step that is made, and has no turn
-  moves : (n : LockState) (w : VolumeState D) (tab : TableState) (ts : List TaskState) → LookedNow machine.Moved n w tab ts → steps_left cur (place.Taking n) s.table.inode_count < locks_left m.at + behind → Made machine.Moved n w tab ts
+  moves : (n : LockState) (w : VolumeState D) (tab : TableState) (ts : List TaskState) → LookedNow machine.Moved n w tab ts → steps_left cur (stage.Taking n) s.table.inode_count < locks_left m.at + behind → Made machine.Moved n w tab ts
   moves n w tab ts looked falls = record {
     about = 0;
     stepped = stepped_on machine.Moved n w tab ts (λ used over. absurd (cc over)) looked;
@@ -222,8 +222,8 @@ module _ {D N : Type 0} (disk : Ghosts D N) (s : StoreState D) (p : ℕ) (op : O
       }) (subst (λ (a : LockAt). 2 + behind < locks_left a + behind) (sym at) (omega arith))
 
   -- who had to wait, or failed, stands where it stood
-  stands_still : (q : Progress Bool) (n : LockState) → place_of_lock (extent_of s.table.form s.table.inode_count s.volume.log.size) inode op m n q ≡ place.Taking m → task_then n q ≡ task s.tasks p
-  stands_still q n same = ap (λ (a : Place). record (task s.tasks p) { place = a }) (same ∙ sym stood)
+  stands_still : (q : Progress Bool) (n : LockState) → place_of_lock (extent_of s.table.form s.table.inode_count s.volume.log.size) inode op m n q ≡ stage.Taking m → task_then n q ≡ task s.tasks p
+  stands_still q n same = ap (λ (a : Stage). record (task s.tasks p) { place = a }) (same ∙ sym stood)
 
   same_grips : (g : Option Grip) → grip (grips_of s.tasks) p ≡ g → with_grip (grips_of s.tasks) p g ≡ grips_of s.tasks
   same_grips g same = ap (with_grip (grips_of s.tasks) p) (sym same) ∙ set-get_or (grips_of s.tasks) p None
@@ -235,7 +235,7 @@ module _ {D N : Type 0} (disk : Ghosts D N) (s : StoreState D) (p : ℕ) (op : O
   }
 
   -- nothing is changed
-  stays : (q : Progress Bool) (n : LockState) (ts : List TaskState) → place_of_lock (extent_of s.table.form s.table.inode_count s.volume.log.size) inode op m n q ≡ place.Taking m → ts ≡ set s.tasks p (task_then n q) → store_then s.volume ts s.table ≡ s
+  stays : (q : Progress Bool) (n : LockState) (ts : List TaskState) → place_of_lock (extent_of s.table.form s.table.inode_count s.volume.log.size) inode op m n q ≡ stage.Taking m → ts ≡ set s.tasks p (task_then n q) → store_then s.volume ts s.table ≡ s
   stays q n ts same tasks = ap (λ (l : List TaskState). record s { tasks = l }) (tasks ∙ ap (set s.tasks p) (stands_still q n same) ∙ set-get_or s.tasks p no_task)
 
   -- another has the lock
@@ -257,7 +257,7 @@ module _ {D N : Type 0} (disk : Ghosts D N) (s : StoreState D) (p : ℕ) (op : O
           others = one.others;
           locks = subst (λ (o : Option ℕ). (a i : ℕ) → HasLock s.volume.buffers p a i → o ≡ Some i) (sym (ap slot_of at)) one.locks;
           stands = (subst (λ (o : Option ℕ). HoldsAt s.volume.buffers p (inode_block m.number) o) (sym (ap slot_of at)) tt, still_open s.volume.log refl);
-          table = same_table (grip_by (place.Taking m) (asked_by (task s.tasks p).op)) (grip_now m.at refl);
+          table = same_table (grip_by (stage.Taking m) (asked_by (task s.tasks p).op)) (grip_now m.at refl);
           looks = still_taking m refl;
           logged = tt;
         };
@@ -330,7 +330,7 @@ module _ {D N : Type 0} (disk : Ghosts D N) (s : StoreState D) (p : ℕ) (op : O
       let u : TaskState = task_then n (machine.Over used) in
       let there : place_of_lock (extent_of s.table.form c s.volume.log.size) inode op m n (machine.Over used) ≡ place_when_taken (extent_of s.table.form c s.volume.log.size) (if_used used inode) k op = ap (λ (j : ℕ). place_when_taken (extent_of s.table.form c s.volume.log.size) (if_used used inode) j op) t.place in
       let gripped : grip_of u ≡ Some (locked_grip k m.number) =
-      ap (λ (a : Place). grip_by a (asked_by (task s.tasks p).op)) there ∙ ap (grip_by (place_when_taken (extent_of s.table.form c s.volume.log.size) (if_used used inode) k op)) own_number ∙ grip_at_turn (extent_of s.table.form c s.volume.log.size) inode k m.number op used in
+      ap (λ (a : Stage). grip_by a (asked_by (task s.tasks p).op)) there ∙ ap (grip_by (place_when_taken (extent_of s.table.form c s.volume.log.size) (if_used used inode) k op)) own_number ∙ grip_at_turn (extent_of s.table.form c s.volume.log.size) inode k m.number op used in
       let looked : Looked disk s p m.number (progress.Turned r) (store_then w ts tab) u = record {
         tasks = tasks;
         op = refl;
@@ -339,16 +339,16 @@ module _ {D N : Type 0} (disk : Ghosts D N) (s : StoreState D) (p : ℕ) (op : O
         reads = reads_none disk s (store_then w ts tab) t.device t.well_then (progress.Turned r) refl;
         shown = ap (λ (x : Image). record { current = x; log = w.log }) t.current ∙ ap (λ (l : LogState). record { current = cur; log = l }) t.log;
         alone = t.alone;
-        claims = λ j other. ap (λ (a : Place). claim_by u.op a j) there ∙ claims_at_turn u.op (extent_of s.table.form c s.volume.log.size) inode k op used j (λ same. other (same ∙ sym asks)) ∙ holds_nothing j;
+        claims = λ j other. ap (λ (a : Stage). claim_by u.op a j) there ∙ claims_at_turn u.op (extent_of s.table.form c s.volume.log.size) inode k op used j (λ same. other (same ∙ sym asks)) ∙ holds_nothing j;
         now = λ fine. record {
           others = subst (λ (l : LogState). StaysForOthers s.volume.buffers w.buffers s.volume.log l p) (sym t.log) t.one.others;
           locks = λ b i has. let no : None ≡ Some i = t.one.locks b i has in absurd (cc no);
-          stands = subst (λ (a : Place). Stands w.buffers w.log c p (task s.tasks p).op a) (sym there)
+          stands = subst (λ (a : Stage). Stands w.buffers w.log c p (task s.tasks p).op a) (sym there)
               (stands_at_turn w.buffers w.log c p (task s.tasks p).op (extent_of s.table.form c s.volume.log.size) inode k op used (can_take disk s p op m is well stood is_op) (subst (λ (o : Option Op). IsOpenFor w.log p o) is_op (still_open w.log t.log)));
           table = subst (λ (x : Image). KeepsTable s.table tab p (grips_of s.tasks) (with_grip (grips_of s.tasks) p (grip_of u)) x) (sym t.current)
               (subst (λ (g : Option Grip). KeepsTable s.table tab p (grips_of s.tasks) (with_grip (grips_of s.tasks) p g) cur) (sym gripped) t.table);
           looks = subst (λ (x : Image). LooksAt x tab u (place_of_lock (extent_of s.table.form c s.volume.log.size) inode op m n (machine.Over used))) (sym t.current)
-              (subst (λ (a : Place). LooksAt cur tab u a) (sym there) (looks_at_turn disk s p op m is well stood is_op inside joint t.alone tab k t.count used t.is_used t.copy u is_op refl));
+              (subst (λ (a : Stage). LooksAt cur tab u a) (sym there) (looks_at_turn disk s p op m is well stood is_op inside joint t.alone tab k t.count used t.is_used t.copy u is_op refl));
           logged = subst (LoggedAt (current_of disk.image w) w.log p) (sym there)
               (logged_at_turn (current_of disk.image w) w.log s.table.inode_count p (extent_of s.table.form c s.volume.log.size) inode k op used (can_take disk s p op m is well stood is_op) (subst (λ (o : Option Op). IsOpenFor w.log p o) is_op (still_open w.log t.log)));
         };
@@ -362,7 +362,7 @@ module _ {D N : Type 0} (disk : Ghosts D N) (s : StoreState D) (p : ℕ) (op : O
         shown = looked.shown;
         waits = no_wait (machine.Over used) (store_then w ts tab) refl;
         apart = turn_apart tab k r t.table.table (makes_none s.table.form inode op used);
-        falls = λ made. subst (λ (a : Place). steps_left cur a s.table.inode_count < locks_left m.at + behind) (sym there)
+        falls = λ made. subst (λ (a : Stage). steps_left cur a s.table.inode_count < locks_left m.at + behind) (sym there)
             (let most = left_at_turn cur inode k s.table.inode_count s.table.inode_count (extent_of s.table.form s.table.inode_count s.volume.log.size) op used (can_take disk s p op m is well stood is_op) (λ yes. few_at_turn disk s p op m is well stood is_op inside joint t.alone (t.is_used yes)) in let some = some_left m.at in omega (arith, most, some));
       }
 
@@ -523,8 +523,8 @@ module _ {D N : Type 0} (disk : Ghosts D N) (s : StoreState D) (p : ℕ) (op : O
             locks = subst (λ (v : VolumeState D). (a i : ℕ) → HasLock v.buffers p a i → slot_of m.at ≡ Some i) (sym slept.0)
                 (subst (λ (o : Option ℕ). (a i : ℕ) → HasLock s.volume.buffers p a i → o ≡ Some i) (sym (ap slot_of at)) one.locks);
             stands = (subst (λ (o : Option ℕ). HoldsAt w.buffers p (inode_block m.number) o) (sym (ap slot_of at)) tt, still_open w.log got.reads.log);
-            table = subst (λ (x : Image). KeepsTable s.table s.table p (grips_of s.tasks) (with_grip (grips_of s.tasks) p (grip_by (place.Taking m) (asked_by (task s.tasks p).op))) x) (sym got.reads.current)
-                (same_table (grip_by (place.Taking m) (asked_by (task s.tasks p).op)) (grip_now m.at refl));
+            table = subst (λ (x : Image). KeepsTable s.table s.table p (grips_of s.tasks) (with_grip (grips_of s.tasks) p (grip_by (stage.Taking m) (asked_by (task s.tasks p).op))) x) (sym got.reads.current)
+                (same_table (grip_by (stage.Taking m) (asked_by (task s.tasks p).op)) (grip_now m.at refl));
             looks = still_taking m refl;
             logged = tt;
           };
@@ -689,7 +689,7 @@ module _ {D N : Type 0} (disk : Ghosts D N) (s : StoreState D) (p : ℕ) (op : O
     -- and what a step promises
     pub steps_taken : Steps disk s p op (progress_of_lock s.table.form inode op q) (store_then w ts tab)
     steps_taken = steps_stepped disk s p made.about op (progress_of_lock s.table.form inode op q) (store_then w ts tab) (task_then n q) is well inside made.stepped
-        (subst (λ (a : Place). Goes disk a s p op (progress_of_lock s.table.form inode op q) (store_then w ts tab)) (sym stood) (
+        (subst (λ (a : Stage). Goes disk a s p op (progress_of_lock s.table.form inode op q) (store_then w ts tab)) (sym stood) (
           record {
             answer = q;
             now = n;
@@ -702,7 +702,7 @@ module _ {D N : Type 0} (disk : Ghosts D N) (s : StoreState D) (p : ℕ) (op : O
         ))
         made.waits made.apart
         (λ is_step going. subst (λ (x : Image). steps_left x (task_then n q).place s.table.inode_count < steps_left cur (task s.tasks p).place s.table.inode_count) (sym (ap (λ (v : Shown). v.current) made.shown))
-        (subst (λ (a : Place). steps_left cur (task_then n q).place s.table.inode_count < steps_left cur a s.table.inode_count) (sym stood) (made.falls is_step)))
+        (subst (λ (a : Stage). steps_left cur (task_then n q).place s.table.inode_count < steps_left cur a s.table.inode_count) (sym stood) (made.falls is_step)))
       where
         now_is : task ts p ≡ task_then n q
         now_is = ap (λ (l : List TaskState). task l p) tasks ∙ get_or-set_same s.tasks p (task_then n q) no_task inside

@@ -48,7 +48,7 @@ use Rattle.blockmap.specs.declared.progress.Progress.TheVariants as machine
 use Rattle.inodes.specs.declared.itrunc.Itrunc.{Itrunc}
 use Rattle.inodes.specs.declared.itrunc.TruncAt.{TruncAt}
 use Rattle.inodes.specs.declared.itrunc.TruncAt.TheVariants as trunc_at
-use Rattle.inodes.specs.declared.tasks.Place.TheVariants as place
+use Rattle.inodes.specs.declared.tasks.Stage.TheVariants as stage
 use Rattle.inodes.specs.Goes.{table_of_trunc}
 use Rattle.inodes.specs.Grips.{Grip, IsCopy, KeepsTable, KeepsUsedInodes}
 use Rattle.inodes.specs.Holding.{AreGivenUp, HasGivenUp, IsAtDirect, IsAtEntry, IsInHand, IsTruncating, Keeps, above_by, above_hand, block_of_got, claims_of, hand_in, held_of, made_so_far, one_for, root_of, stage_left, truncs_left, way_of}
@@ -93,7 +93,7 @@ pub record HasNone (n : Freeing) : Type 0 where
 
 -- process p, whose task frees a file's blocks, makes a step
 module _ {D N : Type 0} (disk : Ghosts D N) (s : StoreState D) (p k : ℕ) (m : Freeing) (is : IsStore disk.image s) (well : s.volume.fault ≡ None)
-    (stood : (task s.tasks p).place ≡ place.Truncating k m) (inside : p < length s.tasks) (joint : Joint (disk.image s.volume.device) s.volume.buffers s.volume.log)
+    (stood : (task s.tasks p).place ≡ stage.Truncating k m) (inside : p < length s.tasks) (joint : Joint (disk.image s.volume.device) s.volume.buffers s.volume.log)
     (q : Progress (Unit {0})) (n : Freeing) (w : VolumeState D) where
   abbrev cur : Image
   cur = current_of disk.image s.volume

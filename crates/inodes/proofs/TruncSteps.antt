@@ -30,8 +30,8 @@ use Rattle.blockmap.specs.declared.progress.Progress.TheVariants as machine
 use Rattle.inodes.specs.declared.itrunc.Itrunc.{Itrunc}
 use Rattle.inodes.specs.declared.itrunc.TruncAt.{TruncAt}
 use Rattle.inodes.specs.declared.itrunc.TruncAt.TheVariants as trunc_at
-use Rattle.inodes.specs.declared.tasks.Place.{Place}
-use Rattle.inodes.specs.declared.tasks.Place.TheVariants as place
+use Rattle.inodes.specs.declared.tasks.Stage.{Stage}
+use Rattle.inodes.specs.declared.tasks.Stage.TheVariants as stage
 use Rattle.inodes.specs.Goes.{place_of_trunc, progress_of_trunc, table_of_trunc}
 use Rattle.inodes.specs.Grips.{KeepsTable, locked_grip}
 use Rattle.inodes.specs.Holding.{IsTruncating, block_of_got, claim_by, claims_of, held_of, trunc_op}
@@ -50,7 +50,7 @@ use Rattle.inodes.proofs.TruncMakes.{HasNone, Makes, makes}
 use Rattle.inodes.proofs.Truncating.{alone, got, gripped, keeps_apart, looking, work}
 
 -- it holds no other number
-no_claim : (k j : ℕ) (m : Freeing) → m.machine.number ≢ j → claim_by None (place.Truncating k m) j ≡ None
+no_claim : (k j : ℕ) (m : Freeing) → m.machine.number ≢ j → claim_by None (stage.Truncating k m) j ≡ None
 no_claim k j m apart = cond-false (eqb m.machine.number j) (Some (frees (held_of m.machine))) None (ne_eqb m.machine.number j apart)
 
 -- the operation of a truncation may take its inode
@@ -74,7 +74,7 @@ none_locked c p a n had none b i lock = ⊎_elim
 
 -- process p frees a file's blocks
 module _ {D N : Type 0} (disk : Ghosts D N) (s : StoreState D) (p k : ℕ) (m : Freeing) (is : IsStore disk.image s) (well : s.volume.fault ≡ None)
-    (stood : (task s.tasks p).place ≡ place.Truncating k m) (inside : p < length s.tasks) (joint : Joint (disk.image s.volume.device) s.volume.buffers s.volume.log)
+    (stood : (task s.tasks p).place ≡ stage.Truncating k m) (inside : p < length s.tasks) (joint : Joint (disk.image s.volume.device) s.volume.buffers s.volume.log)
     (q : Progress (Unit {0})) (n : Freeing) (w : VolumeState D) (ts : List TaskState)
     (drives : Drives itrunc disk (used_now (trunc_next m) m.kept m.used) s.volume p m q n w) where
   abbrev i : ℕ
@@ -86,10 +86,10 @@ module _ {D N : Type 0} (disk : Ghosts D N) (s : StoreState D) (p k : ℕ) (m : 
   abbrev count : ℕ
   count = s.table.inode_count
 
-  abbrev here : Place
-  here = place.Truncating k m
+  abbrev here : Stage
+  here = stage.Truncating k m
 
-  abbrev next : Place
+  abbrev next : Stage
   next = place_of_trunc k m n q
 
   abbrev tab : TableState
@@ -127,11 +127,11 @@ module _ {D N : Type 0} (disk : Ghosts D N) (s : StoreState D) (p k : ℕ) (m : 
   grip_then = ap (λ (j : ℕ). Some (locked_grip k j)) (trunc_number (current_of disk.image s.volume) s.table s.tasks (looking disk s p k m is well stood) p k m stood)
 
   -- it goes on
-  moves : (its : Op) → q ≡ machine.Moved → Moves itrunc disk s p k i here m n q w progress.Moved (place.Truncating k n) s.table its
+  moves : (its : Op) → q ≡ machine.Moved → Moves itrunc disk s p k i here m n q w progress.Moved (stage.Truncating k n) s.table its
   moves its moved =
       let on = made.on moved in
       let number : n.machine.number ≡ i = ap (λ (o : Itrunc). o.number) on.same in
-      let own : claim_by None (place.Truncating k n) i ≡ Some (frees (held_of n.machine)) = subst (λ (j : ℕ). claim_by None (place.Truncating k n) j ≡ Some (frees (held_of n.machine))) number (own_holds k n) in
+      let own : claim_by None (stage.Truncating k n) i ≡ Some (frees (held_of n.machine)) = subst (λ (j : ℕ). claim_by None (stage.Truncating k n) j ≡ Some (frees (held_of n.machine))) number (own_holds k n) in
       let less = on.less in
       record {
         fine = refl;
@@ -161,7 +161,7 @@ module _ {D N : Type 0} (disk : Ghosts D N) (s : StoreState D) (p k : ℕ) (m : 
       }
 
   -- or is at its end
-  ends : (its : Op) → q ≡ machine.Over tt → Moves itrunc disk s p k i here m n q w progress.Moved (place.Leaving k) (renewed s.table k (inode_left m.machine)) its
+  ends : (its : Op) → q ≡ machine.Over tt → Moves itrunc disk s p k i here m n q w progress.Moved (stage.Leaving k) (renewed s.table k (inode_left m.machine)) its
   ends its over =
       let some = (made.over over).1 in
       record {
@@ -184,10 +184,10 @@ module _ {D N : Type 0} (disk : Ghosts D N) (s : StoreState D) (p k : ℕ) (m : 
       }
 
   does : (its : Op) (r : Progress (Unit {0})) → q ≡ r → Does disk s p k i here (progress_of_trunc r) (place_of_trunc k m n r) w (table_of_trunc s.table k m r) ts its
-  does its machine.Moved is = does_move itrunc disk s p k i here m n q w driving ts progress.Moved (place.Truncating k n) s.table its (subst IsDone (sym is) tt) (moves its is)
+  does its machine.Moved is = does_move itrunc disk s p k i here m n q w driving ts progress.Moved (stage.Truncating k n) s.table its (subst IsDone (sym is) tt) (moves its is)
   does its (machine.Sleeping cause) is = does_wait itrunc disk s p k i here m n q w driving ts cause is its
   does its (machine.Over out) is =
-      does_move itrunc disk s p k i here m n q w driving ts progress.Moved (place.Leaving k) (renewed s.table k (inode_left m.machine)) its (subst IsDone (sym is) tt) (ends its is)
+      does_move itrunc disk s p k i here m n q w driving ts progress.Moved (stage.Leaving k) (renewed s.table k (inode_left m.machine)) its (subst IsDone (sym is) tt) (ends its is)
   does its (machine.Fault fault) is = does_fail itrunc disk s p k i here m n q w driving ts its fault is
 
   module _ (tasks : ts ≡ set s.tasks p task_then) where

@@ -36,8 +36,8 @@ use Rattle.blockmap.specs.declared.driving.Got.{Got}
 use Rattle.inodes.specs.declared.itrunc.TruncAt.{TruncAt}
 use Rattle.inodes.specs.declared.itrunc.TruncAt.TheVariants as trunc_at
 use Rattle.inodes.specs.declared.table.InMemory.{InMemory}
-use Rattle.inodes.specs.declared.tasks.Place.{Place}
-use Rattle.inodes.specs.declared.tasks.Place.TheVariants as place
+use Rattle.inodes.specs.declared.tasks.Stage.{Stage}
+use Rattle.inodes.specs.declared.tasks.Stage.TheVariants as stage
 use Rattle.inodes.specs.Grips.{grip, locked_grip}
 use Rattle.inodes.specs.Holding.{HasGivenUp, IsAtDirect, IsAtEntry, IsInHand, IsTruncating, Keeps, above_by, block_of_got, claims_of, hand_in, held_of, root_of, way_of}
 use Rattle.inodes.specs.Itrunc.{FitsAt, Freeing, IsBelow, deed_of_trunc, hand_by, itrunc, next_of_trunc, trunc_next}
@@ -61,7 +61,7 @@ has_inode (Some e) i is = refl
 
 -- in a store whose process p frees a file's blocks
 module _ {D N : Type 0} (disk : Ghosts D N) (s : StoreState D) (p k : ℕ) (m : Freeing) (is : IsStore disk.image s) (well : s.volume.fault ≡ None)
-    (stood : (task s.tasks p).place ≡ place.Truncating k m) where
+    (stood : (task s.tasks p).place ≡ stage.Truncating k m) where
   abbrev cur : Image
   cur = current_of disk.image s.volume
 
@@ -91,10 +91,10 @@ module _ {D N : Type 0} (disk : Ghosts D N) (s : StoreState D) (p k : ℕ) (m : 
   claimed = own_claim cur s.table s.tasks looking p k m stood
 
   pub holds : HoldsForFreeing s.volume.buffers s.volume.log p m
-  holds = subst (λ (a : Place). Stands s.volume.buffers s.volume.log s.table.inode_count p (task s.tasks p).op a) stood (agrees.stands p)
+  holds = subst (λ (a : Stage). Stands s.volume.buffers s.volume.log s.table.inode_count p (task s.tasks p).op a) stood (agrees.stands p)
 
   pub got : HasGot s.volume.buffers p (trunc_next m) m.kept m.used
-  got = record { holds = holds.holds; locks = λ e i lock. subst (λ (a : Place). HasSlot a i) stood (agrees.holders p e i lock) }
+  got = record { holds = holds.holds; locks = λ e i lock. subst (λ (a : Stage). HasSlot a i) stood (agrees.holders p e i lock) }
 
   pub number : IsTrue (is_number (inode_count_of cur) m.machine.number)
   number = subst (λ (n : ℕ). IsTrue (is_number n m.machine.number)) is.numbers work.number

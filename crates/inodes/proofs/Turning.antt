@@ -31,8 +31,8 @@ use Rattle.wal.specs.Machine.{LogState, used_by}
 use Rattle.blockmap.specs.Driver.{first_driven}
 use Rattle.blockmap.specs.Next.{no_block_kept}
 use Rattle.blockmap.specs.Lemmas.Slots.{holds_none}
-use Rattle.inodes.specs.declared.tasks.Place.{Place}
-use Rattle.inodes.specs.declared.tasks.Place.TheVariants as place
+use Rattle.inodes.specs.declared.tasks.Stage.{Stage}
+use Rattle.inodes.specs.declared.tasks.Stage.TheVariants as stage
 use Rattle.inodes.specs.Grips.{locked_grip}
 use Rattle.inodes.specs.Holding.{IsTruncating, claim_by, claims_of, claim_of, held_of, trunc_op}
 use Rattle.inodes.specs.declared.itrunc.Itrunc.{Itrunc}
@@ -113,7 +113,7 @@ left_of_read : (x : Image) (form : Form) (d : Dinode) (k off n c : ℕ) (o : Opt
 left_of_read x form d k off n c None few first = omega arith
 left_of_read x form d k off n c (Some m) few first = let at = few_reads form d off n m few first in omega (arith, at)
 
-left_of_trunc : (x : Image) (form : Form) (b c : ℕ) (d : Dinode) (k j : ℕ) (removes : Bool) → HasFewAtTurn x d → steps_left x (place.Truncating k (first_driven (first_trunc j d form removes b))) c ≤ most_behind (form_of x) + 1
+left_of_trunc : (x : Image) (form : Form) (b c : ℕ) (d : Dinode) (k j : ℕ) (removes : Bool) → HasFewAtTurn x d → steps_left x (stage.Truncating k (first_driven (first_trunc j d form removes b))) c ≤ most_behind (form_of x) + 1
 left_of_trunc x form b c d k j removes few =
     let left = ap (blocks_left x) (first_held j d form removes b) in
     let most = few_frees x (first_driven (first_trunc j d form removes b)) (omega (arith, left, few)) in
@@ -164,7 +164,7 @@ claims_at_turn o c d k (Trunc i) true j other = none_of_trunc i j c.form d false
 claims_at_turn o c d k (Remove i) true j other = none_of_trunc i j c.form d true c.bitmap other
 claims_at_turn o c d k (Stat i) true j other = refl
 
-claim_at_turn : (form : Form) (b : ℕ) (d : Dinode) (k i : ℕ) (removes : Bool) → claim_by None (place.Truncating k (first_driven (first_trunc i d form removes b))) i ≡ Some (frees (held_at_turn d removes))
+claim_at_turn : (form : Form) (b : ℕ) (d : Dinode) (k i : ℕ) (removes : Bool) → claim_by None (stage.Truncating k (first_driven (first_trunc i d form removes b))) i ≡ Some (frees (held_at_turn d removes))
 claim_at_turn form b d k i removes =
     rw (eq-eqb (first_trunc i d form removes b).number i (first_number i d form removes b)) (ap (λ (h : Held). Some (frees h)) (first_held i d form removes b))
 
@@ -220,7 +220,7 @@ logged_at_turn x l n p c d k (Stat i) true can open_for = tt
 
 -- in a store whose process p takes its inode, which the image has as d
 module _ {D N : Type 0} (disk : Ghosts D N) (s : StoreState D) (p : ℕ) (op : Op) (m : LockState) (is : IsStore disk.image s) (well : s.volume.fault ≡ None)
-    (stood : (task s.tasks p).place ≡ place.Taking m) (is_op : (task s.tasks p).op ≡ Some op) (inside : p < length s.tasks) (joint : Joint (disk.image s.volume.device) s.volume.buffers s.volume.log)
+    (stood : (task s.tasks p).place ≡ stage.Taking m) (is_op : (task s.tasks p).op ≡ Some op) (inside : p < length s.tasks) (joint : Joint (disk.image s.volume.device) s.volume.buffers s.volume.log)
     (alone : (q k : ℕ) → q ≢ p → grip_of (task s.tasks q) ≡ Some (locked_grip k m.number) → ⊥) where
   abbrev cur : Image
   cur = current_of disk.image s.volume
@@ -242,7 +242,7 @@ module _ {D N : Type 0} (disk : Ghosts D N) (s : StoreState D) (p : ℕ) (op : O
   holds_alone = holds_alone_of cur s.table s.tasks (looking disk s p op m is well stood is_op) p m.number alone
 
   pub holds_nothing : (j : ℕ) → claim_of (task s.tasks p) j ≡ None
-  holds_nothing j = ap (λ (a : Place). claim_by (task s.tasks p).op a j) stood
+  holds_nothing j = ap (λ (a : Stage). claim_by (task s.tasks p).op a j) stood
 
   none : claims_of s.tasks m.number ≡ None
   none = none_held s.tasks m.number (λ q. ⊎_elim
@@ -296,11 +296,11 @@ module _ {D N : Type 0} (disk : Ghosts D N) (s : StoreState D) (p : ℕ) (op : O
     fits_before files fits = fits
 
     -- the number is held now
-    begins_freeing : (removes : Bool) → u.place ≡ place.Truncating k (first_driven (first_trunc m.number inode s.table.form removes extent.bitmap)) → inode.kind ≢ 0 → (files : Files) → FitsHeld files cur (claims_of s.tasks)
+    begins_freeing : (removes : Bool) → u.place ≡ stage.Truncating k (first_driven (first_trunc m.number inode s.table.form removes extent.bitmap)) → inode.kind ≢ 0 → (files : Files) → FitsHeld files cur (claims_of s.tasks)
         → FitsFiles disk.image t (set files m.number (file_left (cond removes 0 inode.kind)))
     begins_freeing removes there used files fits =
-        let own : claim_of u m.number ≡ Some (frees (held_at_turn inode removes)) = ap (λ (a : Place). claim_by u.op a m.number) there ∙ claim_at_turn s.table.form extent.bitmap inode k m.number removes in
-        let others : (j : ℕ) → j ≢ m.number → claim_of u j ≡ claim_of (task s.tasks p) j = λ j other. ap (λ (a : Place). claim_by u.op a j) there ∙ none_of_trunc m.number j s.table.form inode removes extent.bitmap other ∙ sym (holds_nothing j) in
+        let own : claim_of u m.number ≡ Some (frees (held_at_turn inode removes)) = ap (λ (a : Stage). claim_by u.op a m.number) there ∙ claim_at_turn s.table.form extent.bitmap inode k m.number removes in
+        let others : (j : ℕ) → j ≢ m.number → claim_of u j ≡ claim_of (task s.tasks p) j = λ j other. ap (λ (a : Stage). claim_by u.op a j) there ∙ none_of_trunc m.number j s.table.form inode removes extent.bitmap other ∙ sym (holds_nothing j) in
         let now : IsClaimedNow (claims_of s.tasks) m.number (Some (frees (held_at_turn inode removes))) (claims_of (set s.tasks p u)) =
         subst (λ (o : Option Claim). IsClaimedNow (claims_of s.tasks) m.number o (claims_of (set s.tasks p u))) own (claimed_now s.tasks p m.number u inside holds_alone others) in
         fits_then (set files m.number (file_left (cond removes 0 inode.kind)))
@@ -311,7 +311,7 @@ module _ {D N : Type 0} (disk : Ghosts D N) (s : StoreState D) (p : ℕ) (op : O
         last false = inr refl
 
     -- so it is by the writing of its bytes, which begins with none
-    begins_growing : (i off : ℕ) (bytes : List ℕ) → i ≡ m.number → u.place ≡ place.Writing k (first_write i inode off (length bytes) extent) → inode.kind ≢ 0 → off ≤ inode.size → (files : Files) → FitsFiles disk.image s files
+    begins_growing : (i off : ℕ) (bytes : List ℕ) → i ≡ m.number → u.place ≡ stage.Writing k (first_write i inode off (length bytes) extent) → inode.kind ≢ 0 → off ≤ inode.size → (files : Files) → FitsFiles disk.image s files
         → FitsFiles disk.image t files
     begins_growing i off bytes same_number there used within files fits =
         let w : WriteState = first_write i inode off (length bytes) extent in
@@ -320,9 +320,9 @@ module _ {D N : Type 0} (disk : Ghosts D N) (s : StoreState D) (p : ℕ) (op : O
         let g : Growth = record { copy = inode; taken = None; offset = off; written = [] } in
         let grown : growth_of w (bytes_by u.op) ≡ g = ap (λ (o : Option ℕ). record { copy = inode; taken = o; offset = off; written = [] }) fresh.taken in
         let own : claim_of u m.number ≡ Some (grows g) =
-        ap (λ (a : Place). claim_by u.op a m.number) there ∙ ap (λ (j : ℕ). claim_by u.op (place.Writing k w) j) (sym same_number) ∙ own_grows u.op k w ∙ ap (λ (h : Growth). Some (grows h)) grown in
+        ap (λ (a : Stage). claim_by u.op a m.number) there ∙ ap (λ (j : ℕ). claim_by u.op (stage.Writing k w) j) (sym same_number) ∙ own_grows u.op k w ∙ ap (λ (h : Growth). Some (grows h)) grown in
         let others : (j : ℕ) → j ≢ m.number → claim_of u j ≡ claim_of (task s.tasks p) j =
-        λ j other. ap (λ (a : Place). claim_by u.op a j) there ∙ rw (ne_eqb i j (λ e. other (sym e ∙ same_number))) refl ∙ sym (holds_nothing j) in
+        λ j other. ap (λ (a : Stage). claim_by u.op a j) there ∙ rw (ne_eqb i j (λ e. other (sym e ∙ same_number))) refl ∙ sym (holds_nothing j) in
         let now : IsClaimedNow (claims_of s.tasks) m.number (Some (grows g)) (claims_of (set s.tasks p u)) =
         subst (λ (o : Option Claim). IsClaimedNow (claims_of s.tasks) m.number o (claims_of (set s.tasks p u))) own (claimed_now s.tasks p m.number u inside holds_alone others) in
         fits_then files
@@ -340,7 +340,7 @@ module _ {D N : Type 0} (disk : Ghosts D N) (s : StoreState D) (p : ℕ) (op : O
           files,
           subst (λ (j : ℕ). after (form_of cur) files (Write j off bytes) BadOffset ≡ Some files) (sym same_number)
               ((resting_refuses files cur (claims_of s.tasks) m.number off bytes before (may_name_now disk s p op m is well stood is_op, used) none few).0 (ltb-true inode.size off behind)),
-          same (ap (λ (a : Place). claim_by u.op a m.number) (there ∙ ap (place_by_refusal k (first_write i inode off (length bytes) extent)) says)) files fits,
+          same (ap (λ (a : Stage). claim_by u.op a m.number) (there ∙ ap (place_by_refusal k (first_write i inode off (length bytes) extent)) says)) files fits,
         )
     write_turn i off bytes few same_number used files fits false behind true big there =
         let says : write_refusal s.table.form inode off (length bytes) ≡ Some TooBig = rw (behind, big) refl in
@@ -351,7 +351,7 @@ module _ {D N : Type 0} (disk : Ghosts D N) (s : StoreState D) (p : ℕ) (op : O
           subst (λ (j : ℕ). after (form_of cur) files (Write j off bytes) TooBig ≡ Some files) (sym same_number)
               ((resting_refuses files cur (claims_of s.tasks) m.number off bytes before (may_name_now disk s p op m is well stood is_op, used) none few).1 (ltb-false inode.size off behind)
               (subst (λ (n : ℕ). n < off + length bytes) (sym same_size) (ltb-true most (off + length bytes) big))),
-          same (ap (λ (a : Place). claim_by u.op a m.number) (there ∙ ap (place_by_refusal k (first_write i inode off (length bytes) extent)) says)) files fits,
+          same (ap (λ (a : Stage). claim_by u.op a m.number) (there ∙ ap (place_by_refusal k (first_write i inode off (length bytes) extent)) says)) files fits,
         )
     write_turn i off bytes few same_number used files fits false behind false big there =
         let says : write_refusal s.table.form inode off (length bytes) ≡ None = rw (behind, big) refl in
@@ -363,34 +363,34 @@ module _ {D N : Type 0} (disk : Ghosts D N) (s : StoreState D) (p : ℕ) (op : O
     used_turn (Create kind) allowed named there used files fits = absurd allowed
     used_turn (Write i off bytes) allowed named there used files fits =
         write_turn i off bytes allowed.1 (sym named) used files fits (ltb inode.size off) refl (ltb most (off + length bytes)) refl there
-    used_turn (Read i off n) allowed named there used files fits = same (ap (λ (a : Place). claim_by u.op a m.number) there ∙ none_of_read k m.number u.op (first_read s.table.form inode off n)) files fits
+    used_turn (Read i off n) allowed named there used files fits = same (ap (λ (a : Stage). claim_by u.op a m.number) there ∙ none_of_read k m.number u.op (first_read s.table.form inode off n)) files fits
     used_turn (Trunc i) allowed named there used files fits =
         let before = fits_before files fits in (
           set files m.number (file_left inode.kind),
           subst (λ (j : ℕ). after (form_of cur) files (Trunc j) Done ≡ Some (set files m.number (file_left inode.kind))) named
               (turn_answers files cur (claims_of s.tasks) m.number before (may_name_now disk s p op m is well stood is_op, used) none).0,
-          begins_freeing false (there ∙ ap (λ (j : ℕ). place.Truncating k (first_driven (first_trunc j inode s.table.form false extent.bitmap))) (sym named)) used files before,
+          begins_freeing false (there ∙ ap (λ (j : ℕ). stage.Truncating k (first_driven (first_trunc j inode s.table.form false extent.bitmap))) (sym named)) used files before,
         )
     used_turn (Remove i) allowed named there used files fits =
         let before = fits_before files fits in (
           set files m.number (file_left 0),
           subst (λ (j : ℕ). after (form_of cur) files (Remove j) Done ≡ Some (set files m.number (file_left 0))) named
               (turn_answers files cur (claims_of s.tasks) m.number before (may_name_now disk s p op m is well stood is_op, used) none).1,
-          begins_freeing true (there ∙ ap (λ (j : ℕ). place.Truncating k (first_driven (first_trunc j inode s.table.form true extent.bitmap))) (sym named)) used files before,
+          begins_freeing true (there ∙ ap (λ (j : ℕ). stage.Truncating k (first_driven (first_trunc j inode s.table.form true extent.bitmap))) (sym named)) used files before,
         )
     used_turn (Stat i) allowed named there used files fits = (
       files,
       subst (λ (j : ℕ). after (form_of cur) files (Stat j) (StatOf inode.kind inode.size) ≡ Some files) named
           (resting_tells files cur (claims_of s.tasks) m.number (fits_before files fits) (may_name_now disk s p op m is well stood is_op, used) none).stat,
-      same (ap (λ (a : Place). claim_by u.op a m.number) there) files fits,
+      same (ap (λ (a : Stage). claim_by u.op a m.number) there) files fits,
     )
 
-    free_turn : (q : Op) → CanTake s.table.inode_count q → m.number ≡ asked q → u.place ≡ place.Leaving k → inode.kind ≡ 0 → (files : Files) → FitsFiles disk.image s files
+    free_turn : (q : Op) → CanTake s.table.inode_count q → m.number ≡ asked q → u.place ≡ stage.Leaving k → inode.kind ≡ 0 → (files : Files) → FitsFiles disk.image s files
         → TurnsTo (form_of cur) q (Some NoFile) files (FitsFiles disk.image t)
     free_turn q allowed named there free files fits = (
       files,
       by_op q allowed named,
-      same (ap (λ (a : Place). claim_by u.op a m.number) there) files fits,
+      same (ap (λ (a : Stage). claim_by u.op a m.number) there) files fits,
     )
       where
         by_op : (o : Op) → CanTake s.table.inode_count o → m.number ≡ asked o → after (form_of cur) files o NoFile ≡ Some files

@@ -33,7 +33,7 @@ use Rattle.blockmap.specs.declared.branch.Branch.{Branch}
 use Rattle.blockmap.specs.declared.branch.Node.{Node}
 use Rattle.blockmap.specs.Getting.{progress_of}
 use Rattle.blockmap.specs.declared.progress.Progress.{Progress}
-use Rattle.inodes.specs.declared.tasks.Place.TheVariants as place
+use Rattle.inodes.specs.declared.tasks.Stage.TheVariants as stage
 use Rattle.inodes.specs.declared.writei.WriteAt.{WriteAt}
 use Rattle.inodes.specs.declared.writei.WriteAt.TheVariants as write_at
 use Rattle.inodes.specs.Growing.{HasComeTo, growth_of, next_block, taken_by}
@@ -91,7 +91,7 @@ some_way (suc depth) k deep = (_, _, refl)
 
 -- in a store whose process p writes a file's bytes
 module _ {D N : Type 0} (disk : Ghosts D N) (s : StoreState D) (p k : ℕ) (m : WriteState) (is : IsStore disk.image s) (well : s.volume.fault ≡ None)
-    (stood : (task s.tasks p).place ≡ place.Writing k m) (inside : p < length s.tasks) (joint : Joint (disk.image s.volume.device) s.volume.buffers s.volume.log) where
+    (stood : (task s.tasks p).place ≡ stage.Writing k m) (inside : p < length s.tasks) (joint : Joint (disk.image s.volume.device) s.volume.buffers s.volume.log) where
   abbrev cur : Image
   cur = current_of disk.image s.volume
 

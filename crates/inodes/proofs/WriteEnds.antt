@@ -35,7 +35,7 @@ use Rattle.blockmap.specs.declared.bmap_alloc.MapAt.TheVariants as map_at
 use Rattle.blockmap.specs.declared.progress.Progress.{Progress}
 use Rattle.blockmap.specs.declared.progress.Progress.TheVariants as machine
 use Rattle.blockmap.specs.Lemmas.Others.{StaysForOthers, groups_noted, stays_noted}
-use Rattle.inodes.specs.declared.tasks.Place.TheVariants as place
+use Rattle.inodes.specs.declared.tasks.Stage.TheVariants as stage
 use Rattle.inodes.specs.declared.writei.WriteAt.{WriteAt}
 use Rattle.inodes.specs.declared.writei.WriteAt.TheVariants as write_at
 use Rattle.inodes.specs.Goes.{place_of_writing, progress_of_write, table_of_writing}
@@ -87,7 +87,7 @@ copy_same disk (write_at.Updating u) v p m n bytes w steps = (ap (λ (o : WriteS
 
 -- in a store whose process p writes a file's bytes
 module _ {D N : Type 0} (disk : Ghosts D N) (s : StoreState D) (p k : ℕ) (m : WriteState) (is : IsStore disk.image s) (well : s.volume.fault ≡ None)
-    (stood : (task s.tasks p).place ≡ place.Writing k m) (inside : p < length s.tasks) (joint : Joint (disk.image s.volume.device) s.volume.buffers s.volume.log) where
+    (stood : (task s.tasks p).place ≡ stage.Writing k m) (inside : p < length s.tasks) (joint : Joint (disk.image s.volume.device) s.volume.buffers s.volume.log) where
   abbrev cur : Image
   cur = current_of disk.image s.volume
 
@@ -184,7 +184,7 @@ module _ {D N : Type 0} (disk : Ghosts D N) (s : StoreState D) (p k : ℕ) (m : 
 
       does_write : Answers (machine.Over tt)
       does_write = record {
-        reads = reads_none disk s (store_then disk s p k m.number (here disk s p k m is well stood inside joint) (progress.Decided (Wrote m.done)) (place.Leaving k) w (renewed s.table k (Some m.inode)) ts)
+        reads = reads_none disk s (store_then disk s p k m.number (here disk s p k m is well stood inside joint) (progress.Decided (Wrote m.done)) (stage.Leaving k) w (renewed s.table k (Some m.inode)) ts)
             writes.device (writes.fault ∙ well) (progress.Decided (Wrote m.done)) refl;
         numbers = refl;
         form = refl;

@@ -41,7 +41,7 @@ use Rattle.blockmap.specs.declared.branch.Node.{Node}
 use Rattle.blockmap.specs.Getting.{GetsFor, progress_of, slot_of}
 use Rattle.blockmap.specs.declared.progress.Progress.{Progress}
 use Rattle.blockmap.specs.declared.progress.Progress.TheVariants as machine
-use Rattle.inodes.specs.declared.tasks.Place.TheVariants as place
+use Rattle.inodes.specs.declared.tasks.Stage.TheVariants as stage
 use Rattle.inodes.specs.declared.writei.WriteAt.{WriteAt}
 use Rattle.inodes.specs.declared.writei.WriteAt.TheVariants as write_at
 use Rattle.inodes.specs.Growing.{HasComeTo, growth_of, next_block, taken_by}
@@ -61,7 +61,7 @@ use Rattle.inodes.proofs.WriteAny as on
 
 -- in a store whose process p writes a file's bytes
 module _ {D N : Type 0} (disk : Ghosts D N) (s : StoreState D) (p k : ℕ) (m : WriteState) (is : IsStore disk.image s) (well : s.volume.fault ≡ None)
-    (stood : (task s.tasks p).place ≡ place.Writing k m) (inside : p < length s.tasks) (joint : Joint (disk.image s.volume.device) s.volume.buffers s.volume.log) where
+    (stood : (task s.tasks p).place ≡ stage.Writing k m) (inside : p < length s.tasks) (joint : Joint (disk.image s.volume.device) s.volume.buffers s.volume.log) where
   abbrev cur : Image
   cur = current_of disk.image s.volume
 

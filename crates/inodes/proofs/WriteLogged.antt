@@ -14,8 +14,8 @@ use Rattle.wal.specs.Lemmas.Rooms.{noted_among, noted_grows, noted_home, used_no
 use Rattle.blockmap.specs.Branch.{branch_of}
 use Rattle.blockmap.specs.Lemmas.Branches.{within_limit}
 use Rattle.blockmap.specs.declared.branch.Branch.{Branch}
-use Rattle.inodes.specs.declared.tasks.Place.{Place}
-use Rattle.inodes.specs.declared.tasks.Place.TheVariants as place
+use Rattle.inodes.specs.declared.tasks.Stage.{Stage}
+use Rattle.inodes.specs.declared.tasks.Stage.TheVariants as stage
 use Rattle.inodes.specs.Growing.{next_block}
 use Rattle.inodes.specs.Store.{HaveLogged, LoggedAt}
 use Rattle.inodes.specs.Tasks.{TaskState, no_task, task}
@@ -197,20 +197,20 @@ logged_on x y l p m n had more less =
     record { homes = had.homes; used = had.used; few = omega (arith, few, more, less) }
 
 -- the image stays, and so do the homes of who has an operation open
-pub logged_alike : (cur : Image) (l m : LogState) (q : ℕ) (a : Place) → ((homes b : ℕ) → used_by l q ≡ Some homes → is_among b l.homes ≡ true → is_among b m.homes ≡ true) → used_by m q ≡ used_by l q → LoggedAt cur l q a → LoggedAt cur m q a
-logged_alike cur l m q place.Nowhere among same had = tt
-logged_alike cur l m q (place.Creating w) among same had = tt
-logged_alike cur l m q (place.Taking w) among same had = tt
-logged_alike cur l m q (place.Reading k w) among same had = tt
-logged_alike cur l m q (place.Delivering k) among same had = tt
-logged_alike cur l m q (place.Truncating k w) among same had = tt
-logged_alike cur l m q (place.Writing k w) among same had = λ homes used.
+pub logged_alike : (cur : Image) (l m : LogState) (q : ℕ) (a : Stage) → ((homes b : ℕ) → used_by l q ≡ Some homes → is_among b l.homes ≡ true → is_among b m.homes ≡ true) → used_by m q ≡ used_by l q → LoggedAt cur l q a → LoggedAt cur m q a
+logged_alike cur l m q stage.Nowhere among same had = tt
+logged_alike cur l m q (stage.Creating w) among same had = tt
+logged_alike cur l m q (stage.Taking w) among same had = tt
+logged_alike cur l m q (stage.Reading k w) among same had = tt
+logged_alike cur l m q (stage.Delivering k) among same had = tt
+logged_alike cur l m q (stage.Truncating k w) among same had = tt
+logged_alike cur l m q (stage.Writing k w) among same had = λ homes used.
     let on : CountsOn l m = λ b. counts_more l m b (among homes b (sym same ∙ used)) in
     let few = had homes (sym same ∙ used) in
     let more = counted_more l m on (homes_beside cur w) in
     let hand = on (at_hand w.at) in
     omega (arith, few, more, hand)
-logged_alike cur l m q (place.Leaving k) among same had = tt
+logged_alike cur l m q (stage.Leaving k) among same had = tt
 
 -- one task is another
 pub logged_set : (cur : Image) (l m : LogState) (ts : List TaskState) (p : ℕ) (u : TaskState) → p < length ts → ((b : ℕ) → is_among b l.homes ≡ true → is_among b m.homes ≡ true)

@@ -30,8 +30,8 @@ use Rattle.blockmap.specs.Getting.{GetsFor, Releases, WritesBlock}
 use Rattle.blockmap.specs.declared.progress.Progress.{Progress}
 use Rattle.blockmap.specs.declared.progress.Progress.TheVariants as machine
 use Rattle.blockmap.specs.Lemmas.Others.{StaysForOthers, groups_noted, groups_same, stays_got, stays_left, stays_noted, stays_same}
-use Rattle.inodes.specs.declared.tasks.Place.{Place}
-use Rattle.inodes.specs.declared.tasks.Place.TheVariants as place
+use Rattle.inodes.specs.declared.tasks.Stage.{Stage}
+use Rattle.inodes.specs.declared.tasks.Stage.TheVariants as stage
 use Rattle.inodes.specs.Goes.{place_of_writing, progress_of_write, table_of_writing}
 use Rattle.inodes.specs.Grips.{Grip, KeepsTable, KeepsUsedInodes, locked_grip}
 use Rattle.inodes.specs.Growing.{HasComeTo, growth_of}
@@ -56,7 +56,7 @@ use Rattle.inodes.proofs.Writing as of
 
 -- in a store whose process p writes a file's bytes
 module _ {D N : Type 0} (disk : Ghosts D N) (s : StoreState D) (p k : ℕ) (m : WriteState) (is : IsStore disk.image s) (well : s.volume.fault ≡ None)
-    (stood : (task s.tasks p).place ≡ place.Writing k m) (inside : p < length s.tasks) (joint : Joint (disk.image s.volume.device) s.volume.buffers s.volume.log) where
+    (stood : (task s.tasks p).place ≡ stage.Writing k m) (inside : p < length s.tasks) (joint : Joint (disk.image s.volume.device) s.volume.buffers s.volume.log) where
   abbrev cur : Image
   cur = current_of disk.image s.volume
 
@@ -78,8 +78,8 @@ module _ {D N : Type 0} (disk : Ghosts D N) (s : StoreState D) (p k : ℕ) (m : 
   abbrev pub work : IsWriting cur s.table.inode_count (task s.tasks p) m
   work = of.work disk s p k m is well stood
 
-  abbrev pub here : Place
-  here = place.Writing k m
+  abbrev pub here : Stage
+  here = stage.Writing k m
 
   -- the operation
   abbrev pub its : Op
@@ -159,10 +159,10 @@ module _ {D N : Type 0} (disk : Ghosts D N) (s : StoreState D) (p k : ℕ) (m : 
       number : n.number ≡ m.number
       number = ap (λ (o : WriteState). o.number) on.same
 
-      claim_now : claim_by op (place.Writing k n) m.number ≡ Some (grows (growth_of n bytes))
-      claim_now = subst (λ (i : ℕ). claim_by op (place.Writing k n) i ≡ Some (grows (growth_of n bytes))) number (own_grows op k n)
+      claim_now : claim_by op (stage.Writing k n) m.number ≡ Some (grows (growth_of n bytes))
+      claim_now = subst (λ (i : ℕ). claim_by op (stage.Writing k n) i ≡ Some (grows (growth_of n bytes))) number (own_grows op k n)
 
-      writing_now : IsWriting now s.table.inode_count (record (task s.tasks p) { place = place.Writing k n }) n
+      writing_now : IsWriting now s.table.inode_count (record (task s.tasks p) { place = stage.Writing k n }) n
       writing_now =
           let offset : n.offset ≡ m.offset = ap (λ (o : WriteState). o.offset) on.same in
           let count : n.count ≡ m.count = ap (λ (o : WriteState). o.count) on.same in

@@ -32,7 +32,7 @@ use Rattle.blockmap.specs.declared.balloc.AllocAt.TheVariants as alloc_at
 use Rattle.blockmap.specs.declared.bmap_alloc.MapAt.{MapAt}
 use Rattle.blockmap.specs.declared.progress.Progress.{Progress}
 use Rattle.blockmap.specs.declared.progress.Progress.TheVariants as machine
-use Rattle.inodes.specs.declared.tasks.Place.TheVariants as place
+use Rattle.inodes.specs.declared.tasks.Stage.TheVariants as stage
 use Rattle.inodes.specs.declared.writei.Extent.{Extent}
 use Rattle.inodes.specs.declared.writei.WriteAt.TheVariants as write_at
 use Rattle.inodes.specs.Growing.{HasComeTo, IsOnWay, TakesIn, growth_of, next_block, taken_at, taken_on_way, taken_by}
@@ -80,7 +80,7 @@ pub record IsTakingPlace (b : Branch) (here : AllocState → MapAt) : Type 0 whe
 
 -- in a store whose process p writes a file's bytes, and takes a block
 module _ {D N : Type 0} (disk : Ghosts D N) (s : StoreState D) (p k : ℕ) (m : WriteState) (is : IsStore disk.image s) (well : s.volume.fault ≡ None)
-    (stood : (task s.tasks p).place ≡ place.Writing k m) (inside : p < length s.tasks) (joint : Joint (disk.image s.volume.device) s.volume.buffers s.volume.log)
+    (stood : (task s.tasks p).place ≡ stage.Writing k m) (inside : p < length s.tasks) (joint : Joint (disk.image s.volume.device) s.volume.buffers s.volume.log)
     (way : MapState) (t : AllocState) (here : AllocState → MapAt) (at : m.at ≡ write_at.Mapping (record way { at = here t })) (taking_at : IsTakingPlace way.branch here) where
   abbrev cur : Image
   cur = current_of disk.image s.volume

@@ -37,8 +37,8 @@ use Rattle.blockmap.specs.declared.balloc.AllocAt.{AllocAt}
 use Rattle.blockmap.specs.declared.balloc.AllocAt.TheVariants as alloc_at
 use Rattle.blockmap.specs.declared.bmap_alloc.MapAt.{MapAt}
 use Rattle.blockmap.specs.declared.bmap_alloc.MapAt.TheVariants as map_at
-use Rattle.inodes.specs.declared.tasks.Place.{Place}
-use Rattle.inodes.specs.declared.tasks.Place.TheVariants as place
+use Rattle.inodes.specs.declared.tasks.Stage.{Stage}
+use Rattle.inodes.specs.declared.tasks.Stage.TheVariants as stage
 use Rattle.inodes.specs.declared.writei.Extent.{Extent}
 use Rattle.inodes.specs.declared.writei.WriteAt.{WriteAt}
 use Rattle.inodes.specs.declared.writei.WriteAt.TheVariants as write_at
@@ -81,7 +81,7 @@ logs_few cur n t m l p homes is had used =
 
 -- in a store whose process p writes a file's bytes
 module _ {D N : Type 0} (disk : Ghosts D N) (s : StoreState D) (p k : ℕ) (m : WriteState) (is : IsStore disk.image s) (well : s.volume.fault ≡ None)
-    (stood : (task s.tasks p).place ≡ place.Writing k m) where
+    (stood : (task s.tasks p).place ≡ stage.Writing k m) where
   abbrev cur : Image
   cur = current_of disk.image s.volume
 
@@ -124,7 +124,7 @@ module _ {D N : Type 0} (disk : Ghosts D N) (s : StoreState D) (p k : ℕ) (m : 
   claimed = own_growth cur s.table s.tasks looking p k m stood
 
   pub holds : HoldsForWriting s.volume.buffers s.volume.log p m
-  holds = subst (λ (a : Place). Stands s.volume.buffers s.volume.log s.table.inode_count p (task s.tasks p).op a) stood (agrees.stands p)
+  holds = subst (λ (a : Stage). Stands s.volume.buffers s.volume.log s.table.inode_count p (task s.tasks p).op a) stood (agrees.stands p)
 
   pub logged : LogsOn cur s.volume.log p m
   logged =
@@ -132,7 +132,7 @@ module _ {D N : Type 0} (disk : Ghosts D N) (s : StoreState D) (p k : ℕ) (m : 
       record { homes = holds.logged.homes; used = holds.logged.used; few = few holds.logged.homes holds.logged.used }
 
   pub slots : Slots s.volume.buffers p own (kept_by_write m.at) (block_of_write m.at) (used_by_write m.at)
-  slots = record { holds_kept = holds.kept; holds_used = holds.used; locks = λ e i lock. subst (λ (a : Place). HasSlot a i) stood (agrees.holders p e i lock) }
+  slots = record { holds_kept = holds.kept; holds_used = holds.used; locks = λ e i lock. subst (λ (a : Stage). HasSlot a i) stood (agrees.holders p e i lock) }
 
   pub number : IsTrue (is_number (inode_count_of cur) m.number)
   number = subst (λ (n : ℕ). IsTrue (is_number n m.number)) is.numbers work.number

@@ -20,8 +20,8 @@ use Rattle.blockmap.specs.Driver.{Drives}
 use Rattle.blockmap.specs.Next.{used_now}
 use Rattle.blockmap.specs.declared.progress.Progress.{Progress}
 use Rattle.blockmap.specs.declared.progress.Progress.TheVariants as machine
-use Rattle.inodes.specs.declared.tasks.Place.{Place}
-use Rattle.inodes.specs.declared.tasks.Place.TheVariants as place
+use Rattle.inodes.specs.declared.tasks.Stage.{Stage}
+use Rattle.inodes.specs.declared.tasks.Stage.TheVariants as stage
 use Rattle.inodes.specs.Creation.{lowest_free}
 use Rattle.inodes.specs.Ialloc.{SearchState, BuffersAfter, at_slot, at_next_block}
 use Rattle.inodes.specs.Ilock.{LockSteps}
@@ -87,29 +87,29 @@ IsTurn n p m (Some TooLong) before now = ⊥
 IsTurn n p m (Some BadType) before now = ⊥
 
 -- the step that gets the block that a search looks at, by what the buffers say to that
-abbrev pub GetsBlock : Buffers → SearchState → TaskProgress → Place → Type 0
+abbrev pub GetsBlock : Buffers → SearchState → TaskProgress → Stage → Type 0
 GetsBlock c m progress.Moved next =
-    (i : ℕ) × (get_answer c m.block ≡ get.Got i) × (next ≡ place.Creating (at_slot m i))
+    (i : ℕ) × (get_answer c m.block ≡ get.Got i) × (next ≡ stage.Creating (at_slot m i))
 GetsBlock c m (progress.Turned reply) next = ⊥
 GetsBlock c m (progress.Decided reply) next = ⊥
 GetsBlock c m progress.Over next = ⊥
 GetsBlock c m (progress.Sleeping why) next =
-    (get_answer c m.block ≡ get.Sleeping why) × (next ≡ place.Creating m)
-GetsBlock c m (progress.Fault fault) next = (fault.0 ≡ m.block) × (next ≡ place.Creating m)
+    (get_answer c m.block ≡ get.Sleeping why) × (next ≡ stage.Creating m)
+GetsBlock c m (progress.Fault fault) next = (fault.0 ≡ m.block) × (next ≡ stage.Creating m)
 
 -- the step that looks at it
-abbrev pub LooksAtBlock : ℕ → ℕ → SearchState → TaskProgress → Place → Shown → Shown → Type 0
+abbrev pub LooksAtBlock : ℕ → ℕ → SearchState → TaskProgress → Stage → Shown → Shown → Type 0
 LooksAtBlock n p m progress.Moved next before now =
-    (next ≡ place.Creating (at_next_block m)) × FindsNone n m before now
+    (next ≡ stage.Creating (at_next_block m)) × FindsNone n m before now
 LooksAtBlock n p m (progress.Turned reply) next before now =
-    (next ≡ place.Nowhere) × IsTurn n p m reply before now
+    (next ≡ stage.Nowhere) × IsTurn n p m reply before now
 LooksAtBlock n p m (progress.Decided reply) next before now = ⊥
 LooksAtBlock n p m progress.Over next before now = ⊥
 LooksAtBlock n p m (progress.Sleeping why) next before now = ⊥
 LooksAtBlock n p m (progress.Fault fault) next before now = ⊥
 
 -- a search gets its block without a change to image or log; and where it got it, looks at it
-abbrev pub GoesFrom : Option ℕ → ℕ → ℕ → SearchState → Buffers → TaskProgress → Place
+abbrev pub GoesFrom : Option ℕ → ℕ → ℕ → SearchState → Buffers → TaskProgress → Stage
     → Shown → Shown → Type 0
 GoesFrom None n p m c r next before now = GetsBlock c m r next × (now ≡ before)
 GoesFrom (Some i) n p m c r next before now = LooksAtBlock n p m r next before now
@@ -138,12 +138,12 @@ progress_of_lock form d op (machine.Over used) =
 progress_of_lock form d op (machine.Fault fault) = progress.Fault fault
 
 -- and where the task stands then
-abbrev pub place_of_lock : Extent → Dinode → Op → LockState → LockState → Progress Bool → Place
-place_of_lock e d op m n machine.Moved = place.Taking n
-place_of_lock e d op m n (machine.Sleeping why) = place.Taking m
+abbrev pub place_of_lock : Extent → Dinode → Op → LockState → LockState → Progress Bool → Stage
+place_of_lock e d op m n machine.Moved = stage.Taking n
+place_of_lock e d op m n (machine.Sleeping why) = stage.Taking m
 place_of_lock e d op m n (machine.Over used) =
     place_when_taken e (if_used used d) (place_of n.at) op
-place_of_lock e d op m n (machine.Fault fault) = place.Taking m
+place_of_lock e d op m n (machine.Fault fault) = stage.Taking m
 
 -- A step that takes the inode of an operation: with the last one it has its turn, and knows the
 -- inode that the current image has.
@@ -167,11 +167,11 @@ progress_of_read (machine.Over out) = progress.Moved
 progress_of_read (machine.Fault fault) = progress.Fault fault
 
 -- and where the task stands then
-abbrev pub place_of_reading : ℕ → ReadState → ReadState → Progress (Unit {0}) → Place
-place_of_reading k m n machine.Moved = place.Reading k n
-place_of_reading k m n (machine.Sleeping why) = place.Reading k m
-place_of_reading k m n (machine.Over out) = place.Delivering k
-place_of_reading k m n (machine.Fault fault) = place.Reading k m
+abbrev pub place_of_reading : ℕ → ReadState → ReadState → Progress (Unit {0}) → Stage
+place_of_reading k m n machine.Moved = stage.Reading k n
+place_of_reading k m n (machine.Sleeping why) = stage.Reading k m
+place_of_reading k m n (machine.Over out) = stage.Delivering k
+place_of_reading k m n (machine.Fault fault) = stage.Reading k m
 
 -- a step of a reading, whose inode stands at place k of the table
 pub record ReadsOn {D N : Type 0} (disk : Ghosts D N) (s : StoreState D) (p k : ℕ) (m : ReadState)
@@ -195,11 +195,11 @@ progress_of_trunc (machine.Over out) = progress.Moved
 progress_of_trunc (machine.Fault fault) = progress.Fault fault
 
 -- where the task stands then
-abbrev pub place_of_trunc : ℕ → Freeing → Freeing → Progress (Unit {0}) → Place
-place_of_trunc k m n machine.Moved = place.Truncating k n
-place_of_trunc k m n (machine.Sleeping why) = place.Truncating k m
-place_of_trunc k m n (machine.Over out) = place.Leaving k
-place_of_trunc k m n (machine.Fault fault) = place.Truncating k m
+abbrev pub place_of_trunc : ℕ → Freeing → Freeing → Progress (Unit {0}) → Stage
+place_of_trunc k m n machine.Moved = stage.Truncating k n
+place_of_trunc k m n (machine.Sleeping why) = stage.Truncating k m
+place_of_trunc k m n (machine.Over out) = stage.Leaving k
+place_of_trunc k m n (machine.Fault fault) = stage.Truncating k m
 
 -- and the table: with the last step the inode is read no more from it, or is what was written
 abbrev pub table_of_trunc : TableState → ℕ → Freeing → Progress (Unit {0}) → TableState
@@ -228,11 +228,11 @@ progress_of_write done (machine.Over out) = progress.Decided (Wrote done)
 progress_of_write done (machine.Fault fault) = progress.Fault fault
 
 -- where the task stands then
-abbrev pub place_of_writing : ℕ → WriteState → WriteState → Progress (Unit {0}) → Place
-place_of_writing k m n machine.Moved = place.Writing k n
-place_of_writing k m n (machine.Sleeping why) = place.Writing k m
-place_of_writing k m n (machine.Over out) = place.Leaving k
-place_of_writing k m n (machine.Fault fault) = place.Writing k m
+abbrev pub place_of_writing : ℕ → WriteState → WriteState → Progress (Unit {0}) → Stage
+place_of_writing k m n machine.Moved = stage.Writing k n
+place_of_writing k m n (machine.Sleeping why) = stage.Writing k m
+place_of_writing k m n (machine.Over out) = stage.Leaving k
+place_of_writing k m n (machine.Fault fault) = stage.Writing k m
 
 -- and the table: with the last step it has the inode that was written
 abbrev pub table_of_writing : TableState → ℕ → WriteState → Progress (Unit {0}) → TableState
@@ -254,7 +254,7 @@ pub record WritesOn {D N : Type 0} (disk : Ghosts D N) (s : StoreState D) (p k :
 
 -- the task gives up the inode at place k, and is over, without bytes
 pub record GivesUp {D : Type 0} (s : StoreState D) (p k : ℕ) (t : StoreState D) : Type 0 where
-  pub next : (task t.tasks p).place ≡ place.Nowhere
+  pub next : (task t.tasks p).place ≡ stage.Nowhere
   pub gathered : (task t.tasks p).gathered ≡ None
   pub table : t.table ≡ left s.table k
   pub volume : t.volume ≡ s.volume
@@ -273,17 +273,17 @@ ShowsSame image s t = shown_of image t.volume ≡ shown_of image s.volume
 
 -- where a step of process p's task goes by where it stood, and what it makes of table, buffers,
 -- image and log
-abbrev pub Goes : {D N : Type 0} → Ghosts D N → Place → StoreState D → ℕ → Op → TaskProgress
+abbrev pub Goes : {D N : Type 0} → Ghosts D N → Stage → StoreState D → ℕ → Op → TaskProgress
     → StoreState D → Type 0
-Goes disk place.Nowhere s p op r t = (r ≡ progress.Over) × (t ≡ s)
-Goes disk (place.Creating m) s p op r t =
+Goes disk stage.Nowhere s p op r t = (r ≡ progress.Over) × (t ≡ s)
+Goes disk (stage.Creating m) s p op r t =
     GoesFrom m.slot s.table.inode_count p m s.volume.buffers r (task t.tasks p).place
     (shown_of disk.image s.volume) (shown_of disk.image t.volume)
     × (t.table ≡ s.table) × SearchesIn disk s.volume p m r t.volume
-Goes disk (place.Taking m) s p op r t =
+Goes disk (stage.Taking m) s p op r t =
     TakesInode disk s p op m r t × ShowsSame disk.image s t
-Goes disk (place.Reading k m) s p op r t = ReadsOn disk s p k m r t × ShowsSame disk.image s t
-Goes disk (place.Delivering k) s p op r t = Delivers s p k r t
-Goes disk (place.Truncating k m) s p op r t = Truncates disk s p k m r t
-Goes disk (place.Writing k m) s p op r t = WritesOn disk s p k op m r t
-Goes disk (place.Leaving k) s p op r t = (r ≡ progress.Over) × GivesUp s p k t
+Goes disk (stage.Reading k m) s p op r t = ReadsOn disk s p k m r t × ShowsSame disk.image s t
+Goes disk (stage.Delivering k) s p op r t = Delivers s p k r t
+Goes disk (stage.Truncating k m) s p op r t = Truncates disk s p k m r t
+Goes disk (stage.Writing k m) s p op r t = WritesOn disk s p k op m r t
+Goes disk (stage.Leaving k) s p op r t = (r ≡ progress.Over) × GivesUp s p k t

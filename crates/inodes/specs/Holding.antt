@@ -13,8 +13,8 @@ use Rattle.blockmap.specs.declared.driving.Got.{Got}
 use Rattle.blockmap.specs.declared.driving.Kept.{Kept}
 use Rattle.inodes.specs.declared.itrunc.TruncAt.{TruncAt}
 use Rattle.inodes.specs.declared.itrunc.TruncAt.TheVariants as trunc_at
-use Rattle.inodes.specs.declared.tasks.Place.{Place}
-use Rattle.inodes.specs.declared.tasks.Place.TheVariants as place
+use Rattle.inodes.specs.declared.tasks.Stage.{Stage}
+use Rattle.inodes.specs.declared.tasks.Stage.TheVariants as stage
 use Rattle.inodes.specs.Growing.{bytes_by, growth_of}
 use Rattle.inodes.specs.Itrunc.{Freeing}
 use Rattle.inodes.specs.declared.itrunc.Itrunc.{Itrunc}
@@ -34,17 +34,17 @@ held_of m = record {
 }
 
 -- what a task with this operation holds of number i, by its place
-abbrev pub claim_by : Option Op → Place → ℕ → Option Claim
-claim_by op place.Nowhere i = None
-claim_by op (place.Creating m) i = None
-claim_by op (place.Taking m) i = None
-claim_by op (place.Reading k m) i = None
-claim_by op (place.Delivering k) i = None
-claim_by op (place.Truncating k m) i =
+abbrev pub claim_by : Option Op → Stage → ℕ → Option Claim
+claim_by op stage.Nowhere i = None
+claim_by op (stage.Creating m) i = None
+claim_by op (stage.Taking m) i = None
+claim_by op (stage.Reading k m) i = None
+claim_by op (stage.Delivering k) i = None
+claim_by op (stage.Truncating k m) i =
     if m.machine.number == i then Some (frees (held_of m.machine)) else None
-claim_by op (place.Writing k m) i =
+claim_by op (stage.Writing k m) i =
     if m.number == i then Some (grows (growth_of m (bytes_by op))) else None
-claim_by op (place.Leaving k) i = None
+claim_by op (stage.Leaving k) i = None
 
 abbrev pub claim_of : TaskState → ℕ → Option Claim
 claim_of t i = claim_by t.op t.place i

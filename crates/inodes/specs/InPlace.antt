@@ -6,8 +6,8 @@ use Rattle.blockmap.specs.Driver.{Drives}
 use Rattle.blockmap.specs.Next.{used_now}
 use Rattle.blockmap.specs.declared.progress.Progress.{Progress}
 use Rattle.wal.specs.Volume.{VolumeState}
-use Rattle.inodes.specs.declared.tasks.Place.{Place}
-use Rattle.inodes.specs.declared.tasks.Place.TheVariants as place
+use Rattle.inodes.specs.declared.tasks.Stage.{Stage}
+use Rattle.inodes.specs.declared.tasks.Stage.TheVariants as stage
 use Rattle.inodes.specs.Ialloc.{SearchState, SearchSteps}
 use Rattle.inodes.specs.Itrunc.{Freeing, itrunc, trunc_next}
 use Rattle.inodes.specs.Readi.{ReadState, ReadSteps}
@@ -20,7 +20,7 @@ pub record SearchesInPlace {D N : Type 0} (disk : Ghosts D N) (v : VolumeState D
     (us : List TaskState) (w : VolumeState D) : Type 0 where
   pub now : SearchState
   pub steps : SearchSteps disk m.slot v w p m now r
-  pub tasks : us ≡ slice_set ts p (record (task ts p) { place = place.Creating now })
+  pub tasks : us ≡ slice_set ts p (record (task ts p) { place = stage.Creating now })
 
 -- a reading of a file's bytes, whose inode stands at place k of the table; they are gathered beside
 -- the task
@@ -29,7 +29,7 @@ pub record ReadsInPlace {D N : Type 0} (disk : Ghosts D N) (v : VolumeState D)
     (us : List TaskState) (w : VolumeState D) (h : GatheredBytes) : Type 0 where
   pub now : ReadState
   pub reads : ReadSteps disk v p m g r w now h
-  pub tasks : us ≡ slice_set ts p (record (task ts p) { place = place.Reading k now })
+  pub tasks : us ≡ slice_set ts p (record (task ts p) { place = stage.Reading k now })
 
 -- the freeing of a file's blocks
 pub record TruncatesInPlace {D N : Type 0} (disk : Ghosts D N) (v : VolumeState D)
@@ -37,7 +37,7 @@ pub record TruncatesInPlace {D N : Type 0} (disk : Ghosts D N) (v : VolumeState 
     (us : List TaskState) (w : VolumeState D) : Type 0 where
   pub now : Freeing
   pub drives : Drives itrunc disk (used_now (trunc_next m) m.kept m.used) v p m r now w
-  pub tasks : us ≡ slice_set ts p (record (task ts p) { place = place.Truncating k now })
+  pub tasks : us ≡ slice_set ts p (record (task ts p) { place = stage.Truncating k now })
 
 -- a writing of a file's bytes, whose inode stands at place k of the table
 pub record WritesInPlace {D N : Type 0} (disk : Ghosts D N) (v : VolumeState D)
@@ -45,26 +45,26 @@ pub record WritesInPlace {D N : Type 0} (disk : Ghosts D N) (v : VolumeState D)
     (us : List TaskState) (w : VolumeState D) : Type 0 where
   pub now : WriteState
   pub writes : WriteSteps disk m.at v p m bytes r now w
-  pub tasks : us ≡ slice_set ts p (record (task ts p) { place = place.Writing k now })
+  pub tasks : us ≡ slice_set ts p (record (task ts p) { place = stage.Writing k now })
 
 -- the freeing that a task is at, if it is at one
-abbrev pub freeing_at : Place → Option Freeing
-freeing_at place.Nowhere = None
-freeing_at (place.Creating m) = None
-freeing_at (place.Taking m) = None
-freeing_at (place.Reading k m) = None
-freeing_at (place.Delivering k) = None
-freeing_at (place.Truncating k m) = Some m
-freeing_at (place.Writing k m) = None
-freeing_at (place.Leaving k) = None
+abbrev pub freeing_at : Stage → Option Freeing
+freeing_at stage.Nowhere = None
+freeing_at (stage.Creating m) = None
+freeing_at (stage.Taking m) = None
+freeing_at (stage.Reading k m) = None
+freeing_at (stage.Delivering k) = None
+freeing_at (stage.Truncating k m) = Some m
+freeing_at (stage.Writing k m) = None
+freeing_at (stage.Leaving k) = None
 
 -- the writing that a task is at, if it is at one
-abbrev pub writing_at : Place → Option WriteState
-writing_at place.Nowhere = None
-writing_at (place.Creating m) = None
-writing_at (place.Taking m) = None
-writing_at (place.Reading k m) = None
-writing_at (place.Delivering k) = None
-writing_at (place.Truncating k m) = None
-writing_at (place.Writing k m) = Some m
-writing_at (place.Leaving k) = None
+abbrev pub writing_at : Stage → Option WriteState
+writing_at stage.Nowhere = None
+writing_at (stage.Creating m) = None
+writing_at (stage.Taking m) = None
+writing_at (stage.Reading k m) = None
+writing_at (stage.Delivering k) = None
+writing_at (stage.Truncating k m) = None
+writing_at (stage.Writing k m) = Some m
+writing_at (stage.Leaving k) = None

@@ -13,8 +13,8 @@ use Rattle.model.specs.Layout.{form_of}
 use Rattle.model.specs.Operations.{part_of, transfer_limit}
 use Rattle.in_flight.specs.Held.{Claims, FitsHeld}
 use Rattle.blockmap.specs.Target.{LeadsToBlock}
-use Rattle.inodes.specs.declared.tasks.Place.{Place}
-use Rattle.inodes.specs.declared.tasks.Place.TheVariants as place
+use Rattle.inodes.specs.declared.tasks.Stage.{Stage}
+use Rattle.inodes.specs.declared.tasks.Stage.TheVariants as stage
 use Rattle.inodes.specs.Grips.{HasNumber, TableIs}
 use Rattle.inodes.specs.Holding.{IsTruncating, claims_of}
 use Rattle.inodes.specs.LockState.{LockState}
@@ -115,15 +115,15 @@ pub record WasAnswered (n : ℕ) (t : TaskState) : Type 0 where
   pub can : CanTake n op
 
 -- what is true of a task by its place, beside what it holds
-abbrev pub LooksAt : Image → TableState → TaskState → Place → Type 0
-LooksAt cur i t place.Nowhere = Unit {0}
-LooksAt cur i t (place.Creating m) = Unit {0}
-LooksAt cur i t (place.Taking m) = IsTaking i.inode_count t m
-LooksAt cur i t (place.Reading k m) = IsAtRead cur i.inode_count (copy_at i.places k) t m
-LooksAt cur i t (place.Delivering k) = HasAllRead cur i.inode_count (copy_at i.places k) t
-LooksAt cur i t (place.Truncating k m) = IsTruncating cur i.inode_count t m
-LooksAt cur i t (place.Writing k m) = IsWriting cur i.inode_count t m
-LooksAt cur i t (place.Leaving k) = WasAnswered i.inode_count t
+abbrev pub LooksAt : Image → TableState → TaskState → Stage → Type 0
+LooksAt cur i t stage.Nowhere = Unit {0}
+LooksAt cur i t (stage.Creating m) = Unit {0}
+LooksAt cur i t (stage.Taking m) = IsTaking i.inode_count t m
+LooksAt cur i t (stage.Reading k m) = IsAtRead cur i.inode_count (copy_at i.places k) t m
+LooksAt cur i t (stage.Delivering k) = HasAllRead cur i.inode_count (copy_at i.places k) t
+LooksAt cur i t (stage.Truncating k m) = IsTruncating cur i.inode_count t m
+LooksAt cur i t (stage.Writing k m) = IsWriting cur i.inode_count t m
+LooksAt cur i t (stage.Leaving k) = WasAnswered i.inode_count t
 
 -- the image stands for some files, where tasks hold numbers so
 abbrev pub HasFiles : Image → Claims → Type 0

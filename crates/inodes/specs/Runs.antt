@@ -14,7 +14,7 @@ use Rattle.model.specs.Journal.{is_number}
 use Rattle.model.specs.Layout.{inode_block, inode_of}
 use Rattle.wal.specs.declared.types.Committed.{Committed}
 use Rattle.wal.specs.Machine.{LogState}
-use Rattle.inodes.specs.declared.tasks.Place.TheVariants as place
+use Rattle.inodes.specs.declared.tasks.Stage.TheVariants as stage
 use Rattle.inodes.specs.Ialloc.{SearchState}
 use Rattle.inodes.specs.Tasks.{task}
 use Rattle.inodes.specs.Store.{StoreState, current_of, first_place, with_begun, with_log, with_look}
@@ -55,7 +55,7 @@ pub record IsSearchRun {D N : Type 0} (disk : Ghosts D N) (p kind : ℕ) (s : St
 -- a step of process p that looks at number i's block, and the current image has the number taken
 pub record SeesTaken {D : Type 0} (image : D → Image) (p i : ℕ) (step : StepMade D) : Type 0 where
   pub search : SearchState
-  pub stands : (task step.before.tasks p).place ≡ place.Creating search
+  pub stands : (task step.before.tasks p).place ≡ stage.Creating search
   pub got : IsSome search.slot
   pub looks : search.block ≡ inode_block i
   pub taken : (inode_of (current_of image step.before.volume) i).kind ≢ 0

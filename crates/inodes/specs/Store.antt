@@ -22,8 +22,8 @@ use Rattle.blockmap.specs.Target.{block_of, slot_in}
 use Rattle.blockmap.specs.Holds.{HoldsBlocks}
 use Rattle.inodes.specs.Ialloc.{SearchState}
 use Rattle.inodes.specs.declared.ilock.LockAt.TheVariants as lock_at
-use Rattle.inodes.specs.declared.tasks.Place.{Place}
-use Rattle.inodes.specs.declared.tasks.Place.TheVariants as place
+use Rattle.inodes.specs.declared.tasks.Stage.{Stage}
+use Rattle.inodes.specs.declared.tasks.Stage.TheVariants as stage
 use Rattle.inodes.specs.Holding.{claims_of}
 use Rattle.inodes.specs.Itrunc.{Freeing, trunc_next}
 use Rattle.inodes.specs.LockState.{slot_of}
@@ -60,7 +60,7 @@ abbrev pub with_log : {D : Type 0} → StoreState D → LogState → StoreState 
 with_log s l = with_volume s (record s.volume { log = l })
 
 -- a process's task goes on to a place
-abbrev pub with_place : {D : Type 0} → StoreState D → ℕ → Place → StoreState D
+abbrev pub with_place : {D : Type 0} → StoreState D → ℕ → Stage → StoreState D
 with_place s p a = record s { tasks = slice_set s.tasks p (record (task s.tasks p) { place = a }) }
 
 -- a group that a beginning opens has a number
@@ -83,22 +83,22 @@ CanBegin n (Remove i) = IsTrue (is_number n i)
 CanBegin n (Stat i) = ⊥
 
 -- the place of an operation that takes the inode of a number
-abbrev pub first_taking : ℕ → Place
-first_taking i = place.Taking (record { number = i; at = lock_at.Reference })
+abbrev pub first_taking : ℕ → Stage
+first_taking i = stage.Taking (record { number = i; at = lock_at.Reference })
 
 -- where the task of a changing operation begins
-abbrev pub first_place : Op → ℕ → Place
-first_place (Create kind) n = place.Creating (record {
+abbrev pub first_place : Op → ℕ → Stage
+first_place (Create kind) n = stage.Creating (record {
   kind = kind;
   inode_count = n;
   block = inode_start;
   slot = None;
 })
 first_place (Write i off bytes) n = first_taking i
-first_place (Read i off m) n = place.Nowhere
+first_place (Read i off m) n = stage.Nowhere
 first_place (Trunc i) n = first_taking i
 first_place (Remove i) n = first_taking i
-first_place (Stat i) n = place.Nowhere
+first_place (Stat i) n = stage.Nowhere
 
 -- what a creation answers whose search came to a number, or to none
 abbrev pub reply_of : Option ℕ → Reply
@@ -175,27 +175,27 @@ pub record HoldsForWriting (c : Buffers) (l : LogState) (p : ℕ) (m : WriteStat
   pub used : HoldsAt c p (block_of_write m.at) (used_by_write m.at)
 
 -- what is true of a process, by where its task stands
-abbrev pub Stands : Buffers → LogState → ℕ → ℕ → Option Op → Place → Type 0
-Stands c l n p o place.Nowhere = Unit {0}
-Stands c l n p o (place.Creating m) = IsSearching c l n p o m
-Stands c l n p o (place.Taking m) =
+abbrev pub Stands : Buffers → LogState → ℕ → ℕ → Option Op → Stage → Type 0
+Stands c l n p o stage.Nowhere = Unit {0}
+Stands c l n p o (stage.Creating m) = IsSearching c l n p o m
+Stands c l n p o (stage.Taking m) =
     HoldsAt c p (inode_block m.number) (slot_of m.at) × IsOpenFor l p o
-Stands c l n p o (place.Reading k m) = HoldsAt c p (block_of m.target) (slot_in m.target)
-Stands c l n p o (place.Delivering k) = Unit {0}
-Stands c l n p o (place.Truncating k m) = HoldsForFreeing c l p m
-Stands c l n p o (place.Writing k m) = HoldsForWriting c l p m
-Stands c l n p o (place.Leaving k) = Unit {0}
+Stands c l n p o (stage.Reading k m) = HoldsAt c p (block_of m.target) (slot_in m.target)
+Stands c l n p o (stage.Delivering k) = Unit {0}
+Stands c l n p o (stage.Truncating k m) = HoldsForFreeing c l p m
+Stands c l n p o (stage.Writing k m) = HoldsForWriting c l p m
+Stands c l n p o (stage.Leaving k) = Unit {0}
 
 -- what a process's task has logged, by where it stands
-abbrev pub LoggedAt : Image → LogState → ℕ → Place → Type 0
-LoggedAt cur l p place.Nowhere = Unit {0}
-LoggedAt cur l p (place.Creating m) = Unit {0}
-LoggedAt cur l p (place.Taking m) = Unit {0}
-LoggedAt cur l p (place.Reading k m) = Unit {0}
-LoggedAt cur l p (place.Delivering k) = Unit {0}
-LoggedAt cur l p (place.Truncating k m) = Unit {0}
-LoggedAt cur l p (place.Writing k m) = HasLoggedWrite cur l p m
-LoggedAt cur l p (place.Leaving k) = Unit {0}
+abbrev pub LoggedAt : Image → LogState → ℕ → Stage → Type 0
+LoggedAt cur l p stage.Nowhere = Unit {0}
+LoggedAt cur l p (stage.Creating m) = Unit {0}
+LoggedAt cur l p (stage.Taking m) = Unit {0}
+LoggedAt cur l p (stage.Reading k m) = Unit {0}
+LoggedAt cur l p (stage.Delivering k) = Unit {0}
+LoggedAt cur l p (stage.Truncating k m) = Unit {0}
+LoggedAt cur l p (stage.Writing k m) = HasLoggedWrite cur l p m
+LoggedAt cur l p (stage.Leaving k) = Unit {0}
 
 abbrev pub HaveLogged : Image → LogState → List TaskState → Type 0
 HaveLogged cur l ts = (p : ℕ) → LoggedAt cur l p (task ts p).place

@@ -16,8 +16,8 @@ use Rattle.blockmap.specs.declared.bmap_alloc.MapAt.TheVariants as map_at
 use Rattle.blockmap.specs.Next.{wanted_by}
 use Rattle.inodes.specs.declared.ilock.LockAt.{LockAt}
 use Rattle.inodes.specs.declared.ilock.LockAt.TheVariants as lock_at
-use Rattle.inodes.specs.declared.tasks.Place.{Place}
-use Rattle.inodes.specs.declared.tasks.Place.TheVariants as place
+use Rattle.inodes.specs.declared.tasks.Stage.{Stage}
+use Rattle.inodes.specs.declared.tasks.Stage.TheVariants as stage
 use Rattle.inodes.specs.declared.writei.WriteAt.{WriteAt}
 use Rattle.inodes.specs.declared.writei.WriteAt.TheVariants as write_at
 use Rattle.inodes.specs.Itrunc.{trunc_next}
@@ -61,16 +61,16 @@ cause_to_lock c t lock_at.Reference i = None
 cause_to_lock c t (lock_at.Lock k) i = cause_of_holder (holder_at t.places k)
 cause_to_lock c t (lock_at.Read k slot) i = cause_to_get c (unless_got slot (inode_block i))
 
-abbrev pub cause_at : Buffers → TableState → Place → Option Why
-cause_at c t place.Nowhere = None
-cause_at c t (place.Creating m) = cause_to_get c (unless_got m.slot m.block)
-cause_at c t (place.Taking m) = cause_to_lock c t m.at m.number
-cause_at c t (place.Reading k m) =
+abbrev pub cause_at : Buffers → TableState → Stage → Option Why
+cause_at c t stage.Nowhere = None
+cause_at c t (stage.Creating m) = cause_to_get c (unless_got m.slot m.block)
+cause_at c t (stage.Taking m) = cause_to_lock c t m.at m.number
+cause_at c t (stage.Reading k m) =
     cause_to_get c (unless_got (slot_in m.target) (block_of m.target))
-cause_at c t (place.Delivering k) = None
-cause_at c t (place.Truncating k m) = cause_to_get c (wanted_by (trunc_next m) m.used)
-cause_at c t (place.Writing k m) = cause_to_get c (wanted_by_write m.at)
-cause_at c t (place.Leaving k) = None
+cause_at c t (stage.Delivering k) = None
+cause_at c t (stage.Truncating k m) = cause_to_get c (wanted_by (trunc_next m) m.used)
+cause_at c t (stage.Writing k m) = cause_to_get c (wanted_by_write m.at)
+cause_at c t (stage.Leaving k) = None
 
 -- why the next step of process p's task has to wait
 abbrev pub sleep_cause : {D : Type 0} → StoreState D → ℕ → Option Why

@@ -13,7 +13,7 @@ use Rattle.blockmap.specs.Balloc.{AllocState}
 use Rattle.blockmap.specs.declared.balloc.AllocAt.TheVariants as alloc_at
 use Rattle.blockmap.specs.declared.bmap_alloc.MapAt.{MapAt}
 use Rattle.blockmap.specs.declared.bmap_alloc.MapAt.TheVariants as map_at
-use Rattle.inodes.specs.declared.tasks.Place.TheVariants as place
+use Rattle.inodes.specs.declared.tasks.Stage.TheVariants as stage
 use Rattle.inodes.specs.declared.writei.Extent.{Extent}
 use Rattle.inodes.specs.declared.writei.WriteAt.{WriteAt}
 use Rattle.inodes.specs.declared.writei.WriteAt.TheVariants as write_at
@@ -28,7 +28,7 @@ use Rattle.inodes.specs.Writing.{IsWriting, HasLoggedWrite, most_beside}
 -- answers that so many bytes were written
 pub record IsWriteRun {D N : Type 0} (disk : Ghosts D N) (p k : ℕ) (op : Op) (m : WriteState)
     (s : StoreState D) (steps : List (StepMade D)) (done : ℕ) : Type 0 where
-  pub begins : (task s.tasks p).place ≡ place.Writing k m
+  pub begins : (task s.tasks p).place ≡ stage.Writing k m
   pub runs : IsRun disk p op s steps
   pub ends : EndsWith steps (progress.Decided (Wrote done))
 
@@ -61,7 +61,7 @@ pub record SeesFull {D : Type 0} (image : D → Image) (p : ℕ) (e : Extent) (s
     : Type 0 where
   pub writing : WriteState
   pub entry : ℕ
-  pub stands : (task step.before.tasks p).place ≡ place.Writing entry writing
+  pub stands : (task step.before.tasks p).place ≡ stage.Writing entry writing
   pub looks : LooksAtBitmap e writing.at
   pub full : IsFull (current_of image step.before.volume) e
 

@@ -2,7 +2,7 @@
 //! system": "Code: Inodes" and "Code: Inode content").
 //!
 //! A `Store` is a volume with the table of inodes in memory and a task for each process. A task is
-//! driven step by step, in any order with those of others, and says where it stands by its `Place`.
+//! driven step by step, in any order with those of others, and says where it stands by its `Stage`.
 //! A creation searches the inode blocks for a free number (`Ialloc`), and takes no lock of an inode.
 //! Any other operation takes its inode first (`Ilock`): a reference in the table, so that the inode
 //! keeps its place, then its sleep lock, and then it reads the inode where nobody has yet. That is
@@ -36,5 +36,5 @@ pub use iupdate::Iupdate;
 pub use readi::Readi;
 pub use store::Store;
 pub use table::{InMemory, Inodes};
-pub use tasks::{Place, Tasks};
+pub use tasks::{Stage, Tasks};
 pub use writei::{Extent, WriteAt, Writei};

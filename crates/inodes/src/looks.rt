@@ -12,9 +12,9 @@ ghost use Rattle.inodes.specs.Steps.{Steps};
 ghost use Rattle.inodes.specs.Table.{copy_at};
 ghost use Rattle.inodes.specs.Tasks.{task};
 ghost use Rattle.inodes.specs.Turning.{IsReadable, place_of_read, place_of_write, place_when_taken, reply_when_taken, write_refusal};
-ghost use Rattle.inodes.specs.declared.tasks.Place.TheVariants as stands_at;
+ghost use Rattle.inodes.specs.declared.tasks.Stage.TheVariants as stands_at;
 
-use crate::{Extent, Ilock, Inodes, Itrunc, Place, Progress, Readi, Store, Writei};
+use crate::{Extent, Ilock, Inodes, Itrunc, Stage, Progress, Readi, Store, Writei};
 use blocks::Disk;
 use blockmap::Driven;
 use layout::{bitmap_block, greatest_size};
@@ -35,7 +35,7 @@ impl<D: Disk> Store<D> {
         ensures files { KeepsFiles D.image self.old self.new }
     {
         let lock = Ilock::new(asked(op));
-        self.tasks.begin(pid, op, Place::Taking(lock), room);
+        self.tasks.begin(pid, op, Stage::Taking(lock), room);
     }
 
     // The next step of taking the inode that an operation asks for.
@@ -84,7 +84,7 @@ impl<D: Disk> Store<D> {
             Progress::Moved => TaskProgress::Moved,
             Progress::Sleeping(why) => TaskProgress::Sleeping(why),
             Progress::Over(()) => {
-                self.tasks.go(pid, Place::Delivering { place });
+                self.tasks.go(pid, Stage::Delivering { place });
                 TaskProgress::Moved
             }
             Progress::Fault(fault) => TaskProgress::Fault(fault),
@@ -124,7 +124,7 @@ impl<D: Disk> Store<D> {
             Progress::Sleeping(why) => TaskProgress::Sleeping(why),
             Progress::Over(()) => {
                 self.inodes.renew(place, self.tasks.left(pid));
-                self.tasks.go(pid, Place::Leaving { place });
+                self.tasks.go(pid, Stage::Leaving { place });
                 TaskProgress::Moved
             }
             Progress::Fault(fault) => TaskProgress::Fault(fault),
@@ -155,7 +155,7 @@ impl<D: Disk> Store<D> {
             Progress::Over(()) => {
                 let (inode, done) = self.tasks.written(pid);
                 self.inodes.renew(place, Some(inode));
-                self.tasks.go(pid, Place::Leaving { place });
+                self.tasks.go(pid, Stage::Leaving { place });
                 TaskProgress::Decided(Reply::Wrote(done))
             }
             Progress::Fault(fault) => TaskProgress::Fault(fault),
@@ -254,13 +254,13 @@ fn extent_of(form: Form, inode_count: u32, size: u32) -> Extent
 
 // Where it goes then, with the inode at that place of the table, over an image that takes its
 // blocks there.
-fn place_when_taken(inode: &Option<Dinode>, place: usize, op: &Op, extent: Extent) -> Place
+fn place_when_taken(inode: &Option<Dinode>, place: usize, op: &Op, extent: Extent) -> Stage
     requires inode { IsReadable extent.form inode.now }
     requires few { length (bytes_of op.now) ≤ transfer_limit }
     ensures { result ≡ place_when_taken extent inode.now place op.now }
 {
     let Some(inode) = inode else {
-        return Place::Leaving { place };
+        return Stage::Leaving { place };
     };
     let form = extent.form;
     let bitmap = extent.bitmap;
@@ -270,16 +270,16 @@ fn place_when_taken(inode: &Option<Dinode>, place: usize, op: &Op, extent: Exten
         }
         Op::Trunc(number) => {
             let trunc = Driven::new(Itrunc::new(*number, inode, form, false, bitmap));
-            Place::Truncating { place, trunc }
+            Stage::Truncating { place, trunc }
         }
         Op::Remove(number) => {
             let trunc = Driven::new(Itrunc::new(*number, inode, form, true, bitmap));
-            Place::Truncating { place, trunc }
+            Stage::Truncating { place, trunc }
         }
         Op::Write(number, offset, bytes) => {
             place_of_write(place, *number, inode, *offset, bytes.len(), extent)
         }
-        Op::Create(_) | Op::Stat(_) => Place::Leaving { place },
+        Op::Create(_) | Op::Stat(_) => Stage::Leaving { place },
     }
 }
 
@@ -291,24 +291,24 @@ fn place_of_write(
     offset: u32,
     count: usize,
     extent: Extent,
-) -> Place
+) -> Stage
     requires addrs { length inode.now.addrs ≡ 13 }
     requires few { count ≤ transfer_limit }
     ensures { result ≡ place_of_write place number inode.now offset count extent }
 {
     if write_refusal(extent.form, inode, offset, count).is_some() {
-        return Place::Leaving { place };
+        return Stage::Leaving { place };
     }
     let writing = Writei::new(number, inode, offset, count as u32, extent);
-    Place::Writing { place, writing }
+    Stage::Writing { place, writing }
 }
 
 // A reading begins with its bytes, or has all of them.
-fn place_of_read(place: usize, reading: Option<Readi>) -> Place
+fn place_of_read(place: usize, reading: Option<Readi>) -> Stage
     ensures { result ≡ place_of_read place reading }
 {
     match reading {
-        Some(reading) => Place::Reading { place, reading },
-        None => Place::Delivering { place },
+        Some(reading) => Stage::Reading { place, reading },
+        None => Stage::Delivering { place },
     }
 }

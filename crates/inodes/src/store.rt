@@ -14,9 +14,9 @@ ghost use Rattle.inodes.specs.Steps.{Steps, Commits};
 ghost use Rattle.inodes.specs.Places.{is_over};
 ghost use Rattle.inodes.specs.Table.{new_table};
 ghost use Rattle.inodes.specs.Waiting.{NobodyWaitsForEver};
-ghost use Rattle.inodes.specs.declared.tasks.Place.TheVariants as place;
+ghost use Rattle.inodes.specs.declared.tasks.Stage.TheVariants as stage;
 
-use crate::{Ialloc, Ilock, Inodes, Place, Progress, Tasks};
+use crate::{Ialloc, Ilock, Inodes, Stage, Progress, Tasks};
 use blocks::Disk;
 use layout::{Form, Super};
 use model::types::{Op, Reply, TaskProgress};
@@ -107,14 +107,14 @@ impl<D: Disk> Store<D> {
         ensures { result ≡ is_over (task self.now.tasks pid).place }
     {
         match self.tasks.place(pid) {
-            Place::Nowhere => true,
-            Place::Creating(_)
-            | Place::Taking(_)
-            | Place::Reading { .. }
-            | Place::Delivering { .. }
-            | Place::Truncating { .. }
-            | Place::Writing { .. }
-            | Place::Leaving { .. } => false,
+            Stage::Nowhere => true,
+            Stage::Creating(_)
+            | Stage::Taking(_)
+            | Stage::Reading { .. }
+            | Stage::Delivering { .. }
+            | Stage::Truncating { .. }
+            | Stage::Writing { .. }
+            | Stage::Leaving { .. } => false,
         }
     }
 
@@ -131,7 +131,7 @@ impl<D: Disk> Store<D> {
     pub fn begin(&mut self, pid: u32, op: &Op) -> u64
         requires fault { self.old.volume.fault ≡ None }
         requires pid { pid < length self.old.tasks }
-        requires idle { (task self.old.tasks pid).place ≡ place.Nowhere }
+        requires idle { (task self.old.tasks pid).place ≡ stage.Nowhere }
         requires op { CanBegin self.old.table.inode_count op.now }
         requires may { MayBegin self.old.volume.log pid }
         ensures group { result ≡ (begun self.old.volume.log pid).opened }
@@ -148,7 +148,7 @@ impl<D: Disk> Store<D> {
     pub fn end(&mut self, pid: u32) -> Ended
         requires fault { self.old.volume.fault ≡ None }
         requires pid { pid < length self.old.tasks }
-        requires idle { (task self.old.tasks pid).place ≡ place.Nowhere }
+        requires idle { (task self.old.tasks pid).place ≡ stage.Nowhere }
         requires open { IsSome (used_by self.old.volume.log pid) }
         ensures answer { result ≡ end_answer self.old.volume.log }
         ensures store { self.new ≡ with_log self.old (ended self.old.volume.log pid) }
@@ -165,32 +165,32 @@ impl<D: Disk> Store<D> {
         ensures step { Steps D.Disk self.old pid op.now result self.new }
     {
         match self.tasks.place(pid) {
-            Place::Nowhere => TaskProgress::Over,
-            Place::Creating(search) => {
+            Stage::Nowhere => TaskProgress::Over,
+            Stage::Creating(search) => {
                 let was = Snapshot::of(search);
                 self.search(pid, was)
             }
-            Place::Taking(lock) => {
+            Stage::Taking(lock) => {
                 let lock = *lock;
                 self.take(pid, op, lock)
             }
-            Place::Reading { place, reading } => {
+            Stage::Reading { place, reading } => {
                 let (place, was) = (*place, Snapshot::of(reading));
                 self.read(pid, place, was)
             }
-            Place::Delivering { place } => {
+            Stage::Delivering { place } => {
                 let place = *place;
                 self.deliver(pid, place)
             }
-            Place::Truncating { place, trunc } => {
+            Stage::Truncating { place, trunc } => {
                 let (place, was) = (*place, Snapshot::of(trunc));
                 self.truncate(pid, place, was)
             }
-            Place::Writing { place, writing } => {
+            Stage::Writing { place, writing } => {
                 let (place, was) = (*place, Snapshot::of(writing));
                 self.write(pid, op, place, was)
             }
-            Place::Leaving { place } => {
+            Stage::Leaving { place } => {
                 let place = *place;
                 self.leave(pid, place)
             }
@@ -201,7 +201,7 @@ impl<D: Disk> Store<D> {
     fn search(&mut self, pid: u32, search: Snapshot<Ialloc>) -> TaskProgress
         requires fault { self.old.volume.fault ≡ None }
         requires pid { pid < length self.old.tasks }
-        requires at { (task self.old.tasks pid).place ≡ place.Creating search.value }
+        requires at { (task self.old.tasks pid).place ≡ stage.Creating search.value }
         ensures step { (op : Op) → (task self.old.tasks pid).op ≡ Some op
             → Steps D.Disk self.old pid op result self.new }
     {
@@ -211,7 +211,7 @@ impl<D: Disk> Store<D> {
             Progress::Moved => TaskProgress::Moved,
             Progress::Sleeping(why) => TaskProgress::Sleeping(why),
             Progress::Over(made) => {
-                self.tasks.go(pid, Place::Nowhere);
+                self.tasks.go(pid, Stage::Nowhere);
                 TaskProgress::Turned(Some(reply_of(made)))
             }
             Progress::Fault(fault) => TaskProgress::Fault(fault),
@@ -230,15 +230,15 @@ impl<D: Disk> Store<D> {
 }
 
 // Where the task of an operation begins.
-fn first_place(op: &Op, inode_count: u32) -> Place
+fn first_place(op: &Op, inode_count: u32) -> Stage
     ensures { result ≡ first_place op.now inode_count }
 {
     match op {
-        Op::Create(kind) => Place::Creating(Ialloc::new(*kind, inode_count)),
+        Op::Create(kind) => Stage::Creating(Ialloc::new(*kind, inode_count)),
         Op::Write(number, ..) | Op::Trunc(number) | Op::Remove(number) => {
-            Place::Taking(Ilock::new(*number))
+            Stage::Taking(Ilock::new(*number))
         }
-        Op::Read(..) | Op::Stat(_) => Place::Nowhere,
+        Op::Read(..) | Op::Stat(_) => Stage::Nowhere,
     }
 }
 

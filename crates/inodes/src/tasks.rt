@@ -2,7 +2,7 @@
 ghost use Rattle.std.specs.Prelude.{◌≡◌, ◌<◌, length, replicate, slice_set, Some, None, IsSome, IfSome, IfOk};
 ghost use Rattle.wal.specs.Machine.{HasRoom, used_by};
 ghost use Rattle.blockmap.specs.Driver.{MayDrive};
-ghost use Rattle.inodes.specs.declared.tasks.Place.TheVariants as place;
+ghost use Rattle.inodes.specs.declared.tasks.Stage.TheVariants as stage;
 ghost use Rattle.inodes.specs.Ialloc.{MayStep};
 ghost use Rattle.inodes.specs.InPlace.{ReadsInPlace, SearchesInPlace, TruncatesInPlace, WritesInPlace, freeing_at, writing_at};
 ghost use Rattle.inodes.specs.Itrunc.{inode_left, itrunc};
@@ -22,7 +22,7 @@ use wal::Volume;
 
 /// Where a process's task stands.
 #[derive(Clone, Copy)]
-pub enum Place {
+pub enum Stage {
     /// It has none, or it is over.
     Nowhere,
     /// A creation looks for a free number.
@@ -47,7 +47,7 @@ pub enum Place {
 #[derive(Drop)]
 struct Task {
     op: Option<Snapshot<Op>>,
-    place: Place,
+    place: Stage,
     gathered: Option<Gathered>,
 }
 
@@ -92,7 +92,7 @@ impl Tasks {
         for _process in 0..processes {
             tasks.push(Task {
                 op: None,
-                place: Place::Nowhere,
+                place: Stage::Nowhere,
                 gathered: None,
             })?;
         }
@@ -107,7 +107,7 @@ impl Tasks {
     }
 
     /// Where a process's task stands.
-    pub fn place(&self, pid: u32) -> &Place
+    pub fn place(&self, pid: u32) -> &Stage
         requires { pid < length self.now }
         ensures { result.now ≡ (task self.now pid).place }
     {
@@ -123,7 +123,7 @@ impl Tasks {
         _was: Snapshot<Ialloc>,
     ) -> Progress<Option<u32>>
         requires inside { pid < length self.old }
-        requires at { (task self.old pid).place ≡ place.Creating _was.value }
+        requires at { (task self.old pid).place ≡ stage.Creating _was.value }
         requires fault { volume.old.fault ≡ None }
         requires pid { pid < 32 }
         requires room { HasRoom (used_by volume.old.log pid) }
@@ -131,7 +131,7 @@ impl Tasks {
         ensures { SearchesInPlace D.Disk volume.old self.old pid _was.value result
             self.new volume.new }
     {
-        let Place::Creating(search) = &mut self.tasks[pid as usize].place else {
+        let Stage::Creating(search) = &mut self.tasks[pid as usize].place else {
             unreachable!();
         };
         search.step(volume, pid)
@@ -147,14 +147,14 @@ impl Tasks {
         _was: Snapshot<Readi>,
     ) -> Progress<()>
         requires inside { pid < length self.old }
-        requires at { (task self.old pid).place ≡ place.Reading _place _was.value }
+        requires at { (task self.old pid).place ≡ stage.Reading _place _was.value }
         requires fault { volume.old.fault ≡ None }
         requires ready { IsReading D.image volume.old pid _was.value }
         requires room { HasRoomLeft _was.value into.old }
         ensures { ReadsInPlace D.Disk volume.old self.old pid _place _was.value into.old result
             self.new volume.new into.new }
     {
-        let Place::Reading { reading, .. } = &mut self.tasks[pid as usize].place else {
+        let Stage::Reading { reading, .. } = &mut self.tasks[pid as usize].place else {
             unreachable!();
         };
         reading.step(volume, pid, into)
@@ -169,7 +169,7 @@ impl Tasks {
         _was: Snapshot<Driven<Itrunc>>,
     ) -> Progress<()>
         requires inside { pid < length self.old }
-        requires at { (task self.old pid).place ≡ place.Truncating _place _was.value }
+        requires at { (task self.old pid).place ≡ stage.Truncating _place _was.value }
         requires fault { volume.old.fault ≡ None }
         requires pid { pid < 32 }
         requires room { HasRoom (used_by volume.old.log pid) }
@@ -177,7 +177,7 @@ impl Tasks {
         ensures { TruncatesInPlace D.Disk volume.old self.old pid _place _was.value result
             self.new volume.new }
     {
-        let Place::Truncating { trunc, .. } = &mut self.tasks[pid as usize].place else {
+        let Stage::Truncating { trunc, .. } = &mut self.tasks[pid as usize].place else {
             unreachable!();
         };
         trunc.step(volume, pid)
@@ -190,7 +190,7 @@ impl Tasks {
         ensures { IfSome (freeing_at (task self.now pid).place)
             (λ trunc. result ≡ inode_left trunc.machine) }
     {
-        let Place::Truncating { trunc, .. } = &self.tasks[pid as usize].place else {
+        let Stage::Truncating { trunc, .. } = &self.tasks[pid as usize].place else {
             unreachable!();
         };
         trunc.machine.left()
@@ -206,7 +206,7 @@ impl Tasks {
         _was: Snapshot<Writei>,
     ) -> Progress<()>
         requires inside { pid < length self.old }
-        requires at { (task self.old pid).place ≡ place.Writing _place _was.value }
+        requires at { (task self.old pid).place ≡ stage.Writing _place _was.value }
         requires fault { volume.old.fault ≡ None }
         requires pid { pid < 32 }
         requires room { HasRoom (used_by volume.old.log pid) }
@@ -215,7 +215,7 @@ impl Tasks {
         ensures { WritesInPlace D.Disk volume.old self.old pid _place _was.value bytes.now result
             self.new volume.new }
     {
-        let Place::Writing { writing, .. } = &mut self.tasks[pid as usize].place else {
+        let Stage::Writing { writing, .. } = &mut self.tasks[pid as usize].place else {
             unreachable!();
         };
         writing.step(volume, pid, bytes)
@@ -228,7 +228,7 @@ impl Tasks {
         ensures { IfSome (writing_at (task self.now pid).place)
             (λ writing. (result.0 ≡ writing.inode) × (result.1 ≡ writing.done)) }
     {
-        let Place::Writing { writing, .. } = &self.tasks[pid as usize].place else {
+        let Stage::Writing { writing, .. } = &self.tasks[pid as usize].place else {
             unreachable!();
         };
         (writing.inode(), writing.done())
@@ -236,7 +236,7 @@ impl Tasks {
 
     /// A process begins the task of this operation, at that place, with room for the bytes that it
     /// asks for.
-    pub fn begin(&mut self, pid: u32, op: &Op, place: Place, room: Option<Gathered>)
+    pub fn begin(&mut self, pid: u32, op: &Op, place: Stage, room: Option<Gathered>)
         requires { pid < length self.old }
         ensures { self.new ≡ slice_set self.old pid
             (record { op = Some op.now; place = place; gathered = room }) }
@@ -249,7 +249,7 @@ impl Tasks {
     }
 
     /// Its task goes on to that place.
-    pub fn go(&mut self, pid: u32, place: Place)
+    pub fn go(&mut self, pid: u32, place: Stage)
         requires { pid < length self.old }
         ensures { self.new ≡ slice_set self.old pid (record (task self.old pid) { place = place }) }
     {
@@ -260,11 +260,11 @@ impl Tasks {
     pub(crate) fn go_taking(&mut self, pid: u32, lock: Ilock)
         requires { pid < length self.old }
         ensures { self.new ≡ slice_set self.old pid
-            (record (task self.old pid) { place = place.Taking lock }) }
+            (record (task self.old pid) { place = stage.Taking lock }) }
     {
         match &mut self.tasks[pid as usize].place {
-            Place::Taking(at) => *at = lock,
-            at => *at = Place::Taking(lock),
+            Stage::Taking(at) => *at = lock,
+            at => *at = Stage::Taking(lock),
         }
     }
 
@@ -272,10 +272,10 @@ impl Tasks {
     pub fn finish(&mut self, pid: u32)
         requires { pid < length self.old }
         ensures { self.new ≡ slice_set self.old pid
-            (record (task self.old pid) { place = place.Nowhere; gathered = None }) }
+            (record (task self.old pid) { place = stage.Nowhere; gathered = None }) }
     {
         let task = &mut self.tasks[pid as usize];
-        task.place = Place::Nowhere;
+        task.place = Stage::Nowhere;
         task.gathered = None;
     }
 

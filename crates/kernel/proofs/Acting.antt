@@ -36,8 +36,8 @@ use Rattle.inodes.specs.Places.{block_at_place, is_over}
 use Rattle.inodes.specs.Steps.{Steps, Commits}
 use Rattle.inodes.specs.Store.{StoreState}
 use Rattle.inodes.specs.Tasks.{task}
-use Rattle.history.specs.declared.types.At.{At}
-use Rattle.history.specs.declared.types.At.TheVariants as at
+use Rattle.history.specs.declared.types.Phase.{Phase}
+use Rattle.history.specs.declared.types.Phase.TheVariants as at
 use Rattle.history.specs.Alone.{is_committing_at}
 use Rattle.history.specs.Bound.{is_busy_at}
 use Rattle.history.specs.Journal.{entry_in}
@@ -90,7 +90,7 @@ module _ {D N : Type 0} (disk : disk_trait.Ghosts D N) (s t : StoreState D) wher
   }
 
   -- the disk isn't used
-  pub rests : (a : At) (p : ℕ) (r : Step) → is_committing_at a ≡ false → r ≢ step.Halted → s.volume.fault ≡ None → t.volume.fault ≡ s.volume.fault → t.volume.device ≡ s.volume.device → UsesDisk disk a p r s t
+  pub rests : (a : Phase) (p : ℕ) (r : Step) → is_committing_at a ≡ false → r ≢ step.Halted → s.volume.fault ≡ None → t.volume.fault ≡ s.volume.fault → t.volume.device ≡ s.volume.device → UsesDisk disk a p r s t
   rests a p r quiet runs well same is =
       let tells = tells_none (FailsSo a s p) r runs (same ∙ well) (ap disk.fault_count is) in
       record {
@@ -107,7 +107,7 @@ module _ {D N : Type 0} (disk : disk_trait.Ghosts D N) (s t : StoreState D) wher
       }
 
   -- a step of a task reads a block at most, whatever the kernel answers to what it comes to
-  pub reads : (a : At) (p : ℕ) (op : Op) (r : TaskProgress) (answer : TaskProgress → Step) → is_committing_at a ≡ false → block_at_step a s p ≡ block_at_place (task s.tasks p).place
+  pub reads : (a : Phase) (p : ℕ) (op : Op) (r : TaskProgress) (answer : TaskProgress → Step) → is_committing_at a ≡ false → block_at_step a s p ≡ block_at_place (task s.tasks p).place
       → ((fault : DiskFault) → answer (progress.Fault fault) ≡ step.Halted) → ((q : TaskProgress) → fault_of_task q ≡ None → answer q ≢ step.Halted) → Steps disk s p op r t → UsesDisk disk a p (answer r) s t
   reads a p op r answer quiet here halts runs steps =
       let tells = by_answer r steps.reads.fault steps.reads.faults steps.goes in
@@ -259,14 +259,14 @@ same_unasked herald h = record { told = refl; same = inl refl }
 
 module _ {D N I M H : Type 0} (disk : disk_trait.Ghosts D N) (intake : intake_trait.Ghosts I M) (herald : herald_trait.Ghosts H) (p : ℕ) (k m : State D I H) where
   -- what a process makes of store and processes where it stands, while the disk has not failed
-  pub acts_at : (r : Step) (a : At) → k.store.volume.fault ≡ None → (process k.world p).at ≡ a
+  pub acts_at : (r : Step) (a : Phase) → k.store.volume.fault ≡ None → (process k.world p).at ≡ a
       → NextAt disk a k.store k.world p (intake.side k.intake p).ahead (intake.side m.intake p) (herald.told m.herald) r m.store m.world → UsesDisk disk a p r k.store m.store → m.opening ≡ k.opening
       → KeepsOthers intake p k.intake m.intake → (r ≢ step.Moved → r ≢ step.Answered → IsPrefix (intake.side k.intake p).ahead (intake.side m.intake p).ahead)
       → (is_busy_at a ≡ true → (intake.side m.intake p).ahead ≡ (intake.side k.intake p).ahead) → (may_begin k p ≡ true → herald.asks k.herald m.herald) → (may_begin k p ≡ false → IsUnasked herald k.herald m.herald) → Acts disk intake herald p r k m
   acts_at r a well stands next device opening sides waits ahead asked unasked = record {
     next = subst (λ (o : Option DeviceFault). NextIf disk o k.store k.world p (intake.side k.intake p).ahead (intake.side m.intake p) (herald.told m.herald) r m.store m.world) (sym well)
-        (subst (λ (b : At). NextAt disk b k.store k.world p (intake.side k.intake p).ahead (intake.side m.intake p) (herald.told m.herald) r m.store m.world) (sym stands) next);
-    device = subst (λ (b : At). UsesDisk disk b p r k.store m.store) (sym stands) device;
+        (subst (λ (b : Phase). NextAt disk b k.store k.world p (intake.side k.intake p).ahead (intake.side m.intake p) (herald.told m.herald) r m.store m.world) (sym stands) next);
+    device = subst (λ (b : Phase). UsesDisk disk b p r k.store m.store) (sym stands) device;
     opening = opening;
     ports = record {
       asked = asked;
@@ -278,7 +278,7 @@ module _ {D N I M H : Type 0} (disk : disk_trait.Ghosts D N) (intake : intake_tr
   }
 
   -- who is under way, and leaves what waits
-  pub acts_busy : (r : Step) (a : At) → k.store.volume.fault ≡ None → (process k.world p).at ≡ a
+  pub acts_busy : (r : Step) (a : Phase) → k.store.volume.fault ≡ None → (process k.world p).at ≡ a
       → NextAt disk a k.store k.world p (intake.side k.intake p).ahead (intake.side m.intake p) (herald.told m.herald) r m.store m.world → UsesDisk disk a p r k.store m.store → m.opening ≡ k.opening
       → KeepsOthers intake p k.intake m.intake → (intake.side m.intake p).ahead ≡ (intake.side k.intake p).ahead → is_busy_at a ≡ true → IsUnasked herald k.herald m.herald → Acts disk intake herald p r k m
   acts_busy r a well stands next device opening sides same busy unasked =
@@ -287,11 +287,11 @@ module _ {D N I M H : Type 0} (disk : disk_trait.Ghosts D N) (intake : intake_tr
 
 module _ {D N I M H : Type 0} (disk : disk_trait.Ghosts D N) (intake : intake_trait.Ghosts I M) (herald : herald_trait.Ghosts H) (p : ℕ) (s t : StoreState D) (d : D) (i : I) (h : H) (w z : World) (well : s.volume.fault ≡ None) where
   -- a step of a task before its turn
-  pub acts_worked : (group : ℕ) (op : Op) (r : TaskProgress) → (process w p).at ≡ at.Before group op → Steps disk s p op r t → z ≡ world_after r (is_over (task t.tasks p).place) w p
+  pub acts_worked : (group : ℕ) (op : Op) (r : TaskProgress) → (process w p).at ≡ at.BeforeTurn group op → Steps disk s p op r t → z ≡ world_after r (is_over (task t.tasks p).place) w p
       → Acts disk intake herald p (step_of r) (record { store = s; opening = d; intake = i; herald = h; world = w }) (record { store = t; opening = d; intake = i; herald = h; world = z })
   acts_worked group op r stands steps made =
-      acts_busy disk intake herald p (record { store = s; opening = d; intake = i; herald = h; world = w }) (record { store = t; opening = d; intake = i; herald = h; world = z }) (step_of r) (at.Before group op) well stands
-      (record { progress = r; steps = steps; answer = refl; world = made }) (reads disk s t (at.Before group op) p op r step_of refl refl (λ fault. refl) runs steps) refl (sides_same intake p i) refl refl (same_unasked herald h)
+      acts_busy disk intake herald p (record { store = s; opening = d; intake = i; herald = h; world = w }) (record { store = t; opening = d; intake = i; herald = h; world = z }) (step_of r) (at.BeforeTurn group op) well stands
+      (record { progress = r; steps = steps; answer = refl; world = made }) (reads disk s t (at.BeforeTurn group op) p op r step_of refl refl (λ fault. refl) runs steps) refl (sides_same intake p i) refl refl (same_unasked herald h)
     where
       runs : (q : TaskProgress) → fault_of_task q ≡ None → step_of q ≢ step.Halted
       runs progress.Moved none e = cc e
@@ -302,11 +302,11 @@ module _ {D N I M H : Type 0} (disk : disk_trait.Ghosts D N) (intake : intake_tr
       runs (progress.Fault fault) none e = cc none
 
   -- and behind it, after which the intake is j
-  pub acts_finished : (group k : ℕ) (j : I) (r : TaskProgress) → (process w p).at ≡ at.Behind group k → Steps disk s p (entry_in w.journal.list k).op r t → z ≡ world_behind group r w p → KeepsOthers intake p i j → (intake.side j p).ahead ≡ (intake.side i p).ahead
+  pub acts_finished : (group k : ℕ) (j : I) (r : TaskProgress) → (process w p).at ≡ at.AfterTurn group k → Steps disk s p (entry_in w.journal.list k).op r t → z ≡ world_behind group r w p → KeepsOthers intake p i j → (intake.side j p).ahead ≡ (intake.side i p).ahead
       → Acts disk intake herald p (step_behind group r) (record { store = s; opening = d; intake = i; herald = h; world = w }) (record { store = t; opening = d; intake = j; herald = h; world = z })
   acts_finished group k j r stands steps made sides ahead =
-      acts_busy disk intake herald p (record { store = s; opening = d; intake = i; herald = h; world = w }) (record { store = t; opening = d; intake = j; herald = h; world = z }) (step_behind group r) (at.Behind group k) well stands
-      (record { progress = r; steps = steps; answer = refl; world = made }) (reads disk s t (at.Behind group k) p (entry_in w.journal.list k).op r (step_behind group) refl refl (λ fault. refl) runs steps) refl sides ahead refl (same_unasked herald h)
+      acts_busy disk intake herald p (record { store = s; opening = d; intake = i; herald = h; world = w }) (record { store = t; opening = d; intake = j; herald = h; world = z }) (step_behind group r) (at.AfterTurn group k) well stands
+      (record { progress = r; steps = steps; answer = refl; world = made }) (reads disk s t (at.AfterTurn group k) p (entry_in w.journal.list k).op r (step_behind group) refl refl (λ fault. refl) runs steps) refl sides ahead refl (same_unasked herald h)
     where
       by_group : (g : ℕ) → step_of_last g ≢ step.Halted
       by_group zero e = cc e

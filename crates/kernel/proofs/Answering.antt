@@ -12,8 +12,8 @@ use Rattle.model.specs.Layout.{form_of, inode_count_of}
 use Rattle.inodes.specs.Lemmas.Faults.{where_none}
 use Rattle.inodes.specs.Store.{StoreState}
 use Rattle.inodes.specs.Tasks.{task}
-use Rattle.history.specs.declared.types.At.{At}
-use Rattle.history.specs.declared.types.At.TheVariants as at
+use Rattle.history.specs.declared.types.Phase.{Phase}
+use Rattle.history.specs.declared.types.Phase.TheVariants as at
 use Rattle.history.specs.Bound.{is_busy_at}
 use Rattle.history.specs.Journal.{IsItsRoom, entry_in}
 use Rattle.history.specs.Lemmas.Answers.{CanAnswer, answer_at_end, answer_at_commit, answer_there, entry_inside}
@@ -29,7 +29,7 @@ use Rattle.kernel.specs.View.{view_of}
 pub record IsThere {D : Type 0} (s : StoreState D) (w : World) (p : ℕ) : Type 0 where
   pub group : ℕ
   pub k : ℕ
-  pub stands : (process w p).at ≡ at.Behind group k
+  pub stands : (process w p).at ≡ at.AfterTurn group k
   pub entry : Entry
   pub has : HasEntry w.journal.list p k group entry
   pub its : IsBehind (task s.tasks p) entry
@@ -59,15 +59,15 @@ module _ {D N : Type 0} (disk : Ghosts D N) (opening : D) (s : StoreState D) (w 
   pub is_there : is_behind (process w p).at ≡ true → IsThere s w p
   is_there behind =
       let there = behind_there (process w p).at behind in
-      let stood : StandsAt (inode_count_of (disk.image opening)) (view_of disk.image s) w.journal.list p (at.Behind there.0 there.1)
-      = subst (λ (a : At). StandsAt (inode_count_of (disk.image opening)) (view_of disk.image s) w.journal.list p a) there.2 (known_there.facts.stands p) in
-      let own : TaskStands w.journal.list (task s.tasks p) (at.Behind there.0 there.1) = subst (λ (a : At). TaskStands w.journal.list (task s.tasks p) a) there.2 (right.paired.stand p).stands in
+      let stood : StandsAt (inode_count_of (disk.image opening)) (view_of disk.image s) w.journal.list p (at.AfterTurn there.0 there.1)
+      = subst (λ (a : Phase). StandsAt (inode_count_of (disk.image opening)) (view_of disk.image s) w.journal.list p a) there.2 (known_there.facts.stands p) in
+      let own : TaskStands w.journal.list (task s.tasks p) (at.AfterTurn there.0 there.1) = subst (λ (a : Phase). TaskStands w.journal.list (task s.tasks p) a) there.2 (right.paired.stand p).stands in
       record { group = there.0; k = there.1; stands = there.2; entry = stood.1.0; has = stood.1.1; its = own stood.1.0 stood.1.1.at }
 
   module _ (i : IsThere s w p) where
     -- the operation that is looked up is its task's
     pub op_is : (op : Op) → Some op ≡ operation_at w (entry_place (process w p).at) → op ≡ (entry_in w.journal.list i.k).op
-    op_is op is = let both : Some op ≡ Some (entry_in w.journal.list i.k).op = is ∙ ap (λ (a : At). operation_at w (entry_place a)) i.stands in cc both
+    op_is op is = let both : Some op ≡ Some (entry_in w.journal.list i.k).op = is ∙ ap (λ (a : Phase). operation_at w (entry_place a)) i.stands in cc both
 
     pub mine_is : (op : Op) → Some op ≡ operation_at w (entry_place (process w p).at) → (task s.tasks p).op ≡ Some op
     mine_is op is = i.its.same ∙ ap (λ (e : Entry). Some e.op) (sym (entry_inside w.journal.list i.k i.entry i.has.at)) ∙ ap (λ (o : Op). Some o) (sym (op_is op is))
@@ -79,7 +79,7 @@ module _ {D N : Type 0} (disk : Ghosts D N) (opening : D) (s : StoreState D) (w 
     pub answer_over : IsSome i.entry.reply → CanAnswer (last_answer w (process w p).at) (process w p).room
     answer_over some =
         let f = known_there.facts.follows in
-        subst (λ (a : At). CanAnswer (last_answer w a) (process w p).room) (sym i.stands)
+        subst (λ (a : Phase). CanAnswer (last_answer w a) (process w p).room) (sym i.stands)
         (answer_there (form_of (disk.image opening)) (files_of (disk.image opening)) f.files w.journal.list i.k i.entry (process w p).room f.run i.has.at some its_room)
 
     -- and who was told it
@@ -87,7 +87,7 @@ module _ {D N : Type 0} (disk : Ghosts D N) (opening : D) (s : StoreState D) (w 
         → CanAnswer (last_answer (decided w p reply) (process (decided w p reply) p).at) (process (decided w p reply) p).room
     answer_told reply t still now =
         let y = told_at (Some i.k) w reply in
-        let same : decided w p reply ≡ y = ap (λ (a : At). told_at (entry_place a) w reply) i.stands in
+        let same : decided w p reply ≡ y = ap (λ (a : Phase). told_at (entry_place a) w reply) i.stands in
         let facts : HasFacts disk.image (disk.image opening) t (answered (decided w p reply) p) = where_none t.volume.fault still now.facts in
         let f = facts.facts.follows in
         let run : replay (form_of (disk.image opening)) (files_of (disk.image opening)) (Rattle.model.specs.Journal.answered y.journal.list) ≡ Some f.files
@@ -95,5 +95,5 @@ module _ {D N : Type 0} (disk : Ghosts D N) (opening : D) (s : StoreState D) (w 
         let list : y.journal.list ≡ set w.journal.list i.k (told i.entry reply) = ap (λ (e : Entry). set w.journal.list i.k (told e reply)) (entry_inside w.journal.list i.k i.entry i.has.at) in
         let there : IsEntry y.journal.list i.k (told i.entry reply) = subst (λ (l : List Entry). IsEntry l i.k (told i.entry reply)) (sym list) (entry_set w.journal.list i.k i.entry (told i.entry reply) i.has.at) in
         subst (λ (o : World). CanAnswer (last_answer o (process o p).at) (process o p).room) (sym same)
-        (subst (λ (a : At). CanAnswer (last_answer y a) (process w p).room) (sym i.stands)
+        (subst (λ (a : Phase). CanAnswer (last_answer y a) (process w p).room) (sym i.stands)
         (answer_there (form_of (disk.image opening)) (files_of (disk.image opening)) f.files y.journal.list i.k (told i.entry reply) (process w p).room run there refl its_room))

@@ -23,7 +23,7 @@ use Rattle.model.specs.Soundness.{IsSound}
 use Rattle.wal.specs.Lemmas.Volume.{fresh_seen}
 use Rattle.wal.specs.Volume.{VolumeState}
 use Rattle.inodes.specs.Store.{StoreState, FitsFiles, current_of, fresh_volume}
-use Rattle.history.specs.declared.types.At.TheVariants as at
+use Rattle.history.specs.declared.types.Phase.TheVariants as at
 use Rattle.history.specs.Crash.{Survives}
 use Rattle.history.specs.Lemmas.Known.{inv_new}
 use Rattle.history.specs.Lemmas.Stops.{recovers_opened}

@@ -20,7 +20,7 @@ use Rattle.wal.specs.declared.types.Ended.{Ended}
 use Rattle.wal.specs.declared.types.Ended.TheVariants as ended_as
 use Rattle.wal.specs.Joint.{Joint}
 use Rattle.wal.specs.Machine.{LogState, begin_cause, is_quiet, end_answer, IsLogAt}
-use Rattle.inodes.specs.declared.tasks.Place.{Place}
+use Rattle.inodes.specs.declared.tasks.Stage.{Stage}
 use Rattle.inodes.specs.Lemmas.Faults.{where_none}
 use Rattle.inodes.specs.Lemmas.Sought.{passes_busy}
 use Rattle.inodes.specs.Places.{is_over, is_unturned}
@@ -31,8 +31,8 @@ use Rattle.inodes.specs.Waiting.{NobodyWaitsForEver, SleepsForCause, WaitsWithCa
 use Rattle.ports.specs.History.{Side, first_in}
 use Rattle.ports.specs.declared.herald.Herald as herald_trait
 use Rattle.ports.specs.declared.intake.Intake as intake_trait
-use Rattle.history.specs.declared.types.At.{At}
-use Rattle.history.specs.declared.types.At.TheVariants as at
+use Rattle.history.specs.declared.types.Phase.{Phase}
+use Rattle.history.specs.declared.types.Phase.TheVariants as at
 use Rattle.history.specs.declared.types.Process.{Process}
 use Rattle.history.specs.Alone.{is_committing_at}
 use Rattle.history.specs.Bound.{is_busy_at, all_steps_left}
@@ -58,29 +58,29 @@ use Rattle.kernel.proofs.Resting.{at_rest}
 -- ---- who goes on
 
 module _ {D I H : Type 0} (image : D → Image) (opening : Image) (k : State D I H) (paired : ArePaired k.store k.world) (has : HasFacts image opening k.store k.world) where
-  abbrev place_at : ℕ → Place
+  abbrev place_at : ℕ → Stage
   place_at p = (task k.store.tasks p).place
 
-  stands_there : (p : ℕ) (a : At) → ats_of k.world p ≡ a → TaskStands k.world.journal.list (task k.store.tasks p) a
-  stands_there p a stands = subst (λ (b : At). TaskStands k.world.journal.list (task k.store.tasks p) b) stands (paired.stand p).stands
+  stands_there : (p : ℕ) (a : Phase) → ats_of k.world p ≡ a → TaskStands k.world.journal.list (task k.store.tasks p) a
+  stands_there p a stands = subst (λ (b : Phase). TaskStands k.world.journal.list (task k.store.tasks p) b) stands (paired.stand p).stands
 
   -- the task of an operation that has a cause to wait is not over
-  under_way : (p : ℕ) (a : At) → ats_of k.world p ≡ a → cause_by a (sleep_cause k.store p) ≢ None → is_over (place_at p) ≡ false
+  under_way : (p : ℕ) (a : Phase) → ats_of k.world p ≡ a → cause_by a (sleep_cause k.store p) ≢ None → is_over (place_at p) ≡ false
   under_way p at.Idle stands waits = absurd (waits refl)
-  under_way p (at.Before group op) stands waits = let there = stands_there p (at.Before group op) stands in passes_busy is_unturned refl (place_at p) there.1
-  under_way p (at.Behind group j) stands waits =
-      let there = stands_there p (at.Behind group j) stands in
-      let fact : StandsAt (inode_count_of opening) (view_of image k.store) k.world.journal.list p (at.Behind group j) =
-      subst (λ (a : At). StandsAt (inode_count_of opening) (view_of image k.store) k.world.journal.list p a) stands (has.facts.stands p) in
+  under_way p (at.BeforeTurn group op) stands waits = let there = stands_there p (at.BeforeTurn group op) stands in passes_busy is_unturned refl (place_at p) there.1
+  under_way p (at.AfterTurn group j) stands waits =
+      let there = stands_there p (at.AfterTurn group j) stands in
+      let fact : StandsAt (inode_count_of opening) (view_of image k.store) k.world.journal.list p (at.AfterTurn group j) =
+      subst (λ (a : Phase). StandsAt (inode_count_of opening) (view_of image k.store) k.world.journal.list p a) stands (has.facts.stands p) in
       (there fact.1.0 fact.1.1.at).unfinished
   under_way p (at.Ending group j) stands waits = absurd (waits refl)
   under_way p (at.Committing group j) stands waits = absurd (waits refl)
 
   -- the process of a task that is not over has an operation under way, and waits as its task does
-  task_busy : (p : ℕ) (a : At) → ats_of k.world p ≡ a → is_over (place_at p) ≡ false → (is_busy_at a ≡ true) × (cause_by a (sleep_cause k.store p) ≡ sleep_cause k.store p)
+  task_busy : (p : ℕ) (a : Phase) → ats_of k.world p ≡ a → is_over (place_at p) ≡ false → (is_busy_at a ≡ true) × (cause_by a (sleep_cause k.store p) ≡ sleep_cause k.store p)
   task_busy p at.Idle stands busy = absurd (both_ways _ busy (stands_there p at.Idle stands))
-  task_busy p (at.Before group op) stands busy = (refl, refl)
-  task_busy p (at.Behind group j) stands busy = (refl, refl)
+  task_busy p (at.BeforeTurn group op) stands busy = (refl, refl)
+  task_busy p (at.AfterTurn group j) stands busy = (refl, refl)
   task_busy p (at.Ending group j) stands busy = absurd (both_ways _ busy (stands_there p (at.Ending group j) stands))
   task_busy p (at.Committing group j) stands busy = absurd (both_ways _ busy (stands_there p (at.Committing group j) stands).0)
 
@@ -110,14 +110,14 @@ module _ {D I H : Type 0} (image : D → Image) (opening : Image) (k : State D I
       ∙ ap (λ (n : ℕ). log_cause false n l.outstanding) homes
       ∙ ap (λ (n : ℕ). log_cause false 0 n) rests.none
 
-  left_at : (p : ℕ) (a : At) → ats_of k.world p ≡ a → left_of image k p ≡ all_steps_left a (task_left image k.store p) k.store.volume.log
-  left_at p a stands = ap (λ (b : At). all_steps_left b (task_left image k.store p) k.store.volume.log) stands
+  left_at : (p : ℕ) (a : Phase) → ats_of k.world p ≡ a → left_of image k p ≡ all_steps_left a (task_left image k.store p) k.store.volume.log
+  left_at p a stands = ap (λ (b : Phase). all_steps_left b (task_left image k.store p) k.store.volume.log) stands
 
   -- who is under way has steps left
-  some_left : (p : ℕ) (a : At) → ats_of k.world p ≡ a → is_busy_at a ≡ true → 0 < left_of image k p
+  some_left : (p : ℕ) (a : Phase) → ats_of k.world p ≡ a → is_busy_at a ≡ true → 0 < left_of image k p
   some_left p at.Idle stands busy = absurd (cc busy)
-  some_left p (at.Before group op) stands busy = let left = left_at p (at.Before group op) stands in omega (arith, left)
-  some_left p (at.Behind group j) stands busy = let left = left_at p (at.Behind group j) stands in omega (arith, left)
+  some_left p (at.BeforeTurn group op) stands busy = let left = left_at p (at.BeforeTurn group op) stands in omega (arith, left)
+  some_left p (at.AfterTurn group j) stands busy = let left = left_at p (at.AfterTurn group j) stands in omega (arith, left)
   some_left p (at.Ending group j) stands busy = let left = left_at p (at.Ending group j) stands in omega (arith, left)
   some_left p (at.Committing group j) stands busy =
       let left = left_at p (at.Committing group j) stands in
@@ -174,10 +174,10 @@ kept_out (Some waiting.Change) l room cause free (inl full) = full
 kept_out (Some waiting.Change) l room cause free (inr (inl out)) = let e : None ≡ Some out.0 = sym free ∙ out.2 in absurd (cc e)
 kept_out (Some waiting.Change) l room cause free (inr (inr none)) = let e = none.0.0 in absurd (cc e)
 
-pub idle_not : (a : At) → is_busy_at a ≡ false → a ≡ at.Idle
+pub idle_not : (a : Phase) → is_busy_at a ≡ false → a ≡ at.Idle
 idle_not at.Idle e = refl
-idle_not (at.Before group op) e = absurd (cc e)
-idle_not (at.Behind group k) e = absurd (cc e)
+idle_not (at.BeforeTurn group op) e = absurd (cc e)
+idle_not (at.AfterTurn group k) e = absurd (cc e)
 idle_not (at.Ending group k) e = absurd (cc e)
 idle_not (at.Committing group k) e = absurd (cc e)
 
@@ -197,11 +197,11 @@ module _ {D N I M H : Type 0} (disk : disk_trait.Ghosts D N) (intake : intake_tr
       let unlike = next.0 in absurd (cc unlike)
 
   module _ (sleeps : SleepsForCause disk) (k m : State D I H) (p : ℕ) (cause : Why) (before : List Op) (side : Side) (told : Bool) where
-    at_sleeps : (a : At) → is_busy_at a ≡ true → NextAt disk a k.store k.world p before side told (step.Sleeping cause) m.store m.world → cause_by a (sleep_cause k.store p) ≡ Some cause
+    at_sleeps : (a : Phase) → is_busy_at a ≡ true → NextAt disk a k.store k.world p before side told (step.Sleeping cause) m.store m.world → cause_by a (sleep_cause k.store p) ≡ Some cause
     at_sleeps at.Idle busy next = absurd (cc busy)
-    at_sleeps (at.Before group op) busy next =
+    at_sleeps (at.BeforeTurn group op) busy next =
         sleeps k.store m.store p op cause (subst (λ (t : TaskProgress). Steps disk k.store p op t m.store) (task_sleeps next.progress cause next.answer) next.steps)
-    at_sleeps (at.Behind group j) busy next =
+    at_sleeps (at.AfterTurn group j) busy next =
         sleeps k.store m.store p (entry_in k.world.journal.list j).op cause
         (subst (λ (t : TaskProgress). Steps disk k.store p (entry_in k.world.journal.list j).op t m.store) (behind_sleeps group next.progress cause next.answer) next.steps)
     at_sleeps (at.Ending group j) busy next = absurd (end_made (end_answer k.store.volume.log) cause next.answer)
@@ -213,10 +213,10 @@ module _ {D N I M H : Type 0} (disk : disk_trait.Ghosts D N) (intake : intake_tr
       (next_of k m p (step.Sleeping cause) (well_if_asleep k m p cause makes k.store.volume.fault refl) makes)
 
   module _ (waits : WaitsWithCause disk) (k m : State D I H) (p : ℕ) (r : Step) (cause : Why) (before : List Op) (side : Side) (told : Bool) where
-    at_waits : (a : At) → cause_by a (sleep_cause k.store p) ≡ Some cause → NextAt disk a k.store k.world p before side told r m.store m.world → r ≡ step.Sleeping cause
+    at_waits : (a : Phase) → cause_by a (sleep_cause k.store p) ≡ Some cause → NextAt disk a k.store k.world p before side told r m.store m.world → r ≡ step.Sleeping cause
     at_waits at.Idle e next = absurd (cc e)
-    at_waits (at.Before group op) e next = next.answer ∙ ap step_of (waits k.store m.store p op next.progress cause e next.steps)
-    at_waits (at.Behind group j) e next = next.answer ∙ ap (step_behind group) (waits k.store m.store p (entry_in k.world.journal.list j).op next.progress cause e next.steps)
+    at_waits (at.BeforeTurn group op) e next = next.answer ∙ ap step_of (waits k.store m.store p op next.progress cause e next.steps)
+    at_waits (at.AfterTurn group j) e next = next.answer ∙ ap (step_behind group) (waits k.store m.store p (entry_in k.world.journal.list j).op next.progress cause e next.steps)
     at_waits (at.Ending group j) e next = absurd (cc e)
     at_waits (at.Committing group j) e next = absurd (cc e)
 
@@ -255,12 +255,12 @@ module _ {D N I M H : Type 0} (disk : disk_trait.Ghosts D N) (intake : intake_tr
       by what ahead (inr (inr (inr none))) = (what, ahead, none)
 
   -- who has to wait changed nothing
-  asleep_same : (k m : State D I H) (p : ℕ) (cause : Why) (before : List Op) (side : Side) (told : Bool) (a : At) → NextAt disk a k.store k.world p before side told (step.Sleeping cause) m.store m.world → Same k.store k.world m.store m.world
+  asleep_same : (k m : State D I H) (p : ℕ) (cause : Why) (before : List Op) (side : Side) (told : Bool) (a : Phase) → NextAt disk a k.store k.world p before side told (step.Sleeping cause) m.store m.world → Same k.store k.world m.store m.world
   asleep_same k m p cause before side told at.Idle next = (none_taken k m p cause before side told next).2.same
-  asleep_same k m p cause before side told (at.Before group op) next =
+  asleep_same k m p cause before side told (at.BeforeTurn group op) next =
       let asleep = task_sleeps next.progress cause next.answer in
       (next.steps.waits.sleeping cause asleep, next.world ∙ ap (λ (t : TaskProgress). world_after t (is_over (task m.store.tasks p).place) k.world p) asleep)
-  asleep_same k m p cause before side told (at.Behind group j) next =
+  asleep_same k m p cause before side told (at.AfterTurn group j) next =
       let asleep = behind_sleeps group next.progress cause next.answer in
       (next.steps.waits.sleeping cause asleep, next.world ∙ ap (λ (t : TaskProgress). world_behind group t k.world p) asleep)
   asleep_same k m p cause before side told (at.Ending group j) next = absurd (end_made (end_answer k.store.volume.log) cause next.answer)
@@ -298,7 +298,7 @@ module _ {D N I M H : Type 0} (disk : disk_trait.Ghosts D N) (intake : intake_tr
           let all = alone_idle m one_still (ap (λ (w : World). is_busy_at (ats_of w 0)) same.1 ∙ subst (λ (q : ℕ). is_busy_at (ats_of k.world q) ≡ false) first none) in
           let idle = idle_not (ats_of k.world p) none in
           let taken = none_taken k m p cause (intake.side k.intake p).ahead (intake.side m.intake p) (herald.told m.herald)
-          (subst (λ (a : At). NextAt disk a k.store k.world p (intake.side k.intake p).ahead (intake.side m.intake p) (herald.told m.herald) (step.Sleeping cause) m.store m.world) idle next) in
+          (subst (λ (a : Phase). NextAt disk a k.store k.world p (intake.side k.intake p).ahead (intake.side m.intake p) (herald.told m.herald) (step.Sleeping cause) m.store m.world) idle next) in
           let free : begin_cause k.store.volume.log ≡ None = ap (λ (s : StoreState D). begin_cause s.volume.log) (sym same.0) ∙ awake.begins all in
           let full = kept_out taken.0 k.store.volume.log (intake.side m.intake p).has_room cause free taken.2.answer in
           let is = full.0 in

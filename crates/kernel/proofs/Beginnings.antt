@@ -19,8 +19,8 @@ use Rattle.inodes.specs.Places.{is_over}
 use Rattle.inodes.specs.Store.{StoreState, KeepsFiles, CanBegin, first_place, with_begun, with_look}
 use Rattle.inodes.specs.Tasks.{task, no_task}
 use Rattle.history.specs.AtOnce.{at_once_reply}
-use Rattle.history.specs.declared.types.At.{At}
-use Rattle.history.specs.declared.types.At.TheVariants as at
+use Rattle.history.specs.declared.types.Phase.{Phase}
+use Rattle.history.specs.declared.types.Phase.TheVariants as at
 use Rattle.history.specs.declared.types.Process.{Process}
 use Rattle.history.specs.Alone.{is_committing_at}
 use Rattle.history.specs.Lemmas.Alone.{alone_begun, alone_taken}
@@ -123,7 +123,7 @@ module _ {D N : Type 0} (disk : Ghosts D N) (opening : D) (s : StoreState D) (w 
   inside_tasks = let many = right.paired.many in omega (arith, lt, many)
 
   over_here : is_over (task s.tasks p).place ≡ true
-  over_here = subst (λ (a : At). TaskStands w.journal.list (task s.tasks p) a) stands (right.paired.stand p).stands
+  over_here = subst (λ (a : Phase). TaskStands w.journal.list (task s.tasks p) a) stands (right.paired.stand p).stands
 
   -- an operation that looks at a file is taken, and none of the log's
   pub right_looked : (op : Op) (count : Option ℕ) → waiting_of s.table.inode_count op ≡ waiting.Look count → HasAgreed disk.image (with_look s p op (room_for count)) → KeepsFiles disk.image s (with_look s p op (room_for count))
@@ -133,9 +133,9 @@ module _ {D N : Type 0} (disk : Ghosts D N) (opening : D) (s : StoreState D) (w 
       let room = room_for count in
       let t = with_look s p op room in
       let z = taken (with_place w) p 0 op room in
-      let u : Process = record { begun = (process w p).begun + 1; at = at.Before 0 op; room = room } in
+      let u : Process = record { begun = (process w p).begun + 1; at = at.BeforeTurn 0 op; room = room } in
       let others : (q : ℕ) → q ≢ p → ats_of z q ≡ ats_of w q = λ q apart. ap (λ (r : Process). r.at) (others_stay w z p u refl q apart) in
-      let now : ats_of z p ≡ at.Before 0 op = ap (λ (r : Process). r.at) (there_now w z p u refl lt) in
+      let now : ats_of z p ≡ at.BeforeTurn 0 op = ap (λ (r : Process). r.at) (there_now w z p u refl lt) in
       let is = look_begins n op count (subst (λ (k : ℕ). waiting_of k op ≡ waiting.Look count) right.numbers look) in
       right_well disk opening t z well right.numbers
       (paired_goes s t w z p u right.paired lt refl (length-set s.tasks p _) (λ q apart. get_or-set_other s.tasks p q _ no_task apart) (keeps_behind w z p refl)
@@ -156,9 +156,9 @@ module _ {D N : Type 0} (disk : Ghosts D N) (opening : D) (s : StoreState D) (w 
       let n = inode_count_of (disk.image opening) in
       let t = with_begun s p op in
       let z = taken (with_place w) p (begun s.volume.log p).opened op None in
-      let u : Process = record { begun = (process w p).begun + 1; at = at.Before (begun s.volume.log p).opened op; room = None } in
+      let u : Process = record { begun = (process w p).begun + 1; at = at.BeforeTurn (begun s.volume.log p).opened op; room = None } in
       let others : (q : ℕ) → q ≢ p → ats_of z q ≡ ats_of w q = λ q apart. ap (λ (r : Process). r.at) (others_stay w z p u refl q apart) in
-      let now : ats_of z p ≡ at.Before (begun s.volume.log p).opened op = ap (λ (r : Process). r.at) (there_now w z p u refl lt) in
+      let now : ats_of z p ≡ at.BeforeTurn (begun s.volume.log p).opened op = ap (λ (r : Process). r.at) (there_now w z p u refl lt) in
       let begins = change_begins n op (subst (λ (k : ℕ). waiting_of k op ≡ waiting.Change) right.numbers change) in
       let inside : p < length s.volume.log.used = let few = right.paired.few in let pids = had.facts.valid.log.pids in omega (arith, lt, few, pids) in
       right_well disk opening t z well right.numbers
@@ -185,7 +185,7 @@ module _ {D N : Type 0} (disk : Ghosts D N) (opening : D) (s : StoreState D) (w 
       right_well disk opening s z well right.numbers
       (paired_goes s s w z p u right.paired lt refl refl (λ q apart. refl)
       (λ q apart g k e there. others_back (disk.image opening) (view_of disk.image s) w.journal.list z.journal.list (ats_of w) had.facts n p s.volume.log.committed (at_once_journal n p s.volume.log.committed ((process w p).begun + 1) w.journal.list op once) q apart g k e there)
-      (record { stands = subst (λ (a : At). TaskStands z.journal.list (task s.tasks p) a) (sym stands) over_here; room_is = (right.paired.stand p).room_is }))
+      (record { stands = subst (λ (a : Phase). TaskStands z.journal.list (task s.tasks p) a) (sym stands) over_here; room_is = (right.paired.stand p).room_is }))
       (counted_refused s.volume.log.opened p w right.counted lt op (at_once_reply op) stands)
       (record {
         facts = at_same (disk.image opening) (view_of disk.image s) z.journal.list (ats_of w) (ats_of z) same

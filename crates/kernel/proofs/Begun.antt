@@ -12,8 +12,8 @@ use Rattle.wal.specs.declared.types.Ended.{Ended}
 use Rattle.wal.specs.declared.types.Ended.TheVariants as ended_as
 use Rattle.inodes.specs.Store.{StoreState}
 use Rattle.ports.specs.History.{Side}
-use Rattle.history.specs.declared.types.At.{At}
-use Rattle.history.specs.declared.types.At.TheVariants as at
+use Rattle.history.specs.declared.types.Phase.{Phase}
+use Rattle.history.specs.declared.types.Phase.TheVariants as at
 use Rattle.history.specs.declared.types.Process.{Process}
 use Rattle.history.specs.Lemmas.Places.{there_now}
 use Rattle.history.specs.Processes.{World, process, idle, with_process, with_place, turned_from, decided, told_at, entry_place, refused, over, committing, answered}
@@ -44,10 +44,10 @@ grows_along w z y is grows = subst (Grows w) (sym is) grows
 
 -- ---- by what a step makes of the processes
 
-turned_grows : (a : At) (w : World) (p : ℕ) (reply : Option Reply) (b : Bool) → Grows w (turned_from a w p reply b)
+turned_grows : (a : Phase) (w : World) (p : ℕ) (reply : Option Reply) (b : Bool) → Grows w (turned_from a w p reply b)
 turned_grows at.Idle w p reply b q = omega arith
-turned_grows (at.Before group op) w p reply b q = grows_with w p _ (omega arith) q
-turned_grows (at.Behind group k) w p reply b q = omega arith
+turned_grows (at.BeforeTurn group op) w p reply b q = grows_with w p _ (omega arith) q
+turned_grows (at.AfterTurn group k) w p reply b q = omega arith
 turned_grows (at.Ending group k) w p reply b q = omega arith
 turned_grows (at.Committing group k) w p reply b q = omega arith
 
@@ -108,11 +108,11 @@ begins_grows {w = w} {z = z} {p = p} (inr (inr (inl refused))) = grows_along w z
 begins_grows {w = w} {z = z} (inr (inr (inr none))) = grows_along w z w none.same.1 (grows_none w)
 
 module _ {D N : Type 0} (disk : disk_trait.Ghosts D N) (s t : StoreState D) (w z : World) (p : ℕ) (before : List Op) (side : Side) (told : Bool) (r : Step) where
-  at_grows : (a : At) → NextAt disk a s w p before side told r t z → Grows w z
+  at_grows : (a : Phase) → NextAt disk a s w p before side told r t z → Grows w z
   at_grows at.Idle (inl shut) = grows_along w z _ shut.world (λ q. grows_none w q)
   at_grows at.Idle (inr hears) = begins_grows hears.begins
-  at_grows (at.Before group op) works = grows_along w z _ works.world (after_grows works.progress _ w p)
-  at_grows (at.Behind group k) finishes = grows_along w z _ finishes.world (behind_grows group finishes.progress w p)
+  at_grows (at.BeforeTurn group op) works = grows_along w z _ works.world (after_grows works.progress _ w p)
+  at_grows (at.AfterTurn group k) finishes = grows_along w z _ finishes.world (behind_grows group finishes.progress w p)
   at_grows (at.Ending group k) ends = grows_along w z _ ends.world (ended_grows _ w p)
   at_grows (at.Committing group k) writes = grows_along w z _ writes.world (written_grows writes.result w p)
 

@@ -22,8 +22,8 @@ use Rattle.inodes.specs.Runs.{SeesTaken}
 use Rattle.inodes.specs.Steps.{Steps}
 use Rattle.inodes.specs.Store.{StoreState, reply_of, with_begun}
 use Rattle.inodes.specs.Tasks.{TaskState, task}
-use Rattle.inodes.specs.declared.tasks.Place.{Place}
-use Rattle.inodes.specs.declared.tasks.Place.TheVariants as place
+use Rattle.inodes.specs.declared.tasks.Stage.{Stage}
+use Rattle.inodes.specs.declared.tasks.Stage.TheVariants as stage
 use Rattle.ports.specs.History.{Side, first_in}
 use Rattle.ports.specs.declared.herald.Herald as herald_trait
 use Rattle.ports.specs.declared.intake.Intake as intake_trait
@@ -36,8 +36,8 @@ use Rattle.history.specs.Lemmas.Places.{there_now, others_stay}
 use Rattle.history.specs.Open.{IsEntry}
 use Rattle.history.specs.Journal.{entry_of, no_entry}
 use Rattle.history.specs.Processes.{World, process, idle, place_behind, turned_from}
-use Rattle.history.specs.declared.types.At.{At}
-use Rattle.history.specs.declared.types.At.TheVariants as at
+use Rattle.history.specs.declared.types.Phase.{Phase}
+use Rattle.history.specs.declared.types.Phase.TheVariants as at
 use Rattle.history.specs.declared.types.Process.{Process}
 use Rattle.kernel.specs.Causes.{IsAnswered, MadeHasCause, NoInodeHasCause, SomeTurnMakes, TurnMakes}
 use Rattle.kernel.specs.Next.{BeginsWith, NextAt, NextIf, Works, world_after}
@@ -81,13 +81,13 @@ reply_before e f r (inl is) has = inl (ap (λ (x : Entry). x.reply) (sym is) ∙
 reply_before e f r (inr is) has = inr is.0
 
 -- the entry at a place at the end, as a turn added it
-pub record Added (q : ℕ) (a : At) (es fs : List Entry) (place : ℕ) (e : Entry) : Type 0 where
+pub record Added (q : ℕ) (a : Phase) (es fs : List Entry) (place : ℕ) (e : Entry) : Type 0 where
   pub adds : AddsEntry q a es fs
   pub here : place ≡ length es
   pub becomes : Becomes adds.entry e
 
 -- an entry that comes behind a journal comes behind the next one, or with this turn
-pub added : (q : ℕ) (a : At) (es fs gs : List Entry) (place : ℕ) (e : Entry) → JournalBy q a es fs → Extends fs gs → length es ≤ place → IsEntry gs place e
+pub added : (q : ℕ) (a : Phase) (es fs gs : List Entry) (place : ℕ) (e : Entry) → JournalBy q a es fs → Extends fs gs → length es ≤ place → IsEntry gs place e
     → (length fs ≤ place) ⊎ Added q a es fs place e
 added q a es fs gs place e (inl same) more later at = inl (subst (λ (l : List Entry). length l ≤ place) (sym same) later)
 added q a es fs gs place e (inr (inr tells)) more later at =
@@ -133,7 +133,7 @@ module _ {D N I M H : Type 0} (disk : disk_trait.Ghosts D N) (intake : intake_tr
   module _ (p n j : ℕ) (number : IsTrue (is_number n j)) (o : Option ℕ) (passed : IsPassedBy o j) where
     -- a creation of process p that waits for its turn may still come to number j's block, or has no task
     abbrev Tracks : StoreState D → World → Type 0
-    Tracks s w = (group kind : ℕ) → (process w p).at ≡ at.Before group (Create kind) → IsAhead p j s ⊎ ((task s.tasks p).place ≡ place.Nowhere)
+    Tracks s w = (group kind : ℕ) → (process w p).at ≡ at.BeforeTurn group (Create kind) → IsAhead p j s ⊎ ((task s.tasks p).place ≡ stage.Nowhere)
 
     -- no creation is answered with this turn so that it passes the number by, now or later
     abbrev Spares : Entry → Type 0
@@ -159,17 +159,17 @@ module _ {D N I M H : Type 0} (disk : disk_trait.Ghosts D N) (intake : intake_tr
       none_added same adds kind is has = longer adds.entry (sym same ∙ adds.list)
 
       -- process p waits no more, or for another operation
-      gone : ((group kind : ℕ) → (process z p).at ≡ at.Before group (Create kind) → ⊥) → Tracks t z
+      gone : ((group kind : ℕ) → (process z p).at ≡ at.BeforeTurn group (Create kind) → ⊥) → Tracks t z
       gone none group kind is = absurd (none group kind is)
 
       same_now : t ≡ s → (process z p).at ≡ (process w p).at → Tracks t z
-      same_now store stands group kind is = subst (λ (o : StoreState D). IsAhead p j o ⊎ ((task o.tasks p).place ≡ place.Nowhere)) (sym store) (tracks group kind (sym stands ∙ is))
+      same_now store stands group kind is = subst (λ (o : StoreState D). IsAhead p j o ⊎ ((task o.tasks p).place ≡ stage.Nowhere)) (sym store) (tracks group kind (sym stands ∙ is))
 
       -- it becomes one of which that is true, or there is none
-      now_gone : (u : Process) → z.processes ≡ set w.processes p u → ((group kind : ℕ) → u.at ≡ at.Before group (Create kind) → ⊥) → Tracks t z
+      now_gone : (u : Process) → z.processes ≡ set w.processes p u → ((group kind : ℕ) → u.at ≡ at.BeforeTurn group (Create kind) → ⊥) → Tracks t z
       now_gone u is none = gone (λ group kind stands. by_process group kind stands (becomes_now w z p u is))
         where
-          by_process : (group kind : ℕ) → (process z p).at ≡ at.Before group (Create kind) → (process z p ≡ u) ⊎ (process z p ≡ idle) → ⊥
+          by_process : (group kind : ℕ) → (process z p).at ≡ at.BeforeTurn group (Create kind) → (process z p ≡ u) ⊎ (process z p ≡ idle) → ⊥
           by_process group kind stands (inl same) = none group kind (ap (λ (x : Process). x.at) (sym same) ∙ stands)
           by_process group kind stands (inr same) = let no = ap (λ (x : Process). x.at) (sym same) ∙ stands in cc no
 
@@ -178,10 +178,10 @@ module _ {D N I M H : Type 0} (disk : disk_trait.Ghosts D N) (intake : intake_tr
       never_look kind false c is = cc is
 
       -- the task that begins stands at the first block, where there is one
-      begun_ahead : (op : Op) (group kind : ℕ) → at.Before (Rattle.wal.specs.Machine.begun s.volume.log p).opened op ≡ at.Before group (Create kind) → IsAhead p j (with_begun s p op) ⊎ ((task (with_begun s p op).tasks p).place ≡ place.Nowhere)
+      begun_ahead : (op : Op) (group kind : ℕ) → at.BeforeTurn (Rattle.wal.specs.Machine.begun s.volume.log p).opened op ≡ at.BeforeTurn group (Create kind) → IsAhead p j (with_begun s p op) ⊎ ((task (with_begun s p op).tasks p).place ≡ stage.Nowhere)
       begun_ahead op group kind is =
           let same : op ≡ Create kind = cc is in
-          subst (λ (o : Op). IsAhead p j (with_begun s p o) ⊎ ((task (with_begun s p o).tasks p).place ≡ place.Nowhere)) (sym same) (search_begins p j kind s)
+          subst (λ (o : Op). IsAhead p j (with_begun s p o) ⊎ ((task (with_begun s p o).tasks p).place ≡ stage.Nowhere)) (sym same) (search_begins p j kind s)
 
       never_refused : (q : Option ℕ) → Some BadType ≡ Some (reply_of q) → ⊥
       never_refused None is = cc is
@@ -203,10 +203,10 @@ module _ {D N I M H : Type 0} (disk : disk_trait.Ghosts D N) (intake : intake_tr
       })
         where
           u : Process
-          u = record { begun = (process w p).begun + 1; at = at.Before (Rattle.wal.specs.Machine.begun s.volume.log p).opened made.op; room = None }
+          u = record { begun = (process w p).begun + 1; at = at.BeforeTurn (Rattle.wal.specs.Machine.begun s.volume.log p).opened made.op; room = None }
 
-          by_process : (group kind : ℕ) → (process z p).at ≡ at.Before group (Create kind) → (process z p ≡ u) ⊎ (process z p ≡ idle) → IsAhead p j t ⊎ ((task t.tasks p).place ≡ place.Nowhere)
-          by_process group kind is (inl same) = subst (λ (o : StoreState D). IsAhead p j o ⊎ ((task o.tasks p).place ≡ place.Nowhere)) (sym made.store) (begun_ahead made.op group kind (ap (λ (x : Process). x.at) (sym same) ∙ is))
+          by_process : (group kind : ℕ) → (process z p).at ≡ at.BeforeTurn group (Create kind) → (process z p ≡ u) ⊎ (process z p ≡ idle) → IsAhead p j t ⊎ ((task t.tasks p).place ≡ stage.Nowhere)
+          by_process group kind is (inl same) = subst (λ (o : StoreState D). IsAhead p j o ⊎ ((task o.tasks p).place ≡ stage.Nowhere)) (sym made.store) (begun_ahead made.op group kind (ap (λ (x : Process). x.at) (sym same) ∙ is))
           by_process group kind is (inr same) = let no = ap (λ (x : Process). x.at) (sym same) ∙ is in absurd (cc no)
       own_begins what ahead side r stands (inr (inl made)) = inr (record {
         tracks = now_gone _ (ap (λ (o : World). o.processes) made.world)
@@ -225,7 +225,7 @@ module _ {D N I M H : Type 0} (disk : disk_trait.Ghosts D N) (intake : intake_tr
       })
 
       -- a step of its task, where it waits for its turn
-      own_step : (group kind : ℕ) → (process w p).at ≡ at.Before group (Create kind) → (x : TaskProgress) → Steps disk s p (Create kind) x t → z ≡ world_after x (is_over (task t.tasks p).place) w p → IsAhead p j s ⊎ ((task s.tasks p).place ≡ place.Nowhere) → Own s t w z
+      own_step : (group kind : ℕ) → (process w p).at ≡ at.BeforeTurn group (Create kind) → (x : TaskProgress) → Steps disk s p (Create kind) x t → z ≡ world_after x (is_over (task t.tasks p).place) w p → IsAhead p j s ⊎ ((task s.tasks p).place ≡ stage.Nowhere) → Own s t w z
       own_step group kind stands x steps to (inl ahead) = ⊎_elim
           (λ saw. inl (record { turn = refl; op = Create kind; answer = x; steps = steps; holds = saw }))
           (λ on. inr (passes x to on))
@@ -238,12 +238,12 @@ module _ {D N I M H : Type 0} (disk : disk_trait.Ghosts D N) (intake : intake_tr
           passes : (y : TaskProgress) → z ≡ world_after y (is_over (task t.tasks p).place) w p → SearchesOn p j y t → Passes s t w z
           passes progress.Moved same on = stays progress.Moved (λ r e. cc e) same on
           passes (progress.Turned reply) same (inr is) = absurd (is.0 reply refl)
-          passes (progress.Turned reply) same (inl is) = turns (is_over (task t.tasks p).place) (same ∙ ap (λ (a : At). turned_from a w p reply (is_over (task t.tasks p).place)) stands)
+          passes (progress.Turned reply) same (inl is) = turns (is_over (task t.tasks p).place) (same ∙ ap (λ (a : Phase). turned_from a w p reply (is_over (task t.tasks p).place)) stands)
             where
               told : reply ≡ Some (Made is.0)
               told = let e = is.1 in cc e
 
-              never : (over : Bool) (k g : ℕ) (o : Op) → place_behind over group k ≡ at.Before g o → ⊥
+              never : (over : Bool) (k g : ℕ) (o : Op) → place_behind over group k ≡ at.BeforeTurn g o → ⊥
               never true k g o e = cc e
               never false k g o e = cc e
 
@@ -251,7 +251,7 @@ module _ {D N I M H : Type 0} (disk : disk_trait.Ghosts D N) (intake : intake_tr
               apart c same_kind (inl has) = never_passed o passed is.0 is.2 (sym told ∙ has)
               apart c same_kind (inr has) = let no = sym told ∙ has in cc no
 
-              turns : (over : Bool) → z ≡ turned_from (at.Before group (Create kind)) w p reply over → Passes s t w z
+              turns : (over : Bool) → z ≡ turned_from (at.BeforeTurn group (Create kind)) w p reply over → Passes s t w z
               turns over now = record {
                 tracks = now_gone (record (process w p) { at = place_behind over group (length w.journal.list) }) (ap (λ (o : World). o.processes) now) (λ g m e. never over (length w.journal.list) g (Create m) e);
                 spares = λ adds. subst Spares (last_same w.journal.list _ adds.entry (sym (ap (λ (o : World). o.journal.list) now) ∙ adds.list)) apart;
@@ -261,7 +261,7 @@ module _ {D N I M H : Type 0} (disk : disk_trait.Ghosts D N) (intake : intake_tr
           passes (progress.Sleeping why) same on = stays (progress.Sleeping why) (λ r e. cc e) same on
           passes (progress.Fault fault) same on = stays (progress.Fault fault) (λ r e. cc e) same on
       own_step group kind stands x steps to (inr none) =
-          let goes = subst (λ (a : Place). Goes disk a s p (Create kind) x t) none steps.goes in
+          let goes = subst (λ (a : Stage). Goes disk a s p (Create kind) x t) none steps.goes in
           let same : z ≡ w = to ∙ ap (λ (y : TaskProgress). world_after y (is_over (task t.tasks p).place) w p) goes.0 in
           inr (record {
             tracks = λ g m at. inr (ap (λ (o : StoreState D). (task o.tasks p).place) goes.1 ∙ none);
@@ -269,27 +269,27 @@ module _ {D N I M H : Type 0} (disk : disk_trait.Ghosts D N) (intake : intake_tr
           })
 
       -- of another operation
-      own_other : (group : ℕ) (op : Op) (r : Step) → (process w p).at ≡ at.Before group op → ((kind : ℕ) → op ≡ Create kind → ⊥) → Turned p (process w p).at s w t z → Works disk s w p op r t z → Own s t w z
+      own_other : (group : ℕ) (op : Op) (r : Step) → (process w p).at ≡ at.BeforeTurn group op → ((kind : ℕ) → op ≡ Create kind → ⊥) → Turned p (process w p).at s w t z → Works disk s w p op r t z → Own s t w z
       own_other group op r stands other turn made = inr (record {
         tracks = now_gone turn.now turn.processes (λ g m is. by_before g m is (turn.before g (Create m) is));
         spares = λ adds. by_progress made.progress made.world adds;
       })
         where
-          by_before : (g m : ℕ) → turn.now.at ≡ at.Before g (Create m) → ((process w p).at ≡ at.Idle) ⊎ ((process w p).at ≡ turn.now.at) → ⊥
+          by_before : (g m : ℕ) → turn.now.at ≡ at.BeforeTurn g (Create m) → ((process w p).at ≡ at.Idle) ⊎ ((process w p).at ≡ turn.now.at) → ⊥
           by_before g m is (inl idle_now) = let no = sym stands ∙ idle_now in cc no
           by_before g m is (inr same) = let both = sym stands ∙ same ∙ is in other m (cc both)
 
           by_progress : (x : TaskProgress) → z ≡ world_after x (is_over (task t.tasks p).place) w p → (adds : AddsEntry p (process w p).at w.journal.list z.journal.list) → Spares adds.entry
           by_progress progress.Moved to adds = none_added (ap (λ (o : World). o.journal.list) to) adds
           by_progress (progress.Turned reply) to adds =
-              let now = to ∙ ap (λ (a : At). turned_from a w p reply (is_over (task t.tasks p).place)) stands in
+              let now = to ∙ ap (λ (a : Phase). turned_from a w p reply (is_over (task t.tasks p).place)) stands in
               subst Spares (last_same w.journal.list (entry_of p (process w p).begun op group reply) adds.entry (sym (ap (λ (o : World). o.journal.list) now) ∙ adds.list)) (λ kind is has. other kind is)
           by_progress (progress.Decided reply) to adds = none_added (ap (λ (o : World). o.journal.list) to) adds
           by_progress progress.Over to adds = none_added (ap (λ (o : World). o.journal.list) to) adds
           by_progress (progress.Sleeping why) to adds = none_added (ap (λ (o : World). o.journal.list) to) adds
           by_progress (progress.Fault fault) to adds = none_added (ap (λ (o : World). o.journal.list) to) adds
 
-      own_works : (group : ℕ) (op : Op) (r : Step) → (process w p).at ≡ at.Before group op → Turned p (process w p).at s w t z → Works disk s w p op r t z → Own s t w z
+      own_works : (group : ℕ) (op : Op) (r : Step) → (process w p).at ≡ at.BeforeTurn group op → Turned p (process w p).at s w t z → Works disk s w p op r t z → Own s t w z
       own_works group (Create kind) r stands turn made = own_step group kind stands made.progress made.steps made.world (tracks group kind stands)
       own_works group (Write i off bytes) r stands turn made = own_other group (Write i off bytes) r stands (λ kind is. cc is) turn made
       own_works group (Read i off m) r stands turn made = own_other group (Read i off m) r stands (λ kind is. cc is) turn made
@@ -298,28 +298,28 @@ module _ {D N I M H : Type 0} (disk : disk_trait.Ghosts D N) (intake : intake_tr
       own_works group (Stat i) r stands turn made = own_other group (Stat i) r stands (λ kind is. cc is) turn made
 
       -- behind its turn
-      own_behind : (a : At) → (process w p).at ≡ a → (a ≢ at.Idle) → ((group : ℕ) (op : Op) → a ≢ at.Before group op) → Turned p (process w p).at s w t z → Own s t w z
+      own_behind : (a : Phase) → (process w p).at ≡ a → (a ≢ at.Idle) → ((group : ℕ) (op : Op) → a ≢ at.BeforeTurn group op) → Turned p (process w p).at s w t z → Own s t w z
       own_behind a stands busy unbefore turn = inr (record {
         tracks = now_gone turn.now turn.processes (λ g m is. by_before g m is (turn.before g (Create m) is));
         spares = λ adds. absurd (by_from adds.from);
       })
         where
-          by_before : (g m : ℕ) → turn.now.at ≡ at.Before g (Create m) → ((process w p).at ≡ at.Idle) ⊎ ((process w p).at ≡ turn.now.at) → ⊥
+          by_before : (g m : ℕ) → turn.now.at ≡ at.BeforeTurn g (Create m) → ((process w p).at ≡ at.Idle) ⊎ ((process w p).at ≡ turn.now.at) → ⊥
           by_before g m is (inl idle_now) = busy (sym stands ∙ idle_now)
           by_before g m is (inr same) = unbefore g (Create m) (sym stands ∙ same ∙ is)
 
-          by_from : ((process w p).at ≡ at.Idle) ⊎ ((group : ℕ) × (op : Op) × ((process w p).at ≡ at.Before group op)) → ⊥
+          by_from : ((process w p).at ≡ at.Idle) ⊎ ((group : ℕ) × (op : Op) × ((process w p).at ≡ at.BeforeTurn group op)) → ⊥
           by_from (inl idle_now) = busy (sym stands ∙ idle_now)
           by_from (inr was) = unbefore was.0 was.1 (sym stands ∙ was.2)
 
-      own_at : (a : At) (ahead : List Op) (side : Side) (b : Bool) (r : Step) → (process w p).at ≡ a → Turned p (process w p).at s w t z → NextAt disk a s w p ahead side b r t z → Own s t w z
+      own_at : (a : Phase) (ahead : List Op) (side : Side) (b : Bool) (r : Step) → (process w p).at ≡ a → Turned p (process w p).at s w t z → NextAt disk a s w p ahead side b r t z → Own s t w z
       own_at at.Idle ahead side b r stands turn (inl heard) = inr (record {
         tracks = same_now heard.store (ap (λ (o : World). (process o p).at) heard.world);
         spares = none_added (ap (λ (o : World). o.journal.list) heard.world);
       })
       own_at at.Idle ahead side b r stands turn (inr none) = own_begins (option_map (waiting_of s.table.inode_count) (first_in none.ahead)) none.ahead side r stands none.begins
-      own_at (at.Before group op) ahead side b r stands turn next = own_works group op r stands turn next
-      own_at (at.Behind group k) ahead side b r stands turn next = own_behind (at.Behind group k) stands (λ e. cc e) (λ g o e. cc e) turn
+      own_at (at.BeforeTurn group op) ahead side b r stands turn next = own_works group op r stands turn next
+      own_at (at.AfterTurn group k) ahead side b r stands turn next = own_behind (at.AfterTurn group k) stands (λ e. cc e) (λ g o e. cc e) turn
       own_at (at.Ending group k) ahead side b r stands turn next = own_behind (at.Ending group k) stands (λ e. cc e) (λ g o e. cc e) turn
       own_at (at.Committing group k) ahead side b r stands turn next = own_behind (at.Committing group k) stands (λ e. cc e) (λ g o e. cc e) turn
 
@@ -368,7 +368,7 @@ module _ {D N I M H : Type 0} (disk : disk_trait.Ghosts D N) (intake : intake_tr
             let task_same = turn.store.tasks p (λ e. apart (sym e)) in
             moved (tracks group c (ap (λ (u : Process). u.at) (sym same) ∙ is)) (ap (λ (u : TaskState). u.place) task_same)
           where
-            moved : IsAhead p j k.store ⊎ ((task k.store.tasks p).place ≡ place.Nowhere) → (task mid.store.tasks p).place ≡ (task k.store.tasks p).place → IsAhead p j mid.store ⊎ ((task mid.store.tasks p).place ≡ place.Nowhere)
+            moved : IsAhead p j k.store ⊎ ((task k.store.tasks p).place ≡ stage.Nowhere) → (task mid.store.tasks p).place ≡ (task k.store.tasks p).place → IsAhead p j mid.store ⊎ ((task mid.store.tasks p).place ≡ stage.Nowhere)
             moved (inl is) same = inl (record { search = is.search; stands = same ∙ is.stands; ahead = is.ahead })
             moved (inr is) same = inr (same ∙ is)
 

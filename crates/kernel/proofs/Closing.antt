@@ -25,8 +25,8 @@ use Rattle.inodes.specs.Steps.{Commits}
 use Rattle.inodes.specs.Store.{StoreState, IsStore, KeepsFiles, with_log}
 use Rattle.inodes.specs.Table.{TableState}
 use Rattle.inodes.specs.Tasks.{TaskState, task}
-use Rattle.history.specs.declared.types.At.{At}
-use Rattle.history.specs.declared.types.At.TheVariants as at
+use Rattle.history.specs.declared.types.Phase.{Phase}
+use Rattle.history.specs.declared.types.Phase.TheVariants as at
 use Rattle.history.specs.declared.types.Process.{Process}
 use Rattle.history.specs.Alone.{CommitsAlone, is_committing_at}
 use Rattle.history.specs.Lemmas.Alone.{alone_end_leaves, alone_end_commits, alone_written, alone_done}
@@ -51,7 +51,7 @@ use Rattle.kernel.proofs.Lasting.{lasts_unwritten}
 use Rattle.kernel.proofs.Right.{right_well, right_failed}
 
 -- process p goes from one place to another behind its turn, and nothing else of the processes changes
-pub record GoesTo (w z : World) (p : ℕ) (a b : At) : Type 0 where
+pub record GoesTo (w z : World) (p : ℕ) (a b : Phase) : Type 0 where
   pub stands : (process w p).at ≡ a
   pub was : is_before a ≡ false
   pub behind : is_before b ≡ false
@@ -61,7 +61,7 @@ pub record GoesTo (w z : World) (p : ℕ) (a b : At) : Type 0 where
   pub journal : z.journal ≡ w.journal
 
 -- the operation is answered, or goes on to its group's commit
-pub goes_answered : (w : World) (p : ℕ) (a : At) → (process w p).at ≡ a → is_before a ≡ false → GoesTo w (answered w p) p a at.Idle
+pub goes_answered : (w : World) (p : ℕ) (a : Phase) → (process w p).at ≡ a → is_before a ≡ false → GoesTo w (answered w p) p a at.Idle
 goes_answered w p a stands was = record { stands = stands; was = was; behind = refl; kept = None; keeps = λ busy. absurd (false≢true busy); processes = refl; journal = refl }
 
 pub goes_committing : (w : World) (p group k : ℕ) → (process w p).at ≡ at.Ending group k → GoesTo w (committing w p) p (at.Ending group k) (at.Committing group k)
@@ -71,7 +71,7 @@ goes_committing w p group k stands = record {
   behind = refl;
   kept = (process w p).room;
   keeps = λ busy. (refl, refl);
-  processes = ap (λ (a : At). set w.processes p (record (process w p) { at = committing_at a })) stands;
+  processes = ap (λ (a : Phase). set w.processes p (record (process w p) { at = committing_at a })) stands;
   journal = refl;
 }
 
@@ -89,7 +89,7 @@ module _ {D N : Type 0} (disk : Ghosts D N) (opening : D) (s : StoreState D) (w 
   inside = let few = right.paired.few in let pids = had.facts.valid.log.pids in omega (arith, lt, few, pids)
 
   module _ (t : StoreState D) (tasks : t.tasks ≡ s.tasks) (numbers : t.table.inode_count ≡ s.table.inode_count) (well_now : t.volume.fault ≡ None) (opened : t.volume.log.opened ≡ s.volume.log.opened)
-      (counts : disk.fault_count t.volume.device ≡ disk.fault_count s.volume.device) (z : World) (a b : At) (g : GoesTo w z p a b) where
+      (counts : disk.fault_count t.volume.device ≡ disk.fault_count s.volume.device) (z : World) (a b : Phase) (g : GoesTo w z p a b) where
     others : (q : ℕ) → q ≢ p → ats_of z q ≡ ats_of w q
     others q apart = ap (λ (r : Process). r.at) (others_stay w z p (record (process w p) { at = b; room = g.kept }) g.processes q apart)
 
@@ -99,7 +99,7 @@ module _ {D N : Type 0} (disk : Ghosts D N) (opening : D) (s : StoreState D) (w 
     -- so all is right where the facts are
     goes_right : (TaskStands w.journal.list (task s.tasks p) a → TaskStands z.journal.list (task s.tasks p) b) → KernelFacts (disk.image opening) (view_of disk.image t) w.journal.list (ats_of z) → CommitsAlone (ats_of z) t.volume.log → IsRight disk opening t z
     goes_right finished facts alone =
-        let had_task : IsPaired w.journal.list (task s.tasks p) a (process w p).room = subst (λ (c : At). IsPaired w.journal.list (task s.tasks p) c (process w p).room) g.stands (right.paired.stand p) in
+        let had_task : IsPaired w.journal.list (task s.tasks p) a (process w p).room = subst (λ (c : Phase). IsPaired w.journal.list (task s.tasks p) c (process w p).room) g.stands (right.paired.stand p) in
         right_well disk opening t z well_now (numbers ∙ right.numbers)
         (paired_goes s t w z p (record (process w p) { at = b; room = g.kept }) right.paired lt g.processes (ap (λ (l : List TaskState). length l) tasks) (λ q apart. ap (λ (l : List TaskState). task l q) tasks) (keeps_behind w z p (ap (λ (j : Entries). j.list) g.journal))
         (subst (λ (l : List TaskState). IsPaired z.journal.list (task l p) b g.kept) (sym tasks) (record {
@@ -116,7 +116,7 @@ module _ {D N : Type 0} (disk : Ghosts D N) (opening : D) (s : StoreState D) (w 
     t = with_log s (ended s.volume.log p)
 
     stood : StandsAt n (view_of disk.image s) w.journal.list p (at.Ending group k)
-    stood = subst (λ (a : At). StandsAt n (view_of disk.image s) w.journal.list p a) stands (had.facts.stands p)
+    stood = subst (λ (a : Phase). StandsAt n (view_of disk.image s) w.journal.list p a) stands (had.facts.stands p)
 
     valid : IsValidView n (view_of disk.image t)
     valid = valid_joint disk.image t n right.numbers agreed
@@ -166,7 +166,7 @@ module _ {D N : Type 0} (disk : Ghosts D N) (opening : D) (s : StoreState D) (w 
   module _ (group k : ℕ) (stands : (process w p).at ≡ at.Committing group k) (t : StoreState D) (r : Committed) (made : Commits disk s r t) (has_now : (d : D) → disk.leaves d (disk.moment d) (disk.image d))
       (before : Joint (disk.image s.volume.device) s.volume.buffers s.volume.log) where
     stood_committing : StandsAt n (view_of disk.image s) w.journal.list p (at.Committing group k)
-    stood_committing = subst (λ (a : At). StandsAt n (view_of disk.image s) w.journal.list p a) stands (had.facts.stands p)
+    stood_committing = subst (λ (a : Phase). StandsAt n (view_of disk.image s) w.journal.list p a) stands (had.facts.stands p)
 
     alone_here : is_committing_at (ats_of w p) ≡ true
     alone_here = ap is_committing_at stands
@@ -206,13 +206,13 @@ module _ {D N : Type 0} (disk : Ghosts D N) (opening : D) (s : StoreState D) (w 
       same_open : SameOpen s.volume.log t.volume.log
       same_open = subst (SameOpen s.volume.log) (sym wrote.log) (stepped_same (holds_back disk s t) s.volume.log.commit s.volume.log)
 
-      facts_now : (new : ℕ → At) → ((q : ℕ) → q ≢ p → new q ≡ ats_of w q) → (new p ≡ at.Committing group k) ⊎ (new p ≡ at.Idle) → KernelFacts (disk.image opening) (view_of disk.image t) w.journal.list new
+      facts_now : (new : ℕ → Phase) → ((q : ℕ) → q ≢ p → new q ≡ ats_of w q) → (new p ≡ at.Committing group k) ⊎ (new p ≡ at.Idle) → KernelFacts (disk.image opening) (view_of disk.image t) w.journal.list new
       facts_now new others_at now = inv_written (disk.image opening) (view_of disk.image s) (view_of disk.image t) w.journal.list (ats_of w) had.facts valid_now p new others_at (holds_back disk s t) group k wrote stands none_open now
 
       -- a step is made, and more are to come
       pub right_written : is_quiet t.volume.log.commit ≡ false → disk.fault_count t.volume.device ≡ disk.fault_count s.volume.device → IsRight disk opening t w
       right_written more counts =
-          let g : GoesTo w w p (at.Committing group k) (at.Committing group k) = record { stands = stands; was = refl; behind = refl; kept = (process w p).room; keeps = λ busy. (refl, refl); processes = sym (set-get_or w.processes p idle) ∙ ap (λ (a : At). set w.processes p (record (process w p) { at = a })) stands; journal = refl } in
+          let g : GoesTo w w p (at.Committing group k) (at.Committing group k) = record { stands = stands; was = refl; behind = refl; kept = (process w p).room; keeps = λ busy. (refl, refl); processes = sym (set-get_or w.processes p idle) ∙ ap (λ (a : Phase). set w.processes p (record (process w p) { at = a })) stands; journal = refl } in
           goes_right t made.tasks numbers_now well_now same_open.opened counts w (at.Committing group k) (at.Committing group k) g (λ over. over) (facts_now (ats_of w) (λ q apart. refl) (inl stands))
           (alone_written (ats_of w) (ats_of w) s.volume.log had.alone p (λ q apart. refl) t.volume.log same_open.outstanding alone_here alone_here more)
 

@@ -32,7 +32,7 @@ use Rattle.model.specs.Gathered.{GatheredBytes}
 use Rattle.wal.specs.Machine.{LogState, begun, ended, end_answer, is_quiet, used_by}
 use Rattle.wal.specs.Step.{CommitMakes}
 use Rattle.inodes.specs.declared.ilock.LockAt.TheVariants as lock_at
-use Rattle.inodes.specs.declared.tasks.Place.TheVariants as place
+use Rattle.inodes.specs.declared.tasks.Stage.TheVariants as stage
 use Rattle.inodes.specs.Places.{asked, is_over, most_behind, owes_reply, steps_left}
 use Rattle.inodes.specs.Steps.{Steps, Commits, is_made}
 use Rattle.inodes.specs.Store.{StoreState, current_of, first_place, with_begun, with_look}
@@ -40,8 +40,8 @@ use Rattle.inodes.specs.Table.{TableState}
 use Rattle.inodes.specs.Tasks.{TaskState, task, no_task}
 use Rattle.history.specs.AtOnce.{at_once_reply}
 use Rattle.history.specs.Journal.{entry_of, entry_in}
-use Rattle.history.specs.declared.types.At.{At}
-use Rattle.history.specs.declared.types.At.TheVariants as at
+use Rattle.history.specs.declared.types.Phase.{Phase}
+use Rattle.history.specs.declared.types.Phase.TheVariants as at
 use Rattle.history.specs.declared.types.Process.{Process}
 use Rattle.history.specs.Alone.{is_committing_at}
 use Rattle.history.specs.Bound.{all_steps_left, is_busy_at, writes_left}
@@ -82,7 +82,7 @@ at_least false old new is = omega (arith, is)
 pub record Rests (r : Step) : Type 0 where
   pub unmoved : r ≢ step.Moved
   pub runs : r ≢ step.Halted
-  pub none : (h : Bool) (a : At) (l : LogState) → commits h r a l ≡ false
+  pub none : (h : Bool) (a : Phase) (l : LogState) → commits h r a l ≡ false
 
 -- such are the answers where nothing is taken
 pub not_taken : (what : Option Waiting) (l : LogState) (room : Bool) (r : Step) → IsNotTaken what l room r → Rests r
@@ -176,17 +176,17 @@ module _ {D N : Type 0} (disk : Ghosts D N) (opening : Image) (p : ℕ) (s t : S
     stays r to counted others bound = goes r w (process w p) to (sym (set-get_or w.processes p idle)) refl (inr refl) (inl refl) counted others bound
 
     -- what is counted where it stands
-    counted_at : (a : At) (r : Step) → (process w p).at ≡ a → CountsCommitted holds r a s.volume.log t.volume.log → CountsCommitted holds r (process w p).at s.volume.log t.volume.log
-    counted_at a r stands counted = subst (λ (b : At). CountsCommitted holds r b s.volume.log t.volume.log) (sym stands) counted
+    counted_at : (a : Phase) (r : Step) → (process w p).at ≡ a → CountsCommitted holds r a s.volume.log t.volume.log → CountsCommitted holds r (process w p).at s.volume.log t.volume.log
+    counted_at a r stands counted = subst (λ (b : Phase). CountsCommitted holds r b s.volume.log t.volume.log) (sym stands) counted
 
     -- from place to place
-    fewer : (u : Process) (a b : At) → (process w p).at ≡ a → u.at ≡ b → all_steps_left b (task_left disk.image t p) t.volume.log < all_steps_left a (task_left disk.image s p) s.volume.log → 0 < all_steps_left b (task_left disk.image t p) t.volume.log → HasFewer disk.image (form_of opening) p s w t u
+    fewer : (u : Process) (a b : Phase) → (process w p).at ≡ a → u.at ≡ b → all_steps_left b (task_left disk.image t p) t.volume.log < all_steps_left a (task_left disk.image s p) s.volume.log → 0 < all_steps_left b (task_left disk.image t p) t.volume.log → HasFewer disk.image (form_of opening) p s w t u
     fewer u a b stands to less some =
         let lt : all_steps_left u.at (task_left disk.image t p) t.volume.log < all_steps_left (process w p).at (task_left disk.image s p) s.volume.log
-        = subst (λ (c : At). all_steps_left c (task_left disk.image t p) t.volume.log < all_steps_left (process w p).at (task_left disk.image s p) s.volume.log) (sym to)
-        (subst (λ (c : At). all_steps_left b (task_left disk.image t p) t.volume.log < all_steps_left c (task_left disk.image s p) s.volume.log) (sym stands) less) in
+        = subst (λ (c : Phase). all_steps_left c (task_left disk.image t p) t.volume.log < all_steps_left (process w p).at (task_left disk.image s p) s.volume.log) (sym to)
+        (subst (λ (c : Phase). all_steps_left b (task_left disk.image t p) t.volume.log < all_steps_left c (task_left disk.image s p) s.volume.log) (sym stands) less) in
         let most = few_steps disk.image opening s w p is.has is.looks is.numbers in
-        ((λ busy. lt), omega (arith, lt, most), subst (λ (c : At). 0 < all_steps_left c (task_left disk.image t p) t.volume.log) (sym to) some)
+        ((λ busy. lt), omega (arith, lt, most), subst (λ (c : Phase). 0 < all_steps_left c (task_left disk.image t p) t.volume.log) (sym to) some)
 
     -- nobody commits while the log is quiet
     alone : is_quiet s.volume.log.commit ≡ true → (q : ℕ) → q ≢ p → is_committing_at (process w q).at ≡ true → t.volume.log ≡ s.volume.log
@@ -204,7 +204,7 @@ module _ {D N : Type 0} (disk : Ghosts D N) (opening : Image) (p : ℕ) (s t : S
     }
 
     -- and has few steps to make
-    begins_few : (o : StoreState D) (u : TaskState) (begun_now group : ℕ) (op : Op) (room : Option GatheredBytes) → t ≡ o → o.tasks ≡ set s.tasks p u → (process w p).at ≡ at.Idle → steps_left (current_of disk.image o.volume) u.place o.table.inode_count ≤ most_behind (form_of opening) + 130 → HasFewer disk.image (form_of opening) p s w t (record { begun = begun_now; at = at.Before group op; room = room })
+    begins_few : (o : StoreState D) (u : TaskState) (begun_now group : ℕ) (op : Op) (room : Option GatheredBytes) → t ≡ o → o.tasks ≡ set s.tasks p u → (process w p).at ≡ at.Idle → steps_left (current_of disk.image o.volume) u.place o.table.inode_count ≤ most_behind (form_of opening) + 130 → HasFewer disk.image (form_of opening) p s w t (record { begun = begun_now; at = at.BeforeTurn group op; room = room })
     begins_few o u begun_now group op room to tasks stands few =
         let inside : p < length s.tasks = (let many = is.paired.many in let lt = is.inside in omega (arith, many, lt)) in
         let left : task_left disk.image t p ≡ steps_left (current_of disk.image o.volume) u.place o.table.inode_count
@@ -242,7 +242,7 @@ module _ {D N : Type 0} (disk : Ghosts D N) (opening : Image) (p : ℕ) (s t : S
         subst Made (sym made.answer)
         (goes step.Moved _ _ made.world refl refl (inl free) (inl refl) (counted_at at.Idle step.Moved stands (omega (arith, committed)))
         (begins_others (with_look s p made.op (room_for made.count)) _ made.store refl refl refl (λ q apart commits. same) (omega arith))
-        (λ moved. begins_few (with_look s p made.op (room_for made.count)) (record { op = Some made.op; place = place.Taking (record { number = asked made.op; at = lock_at.Reference }); gathered = room_for made.count }) ((process w p).begun + 1) 0 made.op (room_for made.count) made.store refl stands (let few = takes_few in omega (arith, few))))
+        (λ moved. begins_few (with_look s p made.op (room_for made.count)) (record { op = Some made.op; place = stage.Taking (record { number = asked made.op; at = lock_at.Reference }); gathered = room_for made.count }) ((process w p).begun + 1) 0 made.op (room_for made.count) made.store refl stands (let few = takes_few in omega (arith, few))))
     begins what ahead r stands free (inr (inr (inl made))) =
         let same = ap (λ (o : StoreState D). o.volume.log.committed) made.store in
         subst Made (sym made.answer)
@@ -269,7 +269,7 @@ module _ {D N : Type 0} (disk : Ghosts D N) (opening : Image) (p : ℕ) (s t : S
     falls_here : (op : Op) → is_over (task s.tasks p).place ≡ false → (q : TaskProgress) → is_made q ≡ true → Steps disk s p op q t → task_left disk.image t p < task_left disk.image s p
     falls_here op more q made done = subst (λ (m : ℕ). steps_left (current_of disk.image t.volume) (task t.tasks p).place m < task_left disk.image s p) (sym done.tasks.numbers) (done.falls made more)
 
-    works : (group : ℕ) (op : Op) (r : Step) → (process w p).at ≡ at.Before group op → Works disk s w p op r t z → Made r
+    works : (group : ℕ) (op : Op) (r : Step) → (process w p).at ≡ at.BeforeTurn group op → Works disk s w p op r t z → Made r
     works group op r stands made = subst Made (sym made.answer) (by_progress made.progress made.steps made.world)
       where
         there : ((task s.tasks p).op ≡ Some op) × (is_over (task s.tasks p).place ≡ false)
@@ -283,19 +283,19 @@ module _ {D N : Type 0} (disk : Ghosts D N) (opening : Image) (p : ℕ) (s t : S
         by_progress progress.Moved done to =
             let same = done.groups.committed in
             let less = falls_here op there.1 progress.Moved refl done in
-            stays step.Moved to (counted_at (at.Before group op) step.Moved stands (omega (arith, same))) (others_of op there.1 progress.Moved done)
-            (λ moved. fewer (process w p) (at.Before group op) (at.Before group op) stands stands (omega (arith, less)) (omega arith))
+            stays step.Moved to (counted_at (at.BeforeTurn group op) step.Moved stands (omega (arith, same))) (others_of op there.1 progress.Moved done)
+            (λ moved. fewer (process w p) (at.BeforeTurn group op) (at.BeforeTurn group op) stands stands (omega (arith, less)) (omega arith))
         by_progress (progress.Turned reply) done to =
             let same = done.groups.committed in
             let over : Bool = is_over (task t.tasks p).place in
             let k = length w.journal.list in
-            let now : turned w p reply over ≡ turned_from (at.Before group op) w p reply over = ap (λ (a : At). turned_from a w p reply over) stands in
+            let now : turned w p reply over ≡ turned_from (at.BeforeTurn group op) w p reply over = ap (λ (a : Phase). turned_from a w p reply over) stands in
             let less = falls_here op there.1 (progress.Turned reply) refl done in
             let left = behind over (task_left disk.image t p) k in
-            goes step.Moved (turned_from (at.Before group op) w p reply over) (record (process w p) { at = place_behind over group k }) (to ∙ now) refl refl (inr refl)
+            goes step.Moved (turned_from (at.BeforeTurn group op) w p reply over) (record (process w p) { at = place_behind over group k }) (to ∙ now) refl refl (inr refl)
             (inr (inl (record { entry = entry_of p (process w p).begun op group reply; mine = refl; later = later_before disk.image opening s w p is group op stands; list = refl })))
-            (counted_at (at.Before group op) step.Moved stands (omega (arith, same))) (others_of op there.1 (progress.Turned reply) done)
-            (λ moved. fewer (record (process w p) { at = place_behind over group k }) (at.Before group op) (place_behind over group k) stands refl (omega (arith, less, left.0)) left.1)
+            (counted_at (at.BeforeTurn group op) step.Moved stands (omega (arith, same))) (others_of op there.1 (progress.Turned reply) done)
+            (λ moved. fewer (record (process w p) { at = place_behind over group k }) (at.BeforeTurn group op) (place_behind over group k) stands refl (omega (arith, less, left.0)) left.1)
         by_progress (progress.Decided reply) done to = absurd (unread (stops op there.0 there.1 (progress.Decided reply) done).0)
           where
             unread : owes_reply (task s.tasks p).place ≡ true → ⊥
@@ -306,7 +306,7 @@ module _ {D N : Type 0} (disk : Ghosts D N) (opening : Image) (p : ℕ) (s t : S
         by_progress (progress.Fault fault) done to =
             let same = done.groups.committed in stays step.Halted to (omega (arith, same)) (others_of op there.1 (progress.Fault fault) done) (λ moved. absurd (cc moved))
 
-    finishes : (group k : ℕ) (r : Step) → (process w p).at ≡ at.Behind group k → Finishes disk s w p group k r t z → Made r
+    finishes : (group k : ℕ) (r : Step) → (process w p).at ≡ at.AfterTurn group k → Finishes disk s w p group k r t z → Made r
     finishes group k r stands made = subst Made (sym made.answer) (by_progress made.progress made.steps made.world)
       where
         op : Op
@@ -346,38 +346,38 @@ module _ {D N : Type 0} (disk : Ghosts D N) (opening : Image) (p : ℕ) (s t : S
         by_progress progress.Moved done to =
             let same = done.groups.committed in
             let less = falls_here op more progress.Moved refl done in
-            stays step.Moved to (counted_at (at.Behind group k) step.Moved stands (omega (arith, same))) (others_of op more progress.Moved done)
-            (λ moved. fewer (process w p) (at.Behind group k) (at.Behind group k) stands stands (omega (arith, less)) (omega arith))
+            stays step.Moved to (counted_at (at.AfterTurn group k) step.Moved stands (omega (arith, same))) (others_of op more progress.Moved done)
+            (λ moved. fewer (process w p) (at.AfterTurn group k) (at.AfterTurn group k) stands stands (omega (arith, less)) (omega arith))
         by_progress (progress.Turned reply) done to = absurd (false≢true (sym there.2.turned ∙ (stops op same_op more (progress.Turned reply) done).0))
         by_progress (progress.Decided reply) done to = by_group group stands to
           where
-            by_group : (g : ℕ) → (process w p).at ≡ at.Behind g k → z ≡ world_of_told g w p reply → Made (step_of_told g)
+            by_group : (g : ℕ) → (process w p).at ≡ at.AfterTurn g k → z ≡ world_of_told g w p reply → Made (step_of_told g)
             by_group zero at_behind to =
                 let same = done.groups.committed in
-                let now : answered (decided w p reply) p ≡ answered (told_at (Some k) w reply) p = ap (λ (a : At). answered (told_at (entry_place a) w reply) p) at_behind in
+                let now : answered (decided w p reply) p ≡ answered (told_at (Some k) w reply) p = ap (λ (a : Phase). answered (told_at (entry_place a) w reply) p) at_behind in
                 goes step.Answered (answered (told_at (Some k) w reply) p) (record (process w p) { at = at.Idle; room = None }) (to ∙ now) refl refl (inr refl) (inr (inr (tells reply done)))
-                (counted_at (at.Behind zero k) step.Answered at_behind (omega (arith, same))) (others_of op more (progress.Decided reply) done) (λ moved. absurd (cc moved))
+                (counted_at (at.AfterTurn zero k) step.Answered at_behind (omega (arith, same))) (others_of op more (progress.Decided reply) done) (λ moved. absurd (cc moved))
             by_group (suc g) at_behind to =
                 let same = done.groups.committed in
                 let less = falls_here op more (progress.Decided reply) refl done in
-                let now : decided w p reply ≡ told_at (Some k) w reply = ap (λ (a : At). told_at (entry_place a) w reply) at_behind in
+                let now : decided w p reply ≡ told_at (Some k) w reply = ap (λ (a : Phase). told_at (entry_place a) w reply) at_behind in
                 goes step.Moved (told_at (Some k) w reply) (process w p) (to ∙ now) (sym (set-get_or w.processes p idle)) refl (inr refl) (inr (inr (tells reply done)))
-                (counted_at (at.Behind (suc g) k) step.Moved at_behind (omega (arith, same))) (others_of op more (progress.Decided reply) done)
-                (λ moved. fewer (process w p) (at.Behind (suc g) k) (at.Behind (suc g) k) at_behind at_behind (omega (arith, less)) (omega arith))
+                (counted_at (at.AfterTurn (suc g) k) step.Moved at_behind (omega (arith, same))) (others_of op more (progress.Decided reply) done)
+                (λ moved. fewer (process w p) (at.AfterTurn (suc g) k) (at.AfterTurn (suc g) k) at_behind at_behind (omega (arith, less)) (omega arith))
         by_progress progress.Over done to = by_group group stands to
           where
-            by_group : (g : ℕ) → (process w p).at ≡ at.Behind g k → z ≡ world_of_last g w p → Made (step_of_last g)
+            by_group : (g : ℕ) → (process w p).at ≡ at.AfterTurn g k → z ≡ world_of_last g w p → Made (step_of_last g)
             by_group zero at_behind to =
                 let same = done.groups.committed in
                 goes step.Answered (answered w p) (record (process w p) { at = at.Idle; room = None }) to refl refl (inr refl) (inl refl)
-                (counted_at (at.Behind zero k) step.Answered at_behind (omega (arith, same))) (others_of op more progress.Over done) (λ moved. absurd (cc moved))
+                (counted_at (at.AfterTurn zero k) step.Answered at_behind (omega (arith, same))) (others_of op more progress.Over done) (λ moved. absurd (cc moved))
             by_group (suc g) at_behind to =
                 let same = done.groups.committed in
                 let less = falls_here op more progress.Over refl done in
-                let now : goes_to_end w p ≡ at_place w p (at.Ending (suc g) k) = ap (λ (a : At). at_place w p (over_at a)) at_behind in
+                let now : goes_to_end w p ≡ at_place w p (at.Ending (suc g) k) = ap (λ (a : Phase). at_place w p (over_at a)) at_behind in
                 goes step.Moved (at_place w p (at.Ending (suc g) k)) (record (process w p) { at = at.Ending (suc g) k }) (to ∙ now) refl refl (inr refl) (inl refl)
-                (counted_at (at.Behind (suc g) k) step.Moved at_behind (omega (arith, same))) (others_of op more progress.Over done)
-                (λ moved. fewer (record (process w p) { at = at.Ending (suc g) k }) (at.Behind (suc g) k) (at.Ending (suc g) k) at_behind refl (omega (arith, less)) (omega arith))
+                (counted_at (at.AfterTurn (suc g) k) step.Moved at_behind (omega (arith, same))) (others_of op more progress.Over done)
+                (λ moved. fewer (record (process w p) { at = at.Ending (suc g) k }) (at.AfterTurn (suc g) k) (at.Ending (suc g) k) at_behind refl (omega (arith, less)) (omega arith))
         by_progress (progress.Sleeping cause) done to =
             let same = done.groups.committed in stays (step.Sleeping cause) to (omega (arith, same)) (others_of op more (progress.Sleeping cause) done) (λ moved. absurd (cc moved))
         by_progress (progress.Fault fault) done to =
@@ -458,11 +458,11 @@ module _ {D N : Type 0} (disk : Ghosts D N) (opening : Image) (p : ℕ) (s t : S
             let same = ap (λ (l : LogState). l.committed) (commit_fails disk s.volume.device s.volume.buffers log t.volume.device t.volume.buffers t.volume.log fault (committed.Fault fault) refl done.volume.write).1 in
             stays step.Halted to (omega (arith, same)) (others (committed.Fault fault) done) (λ moved. absurd (cc moved))
 
-    event_at : (r : Step) (a : At) → (process w p).at ≡ a → NextAt disk a s w p before side told r t z → Made r
+    event_at : (r : Step) (a : Phase) → (process w p).at ≡ a → NextAt disk a s w p before side told r t z → Made r
     event_at r at.Idle stands (inl heard) = subst Made (sym heard.answer) (rests step.ShutDown true refl (λ e. cc e) heard.store heard.world (λ shut. refl))
     event_at r at.Idle stands (inr rest) = begins (option_map (waiting_of s.table.inode_count) (first_in rest.ahead)) rest.ahead r stands rest.unshut rest.begins
-    event_at r (at.Before group op) stands made = works group op r stands made
-    event_at r (at.Behind group k) stands made = finishes group k r stands made
+    event_at r (at.BeforeTurn group op) stands made = works group op r stands made
+    event_at r (at.AfterTurn group k) stands made = finishes group k r stands made
     event_at r (at.Ending group k) stands made = ends group k r stands made
     event_at r (at.Committing group k) stands made = writes group k r stands made
 

@@ -17,8 +17,8 @@ use Rattle.blockmap.specs.declared.progress.Progress.{Progress}
 use Rattle.blockmap.specs.declared.progress.Progress.TheVariants as machine
 use Rattle.inodes.specs.declared.ilock.LockAt.{LockAt}
 use Rattle.inodes.specs.declared.ilock.LockAt.TheVariants as lock_at
-use Rattle.inodes.specs.declared.tasks.Place.{Place}
-use Rattle.inodes.specs.declared.tasks.Place.TheVariants as place
+use Rattle.inodes.specs.declared.tasks.Stage.{Stage}
+use Rattle.inodes.specs.declared.tasks.Stage.TheVariants as stage
 use Rattle.inodes.specs.Goes.{Goes, GoesFrom, shown_of, progress_of_lock, place_of_lock, progress_of_read, place_of_reading, progress_of_trunc, place_of_trunc, table_of_trunc, progress_of_write, place_of_writing, table_of_writing}
 use Rattle.inodes.specs.Ilock.{LockSteps, Locks}
 use Rattle.inodes.specs.Lemmas.StepsLeft.{failed_left, left_outside, others_left}
@@ -43,7 +43,7 @@ use Rattle.kernel.proofs.Bounds.{few_steps}
 use Rattle.kernel.proofs.UnderWay.{has_lock, under_way}
 
 -- where a task stands whose step failed, and the table, stay
-record Stays {D : Type 0} (a : Place) (s : StoreState D) (p : ℕ) (t : StoreState D) : Type 0 where
+record Stays {D : Type 0} (a : Stage) (s : StoreState D) (p : ℕ) (t : StoreState D) : Type 0 where
   unfinished : is_over a ≡ false
   place_stays : (task t.tasks p).place ≡ a
   table : t.table ≡ s.table
@@ -60,45 +60,45 @@ module _ {D N : Type 0} (disk : Ghosts D N) (s : StoreState D) (p : ℕ) (op : O
   lock_table (lock_at.Read k None) m n other locks = locks.1
   lock_table (lock_at.Read k (Some i)) m n other locks = let no = locks.0.answer in absurd (cc no)
 
-  stays : (a : Place) → Goes disk a s p op (progress.Fault fault) t → Stays a s p t
-  stays place.Nowhere goes = let no = goes.0 in absurd (cc no)
-  stays (place.Creating m) goes = record { unfinished = refl; place_stays = by_slot m.slot goes.0; table = goes.1 }
+  stays : (a : Stage) → Goes disk a s p op (progress.Fault fault) t → Stays a s p t
+  stays stage.Nowhere goes = let no = goes.0 in absurd (cc no)
+  stays (stage.Creating m) goes = record { unfinished = refl; place_stays = by_slot m.slot goes.0; table = goes.1 }
     where
-      by_slot : (o : Option ℕ) → GoesFrom o s.table.inode_count p m s.volume.buffers (progress.Fault fault) (task t.tasks p).place (shown_of disk.image s.volume) (shown_of disk.image t.volume) → (task t.tasks p).place ≡ place.Creating m
+      by_slot : (o : Option ℕ) → GoesFrom o s.table.inode_count p m s.volume.buffers (progress.Fault fault) (task t.tasks p).place (shown_of disk.image s.volume) (shown_of disk.image t.volume) → (task t.tasks p).place ≡ stage.Creating m
       by_slot None goes = goes.0.1
       by_slot (Some i) goes = absurd goes
-  stays (place.Taking m) goes = by_answer goes.0.answer goes.0.gives goes.0.next goes.0.locks
+  stays (stage.Taking m) goes = by_answer goes.0.answer goes.0.gives goes.0.next goes.0.locks
     where
       by_answer : (x : Progress Bool) → progress.Fault fault ≡ progress_of_lock s.table.form (inode_of (current_of disk.image s.volume) m.number) op x
           → (task t.tasks p).place ≡ place_of_lock (extent_of s.table.form s.table.inode_count s.volume.log.size) (inode_of (current_of disk.image s.volume) m.number) op m goes.0.now x
-          → LockSteps disk m.at s.table s.volume p m x t.table t.volume goes.0.now → Stays (place.Taking m) s p t
+          → LockSteps disk m.at s.table s.volume p m x t.table t.volume goes.0.now → Stays (stage.Taking m) s p t
       by_answer machine.Moved is next locks = absurd (cc is)
       by_answer (machine.Sleeping why) is next locks = absurd (cc is)
       by_answer (machine.Over used) is next locks = absurd (cc is)
       by_answer (machine.Fault other) is next locks = record { unfinished = refl; place_stays = next; table = lock_table m.at m goes.0.now other locks }
-  stays (place.Reading k m) goes = by_answer goes.0.answer goes.0.gives goes.0.next
+  stays (stage.Reading k m) goes = by_answer goes.0.answer goes.0.gives goes.0.next
     where
-      by_answer : (x : Progress (Unit {0})) → progress.Fault fault ≡ progress_of_read x → (task t.tasks p).place ≡ place_of_reading k m goes.0.now x → Stays (place.Reading k m) s p t
+      by_answer : (x : Progress (Unit {0})) → progress.Fault fault ≡ progress_of_read x → (task t.tasks p).place ≡ place_of_reading k m goes.0.now x → Stays (stage.Reading k m) s p t
       by_answer machine.Moved is next = absurd (cc is)
       by_answer (machine.Sleeping why) is next = absurd (cc is)
       by_answer (machine.Over out) is next = absurd (cc is)
       by_answer (machine.Fault other) is next = record { unfinished = refl; place_stays = next; table = goes.0.table }
-  stays (place.Delivering k) goes = let no = goes.gives in absurd (cc no)
-  stays (place.Truncating k m) goes = by_answer goes.answer goes.gives goes.next goes.table
+  stays (stage.Delivering k) goes = let no = goes.gives in absurd (cc no)
+  stays (stage.Truncating k m) goes = by_answer goes.answer goes.gives goes.next goes.table
     where
-      by_answer : (x : Progress (Unit {0})) → progress.Fault fault ≡ progress_of_trunc x → (task t.tasks p).place ≡ place_of_trunc k m goes.now x → t.table ≡ table_of_trunc s.table k m x → Stays (place.Truncating k m) s p t
+      by_answer : (x : Progress (Unit {0})) → progress.Fault fault ≡ progress_of_trunc x → (task t.tasks p).place ≡ place_of_trunc k m goes.now x → t.table ≡ table_of_trunc s.table k m x → Stays (stage.Truncating k m) s p t
       by_answer machine.Moved is next table = absurd (cc is)
       by_answer (machine.Sleeping why) is next table = absurd (cc is)
       by_answer (machine.Over out) is next table = absurd (cc is)
       by_answer (machine.Fault other) is next table = record { unfinished = refl; place_stays = next; table = table }
-  stays (place.Writing k m) goes = by_answer goes.answer goes.gives goes.next goes.table
+  stays (stage.Writing k m) goes = by_answer goes.answer goes.gives goes.next goes.table
     where
-      by_answer : (x : Progress (Unit {0})) → progress.Fault fault ≡ progress_of_write m.done x → (task t.tasks p).place ≡ place_of_writing k m goes.now x → t.table ≡ table_of_writing s.table k m x → Stays (place.Writing k m) s p t
+      by_answer : (x : Progress (Unit {0})) → progress.Fault fault ≡ progress_of_write m.done x → (task t.tasks p).place ≡ place_of_writing k m goes.now x → t.table ≡ table_of_writing s.table k m x → Stays (stage.Writing k m) s p t
       by_answer machine.Moved is next table = absurd (cc is)
       by_answer (machine.Sleeping why) is next table = absurd (cc is)
       by_answer (machine.Over out) is next table = absurd (cc is)
       by_answer (machine.Fault other) is next table = record { unfinished = refl; place_stays = next; table = table }
-  stays (place.Leaving k) goes = let no = goes.0 in absurd (cc no)
+  stays (stage.Leaving k) goes = let no = goes.0 in absurd (cc no)
 
 module _ {D N : Type 0} (disk : Ghosts D N) (opening : D) (s : StoreState D) (w : World) (store : IsStore disk.image s) (right : IsRight disk opening s w) where
   abbrev form : Form
@@ -145,7 +145,7 @@ module _ {D N : Type 0} (disk : Ghosts D N) (opening : D) (s : StoreState D) (w 
       left_stays : (q : ℕ) → new q ≡ old q
       left_stays q = ap (λ (n : ℕ). steps_left now (task t.tasks q).place n) steps.tasks.numbers ∙ ⊎_elim
           (λ (same : q ≡ p). subst (λ (o : ℕ). steps_left now (task t.tasks o).place s.table.inode_count ≡ old o) (sym same)
-          (ap (λ (a : Place). steps_left now a s.table.inode_count) here.place_stays ∙ failed_left disk s p op fault t steps))
+          (ap (λ (a : Stage). steps_left now a s.table.inode_count) here.place_stays ∙ failed_left disk s p op fault t steps))
           (λ (apart : q ≢ p). others_left disk s p op (progress.Fault fault) t (where_none s.volume.fault well store.looks) store.numbers steps q apart)
           (cases_eq q p)
 

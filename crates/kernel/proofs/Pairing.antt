@@ -6,12 +6,12 @@ use Rattle.model.specs.Gathered.{GatheredBytes}
 use Rattle.model.specs.declared.types.operations.Entry.{Entry}
 use Rattle.model.specs.declared.types.operations.Op.{Op}
 use Rattle.model.specs.declared.types.operations.Op.TheVariants.{Create, Write, Read, Trunc, Remove, Stat}
-use Rattle.inodes.specs.declared.tasks.Place.{Place}
+use Rattle.inodes.specs.declared.tasks.Stage.{Stage}
 use Rattle.inodes.specs.Store.{StoreState, CanBegin, first_place}
 use Rattle.inodes.specs.Places.{is_unturned}
 use Rattle.inodes.specs.Tasks.{TaskState, task, no_task}
-use Rattle.history.specs.declared.types.At.{At}
-use Rattle.history.specs.declared.types.At.TheVariants as at
+use Rattle.history.specs.declared.types.Phase.{Phase}
+use Rattle.history.specs.declared.types.Phase.TheVariants as at
 use Rattle.history.specs.declared.types.Process.{Process}
 use Rattle.history.specs.Journal.{IsItsRoom}
 use Rattle.history.specs.Open.{IsEntry}
@@ -20,16 +20,16 @@ use Rattle.kernel.specs.Invariant.{ArePaired, IsPaired, TaskStands}
 use Rattle.history.specs.Lemmas.Places.{there_now, others_stay}
 
 -- a process goes on with its task where its own entry stays
-stands_back : (es fs : List Entry) (v : TaskState) (a : At) → ((g k : ℕ) (e : Entry) → a ≡ at.Behind g k → IsEntry fs k e → IsEntry es k e) → TaskStands es v a → TaskStands fs v a
+stands_back : (es fs : List Entry) (v : TaskState) (a : Phase) → ((g k : ℕ) (e : Entry) → a ≡ at.AfterTurn g k → IsEntry fs k e → IsEntry es k e) → TaskStands es v a → TaskStands fs v a
 stands_back es fs v at.Idle back had = had
-stands_back es fs v (at.Before group op) back had = had
-stands_back es fs v (at.Behind group k) back had = λ e there. had e (back group k e refl there)
+stands_back es fs v (at.BeforeTurn group op) back had = had
+stands_back es fs v (at.AfterTurn group k) back had = λ e there. had e (back group k e refl there)
 stands_back es fs v (at.Ending group k) back had = had
 stands_back es fs v (at.Committing group k) back had = had
 
 -- behind its turn, each other process than p has its entry where it had it
 abbrev pub KeepsBehind : World → World → ℕ → Type 0
-KeepsBehind w z p = (q : ℕ) → q ≢ p → (g k : ℕ) (e : Entry) → (process w q).at ≡ at.Behind g k → IsEntry z.journal.list k e → IsEntry w.journal.list k e
+KeepsBehind w z p = (q : ℕ) → q ≢ p → (g k : ℕ) (e : Entry) → (process w q).at ≡ at.AfterTurn g k → IsEntry z.journal.list k e → IsEntry w.journal.list k e
 
 -- so it is where the journal stays
 pub keeps_behind : (w z : World) (p : ℕ) → z.journal.list ≡ w.journal.list → KeepsBehind w z p
@@ -64,7 +64,7 @@ begins_unturned (Remove i) n can = refl
 begins_unturned (Stat i) n can = absurd can
 
 -- the task of an operation that begins
-pub task_begun : {D : Type 0} (s : StoreState D) (es : List Entry) (p group : ℕ) (op : Op) (a : Place) (bytes room : Option GatheredBytes) → p < length s.tasks → is_unturned a ≡ true → IsItsRoom (Some op) room
-    → IsPaired es (task (set s.tasks p (record { op = Some op; place = a; gathered = bytes })) p) (at.Before group op) room
+pub task_begun : {D : Type 0} (s : StoreState D) (es : List Entry) (p group : ℕ) (op : Op) (a : Stage) (bytes room : Option GatheredBytes) → p < length s.tasks → is_unturned a ≡ true → IsItsRoom (Some op) room
+    → IsPaired es (task (set s.tasks p (record { op = Some op; place = a; gathered = bytes })) p) (at.BeforeTurn group op) room
 task_begun s es p group op a bytes room lt unturned its =
-    subst (λ (t : TaskState). IsPaired es t (at.Before group op) room) (sym (get_or-set_same s.tasks p (record { op = Some op; place = a; gathered = bytes }) no_task lt)) (record { stands = (refl, unturned); room_is = λ busy. its })
+    subst (λ (t : TaskState). IsPaired es t (at.BeforeTurn group op) room) (sym (get_or-set_same s.tasks p (record { op = Some op; place = a; gathered = bytes }) no_task lt)) (record { stands = (refl, unturned); room_is = λ busy. its })

@@ -13,8 +13,8 @@ use Rattle.ports.specs.History.{Side, History, OthersStay, AllFit, FitWith, noth
 use Rattle.model.specs.Gathered.{GatheredBytes}
 use Rattle.history.specs.Journal.{entry_of}
 use Rattle.history.specs.Open.{IsEntry, told}
-use Rattle.history.specs.declared.types.At.{At}
-use Rattle.history.specs.declared.types.At.TheVariants as at
+use Rattle.history.specs.declared.types.Phase.{Phase}
+use Rattle.history.specs.declared.types.Phase.TheVariants as at
 use Rattle.history.specs.declared.types.Process.{Process}
 use Rattle.history.specs.Bound.{is_busy_at}
 use Rattle.history.specs.Histories.{IsHistory}
@@ -41,7 +41,7 @@ pub record GoesOn {I M : Type 0} (intake : intake_trait.Ghosts I M) (i j : I) (w
   pub served : intake.process_count j ≡ intake.process_count i
   pub rooms : (q : ℕ) → q ≢ p → (intake.side i q).has_room ≡ true → (intake.side j q).has_room ≡ true
   pub room : is_busy_at t.at ≡ true → (intake.side j p).has_room ≡ true
-  pub journal : (q begun : ℕ) (a : At) (f : History) → q ≢ p → IsHistory w.journal.list a begun q f → IsHistory z.journal.list a begun q f
+  pub journal : (q begun : ℕ) (a : Phase) (f : History) → q ≢ p → IsHistory w.journal.list a begun q f → IsHistory z.journal.list a begun q f
   pub fits : (q : ℕ) (f : History) → q ≢ p → intake.fits i q f → intake.fits j q f
   pub mine : (f : History) → IsHistory w.journal.list (process w p).at (process w p).begun p f → intake.fits i p f
       → (g : History) × IsHistory z.journal.list t.at t.begun p g × intake.fits j p g
@@ -87,7 +87,7 @@ module _ {I M H : Type 0} (intake : intake_trait.Ghosts I M) (herald : herald_tr
   ports_counted i h c d w had same = subst (λ (n : ℕ). ArePorts intake herald i h n w) (sym same) had
 
   -- a place is kept for the answer of an operation under way
-  pub room_there : (i : I) (h : H) (c : ℕ) (w : World) (p : ℕ) (a : At) → ArePorts intake herald i h c w → (process w p).at ≡ a → is_busy_at a ≡ true → (intake.side i p).has_room ≡ true
+  pub room_there : (i : I) (h : H) (c : ℕ) (w : World) (p : ℕ) (a : Phase) → ArePorts intake herald i h c w → (process w p).at ≡ a → is_busy_at a ≡ true → (intake.side i p).has_room ≡ true
   room_there i h c w p a had stands busy = had.room p (ap is_busy_at stands ∙ busy)
 
   -- the intake serves each process
@@ -144,7 +144,7 @@ module _ {I M H : Type 0} (intake : intake_trait.Ghosts I M) (herald : herald_tr
       (takes_it : TakesFirst intake what l p op rooms i n w y) where
     -- an operation was taken
     pub ports_taken : (group : ℕ) (kept : Option GatheredBytes) → z ≡ taken (with_place w) p group op kept → ArePorts intake herald n h c z
-    ports_taken group kept is = ports_go i n h h c c w z p (record { begun = (process w p).begun + 1; at = at.Before group op; room = kept }) had
+    ports_taken group kept is = ports_go i n h h c c w z p (record { begun = (process w p).begun + 1; at = at.BeforeTurn group op; room = kept }) had
         (record {
           inside = lt;
           processes = ap (λ (o : World). o.processes) is;
@@ -155,8 +155,8 @@ module _ {I M H : Type 0} (intake : intake_trait.Ghosts I M) (herald : herald_tr
           fits = takes_it.fits.others;
           mine = λ f history fits. (
             takes (Some op) f,
-            subst (λ (o : World). IsHistory o.journal.list (at.Before group op) ((process w p).begun + 1) p (takes (Some op) f)) (sym is)
-                (history_taken w.journal.list (process w p).begun group p op f (subst (λ (a : At). IsHistory w.journal.list a (process w p).begun p f) stands history)),
+            subst (λ (o : World). IsHistory o.journal.list (at.BeforeTurn group op) ((process w p).begun + 1) p (takes (Some op) f)) (sym is)
+                (history_taken w.journal.list (process w p).begun group p op f (subst (λ (a : Phase). IsHistory w.journal.list a (process w p).begun p f) stands history)),
             takes_it.fits.own f fits,
           );
         }) had.told
@@ -177,17 +177,17 @@ module _ {I M H : Type 0} (intake : intake_trait.Ghosts I M) (herald : herald_tr
           mine = λ f history fits. (
             gives (refusal_answer w p reply) (takes (Some op) f),
             subst (λ (o : World). IsHistory o.journal.list (process w p).at ((process w p).begun + 1) p (gives (refusal_answer w p reply) (takes (Some op) f))) (sym is)
-                (subst (λ (a : At). IsHistory (w.journal.list ++ refusal w p op reply ∷ []) a ((process w p).begun + 1) p (gives (refusal_answer w p reply) (takes (Some op) f))) (sym stands)
-                (history_at_once w.journal.list (process w p).begun p (refusal w p op reply) (refusal_answer w p reply) f refl refl refl (subst (λ (a : At). IsHistory w.journal.list a (process w p).begun p f) stands history))),
+                (subst (λ (a : Phase). IsHistory (w.journal.list ++ refusal w p op reply ∷ []) a ((process w p).begun + 1) p (gives (refusal_answer w p reply) (takes (Some op) f))) (sym stands)
+                (history_at_once w.journal.list (process w p).begun p (refusal w p op reply) (refusal_answer w p reply) f refl refl refl (subst (λ (a : Phase). IsHistory w.journal.list a (process w p).begun p f) stands history))),
             gives_it.own (takes (Some op) f) (takes_it.fits.own f fits),
           );
         }) had.told
 
   -- an operation had its turn
-  pub ports_turned : (i : I) (h : H) (c : ℕ) (w z : World) (p group : ℕ) (op : Op) (reply : Option Reply) (over : Bool) → ArePorts intake herald i h c w → p < length w.processes → (process w p).at ≡ at.Before group op → z ≡ turned w p reply over
+  pub ports_turned : (i : I) (h : H) (c : ℕ) (w z : World) (p group : ℕ) (op : Op) (reply : Option Reply) (over : Bool) → ArePorts intake herald i h c w → p < length w.processes → (process w p).at ≡ at.BeforeTurn group op → z ≡ turned w p reply over
       → ArePorts intake herald i h c z
   ports_turned i h c w z p group op reply over had lt stands turn =
-      let is : z ≡ turned_from (at.Before group op) w p reply over = turn ∙ ap (λ (a : At). turned_from a w p reply over) stands in
+      let is : z ≡ turned_from (at.BeforeTurn group op) w p reply over = turn ∙ ap (λ (a : Phase). turned_from a w p reply over) stands in
       ports_go i i h h c c w z p (record (process w p) { at = place_behind over group (length w.journal.list) }) had
       (record {
         inside = lt;
@@ -201,17 +201,17 @@ module _ {I M H : Type 0} (intake : intake_trait.Ghosts I M) (herald : herald_tr
         mine = λ f history fits. (
           f,
           subst (λ (o : World). IsHistory o.journal.list (place_behind over group (length w.journal.list)) (process w p).begun p f) (sym is)
-              (behind over f (subst (λ (a : At). IsHistory w.journal.list a (process w p).begun p f) stands history)),
+              (behind over f (subst (λ (a : Phase). IsHistory w.journal.list a (process w p).begun p f) stands history)),
           fits,
         );
       }) had.told
     where
-      behind : (b : Bool) (f : History) → IsHistory w.journal.list (at.Before group op) (process w p).begun p f → IsHistory (w.journal.list ++ entry_of p (process w p).begun op group reply ∷ []) (place_behind b group (length w.journal.list)) (process w p).begun p f
+      behind : (b : Bool) (f : History) → IsHistory w.journal.list (at.BeforeTurn group op) (process w p).begun p f → IsHistory (w.journal.list ++ entry_of p (process w p).begun op group reply ∷ []) (place_behind b group (length w.journal.list)) (process w p).begun p f
       behind true f history = history_turned_over w.journal.list (process w p).begun group p (entry_of p (process w p).begun op group reply) f refl refl history
       behind false f history = history_turned w.journal.list (process w p).begun group p (entry_of p (process w p).begun op group reply) f refl refl history
 
   -- one under way goes on to another place, with the same history
-  ports_placed : (i : I) (h : H) (c : ℕ) (w z : World) (p : ℕ) (a b : At) → ArePorts intake herald i h c w → p < length w.processes → (process w p).at ≡ a → is_busy_at a ≡ true → z ≡ at_place w p b
+  ports_placed : (i : I) (h : H) (c : ℕ) (w z : World) (p : ℕ) (a b : Phase) → ArePorts intake herald i h c w → p < length w.processes → (process w p).at ≡ a → is_busy_at a ≡ true → z ≡ at_place w p b
       → ((f : History) → IsHistory w.journal.list a (process w p).begun p f → IsHistory w.journal.list b (process w p).begun p f) → ArePorts intake herald i h c z
   ports_placed i h c w z p a b had lt stands busy is goes = ports_go i i h h c c w z p (record (process w p) { at = b }) had
       (record {
@@ -224,27 +224,27 @@ module _ {I M H : Type 0} (intake : intake_trait.Ghosts I M) (herald : herald_tr
         fits = λ q f other fits. fits;
         mine = λ f history fits. (
           f,
-          subst (λ (o : World). IsHistory o.journal.list b (process w p).begun p f) (sym is) (goes f (subst (λ (o : At). IsHistory w.journal.list o (process w p).begun p f) stands history)),
+          subst (λ (o : World). IsHistory o.journal.list b (process w p).begun p f) (sym is) (goes f (subst (λ (o : Phase). IsHistory w.journal.list o (process w p).begun p f) stands history)),
           fits,
         );
       }) had.told
 
   -- one whose task is over ends in the log next
-  pub ports_ending : (i : I) (h : H) (c : ℕ) (w z : World) (p group k : ℕ) → ArePorts intake herald i h c w → p < length w.processes → (process w p).at ≡ at.Behind group k → z ≡ over w p → ArePorts intake herald i h c z
-  ports_ending i h c w z p group k had lt stands is = ports_placed i h c w z p (at.Behind group k) (at.Ending group k) had lt stands refl (is ∙ ap (λ (a : At). at_place w p (over_at a)) stands)
+  pub ports_ending : (i : I) (h : H) (c : ℕ) (w z : World) (p group k : ℕ) → ArePorts intake herald i h c w → p < length w.processes → (process w p).at ≡ at.AfterTurn group k → z ≡ over w p → ArePorts intake herald i h c z
+  ports_ending i h c w z p group k had lt stands is = ports_placed i h c w z p (at.AfterTurn group k) (at.Ending group k) had lt stands refl (is ∙ ap (λ (a : Phase). at_place w p (over_at a)) stands)
       (λ f history. history_ending w.journal.list k (process w p).begun group p f history)
 
   -- and goes on from its end to its group's commit
   pub ports_committing : (i : I) (h : H) (c : ℕ) (w z : World) (p group k : ℕ) → ArePorts intake herald i h c w → p < length w.processes → (process w p).at ≡ at.Ending group k → z ≡ committing w p → ArePorts intake herald i h c z
-  ports_committing i h c w z p group k had lt stands is = ports_placed i h c w z p (at.Ending group k) (at.Committing group k) had lt stands refl (is ∙ ap (λ (a : At). at_place w p (committing_at a)) stands)
+  ports_committing i h c w z p group k had lt stands is = ports_placed i h c w z p (at.Ending group k) (at.Committing group k) had lt stands refl (is ∙ ap (λ (a : Phase). at_place w p (committing_at a)) stands)
       (λ f history. history_committing w.journal.list k (process w p).begun group p f history)
 
   -- one's entry was told its reply
-  pub ports_decided : (i : I) (h : H) (c : ℕ) (w : World) (p group k : ℕ) (e : Entry) (reply : Reply) → ArePorts intake herald i h c w → p < length w.processes → (process w p).at ≡ at.Behind group k → IsEntry w.journal.list k e → e.pid ≡ p
+  pub ports_decided : (i : I) (h : H) (c : ℕ) (w : World) (p group k : ℕ) (e : Entry) (reply : Reply) → ArePorts intake herald i h c w → p < length w.processes → (process w p).at ≡ at.AfterTurn group k → IsEntry w.journal.list k e → e.pid ≡ p
       → ArePorts intake herald i h c (decided w p reply)
   ports_decided i h c w p group k e reply had lt stands there mine =
       let z = told_at (Some k) w reply in
-      let same : decided w p reply ≡ z = ap (λ (a : At). told_at (entry_place a) w reply) stands in
+      let same : decided w p reply ≡ z = ap (λ (a : Phase). told_at (entry_place a) w reply) stands in
       let list : z.journal.list ≡ set w.journal.list k (told e reply) = ap (λ (f : Entry). set w.journal.list k (told f reply)) (entry_inside w.journal.list k e there) in
       subst (λ (o : World). ArePorts intake herald i h c o) (sym same) (ports_go i i h h c c w z p (process w p) had
       (record {
@@ -258,8 +258,8 @@ module _ {I M H : Type 0} (intake : intake_trait.Ghosts I M) (herald : herald_tr
         mine = λ f history fits. (
           f,
           subst (λ (l : List Entry). IsHistory l (process w p).at (process w p).begun p f) (sym list)
-              (subst (λ (a : At). IsHistory (set w.journal.list k (told e reply)) a (process w p).begun p f) (sym stands)
-              (history_replied w.journal.list k (process w p).begun group p e reply f there (subst (λ (a : At). IsHistory w.journal.list a (process w p).begun p f) stands history))),
+              (subst (λ (a : Phase). IsHistory (set w.journal.list k (told e reply)) a (process w p).begun p f) (sym stands)
+              (history_replied w.journal.list k (process w p).begun group p e reply f there (subst (λ (a : Phase). IsHistory w.journal.list a (process w p).begun p f) stands history))),
           fits,
         );
       }) had.told)

@@ -25,8 +25,8 @@ use Rattle.inodes.specs.Store.{StoreState}
 use Rattle.inodes.specs.Waiting.{sleep_cause}
 use Rattle.ports.specs.declared.herald.Herald as herald_trait
 use Rattle.ports.specs.declared.intake.Intake as intake_trait
-use Rattle.history.specs.declared.types.At.{At}
-use Rattle.history.specs.declared.types.At.TheVariants as at
+use Rattle.history.specs.declared.types.Phase.{Phase}
+use Rattle.history.specs.declared.types.Phase.TheVariants as at
 use Rattle.history.specs.declared.types.Process.{Process}
 use Rattle.history.specs.Bound.{is_busy_at, all_steps_left}
 use Rattle.history.specs.Processes.{World, process, idle, answered, decided}
@@ -111,7 +111,7 @@ module _ {D I H : Type 0} where
 
   cause_stays : (k m : State D I H) (q : ℕ) → Stays k m → cause_of m q ≡ cause_of k q
   cause_stays k m q stays =
-      ap (λ (a : At). cause_by a (sleep_cause m.store q)) (stays.ats q)
+      ap (λ (a : Phase). cause_by a (sleep_cause m.store q)) (stays.ats q)
       ∙ ap (λ (s : StoreState D). cause_by (ats_of k.world q) (sleep_cause s q)) stays.store
 
   busy_inside : (k : State D I H) (p : ℕ) → IsBusy k p → p < length k.world.processes
@@ -130,11 +130,11 @@ module _ {D I H : Type 0} (image : D → Image) where
 
   left_stays : (k m : State D I H) (q : ℕ) → Stays k m → left_of image m q ≡ left_of image k q
   left_stays k m q stays =
-      ap (λ (a : At). all_steps_left a (task_left image m.store q) m.store.volume.log) (stays.ats q)
+      ap (λ (a : Phase). all_steps_left a (task_left image m.store q) m.store.volume.log) (stays.ats q)
       ∙ ap (λ (s : StoreState D). all_steps_left (ats_of k.world q) (task_left image s q) s.volume.log) stays.store
 
   idle_left : (k : State D I H) (q : ℕ) → ats_of k.world q ≡ at.Idle → left_of image k q ≡ 0
-  idle_left k q is = ap (λ (a : At). all_steps_left a (task_left image k.store q) k.store.volume.log) is
+  idle_left k q is = ap (λ (a : Phase). all_steps_left a (task_left image k.store q) k.store.volume.log) is
 
   -- a shutdown leaves who goes on
   shut_awake : (k : State D I H) (o : Option DeviceFault) → IfNone o (IsAwake image k) → IfNone o (IsAwake image (with_shutdown k))
@@ -233,15 +233,15 @@ module _ {D N I M H : Type 0} (disk : disk_trait.Ghosts D N) (intake : intake_tr
     one_turn : p < length k.world.processes → (process m.world p).begun ≡ (process k.world p).begun → Goes
     one_turn lt same = by (ats_of k.world p) refl (next_of disk intake herald k m p r well makes)
       where
-        busy : (a : At) → ats_of k.world p ≡ a → is_busy_at a ≡ true → IsBusy k p
+        busy : (a : Phase) → ats_of k.world p ≡ a → is_busy_at a ≡ true → IsBusy k p
         busy a is there = ap is_busy_at is ∙ there
 
-        by : (a : At) → ats_of k.world p ≡ a → NextAt disk a k.store k.world p (intake.side k.intake p).ahead (intake.side m.intake p) (herald.told m.herald) r m.store m.world → Goes
+        by : (a : Phase) → ats_of k.world p ≡ a → NextAt disk a k.store k.world p (intake.side k.intake p).ahead (intake.side m.intake p) (herald.told m.herald) r m.store m.world → Goes
         by at.Idle is next =
             let none = took_none disk k.store m.store k.world m.world p (intake.side k.intake p).ahead (intake.side m.intake p) (herald.told m.herald) r lt same next in
             inr (stays_with k m none.0 none.1, λ (b : IsBusy k p) (free : cause_of k p ≡ None). both_ways _ (ap is_busy_at is) b)
-        by (at.Before group op) is next = works op next.progress _ (busy (at.Before group op) is refl) next.steps next.answer next.world
-        by (at.Behind group j) is next = finishes group _ next.progress (busy (at.Behind group j) is refl) next.steps next.answer next.world
+        by (at.BeforeTurn group op) is next = works op next.progress _ (busy (at.BeforeTurn group op) is refl) next.steps next.answer next.world
+        by (at.AfterTurn group j) is next = finishes group _ next.progress (busy (at.AfterTurn group j) is refl) next.steps next.answer next.world
         by (at.Ending group j) is next = ends (end_answer k.store.volume.log) (busy (at.Ending group j) is refl) next.answer next.world
         by (at.Committing group j) is next = writes next.result (busy (at.Committing group j) is refl) next.answer next.world
 

@@ -22,7 +22,7 @@ use Rattle.inodes.specs.Tasks.{TaskState, task}
 use Rattle.inodes.specs.WriteRuns.{SeesFull}
 use Rattle.inodes.specs.Writei.{WriteState}
 use Rattle.inodes.specs.Writing.{extent_of}
-use Rattle.inodes.specs.declared.tasks.Place.TheVariants as place
+use Rattle.inodes.specs.declared.tasks.Stage.TheVariants as stage
 use Rattle.inodes.specs.declared.writei.Extent.{Extent}
 use Rattle.ports.specs.History.{Side, first_in}
 use Rattle.ports.specs.declared.herald.Herald as herald_trait
@@ -36,8 +36,8 @@ use Rattle.history.specs.Lemmas.Lists.{entry_more, entry_new, entry_same, entry_
 use Rattle.history.specs.Lemmas.Places.{there_now, others_stay}
 use Rattle.history.specs.Open.{IsEntry, told}
 use Rattle.history.specs.Processes.{World, process, idle, entry_place, place_behind, refusal, turned_from, decided, told_at}
-use Rattle.history.specs.declared.types.At.{At}
-use Rattle.history.specs.declared.types.At.TheVariants as at
+use Rattle.history.specs.declared.types.Phase.{Phase}
+use Rattle.history.specs.declared.types.Phase.TheVariants as at
 use Rattle.history.specs.declared.types.Process.{Process}
 use Rattle.kernel.specs.Causes.{ShortHasCause, SomeTurnMakes, TurnMakes}
 use Rattle.kernel.specs.Known.{Known}
@@ -68,10 +68,10 @@ own_later q i es fs more has =
     let on = extends_entry es fs i has.entry more has.at in
     record { entry = on.0; at = on.1; mine = same_pid has.entry on.0 on.2 ∙ has.mine }
 
-own_owed : (q i : ℕ) (a : At) (es given : List Entry) → Owed a q es given → entry_place a ≡ Some i → HasOwn q es i
+own_owed : (q i : ℕ) (a : Phase) (es given : List Entry) → Owed a q es given → entry_place a ≡ Some i → HasOwn q es i
 own_owed q i at.Idle es given owed is = absurd (cc is)
-own_owed q i (at.Before group op) es given owed is = absurd (cc is)
-own_owed q i (at.Behind group k) es given owed is = let same : k ≡ i = cc is in record { entry = owed.entry; at = subst (λ (n : ℕ). IsEntry es n owed.entry) same owed.at; mine = owed.mine }
+own_owed q i (at.BeforeTurn group op) es given owed is = absurd (cc is)
+own_owed q i (at.AfterTurn group k) es given owed is = let same : k ≡ i = cc is in record { entry = owed.entry; at = subst (λ (n : ℕ). IsEntry es n owed.entry) same owed.at; mine = owed.mine }
 own_owed q i (at.Ending group k) es given owed is = let same : k ≡ i = cc is in record { entry = owed.entry; at = subst (λ (n : ℕ). IsEntry es n owed.entry) same owed.at; mine = owed.mine }
 own_owed q i (at.Committing group k) es given owed is = let same : k ≡ i = cc is in record { entry = owed.entry; at = subst (λ (n : ℕ). IsEntry es n owed.entry) same owed.at; mine = owed.mine }
 
@@ -115,7 +115,7 @@ module _ {D N I M H : Type 0} (disk : disk_trait.Ghosts D N) (intake : intake_tr
     -- the write of process p, whose entry stands there, goes on behind its turn
     record StillWrites (s : StoreState D) (w : World) (at_place : ℕ) : Type 0 where
       pub group : ℕ
-      pub stands : (process w p).at ≡ at.Behind group at_place
+      pub stands : (process w p).at ≡ at.AfterTurn group at_place
       pub entry : Entry
       pub there : IsEntry w.journal.list at_place entry
       pub mine : entry.pid ≡ p
@@ -123,7 +123,7 @@ module _ {D N I M H : Type 0} (disk : disk_trait.Ghosts D N) (intake : intake_tr
       pub untold : entry.reply ≡ None
       pub number : ℕ
       pub writing : WriteState
-      pub at : (task s.tasks p).place ≡ place.Writing number writing
+      pub at : (task s.tasks p).place ≡ stage.Writing number writing
       pub on : IsGoingOn e (length bytes) writing
 
     -- it was told another reply
@@ -159,7 +159,7 @@ module _ {D N I M H : Type 0} (disk : disk_trait.Ghosts D N) (intake : intake_tr
               (entry_set_other w.journal.list at_place tells.place was.entry own.entry _ was.there own.at (λ same. apart (sym own.mine ∙ sym same ∙ was.mine)))
 
       -- its own
-      finishes : (group : ℕ) (r : Step) (was : StillWrites s w at_place) → (process w p).at ≡ at.Behind group at_place → Finishes disk s w p group at_place r t z → Then
+      finishes : (group : ℕ) (r : Step) (was : StillWrites s w at_place) → (process w p).at ≡ at.AfterTurn group at_place → Finishes disk s w p group at_place r t z → Then
       finishes group r was stands made = ⊎_elim
           (λ saw. inl (record { turn = refl; op = op; answer = made.progress; steps = steps; holds = saw }))
           (λ on. inr (by_progress made.progress made.world on))
@@ -171,7 +171,7 @@ module _ {D N I M H : Type 0} (disk : disk_trait.Ghosts D N) (intake : intake_tr
           goes : (x : TaskProgress) → z ≡ w → ((reply : Reply) → x ≢ progress.Decided reply) → WritesOn p was.number (length bytes) done e (record { before = s; answer = x; after = t }) → StillWrites t z at_place
           goes x same undecided on = by_next on.next
             where
-              by_next : ((reply : Reply) × (x ≡ progress.Decided reply)) ⊎ ((m : WriteState) × ((task t.tasks p).place ≡ place.Writing was.number m) × IsGoingOn e (length bytes) m) → StillWrites t z at_place
+              by_next : ((reply : Reply) × (x ≡ progress.Decided reply)) ⊎ ((m : WriteState) × ((task t.tasks p).place ≡ stage.Writing was.number m) × IsGoingOn e (length bytes) m) → StillWrites t z at_place
               by_next (inl is) = absurd (undecided is.0 is.1)
               by_next (inr is) = record {
                 group = group;
@@ -189,7 +189,7 @@ module _ {D N I M H : Type 0} (disk : disk_trait.Ghosts D N) (intake : intake_tr
 
           tells : (reply : Reply) (o : World) → z ≡ o → o.journal.list ≡ (decided w p reply).journal.list → reply ≢ Wrote done → IsToldOther z at_place
           tells reply o to list other =
-              let here : decided w p reply ≡ told_at (Some at_place) w reply = ap (λ (a : At). told_at (entry_place a) w reply) stands in
+              let here : decided w p reply ≡ told_at (Some at_place) w reply = ap (λ (a : Phase). told_at (entry_place a) w reply) stands in
               let now : z.journal.list ≡ set w.journal.list at_place (told was.entry reply) =
               ap (λ (v : World). v.journal.list) to ∙ list ∙ ap (λ (v : World). v.journal.list) here
               ∙ ap (λ (x : Entry). set w.journal.list at_place (told x reply)) (entry_inside w.journal.list at_place was.entry was.there) in
@@ -213,7 +213,7 @@ module _ {D N I M H : Type 0} (disk : disk_trait.Ghosts D N) (intake : intake_tr
           by_progress (progress.Fault fault) to on = inl (goes (progress.Fault fault) to (λ r e. cc e) on)
 
       own_turn : (o : Option DeviceFault) (ahead : List Op) (side : Side) (b : Bool) (r : Step) → StillWrites s w at_place → NextIf disk o s w p ahead side b r t z → Then
-      own_turn None ahead side b r was next = finishes was.group r was was.stands (subst (λ (a : At). NextAt disk a s w p ahead side b r t z) was.stands next)
+      own_turn None ahead side b r was next = finishes was.group r was was.stands (subst (λ (a : Phase). NextAt disk a s w p ahead side b r t z) was.stands next)
       own_turn (Some fault) ahead side b r was next = inr (inl (still was (ap (λ (o : World). (process o p).at) next.1.1)
           (subst (λ (o : World). IsEntry o.journal.list at_place was.entry) (sym next.1.1) was.there) (ap (λ (o : StoreState D). (task o.tasks p).place) next.1.0)))
 
@@ -275,7 +275,7 @@ module _ {D N I M H : Type 0} (disk : disk_trait.Ghosts D N) (intake : intake_tr
           let long : length w.journal.list ≡ length w.journal.list + 1 = ap length (sym same ∙ adds.list) ∙ length-append w.journal.list (adds.entry ∷ []) in
           omega (arith, long)
 
-      starts : (group : ℕ) (reply : Option Reply) → (process w p).at ≡ at.Before group op → Steps disk s p op (progress.Turned reply) t → z ≡ turned_from (at.Before group op) w p reply (is_over (task t.tasks p).place) → Starts (entry_of p (process w p).begun op group reply)
+      starts : (group : ℕ) (reply : Option Reply) → (process w p).at ≡ at.BeforeTurn group op → Steps disk s p op (progress.Turned reply) t → z ≡ turned_from (at.BeforeTurn group op) w p reply (is_over (task t.tasks p).place) → Starts (entry_of p (process w p).begun op group reply)
       starts group reply stands steps to mine asked has there = by_reply has
         where
           lt : p < length w.processes
@@ -304,18 +304,18 @@ module _ {D N I M H : Type 0} (disk : disk_trait.Ghosts D N) (intake : intake_tr
                 on = b.on;
               }
 
-      works : (group : ℕ) (o : Op) (r : Step) → (process w p).at ≡ at.Before group o → Works disk s w p o r t z → (adds : Adds) → Starts adds.entry
+      works : (group : ℕ) (o : Op) (r : Step) → (process w p).at ≡ at.BeforeTurn group o → Works disk s w p o r t z → (adds : Adds) → Starts adds.entry
       works group o r stands made adds mine asked has there = by_progress made.progress made.steps made.world
         where
           by_progress : (x : TaskProgress) → Steps disk s p o x t → z ≡ world_after x (is_over (task t.tasks p).place) w p → StillWrites t z (length w.journal.list)
           by_progress progress.Moved steps to = absurd (none_added (ap (λ (v : World). v.journal.list) to) adds)
           by_progress (progress.Turned reply) steps to =
-              let now = to ∙ ap (λ (a : At). turned_from a w p reply (is_over (task t.tasks p).place)) stands in
+              let now = to ∙ ap (λ (a : Phase). turned_from a w p reply (is_over (task t.tasks p).place)) stands in
               let is : entry_of p (process w p).begun o group reply ≡ adds.entry = last_same w.journal.list _ adds.entry (sym (ap (λ (v : World). v.journal.list) now) ∙ adds.list) in
               let same : o ≡ op = ap (λ (x : Entry). x.op) is ∙ asked in
               let back : adds.entry ≡ entry_of p (process w p).begun op group reply = sym is ∙ ap (λ (q : Op). entry_of p (process w p).begun q group reply) same in
-              starts group reply (stands ∙ ap (at.Before group) same) (subst (λ (q : Op). Steps disk s p q (progress.Turned reply) t) same steps)
-              (now ∙ ap (λ (q : Op). turned_from (at.Before group q) w p reply (is_over (task t.tasks p).place)) same)
+              starts group reply (stands ∙ ap (at.BeforeTurn group) same) (subst (λ (q : Op). Steps disk s p q (progress.Turned reply) t) same steps)
+              (now ∙ ap (λ (q : Op). turned_from (at.BeforeTurn group q) w p reply (is_over (task t.tasks p).place)) same)
               refl refl (subst (λ (x : Entry). (x.reply ≡ Some (Wrote done)) ⊎ (x.reply ≡ None)) back has) (subst (λ (x : Entry). IsEntry z.journal.list (length w.journal.list) x) back there)
           by_progress (progress.Decided reply) steps to = absurd (none_added (ap (λ (v : World). v.journal.list) to) adds)
           by_progress progress.Over steps to = absurd (none_added (ap (λ (v : World). v.journal.list) to) adds)
@@ -339,7 +339,7 @@ module _ {D N I M H : Type 0} (disk : disk_trait.Ghosts D N) (intake : intake_tr
           by_reply (inl wrote) = let both = tells ∙ wrote in never_refused (ltb transfer_limit (length bytes)) (cc both)
           by_reply (inr none) = let both = tells ∙ none in cc both
 
-      starts_at : (a : At) (ahead : List Op) (side : Side) (b : Bool) (r : Step) → (process w p).at ≡ a → NextAt disk a s w p ahead side b r t z → (adds : Adds) → Starts adds.entry
+      starts_at : (a : Phase) (ahead : List Op) (side : Side) (b : Bool) (r : Step) → (process w p).at ≡ a → NextAt disk a s w p ahead side b r t z → (adds : Adds) → Starts adds.entry
       starts_at at.Idle ahead side b r stands (inl heard) adds = absurd (none_added (ap (λ (v : World). v.journal.list) heard.world) adds)
       starts_at at.Idle ahead side b r stands (inr none) adds = by_begins none.begins
         where
@@ -348,20 +348,20 @@ module _ {D N I M H : Type 0} (disk : disk_trait.Ghosts D N) (intake : intake_tr
           by_begins (inr (inl made)) = absurd (none_added (ap (λ (v : World). v.journal.list) made.world) adds)
           by_begins (inr (inr (inl made))) = refuses made.op adds (last_same w.journal.list _ adds.entry (sym (ap (λ (v : World). v.journal.list) made.world) ∙ adds.list))
           by_begins (inr (inr (inr made))) = absurd (none_added (ap (λ (v : World). v.journal.list) made.same.1) adds)
-      starts_at (at.Before group o) ahead side b r stands next adds = works group o r stands next adds
-      starts_at (at.Behind group k) ahead side b r stands next adds = absurd (late adds.from)
+      starts_at (at.BeforeTurn group o) ahead side b r stands next adds = works group o r stands next adds
+      starts_at (at.AfterTurn group k) ahead side b r stands next adds = absurd (late adds.from)
         where
-          late : ((process w p).at ≡ at.Idle) ⊎ ((g : ℕ) × (o : Op) × ((process w p).at ≡ at.Before g o)) → ⊥
+          late : ((process w p).at ≡ at.Idle) ⊎ ((g : ℕ) × (o : Op) × ((process w p).at ≡ at.BeforeTurn g o)) → ⊥
           late (inl is) = let no = sym stands ∙ is in cc no
           late (inr is) = let no = sym stands ∙ is.2 in cc no
       starts_at (at.Ending group k) ahead side b r stands next adds = absurd (late adds.from)
         where
-          late : ((process w p).at ≡ at.Idle) ⊎ ((g : ℕ) × (o : Op) × ((process w p).at ≡ at.Before g o)) → ⊥
+          late : ((process w p).at ≡ at.Idle) ⊎ ((g : ℕ) × (o : Op) × ((process w p).at ≡ at.BeforeTurn g o)) → ⊥
           late (inl is) = let no = sym stands ∙ is in cc no
           late (inr is) = let no = sym stands ∙ is.2 in cc no
       starts_at (at.Committing group k) ahead side b r stands next adds = absurd (late adds.from)
         where
-          late : ((process w p).at ≡ at.Idle) ⊎ ((g : ℕ) × (o : Op) × ((process w p).at ≡ at.Before g o)) → ⊥
+          late : ((process w p).at ≡ at.Idle) ⊎ ((g : ℕ) × (o : Op) × ((process w p).at ≡ at.BeforeTurn g o)) → ⊥
           late (inl is) = let no = sym stands ∙ is in cc no
           late (inr is) = let no = sym stands ∙ is.2 in cc no
 

@@ -25,8 +25,8 @@ use Rattle.inodes.specs.Tasks.{TaskState, task, no_task}
 use Rattle.ports.specs.History.{Side, first_in}
 use Rattle.std.specs.Option.{option_map}
 use Rattle.history.specs.AtOnce.{at_once_reply}
-use Rattle.history.specs.declared.types.At.{At}
-use Rattle.history.specs.declared.types.At.TheVariants as at
+use Rattle.history.specs.declared.types.Phase.{Phase}
+use Rattle.history.specs.declared.types.Phase.TheVariants as at
 use Rattle.history.specs.declared.types.Process.{Process}
 use Rattle.history.specs.Journal.{entry_in, entry_of}
 use Rattle.history.specs.Lemmas.Groups.{ended_keeps}
@@ -45,33 +45,33 @@ pub record LeavesStore {D : Type 0} (q : ℕ) (s t : StoreState D) : Type 0 wher
   pub size : t.volume.log.size ≡ s.volume.log.size
 
 -- a new entry of process q comes into the journal, which stood there
-pub record AddsEntry (q : ℕ) (a : At) (es fs : List Entry) : Type 0 where
+pub record AddsEntry (q : ℕ) (a : Phase) (es fs : List Entry) : Type 0 where
   pub entry : Entry
   pub mine : entry.pid ≡ q
-  pub from : (a ≡ at.Idle) ⊎ ((group : ℕ) × (op : Op) × (a ≡ at.Before group op))
+  pub from : (a ≡ at.Idle) ⊎ ((group : ℕ) × (op : Op) × (a ≡ at.BeforeTurn group op))
   pub list : fs ≡ es ++ entry ∷ []
 
 -- the entry of a process that stands there is told a reply
-pub record TellsEntry (a : At) (es fs : List Entry) : Type 0 where
+pub record TellsEntry (a : Phase) (es fs : List Entry) : Type 0 where
   pub place : ℕ
   pub reply : Reply
   pub at : entry_place a ≡ Some place
   pub list : fs ≡ set es place (told (entry_in es place) reply)
 
-abbrev pub JournalBy : ℕ → At → List Entry → List Entry → Type 0
+abbrev pub JournalBy : ℕ → Phase → List Entry → List Entry → Type 0
 JournalBy q a es fs = (fs ≡ es) ⊎ (AddsEntry q a es fs ⊎ TellsEntry a es fs)
 
 -- where the process then stands: its entry is as it was, or a new one
-abbrev pub EntryPlaces : ℕ → At → At → List Entry → List Entry → Type 0
+abbrev pub EntryPlaces : ℕ → Phase → Phase → List Entry → List Entry → Type 0
 EntryPlaces q a b es fs = (i : ℕ) → entry_place b ≡ Some i →
     (entry_place a ≡ Some i) ⊎ ((i ≡ length es) × AddsEntry q a es fs)
 
 -- it waits for its turn, as it did before or because it was idle
-abbrev pub BeforeFrom : At → At → Type 0
-BeforeFrom a b = (group : ℕ) (op : Op) → b ≡ at.Before group op → (a ≡ at.Idle) ⊎ (a ≡ b)
+abbrev pub BeforeFrom : Phase → Phase → Type 0
+BeforeFrom a b = (group : ℕ) (op : Op) → b ≡ at.BeforeTurn group op → (a ≡ at.Idle) ⊎ (a ≡ b)
 
 -- a turn of process q, which stood there
-pub record Turned {D : Type 0} (q : ℕ) (a : At) (s : StoreState D) (w : World) (t : StoreState D)
+pub record Turned {D : Type 0} (q : ℕ) (a : Phase) (s : StoreState D) (w : World) (t : StoreState D)
     (z : World) : Type 0 where
   pub now : Process
   pub processes : z.processes ≡ set w.processes q now
@@ -139,11 +139,11 @@ module _ {D : Type 0} (q : ℕ) (s t : StoreState D) where
 -- ---- the turn
 
 module _ {D N : Type 0} (disk : disk_trait.Ghosts D N) (q : ℕ) (s : StoreState D) (w : World) (t : StoreState D) (z : World) where
-  abbrev To : At → Type 0
+  abbrev To : Phase → Type 0
   To a = Turned q a s w t z
 
   -- the processes are as in o, where process q is u
-  becomes : (a : At) (o : World) (u : Process) → z ≡ o → o.processes ≡ set w.processes q u → JournalBy q a w.journal.list o.journal.list → EntryPlaces q a u.at w.journal.list o.journal.list → BeforeFrom a u.at → LeavesStore q s t → To a
+  becomes : (a : Phase) (o : World) (u : Process) → z ≡ o → o.processes ≡ set w.processes q u → JournalBy q a w.journal.list o.journal.list → EntryPlaces q a u.at w.journal.list o.journal.list → BeforeFrom a u.at → LeavesStore q s t → To a
   becomes a o u to here journal places before store = record {
     now = u;
     processes = ap (λ (v : World). v.processes) to ∙ here;
@@ -172,12 +172,12 @@ module _ {D N : Type 0} (disk : disk_trait.Ghosts D N) (q : ℕ) (s : StoreState
           by_place (inr is) = inr (is.0, adds is.1)
 
   -- process q stays where it stands
-  rests : (a : At) (o : World) → (process w q).at ≡ a → z ≡ o → o.processes ≡ w.processes → o.journal.list ≡ w.journal.list → LeavesStore q s t → To a
+  rests : (a : Phase) (o : World) → (process w q).at ≡ a → z ≡ o → o.processes ≡ w.processes → o.journal.list ≡ w.journal.list → LeavesStore q s t → To a
   rests a o stands to here list store = becomes a o (process w q) to (here ∙ sym (set-get_or w.processes q idle)) (inl list) (λ i at. inl (ap entry_place (sym stands) ∙ at)) (λ group op is. inr (sym stands)) store
 
   begins : (what : Option Waiting) (ahead : List Op) (side : Side) (r : Step) → (process w q).at ≡ at.Idle → BeginsWith what s w q ahead side r t z → To at.Idle
   begins what ahead side r stands (inl made) =
-      becomes at.Idle _ (record { begun = (process w q).begun + 1; at = at.Before (begun s.volume.log q).opened made.op; room = None }) made.world refl (inl refl) (λ i no. absurd (cc no)) (λ group op is. inl refl)
+      becomes at.Idle _ (record { begun = (process w q).begun + 1; at = at.BeforeTurn (begun s.volume.log q).opened made.op; room = None }) made.world refl (inl refl) (λ i no. absurd (cc no)) (λ group op is. inl refl)
       (store_begins q s t (with_begun s q made.op) (record { op = Some made.op; place = first_place made.op s.table.inode_count; gathered = None }) made.store refl refl refl)
   begins what ahead side r stands (inr (inl made)) =
       becomes at.Idle _ _ made.world refl (inl refl) (λ i no. absurd (cc no)) (λ group op is. inl refl)
@@ -187,7 +187,7 @@ module _ {D N : Type 0} (disk : disk_trait.Ghosts D N) (q : ℕ) (s : StoreState
       (λ i at. inl (ap entry_place (sym stands) ∙ at)) (λ group op is. inl refl) (store_same q s t made.store)
   begins what ahead side r stands (inr (inr (inr made))) = rests at.Idle w stands made.same.1 refl refl (store_same q s t made.same.0)
 
-  works : (group : ℕ) (op : Op) (r : Step) → (process w q).at ≡ at.Before group op → Works disk s w q op r t z → To (at.Before group op)
+  works : (group : ℕ) (op : Op) (r : Step) → (process w q).at ≡ at.BeforeTurn group op → Works disk s w q op r t z → To (at.BeforeTurn group op)
   works group op r stands made = by_progress made.progress made.world
     where
       store : LeavesStore q s t
@@ -197,52 +197,52 @@ module _ {D N : Type 0} (disk : disk_trait.Ghosts D N) (q : ℕ) (s : StoreState
       by_over true k i is = cc is
       by_over false k i is = cc is
 
-      never : (over : Bool) (k g : ℕ) (o : Op) → place_behind over group k ≡ at.Before g o → ⊥
+      never : (over : Bool) (k g : ℕ) (o : Op) → place_behind over group k ≡ at.BeforeTurn g o → ⊥
       never true k g o is = cc is
       never false k g o is = cc is
 
-      by_progress : (x : TaskProgress) → z ≡ world_after x (is_over (task t.tasks q).place) w q → To (at.Before group op)
-      by_progress progress.Moved to = rests (at.Before group op) w stands to refl refl store
+      by_progress : (x : TaskProgress) → z ≡ world_after x (is_over (task t.tasks q).place) w q → To (at.BeforeTurn group op)
+      by_progress progress.Moved to = rests (at.BeforeTurn group op) w stands to refl refl store
       by_progress (progress.Turned reply) to =
           let over : Bool = is_over (task t.tasks q).place in
           let k = length w.journal.list in
-          let adds : AddsEntry q (at.Before group op) w.journal.list (turned_from (at.Before group op) w q reply over).journal.list
+          let adds : AddsEntry q (at.BeforeTurn group op) w.journal.list (turned_from (at.BeforeTurn group op) w q reply over).journal.list
           = record { entry = entry_of q (process w q).begun op group reply; mine = refl; from = inr (group, op, refl); list = refl } in
-          becomes (at.Before group op) (turned_from (at.Before group op) w q reply over) (record (process w q) { at = place_behind over group k })
-          (to ∙ ap (λ (a : At). turned_from a w q reply over) stands) refl (inr (inl adds)) (λ i is. inr (sym (by_over over k i is), adds)) (λ g o is. absurd (never over k g o is)) store
-      by_progress (progress.Decided reply) to = rests (at.Before group op) w stands to refl refl store
-      by_progress progress.Over to = rests (at.Before group op) w stands to refl refl store
-      by_progress (progress.Sleeping cause) to = rests (at.Before group op) w stands to refl refl store
-      by_progress (progress.Fault fault) to = rests (at.Before group op) w stands to refl refl store
+          becomes (at.BeforeTurn group op) (turned_from (at.BeforeTurn group op) w q reply over) (record (process w q) { at = place_behind over group k })
+          (to ∙ ap (λ (a : Phase). turned_from a w q reply over) stands) refl (inr (inl adds)) (λ i is. inr (sym (by_over over k i is), adds)) (λ g o is. absurd (never over k g o is)) store
+      by_progress (progress.Decided reply) to = rests (at.BeforeTurn group op) w stands to refl refl store
+      by_progress progress.Over to = rests (at.BeforeTurn group op) w stands to refl refl store
+      by_progress (progress.Sleeping cause) to = rests (at.BeforeTurn group op) w stands to refl refl store
+      by_progress (progress.Fault fault) to = rests (at.BeforeTurn group op) w stands to refl refl store
 
-  finishes : (group k : ℕ) (r : Step) → (process w q).at ≡ at.Behind group k → Finishes disk s w q group k r t z → To (at.Behind group k)
+  finishes : (group k : ℕ) (r : Step) → (process w q).at ≡ at.AfterTurn group k → Finishes disk s w q group k r t z → To (at.AfterTurn group k)
   finishes group k r stands made = by_progress made.progress group refl made.world
     where
       store : LeavesStore q s t
       store = store_steps q s t disk _ made.progress made.steps
 
       told_here : (reply : Reply) → decided w q reply ≡ told_at (Some k) w reply
-      told_here reply = ap (λ (a : At). told_at (entry_place a) w reply) stands
+      told_here reply = ap (λ (a : Phase). told_at (entry_place a) w reply) stands
 
-      tells : (reply : Reply) → TellsEntry (at.Behind group k) w.journal.list (told_at (Some k) w reply).journal.list
+      tells : (reply : Reply) → TellsEntry (at.AfterTurn group k) w.journal.list (told_at (Some k) w reply).journal.list
       tells reply = record { place = k; reply = reply; at = refl; list = refl }
 
       over_here : over_at (process w q).at ≡ at.Ending group k
       over_here = ap over_at stands
 
-      by_progress : (x : TaskProgress) (g : ℕ) → g ≡ group → z ≡ world_behind g x w q → To (at.Behind group k)
-      by_progress progress.Moved g same to = rests (at.Behind group k) w stands to refl refl store
-      by_progress (progress.Turned reply) g same to = rests (at.Behind group k) w stands to refl refl store
+      by_progress : (x : TaskProgress) (g : ℕ) → g ≡ group → z ≡ world_behind g x w q → To (at.AfterTurn group k)
+      by_progress progress.Moved g same to = rests (at.AfterTurn group k) w stands to refl refl store
+      by_progress (progress.Turned reply) g same to = rests (at.AfterTurn group k) w stands to refl refl store
       by_progress (progress.Decided reply) zero same to =
-          becomes (at.Behind group k) _ (record (process w q) { at = at.Idle; room = None }) (to ∙ ap (λ (o : World). Rattle.history.specs.Processes.answered o q) (told_here reply)) refl (inr (inr (tells reply))) (λ i no. absurd (cc no)) (λ g o is. absurd (cc is)) store
+          becomes (at.AfterTurn group k) _ (record (process w q) { at = at.Idle; room = None }) (to ∙ ap (λ (o : World). Rattle.history.specs.Processes.answered o q) (told_here reply)) refl (inr (inr (tells reply))) (λ i no. absurd (cc no)) (λ g o is. absurd (cc is)) store
       by_progress (progress.Decided reply) (suc g) same to =
-          becomes (at.Behind group k) (told_at (Some k) w reply) (process w q) (to ∙ told_here reply) (sym (set-get_or w.processes q idle)) (inr (inr (tells reply))) (λ i at. inl (ap entry_place (sym stands) ∙ at)) (λ g o is. inr (sym stands)) store
+          becomes (at.AfterTurn group k) (told_at (Some k) w reply) (process w q) (to ∙ told_here reply) (sym (set-get_or w.processes q idle)) (inr (inr (tells reply))) (λ i at. inl (ap entry_place (sym stands) ∙ at)) (λ g o is. inr (sym stands)) store
       by_progress progress.Over zero same to =
-          becomes (at.Behind group k) _ (record (process w q) { at = at.Idle; room = None }) to refl (inl refl) (λ i no. absurd (cc no)) (λ g o is. absurd (cc is)) store
+          becomes (at.AfterTurn group k) _ (record (process w q) { at = at.Idle; room = None }) to refl (inl refl) (λ i no. absurd (cc no)) (λ g o is. absurd (cc is)) store
       by_progress progress.Over (suc g) same to =
-          becomes (at.Behind group k) _ (record (process w q) { at = over_at (process w q).at }) to refl (inl refl) (λ i at. inl (ap entry_place (sym over_here) ∙ at)) (λ g o is. absurd (let no = sym over_here ∙ is in cc no)) store
-      by_progress (progress.Sleeping cause) g same to = rests (at.Behind group k) w stands to refl refl store
-      by_progress (progress.Fault fault) g same to = rests (at.Behind group k) w stands to refl refl store
+          becomes (at.AfterTurn group k) _ (record (process w q) { at = over_at (process w q).at }) to refl (inl refl) (λ i at. inl (ap entry_place (sym over_here) ∙ at)) (λ g o is. absurd (let no = sym over_here ∙ is in cc no)) store
+      by_progress (progress.Sleeping cause) g same to = rests (at.AfterTurn group k) w stands to refl refl store
+      by_progress (progress.Fault fault) g same to = rests (at.AfterTurn group k) w stands to refl refl store
 
   ends : (group k : ℕ) (r : Step) → (process w q).at ≡ at.Ending group k → Ends s w q r t z → To (at.Ending group k)
   ends group k r stands made = by_answer (end_answer s.volume.log) made.world
@@ -269,11 +269,11 @@ module _ {D N : Type 0} (disk : disk_trait.Ghosts D N) (q : ℕ) (s : StoreState
           becomes (at.Committing group k) _ (record (process w q) { at = at.Idle; room = None }) to refl (inl refl) (λ i no. absurd (cc no)) (λ g o is. absurd (cc is)) store
       by_answer (committed.Fault fault) to = rests (at.Committing group k) w stands to refl refl store
 
-  turned_at : (a : At) (ahead : List Op) (side : Side) (b : Bool) (r : Step) → (process w q).at ≡ a → NextAt disk a s w q ahead side b r t z → To a
+  turned_at : (a : Phase) (ahead : List Op) (side : Side) (b : Bool) (r : Step) → (process w q).at ≡ a → NextAt disk a s w q ahead side b r t z → To a
   turned_at at.Idle ahead side b r stands (inl heard) = rests at.Idle _ stands heard.world refl refl (store_same q s t heard.store)
   turned_at at.Idle ahead side b r stands (inr none) = begins (option_map (waiting_of s.table.inode_count) (first_in none.ahead)) none.ahead side r stands none.begins
-  turned_at (at.Before group op) ahead side b r stands next = works group op r stands next
-  turned_at (at.Behind group k) ahead side b r stands next = finishes group k r stands next
+  turned_at (at.BeforeTurn group op) ahead side b r stands next = works group op r stands next
+  turned_at (at.AfterTurn group k) ahead side b r stands next = finishes group k r stands next
   turned_at (at.Ending group k) ahead side b r stands next = ends group k r stands next
   turned_at (at.Committing group k) ahead side b r stands next = writes group k r stands next
 

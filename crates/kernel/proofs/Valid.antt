@@ -15,8 +15,8 @@ use Rattle.in_flight.specs.Lemmas.AtRest.{fits_at_rest}
 use Rattle.in_flight.specs.Lemmas.OutsideLog.{sound_cleared}
 use Rattle.wal.specs.Joint.{Joint}
 use Rattle.wal.specs.Machine.{IsLogAt, LogState, used_by}
-use Rattle.inodes.specs.declared.tasks.Place.{Place}
-use Rattle.inodes.specs.declared.tasks.Place.TheVariants as place
+use Rattle.inodes.specs.declared.tasks.Stage.{Stage}
+use Rattle.inodes.specs.declared.tasks.Stage.TheVariants as stage
 use Rattle.inodes.specs.Holding.{claim_by, claims_of}
 use Rattle.inodes.specs.Lemmas.Faults.{where_none}
 use Rattle.inodes.specs.Lemmas.Holding.{none_held}
@@ -43,25 +43,25 @@ agreed_now image s well joint store = record { joint = where_none s.volume.fault
 pub unread_holds : (u : TaskState) → owes_reply u.place ≡ false → held_at u ≡ None
 unread_holds u unread = ap (λ (b : Bool). cond b (option_map held_by u.op) None) unread
 
-pub over_unread : (a : Place) → is_over a ≡ true → owes_reply a ≡ false
-over_unread place.Nowhere over = refl
-over_unread (place.Creating m) over = refl
-over_unread (place.Taking m) over = refl
-over_unread (place.Reading k m) over = absurd (false≢true over)
-over_unread (place.Delivering k) over = absurd (false≢true over)
-over_unread (place.Truncating k m) over = refl
-over_unread (place.Writing k m) over = absurd (false≢true over)
-over_unread (place.Leaving k) over = refl
+pub over_unread : (a : Stage) → is_over a ≡ true → owes_reply a ≡ false
+over_unread stage.Nowhere over = refl
+over_unread (stage.Creating m) over = refl
+over_unread (stage.Taking m) over = refl
+over_unread (stage.Reading k m) over = absurd (false≢true over)
+over_unread (stage.Delivering k) over = absurd (false≢true over)
+over_unread (stage.Truncating k m) over = refl
+over_unread (stage.Writing k m) over = absurd (false≢true over)
+over_unread (stage.Leaving k) over = refl
 
-pub unturned_unread : (a : Place) → is_unturned a ≡ true → owes_reply a ≡ false
-unturned_unread place.Nowhere is = refl
-unturned_unread (place.Creating m) is = refl
-unturned_unread (place.Taking m) is = refl
-unturned_unread (place.Reading k m) is = absurd (false≢true is)
-unturned_unread (place.Delivering k) is = absurd (false≢true is)
-unturned_unread (place.Truncating k m) is = refl
-unturned_unread (place.Writing k m) is = absurd (false≢true is)
-unturned_unread (place.Leaving k) is = refl
+pub unturned_unread : (a : Stage) → is_unturned a ≡ true → owes_reply a ≡ false
+unturned_unread stage.Nowhere is = refl
+unturned_unread (stage.Creating m) is = refl
+unturned_unread (stage.Taking m) is = refl
+unturned_unread (stage.Reading k m) is = absurd (false≢true is)
+unturned_unread (stage.Delivering k) is = absurd (false≢true is)
+unturned_unread (stage.Truncating k m) is = refl
+unturned_unread (stage.Writing k m) is = absurd (false≢true is)
+unturned_unread (stage.Leaving k) is = refl
 
 -- the number on which the answer of an operation depends that takes an inode is that which it asks for
 pub take_number : (n : ℕ) (op : Op) → CanTake n op → number_of op ≡ asked op
@@ -121,30 +121,30 @@ held_late cur t ts are q h held = by_place (owes_reply (task ts q).place) refl
     by_place true is = by_late is (late_is cur t ts are q is)
 
 -- a write whose reply is to come is open in the log
-write_logged : (cur : Image) (t : Rattle.inodes.specs.Table.TableState) (c : Buffers) (l : LogState) (q : ℕ) (u : TaskState) (a : Place) → LooksAt cur t u a → Stands c l t.inode_count q u.op a → owes_reply a ≡ true → IsWrite t.inode_count u → IsSome (used_by l q)
-write_logged cur t c l q u place.Nowhere looks stands late w = absurd (false≢true late)
-write_logged cur t c l q u (place.Creating m) looks stands late w = absurd (false≢true late)
-write_logged cur t c l q u (place.Taking m) looks stands late w = absurd (false≢true late)
-write_logged cur t c l q u (place.Reading k m) looks stands late w = let no = sym looks.op.is ∙ w.is in absurd (cc no)
-write_logged cur t c l q u (place.Delivering k) looks stands late w = let no = sym looks.op.is ∙ w.is in absurd (cc no)
-write_logged cur t c l q u (place.Truncating k m) looks stands late w = absurd (false≢true late)
-write_logged cur t c l q u (place.Writing k m) looks stands late w = subst IsSome (sym stands.logged.used) refl
-write_logged cur t c l q u (place.Leaving k) looks stands late w = absurd (false≢true late)
+write_logged : (cur : Image) (t : Rattle.inodes.specs.Table.TableState) (c : Buffers) (l : LogState) (q : ℕ) (u : TaskState) (a : Stage) → LooksAt cur t u a → Stands c l t.inode_count q u.op a → owes_reply a ≡ true → IsWrite t.inode_count u → IsSome (used_by l q)
+write_logged cur t c l q u stage.Nowhere looks stands late w = absurd (false≢true late)
+write_logged cur t c l q u (stage.Creating m) looks stands late w = absurd (false≢true late)
+write_logged cur t c l q u (stage.Taking m) looks stands late w = absurd (false≢true late)
+write_logged cur t c l q u (stage.Reading k m) looks stands late w = let no = sym looks.op.is ∙ w.is in absurd (cc no)
+write_logged cur t c l q u (stage.Delivering k) looks stands late w = let no = sym looks.op.is ∙ w.is in absurd (cc no)
+write_logged cur t c l q u (stage.Truncating k m) looks stands late w = absurd (false≢true late)
+write_logged cur t c l q u (stage.Writing k m) looks stands late w = subst IsSome (sym stands.logged.used) refl
+write_logged cur t c l q u (stage.Leaving k) looks stands late w = absurd (false≢true late)
 
 -- while no operation is open in the log, no task holds a number
-claims_nothing : (l : LogState) (c : Buffers) (n p i : ℕ) (o : Option Op) (a : Place) → IsLogAt l.commit l → l.outstanding ≡ 0 → Stands c l n p o a → claim_by o a i ≡ None
-claims_nothing l c n p i o place.Nowhere log none stands = refl
-claims_nothing l c n p i o (place.Creating m) log none stands = refl
-claims_nothing l c n p i o (place.Taking m) log none stands = refl
-claims_nothing l c n p i o (place.Reading k m) log none stands = refl
-claims_nothing l c n p i o (place.Delivering k) log none stands = refl
-claims_nothing l c n p i o (place.Truncating k m) log none stands = absurd (⊎_elim (λ (zero : used_by l p ≡ Some 0). is_out 0 zero) (λ one. is_out 1 one.0) stands.logged)
+claims_nothing : (l : LogState) (c : Buffers) (n p i : ℕ) (o : Option Op) (a : Stage) → IsLogAt l.commit l → l.outstanding ≡ 0 → Stands c l n p o a → claim_by o a i ≡ None
+claims_nothing l c n p i o stage.Nowhere log none stands = refl
+claims_nothing l c n p i o (stage.Creating m) log none stands = refl
+claims_nothing l c n p i o (stage.Taking m) log none stands = refl
+claims_nothing l c n p i o (stage.Reading k m) log none stands = refl
+claims_nothing l c n p i o (stage.Delivering k) log none stands = refl
+claims_nothing l c n p i o (stage.Truncating k m) log none stands = absurd (⊎_elim (λ (zero : used_by l p ≡ Some 0). is_out 0 zero) (λ one. is_out 1 one.0) stands.logged)
   where
     is_out : (u : ℕ) → used_by l p ≡ Some u → ⊥
     is_out u used = let some = (open_of l p log (subst IsSome (sym used) refl)).some in omega (arith, some, none)
-claims_nothing l c n p i o (place.Writing k m) log none stands =
+claims_nothing l c n p i o (stage.Writing k m) log none stands =
     let some = (open_of l p log (subst IsSome (sym stands.logged.used) refl)).some in absurd (omega (arith, some, none))
-claims_nothing l c n p i o (place.Leaving k) log none stands = refl
+claims_nothing l c n p i o (stage.Leaving k) log none stands = refl
 
 -- so its image stands for files as one between operations, and with the log's header cleared it has them
 files_quiet : {D : Type 0} (image : D → Image) (s : StoreState D) (m : Files) → HasAgreed image s → s.volume.log.outstanding ≡ 0 → FitsFiles image s m

@@ -13,8 +13,8 @@ use Rattle.inodes.specs.Looks.{AreLooking}
 use Rattle.inodes.specs.Places.{is_over, is_unturned}
 use Rattle.inodes.specs.Store.{StoreState, IsStore, Agrees, current_of}
 use Rattle.inodes.specs.Tasks.{task}
-use Rattle.history.specs.declared.types.At.{At}
-use Rattle.history.specs.declared.types.At.TheVariants as at
+use Rattle.history.specs.declared.types.Phase.{Phase}
+use Rattle.history.specs.declared.types.Phase.TheVariants as at
 use Rattle.history.specs.Lemmas.Events.{changing_later}
 use Rattle.history.specs.Lemmas.Groups.{group_unread}
 use Rattle.history.specs.Open.{IsEntry}
@@ -49,32 +49,32 @@ module _ {D : Type 0} (image : D → Image) (opening : Image) (s : StoreState D)
   log_of = is.has.facts.valid.log
 
   -- what stands where
-  pub stands_at : (a : At) → (process w p).at ≡ a → StandsAt (inode_count_of opening) (view_of image s) w.journal.list p a
-  stands_at a stands = subst (λ (b : At). StandsAt (inode_count_of opening) (view_of image s) w.journal.list p b) stands (is.has.facts.stands p)
+  pub stands_at : (a : Phase) → (process w p).at ≡ a → StandsAt (inode_count_of opening) (view_of image s) w.journal.list p a
+  stands_at a stands = subst (λ (b : Phase). StandsAt (inode_count_of opening) (view_of image s) w.journal.list p b) stands (is.has.facts.stands p)
 
   -- an operation under way has its task, which is not over
-  pub before_there : (group : ℕ) (op : Op) → (process w p).at ≡ at.Before group op → ((task s.tasks p).op ≡ Some op) × (is_over (task s.tasks p).place ≡ false)
+  pub before_there : (group : ℕ) (op : Op) → (process w p).at ≡ at.BeforeTurn group op → ((task s.tasks p).op ≡ Some op) × (is_over (task s.tasks p).place ≡ false)
   before_there group op stands =
-      let there : TaskStands w.journal.list (task s.tasks p) (at.Before group op) = subst (λ (a : At). TaskStands w.journal.list (task s.tasks p) a) stands (is.paired.stand p).stands in
+      let there : TaskStands w.journal.list (task s.tasks p) (at.BeforeTurn group op) = subst (λ (a : Phase). TaskStands w.journal.list (task s.tasks p) a) stands (is.paired.stand p).stands in
       (there.0, passes_busy is_unturned refl (task s.tasks p).place there.1)
 
-  pub unturned_before : (group : ℕ) (op : Op) → (process w p).at ≡ at.Before group op → is_unturned (task s.tasks p).place ≡ true
-  unturned_before group op stands = (subst (λ (a : At). TaskStands w.journal.list (task s.tasks p) a) stands (is.paired.stand p).stands).1
+  pub unturned_before : (group : ℕ) (op : Op) → (process w p).at ≡ at.BeforeTurn group op → is_unturned (task s.tasks p).place ≡ true
+  unturned_before group op stands = (subst (λ (a : Phase). TaskStands w.journal.list (task s.tasks p) a) stands (is.paired.stand p).stands).1
 
-  pub behind_there : (group k : ℕ) → (process w p).at ≡ at.Behind group k → (e : Entry) × HasEntry w.journal.list p k group e × IsBehind (task s.tasks p) e
+  pub behind_there : (group k : ℕ) → (process w p).at ≡ at.AfterTurn group k → (e : Entry) × HasEntry w.journal.list p k group e × IsBehind (task s.tasks p) e
   behind_there group k stands =
-      let there : TaskStands w.journal.list (task s.tasks p) (at.Behind group k) = subst (λ (a : At). TaskStands w.journal.list (task s.tasks p) a) stands (is.paired.stand p).stands in
-      let has = (stands_at (at.Behind group k) stands).1 in (has.0, has.1, there has.0 has.1.at)
+      let there : TaskStands w.journal.list (task s.tasks p) (at.AfterTurn group k) = subst (λ (a : Phase). TaskStands w.journal.list (task s.tasks p) a) stands (is.paired.stand p).stands in
+      let has = (stands_at (at.AfterTurn group k) stands).1 in (has.0, has.1, there has.0 has.1.at)
 
   -- the group of a changing one is not committed
-  pub later_before : (group : ℕ) (op : Op) → (process w p).at ≡ at.Before group op → is_changing (inode_count_of opening) op ≡ true → in_reads s.volume.log < group
-  later_before group op stands changing = by_group group (stands_at (at.Before group op) stands).1 (stands_at (at.Before group op) stands).2
+  pub later_before : (group : ℕ) (op : Op) → (process w p).at ≡ at.BeforeTurn group op → is_changing (inode_count_of opening) op ≡ true → in_reads s.volume.log < group
+  later_before group op stands changing = by_group group (stands_at (at.BeforeTurn group op) stands).1 (stands_at (at.BeforeTurn group op) stands).2
     where
       by_group : (g : ℕ) → InGroup s.volume.log p g → ltb 0 g ≡ is_changing (inode_count_of opening) op → in_reads s.volume.log < g
       by_group zero is_in same = absurd (false≢true (same ∙ changing))
       by_group (suc g) is_in same = group_unread s.volume.log p (suc g) log_of is_in (omega arith)
 
   -- also behind the turn
-  pub later_behind : (group k : ℕ) (e : Entry) → (process w p).at ≡ at.Behind group k → IsEntry w.journal.list k e → is_changing (inode_count_of opening) e.op ≡ true → in_reads s.volume.log < e.group
+  pub later_behind : (group k : ℕ) (e : Entry) → (process w p).at ≡ at.AfterTurn group k → IsEntry w.journal.list k e → is_changing (inode_count_of opening) e.op ≡ true → in_reads s.volume.log < e.group
   later_behind group k e stands there =
       changing_later opening (view_of image s) (view_of image s) w.journal.list (ats_of w) is.has.facts is.has.facts.valid p (ats_of w) (λ q apart. refl) group k e stands there

@@ -30,10 +30,10 @@ use Rattle.inodes.specs.Places.{asked, is_over, owes_reply, is_unturned}
 use Rattle.inodes.specs.Steps.{Steps}
 use Rattle.inodes.specs.Store.{StoreState, IsStore, CanBegin, current_of}
 use Rattle.inodes.specs.Tasks.{task}
-use Rattle.inodes.specs.declared.tasks.Place.{Place}
-use Rattle.inodes.specs.declared.tasks.Place.TheVariants as place
-use Rattle.history.specs.declared.types.At.{At}
-use Rattle.history.specs.declared.types.At.TheVariants as at
+use Rattle.inodes.specs.declared.tasks.Stage.{Stage}
+use Rattle.inodes.specs.declared.tasks.Stage.TheVariants as stage
+use Rattle.history.specs.declared.types.Phase.{Phase}
+use Rattle.history.specs.declared.types.Phase.TheVariants as at
 use Rattle.history.specs.declared.types.Process.{Process}
 use Rattle.history.specs.Alone.{is_committing_at}
 use Rattle.history.specs.Bound.{is_busy_at}
@@ -62,15 +62,15 @@ use Rattle.kernel.proofs.Lasting.{lasts_failed}
 use Rattle.kernel.proofs.Right.{right_well, right_failed}
 
 -- a task whose reply is to come is not over, and had its turn
-reading_more : (a : Place) → owes_reply a ≡ true → (is_over a ≡ false) × (is_unturned a ≡ false)
-reading_more place.Nowhere is = absurd (false≢true is)
-reading_more (place.Creating m) is = absurd (false≢true is)
-reading_more (place.Taking m) is = absurd (false≢true is)
-reading_more (place.Reading k m) is = (refl, refl)
-reading_more (place.Delivering k) is = (refl, refl)
-reading_more (place.Truncating k m) is = absurd (false≢true is)
-reading_more (place.Writing k m) is = (refl, refl)
-reading_more (place.Leaving k) is = absurd (false≢true is)
+reading_more : (a : Stage) → owes_reply a ≡ true → (is_over a ≡ false) × (is_unturned a ≡ false)
+reading_more stage.Nowhere is = absurd (false≢true is)
+reading_more (stage.Creating m) is = absurd (false≢true is)
+reading_more (stage.Taking m) is = absurd (false≢true is)
+reading_more (stage.Reading k m) is = (refl, refl)
+reading_more (stage.Delivering k) is = (refl, refl)
+reading_more (stage.Truncating k m) is = absurd (false≢true is)
+reading_more (stage.Writing k m) is = (refl, refl)
+reading_more (stage.Leaving k) is = absurd (false≢true is)
 
 -- a write of a number that operations may name changes files
 write_changes : (n i off : ℕ) (bytes : List ℕ) → IsTrue (is_number n i) → length bytes ≤ transfer_limit → is_changing n (Write i off bytes) ≡ true
@@ -114,7 +114,7 @@ module _ {D N : Type 0} (disk : Ghosts D N) (opening : D) (s : StoreState D) (w 
   abbrev es : List Entry
   es = w.journal.list
 
-  abbrev next : Place
+  abbrev next : Stage
   next = (task t.tasks p).place
 
   had : HasFacts disk.image (disk.image opening) s w
@@ -133,27 +133,27 @@ module _ {D N : Type 0} (disk : Ghosts D N) (opening : D) (s : StoreState D) (w 
   room_stays : (r : TaskProgress) → Steps disk s p op r t → is_busy_at (process w p).at ≡ true → IsItsRoom (task t.tasks p).op (process w p).room
   room_stays r steps busy = subst (λ (o : Option Op). IsItsRoom o (process w p).room) (sym steps.tasks.op_stays) ((right.paired.stand p).room_is busy)
 
-  stood : (a : At) → (process w p).at ≡ a → TaskStands es (task s.tasks p) a
-  stood a stands = subst (λ (b : At). TaskStands es (task s.tasks p) b) stands (right.paired.stand p).stands
+  stood : (a : Phase) → (process w p).at ≡ a → TaskStands es (task s.tasks p) a
+  stood a stands = subst (λ (b : Phase). TaskStands es (task s.tasks p) b) stands (right.paired.stand p).stands
 
   -- a task that goes on stands where it stood
-  before_goes : (group : ℕ) (r : TaskProgress) → Steps disk s p op r t → is_unturned (task s.tasks p).place ≡ true → GoesOn (task s.tasks p).place next → TaskStands es (task t.tasks p) (at.Before group op)
+  before_goes : (group : ℕ) (r : TaskProgress) → Steps disk s p op r t → is_unturned (task s.tasks p).place ≡ true → GoesOn (task s.tasks p).place next → TaskStands es (task t.tasks p) (at.BeforeTurn group op)
   before_goes group r steps unturned on = (steps.tasks.op_stays ∙ mine, on.unturned ∙ unturned)
 
-  behind_goes : (group k : ℕ) (r : TaskProgress) → Steps disk s p op r t → TaskStands es (task s.tasks p) (at.Behind group k) → GoesOn (task s.tasks p).place next → TaskStands es (task t.tasks p) (at.Behind group k)
+  behind_goes : (group k : ℕ) (r : TaskProgress) → Steps disk s p op r t → TaskStands es (task s.tasks p) (at.AfterTurn group k) → GoesOn (task s.tasks p).place next → TaskStands es (task t.tasks p) (at.AfterTurn group k)
   behind_goes group k r steps behind on e there =
       let b = behind e there in
       record { same = steps.tasks.op_stays ∙ b.same; unfinished = on.unfinished; turned = on.unturned ∙ b.turned; reply = on.reading ∙ b.reply }
 
-  paired_here : (r : TaskProgress) (a : At) → (process w p).at ≡ a → is_busy_at a ≡ true → Steps disk s p op r t → TaskStands es (task t.tasks p) a → ArePaired t w
+  paired_here : (r : TaskProgress) (a : Phase) → (process w p).at ≡ a → is_busy_at a ≡ true → Steps disk s p op r t → TaskStands es (task t.tasks p) a → ArePaired t w
   paired_here r a stands busy steps there = paired_goes s t w w p (process w p) right.paired lt (sym (set-get_or w.processes p idle)) steps.tasks.many steps.tasks.others (keeps_behind w w p refl)
-      (record { stands = subst (λ (b : At). TaskStands es (task t.tasks p) b) (sym stands) there; room_is = λ under. room_stays r steps under })
+      (record { stands = subst (λ (b : Phase). TaskStands es (task t.tasks p) b) (sym stands) there; room_is = λ under. room_stays r steps under })
 
   faults_same : (r : TaskProgress) → Steps disk s p op r t → fault_of_task r ≡ None → disk.fault_count t.volume.device ≡ disk.fault_count opening
   faults_same r steps none = steps.reads.faults ∙ ap (λ (o : Option DeviceFault). faults_after o (disk.fault_count s.volume.device)) none ∙ right.faults ∙ ap (λ (o : Option DeviceFault). faults_after o (disk.fault_count opening)) well
 
   -- WHATEVER A STEP IS TO THE JOURNAL: process p, which stood at a, becomes u
-  module _ (r : TaskProgress) (steps : Steps disk s p op r t) (none : fault_of_task r ≡ None) (agreed : HasAgreed disk.image t) (z : World) (u : Process) (is : z.processes ≡ set w.processes p u) (a : At) (stands : (process w p).at ≡ a) where
+  module _ (r : TaskProgress) (steps : Steps disk s p op r t) (none : fault_of_task r ≡ None) (agreed : HasAgreed disk.image t) (z : World) (u : Process) (is : z.processes ≡ set w.processes p u) (a : Phase) (stands : (process w p).at ≡ a) where
     others : (q : ℕ) → q ≢ p → ats_of z q ≡ ats_of w q
     others q apart = ap (λ (v : Process). v.at) (others_stay w z p u is q apart)
 
@@ -166,7 +166,7 @@ module _ {D N : Type 0} (disk : Ghosts D N) (opening : D) (s : StoreState D) (w 
     right_stepped : (e : TaskProgress) → TaskNext a e n form p (process w p).begun before es now z.journal.list u.at → IsCounted t.volume.log.opened z
         → TaskStands z.journal.list (task t.tasks p) u.at → (is_busy_at u.at ≡ true → IsItsRoom (task t.tasks p).op u.room) → is_committing_at a ≡ false → is_committing_at u.at ≡ false → IsRight disk opening t z
     right_stepped e made counted there room quiet still =
-        let goes_on : TaskNext a e n form p (process w p).begun before es now z.journal.list (ats_of z p) = subst (λ (b : At). TaskNext a e n form p (process w p).begun before es now z.journal.list b) (sym at_p) made in
+        let goes_on : TaskNext a e n form p (process w p).begun before es now z.journal.list (ats_of z p) = subst (λ (b : Phase). TaskNext a e n form p (process w p).begun before es now z.journal.list b) (sym at_p) made in
         let goes : JournalGoes n p (in_reads s.volume.log) es z.journal.list = task_journal (disk.image opening) before now es z.journal.list (ats_of w) (ats_of z) had.facts valid p (process w p).begun others a e stands goes_on in
         right_well disk opening t z (steps.reads.fault ∙ none) (steps.tasks.numbers ∙ right.numbers)
         (paired_goes s t w z p u right.paired lt is steps.tasks.many steps.tasks.others
@@ -180,27 +180,27 @@ module _ {D N : Type 0} (disk : Ghosts D N) (opening : D) (s : StoreState D) (w 
         (faults_same r steps none)
 
   -- the task moved
-  moved_with : (a : At) → (process w p).at ≡ a → is_busy_at a ≡ true → is_committing_at a ≡ false → Steps disk s p op progress.Moved t → HasAgreed disk.image t
+  moved_with : (a : Phase) → (process w p).at ≡ a → is_busy_at a ≡ true → is_committing_at a ≡ false → Steps disk s p op progress.Moved t → HasAgreed disk.image t
       → TaskNext a progress.Moved n form p (process w p).begun before es now es a → TaskStands es (task t.tasks p) a → IsRight disk opening t w
   moved_with a stands busy quiet steps agreed made there =
       right_stepped progress.Moved steps refl agreed w (process w p) (sym (set-get_or w.processes p idle)) a stands progress.Moved
-      (subst (λ (b : At). TaskNext a progress.Moved n form p (process w p).begun before es now es b) (sym stands) made)
+      (subst (λ (b : Phase). TaskNext a progress.Moved n form p (process w p).begun before es now es b) (sym stands) made)
       (subst (λ (k : ℕ). IsCounted k w) (sym steps.groups.opened) right.counted)
-      (subst (λ (b : At). TaskStands es (task t.tasks p) b) (sym stands) there) (room_stays progress.Moved steps) quiet (ap is_committing_at stands ∙ quiet)
+      (subst (λ (b : Phase). TaskStands es (task t.tasks p) b) (sym stands) there) (room_stays progress.Moved steps) quiet (ap is_committing_at stands ∙ quiet)
 
   -- what a stop leaves after a read survives as it did before it
   abbrev StillSurvives : Type 0
   StillSurvives = (x : Image) → disk.leaves t.volume.device (disk.moment t.volume.device) x → SurvivesAt s.volume.log.commit (disk.image s.volume.device) x
 
-  fails_with : (a : At) → (process w p).at ≡ a → is_busy_at a ≡ true → (fault : DiskFault) → StillSurvives → Steps disk s p op (progress.Fault fault) t → TaskStands es (task t.tasks p) a → IsRight disk opening t w
+  fails_with : (a : Phase) → (process w p).at ≡ a → is_busy_at a ≡ true → (fault : DiskFault) → StillSurvives → Steps disk s p op (progress.Fault fault) t → TaskStands es (task t.tasks p) a → IsRight disk opening t w
   fails_with a stands busy fault survives steps there =
       right_failed disk opening s t w (Block fault) right well steps.reads.fault steps.tasks.numbers (paired_here (progress.Fault fault) a stands busy steps there) steps.groups.opened
       (λ x left. known_keeps (disk.image opening) before es (ats_of w) had.facts t.volume steps.groups.committed steps.groups.commit x (survives x left)) steps.reads.faults (lasts_failed disk opening s w was right p op fault t well steps)
 
   -- BEFORE ITS TURN
-  module _ (group : ℕ) (stands : (process w p).at ≡ at.Before group op) where
+  module _ (group : ℕ) (stands : (process w p).at ≡ at.BeforeTurn group op) where
     unturned : is_unturned (task s.tasks p).place ≡ true
-    unturned = (stood (at.Before group op) stands).1
+    unturned = (stood (at.BeforeTurn group op) stands).1
 
     more : is_over (task s.tasks p).place ≡ false
     more = passes_busy is_unturned refl (task s.tasks p).place unturned
@@ -208,7 +208,7 @@ module _ {D N : Type 0} (disk : Ghosts D N) (opening : D) (s : StoreState D) (w 
     pub right_moved : Steps disk s p op progress.Moved t → HasAgreed disk.image t → IsRight disk opening t w
     right_moved steps agreed =
         let on = ends_now progress.Moved more steps in
-        moved_with (at.Before group op) stands refl refl steps agreed (moves_of disk s t p op on steps, refl, refl) (before_goes group progress.Moved steps unturned on)
+        moved_with (at.BeforeTurn group op) stands refl refl steps agreed (moves_of disk s t p op on steps, refl, refl) (before_goes group progress.Moved steps unturned on)
 
     -- it decides nothing yet, and is not over
     pub not_decided : (reply : Reply) → Steps disk s p op (progress.Decided reply) t → ⊥
@@ -218,27 +218,27 @@ module _ {D N : Type 0} (disk : Ghosts D N) (opening : D) (s : StoreState D) (w 
     not_over steps = false≢true (sym (ends_now progress.Over more steps).0 ∙ unturned)
 
     pub right_fault : (fault : DiskFault) → StillSurvives → Steps disk s p op (progress.Fault fault) t → IsRight disk opening t w
-    right_fault fault survives steps = fails_with (at.Before group op) stands refl fault survives steps (before_goes group (progress.Fault fault) steps unturned (ends_now (progress.Fault fault) more steps))
+    right_fault fault survives steps = fails_with (at.BeforeTurn group op) stands refl fault survives steps (before_goes group (progress.Fault fault) steps unturned (ends_now (progress.Fault fault) more steps))
 
     -- it had its turn
     module _ (reply : Option Reply) (steps : Steps disk s p op (progress.Turned reply) t) (agreed : HasAgreed disk.image t) where
       abbrev e : Entry
       e = entry_of p (process w p).begun op group reply
 
-      turned_with : (b : Bool) → is_over next ≡ b → TaskNext (at.Before group op) (progress.Turned reply) n form p (process w p).begun before es now (es ++ e ∷ []) (place_behind b group (length es))
+      turned_with : (b : Bool) → is_over next ≡ b → TaskNext (at.BeforeTurn group op) (progress.Turned reply) n form p (process w p).begun before es now (es ++ e ∷ []) (place_behind b group (length es))
           → TaskStands (es ++ e ∷ []) (task t.tasks p) (place_behind b group (length es)) → IsRight disk opening t (turned w p reply (is_over next))
       turned_with b over made there =
-          let z : World = turned_from (at.Before group op) w p reply b in
+          let z : World = turned_from (at.BeforeTurn group op) w p reply b in
           let u : Process = record (process w p) { at = place_behind b group (length es) } in
-          let same : turned w p reply (is_over next) ≡ z = ap (λ (c : Bool). turned w p reply c) over ∙ ap (λ (a : At). turned_from a w p reply b) stands in
-          let same_b : turned w p reply b ≡ z = ap (λ (a : At). turned_from a w p reply b) stands in
+          let same : turned w p reply (is_over next) ≡ z = ap (λ (c : Bool). turned w p reply c) over ∙ ap (λ (a : Phase). turned_from a w p reply b) stands in
+          let same_b : turned w p reply b ≡ z = ap (λ (a : Phase). turned_from a w p reply b) stands in
           subst (λ (y : World). IsRight disk opening t y) (sym same)
-          (right_stepped (progress.Turned reply) steps refl agreed z u refl (at.Before group op) stands (progress.Turned reply) made
+          (right_stepped (progress.Turned reply) steps refl agreed z u refl (at.BeforeTurn group op) stands (progress.Turned reply) made
           (subst (λ (y : World). IsCounted t.volume.log.opened y) same_b (counted_turned s.volume.log.opened p w right.counted lt t.volume.log.opened group op reply b stands steps.groups.opened))
           there (λ busy. room_stays (progress.Turned reply) steps (ap is_busy_at stands)) refl (quiet_behind b group (length es)))
 
       -- its task goes on
-      looked : is_over next ≡ false → is_unturned next ≡ false → owes_reply next ≡ is_none reply → TaskStands (es ++ e ∷ []) (task t.tasks p) (at.Behind group (length es))
+      looked : is_over next ≡ false → is_unturned next ≡ false → owes_reply next ≡ is_none reply → TaskStands (es ++ e ∷ []) (task t.tasks p) (at.AfterTurn group (length es))
       looked unfinished past reads f there =
           let same : e ≡ f = entry_same (es ++ e ∷ []) (length es) e f (entry_new es e) there in
           subst (λ (g : Entry). IsBehind (task t.tasks p) g) same (record { same = steps.tasks.op_stays ∙ mine; unfinished = unfinished; turned = past; reply = reads })
@@ -264,12 +264,12 @@ module _ {D N : Type 0} (disk : Ghosts D N) (opening : D) (s : StoreState D) (w 
             (looked (Some told) steps agreed on.unfinished on.turned on.unread)
 
   -- BEHIND ITS TURN
-  module _ (group k : ℕ) (stands : (process w p).at ≡ at.Behind group k) where
-    behind : TaskStands es (task s.tasks p) (at.Behind group k)
-    behind = stood (at.Behind group k) stands
+  module _ (group k : ℕ) (stands : (process w p).at ≡ at.AfterTurn group k) where
+    behind : TaskStands es (task s.tasks p) (at.AfterTurn group k)
+    behind = stood (at.AfterTurn group k) stands
 
-    facts_of : StandsAt n before es p (at.Behind group k)
-    facts_of = subst (λ (a : At). StandsAt n before es p a) stands (had.facts.stands p)
+    facts_of : StandsAt n before es p (at.AfterTurn group k)
+    facts_of = subst (λ (a : Phase). StandsAt n before es p a) stands (had.facts.stands p)
 
     abbrev own : Entry
     own = facts_of.1.0
@@ -326,10 +326,10 @@ module _ {D N : Type 0} (disk : Ghosts D N) (opening : D) (s : StoreState D) (w 
     pub right_moved_behind : Steps disk s p op progress.Moved t → HasAgreed disk.image t → IsRight disk opening t w
     right_moved_behind steps agreed =
         let on = ends_now progress.Moved its.unfinished steps in
-        moved_with (at.Behind group k) stands refl refl steps agreed (moves_of disk s t p op on steps, refl, refl) (behind_goes group k progress.Moved steps behind on)
+        moved_with (at.AfterTurn group k) stands refl refl steps agreed (moves_of disk s t p op on steps, refl, refl) (behind_goes group k progress.Moved steps behind on)
 
     pub right_fault_behind : (fault : DiskFault) → StillSurvives → Steps disk s p op (progress.Fault fault) t → IsRight disk opening t w
-    right_fault_behind fault survives steps = fails_with (at.Behind group k) stands refl fault survives steps (behind_goes group k (progress.Fault fault) steps behind (ends_now (progress.Fault fault) its.unfinished steps))
+    right_fault_behind fault survives steps = fails_with (at.AfterTurn group k) stands refl fault survives steps (behind_goes group k (progress.Fault fault) steps behind (ends_now (progress.Fault fault) its.unfinished steps))
 
     -- its reading is over, and answered
     pub right_decided : group ≡ 0 → (reply : Reply) → Steps disk s p op (progress.Decided reply) t → HasAgreed disk.image t → IsRight disk opening t (answered (decided w p reply) p)
@@ -338,11 +338,11 @@ module _ {D N : Type 0} (disk : Ghosts D N) (opening : D) (s : StoreState D) (w 
         let read = read_over none reply ends.0 ends.1 in
         let z : World = answered (told_at (Some k) w reply) p in
         let u : Process = record (process w p) { at = at.Idle; room = None } in
-        let same : answered (decided w p reply) p ≡ z = ap (λ (a : At). answered (told_at (entry_place a) w reply) p) stands in
+        let same : answered (decided w p reply) p ≡ z = ap (λ (a : Phase). answered (told_at (entry_place a) w reply) p) stands in
         let list : z.journal.list ≡ set es k (told own (Bytes read.1.0)) = list_told reply ∙ ap (λ (r : Reply). set es k (told own r)) read.1.1 in
         let takes = subst (λ (r : Reply). Takes form before now own.op r) read.1.1 (takes_told reply steps) in
         subst (λ (y : World). IsRight disk opening t y) (sym same)
-        (right_stepped (progress.Decided reply) steps refl agreed z u refl (at.Behind group k) stands progress.Over (
+        (right_stepped (progress.Decided reply) steps refl agreed z u refl (at.AfterTurn group k) stands progress.Over (
           own,
           has.at,
           inl (record {
@@ -365,10 +365,10 @@ module _ {D N : Type 0} (disk : Ghosts D N) (opening : D) (s : StoreState D) (w 
         let ends = ends_now (progress.Decided reply) its.unfinished steps in
         let write = write_on later reply ends.1 in
         let z : World = told_at (Some k) w reply in
-        let same : decided w p reply ≡ z = ap (λ (a : At). told_at (entry_place a) w reply) stands in
+        let same : decided w p reply ≡ z = ap (λ (a : Phase). told_at (entry_place a) w reply) stands in
         let list = list_told reply in
         let there : IsEntry z.journal.list k (told own reply) = subst (λ (l : List Entry). IsEntry l k (told own reply)) (sym list) (entry_set es k own (told own reply) has.at) in
-        let goes : TaskNext (at.Behind group k) (progress.Decided reply) n form p (process w p).begun before es now z.journal.list (at.Behind group k) = (
+        let goes : TaskNext (at.AfterTurn group k) (progress.Decided reply) n form p (process w p).begun before es now z.journal.list (at.AfterTurn group k) = (
           own,
           has.at,
           reply_missing own.reply (sym its.reply ∙ ends.0),
@@ -381,20 +381,20 @@ module _ {D N : Type 0} (disk : Ghosts D N) (opening : D) (s : StoreState D) (w 
           list,
           refl,
         ) in
-        let goes_on : TaskStands z.journal.list (task t.tasks p) (at.Behind group k) = λ e here. subst (λ (f : Entry). IsBehind (task t.tasks p) f) (entry_same z.journal.list k (told own reply) e there here)
+        let goes_on : TaskStands z.journal.list (task t.tasks p) (at.AfterTurn group k) = λ e here. subst (λ (f : Entry). IsBehind (task t.tasks p) f) (entry_same z.journal.list k (told own reply) e there here)
         (record { same = steps.tasks.op_stays ∙ its.same; unfinished = write.0.unfinished; turned = write.0.turned; reply = write.0.unread }) in
         subst (λ (y : World). IsRight disk opening t y) (sym same)
-        (right_stepped (progress.Decided reply) steps refl agreed z (process w p) (sym (set-get_or w.processes p idle)) (at.Behind group k) stands (progress.Decided reply)
-        (subst (λ (b : At). TaskNext (at.Behind group k) (progress.Decided reply) n form p (process w p).begun before es now z.journal.list b) (sym stands) goes)
+        (right_stepped (progress.Decided reply) steps refl agreed z (process w p) (sym (set-get_or w.processes p idle)) (at.AfterTurn group k) stands (progress.Decided reply)
+        (subst (λ (b : Phase). TaskNext (at.AfterTurn group k) (progress.Decided reply) n form p (process w p).begun before es now z.journal.list b) (sym stands) goes)
         (counted_same s.volume.log.opened p w right.counted lt t.volume.log.opened z (process w p).at (process w p).room (ap Rattle.history.specs.Processes.is_before stands) (ap Rattle.history.specs.Processes.is_before stands) (sym (set-get_or w.processes p idle)) (length-set es k (told (entry_in es k) reply)) refl steps.groups.opened)
-        (subst (λ (b : At). TaskStands z.journal.list (task t.tasks p) b) (sym stands) goes_on) (room_stays (progress.Decided reply) steps) refl (ap is_committing_at stands))
+        (subst (λ (b : Phase). TaskStands z.journal.list (task t.tasks p) b) (sym stands) goes_on) (room_stays (progress.Decided reply) steps) refl (ap is_committing_at stands))
 
     -- another operation of no group is over, and answered
     pub right_over : group ≡ 0 → Steps disk s p op progress.Over t → HasAgreed disk.image t → IsRight disk opening t (answered w p)
     right_over none steps agreed =
         let ends = ends_now progress.Over its.unfinished steps in
         let reply = reply_there own.reply (sym its.reply ∙ ends.1) in
-        right_stepped progress.Over steps refl agreed (answered w p) (record (process w p) { at = at.Idle; room = None }) refl (at.Behind group k) stands progress.Over
+        right_stepped progress.Over steps refl agreed (answered w p) (record (process w p) { at = at.Idle; room = None }) refl (at.AfterTurn group k) stands progress.Over
         (own, has.at, inr (inr (record { reply = reply.0; has = reply.1; none = none; leaves = leaves_of disk s t p op ends.2 steps; list = refl; now = refl })))
         (counted_same s.volume.log.opened p w right.counted lt t.volume.log.opened (answered w p) at.Idle None (ap Rattle.history.specs.Processes.is_before stands) refl refl refl refl steps.groups.opened)
         ends.2 (λ busy. absurd (false≢true busy)) refl refl
@@ -405,9 +405,9 @@ module _ {D N : Type 0} (disk : Ghosts D N) (opening : D) (s : StoreState D) (w 
         let ends = ends_now progress.Over its.unfinished steps in
         let reply = reply_there own.reply (sym its.reply ∙ ends.1) in
         let z : World = at_place w p (at.Ending group k) in
-        let same : over w p ≡ z = ap (λ (a : At). at_place w p (over_at a)) stands in
+        let same : over w p ≡ z = ap (λ (a : Phase). at_place w p (over_at a)) stands in
         subst (λ (y : World). IsRight disk opening t y) (sym same)
-        (right_stepped progress.Over steps refl agreed z (record (process w p) { at = at.Ending group k }) refl (at.Behind group k) stands progress.Over
+        (right_stepped progress.Over steps refl agreed z (record (process w p) { at = at.Ending group k }) refl (at.AfterTurn group k) stands progress.Over
         (own, has.at, inr (inl (record { reply = reply.0; has = reply.1; changing = grouped later; leaves = leaves_of disk s t p op ends.2 steps; list = refl; now = refl })))
         (counted_same s.volume.log.opened p w right.counted lt t.volume.log.opened z (at.Ending group k) (process w p).room (ap Rattle.history.specs.Processes.is_before stands) refl refl refl refl steps.groups.opened)
         ends.2 (λ busy. room_stays progress.Over steps (ap is_busy_at stands)) refl refl)

@@ -4,8 +4,8 @@ use Rattle.blocks.specs.Disk.{Image}
 use Rattle.model.specs.declared.types.operations.Why.{Why}
 use Rattle.wal.specs.Machine.{begin_cause}
 use Rattle.inodes.specs.Waiting.{sleep_cause}
-use Rattle.history.specs.declared.types.At.{At}
-use Rattle.history.specs.declared.types.At.TheVariants as at
+use Rattle.history.specs.declared.types.Phase.{Phase}
+use Rattle.history.specs.declared.types.Phase.TheVariants as at
 use Rattle.history.specs.Bound.{is_busy_at}
 use Rattle.history.specs.Processes.{World}
 use Rattle.kernel.specs.Bound.{left_of}
@@ -21,10 +21,10 @@ IsBusy k p = is_busy_at (ats_of k.world p) ≡ true
 
 -- Why an operation under way has to wait, by why its task has to; none where it goes on. An end and
 -- a commit wait for nobody.
-abbrev pub cause_by : At → Option Why → Option Why
+abbrev pub cause_by : Phase → Option Why → Option Why
 cause_by at.Idle cause = None
-cause_by (at.Before group op) cause = cause
-cause_by (at.Behind group place) cause = cause
+cause_by (at.BeforeTurn group op) cause = cause
+cause_by (at.AfterTurn group place) cause = cause
 cause_by (at.Ending group place) cause = None
 cause_by (at.Committing group place) cause = None
 

@@ -15,7 +15,7 @@ use Rattle.inodes.specs.WriteRuns.{SeesFull}
 use Rattle.inodes.specs.Writing.{extent_of}
 use Rattle.ports.specs.declared.herald.Herald as herald_trait
 use Rattle.ports.specs.declared.intake.Intake as intake_trait
-use Rattle.history.specs.declared.types.At.TheVariants as at
+use Rattle.history.specs.declared.types.Phase.TheVariants as at
 use Rattle.history.specs.Open.{IsEntry}
 use Rattle.kernel.specs.declared.types.Turn.{Turn}
 use Rattle.kernel.specs.declared.types.Turn.TheVariants.{Proc}

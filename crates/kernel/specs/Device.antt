@@ -10,8 +10,8 @@ use Rattle.wal.specs.Joint.{place_at}
 use Rattle.inodes.specs.Store.{StoreState}
 use Rattle.inodes.specs.Places.{block_at_place}
 use Rattle.inodes.specs.Tasks.{task}
-use Rattle.history.specs.declared.types.At.{At}
-use Rattle.history.specs.declared.types.At.TheVariants as at
+use Rattle.history.specs.declared.types.Phase.{Phase}
+use Rattle.history.specs.declared.types.Phase.TheVariants as at
 use Rattle.kernel.specs.declared.types.Step.{Step}
 use Rattle.kernel.specs.declared.types.Step.TheVariants as step
 use Rattle.history.specs.Alone.{is_committing_at}
@@ -42,25 +42,25 @@ CountsItsFault (Some fault) old new faults failed =
     SameUse old new × (failed ≡ one_more faults)
 
 -- the block that a step reads or writes; 0 where it does neither
-abbrev pub block_at_step : {D : Type 0} → At → StoreState D → ℕ → ℕ
+abbrev pub block_at_step : {D : Type 0} → Phase → StoreState D → ℕ → ℕ
 block_at_step at.Idle s p = 0
-block_at_step (at.Before group op) s p = block_at_place (task s.tasks p).place
-block_at_step (at.Behind group k) s p = block_at_place (task s.tasks p).place
+block_at_step (at.BeforeTurn group op) s p = block_at_place (task s.tasks p).place
+block_at_step (at.AfterTurn group k) s p = block_at_place (task s.tasks p).place
 block_at_step (at.Ending group k) s p = 0
 block_at_step (at.Committing group k) s p = place_at s.volume.log.commit s.volume.log.homes
 
 -- its step is a sync
-abbrev pub SyncsAt : {D : Type 0} → At → StoreState D → Type 0
+abbrev pub SyncsAt : {D : Type 0} → Phase → StoreState D → Type 0
 SyncsAt a s = (is_committing_at a ≡ true) × (is_syncing s.volume.log.commit ≡ true)
 
 -- a fault is of the block that the step reads or writes, or of its sync
-abbrev pub FailsSo : {D : Type 0} → At → StoreState D → ℕ → DeviceFault → Type 0
+abbrev pub FailsSo : {D : Type 0} → Phase → StoreState D → ℕ → DeviceFault → Type 0
 FailsSo a s p (Block fault) = fault.0 ≡ block_at_step a s p
 FailsSo a s p (Sync fault) = SyncsAt a s
 
 -- a step of process p, which stands so, uses the disk of a store: it reads or writes one block at
 -- most, or syncs
-pub record UsesDisk {D N : Type 0} (disk : Ghosts D N) (a : At) (p : ℕ) (r : Step)
+pub record UsesDisk {D N : Type 0} (disk : Ghosts D N) (a : Phase) (p : ℕ) (r : Step)
     (s t : StoreState D) : Type 0 where
   pub halted : (r ≡ step.Halted) ↔ IsSome t.volume.fault
   pub name : disk.name t.volume.device ≡ disk.name s.volume.device

@@ -15,8 +15,8 @@ use Rattle.inodes.specs.Places.{is_over, owes_reply, is_unturned}
 use Rattle.ports.specs.History.{History}
 use Rattle.ports.specs.declared.herald.Herald as herald_trait
 use Rattle.ports.specs.declared.intake.Intake as intake_trait
-use Rattle.history.specs.declared.types.At.{At}
-use Rattle.history.specs.declared.types.At.TheVariants as at
+use Rattle.history.specs.declared.types.Phase.{Phase}
+use Rattle.history.specs.declared.types.Phase.TheVariants as at
 use Rattle.history.specs.Alone.{CommitsAlone}
 use Rattle.history.specs.Views.{KernelFacts}
 use Rattle.history.specs.Follows.{IsJournal}
@@ -41,15 +41,15 @@ pub record IsBehind (t : TaskState) (e : Entry) : Type 0 where
   pub reply : owes_reply t.place ≡ is_none e.reply
 
 -- a process's task stands where its operation does
-abbrev pub TaskStands : List Entry → TaskState → At → Type 0
+abbrev pub TaskStands : List Entry → TaskState → Phase → Type 0
 TaskStands es t at.Idle = is_over t.place ≡ true
-TaskStands es t (at.Before group op) = (t.op ≡ Some op) × (is_unturned t.place ≡ true)
-TaskStands es t (at.Behind group k) = (e : Entry) → IsEntry es k e → IsBehind t e
+TaskStands es t (at.BeforeTurn group op) = (t.op ≡ Some op) × (is_unturned t.place ≡ true)
+TaskStands es t (at.AfterTurn group k) = (e : Entry) → IsEntry es k e → IsBehind t e
 TaskStands es t (at.Ending group k) = is_over t.place ≡ true
 TaskStands es t (at.Committing group k) = (is_over t.place ≡ true) × (0 < group)
 
 -- and the operation under way has room for its answer
-pub record IsPaired (es : List Entry) (t : TaskState) (a : At) (room : Option GatheredBytes)
+pub record IsPaired (es : List Entry) (t : TaskState) (a : Phase) (room : Option GatheredBytes)
     : Type 0 where
   pub stands : TaskStands es t a
   pub room_is : is_busy_at a ≡ true → IsItsRoom t.op room

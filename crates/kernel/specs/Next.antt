@@ -22,8 +22,8 @@ use Rattle.inodes.specs.Places.{is_over}
 use Rattle.inodes.specs.Steps.{Steps, Commits}
 use Rattle.ports.specs.History.{Side, first_in}
 use Rattle.history.specs.AtOnce.{at_once_reply}
-use Rattle.history.specs.declared.types.At.{At}
-use Rattle.history.specs.declared.types.At.TheVariants as at
+use Rattle.history.specs.declared.types.Phase.{Phase}
+use Rattle.history.specs.declared.types.Phase.TheVariants as at
 use Rattle.history.specs.Journal.{entry_in}
 use Rattle.history.specs.Processes.{World, process, with_place, taken, turned, decided, refused, over, committing, answered}
 use Rattle.kernel.specs.declared.waiting.Waiting.{Waiting}
@@ -253,11 +253,11 @@ pub record Writes {D N : Type 0} (disk : Ghosts D N) (s : StoreState D) (w : Wor
   pub world : z ≡ world_written result w p
 
 -- by where the process stands
-abbrev pub NextAt : {D N : Type 0} → Ghosts D N → At → StoreState D → World → ℕ → List Op → Side
+abbrev pub NextAt : {D N : Type 0} → Ghosts D N → Phase → StoreState D → World → ℕ → List Op → Side
     → Bool → Step → StoreState D → World → Type 0
 NextAt disk at.Idle s w p before side told r t z = BeginsNext s w p before side told r t z
-NextAt disk (at.Before group op) s w p before side told r t z = Works disk s w p op r t z
-NextAt disk (at.Behind group k) s w p before side told r t z = Finishes disk s w p group k r t z
+NextAt disk (at.BeforeTurn group op) s w p before side told r t z = Works disk s w p op r t z
+NextAt disk (at.AfterTurn group k) s w p before side told r t z = Finishes disk s w p group k r t z
 NextAt disk (at.Ending group k) s w p before side told r t z = Ends s w p r t z
 NextAt disk (at.Committing group k) s w p before side told r t z = Writes disk s w p r t z
 

@@ -4,8 +4,8 @@ use Rattle.std.specs.Prelude.{◌≡◌, ℕ, ◌+◌, ◌==◌, ◌&&◌, if◌
 use Rattle.blocks.specs.declared.disk.Disk.{Ghosts}
 use Rattle.model.specs.Layout.{inode_count_of}
 use Rattle.wal.specs.Machine.{LogState}
-use Rattle.history.specs.declared.types.At.{At}
-use Rattle.history.specs.declared.types.At.TheVariants as at
+use Rattle.history.specs.declared.types.Phase.{Phase}
+use Rattle.history.specs.declared.types.Phase.TheVariants as at
 use Rattle.history.specs.Bound.{is_durable}
 use Rattle.history.specs.Grows.{Grows}
 use Rattle.history.specs.Processes.{World, process}
@@ -17,15 +17,15 @@ use Rattle.kernel.specs.State.{State}
 
 -- The step of a process that stands so commits its group: it writes the header, or syncs it over a
 -- disk that holds writes back, or it is the last end of a group without homes.
-abbrev pub commits_at : Bool → At → LogState → Bool
+abbrev pub commits_at : Bool → Phase → LogState → Bool
 commits_at holds at.Idle l = false
-commits_at holds (at.Before group op) l = false
-commits_at holds (at.Behind group k) l = false
+commits_at holds (at.BeforeTurn group op) l = false
+commits_at holds (at.AfterTurn group k) l = false
 commits_at holds (at.Ending group k) l = (l.outstanding == 1) && (length l.homes == 0)
 commits_at holds (at.Committing group k) l = is_durable holds l.commit
 
 -- a step that is made; one that halts is not
-abbrev pub commits : Bool → Step → At → LogState → Bool
+abbrev pub commits : Bool → Step → Phase → LogState → Bool
 commits holds step.Moved a l = commits_at holds a l
 commits holds step.Answered a l = commits_at holds a l
 commits holds (step.Sleeping cause) a l = false
@@ -35,7 +35,7 @@ commits holds step.ShutDown a l = false
 commits holds step.Halted a l = false
 
 -- one group more is committed by such a step, and none by any other
-abbrev pub CountsCommitted : Bool → Step → At → LogState → LogState → Type 0
+abbrev pub CountsCommitted : Bool → Step → Phase → LogState → LogState → Type 0
 CountsCommitted holds r a l m = m.committed ≡ l.committed + (if commits holds r a l then 1 else 0)
 
 -- a shutdown is kept, and once there is one, no operation is taken

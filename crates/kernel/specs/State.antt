@@ -6,7 +6,7 @@ use Rattle.model.specs.declared.types.operations.Op.TheVariants.{Create, Write, 
 use Rattle.model.specs.Gathered.{GatheredBytes}
 use Rattle.model.specs.Journal.{is_at_once}
 use Rattle.inodes.specs.Store.{StoreState}
-use Rattle.history.specs.declared.types.At.{At}
+use Rattle.history.specs.declared.types.Phase.{Phase}
 use Rattle.history.specs.Most.{most_of}
 use Rattle.history.specs.Processes.{process}
 use Rattle.history.specs.Stop.{StepsLeave}
@@ -48,5 +48,5 @@ room_for None = None
 room_for (Some n) = Some (record { bytes = []; room = n })
 
 -- where each process stands
-abbrev pub ats_of : World → ℕ → At
+abbrev pub ats_of : World → ℕ → Phase
 ats_of w q = (process w q).at

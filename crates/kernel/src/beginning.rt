@@ -1,7 +1,7 @@
 // The beginning of operations that wait.
 ghost use Rattle.std.specs.Prelude.{◌≡◌, ◌⊎◌, ◌<◌, ◌+◌, ◌^◌, length, Option, Some, None, IsSome, IfOk, IfErr, true, false};
 ghost use Rattle.ports.specs.History.{first_in};
-ghost use Rattle.history.specs.declared.types.At.TheVariants as at;
+ghost use Rattle.history.specs.declared.types.Phase.TheVariants as at;
 ghost use Rattle.history.specs.Processes.{process};
 ghost use Rattle.kernel.specs.Begins.{Begins, TakesFirst, LeavesFirst, kept_out, count_of, rooms_for};
 ghost use Rattle.kernel.specs.Ports.{Asks, first_waiting};

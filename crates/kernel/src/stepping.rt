@@ -3,7 +3,7 @@ use crate::Step;
 use crate::telling::{give, tell};
 use blocks::Disk;
 use inodes::Store;
-use history::{At, Processes};
+use history::{Phase, Processes};
 use model::types::TaskProgress;
 use ports::{Herald, Intake};
 use std::alloc::Global;
@@ -96,11 +96,11 @@ impl<D: Disk, I: Intake, H: Herald> Kernel<D, I, H> {
             return Step::Halted;
         }
         match self.processes.at(pid) {
-            At::Idle => self.begin(pid),
-            At::Before { .. } => self.work(pid),
-            At::Behind { .. } => self.finish(pid),
-            At::Ending { .. } => self.end(pid),
-            At::Committing { .. } => self.commit(pid),
+            Phase::Idle => self.begin(pid),
+            Phase::BeforeTurn { .. } => self.work(pid),
+            Phase::AfterTurn { .. } => self.finish(pid),
+            Phase::Ending { .. } => self.end(pid),
+            Phase::Committing { .. } => self.commit(pid),
         }
     }
 
@@ -112,7 +112,7 @@ impl<D: Disk, I: Intake, H: Herald> Kernel<D, I, H> {
         ensures { Acts D.Disk I.Intake H.Herald pid result self.old self.new }
     {
         self.store.known();
-        let At::Before { op, .. } = self.processes.at(pid) else {
+        let Phase::BeforeTurn { op, .. } = self.processes.at(pid) else {
             unreachable!();
         };
         let progress = self.store.step(pid, op);
@@ -141,7 +141,7 @@ impl<D: Disk, I: Intake, H: Herald> Kernel<D, I, H> {
         ensures { Acts D.Disk I.Intake H.Herald pid result self.old self.new }
     {
         self.store.known();
-        let At::Behind { group, .. } = self.processes.at(pid) else {
+        let Phase::AfterTurn { group, .. } = self.processes.at(pid) else {
             unreachable!();
         };
         let group = *group;

@@ -9,7 +9,7 @@ use Rattle.ports.specs.declared.intake.Intake as intake
 use Rattle.inodes.specs.contracts.tasks.Task as Task
 use Rattle.inodes.specs.contracts.tasks.Tasks as Tasks
 use Rattle.inodes.specs.contracts.store.Store as Store
-use Rattle.inodes.proofs.tasks.Place.TheSendSync as place
+use Rattle.inodes.proofs.tasks.Stage.TheSendSync as place
 use Rattle.inodes.proofs.table.Inodes.TheSendSync as inodes
 use Rattle.model.proofs.gathered.Gathered.TheSendSync as gathered
 use Rattle.wal.proofs.volume.Volume.TheSendSync as volume

@@ -11,19 +11,19 @@ use Rattle.wal.specs.Joint.{stepped_at}
 use Rattle.wal.specs.Machine.{LogState, used_by, begin_cause, begun, ended, end_answer, left_by, closed, is_quiet, SameGroups, IsLogAt}
 use Rattle.wal.specs.Step.{answer_at}
 use Rattle.wal.specs.Lemmas.Log.{let_in}
-use Rattle.history.specs.declared.types.At.{At}
+use Rattle.history.specs.declared.types.Phase.{Phase}
 use Rattle.history.specs.Alone.{is_committing_at, CommitsAlone}
 use Rattle.history.specs.Lemmas.Groups.{end_leaves, end_commits, open_of}
 
 -- while the log has no commit under way, nobody commits
-pub none_commits : (ats : ℕ → At) (l : LogState) → CommitsAlone ats l → is_quiet l.commit ≡ true → (q : ℕ) → is_committing_at (ats q) ≡ false
+pub none_commits : (ats : ℕ → Phase) (l : LogState) → CommitsAlone ats l → is_quiet l.commit ≡ true → (q : ℕ) → is_committing_at (ats q) ≡ false
 none_commits ats l alone quiet q = false_from_ne_true (is_committing_at (ats q)) (λ mine. false≢true (sym (alone.busy q mine) ∙ quiet))
 
 -- so it is where an operation is open
 pub quiet_if_open : (l : LogState) (q : ℕ) → IsLogAt l.commit l → IsSome (used_by l q) → is_quiet l.commit ≡ true
 quiet_if_open l q is used = ap is_quiet (open_of l q is used).quiet
 
-module _ (ats new : ℕ → At) (l : LogState) (alone : CommitsAlone ats l) (p : ℕ) (others : (q : ℕ) → q ≢ p → new q ≡ ats q) where
+module _ (ats new : ℕ → Phase) (l : LogState) (alone : CommitsAlone ats l) (p : ℕ) (others : (q : ℕ) → q ≢ p → new q ≡ ats q) where
   -- process p doesn't commit: then neither does who didn't
   nobody : is_committing_at (new p) ≡ false → is_quiet l.commit ≡ true → (q : ℕ) → is_committing_at (new q) ≡ false
   nobody mine quiet q = ⊎_elim

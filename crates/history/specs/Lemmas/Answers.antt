@@ -23,8 +23,8 @@ use Rattle.model.specs.Operations.{where_true, is_refusal, refusal_of, part_of, 
 use Rattle.model.specs.Lemmas.Runs.{and_then_some, where_true_some}
 use Rattle.ports.specs.History.{History, gives}
 use Rattle.wal.specs.Machine.{IsLogAt}
-use Rattle.history.specs.declared.types.At.{At}
-use Rattle.history.specs.declared.types.At.TheVariants as at
+use Rattle.history.specs.declared.types.Phase.{Phase}
+use Rattle.history.specs.declared.types.Phase.TheVariants as at
 use Rattle.history.specs.Histories.{pending_at, Owes, Owed, IsHistory}
 use Rattle.history.specs.Journal.{entry_in, plain_reply, answer_with, answer_of, HasRoom, FitsRoom, IsItsRoom}
 use Rattle.history.specs.Keeps.{HasItsGroup}
@@ -47,17 +47,17 @@ answer_inside es k e at =
     ap (λ (b : Bool). cond b (answer_of (entry_in es k)) None) (lt-ltb k (length es) at.inside) ∙ ap answer_of (entry_inside es k e at)
 
 -- so it is where an entry's answer is still to be given
-owed_given : (w : World) (p k begun : ℕ) (a : At) (answer : Answer) (h : History) → Owed a p w.journal.list ≡ (λ (given : List Entry). Owes p k w.journal.list given) → pending_at a ≡ [] → answer_in w.journal.list k ≡ Some answer
+owed_given : (w : World) (p k begun : ℕ) (a : Phase) (answer : Answer) (h : History) → Owed a p w.journal.list ≡ (λ (given : List Entry). Owes p k w.journal.list given) → pending_at a ≡ [] → answer_in w.journal.list k ≡ Some answer
     → IsHistory w.journal.list a begun p h → IsHistory w.journal.list at.Idle begun p (gives answer h)
 owed_given w p k begun a answer h shape none tells is =
     let o : Owes p k w.journal.list is.answered = subst (λ (P : List Entry → Type 0). P is.answered) shape is.owed in
     history_answered w.journal.list k begun p a o.entry answer h shape none o.at (sym (answer_inside w.journal.list k o.entry o.at) ∙ tells) is
 
 -- who is given the last answer owes none any more
-pub history_given : (w : World) (p begun : ℕ) (a : At) (answer : Answer) (h : History) → last_answer w a ≡ Some answer → IsHistory w.journal.list a begun p h → IsHistory w.journal.list at.Idle begun p (gives answer h)
+pub history_given : (w : World) (p begun : ℕ) (a : Phase) (answer : Answer) (h : History) → last_answer w a ≡ Some answer → IsHistory w.journal.list a begun p h → IsHistory w.journal.list at.Idle begun p (gives answer h)
 history_given w p begun at.Idle answer h tells is = absurd (cc tells)
-history_given w p begun (at.Before group op) answer h tells is = absurd (cc tells)
-history_given w p begun (at.Behind group k) answer h tells is = owed_given w p k begun (at.Behind group k) answer h refl refl tells is
+history_given w p begun (at.BeforeTurn group op) answer h tells is = absurd (cc tells)
+history_given w p begun (at.AfterTurn group k) answer h tells is = owed_given w p k begun (at.AfterTurn group k) answer h refl refl tells is
 history_given w p begun (at.Ending group k) answer h tells is = owed_given w p k begun (at.Ending group k) answer h refl refl tells is
 history_given w p begun (at.Committing group k) answer h tells is = owed_given w p k begun (at.Committing group k) answer h refl refl tells is
 
@@ -243,11 +243,11 @@ module _ (n : ℕ) (s : View) (form : Form) (start files : Files) (w : World) (p
 
   pub answer_at_end : (process w p).at ≡ at.Ending group k → IsLogAt s.log.commit s.log → StandsAt n s w.journal.list p (process w p).at → CanAnswer (last_answer w (process w p).at) (process w p).room
   answer_at_end stands log is =
-      let mine : StandsAt n s w.journal.list p (at.Ending group k) = subst (λ (a : At). StandsAt n s w.journal.list p a) stands is in
-      subst (λ (a : At). CanAnswer (last_answer w a) (process w p).room) (sym stands) (told_there mine.2.0 mine.2.1 mine.2.2 (group_there n p group k s w.journal.list log mine))
+      let mine : StandsAt n s w.journal.list p (at.Ending group k) = subst (λ (a : Phase). StandsAt n s w.journal.list p a) stands is in
+      subst (λ (a : Phase). CanAnswer (last_answer w a) (process w p).room) (sym stands) (told_there mine.2.0 mine.2.1 mine.2.2 (group_there n p group k s w.journal.list log mine))
 
   -- behind its end the log doesn't say that its group has a number
   pub answer_at_commit : (process w p).at ≡ at.Committing group k → 0 < group → StandsAt n s w.journal.list p (process w p).at → CanAnswer (last_answer w (process w p).at) (process w p).room
   answer_at_commit stands later is =
-      let mine : StandsAt n s w.journal.list p (at.Committing group k) = subst (λ (a : At). StandsAt n s w.journal.list p a) stands is in
-      subst (λ (a : At). CanAnswer (last_answer w a) (process w p).room) (sym stands) (told_there mine.2.0 mine.2.1 mine.2.2 later)
+      let mine : StandsAt n s w.journal.list p (at.Committing group k) = subst (λ (a : Phase). StandsAt n s w.journal.list p a) stands is in
+      subst (λ (a : Phase). CanAnswer (last_answer w a) (process w p).room) (sym stands) (told_there mine.2.0 mine.2.1 mine.2.2 later)

@@ -13,8 +13,8 @@ use Rattle.wal.specs.declared.types.Part.TheVariants as part
 use Rattle.wal.specs.Joint.{stepped_at, synced_at}
 use Rattle.wal.specs.Machine.{LogState, used_by, ended, left_by, is_quiet, IsLogAt, Idle}
 use Rattle.wal.specs.Lemmas.Log.{few_homes}
-use Rattle.history.specs.declared.types.At.{At}
-use Rattle.history.specs.declared.types.At.TheVariants as at
+use Rattle.history.specs.declared.types.Phase.{Phase}
+use Rattle.history.specs.declared.types.Phase.TheVariants as at
 use Rattle.history.specs.Alone.{is_committing_at, CommitsAlone}
 use Rattle.history.specs.Bound.{synced_left, writes_left, all_steps_left, is_busy_at, Lowers, TakesStep}
 use Rattle.history.specs.Next.{TaskNext}
@@ -79,53 +79,53 @@ some_write commit.Clearing n busy = omega arith
 some_write (commit.Syncing p) n busy = some_sync p n
 
 -- an operation has no more than its task, and those of its end and of a commit
-pub steps_few : (a : At) (left most : ℕ) (l : LogState) → IsLogAt l.commit l → left ≤ most → all_steps_left a left l ≤ most + 67
+pub steps_few : (a : Phase) (left most : ℕ) (l : LogState) → IsLogAt l.commit l → left ≤ most → all_steps_left a left l ≤ most + 67
 steps_few at.Idle left most l is few = omega arith
-steps_few (at.Before group op) left most l is few = omega (arith, few)
-steps_few (at.Behind group k) left most l is few = omega (arith, few)
+steps_few (at.BeforeTurn group op) left most l is few = omega (arith, few)
+steps_few (at.AfterTurn group k) left most l is few = omega (arith, few)
 steps_few (at.Ending group k) left most l is few = omega arith
 steps_few (at.Committing group k) left most l is few = let writes = most_writes l.commit (length l.homes) (few_homes is) in omega (arith, writes)
 
 -- only a commit's steps are read off the log
-pub left_same : (a : At) (old left : ℕ) (l m : LogState) → left ≤ old → (is_committing_at a ≡ true → (m.commit ≡ l.commit) × (length m.homes ≡ length l.homes)) → all_steps_left a left m ≤ all_steps_left a old l
+pub left_same : (a : Phase) (old left : ℕ) (l m : LogState) → left ≤ old → (is_committing_at a ≡ true → (m.commit ≡ l.commit) × (length m.homes ≡ length l.homes)) → all_steps_left a left m ≤ all_steps_left a old l
 left_same at.Idle old left l m le same = omega arith
-left_same (at.Before group op) old left l m le same = omega (arith, le)
-left_same (at.Behind group k) old left l m le same = omega (arith, le)
+left_same (at.BeforeTurn group op) old left l m le same = omega (arith, le)
+left_same (at.AfterTurn group k) old left l m le same = omega (arith, le)
 left_same (at.Ending group k) old left l m le same = omega arith
 left_same (at.Committing group k) old left l m le same = let is = same refl in let equal : writes_left m.commit (length m.homes) ≡ writes_left l.commit (length l.homes) = ap (λ (c : Commit). writes_left c (length m.homes)) is.0 ∙ ap (writes_left l.commit) is.1 in omega (arith, equal)
 
 -- the tasks of the other processes have no more left than they had
-module _ (p : ℕ) (ats new : ℕ → At) (old left : ℕ → ℕ) (l : LogState) (alone : CommitsAlone ats l) (others_at : (q : ℕ) → q ≢ p → new q ≡ ats q) (others_left : (q : ℕ) → q ≢ p → left q ≤ old q) where
+module _ (p : ℕ) (ats new : ℕ → Phase) (old left : ℕ → ℕ) (l : LogState) (alone : CommitsAlone ats l) (others_at : (q : ℕ) → q ≢ p → new q ≡ ats q) (others_left : (q : ℕ) → q ≢ p → left q ≤ old q) where
   takes : (m : LogState) → ((q : ℕ) → q ≢ p → is_committing_at (ats q) ≡ true → (m.commit ≡ l.commit) × (length m.homes ≡ length l.homes)) → (is_busy_at (ats p) ≡ true → all_steps_left (new p) (left p) m < all_steps_left (ats p) (old p) l)
       → TakesStep p ats old l new left m
   takes m same falls = record {
     falls = falls;
-    others = λ q other. subst (λ (a : At). all_steps_left a (left q) m ≤ all_steps_left (ats q) (old q) l) (sym (others_at q other)) (left_same (ats q) (old q) (left q) l m (others_left q other) (same q other));
+    others = λ q other. subst (λ (a : Phase). all_steps_left a (left q) m ≤ all_steps_left (ats q) (old q) l) (sym (others_at q other)) (left_same (ats q) (old q) (left q) l m (others_left q other) (same q other));
   }
 
   -- process p goes from one place to another
-  from_to : (m : LogState) (a b : At) → ats p ≡ a → new p ≡ b → all_steps_left b (left p) m < all_steps_left a (old p) l → all_steps_left (new p) (left p) m < all_steps_left (ats p) (old p) l
-  from_to m a b was now falls = subst (λ (c : At). all_steps_left c (left p) m < all_steps_left (ats p) (old p) l) (sym now) (subst (λ (c : At). all_steps_left b (left p) m < all_steps_left c (old p) l) (sym was) falls)
+  from_to : (m : LogState) (a b : Phase) → ats p ≡ a → new p ≡ b → all_steps_left b (left p) m < all_steps_left a (old p) l → all_steps_left (new p) (left p) m < all_steps_left (ats p) (old p) l
+  from_to m a b was now falls = subst (λ (c : Phase). all_steps_left c (left p) m < all_steps_left (ats p) (old p) l) (sym now) (subst (λ (c : Phase). all_steps_left b (left p) m < all_steps_left c (old p) l) (sym was) falls)
 
   -- one is taken; the log's commit goes on as it does
   pub takes_taken : (m : LogState) → m.commit ≡ l.commit → length m.homes ≡ length l.homes → ats p ≡ at.Idle → TakesStep p ats old l new left m
   takes_taken m commit homes stood = takes m (λ q other is. (commit, homes)) (λ busy. absurd (false≢true (sym (ap is_busy_at stood) ∙ busy)))
 
   -- a step of its task, which adds no home while a commit is under way
-  pub takes_task : (m : LogState) (a : At) (r : TaskProgress) (n seq : ℕ) (form : Form) (s t : View) (es fs : List Entry) → ats p ≡ a → TaskNext a r n form p seq s es t fs (new p) → Lowers r (old p) (left p)
+  pub takes_task : (m : LogState) (a : Phase) (r : TaskProgress) (n seq : ℕ) (form : Form) (s t : View) (es fs : List Entry) → ats p ≡ a → TaskNext a r n form p seq s es t fs (new p) → Lowers r (old p) (left p)
       → m.commit ≡ l.commit → (is_quiet l.commit ≡ false → length m.homes ≡ length l.homes) → TakesStep p ats old l new left m
   takes_task m a r n seq form s t es fs stood made lower commit homes = takes m (λ q other is. (commit, homes (alone.busy q is))) (λ busy. by_step a r stood made lower)
     where
-      by_step : (a : At) (r : TaskProgress) → ats p ≡ a → TaskNext a r n form p seq s es t fs (new p) → Lowers r (old p) (left p) → all_steps_left (new p) (left p) m < all_steps_left (ats p) (old p) l
-      by_step (at.Before group op) progress.Moved stood x lower = from_to m (at.Before group op) (at.Before group op) stood x.2 (omega (arith, lower))
-      by_step (at.Before group op) (progress.Turned None) stood x lower = from_to m (at.Before group op) (at.Behind group (length es)) stood x.2 (omega (arith, lower))
-      by_step (at.Before group op) (progress.Turned (Some r)) stood (turn, list, inl now) lower = from_to m (at.Before group op) (at.Behind group (length es)) stood now (omega (arith, lower))
-      by_step (at.Before group op) (progress.Turned (Some r)) stood (turn, list, inr (now, changing, free)) lower = from_to m (at.Before group op) (at.Ending group (length es)) stood now (omega (arith, lower))
-      by_step (at.Behind group k) progress.Moved stood x lower = from_to m (at.Behind group k) (at.Behind group k) stood x.2 (omega (arith, lower))
-      by_step (at.Behind group k) (progress.Decided r) stood (e, there, none, d, list, now) lower = from_to m (at.Behind group k) (at.Behind group k) stood now (omega (arith, lower))
-      by_step (at.Behind group k) progress.Over stood (e, there, inl o) lower = from_to m (at.Behind group k) at.Idle stood o.now (omega (arith, lower))
-      by_step (at.Behind group k) progress.Over stood (e, there, inr (inl o)) lower = from_to m (at.Behind group k) (at.Ending group k) stood o.now (omega (arith, lower))
-      by_step (at.Behind group k) progress.Over stood (e, there, inr (inr o)) lower = from_to m (at.Behind group k) at.Idle stood o.now (omega (arith, lower))
+      by_step : (a : Phase) (r : TaskProgress) → ats p ≡ a → TaskNext a r n form p seq s es t fs (new p) → Lowers r (old p) (left p) → all_steps_left (new p) (left p) m < all_steps_left (ats p) (old p) l
+      by_step (at.BeforeTurn group op) progress.Moved stood x lower = from_to m (at.BeforeTurn group op) (at.BeforeTurn group op) stood x.2 (omega (arith, lower))
+      by_step (at.BeforeTurn group op) (progress.Turned None) stood x lower = from_to m (at.BeforeTurn group op) (at.AfterTurn group (length es)) stood x.2 (omega (arith, lower))
+      by_step (at.BeforeTurn group op) (progress.Turned (Some r)) stood (turn, list, inl now) lower = from_to m (at.BeforeTurn group op) (at.AfterTurn group (length es)) stood now (omega (arith, lower))
+      by_step (at.BeforeTurn group op) (progress.Turned (Some r)) stood (turn, list, inr (now, changing, free)) lower = from_to m (at.BeforeTurn group op) (at.Ending group (length es)) stood now (omega (arith, lower))
+      by_step (at.AfterTurn group k) progress.Moved stood x lower = from_to m (at.AfterTurn group k) (at.AfterTurn group k) stood x.2 (omega (arith, lower))
+      by_step (at.AfterTurn group k) (progress.Decided r) stood (e, there, none, d, list, now) lower = from_to m (at.AfterTurn group k) (at.AfterTurn group k) stood now (omega (arith, lower))
+      by_step (at.AfterTurn group k) progress.Over stood (e, there, inl o) lower = from_to m (at.AfterTurn group k) at.Idle stood o.now (omega (arith, lower))
+      by_step (at.AfterTurn group k) progress.Over stood (e, there, inr (inl o)) lower = from_to m (at.AfterTurn group k) (at.Ending group k) stood o.now (omega (arith, lower))
+      by_step (at.AfterTurn group k) progress.Over stood (e, there, inr (inr o)) lower = from_to m (at.AfterTurn group k) at.Idle stood o.now (omega (arith, lower))
       by_step a r stood x lower = absurd x
 
   -- nobody else commits
@@ -167,9 +167,9 @@ module _ (p : ℕ) (ats new : ℕ → At) (old left : ℕ → ℕ) (l : LogState
       sole q other commits = other (alone.sole q p commits (ap is_committing_at stood))
 
 -- who has steps left has an operation under way
-pub busy_with : (a : At) (left : ℕ) (l : LogState) → 0 < all_steps_left a left l → is_busy_at a ≡ true
+pub busy_with : (a : Phase) (left : ℕ) (l : LogState) → 0 < all_steps_left a left l → is_busy_at a ≡ true
 busy_with at.Idle left l some = let none : ⊥ = omega (arith, some) in absurd none
-busy_with (at.Before group op) left l some = refl
-busy_with (at.Behind group k) left l some = refl
+busy_with (at.BeforeTurn group op) left l some = refl
+busy_with (at.AfterTurn group k) left l some = refl
 busy_with (at.Ending group k) left l some = refl
 busy_with (at.Committing group k) left l some = refl

@@ -8,15 +8,15 @@ use Rattle.model.specs.Gathered.{GatheredBytes}
 use Rattle.model.specs.declared.types.operations.Entry.{Entry}
 use Rattle.model.specs.declared.types.operations.Op.{Op}
 use Rattle.model.specs.declared.types.operations.Reply.{Reply}
-use Rattle.history.specs.declared.types.At.{At}
-use Rattle.history.specs.declared.types.At.TheVariants as at
+use Rattle.history.specs.declared.types.Phase.{Phase}
+use Rattle.history.specs.declared.types.Phase.TheVariants as at
 use Rattle.history.specs.declared.types.Process.{Process}
 use Rattle.history.specs.Processes.{World, process, idle, is_before, with_place, taken, refused, place_behind, turned}
 use Rattle.history.specs.Counting.{IsCounted}
 use Rattle.history.specs.Lemmas.Places.{there_now, others_stay}
 
 -- one for a place before a turn
-abbrev pub one_before : At → ℕ
+abbrev pub one_before : Phase → ℕ
 one_before a = cond (is_before a) 1 0
 
 -- process p becomes t, and with it the journal goes on
@@ -54,12 +54,12 @@ one_longer : (es : List Entry) (e : Entry) → length (es ++ e ∷ []) ≡ lengt
 one_longer es e = length-append es (e ∷ [])
 
 module _ (before p : ℕ) (w : World) (had : IsCounted before w) (lt : p < length w.processes) where
-  begun_at : (a : At) → (process w p).at ≡ a → (process w p).begun ≤ length w.journal.list + one_before a
-  begun_at a is = subst (λ (b : At). (process w p).begun ≤ length w.journal.list + one_before b) is (had.begun p)
+  begun_at : (a : Phase) → (process w p).at ≡ a → (process w p).begun ≤ length w.journal.list + one_before a
+  begun_at a is = subst (λ (b : Phase). (process w p).begun ≤ length w.journal.list + one_before b) is (had.begun p)
 
   -- an operation was taken
   pub counted_taken : (opened group : ℕ) (op : Op) (kept : Option GatheredBytes) → (process w p).at ≡ at.Idle → opened ≤ before + 1 → IsCounted opened (taken (with_place w) p group op kept)
-  counted_taken opened group op kept stands more = counted_goes before opened p w _ (record { begun = (process w p).begun + 1; at = at.Before group op; room = kept }) had (record {
+  counted_taken opened group op kept stands more = counted_goes before opened p w _ (record { begun = (process w p).begun + 1; at = at.BeforeTurn group op; room = kept }) had (record {
     inside = lt;
     processes = refl;
     room = let none = ap one_before stands in omega (arith, none);
@@ -84,7 +84,7 @@ module _ (before p : ℕ) (w : World) (had : IsCounted before w) (lt : p < lengt
   behind_none false group k = refl
 
   -- the turn
-  pub counted_turned : (opened group : ℕ) (op : Op) (reply : Option Reply) (over : Bool) → (process w p).at ≡ at.Before group op → opened ≡ before → IsCounted opened (turned w p reply over)
+  pub counted_turned : (opened group : ℕ) (op : Op) (reply : Option Reply) (over : Bool) → (process w p).at ≡ at.BeforeTurn group op → opened ≡ before → IsCounted opened (turned w p reply over)
   counted_turned opened group op reply over stands same =
       let e : Entry = record { pid = p; seq = (process w p).begun; op = op; group = group; reply = reply } in
       let kept = room_kept before p w had lt (ap is_before stands) in
@@ -93,18 +93,18 @@ module _ (before p : ℕ) (w : World) (had : IsCounted before w) (lt : p < lengt
       let none = behind_none over group (length w.journal.list) in
       let t : Process = record (process w p) { at = place_behind over group (length w.journal.list) } in
       let made : turned w p reply over ≡ record w { processes = set w.processes p t; journal = record { list = w.journal.list ++ e ∷ []; room = w.journal.room - 1 } } =
-      ap (λ (a : At). Rattle.history.specs.Processes.turned_from a w p reply over) stands in
+      ap (λ (a : Phase). Rattle.history.specs.Processes.turned_from a w p reply over) stands in
       subst (λ (z : World). IsCounted opened z) (sym made) (counted_goes before opened p w _ t had (record {
         inside = lt;
         processes = refl;
         room = omega (arith, some, none, kept);
         longer = omega (arith, more);
-        begun = let old = begun_at (at.Before group op) stands in omega (arith, old, more, none);
+        begun = let old = begun_at (at.BeforeTurn group op) stands in omega (arith, old, more, none);
         groups = let groups = had.groups in omega (arith, groups, more, kept, same);
       }))
 
   -- the process goes on behind its turn
-  pub counted_same : (opened : ℕ) (z : World) (a : At) (kept : Option GatheredBytes) → is_before (process w p).at ≡ false → is_before a ≡ false → z.processes ≡ set w.processes p (record (process w p) { at = a; room = kept }) → length z.journal.list ≡ length w.journal.list → z.journal.room ≡ w.journal.room → opened ≡ before → IsCounted opened z
+  pub counted_same : (opened : ℕ) (z : World) (a : Phase) (kept : Option GatheredBytes) → is_before (process w p).at ≡ false → is_before a ≡ false → z.processes ≡ set w.processes p (record (process w p) { at = a; room = kept }) → length z.journal.list ≡ length w.journal.list → z.journal.room ≡ w.journal.room → opened ≡ before → IsCounted opened z
   counted_same opened z a kept was now is list room still =
       let none : one_before (process w p).at ≡ 0 = ap (λ (b : Bool). cond {A = ℕ} b 1 0) was in
       let here : one_before a ≡ 0 = ap (λ (b : Bool). cond {A = ℕ} b 1 0) now in

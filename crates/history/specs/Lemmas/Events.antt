@@ -15,8 +15,8 @@ use Rattle.model.specs.Lemmas.FileNumbers.{length-files_of, file_in-files_of_zer
 use Rattle.model.specs.Lemmas.Runs.{at_once_is_not_changing, replay_more}
 use Rattle.wal.specs.Machine.{LogState, SameGroups}
 use Rattle.history.specs.Journal.{entry_of}
-use Rattle.history.specs.declared.types.At.{At}
-use Rattle.history.specs.declared.types.At.TheVariants as at
+use Rattle.history.specs.declared.types.Phase.{Phase}
+use Rattle.history.specs.declared.types.Phase.TheVariants as at
 use Rattle.history.specs.AtOnce.{at_once_reply}
 use Rattle.history.specs.Crash.{Survives, in_reads}
 use Rattle.history.specs.Follows.{Follows, IsJournal}
@@ -35,10 +35,10 @@ in_group l m q zero same is = same.used q ∙ is
 in_group l m q (suc g) same is = (same.used q ∙ is.0, is.1 ∙ sym same.opened)
 
 -- where a process stands, after what another did
-stands_goes : (n : ℕ) (s t : View) (es fs : List Entry) (q : ℕ) (a : At) → SameGroups s.log t.log → t.holds q ≡ s.holds q → ((k g : ℕ) (e : Entry) → HasEntry es q k g e → HasEntry fs q k g e) → StandsAt n s es q a → StandsAt n t fs q a
+stands_goes : (n : ℕ) (s t : View) (es fs : List Entry) (q : ℕ) (a : Phase) → SameGroups s.log t.log → t.holds q ≡ s.holds q → ((k g : ℕ) (e : Entry) → HasEntry es q k g e → HasEntry fs q k g e) → StandsAt n s es q a → StandsAt n t fs q a
 stands_goes n s t es fs q at.Idle same holds goes is = (holds ∙ is.0, in_group s.log t.log q 0 same is.1)
-stands_goes n s t es fs q (at.Before group op) same holds goes is = (holds ∙ is.0, in_group s.log t.log q group same is.1, is.2, is.3)
-stands_goes n s t es fs q (at.Behind group k) same holds goes is = (in_group s.log t.log q group same is.0, (is.1.0, goes k group is.1.0 is.1.1))
+stands_goes n s t es fs q (at.BeforeTurn group op) same holds goes is = (holds ∙ is.0, in_group s.log t.log q group same is.1, is.2, is.3)
+stands_goes n s t es fs q (at.AfterTurn group k) same holds goes is = (in_group s.log t.log q group same is.0, (is.1.0, goes k group is.1.0 is.1.1))
 stands_goes n s t es fs q (at.Ending group k) same holds goes is = (holds ∙ is.0, (same.used q ∙ is.1.0, is.1.1 ∙ sym same.opened), (is.2.0, goes k group is.2.0 is.2.1, is.2.2))
 stands_goes n s t es fs q (at.Committing group k) same holds goes is = (holds ∙ is.0, in_group s.log t.log q 0 same is.1, (is.2.0, goes k group is.2.0 is.2.1, is.2.2))
 
@@ -57,7 +57,7 @@ is_in l q (suc g) some is = is
 held_none : (o : Option Held) (h : Held) → o ≡ None → o ≡ Some h → ⊥
 held_none o h none some = let t = sym none ∙ some in cc t
 
-module _ (opening : Image) (s t : View) (es : List Entry) (ats : ℕ → At) (i : KernelFacts opening s es ats) (v : IsValidView (inode_count_of opening) t) (p : ℕ) where
+module _ (opening : Image) (s t : View) (es : List Entry) (ats : ℕ → Phase) (i : KernelFacts opening s es ats) (v : IsValidView (inode_count_of opening) t) (p : ℕ) where
   abbrev n : ℕ
   n = inode_count_of opening
 
@@ -88,18 +88,18 @@ module _ (opening : Image) (s t : View) (es : List Entry) (ats : ℕ → At) (i 
   count_same : length (files_of opening) ≡ n
   count_same = length-files_of opening
 
-  module _ (new : ℕ → At) (others_at : (q : ℕ) → q ≢ p → new q ≡ ats q) where
+  module _ (new : ℕ → Phase) (others_at : (q : ℕ) → q ≢ p → new q ≡ ats q) where
     -- where the processes stand: p there, and the others where they stood
     stands_by : (st_groups : SameGroups s.log t.log) (others : (q : ℕ) → q ≢ p → t.holds q ≡ s.holds q) (fs : List Entry) → ((q k g : ℕ) (e : Entry) → q ≢ p → HasEntry es q k g e → HasEntry fs q k g e) → StandsAt n t fs p (new p)
         → (q : ℕ) → StandsAt n t fs q (new q)
     stands_by groups others fs goes mine q = ⊎_elim
         (λ (e : q ≡ p). subst (λ (x : ℕ). StandsAt n t fs x (new x)) (sym e) mine)
-        (λ (e : q ≢ p). subst (λ (a : At). StandsAt n t fs q a) (sym (others_at q e)) (stands_goes n s t es fs q (ats q) groups (others q e) (λ k g f h. goes q k g f e h) (i.stands q)))
+        (λ (e : q ≢ p). subst (λ (a : Phase). StandsAt n t fs q a) (sym (others_at q e)) (stands_goes n s t es fs q (ats q) groups (others q e) (λ k g f h. goes q k g f e h) (i.stands q)))
         (cases_eq q p)
 
-    module _ (group seq : ℕ) (op : Op) (stood : ats p ≡ at.Before group op) where
-      was : StandsAt n s es p (at.Before group op)
-      was = subst (λ (a : At). StandsAt n s es p a) stood (i.stands p)
+    module _ (group seq : ℕ) (op : Op) (stood : ats p ≡ at.BeforeTurn group op) where
+      was : StandsAt n s es p (at.BeforeTurn group op)
+      was = subst (λ (a : Phase). StandsAt n s es p a) stood (i.stands p)
 
       -- who holds something is another
       other_of : (q : ℕ) (h : Held) → s.holds q ≡ Some h → q ≢ p
@@ -119,10 +119,10 @@ module _ (opening : Image) (s t : View) (es : List Entry) (ats : ℕ → At) (i 
       entry_turned : (reply : Option Reply) → HasEntry (es ++ entry_of p seq op group reply ∷ []) p (length es) group (entry_of p seq op group reply)
       entry_turned reply = let e = entry_of p seq op group reply in record { at = entry_new es e; mine = refl; last = last_new es e; same = refl }
 
-      stands_turned : SameGroups s.log t.log → (reply : Option Reply) → new p ≡ at.Behind group (length es) → StandsAt n t (es ++ entry_of p seq op group reply ∷ []) p (new p)
+      stands_turned : SameGroups s.log t.log → (reply : Option Reply) → new p ≡ at.AfterTurn group (length es) → StandsAt n t (es ++ entry_of p seq op group reply ∷ []) p (new p)
       stands_turned groups reply now =
           let e = entry_of p seq op group reply in
-          subst (λ (a : At). StandsAt n t (es ++ e ∷ []) p a) (sym now) (in_group s.log t.log p group groups was.1, (e, entry_turned reply))
+          subst (λ (a : Phase). StandsAt n t (es ++ e ∷ []) p a) (sym now) (in_group s.log t.log p group groups was.1, (e, entry_turned reply))
 
       journal_turned : SameGroups s.log t.log → (reply : Option Reply) → IsJournal n t.log.opened (es ++ (entry_of p seq op group reply) ∷ [])
       journal_turned groups reply =
@@ -141,18 +141,18 @@ module _ (opening : Image) (s t : View) (es : List Entry) (ats : ℕ → At) (i 
           }
 
       -- a turn whose reply stands, and whose task goes on
-      pub inv_turned : (r : Reply) → new p ≡ at.Behind group (length es) → Turns (form_of opening) p op r s t → KernelFacts opening t (es ++ entry_of p seq op group (Some r) ∷ []) new
+      pub inv_turned : (r : Reply) → new p ≡ at.AfterTurn group (length es) → Turns (form_of opening) p op r s t → KernelFacts opening t (es ++ entry_of p seq op group (Some r) ∷ []) new
       inv_turned r now turn = turned_with r turn (stands_turned turn.rest.groups (Some r) now)
 
       -- a turn with which the task is over
       pub inv_turned_over : (r : Reply) → new p ≡ at.Ending group (length es) → is_changing n op ≡ true → t.holds p ≡ None → Turns (form_of opening) p op r s t
           → KernelFacts opening t (es ++ entry_of p seq op group (Some r) ∷ []) new
       inv_turned_over r now changing free turn = turned_with r turn
-          (subst (λ (a : At). StandsAt n t (es ++ entry_of p seq op group (Some r) ∷ []) p a) (sym now)
+          (subst (λ (a : Phase). StandsAt n t (es ++ entry_of p seq op group (Some r) ∷ []) p a) (sym now)
           (free, is_in t.log p group (later_if changing) (in_group s.log t.log p group turn.rest.groups was.1), (entry_of p seq op group (Some r), entry_turned (Some r), refl)))
 
       -- a turn whose reply is still to come
-      pub inv_opened : new p ≡ at.Behind group (length es) → Opens n p op s t → KernelFacts opening t (es ++ (entry_of p seq op group None) ∷ []) new
+      pub inv_opened : new p ≡ at.AfterTurn group (length es) → Opens n p op s t → KernelFacts opening t (es ++ (entry_of p seq op group None) ∷ []) new
       inv_opened now o =
           let st = o.rest in
           let e = entry_of p seq op group None in
@@ -165,9 +165,9 @@ module _ (opening : Image) (s t : View) (es : List Entry) (ats : ℕ → At) (i 
             stands = stands_by st.groups st.others (es ++ e ∷ []) (λ q k g f other h. has_more es e q k g f (λ same. other (sym same)) h) (stands_turned st.groups None now);
           }
 
-    module _ (group k : ℕ) (e : Entry) (stood : ats p ≡ at.Behind group k) (at_k : IsEntry es k e) where
-      here : StandsAt n s es p (at.Behind group k)
-      here = subst (λ (a : At). StandsAt n s es p a) stood (i.stands p)
+    module _ (group k : ℕ) (e : Entry) (stood : ats p ≡ at.AfterTurn group k) (at_k : IsEntry es k e) where
+      here : StandsAt n s es p (at.AfterTurn group k)
+      here = subst (λ (a : Phase). StandsAt n s es p a) stood (i.stands p)
 
       -- the entry is the process's last
       pub mine_is : HasEntry es p k group e
@@ -203,9 +203,9 @@ module _ (opening : Image) (s t : View) (es : List Entry) (ats : ℕ → At) (i 
           }
 
       -- the reply of an operation whose task goes on
-      pub inv_decided : (r : Reply) → new p ≡ at.Behind group k → e.reply ≡ None → Decides (form_of opening) p e.op r s t → KernelFacts opening t (set es k (told e r)) new
+      pub inv_decided : (r : Reply) → new p ≡ at.AfterTurn group k → e.reply ≡ None → Decides (form_of opening) p e.op r s t → KernelFacts opening t (set es k (told e r)) new
       inv_decided r now none d = told_with r none d.rest d.made d.files
-          (subst (λ (a : At). StandsAt n t (set es k (told e r)) p a) (sym now) (in_group s.log t.log p group d.rest.groups here.0, (told e r, told_entry r)))
+          (subst (λ (a : Phase). StandsAt n t (set es k (told e r)) p a) (sym now) (in_group s.log t.log p group d.rest.groups here.0, (told e r, told_entry r)))
 
       module _ (leaves : Leaves p s t) where
         left_follows : (r : Reply) → e.reply ≡ Some r → Follows (form_of opening) (files_of opening) t.holds t.fits es
@@ -224,16 +224,16 @@ module _ (opening : Image) (s t : View) (es : List Entry) (ats : ℕ → At) (i 
 
         -- the finish of a changing operation, which ends next
         pub inv_ending : (r : Reply) → e.reply ≡ Some r → is_changing n e.op ≡ true → new p ≡ at.Ending group k → KernelFacts opening t es new
-        inv_ending r has changing now = inv_left r has (subst (λ (a : At). StandsAt n t es p a) (sym now) (leaves.mine, is_in t.log p group (changing_some changing) (in_group s.log t.log p group leaves.rest.groups here.0), (e, mine_is, ap is_some has)))
+        inv_ending r has changing now = inv_left r has (subst (λ (a : Phase). StandsAt n t es p a) (sym now) (leaves.mine, is_in t.log p group (changing_some changing) (in_group s.log t.log p group leaves.rest.groups here.0), (e, mine_is, ap is_some has)))
 
         -- the finish of another, which is answered
         pub inv_over : (r : Reply) → e.reply ≡ Some r → group ≡ 0 → new p ≡ at.Idle → KernelFacts opening t es new
-        inv_over r has zero_group now = inv_left r has (subst (λ (a : At). StandsAt n t es p a) (sym now) (leaves.mine, in_group s.log t.log p 0 leaves.rest.groups (subst (λ (g : ℕ). InGroup s.log p g) zero_group here.0)))
+        inv_over r has zero_group now = inv_left r has (subst (λ (a : Phase). StandsAt n t es p a) (sym now) (leaves.mine, in_group s.log t.log p 0 leaves.rest.groups (subst (λ (g : ℕ). InGroup s.log p g) zero_group here.0)))
 
       -- the finish of a read, with its reply
       pub inv_read : (r : Reply) → e.reply ≡ None → group ≡ 0 → new p ≡ at.Idle → LeavesRest None p s t → t.holds p ≡ None → ((j : ℕ) → is_making j (Some r) ≡ false) → Takes (form_of opening) s t e.op r → KernelFacts opening t (set es k (told e r)) new
       inv_read r none zero_group now st free made files = told_with r none st made files
-          (subst (λ (a : At). StandsAt n t (set es k (told e r)) p a) (sym now) (free, in_group s.log t.log p 0 st.groups (subst (λ (g : ℕ). InGroup s.log p g) zero_group here.0)))
+          (subst (λ (a : Phase). StandsAt n t (set es k (told e r)) p a) (sym now) (free, in_group s.log t.log p 0 st.groups (subst (λ (g : ℕ). InGroup s.log p g) zero_group here.0)))
 
 -- what is answered at once is not a changing operation
 pub at_once_still : (n : ℕ) (op : Op) → is_at_once n op ≡ true → is_changing n op ≡ false
@@ -244,7 +244,7 @@ at_once_still n op once = at_once_is_not_changing n op ∙ ap (λ (b : Bool). is
     both false = refl
 
 -- an operation is taken and answered at once: the store is as it was
-pub inv_at_once : (opening : Image) (s : View) (es : List Entry) (ats : ℕ → At) → KernelFacts opening s es ats → (p seq : ℕ) (op : Op) → ats p ≡ at.Idle → is_at_once (inode_count_of opening) op ≡ true
+pub inv_at_once : (opening : Image) (s : View) (es : List Entry) (ats : ℕ → Phase) → KernelFacts opening s es ats → (p seq : ℕ) (op : Op) → ats p ≡ at.Idle → is_at_once (inode_count_of opening) op ≡ true
     → KernelFacts opening s (es ++ (entry_of p seq op 0 (Some (at_once_reply op))) ∷ []) ats
 inv_at_once opening s es ats i p seq op stood once = record {
   valid = i.valid;
@@ -260,7 +260,7 @@ inv_at_once opening s es ats i p seq op stood once = record {
   };
   recovers = recovers_turned opening s.disk s.current s.log es i.recovers s.current s.log e (reads_same s.log s.log refl refl) (λ c. absurd (changing_not c)) marks_none;
   stands = λ q. ⊎_elim
-      (λ (same : q ≡ p). subst (λ (a : At). StandsAt n s (es ++ e ∷ []) q a) (sym (ap ats same ∙ stood)) (subst (λ (x : ℕ). StandsAt n s (es ++ e ∷ []) x at.Idle) (sym same) was))
+      (λ (same : q ≡ p). subst (λ (a : Phase). StandsAt n s (es ++ e ∷ []) q a) (sym (ap ats same ∙ stood)) (subst (λ (x : ℕ). StandsAt n s (es ++ e ∷ []) x at.Idle) (sym same) was))
       (λ (other : q ≢ p). stands_goes n s s es (es ++ e ∷ []) q (ats q) (record { size = refl; outstanding = refl; opened = refl; committed = refl; commit = refl; used = λ r. refl }) refl (λ k g f h. has_more es e q k g f (λ same. other (sym same)) h) (i.stands q))
       (cases_eq q p);
 }
@@ -272,7 +272,7 @@ inv_at_once opening s es ats i p seq op stood once = record {
     e = entry_of p seq op 0 (Some (at_once_reply op))
 
     was : StandsAt n s es p at.Idle
-    was = subst (λ (a : At). StandsAt n s es p a) stood (i.stands p)
+    was = subst (λ (a : Phase). StandsAt n s es p a) stood (i.stands p)
 
     not_changing : is_changing n op ≡ false
     not_changing = at_once_still n op once

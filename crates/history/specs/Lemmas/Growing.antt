@@ -16,7 +16,7 @@ use Rattle.history.specs.Most.{most_kept, most_of}
 use Rattle.history.specs.Lemmas.Stops.{most_more, kept_turned, kept_told}
 use Rattle.history.specs.Open.{IsEntry, told}
 use Rattle.ports.specs.History.{History}
-use Rattle.history.specs.declared.types.At.{At}
+use Rattle.history.specs.declared.types.Phase.{Phase}
 use Rattle.history.specs.Histories.{IsHistory}
 use Rattle.history.specs.Grows.{Becomes, Extends, Grows, JournalGoes}
 use Rattle.history.specs.Lemmas.Histories.{history_more, history_told}
@@ -114,7 +114,7 @@ module _ (n p committed : ℕ) (es fs : List Entry) where
   goes_stays (inr (inr tells)) c le = ap (λ (l : List Entry). kept n l c) tells.list ∙ kept_told n c es tells.place tells.entry tells.reply tells.at (λ changing. let later = tells.later changing in omega (arith, le, later))
 
   -- another's history goes on as it was
-  pub goes_history : JournalGoes n p committed es fs → (q : ℕ) → q ≢ p → (a : At) (begun : ℕ) (h : History) → IsHistory es a begun q h → IsHistory fs a begun q h
+  pub goes_history : JournalGoes n p committed es fs → (q : ℕ) → q ≢ p → (a : Phase) (begun : ℕ) (h : History) → IsHistory es a begun q h → IsHistory fs a begun q h
   goes_history (inl same) q other a begun h is = subst (λ (l : List Entry). IsHistory l a begun q h) (sym same) is
   goes_history (inr (inl more)) q other a begun h is = subst (λ (l : List Entry). IsHistory l a begun q h) (sym more.list) (history_more es more.entry a begun q h (λ mine. other (sym mine ∙ more.mine)) is)
   goes_history (inr (inr tells)) q other a begun h is = subst (λ (l : List Entry). IsHistory l a begun q h) (sym tells.list) (history_told es tells.place tells.entry tells.reply a begun q h tells.at (λ mine. other (sym mine ∙ tells.mine)) is)

@@ -27,8 +27,8 @@ use Rattle.wal.specs.Floats.{Survives as SurvivesAt}
 use Rattle.wal.specs.Machine.{LogState, used_by, is_writing}
 use Rattle.wal.specs.Step.{FailsAt}
 use Rattle.wal.specs.Volume.{VolumeState}
-use Rattle.history.specs.declared.types.At.{At}
-use Rattle.history.specs.declared.types.At.TheVariants as at
+use Rattle.history.specs.declared.types.Phase.{Phase}
+use Rattle.history.specs.declared.types.Phase.TheVariants as at
 use Rattle.history.specs.Crash.{Survives}
 use Rattle.history.specs.Follows.{IsJournal}
 use Rattle.history.specs.Histories.{IsHistory, pending_at}
@@ -55,10 +55,10 @@ replayed_told form start files (e ∷ es) run =
     by_reply (Some r) h = refl
 
 -- who holds something is behind its turn
-pub holder_behind : (n : ℕ) (s : View) (es : List Entry) (q : ℕ) (h : Held) (a : At) → s.holds q ≡ Some h → StandsAt n s es q a → (g : ℕ) × (k : ℕ) × (a ≡ at.Behind g k)
+pub holder_behind : (n : ℕ) (s : View) (es : List Entry) (q : ℕ) (h : Held) (a : Phase) → s.holds q ≡ Some h → StandsAt n s es q a → (g : ℕ) × (k : ℕ) × (a ≡ at.AfterTurn g k)
 holder_behind n s es q h at.Idle held is = let t = sym is.0 ∙ held in absurd (cc t)
-holder_behind n s es q h (at.Before group op) held is = let t = sym is.0 ∙ held in absurd (cc t)
-holder_behind n s es q h (at.Behind group k) held is = (group, k, refl)
+holder_behind n s es q h (at.BeforeTurn group op) held is = let t = sym is.0 ∙ held in absurd (cc t)
+holder_behind n s es q h (at.AfterTurn group k) held is = (group, k, refl)
 holder_behind n s es q h (at.Ending group k) held is = let t = sym is.0 ∙ held in absurd (cc t)
 holder_behind n s es q h (at.Committing group k) held is = let t = sym is.0 ∙ held in absurd (cc t)
 
@@ -72,24 +72,24 @@ all_answered n holds (d ∷ es) are none = by_reply d.reply refl (all_answered n
     by_reply (Some r) is rest = ap (λ (o : Option Reply). cond (is_some o) (d ∷ answered es) (answered es)) is ∙ ap (λ (l : List Entry). d ∷ l) rest
 
 -- what lasts after a fault
-module _ (opening : Image) (opened : ℕ) (holds : ℕ → Option Held) (es : List Entry) (ats : ℕ → At) (i : LastingFacts opening opened holds es ats) where
+module _ (opening : Image) (opened : ℕ) (holds : ℕ → Option Held) (es : List Entry) (ats : ℕ → Phase) (i : LastingFacts opening opened holds es ats) where
   -- the entries that have a reply replay
   pub lasting_run : (f : Files) × (replay (form_of opening) (files_of opening) (answered es) ≡ Some f)
   lasting_run = (i.follows.files, i.follows.run)
 
   -- and each other one is a write or a read that is under way, behind its turn
-  pub lasting_open : (k : ℕ) (e : Entry) → IsEntry es k e → e.reply ≡ None → (is_late e.op ≡ true) × ((g : ℕ) × (j : ℕ) × (ats e.pid ≡ at.Behind g j))
+  pub lasting_open : (k : ℕ) (e : Entry) → IsEntry es k e → e.reply ≡ None → (is_late e.op ≡ true) × ((g : ℕ) × (j : ℕ) × (ats e.pid ≡ at.AfterTurn g j))
   lasting_open k e at none = let o = open_entry (length (files_of opening)) holds es k e i.follows.are at none in (o.0, i.behind e.pid (held_by e.op) o.1)
 
   -- whoever tells what is held and where the processes stand
-  pub lasting_same : (more : ℕ → Option Held) (new : ℕ → At) → ((q : ℕ) → more q ≡ holds q) → ((q : ℕ) → new q ≡ ats q) → LastingFacts opening opened more es new
+  pub lasting_same : (more : ℕ → Option Held) (new : ℕ → Phase) → ((q : ℕ) → more q ≡ holds q) → ((q : ℕ) → new q ≡ ats q) → LastingFacts opening opened more es new
   lasting_same more new same stood = record {
     journal = i.journal;
     follows = follows_moved (form_of opening) (files_of opening) holds (λ m. Unit {0}) es i.follows more (λ m. Unit {0}) (λ q h held. same q ∙ held) (λ m fit. tt);
     behind = λ q h held. let b = i.behind q h (sym (same q) ∙ held) in (b.0, b.1, stood q ∙ b.2);
   }
 
-module _ (opening : Image) (s : View) (es : List Entry) (ats : ℕ → At) (i : KernelFacts opening s es ats) where
+module _ (opening : Image) (s : View) (es : List Entry) (ats : ℕ → Phase) (i : KernelFacts opening s es ats) where
   -- after any fault the journal goes on to be a run, and its entries without a reply stay under way
   pub known_halted : LastingFacts opening s.log.opened s.holds es ats
   known_halted = record {
@@ -103,7 +103,7 @@ module _ (opening : Image) (s : View) (es : List Entry) (ats : ℕ → At) (i : 
   known_run = lasting_run opening s.log.opened s.holds es ats known_halted
 
   -- and each other one is under way
-  pub known_open : (k : ℕ) (e : Entry) → IsEntry es k e → e.reply ≡ None → (is_late e.op ≡ true) × ((g : ℕ) × (j : ℕ) × (ats e.pid ≡ at.Behind g j))
+  pub known_open : (k : ℕ) (e : Entry) → IsEntry es k e → e.reply ≡ None → (is_late e.op ≡ true) × ((g : ℕ) × (j : ℕ) × (ats e.pid ≡ at.AfterTurn g j))
   known_open = lasting_open opening s.log.opened s.holds es ats known_halted
 
   -- size, form and count of numbers are the opening's
@@ -126,11 +126,11 @@ module _ (opening : Image) (s : View) (es : List Entry) (ats : ℕ → At) (i : 
   known_current none = quiet_files opening s.current s.log s.holds s.fits es i.follows i.journal.groups i.recovers.marks i.valid.store i.valid.log none
 
   -- while none is, it has those after all of the journal
-  pub idle_used : (n : ℕ) (q : ℕ) (a : At) → a ≡ at.Idle → StandsAt n s es q a → is_some (used_by s.log q) ≡ false
-  idle_used n q a is stands = let t : StandsAt n s es q at.Idle = subst (λ (b : At). StandsAt n s es q b) is stands in t.1
+  pub idle_used : (n : ℕ) (q : ℕ) (a : Phase) → a ≡ at.Idle → StandsAt n s es q a → is_some (used_by s.log q) ≡ false
+  idle_used n q a is stands = let t : StandsAt n s es q at.Idle = subst (λ (b : Phase). StandsAt n s es q b) is stands in t.1
 
-  idle_holds : (n : ℕ) (q : ℕ) (a : At) → a ≡ at.Idle → StandsAt n s es q a → s.holds q ≡ None
-  idle_holds n q a is stands = let t : StandsAt n s es q at.Idle = subst (λ (b : At). StandsAt n s es q b) is stands in t.0
+  idle_holds : (n : ℕ) (q : ℕ) (a : Phase) → a ≡ at.Idle → StandsAt n s es q a → s.holds q ≡ None
+  idle_holds n q a is stands = let t : StandsAt n s es q at.Idle = subst (λ (b : Phase). StandsAt n s es q b) is stands in t.0
 
   -- while nothing is under way, the current image has the files after all of the journal
   pub known_files : ((q : ℕ) → ats q ≡ at.Idle) → replay (form_of opening) (files_of opening) es ≡ Some (files_of (cleared s.current))
@@ -164,7 +164,7 @@ kept_ops n p k (e ∷ es) all =
     by_tests true true changing mine within rest = rw (changing, within, mine) (rw changing (ap (λ (l : List Op). e.op ∷ l) rest))
 
 -- what any count of groups keeps of a process's operations is a beginning of those that were taken
-pub kept_of_taken : (n k p c begun : ℕ) (es : List Entry) (a : At) (h : History) → IsJournal n k es → IsHistory es a begun p h → IsPrefix (map (λ (e : Entry). e.op) (own p (kept n es c))) (filter (is_changing n) h.taken)
+pub kept_of_taken : (n k p c begun : ℕ) (es : List Entry) (a : Phase) (h : History) → IsJournal n k es → IsHistory es a begun p h → IsPrefix (map (λ (e : Entry). e.op) (own p (kept n es c))) (filter (is_changing n) h.taken)
 kept_of_taken n k p c begun es a h j is =
     let op_of : Entry → Op = λ e. e.op in
     let begins = own_beginning p (kept n es c) (kept n es k) (rising_beginnings n k es j.groups j.rising c) in (

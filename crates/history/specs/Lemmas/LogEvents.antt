@@ -17,8 +17,8 @@ use Rattle.wal.specs.declared.types.Commit.TheVariants as commit
 use Rattle.wal.specs.declared.types.Part.TheVariants as part
 use Rattle.wal.specs.declared.types.Ended.TheVariants as ended_as
 use Rattle.wal.specs.Machine.{LogState, used_by, begun, ended, end_answer, left_by, closed, IsLogAt}
-use Rattle.history.specs.declared.types.At.{At}
-use Rattle.history.specs.declared.types.At.TheVariants as at
+use Rattle.history.specs.declared.types.Phase.{Phase}
+use Rattle.history.specs.declared.types.Phase.TheVariants as at
 use Rattle.history.specs.Crash.{HasMarks, Survives}
 use Rattle.history.specs.Follows.{Follows}
 use Rattle.history.specs.Keeps.{HasFilesAfter}
@@ -41,10 +41,10 @@ group_kept : (l m : LogState) (p q g : ℕ) → KeepsOthers l m p → q ≢ p �
 group_kept l m p q zero k other is = k.used q other ∙ is
 group_kept l m p q (suc g) k other is = in_kept l m p q (suc g) k other is
 
-stands_kept : (n : ℕ) (s t : View) (es : List Entry) (p q : ℕ) (a : At) → KeepsOthers s.log t.log p → t.holds q ≡ s.holds q → q ≢ p → StandsAt n s es q a → StandsAt n t es q a
+stands_kept : (n : ℕ) (s t : View) (es : List Entry) (p q : ℕ) (a : Phase) → KeepsOthers s.log t.log p → t.holds q ≡ s.holds q → q ≢ p → StandsAt n s es q a → StandsAt n t es q a
 stands_kept n s t es p q at.Idle k same other is = (same ∙ is.0, group_kept s.log t.log p q 0 k other is.1)
-stands_kept n s t es p q (at.Before group op) k same other is = (same ∙ is.0, group_kept s.log t.log p q group k other is.1, is.2, is.3)
-stands_kept n s t es p q (at.Behind group j) k same other is = (group_kept s.log t.log p q group k other is.0, is.1)
+stands_kept n s t es p q (at.BeforeTurn group op) k same other is = (same ∙ is.0, group_kept s.log t.log p q group k other is.1, is.2, is.3)
+stands_kept n s t es p q (at.AfterTurn group j) k same other is = (group_kept s.log t.log p q group k other is.0, is.1)
 stands_kept n s t es p q (at.Ending group j) k same other is = (same ∙ is.0, in_kept s.log t.log p q group k other is.1, is.2)
 stands_kept n s t es p q (at.Committing group j) k same other is = (same ∙ is.0, group_kept s.log t.log p q 0 k other is.1, is.2)
 
@@ -78,14 +78,14 @@ none_after_end l p lt = by_last (eqb l.outstanding 1) (eqb (length l.homes) 0)
     by_last true false = left
     by_last false c = left
 
-module _ (opening : Image) (s t : View) (es : List Entry) (ats : ℕ → At) (i : KernelFacts opening s es ats) (v : IsValidView (inode_count_of opening) t) (p : ℕ) (new : ℕ → At) (others_at : (q : ℕ) → q ≢ p → new q ≡ ats q) where
+module _ (opening : Image) (s t : View) (es : List Entry) (ats : ℕ → Phase) (i : KernelFacts opening s es ats) (v : IsValidView (inode_count_of opening) t) (p : ℕ) (new : ℕ → Phase) (others_at : (q : ℕ) → q ≢ p → new q ≡ ats q) where
   abbrev n : ℕ
   n = inode_count_of opening
 
   stands_by : KeepsOthers s.log t.log p → ((q : ℕ) → t.holds q ≡ s.holds q) → StandsAt n t es p (new p) → (q : ℕ) → StandsAt n t es q (new q)
   stands_by k holds mine q = ⊎_elim
       (λ (e : q ≡ p). subst (λ (x : ℕ). StandsAt n t es x (new x)) (sym e) mine)
-      (λ (e : q ≢ p). subst (λ (a : At). StandsAt n t es q a) (sym (others_at q e)) (stands_kept n s t es p q (ats q) k (holds q) e (i.stands q)))
+      (λ (e : q ≢ p). subst (λ (a : Phase). StandsAt n t es q a) (sym (others_at q e)) (stands_kept n s t es p q (ats q) k (holds q) e (i.stands q)))
       (cases_eq q p)
 
   -- disk and current image stay
@@ -110,17 +110,17 @@ module _ (opening : Image) (s t : View) (es : List Entry) (ats : ℕ → At) (i 
     })
 
   -- a changing operation begins
-  pub inv_begun : (op : Op) → CallsLog (begun s.log p) s t → ats p ≡ at.Idle → new p ≡ at.Before (begun s.log p).opened op → is_changing n op ≡ true → p < length s.log.used → KernelFacts opening t es new
+  pub inv_begun : (op : Op) → CallsLog (begun s.log p) s t → ats p ≡ at.Idle → new p ≡ at.BeforeTurn (begun s.log p).opened op → is_changing n op ≡ true → p < length s.log.used → KernelFacts opening t es new
   inv_begun op c stood now changing lt =
       let up : s.log.opened ≤ (begun s.log p).opened = by_first (eqb s.log.outstanding 0) in
-      let was : StandsAt n s es p at.Idle = subst (λ (a : At). StandsAt n s es p a) stood (i.stands p) in
+      let was : StandsAt n s es p at.Idle = subst (λ (a : Phase). StandsAt n s es p a) stood (i.stands p) in
       record {
         valid = v;
         journal = journal_later n s.log.opened es i.journal t.log.opened (subst (λ (l : LogState). s.log.opened ≤ l.opened) (sym c.log) up);
         follows = follows_log (begun s.log p) c;
         recovers = recovers_log (begun s.log p) c (reads_same s.log t.log (ap (λ (l : LogState). l.committed) c.log) (ap (λ (l : LogState). l.commit) c.log));
         stands = stands_by (subst (λ (l : LogState). KeepsOthers s.log l p) (sym c.log) (keeps_begun s.log p i.valid.log)) c.holds
-            (subst (λ (a : At). StandsAt n t es p a) (sym now) (
+            (subst (λ (a : Phase). StandsAt n t es p a) (sym now) (
               c.holds p ∙ was.0,
               subst (λ (l : LogState). InGroup l p (begun s.log p).opened) (sym c.log) (newest_own (begun s.log p).opened counted refl),
               (counted_some ∙ sym changing),
@@ -155,14 +155,14 @@ module _ (opening : Image) (s t : View) (es : List Entry) (ats : ℕ → At) (i 
 
   module _ (group k : ℕ) (e : Entry) (stood : ats p ≡ at.Ending group k) where
     ends : StandsAt n s es p (at.Ending group k)
-    ends = subst (λ (a : At). StandsAt n s es p a) stood (i.stands p)
+    ends = subst (λ (a : Phase). StandsAt n s es p a) stood (i.stands p)
 
     -- no commit is under way
     quiet_now : s.log.commit ≡ commit.Quiet
     quiet_now = (open_of s.log p i.valid.log ends.1.0).quiet
 
     idle_now : (c : CallsLog (ended s.log p) s t) → p < length s.log.used → new p ≡ at.Idle → StandsAt n t es p (new p)
-    idle_now c lt now = subst (λ (a : At). StandsAt n t es p a) (sym now) (c.holds p ∙ ends.0, subst (λ (l : LogState). is_some (used_by l p) ≡ false) (sym c.log) (none_after_end s.log p lt))
+    idle_now c lt now = subst (λ (a : Phase). StandsAt n t es p a) (sym now) (c.holds p ∙ ends.0, subst (λ (l : LogState). is_some (used_by l p) ≡ false) (sym c.log) (none_after_end s.log p lt))
 
     ended_with : (c : CallsLog (ended s.log p) s t) → Survives opening t.disk t.current t.log es → StandsAt n t es p (new p) → KernelFacts opening t es new
     ended_with c r mine = record {
@@ -186,7 +186,7 @@ module _ (opening : Image) (s t : View) (es : List Entry) (ats : ℕ → At) (i 
         let commits : t.log.commit ≡ commit.Logging 0 = ap (λ (l : LogState). l.commit) (c.log ∙ same) in
         ended_with c (recovers_log (ended s.log p) c (reads_calm s.log t.log quiet_now (ap (λ (l : LogState). l.committed) (c.log ∙ same)) (ap (λ (k : Commit). most_kept None k t.log.committed) commits)
         (λ w. let never : commit.Logging 0 ≡ commit.Syncing part.Header = sym commits ∙ w in absurd (cc never))))
-        (subst (λ (a : At). StandsAt n t es p a) (sym now) (c.holds p ∙ ends.0, subst (λ (l : LogState). is_some (used_by l p) ≡ false) (sym c.log) (none_after_end s.log p lt), ends.2))
+        (subst (λ (a : Phase). StandsAt n t es p a) (sym now) (c.holds p ∙ ends.0, subst (λ (l : LogState). is_some (used_by l p) ≡ false) (sym c.log) (none_after_end s.log p lt), ends.2))
 
     -- it was the last of a group without homes, which is committed
     pub inv_ended_empty : CallsLog (ended s.log p) s t → p < length s.log.used → s.log.outstanding ≡ 1 → length s.log.homes ≡ 0 → recovered s.disk ≡ s.current → new p ≡ at.Idle → KernelFacts opening t es new
@@ -217,15 +217,15 @@ module _ (opening : Image) (s t : View) (es : List Entry) (ats : ℕ → At) (i 
   commit_with group k same holds files r stood now =
       let opened : t.log.opened ≡ s.log.opened = same.opened in
       let used : (q : ℕ) → is_some (used_by t.log q) ≡ is_some (used_by s.log q) = λ q. ap (λ (us : List (Option ℕ)). is_some (get_or us q None)) same.used in
-      let mine : StandsAt n s es p (at.Committing group k) = subst (λ (a : At). StandsAt n s es p a) stood (i.stands p) in
+      let mine : StandsAt n s es p (at.Committing group k) = subst (λ (a : Phase). StandsAt n s es p a) stood (i.stands p) in
       record {
         valid = v;
         journal = journal_later n s.log.opened es i.journal t.log.opened (omega (arith, opened));
         follows = follows_moved (form_of opening) (files_of opening) s.holds s.fits es i.follows t.holds t.fits (λ q h held. holds q ∙ held) files;
         recovers = r;
         stands = stands_by (record { used = λ q other. used q; newest = λ q other has. opened }) holds (⊎_elim
-            (λ (e : new p ≡ at.Committing group k). subst (λ (a : At). StandsAt n t es p a) (sym e) (holds p ∙ mine.0, used p ∙ mine.1, mine.2))
-            (λ (e : new p ≡ at.Idle). subst (λ (a : At). StandsAt n t es p a) (sym e) (holds p ∙ mine.0, used p ∙ mine.1))
+            (λ (e : new p ≡ at.Committing group k). subst (λ (a : Phase). StandsAt n t es p a) (sym e) (holds p ∙ mine.0, used p ∙ mine.1, mine.2))
+            (λ (e : new p ≡ at.Idle). subst (λ (a : Phase). StandsAt n t es p a) (sym e) (holds p ∙ mine.0, used p ∙ mine.1))
             now);
       }
 
@@ -236,14 +236,14 @@ module _ (opening : Image) (s t : View) (es : List Entry) (ats : ℕ → At) (i 
       (commit_goes opening s.disk s.current s.log es i.recovers (now_has none) h t.disk t.current t.log w.log i.valid.log.counts w.keeps w.unheaded w.same w.lawful) stood now
 
   -- another operation is taken: it is none of the log's
-  pub inv_taken : (op : Op) → CallsLog s.log s t → ats p ≡ at.Idle → new p ≡ at.Before 0 op → is_changing n op ≡ false → is_at_once n op ≡ false → KernelFacts opening t es new
+  pub inv_taken : (op : Op) → CallsLog s.log s t → ats p ≡ at.Idle → new p ≡ at.BeforeTurn 0 op → is_changing n op ≡ false → is_at_once n op ≡ false → KernelFacts opening t es new
   inv_taken op c stood now still later =
-      let was : StandsAt n s es p at.Idle = subst (λ (a : At). StandsAt n s es p a) stood (i.stands p) in
+      let was : StandsAt n s es p at.Idle = subst (λ (a : Phase). StandsAt n s es p a) stood (i.stands p) in
       record {
         valid = v;
         journal = journal_later n s.log.opened es i.journal t.log.opened (let same : t.log.opened ≡ s.log.opened = ap (λ (l : LogState). l.opened) c.log in omega (arith, same));
         follows = follows_log s.log c;
         recovers = recovers_log s.log c (reads_same s.log t.log (ap (λ (l : LogState). l.committed) c.log) (ap (λ (l : LogState). l.commit) c.log));
         stands = stands_by (subst (λ (l : LogState). KeepsOthers s.log l p) (sym c.log) (record { used = λ q other. refl; newest = λ q other has. refl })) c.holds
-            (subst (λ (a : At). StandsAt n t es p a) (sym now) (c.holds p ∙ was.0, subst (λ (l : LogState). is_some (used_by l p) ≡ false) (sym c.log) was.1, sym still, later));
+            (subst (λ (a : Phase). StandsAt n t es p a) (sym now) (c.holds p ∙ was.0, subst (λ (l : LogState). is_some (used_by l p) ≡ false) (sym c.log) was.1, sym still, later));
       }

@@ -3,8 +3,8 @@ use Rattle.std.proofs.Common.{◌≡◌, ◌≢◌, ℕ, ◌<◌, true, List, le
 use Rattle.std.proofs.lemmas.Bool.{false≢true}
 use Rattle.std.proofs.lemmas.List.{get_or-set_same, get_or-set_other}
 use Rattle.model.specs.declared.types.operations.Op.{Op}
-use Rattle.history.specs.declared.types.At.{At}
-use Rattle.history.specs.declared.types.At.TheVariants as at
+use Rattle.history.specs.declared.types.Phase.{Phase}
+use Rattle.history.specs.declared.types.Phase.TheVariants as at
 use Rattle.history.specs.declared.types.Process.{Process}
 use Rattle.history.specs.Alone.{is_committing_at}
 use Rattle.history.specs.Processes.{World, process, idle, is_before}
@@ -23,30 +23,30 @@ module _ (w v : World) (p : ℕ) (t : Process) (is : v.processes ≡ set w.proce
 
 -- an operation that has not had its turn, one that goes on behind it, one that ends next, and one that
 -- commits
-pub before_there : (a : At) → is_before a ≡ true → (group : ℕ) × (op : Op) × (a ≡ at.Before group op)
+pub before_there : (a : Phase) → is_before a ≡ true → (group : ℕ) × (op : Op) × (a ≡ at.BeforeTurn group op)
 before_there at.Idle is = absurd (false≢true is)
-before_there (at.Before group op) is = (group, op, refl)
-before_there (at.Behind group k) is = absurd (false≢true is)
+before_there (at.BeforeTurn group op) is = (group, op, refl)
+before_there (at.AfterTurn group k) is = absurd (false≢true is)
 before_there (at.Ending group k) is = absurd (false≢true is)
 before_there (at.Committing group k) is = absurd (false≢true is)
 
-pub behind_there : (a : At) → is_behind a ≡ true → (group : ℕ) × (k : ℕ) × (a ≡ at.Behind group k)
+pub behind_there : (a : Phase) → is_behind a ≡ true → (group : ℕ) × (k : ℕ) × (a ≡ at.AfterTurn group k)
 behind_there at.Idle is = absurd (false≢true is)
-behind_there (at.Before group op) is = absurd (false≢true is)
-behind_there (at.Behind group k) is = (group, k, refl)
+behind_there (at.BeforeTurn group op) is = absurd (false≢true is)
+behind_there (at.AfterTurn group k) is = (group, k, refl)
 behind_there (at.Ending group k) is = absurd (false≢true is)
 behind_there (at.Committing group k) is = absurd (false≢true is)
 
-pub ending_there : (a : At) → is_ending a ≡ true → (group : ℕ) × (k : ℕ) × (a ≡ at.Ending group k)
+pub ending_there : (a : Phase) → is_ending a ≡ true → (group : ℕ) × (k : ℕ) × (a ≡ at.Ending group k)
 ending_there at.Idle is = absurd (false≢true is)
-ending_there (at.Before group op) is = absurd (false≢true is)
-ending_there (at.Behind group k) is = absurd (false≢true is)
+ending_there (at.BeforeTurn group op) is = absurd (false≢true is)
+ending_there (at.AfterTurn group k) is = absurd (false≢true is)
 ending_there (at.Ending group k) is = (group, k, refl)
 ending_there (at.Committing group k) is = absurd (false≢true is)
 
-pub committing_there : (a : At) → is_committing_at a ≡ true → (group : ℕ) × (k : ℕ) × (a ≡ at.Committing group k)
+pub committing_there : (a : Phase) → is_committing_at a ≡ true → (group : ℕ) × (k : ℕ) × (a ≡ at.Committing group k)
 committing_there at.Idle is = absurd (false≢true is)
-committing_there (at.Before group op) is = absurd (false≢true is)
-committing_there (at.Behind group k) is = absurd (false≢true is)
+committing_there (at.BeforeTurn group op) is = absurd (false≢true is)
+committing_there (at.AfterTurn group k) is = absurd (false≢true is)
 committing_there (at.Ending group k) is = absurd (false≢true is)
 committing_there (at.Committing group k) is = (group, k, refl)

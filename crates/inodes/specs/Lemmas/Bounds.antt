@@ -10,8 +10,8 @@ use Rattle.in_flight.specs.Held.{blocks_left, most_left}
 use Rattle.blockmap.specs.Lemmas.Targets.{few_at, steps_most}
 use Rattle.inodes.specs.declared.ilock.LockAt.{LockAt}
 use Rattle.inodes.specs.declared.ilock.LockAt.TheVariants as lock_at
-use Rattle.inodes.specs.declared.tasks.Place.{Place}
-use Rattle.inodes.specs.declared.tasks.Place.TheVariants as place
+use Rattle.inodes.specs.declared.tasks.Stage.{Stage}
+use Rattle.inodes.specs.declared.tasks.Stage.TheVariants as stage
 use Rattle.inodes.specs.Holding.{held_of, truncs_left, uses_left}
 use Rattle.inodes.specs.Itrunc.{Freeing}
 use Rattle.inodes.specs.LockState.{locks_left}
@@ -133,44 +133,44 @@ few_writes cur m (write_at.Block b slot) few fits come =
 few_writes cur m (write_at.Updating u) few fits come = let most = few_uses u.slot in omega (arith, most)
 
 -- a task that frees a file's blocks has no more of them left than a file may have
-abbrev pub HasFewBlocks : Image → Place → Type 0
-HasFewBlocks cur a = (k : ℕ) (m : Freeing) → a ≡ place.Truncating k m →
+abbrev pub HasFewBlocks : Image → Stage → Type 0
+HasFewBlocks cur a = (k : ℕ) (m : Freeing) → a ≡ stage.Truncating k m →
     blocks_left cur (held_of m.machine) ≤ most_left (form_of cur)
 
 -- there are 64 inode blocks at most, each of which takes two steps
-pub few_steps : (cur : Image) (table : TableState) (t : TaskState) (a : Place) →
+pub few_steps : (cur : Image) (table : TableState) (t : TaskState) (a : Stage) →
     table.inode_count ≤ 1024 → LooksAt cur table t a → HasFewBlocks cur a →
     steps_left cur a table.inode_count ≤ most_behind (form_of cur) + 5
-few_steps cur table t place.Nowhere few looks blocks = omega arith
-few_steps cur table t (place.Creating m) few looks blocks =
+few_steps cur table t stage.Nowhere few looks blocks = omega arith
+few_steps cur table t (stage.Creating m) few looks blocks =
     let most = few_looks m.slot in
     let behind = most_elsewhere (form_of cur) in
     omega (arith, few, most, behind)
-few_steps cur table t (place.Taking m) few looks blocks = let most = few_locks m.at in omega (arith, most)
-few_steps cur table t (place.Reading k m) few looks blocks =
+few_steps cur table t (stage.Taking m) few looks blocks = let most = few_locks m.at in omega (arith, most)
+few_steps cur table t (stage.Reading k m) few looks blocks =
     let most = few_reads cur table.inode_count (copy_at table.places k) t m looks in
     let behind = most_elsewhere (form_of cur) in
     omega (arith, most, behind)
-few_steps cur table t (place.Delivering k) few looks blocks = omega arith
-few_steps cur table t (place.Truncating k m) few looks blocks =
+few_steps cur table t (stage.Delivering k) few looks blocks = omega arith
+few_steps cur table t (stage.Truncating k m) few looks blocks =
     let most = few_frees cur m (blocks k m refl) in
     omega (arith, most)
-few_steps cur table t (place.Writing k m) few looks blocks =
+few_steps cur table t (stage.Writing k m) few looks blocks =
     let all = looks.all in
     let bytes = looks.few in
     let most = few_writes cur m m.at (omega (arith, all, bytes)) looks.fits looks.come in
     let four = writes_most m.extent.form 4 in
     let behind = most_elsewhere (form_of cur) in
     omega (arith, most, four, behind)
-few_steps cur table t (place.Leaving k) few looks blocks = omega arith
+few_steps cur table t (stage.Leaving k) few looks blocks = omega arith
 
 -- a task that is not over has a step left at least
-pub some_step : (x : Image) (a : Place) (n : ℕ) → is_over a ≡ false → 1 ≤ steps_left x a n
-some_step x place.Nowhere n unfinished = absurd (false≢true (sym unfinished))
-some_step x (place.Creating m) n unfinished = let one = one_look m.slot in omega (arith, one)
-some_step x (place.Taking m) n unfinished = omega arith
-some_step x (place.Reading k m) n unfinished = omega arith
-some_step x (place.Delivering k) n unfinished = omega arith
-some_step x (place.Truncating k m) n unfinished = omega arith
-some_step x (place.Writing k m) n unfinished = omega arith
-some_step x (place.Leaving k) n unfinished = omega arith
+pub some_step : (x : Image) (a : Stage) (n : ℕ) → is_over a ≡ false → 1 ≤ steps_left x a n
+some_step x stage.Nowhere n unfinished = absurd (false≢true (sym unfinished))
+some_step x (stage.Creating m) n unfinished = let one = one_look m.slot in omega (arith, one)
+some_step x (stage.Taking m) n unfinished = omega arith
+some_step x (stage.Reading k m) n unfinished = omega arith
+some_step x (stage.Delivering k) n unfinished = omega arith
+some_step x (stage.Truncating k m) n unfinished = omega arith
+some_step x (stage.Writing k m) n unfinished = omega arith
+some_step x (stage.Leaving k) n unfinished = omega arith

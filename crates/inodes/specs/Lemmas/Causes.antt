@@ -16,8 +16,8 @@ use Rattle.model.specs.Layout.{greatest_size, inode_block, inode_of}
 use Rattle.bcache.specs.Buffers.{Buffers}
 use Rattle.blockmap.specs.declared.progress.Progress.{Progress}
 use Rattle.blockmap.specs.declared.progress.Progress.TheVariants as machine
-use Rattle.inodes.specs.declared.tasks.Place.{Place}
-use Rattle.inodes.specs.declared.tasks.Place.TheVariants as place
+use Rattle.inodes.specs.declared.tasks.Stage.{Stage}
+use Rattle.inodes.specs.declared.tasks.Stage.TheVariants as stage
 use Rattle.inodes.specs.declared.writei.Extent.{Extent}
 use Rattle.inodes.specs.Goes.{Goes, GoesFrom, Shown, place_of_lock, place_of_writing, progress_of_lock, progress_of_read, progress_of_trunc, progress_of_write, shown_of}
 use Rattle.inodes.specs.Ialloc.{SearchState, at_next_block}
@@ -38,7 +38,7 @@ use Rattle.inodes.specs.Writing.{extent_of}
 -- process p's search stands so that it may still come to number j's block
 pub record IsAhead {D : Type 0} (p j : ℕ) (s : StoreState D) : Type 0 where
   pub search : SearchState
-  pub stands : IsAt p s (place.Creating search)
+  pub stands : IsAt p s (stage.Creating search)
   pub ahead : search.block ≤ inode_block j
 
 -- a step claims a number that is not higher, or has not had its turn and leaves the number's block
@@ -50,13 +50,13 @@ SearchesOn p j r t =
 
 module _ {D N : Type 0} (disk : Ghosts D N) (p n j : ℕ) (op : Op)
     (number : IsTrue (is_number n j)) (step : StepMade D) (m : SearchState)
-    (stands : IsAt p step.before (place.Creating m)) (ahead : m.block ≤ inode_block j) where
+    (stands : IsAt p step.before (stage.Creating m)) (ahead : m.block ≤ inode_block j) where
   abbrev Now : TaskProgress → Type 0
   Now r = SeesTaken disk.image p j step ⊎ SearchesOn p j r step.after
 
   goes_on : (r : TaskProgress) (k : SearchState) →
       ((reply : Option Reply) → r ≢ progress.Turned reply) →
-      IsAt p step.after (place.Creating k) → k.block ≤ inode_block j → Now r
+      IsAt p step.after (stage.Creating k) → k.block ≤ inode_block j → Now r
   goes_on r k unturned at low =
       inr (inr (unturned, record { search = k; stands = at; ahead = low }))
 
@@ -106,7 +106,7 @@ module _ {D N : Type 0} (disk : Ghosts D N) (p n j : ℕ) (op : Op)
       Steps disk step.before p op step.answer step.after →
       SeesTaken disk.image p j step ⊎ SearchesOn p j step.answer step.after
   search_sees count steps =
-      let on = goes_from disk p op step.before step (place.Creating m) stands
+      let on = goes_from disk p op step.before step (stage.Creating m) stands
       (record { own = refl; numbers = refl }) steps in
       let goes = subst (λ (k : ℕ). GoesFrom m.slot k p m step.before.volume.buffers step.answer
       (task step.after.tasks p).place (shown_of disk.image step.before.volume)
@@ -115,7 +115,7 @@ module _ {D N : Type 0} (disk : Ghosts D N) (p n j : ℕ) (op : Op)
 
 -- a creation that begins stands at the first block, where there is a place for its task
 pub search_begins : {D : Type 0} (p j kind : ℕ) (s : StoreState D) →
-    IsAhead p j (with_begun s p (Create kind)) ⊎ IsAt p (with_begun s p (Create kind)) place.Nowhere
+    IsAhead p j (with_begun s p (Create kind)) ⊎ IsAt p (with_begun s p (Create kind)) stage.Nowhere
 search_begins p j kind s =
     let t : TaskState = record {
       op = Some (Create kind);
@@ -141,7 +141,7 @@ search_begins p j kind s =
 
 -- before its turn a search changes neither image nor log
 pub search_shows : (slot : Option ℕ) (n p : ℕ) (m : SearchState) (c : Buffers) (r : TaskProgress)
-    (next : Place) (before now : Shown) → ((reply : Option Reply) → r ≢ progress.Turned reply) →
+    (next : Stage) (before now : Shown) → ((reply : Option Reply) → r ≢ progress.Turned reply) →
     GoesFrom slot n p m c r next before now → now ≡ before
 search_shows None n p m c r next before now unturned goes = goes.1
 search_shows (Some i) n p m c progress.Moved next before now unturned goes = goes.1.shown
@@ -161,7 +161,7 @@ pub record WritesOn {D : Type 0} (p k count done : ℕ) (e : Extent) (step : Ste
   pub other : step.answer ≢ progress.Decided (Wrote done)
   pub unfinished : step.answer ≢ progress.Over
   pub next : ((reply : Reply) × (step.answer ≡ progress.Decided reply))
-      ⊎ ((m : WriteState) × IsAt p step.after (place.Writing k m) × IsGoingOn e count m)
+      ⊎ ((m : WriteState) × IsAt p step.after (stage.Writing k m) × IsGoingOn e count m)
 
 not_last : (done : ℕ) (q : Progress (Unit {0})) → progress_of_write done q ≡ progress.Over → ⊥
 not_last done machine.Moved is = cc is
@@ -172,11 +172,11 @@ not_last done (machine.Fault fault) is = cc is
 -- a step of a write saw that no block is left, or goes on so
 pub write_sees : {D N : Type 0} (disk : Ghosts D N) (p k count done : ℕ) (e : Extent) (op : Op) →
     done < count → (step : StepMade D) (m : WriteState) →
-    IsAt p step.before (place.Writing k m) → IsGoingOn e count m →
+    IsAt p step.before (stage.Writing k m) → IsGoingOn e count m →
     Steps disk step.before p op step.answer step.after →
     SeesFull disk.image p e step ⊎ WritesOn p k count done e step
 write_sees disk p k count done e op short step m stands on steps =
-    let to = goes_from disk p op step.before step (place.Writing k m) stands
+    let to = goes_from disk p op step.before step (stage.Writing k m) stands
     (record { own = refl; numbers = refl }) steps in
     ⊎_elim (λ is. inl is)
     (λ still. inr (record {
@@ -191,7 +191,7 @@ write_sees disk p k count done e op short step m stands on steps =
         step.answer ≡ progress_of_write m.done q →
         IsAt p step.after (place_of_writing k m n q) → IsGoingOn e count n →
         ((reply : Reply) × (step.answer ≡ progress.Decided reply))
-        ⊎ ((o : WriteState) × IsAt p step.after (place.Writing k o) × IsGoingOn e count o)
+        ⊎ ((o : WriteState) × IsAt p step.after (stage.Writing k o) × IsGoingOn e count o)
     by_answer n machine.Moved gives next now = inr (n, next, now)
     by_answer n (machine.Sleeping why) gives next now = inr (m, next, on)
     by_answer n (machine.Over out) gives next now = inl (Wrote m.done, gives)
@@ -204,7 +204,7 @@ pub record BeginsWriting {D : Type 0} (p i count : ℕ) (e : Extent) (t : StoreS
     : Type 0 where
   pub entry : ℕ
   pub writing : WriteState
-  pub stands : IsAt p t (place.Writing entry writing)
+  pub stands : IsAt p t (stage.Writing entry writing)
   pub on : IsGoingOn e count writing
   pub number : writing.number ≡ i
 
@@ -222,7 +222,7 @@ module _ {D N : Type 0} (disk : Ghosts D N) (s : StoreState D) (p i off : ℕ) (
   abbrev e : Extent
   e = extent_of s.table.form s.table.inode_count s.volume.log.size
 
-  abbrev next : Place
+  abbrev next : Stage
   next = (task t.tasks p).place
 
   abbrev To : Option Reply → Type 0
@@ -278,10 +278,10 @@ module _ {D N : Type 0} (disk : Ghosts D N) (s : StoreState D) (p i off : ℕ) (
   by_reply (Some TooLong) (Some k) m goes = absurd goes.1
   by_reply (Some BadType) (Some k) m goes = absurd goes.1
 
-  by_place : (r : Option Reply) (a : Place) → Goes disk a s p op (progress.Turned r) t → To r
-  by_place r place.Nowhere goes = let no = goes.0 in absurd (cc no)
-  by_place r (place.Creating m) goes = by_reply r m.slot m goes.0
-  by_place r (place.Taking m) goes = by_answer goes.0.answer goes.0.gives goes.0.next
+  by_place : (r : Option Reply) (a : Stage) → Goes disk a s p op (progress.Turned r) t → To r
+  by_place r stage.Nowhere goes = let no = goes.0 in absurd (cc no)
+  by_place r (stage.Creating m) goes = by_reply r m.slot m goes.0
+  by_place r (stage.Taking m) goes = by_answer goes.0.answer goes.0.gives goes.0.next
     where
       d : Dinode
       d = inode_of (current_of disk.image s.volume) m.number
@@ -294,29 +294,29 @@ module _ {D N : Type 0} (disk : Ghosts D N) (s : StoreState D) (p i off : ℕ) (
           let same : reply_when_taken e.form (if_used used d) op ≡ r = (let back = sym is in cc back) in
           subst To same (by_use used d (place_of goes.0.now.at) to)
       by_answer (machine.Fault fault) is to = absurd (cc is)
-  by_place r (place.Reading k m) goes = absurd (none goes.0.answer goes.0.gives)
+  by_place r (stage.Reading k m) goes = absurd (none goes.0.answer goes.0.gives)
     where
       none : (q : Progress (Unit {0})) → progress.Turned r ≡ progress_of_read q → ⊥
       none machine.Moved is = cc is
       none (machine.Sleeping why) is = cc is
       none (machine.Over out) is = cc is
       none (machine.Fault fault) is = cc is
-  by_place r (place.Delivering k) goes = let no = goes.gives in absurd (cc no)
-  by_place r (place.Truncating k m) goes = absurd (none goes.answer goes.gives)
+  by_place r (stage.Delivering k) goes = let no = goes.gives in absurd (cc no)
+  by_place r (stage.Truncating k m) goes = absurd (none goes.answer goes.gives)
     where
       none : (q : Progress (Unit {0})) → progress.Turned r ≡ progress_of_trunc q → ⊥
       none machine.Moved is = cc is
       none (machine.Sleeping why) is = cc is
       none (machine.Over out) is = cc is
       none (machine.Fault fault) is = cc is
-  by_place r (place.Writing k m) goes = absurd (none goes.answer goes.gives)
+  by_place r (stage.Writing k m) goes = absurd (none goes.answer goes.gives)
     where
       none : (q : Progress (Unit {0})) → progress.Turned r ≡ progress_of_write m.done q → ⊥
       none machine.Moved is = cc is
       none (machine.Sleeping why) is = cc is
       none (machine.Over out) is = cc is
       none (machine.Fault fault) is = cc is
-  by_place r (place.Leaving k) goes = let no = goes.0 in absurd (cc no)
+  by_place r (stage.Leaving k) goes = let no = goes.0 in absurd (cc no)
 
   -- the turn of a write
   pub write_turns : (r : Option Reply) → Steps disk s p op (progress.Turned r) t → To r

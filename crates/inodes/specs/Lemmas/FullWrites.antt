@@ -21,8 +21,8 @@ use Rattle.blockmap.specs.declared.bmap_alloc.MapAt.{MapAt}
 use Rattle.blockmap.specs.declared.bmap_alloc.MapAt.TheVariants as map_at
 use Rattle.blockmap.specs.declared.progress.Progress.{Progress}
 use Rattle.blockmap.specs.declared.progress.Progress.TheVariants as machine
-use Rattle.inodes.specs.declared.tasks.Place.{Place}
-use Rattle.inodes.specs.declared.tasks.Place.TheVariants as place
+use Rattle.inodes.specs.declared.tasks.Stage.{Stage}
+use Rattle.inodes.specs.declared.tasks.Stage.TheVariants as stage
 use Rattle.inodes.specs.declared.writei.Extent.{Extent}
 use Rattle.inodes.specs.declared.writei.WriteAt.{WriteAt}
 use Rattle.inodes.specs.declared.writei.WriteAt.TheVariants as write_at
@@ -201,7 +201,7 @@ pub record WritesToEnd {D : Type 0} (image : D → Image) (p i : ℕ) (e : Exten
     : Type 0 where
   pub entry : ℕ
   pub writing : WriteState
-  pub stands : IsAt p s (place.Writing entry writing)
+  pub stands : IsAt p s (stage.Writing entry writing)
   pub number : writing.number ≡ i
   pub at : EndsAt i writing.at
   pub full : IsFull (current_of image s.volume) e
@@ -213,16 +213,16 @@ pub record EndsSo {D : Type 0} (image : D → Image) (p i : ℕ) (e : Extent) (s
   pub on : ((reply : Reply) → step.answer ≢ progress.Decided reply) →
       WritesToEnd image p i e step.after
   pub up : (reply : Reply) → step.answer ≡ progress.Decided reply →
-      (k : ℕ) × IsAt p step.after (place.Leaving k)
+      (k : ℕ) × IsAt p step.after (stage.Leaving k)
 
 module _ {D N : Type 0} (disk : Ghosts D N) (p i : ℕ) (e : Extent) (op : Op) (step : StepMade D) where
   abbrev GoesBy : ℕ → WriteState → Type 0
   GoesBy k m = WritesOn disk step.before p k op m step.answer step.after
 
-  goes : (k : ℕ) (m : WriteState) → IsAt p step.before (place.Writing k m) →
+  goes : (k : ℕ) (m : WriteState) → IsAt p step.before (stage.Writing k m) →
       Steps disk step.before p op step.answer step.after → GoesBy k m
   goes k m stands steps =
-      subst (λ (a : Place). Goes disk a step.before p op step.answer step.after) stands steps.goes
+      subst (λ (a : Stage). Goes disk a step.before p op step.answer step.after) stands steps.goes
 
   to_end : (k : ℕ) (m o : WriteState) (q : Progress (Unit {0})) → m.number ≡ i →
       (q ≢ machine.Moved → EndsAt i m.at) → step.answer ≡ progress_of_write m.done q →
@@ -280,7 +280,7 @@ module _ {D N : Type 0} (disk : Ghosts D N) (p i : ℕ) (e : Extent) (op : Op) (
       on.answer from.number apart from.full from.writing.at from.at on.writes)
 
   -- one that saw no block left
-  pub full_seen : (k : ℕ) (m : WriteState) → IsAt p step.before (place.Writing k m) →
+  pub full_seen : (k : ℕ) (m : WriteState) → IsAt p step.before (stage.Writing k m) →
       m.number ≡ i → SeesFull disk.image p e step →
       Steps disk step.before p op step.answer step.after → EndsSo disk.image p i e step
   full_seen k m stands number saw steps =
@@ -293,9 +293,9 @@ module _ {D N : Type 0} (disk : Ghosts D N) (p i : ℕ) (e : Extent) (op : Op) (
       to_end k m on.now on.answer number (λ no. absurd (no last.0)) on.gives on.next last.1
 
   -- any one keeps the number that is written
-  pub writes_number : (k l : ℕ) (m o : WriteState) → IsAt p step.before (place.Writing k m) →
+  pub writes_number : (k l : ℕ) (m o : WriteState) → IsAt p step.before (stage.Writing k m) →
       m.number ≡ i → Steps disk step.before p op step.answer step.after →
-      IsAt p step.after (place.Writing l o) → o.number ≡ i
+      IsAt p step.after (stage.Writing l o) → o.number ≡ i
   writes_number k l m o stands number steps to =
       by_answer on.answer (sym on.next ∙ to)
     where
@@ -307,7 +307,7 @@ module _ {D N : Type 0} (disk : Ghosts D N) (p i : ℕ) (e : Extent) (op : Op) (
           on.answer number m.at on.writes
 
       by_answer : (q : Progress (Unit {0})) →
-          place_of_writing k m on.now q ≡ place.Writing l o → o.number ≡ i
+          place_of_writing k m on.now q ≡ stage.Writing l o → o.number ≡ i
       by_answer machine.Moved is =
           let same : on.now ≡ o = cc is in subst (λ (x : WriteState). x.number ≡ i) same now
       by_answer (machine.Sleeping why) is =

@@ -3,8 +3,8 @@ use Rattle.std.proofs.Common.{◌≡◌, ◌≢◌, ℕ, zero, suc, ◌<◌, Boo
 use Rattle.std.proofs.lemmas.Bool.{eqb-true, eq-eqb}
 use Rattle.std.proofs.lemmas.List.{get_or-set_same, get_or-set_other}
 use Rattle.in_flight.specs.Held.{IsClaimedNow, Claim, frees, grows}
-use Rattle.inodes.specs.declared.tasks.Place.{Place}
-use Rattle.inodes.specs.declared.tasks.Place.TheVariants as place
+use Rattle.inodes.specs.declared.tasks.Stage.{Stage}
+use Rattle.inodes.specs.declared.tasks.Stage.TheVariants as stage
 use Rattle.inodes.specs.Holding.{claim_by, claims_of, held_of, claim_of}
 use Rattle.inodes.specs.Itrunc.{Freeing}
 use Rattle.inodes.specs.Table.{or_else}
@@ -21,10 +21,10 @@ HoldsAlone ts p i = (q : ℕ) → q ≢ p → claim_of (task ts q) i ≡ None
 
 -- a task that stands there frees the blocks of number i's file, or writes into it, with its inode at
 -- that entry of the table
-abbrev pub IsHolding : Place → ℕ → ℕ → Type 0
+abbrev pub IsHolding : Stage → ℕ → ℕ → Type 0
 IsHolding a entry i =
-    ((m : Freeing) × (a ≡ place.Truncating entry m) × (m.machine.number ≡ i))
-    ⊎ ((m : WriteState) × (a ≡ place.Writing entry m) × (m.number ≡ i))
+    ((m : Freeing) × (a ≡ stage.Truncating entry m) × (m.machine.number ≡ i))
+    ⊎ ((m : WriteState) × (a ≡ stage.Writing entry m) × (m.number ≡ i))
 
 -- so does who holds a number
 claims_own : (n i : ℕ) (own : Claim) (h : Claim) → cond (eqb n i) (Some own) None ≡ Some h → n ≡ i
@@ -34,27 +34,27 @@ claims_own n i own h claimed = by_number (eqb n i) refl claimed
     by_number true same claimed = eqb-true n i same
     by_number false other claimed = absurd (cc claimed)
 
-pub holding_is : (op : Option Op) (a : Place) (i : ℕ) (h : Claim) → claim_by op a i ≡ Some h →
+pub holding_is : (op : Option Op) (a : Stage) (i : ℕ) (h : Claim) → claim_by op a i ≡ Some h →
     (entry : ℕ) × IsHolding a entry i
-holding_is op place.Nowhere i h claimed = absurd (cc claimed)
-holding_is op (place.Creating m) i h claimed = absurd (cc claimed)
-holding_is op (place.Taking m) i h claimed = absurd (cc claimed)
-holding_is op (place.Reading k m) i h claimed = absurd (cc claimed)
-holding_is op (place.Delivering k) i h claimed = absurd (cc claimed)
-holding_is op (place.Truncating k m) i h claimed =
+holding_is op stage.Nowhere i h claimed = absurd (cc claimed)
+holding_is op (stage.Creating m) i h claimed = absurd (cc claimed)
+holding_is op (stage.Taking m) i h claimed = absurd (cc claimed)
+holding_is op (stage.Reading k m) i h claimed = absurd (cc claimed)
+holding_is op (stage.Delivering k) i h claimed = absurd (cc claimed)
+holding_is op (stage.Truncating k m) i h claimed =
     (k, inl (m, refl, claims_own m.machine.number i (frees (held_of m.machine)) h claimed))
-holding_is op (place.Writing k m) i h claimed =
+holding_is op (stage.Writing k m) i h claimed =
     (k, inr (m, refl, claims_own m.number i (grows (growth_of m (bytes_by op))) h claimed))
-holding_is op (place.Leaving k) i h claimed = absurd (cc claimed)
+holding_is op (stage.Leaving k) i h claimed = absurd (cc claimed)
 
 -- the freeing of a file's blocks holds its number
 pub own_holds : (k : ℕ) (m : Freeing) →
-    claim_by None (place.Truncating k m) m.machine.number ≡ Some (frees (held_of m.machine))
+    claim_by None (stage.Truncating k m) m.machine.number ≡ Some (frees (held_of m.machine))
 own_holds k m = rw (eq-eqb m.machine.number m.machine.number refl) refl
 
 -- and so does the writing of its bytes
 pub own_grows : (op : Option Op) (k : ℕ) (m : WriteState) →
-    claim_by op (place.Writing k m) m.number ≡ Some (grows (growth_of m (bytes_by op)))
+    claim_by op (stage.Writing k m) m.number ≡ Some (grows (growth_of m (bytes_by op)))
 own_grows op k m = rw (eq-eqb m.number m.number refl) refl
 
 -- ---- what all of them hold

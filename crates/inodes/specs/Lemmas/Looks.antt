@@ -14,8 +14,8 @@ use Rattle.model.specs.Lemmas.Log.{both_of}
 use Rattle.model.specs.Files.{bytes_in}
 use Rattle.model.specs.Gathered.{GatheredBytes}
 use Rattle.inodes.specs.Creation.{is_free_in, lowest_free}
-use Rattle.inodes.specs.declared.tasks.Place.{Place}
-use Rattle.inodes.specs.declared.tasks.Place.TheVariants as place
+use Rattle.inodes.specs.declared.tasks.Stage.{Stage}
+use Rattle.inodes.specs.declared.tasks.Stage.TheVariants as stage
 use Rattle.inodes.specs.Grips.{grip, locked_grip}
 use Rattle.inodes.specs.Looks.{AreLooking, LooksAt, HasAllRead, HoldsInode, IsRead, IsLate, IsWrite, CanLook, CanTake}
 use Rattle.inodes.specs.Holding.{IsTruncating, trunc_op}
@@ -126,16 +126,16 @@ grip_of_task (t ∷ ts) zero = refl
 grip_of_task (t ∷ ts) (suc p) = grip_of_task ts p
 
 -- a task whose reply is to come has locked the inode that it asks for
-locks_own : (a : Place) (i : ℕ) → owes_reply a ≡ true →
+locks_own : (a : Stage) (i : ℕ) → owes_reply a ≡ true →
     (k : ℕ) × (grip_by a i ≡ Some (locked_grip k i))
-locks_own place.Nowhere i unlike = absurd (cc unlike)
-locks_own (place.Creating m) i unlike = absurd (cc unlike)
-locks_own (place.Taking m) i unlike = absurd (cc unlike)
-locks_own (place.Reading k m) i is = (k, refl)
-locks_own (place.Delivering k) i is = (k, refl)
-locks_own (place.Truncating k m) i unlike = absurd (cc unlike)
-locks_own (place.Writing k m) i is = (k, refl)
-locks_own (place.Leaving k) i unlike = absurd (cc unlike)
+locks_own stage.Nowhere i unlike = absurd (cc unlike)
+locks_own (stage.Creating m) i unlike = absurd (cc unlike)
+locks_own (stage.Taking m) i unlike = absurd (cc unlike)
+locks_own (stage.Reading k m) i is = (k, refl)
+locks_own (stage.Delivering k) i is = (k, refl)
+locks_own (stage.Truncating k m) i unlike = absurd (cc unlike)
+locks_own (stage.Writing k m) i is = (k, refl)
+locks_own (stage.Leaving k) i unlike = absurd (cc unlike)
 
 -- the operation that frees a file's blocks asks for its number
 asked_to_free : (m : Itrunc) → asked (trunc_op m) ≡ m.number
@@ -150,22 +150,22 @@ module _ (cur : Image) (t : TableState) (ts : List TaskState) (are : AreLooking 
   pub late_is : (p : ℕ) → owes_reply (task ts p).place ≡ true → IsLate t.inode_count (task ts p)
   late_is p is = by_place (task ts p).place (are.stand p) is
     where
-      by_place : (a : Place) → LooksAt cur t (task ts p) a → owes_reply a ≡ true →
+      by_place : (a : Stage) → LooksAt cur t (task ts p) a → owes_reply a ≡ true →
           IsLate t.inode_count (task ts p)
-      by_place place.Nowhere stands unlike = absurd (cc unlike)
-      by_place (place.Creating m) stands unlike = absurd (cc unlike)
-      by_place (place.Taking m) stands unlike = absurd (cc unlike)
-      by_place (place.Reading k m) stands is = inl stands.op
-      by_place (place.Delivering k) stands is = inl stands.op
-      by_place (place.Truncating k m) stands unlike = absurd (cc unlike)
-      by_place (place.Writing k m) stands is = inr (record {
+      by_place stage.Nowhere stands unlike = absurd (cc unlike)
+      by_place (stage.Creating m) stands unlike = absurd (cc unlike)
+      by_place (stage.Taking m) stands unlike = absurd (cc unlike)
+      by_place (stage.Reading k m) stands is = inl stands.op
+      by_place (stage.Delivering k) stands is = inl stands.op
+      by_place (stage.Truncating k m) stands unlike = absurd (cc unlike)
+      by_place (stage.Writing k m) stands is = inr (record {
         number = m.number;
         offset = m.offset;
         bytes = stands.bytes;
         is = stands.op;
         may = (stands.number, stands.few);
       })
-      by_place (place.Leaving k) stands unlike = absurd (cc unlike)
+      by_place (stage.Leaving k) stands unlike = absurd (cc unlike)
 
   -- of a number that operations may name
   pub late_number : (p : ℕ) → owes_reply (task ts p).place ≡ true →
@@ -203,11 +203,11 @@ module _ (cur : Image) (t : TableState) (ts : List TaskState) (are : AreLooking 
       (subst (λ (n : ℕ). grip (grips_of ts) p ≡ Some (locked_grip mine.0 n)) same mine.1) theirs.1
 
   -- it gives out no more bytes than it asked for
-  pub delivers_few : (p k : ℕ) → (task ts p).place ≡ place.Delivering k →
+  pub delivers_few : (p k : ℕ) → (task ts p).place ≡ stage.Delivering k →
       (op : IsRead t.inode_count (task ts p)) → length op.gathered.bytes ≤ op.count
   delivers_few p k at op =
       let all : HasAllRead cur t.inode_count (copy_at t.places k) (task ts p) =
-      subst (λ (a : Place). LooksAt cur t (task ts p) a) at (are.stand p) in
+      subst (λ (a : Stage). LooksAt cur t (task ts p) a) at (are.stand p) in
       let file = bytes_in cur all.dinode in
       let bytes : op.gathered ≡ all.op.gathered = let both = sym op.has ∙ all.op.has in cc both in
       let count : op.count ≡ all.op.count = let both = sym op.is ∙ all.op.is in cc both in
@@ -228,48 +228,48 @@ module _ (cur : Image) (t : TableState) (ts : List TaskState) (are : AreLooking 
         holder = are.table.locks p k (asked_by (task ts p).op) has;
       }
 
-      by_place : (a : Place) → grip (grips_of ts) p ≡ grip_by a (asked_by (task ts p).op) →
+      by_place : (a : Stage) → grip (grips_of ts) p ≡ grip_by a (asked_by (task ts p).op) →
           is_over a ≡ false → is_unturned a ≡ false → HoldsInode t p (asked_by (task ts p).op)
-      by_place place.Nowhere has on turned = absurd (cc on)
-      by_place (place.Creating m) has on turned = absurd (cc turned)
-      by_place (place.Taking m) has on turned = absurd (cc turned)
-      by_place (place.Reading k m) has on turned = held k has
-      by_place (place.Delivering k) has on turned = held k has
-      by_place (place.Truncating k m) has on turned = held k has
-      by_place (place.Writing k m) has on turned = held k has
-      by_place (place.Leaving k) has on turned = held k has
+      by_place stage.Nowhere has on turned = absurd (cc on)
+      by_place (stage.Creating m) has on turned = absurd (cc turned)
+      by_place (stage.Taking m) has on turned = absurd (cc turned)
+      by_place (stage.Reading k m) has on turned = held k has
+      by_place (stage.Delivering k) has on turned = held k has
+      by_place (stage.Truncating k m) has on turned = held k has
+      by_place (stage.Writing k m) has on turned = held k has
+      by_place (stage.Leaving k) has on turned = held k has
 
   -- ---- the freeing of a file's blocks
 
-  pub truncating_is : (p k : ℕ) (m : Freeing) → (task ts p).place ≡ place.Truncating k m →
+  pub truncating_is : (p k : ℕ) (m : Freeing) → (task ts p).place ≡ stage.Truncating k m →
       IsTruncating cur t.inode_count (task ts p) m
-  truncating_is p k m at = subst (λ (a : Place). LooksAt cur t (task ts p) a) at (are.stand p)
+  truncating_is p k m at = subst (λ (a : Stage). LooksAt cur t (task ts p) a) at (are.stand p)
 
   -- its operation asks for its number
-  pub trunc_number : (p k : ℕ) (m : Freeing) → (task ts p).place ≡ place.Truncating k m →
+  pub trunc_number : (p k : ℕ) (m : Freeing) → (task ts p).place ≡ stage.Truncating k m →
       asked_by (task ts p).op ≡ m.machine.number
   trunc_number p k m at = ap asked_by (truncating_is p k m at).op ∙ asked_to_free m.machine
 
   -- which operations may name
-  pub trunc_names : (p k : ℕ) (m : Freeing) → (task ts p).place ≡ place.Truncating k m →
+  pub trunc_names : (p k : ℕ) (m : Freeing) → (task ts p).place ≡ stage.Truncating k m →
       IsTrue (is_number t.inode_count m.machine.number)
   trunc_names p k m at = (truncating_is p k m at).number
 
   -- and it has locked it
-  pub trunc_locks : (p k : ℕ) (m : Freeing) → (task ts p).place ≡ place.Truncating k m →
+  pub trunc_locks : (p k : ℕ) (m : Freeing) → (task ts p).place ≡ stage.Truncating k m →
       grip_of (task ts p) ≡ Some (locked_grip k m.machine.number)
   trunc_locks p k m at =
-      ap (λ (a : Place). grip_by a (asked_by (task ts p).op)) at
+      ap (λ (a : Stage). grip_by a (asked_by (task ts p).op)) at
       ∙ ap (λ (i : ℕ). Some (locked_grip k i)) (trunc_number p k m at)
 
   -- ---- the writing of a file's bytes
 
-  pub writing_is : (p k : ℕ) (m : WriteState) → (task ts p).place ≡ place.Writing k m →
+  pub writing_is : (p k : ℕ) (m : WriteState) → (task ts p).place ≡ stage.Writing k m →
       IsWriting cur t.inode_count (task ts p) m
-  writing_is p k m at = subst (λ (a : Place). LooksAt cur t (task ts p) a) at (are.stand p)
+  writing_is p k m at = subst (λ (a : Stage). LooksAt cur t (task ts p) a) at (are.stand p)
 
-  pub write_locks : (p k : ℕ) (m : WriteState) → (task ts p).place ≡ place.Writing k m →
+  pub write_locks : (p k : ℕ) (m : WriteState) → (task ts p).place ≡ stage.Writing k m →
       grip_of (task ts p) ≡ Some (locked_grip k m.number)
   write_locks p k m at =
-      ap (λ (a : Place). grip_by a (asked_by (task ts p).op)) at
+      ap (λ (a : Stage). grip_by a (asked_by (task ts p).op)) at
       ∙ ap (λ (o : Option Op). Some (locked_grip k (asked_by o))) (writing_is p k m at).op

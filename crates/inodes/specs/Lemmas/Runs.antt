@@ -12,8 +12,8 @@ use Rattle.model.specs.declared.types.operations.TaskProgress.TheVariants as pro
 use Rattle.model.specs.Journal.{is_number}
 use Rattle.model.specs.Layout.{inode_block}
 use Rattle.model.specs.Lemmas.Log.{both_of}
-use Rattle.inodes.specs.declared.tasks.Place.{Place}
-use Rattle.inodes.specs.declared.tasks.Place.TheVariants as place
+use Rattle.inodes.specs.declared.tasks.Stage.{Stage}
+use Rattle.inodes.specs.declared.tasks.Stage.TheVariants as stage
 use Rattle.inodes.specs.Ialloc.{SearchState, at_next_block}
 use Rattle.inodes.specs.Table.{TableState}
 use Rattle.inodes.specs.Tasks.{TaskState, task, no_task}
@@ -48,48 +48,48 @@ pub seen_later : {D : Type 0} (P : StepMade D → Type 0) (step : StepMade D)
 seen_later P step rest is = (suc is.0, is.1, omega (arith, is.2), is.3, is.4)
 
 -- the task of process p stands there
-abbrev pub IsAt : {D : Type 0} → ℕ → StoreState D → Place → Type 0
+abbrev pub IsAt : {D : Type 0} → ℕ → StoreState D → Stage → Type 0
 IsAt p s a = (task s.tasks p).place ≡ a
 
 module _ {D N : Type 0} (disk : Ghosts D N) (p : ℕ) (op : Op) where
   -- the step of a run, from where its task stands
-  pub record GoesOn (step : StepMade D) (a : Place) : Type 0 where
+  pub record GoesOn (step : StepMade D) (a : Stage) : Type 0 where
     pub goes : Goes disk a step.before p op step.answer step.after
     pub here : IsAt p step.before a
 
-  pub goes_from : (s : StoreState D) (step : StepMade D) (a : Place) → IsAt p s a →
+  pub goes_from : (s : StoreState D) (step : StepMade D) (a : Stage) → IsAt p s a →
       LeavesTask s p step.before → Steps disk step.before p op step.answer step.after →
       GoesOn step a
   goes_from s step a stands leaves steps =
       let here : IsAt p step.before a = ap (λ (t : TaskState). t.place) leaves.own ∙ stands in
       record {
-        goes = subst (λ (b : Place). Goes disk b step.before p op step.answer step.after) here
+        goes = subst (λ (b : Stage). Goes disk b step.before p op step.answer step.after) here
             steps.goes;
         here = here;
       }
 
   module _ (reply : TaskProgress) (apart : reply ≢ progress.Over) where
     -- who stands nowhere answers nothing more
-    pub nothing_more : (steps : List (StepMade D)) (s : StoreState D) → IsAt p s place.Nowhere →
+    pub nothing_more : (steps : List (StepMade D)) (s : StoreState D) → IsAt p s stage.Nowhere →
         IsRun disk p op s steps → EndsWith steps reply → ⊥
     nothing_more [] s stands run ends = ends
     nothing_more (step ∷ []) s stands run ends =
-        let on = goes_from s step place.Nowhere stands run.0 run.1 in
+        let on = goes_from s step stage.Nowhere stands run.0 run.1 in
         apart (sym ends ∙ on.goes.0)
     nothing_more (step ∷ next ∷ rest) s stands run ends =
-        let on = goes_from s step place.Nowhere stands run.0 run.1 in
+        let on = goes_from s step stage.Nowhere stands run.0 run.1 in
         let over = ap (λ (t : StoreState D). (task t.tasks p).place) on.goes.1 ∙ on.here in
         nothing_more (next ∷ rest) step.after over run.2 ends
 
     -- nor does who gives up its inode next
     pub nothing_behind : (steps : List (StepMade D)) (s : StoreState D) (k : ℕ) →
-        IsAt p s (place.Leaving k) → IsRun disk p op s steps → EndsWith steps reply → ⊥
+        IsAt p s (stage.Leaving k) → IsRun disk p op s steps → EndsWith steps reply → ⊥
     nothing_behind [] s k stands run ends = ends
     nothing_behind (step ∷ []) s k stands run ends =
-        let on = goes_from s step (place.Leaving k) stands run.0 run.1 in
+        let on = goes_from s step (stage.Leaving k) stands run.0 run.1 in
         apart (sym ends ∙ on.goes.0)
     nothing_behind (step ∷ next ∷ rest) s k stands run ends =
-        let on = goes_from s step (place.Leaving k) stands run.0 run.1 in
+        let on = goes_from s step (stage.Leaving k) stands run.0 run.1 in
         nothing_more (next ∷ rest) step.after on.goes.1.next run.2 ends
 
 module _ {D N : Type 0} (disk : Ghosts D N) (p n j : ℕ) (op : Op) (o : Option ℕ)
@@ -116,7 +116,7 @@ module _ {D N : Type 0} (disk : Ghosts D N) (p n j : ℕ) (op : Op) (o : Option 
 
   -- a look that passed the number by
   pub sees : (step : StepMade D) (m : SearchState) (i : ℕ) (found : Option ℕ) →
-      IsAt p step.before (place.Creating m) → m.slot ≡ Some i →
+      IsAt p step.before (stage.Creating m) → m.slot ≡ Some i →
       free_at (before step).current n m ≡ found → IsPassedBy found j →
       inode_block j ≡ m.block → Sees step
   sees step m i found stands got is by here = record {
@@ -131,7 +131,7 @@ module _ {D N : Type 0} (disk : Ghosts D N) (p n j : ℕ) (op : Op) (o : Option 
   search_goes : (s : StoreState D) (step : StepMade D) (m : SearchState) →
       s.table.inode_count ≡ n → LeavesTask s p step.before →
       Steps disk step.before p op step.answer step.after →
-      GoesOn disk p op step (place.Creating m) →
+      GoesOn disk p op step (stage.Creating m) →
       SearchGoes step m.slot m step.answer × (step.after.table.inode_count ≡ n)
   search_goes s step m count leaves steps on =
       let same : step.before.table.inode_count ≡ n = leaves.numbers ∙ count in (
@@ -142,7 +142,7 @@ module _ {D N : Type 0} (disk : Ghosts D N) (p n j : ℕ) (op : Op) (o : Option 
 
   -- the step of the turn
   pub seen_at_turn : (step : StepMade D) (m : SearchState) (slot : Option ℕ) → m.slot ≡ slot →
-      IsAt p step.before (place.Creating m) → m.block ≤ inode_block j →
+      IsAt p step.before (stage.Creating m) → m.block ≤ inode_block j →
       SearchGoes step slot m reply → Sees step
   seen_at_turn step m None got stands ahead goes = absurd goes.0
   seen_at_turn step m (Some i) got stands ahead goes =
@@ -151,9 +151,9 @@ module _ {D N : Type 0} (disk : Ghosts D N) (p n j : ℕ) (op : Op) (o : Option 
 
   -- a step before it, where the rest of the run sees what is still ahead
   module _ (step : StepMade D) (rest : List (StepMade D)) (m : SearchState)
-      (stands : IsAt p step.before (place.Creating m)) (ahead : m.block ≤ inode_block j)
-      (more : IsAt p step.after place.Nowhere → ⊥)
-      (on : (k : SearchState) → IsAt p step.after (place.Creating k) → k.block ≤ inode_block j →
+      (stands : IsAt p step.before (stage.Creating m)) (ahead : m.block ≤ inode_block j)
+      (more : IsAt p step.after stage.Nowhere → ⊥)
+      (on : (k : SearchState) → IsAt p step.after (stage.Creating k) → k.block ≤ inode_block j →
       Seen rest) where
     seen_on : (slot : Option ℕ) (r : TaskProgress) → m.slot ≡ slot → SearchGoes step slot m r →
         Seen (step ∷ rest)
@@ -177,16 +177,16 @@ module _ {D N : Type 0} (disk : Ghosts D N) (p n j : ℕ) (op : Op) (o : Option 
 
   -- a run from a block that is not behind the number's
   seen_in_run : (steps : List (StepMade D)) (s : StoreState D) (m : SearchState) →
-      s.table.inode_count ≡ n → IsAt p s (place.Creating m) → m.block ≤ inode_block j →
+      s.table.inode_count ≡ n → IsAt p s (stage.Creating m) → m.block ≤ inode_block j →
       IsRun disk p op s steps → EndsWith steps reply → Seen steps
   seen_in_run [] s m count stands ahead run ends = absurd ends
   seen_in_run (step ∷ []) s m count stands ahead run ends =
-      let on = goes_from disk p op s step (place.Creating m) stands run.0 run.1 in
+      let on = goes_from disk p op s step (stage.Creating m) stands run.0 run.1 in
       let goes = search_goes s step m count run.0 run.1 on in
       seen_first Sees step [] (seen_at_turn step m m.slot refl on.here ahead
       (subst (λ (r : TaskProgress). SearchGoes step m.slot m r) ends goes.0))
   seen_in_run (step ∷ next ∷ rest) s m count stands ahead run ends =
-      let on = goes_from disk p op s step (place.Creating m) stands run.0 run.1 in
+      let on = goes_from disk p op s step (stage.Creating m) stands run.0 run.1 in
       let goes = search_goes s step m count run.0 run.1 on in
       seen_on step (next ∷ rest) m on.here ahead
       (λ over. nothing_more disk p op reply (λ e. cc e) (next ∷ rest) step.after over run.2 ends)

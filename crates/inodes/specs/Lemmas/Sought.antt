@@ -2,8 +2,8 @@
 -- so is not over.
 use Rattle.std.proofs.Common.{◌≡◌, ℕ, zero, suc, Bool, true, false, List, [], ◌∷◌, get_or, refl, inl, inr, ◌⊎◌}
 use Rattle.std.proofs.lemmas.Bool.{both_ways}
-use Rattle.inodes.specs.declared.tasks.Place.{Place}
-use Rattle.inodes.specs.declared.tasks.Place.TheVariants as place
+use Rattle.inodes.specs.declared.tasks.Stage.{Stage}
+use Rattle.inodes.specs.declared.tasks.Stage.TheVariants as stage
 use Rattle.inodes.specs.Places.{is_over}
 
 -- one passes, or none does
@@ -27,13 +27,13 @@ sought test none (x ∷ xs) fails = by (test x) refl (sought test none xs fails)
     by false is (inr rest) = inr (each is rest)
 
 -- a task at a place that passes a test is under way
-pub passes_busy : (test : Place → Bool) → test place.Nowhere ≡ false → (a : Place) →
+pub passes_busy : (test : Stage → Bool) → test stage.Nowhere ≡ false → (a : Stage) →
     test a ≡ true → is_over a ≡ false
-passes_busy test fails place.Nowhere is = absurd (both_ways _ fails is)
-passes_busy test fails (place.Creating m) is = refl
-passes_busy test fails (place.Taking m) is = refl
-passes_busy test fails (place.Reading k m) is = refl
-passes_busy test fails (place.Delivering k) is = refl
-passes_busy test fails (place.Truncating k m) is = refl
-passes_busy test fails (place.Writing k m) is = refl
-passes_busy test fails (place.Leaving k) is = refl
+passes_busy test fails stage.Nowhere is = absurd (both_ways _ fails is)
+passes_busy test fails (stage.Creating m) is = refl
+passes_busy test fails (stage.Taking m) is = refl
+passes_busy test fails (stage.Reading k m) is = refl
+passes_busy test fails (stage.Delivering k) is = refl
+passes_busy test fails (stage.Truncating k m) is = refl
+passes_busy test fails (stage.Writing k m) is = refl
+passes_busy test fails (stage.Leaving k) is = refl

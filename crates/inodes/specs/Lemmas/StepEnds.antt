@@ -25,8 +25,8 @@ use Rattle.blockmap.specs.declared.target.Target.{Target}
 use Rattle.blockmap.specs.declared.target.Target.TheVariants as target
 use Rattle.inodes.specs.declared.ilock.LockAt.{LockAt}
 use Rattle.inodes.specs.declared.ilock.LockAt.TheVariants as lock_at
-use Rattle.inodes.specs.declared.tasks.Place.{Place}
-use Rattle.inodes.specs.declared.tasks.Place.TheVariants as place
+use Rattle.inodes.specs.declared.tasks.Stage.{Stage}
+use Rattle.inodes.specs.declared.tasks.Stage.TheVariants as stage
 use Rattle.inodes.specs.Goes.{Goes, GoesFrom, Shown, shown_of, progress_of_lock, place_of_lock, progress_of_read, place_of_reading, progress_of_trunc, place_of_trunc, progress_of_write, place_of_writing}
 use Rattle.inodes.specs.Ilock.{LockSteps, Locks}
 use Rattle.inodes.specs.Itrunc.{itrunc, trunc_next}
@@ -58,13 +58,13 @@ use Rattle.blockmap.specs.declared.balloc.AllocAt.TheVariants as alloc_at
 use Rattle.wal.specs.Joint.{seen}
 
 -- the task goes on, and has had its turn or not as before
-pub record GoesOn (a next : Place) : Type 0 where
+pub record GoesOn (a next : Stage) : Type 0 where
   pub unfinished : is_over next ≡ false
   pub unturned : is_unturned next ≡ is_unturned a
   pub reading : owes_reply next ≡ owes_reply a
 
 -- it had its turn, reads nothing, and goes on
-pub record GoesOnTurned (next : Place) : Type 0 where
+pub record GoesOnTurned (next : Stage) : Type 0 where
   pub unfinished : is_over next ≡ false
   pub turned : is_unturned next ≡ false
   pub unread : owes_reply next ≡ false
@@ -78,20 +78,20 @@ IsWriteOp op = (i : ℕ) × (off : ℕ) × (bytes : List ℕ) × (op ≡ Write i
 
 -- With its turn a creation is over; an operation that takes an inode has its reply and goes on, or
 -- it is a reading or a write, whose reply comes later.
-abbrev pub TurnEnds : ℕ → Op → Option Reply → Place → Type 0
+abbrev pub TurnEnds : ℕ → Op → Option Reply → Stage → Type 0
 TurnEnds n op None next =
     CanTake n op × (IsReadOp op ⊎ IsWriteOp op) × (owes_reply next ≡ true)
 TurnEnds n op (Some reply) next =
     (CanBegin n op × (is_over next ≡ true)) ⊎ (CanTake n op × GoesOnTurned next)
 
 -- a reading is over with its bytes, and a write goes on with the count of those that it wrote
-abbrev pub DecisionEnds : Op → Reply → Place → Type 0
+abbrev pub DecisionEnds : Op → Reply → Stage → Type 0
 DecisionEnds op reply next =
     (IsReadOp op × (is_over next ≡ true) × ((bytes : List ℕ) × (reply ≡ Bytes bytes)))
     ⊎ (IsWriteOp op × GoesOnTurned next × ((k : ℕ) × (reply ≡ Wrote k)))
 
 -- by what the step answers
-abbrev pub StepEnds : ℕ → Place → Op → TaskProgress → Place → Type 0
+abbrev pub StepEnds : ℕ → Stage → Op → TaskProgress → Stage → Type 0
 StepEnds n a op progress.Moved next = GoesOn a next
 StepEnds n a op (progress.Turned reply) next = (is_unturned a ≡ true) × TurnEnds n op reply next
 StepEnds n a op (progress.Decided reply) next =
@@ -102,11 +102,11 @@ StepEnds n a op (progress.Sleeping why) next = GoesOn a next
 StepEnds n a op (progress.Fault fault) next = GoesOn a next
 
 -- where it goes is known
-on_at : (a b next : Place) → next ≡ b → GoesOn a b → GoesOn a next
+on_at : (a b next : Stage) → next ≡ b → GoesOn a b → GoesOn a next
 on_at a b next is on = subst (GoesOn a) (sym is) on
 
 -- a search goes on
-on_search : (a next : Place) → is_unturned a ≡ true → owes_reply a ≡ false →
+on_search : (a next : Stage) → is_unturned a ≡ true → owes_reply a ≡ false →
     is_over next ≡ false → is_unturned next ≡ true → owes_reply next ≡ false → GoesOn a next
 on_search a next one other more still apart =
     record { unfinished = more; unturned = still ∙ sym one; reading = apart ∙ sym other }
@@ -141,29 +141,29 @@ module _ {D N : Type 0} (disk : Ghosts D N) (s : StoreState D) (p : ℕ) (op : O
   abbrev n : ℕ
   n = s.table.inode_count
 
-  abbrev next : Place
+  abbrev next : Stage
   next = (task t.tasks p).place
 
   -- the end of the step, at the answer that it gives
-  ends_with : (a : Place) (q : TaskProgress) → r ≡ q → StepEnds n a op q next → StepEnds n a op r next
+  ends_with : (a : Stage) (q : TaskProgress) → r ≡ q → StepEnds n a op q next → StepEnds n a op r next
   ends_with a q is ends = subst (λ (o : TaskProgress). StepEnds n a op o next) (sym is) ends
 
-  pub ends_of : (a : Place) → (task s.tasks p).op ≡ Some op →
+  pub ends_of : (a : Stage) → (task s.tasks p).op ≡ Some op →
       Stands s.volume.buffers s.volume.log n p (task s.tasks p).op a →
       LooksAt (current_of disk.image s.volume) s.table (task s.tasks p) a → is_over a ≡ false →
       Goes disk a s p op r t → StepEnds n a op r next
-  ends_of place.Nowhere same stands looks unfinished goes = absurd (false≢true (sym unfinished))
-  ends_of (place.Creating m) same stands looks unfinished goes = by_slot m.slot r goes.0
+  ends_of stage.Nowhere same stands looks unfinished goes = absurd (false≢true (sym unfinished))
+  ends_of (stage.Creating m) same stands looks unfinished goes = by_slot m.slot r goes.0
     where
       begins : CanBegin n op
       begins = let is : Create m.kind ≡ op = (let both = sym stands.op ∙ same in cc both) in subst (CanBegin n) is stands.kind
 
-      here : (b : Place) → next ≡ b → is_over b ≡ false → is_unturned b ≡ true → owes_reply b ≡ false → GoesOn (place.Creating m) next
-      here b is more still apart = on_at (place.Creating m) b next is (on_search (place.Creating m) b refl refl more still apart)
+      here : (b : Stage) → next ≡ b → is_over b ≡ false → is_unturned b ≡ true → owes_reply b ≡ false → GoesOn (stage.Creating m) next
+      here b is more still apart = on_at (stage.Creating m) b next is (on_search (stage.Creating m) b refl refl more still apart)
 
       by_slot : (o : Option ℕ) (q : TaskProgress) →
           GoesFrom o n p m s.volume.buffers q next (shown_of disk.image s.volume) (shown_of disk.image t.volume) →
-          StepEnds n (place.Creating m) op q next
+          StepEnds n (stage.Creating m) op q next
       by_slot None progress.Moved goes = here _ goes.0.2 refl refl refl
       by_slot None (progress.Turned reply) goes = absurd goes.0
       by_slot None (progress.Decided reply) goes = absurd goes.0
@@ -177,7 +177,7 @@ module _ {D N : Type 0} (disk : Ghosts D N) (s : StoreState D) (p : ℕ) (op : O
       by_slot (Some i) progress.Over goes = absurd goes
       by_slot (Some i) (progress.Sleeping why) goes = absurd goes
       by_slot (Some i) (progress.Fault fault) goes = absurd goes
-  ends_of (place.Taking m) same stands looks unfinished goes = by_answer goes.0.answer goes.0.gives goes.0.next
+  ends_of (stage.Taking m) same stands looks unfinished goes = by_answer goes.0.answer goes.0.gives goes.0.next
     where
       d : Dinode
       d = inode_of (current_of disk.image s.volume) m.number
@@ -186,22 +186,22 @@ module _ {D N : Type 0} (disk : Ghosts D N) (s : StoreState D) (p : ℕ) (op : O
       can = let is : looks.op ≡ op = (let both = sym looks.is ∙ same in cc both) in subst (CanTake n) is looks.can
 
       by_answer : (x : Progress Bool) → r ≡ progress_of_lock s.table.form d op x → next ≡ place_of_lock (extent_of s.table.form n s.volume.log.size) d op m goes.0.now x →
-          StepEnds n (place.Taking m) op r next
-      by_answer machine.Moved is to = ends_with (place.Taking m) progress.Moved is (on_at (place.Taking m) _ next to (record { unfinished = refl; unturned = refl; reading = refl }))
-      by_answer (machine.Sleeping why) is to = ends_with (place.Taking m) (progress.Sleeping why) is (on_at (place.Taking m) _ next to (record { unfinished = refl; unturned = refl; reading = refl }))
-      by_answer (machine.Over used) is to = ends_with (place.Taking m) (progress.Turned (reply_when_taken s.table.form (if_used used d) op)) is
+          StepEnds n (stage.Taking m) op r next
+      by_answer machine.Moved is to = ends_with (stage.Taking m) progress.Moved is (on_at (stage.Taking m) _ next to (record { unfinished = refl; unturned = refl; reading = refl }))
+      by_answer (machine.Sleeping why) is to = ends_with (stage.Taking m) (progress.Sleeping why) is (on_at (stage.Taking m) _ next to (record { unfinished = refl; unturned = refl; reading = refl }))
+      by_answer (machine.Over used) is to = ends_with (stage.Taking m) (progress.Turned (reply_when_taken s.table.form (if_used used d) op)) is
           (refl, subst (TurnEnds n op (reply_when_taken s.table.form (if_used used d) op)) (sym to) (takes_turn n (extent_of s.table.form n s.volume.log.size) (if_used used d) (place_of goes.0.now.at) op can))
-      by_answer (machine.Fault fault) is to = ends_with (place.Taking m) (progress.Fault fault) is (on_at (place.Taking m) _ next to (record { unfinished = refl; unturned = refl; reading = refl }))
-  ends_of (place.Reading k m) same stands looks unfinished goes = by_answer goes.0.answer goes.0.gives goes.0.next
+      by_answer (machine.Fault fault) is to = ends_with (stage.Taking m) (progress.Fault fault) is (on_at (stage.Taking m) _ next to (record { unfinished = refl; unturned = refl; reading = refl }))
+  ends_of (stage.Reading k m) same stands looks unfinished goes = by_answer goes.0.answer goes.0.gives goes.0.next
     where
       by_answer : (x : Progress (Unit {0})) → r ≡ progress_of_read x → next ≡ place_of_reading k m goes.0.now x →
-          StepEnds n (place.Reading k m) op r next
-      by_answer machine.Moved is to = ends_with (place.Reading k m) progress.Moved is (on_at (place.Reading k m) _ next to (record { unfinished = refl; unturned = refl; reading = refl }))
-      by_answer (machine.Sleeping why) is to = ends_with (place.Reading k m) (progress.Sleeping why) is (on_at (place.Reading k m) _ next to (record { unfinished = refl; unturned = refl; reading = refl }))
-      by_answer (machine.Over out) is to = ends_with (place.Reading k m) progress.Moved is (on_at (place.Reading k m) _ next to (record { unfinished = refl; unturned = refl; reading = refl }))
-      by_answer (machine.Fault fault) is to = ends_with (place.Reading k m) (progress.Fault fault) is (on_at (place.Reading k m) _ next to (record { unfinished = refl; unturned = refl; reading = refl }))
-  ends_of (place.Delivering k) same stands looks unfinished goes =
-      ends_with (place.Delivering k) (progress.Decided (Bytes goes.bytes.bytes)) goes.gives (
+          StepEnds n (stage.Reading k m) op r next
+      by_answer machine.Moved is to = ends_with (stage.Reading k m) progress.Moved is (on_at (stage.Reading k m) _ next to (record { unfinished = refl; unturned = refl; reading = refl }))
+      by_answer (machine.Sleeping why) is to = ends_with (stage.Reading k m) (progress.Sleeping why) is (on_at (stage.Reading k m) _ next to (record { unfinished = refl; unturned = refl; reading = refl }))
+      by_answer (machine.Over out) is to = ends_with (stage.Reading k m) progress.Moved is (on_at (stage.Reading k m) _ next to (record { unfinished = refl; unturned = refl; reading = refl }))
+      by_answer (machine.Fault fault) is to = ends_with (stage.Reading k m) (progress.Fault fault) is (on_at (stage.Reading k m) _ next to (record { unfinished = refl; unturned = refl; reading = refl }))
+  ends_of (stage.Delivering k) same stands looks unfinished goes =
+      ends_with (stage.Delivering k) (progress.Decided (Bytes goes.bytes.bytes)) goes.gives (
         refl,
         inl (
           (
@@ -214,21 +214,21 @@ module _ {D N : Type 0} (disk : Ghosts D N) (s : StoreState D) (p : ℕ) (op : O
           (goes.bytes.bytes, refl),
         ),
       )
-  ends_of (place.Truncating k m) same stands looks unfinished goes = by_answer goes.answer goes.gives goes.next
+  ends_of (stage.Truncating k m) same stands looks unfinished goes = by_answer goes.answer goes.gives goes.next
     where
       by_answer : (x : Progress (Unit {0})) → r ≡ progress_of_trunc x → next ≡ place_of_trunc k m goes.now x →
-          StepEnds n (place.Truncating k m) op r next
-      by_answer machine.Moved is to = ends_with (place.Truncating k m) progress.Moved is (on_at (place.Truncating k m) _ next to (record { unfinished = refl; unturned = refl; reading = refl }))
-      by_answer (machine.Sleeping why) is to = ends_with (place.Truncating k m) (progress.Sleeping why) is (on_at (place.Truncating k m) _ next to (record { unfinished = refl; unturned = refl; reading = refl }))
-      by_answer (machine.Over out) is to = ends_with (place.Truncating k m) progress.Moved is (on_at (place.Truncating k m) _ next to (record { unfinished = refl; unturned = refl; reading = refl }))
-      by_answer (machine.Fault fault) is to = ends_with (place.Truncating k m) (progress.Fault fault) is (on_at (place.Truncating k m) _ next to (record { unfinished = refl; unturned = refl; reading = refl }))
-  ends_of (place.Writing k m) same stands looks unfinished goes = by_answer goes.answer goes.gives goes.next
+          StepEnds n (stage.Truncating k m) op r next
+      by_answer machine.Moved is to = ends_with (stage.Truncating k m) progress.Moved is (on_at (stage.Truncating k m) _ next to (record { unfinished = refl; unturned = refl; reading = refl }))
+      by_answer (machine.Sleeping why) is to = ends_with (stage.Truncating k m) (progress.Sleeping why) is (on_at (stage.Truncating k m) _ next to (record { unfinished = refl; unturned = refl; reading = refl }))
+      by_answer (machine.Over out) is to = ends_with (stage.Truncating k m) progress.Moved is (on_at (stage.Truncating k m) _ next to (record { unfinished = refl; unturned = refl; reading = refl }))
+      by_answer (machine.Fault fault) is to = ends_with (stage.Truncating k m) (progress.Fault fault) is (on_at (stage.Truncating k m) _ next to (record { unfinished = refl; unturned = refl; reading = refl }))
+  ends_of (stage.Writing k m) same stands looks unfinished goes = by_answer goes.answer goes.gives goes.next
     where
       by_answer : (x : Progress (Unit {0})) → r ≡ progress_of_write m.done x → next ≡ place_of_writing k m goes.now x →
-          StepEnds n (place.Writing k m) op r next
-      by_answer machine.Moved is to = ends_with (place.Writing k m) progress.Moved is (on_at (place.Writing k m) _ next to (record { unfinished = refl; unturned = refl; reading = refl }))
-      by_answer (machine.Sleeping why) is to = ends_with (place.Writing k m) (progress.Sleeping why) is (on_at (place.Writing k m) _ next to (record { unfinished = refl; unturned = refl; reading = refl }))
-      by_answer (machine.Over out) is to = ends_with (place.Writing k m) (progress.Decided (Wrote m.done)) is (
+          StepEnds n (stage.Writing k m) op r next
+      by_answer machine.Moved is to = ends_with (stage.Writing k m) progress.Moved is (on_at (stage.Writing k m) _ next to (record { unfinished = refl; unturned = refl; reading = refl }))
+      by_answer (machine.Sleeping why) is to = ends_with (stage.Writing k m) (progress.Sleeping why) is (on_at (stage.Writing k m) _ next to (record { unfinished = refl; unturned = refl; reading = refl }))
+      by_answer (machine.Over out) is to = ends_with (stage.Writing k m) (progress.Decided (Wrote m.done)) is (
         refl,
         inr (
           (m.number, m.offset, looks.bytes, let both : Some op ≡ Some (Write m.number m.offset looks.bytes) = sym same ∙ looks.op in cc both),
@@ -236,22 +236,22 @@ module _ {D N : Type 0} (disk : Ghosts D N) (s : StoreState D) (p : ℕ) (op : O
           (m.done, refl),
         ),
       )
-      by_answer (machine.Fault fault) is to = ends_with (place.Writing k m) (progress.Fault fault) is (on_at (place.Writing k m) _ next to (record { unfinished = refl; unturned = refl; reading = refl }))
-  ends_of (place.Leaving k) same stands looks unfinished goes =
-      ends_with (place.Leaving k) progress.Over goes.0 (refl, refl, ap is_over goes.1.next)
+      by_answer (machine.Fault fault) is to = ends_with (stage.Writing k m) (progress.Fault fault) is (on_at (stage.Writing k m) _ next to (record { unfinished = refl; unturned = refl; reading = refl }))
+  ends_of (stage.Leaving k) same stands looks unfinished goes =
+      ends_with (stage.Leaving k) progress.Over goes.0 (refl, refl, ap is_over goes.1.next)
 
   -- what changes blocks is open in the log; any other task leaves the log as it is
-  pub logs_of : (a : Place) → is_over a ≡ false → Stands s.volume.buffers s.volume.log n p (task s.tasks p).op a →
+  pub logs_of : (a : Stage) → is_over a ≡ false → Stands s.volume.buffers s.volume.log n p (task s.tasks p).op a →
       Goes disk a s p op r t → IsSome (used_by s.volume.log p) ⊎ (t.volume.log ≡ s.volume.log)
-  logs_of place.Nowhere unfinished stands goes = absurd (false≢true (sym unfinished))
-  logs_of (place.Creating m) unfinished stands goes = inl (subst IsSome (sym stands.used) refl)
-  logs_of (place.Taking m) unfinished stands goes = inr (ap (λ (o : Shown). o.log) goes.1)
-  logs_of (place.Reading k m) unfinished stands goes = inr (ap (λ (o : Shown). o.log) goes.1)
-  logs_of (place.Delivering k) unfinished stands goes = inr (ap (λ (v : VolumeState D). v.log) goes.up.volume)
-  logs_of (place.Truncating k m) unfinished stands goes =
+  logs_of stage.Nowhere unfinished stands goes = absurd (false≢true (sym unfinished))
+  logs_of (stage.Creating m) unfinished stands goes = inl (subst IsSome (sym stands.used) refl)
+  logs_of (stage.Taking m) unfinished stands goes = inr (ap (λ (o : Shown). o.log) goes.1)
+  logs_of (stage.Reading k m) unfinished stands goes = inr (ap (λ (o : Shown). o.log) goes.1)
+  logs_of (stage.Delivering k) unfinished stands goes = inr (ap (λ (v : VolumeState D). v.log) goes.up.volume)
+  logs_of (stage.Truncating k m) unfinished stands goes =
       inl (⊎_elim (λ (none : used_by s.volume.log p ≡ Some 0). subst IsSome (sym none) refl) (λ one. subst IsSome (sym one.0) refl) stands.logged)
-  logs_of (place.Writing k m) unfinished stands goes = inl (subst IsSome (sym stands.logged.used) refl)
-  logs_of (place.Leaving k) unfinished stands goes = inr (ap (λ (v : VolumeState D). v.log) goes.1.volume)
+  logs_of (stage.Writing k m) unfinished stands goes = inl (subst IsSome (sym stands.logged.used) refl)
+  logs_of (stage.Leaving k) unfinished stands goes = inr (ap (λ (v : VolumeState D). v.log) goes.1.volume)
 
 module _ {D N : Type 0} (disk : Ghosts D N) (s : StoreState D) (p : ℕ) (op : Op) (fault : DiskFault) (t : StoreState D) where
   -- a machine that reads an entry
@@ -349,14 +349,14 @@ module _ {D N : Type 0} (disk : Ghosts D N) (s : StoreState D) (p : ℕ) (op : O
   writing_fails (write_at.Updating u) m x bytes writes = updates_fails u.slot u writes.0 m.inode writes.1
 
   -- the block at which a task's step fails is that which its place names
-  pub fails_at : (a : Place) → Goes disk a s p op (progress.Fault fault) t → fault.0 ≡ block_at_place a
-  fails_at place.Nowhere goes = let no = goes.0 in absurd (cc no)
-  fails_at (place.Creating m) goes = by_slot m.slot goes.0
+  pub fails_at : (a : Stage) → Goes disk a s p op (progress.Fault fault) t → fault.0 ≡ block_at_place a
+  fails_at stage.Nowhere goes = let no = goes.0 in absurd (cc no)
+  fails_at (stage.Creating m) goes = by_slot m.slot goes.0
     where
       by_slot : (o : Option ℕ) → GoesFrom o s.table.inode_count p m s.volume.buffers (progress.Fault fault) (task t.tasks p).place (shown_of disk.image s.volume) (shown_of disk.image t.volume) → fault.0 ≡ m.block
       by_slot None goes = goes.0.0
       by_slot (Some i) goes = absurd goes
-  fails_at (place.Taking m) goes = by_answer goes.0.answer goes.0.gives goes.0.locks
+  fails_at (stage.Taking m) goes = by_answer goes.0.answer goes.0.gives goes.0.locks
     where
       by_answer : (x : Progress Bool) → progress.Fault fault ≡ progress_of_lock s.table.form (inode_of (current_of disk.image s.volume) m.number) op x → LockSteps disk m.at s.table s.volume p m x t.table t.volume goes.0.now → fault.0 ≡ inode_block m.number
       by_answer machine.Moved is locks = absurd (cc is)
@@ -364,7 +364,7 @@ module _ {D N : Type 0} (disk : Ghosts D N) (s : StoreState D) (p : ℕ) (op : O
       by_answer (machine.Over used) is locks = absurd (cc is)
       by_answer (machine.Fault other) is locks = let same : fault ≡ other = cc is in
           taking_fails m.at m goes.0.now t.table (subst (λ (f : DiskFault). LockSteps disk m.at s.table s.volume p m (machine.Fault f) t.table t.volume goes.0.now) (sym same) locks)
-  fails_at (place.Reading k m) goes = by_answer goes.0.answer goes.0.gives goes.0.reads.works
+  fails_at (stage.Reading k m) goes = by_answer goes.0.answer goes.0.gives goes.0.reads.works
     where
       by_answer : (x : Progress (Unit {0})) → progress.Fault fault ≡ progress_of_read x → Works disk m.target s.volume p m x t.volume goes.0.now → fault.0 ≡ block_of m.target
       by_answer machine.Moved is works = absurd (cc is)
@@ -372,8 +372,8 @@ module _ {D N : Type 0} (disk : Ghosts D N) (s : StoreState D) (p : ℕ) (op : O
       by_answer (machine.Over out) is works = absurd (cc is)
       by_answer (machine.Fault other) is works = let same : fault ≡ other = cc is in
           reading_fails m.target m goes.0.now (subst (λ (f : DiskFault). Works disk m.target s.volume p m (machine.Fault f) t.volume goes.0.now) (sym same) works)
-  fails_at (place.Delivering k) goes = let no = goes.gives in absurd (cc no)
-  fails_at (place.Truncating k m) goes = by_answer goes.answer goes.gives goes.drives
+  fails_at (stage.Delivering k) goes = let no = goes.gives in absurd (cc no)
+  fails_at (stage.Truncating k m) goes = by_answer goes.answer goes.gives goes.drives
     where
       by_answer : (x : Progress (Unit {0})) → progress.Fault fault ≡ progress_of_trunc x → Drives itrunc disk (used_now (trunc_next m) m.kept m.used) s.volume p m x goes.now t.volume → fault.0 ≡ block_of_next (trunc_next m)
       by_answer machine.Moved is drives = absurd (cc is)
@@ -381,7 +381,7 @@ module _ {D N : Type 0} (disk : Ghosts D N) (s : StoreState D) (p : ℕ) (op : O
       by_answer (machine.Over out) is drives = absurd (cc is)
       by_answer (machine.Fault other) is drives = let same : fault ≡ other = cc is in
           ap (λ (f : DiskFault). f.0) same ∙ drives_fails itrunc disk s.volume t.volume p m goes.now (machine.Fault other) (used_now (trunc_next m) m.kept m.used) drives other refl
-  fails_at (place.Writing k m) goes = by_answer goes.answer goes.gives goes.writes
+  fails_at (stage.Writing k m) goes = by_answer goes.answer goes.gives goes.writes
     where
       by_answer : (x : Progress (Unit {0})) → progress.Fault fault ≡ progress_of_write m.done x → WriteSteps disk m.at s.volume p m (bytes_of op) x goes.now t.volume → fault.0 ≡ block_of_write m.at
       by_answer machine.Moved is writes = absurd (cc is)
@@ -389,4 +389,4 @@ module _ {D N : Type 0} (disk : Ghosts D N) (s : StoreState D) (p : ℕ) (op : O
       by_answer (machine.Over out) is writes = absurd (cc is)
       by_answer (machine.Fault other) is writes = let same : fault ≡ other = cc is in
           writing_fails m.at m goes.now (bytes_of op) (subst (λ (f : DiskFault). WriteSteps disk m.at s.volume p m (bytes_of op) (machine.Fault f) goes.now t.volume) (sym same) writes)
-  fails_at (place.Leaving k) goes = let no = goes.0 in absurd (cc no)
+  fails_at (stage.Leaving k) goes = let no = goes.0 in absurd (cc no)

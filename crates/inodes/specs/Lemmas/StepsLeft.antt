@@ -24,8 +24,8 @@ use Rattle.in_flight.specs.Lemmas.Looks.{between}
 use Rattle.blockmap.specs.declared.driving.Got.{Got}
 use Rattle.blockmap.specs.Driver.{Drives, progress_of_over}
 use Rattle.blockmap.specs.Next.{used_now}
-use Rattle.inodes.specs.declared.tasks.Place.{Place}
-use Rattle.inodes.specs.declared.tasks.Place.TheVariants as place
+use Rattle.inodes.specs.declared.tasks.Stage.{Stage}
+use Rattle.inodes.specs.declared.tasks.Stage.TheVariants as stage
 use Rattle.inodes.specs.Goes.{Goes, Truncates, progress_of_trunc}
 use Rattle.inodes.specs.Holding.{claims_of, held_of}
 use Rattle.inodes.specs.Itrunc.{Freeing, itrunc, trunc_next}
@@ -45,23 +45,23 @@ abbrev form_by : List ℕ → Form
 form_by bytes = cond (eqb (u32_at bytes 0) (magic_of Two)) Two One
 
 -- images that have the form, and what a task has to give up, leave it the same steps
-steps_same : (x y : Image) (a : Place) (n : ℕ) → block_at y 1 ≡ block_at x 1 →
-    ((k : ℕ) (m : Freeing) → a ≡ place.Truncating k m → blocks_left y (held_of m.machine) ≡ blocks_left x (held_of m.machine)) →
+steps_same : (x y : Image) (a : Stage) (n : ℕ) → block_at y 1 ≡ block_at x 1 →
+    ((k : ℕ) (m : Freeing) → a ≡ stage.Truncating k m → blocks_left y (held_of m.machine) ≡ blocks_left x (held_of m.machine)) →
     steps_left y a n ≡ steps_left x a n
-steps_same x y place.Nowhere n same blocks = refl
-steps_same x y (place.Creating m) n same blocks = refl
-steps_same x y (place.Taking m) n same blocks = ap (λ (b : List ℕ). locks_left m.at + (most_behind (form_by b) + 1)) same
-steps_same x y (place.Reading k m) n same blocks = refl
-steps_same x y (place.Delivering k) n same blocks = refl
-steps_same x y (place.Truncating k m) n same blocks =
+steps_same x y stage.Nowhere n same blocks = refl
+steps_same x y (stage.Creating m) n same blocks = refl
+steps_same x y (stage.Taking m) n same blocks = ap (λ (b : List ℕ). locks_left m.at + (most_behind (form_by b) + 1)) same
+steps_same x y (stage.Reading k m) n same blocks = refl
+steps_same x y (stage.Delivering k) n same blocks = refl
+steps_same x y (stage.Truncating k m) n same blocks =
     let left = blocks k m refl in
     omega (arith, left)
-steps_same x y (place.Writing k m) n same blocks = refl
-steps_same x y (place.Leaving k) n same blocks = refl
+steps_same x y (stage.Writing k m) n same blocks = refl
+steps_same x y (stage.Leaving k) n same blocks = refl
 
 -- in a store that agrees with its image
 module _ (x : Image) (table : TableState) (ts : List TaskState) (looks : AreLooking x table ts) (numbers : table.inode_count ≡ inode_count_of x) where
-  held_in : (p k : ℕ) (m : Freeing) → (task ts p).place ≡ place.Truncating k m →
+  held_in : (p k : ℕ) (m : Freeing) → (task ts p).place ≡ stage.Truncating k m →
       IsHeldIn looks.files.0 x (claims_of ts) m.machine.number (frees (held_of m.machine))
   held_in p k m stands = record {
     fits = looks.files.1;
@@ -69,7 +69,7 @@ module _ (x : Image) (table : TableState) (ts : List TaskState) (looks : AreLook
     holds = own_claim x table ts looks p k m stands;
   }
 
-  few_blocks : (p k : ℕ) (m : Freeing) → (task ts p).place ≡ place.Truncating k m →
+  few_blocks : (p k : ℕ) (m : Freeing) → (task ts p).place ≡ stage.Truncating k m →
       blocks_left x (held_of m.machine) ≤ most_left (form_of x)
   few_blocks p k m stands =
       few_left looks.files.0 x (claims_of ts) m.machine.number (held_of m.machine) (held_in p k m stands)
@@ -81,7 +81,7 @@ module _ (x : Image) (table : TableState) (ts : List TaskState) (looks : AreLook
       few_steps x table (task ts p) (task ts p).place (omega (arith, few, numbers)) (looks.stand p) (λ k m stands. few_blocks p k m stands)
 
   -- a number that a task frees has a used inode
-  freed_used : (p k : ℕ) (m : Freeing) → (task ts p).place ≡ place.Truncating k m →
+  freed_used : (p k : ℕ) (m : Freeing) → (task ts p).place ≡ stage.Truncating k m →
       (inode_of x m.machine.number).kind ≢ 0
   freed_used p k m stands free =
       let is = given_up.held_of looks.files.0 x (claims_of ts) m.machine.number (held_of m.machine) (held_in p k m stands) in
@@ -121,7 +121,7 @@ failed_left disk s p op fault t steps =
     steps_same (current_of disk.image s.volume) (current_of disk.image t.volume) (task s.tasks p).place s.table.inode_count
     steps.marks.untouched.super
     (λ k m stands. ap (λ (x : Image). blocks_left x (held_of m.machine))
-    (still k m (subst (λ (a : Place). Goes disk a s p op (progress.Fault fault) t) stands steps.goes)))
+    (still k m (subst (λ (a : Stage). Goes disk a s p op (progress.Fault fault) t) stands steps.goes)))
   where
     -- it got no block, and did nothing
     still : (k : ℕ) (m : Freeing) → Truncates disk s p k m (progress.Fault fault) t → current_of disk.image t.volume ≡ current_of disk.image s.volume

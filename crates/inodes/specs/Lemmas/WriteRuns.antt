@@ -30,7 +30,7 @@ use Rattle.blockmap.specs.declared.branch.Node.{Node}
 use Rattle.blockmap.specs.declared.mapping.MappedForWriting.TheVariants as for_writing
 use Rattle.blockmap.specs.declared.progress.Progress.{Progress}
 use Rattle.blockmap.specs.declared.progress.Progress.TheVariants as machine
-use Rattle.inodes.specs.declared.tasks.Place.TheVariants as place
+use Rattle.inodes.specs.declared.tasks.Stage.TheVariants as stage
 use Rattle.inodes.specs.declared.writei.Extent.{Extent}
 use Rattle.inodes.specs.declared.writei.WriteAt.{WriteAt}
 use Rattle.inodes.specs.declared.writei.WriteAt.TheVariants as write_at
@@ -361,7 +361,7 @@ module _ {D N : Type 0} (disk : Ghosts D N) (p k count done : ℕ) (e : Extent) 
   Sees = SeesFull disk.image p e
 
   -- a step sees that no block is left, or the writing goes on
-  pub sees_or_on : (step : StepMade D) (m : WriteState) → IsAt p step.before (place.Writing k m) →
+  pub sees_or_on : (step : StepMade D) (m : WriteState) → IsAt p step.before (stage.Writing k m) →
       IsGoingOn e count m →
       (goes : WritesOn disk step.before p k op m step.answer step.after) →
       Sees step ⊎ GoesOnWriting disk step.before.volume p e step.after.volume count m goes.answer
@@ -388,8 +388,8 @@ module _ {D N : Type 0} (disk : Ghosts D N) (p k count done : ℕ) (e : Extent) 
 
   -- a step before it, where the rest of the run sees so from each place of the writing
   module _ (step : StepMade D) (rest : List (StepMade D)) (m n : WriteState)
-      (more : IsAt p step.after (place.Leaving k) → ⊥)
-      (rest_sees : (o : WriteState) → IsAt p step.after (place.Writing k o) →
+      (more : IsAt p step.after (stage.Leaving k) → ⊥)
+      (rest_sees : (o : WriteState) → IsAt p step.after (stage.Writing k o) →
       IsGoingOn e count o → Any Sees rest) (was : IsGoingOn e count m)
       (now : IsGoingOn e count n) where
     seen_on : (q : Progress (Unit {0})) → IsAt p step.after (place_of_writing k m n q) →
@@ -401,17 +401,17 @@ module _ {D N : Type 0} (disk : Ghosts D N) (p k count done : ℕ) (e : Extent) 
 
   -- a run from where the writing goes on
   seen_in_run : (steps : List (StepMade D)) (s : StoreState D) (m : WriteState) →
-      IsAt p s (place.Writing k m) → IsGoingOn e count m → IsRun disk p op s steps →
+      IsAt p s (stage.Writing k m) → IsGoingOn e count m → IsRun disk p op s steps →
       EndsWith steps reply → Any Sees steps
   seen_in_run [] s m stands on run ends = absurd ends
   seen_in_run (step ∷ []) s m stands on run ends =
-      let to = goes_from disk p op s step (place.Writing k m) stands run.0 run.1 in
+      let to = goes_from disk p op s step (stage.Writing k m) stands run.0 run.1 in
       ⊎_elim
       (λ is. seen_first Sees step [] is)
       (λ still. absurd (not_over m to.goes.answer still.all (sym to.goes.gives ∙ ends)))
       (sees_or_on step m to.here on to.goes)
   seen_in_run (step ∷ next ∷ rest) s m stands on run ends =
-      let to = goes_from disk p op s step (place.Writing k m) stands run.0 run.1 in
+      let to = goes_from disk p op s step (stage.Writing k m) stands run.0 run.1 in
       ⊎_elim
       (λ is. seen_first Sees step (next ∷ rest) is)
       (λ still. seen_on step (next ∷ rest) m to.goes.now

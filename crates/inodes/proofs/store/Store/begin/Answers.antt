@@ -6,7 +6,7 @@ use Rattle.in_flight.specs.Held.{FitsHeld}
 use Rattle.in_flight.specs.Lemmas.HeldFrames.{held_alike}
 use Rattle.wal.specs.Machine.{begun}
 use Rattle.wal.specs.Volume.{VolumeState}
-use Rattle.inodes.specs.declared.tasks.Place.{Place}
+use Rattle.inodes.specs.declared.tasks.Stage.{Stage}
 use Rattle.inodes.specs.Looks.{AreLooking}
 use Rattle.inodes.specs.Tasks.{TaskState}
 use Rattle.inodes.specs.Holding.{claims_of}
@@ -25,7 +25,7 @@ invariant_of-self g c =
     let joint = where_none old.fault well c.known.ensures.joint in
     let lt : c.args.pid < length c.self.inside.tasks = search rules in
     let tasks : c.begin.new.self ≡ slice_set c.self.inside.tasks c.args.pid (record { op = Some c.args.op.now; place = first_place c.args.op.now n; gathered = None }) =
-    c.begin.ensures ∙ ap (λ (a : Place). slice_set c.self.inside.tasks c.args.pid (record { op = Some c.args.op.now; place = a; gathered = None })) c.first_place-place.ensures
+    c.begin.ensures ∙ ap (λ (a : Stage). slice_set c.self.inside.tasks c.args.pid (record { op = Some c.args.op.now; place = a; gathered = None })) c.first_place-place.ensures
     ∙ ap (λ (m : ℕ). slice_set c.self.inside.tasks c.args.pid (record { op = Some c.args.op.now; place = first_place c.args.op.now m; gathered = None })) c.inode_count.ensures in
     let volume = c.open_group.ensures.volume in
     let can : CanBegin n c.args.op.now = subst (λ (s : StoreState _). CanBegin s.table.inode_count c.args.op.now) (sym c.self.view_is) c.requires.op in
@@ -54,7 +54,7 @@ returns-clause-files g c = λ files fits.
     let ts = c.self.inside.tasks in
     let now : List TaskState = slice_set ts c.args.pid (record { op = Some c.args.op.now; place = first_place c.args.op.now n; gathered = None }) in
     let tasks : c.begin.new.self ≡ now =
-    c.begin.ensures ∙ ap (λ (a : Place). slice_set ts c.args.pid (record { op = Some c.args.op.now; place = a; gathered = None })) c.first_place-place.ensures
+    c.begin.ensures ∙ ap (λ (a : Stage). slice_set ts c.args.pid (record { op = Some c.args.op.now; place = a; gathered = None })) c.first_place-place.ensures
     ∙ ap (λ (m : ℕ). slice_set ts c.args.pid (record { op = Some c.args.op.now; place = first_place c.args.op.now m; gathered = None })) c.inode_count.ensures in
     let held : FitsHeld files (current_of image old) (claims_of ts) = subst (λ (s : StoreState _). FitsHeld files (current_of image s.volume) (claims_of s.tasks)) (sym c.self.view_is) fits in
     let alike = held_alike files (current_of image old) (claims_of ts) (claims_of now) (begun_claims ts c.args.pid c.args.op.now n (search rules)) held in

@@ -2,7 +2,7 @@ use Rattle.std.proofs.Common.{rules, ◌≡◌, ◌<◌, length, sym, ◌∙◌,
 use Rattle.std.specs.Prelude.{slice_set}
 use Rattle.model.specs.declared.types.operations.Reply.TheVariants.{Bytes}
 use Rattle.model.specs.declared.types.operations.TaskProgress.TheVariants as progress
-use Rattle.inodes.specs.declared.tasks.Place.TheVariants as place
+use Rattle.inodes.specs.declared.tasks.Stage.TheVariants as stage
 use Rattle.inodes.specs.Steps.{Steps}
 use Rattle.inodes.specs.Store.{StoreState, IsStore}
 use Rattle.inodes.specs.Table.{TableState, left}
@@ -15,7 +15,7 @@ invariant_of-self g c =
     let s : StoreState _ = record { volume = c.self.inside.volume; tasks = c.self.inside.tasks; table = c.self.inside.inodes } in
     let well : s.volume.fault ≡ None = search rules in
     let lt : c.args.pid < length s.tasks = search rules in
-    let stood : (task s.tasks c.args.pid).place ≡ place.Delivering c.args.place = search rules in
+    let stood : (task s.tasks c.args.pid).place ≡ stage.Delivering c.args.place = search rules in
     let tasks : c.finish.new.self ≡ slice_set s.tasks c.args.pid (finished (task s.tasks c.args.pid)) =
     c.finish.ensures ∙ ap (λ (ts : List TaskState). slice_set ts c.args.pid (finished (task ts c.args.pid))) c.take_bytes-bytes.ensures.tasks ∙ tasks_finished s.tasks c.args.pid lt in
     let had = sym c.take_bytes-bytes.ensures.bytes in
@@ -27,7 +27,7 @@ returns g c =
     let s : StoreState _ = record { volume = c.self.inside.volume; tasks = c.self.inside.tasks; table = c.self.inside.inodes } in
     let well : s.volume.fault ≡ None = search rules in
     let lt : c.args.pid < length s.tasks = search rules in
-    let stood : (task s.tasks c.args.pid).place ≡ place.Delivering c.args.place = search rules in
+    let stood : (task s.tasks c.args.pid).place ≡ stage.Delivering c.args.place = search rules in
     let tasks : c.finish.new.self ≡ slice_set s.tasks c.args.pid (finished (task s.tasks c.args.pid)) =
     c.finish.ensures ∙ ap (λ (ts : List TaskState). slice_set ts c.args.pid (finished (task ts c.args.pid))) c.take_bytes-bytes.ensures.tasks ∙ tasks_finished s.tasks c.args.pid lt in
     let had = sym c.take_bytes-bytes.ensures.bytes in

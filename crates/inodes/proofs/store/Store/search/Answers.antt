@@ -6,7 +6,7 @@ use Rattle.blockmap.specs.declared.progress.Progress.TheVariants as progress
 use Rattle.inodes.specs.Steps.{Steps}
 use Rattle.inodes.specs.Store.{StoreState, IsStore}
 use Rattle.inodes.specs.Tasks.{TaskState, task}
-use Rattle.inodes.specs.declared.tasks.Place.TheVariants as place
+use Rattle.inodes.specs.declared.tasks.Stage.TheVariants as stage
 use Rattle.inodes.proofs.Staying.{left_after, search_rests}
 use Rattle.inodes.proofs.SearchNow.{ready_now, store_now, steps_now}
 use Rattle.inodes.specs.Goes.{progress_of_search}
@@ -27,7 +27,7 @@ pub invariant_of-self-in-Over : goal.invariant_of-self-in-Over
 invariant_of-self-in-Over g c =
     let s : StoreState _ = record { volume = c.self.inside.volume; tasks = c.self.inside.tasks; table = c.self.inside.inodes } in
     let lt : c.args.pid < length s.tasks = search rules in
-    let tasks = left_after s.tasks c.search_on.new.self c.go.new.self c.args.pid (place.Creating c.in-Over.ensures.now) place.Nowhere lt c.in-Over.ensures.tasks c.go.ensures in
+    let tasks = left_after s.tasks c.search_on.new.self c.go.new.self c.args.pid (stage.Creating c.in-Over.ensures.now) stage.Nowhere lt c.in-Over.ensures.tasks c.go.ensures in
     subst (λ (ts : List TaskState). IsStore g.D.Disk.image (record { volume = c.search_on.new.volume; tasks = ts; table = c.self.inside.inodes })) (sym tasks)
     (store_now g.D.Disk s c.args.self.now c.args.pid c.args.search.value c.self.invariant c.self.view_is c.requires.fault c.requires.pid c.requires.at c.known.ensures.joint c.image_known.ensures c.search_on.new.volume c.in-Over.ensures.now (progress.Over c.in-Over.made) c.in-Over.ensures.steps)
 
@@ -42,7 +42,7 @@ returns-in-Moved g c =
 pub invariant_of-self-in-Sleeping : goal.invariant_of-self-in-Sleeping
 invariant_of-self-in-Sleeping g c =
     let s : StoreState _ = record { volume = c.self.inside.volume; tasks = c.self.inside.tasks; table = c.self.inside.inodes } in
-    let stood : (task s.tasks c.args.pid).place ≡ place.Creating c.args.search.value = search rules in
+    let stood : (task s.tasks c.args.pid).place ≡ stage.Creating c.args.search.value = search rules in
     let same = search_rests g.D.Disk s.volume c.search_on.new.volume c.args.pid c.args.search.value s.tasks c.search_on.new.self (progress.Sleeping c.in-Sleeping.why) c.in-Sleeping.ensures stood tt in
     subst (λ (ts : List TaskState). IsStore g.D.Disk.image (record { volume = c.search_on.new.volume; tasks = ts; table = c.self.inside.inodes })) (sym same)
     (store_now g.D.Disk s c.args.self.now c.args.pid c.args.search.value c.self.invariant c.self.view_is c.requires.fault c.requires.pid c.requires.at c.known.ensures.joint c.image_known.ensures c.search_on.new.volume c.in-Sleeping.ensures.now (progress.Sleeping c.in-Sleeping.why) c.in-Sleeping.ensures.steps)
@@ -50,7 +50,7 @@ invariant_of-self-in-Sleeping g c =
 pub returns-in-Sleeping : goal.returns-in-Sleeping
 returns-in-Sleeping g c =
     let s : StoreState _ = record { volume = c.self.inside.volume; tasks = c.self.inside.tasks; table = c.self.inside.inodes } in
-    let stood : (task s.tasks c.args.pid).place ≡ place.Creating c.args.search.value = search rules in
+    let stood : (task s.tasks c.args.pid).place ≡ stage.Creating c.args.search.value = search rules in
     let same = search_rests g.D.Disk s.volume c.search_on.new.volume c.args.pid c.args.search.value s.tasks c.search_on.new.self (progress.Sleeping c.in-Sleeping.why) c.in-Sleeping.ensures stood tt in
     record { step = λ op is. subst (λ (ts : List TaskState). Steps g.D.Disk c.args.self.now c.args.pid op (task_progress.Sleeping c.in-Sleeping.why) (record { volume = c.search_on.new.volume; tasks = ts; table = c.self.inside.inodes })) (sym same) (steps_now g.D.Disk s c.args.self.now c.args.pid c.args.search.value c.self.invariant c.self.view_is c.requires.fault c.requires.pid c.requires.at c.known.ensures.joint c.image_known.ensures c.search_on.new.volume c.in-Sleeping.ensures.now (progress.Sleeping c.in-Sleeping.why) c.in-Sleeping.ensures.steps op is) }
 
@@ -58,7 +58,7 @@ pub returns-in-Over : goal.returns-in-Over
 returns-in-Over g c =
     let s : StoreState _ = record { volume = c.self.inside.volume; tasks = c.self.inside.tasks; table = c.self.inside.inodes } in
     let lt : c.args.pid < length s.tasks = search rules in
-    let tasks = left_after s.tasks c.search_on.new.self c.go.new.self c.args.pid (place.Creating c.in-Over.ensures.now) place.Nowhere lt c.in-Over.ensures.tasks c.go.ensures in
+    let tasks = left_after s.tasks c.search_on.new.self c.go.new.self c.args.pid (stage.Creating c.in-Over.ensures.now) stage.Nowhere lt c.in-Over.ensures.tasks c.go.ensures in
     record {
       step = λ op is. subst (λ (reply : Reply). Steps g.D.Disk c.args.self.now c.args.pid op (task_progress.Turned (Some reply)) (record { volume = c.search_on.new.volume; tasks = c.go.new.self; table = c.self.inside.inodes })) (sym c.reply_of.ensures)
           (subst (λ (ts : List TaskState). Steps g.D.Disk c.args.self.now c.args.pid op (progress_of_search (progress.Over c.in-Over.made)) (record { volume = c.search_on.new.volume; tasks = ts; table = c.self.inside.inodes })) (sym tasks)
@@ -68,7 +68,7 @@ returns-in-Over g c =
 pub invariant_of-self-in-Fault : goal.invariant_of-self-in-Fault
 invariant_of-self-in-Fault g c =
     let s : StoreState _ = record { volume = c.self.inside.volume; tasks = c.self.inside.tasks; table = c.self.inside.inodes } in
-    let stood : (task s.tasks c.args.pid).place ≡ place.Creating c.args.search.value = search rules in
+    let stood : (task s.tasks c.args.pid).place ≡ stage.Creating c.args.search.value = search rules in
     let same = search_rests g.D.Disk s.volume c.search_on.new.volume c.args.pid c.args.search.value s.tasks c.search_on.new.self (progress.Fault c.in-Fault.fault) c.in-Fault.ensures stood tt in
     subst (λ (ts : List TaskState). IsStore g.D.Disk.image (record { volume = c.search_on.new.volume; tasks = ts; table = c.self.inside.inodes })) (sym same)
     (store_now g.D.Disk s c.args.self.now c.args.pid c.args.search.value c.self.invariant c.self.view_is c.requires.fault c.requires.pid c.requires.at c.known.ensures.joint c.image_known.ensures c.search_on.new.volume c.in-Fault.ensures.now (progress.Fault c.in-Fault.fault) c.in-Fault.ensures.steps)
@@ -76,6 +76,6 @@ invariant_of-self-in-Fault g c =
 pub returns-in-Fault : goal.returns-in-Fault
 returns-in-Fault g c =
     let s : StoreState _ = record { volume = c.self.inside.volume; tasks = c.self.inside.tasks; table = c.self.inside.inodes } in
-    let stood : (task s.tasks c.args.pid).place ≡ place.Creating c.args.search.value = search rules in
+    let stood : (task s.tasks c.args.pid).place ≡ stage.Creating c.args.search.value = search rules in
     let same = search_rests g.D.Disk s.volume c.search_on.new.volume c.args.pid c.args.search.value s.tasks c.search_on.new.self (progress.Fault c.in-Fault.fault) c.in-Fault.ensures stood tt in
     record { step = λ op is. subst (λ (ts : List TaskState). Steps g.D.Disk c.args.self.now c.args.pid op (task_progress.Fault c.in-Fault.fault) (record { volume = c.search_on.new.volume; tasks = ts; table = c.self.inside.inodes })) (sym same) (steps_now g.D.Disk s c.args.self.now c.args.pid c.args.search.value c.self.invariant c.self.view_is c.requires.fault c.requires.pid c.requires.at c.known.ensures.joint c.image_known.ensures c.search_on.new.volume c.in-Fault.ensures.now (progress.Fault c.in-Fault.fault) c.in-Fault.ensures.steps op is) }

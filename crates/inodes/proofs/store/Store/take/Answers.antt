@@ -5,8 +5,8 @@ use Rattle.model.specs.Layout.{inode_of}
 use Rattle.model.specs.declared.types.operations.Reply.{Reply}
 use Rattle.model.specs.declared.types.operations.TaskProgress.TheVariants as task_progress
 use Rattle.blockmap.specs.declared.progress.Progress.TheVariants as progress
-use Rattle.inodes.specs.declared.tasks.Place.{Place}
-use Rattle.inodes.specs.declared.tasks.Place.TheVariants as place
+use Rattle.inodes.specs.declared.tasks.Stage.{Stage}
+use Rattle.inodes.specs.declared.tasks.Stage.TheVariants as stage
 use Rattle.inodes.specs.Lemmas.Faults.{where_none}
 use Rattle.inodes.specs.LockState.{place_of}
 use Rattle.inodes.specs.Steps.{Steps}
@@ -27,7 +27,7 @@ step-requires-clause-ready g c =
     let s : StoreState _ = record { volume = c.self.inside.volume; tasks = c.self.inside.tasks; table = c.self.inside.inodes } in
     let well : s.volume.fault ≡ None = search rules in
     let lt : c.args.pid < length s.tasks = search rules in
-    let stood : (task s.tasks c.args.pid).place ≡ place.Taking c.args.lock = search rules in
+    let stood : (task s.tasks c.args.pid).place ≡ stage.Taking c.args.lock = search rules in
     let is_op : (task s.tasks c.args.pid).op ≡ Some c.args.op.now = search rules in
     let joint = where_none s.volume.fault well c.known.ensures.joint in
     may_lock g.D.Disk s c.args.pid c.args.op.now c.args.lock c.self.invariant well stood is_op joint
@@ -37,7 +37,7 @@ invariant_of-self g c =
     let s : StoreState _ = record { volume = c.self.inside.volume; tasks = c.self.inside.tasks; table = c.self.inside.inodes } in
     let well : s.volume.fault ≡ None = search rules in
     let lt : c.args.pid < length s.tasks = search rules in
-    let stood : (task s.tasks c.args.pid).place ≡ place.Taking c.args.lock = search rules in
+    let stood : (task s.tasks c.args.pid).place ≡ stage.Taking c.args.lock = search rules in
     let is_op : (task s.tasks c.args.pid).op ≡ Some c.args.op.now = search rules in
     let joint = where_none s.volume.fault well c.known.ensures.joint in
     store_taken g.D.Disk s c.args.pid c.args.op.now c.args.lock c.self.invariant well lt stood is_op joint progress.Moved c.step.new.self c.step.new.volume c.step.new.table c.go_taking.new.self c.in-Moved.ensures c.go_taking.ensures
@@ -47,17 +47,17 @@ invariant_of-self-in-Sleeping g c =
     let s : StoreState _ = record { volume = c.self.inside.volume; tasks = c.self.inside.tasks; table = c.self.inside.inodes } in
     let well : s.volume.fault ≡ None = search rules in
     let lt : c.args.pid < length s.tasks = search rules in
-    let stood : (task s.tasks c.args.pid).place ≡ place.Taking c.args.lock = search rules in
+    let stood : (task s.tasks c.args.pid).place ≡ stage.Taking c.args.lock = search rules in
     let is_op : (task s.tasks c.args.pid).op ≡ Some c.args.op.now = search rules in
     let joint = where_none s.volume.fault well c.known.ensures.joint in
-    store_taken g.D.Disk s c.args.pid c.args.op.now c.args.lock c.self.invariant well lt stood is_op joint (progress.Sleeping c.in-Sleeping.why) c.step.new.self c.step.new.volume c.step.new.table s.tasks c.in-Sleeping.ensures (same_task s.tasks c.args.pid (place.Taking c.args.lock) stood)
+    store_taken g.D.Disk s c.args.pid c.args.op.now c.args.lock c.self.invariant well lt stood is_op joint (progress.Sleeping c.in-Sleeping.why) c.step.new.self c.step.new.volume c.step.new.table s.tasks c.in-Sleeping.ensures (same_task s.tasks c.args.pid (stage.Taking c.args.lock) stood)
 
 pub inode_at-inode-requires : goal.inode_at-inode-requires
 inode_at-inode-requires g c =
     let s : StoreState _ = record { volume = c.self.inside.volume; tasks = c.self.inside.tasks; table = c.self.inside.inodes } in
     let well : s.volume.fault ≡ None = search rules in
     let lt : c.args.pid < length s.tasks = search rules in
-    let stood : (task s.tasks c.args.pid).place ≡ place.Taking c.args.lock = search rules in
+    let stood : (task s.tasks c.args.pid).place ≡ stage.Taking c.args.lock = search rules in
     let is_op : (task s.tasks c.args.pid).op ≡ Some c.args.op.now = search rules in
     let joint = where_none s.volume.fault well c.known.ensures.joint in
     subst (λ (k : ℕ). k < 50) (sym c.place-place.ensures) (place_taken g.D.Disk s c.args.pid c.args.op.now c.args.lock c.self.invariant well lt stood is_op joint c.in-Over.is_used c.step.new.self c.step.new.volume c.step.new.table c.in-Over.ensures)
@@ -67,7 +67,7 @@ extent_of-extent-requires g c =
     let s : StoreState _ = record { volume = c.self.inside.volume; tasks = c.self.inside.tasks; table = c.self.inside.inodes } in
     let well : s.volume.fault ≡ None = search rules in
     let lt : c.args.pid < length s.tasks = search rules in
-    let stood : (task s.tasks c.args.pid).place ≡ place.Taking c.args.lock = search rules in
+    let stood : (task s.tasks c.args.pid).place ≡ stage.Taking c.args.lock = search rules in
     let is_op : (task s.tasks c.args.pid).op ≡ Some c.args.op.now = search rules in
     let joint = where_none s.volume.fault well c.known.ensures.joint in
     subst (λ (n : ℕ). n ≤ 1024) (sym c.inode_count.ensures) (few_numbers g.D.Disk s c.args.pid c.args.op.now c.args.lock c.self.invariant well lt stood is_op joint c.in-Over.is_used c.step.new.self c.step.new.volume c.step.new.table c.in-Over.ensures)
@@ -77,7 +77,7 @@ reply_when_taken-requires g c =
     let s : StoreState _ = record { volume = c.self.inside.volume; tasks = c.self.inside.tasks; table = c.self.inside.inodes } in
     let well : s.volume.fault ≡ None = search rules in
     let lt : c.args.pid < length s.tasks = search rules in
-    let stood : (task s.tasks c.args.pid).place ≡ place.Taking c.args.lock = search rules in
+    let stood : (task s.tasks c.args.pid).place ≡ stage.Taking c.args.lock = search rules in
     let is_op : (task s.tasks c.args.pid).op ≡ Some c.args.op.now = search rules in
     let joint = where_none s.volume.fault well c.known.ensures.joint in
     few_bytes s.table.inode_count c.args.op.now (can_take g.D.Disk s c.args.pid c.args.op.now c.args.lock c.self.invariant well stood is_op)
@@ -87,7 +87,7 @@ place_when_taken-requires g c =
     let s : StoreState _ = record { volume = c.self.inside.volume; tasks = c.self.inside.tasks; table = c.self.inside.inodes } in
     let well : s.volume.fault ≡ None = search rules in
     let lt : c.args.pid < length s.tasks = search rules in
-    let stood : (task s.tasks c.args.pid).place ≡ place.Taking c.args.lock = search rules in
+    let stood : (task s.tasks c.args.pid).place ≡ stage.Taking c.args.lock = search rules in
     let is_op : (task s.tasks c.args.pid).op ≡ Some c.args.op.now = search rules in
     let joint = where_none s.volume.fault well c.known.ensures.joint in
     let taken = inode_taken g.D.Disk s c.args.pid c.args.op.now c.args.lock c.self.invariant well lt stood is_op joint c.in-Over.is_used c.step.new.self c.step.new.volume c.step.new.table c.in-Over.ensures in
@@ -105,7 +105,7 @@ invariant_of-self-in-Over g c =
     let s : StoreState _ = record { volume = c.self.inside.volume; tasks = c.self.inside.tasks; table = c.self.inside.inodes } in
     let well : s.volume.fault ≡ None = search rules in
     let lt : c.args.pid < length s.tasks = search rules in
-    let stood : (task s.tasks c.args.pid).place ≡ place.Taking c.args.lock = search rules in
+    let stood : (task s.tasks c.args.pid).place ≡ stage.Taking c.args.lock = search rules in
     let is_op : (task s.tasks c.args.pid).op ≡ Some c.args.op.now = search rules in
     let joint = where_none s.volume.fault well c.known.ensures.joint in
     let taken = inode_taken g.D.Disk s c.args.pid c.args.op.now c.args.lock c.self.invariant well lt stood is_op joint c.in-Over.is_used c.step.new.self c.step.new.volume c.step.new.table c.in-Over.ensures in
@@ -120,14 +120,14 @@ invariant_of-self-in-Over g c =
     ∙ ap (λ (o : Option Dinode). place_when_taken (extent_of s.table.form s.table.inode_count s.volume.log.size) o c.place-place.result c.args.op.now) is
     ∙ ap (λ (k : ℕ). place_when_taken (extent_of s.table.form s.table.inode_count s.volume.log.size) (if_used c.in-Over.is_used (inode_of (current_of g.D.Disk.image s.volume) c.args.lock.number)) k c.args.op.now) c.place-place.ensures in
     store_taken g.D.Disk s c.args.pid c.args.op.now c.args.lock c.self.invariant well lt stood is_op joint (progress.Over c.in-Over.is_used) c.step.new.self c.step.new.volume c.step.new.table c.go.new.self c.in-Over.ensures
-    (c.go.ensures ∙ ap (λ (a : Place). set s.tasks c.args.pid (record (task s.tasks c.args.pid) { place = a })) there)
+    (c.go.ensures ∙ ap (λ (a : Stage). set s.tasks c.args.pid (record (task s.tasks c.args.pid) { place = a })) there)
 
 pub returns-in-Moved : goal.returns-in-Moved
 returns-in-Moved g c =
     let s : StoreState _ = record { volume = c.self.inside.volume; tasks = c.self.inside.tasks; table = c.self.inside.inodes } in
     let well : s.volume.fault ≡ None = search rules in
     let lt : c.args.pid < length s.tasks = search rules in
-    let stood : (task s.tasks c.args.pid).place ≡ place.Taking c.args.lock = search rules in
+    let stood : (task s.tasks c.args.pid).place ≡ stage.Taking c.args.lock = search rules in
     let is_op : (task s.tasks c.args.pid).op ≡ Some c.args.op.now = search rules in
     let joint = where_none s.volume.fault well c.known.ensures.joint in
     record {
@@ -140,12 +140,12 @@ returns-in-Sleeping g c =
     let s : StoreState _ = record { volume = c.self.inside.volume; tasks = c.self.inside.tasks; table = c.self.inside.inodes } in
     let well : s.volume.fault ≡ None = search rules in
     let lt : c.args.pid < length s.tasks = search rules in
-    let stood : (task s.tasks c.args.pid).place ≡ place.Taking c.args.lock = search rules in
+    let stood : (task s.tasks c.args.pid).place ≡ stage.Taking c.args.lock = search rules in
     let is_op : (task s.tasks c.args.pid).op ≡ Some c.args.op.now = search rules in
     let joint = where_none s.volume.fault well c.known.ensures.joint in
     record {
       step = subst (λ (k : StoreState _). Steps g.D.Disk k c.args.pid c.args.op.now (task_progress.Sleeping c.in-Sleeping.why) (record { volume = c.step.new.volume; tasks = s.tasks; table = c.step.new.table })) c.self.view_is
-          (steps_taken g.D.Disk s c.args.pid c.args.op.now c.args.lock c.self.invariant well lt stood is_op joint (progress.Sleeping c.in-Sleeping.why) c.step.new.self c.step.new.volume c.step.new.table s.tasks c.in-Sleeping.ensures (same_task s.tasks c.args.pid (place.Taking c.args.lock) stood));
+          (steps_taken g.D.Disk s c.args.pid c.args.op.now c.args.lock c.self.invariant well lt stood is_op joint (progress.Sleeping c.in-Sleeping.why) c.step.new.self c.step.new.volume c.step.new.table s.tasks c.in-Sleeping.ensures (same_task s.tasks c.args.pid (stage.Taking c.args.lock) stood));
     }
 
 pub returns-in-Over : goal.returns-in-Over
@@ -153,7 +153,7 @@ returns-in-Over g c =
     let s : StoreState _ = record { volume = c.self.inside.volume; tasks = c.self.inside.tasks; table = c.self.inside.inodes } in
     let well : s.volume.fault ≡ None = search rules in
     let lt : c.args.pid < length s.tasks = search rules in
-    let stood : (task s.tasks c.args.pid).place ≡ place.Taking c.args.lock = search rules in
+    let stood : (task s.tasks c.args.pid).place ≡ stage.Taking c.args.lock = search rules in
     let is_op : (task s.tasks c.args.pid).op ≡ Some c.args.op.now = search rules in
     let joint = where_none s.volume.fault well c.known.ensures.joint in
     let d = inode_of (current_of g.D.Disk.image s.volume) c.args.lock.number in
@@ -174,7 +174,7 @@ returns-in-Over g c =
       step = subst (λ (r : Option Reply). Steps g.D.Disk c.args.self.now c.args.pid c.args.op.now (task_progress.Turned r) (record { volume = c.step.new.volume; tasks = c.go.new.self; table = c.step.new.table })) (sym says)
           (subst (λ (k : StoreState _). Steps g.D.Disk k c.args.pid c.args.op.now (task_progress.Turned (reply_when_taken s.table.form (if_used c.in-Over.is_used d) c.args.op.now)) (record { volume = c.step.new.volume; tasks = c.go.new.self; table = c.step.new.table })) c.self.view_is
           (steps_taken g.D.Disk s c.args.pid c.args.op.now c.args.lock c.self.invariant well lt stood is_op joint (progress.Over c.in-Over.is_used) c.step.new.self c.step.new.volume c.step.new.table c.go.new.self c.in-Over.ensures
-          (c.go.ensures ∙ ap (λ (a : Place). set s.tasks c.args.pid (record (task s.tasks c.args.pid) { place = a })) there)));
+          (c.go.ensures ∙ ap (λ (a : Stage). set s.tasks c.args.pid (record (task s.tasks c.args.pid) { place = a })) there)));
     }
 
 pub returns-in-Fault : goal.returns-in-Fault
@@ -182,10 +182,10 @@ returns-in-Fault g c =
     let s : StoreState _ = record { volume = c.self.inside.volume; tasks = c.self.inside.tasks; table = c.self.inside.inodes } in
     let well : s.volume.fault ≡ None = search rules in
     let lt : c.args.pid < length s.tasks = search rules in
-    let stood : (task s.tasks c.args.pid).place ≡ place.Taking c.args.lock = search rules in
+    let stood : (task s.tasks c.args.pid).place ≡ stage.Taking c.args.lock = search rules in
     let is_op : (task s.tasks c.args.pid).op ≡ Some c.args.op.now = search rules in
     let joint = where_none s.volume.fault well c.known.ensures.joint in
     record {
       step = subst (λ (k : StoreState _). Steps g.D.Disk k c.args.pid c.args.op.now (task_progress.Fault c.in-Fault.fault) (record { volume = c.step.new.volume; tasks = s.tasks; table = c.step.new.table })) c.self.view_is
-          (steps_taken g.D.Disk s c.args.pid c.args.op.now c.args.lock c.self.invariant well lt stood is_op joint (progress.Fault c.in-Fault.fault) c.step.new.self c.step.new.volume c.step.new.table s.tasks c.in-Fault.ensures (same_task s.tasks c.args.pid (place.Taking c.args.lock) stood));
+          (steps_taken g.D.Disk s c.args.pid c.args.op.now c.args.lock c.self.invariant well lt stood is_op joint (progress.Fault c.in-Fault.fault) c.step.new.self c.step.new.volume c.step.new.table s.tasks c.in-Fault.ensures (same_task s.tasks c.args.pid (stage.Taking c.args.lock) stood));
     }

@@ -7,7 +7,7 @@ use Rattle.ports.specs.History.{FitWith, gives, first_in}
 use Rattle.wal.specs.Machine.{begun, begin_cause}
 use Rattle.inodes.specs.Store.{StoreState, KeepsFiles, with_begun, with_look}
 use Rattle.history.specs.AtOnce.{at_once_reply}
-use Rattle.history.specs.declared.types.At.TheVariants as at
+use Rattle.history.specs.declared.types.Phase.TheVariants as at
 use Rattle.history.specs.Processes.{World, process, with_place, taken, refused, refusal_answer}
 use Rattle.kernel.specs.declared.beginning.Rooms.{Rooms}
 use Rattle.kernel.specs.declared.types.Step.{Step}

@@ -7,8 +7,8 @@ use Rattle.inodes.specs.Lemmas.Faults.{where_none}
 use Rattle.inodes.specs.Steps.{Commits}
 use Rattle.inodes.specs.Store.{StoreState}
 use Rattle.inodes.specs.Tasks.{task}
-use Rattle.history.specs.declared.types.At.{At}
-use Rattle.history.specs.declared.types.At.TheVariants as at
+use Rattle.history.specs.declared.types.Phase.{Phase}
+use Rattle.history.specs.declared.types.Phase.TheVariants as at
 use Rattle.history.specs.Alone.{is_committing_at}
 use Rattle.history.specs.Lemmas.Alone.{goes_on, over_now, same_committed, durable_count}
 use Rattle.history.specs.Lemmas.Answers.{CanAnswer}
@@ -53,7 +53,7 @@ head g c =
     let well : k.store.volume.fault ≡ None = search rules in
     let commits : is_committing_at (process k.processes p).at ≡ true = search rules in
     let there = committing_there (process k.processes p).at commits in
-    let stands : TaskStands k.processes.journal.list (task k.store.tasks p) (at.Committing there.0 there.1) = subst (λ (a : At). TaskStands k.processes.journal.list (task k.store.tasks p) a) there.2 (right.paired.stand p).stands in
+    let stands : TaskStands k.processes.journal.list (task k.store.tasks p) (at.Committing there.0 there.1) = subst (λ (a : Phase). TaskStands k.processes.journal.list (task k.store.tasks p) a) there.2 (right.paired.stand p).stands in
     record {
       well = well;
       within = search rules;

@@ -4,7 +4,7 @@ use Rattle.wal.specs.declared.types.Ended.TheVariants as ended_as
 use Rattle.wal.specs.Joint.{Joint}
 use Rattle.wal.specs.Machine.{ended, end_answer}
 use Rattle.inodes.specs.Store.{StoreState, KeepsFiles, with_log}
-use Rattle.history.specs.declared.types.At.TheVariants as at
+use Rattle.history.specs.declared.types.Phase.TheVariants as at
 use Rattle.history.specs.Lemmas.Answers.{CanAnswer}
 use Rattle.history.specs.Processes.{World, process, last_answer, is_ending}
 use Rattle.kernel.specs.declared.types.Step.TheVariants as step

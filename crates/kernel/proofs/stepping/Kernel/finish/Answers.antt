@@ -8,8 +8,8 @@ use Rattle.wal.specs.Volume.{fault_of_task}
 use Rattle.inodes.specs.Steps.{Steps}
 use Rattle.inodes.specs.Store.{StoreState}
 use Rattle.inodes.specs.Tasks.{task}
-use Rattle.history.specs.declared.types.At.{At}
-use Rattle.history.specs.declared.types.At.TheVariants as at
+use Rattle.history.specs.declared.types.Phase.{Phase}
+use Rattle.history.specs.declared.types.Phase.TheVariants as at
 use Rattle.history.specs.Journal.{entry_in}
 use Rattle.history.specs.Lemmas.Answers.{CanAnswer}
 use Rattle.history.specs.Processes.{World, process, is_behind, last_answer, decided, answered}
@@ -79,8 +79,8 @@ since g c r z is made right =
     (subst (λ (o : Op). Steps g.D.Disk k.store c.args.pid o r c.step-progress.new.self) h.same (h.steps r is)) made (sides_same g.I.Intake c.args.pid k.intake) refl) right c.known-2.ensures.survives
 
 -- the group that was looked up is its own
-own_group : (g : Over) (c : After-known-2 g) (group k : ℕ) {a : At} → a ≡ (process c.self.inside.processes c.args.pid).at → a ≡ at.Behind group k → (head g c).there.group ≡ group
-own_group g c group k is told = let both : at.Behind (head g c).there.group (head g c).there.k ≡ at.Behind group k = sym (head g c).there.stands ∙ sym is ∙ told in cc both
+own_group : (g : Over) (c : After-known-2 g) (group k : ℕ) {a : Phase} → a ≡ (process c.self.inside.processes c.args.pid).at → a ≡ at.AfterTurn group k → (head g c).there.group ≡ group
+own_group g c group k is told = let both : at.AfterTurn (head g c).there.group (head g c).there.k ≡ at.AfterTurn group k = sym (head g c).there.stands ∙ sym is ∙ told in cc both
 
 some_group : (group : ℕ) → (group ≡ 0 → ⊥) → 0 < group
 some_group group some = omega (arith, some)
@@ -122,13 +122,13 @@ step-progress-requires-clause-op g c =
 pub give-requires-clause-over : goal.give-requires-clause-over
 give-requires-clause-over g c =
     let past = (goal.at.give-requires-clause-over g c).After-known-2 in
-    let none = own_group g past c.in-Behind.group c.in-Behind.entry c.at.ensures c.in-Behind.is ∙ no_group c.in-Behind.group c.if-group-gt0.false in
+    let none = own_group g past c.in-AfterTurn.group c.in-AfterTurn.entry c.at.ensures c.in-AfterTurn.is ∙ no_group c.in-AfterTurn.group c.if-group-gt0.false in
     (can_told g past c.in-Decided.reply c.decide.new.self none c.in-Decided.is c.decide.ensures).0
 
 pub give-requires-clause-fits : goal.give-requires-clause-fits
 give-requires-clause-fits g c =
     let past = (goal.at.give-requires-clause-fits g c).After-known-2 in
-    let none = own_group g past c.in-Behind.group c.in-Behind.entry c.at.ensures c.in-Behind.is ∙ no_group c.in-Behind.group c.if-group-gt0.false in
+    let none = own_group g past c.in-AfterTurn.group c.in-AfterTurn.entry c.at.ensures c.in-AfterTurn.is ∙ no_group c.in-AfterTurn.group c.if-group-gt0.false in
     (can_told g past c.in-Decided.reply c.decide.new.self none c.in-Decided.is c.decide.ensures).1
 
 pub give-requires-in-Over-clause-over : goal.give-requires-in-Over-clause-over
@@ -156,7 +156,7 @@ invariant_of-self-in-Decided g c =
     let h = head g past in
     let reply = c.in-Decided.reply in
     let steps = h.steps (progress.Decided reply) c.in-Decided.is in
-    let none = own_group g past c.in-Behind.group c.in-Behind.entry c.at.ensures c.in-Behind.is ∙ no_group c.in-Behind.group c.if-group-gt0.false in
+    let none = own_group g past c.in-AfterTurn.group c.in-AfterTurn.entry c.at.ensures c.in-AfterTurn.is ∙ no_group c.in-AfterTurn.group c.if-group-gt0.false in
     let inside : c.args.pid < length c.decide.new.self.processes = search rules in
     let right = subst (λ (z : World). IsRight g.D.Disk k.opening.value c.step-progress.new.self z) (sym (c.give.ensures.processes ∙ ap (λ (w : World). answered w c.args.pid) c.decide.ensures)) (told g past reply none c.in-Decided.is) in
     record {
@@ -176,14 +176,14 @@ invariant_of-self-then-group-gt0 g c =
     let h = head g past in
     let reply = c.in-Decided.reply in
     let steps = h.steps (progress.Decided reply) c.in-Decided.is in
-    let same = own_group g past c.in-Behind.group c.in-Behind.entry c.at.ensures c.in-Behind.is in
+    let same = own_group g past c.in-AfterTurn.group c.in-AfterTurn.entry c.at.ensures c.in-AfterTurn.is in
     let some = c.if-group-gt0.true in
     let right = subst (λ (z : World). IsRight g.D.Disk k.opening.value c.step-progress.new.self z) (sym c.decide.ensures)
     (right_told g.D.Disk k.opening.value k.store k.processes c.self.invariant.right h.well c.args.pid h.within c.operation-op.result.now h.mine c.known.ensures.store c.step-progress.new.self h.there.group h.there.k h.there.stands
     (omega (arith, same, some)) reply steps (h.agreed (progress.Decided reply) c.in-Decided.is refl)) in
     record {
       right = right;
-      since = let next : suc (c.in-Behind.group - 1) ≡ c.in-Behind.group = omega (arith, some) in
+      since = let next : suc (c.in-AfterTurn.group - 1) ≡ c.in-AfterTurn.group = omega (arith, some) in
           since g past (progress.Decided reply) c.decide.new.self c.in-Decided.is (c.decide.ensures ∙ ap (λ (n : ℕ). world_of_told n k.processes c.args.pid reply) (next ∙ sym same)) right;
       ports = subst (λ (n : ℕ). ArePorts g.I.Intake g.H.Herald k.intake k.herald n c.decide.new.self) (sym steps.groups.committed)
           (subst (λ (w : World). ArePorts g.I.Intake g.H.Herald k.intake k.herald k.store.volume.log.committed w) (sym c.decide.ensures)
@@ -196,7 +196,7 @@ invariant_of-self-then-group-eq0 g c =
     let past = (goal.at.invariant_of-self-then-group-eq0 g c).After-known-2 in
     let h = head g past in
     let steps = h.steps progress.Over c.in-Over.is in
-    let none : h.there.group ≡ 0 = own_group g past c.in-Behind.group c.in-Behind.entry c.at.ensures c.in-Behind.is ∙ c.if-group-eq0.true in
+    let none : h.there.group ≡ 0 = own_group g past c.in-AfterTurn.group c.in-AfterTurn.entry c.at.ensures c.in-AfterTurn.is ∙ c.if-group-eq0.true in
     let right = subst (λ (z : World). IsRight g.D.Disk k.opening.value c.step-progress.new.self z) (sym c.give-in-Over.ensures.processes)
     (right_over g.D.Disk k.opening.value k.store k.processes c.self.invariant.right h.well c.args.pid h.within c.operation-op.result.now h.mine c.known.ensures.store c.step-progress.new.self h.there.group h.there.k h.there.stands none steps (h.agreed progress.Over c.in-Over.is refl)) in
     record {
@@ -212,14 +212,14 @@ invariant_of-self-in-Over-2 g c =
     let past = (goal.at.invariant_of-self-in-Over-2 g c).After-known-2 in
     let h = head g past in
     let steps = h.steps progress.Over c.in-Over.is in
-    let same = own_group g past c.in-Behind.group c.in-Behind.entry c.at.ensures c.in-Behind.is in
+    let same = own_group g past c.in-AfterTurn.group c.in-AfterTurn.entry c.at.ensures c.in-AfterTurn.is in
     let right = subst (λ (z : World). IsRight g.D.Disk k.opening.value c.step-progress.new.self z) (sym c.go_to_end.ensures)
     (right_ends g.D.Disk k.opening.value k.store k.processes c.self.invariant.right h.well c.args.pid h.within c.operation-op.result.now h.mine c.known.ensures.store c.step-progress.new.self h.there.group h.there.k h.there.stands
     (some_group h.there.group (λ none. c.if-group-eq0.false (sym same ∙ none))) steps (h.agreed progress.Over c.in-Over.is refl)) in
     record {
       right = right;
-      since = let some = some_group c.in-Behind.group c.if-group-eq0.false in
-          let next : suc (c.in-Behind.group - 1) ≡ c.in-Behind.group = omega (arith, some) in
+      since = let some = some_group c.in-AfterTurn.group c.if-group-eq0.false in
+          let next : suc (c.in-AfterTurn.group - 1) ≡ c.in-AfterTurn.group = omega (arith, some) in
           since g past progress.Over c.go_to_end.new.self c.in-Over.is (c.go_to_end.ensures ∙ ap (λ (n : ℕ). world_of_last n k.processes c.args.pid) (next ∙ sym same)) right;
       ports = subst (λ (n : ℕ). ArePorts g.I.Intake g.H.Herald k.intake k.herald n c.go_to_end.new.self) (sym steps.groups.committed)
           (ports_ending g.I.Intake g.H.Herald k.intake k.herald k.store.volume.log.committed k.processes c.go_to_end.new.self c.args.pid h.there.group h.there.k c.self.invariant.ports h.within h.there.stands c.go_to_end.ensures);
@@ -265,16 +265,16 @@ acts_told g c reply group j z same is made sides ahead =
 pub returns-then-group-gt0 : goal.returns-then-group-gt0
 returns-then-group-gt0 g c =
     let past = (goal.at.returns-then-group-gt0 g c).After-known-2 in
-    let same = own_group g past c.in-Behind.group c.in-Behind.entry c.at.ensures c.in-Behind.is in
+    let same = own_group g past c.in-AfterTurn.group c.in-AfterTurn.entry c.at.ensures c.in-AfterTurn.is in
     let some = c.if-group-gt0.true in
-    let next : suc (c.in-Behind.group - 1) ≡ c.in-Behind.group = omega (arith, some) in
-    acts_told g past c.in-Decided.reply (suc (c.in-Behind.group - 1)) c.self.inside.intake c.decide.new.self (same ∙ sym next) c.in-Decided.is
+    let next : suc (c.in-AfterTurn.group - 1) ≡ c.in-AfterTurn.group = omega (arith, some) in
+    acts_told g past c.in-Decided.reply (suc (c.in-AfterTurn.group - 1)) c.self.inside.intake c.decide.new.self (same ∙ sym next) c.in-Decided.is
     c.decide.ensures (sides_same g.I.Intake c.args.pid c.self.inside.intake) refl
 
 pub returns-else-group-gt0 : goal.returns-else-group-gt0
 returns-else-group-gt0 g c =
     let past = (goal.at.returns-else-group-gt0 g c).After-known-2 in
-    let none = own_group g past c.in-Behind.group c.in-Behind.entry c.at.ensures c.in-Behind.is ∙ no_group c.in-Behind.group c.if-group-gt0.false in
+    let none = own_group g past c.in-AfterTurn.group c.in-AfterTurn.entry c.at.ensures c.in-AfterTurn.is ∙ no_group c.in-AfterTurn.group c.if-group-gt0.false in
     acts_told g past c.in-Decided.reply 0 c.give.new.intake c.give.new.processes none c.in-Decided.is
     (c.give.ensures.processes ∙ ap (λ (w : World). answered w c.args.pid) c.decide.ensures) c.give.ensures.gives.keeps c.give.ensures.gives.ahead
 
@@ -289,16 +289,16 @@ acts_last g c group j z same is made sides ahead =
 pub returns-in-Over : goal.returns-in-Over
 returns-in-Over g c =
     let past = (goal.at.returns-in-Over g c).After-known-2 in
-    acts_last g past 0 c.give-in-Over.new.intake c.give-in-Over.new.processes (own_group g past c.in-Behind.group c.in-Behind.entry c.at.ensures c.in-Behind.is ∙ c.if-group-eq0.true) c.in-Over.is
+    acts_last g past 0 c.give-in-Over.new.intake c.give-in-Over.new.processes (own_group g past c.in-AfterTurn.group c.in-AfterTurn.entry c.at.ensures c.in-AfterTurn.is ∙ c.if-group-eq0.true) c.in-Over.is
     c.give-in-Over.ensures.processes c.give-in-Over.ensures.gives.keeps c.give-in-Over.ensures.gives.ahead
 
 pub returns-in-Over-2 : goal.returns-in-Over-2
 returns-in-Over-2 g c =
     let past = (goal.at.returns-in-Over-2 g c).After-known-2 in
-    let same = own_group g past c.in-Behind.group c.in-Behind.entry c.at.ensures c.in-Behind.is in
-    let some = some_group c.in-Behind.group c.if-group-eq0.false in
-    let next : suc (c.in-Behind.group - 1) ≡ c.in-Behind.group = omega (arith, some) in
-    acts_last g past (suc (c.in-Behind.group - 1)) c.self.inside.intake c.go_to_end.new.self (same ∙ sym next) c.in-Over.is
+    let same = own_group g past c.in-AfterTurn.group c.in-AfterTurn.entry c.at.ensures c.in-AfterTurn.is in
+    let some = some_group c.in-AfterTurn.group c.if-group-eq0.false in
+    let next : suc (c.in-AfterTurn.group - 1) ≡ c.in-AfterTurn.group = omega (arith, some) in
+    acts_last g past (suc (c.in-AfterTurn.group - 1)) c.self.inside.intake c.go_to_end.new.self (same ∙ sym next) c.in-Over.is
     c.go_to_end.ensures (sides_same g.I.Intake c.args.pid c.self.inside.intake) refl
 
 pub returns-in-Sleeping : goal.returns-in-Sleeping

@@ -9,8 +9,8 @@ use Rattle.inodes.specs.Places.{is_over}
 use Rattle.inodes.specs.Steps.{Steps}
 use Rattle.inodes.specs.Store.{StoreState}
 use Rattle.inodes.specs.Tasks.{task}
-use Rattle.history.specs.declared.types.At.{At}
-use Rattle.history.specs.declared.types.At.TheVariants as at
+use Rattle.history.specs.declared.types.Phase.{Phase}
+use Rattle.history.specs.declared.types.Phase.TheVariants as at
 use Rattle.history.specs.Processes.{World, process, turned}
 use Rattle.kernel.specs.Invariant.{Inv, IsRight, ArePorts, LeavesSince, TaskStands}
 use Rattle.kernel.specs.Next.{step_of, world_after}
@@ -30,19 +30,19 @@ use Rattle.kernel.proofs.stepping.Kernel.work.Goals as goal
 record Head {D N : Type 0} (disk : Ghosts D N) (s t : StoreState D) (w : World) (p group : ℕ) (op : Op) (came : TaskProgress) : Type 0 where
   well : s.volume.fault ≡ None
   within : p < length w.processes
-  stands : (process w p).at ≡ at.Before group op
+  stands : (process w p).at ≡ at.BeforeTurn group op
   mine : (task s.tasks p).op ≡ Some op
   steps : (r : TaskProgress) → came ≡ r → Steps disk s p op r t
   agreed : (r : TaskProgress) → came ≡ r → fault_of_task r ≡ None → HasAgreed disk.image t
 
-head : (g : Over) (c : After-known-2 g) → Head g.D.Disk c.self.inside.store c.step-progress.new.self c.self.inside.processes c.args.pid c.in-Before.group c.in-Before.op c.step-progress.result
+head : (g : Over) (c : After-known-2 g) → Head g.D.Disk c.self.inside.store c.step-progress.new.self c.self.inside.processes c.args.pid c.in-BeforeTurn.group c.in-BeforeTurn.op c.step-progress.result
 head g c =
     let k = c.self.inside in
     let t = c.step-progress.new.self in
-    let stands : (process k.processes c.args.pid).at ≡ at.Before c.in-Before.group c.in-Before.op = sym c.at.ensures ∙ c.in-Before.is in
-    let there : TaskStands k.processes.journal.list (task k.store.tasks c.args.pid) (at.Before c.in-Before.group c.in-Before.op)
-    = subst (λ (a : At). TaskStands k.processes.journal.list (task k.store.tasks c.args.pid) a) stands (c.self.invariant.right.paired.stand c.args.pid).stands in
-    let steps : (r : TaskProgress) → c.step-progress.result ≡ r → Steps g.D.Disk k.store c.args.pid c.in-Before.op r t = λ r is. subst (λ (q : TaskProgress). Steps g.D.Disk k.store c.args.pid c.in-Before.op q t) is c.step-progress.ensures.step in
+    let stands : (process k.processes c.args.pid).at ≡ at.BeforeTurn c.in-BeforeTurn.group c.in-BeforeTurn.op = sym c.at.ensures ∙ c.in-BeforeTurn.is in
+    let there : TaskStands k.processes.journal.list (task k.store.tasks c.args.pid) (at.BeforeTurn c.in-BeforeTurn.group c.in-BeforeTurn.op)
+    = subst (λ (a : Phase). TaskStands k.processes.journal.list (task k.store.tasks c.args.pid) a) stands (c.self.invariant.right.paired.stand c.args.pid).stands in
+    let steps : (r : TaskProgress) → c.step-progress.result ≡ r → Steps g.D.Disk k.store c.args.pid c.in-BeforeTurn.op r t = λ r is. subst (λ (q : TaskProgress). Steps g.D.Disk k.store c.args.pid c.in-BeforeTurn.op q t) is c.step-progress.ensures.step in
     record {
       well = search rules;
       within = search rules;
@@ -59,7 +59,7 @@ acts g c r z is made =
     let k = c.self.inside in
     let h = head g c in
     subst (λ (o : State _ _ _). Acts g.D.Disk g.I.Intake g.H.Herald c.args.pid (step_of r) o (record { store = c.step-progress.new.self; opening = k.opening.value; intake = k.intake; herald = k.herald; world = z })) c.self.view_is
-    (acts_worked g.D.Disk g.I.Intake g.H.Herald c.args.pid k.store c.step-progress.new.self k.opening.value k.intake k.herald k.processes z h.well c.in-Before.group c.in-Before.op r h.stands (h.steps r is) made)
+    (acts_worked g.D.Disk g.I.Intake g.H.Herald c.args.pid k.store c.step-progress.new.self k.opening.value k.intake k.herald k.processes z h.well c.in-BeforeTurn.group c.in-BeforeTurn.op r h.stands (h.steps r is) made)
 
 -- and of what a stop has left since the opening
 since : (g : Over) (c : After-known-2 g) (r : TaskProgress) (z : World) → c.step-progress.result ≡ r → z ≡ world_after r (is_over (task c.step-progress.new.self.tasks c.args.pid).place) c.self.inside.processes c.args.pid
@@ -68,14 +68,14 @@ since g c r z is made right =
     let k = c.self.inside in
     let h = head g c in
     since_step g.D.Disk g.I.Intake g.H.Herald c.args.pid _ _ _ c.self.invariant c.known.ensures.store c.known.ensures.survives h.within
-    (acts_worked g.D.Disk g.I.Intake g.H.Herald c.args.pid k.store c.step-progress.new.self k.opening.value k.intake k.herald k.processes z h.well c.in-Before.group c.in-Before.op r h.stands (h.steps r is) made) right c.known-2.ensures.survives
+    (acts_worked g.D.Disk g.I.Intake g.H.Herald c.args.pid k.store c.step-progress.new.self k.opening.value k.intake k.herald k.processes z h.well c.in-BeforeTurn.group c.in-BeforeTurn.op r h.stands (h.steps r is) made) right c.known-2.ensures.survives
 
 pub invariant_of-self : goal.invariant_of-self
 invariant_of-self g c =
     let k = c.self.inside in
     let h = head g (goal.at.invariant_of-self g c).After-known-2 in
     let steps = h.steps progress.Moved c.in-Moved.is in
-    let right = right_moved g.D.Disk k.opening.value k.store k.processes c.self.invariant.right h.well c.args.pid h.within c.in-Before.op h.mine c.known.ensures.store c.step-progress.new.self c.in-Before.group h.stands steps (h.agreed progress.Moved c.in-Moved.is refl) in
+    let right = right_moved g.D.Disk k.opening.value k.store k.processes c.self.invariant.right h.well c.args.pid h.within c.in-BeforeTurn.op h.mine c.known.ensures.store c.step-progress.new.self c.in-BeforeTurn.group h.stands steps (h.agreed progress.Moved c.in-Moved.is refl) in
     record {
       right = right;
       since = since g (goal.at.invariant_of-self g c).After-known-2 progress.Moved k.processes c.in-Moved.is refl right;
@@ -91,12 +91,12 @@ invariant_of-self-in-Turned g c =
     let steps = h.steps (progress.Turned reply) c.in-Turned.is in
     let made : c.turn.new.self ≡ turned k.processes c.args.pid reply (is_over (task t.tasks c.args.pid).place) = c.turn.ensures ∙ ap (λ b. turned k.processes c.args.pid reply b) c.is_over-is_over.ensures in
     let right = subst (λ (z : World). IsRight g.D.Disk k.opening.value t z) (sym made)
-    (right_turned g.D.Disk k.opening.value k.store k.processes c.self.invariant.right h.well c.args.pid h.within c.in-Before.op h.mine c.known.ensures.store t c.in-Before.group h.stands reply steps (h.agreed (progress.Turned reply) c.in-Turned.is refl)) in
+    (right_turned g.D.Disk k.opening.value k.store k.processes c.self.invariant.right h.well c.args.pid h.within c.in-BeforeTurn.op h.mine c.known.ensures.store t c.in-BeforeTurn.group h.stands reply steps (h.agreed (progress.Turned reply) c.in-Turned.is refl)) in
     record {
       right = right;
       since = since g (goal.at.invariant_of-self-in-Turned g c).After-known-2 (progress.Turned reply) c.turn.new.self c.in-Turned.is made right;
       ports = subst (λ (n : ℕ). ArePorts g.I.Intake g.H.Herald k.intake k.herald n c.turn.new.self) (sym steps.groups.committed)
-          (ports_turned g.I.Intake g.H.Herald k.intake k.herald k.store.volume.log.committed k.processes c.turn.new.self c.args.pid c.in-Before.group c.in-Before.op reply (is_over (task t.tasks c.args.pid).place) c.self.invariant.ports h.within h.stands made);
+          (ports_turned g.I.Intake g.H.Herald k.intake k.herald k.store.volume.log.committed k.processes c.turn.new.self c.args.pid c.in-BeforeTurn.group c.in-BeforeTurn.op reply (is_over (task t.tasks c.args.pid).place) c.self.invariant.ports h.within h.stands made);
     }
 
 pub invariant_of-self-in-Sleeping : goal.invariant_of-self-in-Sleeping
@@ -110,7 +110,7 @@ invariant_of-self-in-Fault g c =
     let k = c.self.inside in
     let h = head g (goal.at.invariant_of-self-in-Fault g c).After-known-2 in
     let steps = h.steps (progress.Fault c.in-Fault.field-0) c.in-Fault.is in
-    let right = right_fault g.D.Disk k.opening.value k.store k.processes c.self.invariant.right h.well c.args.pid h.within c.in-Before.op h.mine c.known.ensures.store c.step-progress.new.self c.in-Before.group h.stands c.in-Fault.field-0
+    let right = right_fault g.D.Disk k.opening.value k.store k.processes c.self.invariant.right h.well c.args.pid h.within c.in-BeforeTurn.op h.mine c.known.ensures.store c.step-progress.new.self c.in-BeforeTurn.group h.stands c.in-Fault.field-0
     (survives_reading g.D.Disk k.opening.value k.store c.step-progress.new.self g.met.D.Disk.counts_now steps.reads.device h.well c.known.ensures.survives) steps in
     record {
       right = right;
@@ -121,12 +121,12 @@ invariant_of-self-in-Fault g c =
 pub unreachable-requires-in-Decided : goal.unreachable-requires-in-Decided
 unreachable-requires-in-Decided g c = by_end c.in-Decided.is
   where
-    h : Head g.D.Disk c.self.inside.store c.step-progress.new.self c.self.inside.processes c.args.pid c.in-Before.group c.in-Before.op c.step-progress.result
+    h : Head g.D.Disk c.self.inside.store c.step-progress.new.self c.self.inside.processes c.args.pid c.in-BeforeTurn.group c.in-BeforeTurn.op c.step-progress.result
     h = head g (goal.at.unreachable-requires-in-Decided g c).After-known-2
 
     by_end : ((reply : Reply) × (c.step-progress.result ≡ progress.Decided reply)) ⊎ (c.step-progress.result ≡ progress.Over) → ⊥
-    by_end (inl told) = not_decided g.D.Disk c.self.inside.opening.value c.self.inside.store c.self.inside.processes c.self.invariant.right h.well c.args.pid h.within c.in-Before.op h.mine c.known.ensures.store c.step-progress.new.self c.in-Before.group h.stands told.0 (h.steps (progress.Decided told.0) told.1)
-    by_end (inr over) = not_over g.D.Disk c.self.inside.opening.value c.self.inside.store c.self.inside.processes c.self.invariant.right h.well c.args.pid h.within c.in-Before.op h.mine c.known.ensures.store c.step-progress.new.self c.in-Before.group h.stands (h.steps progress.Over over)
+    by_end (inl told) = not_decided g.D.Disk c.self.inside.opening.value c.self.inside.store c.self.inside.processes c.self.invariant.right h.well c.args.pid h.within c.in-BeforeTurn.op h.mine c.known.ensures.store c.step-progress.new.self c.in-BeforeTurn.group h.stands told.0 (h.steps (progress.Decided told.0) told.1)
+    by_end (inr over) = not_over g.D.Disk c.self.inside.opening.value c.self.inside.store c.self.inside.processes c.self.invariant.right h.well c.args.pid h.within c.in-BeforeTurn.op h.mine c.known.ensures.store c.step-progress.new.self c.in-BeforeTurn.group h.stands (h.steps progress.Over over)
 
 pub returns-in-Moved : goal.returns-in-Moved
 returns-in-Moved g c = acts g (goal.at.returns-in-Moved g c).After-known-2 progress.Moved c.self.inside.processes c.in-Moved.is refl
