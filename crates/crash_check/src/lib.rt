@@ -12,5 +12,5 @@ mod files;
 mod images;
 
 pub use choices::{Due, try_choices};
-pub use commands::{is_want_of_memory, new_image};
+pub use images::{is_want_of_memory, new_image};
 pub use files::{has_files, kept_files};
