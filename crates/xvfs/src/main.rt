@@ -3,16 +3,16 @@
 #![tactic(auto)]
 
 mod arguments;
+mod batch;
 mod command;
-mod commands;
 mod input;
 mod locks;
 mod progress;
 mod stopping;
 
+use batch::commands;
 use cmd::end;
 use command::command;
-use commands::commands;
 use input::{InputFault, input_unread};
 use std::io::{BufWriter, Stdout};
 use std::process::ExitCode;

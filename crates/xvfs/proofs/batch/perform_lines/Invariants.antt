@@ -1,7 +1,7 @@
 use Rattle.std.proofs.Common.{◌≡◌, [], map, take}
 use Rattle.xvfs.specs.Requests.{AreDone}
 use Rattle.xvfs.proofs.Disks.{seen_by}
-use Rattle.xvfs.proofs.commands.perform_lines.Given as goal
+use Rattle.xvfs.proofs.batch.perform_lines.Given as goal
 
 -- the first lines' commands were done
 abbrev pub invariant-loop-words : goal.invariant-loop-words

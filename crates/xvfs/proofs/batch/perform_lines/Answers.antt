@@ -3,7 +3,7 @@ use Rattle.std.proofs.lemmas.List.{take_more, map-append}
 use Rattle.xvfs.specs.Requests.{IsDone, IsNotDone, AreDone}
 use Rattle.xvfs.proofs.Disks.{seen_by}
 use Rattle.xvfs.proofs.Sequences.{not_done, one_more_done, stops_here}
-use Rattle.xvfs.proofs.commands.perform_lines.Goals as goal
+use Rattle.xvfs.proofs.batch.perform_lines.Goals as goal
 
 pub loop-words-init : goal.loop-words-init
 loop-words-init g c = record { silent = refl; none = λ e. refl; done = refl }
