@@ -1,4 +1,5 @@
 pub mod Faults
+pub mod Tellings
 pub mod Source
 pub mod Stages
 pub mod Holding

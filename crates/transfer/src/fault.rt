@@ -1,7 +1,11 @@
 // Why a copy was not made.
+ghost use Rattle.std.specs.Prelude.{◌≡◌};
+ghost use Rattle.transfer.specs.Tellings.{copy_telling};
+
 use blocks::{DiskFault, NoMemory, SyncFault};
-use layout::{CheckFault, MkfsFault};
 use calls::CallFault;
+use layout::{CheckFault, MkfsFault};
+use messages::{Reason, Told};
 use std::alloc::AllocFailed;
 use thiserror::Error;
 
@@ -28,8 +32,24 @@ pub enum CopyFault {
     Disk,
 }
 
+/// What is wrong with the old image, or with the size of the new one, is told as the check's or as
+/// that of the making.
+impl Reason for CopyFault {
+    ghost telling = { copy_telling };
+
+    fn told(&self) -> Told {
+        match self {
+            CopyFault::Old(fault) => fault.told(),
+            CopyFault::NotFirst => Told::new("copy", 2, "NotFirst"),
+            CopyFault::Mkfs(fault) => fault.told(),
+            CopyFault::Full(number) => Told::naming("copy", 4, "Full", *number),
+            CopyFault::NoMemory => Told::new("copy", 5, "NoMemory"),
+            CopyFault::Disk => Told::new("copy", 6, "Disk"),
+        }
+    }
+}
+
 impl From<NoMemory> for CopyFault {
-    ghost use Rattle.std.specs.Prelude.{◌≡◌};
     ghost use Rattle.transfer.specs.declared.fault.CopyFault.TheVariants as fault;
 
     ghost from_gives = { λ _ e. e ≡ fault.NoMemory };
@@ -40,7 +60,6 @@ impl From<NoMemory> for CopyFault {
 }
 
 impl<T: Drop> From<AllocFailed<T>> for CopyFault {
-    ghost use Rattle.std.specs.Prelude.{◌≡◌};
     ghost use Rattle.transfer.specs.declared.fault.CopyFault.TheVariants as fault;
 
     ghost from_gives = { λ _ e. e ≡ fault.NoMemory };
@@ -51,7 +70,6 @@ impl<T: Drop> From<AllocFailed<T>> for CopyFault {
 }
 
 impl From<DiskFault> for CopyFault {
-    ghost use Rattle.std.specs.Prelude.{◌≡◌};
     ghost use Rattle.transfer.specs.declared.fault.CopyFault.TheVariants as fault;
 
     ghost from_gives = { λ _ e. e ≡ fault.Disk };
@@ -62,7 +80,6 @@ impl From<DiskFault> for CopyFault {
 }
 
 impl From<SyncFault> for CopyFault {
-    ghost use Rattle.std.specs.Prelude.{◌≡◌};
     ghost use Rattle.transfer.specs.declared.fault.CopyFault.TheVariants as fault;
 
     ghost from_gives = { λ _ e. e ≡ fault.Disk };
@@ -73,7 +90,6 @@ impl From<SyncFault> for CopyFault {
 }
 
 impl From<CallFault> for CopyFault {
-    ghost use Rattle.std.specs.Prelude.{◌≡◌};
     ghost use Rattle.transfer.specs.Faults.{fault_of_call};
 
     ghost from_gives = { λ cause e. e ≡ fault_of_call cause };

@@ -15,10 +15,9 @@ use crate::copier::Progress;
 use crate::fault::CopyFault;
 use crate::source::Source;
 use blocks::{Block, Disk};
-use calls::{append, create, remove};
+use calls::{CallFault, Sole, append, create, remove};
 use model::types::TRANSFER_LIMIT;
 use offline::laws::checked_files_may_be_read;
-use calls::{CallFault, Sole};
 use std::alloc::Global;
 
 // The type of a plain file, `T_FILE` of xv6.

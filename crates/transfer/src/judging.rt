@@ -10,9 +10,9 @@ ghost use Rattle.transfer.specs.Places.{LacksOld};
 use crate::needs::{count_free, needed_blocks};
 use blocks::{Block, Disk};
 use layout::{CheckFault, greatest_size};
+use messages::{PutFault, Refusal};
 use offline::{Recovered, check};
 use std::alloc::Global;
-use messages::{PutFault, Refusal};
 
 // Checks the image of a disk, and judges whether that many bytes can be put there.
 pub fn judge<D: Disk>(

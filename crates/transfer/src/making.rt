@@ -6,11 +6,11 @@ ghost use Rattle.transfer.specs.Faults.{fault_of_opening};
 
 use crate::fault::CopyFault;
 use blocks::Disk;
+use calls::{Sole, open_sole};
 use kernel::OpenFault;
 use layout::{CheckFault, Form, MkfsFault, plan};
 use offline::laws::new_image_is_sound;
 use offline::mkfs_as;
-use calls::{Sole, open_sole};
 use std::alloc::Global;
 use wal::RecoverFault;
 

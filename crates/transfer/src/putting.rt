@@ -15,11 +15,11 @@ ghost use Rattle.transfer.specs.PutWriting.{IsUnwritten, IsWritten, MayCall};
 use crate::judging::judge;
 use crate::writing::{Outcome, put_bytes};
 use blocks::Disk;
-use opening::open_refusal;
 use calls::{CallFault, Sole, open_sole};
+use messages::{PutFault, Refusal, print_number};
+use opening::open_refusal;
 use std::alloc::Global;
 use std::io::Write;
-use messages::{PutFault, Refusal, print_number};
 
 /// Puts bytes into the image of a disk, and prints the number of their file: they take the place of
 /// those of the file of this number, which keeps its type, or are those of a new file of type 2 at

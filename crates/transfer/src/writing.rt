@@ -9,9 +9,8 @@ ghost use Rattle.transfer.specs.Stopped.{StaysPut};
 ghost use Rattle.transfer.specs.PutWriting.{AreAnswered, Comes, IsCutOff, MayCall, Puts};
 
 use blocks::Disk;
-use calls::{append, create, empty, remove};
+use calls::{CallFault, Sole, append, create, empty, remove, rested};
 use model::types::TRANSFER_LIMIT;
-use calls::{CallFault, Sole, rested};
 use std::alloc::Global;
 
 // The type of a new file.
