@@ -1,8 +1,7 @@
 -- Why a copy is not planned, and what is told of one that was made.
-use Rattle.std.proofs.Common.{◌≡◌, ◌≢◌, ◌∙◌, ◌⊎◌, ℕ, Bool, true, false, ◌&&◌, leb, Option, None, List, ap, sym, subst, refl, inl, inr}
-use Rattle.std.specs.Prelude.{◌↔◌, Result, Ok, Err, IsOk, IsTrue, IfErr, IsOkUnless, OnOk}
+use Rattle.std.proofs.Common.{◌≡◌, ◌∙◌, ℕ, Bool, true, false, ◌&&◌, leb, Option, None, List, ap, sym, subst, refl, inr}
+use Rattle.std.specs.Prelude.{◌↔◌, Result, Err, IsOk, IsTrue}
 use Rattle.std.specs.Result.{IsErrOf}
-use Rattle.std.specs.Io.KnownBytes.{Appends}
 use Rattle.blocks.specs.Calls.{OnlyReads}
 use Rattle.blocks.specs.declared.disk.Disk.{Ghosts}
 use Rattle.blocks.specs.declared.file.FileDisk.{FileDisk}
@@ -13,11 +12,11 @@ use Rattle.model.specs.Lemmas.Super.{lawful_geometry, verdict_none}
 use Rattle.model.specs.Verdict.{verdict}
 use Rattle.model.specs.declared.types.image.Super.{Super}
 use Rattle.std.proofs.lemmas.Bool.{le-leb}
-use Rattle.messages.specs.Output.{files_text}
-use Rattle.messages.specs.declared.refusal.Refusal.{Refusal}
-use Rattle.messages.specs.declared.refusal.Refusal.TheVariants.{Mkfs, Output}
+use Rattle.transfer.specs.declared.fault.CopyFault.TheVariants.{Mkfs}
 use Rattle.cmd.specs.Opened.{IsOpened}
-use Rattle.commands.specs.Copies.{HasCopied, HasFilled, HasMade, HasNotFilled, IsOfPath, IsUnplanned, OnCopyRefusal, size_asked}
+use Rattle.commands.specs.Copies.{HasFilled, HasMade, HasNotFilled, IsUnmade, IsUnplanned, OnCopyRefusal, size_asked}
+use Rattle.commands.specs.declared.refused.CopyRefusal.{CopyRefusal}
+use Rattle.commands.specs.declared.refused.CopyRefusal.TheVariants.{File, Exists, Of, Output}
 
 -- an image without a fault has a number of inodes within the limits
 count_within : {D N : Type 0} (disk : Ghosts D N) (d : D) → verdict (disk.image d) ≡ None → is_inode_count (inode_count_of (disk.image d)) ≡ true
@@ -54,27 +53,14 @@ unplanned_size disk asked d e size n r fault sound is_size_of is_count is ok ran
     let out : is_size (size_asked asked (disk.image d)) (inode_count_of (disk.image d)) ≡ false = subst (λ (m : ℕ). is_size (size_asked asked (disk.image d)) m ≡ false) is_count (subst (λ (m : ℕ). is_size m n ≡ false) is_size_of found.1) in
     subst (λ (f : MkfsFault). IsUnplanned disk asked d e (Mkfs f)) (sym found.0) (sound, out)
 
-module _ {F N : Type 0} (remaining : F → Option (List ℕ)) (disk : Ghosts (FileDisk F) N) (size : Option ℕ) (count : ℕ) (made : HasMade remaining disk size count) where
-  -- how many files were copied was printed
-  pub copied_told : (r : Result (Unit {0}) Refusal) (old new : Option (List ℕ)) → OnOk r (Appends old new (files_text count)) → OnOk r (HasCopied remaining disk size old new)
-  copied_told (Ok _) old new printed = record { count = count; made = made; printed = printed }
-  copied_told (Err _) old new printed = printed
-
-  -- or could not be
-  pub copied_untold : (r : Result (Unit {0}) Refusal) → IsOkUnless r Output → IfErr r (OnCopyRefusal remaining disk size)
-  copied_untold (Ok _) unless = unless
-  copied_untold (Err refusal) unless = inr (inr (inr (unless, (count, made))))
-
--- nothing but the printing fails then
-pub only_output : (P : Type 0) (r : Result (Unit {0}) Refusal) → IsOkUnless r Output → IfErr r (λ refusal. refusal ≢ Output → P)
-only_output P (Ok _) unless = unless
-only_output P (Err refusal) unless = λ other. absurd (other unless)
-
 -- why a planned copy was not made
-pub uncopied : {F N : Type 0} (remaining : F → Option (List ℕ)) (disk : Ghosts (FileDisk F) N) (size : Option ℕ) (planned : ℕ) (d e left : FileDisk F) (r : Refusal) → IsOpened remaining disk false d → OnlyReads disk d e
-    → planned ≡ size_asked size (disk.image d) → IsOfPath r ⊎ HasNotFilled disk planned e left r → OnCopyRefusal remaining disk size r
-uncopied remaining disk size planned d e left r opened reads asked (inl path) = inl path
-uncopied remaining disk size planned d e left r opened reads asked (inr unfilled) = inr (inr (inl (record { opened = d; read = e; left = left; is = opened; reads = reads; why = subst (λ n. HasNotFilled disk n e left r) asked unfilled })))
+pub uncopied : {F N : Type 0} (remaining : F → Option (List ℕ)) (disk : Ghosts (FileDisk F) N) (size : Option ℕ) (planned : ℕ) (d e left : FileDisk F) (none : Type 0) → IsOpened remaining disk false d → OnlyReads disk d e
+    → planned ≡ size_asked size (disk.image d) → none → (r : CopyRefusal) → IsUnmade disk planned e left r → OnCopyRefusal remaining disk size none r
+uncopied remaining disk size planned d e left none opened reads asked silent (File fault) why = silent
+uncopied remaining disk size planned d e left none opened reads asked silent Exists why = silent
+uncopied remaining disk size planned d e left none opened reads asked silent (Of cause) why =
+    (inr (record { opened = d; read = e; left = left; is = opened; reads = reads; why = subst (λ n. HasNotFilled disk n e left cause) asked why }), silent)
+uncopied remaining disk size planned d e left none opened reads asked silent Output why = absurd why
 
 -- and what is known where it was
 pub has_made : {F N : Type 0} (remaining : F → Option (List ℕ)) (disk : Ghosts (FileDisk F) N) (size : Option ℕ) (planned count : ℕ) (d e : FileDisk F) → IsOpened remaining disk false d → OnlyReads disk d e

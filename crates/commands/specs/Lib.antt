@@ -1,3 +1,5 @@
 pub mod Puts
+pub mod Refusals
 pub mod Copies
+pub mod Making
 pub mod Files

@@ -10,9 +10,13 @@
 mod copies;
 mod files;
 mod inputs;
+mod making;
 mod puts;
+mod refused;
 
-pub use copies::copy_files;
-pub use files::{make_file, replay_files, run_files};
+pub use copies::Copy;
+pub use files::{replay_files, run_files};
 pub use inputs::{schedule_from, script_from};
-pub use puts::put_file;
+pub use making::{Mkfs, make_file};
+pub use puts::Put;
+pub use refused::{CopyRefusal, PutFileRefusal, ReadFault};

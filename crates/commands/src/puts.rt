@@ -1,60 +1,87 @@
 // The command that puts a file of the system into an image.
-ghost use Rattle.std.specs.Prelude.{◌≡◌, ◌≢◌, false, IfErr, OnOk};
-ghost use Rattle.messages.specs.declared.refusal.Refusal.TheVariants as refusal;
-ghost use Rattle.cmd.specs.Opened.{OpensDisk};
-ghost use Rattle.commands.specs.Puts.{HasPut, IsUnhad, OnPutRefusal};
+ghost use Rattle.commands.specs.Puts.{HasPut, OnPutRefusal};
+ghost use Rattle.transfer.specs.Putting.{IsPut, IsUnput};
 
-use blocks::{Disk, FileDisk};
-use cmd::open_disk;
+use crate::refused::{PutFileRefusal, ReadFault};
+use blocks::Disk;
+use cmd::{Command, DiskCommand, OverFile};
 use layout::greatest_size;
 use model::types::Form;
-use transfer::put_disk;
 use std::alloc::Global;
 use std::fs::File;
 use std::io;
 use std::io::{ErrorKind, Read, Write};
 use std::rt::Files;
-use messages::{PutFault, Refusal};
+use transfer::{PutRefusal, put_disk};
 
 /// Puts the bytes of the file at the path `file` into the image in the file at the path `image`, as
 /// `put_disk`.
 ///
-/// # Errors
-///
-/// `Put` with `File` where the file can't be read, or with `NoMemory`, and then nothing else was
-/// done; else a fault of `FileDisk::open` or of `put_disk`. No contract of std says which bytes a
-/// path's file has.
-pub fn put_file<R: Files + AllocGlobal, O: Write>(
-    rt: &R,
-    image: &str,
-    file: &str,
+/// It is refused for the first of these. `Unread` where the file can't be read, or with `NoMemory`,
+/// and then nothing else was done; `Of` with a fault of `FileDisk::open` or a refusal of `put_disk`.
+/// No contract of std says which bytes a path's file has.
+#[derive(Clone, Copy, Drop)]
+pub struct Put<'a> {
+    /// The path of the image's file.
+    pub image: &'a str,
+    /// The path of the file whose bytes are put.
+    pub file: &'a str,
+    /// The number of the image's file that gets them; none for a new one.
+    pub inum: Option<u32>,
+}
+
+impl<'a, R: Files + AllocGlobal> Command<R> for Put<'a> {
+    type Refusal = PutFileRefusal;
+
+    ghost done = { λ put. HasPut R.File.remaining put.inum };
+
+    ghost refused = { λ put old new. OnPutRefusal R.File.remaining put.inum };
+
+    fn run<O: Write>(self, rt: &R, out: &mut O) -> Result<(), PutFileRefusal> {
+        let bytes = bytes_from(rt, self.file)?;
+        let put = PutBytes {
+            bytes,
+            inum: self.inum,
+        };
+        match OverFile(self.image, false, put).run(rt, out) {
+            Ok(()) => Ok(()),
+            Err(refusal) => Err(PutFileRefusal::Of(refusal)),
+        }
+    }
+}
+
+// Puts these bytes.
+#[derive(Drop)]
+struct PutBytes {
+    bytes: Vec<u8>,
     inum: Option<u32>,
-    out: &mut O,
-) -> Result<(), Refusal>
-    ensures opened { OnOk result (OpensDisk R.File.remaining ⟦<FileDisk<R::File> as Disk>⟧ false
-        (HasPut ⟦<FileDisk<R::File> as Disk>⟧ inum (O.contents out.old) (O.contents out.new))) }
-    ensures refused { IfErr result (OnPutRefusal R.File.remaining
-        ⟦<FileDisk<R::File> as Disk>⟧ inum) }
-    ensures silent { IfErr result (λ r. r ≢ refusal.Output → out.new ≡ out.old) }
-{
-    let bytes = bytes_from(rt, file).map_err(Refusal::Put)?;
-    let disk = open_disk(rt, image, false)?;
-    let (put, _disk) = put_disk(rt.alloc(), disk, bytes.as_slice(), inum, out);
-    put
+}
+
+impl DiskCommand for PutBytes {
+    type Refusal = PutRefusal;
+
+    ghost done = { λ put c. IsPut c.disk put.inum put.bytes.items c.was c.now };
+
+    ghost refused = { λ put c old new. IsUnput c.disk put.inum put.bytes.items c.was c.now };
+
+    fn run_on<D: Disk + Drop, O: Write>(
+        self,
+        alloc: Global,
+        disk: D,
+        out: &mut O,
+    ) -> (Result<(), PutRefusal>, D) {
+        put_disk(alloc, disk, self.bytes.as_slice(), self.inum, out)
+    }
 }
 
 // The bytes of the file at this path; of one that is larger than any in an image one more than these
 // may have.
-fn bytes_from<R: Files + AllocGlobal>(rt: &R, path: &str) -> Result<Vec<u8>, PutFault>
-    ensures { IfErr result IsUnhad }
-{
+fn bytes_from<R: Files + AllocGlobal>(rt: &R, path: &str) -> Result<Vec<u8>, ReadFault> {
     let file = File::open(rt, path).map_err(|error| unread(error))?;
     read_bytes(rt.alloc(), file)
 }
 
-fn read_bytes<I: Read + Drop>(alloc: Global, file: I) -> Result<Vec<u8>, PutFault>
-    ensures { IfErr result IsUnhad }
-{
+fn read_bytes<I: Read + Drop>(alloc: Global, file: I) -> Result<Vec<u8>, ReadFault> {
     let mut bytes = Vec::new(alloc);
     file.take(greatest_size(Form::Two) as u64 + 1)
         .read_to_end(&mut bytes)
@@ -63,11 +90,9 @@ fn read_bytes<I: Read + Drop>(alloc: Global, file: I) -> Result<Vec<u8>, PutFaul
 }
 
 // Why a file can't be read.
-fn unread(error: io::Error) -> PutFault
-    ensures { IsUnhad result }
-{
+fn unread(error: io::Error) -> ReadFault {
     match error.kind() {
-        ErrorKind::OutOfMemory => PutFault::NoMemory,
-        _ => PutFault::File,
+        ErrorKind::OutOfMemory => ReadFault::NoMemory,
+        _ => ReadFault::File,
     }
 }

@@ -3,6 +3,7 @@ use Rattle.std.specs.Prelude.{◌≡◌, ◌&&◌, ◌==◌, ℕ, false, length,
 use Rattle.blocks.specs.Disk.{Image, Rose}
 use Rattle.blocks.specs.declared.disk.Disk.{Ghosts}
 use Rattle.offline.specs.Cause.{IsCause}
+use Rattle.layout.specs.declared.geometry.MkfsFault.{MkfsFault}
 use Rattle.layout.specs.declared.geometry.MkfsFault.TheVariants as mkfs
 use Rattle.model.specs.Codec.{made_image}
 use Rattle.model.specs.Layout.{is_inode_count, is_size}
@@ -14,8 +15,6 @@ use Rattle.opening.specs.Recoveries.{IsUnrecovered}
 use Rattle.opening.specs.declared.recovering.RecoverRefusal.{RecoverRefusal}
 use Rattle.messages.specs.declared.printed.Printed.{Printed}
 use Rattle.messages.specs.declared.printed.Printed.TheVariants as printed
-use Rattle.messages.specs.declared.refusal.Refusal.{Refusal}
-use Rattle.messages.specs.declared.refusal.Refusal.TheVariants.{Mkfs, Output}
 
 -- The disk d, now e, was not checked, or what was found could not be printed; here and below `none`
 -- says that nothing was printed.
@@ -34,12 +33,14 @@ IsNotRecovered disk d e none printed.Output =
 
 -- on the disk d, now e, no image of that form and size was made, or its numbers could not be
 -- printed
-abbrev pub IsUnmade : {D : Type 0} → (D → Image) → (D → ℕ) → Form → ℕ → ℕ → D → D → Refusal → Type 0
-IsUnmade image faults form size ninodes d e (Mkfs mkfs.InodeRange) =
-    (is_inode_count ninodes ≡ false) × (e ≡ d)
-IsUnmade image faults form size ninodes d e (Mkfs mkfs.SizeRange) =
-    ((is_size size ninodes && (size == length (image d))) ≡ false) × (e ≡ d)
-IsUnmade image faults form size ninodes d e (Mkfs mkfs.Disk) = Rose (faults d) (faults e)
-IsUnmade image faults form size ninodes d e (Mkfs mkfs.NoMemory) = e ≡ d
-IsUnmade image faults form size ninodes d e Output = image e ≡ made_image form size ninodes
-IsUnmade image faults form size ninodes d e _ = ⊥
+abbrev pub IsUnmade : {D : Type 0} → (D → Image) → (D → ℕ) → Form → ℕ → ℕ → D → D → Type 0
+    → Printed MkfsFault → Type 0
+IsUnmade image faults form size ninodes d e none (printed.Fault mkfs.InodeRange) =
+    ((is_inode_count ninodes ≡ false) × (e ≡ d)) × none
+IsUnmade image faults form size ninodes d e none (printed.Fault mkfs.SizeRange) =
+    (((is_size size ninodes && (size == length (image d))) ≡ false) × (e ≡ d)) × none
+IsUnmade image faults form size ninodes d e none (printed.Fault mkfs.Disk) =
+    Rose (faults d) (faults e) × none
+IsUnmade image faults form size ninodes d e none (printed.Fault mkfs.NoMemory) = (e ≡ d) × none
+IsUnmade image faults form size ninodes d e none printed.Output =
+    image e ≡ made_image form size ninodes

@@ -1,16 +1,9 @@
 -- Which commands have which refusals.
 use Rattle.std.specs.Prelude.{⊤}
 use Rattle.messages.specs.declared.refusal.Refusal.{Refusal}
-use Rattle.messages.specs.declared.refusal.Refusal.TheVariants.{File, Mkfs, Disk, Run, Stops, Put, Copy, Output}
+use Rattle.messages.specs.declared.refusal.Refusal.TheVariants.{Mkfs, Disk, Run, Stops, Put, Copy, Output}
 
--- the refusals of `mkfs`: of the size or the number of inodes, of the file, or of the output
-abbrev pub IsOfMkfs : Refusal → Type 0
-IsOfMkfs (Mkfs _) = ⊤
-IsOfMkfs (File _) = ⊤
-IsOfMkfs Output = ⊤
-IsOfMkfs _ = ⊥
-
--- those of `replay`: of its three files, of the image, of the recovery, of the kernel's opening, of
+-- the refusals of `replay`: of its three files, of the image, of the recovery, of the kernel's opening, of
 -- the disk, or of the output
 abbrev pub IsOfReplay : Refusal → Type 0
 IsOfReplay (Mkfs _) = ⊥

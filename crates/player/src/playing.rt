@@ -11,9 +11,9 @@ ghost use Rattle.player.specs.Refusal.{OnRefusal};
 
 use crate::player::Player;
 use blocks::{Disk, FaultyDisk, NoMemory};
+use messages::{Event, Progress, Refusal, print_counts, print_event};
 use scripts::Word;
 use std::io::Write;
-use messages::{Event, Progress, Refusal, print_counts, print_event};
 
 /// Makes the turns of the words over a disk that had counted `base` writes before them, and prints
 /// what they came to. The write of number `stop` isn't made. The processes that the words name are

@@ -3,8 +3,8 @@ ghost use Rattle.std.specs.Prelude.{◌≡◌};
 ghost use Rattle.player.specs.Refusals.{cat_telling};
 
 use blocks::DiskFault;
-use opening::RecoverRefusal;
 use messages::{Reason, Told, Unwritten};
+use opening::RecoverRefusal;
 use wal::DeviceFault;
 
 /// Why the bytes of a file of an image aren't written.

@@ -12,12 +12,12 @@ use crate::player::Player;
 use crate::playing::run;
 use crate::turns::{Hands, open_player};
 use blocks::{Disk, FaultyDisk};
-use rings::Board;
+use messages::{KernelFault, Refusal};
 use opening::recover_image;
+use rings::Board;
 use scripts::{Task, Word};
 use std::alloc::Global;
 use std::io::Write;
-use messages::{KernelFault, Refusal};
 
 /// Recovers the image of a disk, and makes the operations of a script of so many processes in the
 /// turns of a schedule. Prints a line for each word of the schedule, up to the one in whose turn

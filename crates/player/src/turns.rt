@@ -33,14 +33,14 @@ use crate::player::Player;
 use crate::stepping::make_steps;
 use crate::told::progress_of;
 use blocks::{Disk, FaultyDisk, Kind};
-use rings::{Board, BoardHerald, Keeper, Watch};
 use clients::sources;
 use kernel::{Kernel, Step};
+use messages::{Event, KernelFault, Refusal};
 use model::types::{Answer, Entry};
 use opening::open_refusal;
+use rings::{Board, BoardHerald, Keeper, Watch};
 use scripts::{Task, Word};
 use std::alloc::Global;
-use messages::{Event, KernelFault, Refusal};
 use wal::DeviceFault;
 
 /// What the turns came to.

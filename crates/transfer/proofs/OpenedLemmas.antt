@@ -1,5 +1,5 @@
 -- What calls come to over a disk that was judged, and recovered as its kernel was opened.
-use Rattle.std.proofs.Common.{◌≡◌, ◌∙◌, ◌≤◌, ℕ, List, Option, None, length, refl, sym, ap, subst, inl, inr, ⊎_elim}
+use Rattle.std.proofs.Common.{◌≡◌, ◌∙◌, ◌≤◌, ℕ, List, Option, None, length, refl, sym, ap, subst, inl, inr}
 use Rattle.blocks.specs.Calls.{OnlyReads}
 use Rattle.blocks.specs.Disk.{Image, LeavesOnly, Rose}
 use Rattle.blocks.specs.Lemmas.Moments.{joined, now_stays, started, stays}
@@ -10,43 +10,43 @@ use Rattle.model.specs.Log.{recovered}
 use Rattle.model.specs.Soundness.{IsSound}
 use Rattle.model.specs.Verdict.{verdict}
 use Rattle.kernel.specs.declared.types.OpenFault.{OpenFault}
-use Rattle.kernel.specs.declared.types.OpenFault.TheVariants as open_fault
 use Rattle.history.specs.Lemmas.Leaving.{leaves_wider}
-use Rattle.opening.specs.Openings.{IsUnopened, open_refusal}
 use Rattle.calls.specs.Calls.{IsWhole, image_on}
 use Rattle.calls.specs.Opening.{IsNotOpenedSole, IsOpenedSole}
 use Rattle.calls.specs.Stepping.{Plain}
 use Rattle.wal.specs.Recovery.{IsCalm, LeavesIfCalm, RecoversAs}
-use Rattle.messages.specs.declared.faults.PutFault.TheVariants.{NoInode, Full, NoMemory}
-use Rattle.messages.specs.declared.refusal.Refusal.{Refusal}
-use Rattle.messages.specs.declared.refusal.Refusal.TheVariants.{Disk, Put, Output}
-use Rattle.transfer.specs.Judging.{IsFit}
+use Rattle.transfer.specs.Judging.{IsFit, IsTold}
 use Rattle.transfer.specs.Stopped.{KeepsPut, StaysPut}
 use Rattle.transfer.specs.Putting.{ComesTo, IsPut, IsUnopenedThen, IsUnput}
 use Rattle.transfer.specs.PutWriting.{CallsTo, Comes, IsUnwritten, IsWritten, KeepsPart}
+use Rattle.transfer.specs.declared.refused.PutRefusal.{PutRefusal}
+use Rattle.transfer.specs.declared.refused.PutRefusal.TheVariants.{Check, NoFile, TooBig, Full, NoMemory, Unopened, NoInode, Disk, Output}
 use Rattle.transfer.specs.declared.writing.Outcome.{Outcome}
 use Rattle.transfer.proofs.CallLemmas.{whole_then}
+
+-- what is told before anything is written
+pub told_so : {D N : Type 0} (disk : Ghosts D N) (inum : Option ℕ) (bytes : List ℕ) (d e : D) (none : Type 0) → none → (r : PutRefusal) → IsTold disk inum (length bytes) d e r → IsUnput disk inum bytes d e none r
+told_so disk inum bytes d e none silent (Check fault) why = (why, silent)
+told_so disk inum bytes d e none silent NoFile why = (why, silent)
+told_so disk inum bytes d e none silent TooBig why = (why, silent)
+told_so disk inum bytes d e none silent Full why = (inl why, silent)
+told_so disk inum bytes d e none silent NoMemory why = (inl why, silent)
+told_so disk inum bytes d e none silent (Unopened fault) why = absurd why.cause
+told_so disk inum bytes d e none silent NoInode why = absurd why.cause
+told_so disk inum bytes d e none silent (Disk fault) why = absurd why.cause
+told_so disk inum bytes d e none silent Output why = absurd why.cause
 
 module _ {D N : Type 0} (disk : Ghosts D N) (inum : Option ℕ) (bytes : List ℕ) (d mid : D) (fit : IsFit disk inum (length bytes) d mid) where
   -- ---- no kernel is opened
 
-  pub unopened_sole : (e : D) (fault : OpenFault) → IsNotOpenedSole disk mid e fault → IsUnopened disk 1 mid e (open_refusal fault)
-  unopened_sole e fault why = ⊎_elim (λ none. inl (ap open_refusal none.0, none.1)) (λ refuses. inr (fault, refl, refuses)) why
-
-  unopened_then : (e : D) (fault : OpenFault) → IsNotOpenedSole disk mid e fault → IsUnopenedThen disk d e (open_refusal fault)
+  pub unopened_then : (e : D) (fault : OpenFault) → IsNotOpenedSole disk mid e fault → IsUnopenedThen disk d e fault
   unopened_then e fault why = record {
     mid = mid;
     sound = fit.sound;
     reads = fit.reads;
     faults = fit.faults;
-    unopened = unopened_sole e fault why;
+    unopened = why;
   }
-
-  pub unopened : (e : D) (fault : OpenFault) → IsNotOpenedSole disk mid e fault → IsUnput disk inum bytes d e (open_refusal fault)
-  unopened e (open_fault.Check fault) why = inr (unopened_then e (open_fault.Check fault) why)
-  unopened e (open_fault.Recover fault) why = unopened_then e (open_fault.Recover fault) why
-  unopened e open_fault.NoMemory why = unopened_then e open_fault.NoMemory why
-  unopened e open_fault.ProcRange why = unopened_then e open_fault.ProcRange why
 
   -- ---- calls were made
 
@@ -73,17 +73,20 @@ module _ {D N : Type 0} (disk : Ghosts D N) (inum : Option ℕ) (bytes : List �
       printed = written.printed;
     }
 
-    pub unwritten_so : (e : D) (r : Refusal) → IsUnwritten disk inum bytes k.store.volume.device e r → IsUnput disk inum bytes d e r
-    unwritten_so e (Put NoInode) why = comes_to e _ why
-    unwritten_so e (Put Full) why = inr (comes_to e _ why)
-    unwritten_so e (Put NoMemory) why = inr (record {
-      sound = fit.sound;
-      keeps = subst (λ (x : Image). KeepsPart x inum bytes (disk.image e)) begun why.1;
-      faults = why.0 ∙ faults;
-    })
-    unwritten_so e (Disk cause) why = (fit.sound, subst (λ (n : ℕ). Rose n (disk.fault_count e)) faults why)
-    unwritten_so e Output why = (why.0, comes_to e _ why.1)
-    unwritten_so e r why = absurd why
+    pub unwritten_so : (e : D) (none : Type 0) (r : PutRefusal) → IsUnwritten disk inum bytes k.store.volume.device e none r → IsUnput disk inum bytes d e none r
+    unwritten_so e none NoInode why = (comes_to e _ why.0, why.1)
+    unwritten_so e none Full why = (inr (comes_to e _ why.0), why.1)
+    unwritten_so e none NoMemory why = (
+      inr (record {
+        sound = fit.sound;
+        keeps = subst (λ (x : Image). KeepsPart x inum bytes (disk.image e)) begun why.0.1;
+        faults = why.0.0 ∙ faults;
+      }),
+      why.1,
+    )
+    unwritten_so e none (Disk cause) why = ((fit.sound, subst (λ (n : ℕ). Rose n (disk.fault_count e)) faults why.0), why.1)
+    unwritten_so e none Output why = (why.0, comes_to e _ why.1)
+    unwritten_so e none r why = absurd why
 
 -- ---- what a stop leaves of the whole
 

@@ -12,11 +12,10 @@ use Rattle.model.specs.Log.{recovered}
 use Rattle.model.specs.Verdict.{verdict}
 use Rattle.model.specs.declared.types.fault.CheckFault.{CheckFault}
 use Rattle.model.specs.declared.types.fault.CheckFault.TheVariants as check
-use Rattle.messages.specs.declared.faults.PutFault.TheVariants.{NoFile, TooBig, Full, NoMemory}
-use Rattle.messages.specs.declared.refusal.Refusal.{Refusal}
-use Rattle.messages.specs.declared.refusal.Refusal.TheVariants.{Check, Put}
 use Rattle.transfer.specs.Needs.{needed_blocks, old_blocks, room_for}
 use Rattle.transfer.specs.Places.{HasOld, LacksOld}
+use Rattle.transfer.specs.declared.refused.PutRefusal.{PutRefusal}
+use Rattle.transfer.specs.declared.refused.PutRefusal.TheVariants.{Check, NoFile, TooBig, Full, NoMemory}
 
 -- the reader of an image that has no fault
 pub record IsCheckedOf (x : Image) (image : Recovered) : Type 0 where
@@ -43,21 +42,21 @@ abbrev pub FailsByDisk : {T : Type 0} → Result T CheckFault → ℕ → ℕ �
 FailsByDisk result old new = MatchResult result (λ _. new ≡ old) (IsDiskFault old new)
 
 -- why that many bytes are not put into an image
-abbrev pub IsRefusedOf : Image → Option ℕ → ℕ → ℕ → ℕ → Refusal → Type 0
+abbrev pub IsRefusedOf : Image → Option ℕ → ℕ → ℕ → ℕ → PutRefusal → Type 0
 IsRefusedOf x inum count old new (Check fault) = IsCause (verdict x) old new fault
-IsRefusedOf x inum count old new (Put NoFile) =
+IsRefusedOf x inum count old new NoFile =
     (verdict x ≡ None) × (new ≡ old) × LacksOld (files_of (recovered x)) inum
-IsRefusedOf x inum count old new (Put TooBig) =
+IsRefusedOf x inum count old new TooBig =
     (verdict x ≡ None) × (new ≡ old) × (greatest_size (form_of (recovered x)) < count)
-IsRefusedOf x inum count old new (Put Full) =
+IsRefusedOf x inum count old new Full =
     (verdict x ≡ None) × (new ≡ old)
     × (room_for (recovered x) inum < needed_blocks (form_of (recovered x)) count)
-IsRefusedOf x inum count old new (Put NoMemory) = (verdict x ≡ None) × (new ≡ old)
+IsRefusedOf x inum count old new NoMemory = (verdict x ≡ None) × (new ≡ old)
 IsRefusedOf x inum count old new _ = ⊥
 
 -- that was told of the disk d, now e, which was only read
 pub record IsTold {D N : Type 0} (disk : Ghosts D N) (inum : Option ℕ) (count : ℕ) (d e : D)
-    (r : Refusal) : Type 0 where
+    (r : PutRefusal) : Type 0 where
   pub cause : IsRefusedOf (disk.image d) inum count (disk.fault_count d) (disk.fault_count e) r
   pub reads : OnlyReads disk d e
 

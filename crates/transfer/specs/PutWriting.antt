@@ -12,10 +12,9 @@ use Rattle.calls.specs.Stepping.{Plain}
 use Rattle.calls.specs.declared.fault.CallFault.{CallFault}
 use Rattle.calls.specs.declared.fault.CallFault.TheVariants as fault
 use Rattle.messages.specs.Output.{number_text}
-use Rattle.messages.specs.declared.faults.PutFault.TheVariants.{NoInode, Full, NoMemory}
-use Rattle.messages.specs.declared.refusal.Refusal.{Refusal}
-use Rattle.messages.specs.declared.refusal.Refusal.TheVariants.{Disk, Put, Output}
 use Rattle.transfer.specs.Places.{HasNoFree, IsPlace, MayPut, PutsAll, put_at}
+use Rattle.transfer.specs.declared.refused.PutRefusal.{PutRefusal}
+use Rattle.transfer.specs.declared.refused.PutRefusal.TheVariants.{Full, NoMemory, NoInode, Disk, Output}
 use Rattle.transfer.specs.declared.writing.Outcome.{Outcome}
 use Rattle.transfer.specs.declared.writing.Outcome.TheVariants as outcome
 
@@ -95,12 +94,16 @@ pub record IsWritten {D N : Type 0} (disk : Ghosts D N) (inum : Option ℕ) (byt
   pub calls : CallsTo disk inum bytes d e (outcome.Put number)
   pub printed : Appends old new (number_text number)
 
--- why not
-abbrev pub IsUnwritten : {D N : Type 0} → Ghosts D N → Option ℕ → List ℕ → D → D → Refusal → Type 0
-IsUnwritten disk inum bytes d e (Put NoInode) = CallsTo disk inum bytes d e outcome.NoInode
-IsUnwritten disk inum bytes d e (Put Full) = CallsTo disk inum bytes d e outcome.Full
-IsUnwritten disk inum bytes d e (Put NoMemory) = IsCutOff disk inum bytes d e fault.NoMemory
-IsUnwritten disk inum bytes d e (Disk cause) = IsCutOff disk inum bytes d e (fault.Disk cause)
-IsUnwritten disk inum bytes d e Output =
+-- why not; `none` says that nothing was printed
+abbrev pub IsUnwritten : {D N : Type 0} → Ghosts D N → Option ℕ → List ℕ → D → D → Type 0
+    → PutRefusal → Type 0
+IsUnwritten disk inum bytes d e none NoInode =
+    CallsTo disk inum bytes d e outcome.NoInode × none
+IsUnwritten disk inum bytes d e none Full = CallsTo disk inum bytes d e outcome.Full × none
+IsUnwritten disk inum bytes d e none NoMemory =
+    IsCutOff disk inum bytes d e fault.NoMemory × none
+IsUnwritten disk inum bytes d e none (Disk cause) =
+    IsCutOff disk inum bytes d e (fault.Disk cause) × none
+IsUnwritten disk inum bytes d e none Output =
     (i : ℕ) × CallsTo disk inum bytes d e (outcome.Put i)
-IsUnwritten disk inum bytes d e r = ⊥
+IsUnwritten disk inum bytes d e none r = ⊥

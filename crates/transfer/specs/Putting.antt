@@ -6,14 +6,14 @@ use Rattle.blocks.specs.Disk.{Rose}
 use Rattle.blocks.specs.declared.disk.Disk.{Ghosts}
 use Rattle.model.specs.Log.{recovered}
 use Rattle.model.specs.Verdict.{verdict}
-use Rattle.opening.specs.Openings.{IsUnopened}
+use Rattle.kernel.specs.declared.types.OpenFault.{OpenFault}
 use Rattle.calls.specs.Calls.{IsWhole}
+use Rattle.calls.specs.Opening.{IsNotOpenedSole}
 use Rattle.messages.specs.Output.{number_text}
-use Rattle.messages.specs.declared.faults.PutFault.TheVariants.{NoFile, NoInode, TooBig, Full, NoMemory}
-use Rattle.messages.specs.declared.refusal.Refusal.{Refusal}
-use Rattle.messages.specs.declared.refusal.Refusal.TheVariants.{Check, Recover, Open, Disk, Put, Output}
 use Rattle.transfer.specs.Judging.{IsTold}
 use Rattle.transfer.specs.PutWriting.{Comes, KeepsPart}
+use Rattle.transfer.specs.declared.refused.PutRefusal.{PutRefusal}
+use Rattle.transfer.specs.declared.refused.PutRefusal.TheVariants.{Check, NoFile, TooBig, Full, NoMemory, Unopened, NoInode, Disk, Output}
 use Rattle.transfer.specs.declared.writing.Outcome.{Outcome}
 use Rattle.transfer.specs.declared.writing.Outcome.TheVariants as outcome
 
@@ -34,13 +34,13 @@ pub record IsPut {D N : Type 0} (disk : Ghosts D N) (inum : Option ℕ) (bytes :
   pub printed : Appends old new (number_text number)
 
 -- no kernel was opened over the disk d, now e, which was only read before
-pub record IsUnopenedThen {D N : Type 0} (disk : Ghosts D N) (d e : D) (r : Refusal)
+pub record IsUnopenedThen {D N : Type 0} (disk : Ghosts D N) (d e : D) (fault : OpenFault)
     : Type 0 where
   pub mid : D
   pub sound : verdict (disk.image d) ≡ None
   pub reads : OnlyReads disk d mid
   pub faults : disk.fault_count mid ≡ disk.fault_count d
-  pub unopened : IsUnopened disk 1 mid e r
+  pub unopened : IsNotOpenedSole disk mid e fault
 
 -- memory was refused to a call: the first of the bytes may be put
 pub record RunsOut {D N : Type 0} (disk : Ghosts D N) (inum : Option ℕ) (bytes : List ℕ) (d e : D)
@@ -50,21 +50,22 @@ pub record RunsOut {D N : Type 0} (disk : Ghosts D N) (inum : Option ℕ) (bytes
   pub faults : disk.fault_count e ≡ disk.fault_count d
 
 -- Why the bytes were not put into the image of the disk d, now e, or their number was not printed.
--- Of what is told before anything is written the disk was only read.
-abbrev pub IsUnput : {D N : Type 0} → Ghosts D N → Option ℕ → List ℕ → D → D → Refusal → Type 0
-IsUnput disk inum bytes d e (Check fault) =
-    IsTold disk inum (length bytes) d e (Check fault) ⊎ IsUnopenedThen disk d e (Check fault)
-IsUnput disk inum bytes d e (Recover fault) = IsUnopenedThen disk d e (Recover fault)
-IsUnput disk inum bytes d e (Open fault) = IsUnopenedThen disk d e (Open fault)
-IsUnput disk inum bytes d e (Put NoFile) = IsTold disk inum (length bytes) d e (Put NoFile)
-IsUnput disk inum bytes d e (Put TooBig) = IsTold disk inum (length bytes) d e (Put TooBig)
-IsUnput disk inum bytes d e (Put Full) =
-    IsTold disk inum (length bytes) d e (Put Full) ⊎ ComesTo disk inum bytes d e outcome.Full
-IsUnput disk inum bytes d e (Put NoInode) = ComesTo disk inum bytes d e outcome.NoInode
-IsUnput disk inum bytes d e (Put NoMemory) =
-    IsTold disk inum (length bytes) d e (Put NoMemory) ⊎ RunsOut disk inum bytes d e
-IsUnput disk inum bytes d e (Disk fault) =
-    (verdict (disk.image d) ≡ None) × Rose (disk.fault_count d) (disk.fault_count e)
-IsUnput disk inum bytes d e Output =
+-- Of what is told before anything is written the disk was only read. `none` says that nothing was
+-- printed.
+abbrev pub IsUnput : {D N : Type 0} → Ghosts D N → Option ℕ → List ℕ → D → D → Type 0 → PutRefusal
+    → Type 0
+IsUnput disk inum bytes d e none (Check fault) =
+    IsTold disk inum (length bytes) d e (Check fault) × none
+IsUnput disk inum bytes d e none NoFile = IsTold disk inum (length bytes) d e NoFile × none
+IsUnput disk inum bytes d e none TooBig = IsTold disk inum (length bytes) d e TooBig × none
+IsUnput disk inum bytes d e none Full =
+    (IsTold disk inum (length bytes) d e Full ⊎ ComesTo disk inum bytes d e outcome.Full) × none
+IsUnput disk inum bytes d e none NoMemory =
+    (IsTold disk inum (length bytes) d e NoMemory ⊎ RunsOut disk inum bytes d e) × none
+IsUnput disk inum bytes d e none (Unopened fault) = IsUnopenedThen disk d e fault × none
+IsUnput disk inum bytes d e none NoInode =
+    ComesTo disk inum bytes d e outcome.NoInode × none
+IsUnput disk inum bytes d e none (Disk fault) =
+    ((verdict (disk.image d) ≡ None) × Rose (disk.fault_count d) (disk.fault_count e)) × none
+IsUnput disk inum bytes d e none Output =
     (i : ℕ) × ComesTo disk inum bytes d e (outcome.Put i)
-IsUnput disk inum bytes d e r = ⊥

@@ -8,9 +8,9 @@ ghost use Rattle.transfer.specs.Needs.{free_count};
 ghost use Rattle.transfer.specs.Places.{LacksOld};
 
 use crate::needs::{count_free, needed_blocks};
+use crate::refused::PutRefusal;
 use blocks::{Block, Disk};
 use layout::{CheckFault, greatest_size};
-use messages::{PutFault, Refusal};
 use offline::{Recovered, check};
 use std::alloc::Global;
 
@@ -20,24 +20,24 @@ pub fn judge<D: Disk>(
     disk: &mut D,
     inum: Option<u32>,
     count: usize,
-) -> Result<(), Refusal>
+) -> Result<(), PutRefusal>
     ensures fit { OnOk result (IsFit D.Disk inum count disk.old disk.new) }
     ensures refused { IfErr result (IsTold D.Disk inum count disk.old disk.new) }
 {
     check(alloc, disk)?;
     let Ok(mut block) = Block::zeroed(alloc) else {
-        return Err(Refusal::Put(PutFault::NoMemory));
+        return Err(PutRefusal::NoMemory);
     };
     let image = Recovered::open(disk, &mut block)?;
     let Some(old) = old_blocks(disk, &image, &mut block, inum)? else {
-        return Err(Refusal::Put(PutFault::NoFile));
+        return Err(PutRefusal::NoFile);
     };
     if count > greatest_size(image.form) as usize {
-        return Err(Refusal::Put(PutFault::TooBig));
+        return Err(PutRefusal::TooBig);
     }
     let free = free_blocks(disk, &image, &mut block)?;
     if needed_blocks(image.form, count as u32) > free + old {
-        return Err(Refusal::Put(PutFault::Full));
+        return Err(PutRefusal::Full);
     }
     Ok(())
 }

@@ -1,23 +1,22 @@
 // A file's bytes put into an image.
-ghost use Rattle.std.specs.Prelude.{◌≡◌, ◌≢◌, ◌≤◌, ◌^◌, IfErr, OnOk, length};
+ghost use Rattle.std.specs.Prelude.{◌≡◌, ◌≤◌, ◌^◌, IfErr, OnOk, length};
 ghost use Rattle.model.specs.Layout.{form_of, greatest_size};
 ghost use Rattle.model.specs.Log.{recovered};
 ghost use Rattle.model.specs.Verdict.{verdict};
 ghost use Rattle.wal.specs.Recovery.{LeavesIfCalm};
 ghost use Rattle.calls.specs.Calls.{image_on};
 ghost use Rattle.calls.specs.Files.{files_on};
-ghost use Rattle.messages.specs.declared.refusal.Refusal.TheVariants as refusal;
 ghost use Rattle.transfer.specs.Places.{HasOld};
 ghost use Rattle.transfer.specs.Putting.{IsPut, IsUnput};
 ghost use Rattle.transfer.specs.Stopped.{KeepsPut, StaysPut};
 ghost use Rattle.transfer.specs.PutWriting.{IsUnwritten, IsWritten, MayCall};
 
 use crate::judging::judge;
+use crate::refused::PutRefusal;
 use crate::writing::{Outcome, put_bytes};
 use blocks::Disk;
 use calls::{CallFault, Sole, open_sole};
-use messages::{PutFault, Refusal, print_number};
-use opening::open_refusal;
+use messages::print_number;
 use std::alloc::Global;
 use std::io::Write;
 
@@ -33,26 +32,26 @@ use std::io::Write;
 /// # Errors
 ///
 /// `Check` with a fault of the image or of its check, or with `Disk` where a read behind the check
-/// failed. `Put` with `NoFile` where there is no file of that number, with `TooBig` where a file of
-/// the image's form can't have so many bytes, with `Full` where they need more blocks than are free
-/// or needed by the old file, and with `NoMemory`. With these the disk was only read.
+/// failed. `NoFile` where there is no file of that number, `TooBig` where a file of the image's form
+/// can't have so many bytes, `Full` where they need more blocks than are free or needed by the old
+/// file, and `NoMemory`. With these the disk was only read.
 ///
-/// A fault of the kernel's opening. Then `Put` with `NoInode` where each number is taken: the files
-/// are as before. `Put` with `Full` where no block is free for all bytes after all: a new file was
-/// removed again, an old one keeps the first of the bytes. `Put` with `NoMemory`: the files are as
-/// before, or the first of the bytes are put. `Disk` where the disk failed. `Output`: the bytes are
-/// put.
+/// `Unopened` with a fault of the kernel's opening. Then `NoInode` where each number is taken: the
+/// files are as before. `Full` where no block is free for all bytes after all: a new file was removed
+/// again, an old one keeps the first of the bytes. `NoMemory`: the files are as before, or the first
+/// of the bytes are put. `Disk` where the disk failed. With all these nothing was printed. `Output`:
+/// the bytes are put.
 pub fn put_disk<D: Disk + Drop, O: Write>(
     alloc: Global,
     disk: D,
     bytes: &[u8],
     inum: Option<u32>,
     out: &mut O,
-) -> (Result<(), Refusal>, D)
+) -> (Result<(), PutRefusal>, D)
     ensures put { OnOk result.0 (IsPut D.Disk inum bytes.now disk result.1
         (O.contents out.old) (O.contents out.new)) }
-    ensures refused { IfErr result.0 (IsUnput D.Disk inum bytes.now disk result.1) }
-    ensures silent { IfErr result.0 (λ r. r ≢ refusal.Output → out.new ≡ out.old) }
+    ensures refused { IfErr result.0 (IsUnput D.Disk inum bytes.now disk result.1
+        (out.new ≡ out.old)) }
     ensures leaves { verdict (D.image disk) ≡ None → LeavesIfCalm D.Disk disk result.1
         (KeepsPut (recovered (D.image disk)) inum bytes.now) }
     ensures name { D.name result.1 ≡ D.name disk }
@@ -63,7 +62,7 @@ pub fn put_disk<D: Disk + Drop, O: Write>(
     }
     let mut kernel = match open_sole(alloc, disk) {
         Ok(kernel) => kernel,
-        Err((fault, disk)) => return (Err(open_refusal(fault)), disk),
+        Err((fault, disk)) => return (Err(PutRefusal::Unopened(fault)), disk),
     };
     let put = put(alloc, &mut kernel, bytes, inum, out);
     (put, kernel.into_disk())
@@ -76,23 +75,22 @@ fn put<D: Disk, O: Write>(
     bytes: &[u8],
     inum: Option<u32>,
     out: &mut O,
-) -> Result<(), Refusal>
+) -> Result<(), PutRefusal>
     requires ready { MayCall D.Disk (2 ^ 31) kernel.old }
     requires there { HasOld (files_on D.image kernel.old) inum }
     requires short { length bytes.now ≤ greatest_size (form_of (image_on D.image kernel.old)) }
     ensures put { OnOk result (IsWritten D.Disk inum bytes.now kernel.old.store.volume.device
         kernel.new.store.volume.device (O.contents out.old) (O.contents out.new)) }
     ensures refused { IfErr result (IsUnwritten D.Disk inum bytes.now
-        kernel.old.store.volume.device kernel.new.store.volume.device) }
-    ensures silent { IfErr result (λ r. r ≢ refusal.Output → out.new ≡ out.old) }
+        kernel.old.store.volume.device kernel.new.store.volume.device (out.new ≡ out.old)) }
     ensures stays { StaysPut D.Disk (image_on D.image kernel.old) inum bytes.now
         kernel.old kernel.new }
 {
     match put_bytes(alloc, kernel, bytes, inum) {
-        Ok(Outcome::Put(number)) => print_number(out, number),
-        Ok(Outcome::NoInode) => Err(Refusal::Put(PutFault::NoInode)),
-        Ok(Outcome::Full) => Err(Refusal::Put(PutFault::Full)),
-        Err(CallFault::Disk(fault)) => Err(Refusal::Disk(fault)),
-        Err(CallFault::NoMemory) => Err(Refusal::Put(PutFault::NoMemory)),
+        Ok(Outcome::Put(number)) => print_number(out, number).map_err(|_| PutRefusal::Output),
+        Ok(Outcome::NoInode) => Err(PutRefusal::NoInode),
+        Ok(Outcome::Full) => Err(PutRefusal::Full),
+        Err(CallFault::Disk(fault)) => Err(PutRefusal::Disk(fault)),
+        Err(CallFault::NoMemory) => Err(PutRefusal::NoMemory),
     }
 }

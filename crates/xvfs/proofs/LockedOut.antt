@@ -1,23 +1,25 @@
 -- What is known where another program has the image, and nothing was done.
-use Rattle.std.proofs.Common.{ℕ, List, Option, inl, inr, refl}
+use Rattle.std.proofs.Common.{ℕ, List, [], Option}
 use Rattle.blocks.specs.declared.errors.FileFault.TheVariants.{Locked}
 use Rattle.scripts.specs.declared.script.ScriptFault.TheVariants as script
 use Rattle.messages.specs.declared.refusal.Refusal.TheVariants.{File, Script}
 use Rattle.cli.specs.declared.words.Request.{Request}
 use Rattle.cli.specs.declared.words.Request.TheVariants.{Mkfs, Check, Recover, Cat, Ls, Show, Put, Copy, Replay, Run, Stops}
 use Rattle.cmd.specs.declared.files.OnFile.TheVariants as on
+use Rattle.commands.specs.declared.refused.CopyRefusal.TheVariants as copy
+use Rattle.commands.specs.declared.refused.PutFileRefusal.TheVariants as put
 use Rattle.xvfs.specs.Files.{FileGhosts}
 use Rattle.xvfs.specs.Requests.{OnRefused}
 
 pub locked_out : {F N : Type 0} (file : FileGhosts F N) (request : Request) (old new : Option (List ℕ)) (none : Type 0) → none → OnRefused file request old new none
-locked_out file (Mkfs image size ninodes large) old new none silent = (File Locked, λ other. silent)
+locked_out file (Mkfs image size ninodes large) old new none silent = (on.File Locked, silent)
 locked_out file (Check image) old new none silent = (on.File Locked, silent)
 locked_out file (Recover image sync) old new none silent = (on.File Locked, silent)
 locked_out file (Cat image inum) old new none silent = (on.File Locked, silent)
 locked_out file (Ls image) old new none silent = (on.File Locked, silent)
 locked_out file (Show image inum) old new none silent = (on.File Locked, silent)
-locked_out file (Put image path inum) old new none silent = (File Locked, (λ other. silent, inr tt))
-locked_out file (Copy from to size) old new none silent = (File Locked, (λ other. silent, inl (inl (Locked, refl))))
+locked_out file (Put image path inum) old new none silent = (put.Of (on.File Locked), record { bytes = []; refused = silent })
+locked_out file (Copy from to size) old new none silent = (copy.File Locked, silent)
 locked_out file (Replay image text schedule stop sync) old new none silent = (File Locked, silent)
 locked_out file (Run image text workers sync) old new none silent = (File Locked, silent)
 locked_out file (Stops text schedule held) old new none silent = (Script script.File, silent)

@@ -1,9 +1,7 @@
 -- What a request is answered.
-use Rattle.std.specs.Prelude.{◌≡◌, ◌≢◌, ◌⊎◌, ⊤, ℕ, Bool, false, if◌then◌else◌, List, [], ◌∷◌, ◌++◌, Option, unwrap_or}
+use Rattle.std.specs.Prelude.{◌≡◌, ◌⊎◌, ⊤, ℕ, Bool, false, if◌then◌else◌, List, [], ◌∷◌, ◌++◌, Option, unwrap_or}
 use Rattle.model.specs.declared.types.image.Form.{Form}
 use Rattle.model.specs.declared.types.image.Form.TheVariants.{One, Two}
-use Rattle.messages.specs.declared.refusal.Refusal.{Refusal}
-use Rattle.messages.specs.declared.refusal.Refusal.TheVariants.{Output}
 use Rattle.messages.specs.declared.told.Unwritten.{Unwritten}
 use Rattle.cli.specs.CommandLine.{AskFor}
 use Rattle.cli.specs.Told.{AskForHelp, IsToldOf}
@@ -19,8 +17,9 @@ use Rattle.inspect.specs.Looks.{HasListed, HasShown as HasBlocksShown}
 use Rattle.player.specs.Causes.{IsNotRecovered, IsUnchecked}
 use Rattle.player.specs.Looks.{HasRecovered, HasReported, HasShown}
 use Rattle.player.specs.Showing.{IsNotShown}
-use Rattle.commands.specs.Files.{IsMade, IsNotRun, IsReplayed, IsRun, IsUnreplayed}
+use Rattle.commands.specs.Files.{IsNotRun, IsReplayed, IsRun, IsUnreplayed}
 use Rattle.commands.specs.Copies.{HasCopied, OnCopyRefusal}
+use Rattle.commands.specs.Making.{IsMade, IsNotMade}
 use Rattle.commands.specs.Puts.{HasPut, OnPutRefusal}
 use Rattle.xvfs.specs.Files.{FileGhosts}
 use Rattle.xvfs.specs.Scripts.{ChecksScript, IsScriptUnchecked}
@@ -45,9 +44,8 @@ Answers file (Ls image) old new =
     OpensDisk file.remaining file_disk false (λ d e. HasListed file_disk d e old new)
 Answers file (Show image inum) old new =
     OpensDisk file.remaining file_disk false (λ d e. HasBlocksShown file_disk inum d e old new)
-Answers file (Put image path inum) old new =
-    OpensDisk file.remaining file.disk false (HasPut file.disk inum old new)
-Answers file (Copy from to size) old new = HasCopied file.remaining file.disk size old new
+Answers file (Put image path inum) old new = HasPut file.remaining inum old new
+Answers file (Copy from to size) old new = HasCopied file.remaining file_disk size old new
 Answers file (Replay image script schedule stop sync) old new =
     OpensDisk file.remaining file.disk sync
     (IsReplayed file.disk file.over (unwrap_or stop 0) old new)
@@ -64,7 +62,7 @@ Refuses {R} why = (r : R) × why r
 abbrev pub OnRefused : {F N : Type 0} → FileGhosts F N → Request → Option (List ℕ)
     → Option (List ℕ) → Type 0 → Type 0
 OnRefused file (Mkfs image size ninodes large) old new none =
-    Refuses (λ (r : Refusal). r ≢ Output → none)
+    Refuses (IsNotMade size ninodes none)
 OnRefused file (Check image) old new none =
     Refuses (IsRefusedOn file.remaining false none (λ d e. IsUnchecked file_disk d e none))
 OnRefused file (Recover image sync) old new none =
@@ -76,9 +74,9 @@ OnRefused file (Ls image) old new none =
 OnRefused file (Show image inum) old new none =
     Refuses (IsRefusedOn file.remaining false none (λ d e. IsHidden file_disk inum d e none))
 OnRefused file (Put image path inum) old new none =
-    Refuses (λ r. (r ≢ Output → none) × OnPutRefusal file.remaining file.disk inum r)
+    Refuses (OnPutRefusal file.remaining inum none)
 OnRefused file (Copy from to size) old new none =
-    Refuses (λ r. (r ≢ Output → none) × OnCopyRefusal file.remaining file.disk size r)
+    Refuses (OnCopyRefusal file.remaining file_disk size none)
 OnRefused file (Replay image script schedule stop sync) old new none =
     Refuses (OnDiskRefusal file.remaining file.disk sync none
     (IsUnreplayed file.disk file.over (unwrap_or stop 0) old new none))

@@ -20,19 +20,18 @@ use crate::locks::{Locks, lock_image};
 use crate::progress::{Meter, Screen};
 use crate::stopping::stops_files;
 use blocks::{Disk, FaultyDisk, FileDisk};
+use cli::{Explanation, Request, parse};
 use cmd::{OverFile, end, perform};
-use commands::{make_file, replay_files, run_files};
+use commands::{Copy, Mkfs, Put, replay_files, run_files};
 use inspect::{Ls, Show};
+use messages::print_last;
 use model::types::Form;
 use player::{Cat, Check, Recover};
-use cli::{Explanation, Request, parse};
 use std::convert::AsStr;
 use std::io::Write;
 use std::rt::{Clock, Files};
 use std::sync::Wait;
 use std::thread::Threads;
-use messages::print_last;
-use commands::{copy_files, put_file};
 
 /// Does the command that these words ask for, the program's name not among them: prints what it
 /// answers to `out`, and why it wasn't done to `err`, as far as that can be written. The exit
@@ -139,8 +138,15 @@ where
             size,
             ninodes,
             large,
-        } => end(
-            make_file(rt, image, form_asked(large), size, ninodes, out),
+        } => perform(
+            rt,
+            Mkfs {
+                image,
+                form: form_asked(large),
+                size,
+                ninodes,
+            },
+            out,
             err,
         ),
         Request::Check { image } => perform(rt, OverFile(image, false, Check), out, err),
@@ -150,11 +156,21 @@ where
         Request::Cat { image, inum } => perform(rt, OverFile(image, false, Cat(inum)), out, err),
         Request::Ls { image } => perform(rt, OverFile(image, false, Ls), out, err),
         Request::Show { image, inum } => perform(rt, OverFile(image, false, Show(inum)), out, err),
-        Request::Put { image, file, inum } => end(put_file(rt, image, file, inum, out), err),
-        Request::Copy { old, new, size } => end(
-            copy_files(rt, old, new, size, &mut Meter::new(rt), out),
-            err,
-        ),
+        Request::Put { image, file, inum } => perform(rt, Put { image, file, inum }, out, err),
+        Request::Copy { old, new, size } => {
+            let progress = Meter::new(rt);
+            perform(
+                rt,
+                Copy {
+                    old,
+                    new,
+                    size,
+                    progress,
+                },
+                out,
+                err,
+            )
+        }
         Request::Replay {
             image,
             script,

@@ -1,21 +1,21 @@
-use Rattle.std.proofs.Common.{sym, subst}
-use Rattle.std.specs.Prelude.{IfErr, OnOk}
+use Rattle.std.proofs.Common.{refl, sym, subst}
+use Rattle.std.specs.Prelude.{◌≡◌, IfErr, OnOk}
 use Rattle.std.proofs.lemmas.Result.{IfErr-weaker, on_ok_weaker}
 use Rattle.blocks.specs.Disk.{LeavesOnly}
 use Rattle.model.specs.Log.{recovered}
-use Rattle.opening.specs.Lemmas.Keeping.{unopened_leaves}
-use Rattle.opening.specs.Openings.{open_refusal}
-use Rattle.messages.specs.declared.refusal.Refusal.{Refusal}
+use Rattle.opening.specs.Lemmas.Keeping.{not_opened_leaves}
 use Rattle.transfer.specs.Putting.{IsPut, IsUnput}
 use Rattle.transfer.specs.Stopped.{KeepsPut}
-use Rattle.transfer.proofs.OpenedLemmas.{put_leaves, read_leaves, recovered_leaves, unopened, unopened_sole, unwritten_so, written_so}
+use Rattle.transfer.proofs.OpenedLemmas.{put_leaves, read_leaves, recovered_leaves, told_so, unopened_then, unwritten_so, written_so}
 use Rattle.transfer.proofs.putting.put_disk.Goals as goal
+
+pub returns-in-Err-clause-refused : goal.returns-in-Err-clause-refused
+returns-in-Err-clause-refused g c =
+    told_so g.D.Disk c.args.inum c.args.bytes.now c.args.disk c.judge.new.disk _ refl c.in-Err.refusal c.in-Err.ensures.refused
 
 pub returns-in-Err-open_sole-clause-refused : goal.returns-in-Err-open_sole-clause-refused
 returns-in-Err-open_sole-clause-refused g c =
-    let d = g.D.Disk in
-    subst (λ (r : Refusal). IsUnput d c.args.inum c.args.bytes.now c.args.disk c.in-Err-open_sole.disk r) (sym c.open_refusal.ensures)
-    (unopened d c.args.inum c.args.bytes.now c.args.disk c.judge.new.disk c.in_default.ensures.fit c.in-Err-open_sole.disk c.in-Err-open_sole.fault c.in-Err-open_sole.ensures.refused)
+    (unopened_then g.D.Disk c.args.inum c.args.bytes.now c.args.disk c.judge.new.disk c.in_default.ensures.fit c.in-Err-open_sole.disk c.in-Err-open_sole.fault c.in-Err-open_sole.ensures.refused, refl)
 
 pub returns-clause-put : goal.returns-clause-put
 returns-clause-put g c =
@@ -30,10 +30,11 @@ returns-clause-put g c =
 pub returns-clause-refused : goal.returns-clause-refused
 returns-clause-refused g c =
     let d = g.D.Disk in
-    subst (λ e. IfErr c.put-put.result (IsUnput d c.args.inum c.args.bytes.now c.args.disk e)) (sym c.into_disk.ensures)
+    let none = c.put-put.new.out ≡ c.args.out.now in
+    subst (λ e. IfErr c.put-put.result (IsUnput d c.args.inum c.args.bytes.now c.args.disk e none)) (sym c.into_disk.ensures)
     (IfErr-weaker c.put-put.result _ _
     (unwritten_so d c.args.inum c.args.bytes.now c.args.disk c.judge.new.disk c.in_default.ensures.fit c.in-Ok.kernel c.in-Ok.ensures.opened
-    c.put-put.new.kernel.store.volume.device)
+    c.put-put.new.kernel.store.volume.device none)
     c.put-put.ensures.refused)
 
 pub returns-in-Err-clause-leaves : goal.returns-in-Err-clause-leaves
@@ -44,9 +45,8 @@ pub returns-in-Err-open_sole-clause-leaves : goal.returns-in-Err-open_sole-claus
 returns-in-Err-open_sole-clause-leaves g c =
     let d = g.D.Disk in
     let fit = c.in_default.ensures.fit in
-    let why = unopened_sole d c.args.inum c.args.bytes.now c.args.disk c.judge.new.disk fit c.in-Err-open_sole.disk c.in-Err-open_sole.fault c.in-Err-open_sole.ensures.refused in
     λ sound calm. recovered_leaves d g.met.D.Disk.counts_now c.args.inum c.args.bytes.now c.args.disk c.judge.new.disk sound fit.reads calm c.in-Err-open_sole.disk
-    (unopened_leaves d 1 c.judge.new.disk c.in-Err-open_sole.disk (open_refusal c.in-Err-open_sole.fault) why)
+    (not_opened_leaves d 1 c.judge.new.disk c.in-Err-open_sole.disk c.in-Err-open_sole.fault c.in-Err-open_sole.ensures.refused)
 
 pub returns-clause-leaves : goal.returns-clause-leaves
 returns-clause-leaves g c =

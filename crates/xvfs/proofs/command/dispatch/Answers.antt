@@ -1,18 +1,19 @@
 use Rattle.std.proofs.Common.{subst, sym}
 use Rattle.std.specs.Prelude.{◌≡◌}
-use Rattle.commands.specs.Files.{IsMade}
+use Rattle.commands.specs.Making.{IsMade}
 use Rattle.xvfs.specs.Requests.{Answers, OnRefused}
 use Rattle.xvfs.proofs.Disks.{seen_by}
-use Rattle.xvfs.proofs.Dispatch.{on_both, was_done, was_refused}
+use Rattle.xvfs.proofs.Dispatch.{was_done, was_refused}
 use Rattle.xvfs.proofs.command.dispatch.Goals as goal
 
 pub returns-in-Mkfs-clause-done : goal.returns-in-Mkfs-clause-done
 returns-in-Mkfs-clause-done g c =
-    λ done. subst (λ request. Answers (seen_by g.R.File.Read.remaining) request (g.O.Write.contents c.args.out.now) (g.O.Write.contents c.make_file.new.out)) (sym c.in-Mkfs.is) (subst (λ form. IsMade (seen_by g.R.File.Read.remaining).disk form c.in-Mkfs.size c.in-Mkfs.ninodes (g.O.Write.contents c.args.out.now) (g.O.Write.contents c.make_file.new.out)) c.form_asked.ensures (was_done c.make_file.result _ c.make_file.ensures.made (c.end.ensures.done done)))
+    let file = seen_by g.R.File.Read.remaining in
+    λ done. subst (λ request. Answers file request (g.O.Write.contents c.args.out.now) (g.O.Write.contents c.perform.new.out)) (sym c.in-Mkfs.is) (subst (λ form. IsMade file.disk form c.in-Mkfs.size c.in-Mkfs.ninodes (g.O.Write.contents c.args.out.now) (g.O.Write.contents c.perform.new.out)) c.form_asked.ensures (c.perform.ensures.done done))
 
 pub returns-in-Mkfs-clause-refused : goal.returns-in-Mkfs-clause-refused
 returns-in-Mkfs-clause-refused g c =
-    λ refused. subst (λ request. OnRefused (seen_by g.R.File.Read.remaining) request (g.O.Write.contents c.args.out.now) (g.O.Write.contents c.make_file.new.out) (c.make_file.new.out ≡ c.args.out.now)) (sym c.in-Mkfs.is) (was_refused c.make_file.result _ c.make_file.ensures.silent (c.end.ensures.refused refused))
+    λ refused. subst (λ request. OnRefused (seen_by g.R.File.Read.remaining) request (g.O.Write.contents c.args.out.now) (g.O.Write.contents c.perform.new.out) (c.perform.new.out ≡ c.args.out.now)) (sym c.in-Mkfs.is) (c.perform.ensures.refused refused)
 
 pub returns-in-Recover-clause-done : goal.returns-in-Recover-clause-done
 returns-in-Recover-clause-done g c =
@@ -24,27 +25,29 @@ returns-in-Recover-clause-refused g c =
 
 pub returns-in-Put-clause-done : goal.returns-in-Put-clause-done
 returns-in-Put-clause-done g c =
-    λ done. subst (λ request. Answers (seen_by g.R.File.Read.remaining) request (g.O.Write.contents c.args.out.now) (g.O.Write.contents c.put_file.new.out)) (sym c.in-Put.is) (was_done c.put_file.result _ c.put_file.ensures.opened (c.end-in-Put.ensures.done done))
+    let file = seen_by g.R.File.Read.remaining in
+    λ done. subst (λ request. Answers file request (g.O.Write.contents c.args.out.now) (g.O.Write.contents c.perform-in-Put.new.out)) (sym c.in-Put.is) (c.perform-in-Put.ensures.done done)
 
 pub returns-in-Put-clause-refused : goal.returns-in-Put-clause-refused
 returns-in-Put-clause-refused g c =
-    λ refused. subst (λ request. OnRefused (seen_by g.R.File.Read.remaining) request (g.O.Write.contents c.args.out.now) (g.O.Write.contents c.put_file.new.out) (c.put_file.new.out ≡ c.args.out.now)) (sym c.in-Put.is) (was_refused c.put_file.result _ (on_both c.put_file.result _ _ c.put_file.ensures.silent c.put_file.ensures.refused) (c.end-in-Put.ensures.refused refused))
+    λ refused. subst (λ request. OnRefused (seen_by g.R.File.Read.remaining) request (g.O.Write.contents c.args.out.now) (g.O.Write.contents c.perform-in-Put.new.out) (c.perform-in-Put.new.out ≡ c.args.out.now)) (sym c.in-Put.is) (c.perform-in-Put.ensures.refused refused)
 
 pub returns-in-Copy-clause-done : goal.returns-in-Copy-clause-done
 returns-in-Copy-clause-done g c =
-    λ done. subst (λ request. Answers (seen_by g.R.File.Read.remaining) request (g.O.Write.contents c.args.out.now) (g.O.Write.contents c.copy_files.new.out)) (sym c.in-Copy.is) (was_done c.copy_files.result _ c.copy_files.ensures.copied (c.end-in-Copy.ensures.done done))
+    let file = seen_by g.R.File.Read.remaining in
+    λ done. subst (λ request. Answers file request (g.O.Write.contents c.args.out.now) (g.O.Write.contents c.perform-in-Copy.new.out)) (sym c.in-Copy.is) (c.perform-in-Copy.ensures.done done)
 
 pub returns-in-Copy-clause-refused : goal.returns-in-Copy-clause-refused
 returns-in-Copy-clause-refused g c =
-    λ refused. subst (λ request. OnRefused (seen_by g.R.File.Read.remaining) request (g.O.Write.contents c.args.out.now) (g.O.Write.contents c.copy_files.new.out) (c.copy_files.new.out ≡ c.args.out.now)) (sym c.in-Copy.is) (was_refused c.copy_files.result _ (on_both c.copy_files.result _ _ c.copy_files.ensures.silent c.copy_files.ensures.refused) (c.end-in-Copy.ensures.refused refused))
+    λ refused. subst (λ request. OnRefused (seen_by g.R.File.Read.remaining) request (g.O.Write.contents c.args.out.now) (g.O.Write.contents c.perform-in-Copy.new.out) (c.perform-in-Copy.new.out ≡ c.args.out.now)) (sym c.in-Copy.is) (c.perform-in-Copy.ensures.refused refused)
 
 pub returns-in-Replay-clause-done : goal.returns-in-Replay-clause-done
 returns-in-Replay-clause-done g c =
-    λ done. subst (λ request. Answers (seen_by g.R.File.Read.remaining) request (g.O.Write.contents c.args.out.now) (g.O.Write.contents c.replay_files.new.out)) (sym c.in-Replay.is) (was_done c.replay_files.result _ c.replay_files.ensures.opened (c.end-in-Replay.ensures.done done))
+    λ done. subst (λ request. Answers (seen_by g.R.File.Read.remaining) request (g.O.Write.contents c.args.out.now) (g.O.Write.contents c.replay_files.new.out)) (sym c.in-Replay.is) (was_done c.replay_files.result _ c.replay_files.ensures.opened (c.end.ensures.done done))
 
 pub returns-in-Replay-clause-refused : goal.returns-in-Replay-clause-refused
 returns-in-Replay-clause-refused g c =
-    λ refused. subst (λ request. OnRefused (seen_by g.R.File.Read.remaining) request (g.O.Write.contents c.args.out.now) (g.O.Write.contents c.replay_files.new.out) (c.replay_files.new.out ≡ c.args.out.now)) (sym c.in-Replay.is) (was_refused c.replay_files.result _ c.replay_files.ensures.refused (c.end-in-Replay.ensures.refused refused))
+    λ refused. subst (λ request. OnRefused (seen_by g.R.File.Read.remaining) request (g.O.Write.contents c.args.out.now) (g.O.Write.contents c.replay_files.new.out) (c.replay_files.new.out ≡ c.args.out.now)) (sym c.in-Replay.is) (was_refused c.replay_files.result _ c.replay_files.ensures.refused (c.end.ensures.refused refused))
 
 pub returns-in-Run-clause-done : goal.returns-in-Run-clause-done
 returns-in-Run-clause-done g c =

@@ -1,0 +1,41 @@
+-- What became of the disk in a file in which an image was made.
+use Rattle.std.specs.Prelude.{◌≡◌, ℕ, false, IsTrue, List, replicate, Option}
+use Rattle.std.specs.Io.KnownBytes.{Appends}
+use Rattle.blocks.specs.Block.{zero_block}
+use Rattle.blocks.specs.declared.disk.Disk.{Ghosts}
+use Rattle.blocks.specs.declared.file.FileDisk.{FileDisk}
+use Rattle.cmd.specs.declared.files.OnFile.{OnFile}
+use Rattle.cmd.specs.declared.files.OnFile.TheVariants.{File, Of}
+use Rattle.layout.specs.declared.geometry.MkfsFault.{MkfsFault}
+use Rattle.layout.specs.declared.geometry.MkfsFault.TheVariants.{SizeRange, InodeRange, Disk, NoMemory}
+use Rattle.messages.specs.Output.{numbers_text}
+use Rattle.messages.specs.declared.printed.Printed.{Printed}
+use Rattle.messages.specs.declared.printed.Printed.TheVariants.{Fault, Output}
+use Rattle.model.specs.Layout.{is_inode_count, is_size, planned_super}
+use Rattle.model.specs.declared.types.image.Form.{Form}
+use Rattle.offline.specs.Making.{MakesAs}
+
+-- a disk of so many blocks of zeroes was created in a file, an image made on it, and its numbers
+-- printed
+pub record IsMade {F N : Type 0} (disk : Ghosts (FileDisk F) N) (form : Form)
+    (size inode_count : ℕ) (old new : Option (List ℕ)) : Type 0 where
+  pub created : FileDisk F
+  pub now : FileDisk F
+  pub zeroes : disk.image created ≡ replicate size zero_block
+  pub makes : MakesAs disk form size inode_count created now
+  pub printed : Appends old new (numbers_text (planned_super size inode_count))
+
+-- there is an image of that size, with so many inode numbers
+abbrev pub IsPlan : ℕ → ℕ → Type 0
+IsPlan size inode_count = IsTrue (is_inode_count inode_count) × IsTrue (is_size size inode_count)
+
+-- Why none was made in the file, or its numbers not printed. `none` says that nothing was.
+abbrev pub IsNotMade : ℕ → ℕ → Type 0 → OnFile (Printed MkfsFault) → Type 0
+IsNotMade size inode_count none (Of (Fault InodeRange)) =
+    (is_inode_count inode_count ≡ false) × none
+IsNotMade size inode_count none (Of (Fault SizeRange)) =
+    (IsTrue (is_inode_count inode_count) × (is_size size inode_count ≡ false)) × none
+IsNotMade size inode_count none (Of (Fault Disk)) = IsPlan size inode_count × none
+IsNotMade size inode_count none (Of (Fault NoMemory)) = IsPlan size inode_count × none
+IsNotMade size inode_count none (File fault) = none
+IsNotMade size inode_count none (Of Output) = IsPlan size inode_count
