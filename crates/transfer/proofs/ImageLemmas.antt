@@ -2,7 +2,10 @@
 use Rattle.std.proofs.Common.{◌≡◌, ◌≢◌, ◌∙◌, ℕ, ◌<◌, ◌≤◌, List, length, Option, None, Some, ap, sym, subst, inl, inr, arith, cond, eqb, not, count_by, refl}
 use Rattle.std.specs.List.{range_with_len}
 use Rattle.std.proofs.lemmas.Bool.{ne_eqb}
+use Rattle.blocks.specs.Calls.{OnlyReads}
 use Rattle.blocks.specs.Disk.{Image, Rose, block_at}
+use Rattle.blocks.specs.Lemmas.Reads.{reads_then}
+use Rattle.blocks.specs.declared.disk.Disk.{Ghosts}
 use Rattle.offline.specs.Cause.{IsCause}
 use Rattle.offline.specs.declared.recovered.Recovered.{Recovered}
 use Rattle.model.specs.Fields.{u32_at, has_bit}
@@ -19,8 +22,11 @@ use Rattle.model.specs.declared.types.image.Super.{Super}
 use Rattle.model.specs.Lemmas.FileNumbers.{file_in-files_of, file_in-files_of_past}
 use Rattle.model.specs.Lemmas.Log.{length-recovered, recovered_low}
 use Rattle.model.specs.Lemmas.Super.{SuperFacts, lawful_geometry, long_where_sound, or_else_none, super_of-recovered, verdict_none}
-use Rattle.transfer.specs.Judging.{IsCheckedOf}
+use Rattle.transfer.specs.Judging.{IsCheckedOf, IsOldRefused, IsTold}
 use Rattle.transfer.specs.Needs.{free_count}
+use Rattle.transfer.specs.Places.{IsOtherOld, LacksOld}
+use Rattle.transfer.specs.declared.refused.PutRefusal.{PutRefusal}
+use Rattle.transfer.specs.declared.refused.PutRefusal.TheVariants.{Check, NoFile, NotAFile}
 
 -- ---- the superblock
 
@@ -70,6 +76,10 @@ module _ (x : Image) (image : Recovered) (is : IsCheckedOf x image) where
     unfolding file_of
     free_number free = file_here ∙ rw free refl
 
+    pub file_number : d.kind ≢ 0 → file_in (files_of (recovered x)) i ≡ Some (record { kind = d.kind; bytes = bytes_in (recovered x) d })
+    unfolding file_of
+    file_number used = file_here ∙ rw (ne_eqb d.kind 0 used) refl
+
     pub used_number : d.kind ≢ 0 → file_in (files_of (recovered x)) i ≢ None
     unfolding file_of
     used_number used none =
@@ -87,3 +97,21 @@ open_fault x old new fault sound (inl here) other =
     absurd (cc (here, ap (λ (g : Option CheckFault). or_else g (log_fault x)) first.0, second.0))
 open_fault x old new fault sound (inr (inl failed)) other = failed
 open_fault x old new fault sound (inr (inr refused)) other = absurd (other refused)
+
+-- ---- the old file is not one that bytes can be put in
+
+pub old_told : {D N : Type 0} (disk : Ghosts D N) (inum : Option ℕ) (count : ℕ) (d mid e : D) → verdict (disk.image d) ≡ None → OnlyReads disk d mid → OnlyReads disk mid e → disk.fault_count mid ≡ disk.fault_count d
+    → (r : PutRefusal) → IsOldRefused (recovered (disk.image mid)) inum (disk.fault_count mid) (disk.fault_count e) r → IsTold disk inum count d e r
+old_told disk inum count d mid e sound first then same (Check fault) why = record {
+  cause = inr (inl (why.0, subst (λ (n : ℕ). Rose n (disk.fault_count e)) same why.1));
+  reads = reads_then disk d mid e first then;
+}
+old_told disk inum count d mid e sound first then same NoFile why = record {
+  cause = (sound, why.1 ∙ same, subst (λ (x : Image). LacksOld (files_of (recovered x)) inum) first.image why.0);
+  reads = reads_then disk d mid e first then;
+}
+old_told disk inum count d mid e sound first then same NotAFile why = record {
+  cause = (sound, why.1 ∙ same, subst (λ (x : Image). IsOtherOld (files_of (recovered x)) inum) first.image why.0);
+  reads = reads_then disk d mid e first then;
+}
+old_told disk inum count d mid e sound first then same _ why = absurd why

@@ -1,7 +1,10 @@
 -- What calls come to over a disk that was judged, and recovered as its kernel was opened.
 use Rattle.std.proofs.Common.{◌≡◌, ◌∙◌, ◌≤◌, ℕ, List, Option, None, length, refl, sym, ap, subst, inl, inr}
 use Rattle.blocks.specs.Calls.{OnlyReads}
-use Rattle.blocks.specs.Disk.{Image, LeavesOnly, Rose}
+use Rattle.std.specs.Io.KnownBytes.{Appends}
+use Rattle.std.specs.Prelude.{Result, Ok, Err, IfErr, OnOk}
+use Rattle.blocks.specs.Disk.{AddsNone, Image, LeavesOnly, Rose}
+use Rattle.messages.specs.Output.{number_text}
 use Rattle.blocks.specs.Lemmas.Moments.{joined, now_stays, started, stays}
 use Rattle.blocks.specs.declared.disk.Disk.{Ghosts}
 use Rattle.model.specs.Files.{files_of}
@@ -17,17 +20,19 @@ use Rattle.calls.specs.Stepping.{Plain}
 use Rattle.wal.specs.Recovery.{IsCalm, LeavesIfCalm, RecoversAs}
 use Rattle.transfer.specs.Judging.{IsFit, IsTold}
 use Rattle.transfer.specs.Stopped.{KeepsPut, StaysPut}
-use Rattle.transfer.specs.Putting.{ComesTo, IsPut, IsUnopenedThen, IsUnput}
-use Rattle.transfer.specs.PutWriting.{CallsTo, Comes, IsUnwritten, IsWritten, KeepsPart}
+use Rattle.transfer.specs.Putting.{ComesTo, IsPut, IsUnopenedThen, IsUnput, IsUntold, Syncs}
+use Rattle.transfer.specs.PutWriting.{CallsTo, Comes, IsUnwritten, KeepsPart}
 use Rattle.transfer.specs.declared.refused.PutRefusal.{PutRefusal}
-use Rattle.transfer.specs.declared.refused.PutRefusal.TheVariants.{Check, NoFile, TooBig, Full, NoMemory, Unopened, NoInode, Disk, Output}
+use Rattle.transfer.specs.declared.refused.PutRefusal.TheVariants.{Check, NoFile, NotAFile, TooBig, Full, NoMemory, Unopened, NoInode, Disk, Output}
 use Rattle.transfer.specs.declared.writing.Outcome.{Outcome}
+use Rattle.transfer.specs.declared.writing.Outcome.TheVariants as outcome
 use Rattle.transfer.proofs.CallLemmas.{whole_then}
 
 -- what is told before anything is written
 pub told_so : {D N : Type 0} (disk : Ghosts D N) (inum : Option ℕ) (bytes : List ℕ) (d e : D) (none : Type 0) → none → (r : PutRefusal) → IsTold disk inum (length bytes) d e r → IsUnput disk inum bytes d e none r
 told_so disk inum bytes d e none silent (Check fault) why = (why, silent)
 told_so disk inum bytes d e none silent NoFile why = (why, silent)
+told_so disk inum bytes d e none silent NotAFile why = (why, silent)
 told_so disk inum bytes d e none silent TooBig why = (why, silent)
 told_so disk inum bytes d e none silent Full why = (inl why, silent)
 told_so disk inum bytes d e none silent NoMemory why = (inl why, silent)
@@ -39,10 +44,11 @@ told_so disk inum bytes d e none silent Output why = absurd why.cause
 module _ {D N : Type 0} (disk : Ghosts D N) (inum : Option ℕ) (bytes : List ℕ) (d mid : D) (fit : IsFit disk inum (length bytes) d mid) where
   -- ---- no kernel is opened
 
-  pub unopened_then : (e : D) (fault : OpenFault) → IsNotOpenedSole disk mid e fault → IsUnopenedThen disk d e fault
+  pub unopened_then : (e : D) (fault : OpenFault) → IsNotOpenedSole disk mid e fault → IsUnopenedThen disk inum d e fault
   unopened_then e fault why = record {
     mid = mid;
     sound = fit.sound;
+    plain = fit.room.plain;
     reads = fit.reads;
     faults = fit.faults;
     unopened = why;
@@ -60,33 +66,54 @@ module _ {D N : Type 0} (disk : Ghosts D N) (inum : Option ℕ) (bytes : List �
     comes_to : (e : D) (outcome : Outcome) → CallsTo disk inum bytes k.store.volume.device e outcome → ComesTo disk inum bytes d e outcome
     comes_to e outcome calls = record {
       sound = fit.sound;
+      plain = fit.room.plain;
       whole = subst (λ (x : Image). IsWhole x (disk.image e)) fit.reads.image
           (whole_then (disk.image mid) (image_on disk.image k) (disk.image e) opened.whole calls.whole);
       comes = subst (λ (x : Image). Comes x inum bytes (disk.image e) outcome) begun calls.comes;
       faults = calls.faults ∙ faults;
     }
 
-    pub written_so : (e : D) (old new : Option (List ℕ)) → IsWritten disk inum bytes k.store.volume.device e old new → IsPut disk inum bytes d e old new
-    written_so e old new written = record {
-      number = written.number;
-      put = comes_to e _ written.calls;
-      printed = written.printed;
-    }
-
-    pub unwritten_so : (e : D) (none : Type 0) (r : PutRefusal) → IsUnwritten disk inum bytes k.store.volume.device e none r → IsUnput disk inum bytes d e none r
-    unwritten_so e none NoInode why = (comes_to e _ why.0, why.1)
-    unwritten_so e none Full why = (inr (comes_to e _ why.0), why.1)
-    unwritten_so e none NoMemory why = (
+    pub unwritten_so : (e : D) (none : Type 0) → none → (r : PutRefusal) → IsUnwritten disk inum bytes k.store.volume.device e r → IsUnput disk inum bytes d e none r
+    unwritten_so e none silent NoInode why = (comes_to e _ why, silent)
+    unwritten_so e none silent Full why = (inr (comes_to e _ why), silent)
+    unwritten_so e none silent NoMemory why = (
       inr (record {
         sound = fit.sound;
-        keeps = subst (λ (x : Image). KeepsPart x inum bytes (disk.image e)) begun why.0.1;
-        faults = why.0.0 ∙ faults;
+        plain = fit.room.plain;
+        keeps = subst (λ (x : Image). KeepsPart x inum bytes (disk.image e)) begun why.1;
+        faults = why.0 ∙ faults;
       }),
-      why.1,
+      silent,
     )
-    unwritten_so e none (Disk cause) why = ((fit.sound, subst (λ (n : ℕ). Rose n (disk.fault_count e)) faults why.0), why.1)
-    unwritten_so e none Output why = (why.0, comes_to e _ why.1)
-    unwritten_so e none r why = absurd why
+    unwritten_so e none silent (Disk cause) why = (record { sound = fit.sound; plain = fit.room.plain; faults = subst (λ (n : ℕ). Rose n (disk.fault_count e)) faults why }, silent)
+    unwritten_so e none silent r why = absurd why
+
+    -- ---- and then a sync
+
+    module _ (unsynced e : D) (number : ℕ) (calls : CallsTo disk inum bytes k.store.volume.device unsynced (outcome.Put number)) where
+      synced_so : Syncs disk unsynced e → ComesTo disk inum bytes d e (outcome.Put number)
+      synced_so syncs =
+          let put = comes_to unsynced _ calls in
+          record {
+            sound = put.sound;
+            plain = put.plain;
+            whole = subst (IsWhole (disk.image d)) (sym syncs.image) put.whole;
+            comes = subst (λ (y : Image). Comes (recovered (disk.image d)) inum bytes y (outcome.Put number)) (sym syncs.image) put.comes;
+            faults = syncs.faults ∙ put.faults;
+          }
+
+      pub put_so : (r : Result (Unit {0}) PutRefusal) (old new : Option (List ℕ)) → OnOk r (Syncs disk unsynced e) → OnOk r (Appends old new (number_text number)) → OnOk r (IsPut disk inum bytes d e old new)
+      put_so (Ok _) old new syncs printed = record { number = number; put = synced_so syncs; unsynced = unsynced; syncs = syncs; printed = printed }
+      put_so (Err r) old new syncs printed = tt
+
+      untold_so : (none : Type 0) (r : PutRefusal) → IsUntold disk unsynced e none r → IsUnput disk inum bytes d e none r
+      untold_so none (Disk cause) why = (record { sound = fit.sound; plain = fit.room.plain; faults = subst (λ (n : ℕ). Rose n (disk.fault_count e)) (calls.faults ∙ faults) why.0 }, why.1)
+      untold_so none Output why = record { number = number; put = synced_so why; unsynced = unsynced; syncs = why }
+      untold_so none r why = absurd why
+
+      pub put_untold : (r : Result (Unit {0}) PutRefusal) (none : Type 0) → IfErr r (IsUntold disk unsynced e none) → IfErr r (IsUnput disk inum bytes d e none)
+      put_untold (Ok _) none why = tt
+      put_untold (Err r) none why = untold_so none r why
 
 -- ---- what a stop leaves of the whole
 
@@ -122,3 +149,8 @@ module _ {D N : Type 0} (disk : Ghosts D N) (counts_now : (e : D) (t : ℕ) (x :
       joined disk.moment disk.leaves d k.opening m.store.volume.device Keeps (recovered_leaves k.opening opened.leaves)
       (subst (λ (o : D). LeavesOnly disk.moment disk.leaves o m.store.volume.device Keeps) opened.device
       (subst (λ (x : Image). LeavesOnly disk.moment disk.leaves k.store.volume.device m.store.volume.device (KeepsPut x inum bytes)) begun put.leaves))
+
+  -- and then a sync
+  pub synced_leaves : (k m : Plain D) (e : D) → IsOpenedSole disk mid k → StaysPut disk (image_on disk.image k) inum bytes k m → AddsNone (disk.moment m.store.volume.device) (disk.moment e) (disk.leaves m.store.volume.device) (disk.leaves e)
+      → LeavesOnly disk.moment disk.leaves d e (KeepsPut (recovered (disk.image d)) inum bytes)
+  synced_leaves k m e opened put time = stays disk.moment disk.leaves d m.store.volume.device e Keeps (put_leaves k m opened put) time

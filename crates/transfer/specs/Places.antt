@@ -42,6 +42,17 @@ abbrev pub LacksOld : Files → Option ℕ → Type 0
 LacksOld files (Some inum) = file_in files inum ≡ None
 LacksOld files None = ⊥
 
+-- it is a plain file; or one of another type, a directory or a device
+abbrev pub IsPlainOld : Files → Option ℕ → Type 0
+IsPlainOld files (Some inum) =
+    (file : File) × (file_in files inum ≡ Some file) × (file.kind ≡ 2)
+IsPlainOld files None = ⊤
+
+abbrev pub IsOtherOld : Files → Option ℕ → Type 0
+IsOtherOld files (Some inum) =
+    (file : File) × (file_in files inum ≡ Some file) × (file.kind ≢ 2)
+IsOtherOld files None = ⊥
+
 -- all of the bytes were put, at number i
 pub record PutsAll (old : Files) (inum : Option ℕ) (bytes : List ℕ) (new : Files) (i : ℕ)
     : Type 0 where

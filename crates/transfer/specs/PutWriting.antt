@@ -1,6 +1,5 @@
 -- What calls that put bytes come to.
 use Rattle.std.specs.Prelude.{◌≡◌, ◌<◌, ◌≤◌, ℕ, Bool, true, false, List, length, take, Option, Some, None}
-use Rattle.std.specs.Io.KnownBytes.{Appends}
 use Rattle.blocks.specs.Disk.{Image, Rose}
 use Rattle.blocks.specs.declared.disk.Disk.{Ghosts}
 use Rattle.model.specs.Files.{files_of}
@@ -11,10 +10,9 @@ use Rattle.calls.specs.Calls.{IsWhole, Rests, call_count, image_on}
 use Rattle.calls.specs.Stepping.{Plain}
 use Rattle.calls.specs.declared.fault.CallFault.{CallFault}
 use Rattle.calls.specs.declared.fault.CallFault.TheVariants as fault
-use Rattle.messages.specs.Output.{number_text}
 use Rattle.transfer.specs.Places.{HasNoFree, IsPlace, MayPut, PutsAll, put_at}
 use Rattle.transfer.specs.declared.refused.PutRefusal.{PutRefusal}
-use Rattle.transfer.specs.declared.refused.PutRefusal.TheVariants.{Full, NoMemory, NoInode, Disk, Output}
+use Rattle.transfer.specs.declared.refused.PutRefusal.TheVariants.{Full, NoMemory, NoInode, Disk}
 use Rattle.transfer.specs.declared.writing.Outcome.{Outcome}
 use Rattle.transfer.specs.declared.writing.Outcome.TheVariants as outcome
 
@@ -87,23 +85,11 @@ pub record CallsTo {D N : Type 0} (disk : Ghosts D N) (inum : Option ℕ) (bytes
   pub comes : Comes (disk.image d) inum bytes (disk.image e) outcome
   pub faults : disk.fault_count e ≡ disk.fault_count d
 
--- the bytes were put, and the number of their file was printed
-pub record IsWritten {D N : Type 0} (disk : Ghosts D N) (inum : Option ℕ) (bytes : List ℕ)
-    (d e : D) (old new : Option (List ℕ)) : Type 0 where
-  pub number : ℕ
-  pub calls : CallsTo disk inum bytes d e (outcome.Put number)
-  pub printed : Appends old new (number_text number)
-
--- why not; `none` says that nothing was printed
-abbrev pub IsUnwritten : {D N : Type 0} → Ghosts D N → Option ℕ → List ℕ → D → D → Type 0
-    → PutRefusal → Type 0
-IsUnwritten disk inum bytes d e none NoInode =
-    CallsTo disk inum bytes d e outcome.NoInode × none
-IsUnwritten disk inum bytes d e none Full = CallsTo disk inum bytes d e outcome.Full × none
-IsUnwritten disk inum bytes d e none NoMemory =
-    IsCutOff disk inum bytes d e fault.NoMemory × none
-IsUnwritten disk inum bytes d e none (Disk cause) =
-    IsCutOff disk inum bytes d e (fault.Disk cause) × none
-IsUnwritten disk inum bytes d e none Output =
-    (i : ℕ) × CallsTo disk inum bytes d e (outcome.Put i)
-IsUnwritten disk inum bytes d e none r = ⊥
+-- why the bytes were not all put
+abbrev pub IsUnwritten : {D N : Type 0} → Ghosts D N → Option ℕ → List ℕ → D → D → PutRefusal
+    → Type 0
+IsUnwritten disk inum bytes d e NoInode = CallsTo disk inum bytes d e outcome.NoInode
+IsUnwritten disk inum bytes d e Full = CallsTo disk inum bytes d e outcome.Full
+IsUnwritten disk inum bytes d e NoMemory = IsCutOff disk inum bytes d e fault.NoMemory
+IsUnwritten disk inum bytes d e (Disk cause) = IsCutOff disk inum bytes d e (fault.Disk cause)
+IsUnwritten disk inum bytes d e r = ⊥

@@ -4,40 +4,55 @@ use Rattle.std.specs.Io.KnownBytes.{Appends}
 use Rattle.blocks.specs.Calls.{OnlyReads}
 use Rattle.blocks.specs.Disk.{Rose}
 use Rattle.blocks.specs.declared.disk.Disk.{Ghosts}
+use Rattle.model.specs.Files.{files_of}
 use Rattle.model.specs.Log.{recovered}
 use Rattle.model.specs.Verdict.{verdict}
 use Rattle.kernel.specs.declared.types.OpenFault.{OpenFault}
+use Rattle.wal.specs.Recovery.{Settles}
 use Rattle.calls.specs.Calls.{IsWhole}
 use Rattle.calls.specs.Opening.{IsNotOpenedSole}
 use Rattle.messages.specs.Output.{number_text}
 use Rattle.transfer.specs.Judging.{IsTold}
+use Rattle.transfer.specs.Places.{IsPlainOld}
 use Rattle.transfer.specs.PutWriting.{Comes, KeepsPart}
 use Rattle.transfer.specs.declared.refused.PutRefusal.{PutRefusal}
-use Rattle.transfer.specs.declared.refused.PutRefusal.TheVariants.{Check, NoFile, TooBig, Full, NoMemory, Unopened, NoInode, Disk, Output}
+use Rattle.transfer.specs.declared.refused.PutRefusal.TheVariants.{Check, NoFile, NotAFile, TooBig, Full, NoMemory, Unopened, NoInode, Disk, Output}
 use Rattle.transfer.specs.declared.writing.Outcome.{Outcome}
 use Rattle.transfer.specs.declared.writing.Outcome.TheVariants as outcome
 
--- The disk d, now e, had no fault. Its image is sound, with nothing logged, of the same size and
+-- a sync of the disk d, now e, was done, and nothing is held any more
+pub record Syncs {D N : Type 0} (disk : Ghosts D N) (d e : D) : Type 0 where
+  pub image : disk.image e ≡ disk.image d
+  pub writes : disk.write_count e ≡ disk.write_count d
+  pub faults : disk.fault_count e ≡ disk.fault_count d
+  pub settles : Settles disk 1 d e
+
+-- The disk d, now e, had no fault, and the old file, if one is named, was a plain one. Its image is sound, with nothing logged, of the same size and
 -- superblock, and calls came to this; none failed.
 pub record ComesTo {D N : Type 0} (disk : Ghosts D N) (inum : Option ℕ) (bytes : List ℕ) (d e : D)
     (outcome : Outcome) : Type 0 where
   pub sound : verdict (disk.image d) ≡ None
+  pub plain : IsPlainOld (files_of (recovered (disk.image d))) inum
   pub whole : IsWhole (disk.image d) (disk.image e)
   pub comes : Comes (recovered (disk.image d)) inum bytes (disk.image e) outcome
   pub faults : disk.fault_count e ≡ disk.fault_count d
 
--- the bytes were put, and the number of their file was printed
+-- the bytes were put, the last call to the disk was a sync that was done, and the number of their
+-- file was printed
 pub record IsPut {D N : Type 0} (disk : Ghosts D N) (inum : Option ℕ) (bytes : List ℕ) (d e : D)
     (old new : Option (List ℕ)) : Type 0 where
   pub number : ℕ
   pub put : ComesTo disk inum bytes d e (outcome.Put number)
+  pub unsynced : D
+  pub syncs : Syncs disk unsynced e
   pub printed : Appends old new (number_text number)
 
 -- no kernel was opened over the disk d, now e, which was only read before
-pub record IsUnopenedThen {D N : Type 0} (disk : Ghosts D N) (d e : D) (fault : OpenFault)
-    : Type 0 where
+pub record IsUnopenedThen {D N : Type 0} (disk : Ghosts D N) (inum : Option ℕ) (d e : D)
+    (fault : OpenFault) : Type 0 where
   pub mid : D
   pub sound : verdict (disk.image d) ≡ None
+  pub plain : IsPlainOld (files_of (recovered (disk.image d))) inum
   pub reads : OnlyReads disk d mid
   pub faults : disk.fault_count mid ≡ disk.fault_count d
   pub unopened : IsNotOpenedSole disk mid e fault
@@ -46,8 +61,30 @@ pub record IsUnopenedThen {D N : Type 0} (disk : Ghosts D N) (d e : D) (fault : 
 pub record RunsOut {D N : Type 0} (disk : Ghosts D N) (inum : Option ℕ) (bytes : List ℕ) (d e : D)
     : Type 0 where
   pub sound : verdict (disk.image d) ≡ None
+  pub plain : IsPlainOld (files_of (recovered (disk.image d))) inum
   pub keeps : KeepsPart (recovered (disk.image d)) inum bytes (disk.image e)
   pub faults : disk.fault_count e ≡ disk.fault_count d
+
+-- the disk failed, over an image without a fault
+pub record FailsSound {D N : Type 0} (disk : Ghosts D N) (inum : Option ℕ) (d e : D) : Type 0
+  where
+    pub sound : verdict (disk.image d) ≡ None
+    pub plain : IsPlainOld (files_of (recovered (disk.image d))) inum
+    pub faults : Rose (disk.fault_count d) (disk.fault_count e)
+
+-- the bytes were put, and synced, but the number of their file could not be printed
+pub record HasPutUntold {D N : Type 0} (disk : Ghosts D N) (inum : Option ℕ) (bytes : List ℕ)
+    (d e : D) : Type 0 where
+  pub number : ℕ
+  pub put : ComesTo disk inum bytes d e (outcome.Put number)
+  pub unsynced : D
+  pub syncs : Syncs disk unsynced e
+
+-- why the number of a file that was put on the disk d, now e, was not printed
+abbrev pub IsUntold : {D N : Type 0} → Ghosts D N → D → D → Type 0 → PutRefusal → Type 0
+IsUntold disk d e none (Disk fault) = Rose (disk.fault_count d) (disk.fault_count e) × none
+IsUntold disk d e none Output = Syncs disk d e
+IsUntold disk d e none r = ⊥
 
 -- Why the bytes were not put into the image of the disk d, now e, or their number was not printed.
 -- Of what is told before anything is written the disk was only read. `none` says that nothing was
@@ -57,15 +94,17 @@ abbrev pub IsUnput : {D N : Type 0} → Ghosts D N → Option ℕ → List ℕ �
 IsUnput disk inum bytes d e none (Check fault) =
     IsTold disk inum (length bytes) d e (Check fault) × none
 IsUnput disk inum bytes d e none NoFile = IsTold disk inum (length bytes) d e NoFile × none
+IsUnput disk inum bytes d e none NotAFile =
+    IsTold disk inum (length bytes) d e NotAFile × none
 IsUnput disk inum bytes d e none TooBig = IsTold disk inum (length bytes) d e TooBig × none
 IsUnput disk inum bytes d e none Full =
     (IsTold disk inum (length bytes) d e Full ⊎ ComesTo disk inum bytes d e outcome.Full) × none
 IsUnput disk inum bytes d e none NoMemory =
     (IsTold disk inum (length bytes) d e NoMemory ⊎ RunsOut disk inum bytes d e) × none
-IsUnput disk inum bytes d e none (Unopened fault) = IsUnopenedThen disk d e fault × none
+IsUnput disk inum bytes d e none (Unopened fault) =
+    IsUnopenedThen disk inum d e fault × none
 IsUnput disk inum bytes d e none NoInode =
     ComesTo disk inum bytes d e outcome.NoInode × none
 IsUnput disk inum bytes d e none (Disk fault) =
-    ((verdict (disk.image d) ≡ None) × Rose (disk.fault_count d) (disk.fault_count e)) × none
-IsUnput disk inum bytes d e none Output =
-    (i : ℕ) × ComesTo disk inum bytes d e (outcome.Put i)
+    FailsSound disk inum d e × none
+IsUnput disk inum bytes d e none Output = HasPutUntold disk inum bytes d e

@@ -18,6 +18,7 @@ copy_telling copy.Disk = plain (codes "copy") 6 (codes "Disk")
 abbrev pub put_telling : PutRefusal → Telling
 put_telling (put.Check fault) = check_telling fault
 put_telling put.NoFile = plain (codes "put") 1 (codes "NoFile")
+put_telling put.NotAFile = plain (codes "put") 7 (codes "NotAFile")
 put_telling put.NoInode = plain (codes "put") 2 (codes "NoInode")
 put_telling put.TooBig = plain (codes "put") 3 (codes "TooBig")
 put_telling put.Full = plain (codes "put") 4 (codes "Full")

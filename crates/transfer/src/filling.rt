@@ -21,7 +21,7 @@ use offline::laws::checked_files_may_be_read;
 use std::alloc::Global;
 
 // The type of a plain file, `T_FILE` of xv6.
-const PLAIN: u16 = 2;
+pub(crate) const PLAIN: u16 = 2;
 
 /// Writes the files of the old image to a kernel without files, each with its number.
 pub(crate) fn fill<D: Disk, E: Disk, P: Progress>(

@@ -1,12 +1,11 @@
 // What is told of an image before anything is written.
-ghost use Rattle.std.specs.Prelude.{◌≡◌, ◌≤◌, ◌^◌, IfErr, IfOk, MatchOption, OnOk, length};
+ghost use Rattle.std.specs.Prelude.{◌≡◌, ◌≤◌, ◌^◌, IfErr, IfOk, OnOk, length};
 ghost use Rattle.blocks.specs.Calls.{OnlyReads};
-ghost use Rattle.model.specs.Files.{files_of};
 ghost use Rattle.model.specs.Log.{recovered};
-ghost use Rattle.transfer.specs.Judging.{FailsByDisk, FindsOld, IsCheckedOf, IsFit, IsTold};
+ghost use Rattle.transfer.specs.Judging.{FailsByDisk, FindsOld, IsCheckedOf, IsFit, IsOldRefused, IsTold};
 ghost use Rattle.transfer.specs.Needs.{free_count};
-ghost use Rattle.transfer.specs.Places.{LacksOld};
 
+use crate::filling::PLAIN;
 use crate::needs::{count_free, needed_blocks};
 use crate::refused::PutRefusal;
 use blocks::{Block, Disk};
@@ -29,9 +28,7 @@ pub fn judge<D: Disk>(
         return Err(PutRefusal::NoMemory);
     };
     let image = Recovered::open(disk, &mut block)?;
-    let Some(old) = old_blocks(disk, &image, &mut block, inum)? else {
-        return Err(PutRefusal::NoFile);
-    };
+    let old = old_blocks(disk, &image, &mut block, inum)?;
     if count > greatest_size(image.form) as usize {
         return Err(PutRefusal::TooBig);
     }
@@ -42,32 +39,38 @@ pub fn judge<D: Disk>(
     Ok(())
 }
 
-// The blocks that the size of the old file needs, of a disk that was checked; None where it isn't
-// there.
+// The blocks that the size of the old file needs, of a disk that was checked. It has to be there, and
+// to be a plain file.
 fn old_blocks<D: Disk>(
     disk: &mut D,
     image: &Recovered,
     block: &mut Block,
     inum: Option<u32>,
-) -> Result<Option<u32>, CheckFault>
+) -> Result<u32, PutRefusal>
     requires checked { IsCheckedOf (D.image disk.old) image.now }
-    ensures found { IfOk result (λ found. MatchOption found
-        (LacksOld (files_of (recovered (D.image disk.old))) inum)
-        (FindsOld (recovered (D.image disk.old)) inum)) }
+    ensures found { IfOk result (FindsOld (recovered (D.image disk.old)) inum) }
+    ensures refused { IfErr result (IsOldRefused (recovered (D.image disk.old)) inum
+        (D.fault_count disk.old) (D.fault_count disk.new)) }
     ensures reads { OnlyReads D.Disk disk.old disk.new }
-    ensures faults { FailsByDisk result (D.fault_count disk.old) (D.fault_count disk.new) }
+    ensures faults { OnOk result (D.fault_count disk.new ≡ D.fault_count disk.old) }
 {
     let Some(number) = inum else {
-        return Ok(Some(0));
+        return Ok(0);
     };
     if number == 0 || number >= image.sup.ninodes {
-        return Ok(None);
+        return Err(PutRefusal::NoFile);
     }
-    let inode = image.inode(disk, number, block)?;
+    let inode = match image.inode(disk, number, block) {
+        Ok(inode) => inode,
+        Err(_failed) => return Err(PutRefusal::Check(CheckFault::Disk)),
+    };
     if inode.kind == 0 {
-        return Ok(None);
+        return Err(PutRefusal::NoFile);
     }
-    Ok(Some(needed_blocks(image.form, inode.size)))
+    if inode.kind != PLAIN {
+        return Err(PutRefusal::NotAFile);
+    }
+    Ok(needed_blocks(image.form, inode.size))
 }
 
 // The free blocks of a disk that was checked.

@@ -1,5 +1,8 @@
 // A file's bytes put into an image.
-ghost use Rattle.std.specs.Prelude.{◌≡◌, ◌≤◌, ◌^◌, IfErr, OnOk, length};
+ghost use Rattle.std.specs.Prelude.{◌≡◌, ◌≤◌, ◌^◌, IfErr, IfOk, OnOk, length};
+ghost use Rattle.std.specs.Io.KnownBytes.{Appends};
+ghost use Rattle.blocks.specs.Disk.{AddsNone};
+ghost use Rattle.messages.specs.Output.{number_text};
 ghost use Rattle.model.specs.Layout.{form_of, greatest_size};
 ghost use Rattle.model.specs.Log.{recovered};
 ghost use Rattle.model.specs.Verdict.{verdict};
@@ -7,9 +10,10 @@ ghost use Rattle.wal.specs.Recovery.{LeavesIfCalm};
 ghost use Rattle.calls.specs.Calls.{image_on};
 ghost use Rattle.calls.specs.Files.{files_on};
 ghost use Rattle.transfer.specs.Places.{HasOld};
-ghost use Rattle.transfer.specs.Putting.{IsPut, IsUnput};
+ghost use Rattle.transfer.specs.Putting.{IsPut, IsUnput, IsUntold, Syncs};
 ghost use Rattle.transfer.specs.Stopped.{KeepsPut, StaysPut};
-ghost use Rattle.transfer.specs.PutWriting.{IsUnwritten, IsWritten, MayCall};
+ghost use Rattle.transfer.specs.PutWriting.{CallsTo, IsUnwritten, MayCall};
+ghost use Rattle.transfer.specs.declared.writing.Outcome.TheVariants as outcome;
 
 use crate::judging::judge;
 use crate::refused::PutRefusal;
@@ -19,11 +23,12 @@ use calls::{CallFault, Sole, open_sole};
 use messages::print_number;
 use std::alloc::Global;
 use std::io::Write;
+use wal::DeviceFault;
 
 /// Puts bytes into the image of a disk, and prints the number of their file: they take the place of
-/// those of the file of this number, which keeps its type, or are those of a new file of type 2 at
-/// the lowest free number. The image is checked and recovered first; then each call is a whole
-/// operation (the xv6 book, the chapter "File system": "Logging layer"). So a stop at any moment
+/// those of the plain file of this number, of type 2, or are those of a new one at the lowest free
+/// number. The image is checked and recovered first, and the disk synced at the end; each call is a
+/// whole operation (the xv6 book, the chapter "File system": "Logging layer"). So a stop at any moment
 /// leaves, once recovered, the files as they were, or with the old file, or a new one, in which the
 /// first of the bytes stand.
 ///
@@ -32,15 +37,16 @@ use std::io::Write;
 /// # Errors
 ///
 /// `Check` with a fault of the image or of its check, or with `Disk` where a read behind the check
-/// failed. `NoFile` where there is no file of that number, `TooBig` where a file of the image's form
+/// failed. `NoFile` where there is no file of that number, `NotAFile` where that has another type than
+/// 2, `TooBig` where a file of the image's form
 /// can't have so many bytes, `Full` where they need more blocks than are free or needed by the old
 /// file, and `NoMemory`. With these the disk was only read.
 ///
 /// `Unopened` with a fault of the kernel's opening. Then `NoInode` where each number is taken: the
 /// files are as before. `Full` where no block is free for all bytes after all: a new file was removed
 /// again, an old one keeps the first of the bytes. `NoMemory`: the files are as before, or the first
-/// of the bytes are put. `Disk` where the disk failed. With all these nothing was printed. `Output`:
-/// the bytes are put.
+/// of the bytes are put. `Disk` where the disk failed, in a call or in the sync. With all these nothing
+/// was printed. `Output`: the bytes are put, and the disk is synced.
 pub fn put_disk<D: Disk + Drop, O: Write>(
     alloc: Global,
     disk: D,
@@ -64,33 +70,54 @@ pub fn put_disk<D: Disk + Drop, O: Write>(
         Ok(kernel) => kernel,
         Err((fault, disk)) => return (Err(PutRefusal::Unopened(fault)), disk),
     };
-    let put = put(alloc, &mut kernel, bytes, inum, out);
-    (put, kernel.into_disk())
+    match put(alloc, &mut kernel, bytes, inum) {
+        Ok(number) => {
+            let mut disk = kernel.into_disk();
+            let told = tell(&mut disk, number, out);
+            (told, disk)
+        }
+        Err(refusal) => (Err(refusal), kernel.into_disk()),
+    }
 }
 
-// Puts bytes through a kernel, and prints the number of their file.
-fn put<D: Disk, O: Write>(
+// Puts bytes through a kernel. The number of their file.
+fn put<D: Disk>(
     alloc: Global,
     kernel: &mut Sole<D>,
     bytes: &[u8],
     inum: Option<u32>,
-    out: &mut O,
-) -> Result<(), PutRefusal>
+) -> Result<u32, PutRefusal>
     requires ready { MayCall D.Disk (2 ^ 31) kernel.old }
     requires there { HasOld (files_on D.image kernel.old) inum }
     requires short { length bytes.now ≤ greatest_size (form_of (image_on D.image kernel.old)) }
-    ensures put { OnOk result (IsWritten D.Disk inum bytes.now kernel.old.store.volume.device
-        kernel.new.store.volume.device (O.contents out.old) (O.contents out.new)) }
+    ensures put { IfOk result (λ number. CallsTo D.Disk inum bytes.now
+        kernel.old.store.volume.device kernel.new.store.volume.device (outcome.Put number)) }
     ensures refused { IfErr result (IsUnwritten D.Disk inum bytes.now
-        kernel.old.store.volume.device kernel.new.store.volume.device (out.new ≡ out.old)) }
+        kernel.old.store.volume.device kernel.new.store.volume.device) }
     ensures stays { StaysPut D.Disk (image_on D.image kernel.old) inum bytes.now
         kernel.old kernel.new }
 {
     match put_bytes(alloc, kernel, bytes, inum) {
-        Ok(Outcome::Put(number)) => print_number(out, number).map_err(|_| PutRefusal::Output),
+        Ok(Outcome::Put(number)) => Ok(number),
         Ok(Outcome::NoInode) => Err(PutRefusal::NoInode),
         Ok(Outcome::Full) => Err(PutRefusal::Full),
         Err(CallFault::Disk(fault)) => Err(PutRefusal::Disk(fault)),
         Err(CallFault::NoMemory) => Err(PutRefusal::NoMemory),
     }
+}
+
+// Syncs a disk on which bytes were put, and prints the number of their file.
+fn tell<D: Disk, O: Write>(disk: &mut D, number: u32, out: &mut O) -> Result<(), PutRefusal>
+    ensures syncs { OnOk result (Syncs D.Disk disk.old disk.new) }
+    ensures printed { OnOk result
+        (Appends (O.contents out.old) (O.contents out.new) (number_text number)) }
+    ensures refused { IfErr result (IsUntold D.Disk disk.old disk.new (out.new ≡ out.old)) }
+    ensures name { D.name disk.new ≡ D.name disk.old }
+    ensures time { AddsNone (D.moment disk.old) (D.moment disk.new)
+        (D.leaves disk.old) (D.leaves disk.new) }
+{
+    if let Err(fault) = disk.sync() {
+        return Err(PutRefusal::Disk(DeviceFault::Sync(fault)));
+    }
+    print_number(out, number).map_err(|_| PutRefusal::Output)
 }

@@ -15,6 +15,8 @@ pub enum PutRefusal {
     Check(CheckFault),
     /// There is no file of that number.
     NoFile,
+    /// The file of that number is a directory or a device of xv6.
+    NotAFile,
     /// A file of the image's form can't have so many bytes.
     TooBig,
     /// The image has too few free blocks for them.
@@ -26,7 +28,7 @@ pub enum PutRefusal {
     Unopened(OpenFault),
     /// No inode number is free.
     NoInode,
-    /// The disk failed in a call.
+    /// The disk failed in a call, or in the sync at the end.
     Disk(DeviceFault),
     /// The output can't be written.
     Output,
@@ -39,6 +41,7 @@ impl Reason for PutRefusal {
         match self {
             PutRefusal::Check(fault) => fault.told(),
             PutRefusal::NoFile => Told::new("put", 1, "NoFile"),
+            PutRefusal::NotAFile => Told::new("put", 7, "NotAFile"),
             PutRefusal::NoInode => Told::new("put", 2, "NoInode"),
             PutRefusal::TooBig => Told::new("put", 3, "TooBig"),
             PutRefusal::Full => Told::new("put", 4, "Full"),

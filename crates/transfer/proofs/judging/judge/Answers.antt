@@ -1,18 +1,15 @@
-use Rattle.std.proofs.Common.{◌≡◌, ◌∙◌, ℕ, Option, ap, subst, inl, inr, arith}
-use Rattle.std.specs.Prelude.{MatchOption}
+use Rattle.std.proofs.Common.{◌≡◌, ◌∙◌, ℕ, ap, subst, inl, inr, arith}
 use Rattle.std.proofs.lemmas.Result.{err_from_is_err_and}
 use Rattle.blocks.specs.Disk.{Image, Rose}
 use Rattle.blocks.specs.Lemmas.Reads.{reads_then}
 use Rattle.offline.specs.Recovered.{IsRecoveredOf}
-use Rattle.model.specs.Files.{files_of}
 use Rattle.model.specs.Layout.{form_of, greatest_size}
 use Rattle.model.specs.Log.{recovered}
 use Rattle.model.specs.Verdict.{verdict}
 use Rattle.model.specs.declared.types.image.Form.{Form}
 use Rattle.transfer.specs.Judging.{FindsOld, IsCheckedOf}
 use Rattle.transfer.specs.Needs.{free_count, needed_blocks}
-use Rattle.transfer.specs.Places.{LacksOld}
-use Rattle.transfer.proofs.ImageLemmas.{form_recovered, open_fault}
+use Rattle.transfer.proofs.ImageLemmas.{form_recovered, old_told, open_fault}
 use Rattle.transfer.proofs.judging.judge.Goals as goal
 
 pub returns-in_err-image-clause-refused : goal.returns-in_err-image-clause-refused
@@ -30,6 +27,15 @@ returns-in_err-image-clause-refused g c =
       reads = reads_then d c.args.disk.now c.check.new.disk c.open.new.disk first c.open.ensures.reads;
     })
 
+pub returns-in_err-old-clause-refused : goal.returns-in_err-old-clause-refused
+returns-in_err-old-clause-refused g c =
+    let d = g.D.Disk in
+    let read = reads_then d c.args.disk.now c.check.new.disk c.open.new.disk c.check.ensures.reads c.open.ensures.reads in
+    let p = err_from_is_err_and c.from_residual-in_err-old.result c.from_residual-in_err-old.ensures.1 in
+    rw (p.1, p.2)
+    (old_told d c.args.inum c.args.count c.args.disk.now c.open.new.disk c.old_blocks.new.disk c.in_ok-check.ensures.ok read c.old_blocks.ensures.reads
+    (c.in_ok-image.ensures.faults ∙ c.in_ok-check.ensures.faults) c.in_err-old.field-0.0 c.in_err-old.ensures.refused)
+
 pub returns-then-count-greatest_size-clause-refused : goal.returns-then-count-greatest_size-clause-refused
 returns-then-count-greatest_size-clause-refused g c =
     let d = g.D.Disk in
@@ -40,14 +46,12 @@ returns-then-count-greatest_size-clause-refused g c =
     let image = c.in_ok-image.image in
     let checked : IsCheckedOf x image = record { recovered = subst (λ (z : Image). IsRecoveredOf z image) first.image c.in_ok-image.ensures.ok; sound = sound } in
     let form : image.form ≡ form_of (recovered x) = form_recovered x image checked in
-    let found = subst (λ (o : Option ℕ). MatchOption o (LacksOld (files_of (recovered (d.image c.open.new.disk))) c.args.inum) (FindsOld (recovered (d.image c.open.new.disk)) c.args.inum))
-    c.in-Some.is c.in_ok-old.ensures.found in
-    let old : FindsOld (recovered x) c.args.inum c.in-Some.old = subst (λ (z : Image). FindsOld (recovered z) c.args.inum c.in-Some.old) read.image found in
+    let old : FindsOld (recovered x) c.args.inum c.in_ok-old.old = subst (λ (z : Image). FindsOld (recovered z) c.args.inum c.in_ok-old.old) read.image c.in_ok-old.ensures.found in
     let read_old = reads_then d c.args.disk.now c.open.new.disk c.old_blocks.new.disk read c.old_blocks.ensures.reads in
     let faults : d.fault_count c.old_blocks.new.disk ≡ d.fault_count c.args.disk.now = c.in_ok-old.ensures.faults ∙ c.in_ok-image.ensures.faults ∙ c.in_ok-check.ensures.faults in
     let size : c.greatest_size.result ≡ greatest_size (form_of (recovered x)) = c.greatest_size.ensures ∙ ap greatest_size form in
     record {
-      cause = (sound, faults, omega (arith, c.if-count-greatest_size.true, size));
+      cause = (sound, faults, old.plain, omega (arith, c.if-count-greatest_size.true, size));
       reads = read_old;
     }
 
@@ -61,9 +65,7 @@ returns-then-needed_blocks-free-clause-refused g c =
     let image = c.in_ok-image.image in
     let checked : IsCheckedOf x image = record { recovered = subst (λ (z : Image). IsRecoveredOf z image) first.image c.in_ok-image.ensures.ok; sound = sound } in
     let form : image.form ≡ form_of (recovered x) = form_recovered x image checked in
-    let found = subst (λ (o : Option ℕ). MatchOption o (LacksOld (files_of (recovered (d.image c.open.new.disk))) c.args.inum) (FindsOld (recovered (d.image c.open.new.disk)) c.args.inum))
-    c.in-Some.is c.in_ok-old.ensures.found in
-    let old : FindsOld (recovered x) c.args.inum c.in-Some.old = subst (λ (z : Image). FindsOld (recovered z) c.args.inum c.in-Some.old) read.image found in
+    let old : FindsOld (recovered x) c.args.inum c.in_ok-old.old = subst (λ (z : Image). FindsOld (recovered z) c.args.inum c.in_ok-old.old) read.image c.in_ok-old.ensures.found in
     let read_old = reads_then d c.args.disk.now c.open.new.disk c.old_blocks.new.disk read c.old_blocks.ensures.reads in
     let faults : d.fault_count c.old_blocks.new.disk ≡ d.fault_count c.args.disk.now = c.in_ok-old.ensures.faults ∙ c.in_ok-image.ensures.faults ∙ c.in_ok-check.ensures.faults in
     let size : c.greatest_size.result ≡ greatest_size (form_of (recovered x)) = c.greatest_size.ensures ∙ ap greatest_size form in
@@ -71,7 +73,7 @@ returns-then-needed_blocks-free-clause-refused g c =
     let need : c.needed_blocks.result ≡ needed_blocks (form_of (recovered x)) c.args.count = c.needed_blocks.ensures.count ∙ ap (λ (f : Form). needed_blocks f c.args.count) form in
     let read_free = reads_then d c.args.disk.now c.old_blocks.new.disk c.free_blocks.new.disk read_old c.free_blocks.ensures.reads in
     record {
-      cause = (sound, c.in_ok-free.ensures.faults ∙ faults, omega (arith, c.if-needed_blocks-free.true, need, free, old.count));
+      cause = (sound, c.in_ok-free.ensures.faults ∙ faults, old.plain, omega (arith, c.if-needed_blocks-free.true, need, free, old.count));
       reads = read_free;
     }
 
@@ -85,9 +87,7 @@ returns-clause-fit g c =
     let image = c.in_ok-image.image in
     let checked : IsCheckedOf x image = record { recovered = subst (λ (z : Image). IsRecoveredOf z image) first.image c.in_ok-image.ensures.ok; sound = sound } in
     let form : image.form ≡ form_of (recovered x) = form_recovered x image checked in
-    let found = subst (λ (o : Option ℕ). MatchOption o (LacksOld (files_of (recovered (d.image c.open.new.disk))) c.args.inum) (FindsOld (recovered (d.image c.open.new.disk)) c.args.inum))
-    c.in-Some.is c.in_ok-old.ensures.found in
-    let old : FindsOld (recovered x) c.args.inum c.in-Some.old = subst (λ (z : Image). FindsOld (recovered z) c.args.inum c.in-Some.old) read.image found in
+    let old : FindsOld (recovered x) c.args.inum c.in_ok-old.old = subst (λ (z : Image). FindsOld (recovered z) c.args.inum c.in_ok-old.old) read.image c.in_ok-old.ensures.found in
     let read_old = reads_then d c.args.disk.now c.open.new.disk c.old_blocks.new.disk read c.old_blocks.ensures.reads in
     let faults : d.fault_count c.old_blocks.new.disk ≡ d.fault_count c.args.disk.now = c.in_ok-old.ensures.faults ∙ c.in_ok-image.ensures.faults ∙ c.in_ok-check.ensures.faults in
     let size : c.greatest_size.result ≡ greatest_size (form_of (recovered x)) = c.greatest_size.ensures ∙ ap greatest_size form in
@@ -98,6 +98,7 @@ returns-clause-fit g c =
       sound = sound;
       room = record {
         old = old.there;
+        plain = old.plain;
         size = omega (arith, c.if-count-greatest_size.false, size);
         blocks = omega (arith, c.if-needed_blocks-free.false, need, free, old.count);
       };

@@ -1,12 +1,13 @@
 use Rattle.std.proofs.Common.{refl, sym, subst}
-use Rattle.std.specs.Prelude.{◌≡◌, IfErr, OnOk}
-use Rattle.std.proofs.lemmas.Result.{IfErr-weaker, on_ok_weaker}
-use Rattle.blocks.specs.Disk.{LeavesOnly}
+use Rattle.std.specs.Prelude.{◌≡◌}
+use Rattle.blocks.specs.Disk.{AddsNone, LeavesOnly}
 use Rattle.model.specs.Log.{recovered}
 use Rattle.opening.specs.Lemmas.Keeping.{not_opened_leaves}
-use Rattle.transfer.specs.Putting.{IsPut, IsUnput}
+use Rattle.transfer.specs.Putting.{IsUnput}
+use Rattle.transfer.specs.PutWriting.{CallsTo}
+use Rattle.transfer.specs.declared.writing.Outcome.TheVariants as outcome
 use Rattle.transfer.specs.Stopped.{KeepsPut}
-use Rattle.transfer.proofs.OpenedLemmas.{put_leaves, read_leaves, recovered_leaves, told_so, unopened_then, unwritten_so, written_so}
+use Rattle.transfer.proofs.OpenedLemmas.{put_leaves, put_so, put_untold, read_leaves, recovered_leaves, synced_leaves, told_so, unopened_then, unwritten_so}
 use Rattle.transfer.proofs.putting.put_disk.Goals as goal
 
 pub returns-in-Err-clause-refused : goal.returns-in-Err-clause-refused
@@ -17,25 +18,28 @@ pub returns-in-Err-open_sole-clause-refused : goal.returns-in-Err-open_sole-clau
 returns-in-Err-open_sole-clause-refused g c =
     (unopened_then g.D.Disk c.args.inum c.args.bytes.now c.args.disk c.judge.new.disk c.in_default.ensures.fit c.in-Err-open_sole.disk c.in-Err-open_sole.fault c.in-Err-open_sole.ensures.refused, refl)
 
-pub returns-clause-put : goal.returns-clause-put
-returns-clause-put g c =
+pub returns-in-Ok-put-clause-put : goal.returns-in-Ok-put-clause-put
+returns-in-Ok-put-clause-put g c =
     let d = g.D.Disk in
     let contents = g.O.Write.contents in
-    subst (λ e. OnOk c.put-put.result (IsPut d c.args.inum c.args.bytes.now c.args.disk e (contents c.args.out.now) (contents c.put-put.new.out))) (sym c.into_disk.ensures)
-    (on_ok_weaker c.put-put.result
-    (written_so d c.args.inum c.args.bytes.now c.args.disk c.judge.new.disk c.in_default.ensures.fit c.in-Ok.kernel c.in-Ok.ensures.opened
-    c.put-put.new.kernel.store.volume.device (contents c.args.out.now) (contents c.put-put.new.out))
-    c.put-put.ensures.put)
+    put_so d c.args.inum c.args.bytes.now c.args.disk c.judge.new.disk c.in_default.ensures.fit c.in-Ok.kernel c.in-Ok.ensures.opened c.into_disk-disk.result c.tell-told.new.disk c.in-Ok-put.number
+    (subst (λ e. CallsTo d c.args.inum c.args.bytes.now c.in-Ok.kernel.store.volume.device e (outcome.Put c.in-Ok-put.number)) (sym c.into_disk-disk.ensures) c.in-Ok-put.ensures.put)
+    c.tell-told.result (contents c.args.out.now) (contents c.tell-told.new.out) c.tell-told.ensures.syncs c.tell-told.ensures.printed
 
-pub returns-clause-refused : goal.returns-clause-refused
-returns-clause-refused g c =
+pub returns-in-Ok-put-clause-refused : goal.returns-in-Ok-put-clause-refused
+returns-in-Ok-put-clause-refused g c =
     let d = g.D.Disk in
-    let none = c.put-put.new.out ≡ c.args.out.now in
-    subst (λ e. IfErr c.put-put.result (IsUnput d c.args.inum c.args.bytes.now c.args.disk e none)) (sym c.into_disk.ensures)
-    (IfErr-weaker c.put-put.result _ _
+    put_untold d c.args.inum c.args.bytes.now c.args.disk c.judge.new.disk c.in_default.ensures.fit c.in-Ok.kernel c.in-Ok.ensures.opened c.into_disk-disk.result c.tell-told.new.disk c.in-Ok-put.number
+    (subst (λ e. CallsTo d c.args.inum c.args.bytes.now c.in-Ok.kernel.store.volume.device e (outcome.Put c.in-Ok-put.number)) (sym c.into_disk-disk.ensures) c.in-Ok-put.ensures.put)
+    c.tell-told.result _ c.tell-told.ensures.refused
+
+pub returns-in-Err-put-clause-refused : goal.returns-in-Err-put-clause-refused
+returns-in-Err-put-clause-refused g c =
+    let d = g.D.Disk in
+    let none = c.args.out.now ≡ c.args.out.now in
+    subst (λ e. IsUnput d c.args.inum c.args.bytes.now c.args.disk e none c.in-Err-put.refusal) (sym c.into_disk.ensures)
     (unwritten_so d c.args.inum c.args.bytes.now c.args.disk c.judge.new.disk c.in_default.ensures.fit c.in-Ok.kernel c.in-Ok.ensures.opened
-    c.put-put.new.kernel.store.volume.device none)
-    c.put-put.ensures.refused)
+    c.put.new.kernel.store.volume.device none refl c.in-Err-put.refusal c.in-Err-put.ensures.refused)
 
 pub returns-in-Err-clause-leaves : goal.returns-in-Err-clause-leaves
 returns-in-Err-clause-leaves g c =
@@ -48,8 +52,14 @@ returns-in-Err-open_sole-clause-leaves g c =
     λ sound calm. recovered_leaves d g.met.D.Disk.counts_now c.args.inum c.args.bytes.now c.args.disk c.judge.new.disk sound fit.reads calm c.in-Err-open_sole.disk
     (not_opened_leaves d 1 c.judge.new.disk c.in-Err-open_sole.disk c.in-Err-open_sole.fault c.in-Err-open_sole.ensures.refused)
 
-pub returns-clause-leaves : goal.returns-clause-leaves
-returns-clause-leaves g c =
+pub returns-in-Ok-put-clause-leaves : goal.returns-in-Ok-put-clause-leaves
+returns-in-Ok-put-clause-leaves g c =
+    let d = g.D.Disk in
+    λ sound calm. synced_leaves d g.met.D.Disk.counts_now c.args.inum c.args.bytes.now c.args.disk c.judge.new.disk sound c.in_default.ensures.fit.reads calm c.in-Ok.kernel c.put.new.kernel c.tell-told.new.disk c.in-Ok.ensures.opened c.put.ensures.stays
+    (subst (λ e. AddsNone (d.moment e) (d.moment c.tell-told.new.disk) (d.leaves e) (d.leaves c.tell-told.new.disk)) c.into_disk-disk.ensures c.tell-told.ensures.time)
+
+pub returns-in-Err-put-clause-leaves : goal.returns-in-Err-put-clause-leaves
+returns-in-Err-put-clause-leaves g c =
     let d = g.D.Disk in
     λ sound calm. subst (λ e. LeavesOnly d.moment d.leaves c.args.disk e (KeepsPut (recovered (d.image c.args.disk)) c.args.inum c.args.bytes.now)) (sym c.into_disk.ensures)
-    (put_leaves d g.met.D.Disk.counts_now c.args.inum c.args.bytes.now c.args.disk c.judge.new.disk sound c.in_default.ensures.fit.reads calm c.in-Ok.kernel c.put-put.new.kernel c.in-Ok.ensures.opened c.put-put.ensures.stays)
+    (put_leaves d g.met.D.Disk.counts_now c.args.inum c.args.bytes.now c.args.disk c.judge.new.disk sound c.in_default.ensures.fit.reads calm c.in-Ok.kernel c.put.new.kernel c.in-Ok.ensures.opened c.put.ensures.stays)
