@@ -1,19 +1,30 @@
 // The command that makes an image in a file.
-ghost use Rattle.std.specs.Prelude.{◌≡◌, ◌↔◌, false, IsTrue, IfErr, OnOk};
+ghost use Rattle.std.specs.Prelude.{◌≡◌, ◌↔◌, false, IsTrue, IfErr, IfOk, OnOk};
 ghost use Rattle.std.specs.Result.{IsErrOf};
 ghost use Rattle.cmd.specs.declared.files.OnFile.TheVariants as on;
 ghost use Rattle.layout.specs.declared.geometry.MkfsFault.TheVariants as fault;
 ghost use Rattle.messages.specs.declared.printed.Printed.TheVariants as printed;
 ghost use Rattle.model.specs.Layout.{is_inode_count, is_size};
-ghost use Rattle.commands.specs.Making.{IsMade, IsNotMade};
+ghost use Rattle.commands.specs.Making.{
+  HasMadeIn,
+  IsFilledWith,
+  IsMade,
+  IsNotFilledWith,
+  IsNotMade,
+  IsNotMadeIn,
+  IsPlan,
+};
 
-use blocks::{Disk, FileDisk};
+use blocks::{Disk, FileDisk, FileFault};
 use cmd::{Command, OnFile};
-use layout::{MkfsFault, plan};
-use messages::Printed;
+use layout::{MkfsFault, Super, plan};
+use messages::{Printed, print_numbers};
 use model::types::Form;
 use player::make_disk;
-use std::io::Write;
+use std::alloc::Global;
+use std::fs::{OpenOptions, canonicalize, metadata, remove_file, rename, symlink_metadata};
+use std::io;
+use std::io::{ErrorKind, Write};
 use std::rt::Files;
 
 /// Makes an image of that form, of `size` blocks of 1024 bytes and with `ninodes` inode numbers, in a
@@ -44,12 +55,17 @@ impl<'a, R: Files + AllocGlobal> Command<R> for Mkfs<'a> {
 }
 
 /// Makes an image of that form, of `size` blocks of 1024 bytes and with `ninodes` inode numbers, in a
-/// file at this path, and prints its numbers.
+/// file at this path, syncs it, and prints its numbers.
+///
+/// By its code a file that stands at the path, and that a link there leads to, is kept until the new
+/// image is whole: that is made and synced in a new file beside it, `.new` behind its name, which then
+/// takes its name, or is taken away where the image is refused. What is no file, as a device, is
+/// written where it stands.
 ///
 /// # Errors
 ///
-/// A fault of `plan`, and then the file at the path is as it was; else one of `FileDisk::create` or
-/// of `make_disk`.
+/// A fault of `plan`, and then the file at the path is as it was; else one of `FileDisk::create_new`,
+/// `FileDisk::create` or `make_disk`, or `Open` where the file can't be written or replaced.
 pub fn make_file<R: Files + AllocGlobal, O: Write>(
     rt: &R,
     image: &str,
@@ -69,12 +85,143 @@ pub fn make_file<R: Files + AllocGlobal, O: Write>(
     if let Err(fault) = plan(size, ninodes) {
         return Err(OnFile::Of(Printed::Fault(fault)));
     }
-    let mut disk = match FileDisk::create(rt, image, size) {
-        Ok(disk) => disk,
-        Err(fault) => return Err(OnFile::File(fault)),
-    };
-    match make_disk(rt.alloc(), &mut disk, form, size, ninodes, out) {
-        Ok(()) => Ok(()),
-        Err(refusal) => Err(OnFile::Of(refusal)),
+    match make_image(rt, image, form, size, ninodes) {
+        Ok(fields) => match print_numbers(out, &fields) {
+            Ok(()) => Ok(()),
+            Err(_) => Err(OnFile::Of(Printed::Output)),
+        },
+        Err(OnFile::File(fault)) => Err(OnFile::File(fault)),
+        Err(OnFile::Of(fault)) => Err(OnFile::Of(Printed::Fault(fault))),
     }
+}
+
+// Makes an image that can be planned, in place of the file that stands at the path, or where that is
+// no file, there.
+fn make_image<R: Files + AllocGlobal>(
+    rt: &R,
+    image: &str,
+    form: Form,
+    size: u32,
+    ninodes: u32,
+) -> Result<Super, OnFile<MkfsFault>>
+    requires { IsPlan size ninodes }
+    ensures made { IfOk result
+        (HasMadeIn ⟦<FileDisk<R::File> as Disk>⟧ form size ninodes) }
+    ensures refused { IfErr result IsNotMadeIn }
+{
+    match home_of(rt, image) {
+        Ok(None) => make_there(rt, image, form, size, ninodes),
+        Ok(Some(home)) => match format!(in rt.alloc(); "{home}.new") {
+            Ok(beside) => { make_beside(rt, beside.as_str(), home.as_str(), form, size, ninodes) }
+            Err(_) => Err(OnFile::File(FileFault::NoMemory)),
+        },
+        Err(fault) => Err(OnFile::File(fault)),
+    }
+}
+
+// The name that a new file with an image at this path is given. None where it is made at the path.
+fn home_of<R: Files + AllocGlobal>(rt: &R, path: &str) -> Result<Option<String>, FileFault> {
+    match metadata(rt, path) {
+        Ok(found) if found.is_file() => file_home(rt, path),
+        Ok(_) => Ok(None),
+        // A link that leads nowhere is followed by whoever makes a file there.
+        Err(_) if symlink_metadata(rt, path).is_ok() => Ok(None),
+        Err(_) => named(rt, path),
+    }
+}
+
+// The same where a file is there, which has to be one that can be written.
+fn file_home<R: Files + AllocGlobal>(rt: &R, path: &str) -> Result<Option<String>, FileFault> {
+    let _writable = OpenOptions::new()
+        .write(true)
+        .open(rt, path)
+        .map_err(|error| fault_of(error))?;
+    let home = canonicalize(rt, path).map_err(|error| fault_of(error))?;
+    named(rt, home.to_string_lossy())
+}
+
+fn named<R: Files + AllocGlobal>(rt: &R, path: &str) -> Result<Option<String>, FileFault> {
+    match path.to_string(rt.alloc()) {
+        Ok(home) => Ok(Some(home)),
+        Err(_) => Err(FileFault::NoMemory),
+    }
+}
+
+fn fault_of(error: io::Error) -> FileFault {
+    match error.kind() {
+        ErrorKind::OutOfMemory => FileFault::NoMemory,
+        _ => FileFault::Open,
+    }
+}
+
+// Makes an image in the file at the path.
+fn make_there<R: Files + AllocGlobal>(
+    rt: &R,
+    path: &str,
+    form: Form,
+    size: u32,
+    ninodes: u32,
+) -> Result<Super, OnFile<MkfsFault>>
+    requires { IsPlan size ninodes }
+    ensures made { IfOk result
+        (HasMadeIn ⟦<FileDisk<R::File> as Disk>⟧ form size ninodes) }
+    ensures refused { IfErr result IsNotMadeIn }
+{
+    match FileDisk::create(rt, path, size) {
+        Ok(created) => match fill(rt.alloc(), created, form, size, ninodes) {
+            Ok(fields) => Ok(fields),
+            Err(fault) => Err(OnFile::Of(fault)),
+        },
+        Err(fault) => Err(OnFile::File(fault)),
+    }
+}
+
+// Makes an image in a new file at the path, which then takes the name `home`.
+fn make_beside<R: Files + AllocGlobal>(
+    rt: &R,
+    path: &str,
+    home: &str,
+    form: Form,
+    size: u32,
+    ninodes: u32,
+) -> Result<Super, OnFile<MkfsFault>>
+    requires { IsPlan size ninodes }
+    ensures made { IfOk result
+        (HasMadeIn ⟦<FileDisk<R::File> as Disk>⟧ form size ninodes) }
+    ensures refused { IfErr result IsNotMadeIn }
+{
+    match FileDisk::create_new(rt, path, size) {
+        Ok(created) => match fill(rt.alloc(), created, form, size, ninodes) {
+            Ok(fields) if take_name(rt, path, home) => Ok(fields),
+            Ok(_) => Err(OnFile::File(FileFault::Open)),
+            Err(fault) => {
+                let _gone = remove_file(rt, path);
+                Err(OnFile::Of(fault))
+            }
+        },
+        Err(fault) => Err(OnFile::File(fault)),
+    }
+}
+
+// Gives a file another name, in place of the file that has it; or takes it away. Whether it has it.
+fn take_name<R: Files>(rt: &R, path: &str, name: &str) -> bool {
+    if rename(rt, path, name).is_ok() {
+        return true;
+    }
+    let _gone = remove_file(rt, path);
+    false
+}
+
+// Makes an image on a disk, which nobody keeps. The fields of its superblock.
+fn fill<D: Disk + Drop>(
+    alloc: Global,
+    mut disk: D,
+    form: Form,
+    size: u32,
+    ninodes: u32,
+) -> Result<Super, MkfsFault>
+    ensures made { IfOk result (IsFilledWith D.Disk form size ninodes disk) }
+    ensures refused { IfErr result (IsNotFilledWith D.Disk form size ninodes disk) }
+{
+    make_disk(alloc, &mut disk, form, size, ninodes)
 }

@@ -5,7 +5,6 @@ use Rattle.blocks.specs.declared.disk.Disk.{Ghosts}
 use Rattle.offline.specs.Cause.{IsCause}
 use Rattle.layout.specs.declared.geometry.MkfsFault.{MkfsFault}
 use Rattle.layout.specs.declared.geometry.MkfsFault.TheVariants as mkfs
-use Rattle.model.specs.Codec.{made_image}
 use Rattle.model.specs.Layout.{is_inode_count, is_size}
 use Rattle.model.specs.Log.{recovered}
 use Rattle.model.specs.Verdict.{verdict}
@@ -31,16 +30,12 @@ IsNotRecovered disk d e none (printed.Fault refusal) = IsUnrecovered disk d e re
 IsNotRecovered disk d e none printed.Output =
     (verdict (disk.image d) ≡ None) × (disk.image e ≡ recovered (disk.image d))
 
--- on the disk d, now e, no image of that form and size was made, or its numbers could not be
--- printed
-abbrev pub IsUnmade : {D : Type 0} → (D → Image) → (D → ℕ) → Form → ℕ → ℕ → D → D → Type 0
-    → Printed MkfsFault → Type 0
-IsUnmade image faults form size ninodes d e none (printed.Fault mkfs.InodeRange) =
-    ((is_inode_count ninodes ≡ false) × (e ≡ d)) × none
-IsUnmade image faults form size ninodes d e none (printed.Fault mkfs.SizeRange) =
-    (((is_size size ninodes && (size == length (image d))) ≡ false) × (e ≡ d)) × none
-IsUnmade image faults form size ninodes d e none (printed.Fault mkfs.Disk) =
-    Rose (faults d) (faults e) × none
-IsUnmade image faults form size ninodes d e none (printed.Fault mkfs.NoMemory) = (e ≡ d) × none
-IsUnmade image faults form size ninodes d e none printed.Output =
-    image e ≡ made_image form size ninodes
+-- on the disk d, now e, no image of that form and size was made, or it was not synced
+abbrev pub IsUnmade : {D : Type 0} → (D → Image) → (D → ℕ) → Form → ℕ → ℕ → D → D → MkfsFault
+    → Type 0
+IsUnmade image faults form size ninodes d e mkfs.InodeRange =
+    (is_inode_count ninodes ≡ false) × (e ≡ d)
+IsUnmade image faults form size ninodes d e mkfs.SizeRange =
+    ((is_size size ninodes && (size == length (image d))) ≡ false) × (e ≡ d)
+IsUnmade image faults form size ninodes d e mkfs.Disk = Rose (faults d) (faults e)
+IsUnmade image faults form size ninodes d e mkfs.NoMemory = e ≡ d

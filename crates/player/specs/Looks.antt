@@ -5,6 +5,7 @@ use Rattle.blocks.specs.declared.disk.Disk.{Ghosts}
 use Rattle.model.specs.Files.{file_count, files_of}
 use Rattle.model.specs.Log.{logged_count, recovered}
 use Rattle.model.specs.Verdict.{verdict}
+use Rattle.wal.specs.Recovery.{Settles}
 use Rattle.opening.specs.Recoveries.{IsRecovered}
 use Rattle.messages.specs.Output.{copied_text, report_text}
 use Rattle.player.specs.Showing.{Shows}
@@ -27,3 +28,10 @@ abbrev pub HasShown : {D N : Type 0} → Ghosts D N → ℕ → D → D → Opti
     → Option (List ℕ) → Type 0
 HasShown disk i d e old new =
     IsRecovered disk (logged_count (disk.image d)) d e × Shows (disk.image d) i old new
+
+-- the last call to the disk, now e, was a sync that was done, and nothing is held any more
+pub record EndsSynced {D N : Type 0} (disk : Ghosts D N) (e : D) : Type 0 where
+  pub unsynced : D
+  pub image : disk.image e ≡ disk.image unsynced
+  pub writes : disk.write_count e ≡ disk.write_count unsynced
+  pub settles : Settles disk 1 unsynced e

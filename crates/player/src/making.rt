@@ -1,45 +1,44 @@
-// A new image on a disk, and what is printed of it.
-ghost use Rattle.std.specs.Prelude.{◌≡◌, OnOk, IfErr};
-ghost use Rattle.std.specs.Io.KnownBytes.{Appends};
+// A new image on a disk.
+ghost use Rattle.std.specs.Prelude.{◌≡◌, OnOk, IfErr, IfOk};
 ghost use Rattle.blocks.specs.Calls.{UnlessHolds};
 ghost use Rattle.blocks.specs.Disk.{LeavesOnly};
 ghost use Rattle.offline.specs.Making.{IsMadeInPartAs, MakesAs};
 ghost use Rattle.model.specs.Layout.{planned_super};
-ghost use Rattle.messages.specs.Output.{numbers_text};
 ghost use Rattle.player.specs.Causes.{IsUnmade};
+ghost use Rattle.player.specs.Looks.{EndsSynced};
 
 use blocks::Disk;
-use layout::{MkfsFault, plan};
-use messages::{Printed, print_numbers};
+use layout::{MkfsFault, Super, plan};
 use model::types::Form;
 use offline::mkfs_as;
 use std::alloc::Global;
-use std::io::Write;
 
 /// Makes an image of that form, of `size` blocks of 1024 bytes and with `ninodes` inode numbers, on
-/// a disk of that size, and prints its numbers.
+/// a disk of that size, and syncs the disk. The fields of its superblock.
 ///
 /// # Errors
 ///
-/// A fault of `plan` or of `mkfs_as`, and then nothing was printed; else `Output`.
-pub fn make_disk<D: Disk, O: Write>(
+/// A fault of `plan` or of `mkfs_as`; `Disk` where the sync failed, too.
+pub fn make_disk<D: Disk>(
     alloc: Global,
     disk: &mut D,
     form: Form,
     size: u32,
     ninodes: u32,
-    out: &mut O,
-) -> Result<(), Printed<MkfsFault>>
+) -> Result<Super, MkfsFault>
     ensures made { OnOk result (MakesAs D.Disk form size ninodes disk.old disk.new) }
+    ensures synced { OnOk result (EndsSynced D.Disk disk.new) }
+    ensures fields { IfOk result (λ fields. fields ≡ planned_super size ninodes) }
     ensures name { D.name disk.new ≡ D.name disk.old }
-    ensures printed { OnOk result (Appends (O.contents out.old) (O.contents out.new)
-        (numbers_text (planned_super size ninodes))) }
     ensures refused { IfErr result (IsUnmade D.image D.fault_count form size ninodes disk.old
-        disk.new (out.new ≡ out.old)) }
+        disk.new) }
     ensures order { UnlessHolds D.Disk disk.old (LeavesOnly D.moment D.leaves disk.old disk.new
         (IsMadeInPartAs form (D.image disk.old) size ninodes)) }
 {
-    let fields = plan(size, ninodes).map_err(Printed::Fault)?;
-    mkfs_as(alloc, disk, size, ninodes, form).map_err(Printed::Fault)?;
-    print_numbers(out, &fields).map_err(|_| Printed::Output)
+    let fields = plan(size, ninodes)?;
+    mkfs_as(alloc, disk, size, ninodes, form)?;
+    if disk.sync().is_err() {
+        return Err(MkfsFault::Disk);
+    }
+    Ok(fields)
 }

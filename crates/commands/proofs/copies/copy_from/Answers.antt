@@ -1,7 +1,7 @@
 use Rattle.std.proofs.Common.{inl, refl}
 use Rattle.std.proofs.lemmas.Result.{err_from_is_err_and}
 use Rattle.cmd.specs.Lemmas.Disks.{file_disk}
-use Rattle.commands.specs.Copies.{HasNotPlanned, OnCopyRefusal}
+use Rattle.commands.specs.Copies.{HasNotPlanned}
 use Rattle.commands.proofs.Copying.{has_made, uncopied}
 use Rattle.commands.proofs.copies.copy_from.Goals as goal
 
