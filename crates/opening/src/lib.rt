@@ -8,11 +8,24 @@
 mod recovering;
 
 ghost use Rattle.std.specs.Prelude.{◌≡◌};
-ghost use Rattle.opening.specs.Openings.{open_refusal};
+ghost use Rattle.messages.specs.Telling.{telling_of};
+ghost use Rattle.opening.specs.Openings.{open_refusal, open_telling};
 
 use kernel::OpenFault;
+use messages::{KernelFault, Reason, Refusal, Told};
 pub use recovering::{RecoverRefusal, recover_image};
-use messages::{KernelFault, Refusal};
+
+/// How it is told why a kernel wasn't opened.
+pub fn open_told(fault: &OpenFault) -> Told
+    ensures { telling_of result ≡ open_telling fault.now }
+{
+    match fault {
+        OpenFault::Check(fault) => fault.told(),
+        OpenFault::Recover(fault) => fault.told(),
+        OpenFault::NoMemory => Told::new("open", 3, "NoMemory"),
+        OpenFault::ProcRange => Told::new("open", 4, "ProcRange"),
+    }
+}
 
 /// Why a kernel wasn't opened. A fault of the check or of the recovery inside is told as its own
 /// layer's.

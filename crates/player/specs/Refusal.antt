@@ -1,7 +1,7 @@
 -- Which commands have which refusals.
 use Rattle.std.specs.Prelude.{⊤}
 use Rattle.messages.specs.declared.refusal.Refusal.{Refusal}
-use Rattle.messages.specs.declared.refusal.Refusal.TheVariants.{File, Mkfs, Disk, Run, Stops, Put, Copy, Output}
+use Rattle.messages.specs.declared.refusal.Refusal.TheVariants.{File, Mkfs, Output}
 
 -- the refusals of `mkfs`: of the size or the number of inodes, of the file, or of the output
 abbrev pub IsOfMkfs : Refusal → Type 0
@@ -9,19 +9,3 @@ IsOfMkfs (Mkfs _) = ⊤
 IsOfMkfs (File _) = ⊤
 IsOfMkfs Output = ⊤
 IsOfMkfs _ = ⊥
-
--- those of `replay`: of its three files, of the image, of the recovery, of the kernel's opening, of
--- the disk, or of the output
-abbrev pub IsOfReplay : Refusal → Type 0
-IsOfReplay (Mkfs _) = ⊥
-IsOfReplay (Run _) = ⊥
-IsOfReplay (Stops _) = ⊥
-IsOfReplay (Put _) = ⊥
-IsOfReplay (Copy _) = ⊥
-IsOfReplay _ = ⊤
-
--- after the disk failed all was printed; before the run nothing was
-abbrev pub OnRefusal : Refusal → Type 0 → Type 0 → Type 0
-OnRefusal (Disk _) whole none = whole
-OnRefusal Output whole none = ⊤
-OnRefusal _ whole none = none
