@@ -9,11 +9,11 @@ ghost use Rattle.messages.specs.Output.{report_text};
 ghost use Rattle.player.specs.Causes.{IsUnchecked};
 
 use blocks::Disk;
+use messages::{Printed, print_report};
 use model::types::CheckFault;
 use offline::check;
 use std::alloc::Global;
 use std::io::Write;
-use messages::{Printed, print_report};
 
 /// Checks the image of a disk, and prints how many blocks its log holds and how many files there
 /// are once they are copied home. It writes no block.

@@ -9,11 +9,11 @@ use crate::refusals::CatRefusal;
 use crate::showing::cat_disk;
 use blocks::Disk;
 use cmd::DiskCommand;
+use messages::Printed;
 use model::types::CheckFault;
 use opening::RecoverRefusal;
 use std::alloc::Global;
 use std::io::Write;
-use messages::Printed;
 
 /// Checks an image, as `check_disk`.
 #[derive(Clone, Copy, Drop)]

@@ -11,11 +11,11 @@ ghost use Rattle.player.specs.Causes.{IsUnmade};
 
 use blocks::Disk;
 use layout::plan;
+use messages::{Refusal, print_numbers};
 use model::types::Form;
 use offline::mkfs_as;
 use std::alloc::Global;
 use std::io::Write;
-use messages::{Refusal, print_numbers};
 
 /// Makes an image of that form, of `size` blocks of 1024 bytes and with `ninodes` inode numbers, on
 /// a disk of that size, and prints its numbers.

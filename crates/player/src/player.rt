@@ -1,9 +1,8 @@
 // What turns are made of.
 use blocks::{Disk, FaultyDisk};
-use rings::{Board, BoardHerald, Watch};
 use clients::Source;
 use kernel::Kernel;
-use rings::RingIntake;
+use rings::{Board, BoardHerald, RingIntake, Watch};
 
 /// A kernel over rings, a board, and a disk of which one write may be stopped, and each process's
 /// caller with the operations of a script.

@@ -9,9 +9,9 @@ ghost use Rattle.kernel.specs.Runs.{RunsOn};
 use crate::player::Player;
 use crate::refusals::ReplayRefusal;
 use blocks::{Disk, FaultyDisk, NoMemory};
+use messages::{Event, Progress, Unwritten, print_counts, print_event};
 use scripts::Word;
 use std::io::Write;
-use messages::{Event, Progress, Unwritten, print_counts, print_event};
 
 /// Makes the turns of the words over a disk that had counted `base` writes before them, and prints
 /// what they came to. The write of number `stop` isn't made. The processes that the words name are

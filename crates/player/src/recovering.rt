@@ -9,10 +9,10 @@ ghost use Rattle.player.specs.Causes.{IsNotRecovered};
 ghost use Rattle.messages.specs.Output.{copied_text};
 
 use blocks::Disk;
+use messages::{Printed, print_copied};
 use opening::{RecoverRefusal, recover_image};
 use std::alloc::Global;
 use std::io::Write;
-use messages::{Printed, print_copied};
 
 /// Checks the image of a disk, copies the blocks of its log home, and prints how many these were.
 ///

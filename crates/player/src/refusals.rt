@@ -4,8 +4,8 @@ ghost use Rattle.player.specs.Refusals.{cat_telling, replay_telling};
 
 use blocks::DiskFault;
 use kernel::OpenFault;
-use opening::{RecoverRefusal, open_told};
 use messages::{Reason, Told, Unwritten};
+use opening::{RecoverRefusal, open_told};
 use wal::DeviceFault;
 
 /// Why the bytes of a file of an image aren't written.

@@ -15,12 +15,12 @@ use crate::refusals::CatRefusal;
 use blocks::{BLOCK_SIZE, Block, Disk, DiskFault};
 use layout::header::Header;
 use layout::{Dinode, LOG_START, superblock};
+use messages::{pass_on, write_bytes};
 use offline::Recovered;
 use offline::laws::checked_files_may_be_read;
 use opening::recover_image;
 use std::alloc::Global;
 use std::io::Write;
-use messages::{pass_on, write_bytes};
 
 // So many bytes are read and then written at once.
 const PIECE_SIZE: u32 = 16 * BLOCK_SIZE as u32;

@@ -33,13 +33,13 @@ use crate::player::Player;
 use crate::stepping::make_steps;
 use crate::told::progress_of;
 use blocks::{Disk, FaultyDisk, Kind};
-use rings::{Board, BoardHerald, Keeper, Watch};
 use clients::sources;
 use kernel::{Kernel, OpenFault, Step};
+use messages::Event;
 use model::types::{Answer, Entry};
+use rings::{Board, BoardHerald, Keeper, Watch};
 use scripts::{Task, Word};
 use std::alloc::Global;
-use messages::Event;
 use wal::DeviceFault;
 
 /// What the turns came to.
