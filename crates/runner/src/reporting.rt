@@ -12,11 +12,11 @@ ghost use Rattle.runner.specs.Reports.{IsReported, PrintsReport};
 use blocks::Disk;
 use clients::Client;
 use kernel::Kernel;
+use messages::{AccountLine, AnswerLine, Unwritten, pass_on, print};
 use model::types::Answer;
 use ports::Herald;
 use std::io::Write;
 use sysring::{Caller, RingIntake, account};
-use messages::{AccountLine, AnswerLine, Unwritten, pass_on, print};
 
 /// Prints, process by process, a line for each answer and one for what became of its operations.
 /// There is a client for each process, with its rings. Where the writer fails the processes behind

@@ -19,6 +19,7 @@ use crate::reporting::report;
 use blocks::Disk;
 use clients::{Client, clients};
 use kernel::{Kernel, OpenFault};
+use messages::Unwritten;
 use ports::{Herald, Intake};
 use scripts::Task;
 use std::alloc::{AllocGlobal, Global};
@@ -27,7 +28,6 @@ use std::rt::Clock;
 use std::sync::Wait;
 use std::thread::Threads;
 use sysring::{Board, BoardHerald, Gate, Keeper, RingIntake, Watch, serve_while};
-use messages::Unwritten;
 
 // Nothing is called round a step.
 struct NoGate;
