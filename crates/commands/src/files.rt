@@ -1,27 +1,18 @@
-// The commands over the files that they name: each opens its files, and does nothing else.
-ghost use Rattle.std.specs.Prelude.{◌≡◌, ◌≢◌, ◌↔◌, false, IsTrue, IfErr, IfOk, OnOk, unwrap_or};
+// The command that makes an image in a file.
+ghost use Rattle.std.specs.Prelude.{◌≡◌, ◌≢◌, ◌↔◌, false, IsTrue, IfErr, OnOk};
 ghost use Rattle.std.specs.Result.{IsErrOf};
 ghost use Rattle.layout.specs.declared.geometry.MkfsFault.TheVariants as fault;
 ghost use Rattle.model.specs.Layout.{is_inode_count, is_size};
 ghost use Rattle.messages.specs.declared.refusal.Refusal.TheVariants as refusal;
-ghost use Rattle.player.specs.Refusal.{IsOfMkfs, IsOfReplay};
-ghost use Rattle.runner.specs.Running.{IsOfRun};
-ghost use Rattle.sysring.specs.Frames.{AreWorkers};
-ghost use Rattle.cmd.specs.Opened.{OnDiskRefusal, OpensDisk};
-ghost use Rattle.commands.specs.Files.{IsMade, IsNotRun, IsReplayed, IsRun, IsUnreplayed};
+ghost use Rattle.player.specs.Refusal.{IsOfMkfs};
+ghost use Rattle.commands.specs.Files.{IsMade};
 
-use crate::inputs::{schedule_from, script_from};
-use blocks::{Disk, FaultyDisk, FileDisk};
-use cmd::open_disk;
+use blocks::{Disk, FileDisk};
 use layout::plan;
 use model::types::Form;
-use player::{make_disk, replay_disk};
-use runner::run_disk;
-use scripts::processes;
-use std::io::{Read, Write};
-use std::rt::{Clock, Files};
-use std::sync::Wait;
-use std::thread::Threads;
+use player::make_disk;
+use std::io::Write;
+use std::rt::Files;
 use messages::Refusal;
 
 /// Makes an image of that form, of `size` blocks of 1024 bytes and with `ninodes` inode numbers, in a
@@ -51,80 +42,4 @@ pub fn make_file<R: Files + AllocGlobal, O: Write>(
     plan(size, ninodes).map_err(Refusal::Mkfs)?;
     let mut disk = FileDisk::create(rt, image, size).map_err(Refusal::File)?;
     make_disk(rt.alloc(), &mut disk, form, size, ninodes, out)
-}
-
-/// Recovers the image in the file at this path, and makes the operations of a script in the turns
-/// of a schedule, as `replay_disk`. With `stop` the write of this number, from 1, is not made, and
-/// ends the run. With `sync` the file is a disk that holds writes back, and is synced.
-///
-/// # Errors
-///
-/// A fault of the script, then of the schedule, then of `FileDisk::open` or of `replay_disk`.
-pub fn replay_files<R: Files + AllocGlobal, O: Write>(
-    rt: &R,
-    image: &str,
-    script: &str,
-    schedule: &str,
-    stop: Option<u64>,
-    sync: bool,
-    out: &mut O,
-) -> Result<(), Refusal>
-    ensures opened { OnOk result (OpensDisk R.File.remaining ⟦<FileDisk<R::File> as Disk>⟧ sync
-        (IsReplayed ⟦<FileDisk<R::File> as Disk>⟧
-        ⟦<FaultyDisk<FileDisk<R::File>> as Disk>⟧ (unwrap_or stop 0)
-        (O.contents out.old) (O.contents out.new))) }
-    ensures layers { IfErr result IsOfReplay }
-    ensures refused { IfErr result (OnDiskRefusal R.File.remaining
-        ⟦<FileDisk<R::File> as Disk>⟧ sync (out.new ≡ out.old)
-        (IsUnreplayed ⟦<FileDisk<R::File> as Disk>⟧
-        ⟦<FaultyDisk<FileDisk<R::File>> as Disk>⟧ (unwrap_or stop 0)
-        (O.contents out.old) (O.contents out.new) (out.new ≡ out.old))) }
-{
-    let tasks = script_from(rt, script).map_err(Refusal::Script)?;
-    let processes = processes(tasks.as_slice());
-    let words = schedule_from(rt, schedule, processes).map_err(Refusal::Schedule)?;
-    let disk = open_disk(rt, image, sync)?;
-    let (ran, _disk) = replay_disk(
-        rt.alloc(),
-        disk,
-        tasks,
-        processes,
-        words.as_slice(),
-        stop,
-        out,
-    );
-    ran
-}
-
-/// Recovers the image in the file at this path, and makes the operations of a script by callers and
-/// so many workers, from 1 to 32, on threads, as `run_disk`. With `sync` the file is a disk that
-/// holds writes back, and is synced.
-///
-/// # Errors
-///
-/// A fault of the script, then of `FileDisk::open` or of `run_disk`.
-pub fn run_files<R: Files + AllocGlobal + Threads + Wait + Clock + Sync, O: Write>(
-    rt: &R,
-    image: &str,
-    script: &str,
-    workers: u32,
-    sync: bool,
-    out: &mut O,
-) -> Result<(), Refusal>
-where
-    R::File: Send,
-    requires { AreWorkers workers }
-    ensures opened { OnOk result (OpensDisk R.File.remaining ⟦<FileDisk<R::File> as Disk>⟧ sync
-        (IsRun ⟦<FileDisk<R::File> as Disk>⟧ (O.contents out.old) (O.contents out.new))) }
-    ensures layers { IfErr result IsOfRun }
-    ensures refused { IfErr result (OnDiskRefusal R.File.remaining
-        ⟦<FileDisk<R::File> as Disk>⟧ sync (out.new ≡ out.old)
-        (IsNotRun ⟦<FileDisk<R::File> as Disk>⟧
-        (O.contents out.old) (O.contents out.new) (out.new ≡ out.old))) }
-{
-    let tasks = script_from(rt, script).map_err(Refusal::Script)?;
-    let processes = processes(tasks.as_slice());
-    let disk = open_disk(rt, image, sync)?;
-    let (ran, _disk) = run_disk(rt, disk, tasks, processes, workers, out);
-    ran
 }

@@ -11,8 +11,10 @@ mod copies;
 mod files;
 mod inputs;
 mod puts;
+mod runs;
 
 pub use copies::copy_files;
-pub use files::{make_file, replay_files, run_files};
+pub use files::make_file;
 pub use inputs::{schedule_from, script_from};
 pub use puts::put_file;
+pub use runs::{ReplayFilesRefusal, RunFilesRefusal, replay_files, run_files};

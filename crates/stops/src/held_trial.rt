@@ -30,10 +30,10 @@ ghost use Rattle.crash_check.specs.Images.{kept_files, new_image};
 use crate::copying::copies_of;
 use crate::running::{opened, play};
 use blocks::{Disk, FaultyDisk, Kind, NoMemory, SyncDisk};
-use rings::Board;
+use crash_check::{Due, StopsFault, kept_files, new_image, try_choices};
 use model::types::Entry;
 use player::{Hands, Outcome, Player, open_player, take_board};
-use crash_check::{Due, StopsFault, kept_files, new_image, try_choices};
+use rings::Board;
 use scripts::{Task, Word};
 use std::alloc::Global;
 

@@ -8,9 +8,9 @@ ghost use Rattle.crash_check.specs.declared.fault.StopsFault.TheVariants as faul
 ghost use Rattle.stops.specs.Trials.{HasPlayed};
 
 use blocks::{Disk, FaultyDisk, NoMemory};
-use player::{Outcome, Player, make_turns};
 use crash_check::{StopsFault, is_want_of_memory};
 use kernel::OpenFault;
+use player::{Outcome, Player, make_turns};
 use scripts::Word;
 
 /// The player that was opened.

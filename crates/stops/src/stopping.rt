@@ -9,10 +9,10 @@ ghost use Rattle.stops.specs.Trials.{AllPass, FailsBehind, Passes, SomeFails};
 use crate::holding::try_held_stops;
 use crate::trial::try_run;
 use crash_check::StopsFault;
+use messages::{Printed, print_images};
 use scripts::{Task, Word};
 use std::alloc::Global;
 use std::io::Write;
-use messages::{Printed, print_images};
 
 /// Who is told how far a check is. What it is told is so by the check's code.
 pub trait Progress {

@@ -22,10 +22,10 @@ ghost use Rattle.stops.specs.Trials.{
 use crate::copying::copies_of;
 use crate::running::{opened, play};
 use blocks::{Disk, MemDisk, NoMemory};
-use rings::Board;
-use reference::files::Files;
-use player::{Hands, Outcome, Player, open_player, take_board};
 use crash_check::{StopsFault, has_files, kept_files, new_image};
+use player::{Hands, Outcome, Player, open_player, take_board};
+use reference::files::Files;
+use rings::Board;
 use scripts::{Task, Word};
 use std::alloc::Global;
 
