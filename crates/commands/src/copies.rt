@@ -17,16 +17,16 @@ ghost use Rattle.commands.specs.Copies.{
 };
 
 use blocks::{Disk, FileDisk, FileFault};
-use transfer::{CopyFault as Fault, Progress, copy};
 use cmd::open_disk;
 use layout::plan;
+use messages::{CopyFault, Refusal, print_files};
 use model::types::Form;
 use offline::check;
 use std::alloc::Global;
 use std::fs::{exists, remove_file};
 use std::io::Write;
 use std::rt::Files;
-use messages::{CopyFault, Refusal, print_files};
+use transfer::{CopyFault as Fault, Progress, copy};
 
 /// Copies the image in the file at the path `old` into a new one, in a new file at the path `new`, as
 /// `transfer::copy`, and prints how many files it has. The new image has `size` blocks, as many as the

@@ -9,11 +9,11 @@ ghost use Rattle.commands.specs.Files.{IsMade};
 
 use blocks::{Disk, FileDisk};
 use layout::plan;
+use messages::Refusal;
 use model::types::Form;
 use player::make_disk;
 use std::io::Write;
 use std::rt::Files;
-use messages::Refusal;
 
 /// Makes an image of that form, of `size` blocks of 1024 bytes and with `ninodes` inode numbers, in a
 /// file at this path, and prints its numbers.

@@ -7,14 +7,14 @@ ghost use Rattle.commands.specs.Puts.{HasPut, IsUnhad, OnPutRefusal};
 use blocks::{Disk, FileDisk};
 use cmd::open_disk;
 use layout::greatest_size;
+use messages::{PutFault, Refusal};
 use model::types::Form;
-use transfer::put_disk;
 use std::alloc::Global;
 use std::fs::File;
 use std::io;
 use std::io::{ErrorKind, Read, Write};
 use std::rt::Files;
-use messages::{PutFault, Refusal};
+use transfer::put_disk;
 
 /// Puts the bytes of the file at the path `file` into the image in the file at the path `image`, as
 /// `put_disk`.

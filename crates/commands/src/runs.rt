@@ -91,7 +91,10 @@ pub fn replay_files<R: Files + AllocGlobal, O: Write>(
     let tasks = script_from(rt, script).map_err(ReplayFilesRefusal::Script)?;
     let processes = processes(tasks.as_slice());
     let words = schedule_from(rt, schedule, processes).map_err(ReplayFilesRefusal::Schedule)?;
-    let disk = open(rt, image, sync).map_err(ReplayFilesRefusal::File)?;
+    let disk = match open(rt, image, sync) {
+        Ok(disk) => disk,
+        Err(fault) => return Err(ReplayFilesRefusal::File(fault)),
+    };
     let (ran, _disk) = replay_disk(
         rt.alloc(),
         disk,
@@ -132,7 +135,10 @@ where
 {
     let tasks = script_from(rt, script).map_err(RunFilesRefusal::Script)?;
     let processes = processes(tasks.as_slice());
-    let disk = open(rt, image, sync).map_err(RunFilesRefusal::File)?;
+    let disk = match open(rt, image, sync) {
+        Ok(disk) => disk,
+        Err(fault) => return Err(RunFilesRefusal::File(fault)),
+    };
     let (ran, _disk) = run_disk(rt, disk, tasks, processes, workers, out);
     match ran {
         Ok(()) => Ok(()),
