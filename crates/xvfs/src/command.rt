@@ -20,19 +20,18 @@ use crate::locks::{Locks, lock_image};
 use crate::progress::{Meter, Screen};
 use crate::stopping::stops_files;
 use blocks::{Disk, FaultyDisk, FileDisk};
+use cli::{Explanation, Request, parse};
 use cmd::{OverFile, end, perform};
-use commands::{make_file, replay_files, run_files};
+use commands::{copy_files, make_file, put_file, replay_files, run_files};
 use inspect::{Ls, Show};
+use messages::print_last;
 use model::types::Form;
 use player::{Cat, Check, Recover};
-use cli::{Explanation, Request, parse};
 use std::convert::AsStr;
 use std::io::Write;
 use std::rt::{Clock, Files};
 use std::sync::Wait;
 use std::thread::Threads;
-use messages::print_last;
-use commands::{copy_files, put_file};
 
 /// Does the command that these words ask for, the program's name not among them: prints what it
 /// answers to `out`, and why it wasn't done to `err`, as far as that can be written. The exit

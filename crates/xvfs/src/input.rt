@@ -3,10 +3,10 @@ ghost use Rattle.std.specs.Prelude.{◌≡◌, ◌≢◌};
 ghost use Rattle.std.specs.IoError.{error_kind};
 ghost use Rattle.xvfs.specs.Input.{input_telling};
 
+use messages::{Reason, Told};
 use std::alloc::AllocError;
 use std::io;
 use std::io::ErrorKind;
-use messages::{Reason, Told};
 
 /// Why the words that the program was started with, or command lines from a reader, can't be had.
 #[derive(Clone, Copy, Debug)]
