@@ -1,11 +1,18 @@
 -- What a command over the disk in a file comes to, by what it comes to over that disk.
-use Rattle.std.specs.Prelude.{ℕ, Bool, List, Option, Result, Ok, Err}
+use Rattle.std.specs.Prelude.{ℕ, Bool, false, List, Option, Result, Ok, Err}
 use Rattle.blocks.specs.declared.file.FileDisk.{FileDisk}
 use Rattle.cmd.specs.Lemmas.Disks.{file_disk}
 use Rattle.cmd.specs.Opened.{OpensDisk}
 use Rattle.messages.specs.Telling.{Telling, file_telling}
 use Rattle.cmd.specs.declared.files.OnFile.{OnFile}
 use Rattle.cmd.specs.declared.files.OnFile.TheVariants.{File, Of}
+use Rattle.cmd.specs.declared.opened.Access.{Access}
+use Rattle.cmd.specs.declared.opened.Access.TheVariants.{Look, Change}
+
+-- whether a disk that is opened for that holds writes back
+abbrev pub holds_back : Access → Bool
+holds_back Look = false
+holds_back (Change sync) = sync
 
 -- no disk was opened, and nothing printed; or one was, and is now another, as P says of the refusal
 abbrev pub IsRefusedOn : {F R : Type 0} → (F → Option (List ℕ)) → Bool → Type 0

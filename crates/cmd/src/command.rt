@@ -1,8 +1,8 @@
 // A command, and how it ends.
 ghost use Rattle.std.specs.Prelude.{◌≡◌, ◌≤◌, ℕ, List, Option, Err, IsOk, OnOk, IfErr};
 
-use std::io::Write;
 use messages::{Reason, print_refusal};
+use std::io::Write;
 
 /// A command, which is done with the runtime `R`.
 pub trait Command<R> {

@@ -3,15 +3,15 @@ ghost use Rattle.std.specs.Prelude.{◌≡◌, ℕ, List, Option, OnOk, IfErr};
 ghost use Rattle.cmd.specs.Opened.{OpensDisk};
 ghost use Rattle.cmd.specs.Lemmas.Disks.{file_disk};
 ghost use Rattle.cmd.specs.Changes.{Change, change};
-ghost use Rattle.cmd.specs.Over.{IsRefusedOn, of, on_file_telling};
+ghost use Rattle.cmd.specs.Over.{IsRefusedOn, holds_back, of, on_file_telling};
 
 use crate::command::Command;
+use crate::opened::{Access, open_for};
 use blocks::{Disk, FileFault};
-use crate::opened::open;
+use messages::{Reason, Told};
 use std::alloc::Global;
 use std::io::Write;
 use std::rt::Files;
-use messages::{Reason, Told};
 
 /// A command over any disk.
 pub trait DiskCommand {
@@ -59,22 +59,21 @@ impl<R: Reason> Reason for OnFile<R> {
     }
 }
 
-/// A command over the disk in the file at this path. Where the second is true, the disk holds writes
-/// back until it is synced.
+/// A command over the disk in the file at this path, which is opened for that.
 #[derive(Drop)]
-pub struct OverFile<'a, C>(pub &'a str, pub bool, pub C);
+pub struct OverFile<'a, C>(pub &'a str, pub Access, pub C);
 
 impl<'a, R: Files + AllocGlobal, C: DiskCommand + Drop> Command<R> for OverFile<'a, C> {
     type Refusal = OnFile<C::Refusal>;
 
-    ghost done = { λ over old new. OpensDisk R.File.remaining file_disk over.1
+    ghost done = { λ over old new. OpensDisk R.File.remaining file_disk (holds_back over.1)
         (λ d e. C.done over.2 (change file_disk d e) old new) };
 
-    ghost refused = { λ over old new none. IsRefusedOn R.File.remaining over.1 none
+    ghost refused = { λ over old new none. IsRefusedOn R.File.remaining (holds_back over.1) none
         (λ d e. C.refused over.2 (change file_disk d e) old new none) };
 
     fn run<O: Write>(self, rt: &R, out: &mut O) -> Result<(), OnFile<C::Refusal>> {
-        let disk = match open(rt, self.0, self.1) {
+        let disk = match open_for(rt, self.0, self.1) {
             Ok(disk) => disk,
             Err(fault) => return Err(OnFile::File(fault)),
         };

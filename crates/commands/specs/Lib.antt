@@ -2,4 +2,4 @@ pub mod Puts
 pub mod Refusals
 pub mod Copies
 pub mod Making
-pub mod Files
+pub mod Runs

@@ -8,15 +8,15 @@
 #![tactic(auto)]
 
 mod copies;
-mod files;
 mod inputs;
 mod making;
 mod puts;
 mod refused;
+mod runs;
 
 pub use copies::Copy;
-pub use files::{replay_files, run_files};
 pub use inputs::{schedule_from, script_from};
 pub use making::{Mkfs, make_file};
 pub use puts::Put;
 pub use refused::{CopyRefusal, PutFileRefusal, ReadFault};
+pub use runs::{ReplayFilesRefusal, RunFilesRefusal, replay_files, run_files};

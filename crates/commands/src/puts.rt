@@ -4,7 +4,7 @@ ghost use Rattle.transfer.specs.Putting.{IsPut, IsUnput};
 
 use crate::refused::{PutFileRefusal, ReadFault};
 use blocks::Disk;
-use cmd::{Command, DiskCommand, OverFile};
+use cmd::{Access, Command, DiskCommand, OverFile};
 use layout::greatest_size;
 use model::types::Form;
 use std::alloc::Global;
@@ -43,7 +43,7 @@ impl<'a, R: Files + AllocGlobal> Command<R> for Put<'a> {
             bytes,
             inum: self.inum,
         };
-        match OverFile(self.image, false, put).run(rt, out) {
+        match OverFile(self.image, Access::Change { sync: false }, put).run(rt, out) {
             Ok(()) => Ok(()),
             Err(refusal) => Err(PutFileRefusal::Of(refusal)),
         }

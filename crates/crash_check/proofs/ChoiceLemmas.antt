@@ -3,8 +3,8 @@ use Rattle.std.proofs.Common.{◌≡◌, ◌∙◌, ◌<◌, ◌≤◌, ◌+◌,
 use Rattle.std.specs.Prelude.{IfErr, Result, replicate}
 use Rattle.std.proofs.lemmas.Result.{IfErr-weaker}
 use Rattle.blocks.specs.SyncDisk.{held_of}
-use Rattle.messages.specs.declared.faults.StopsFault.{StopsFault}
-use Rattle.messages.specs.declared.faults.StopsFault.TheVariants.{Mismatch}
+use Rattle.crash_check.specs.declared.fault.StopsFault.{StopsFault}
+use Rattle.crash_check.specs.declared.fault.StopsFault.TheVariants.{Mismatch}
 use Rattle.std.proofs.Math.Nat.{pow-suc}
 use Rattle.std.proofs.lemmas.Bool.{cases_lt}
 use Rattle.std.proofs.lemmas.List.{length-replicate, length-set, take-replicate, take-set, take-take, take_more, take_more_set}

@@ -10,7 +10,7 @@ use Rattle.model.specs.Lemmas.Log.{recovered_empty}
 use Rattle.model.specs.Lemmas.Soundness.{verdict_sound}
 use Rattle.opening.specs.Lemmas.Recovered.{recovered_verdict}
 use Rattle.opening.specs.Recoveries.{IsRecovered}
-use Rattle.messages.specs.declared.refusal.Refusal.TheVariants.{Check}
+use Rattle.kernel.specs.declared.types.OpenFault.TheVariants.{Check}
 use Rattle.crash_check.specs.Images.{is_want_of_memory}
 
 -- what was recovered twice is as after the first time, and nothing was copied the second time

@@ -10,9 +10,10 @@ use Rattle.model.specs.Journal.{kept, replay}
 use Rattle.model.specs.Log.{logged_count, recovered}
 use Rattle.model.specs.Verdict.{verdict}
 use Rattle.wal.specs.declared.faults.RecoverFault.TheVariants as recover
-use Rattle.messages.specs.declared.faults.KernelFault.TheVariants as kernel
-use Rattle.messages.specs.declared.refusal.Refusal.{Refusal}
-use Rattle.messages.specs.declared.refusal.Refusal.TheVariants.{Check, Recover, Open}
+use Rattle.kernel.specs.declared.types.OpenFault.{OpenFault}
+use Rattle.kernel.specs.declared.types.OpenFault.TheVariants.{Check, Recover, NoMemory}
+use Rattle.opening.specs.declared.recovering.RecoverRefusal.{RecoverRefusal}
+use Rattle.opening.specs.declared.recovering.RecoverRefusal.TheVariants as refusal
 
 -- a new image of 48 blocks with 16 inode numbers
 abbrev pub new_image : Image
@@ -40,9 +41,14 @@ pub record IsFound (x : Image) (count : ℕ) (found : Files) : Type 0 where
   pub logged : count ≡ logged_count x
   pub files : found ≡ files_of (recovered x)
 
--- the refusals that memory was refused
-abbrev pub is_want_of_memory : Refusal → Bool
+-- the refusal of a recovery as that of an opening
+abbrev pub as_of_opening : RecoverRefusal → OpenFault
+as_of_opening (refusal.Check fault) = Check fault
+as_of_opening (refusal.Recover fault) = Recover fault
+
+-- the faults of an opening that memory was refused
+abbrev pub is_want_of_memory : OpenFault → Bool
 is_want_of_memory (Check check.NoMemory) = true
 is_want_of_memory (Recover recover.NoMemory) = true
-is_want_of_memory (Open kernel.NoMemory) = true
-is_want_of_memory r = false
+is_want_of_memory NoMemory = true
+is_want_of_memory fault = false

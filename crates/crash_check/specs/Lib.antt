@@ -1,3 +1,4 @@
+pub mod Faults
 pub mod Choices
 pub mod Images
 pub mod Lemmas

@@ -1,17 +1,17 @@
 // The images that a stop may leave of a disk that holds writes back, one for each choice of what
 // gets through.
 ghost use Rattle.std.specs.Prelude.{◌≡◌, ◌≤◌, ◌+◌, ◌-◌, ◌^◌, ◌↔◌, ℕ, IfErr, IfOk, IsTrue, OnOk, length, take};
-ghost use Rattle.messages.specs.declared.faults.StopsFault.TheVariants as fault;
+ghost use Rattle.crash_check.specs.declared.fault.StopsFault.TheVariants as fault;
 ghost use Rattle.blocks.specs.SyncDisk.{held_of};
 ghost use Rattle.crash_check.specs.Choices.{HasAllDue, HasDue, HasRestDue, IsChoice, LacksDue, LacksSome, beginning, choice_count, due_of};
 ghost use Rattle.crash_check.specs.Images.{HasFiles};
 
+use crate::fault::StopsFault;
 use crate::files::are_same_files;
 use crate::images::recovered_files;
 use blocks::{Disk, MemDisk, NoMemory, SyncDisk};
 use reference::files::Files;
 use std::alloc::Global;
-use messages::StopsFault;
 
 // Of so many held writes each choice is tried; of more the first that get through, alone.
 const MOST_CHOSEN: usize = 6;

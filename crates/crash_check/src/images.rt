@@ -3,16 +3,16 @@ ghost use Rattle.std.specs.Prelude.{◌≡◌, ◌↔◌, IfNone, IfOk, IfSome, 
 ghost use Rattle.model.specs.Log.{logged_count, recovered};
 ghost use Rattle.model.specs.Verdict.{verdict};
 ghost use Rattle.opening.specs.Recoveries.{IsRecovered};
-ghost use Rattle.crash_check.specs.Images.{IsFound, IsRecoveredTo, is_want_of_memory, new_image};
+ghost use Rattle.crash_check.specs.Images.{IsFound, IsRecoveredTo, as_of_opening, is_want_of_memory, new_image};
 
 use blocks::{Block, Disk, MemDisk, NoMemory};
+use kernel::OpenFault;
 use layout::CheckFault;
 use offline::mkfs;
-use opening::recover_image;
+use opening::{RecoverRefusal, recover_image};
 use reference::files::Files;
 use reference::report::files_after_recovery;
 use std::alloc::Global;
-use messages::{KernelFault, Refusal};
 use wal::RecoverFault;
 
 // The blocks of an image.
@@ -45,7 +45,7 @@ pub fn recovered_files(alloc: Global, disk: &mut MemDisk) -> Result<Option<(u32,
     let blocks = blocks_of(alloc, disk)?;
     match files_after_recovery(alloc, blocks.as_slice()) {
         Ok(files) => Ok(Some((logged, files))),
-        Err(fault) if is_want_of_memory(&Refusal::Check(fault)) => Err(NoMemory),
+        Err(fault) if is_want_of_memory(&OpenFault::Check(fault)) => Err(NoMemory),
         Err(_) => Ok(None),
     }
 }
@@ -94,19 +94,29 @@ fn recover(alloc: Global, disk: &mut MemDisk) -> Result<Option<u32>, NoMemory>
 {
     match recover_image(alloc, disk) {
         Ok(copied) => Ok(Some(copied)),
-        Err(refusal) if is_want_of_memory(&Refusal::from(refusal)) => Err(NoMemory),
+        Err(refusal) if is_want_of_memory(&as_of_opening(refusal)) => Err(NoMemory),
         Err(_) => Ok(None),
     }
 }
 
-/// Whether a refusal says that memory was refused.
-pub fn is_want_of_memory(refusal: &Refusal) -> bool
-    ensures { result ≡ is_want_of_memory refusal.now }
+// The refusal of a recovery as that of an opening, which makes one, too.
+fn as_of_opening(refusal: RecoverRefusal) -> OpenFault
+    ensures { result ≡ as_of_opening refusal }
 {
     match refusal {
-        Refusal::Check(fault) => matches!(fault, CheckFault::NoMemory),
-        Refusal::Recover(fault) => matches!(fault, RecoverFault::NoMemory),
-        Refusal::Open(fault) => matches!(fault, KernelFault::NoMemory),
-        _ => false,
+        RecoverRefusal::Check(fault) => OpenFault::Check(fault),
+        RecoverRefusal::Recover(fault) => OpenFault::Recover(fault),
+    }
+}
+
+/// Whether an opening's fault says that memory was refused.
+pub fn is_want_of_memory(fault: &OpenFault) -> bool
+    ensures { result ≡ is_want_of_memory fault.now }
+{
+    match fault {
+        OpenFault::Check(fault) => matches!(fault, CheckFault::NoMemory),
+        OpenFault::Recover(fault) => matches!(fault, RecoverFault::NoMemory),
+        OpenFault::NoMemory => true,
+        OpenFault::ProcRange => false,
     }
 }

@@ -8,9 +8,11 @@
 #![tactic(auto)]
 
 mod choices;
+mod fault;
 mod files;
 mod images;
 
 pub use choices::{Due, try_choices};
-pub use images::{is_want_of_memory, new_image};
+pub use fault::StopsFault;
 pub use files::{has_files, kept_files};
+pub use images::{is_want_of_memory, new_image};

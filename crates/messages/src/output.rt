@@ -44,19 +44,14 @@ pub fn write_bytes<O: Write>(out: &mut O, bytes: &[u8]) -> Result<(), Unwritten>
 }
 
 /// Writes the line of a turn. The writer may hold it back.
-///
-/// # Errors
-///
-/// `Output` where the writer fails.
-pub fn print_event<O: Write>(out: &mut O, event: &Event) -> Result<(), Refusal>
+pub fn print_event<O: Write>(out: &mut O, event: &Event) -> Result<(), Unwritten>
     ensures ok { OnOk result (Appends (O.contents out.old) (O.contents out.new)
         (event_line event.now)) }
-    ensures err { IsOkUnless result Refusal.Output }
 {
     match event {
-        Event::Stepped(pid, progress) => Ok(print_step(out, *pid, *progress)?),
-        Event::Answered(pid, answer) => Ok(print_answer(out, *pid, answer)?),
-        _ => Ok(print(out, format_args!("{event}\n"))?),
+        Event::Stepped(pid, progress) => print_step(out, *pid, *progress),
+        Event::Answered(pid, answer) => print_answer(out, *pid, answer),
+        _ => print(out, format_args!("{event}\n")),
     }
 }
 
@@ -166,14 +161,9 @@ pub fn print_number<O: Write>(out: &mut O, number: u32) -> Result<(), Refusal>
 
 /// Prints how many blocks a run wrote, and how many groups are committed, as the last text of a
 /// command.
-///
-/// # Errors
-///
-/// `Output` where the writer fails.
-pub fn print_counts<O: Write>(out: &mut O, writes: u64, committed: u64) -> Result<(), Refusal>
+pub fn print_counts<O: Write>(out: &mut O, writes: u64, committed: u64) -> Result<(), Unwritten>
     ensures ok { OnOk result
         (Appends (O.contents out.old) (O.contents out.new) (counts_text writes committed)) }
-    ensures err { IsOkUnless result Refusal.Output }
 {
     let mut buffers = (Buffer::new(), Buffer::new());
     let writes = buffers.0.format(writes);
@@ -181,24 +171,17 @@ pub fn print_counts<O: Write>(out: &mut O, writes: u64, committed: u64) -> Resul
     print_last(
         out,
         format_args!("writes {writes}\ncommitted {committed}\n"),
-    )?;
-    Ok(())
+    )
 }
 
 /// Prints how many images the stops of a script left, as the last text of a command.
-///
-/// # Errors
-///
-/// `Output` where the writer fails.
-pub fn print_images<O: Write>(out: &mut O, images: u64) -> Result<(), Refusal>
+pub fn print_images<O: Write>(out: &mut O, images: u64) -> Result<(), Unwritten>
     ensures ok { OnOk result
         (Appends (O.contents out.old) (O.contents out.new) (images_text images)) }
-    ensures err { IsOkUnless result Refusal.Output }
 {
     let mut buffer = Buffer::new();
     let images = buffer.format(images);
-    print_last(out, format_args!("images {images}\n"))?;
-    Ok(())
+    print_last(out, format_args!("images {images}\n"))
 }
 
 /// Prints the line of a refusal, as the last text of a command.

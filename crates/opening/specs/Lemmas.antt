@@ -1,4 +1,3 @@
 -- What follows from the definitions, for the crates above.
 pub mod Keeping
-pub mod Telling
 pub mod Recovered

@@ -1,5 +1,5 @@
 -- Why no kernel is opened, and what becomes of the disk.
-use Rattle.std.specs.Prelude.{◌≡◌, ◌⊎◌, ⊤, ℕ, codes}
+use Rattle.std.specs.Prelude.{◌≡◌, ◌⊎◌, ℕ, codes}
 use Rattle.blocks.specs.declared.disk.Disk.{Ghosts}
 use Rattle.kernel.specs.Opening.{RefusesToOpen}
 use Rattle.kernel.specs.declared.types.OpenFault.{OpenFault}
@@ -31,13 +31,6 @@ open_refusal (open_fault.Check fault) = Check fault
 open_refusal (open_fault.Recover fault) = Recover fault
 open_refusal open_fault.NoMemory = Open kernel.NoMemory
 open_refusal open_fault.ProcRange = Open kernel.ProcRange
-
--- the refusals of an opening: of the image, of the recovery, or of the kernel
-abbrev pub IsOpening : Refusal → Type 0
-IsOpening (Check _) = ⊤
-IsOpening (Recover _) = ⊤
-IsOpening (Open _) = ⊤
-IsOpening _ = ⊥
 
 -- memory was refused before anything was done with the disk d, now e
 abbrev pub HasNoRoom : {D : Type 0} → D → D → Refusal → Type 0

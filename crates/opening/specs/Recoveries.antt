@@ -10,19 +10,13 @@ use Rattle.wal.specs.Recovery.{syncs_to_recover, writes_to_recover}
 use Rattle.wal.specs.declared.faults.RecoverFault.TheVariants as recover
 use Rattle.kernel.specs.Opening.{IsRecoverCause}
 use Rattle.messages.specs.Telling.{Telling, check_telling, recover_telling}
-use Rattle.messages.specs.declared.refusal.Refusal.{Refusal}
-use Rattle.messages.specs.declared.refusal.Refusal.TheVariants as refusal
 use Rattle.opening.specs.declared.recovering.RecoverRefusal.{RecoverRefusal}
 use Rattle.opening.specs.declared.recovering.RecoverRefusal.TheVariants.{Check, Recover}
 
--- how it is told that an image isn't recovered, and by the commands that answer a `Refusal`
+-- how it is told that an image isn't recovered
 abbrev pub unrecovered_telling : RecoverRefusal → Telling
 unrecovered_telling (Check fault) = check_telling fault
 unrecovered_telling (Recover fault) = recover_telling fault
-
-abbrev pub recover_refusal : RecoverRefusal → Refusal
-recover_refusal (Check fault) = refusal.Check fault
-recover_refusal (Recover fault) = refusal.Recover fault
 
 -- the disk d, now e, was checked and not recovered
 abbrev pub IsUnrecovered : {D N : Type 0} → Ghosts D N → D → D → RecoverRefusal → Type 0

@@ -6,15 +6,14 @@ ghost use Rattle.opening.specs.Recoveries.{
   IsRecovered,
   IsUnrecovered,
   IsUnwritten,
-  recover_refusal,
   unrecovered_telling,
 };
 
 use blocks::Disk;
+use messages::{Reason, Told};
 use model::types::CheckFault;
 use offline::check;
 use std::alloc::Global;
-use messages::{Reason, Refusal, Told};
 use wal::{RecoverFault, recover};
 
 /// Why the image of a disk isn't recovered.
@@ -44,17 +43,6 @@ impl From<CheckFault> for RecoverRefusal {
 
     fn from(fault: CheckFault) -> RecoverRefusal {
         RecoverRefusal::Check(fault)
-    }
-}
-
-impl From<RecoverRefusal> for Refusal {
-    ghost from_gives = { λ refusal r. r ≡ recover_refusal refusal };
-
-    fn from(refusal: RecoverRefusal) -> Refusal {
-        match refusal {
-            RecoverRefusal::Check(fault) => Refusal::Check(fault),
-            RecoverRefusal::Recover(fault) => Refusal::Recover(fault),
-        }
     }
 }
 

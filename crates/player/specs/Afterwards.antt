@@ -10,10 +10,9 @@ use Rattle.model.specs.Verdict.{verdict}
 use Rattle.wal.specs.Recovery.{writes_to_recover}
 use Rattle.kernel.specs.Opening.{LeavesRecovered, RefusesToOpen}
 use Rattle.kernel.specs.declared.types.OpenFault.{OpenFault}
-use Rattle.opening.specs.Recoveries.{IsRecovered, IsUnrecovered, IsUnwritten, recover_refusal}
-use Rattle.opening.specs.Openings.{HasNoRoom, open_refusal}
+use Rattle.opening.specs.Recoveries.{IsRecovered, IsUnrecovered, IsUnwritten}
+use Rattle.opening.specs.Openings.{HasNoMemory}
 use Rattle.opening.specs.declared.recovering.RecoverRefusal.{RecoverRefusal}
-use Rattle.messages.specs.declared.refusal.Refusal.{Refusal}
 
 -- The disk d, now e, was not recovered, for that reason: nothing of it was written but by a recovery
 -- that failed.
@@ -34,29 +33,22 @@ pub record FailsRecovered {D N : Type 0} (disk : Ghosts D N) (d e : D) : Type 0 
 -- why no kernel of so many processes was opened over a disk over d, now e, of which a write may be
 -- stopped: what failed is told of that one
 pub record RefusesOver {D N : Type 0} (disk : Ghosts (FaultyDisk D) (N × Trap)) (processes : ℕ)
-    (d e : D) (r : Refusal) : Type 0 where
+    (d e : D) (fault : OpenFault) : Type 0 where
   pub over : FaultyDisk D
   pub now : FaultyDisk D
   pub below : inner_of over ≡ d
   pub below_now : inner_of now ≡ e
-  pub fault : OpenFault
-  pub told : r ≡ open_refusal fault
   pub refuses : RefusesToOpen disk over now processes fault
 
-abbrev pub IsUnopenedOver : {D N : Type 0} → Ghosts (FaultyDisk D) (N × Trap) → ℕ → D → D → Refusal
-    → Type 0
-IsUnopenedOver disk processes d e r = HasNoRoom d e r ⊎ RefusesOver disk processes d e r
+abbrev pub IsUnopenedOver : {D N : Type 0} → Ghosts (FaultyDisk D) (N × Trap) → ℕ → D → D
+    → OpenFault → Type 0
+IsUnopenedOver disk processes d e fault =
+    HasNoMemory d e fault ⊎ RefusesOver disk processes d e fault
 
--- the disk d, now e, was not recovered, as a command that answers a `Refusal` tells it
-abbrev pub IsToldUnrecovered : {D N : Type 0} → Ghosts D N → D → D → Refusal → Type 0
-IsToldUnrecovered disk d e r =
-    (cause : RecoverRefusal) × (r ≡ recover_refusal cause) × IsUnrecovered disk d e cause
-
--- why the disk d, now e, was not recovered; or, where it was, why no kernel was opened over it;
--- memory may be refused before either
+-- why no kernel was opened over the disk d, now e, once it was recovered; memory may be refused
+-- before that
 abbrev pub IsUnready : {D N : Type 0} → Ghosts D N → Ghosts (FaultyDisk D) (N × Trap) → ℕ → D → D
-    → Refusal → Type 0
-IsUnready {D} below disk processes d e r = HasNoRoom d e r
-    ⊎ (IsToldUnrecovered below d e r
+    → OpenFault → Type 0
+IsUnready {D} below disk processes d e fault = HasNoMemory d e fault
     ⊎ ((mid : D) × IsRecovered below (logged_count (below.image d)) d mid
-    × IsUnopenedOver disk processes mid e r))
+    × IsUnopenedOver disk processes mid e fault)

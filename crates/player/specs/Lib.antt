@@ -1,4 +1,3 @@
-pub mod Refusal
 pub mod Causes
 pub mod Afterwards
 pub mod Turns

@@ -28,9 +28,10 @@ use Rattle.clients.specs.Backlogs.{ops_of}
 use Rattle.clients.specs.Sources.{AreNewSources}
 use Rattle.rings.specs.Callers.{intake_names}
 use Rattle.player.specs.Stepping.{BreaksOff, Ringed, RunsTo}
-use Rattle.messages.specs.declared.refusal.Refusal.{Refusal}
-use Rattle.messages.specs.declared.refusal.Refusal.TheVariants.{Disk, Output}
+use Rattle.opening.specs.Recoveries.{IsUnrecovered}
 use Rattle.player.specs.declared.player.Player.{Player}
+use Rattle.player.specs.declared.refusals.ReplayRefusal.{ReplayRefusal}
+use Rattle.player.specs.declared.refusals.ReplayRefusal.TheVariants.{Unrecovered, Unopened, Disk, Output}
 
 -- The player of these operations, of so many processes, over a disk whose image was x: the image
 -- was recovered, a kernel was opened over it, and nothing was handed in.
@@ -112,23 +113,29 @@ pub record ReplaysPart {D N : Type 0} (below : Ghosts D N)
   pub breaks : BreaksOff disk stop words player last
   pub played : IsPlayedOn below disk d e tasks processes player last
 
--- the disk d, now e, wasn't recovered, or no kernel was opened over it; whatever a stop left is
--- recovered as d is
-pub record HasNotBegun {D N : Type 0} (below : Ghosts D N)
-    (disk : Ghosts (FaultyDisk D) (N × Trap)) (d e : D) (processes : ℕ) (r : Refusal)
-    : Type 0 where
-  pub cause : IsUnready below disk processes d e r
+-- the disk d, now e, wasn't recovered, or no kernel was opened over it, and this is why; whatever a
+-- stop left is recovered as d is
+pub record HasNotBegun {D N : Type 0} (below : Ghosts D N) (d e : D) (why : Type 0) : Type 0 where
+  pub cause : why
   pub name : below.name e ≡ below.name d
   pub leaves : LeavesIfCalm below d e (RecoversAs (below.image d))
+
+abbrev pub IsNotBegun : {D N : Type 0} → Ghosts D N → Ghosts (FaultyDisk D) (N × Trap) → ℕ → D → D
+    → ReplayRefusal → Type 0
+IsNotBegun below disk processes d e (Unrecovered refusal) =
+    HasNotBegun below d e (IsUnrecovered below d e refusal)
+IsNotBegun below disk processes d e (Unopened fault) =
+    HasNotBegun below d e (IsUnready below disk processes d e fault)
+IsNotBegun below disk processes d e r = ⊥
 
 -- why a replay over the disk d, now e, was refused, and what it came to; `none` says that nothing
 -- was printed
 abbrev pub IsNotReplayed : {D N : Type 0} → Ghosts D N → Ghosts (FaultyDisk D) (N × Trap) → D → D
-    → List Task → ℕ → List Word → ℕ → Option (List ℕ) → Option (List ℕ) → Type 0 → Refusal
+    → List Task → ℕ → List Word → ℕ → Option (List ℕ) → Option (List ℕ) → Type 0 → ReplayRefusal
     → Type 0
 IsNotReplayed below disk d e tasks processes words stop text printed none (Disk fault) =
     Replays below disk d e tasks processes words stop (Some fault) text printed
 IsNotReplayed below disk d e tasks processes words stop text printed none Output =
     ReplaysPart below disk d e tasks processes words stop
 IsNotReplayed below disk d e tasks processes words stop text printed none r =
-    HasNotBegun below disk d e processes r × none
+    IsNotBegun below disk processes d e r × none

@@ -1,5 +1,5 @@
 -- What steps and turns make of a kernel, and of the operations that wait to be handed in.
-use Rattle.std.specs.Prelude.{◌≡◌, ℕ, ◌-◌, true, length, List, [], ◌∷◌, ◌++◌, flat_map, set, slice_get, take, Option, Some, None}
+use Rattle.std.specs.Prelude.{◌≡◌, ⊤, ℕ, ◌-◌, true, length, List, [], ◌∷◌, ◌++◌, flat_map, set, slice_get, take, Option, Some, None}
 use Rattle.std.specs.Io.KnownBytes.{Appends}
 use mathlib.Core.List.{IsPrefix}
 use Rattle.wal.specs.declared.types.DeviceFault.{DeviceFault}
@@ -31,8 +31,8 @@ use Rattle.kernel.specs.Moves.{MakesSteps}
 use Rattle.messages.specs.declared.events.Event.{Event}
 use Rattle.messages.specs.declared.events.Event.TheVariants.{Shut}
 use Rattle.player.specs.declared.player.Player.{Player}
-use Rattle.messages.specs.declared.refusal.Refusal.{Refusal}
-use Rattle.messages.specs.declared.refusal.Refusal.TheVariants.{Disk, Output}
+use Rattle.player.specs.declared.refusals.ReplayRefusal.{ReplayRefusal}
+use Rattle.player.specs.declared.refusals.ReplayRefusal.TheVariants.{Disk, Output}
 use Rattle.messages.specs.Events.{event_line, is_last}
 use Rattle.messages.specs.Output.{counts_text}
 use Rattle.player.specs.Turns.{IfLast, event_of, told_fault}
@@ -194,6 +194,19 @@ kernel_counts disk base k =
 abbrev pub kernel_fault : {D : Type 0} → Ringed (FaultyDisk D) → Option DeviceFault
 kernel_fault k = told_fault (has_fired k.store.volume.device) k.store.volume.fault
 
+-- its counts were printed, and this fault is told of it
+abbrev pub IsClosed : {D N : Type 0} → Ghosts (FaultyDisk D) N → ℕ → Ringed (FaultyDisk D)
+    → Option DeviceFault → Option (List ℕ) → Option (List ℕ) → Type 0
+IsClosed disk base k fault text printed =
+    (kernel_fault k ≡ fault) × Appends text printed (kernel_counts disk base k)
+
+-- the same where that was refused: a fault is told, or the output failed
+abbrev pub IsNotClosed : {D N : Type 0} → Ghosts (FaultyDisk D) N → ℕ → Ringed (FaultyDisk D)
+    → Option (List ℕ) → Option (List ℕ) → ReplayRefusal → Type 0
+IsNotClosed disk base k text printed (Disk fault) = IsClosed disk base k (Some fault) text printed
+IsNotClosed disk base k text printed Output = ⊤
+IsNotClosed disk base k text printed r = ⊥
+
 -- The turns of these words made new of old, and a line was printed for each; behind them the counts
 -- of the kernel, over a disk that had counted `base` writes before. This fault is told of it.
 pub record RunsTo {D N : Type 0} (disk : Ghosts (FaultyDisk D) (N × Trap)) (stop base : ℕ)
@@ -215,7 +228,7 @@ pub record BreaksOff {D N : Type 0} (disk : Ghosts (FaultyDisk D) (N × Trap)) (
 -- What a run that was refused came to: where the disk failed, all was printed; where the output
 -- did, turns were made up to then.
 abbrev pub IsBrokenOff : {D N : Type 0} → Ghosts (FaultyDisk D) (N × Trap) → ℕ → ℕ → List Word
-    → Player D N → Player D N → Option (List ℕ) → Option (List ℕ) → Refusal → Type 0
+    → Player D N → Player D N → Option (List ℕ) → Option (List ℕ) → ReplayRefusal → Type 0
 IsBrokenOff disk stop base words old new text printed (Disk fault) =
     RunsTo disk stop base words old new (Some fault) text printed
 IsBrokenOff disk stop base words old new text printed Output = BreaksOff disk stop words old new

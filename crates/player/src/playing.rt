@@ -1,17 +1,15 @@
 // The turns of a schedule's words, with a line for each.
-ghost use Rattle.std.specs.Prelude.{◌≡◌, ◌≢◌, List, OnOk, IsTrue, IfErr, IsOkUnless, Some, None, length, option_map};
-ghost use Rattle.std.specs.Io.KnownBytes.{Appends};
+ghost use Rattle.std.specs.Prelude.{◌≡◌, List, OnOk, IsTrue, IfErr, None, length};
 ghost use Rattle.std.specs.List.{list_all};
 ghost use Rattle.scripts.specs.Schedule.{is_word_of};
 ghost use Rattle.messages.specs.declared.events.Event.{Event as SomeEvent};
-ghost use Rattle.messages.specs.declared.refusal.Refusal.TheVariants as refusal;
-ghost use Rattle.player.specs.Stepping.{BreaksOff, IsBrokenOff, IsSeated, KeepOps, MakesTurns, PlaysTo, RunsTo, kernel_counts, kernel_fault};
+ghost use Rattle.player.specs.Stepping.{BreaksOff, IsBrokenOff, IsClosed, IsSeated, KeepOps, MakesTurns, IsNotClosed, PlaysTo, RunsTo};
 ghost use Rattle.kernel.specs.Runs.{RunsOn};
-ghost use Rattle.player.specs.Refusal.{OnRefusal};
 
 use crate::player::Player;
+use crate::refusals::ReplayRefusal;
 use blocks::{Disk, FaultyDisk, NoMemory};
-use messages::{Event, Progress, Refusal, print_counts, print_event};
+use messages::{Event, Progress, Unwritten, print_counts, print_event};
 use scripts::Word;
 use std::io::Write;
 
@@ -29,7 +27,7 @@ pub fn run<D: Disk + Drop, O: Write>(
     stop: u64,
     base: u64,
     out: &mut O,
-) -> Result<(), Refusal>
+) -> Result<(), ReplayRefusal>
     requires words { IsTrue
         (list_all (is_word_of (length player.old.kernel.world.processes)) words.now) }
     requires seated { IsSeated player.old }
@@ -83,13 +81,12 @@ fn play<D: Disk + Drop, O: Write>(
     words: &[Word],
     stop: u64,
     out: &mut O,
-) -> Result<(), Refusal>
+) -> Result<(), Unwritten>
     requires words { IsTrue
         (list_all (is_word_of (length player.old.kernel.world.processes)) words.now) }
     requires seated { IsSeated player.old }
     ensures printed { OnOk result (PlaysTo ⟦<FaultyDisk<D> as Disk>⟧
         stop words.now player.old player.new (O.contents out.old) (O.contents out.new)) }
-    ensures err { IsOkUnless result refusal.Output }
     ensures breaks { BreaksOff ⟦<FaultyDisk<D> as Disk>⟧ stop words.now player.old player.new }
     ensures seated { IsSeated player.new }
 {
@@ -103,25 +100,21 @@ fn play<D: Disk + Drop, O: Write>(
     Ok(())
 }
 
-// Prints what the turns came to.
+// Prints what the turns came to. `Disk` where the disk failed, and all is printed then, too.
 fn close<D: Disk + Drop, O: Write>(
     player: &Player<'_, D>,
     base: u64,
     out: &mut O,
-) -> Result<(), Refusal>
-    ensures printed { OnOk result (Appends (O.contents out.old) (O.contents out.new)
-        (kernel_counts ⟦<FaultyDisk<D> as Disk>⟧ base player.now.kernel)) }
-    ensures sound { OnOk result (kernel_fault player.now.kernel ≡ None) }
-    ensures refused { IfErr result (λ r. OnRefusal r
-        (Appends (O.contents out.old) (O.contents out.new)
-        (kernel_counts ⟦<FaultyDisk<D> as Disk>⟧ base player.now.kernel)) ⊥) }
-    ensures fault { IfErr result (λ r. r ≢ refusal.Output
-        → option_map refusal.Disk (kernel_fault player.now.kernel) ≡ Some r) }
+) -> Result<(), ReplayRefusal>
+    ensures printed { OnOk result (IsClosed ⟦<FaultyDisk<D> as Disk>⟧ base player.now.kernel
+        None (O.contents out.old) (O.contents out.new)) }
+    ensures refused { IfErr result (IsNotClosed ⟦<FaultyDisk<D> as Disk>⟧ base player.now.kernel
+        (O.contents out.old) (O.contents out.new)) }
 {
     let outcome = player.outcome(base);
     print_counts(out, outcome.writes, outcome.committed)?;
     match outcome.fault {
-        Some(fault) => Err(Refusal::Disk(fault)),
+        Some(fault) => Err(ReplayRefusal::Disk(fault)),
         None => Ok(()),
     }
 }

@@ -1,18 +1,17 @@
 // A script's operations over a disk, in the turns of a schedule.
-ghost use Rattle.std.specs.Prelude.{◌≡◌, ◌<◌, false, length, All, IsTrue, IfOk, OnOk, IfErr, IsOkUnless, None, unwrap_or};
+ghost use Rattle.std.specs.Prelude.{◌≡◌, ◌<◌, false, length, All, IsTrue, IfOk, OnOk, IfErr, None, unwrap_or};
 ghost use Rattle.rings.specs.Boards.{KeeperOf, WatchOf, asked, published};
 ghost use Rattle.std.specs.List.{list_all};
 ghost use Rattle.scripts.specs.Schedule.{is_word_of};
-ghost use Rattle.player.specs.Opening.{HasNotBegun, IsNotReplayed, IsReadyOver, Replays};
-ghost use Rattle.opening.specs.Openings.{IsOpening};
-ghost use Rattle.player.specs.Refusal.{IsOfReplay};
+ghost use Rattle.player.specs.Opening.{IsNotBegun, IsNotReplayed, IsReadyOver, Replays};
 ghost use Rattle.player.specs.Stepping.{IsSeated};
 
 use crate::player::Player;
 use crate::playing::run;
+use crate::refusals::ReplayRefusal;
 use crate::turns::{Hands, open_player};
-use blocks::{Disk, FaultyDisk};
-use messages::{KernelFault, Refusal};
+use blocks::{Disk, FaultyDisk, NoMemory};
+use kernel::OpenFault;
 use opening::recover_image;
 use rings::Board;
 use scripts::{Task, Word};
@@ -31,10 +30,11 @@ use std::io::Write;
 ///
 /// # Errors
 ///
-/// A fault of `recover_image` or of the kernel's opening, with `NoMemory` also where memory for the
-/// board, the operations or the rings is refused: then nothing was printed, and whatever a stop
-/// leaves is recovered to the same image. `Output`, and then the turns of the first words were
-/// made. `Disk` where a step found that the disk failed, and then all was printed.
+/// `Unrecovered` with a refusal of `recover_image`, or `Unopened` with a fault of the kernel's
+/// opening, with `NoMemory` also where memory for the board, the operations or the rings is refused:
+/// then nothing was printed, and whatever a stop leaves is recovered to the same image. `Output`,
+/// and then the turns of the first words were made. `Disk` where a step found that the disk failed,
+/// and then all was printed.
 pub fn replay_disk<D: Disk + Drop, O: Write>(
     alloc: Global,
     disk: D,
@@ -43,7 +43,7 @@ pub fn replay_disk<D: Disk + Drop, O: Write>(
     words: &[Word],
     stop: Option<u64>,
     out: &mut O,
-) -> (Result<(), Refusal>, D)
+) -> (Result<(), ReplayRefusal>, D)
     requires tasks { All (λ task. task.pid < processes) tasks.items }
     requires words { IsTrue (list_all (is_word_of processes) words.now) }
     ensures printed { OnOk result.0 (Replays D.Disk ⟦<FaultyDisk<D> as Disk>⟧ disk result.1
@@ -52,13 +52,14 @@ pub fn replay_disk<D: Disk + Drop, O: Write>(
     ensures refused { IfErr result.0 (IsNotReplayed D.Disk ⟦<FaultyDisk<D> as Disk>⟧ disk result.1
         tasks.items processes words.now (unwrap_or stop 0)
         (O.contents out.old) (O.contents out.new) (out.new ≡ out.old)) }
-    ensures layers { IfErr result.0 IsOfReplay }
     ensures name { D.name result.1 ≡ D.name disk }
 {
     let stop = stop.unwrap_or(0);
     let (board, hands) = match take_board(alloc) {
         Ok(made) => made,
-        Err(fault) => return (Err(fault.into()), disk),
+        Err(_refused) => {
+            return (Err(ReplayRefusal::Unopened(OpenFault::NoMemory)), disk);
+        }
     };
     let opened = open_recovered(alloc, &board, hands, disk, tasks, processes, stop);
     let (mut player, base) = match opened {
@@ -75,12 +76,11 @@ pub fn replay_disk<D: Disk + Drop, O: Write>(
 /// # Errors
 ///
 /// `NoMemory` where the allocator refuses the board.
-pub fn take_board(alloc: Global) -> Result<(Board, Hands), KernelFault>
+pub fn take_board(alloc: Global) -> Result<(Board, Hands), NoMemory>
     ensures keeper { IfOk result (λ made. KeeperOf made.0 made.1.keeper
         × (published made.1.keeper ≡ 0)) }
     ensures watch { IfOk result (λ made. WatchOf made.0 made.1.watch
         × (asked made.1.watch ≡ false)) }
-    ensures err { IsOkUnless result KernelFault.NoMemory }
 {
     let (board, keeper, mut watches) = Board::new(alloc, 1)?;
     let Some(watch) = watches.pop() else {
@@ -99,7 +99,7 @@ fn open_recovered<'a, D: Disk + Drop>(
     tasks: Vec<Task>,
     processes: u32,
     stop: u64,
-) -> Result<(Player<'a, D>, u64), (Refusal, D)>
+) -> Result<(Player<'a, D>, u64), (ReplayRefusal, D)>
     requires tasks { All (λ task. task.pid < processes) tasks.items }
     requires keeper { KeeperOf board.now hands.keeper × (published hands.keeper ≡ 0) }
     requires watch { WatchOf board.now hands.watch × (asked hands.watch ≡ false) }
@@ -109,14 +109,15 @@ fn open_recovered<'a, D: Disk + Drop>(
     ensures seated { IfOk result (λ made. IsSeated made.0) }
     ensures base { IfOk result (λ made. made.1
         ≡ ⟦<FaultyDisk<D> as Disk>⟧.write_count made.0.kernel.store.volume.device) }
-    ensures refused { IfErr result (λ e. HasNotBegun D.Disk ⟦<FaultyDisk<D> as Disk>⟧
-        disk e.1 processes e.0) }
-    ensures opening { IfErr result (λ e. IsOpening e.0) }
+    ensures refused { IfErr result (λ e. IsNotBegun D.Disk ⟦<FaultyDisk<D> as Disk>⟧
+        processes disk e.1 e.0) }
 {
     if let Err(refusal) = recover_image(alloc, &mut disk) {
-        return Err((Refusal::from(refusal), disk));
+        return Err((ReplayRefusal::Unrecovered(refusal), disk));
     }
     let base = disk.writes();
-    let player = open_player(alloc, board, hands, disk, tasks, processes, stop)?;
-    Ok((player, base))
+    match open_player(alloc, board, hands, disk, tasks, processes, stop) {
+        Ok(player) => Ok((player, base)),
+        Err((fault, disk)) => Err((ReplayRefusal::Unopened(fault), disk)),
+    }
 }

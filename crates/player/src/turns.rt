@@ -34,10 +34,9 @@ use crate::stepping::make_steps;
 use crate::told::progress_of;
 use blocks::{Disk, FaultyDisk, Kind};
 use clients::sources;
-use kernel::{Kernel, Step};
-use messages::{Event, KernelFault, Refusal};
+use kernel::{Kernel, OpenFault, Step};
+use messages::Event;
 use model::types::{Answer, Entry};
-use opening::open_refusal;
 use rings::{Board, BoardHerald, Keeper, Watch};
 use scripts::{Task, Word};
 use std::alloc::Global;
@@ -77,7 +76,7 @@ pub fn open_player<'a, D: Disk + Drop>(
     tasks: Vec<Task>,
     processes: u32,
     stop: u64,
-) -> Result<Player<'a, D>, (Refusal, D)>
+) -> Result<Player<'a, D>, (OpenFault, D)>
     requires tasks { All (λ task. task.pid < processes) tasks.items }
     requires keeper { KeeperOf board.now hands.keeper × (published hands.keeper ≡ 0) }
     requires watch { WatchOf board.now hands.watch × (asked hands.watch ≡ false) }
@@ -99,7 +98,7 @@ pub fn open_player<'a, D: Disk + Drop>(
 {
     let (intake, sources) = match sources(alloc, tasks, processes) {
         Ok(made) => made,
-        Err(refused) => return Err((KernelFault::from(refused).into(), disk)),
+        Err(_refused) => return Err((OpenFault::NoMemory, disk)),
     };
     let disk = FaultyDisk::new(disk, stop, Kind::WriteOld);
     let Hands { keeper, watch } = hands;
@@ -116,7 +115,7 @@ pub fn open_player<'a, D: Disk + Drop>(
             watch,
             sources,
         }),
-        Err((fault, disk)) => Err((open_refusal(fault), disk.into_inner())),
+        Err((fault, disk)) => Err((fault, disk.into_inner())),
     }
 }
 

@@ -18,7 +18,7 @@ use Rattle.model.specs.declared.types.operations.Answer.{Answer}
 use Rattle.model.specs.declared.types.operations.Op.{Op}
 use Rattle.sysring.specs.Accounts.{AccountsForAll}
 use Rattle.sysring.specs.declared.settling.Account.{Account}
-use Rattle.messages.specs.declared.refusal.Refusal.{Refusal}
+use Rattle.messages.specs.declared.told.Unwritten.{Unwritten}
 use Rattle.runner.specs.Reports.{IsReport, IsReported, PrintsReport}
 use Rattle.runner.proofs.Lines.{one_more_line}
 
@@ -87,7 +87,7 @@ own_still {D} {I} {H} image k l same p mine ops are own =
     subst (λ o. KeepsFirst (inode_count_of (image k.opening)) k.world.journal.list p o) are (subst (λ (m : State D I H). KeepsFirst (inode_count_of (image m.opening)) m.world.journal.list p mine) same own)
 
 -- where the reports before could not be printed, none is
-pub reports_then : (r before : Result (Unit {0}) Refusal) (A B C : Type 0) → (A → B → C) → OnOk before A → OnOk r (IsOk before × B) → OnOk r C
+pub reports_then : (r before : Result (Unit {0}) Unwritten) (A B C : Type 0) → (A → B → C) → OnOk before A → OnOk r (IsOk before × B) → OnOk r C
 reports_then (Ok _) (Ok _) A B C f a b = f a b.1
 reports_then (Ok _) (Err e) A B C f a b = absurd (cc b.0)
 reports_then (Err e) before A B C f a b = b

@@ -24,13 +24,13 @@ use Rattle.clients.specs.Backlogs.{ops_of}
 use Rattle.clients.specs.Clients.{AreClients, HaveRings, ops_at, ops_in}
 use Rattle.clients.specs.declared.client.Client.{Client}
 use Rattle.history.specs.Lemmas.Leaving.{kept_whole}
-use Rattle.opening.specs.Lemmas.Keeping.{unopened_leaves, unopened_name}
-use Rattle.opening.specs.Lemmas.Telling.{unopened_so}
-use Rattle.opening.specs.Openings.{IsOpening, IsUnopened}
-use Rattle.messages.specs.declared.refusal.Refusal.{Refusal}
-use Rattle.messages.specs.declared.refusal.Refusal.TheVariants.{File, Mkfs, Check, Recover, Open, Script, Schedule, Disk, Run, Stops, Put, Copy, Output}
+use Rattle.kernel.specs.declared.types.OpenFault.{OpenFault}
+use Rattle.opening.specs.Lemmas.Keeping.{not_opened_leaves, not_opened_name}
+use Rattle.opening.specs.Openings.{IsNotOpened}
+use Rattle.runner.specs.declared.refusals.RunRefusal.{RunRefusal}
+use Rattle.runner.specs.declared.refusals.RunRefusal.TheVariants.{Unopened, Thread, Disk, Output}
 use Rattle.runner.specs.Reports.{IsReport}
-use Rattle.runner.specs.Running.{HasNotBegun, Ends, IsEndedBy, IsNotRun, IsServed, KeepsTasks, Ringed}
+use Rattle.runner.specs.Running.{Ends, HasNotBegun, IsEndedBy, IsNotRun, IsServed, KeepsTasks, Ringed}
 
 -- the clients of a script have its operations
 ops_are : (names : ℕ → Option Names) (tasks : List Task) (processes : ℕ) (cs : List Client) → AreClients names tasks processes cs → (p : ℕ) → p < length cs → ops_at cs p ≡ ops_of p tasks
@@ -90,40 +90,16 @@ module _ {D N H : Type 0} (disk : Ghosts D N) (has_now : (d : D) → disk.leaves
 module _ {D N : Type 0} (disk : Ghosts D N) (d e : D) (tasks : List Task) (processes : ℕ) (old new : Option (List ℕ)) (none : Type 0) where
   -- what a run that was refused came to
   pub not_run : (m : Ringed D) (names : ℕ → Option Names) (cs : List Client) → IsServed disk d e processes m → AreClients names tasks processes cs → KeepsTasks disk tasks processes m
-      → (r : Refusal) → IsEndedBy (inode_count_of (disk.image m.opening)) m (ops_at cs) (length cs) old new r → IsNotRun disk d e tasks processes old new none r
+      → (r : RunRefusal) → IsEndedBy (inode_count_of (disk.image m.opening)) m (ops_at cs) (length cs) old new r → IsNotRun disk d e tasks processes old new none r
   not_run m names cs served are own (Disk fault) why = record { last = m; served = served; own = own; ends = ends_so (inode_count_of (disk.image m.opening)) m names tasks processes cs (Some fault) old new are why }
   not_run m names cs served are own Output why = record { last = m; served = served; own = own }
-  not_run m names cs served are own (File fault) why = absurd why
-  not_run m names cs served are own (Mkfs fault) why = absurd why
-  not_run m names cs served are own (Check fault) why = absurd why
-  not_run m names cs served are own (Recover fault) why = absurd why
-  not_run m names cs served are own (Open fault) why = absurd why
-  not_run m names cs served are own (Script fault) why = absurd why
-  not_run m names cs served are own (Schedule fault) why = absurd why
-  not_run m names cs served are own (Run fault) why = absurd why
-  not_run m names cs served are own (Stops fault) why = absurd why
-  not_run m names cs served are own (Put fault) why = absurd why
-  not_run m names cs served are own (Copy fault) why = absurd why
+  not_run m names cs served are own (Unopened fault) why = absurd why
+  not_run m names cs served are own Thread why = absurd why
 
-  -- what it came to where no kernel was opened
-  begun_none : (r : Refusal) → IsOpening r → HasNotBegun disk d e processes r → none → IsNotRun disk d e tasks processes old new none r
-  begun_none (Check fault) opens why nothing = (why, nothing)
-  begun_none (Recover fault) opens why nothing = (why, nothing)
-  begun_none (Open fault) opens why nothing = (why, nothing)
-  begun_none (File fault) opens why nothing = absurd opens
-  begun_none (Mkfs fault) opens why nothing = absurd opens
-  begun_none (Script fault) opens why nothing = absurd opens
-  begun_none (Schedule fault) opens why nothing = absurd opens
-  begun_none (Disk fault) opens why nothing = absurd opens
-  begun_none (Run fault) opens why nothing = absurd opens
-  begun_none (Stops fault) opens why nothing = absurd opens
-  begun_none (Put fault) opens why nothing = absurd opens
-  begun_none (Copy fault) opens why nothing = absurd opens
-  begun_none Output opens why nothing = absurd opens
-
-  pub unopened_run : (r : Refusal) → IsUnopened disk processes d e r → none → IsNotRun disk d e tasks processes old new none r
-  unopened_run r why nothing = begun_none r (unopened_so disk processes d e r why) (record {
-    cause = why;
-    name = unopened_name disk processes d e r why;
-    leaves = unopened_leaves disk processes d e r why;
-  }) nothing
+-- what it came to where no kernel was opened
+pub not_begun : {D N : Type 0} (disk : Ghosts D N) (d e : D) (processes : ℕ) (fault : OpenFault) → IsNotOpened disk processes d e fault → HasNotBegun disk d e processes fault
+not_begun disk d e processes fault why = record {
+  cause = why;
+  name = not_opened_name disk processes d e fault why;
+  leaves = not_opened_leaves disk processes d e fault why;
+}

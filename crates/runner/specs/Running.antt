@@ -17,9 +17,10 @@ use Rattle.kernel.specs.Known.{IsCurrent}
 use Rattle.kernel.specs.State.{State}
 use Rattle.scripts.specs.declared.script.Task.{Task}
 use Rattle.clients.specs.Backlogs.{ops_of}
-use Rattle.opening.specs.Openings.{IsUnopened}
-use Rattle.messages.specs.declared.refusal.Refusal.{Refusal}
-use Rattle.messages.specs.declared.refusal.Refusal.TheVariants.{Mkfs, Schedule, Disk, Run, Stops, Put, Copy, Output}
+use Rattle.kernel.specs.declared.types.OpenFault.{OpenFault}
+use Rattle.opening.specs.Openings.{IsNotOpened}
+use Rattle.runner.specs.declared.refusals.RunRefusal.{RunRefusal}
+use Rattle.runner.specs.declared.refusals.RunRefusal.TheVariants.{Unopened, Thread, Disk, Output}
 use Rattle.runner.specs.Reports.{IsReported}
 
 -- a kernel over rings and a board
@@ -49,7 +50,7 @@ pub record Ends {D I H : Type 0} (inode_count : ℕ) (k : State D I H) (ops : �
 
 -- the same where it was refused: the disk had failed, or the output did
 abbrev pub IsEndedBy : {D I H : Type 0} → ℕ → State D I H → (ℕ → List Op) → ℕ → Option (List ℕ)
-    → Option (List ℕ) → Refusal → Type 0
+    → Option (List ℕ) → RunRefusal → Type 0
 IsEndedBy inode_count k ops processes old new (Disk fault) =
     Ends inode_count k ops processes (Some fault) old new
 IsEndedBy inode_count k ops processes old new Output = ⊤
@@ -85,28 +86,19 @@ pub record IsUndriven {D N : Type 0} (disk : Ghosts D N) (d e : D) (processes : 
 
 -- no kernel was opened over the disk d, now e, for this reason; whatever a stop left is recovered
 -- as d is
-pub record HasNotBegun {D N : Type 0} (disk : Ghosts D N) (d e : D) (processes : ℕ) (r : Refusal)
-    : Type 0 where
-  pub cause : IsUnopened disk processes d e r
+pub record HasNotBegun {D N : Type 0} (disk : Ghosts D N) (d e : D) (processes : ℕ)
+    (fault : OpenFault) : Type 0 where
+  pub cause : IsNotOpened disk processes d e fault
   pub name : disk.name e ≡ disk.name d
   pub leaves : LeavesIfCalm disk d e (RecoversAs (disk.image d))
 
 -- why a script's operations were not run over the disk d, now e, and what it came to; `none` says
 -- that nothing was printed
 abbrev pub IsNotRun : {D N : Type 0} → Ghosts D N → D → D → List Task → ℕ → Option (List ℕ)
-    → Option (List ℕ) → Type 0 → Refusal → Type 0
+    → Option (List ℕ) → Type 0 → RunRefusal → Type 0
+IsNotRun disk d e tasks processes old new none (Unopened fault) =
+    HasNotBegun disk d e processes fault × none
+IsNotRun disk d e tasks processes old new none Thread = IsUndriven disk d e processes × none
 IsNotRun disk d e tasks processes old new none (Disk fault) =
     Runs disk d e tasks processes (Some fault) old new
 IsNotRun disk d e tasks processes old new none Output = RunsPart disk d e tasks processes
-IsNotRun disk d e tasks processes old new none (Run fault) = IsUndriven disk d e processes × none
-IsNotRun disk d e tasks processes old new none r = HasNotBegun disk d e processes r × none
-
--- the refusals of a run: of its files, of the image, of the recovery, of the kernel's opening, of
--- the threads, of the disk, or of the output
-abbrev pub IsOfRun : Refusal → Type 0
-IsOfRun (Mkfs _) = ⊥
-IsOfRun (Schedule _) = ⊥
-IsOfRun (Stops _) = ⊥
-IsOfRun (Put _) = ⊥
-IsOfRun (Copy _) = ⊥
-IsOfRun _ = ⊤

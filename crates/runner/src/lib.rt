@@ -7,7 +7,9 @@
 #![tactic(auto)]
 
 mod driving;
+mod refusals;
 mod reporting;
 mod running;
 
+pub use refusals::RunRefusal;
 pub use running::run_disk;

@@ -1,5 +1,5 @@
 // What a run's processes were answered, and what became of their operations.
-ghost use Rattle.std.specs.Prelude.{◌≡◌, ◌<◌, ◌≤◌, Some, length, flat_map, IsOk, OnOk, IsOkUnless};
+ghost use Rattle.std.specs.Prelude.{◌≡◌, ◌<◌, ◌≤◌, Some, length, flat_map, IsOk, OnOk};
 ghost use Rattle.std.specs.Io.KnownBytes.{Appends};
 ghost use Rattle.history.specs.Own.{KeepsFirst, KeepsOwn};
 ghost use Rattle.model.specs.Layout.{inode_count_of};
@@ -12,25 +12,21 @@ ghost use Rattle.runner.specs.Reports.{IsReported, PrintsReport};
 use blocks::Disk;
 use clients::Client;
 use kernel::Kernel;
+use messages::{AccountLine, AnswerLine, Unwritten, pass_on, print};
 use model::types::Answer;
 use ports::Herald;
 use std::io::Write;
 use sysring::{Caller, RingIntake, account};
-use messages::{AccountLine, AnswerLine, Refusal, pass_on, print};
 
 /// Prints, process by process, a line for each answer and one for what became of its operations.
 /// There is a client for each process, with its rings. Where the writer fails the processes behind
 /// are accounted for all the same: up to any group, what is kept of each is a beginning of the
 /// changing ones of its client's operations.
-///
-/// # Errors
-///
-/// `Output` where the writer fails.
 pub fn report<D: Disk, H: Herald, O: Write>(
     kernel: &mut Kernel<D, RingIntake, H>,
     clients: Vec<Client>,
     out: &mut O,
-) -> Result<(), Refusal>
+) -> Result<(), Unwritten>
     requires many { length clients.items ≡ length kernel.old.world.processes }
     requires rings { HaveRings (intake_names kernel.old.intake) clients.items }
     ensures reported { OnOk result (IsReported (inode_count_of (D.image kernel.old.opening))
@@ -39,7 +35,6 @@ pub fn report<D: Disk, H: Herald, O: Write>(
     ensures own { KeepsOwn (inode_count_of (D.image kernel.old.opening))
         kernel.old.world.journal.list (length clients.items) (ops_at clients.items) }
     ensures same { kernel.new ≡ record kernel.old { intake = kernel.new.intake } }
-    ensures err { IsOkUnless result Refusal.Output }
 {
     kernel.known();
     let mut reported = Ok(());
@@ -49,8 +44,7 @@ pub fn report<D: Disk, H: Herald, O: Write>(
         pid += 1;
     }
     reported?;
-    pass_on(out)?;
-    Ok(())
+    pass_on(out)
 }
 
 // The same for one process. Where the reports before it could not be printed, nothing is printed.
@@ -58,12 +52,11 @@ fn report_one<D: Disk, H: Herald, O: Write>(
     kernel: &mut Kernel<D, RingIntake, H>,
     pid: u32,
     client: Client,
-    before: Result<(), Refusal>,
+    before: Result<(), Unwritten>,
     out: &mut O,
-) -> Result<(), Refusal>
+) -> Result<(), Unwritten>
     requires pid { pid < length kernel.old.world.processes }
     requires rings { intake_names kernel.old.intake pid ≡ Some (client_names client) }
-    requires before { IsOkUnless before Refusal.Output }
     ensures reported { OnOk result (IsOk before
         × PrintsReport (inode_count_of (D.image kernel.old.opening))
         kernel.old pid (client_ops client) (O.contents out.old) (O.contents out.new)) }
@@ -71,7 +64,6 @@ fn report_one<D: Disk, H: Herald, O: Write>(
         kernel.old.world.journal.list pid (client_ops client) }
     ensures same { kernel.new ≡ record kernel.old { intake = kernel.new.intake } }
     ensures names { SameNames (intake_names kernel.old.intake) (intake_names kernel.new.intake) }
-    ensures err { IsOkUnless result Refusal.Output }
 {
     kernel.known();
     let (caller, answers) = client.into_parts();
@@ -88,15 +80,13 @@ fn report_one<D: Disk, H: Herald, O: Write>(
             left: account.left,
             kept: account.kept,
         },
-    )?;
-    Ok(())
+    )
 }
 
 // Prints a line for each of the answers of a process.
-fn print_answers<O: Write>(pid: u32, answers: &[Answer], out: &mut O) -> Result<(), Refusal>
+fn print_answers<O: Write>(pid: u32, answers: &[Answer], out: &mut O) -> Result<(), Unwritten>
     ensures printed { OnOk result (Appends (O.contents out.old) (O.contents out.new)
         (flat_map (answer_line pid) answers.now)) }
-    ensures err { IsOkUnless result Refusal.Output }
 {
     for answer in answers {
         print(out, AnswerLine { pid, answer })?;
@@ -105,10 +95,9 @@ fn print_answers<O: Write>(pid: u32, answers: &[Answer], out: &mut O) -> Result<
 }
 
 // Prints a line for each answer that the caller of a process knows and has not polled.
-fn print_known<O: Write>(pid: u32, mut caller: Caller, out: &mut O) -> Result<(), Refusal>
+fn print_known<O: Write>(pid: u32, mut caller: Caller, out: &mut O) -> Result<(), Unwritten>
     ensures printed { OnOk result (Appends (O.contents out.old) (O.contents out.new)
         (flat_map (answer_line pid) (unpolled caller))) }
-    ensures err { IsOkUnless result Refusal.Output }
 {
     for _known in 0..caller.answers_known() {
         let Some(answer) = caller.poll() else {

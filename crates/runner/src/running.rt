@@ -6,19 +6,20 @@ ghost use Rattle.history.specs.Own.{KeepsOwn};
 ghost use Rattle.kernel.specs.Known.{Known};
 ghost use Rattle.kernel.specs.Opening.{IsOpened};
 ghost use Rattle.model.specs.Layout.{inode_count_of};
-ghost use Rattle.opening.specs.Openings.{IsUnopened};
+ghost use Rattle.opening.specs.Openings.{IsNotOpened};
 ghost use Rattle.ports.specs.History.{nothing_yet};
 ghost use Rattle.rings.specs.declared.intake.RingIntake.{RingIntake};
 ghost use Rattle.rings.specs.Callers.{intake_count, intake_names, IntakeFits};
 ghost use Rattle.sysring.specs.Frames.{AreWorkers, HasFrameOf};
-ghost use Rattle.runner.specs.Running.{Ends, IsEndedBy, IsNotRun, IsOfRun, Runs};
+ghost use Rattle.runner.specs.Running.{Ends, IsEndedBy, IsNotRun, Runs};
 
 use crate::driving::drive;
+use crate::refusals::RunRefusal;
 use crate::reporting::report;
 use blocks::Disk;
 use clients::{Client, clients};
-use kernel::Kernel;
-use opening::open_refusal;
+use kernel::{Kernel, OpenFault};
+use messages::Unwritten;
 use ports::{Herald, Intake};
 use scripts::Task;
 use std::alloc::{AllocGlobal, Global};
@@ -27,7 +28,6 @@ use std::rt::Clock;
 use std::sync::Wait;
 use std::thread::Threads;
 use sysring::{Board, BoardHerald, Gate, Keeper, RingIntake, Watch, serve_while};
-use messages::{KernelFault, Refusal, RunFault};
 
 // Nothing is called round a step.
 struct NoGate;
@@ -49,10 +49,10 @@ impl Gate for NoGate {
 ///
 /// # Errors
 ///
-/// A fault of the kernel's opening, with `NoMemory` also where memory for the operations, the rings
-/// or the board is refused: then nothing was printed, and whatever a stop leaves is recovered to the
-/// same image. `Run` with `Thread` where no thread can be started. `Disk` with the kernel's fault,
-/// and then all was printed; else `Output`.
+/// `Unopened` with a fault of the kernel's opening, with `NoMemory` also where memory for the
+/// operations, the rings or the board is refused: then nothing was printed, and whatever a stop
+/// leaves is recovered to the same image. `Thread` where no thread can be started, and then nothing
+/// was printed either. `Disk` with the kernel's fault, and then all was printed; else `Output`.
 pub fn run_disk<D: Disk + Drop + Send, R: Threads + Wait + Clock + AllocGlobal + Sync, O: Write>(
     rt: &R,
     disk: D,
@@ -60,31 +60,30 @@ pub fn run_disk<D: Disk + Drop + Send, R: Threads + Wait + Clock + AllocGlobal +
     processes: u32,
     workers: u32,
     out: &mut O,
-) -> (Result<(), Refusal>, D)
+) -> (Result<(), RunRefusal>, D)
     requires tasks { All (λ task. task.pid < processes) tasks.items }
     requires workers { AreWorkers workers }
     ensures ran { OnOk result.0 (Runs D.Disk disk result.1 tasks.items processes None
         (O.contents out.old) (O.contents out.new)) }
     ensures refused { IfErr result.0 (IsNotRun D.Disk disk result.1 tasks.items processes
         (O.contents out.old) (O.contents out.new) (out.new ≡ out.old)) }
-    ensures layers { IfErr result.0 IsOfRun }
 {
     let (intake, clients) = match clients(rt.alloc(), tasks, processes) {
         Ok(made) => made,
-        Err(refused) => return (Err(KernelFault::from(refused).into()), disk),
+        Err(_refused) => return (Err(RunRefusal::Unopened(OpenFault::NoMemory)), disk),
     };
     let (board, keeper, watches) = match Board::new(rt.alloc(), 1) {
         Ok(made) => made,
-        Err(refused) => return (Err(KernelFault::from(refused).into()), disk),
+        Err(_refused) => return (Err(RunRefusal::Unopened(OpenFault::NoMemory)), disk),
     };
     let kernel = match open(rt.alloc(), &board, keeper, disk, intake, processes) {
         Ok(kernel) => kernel,
-        Err((refusal, disk)) => return (Err(refusal), disk),
+        Err((fault, disk)) => return (Err(RunRefusal::Unopened(fault)), disk),
     };
     let (called, kernel) = call(rt, kernel, &board, watches, clients, workers);
     match called {
         Some(clients) => close(kernel, clients, out),
-        None => (Err(Refusal::Run(RunFault::Thread)), kernel.into_disk()),
+        None => (Err(RunRefusal::Thread), kernel.into_disk()),
     }
 }
 
@@ -96,18 +95,15 @@ fn open<'a, D: Disk + Drop>(
     disk: D,
     intake: RingIntake,
     processes: u32,
-) -> Result<Kernel<D, RingIntake, BoardHerald<'a>>, (Refusal, D)>
+) -> Result<Kernel<D, RingIntake, BoardHerald<'a>>, (OpenFault, D)>
     requires keeper { KeeperOf board.now keeper × (published keeper ≡ 0) }
     requires served { intake_count intake ≡ processes }
     requires fresh { (p : ℕ) → IntakeFits intake p nothing_yet }
     ensures opened { IfOk result (λ k. IsOpened D.Disk disk intake k.herald processes k) }
-    ensures refused { IfErr result (λ e. IsUnopened D.Disk processes disk e.1 e.0) }
+    ensures refused { IfErr result (λ e. IsNotOpened D.Disk processes disk e.1 e.0) }
 {
     let herald = BoardHerald::new(board, keeper);
-    match Kernel::open(alloc, disk, intake, herald, processes) {
-        Ok(kernel) => Ok(kernel),
-        Err((fault, disk)) => Err((open_refusal(fault), disk)),
-    }
+    Kernel::open(alloc, disk, intake, herald, processes)
 }
 
 // Serves the kernel while the clients are called. The watches are of that board.
@@ -143,7 +139,7 @@ fn close<D: Disk + Drop, H: Herald, O: Write>(
     mut kernel: Kernel<D, RingIntake, H>,
     clients: Vec<Client>,
     out: &mut O,
-) -> (Result<(), Refusal>, D)
+) -> (Result<(), RunRefusal>, D)
     requires many { length clients.items ≡ length kernel.world.processes }
     requires rings { HaveRings (intake_names kernel.intake) clients.items }
     ensures disk { result.1 ≡ kernel.store.volume.device }
@@ -160,7 +156,8 @@ fn close<D: Disk + Drop, H: Herald, O: Write>(
     let reported = report(&mut kernel, clients, out);
     let disk = kernel.into_disk();
     match (reported, fault) {
-        (Ok(()), Some(fault)) => (Err(Refusal::Disk(fault)), disk),
-        (reported, _) => (reported, disk),
+        (Ok(()), Some(fault)) => (Err(RunRefusal::Disk(fault)), disk),
+        (Ok(()), None) => (Ok(()), disk),
+        (Err(Unwritten), _) => (Err(RunRefusal::Output), disk),
     }
 }

@@ -6,8 +6,8 @@ use Rattle.blocks.specs.FaultyDisk.{inner_of}
 use Rattle.blocks.specs.contracts.sync.SyncDiskDisk.TheImpl.{ghosts}
 use Rattle.scripts.specs.declared.schedule.Word.{Word}
 use Rattle.scripts.specs.declared.script.Task.{Task}
-use Rattle.messages.specs.declared.faults.StopsFault.{StopsFault}
-use Rattle.messages.specs.declared.faults.StopsFault.TheVariants.{Mismatch}
+use Rattle.crash_check.specs.declared.fault.StopsFault.{StopsFault}
+use Rattle.crash_check.specs.declared.fault.StopsFault.TheVariants.{Mismatch}
 use Rattle.blocks.specs.SyncDisk.{held_of}
 use Rattle.blocks.specs.declared.errors.NoMemory.{NoMemory as MemoryRefused}
 use Rattle.blocks.specs.declared.sync.SyncDisk.{SyncDisk}

@@ -9,9 +9,9 @@ use Rattle.model.specs.Files.{Files}
 use Rattle.player.specs.Opening.{IsArmed, IsOpenedOver}
 use Rattle.scripts.specs.declared.schedule.Word.{Word}
 use Rattle.scripts.specs.declared.script.Task.{Task}
-use Rattle.messages.specs.declared.faults.StopsFault.{StopsFault}
-use Rattle.messages.specs.declared.faults.StopsFault.TheVariants.{Mismatch}
-use Rattle.messages.specs.declared.refusal.Refusal.{Refusal}
+use Rattle.crash_check.specs.declared.fault.StopsFault.{StopsFault}
+use Rattle.crash_check.specs.declared.fault.StopsFault.TheVariants.{Mismatch}
+use Rattle.kernel.specs.declared.types.OpenFault.{OpenFault}
 use Rattle.crash_check.specs.Images.{HasFiles, is_want_of_memory, kept_files, new_image}
 use Rattle.stops.specs.Trials.{Fails, HasPlayedOn, IsKeptOf, IsTried, Loses, MemoryPlayer, RunsTo, memory}
 use Rattle.stops.specs.declared.trial.Played.{Played}
@@ -64,8 +64,8 @@ handed_on made (Ok x) P is has = subst (λ m. IfOk m P) is has
 handed_on made (Err _) P is has = tt
 
 -- a mismatch is a refusal for another cause than want of memory
-pub refused_so : {A D : Type 0} (made : Result A (Refusal × D)) (r : Result A StopsFault) (U : Refusal × D → Type 0) (X : Type 0) → IfErr r (λ f. f ≡ Mismatch → IsErrAnd made (λ e. is_want_of_memory e.0 ≡ false))
-    → IfErr made U → ((e : Refusal × D) → is_want_of_memory e.0 ≡ false → U e → X) → IfErr r (λ f. f ≡ Mismatch → X)
+pub refused_so : {A D : Type 0} (made : Result A (OpenFault × D)) (r : Result A StopsFault) (U : OpenFault × D → Type 0) (X : Type 0) → IfErr r (λ f. f ≡ Mismatch → IsErrAnd made (λ e. is_want_of_memory e.0 ≡ false))
+    → IfErr made U → ((e : OpenFault × D) → is_want_of_memory e.0 ≡ false → U e → X) → IfErr r (λ f. f ≡ Mismatch → X)
 refused_so made (Ok _) U X other refused so = tt
 refused_so (Ok _) (Err f) U X other refused so = λ mismatch. absurd (other mismatch)
 refused_so (Err e) (Err f) U X other refused so = λ mismatch. so e (other mismatch) refused

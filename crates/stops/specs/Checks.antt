@@ -5,9 +5,10 @@ use Rattle.std.specs.Io.KnownBytes.{Appends}
 use Rattle.scripts.specs.declared.schedule.Word.{Word}
 use Rattle.scripts.specs.declared.script.Task.{Task}
 use Rattle.messages.specs.Output.{images_text}
-use Rattle.messages.specs.declared.faults.StopsFault.TheVariants.{Mismatch, NoMemory}
-use Rattle.messages.specs.declared.refusal.Refusal.{Refusal}
-use Rattle.messages.specs.declared.refusal.Refusal.TheVariants.{Stops, Output}
+use Rattle.crash_check.specs.declared.fault.StopsFault.{StopsFault}
+use Rattle.crash_check.specs.declared.fault.StopsFault.TheVariants.{Mismatch, NoMemory}
+use Rattle.messages.specs.declared.printed.Printed.{Printed}
+use Rattle.messages.specs.declared.printed.Printed.TheVariants.{Fault, Output}
 use Rattle.stops.specs.Holding.{AllHeldPass, SomeHeldFails}
 use Rattle.stops.specs.Trials.{AllPass, SomeFails}
 
@@ -28,10 +29,9 @@ ChecksAll held tasks processes words old new = (images : ℕ)
     × PassesAll held tasks processes words images × Appends old new (images_text images)
 
 -- why a check wasn't done; `none` says that nothing was printed
-abbrev pub IsUnchecked : Bool → List Task → ℕ → List Word → Type 0 → Refusal → Type 0
-IsUnchecked held tasks processes words none (Stops Mismatch) =
+abbrev pub IsUnchecked : Bool → List Task → ℕ → List Word → Type 0 → Printed StopsFault → Type 0
+IsUnchecked held tasks processes words none (Fault Mismatch) =
     FailsSome held tasks processes words × none
-IsUnchecked held tasks processes words none (Stops NoMemory) = none
+IsUnchecked held tasks processes words none (Fault NoMemory) = none
 IsUnchecked held tasks processes words none Output =
     (images : ℕ) × PassesAll held tasks processes words images
-IsUnchecked held tasks processes words none r = ⊥

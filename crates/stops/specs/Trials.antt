@@ -9,7 +9,7 @@ use Rattle.blocks.specs.declared.memory.MemDisk.{MemDisk}
 use Rattle.scripts.specs.declared.schedule.Word.{Word}
 use Rattle.scripts.specs.declared.script.Task.{Task}
 use Rattle.messages.specs.declared.events.Event.{Event}
-use Rattle.messages.specs.declared.refusal.Refusal.{Refusal}
+use Rattle.kernel.specs.declared.types.OpenFault.{OpenFault}
 use Rattle.player.specs.Afterwards.{IsUnopenedOver}
 use Rattle.player.specs.Opening.{IsArmed, IsOpenedOver}
 use Rattle.player.specs.Stepping.{MakesTurns}
@@ -114,10 +114,10 @@ pub record IsUnopenedNew {D N : Type 0} (below : Ghosts D N)
     (disk : Ghosts (FaultyDisk D) (N × Trap)) (processes : ℕ) : Type 0 where
   pub before : D
   pub now : D
-  pub refusal : Refusal
+  pub fault : OpenFault
   pub new : below.image before ≡ new_image
-  pub unopened : IsUnopenedOver disk processes before now refusal
-  pub other : is_want_of_memory refusal ≡ false
+  pub unopened : IsUnopenedOver disk processes before now fault
+  pub other : is_want_of_memory fault ≡ false
 
 -- why a run doesn't pass
 abbrev pub Fails : List Task → ℕ → List Word → ℕ → Type 0

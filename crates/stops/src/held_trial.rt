@@ -7,7 +7,7 @@ ghost use Rattle.rings.specs.Boards.{KeeperOf, WatchOf, asked, published};
 ghost use Rattle.player.specs.Opening.{IsArmed, IsOpenedOver};
 ghost use Rattle.player.specs.Stepping.{IsSeated};
 ghost use Rattle.scripts.specs.Schedule.{is_word_of};
-ghost use Rattle.messages.specs.declared.faults.StopsFault.TheVariants as fault;
+ghost use Rattle.crash_check.specs.declared.fault.StopsFault.TheVariants as fault;
 ghost use Rattle.blocks.specs.FaultyDisk.{inner_of};
 ghost use Rattle.stops.specs.Holding.{
   FailsHeld,
@@ -30,13 +30,12 @@ ghost use Rattle.crash_check.specs.Images.{kept_files, new_image};
 use crate::copying::copies_of;
 use crate::running::{opened, play};
 use blocks::{Disk, FaultyDisk, Kind, NoMemory, SyncDisk};
-use rings::Board;
+use crash_check::{Due, StopsFault, kept_files, new_image, try_choices};
 use model::types::Entry;
 use player::{Hands, Outcome, Player, open_player, take_board};
-use crash_check::{Due, kept_files, new_image, try_choices};
+use rings::Board;
 use scripts::{Task, Word};
 use std::alloc::Global;
-use messages::StopsFault;
 
 /// The calls of a disk before which a run may be stopped.
 #[derive(Clone, Copy)]
@@ -115,7 +114,7 @@ pub fn try_held_run(
     ensures fails { IfErr result (λ f. f ≡ fault.Mismatch
         → FailsHeld tasks.now processes words.now write sync) }
 {
-    let (board, hands) = take_board(alloc).map_err(|_| StopsFault::NoMemory)?;
+    let (board, hands) = take_board(alloc)?;
     let player = open(alloc, &board, hands, tasks, processes, write, sync)?;
     finish(alloc, player, words, write)
 }

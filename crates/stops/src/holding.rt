@@ -2,7 +2,7 @@
 ghost use Rattle.std.specs.Prelude.{◌≡◌, ◌<◌, ◌≤◌, ◌+◌, ◌^◌, ℕ, All, IfOk, IfErr, IsTrue};
 ghost use Rattle.std.specs.List.{list_all};
 ghost use Rattle.scripts.specs.Schedule.{is_word_of};
-ghost use Rattle.messages.specs.declared.faults.StopsFault.TheVariants as fault;
+ghost use Rattle.crash_check.specs.declared.fault.StopsFault.TheVariants as fault;
 ghost use Rattle.stops.specs.Holding.{
   AllHeldPass,
   FailsHeldBehind,
@@ -15,9 +15,9 @@ ghost use Rattle.stops.specs.Holding.{
 
 use crate::held_trial::{Calls, try_held_run};
 use crate::stopping::Progress;
+use crash_check::StopsFault;
 use scripts::{Task, Word};
 use std::alloc::Global;
-use messages::StopsFault;
 
 /// Makes the whole run, and then one up to each of its writes, and one up to each of its syncs. How
 /// many images these may leave.

@@ -4,14 +4,14 @@ ghost use Rattle.std.specs.List.{list_all};
 ghost use Rattle.player.specs.Stepping.{IsSeated};
 ghost use Rattle.crash_check.specs.Images.{is_want_of_memory};
 ghost use Rattle.scripts.specs.Schedule.{is_word_of};
-ghost use Rattle.messages.specs.declared.faults.StopsFault.TheVariants as fault;
+ghost use Rattle.crash_check.specs.declared.fault.StopsFault.TheVariants as fault;
 ghost use Rattle.stops.specs.Trials.{HasPlayed};
 
 use blocks::{Disk, FaultyDisk, NoMemory};
+use crash_check::{StopsFault, is_want_of_memory};
+use kernel::OpenFault;
 use player::{Outcome, Player, make_turns};
-use crash_check::is_want_of_memory;
 use scripts::Word;
-use messages::{Refusal, StopsFault};
 
 /// The player that was opened.
 ///
@@ -19,7 +19,7 @@ use messages::{Refusal, StopsFault};
 ///
 /// `NoMemory` where memory was refused, else `Mismatch`.
 pub fn opened<'a, D: Disk + Drop>(
-    made: Result<Player<'a, D>, (Refusal, D)>,
+    made: Result<Player<'a, D>, (OpenFault, D)>,
 ) -> Result<Player<'a, D>, StopsFault>
     ensures player { IfOk result (λ player. made.entry ≡ Ok player) }
     ensures fault { IfErr result (λ f. f ≡ fault.Mismatch
@@ -27,7 +27,7 @@ pub fn opened<'a, D: Disk + Drop>(
 {
     match made {
         Ok(player) => Ok(player),
-        Err((refusal, _disk)) if is_want_of_memory(&refusal) => Err(StopsFault::NoMemory),
+        Err((fault, _disk)) if is_want_of_memory(&fault) => Err(StopsFault::NoMemory),
         Err(_) => Err(StopsFault::Mismatch),
     }
 }

@@ -2,16 +2,17 @@
 ghost use Rattle.std.specs.Prelude.{◌≡◌, ◌<◌, ◌+◌, ◌^◌, All, IfOk, IfErr, IsTrue, OnOk};
 ghost use Rattle.std.specs.List.{list_all};
 ghost use Rattle.scripts.specs.Schedule.{is_word_of};
-ghost use Rattle.messages.specs.declared.faults.StopsFault.TheVariants as fault;
+ghost use Rattle.crash_check.specs.declared.fault.StopsFault.TheVariants as fault;
 ghost use Rattle.stops.specs.Checks.{ChecksAll, FailsSome, IsUnchecked, PassesAll};
 ghost use Rattle.stops.specs.Trials.{AllPass, FailsBehind, Passes, SomeFails};
 
 use crate::holding::try_held_stops;
 use crate::trial::try_run;
+use crash_check::StopsFault;
+use messages::{Printed, print_images};
 use scripts::{Task, Word};
 use std::alloc::Global;
 use std::io::Write;
-use messages::{Refusal, StopsFault, print_images};
 
 /// Who is told how far a check is. What it is told is so by the check's code.
 pub trait Progress {
@@ -30,9 +31,9 @@ pub trait Progress {
 ///
 /// # Errors
 ///
-/// `Stops` with `Mismatch` where some image can't be recovered or has other files than those after
+/// `Mismatch` where some image can't be recovered or has other files than those after
 /// the committed groups (over a disk that holds writes back those after all groups that were opened,
-/// where the image's own header logs something), and with `NoMemory` where memory was refused, also
+/// where the image's own header logs something), and `NoMemory` where memory was refused, also
 /// that of an operation: then nothing was printed. Else `Output`. By its code the first such image
 /// ends the check.
 pub fn check_stops<P: Progress, O: Write>(
@@ -43,7 +44,7 @@ pub fn check_stops<P: Progress, O: Write>(
     held: bool,
     progress: &mut P,
     out: &mut O,
-) -> Result<(), Refusal>
+) -> Result<(), Printed<StopsFault>>
     requires tasks { All (λ task. task.pid < processes) tasks.now }
     requires words { IsTrue (list_all (is_word_of processes) words.now) }
     ensures checked { OnOk result (ChecksAll held tasks.now processes words.now
@@ -53,8 +54,8 @@ pub fn check_stops<P: Progress, O: Write>(
 {
     let tried = try_all(alloc, tasks, processes, words, held, progress);
     progress.ended();
-    let images = tried.map_err(Refusal::Stops)?;
-    print_images(out, images)
+    let images = tried.map_err(Printed::Fault)?;
+    print_images(out, images).map_err(|_| Printed::Output)
 }
 
 // Makes all runs over a disk of that kind. How many images there were.

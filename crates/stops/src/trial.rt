@@ -6,7 +6,7 @@ ghost use Rattle.player.specs.Opening.{IsArmed, IsOpenedOver};
 ghost use Rattle.player.specs.Stepping.{IsSeated};
 ghost use Rattle.std.specs.List.{list_all};
 ghost use Rattle.scripts.specs.Schedule.{is_word_of};
-ghost use Rattle.messages.specs.declared.faults.StopsFault.TheVariants as fault;
+ghost use Rattle.crash_check.specs.declared.fault.StopsFault.TheVariants as fault;
 ghost use Rattle.crash_check.specs.Images.{HasFiles, new_image};
 ghost use Rattle.stops.specs.Trials.{
   Fails,
@@ -22,13 +22,12 @@ ghost use Rattle.stops.specs.Trials.{
 use crate::copying::copies_of;
 use crate::running::{opened, play};
 use blocks::{Disk, MemDisk, NoMemory};
-use rings::Board;
-use reference::files::Files;
+use crash_check::{StopsFault, has_files, kept_files, new_image};
 use player::{Hands, Outcome, Player, open_player, take_board};
-use crash_check::{has_files, kept_files, new_image};
+use reference::files::Files;
+use rings::Board;
 use scripts::{Task, Word};
 use std::alloc::Global;
-use messages::StopsFault;
 
 /// Makes the turns of the words over a new image, and compares what they leave with what the
 /// journal keeps. The write of number `stop` isn't made, counted from 1, and ends the run; each is
@@ -51,7 +50,7 @@ pub fn try_run(
     ensures fails { IfErr result (λ f. f ≡ fault.Mismatch
         → Fails tasks.now processes words.now stop) }
 {
-    let (board, hands) = take_board(alloc).map_err(|_| StopsFault::NoMemory)?;
+    let (board, hands) = take_board(alloc)?;
     let player = open(alloc, &board, hands, tasks, processes, stop)?;
     finish(alloc, player, words, stop)
 }

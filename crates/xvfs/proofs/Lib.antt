@@ -2,5 +2,4 @@ pub mod Reading
 pub mod Dispatch
 pub mod Sequences
 mod Disks
-pub mod Unchecked
 pub mod LockedOut

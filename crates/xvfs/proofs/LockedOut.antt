@@ -2,7 +2,9 @@
 use Rattle.std.proofs.Common.{ℕ, List, [], Option}
 use Rattle.blocks.specs.declared.errors.FileFault.TheVariants.{Locked}
 use Rattle.scripts.specs.declared.script.ScriptFault.TheVariants as script
-use Rattle.messages.specs.declared.refusal.Refusal.TheVariants.{File, Script}
+use Rattle.commands.specs.declared.runs.ReplayFilesRefusal.TheVariants as replay
+use Rattle.commands.specs.declared.runs.RunFilesRefusal.TheVariants as run
+use Rattle.xvfs.specs.declared.stopping.StopsRefusal.TheVariants as stops
 use Rattle.cli.specs.declared.words.Request.{Request}
 use Rattle.cli.specs.declared.words.Request.TheVariants.{Mkfs, Check, Recover, Cat, Ls, Show, Put, Copy, Replay, Run, Stops}
 use Rattle.cmd.specs.declared.files.OnFile.TheVariants as on
@@ -20,6 +22,6 @@ locked_out file (Ls image) old new none silent = (on.File Locked, silent)
 locked_out file (Show image inum) old new none silent = (on.File Locked, silent)
 locked_out file (Put image path inum) old new none silent = (put.Of (on.File Locked), record { bytes = []; refused = silent })
 locked_out file (Copy from to size) old new none silent = (copy.File Locked, silent)
-locked_out file (Replay image text schedule stop sync) old new none silent = (File Locked, silent)
-locked_out file (Run image text workers sync) old new none silent = (File Locked, silent)
-locked_out file (Stops text schedule held) old new none silent = (Script script.File, silent)
+locked_out file (Replay image text schedule stop sync) old new none silent = (replay.File Locked, silent)
+locked_out file (Run image text workers sync) old new none silent = (run.File Locked, silent)
+locked_out file (Stops text schedule held) old new none silent = (stops.Script script.File, silent)

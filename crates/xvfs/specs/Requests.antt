@@ -10,14 +10,14 @@ use Rattle.cli.specs.declared.explanation.Explanation.TheVariants.{Help, Mistake
 use Rattle.cli.specs.declared.words.Request.{Request}
 use Rattle.cli.specs.declared.words.Request.TheVariants.{Mkfs, Check, Recover, Cat, Ls, Show, Put, Copy, Replay, Run, Stops}
 use Rattle.cmd.specs.Lemmas.Disks.{file_disk}
-use Rattle.cmd.specs.Opened.{OnDiskRefusal, OpensDisk}
+use Rattle.cmd.specs.Opened.{OpensDisk}
 use Rattle.cmd.specs.Over.{IsRefusedOn}
 use Rattle.inspect.specs.Causes.{IsHidden, IsUnlisted}
 use Rattle.inspect.specs.Looks.{HasListed, HasShown as HasBlocksShown}
 use Rattle.player.specs.Causes.{IsNotRecovered, IsUnchecked}
 use Rattle.player.specs.Looks.{HasRecovered, HasReported, HasShown}
 use Rattle.player.specs.Showing.{IsNotShown}
-use Rattle.commands.specs.Files.{IsNotRun, IsReplayed, IsRun, IsUnreplayed}
+use Rattle.commands.specs.Runs.{IsNotRun, IsReplayed, IsRun, IsUnreplayed}
 use Rattle.commands.specs.Copies.{HasCopied, OnCopyRefusal}
 use Rattle.commands.specs.Making.{IsMade, IsNotMade}
 use Rattle.commands.specs.Puts.{HasPut, OnPutRefusal}
@@ -47,10 +47,9 @@ Answers file (Show image inum) old new =
 Answers file (Put image path inum) old new = HasPut file.remaining inum old new
 Answers file (Copy from to size) old new = HasCopied file.remaining file_disk size old new
 Answers file (Replay image script schedule stop sync) old new =
-    OpensDisk file.remaining file.disk sync
-    (IsReplayed file.disk file.over (unwrap_or stop 0) old new)
+    OpensDisk file.remaining file_disk sync (IsReplayed (unwrap_or stop 0) old new)
 Answers file (Run image script workers sync) old new =
-    OpensDisk file.remaining file.disk sync (IsRun file.disk old new)
+    OpensDisk file.remaining file_disk sync (IsRun old new)
 Answers file (Stops script schedule held) old new = ChecksScript held old new
 
 -- a command was refused, for some reason of its own
@@ -78,10 +77,9 @@ OnRefused file (Put image path inum) old new none =
 OnRefused file (Copy from to size) old new none =
     Refuses (OnCopyRefusal file.remaining file_disk size none)
 OnRefused file (Replay image script schedule stop sync) old new none =
-    Refuses (OnDiskRefusal file.remaining file.disk sync none
-    (IsUnreplayed file.disk file.over (unwrap_or stop 0) old new none))
+    Refuses (IsUnreplayed file.remaining sync (unwrap_or stop 0) old new none)
 OnRefused file (Run image script workers sync) old new none =
-    Refuses (OnDiskRefusal file.remaining file.disk sync none (IsNotRun file.disk old new none))
+    Refuses (IsNotRun file.remaining sync old new none)
 OnRefused file (Stops script schedule held) old new none = Refuses (IsScriptUnchecked held none)
 
 -- a request of the words was done and answered; what is printed of help is clap's

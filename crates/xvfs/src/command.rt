@@ -21,7 +21,7 @@ use crate::progress::{Meter, Screen};
 use crate::stopping::stops_files;
 use blocks::{Disk, FaultyDisk, FileDisk};
 use cli::{Explanation, Request, parse};
-use cmd::{OverFile, end, perform};
+use cmd::{Access, OverFile, end, perform};
 use commands::{Copy, Mkfs, Put, replay_files, run_files};
 use inspect::{Ls, Show};
 use messages::print_last;
@@ -149,13 +149,13 @@ where
             out,
             err,
         ),
-        Request::Check { image } => perform(rt, OverFile(image, false, Check), out, err),
+        Request::Check { image } => perform(rt, OverFile(image, Access::Look, Check), out, err),
         Request::Recover { image, sync } => {
-            perform(rt, OverFile(image, sync, Recover), out, err)
+            perform(rt, OverFile(image, Access::Change { sync }, Recover), out, err)
         }
-        Request::Cat { image, inum } => perform(rt, OverFile(image, false, Cat(inum)), out, err),
-        Request::Ls { image } => perform(rt, OverFile(image, false, Ls), out, err),
-        Request::Show { image, inum } => perform(rt, OverFile(image, false, Show(inum)), out, err),
+        Request::Cat { image, inum } => perform(rt, OverFile(image, Access::Look, Cat(inum)), out, err),
+        Request::Ls { image } => perform(rt, OverFile(image, Access::Look, Ls), out, err),
+        Request::Show { image, inum } => perform(rt, OverFile(image, Access::Look, Show(inum)), out, err),
         Request::Put { image, file, inum } => perform(rt, Put { image, file, inum }, out, err),
         Request::Copy { old, new, size } => {
             let progress = Meter::new(rt);

@@ -1,5 +1,5 @@
 -- The disk in a file that a command opened.
-use Rattle.std.specs.Prelude.{◌≡◌, ℕ, Bool, List, Option, Result, Ok, Err, OnOk}
+use Rattle.std.specs.Prelude.{ℕ, Bool, List, Option, Result, Ok, Err, OnOk}
 use Rattle.blocks.specs.declared.disk.Disk.{Ghosts}
 use Rattle.blocks.specs.declared.errors.FileFault.{FileFault}
 use Rattle.blocks.specs.declared.file.FileDisk.{FileDisk}

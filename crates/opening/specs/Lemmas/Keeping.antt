@@ -31,7 +31,3 @@ module _ {D N : Type 0} (disk : Ghosts D N) (processes : ℕ) (d e : D) where
       → LeavesIfCalm disk d e (RecoversAs (disk.image d))
   unopened_leaves r why =
       ⊎_elim (λ refused. stayed refused.1) (λ told. told.2.leaves.any_moment) why
-
-  pub unopened_name : (r : Refusal) → IsUnopened disk processes d e r
-      → disk.name e ≡ disk.name d
-  unopened_name r why = ⊎_elim (λ refused. ap disk.name refused.1) (λ told. told.2.name) why

@@ -1,18 +1,19 @@
 use Rattle.std.proofs.Common.{◌≡◌, Err, rules, subst, sym, take}
 use Rattle.std.specs.Prelude.{IfErr}
+use Rattle.std.proofs.lemmas.Result.{IfErr-weaker, on_ok_weaker}
 use Rattle.player.specs.Stepping.{IsBrokenOff}
 use Rattle.player.proofs.Keeping.{turns_keep}
 use Rattle.player.proofs.Owning.{turns_ops}
 use Rattle.player.proofs.Plays.{counts_printed}
-use Rattle.player.proofs.Refused.{broken_off, broken_output, on_ok_both}
+use Rattle.player.proofs.Refused.{broken_off}
+use Rattle.player.specs.declared.refusals.ReplayRefusal.TheVariants.{Output}
 use Rattle.player.proofs.Disks.{faulty}
 use Rattle.player.proofs.playing.run.Goals as goal
 
 pub returns-in_err-play-clause-refused : goal.returns-in_err-play-clause-refused
 returns-in_err-play-clause-refused g c =
-    let same : c.from_residual.result ≡ Err c.in_err-play.field-0.0 = search rules in
-    subst (λ r. IfErr r (IsBrokenOff (faulty g.D.Disk) c.args.stop c.args.base c.args.words.now c.args.player.now c.play.new.player (g.O.Write.contents c.args.out.now) (g.O.Write.contents c.play.new.out))) (sym same)
-    (broken_output (faulty g.D.Disk) c.args.stop c.args.base c.args.words.now c.args.player.now c.play.new.player (g.O.Write.contents c.args.out.now) (g.O.Write.contents c.play.new.out) c.in_err-play.field-0.0 c.in_err-play.ensures.err c.play.ensures.breaks)
+    let same : c.from_residual.result ≡ Err Output = search rules in
+    subst (λ r. IfErr r (IsBrokenOff (faulty g.D.Disk) c.args.stop c.args.base c.args.words.now c.args.player.now c.play.new.player (g.O.Write.contents c.args.out.now) (g.O.Write.contents c.play.new.out))) (sym same) c.play.ensures.breaks
 
 pub returns-in_err-play-clause-keeps : goal.returns-in_err-play-clause-keeps
 returns-in_err-play-clause-keeps g c =
@@ -31,15 +32,15 @@ returns-in_err-play-clause-name g c =
 
 pub returns-clause-printed : goal.returns-clause-printed
 returns-clause-printed g c =
-    on_ok_both c.close.result _ _ _
-    (λ counts sound. counts_printed (faulty g.D.Disk) c.args.stop c.args.base c.args.words.now _ _ _ (g.O.Write.contents c.args.out.now) (g.O.Write.contents c.play.new.out) (g.O.Write.contents c.close.new.out) c.in_ok-play.ensures.printed sound counts)
-    c.close.ensures.printed c.close.ensures.sound
+    on_ok_weaker c.close.result
+    (λ closed. counts_printed (faulty g.D.Disk) c.args.stop c.args.base c.args.words.now _ _ _ (g.O.Write.contents c.args.out.now) (g.O.Write.contents c.play.new.out) (g.O.Write.contents c.close.new.out) c.in_ok-play.ensures.printed closed.0 closed.1)
+    c.close.ensures.printed
 
 pub returns-clause-refused : goal.returns-clause-refused
 returns-clause-refused g c =
-    broken_off (faulty g.D.Disk) c.args.stop c.args.base c.args.words.now c.args.player.now c.play.new.player (g.O.Write.contents c.args.out.now) (g.O.Write.contents c.close.new.out) c.close.result _
-    (λ fault found counts. counts_printed (faulty g.D.Disk) c.args.stop c.args.base c.args.words.now _ _ fault (g.O.Write.contents c.args.out.now) (g.O.Write.contents c.play.new.out) (g.O.Write.contents c.close.new.out) c.in_ok-play.ensures.printed found counts)
-    c.play.ensures.breaks c.close.ensures.refused c.close.ensures.fault
+    IfErr-weaker c.close.result _ _
+    (broken_off (faulty g.D.Disk) c.args.stop c.args.base c.args.words.now c.args.player.now c.play.new.player (g.O.Write.contents c.args.out.now) (g.O.Write.contents c.play.new.out) (g.O.Write.contents c.close.new.out) c.in_ok-play.ensures.printed c.play.ensures.breaks)
+    c.close.ensures.refused
 
 pub returns-clause-keeps : goal.returns-clause-keeps
 returns-clause-keeps g c =

@@ -6,7 +6,7 @@ use Rattle.std.proofs.lemmas.Result.{IfErr-weaker, on_ok_weaker}
 use Rattle.player.proofs.Disks.{faulty}
 use Rattle.player.proofs.Keeping.{played_on}
 use Rattle.player.proofs.Seats.{same_inner}
-use Rattle.player.proofs.Refused.{not_begun, opening_of_replay, replayed, run_of_replay, run_refused}
+use Rattle.player.proofs.Refused.{not_begun, replayed, run_refused}
 use Rattle.player.proofs.replaying.replay_disk.Goals as goal
 
 pub run-ran-requires-clause-words : goal.run-ran-requires-clause-words
@@ -14,10 +14,7 @@ run-ran-requires-clause-words g c = subst (λ n. IsTrue (list_all (is_word_of n)
 
 pub returns-in-Err-opened-clause-refused : goal.returns-in-Err-opened-clause-refused
 returns-in-Err-opened-clause-refused g c =
-    not_begun g.D.Disk (faulty g.D.Disk) c.args.processes c.args.disk c.in-Err-opened.disk c.args.tasks.items c.args.words.now _ (g.O.Write.contents c.args.out.now) (g.O.Write.contents c.args.out.now) _ c.in-Err-opened.refusal c.in-Err-opened.ensures.opening c.in-Err-opened.ensures.refused refl
-
-pub returns-in-Err-opened-clause-layers : goal.returns-in-Err-opened-clause-layers
-returns-in-Err-opened-clause-layers g c = opening_of_replay c.in-Err-opened.refusal c.in-Err-opened.ensures.opening
+    not_begun g.D.Disk (faulty g.D.Disk) c.args.processes c.args.disk c.in-Err-opened.disk c.args.tasks.items c.args.words.now _ (g.O.Write.contents c.args.out.now) (g.O.Write.contents c.args.out.now) _ c.in-Err-opened.refusal c.in-Err-opened.ensures.refused refl
 
 pub returns-clause-printed : goal.returns-clause-printed
 returns-clause-printed g c =
@@ -35,15 +32,6 @@ returns-clause-refused g c =
     IfErr-weaker c.run-ran.result _ _
     (run_refused g.D.Disk (faulty g.D.Disk) c.args.disk c.into_disk.result c.args.tasks.items c.args.processes c.args.words.now _ c.unwrap_or-stop.result c.in-Ok-opened.opened.1 c.unwrap_or-stop.ensures (g.O.Write.contents c.args.out.now) (g.O.Write.contents c.run-ran.new.out) c.in-Ok-opened.opened.0 c.run-ran.new.player
     made.ready made.base played _)
-    c.run-ran.ensures.refused
-
-pub returns-clause-layers : goal.returns-clause-layers
-returns-clause-layers g c =
-    let made = c.in-Ok-opened.ensures in
-    let played = played_on g.D.Disk g.met.D.Disk.has_now c.args.disk c.args.tasks.items c.args.processes c.unwrap_or-stop.result c.in-Ok-opened.opened.0 c.run-ran.new.player made.ready c.run-ran.ensures.keeps c.into_disk.result (c.into_disk.ensures ∙ same_inner c.run-ran.new.player.kernel c.meet_all.new.self.kernel c.meet_all.ensures.same) c.run-ran.ensures.name c.in-Ok-opened.ensures.processes c.run-ran.ensures.ops c.meet_all.ensures.own in
-    IfErr-weaker c.run-ran.result _ _
-    (run_of_replay g.D.Disk (faulty g.D.Disk) c.args.disk c.into_disk.result c.args.tasks.items c.args.processes c.args.words.now _ c.unwrap_or-stop.result c.in-Ok-opened.opened.1 c.unwrap_or-stop.ensures (g.O.Write.contents c.args.out.now) (g.O.Write.contents c.run-ran.new.out) c.in-Ok-opened.opened.0 c.run-ran.new.player
-    made.ready made.base played)
     c.run-ran.ensures.refused
 
 pub returns-clause-name : goal.returns-clause-name

@@ -26,8 +26,6 @@ returns-in-Err-open-clause-refused g c =
       now = c.in-Err-open.disk;
       below = c.new-disk.ensures.inner;
       below_now = sym c.into_inner.ensures;
-      fault = c.in-Err-open.fault;
-      told = c.open_refusal.ensures;
       refuses = c.in-Err-open.ensures.refused;
     })
 

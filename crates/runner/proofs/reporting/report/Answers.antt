@@ -21,7 +21,6 @@ loop-client-init g c =
         each = λ p text at. absurd (cc at);
         printed = Appends-nil (g.O.Write.contents c.args.out.now);
       };
-      only = tt;
       own = λ p low. absurd (omega (arith, low));
       same = refl;
       names = λ p. refl;
@@ -52,7 +51,6 @@ loop-client-preserved g c =
       few = inv.few;
       reported = reports_then c.report_one-reported.result c.loop-client.reported _ _ _
           (λ first one. one_more_report g.D.Disk.image k c.loop-client.kernel inv.same ops c.loop-client.pid _ (sym (ap ops_in at)) _ _ _ first one) inv.reported made.reported;
-      only = made.err;
       own = below_more _ _ inv.own (own_still g.D.Disk.image k c.loop-client.kernel inv.same c.loop-client.pid _ (ops c.loop-client.pid) (sym (ap ops_in at)) made.own);
       same = same_still k c.loop-client.kernel c.report_one-reported.new.kernel inv.same made.same;
       names = λ p. made.names p ∙ inv.names p;
@@ -60,16 +58,6 @@ loop-client-preserved g c =
 
 pub returns-in_err-reported-clause-own : goal.returns-in_err-reported-clause-own
 returns-in_err-reported-clause-own g c =
-    let inv = c.loop-client.invariant in
-    let left = c.loop-client.client-iterator.rest in
-    let none = c.in-None.ensures.steps.0 in
-    let is = left.ok.0 in
-    let pid = inv.pid in
-    let all = ap length inv.all ∙ length-append c.loop-client.yielded left.items in
-    λ p low. inv.own p (omega (arith, low, none, is, pid, all))
-
-pub returns-in_err-pass_on-clause-own : goal.returns-in_err-pass_on-clause-own
-returns-in_err-pass_on-clause-own g c =
     let inv = c.loop-client.invariant in
     let left = c.loop-client.client-iterator.rest in
     let none = c.in-None.ensures.steps.0 in

@@ -4,7 +4,7 @@ use Rattle.std.proofs.lemmas.Result.{IfErr-weaker, on_ok_weaker}
 use Rattle.model.specs.Layout.{inode_count_of}
 use Rattle.rings.specs.Callers.{intake_names}
 use Rattle.clients.specs.Clients.{AreSameClients}
-use Rattle.runner.proofs.Served.{ends_so, have_rings, is_served, keeps_tasks, many_are, not_run, unopened_run}
+use Rattle.runner.proofs.Served.{ends_so, have_rings, is_served, keeps_tasks, many_are, not_begun, not_run}
 use Rattle.runner.proofs.running.run_disk.Goals as goal
 
 pub call-called-requires-clause-watches : goal.call-called-requires-clause-watches
@@ -25,8 +25,7 @@ close-requires-clause-rings g c =
     have_rings g.D.Disk c.args.disk c.in-Ok.made.0 c.in-Ok-open.kernel.herald c.args.processes c.in-Ok-open.kernel called.result.1 c.in-Ok-open.ensures.opened called.ensures.framed c.args.tasks.items c.in-Some.clients.items are
 
 pub returns-in-Err-open-clause-refused : goal.returns-in-Err-open-clause-refused
-returns-in-Err-open-clause-refused g c =
-    unopened_run g.D.Disk c.args.disk c.in-Err-open.disk c.args.tasks.items c.args.processes (g.O.Write.contents c.args.out.now) (g.O.Write.contents c.args.out.now) (c.args.out.now ≡ c.args.out.now) c.in-Err-open.refusal c.in-Err-open.ensures.refused refl
+returns-in-Err-open-clause-refused g c = (not_begun g.D.Disk c.args.disk c.in-Err-open.disk c.args.processes c.in-Err-open.fault c.in-Err-open.ensures.refused, refl)
 
 pub returns-in-Some-clause-ran : goal.returns-in-Some-clause-ran
 returns-in-Some-clause-ran g c =

@@ -39,7 +39,7 @@ pub returns-clause-fails : goal.returns-clause-fails
 returns-clause-fails c = refused_so c.open_player.result c.opened.result _ _ c.opened.ensures.fault c.open_player.ensures.refused (λ e other refused. record {
   before = c.new-disk.result;
   now = e.1;
-  refusal = e.0;
+  fault = e.0;
   new = ap ghosts.image c.new-disk.ensures.inner ∙ c.in_ok-held.ensures.image ∙ c.in_ok-image.ensures;
   unopened = refused;
   other = other;

@@ -28,7 +28,7 @@ pub returns-clause-fails : goal.returns-clause-fails
 returns-clause-fails c = refused_so c.open_player.result c.opened.result _ _ c.opened.ensures.fault c.open_player.ensures.refused (λ e other refused. record {
   before = c.in_ok-disk.disk;
   now = e.1;
-  refusal = e.0;
+  fault = e.0;
   new = c.in_ok-disk.ensures;
   unopened = refused;
   other = other;

@@ -1,0 +1,79 @@
+-- What became of the disk in a file over which a script's operations were made, or were not.
+use Rattle.std.specs.Prelude.{ℕ, Bool, List, Option, None}
+use Rattle.blocks.specs.declared.file.FileDisk.{FileDisk}
+use Rattle.cmd.specs.Lemmas.Disks.{faulty_disk, file_disk}
+use Rattle.cmd.specs.Opened.{OpensDisk}
+use Rattle.messages.specs.Telling.{Telling, file_telling, schedule_telling, script_telling}
+use Rattle.player.specs.Opening.{IsNotReplayed, Replays}
+use Rattle.player.specs.Refusals.{replay_telling}
+use Rattle.player.specs.declared.refusals.ReplayRefusal.{ReplayRefusal}
+use Rattle.runner.specs.Refusals.{run_telling}
+use Rattle.runner.specs.Running.{IsNotRun as IsNotRunOver, Runs}
+use Rattle.runner.specs.declared.refusals.RunRefusal.{RunRefusal}
+use Rattle.scripts.specs.declared.schedule.Word.{Word}
+use Rattle.scripts.specs.declared.script.Task.{Task}
+use Rattle.commands.specs.declared.runs.ReplayFilesRefusal.{ReplayFilesRefusal}
+use Rattle.commands.specs.declared.runs.ReplayFilesRefusal.TheVariants as replay
+use Rattle.commands.specs.declared.runs.RunFilesRefusal.{RunFilesRefusal}
+use Rattle.commands.specs.declared.runs.RunFilesRefusal.TheVariants as run
+
+-- how the refusals are told
+abbrev pub replay_files_telling : ReplayFilesRefusal → Telling
+replay_files_telling (replay.Script fault) = script_telling fault
+replay_files_telling (replay.Schedule fault) = schedule_telling fault
+replay_files_telling (replay.File fault) = file_telling fault
+replay_files_telling (replay.Replay refusal) = replay_telling refusal
+
+abbrev pub run_files_telling : RunFilesRefusal → Telling
+run_files_telling (run.Script fault) = script_telling fault
+run_files_telling (run.File fault) = file_telling fault
+run_files_telling (run.Run refusal) = run_telling refusal
+
+-- it was recovered, a player of some operations was opened over it, and the turns of some words
+-- made and printed
+pub record IsReplayed {F : Type 0} (stop : ℕ) (old new : Option (List ℕ)) (d e : FileDisk F)
+    : Type 0 where
+  pub tasks : List Task
+  pub processes : ℕ
+  pub words : List Word
+  pub replays : Replays file_disk faulty_disk d e tasks processes words stop None old new
+
+-- it was recovered, the operations of a script were run over it by threads, and what they came to
+-- printed
+pub record IsRun {F : Type 0} (old new : Option (List ℕ)) (d e : FileDisk F) : Type 0 where
+  pub tasks : List Task
+  pub processes : ℕ
+  pub runs : Runs file_disk d e tasks processes None old new
+
+-- why some operations were not replayed over it in the turns of some words, and what was printed
+pub record IsUnreplayedFor {F : Type 0} (stop : ℕ) (old new : Option (List ℕ)) (none : Type 0)
+    (r : ReplayRefusal) (d e : FileDisk F) : Type 0 where
+  pub tasks : List Task
+  pub processes : ℕ
+  pub words : List Word
+  pub refused : IsNotReplayed file_disk faulty_disk d e tasks processes words stop old new none r
+
+-- why some operations were not run over it by threads, and what was printed
+pub record IsNotRunFor {F : Type 0} (old new : Option (List ℕ)) (none : Type 0) (r : RunRefusal)
+    (d e : FileDisk F) : Type 0 where
+  pub tasks : List Task
+  pub processes : ℕ
+  pub refused : IsNotRunOver file_disk d e tasks processes old new none r
+
+-- why a script was not replayed over the disk in a file: one of its files could not be had, or this
+-- was the disk's refusal; `none` says that nothing was printed, here and below
+abbrev pub IsUnreplayed : {F : Type 0} → (F → Option (List ℕ)) → Bool → ℕ → Option (List ℕ)
+    → Option (List ℕ) → Type 0 → ReplayFilesRefusal → Type 0
+IsUnreplayed remaining holds stop old new none (replay.Script fault) = none
+IsUnreplayed remaining holds stop old new none (replay.Schedule fault) = none
+IsUnreplayed remaining holds stop old new none (replay.File fault) = none
+IsUnreplayed remaining holds stop old new none (replay.Replay r) =
+    OpensDisk remaining file_disk holds (IsUnreplayedFor stop old new none r)
+
+-- why a script was not run over it
+abbrev pub IsNotRun : {F : Type 0} → (F → Option (List ℕ)) → Bool → Option (List ℕ)
+    → Option (List ℕ) → Type 0 → RunFilesRefusal → Type 0
+IsNotRun remaining holds old new none (run.Script fault) = none
+IsNotRun remaining holds old new none (run.File fault) = none
+IsNotRun remaining holds old new none (run.Run r) =
+    OpensDisk remaining file_disk holds (IsNotRunFor old new none r)

@@ -1,0 +1,147 @@
+// The commands that make a script's operations over the disk in a file, in turns or by threads.
+ghost use Rattle.std.specs.Prelude.{◌≡◌, IfErr, OnOk, unwrap_or};
+ghost use Rattle.sysring.specs.Frames.{AreWorkers};
+ghost use Rattle.cmd.specs.Lemmas.Disks.{file_disk};
+ghost use Rattle.cmd.specs.Opened.{OpensDisk};
+ghost use Rattle.commands.specs.Runs.{IsNotRun, IsReplayed, IsRun, IsUnreplayed, replay_files_telling, run_files_telling};
+
+use crate::inputs::{schedule_from, script_from};
+use blocks::FileFault;
+use cmd::open;
+use messages::{Reason, Told};
+use player::{ReplayRefusal, replay_disk};
+use runner::{RunRefusal, run_disk};
+use scripts::{ScheduleFault, ScriptFault, processes};
+use std::io::{Read, Write};
+use std::rt::{Clock, Files};
+use std::sync::Wait;
+use std::thread::Threads;
+
+/// Why a script isn't replayed over the disk in a file.
+#[derive(Clone, Copy, Debug)]
+pub enum ReplayFilesRefusal {
+    /// The script can't be had.
+    Script(ScriptFault),
+    /// The schedule can't be had.
+    Schedule(ScheduleFault),
+    /// The file can't be used as a disk.
+    File(FileFault),
+    /// The replay over its disk was refused.
+    Replay(ReplayRefusal),
+}
+
+impl Reason for ReplayFilesRefusal {
+    ghost telling = { replay_files_telling };
+
+    fn told(&self) -> Told {
+        match self {
+            ReplayFilesRefusal::Script(fault) => fault.told(),
+            ReplayFilesRefusal::Schedule(fault) => fault.told(),
+            ReplayFilesRefusal::File(fault) => fault.told(),
+            ReplayFilesRefusal::Replay(refusal) => refusal.told(),
+        }
+    }
+}
+
+/// Why a script isn't run by threads over the disk in a file.
+#[derive(Clone, Copy, Debug)]
+pub enum RunFilesRefusal {
+    /// The script can't be had.
+    Script(ScriptFault),
+    /// The file can't be used as a disk.
+    File(FileFault),
+    /// The run over its disk was refused.
+    Run(RunRefusal),
+}
+
+impl Reason for RunFilesRefusal {
+    ghost telling = { run_files_telling };
+
+    fn told(&self) -> Told {
+        match self {
+            RunFilesRefusal::Script(fault) => fault.told(),
+            RunFilesRefusal::File(fault) => fault.told(),
+            RunFilesRefusal::Run(refusal) => refusal.told(),
+        }
+    }
+}
+
+/// Recovers the image in the file at this path, and makes the operations of a script in the turns
+/// of a schedule, as `replay_disk`. With `stop` the write of this number, from 1, is not made, and
+/// ends the run. With `sync` the file is a disk that holds writes back, and is synced.
+///
+/// # Errors
+///
+/// A fault of the script, then of the schedule, then of `FileDisk::open`, then a refusal of
+/// `replay_disk`.
+pub fn replay_files<R: Files + AllocGlobal, O: Write>(
+    rt: &R,
+    image: &str,
+    script: &str,
+    schedule: &str,
+    stop: Option<u64>,
+    sync: bool,
+    out: &mut O,
+) -> Result<(), ReplayFilesRefusal>
+    ensures opened { OnOk result (OpensDisk R.File.remaining file_disk sync
+        (IsReplayed (unwrap_or stop 0) (O.contents out.old) (O.contents out.new))) }
+    ensures refused { IfErr result (IsUnreplayed R.File.remaining sync (unwrap_or stop 0)
+        (O.contents out.old) (O.contents out.new) (out.new ≡ out.old)) }
+{
+    let tasks = script_from(rt, script).map_err(ReplayFilesRefusal::Script)?;
+    let processes = processes(tasks.as_slice());
+    let words = schedule_from(rt, schedule, processes).map_err(ReplayFilesRefusal::Schedule)?;
+    let disk = match open(rt, image, sync) {
+        Ok(disk) => disk,
+        Err(fault) => return Err(ReplayFilesRefusal::File(fault)),
+    };
+    let (ran, _disk) = replay_disk(
+        rt.alloc(),
+        disk,
+        tasks,
+        processes,
+        words.as_slice(),
+        stop,
+        out,
+    );
+    match ran {
+        Ok(()) => Ok(()),
+        Err(refusal) => Err(ReplayFilesRefusal::Replay(refusal)),
+    }
+}
+
+/// Recovers the image in the file at this path, and makes the operations of a script by callers and
+/// so many workers, from 1 to 32, on threads, as `run_disk`. With `sync` the file is a disk that
+/// holds writes back, and is synced.
+///
+/// # Errors
+///
+/// A fault of the script, then of `FileDisk::open`, then a refusal of `run_disk`.
+pub fn run_files<R: Files + AllocGlobal + Threads + Wait + Clock + Sync, O: Write>(
+    rt: &R,
+    image: &str,
+    script: &str,
+    workers: u32,
+    sync: bool,
+    out: &mut O,
+) -> Result<(), RunFilesRefusal>
+where
+    R::File: Send,
+    requires { AreWorkers workers }
+    ensures opened { OnOk result (OpensDisk R.File.remaining file_disk sync
+        (IsRun (O.contents out.old) (O.contents out.new))) }
+    ensures refused { IfErr result (IsNotRun R.File.remaining sync
+        (O.contents out.old) (O.contents out.new) (out.new ≡ out.old)) }
+{
+    let tasks = script_from(rt, script).map_err(RunFilesRefusal::Script)?;
+    let processes = processes(tasks.as_slice());
+    let disk = match open(rt, image, sync) {
+        Ok(disk) => disk,
+        Err(fault) => return Err(RunFilesRefusal::File(fault)),
+    };
+    let (ran, _disk) = run_disk(rt, disk, tasks, processes, workers, out);
+    match ran {
+        Ok(()) => Ok(()),
+        Err(refusal) => Err(RunFilesRefusal::Run(refusal)),
+    }
+}
