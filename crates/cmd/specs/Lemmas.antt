@@ -1,3 +1,2 @@
 -- What the proofs of the crates above use.
 pub mod Disks
-pub mod Opened

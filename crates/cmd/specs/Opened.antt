@@ -1,13 +1,10 @@
--- The disk in a file that a command opened, and where it was refused.
+-- The disk in a file that a command opened.
 use Rattle.std.specs.Prelude.{◌≡◌, ◌≤◌, ℕ, Bool, List, length, Option}
 use Rattle.blocks.specs.Disk.{IsSettled}
 use Rattle.blocks.specs.File.{IsReadFrom}
 use Rattle.blocks.specs.FileDisk.{file_of}
 use Rattle.blocks.specs.declared.disk.Disk.{Ghosts}
-use Rattle.blocks.specs.declared.errors.FileFault.{FileFault}
 use Rattle.blocks.specs.declared.file.FileDisk.{FileDisk}
-use Rattle.messages.specs.declared.refusal.Refusal.{Refusal}
-use Rattle.messages.specs.declared.refusal.Refusal.TheVariants.{File, Schedule, Script}
 
 -- The disk that a file holds, just opened: its blocks were read from the file, one after another,
 -- where that tells of its bytes. It holds writes back, or doesn't, and now holds none.
@@ -24,17 +21,3 @@ abbrev pub OpensDisk : {F N : Type 0} → (F → Option (List ℕ)) → Ghosts (
     → (FileDisk F → FileDisk F → Type 0) → Type 0
 OpensDisk {F} remaining disk holds P = (opened : FileDisk F) × ((now : FileDisk F)
     × IsOpened remaining disk holds opened × P opened now)
-
--- Where a command over the disk of a file was refused: its script, its schedule or the file could
--- not be had, and then no disk was opened; or one was, and is now another, as P says. `none` says
--- that nothing was printed.
-abbrev pub OnDiskRefusal : {F N : Type 0} → (F → Option (List ℕ)) → Ghosts (FileDisk F) N → Bool
-    → Type 0 → (FileDisk F → FileDisk F → Refusal → Type 0) → Refusal → Type 0
-OnDiskRefusal remaining disk holds none P (Script fault) = none
-OnDiskRefusal remaining disk holds none P (Schedule fault) = none
-OnDiskRefusal remaining disk holds none P (File fault) = none
-OnDiskRefusal remaining disk holds none P r = OpensDisk remaining disk holds (λ d e. P d e r)
-
--- the refusal is one of the file at a path
-abbrev pub IsOfFile : Refusal → Type 0
-IsOfFile r = (fault : FileFault) × (r ≡ File fault)

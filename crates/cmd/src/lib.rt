@@ -11,4 +11,4 @@ mod opened;
 
 pub use command::{Command, end, perform};
 pub use files::{DiskCommand, OnFile, OverFile};
-pub use opened::{Access, open, open_disk, open_to_look};
+pub use opened::{Access, open, open_to_look};

@@ -1,11 +1,10 @@
 // The disk in a file that a command opens.
 
-ghost use Rattle.std.specs.Prelude.{IfErr, IfOk, false};
-ghost use Rattle.cmd.specs.Opened.{IsOfFile, IsOpened};
+ghost use Rattle.std.specs.Prelude.{IfOk, false};
+ghost use Rattle.cmd.specs.Opened.{IsOpened};
 ghost use Rattle.cmd.specs.Over.{holds_back};
 
 use blocks::{Disk, FileDisk, FileFault};
-use messages::Refusal;
 use std::fs::metadata;
 use std::rt::Files;
 
@@ -89,21 +88,4 @@ pub fn open<R: Files + AllocGlobal>(
         return Ok(disk.hold_back());
     }
     Ok(disk)
-}
-
-/// The same for a command that answers a `Refusal`.
-///
-/// # Errors
-///
-/// `File` with a fault of `FileDisk::open`.
-pub fn open_disk<R: Files + AllocGlobal>(
-    rt: &R,
-    image: &str,
-    sync: bool,
-) -> Result<FileDisk<R::File>, Refusal>
-    ensures opened { IfOk result
-        (IsOpened R.File.remaining ⟦<FileDisk<R::File> as Disk>⟧ sync) }
-    ensures refused { IfErr result IsOfFile }
-{
-    Ok(open(rt, image, sync).map_err(Refusal::File)?)
 }

@@ -1,6 +1,5 @@
 pub mod Answers
 pub mod Digits
 pub mod Telling
-pub mod Refusal
 pub mod Output
 pub mod Events

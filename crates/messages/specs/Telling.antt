@@ -14,16 +14,6 @@ use Rattle.scripts.specs.declared.script.ScriptFault.{ScriptFault}
 use Rattle.scripts.specs.declared.script.ScriptFault.TheVariants as script
 use Rattle.scripts.specs.declared.schedule.ScheduleFault.{ScheduleFault}
 use Rattle.scripts.specs.declared.schedule.ScheduleFault.TheVariants as schedule
-use Rattle.messages.specs.declared.faults.CopyFault.{CopyFault}
-use Rattle.messages.specs.declared.faults.CopyFault.TheVariants as copy
-use Rattle.messages.specs.declared.faults.KernelFault.{KernelFault}
-use Rattle.messages.specs.declared.faults.KernelFault.TheVariants as kernel
-use Rattle.messages.specs.declared.faults.PutFault.{PutFault}
-use Rattle.messages.specs.declared.faults.PutFault.TheVariants as put
-use Rattle.messages.specs.declared.faults.RunFault.{RunFault}
-use Rattle.messages.specs.declared.faults.RunFault.TheVariants as run
-use Rattle.messages.specs.declared.faults.StopsFault.{StopsFault}
-use Rattle.messages.specs.declared.faults.StopsFault.TheVariants as stops
 use Rattle.messages.specs.declared.printed.Printed.{Printed}
 use Rattle.messages.specs.declared.printed.Printed.TheVariants as printed
 use Rattle.messages.specs.declared.told.Told.{Told}
@@ -110,10 +100,6 @@ recover_telling recover.BadLog = plain (codes "recover") 2 (codes "BadLog")
 recover_telling recover.NoMemory = plain (codes "recover") 3 (codes "NoMemory")
 recover_telling recover.Sync = plain (codes "recover") 4 (codes "Sync")
 
-abbrev pub kernel_telling : KernelFault → Telling
-kernel_telling kernel.NoMemory = plain (codes "open") 3 (codes "NoMemory")
-kernel_telling kernel.ProcRange = plain (codes "open") 4 (codes "ProcRange")
-
 abbrev pub script_telling : ScriptFault → Telling
 script_telling (script.BadLine line) = naming (codes "script") 1 (codes "BadLine") line
 script_telling script.TooLarge = plain (codes "script") 2 (codes "TooLarge")
@@ -129,25 +115,3 @@ schedule_telling schedule.File = plain (codes "schedule") 4 (codes "File")
 abbrev pub disk_telling : DeviceFault → Telling
 disk_telling (Block fault) = naming (codes "disk") 1 (codes "DiskFault") fault.0
 disk_telling (Sync fault) = plain (codes "disk") 2 (codes "SyncFault")
-
-abbrev pub run_telling : RunFault → Telling
-run_telling run.Thread = plain (codes "run") 1 (codes "Thread")
-
-abbrev pub stops_telling : StopsFault → Telling
-stops_telling stops.Mismatch = plain (codes "stops") 1 (codes "Mismatch")
-stops_telling stops.NoMemory = plain (codes "stops") 2 (codes "NoMemory")
-
-abbrev pub put_telling : PutFault → Telling
-put_telling put.NoFile = plain (codes "put") 1 (codes "NoFile")
-put_telling put.NoInode = plain (codes "put") 2 (codes "NoInode")
-put_telling put.TooBig = plain (codes "put") 3 (codes "TooBig")
-put_telling put.Full = plain (codes "put") 4 (codes "Full")
-put_telling put.NoMemory = plain (codes "put") 5 (codes "NoMemory")
-put_telling put.File = plain (codes "put") 6 (codes "File")
-
-abbrev pub copy_telling : CopyFault → Telling
-copy_telling copy.NotFirst = plain (codes "copy") 2 (codes "NotFirst")
-copy_telling (copy.Full number) = naming (codes "copy") 4 (codes "Full") number
-copy_telling copy.NoMemory = plain (codes "copy") 5 (codes "NoMemory")
-copy_telling copy.Disk = plain (codes "copy") 6 (codes "Disk")
-copy_telling copy.Exists = plain (codes "copy") 7 (codes "Exists")

@@ -13,16 +13,13 @@ mod hex_digits;
 mod lines;
 mod output;
 mod printed;
-mod refusal;
 mod told;
 
 pub use events::{Event, Progress};
-pub use faults::{CopyFault, KernelFault, PutFault, RunFault, StopsFault};
 pub use lines::{AccountLine, AnswerLine};
 pub use output::{
     pass_on, print, print_copied, print_counts, print_event, print_files, print_images, print_last,
     print_number, print_numbers, print_refusal, print_report, write_bytes,
 };
 pub use printed::Printed;
-pub use refusal::Refusal;
 pub use told::{Reason, Told, Unwritten};

@@ -1,5 +1,5 @@
 // What a command prints.
-ghost use Rattle.std.specs.Prelude.{IfSome, OnOk, IsOkUnless, decimal};
+ghost use Rattle.std.specs.Prelude.{IfSome, OnOk, decimal};
 ghost use Rattle.std.specs.Io.KnownBytes.{Appends, Keeps};
 ghost use Rattle.messages.specs.Events.{event_line};
 ghost use Rattle.messages.specs.declared.events.Event.TheVariants.{Stepped};
@@ -8,7 +8,6 @@ ghost use Rattle.messages.specs.Output.{copied_text, counts_text, files_text, im
 
 use crate::answers::print_answer;
 use crate::events::{Event, Progress, end_of_line};
-use crate::refusal::Refusal;
 use crate::told::{Reason, Unwritten};
 use itoa::Buffer;
 use layout::Super;
@@ -128,35 +127,23 @@ pub fn print_copied<O: Write>(out: &mut O, copied: u32) -> Result<(), Unwritten>
 }
 
 /// Prints how many files were copied, as the last text of a command.
-///
-/// # Errors
-///
-/// `Output` where the writer fails.
-pub fn print_files<O: Write>(out: &mut O, files: u32) -> Result<(), Refusal>
+pub fn print_files<O: Write>(out: &mut O, files: u32) -> Result<(), Unwritten>
     ensures ok { OnOk result (Appends (O.contents out.old) (O.contents out.new)
         (files_text files)) }
-    ensures err { IsOkUnless result Refusal.Output }
 {
     let mut buffer = Buffer::new();
     let files = buffer.format(files);
-    print_last(out, format_args!("copied {files}\n"))?;
-    Ok(())
+    print_last(out, format_args!("copied {files}\n"))
 }
 
 /// Prints the number of a file, as the last text of a command.
-///
-/// # Errors
-///
-/// `Output` where the writer fails.
-pub fn print_number<O: Write>(out: &mut O, number: u32) -> Result<(), Refusal>
+pub fn print_number<O: Write>(out: &mut O, number: u32) -> Result<(), Unwritten>
     ensures ok { OnOk result (Appends (O.contents out.old) (O.contents out.new)
         (number_text number)) }
-    ensures err { IsOkUnless result Refusal.Output }
 {
     let mut buffer = Buffer::new();
     let number = buffer.format(number);
-    print_last(out, format_args!("{number}\n"))?;
-    Ok(())
+    print_last(out, format_args!("{number}\n"))
 }
 
 /// Prints how many blocks a run wrote, and how many groups are committed, as the last text of a

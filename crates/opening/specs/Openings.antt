@@ -5,9 +5,6 @@ use Rattle.kernel.specs.Opening.{RefusesToOpen}
 use Rattle.kernel.specs.declared.types.OpenFault.{OpenFault}
 use Rattle.kernel.specs.declared.types.OpenFault.TheVariants as open_fault
 use Rattle.messages.specs.Telling.{Telling, check_telling, plain, recover_telling}
-use Rattle.messages.specs.declared.faults.KernelFault.TheVariants as kernel
-use Rattle.messages.specs.declared.refusal.Refusal.{Refusal}
-use Rattle.messages.specs.declared.refusal.Refusal.TheVariants.{Check, Recover, Open}
 
 -- how it is told; a fault of the check or of the recovery inside as that of its own layer
 abbrev pub open_telling : OpenFault → Telling
@@ -24,19 +21,3 @@ HasNoMemory d e fault = (fault ≡ open_fault.NoMemory) × (e ≡ d)
 abbrev pub IsNotOpened : {D N : Type 0} → Ghosts D N → ℕ → D → D → OpenFault → Type 0
 IsNotOpened disk processes d e fault =
     HasNoMemory d e fault ⊎ RefusesToOpen disk d e processes fault
-
--- why a kernel isn't opened; a fault of the check or of the recovery inside is told as its own
-abbrev pub open_refusal : OpenFault → Refusal
-open_refusal (open_fault.Check fault) = Check fault
-open_refusal (open_fault.Recover fault) = Recover fault
-open_refusal open_fault.NoMemory = Open kernel.NoMemory
-open_refusal open_fault.ProcRange = Open kernel.ProcRange
-
--- memory was refused before anything was done with the disk d, now e
-abbrev pub HasNoRoom : {D : Type 0} → D → D → Refusal → Type 0
-HasNoRoom d e r = (r ≡ Open kernel.NoMemory) × (e ≡ d)
-
--- why no kernel of so many processes was opened over the disk d, now e
-abbrev pub IsUnopened : {D N : Type 0} → Ghosts D N → ℕ → D → D → Refusal → Type 0
-IsUnopened disk processes d e r = HasNoRoom d e r
-    ⊎ ((fault : OpenFault) × (r ≡ open_refusal fault) × RefusesToOpen disk d e processes fault)

@@ -9,10 +9,10 @@ mod recovering;
 
 ghost use Rattle.std.specs.Prelude.{◌≡◌};
 ghost use Rattle.messages.specs.Telling.{telling_of};
-ghost use Rattle.opening.specs.Openings.{open_refusal, open_telling};
+ghost use Rattle.opening.specs.Openings.{open_telling};
 
 use kernel::OpenFault;
-use messages::{KernelFault, Reason, Refusal, Told};
+use messages::{Reason, Told};
 pub use recovering::{RecoverRefusal, recover_image};
 
 /// How it is told why a kernel wasn't opened.
@@ -24,18 +24,5 @@ pub fn open_told(fault: &OpenFault) -> Told
         OpenFault::Recover(fault) => fault.told(),
         OpenFault::NoMemory => Told::new("open", 3, "NoMemory"),
         OpenFault::ProcRange => Told::new("open", 4, "ProcRange"),
-    }
-}
-
-/// Why a kernel wasn't opened. A fault of the check or of the recovery inside is told as its own
-/// layer's.
-pub fn open_refusal(fault: OpenFault) -> Refusal
-    ensures { result ≡ open_refusal fault }
-{
-    match fault {
-        OpenFault::Check(fault) => Refusal::Check(fault),
-        OpenFault::Recover(fault) => Refusal::Recover(fault),
-        OpenFault::NoMemory => Refusal::Open(KernelFault::NoMemory),
-        OpenFault::ProcRange => Refusal::Open(KernelFault::ProcRange),
     }
 }

@@ -4,8 +4,7 @@ use Rattle.blocks.specs.Lemmas.Moments.{started}
 use Rattle.blocks.specs.declared.disk.Disk.{Ghosts}
 use Rattle.kernel.specs.declared.types.OpenFault.{OpenFault}
 use Rattle.wal.specs.Recovery.{LeavesIfCalm, RecoversAs}
-use Rattle.messages.specs.declared.refusal.Refusal.{Refusal}
-use Rattle.opening.specs.Openings.{IsNotOpened, IsUnopened}
+use Rattle.opening.specs.Openings.{IsNotOpened}
 
 module _ {D N : Type 0} (disk : Ghosts D N) (processes : ℕ) (d e : D) where
   -- what a stop leaves of a disk that nothing was done with
@@ -25,9 +24,3 @@ module _ {D N : Type 0} (disk : Ghosts D N) (processes : ℕ) (d e : D) where
       → disk.name e ≡ disk.name d
   not_opened_name fault why =
       ⊎_elim (λ refused. ap disk.name refused.1) (λ refuses. refuses.name) why
-
-  -- the same where that is told as a `Refusal`
-  pub unopened_leaves : (r : Refusal) → IsUnopened disk processes d e r
-      → LeavesIfCalm disk d e (RecoversAs (disk.image d))
-  unopened_leaves r why =
-      ⊎_elim (λ refused. stayed refused.1) (λ told. told.2.leaves.any_moment) why
