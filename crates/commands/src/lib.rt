@@ -1,8 +1,5 @@
-//! The commands that fill an image in a file or copy it: each opens the files that it names, hands the
-//! disk and what was read to `putting` or `copying`, and does nothing else.
-//!
-//! The commands over image files: each opens the files that it names, hands the disk and what was
-//! read to `player` or `runner`, and does nothing else.
+//! The commands over the files that they name: each opens these, hands the disk and what was read to
+//! `transfer`, `player` or `runner`, and does nothing else.
 //!
 //! No function here reads the words of a command line, and none checks a script at its stops.
 #![tactic(auto)]
