@@ -32,6 +32,7 @@ class Trial:
             self.put("a.img", image)
         for name, text in FILES.items():
             self.put(name, text)
+        over = over.format(folder=os.path.realpath(self.folder.name))
         env = dict(os.environ, LD_PRELOAD=WORK + "/faults.so", FAULTS_FILE=over)
         if call:
             env.update(FAULTS_CALL=call, FAULTS_AT=str(at), FAULTS_HOW=how)
@@ -191,14 +192,20 @@ def recover(call, how):
             yield at, None
 
 
-def mkfs(call, how):
+def mkfs(call, how, old):
+    """A new image, or one in place of an old one, which is kept where the new one isn't made."""
     words = ["mkfs", "a.img", "200", "32"]
+    over = "a.img.new" if old is None else "{folder}/a.img.new"
     for at in places(200 if call == "write" else 1):
-        trial = Trial(None, words, call, at, how)
+        trial = Trial(old, words, call, at, how, over=over)
         if how in ("short", "eintr"):
             good = trial.status == 0 and trial.bytes() == BASE
+        elif old is None:
+            good = trial.status in (1, -signal.SIGKILL) and not os.path.exists(trial.image)
         else:
-            good = trial.status in (1, -signal.SIGKILL) and not trial.checked().startswith("sound")
+            good = trial.status in (1, -signal.SIGKILL) and trial.bytes() == old
+        beside = os.path.exists(trial.image + ".new")
+        good = good and beside == (trial.status == -signal.SIGKILL)
         yield at, None if good else f"status {trial.status}: {trial.checked()}"
 
 
@@ -298,7 +305,8 @@ SERIES += [(replay, "fdatasync", how, True) for how in HOWS["fdatasync"]]
 SERIES += [(power_cut, seed) for seed in (1, 2, 3)]
 SERIES += [(run, call, how, sync) for sync in (False, True) for call in ("write", "lseek") for how in HOWS[call]]
 SERIES += [(recover, call, how) for call in ("write", "lseek", "fdatasync") for how in HOWS[call]]
-SERIES += [(mkfs, call, how) for call in ("write", "ftruncate") for how in HOWS[call]]
+SERIES += [(mkfs, call, how, old) for old in (None, ONE_FILE) for call in ("write", "fdatasync", "ftruncate")
+           for how in HOWS[call]]
 SERIES += [(copy, call, how) for call in ("write", "fdatasync", "ftruncate") for how in HOWS[call]]
 SERIES += [(at_once, other) for other in ("put", "cat")]
 SERIES += [(copy_cut, seed) for seed in (1, 2, 3)]

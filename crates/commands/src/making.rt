@@ -199,6 +199,11 @@ fn make_beside<R: Files + AllocGlobal>(
                 Err(OnFile::Of(fault))
             }
         },
+        // The file may have been made, and not given its length.
+        Err(FileFault::Open) => {
+            let _gone = remove_file(rt, path);
+            Err(OnFile::File(FileFault::Open))
+        }
         Err(fault) => Err(OnFile::File(fault)),
     }
 }
