@@ -145,11 +145,26 @@ where
         ),
         Request::Check { image } => perform(rt, OverFile(image, Access::Look, Check), out, err),
         Request::Recover { image, sync } => {
-            perform(rt, OverFile(image, Access::Change { sync }, Recover), out, err)
+            perform(
+                rt,
+                OverFile(image, Access::Change { sync }, Recover),
+                out,
+                err,
+            )
         }
-        Request::Cat { image, inum } => perform(rt, OverFile(image, Access::Look, Cat(inum)), out, err),
+        Request::Cat { image, inum } => perform(
+            rt,
+            OverFile(image, Access::Look, Cat(inum)),
+            out,
+            err,
+        ),
         Request::Ls { image } => perform(rt, OverFile(image, Access::Look, Ls), out, err),
-        Request::Show { image, inum } => perform(rt, OverFile(image, Access::Look, Show(inum)), out, err),
+        Request::Show { image, inum } => perform(
+            rt,
+            OverFile(image, Access::Look, Show(inum)),
+            out,
+            err,
+        ),
         Request::Put { image, file, inum } => end(put_file(rt, image, file, inum, out), err),
         Request::Copy { old, new, size } => end(
             copy_files(rt, old, new, size, &mut Meter::new(rt), out),
