@@ -14,7 +14,7 @@ use Rattle.clap.proofs.OnLiterals.{clap_on_literals}
 use Rattle.clap.proofs.WalkLemmas.{first_value-rows, one_text-rows}
 use Rattle.cli.specs.declared.words.Request.{Request}
 use Rattle.cli.specs.declared.words.Request.TheVariants.{Mkfs, Check, Recover, Cat, Ls, Show, Put, Copy, Replay, Run, Stops}
-use Rattle.cli.specs.CommandLine.{AskFor, Asks, AsksBy, HasApp, HasChoice, HasFewWorkers, HasFlag, HasWord, IsMistakeIn, mistakes_in, xvfs_app}
+use Rattle.cli.specs.CommandLine.{AskFor, AskToWait, Asks, AsksBy, HasApp, HasChoice, HasFewWorkers, HasFlag, HasWord, IsMistakeIn, Waits, mistakes_in, xvfs_app}
 
 pub one_word : (app : App) (rule : Rule) (old : Command) (word : Arg) (new : Command) → HasApp app old → rule_of word ≡ rule → word.global ≡ false → AddsArg old word new → HasApp (with_rule app rule) new
 one_word app rule old word new has is local adds =
@@ -80,6 +80,16 @@ flag_read f id given none set unset = record {
 -- what clap says of a number that may be left out
 pub choice_read : (f : Found) (id : List ℕ) (given : Option ℕ) → (one_text f id ≡ None → given ≡ None) → HasChoice id (rows_of f) given
 choice_read f id given none = record { none = λ is. none (one_text-rows f id ∙ is) }
+
+-- whether the command that was met waits
+pub waits : {B : Type 0} (f : B → List ℕ × List Row) (sub : Option B) (rows : List Row) (given : Bool) → Some rows ≡ option_map (λ p. p.1) (option_map f sub) → HasFlag (codes "wait") rows given → Waits (option_map f sub) given
+waits f None rows given has flag = absurd (some_is_not_none rows has)
+waits f (Some b) rows given has flag = subst (λ rs. HasFlag (codes "wait") rs given) (same_Some rows (f b).1 has) flag
+
+-- the command that a parse met waits as the words ask
+pub met_waiting : (app : App) (words : List (List ℕ)) (m : ArgMatches) (given : Bool) → app ≡ xvfs_app → HasMatchesOf app words m → Waits (subcommand_rows_of m) given → AskToWait words given
+met_waiting app words m given is matches wait =
+    subst (λ command. Waits command given) ((matches (ap is_simple is ∙ simple)).1 ∙ ap (λ (a : App). subcommand_of a words) is) wait
 
 few_by : (name : List ℕ) (rows : List Row) (request : Request) → AsksBy name rows request → HasFewWorkers request
 few_by name rows (Mkfs image size ninodes large) asks = tt

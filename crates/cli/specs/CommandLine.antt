@@ -35,9 +35,13 @@ flag_rule id = record (new_rule id) { long = Some id; action = Some SetTrue }
 abbrev pub first_app : List ℕ → List ℕ → App
 first_app name word = with_rule (new_app name) (required_rule word)
 
--- a command over an image
+-- the same over an image, which waits for it where that is asked for
+abbrev pub waiting_app : List ℕ → List ℕ → App
+waiting_app name word = with_rule (first_app name word) (flag_rule (codes "wait"))
+
+-- a command over the image at a path
 abbrev pub image_app : List ℕ → App
-image_app name = with_rule (new_app name) (required_rule (codes "IMAGE"))
+image_app name = waiting_app name (codes "IMAGE")
 
 abbrev pub mkfs_app : App
 mkfs_app = with_rule (with_rule (with_rule (image_app (codes "mkfs"))
@@ -68,8 +72,8 @@ size_rule = record (choice_rule (codes "size")) {
 }
 
 abbrev pub copy_app : App
-copy_app = with_rule (with_rule (with_rule (new_app (codes "copy"))
-    (required_rule (codes "OLD"))) (required_rule (codes "NEW"))) size_rule
+copy_app = with_rule (with_rule (waiting_app (codes "copy") (codes "OLD"))
+    (required_rule (codes "NEW"))) size_rule
 
 abbrev pub replay_app : App
 replay_app = with_rule (with_rule (with_rule (with_rule (image_app (codes "replay"))
@@ -89,8 +93,8 @@ run_app = with_rule (with_rule (with_rule (image_app (codes "run"))
     (required_rule (codes "SCRIPT"))) workers_rule) (flag_rule (codes "sync"))
 
 abbrev pub stops_app : App
-stops_app = with_rule (with_rule (with_rule (new_app (codes "stops"))
-    (required_rule (codes "SCRIPT"))) (required_rule (codes "SCHEDULE"))) (flag_rule (codes "held"))
+stops_app = with_rule (with_rule (first_app (codes "stops") (codes "SCRIPT"))
+    (required_rule (codes "SCHEDULE"))) (flag_rule (codes "held"))
 
 -- the program, with no command yet
 abbrev pub bare_app : App
@@ -192,6 +196,15 @@ AsksBy name rows (Stops script schedule held) =
 abbrev pub Asks : Option (List ℕ × List Row) → Request → Type 0
 Asks None request = ⊥
 Asks (Some command) request = AsksBy command.0 command.1 request
+
+-- it waits while another program has the image, or doesn't
+abbrev pub Waits : Option (List ℕ × List Row) → Bool → Type 0
+Waits None wait = ⊥
+Waits (Some command) wait = HasFlag (codes "wait") command.1 wait
+
+-- the words ask for a command that waits so
+abbrev pub AskToWait : List (List ℕ) → Bool → Type 0
+AskToWait words wait = Waits (subcommand_of xvfs_app words) wait
 
 -- the words make a command, which asks for the request
 pub record AskFor (words : List (List ℕ)) (request : Request) : Type 0 where

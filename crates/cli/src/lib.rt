@@ -8,4 +8,4 @@ mod explanation;
 mod words;
 
 pub use explanation::Explanation;
-pub use words::{Request, parse};
+pub use words::{Asked, Request, parse};

@@ -3,6 +3,7 @@ ghost use Rattle.std.specs.Prelude.{◌≡◌, false, codes, map, IfErr, IfOk, I
 ghost use Rattle.clap.specs.Words.{found_of, rows_of, rule_of, subcommand_rows_of};
 ghost use Rattle.cli.specs.CommandLine.{
   AskFor,
+  AskToWait,
   Asks,
   AsksBy,
   HasApp,
@@ -11,6 +12,7 @@ ghost use Rattle.cli.specs.CommandLine.{
   HasWord,
   HasWorkers,
   IsMistakeIn,
+  Waits,
   bare_app,
   cat_app,
   choice_rule,
@@ -31,6 +33,7 @@ ghost use Rattle.cli.specs.CommandLine.{
   size_rule,
   stop_rule,
   stops_app,
+  waiting_app,
   workers_rule,
   xvfs_app,
 };
@@ -41,6 +44,15 @@ use clap::error::ErrorKind;
 use clap::{Arg, ArgAction, ArgMatches, Command, Error, value_parser};
 use std::alloc::{AllocError, Global};
 use std::convert::AsStr;
+
+/// What the words of a command line ask for, and how.
+#[derive(Clone, Copy)]
+pub struct Asked<'a> {
+    /// What they ask for.
+    pub request: Request<'a>,
+    /// Whether it waits while another program has the image.
+    pub wait: bool,
+}
 
 /// What the words of a command line ask for.
 #[derive(Clone, Copy)]
@@ -146,20 +158,22 @@ pub enum Request<'a> {
 ///
 /// What is told in its place: a mistake in the words, the text of help or of the version, or that
 /// memory was refused. How words are read is clap's definition, at this program's command line.
-pub fn parse<'a, S: AsStr>(alloc: Global, words: &'a [S]) -> Result<Request<'a>, Explanation>
-    ensures ok { IfOk result (AskFor (map S.text words.entry.now)) }
-    ensures workers { IfOk result HasFewWorkers }
+pub fn parse<'a, S: AsStr>(alloc: Global, words: &'a [S]) -> Result<Asked<'a>, Explanation>
+    ensures ok { IfOk result (λ asked. AskFor (map S.text words.entry.now) asked.request) }
+    ensures wait { IfOk result (λ asked. AskToWait (map S.text words.entry.now) asked.wait) }
+    ensures workers { IfOk result (λ asked. HasFewWorkers asked.request) }
     ensures err { IfErr result (IsToldOf (map S.text words.entry.now)) }
 {
     match read(alloc, words) {
-        Ok(request) => Ok(request),
+        Ok(asked) => Ok(asked),
         Err(error) => Err(Explanation::of(alloc, error)),
     }
 }
 
 // What the words ask for, or clap's error.
-fn read<'a, S: AsStr>(alloc: Global, words: &'a [S]) -> Result<Request<'a>, Error>
-    ensures ok { IfOk result (AskFor (map S.text words.entry.now)) }
+fn read<'a, S: AsStr>(alloc: Global, words: &'a [S]) -> Result<Asked<'a>, Error>
+    ensures ok { IfOk result (λ asked. AskFor (map S.text words.entry.now) asked.request) }
+    ensures wait { IfOk result (λ asked. AskToWait (map S.text words.entry.now) asked.wait) }
     ensures err { IfErr result (IsMistakeIn (map S.text words.entry.now)) }
 {
     let mut program = program(alloc)?;
@@ -167,16 +181,28 @@ fn read<'a, S: AsStr>(alloc: Global, words: &'a [S]) -> Result<Request<'a>, Erro
 }
 
 // What the words ask this program for, or clap's error.
-fn read_by<'a, S: AsStr>(program: &mut Command<'a>, words: &'a [S]) -> Result<Request<'a>, Error>
+fn read_by<'a, S: AsStr>(program: &mut Command<'a>, words: &'a [S]) -> Result<Asked<'a>, Error>
     requires { HasApp xvfs_app program.old }
-    ensures ok { IfOk result (AskFor (map S.text words.entry.now)) }
+    ensures ok { IfOk result (λ asked. AskFor (map S.text words.entry.now) asked.request) }
+    ensures wait { IfOk result (λ asked. AskToWait (map S.text words.entry.now) asked.wait) }
     ensures err { IfErr result (IsMistakeIn (map S.text words.entry.now)) }
 {
     let matches = program.try_get_matches_from_mut(words)?;
-    match request_of(&matches) {
-        Some(request) => Ok(request),
+    match asked_of(&matches) {
+        Some(asked) => Ok(asked),
         None => Err(program.error(ErrorKind::MissingSubcommand, "a word is missing")?),
     }
+}
+
+// What the words ask for, and whether it waits, if none of them is missing.
+fn asked_of<'a>(matches: &ArgMatches<'a>) -> Option<Asked<'a>>
+    ensures asks { IfSome result (λ asked. Asks (subcommand_rows_of matches.now) asked.request) }
+    ensures waits { IfSome result (λ asked. Waits (subcommand_rows_of matches.now) asked.wait) }
+{
+    let request = request_of(matches)?;
+    let (_name, values) = matches.subcommand()?;
+    let wait = values.get_flag("wait");
+    Some(Asked { request, wait })
 }
 
 // What the words ask for, if none of them is missing.
@@ -350,6 +376,28 @@ fn new_command<'a>(
         .arg(word(alloc, first, help))
 }
 
+// A command over an image, which waits for it where that is asked for.
+fn image_command<'a>(
+    alloc: Global,
+    name: &'a str,
+    about: &'a str,
+    example: &'a str,
+    first: &'a str,
+    help: &'a str,
+) -> Result<Command<'a>, AllocError>
+    ensures { IfOk result (HasApp (waiting_app name.entry.now first.entry.now)) }
+{
+    let alone = new_command(alloc, name, about, example, first, help);
+    with_word(
+        alone,
+        flag(
+            alloc,
+            "wait",
+            "Waits while another program has the image, in place of being refused",
+        ),
+    )
+}
+
 // A command, if it was made, with one more word.
 fn with_word<'a>(
     made: Result<Command<'a>, AllocError>,
@@ -379,7 +427,7 @@ fn bare_program<'a>(alloc: Global) -> Result<Command<'a>, AllocError>
 fn mkfs_words<'a>(alloc: Global) -> Result<Command<'a>, AllocError>
     ensures { IfOk result (HasApp mkfs_app) }
 {
-    let image = new_command(
+    let image = image_command(
         alloc,
         "mkfs",
         "Makes an image in a new file, or in place of an old one",
@@ -416,7 +464,7 @@ fn mkfs_words<'a>(alloc: Global) -> Result<Command<'a>, AllocError>
 fn check_words<'a>(alloc: Global) -> Result<Command<'a>, AllocError>
     ensures { IfOk result (HasApp (image_app (codes "check"))) }
 {
-    new_command(
+    image_command(
         alloc,
         "check",
         "Says whether an image is sound, and counts its logged blocks and its files",
@@ -429,7 +477,7 @@ fn check_words<'a>(alloc: Global) -> Result<Command<'a>, AllocError>
 fn recover_words<'a>(alloc: Global) -> Result<Command<'a>, AllocError>
     ensures { IfOk result (HasApp recover_app) }
 {
-    let image = new_command(
+    let image = image_command(
         alloc,
         "recover",
         "Checks an image, and copies the blocks of its log home",
@@ -454,7 +502,7 @@ fn sync_word<'a>(alloc: Global) -> Arg<'a>
 fn cat_words<'a>(alloc: Global) -> Result<Command<'a>, AllocError>
     ensures { IfOk result (HasApp cat_app) }
 {
-    let image = new_command(
+    let image = image_command(
         alloc,
         "cat",
         "Recovers an image, and writes the bytes of one of its files",
@@ -468,7 +516,7 @@ fn cat_words<'a>(alloc: Global) -> Result<Command<'a>, AllocError>
 fn ls_words<'a>(alloc: Global) -> Result<Command<'a>, AllocError>
     ensures { IfOk result (HasApp (image_app (codes "ls"))) }
 {
-    new_command(
+    image_command(
         alloc,
         "ls",
         "Lists the files of an image: number, type, bytes and blocks",
@@ -481,7 +529,7 @@ fn ls_words<'a>(alloc: Global) -> Result<Command<'a>, AllocError>
 fn show_words<'a>(alloc: Global) -> Result<Command<'a>, AllocError>
     ensures { IfOk result (HasApp show_app) }
 {
-    let image = new_command(
+    let image = image_command(
         alloc,
         "show",
         "Draws the blocks of an image, a sign each, or lists those of one file",
@@ -502,7 +550,7 @@ fn show_words<'a>(alloc: Global) -> Result<Command<'a>, AllocError>
 fn put_words<'a>(alloc: Global) -> Result<Command<'a>, AllocError>
     ensures { IfOk result (HasApp put_app) }
 {
-    let image = new_command(
+    let image = image_command(
         alloc,
         "put",
         "Puts a file into an image, as a new file or in place of one, and prints its number",
@@ -527,7 +575,7 @@ fn put_words<'a>(alloc: Global) -> Result<Command<'a>, AllocError>
 fn copy_words<'a>(alloc: Global) -> Result<Command<'a>, AllocError>
     ensures { IfOk result (HasApp copy_app) }
 {
-    let old = new_command(
+    let old = image_command(
         alloc,
         "copy",
         "Copies the files of an image into a new one that has room for large files",
@@ -553,7 +601,7 @@ fn size_word<'a>(alloc: Global) -> Arg<'a>
 fn replay_words<'a>(alloc: Global) -> Result<Command<'a>, AllocError>
     ensures { IfOk result (HasApp replay_app) }
 {
-    let image = new_command(
+    let image = image_command(
         alloc,
         "replay",
         "Recovers an image, and makes a script's operations in the turns of a schedule",
@@ -595,7 +643,7 @@ fn stop_word<'a>(alloc: Global) -> Arg<'a>
 fn run_words<'a>(alloc: Global) -> Result<Command<'a>, AllocError>
     ensures { IfOk result (HasApp run_app) }
 {
-    let image = new_command(
+    let image = image_command(
         alloc,
         "run",
         "Recovers an image, and makes a script's operations, each process's in order, by threads",

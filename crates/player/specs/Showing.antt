@@ -39,6 +39,11 @@ ShowsPart x i old new = (verdict x ≡ None) × ShowsFirst (recovered x) i old n
 abbrev pub HasNoFile : Image → ℕ → Type 0
 HasNoFile x i = (verdict x ≡ None) × (file_in (files_of (recovered x)) i ≡ None)
 
+-- where nothing was logged on the disk d, now e, no write was made, and it has the image that it had
+abbrev pub IsLeftUnlogged : {D N : Type 0} → Ghosts D N → D → D → Type 0
+IsLeftUnlogged disk d e = logged_count (disk.image d) ≡ 0
+    → (disk.image e ≡ disk.image d) × (disk.write_count e ≡ disk.write_count d)
+
 -- the reader of an image that has no fault
 pub record IsReaderOf (x : Image) (image : Recovered) : Type 0 where
   pub recovered : IsRecoveredOf x image

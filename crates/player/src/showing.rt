@@ -9,7 +9,7 @@ ghost use Rattle.model.specs.Verdict.{verdict};
 ghost use Rattle.offline.specs.Recovered.{IsRecoveredOf, MayReadFile};
 ghost use Rattle.wal.specs.Recovery.{LeavesIfCalm, RecoversAs};
 ghost use Rattle.opening.specs.Recoveries.{IsRecovered};
-ghost use Rattle.player.specs.Showing.{IsInodeOf, IsNotShown, IsPartly, IsReaderOf, IsUnshown, Shows, ShowsFile};
+ghost use Rattle.player.specs.Showing.{IsInodeOf, IsLeftUnlogged, IsNotShown, IsPartly, IsReaderOf, IsUnshown, Shows, ShowsFile};
 
 use crate::refusals::CatRefusal;
 use blocks::{BLOCK_SIZE, Block, Disk, DiskFault};
@@ -28,8 +28,9 @@ const PIECE_SIZE: u32 = 16 * BLOCK_SIZE as u32;
 /// Recovers the image of a disk, and writes the bytes of its file of a number, and nothing else.
 /// The file is read and written piece by piece, by its code without memory after the recovery.
 ///
-/// Hands the disk back, with nothing but the recovery done to it. Where it held nothing back at the
-/// start, whatever a crash at any moment leaves is recovered to the same image.
+/// Hands the disk back, with nothing but the recovery done to it: where the log was empty, no write.
+/// Where the disk held nothing back at the start, whatever a crash at any moment leaves is recovered
+/// to the same image.
 ///
 /// # Errors
 ///
@@ -47,6 +48,7 @@ pub fn cat_disk<D: Disk + Drop, O: Write>(
         (Shows (D.image disk) number (O.contents out.old) (O.contents out.new)) }
     ensures recovered { OnOk result.0
         (IsRecovered D.Disk (logged_count (D.image disk)) disk result.1) }
+    ensures unlogged { OnOk result.0 (IsLeftUnlogged D.Disk disk result.1) }
     ensures refused { IfErr result.0 (IsNotShown D.Disk disk result.1 number
         (O.contents out.old) (O.contents out.new) (out.new ≡ out.old)) }
     ensures name { D.name result.1 ≡ D.name disk }

@@ -20,7 +20,7 @@ use crate::locks::{Locks, lock_image};
 use crate::progress::{Meter, Screen};
 use crate::stopping::stops_files;
 use blocks::{Disk, FaultyDisk, FileDisk};
-use cli::{Explanation, Request, parse};
+use cli::{Asked, Explanation, Request, parse};
 use cmd::{Access, OverFile, end, perform};
 use commands::{Copy, Mkfs, Put, replay_files, run_files};
 use inspect::{Ls, Show};
@@ -64,7 +64,7 @@ where
     ensures misused { result ≡ 2 → out.new ≡ out.old }
 {
     match parse(rt.alloc(), words) {
-        Ok(request) => dispatch_alone(rt, request, out, err),
+        Ok(asked) => dispatch_alone(rt, asked, out, err),
         Err(explanation) => explain(explanation, out, err),
     }
 }
@@ -89,26 +89,27 @@ fn explain<O: Write, E: Write>(explanation: Explanation, out: &mut O, err: &mut 
     }
 }
 
-// Does what is asked for where no other program has the image, as `dispatch`. The exit status.
+// Does what is asked for where no other program has the image, as `dispatch`; it may be asked to
+// wait for that. The exit status.
 fn dispatch_alone<
     R: Files + AllocGlobal + Threads + Wait + Clock + Screen + Locks + Sync,
     O: Write,
     E: Write,
->(rt: &R, request: Request<'_>, out: &mut O, err: &mut E) -> u8
+>(rt: &R, asked: Asked<'_>, out: &mut O, err: &mut E) -> u8
 where
     R::File: Send,
-    requires { HasFewWorkers request }
+    requires { HasFewWorkers asked.request }
     ensures status { result ≤ 1 }
     ensures done { result ≡ 0 → Answers (ghosts_of R.File.remaining
         ⟦<FileDisk<R::File> as Disk>⟧ ⟦<FaultyDisk<FileDisk<R::File>> as Disk>⟧)
-        request.entry (O.contents out.old) (O.contents out.new) }
+        asked.entry.request (O.contents out.old) (O.contents out.new) }
     ensures refused { result ≡ 1 → OnRefused (ghosts_of R.File.remaining
         ⟦<FileDisk<R::File> as Disk>⟧ ⟦<FaultyDisk<FileDisk<R::File>> as Disk>⟧)
-        request.entry (O.contents out.old) (O.contents out.new) (out.new ≡ out.old) }
+        asked.entry.request (O.contents out.old) (O.contents out.new) (out.new ≡ out.old) }
     ensures silent { result ≡ 0 → err.new ≡ err.old }
 {
-    match lock_image(rt, &request) {
-        Ok(_lock) => dispatch(rt, request, out, err),
+    match lock_image(rt, &asked.request, asked.wait) {
+        Ok(_lock) => dispatch(rt, asked.request, out, err),
         Err(fault) => end(Err(fault), err),
     }
 }
@@ -151,11 +152,26 @@ where
         ),
         Request::Check { image } => perform(rt, OverFile(image, Access::Look, Check), out, err),
         Request::Recover { image, sync } => {
-            perform(rt, OverFile(image, Access::Change { sync }, Recover), out, err)
+            perform(
+                rt,
+                OverFile(image, Access::Change { sync }, Recover),
+                out,
+                err,
+            )
         }
-        Request::Cat { image, inum } => perform(rt, OverFile(image, Access::Look, Cat(inum)), out, err),
+        Request::Cat { image, inum } => perform(
+            rt,
+            OverFile(image, Access::Look, Cat(inum)),
+            out,
+            err,
+        ),
         Request::Ls { image } => perform(rt, OverFile(image, Access::Look, Ls), out, err),
-        Request::Show { image, inum } => perform(rt, OverFile(image, Access::Look, Show(inum)), out, err),
+        Request::Show { image, inum } => perform(
+            rt,
+            OverFile(image, Access::Look, Show(inum)),
+            out,
+            err,
+        ),
         Request::Put { image, file, inum } => perform(rt, Put { image, file, inum }, out, err),
         Request::Copy { old, new, size } => {
             let progress = Meter::new(rt);

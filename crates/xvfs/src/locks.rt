@@ -1,5 +1,5 @@
 // Locks on the files of images, so that no two programs change one at once.
-ghost use Rattle.std.specs.Prelude.{◌≡◌, IfErr};
+ghost use Rattle.std.specs.Prelude.{◌≡◌, true, false, IfErr, IsOk};
 
 use blocks::FileFault;
 use cli::Request;
@@ -19,20 +19,22 @@ pub trait Locks {
     /// A lock, held until this value goes.
     type Lock: Drop;
 
-    /// Takes the lock of the file at this path, as `flock` does. None where there is no file that
-    /// can be locked: whoever opens it then tells why.
+    /// Takes the lock of the file at this path, as `flock` does; with `wait` it waits for one that
+    /// another program holds. None where there is no file that can be locked: whoever opens it then
+    /// tells why.
     ///
     /// # Errors
     ///
-    /// `Locked` where another program holds it.
-    fn lock(&self, path: &str, share: Share) -> Result<Option<Self::Lock>, FileFault>
-        ensures { IfErr result (λ fault. fault ≡ FileFault.Locked) };
+    /// `Locked` where another program holds it, and this one doesn't wait.
+    fn lock(&self, path: &str, share: Share, wait: bool) -> Result<Option<Self::Lock>, FileFault>
+        ensures locked { IfErr result (λ fault. fault ≡ FileFault.Locked) }
+        ensures waits { wait ≡ true → IsOk result };
 }
 
 impl Locks for HostRuntime {
     type Lock = File;
 
-    fn lock(&self, path: &str, share: Share) -> Result<Option<File>, FileFault> {
+    fn lock(&self, path: &str, share: Share, wait: bool) -> Result<Option<File>, FileFault> {
         // A pipe that is opened to be read would wait for its writer.
         if !matches!(metadata(self, path), Ok(found) if found.is_file()) {
             return Ok(None);
@@ -40,36 +42,57 @@ impl Locks for HostRuntime {
         let Ok(file) = File::open(self, path) else {
             return Ok(None);
         };
-        let taken = match share {
-            Share::Lookers => file.try_lock_shared(),
-            Share::Nobody => file.try_lock(),
-        };
-        if matches!(taken, Err(TryLockError::WouldBlock)) {
+        if is_taken(&file, share, wait) {
             return Err(FileFault::Locked);
         }
         Ok(Some(file))
     }
 }
 
+// Takes the lock of a file, as far as it can be locked. Whether another program holds it, for which
+// this one doesn't wait.
+fn is_taken(file: &File, share: Share, wait: bool) -> bool
+    ensures { wait ≡ true → result ≡ false }
+{
+    if wait {
+        let _unlocked = match share {
+            Share::Lookers => file.lock_shared(),
+            Share::Nobody => file.lock(),
+        };
+        return false;
+    }
+    let taken = match share {
+        Share::Lookers => file.try_lock_shared(),
+        Share::Nobody => file.try_lock(),
+    };
+    matches!(taken, Err(TryLockError::WouldBlock))
+}
+
 /// Takes the lock of the image that a request names, if it names one: shared by those that only look.
+/// With `wait` it waits for one that another program holds.
 ///
 /// # Errors
 ///
-/// `Locked` where another program holds it.
-pub fn lock_image<L: Locks>(locks: &L, request: &Request<'_>) -> Result<Option<L::Lock>, FileFault>
-    ensures { IfErr result (λ fault. fault ≡ FileFault.Locked) }
+/// `Locked` where another program holds it, and this one doesn't wait.
+pub fn lock_image<L: Locks>(
+    locks: &L,
+    request: &Request<'_>,
+    wait: bool,
+) -> Result<Option<L::Lock>, FileFault>
+    ensures locked { IfErr result (λ fault. fault ≡ FileFault.Locked) }
+    ensures waits { wait ≡ true → IsOk result }
 {
     match request {
-        Request::Check { image } => locks.lock(image, Share::Lookers),
-        Request::Ls { image } => locks.lock(image, Share::Lookers),
-        Request::Show { image, .. } => locks.lock(image, Share::Lookers),
-        Request::Copy { old, .. } => locks.lock(old, Share::Lookers),
-        Request::Mkfs { image, .. } => locks.lock(image, Share::Nobody),
-        Request::Recover { image, .. } => locks.lock(image, Share::Nobody),
-        Request::Cat { image, .. } => locks.lock(image, Share::Nobody),
-        Request::Put { image, .. } => locks.lock(image, Share::Nobody),
-        Request::Replay { image, .. } => locks.lock(image, Share::Nobody),
-        Request::Run { image, .. } => locks.lock(image, Share::Nobody),
+        Request::Check { image } => locks.lock(image, Share::Lookers, wait),
+        Request::Ls { image } => locks.lock(image, Share::Lookers, wait),
+        Request::Show { image, .. } => locks.lock(image, Share::Lookers, wait),
+        Request::Copy { old, .. } => locks.lock(old, Share::Lookers, wait),
+        Request::Mkfs { image, .. } => locks.lock(image, Share::Nobody, wait),
+        Request::Recover { image, .. } => locks.lock(image, Share::Nobody, wait),
+        Request::Cat { image, .. } => locks.lock(image, Share::Nobody, wait),
+        Request::Put { image, .. } => locks.lock(image, Share::Nobody, wait),
+        Request::Replay { image, .. } => locks.lock(image, Share::Nobody, wait),
+        Request::Run { image, .. } => locks.lock(image, Share::Nobody, wait),
         Request::Stops { .. } => Ok(None),
     }
 }

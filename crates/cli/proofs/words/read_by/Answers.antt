@@ -1,6 +1,6 @@
 use Rattle.std.proofs.Common.{map, rules}
 use Rattle.cli.specs.CommandLine.{IsMistakeIn}
-use Rattle.cli.proofs.CommandLines.{met, mistaken, none_mistaken}
+use Rattle.cli.proofs.CommandLines.{met, met_waiting, mistaken, none_mistaken}
 use Rattle.cli.proofs.words.read_by.Goals as goal
 
 pub returns-in_err-matches-clause-err : goal.returns-in_err-matches-clause-err
@@ -14,5 +14,9 @@ returns-in-Some-clause-ok g c =
     let words = map g.S.AsStr.text c.args.words.now in
     record {
       right = none_mistaken _ words c.in_ok-matches.matches c.requires.0 c.in_ok-matches.ensures.kinds;
-      asks = met _ words c.in_ok-matches.matches c.in-Some.request c.requires.0 c.in_ok-matches.ensures.ok.2 c.in-Some.ensures;
+      asks = met _ words c.in_ok-matches.matches c.in-Some.asked.request c.requires.0 c.in_ok-matches.ensures.ok.2 c.in-Some.ensures.asks;
     }
+
+pub returns-in-Some-clause-wait : goal.returns-in-Some-clause-wait
+returns-in-Some-clause-wait g c =
+    met_waiting _ (map g.S.AsStr.text c.args.words.now) c.in_ok-matches.matches c.in-Some.asked.wait c.requires.0 c.in_ok-matches.ensures.ok.2 c.in-Some.ensures.waits

@@ -6,5 +6,5 @@ use Rattle.cli.proofs.words.recover_words.Goals as goal
 
 pub returns : goal.returns
 returns c =
-    let image : IfOk c.new_command-image.result (HasApp (image_app (codes "recover"))) = search rules in
-    next_word _ _ c.new_command-image.result c.sync_word.result c.with_word.result image c.sync_word.ensures.rule c.sync_word.ensures.local c.with_word.ensures
+    let image : IfOk c.image_command-image.result (HasApp (image_app (codes "recover"))) = search rules in
+    next_word _ _ c.image_command-image.result c.sync_word.result c.with_word.result image c.sync_word.ensures.rule c.sync_word.ensures.local c.with_word.ensures

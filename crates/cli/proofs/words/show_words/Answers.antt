@@ -7,6 +7,6 @@ use Rattle.cli.proofs.words.show_words.Goals as goal
 
 pub returns : goal.returns
 returns c =
-    let image : IfOk c.new_command-image.result (HasApp (image_app (codes "show"))) = search rules in
+    let image : IfOk c.image_command-image.result (HasApp (image_app (codes "show"))) = search rules in
     let inum_rule : rule_of c.choice.result ≡ choice_rule (codes "INUM") = search rules in
-    next_word _ _ c.new_command-image.result c.choice.result c.with_word.result image inum_rule c.choice.ensures.local c.with_word.ensures
+    next_word _ _ c.image_command-image.result c.choice.result c.with_word.result image inum_rule c.choice.ensures.local c.with_word.ensures
