@@ -7,9 +7,9 @@ ghost use Rattle.wal.specs.Volume.{Holds};
 ghost use Rattle.blockmap.specs.Balloc.{MayAlloc, Allocs, AreFull, Zeroes, byte_with, lowest_clear};
 ghost use Rattle.blockmap.specs.declared.balloc.AllocAt.TheVariants as alloc_at;
 
-use blocks::{BLOCK_SIZE, Block, Disk};
-use crate::progress::Progress;
 use crate::getting::{get_block, put_block, release_block};
+use crate::progress::Progress;
+use blocks::{BLOCK_SIZE, Block, Disk};
 use std::marker::Model;
 use wal::Volume;
 

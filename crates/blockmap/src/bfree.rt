@@ -1,7 +1,7 @@
 // A block is freed.
-use blocks::Block;
 use crate::deed::{Deed, Patch};
 use crate::machine::{Machine, Next};
+use blocks::Block;
 
 /// The machine that frees a block (`bfree`; the xv6 book, the chapter "File system": "Code: Block
 /// allocator"): one step gets the bitmap's block, the other one clears the block's bit in it.

@@ -3,9 +3,9 @@ ghost use Rattle.std.specs.Prelude.{◌≡◌, ◌<◌, ◌≤◌, ◌≢◌, No
 ghost use Rattle.blockmap.specs.Bmap.{below, first_entry, some_address, IsReady, LooksUp};
 
 use crate::Node;
-use blocks::Disk;
-use crate::progress::Progress;
 use crate::getting::{get_block, release_block};
+use crate::progress::Progress;
+use blocks::Disk;
 use layout::entries::entry;
 use std::marker::Model;
 use wal::Volume;

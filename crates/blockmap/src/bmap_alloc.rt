@@ -10,10 +10,10 @@ ghost use Rattle.blockmap.specs.Branch.{named_by, node_at};
 ghost use Rattle.blockmap.specs.BmapAlloc.{MayMap, MapSteps, FindsEntry, SetsEntry, LeadsThere, come_to, place_in};
 ghost use Rattle.blockmap.specs.declared.bmap_alloc.MapAt.TheVariants as map_at;
 
+use crate::getting::{get_block, put_block, release_block};
+use crate::progress::Progress;
 use crate::{Balloc, Branch, Node};
 use blocks::Disk;
-use crate::progress::Progress;
-use crate::getting::{get_block, put_block, release_block};
 use layout::entries::{bytes, entry};
 use model::types::Dinode;
 use std::marker::Model;

@@ -1,4 +1,7 @@
 // What a step comes to.
+ghost use Rattle.std.specs.Prelude.{◌≡◌};
+ghost use Rattle.blockmap.specs.Progress.{ended};
+
 use blocks::DiskFault;
 use model::types::Why;
 
@@ -13,4 +16,19 @@ pub enum Progress<T> {
     Over(T),
     /// The disk failed.
     Fault(DiskFault),
+}
+
+impl<T> Progress<T> {
+    /// What came of a machine's last step. Any other step is one of the machine that made it, and
+    /// comes to this.
+    pub fn ended<U>(self) -> Result<T, Progress<U>>
+        ensures { result ≡ ended self }
+    {
+        match self {
+            Progress::Moved => Err(Progress::Moved),
+            Progress::Sleeping(why) => Err(Progress::Sleeping(why)),
+            Progress::Over(out) => Ok(out),
+            Progress::Fault(fault) => Err(Progress::Fault(fault)),
+        }
+    }
 }

@@ -4,10 +4,10 @@ ghost use Rattle.blockmap.specs.Branch.{block_limit};
 ghost use Rattle.blockmap.specs.Map.{address_or_zero};
 ghost use Rattle.blockmap.specs.Target.{is_entry, target_for, IsSought, Seeks};
 
+use crate::getting::get_block;
+use crate::progress::Progress;
 use crate::{Bmap, Mapped, map};
 use blocks::Disk;
-use crate::progress::Progress;
-use crate::getting::get_block;
 use model::types::{Dinode, Form};
 use wal::Volume;
 
@@ -64,18 +64,16 @@ fn look_up<D: Disk>(volume: &mut Volume<D>, pid: u32, target: &mut Target) -> Pr
     ensures { Seeks D.Disk target.old volume.old pid result target.new volume.new }
 {
     let mut entry = entry_of(*target);
-    match entry.step(volume, pid) {
-        Progress::Moved => {
-            *target = Target::Entry(entry);
-            Progress::Moved
-        }
-        Progress::Sleeping(why) => Progress::Sleeping(why),
-        Progress::Over(found) => {
+    match entry.step(volume, pid).ended() {
+        Ok(found) => {
             let block = address_or_zero(found);
             *target = Target::Block { block, slot: None };
             Progress::Moved
         }
-        Progress::Fault(fault) => Progress::Fault(fault),
+        Err(progress) => {
+            *target = Target::Entry(entry);
+            progress
+        }
     }
 }
 

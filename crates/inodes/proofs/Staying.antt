@@ -34,9 +34,14 @@ use Rattle.inodes.specs.declared.tasks.Stage.{Stage}
 use Rattle.inodes.specs.declared.writei.WriteAt.TheVariants as write_at
 use Rattle.inodes.specs.declared.writei.WriteAt.{WriteAt}
 use Rattle.inodes.specs.Ialloc.{SearchGoes, SearchState}
+use Rattle.inodes.specs.declared.ilock.LockAt.TheVariants as lock_at
+use Rattle.inodes.specs.declared.ilock.LockAt.{LockAt}
+use Rattle.inodes.specs.Ilock.{LockSteps, Locks, at_lock}
 use Rattle.inodes.specs.InPlace.{SearchesInPlace}
 use Rattle.inodes.specs.Itrunc.{Freeing, itrunc, trunc_next}
 use Rattle.inodes.specs.Iupdate.{UpdateState, Updates}
+use Rattle.inodes.specs.LockState.{LockState}
+use Rattle.inodes.specs.Table.{TableState, copy_at, holder_at}
 use Rattle.inodes.specs.Readi.{IsMade, ReadState, ReadSteps, Works}
 use Rattle.inodes.specs.Tasks.{TaskState, no_task, task}
 use Rattle.inodes.specs.Writei.{WriteState, WriteSteps, progress_mapped, write_mapped}
@@ -205,6 +210,21 @@ works_stay disk v w p m n (target.Block b (Some i)) r at does rests = absurd (ne
 
 pub reads_stay : {D N : Type 0} (disk : Ghosts D N) (v w : VolumeState D) (p : ℕ) (m n : ReadState) (g h : GatheredBytes) (r : Progress (Unit {0})) → ReadSteps disk v p m g r w n h → Rests r → n ≡ m
 reads_stay disk v w p m n g h r steps rests = works_stay disk v w p m n m.target r refl steps.works rests
+
+-- ---- the taking of an inode
+
+-- the step that takes the lock, or leaves it to who has it
+lock_stays : (o : Option ℕ) (copy : Option Dinode) (t u : TableState) (p k : ℕ) (m n : LockState) (r : Progress Bool) → Locks o copy t p k m r u n → Rests r → n ≡ m
+lock_stays (Some q) copy t u p k m n r does rests = does.2
+lock_stays None (Some d) t u p k m n r does rests = does.2
+lock_stays None None t u p k m n r does rests = absurd (subst (λ (q : Progress Bool). Rests q) does.0 rests)
+
+pub locks_stay : {D N : Type 0} (disk : Ghosts D N) (v w : VolumeState D) (t u : TableState) (p : ℕ) (m n : LockState) (a : LockAt) (r : Progress Bool) → m.at ≡ a → LockSteps disk a t v p m r u w n → Rests r → n ≡ m
+locks_stay disk v w t u p m n lock_at.Reference r at does rests = absurd (subst (λ (q : Progress Bool). Rests q) does.0.2 rests)
+locks_stay disk v w t u p m n (lock_at.Lock k) r at does rests = lock_stays (holder_at t.places k) (copy_at t.places k) t u p k m n r does.0 rests
+locks_stay disk v w t u p m n (lock_at.Read k None) r at does rests =
+    does.0.2 ∙ ap (at_lock m) (ap (lock_at.Read k) (gets disk v w p does.0.1 rests) ∙ sym at)
+locks_stay disk v w t u p m n (lock_at.Read k (Some i)) r at does rests = does.1
 
 -- ---- the freeing of a file's blocks
 

@@ -11,11 +11,12 @@ ghost use Rattle.inodes.specs.Creation.{AreUsed, is_free_in, lowest_free};
 ghost use Rattle.inodes.specs.Ialloc.{MayStep, SearchSteps, is_last_block, at_next_block, with_new_inode};
 
 use crate::Progress;
+use blockmap::get_block;
 use blocks::{Block, Disk};
 use layout::{INODE_START, INODES_PER_BLOCK, inode, inode_block, inode_offset};
 use model::types::Dinode;
 use std::marker::Model;
-use wal::{Get, Volume};
+use wal::Volume;
 
 /// The steps in which a creation claims an inode number (`ialloc`; the xv6 book, the chapter "File
 /// system": "Code: Inodes"): it looks at the inode blocks in order, from the one of number 1 on,
@@ -96,14 +97,7 @@ impl Ialloc {
         ensures { SearchSteps D.Disk None volume.old volume.new pid
             self.old self.new result }
     {
-        match volume.get(pid, self.block) {
-            Get::Got(slot) => {
-                self.slot = Some(slot);
-                Progress::Moved
-            }
-            Get::Sleeping(why) => Progress::Sleeping(why),
-            Get::Fault(fault) => Progress::Fault(fault),
-        }
+        get_block(volume, pid, self.block, &mut self.slot)
     }
 
     // Claims the lowest free number of the block, if there is one, and releases the block.

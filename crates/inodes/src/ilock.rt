@@ -9,8 +9,8 @@ ghost use Rattle.inodes.specs.Ilock.{MayLock, IsAt, LockSteps, Refers, Locks, Ge
 ghost use Rattle.inodes.specs.declared.ilock.LockAt.TheVariants as lock_at;
 
 use crate::{Inodes, Progress};
-use blocks::Disk;
 use blockmap::{get_block, release_block};
+use blocks::Disk;
 use layout::{inode, inode_block};
 use model::types::Why;
 use std::marker::Model;

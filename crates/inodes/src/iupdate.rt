@@ -3,8 +3,8 @@ ghost use Rattle.std.specs.Prelude.{◌≡◌, ◌<◌, None, length};
 ghost use Rattle.wal.specs.Machine.{HasRoom, used_by};
 ghost use Rattle.inodes.specs.Iupdate.{MayUpdate, Updates};
 
-use blocks::Disk;
 use blockmap::{Progress, get_block, put_block};
+use blocks::Disk;
 use layout::{inode, inode_block, inode_offset};
 use model::types::Dinode;
 use std::marker::Model;

@@ -11,8 +11,8 @@ ghost use Rattle.inodes.specs.Tasks.{no_task, task};
 ghost use Rattle.inodes.specs.Writei.{MayWrite};
 
 use crate::{Ialloc, Ilock, Itrunc, Progress, Readi, Writei};
-use blocks::{Disk, NoMemory};
 use blockmap::Driven;
+use blocks::{Disk, NoMemory};
 use model::gathered::Gathered;
 use model::types::{Dinode, Op};
 use std::alloc::Global;
