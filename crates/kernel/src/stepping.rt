@@ -5,8 +5,8 @@ ghost use Rattle.kernel.specs.Next.{step_of};
 use crate::Step;
 use crate::telling::{give, tell};
 use blocks::Disk;
-use inodes::Store;
 use history::{Phase, Processes};
+use inodes::Store;
 use model::types::TaskProgress;
 use ports::{Herald, Intake};
 use std::alloc::Global;
@@ -120,12 +120,14 @@ impl<D: Disk, I: Intake, H: Herald> Kernel<D, I, H> {
         };
         let progress = self.store.step(pid, op);
         self.store.known();
-        let step = step_of(&progress);
-        if let TaskProgress::Turned(reply) = progress {
-            let is_over = self.store.is_over(pid);
-            self.processes.turn(pid, reply, is_over);
+        match progress {
+            TaskProgress::Turned(reply) => {
+                let is_over = self.store.is_over(pid);
+                self.processes.turn(pid, reply, is_over);
+                Step::Moved
+            }
+            progress => step_of(progress),
         }
-        step
     }
 
     // Makes the next step of a task whose operation had its turn. With its reply, or with its last
@@ -145,7 +147,6 @@ impl<D: Disk, I: Intake, H: Herald> Kernel<D, I, H> {
         let op = self.processes.operation(pid);
         let progress = self.store.step(pid, op);
         self.store.known();
-        let step = step_of(&progress);
         match progress {
             TaskProgress::Decided(reply) => {
                 self.processes.decide(pid, reply);
@@ -164,10 +165,7 @@ impl<D: Disk, I: Intake, H: Herald> Kernel<D, I, H> {
                 self.processes.go_to_end(pid);
                 Step::Moved
             }
-            TaskProgress::Moved
-            | TaskProgress::Turned(_)
-            | TaskProgress::Sleeping(_)
-            | TaskProgress::Fault(_) => step,
+            progress => step_of(progress),
         }
     }
 
@@ -225,15 +223,15 @@ impl<D: Disk, I: Intake, H: Herald> Kernel<D, I, H> {
 }
 
 // What a step of a process comes to whose task made this one, where it is not answered with it.
-fn step_of(progress: &TaskProgress) -> Step
-    ensures { result ≡ step_of progress.now }
+fn step_of(progress: TaskProgress) -> Step
+    ensures { result ≡ step_of progress }
 {
     match progress {
         TaskProgress::Moved
         | TaskProgress::Turned(_)
         | TaskProgress::Decided(_)
         | TaskProgress::Over => Step::Moved,
-        TaskProgress::Sleeping(why) => Step::Sleeping(*why),
+        TaskProgress::Sleeping(why) => Step::Sleeping(why),
         TaskProgress::Fault(_) => Step::Halted,
     }
 }
